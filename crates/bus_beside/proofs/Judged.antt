@@ -6,7 +6,7 @@ use Rattle.cbm_iec.specs.declared.party.Party.{Party}
 use Rattle.cbm_session.specs.Steps.{Step, events_of}
 use Rattle.bus_judge.specs.declared.judge.Judge.{Judge}
 use Rattle.bus_judge.specs.declared.step.Mark.{Mark}
-use Rattle.bus_judge.specs.Judging.{Stands, IsBusy, and_then}
+use Rattle.bus_judge.specs.Judging.{JudgeStands, IsBusy, and_then}
 use Rattle.bus_beside.specs.declared.court.Court.{Court}
 use Rattle.bus_beside.specs.Courts.{HasJudged}
 
@@ -20,7 +20,7 @@ events_more : (done : List Step) (s : Step) → events_of (done ++ s ∷ []) ≡
 events_more [] s = refl
 events_more (d ∷ done) s = ap (λ es. d.event ∷ es) (events_more done s)
 
-pub judged_more : (bs : List Party) (c : Court) (judge : Judge) (e : Event) (es : List Event) (mark : Mark) → ((done : List Step) → Stands bs c.judge done → Stands bs judge (and_then done e mark)) → IsBusy judge → HasJudged bs c es
+pub judged_more : (bs : List Party) (c : Court) (judge : Judge) (e : Event) (es : List Event) (mark : Mark) → ((done : List Step) → JudgeStands bs c.judge done → JudgeStands bs judge (and_then done e mark)) → IsBusy judge → HasJudged bs c es
     → HasJudged bs (record { judge = judge; is_begun = true }) (es ++ e ∷ [])
 judged_more bs c judge e es mark stands busy h = record {
   done = and_then h.done e mark;

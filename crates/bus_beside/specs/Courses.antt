@@ -1,33 +1,33 @@
 -- Two plays side by side: how far they have come from rest, and what is known of it.
 use Rattle.std.specs.Prelude.{◌≤◌, ℕ, List, [], ◌∷◌, ◌++◌, Bool, Option, Some, None}
 use Rattle.std.specs.List.{AllZip}
-use Rattle.cbm_iec.specs.declared.act.Act.{Act}
+use Rattle.cbm_iec.specs.declared.machine.Act.{Act}
 use Rattle.cbm_iec.specs.declared.event.Event.{Event}
-use Rattle.cbm_iec.specs.declared.line.Change.{Change}
+use Rattle.cbm_iec.specs.declared.lines.Change.{Change}
 use Rattle.cbm_iec.specs.declared.party.Party.{Party}
 use Rattle.cbm_session.specs.Loosely.{Beside, IsBeside}
 use Rattle.cbm_session.specs.Playing.{Station, host_event, drive_events}
 use Rattle.bus_beside.specs.declared.answer.Answer.{Answer}
-use Rattle.bus_beside.specs.Reactions.{AreInTime}
+use Rattle.bus_beside.specs.Reactions.{HaveNothingBefore}
 use Rattle.bus_beside.specs.Moves.{HaveGone}
 use Rattle.bus_beside.specs.declared.moves.Move.{Move}
-use Rattle.bus_beside.specs.Seats.{Seated, Sit, IsResting, failed}
+use Rattle.bus_beside.specs.Seats.{SeatedTwice, Sit, IsPortAtRest, failed_in_all}
 
 -- two plays: the drives, and for each host a moment before which it changes nothing more
 pub record Course (D : Type 0) : Type 0 where
-  pub seats : List (Seated D)
+  pub seats : List (SeatedTwice D)
   pub from : ℕ
   pub tidy_from : ℕ
 
 -- what a drive shows as events, where one shows something
-abbrev pub shown_by : Option Answer → List Event
-shown_by None = []
-shown_by (Some a) = drive_events a.device a.changes.items
+abbrev pub events_shown : Option Answer → List Event
+events_shown None = []
+events_shown (Some a) = drive_events a.device a.changes.items
 
 -- an event that a drive showed with the last one, and that wasn't seen yet
-abbrev pub pending : Option Event → List Event
-pending None = []
-pending (Some e) = e ∷ []
+abbrev pub pending_event : Option Event → List Event
+pending_event None = []
+pending_event (Some e) = e ∷ []
 
 -- two plays, of which one event is pending
 pub record Sides (D : Type 0) : Type 0 where
@@ -41,15 +41,15 @@ host_events (c ∷ cs) = host_event c ∷ host_events cs
 
 module _ (D M : Type 0) (stands : D → M → Type 0) (step : M → Act → M) (says : M → Option (ℕ × Bool)) where
   -- nothing was due before the change, which might come so, and came
-  abbrev pub HaveCome : Move → Change → List (Seated D) → List (Seated D) → Type 0
-  HaveCome move c xs ys = AreInTime D M stands step says c.moment xs × HaveGone D M stands step says move c xs ys
+  abbrev pub HaveCome : Move → Change → List (SeatedTwice D) → List (SeatedTwice D) → Type 0
+  HaveCome move c xs ys = HaveNothingBefore D M stands step says c.moment xs × HaveGone D M stands step says move c xs ys
 
   -- From rest, with these events before them: whatever comes after them up to any end, the two plays from rest are so.
   abbrev pub Reaches : List Party → (ℕ → M) → ℕ → ℕ → List (Station M) → List (Station M) → List Event → List Event → Type 0
   Reaches bs ms n m ss ts es fs = (end : ℕ) (more tidied : List Event) → Beside M step says end n m ss ts more tidied → IsBeside M step says bs ms end (es ++ more) (fs ++ tidied)
 
   -- TWO PLAYS FROM REST have come to where the drives are, with these events.
-  pub record Lies (bs : List Party) (ms : ℕ → M) (b : Course D) (es fs : List Event) : Type 0 where
+  pub record LieBeside (bs : List Party) (ms : ℕ → M) (b : Course D) (es fs : List Event) : Type 0 where
     pub stations : List (Station M)
     pub tidied : List (Station M)
     pub reaches : Reaches bs ms b.from b.tidy_from stations tidied es fs
@@ -57,25 +57,25 @@ module _ (D M : Type 0) (stands : D → M → Type 0) (step : M → Act → M) (
 
   -- So it is where no machine has failed since they had failed so often.
   pub record Lie (failures : D → ℕ) (least : ℕ) (bs : List Party) (ms : ℕ → M) (b : Course D) (es fs : List Event) : Type 0 where
-    pub counted : least ≤ failed failures b.seats
-    pub lies : failed failures b.seats ≤ least → Lies bs ms b es fs
+    pub counted : least ≤ failed_in_all failures b.seats
+    pub lies : failed_in_all failures b.seats ≤ least → LieBeside bs ms b es fs
 
   -- THE TWO PLAYS GO ON with these events.
-  abbrev pub GoesOn : (D → ℕ) → Course D → Course D → List Event → List Event → Type 0
-  GoesOn failures b c more tidied = (least : ℕ) (bs : List Party) (ms : ℕ → M) (es fs : List Event) → Lie failures least bs ms b es fs → Lie failures least bs ms c (es ++ more) (fs ++ tidied)
+  abbrev pub GoOnBeside : (D → ℕ) → Course D → Course D → List Event → List Event → Type 0
+  GoOnBeside failures b c more tidied = (least : ℕ) (bs : List Party) (ms : ℕ → M) (es fs : List Event) → Lie failures least bs ms b es fs → Lie failures least bs ms c (es ++ more) (fs ++ tidied)
 
   -- ALL IS OVER up to an end: so the one trace from rest lies beside the other, where no machine failed.
-  abbrev pub Ends : (D → ℕ) → Course D → Course D → ℕ → Type 0
-  Ends failures b c end = (least : ℕ) (bs : List Party) (ms : ℕ → M) (es fs : List Event) → Lie failures least bs ms b es fs → failed failures c.seats ≤ least → IsBeside M step says bs ms end es fs
+  abbrev pub EndsBeside : (D → ℕ) → Course D → Course D → ℕ → Type 0
+  EndsBeside failures b c end = (least : ℕ) (bs : List Party) (ms : ℕ → M) (es fs : List Event) → Lie failures least bs ms b es fs → failed_in_all failures c.seats ≤ least → IsBeside M step says bs ms end es fs
 
   -- each drive is switched on under both hosts, and has its machine
-  abbrev pub AreResting : List (Seated D) → List Party → (ℕ → M) → Type 0
-  AreResting xs bs ms = AllZip (λ x b. IsResting x.real b × IsResting x.tidy b × stands x.machine (ms b.device)) xs bs
+  abbrev pub AreSwitchedOn : List (SeatedTwice D) → List Party → (ℕ → M) → Type 0
+  AreSwitchedOn xs bs ms = AllZip (λ x b. IsPortAtRest x.real b × IsPortAtRest x.tidy b × stands x.machine (ms b.device)) xs bs
 
   -- TWO PLAYS FROM REST have these events, where no machine has failed since they had failed so often: the one those of a trace, the other those of the
   -- tidy one.
   abbrev pub HaveSeen : (D → ℕ) → ℕ → List Party → (ℕ → M) → Sides D → List Event → List Event → Type 0
-  HaveSeen failures least bs ms b es fs = Lie failures least bs ms b.course (es ++ pending b.second) (fs ++ pending b.second)
+  HaveSeen failures least bs ms b es fs = Lie failures least bs ms b.course (es ++ pending_event b.second) (fs ++ pending_event b.second)
 
   -- these events more of both
   abbrev pub SeesOn : (D → ℕ) → Sides D → Sides D → List Event → List Event → Type 0
@@ -83,4 +83,4 @@ module _ (D M : Type 0) (stands : D → M → Type 0) (step : M → Act → M) (
 
   -- THE TRACE LIES BESIDE THE TIDY ONE up to an end, where no machine failed.
   abbrev pub LiesBeside : (D → ℕ) → Sides D → Sides D → ℕ → Type 0
-  LiesBeside failures b c end = (least : ℕ) (bs : List Party) (ms : ℕ → M) (es fs : List Event) → HaveSeen failures least bs ms b es fs → failed failures c.course.seats ≤ least → IsBeside M step says bs ms end es fs
+  LiesBeside failures b c end = (least : ℕ) (bs : List Party) (ms : ℕ → M) (es fs : List Event) → HaveSeen failures least bs ms b es fs → failed_in_all failures c.course.seats ≤ least → IsBeside M step says bs ms end es fs

@@ -1,6 +1,6 @@
 -- What is known of a trace whose host keeps the timing loosely, so far.
 use Rattle.std.specs.Prelude.{◌≤◌, ◌++◌, ℕ, suc, zero, List, [], ◌∷◌, Bool, Option, Result, OnOk}
-use Rattle.cbm_iec.specs.declared.act.Act.{Act}
+use Rattle.cbm_iec.specs.declared.machine.Act.{Act}
 use Rattle.cbm_iec.specs.declared.event.Event.{Event}
 use Rattle.cbm_iec.specs.declared.party.Party.{Party}
 use Rattle.cbm_session.specs.Loosely.{HostKeepsLoosely, IsKeptLoosely}
@@ -9,7 +9,7 @@ use Rattle.cbm_session.specs.Playing.{Station, Plays, AllLater, at_rest}
 use Rattle.bus_beside.specs.declared.court.Court.{Court}
 use Rattle.bus_beside.specs.Courses.{Sides, HaveSeen}
 use Rattle.bus_beside.specs.Courts.{HasJudged}
-use Rattle.bus_beside.specs.Seats.{failed}
+use Rattle.bus_beside.specs.Seats.{failed_in_all}
 
 -- the tidy host's trace before its judge, and both traces side by side
 pub record Looked (D : Type 0) : Type 0 where
@@ -25,11 +25,11 @@ module _ (D M : Type 0) (stands : D → M → Type 0) (step : M → Act → M) (
 
   -- THE HOST KEEPS THE TIMING LOOSELY up to an end, where no machine failed.
   abbrev pub EndsLoosely : (D → ℕ) → ℕ → List Party → (ℕ → M) → Looked D → List Event → ℕ → Type 0
-  EndsLoosely failures least bs ms l es end = failed failures l.beside.course.seats ≤ least → HostKeepsLoosely M step says bs ms es end
+  EndsLoosely failures least bs ms l es end = failed_in_all failures l.beside.course.seats ≤ least → HostKeepsLoosely M step says bs ms es end
 
   -- And so drives that play from rest with this trace keep to a session.
   abbrev pub KeepsTo : (D → ℕ) → ℕ → List Party → (ℕ → M) → Looked D → List Event → ℕ → Type 0
-  KeepsTo failures least bs ms l es end = failed failures l.beside.course.seats ≤ least → (n : ℕ) (ss : List (Station M)) → Plays M step says zero (at_rest M step says ms bs) es n ss → n ≤ suc end
+  KeepsTo failures least bs ms l es end = failed_in_all failures l.beside.course.seats ≤ least → (n : ℕ) (ss : List (Station M)) → Plays M step says zero (at_rest M step says ms bs) es n ss → n ≤ suc end
       → AllLater M step says end ss → IsKeptLoosely M step says bs ms es end ss
 
   -- What a call says of the trace with its next event: so it is of it.

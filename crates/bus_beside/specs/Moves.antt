@@ -1,13 +1,13 @@
 -- What may happen to drives under two hosts, and where they are after it.
 use Rattle.std.specs.Prelude.{ℕ, Bool, Option, List, map}
 use Rattle.std.specs.List.{AllZip}
-use Rattle.cbm_iec.specs.declared.act.Act.{Act}
-use Rattle.cbm_iec.specs.declared.line.Change.{Change}
+use Rattle.cbm_iec.specs.declared.machine.Act.{Act}
+use Rattle.cbm_iec.specs.declared.lines.Change.{Change}
 use Rattle.cbm_session.specs.Playing.{Station, tell, hear}
 use Rattle.cbm_session.specs.Loosely.{MayMake, MayStray, Ignores, Heeds}
 use Rattle.bus_beside.specs.declared.moves.Move.{Move}
 use Rattle.bus_beside.specs.declared.moves.Move.TheVariants.{Both, Strays, Tidies, Hears}
-use Rattle.bus_beside.specs.Seats.{Seated, station, Sits, Sit}
+use Rattle.bus_beside.specs.Seats.{SeatedTwice, station, Sits, Sit}
 
 module _ (M : Type 0) (step : M → Act → M) (says : M → Option (ℕ × Bool)) where
   -- a drive under the host as it is, after the change
@@ -33,14 +33,14 @@ module _ (M : Type 0) (step : M → Act → M) (says : M → Option (ℕ × Bool
 
 module _ (D M : Type 0) (stands : D → M → Type 0) (step : M → Act → M) (says : M → Option (ℕ × Bool)) where
   -- The change came so, whatever state the machine represented.
-  abbrev pub HasMoved : Move → Change → Seated D → Seated D → Type 0
+  abbrev pub HasMoved : Move → Change → SeatedTwice D → SeatedTwice D → Type 0
   HasMoved move c x y = (m : M) → stands x.machine m → Sits D M stands y (real_after M step says move c (station x.real m)) (tidy_after M step says move c (station x.tidy m))
 
   -- the change might come so, and came
-  abbrev pub HasGone : Move → Change → Seated D → Seated D → Type 0
+  abbrev pub HasGone : Move → Change → SeatedTwice D → SeatedTwice D → Type 0
   HasGone move c x y = (s t : Station M) → Sits D M stands x s t → MayGo M step says move c s t × Sits D M stands y (real_after M step says move c s) (tidy_after M step says move c t)
 
   -- the same of all drives
-  abbrev pub HaveGone : Move → Change → List (Seated D) → List (Seated D) → Type 0
+  abbrev pub HaveGone : Move → Change → List (SeatedTwice D) → List (SeatedTwice D) → Type 0
   HaveGone move c xs ys = (ss ts : List (Station M)) → Sit D M stands xs ss ts
       → AllZip (MayGo M step says move c) ss ts × Sit D M stands ys (map (real_after M step says move c) ss) (map (tidy_after M step says move c) ts)

@@ -2,7 +2,7 @@
 
 ghost use Rattle.std.specs.Prelude.{◌≡◌, ◌∷◌, true, IfSome};
 ghost use Rattle.cbm_session.specs.Playing.{drive_events};
-ghost use Rattle.bus_beside.specs.Courses.{pending};
+ghost use Rattle.bus_beside.specs.Courses.{pending_event};
 
 use crate::amiss::Amiss;
 use crate::answer::Answer;
@@ -31,7 +31,7 @@ impl<D: Machine, const N: usize> Model for Beside<D, N> {
 
 /// The events of an answer: the first one, and the second, if there is one.
 fn events_of(answer: &Answer) -> Option<(Event, Option<Event>)>
-    ensures { IfSome result (λ r. drive_events answer.now.device answer.now.changes.items ≡ r.0 ∷ pending r.1) }
+    ensures { IfSome result (λ r. drive_events answer.now.device answer.now.changes.items ≡ r.0 ∷ pending_event r.1) }
 {
     let who = Who::Drive(answer.device);
     match answer.changes.as_slice() {
@@ -71,13 +71,13 @@ impl<D: Machine, const N: usize> Beside<D, N> {
     ghost use Rattle.cbm_iec.specs.declared.event.Event.{Event as ThisEvent};
     ghost use Rattle.cbm_iec.specs.declared.party.Party.{Party};
     ghost use Rattle.cbm_session.specs.Playing.{host_event};
-    ghost use Rattle.bus_beside.specs.Courses.{AreResting, HaveSeen, SeesOn, LiesBeside, host_events};
-    ghost use Rattle.bus_beside.specs.Seats.{failed};
+    ghost use Rattle.bus_beside.specs.Courses.{AreSwitchedOn, HaveSeen, SeesOn, LiesBeside, host_events};
+    ghost use Rattle.bus_beside.specs.Seats.{failed_in_all};
 
     /// Drives that are switched on, in the order in which they answer at equal moments. Nothing was seen.
     pub fn new(seats: [Seat<D>; N]) -> Beside<D, N>
-        ensures { (bs : List Party) (ms : ℕ → D.State) → AreResting _ D.State D.stands D.step D.says seats bs ms →
-            HaveSeen _ D.State D.stands D.step D.says D.failures (failed D.failures seats) bs ms result [] [] }
+        ensures { (bs : List Party) (ms : ℕ → D.State) → AreSwitchedOn _ D.State D.stands D.step D.says seats bs ms →
+            HaveSeen _ D.State D.stands D.step D.says D.failures (failed_in_all D.failures seats) bs ms result [] [] }
     {
         Beside {
             plays: Plays::new(seats),

@@ -3,8 +3,8 @@
 ghost use Rattle.std.specs.Prelude.{◌≡◌, ◌<◌, ◌≤◌, ◌^◌, List, IfSome, true};
 ghost use Rattle.cbm_session.specs.Playing.{Station};
 ghost use Rattle.bus_beside.specs.Moves.{HaveGone};
-ghost use Rattle.bus_beside.specs.Reactions.{HaveHeard, AreInTime, AreLater, HaveReacted};
-ghost use Rattle.bus_beside.specs.Seats.{Sit, Goes};
+ghost use Rattle.bus_beside.specs.Reactions.{HaveAllHeard, HaveNothingBefore, HaveNothingUpto, HaveReacted};
+ghost use Rattle.bus_beside.specs.Seats.{Sit, GoesUnfailed};
 
 use crate::answer::Answer;
 use crate::moves::Move;
@@ -17,7 +17,7 @@ pub(crate) const LIMIT: u64 = 1 << 58;
 /// A change comes so for each of these drives, if it may.
 pub(crate) fn go_each<D: Machine>(seats: &mut [Seat<D>], go: Move, change: Change) -> bool
     requires { change.moment < 2 ^ 60 }
-    ensures { result ≡ true → Goes D.failures seats.old seats.new (HaveGone _ D.State D.stands D.step D.says go change seats.old seats.new) }
+    ensures { result ≡ true → GoesUnfailed D.failures seats.old seats.new (HaveGone _ D.State D.stands D.step D.says go change seats.old seats.new) }
 {
     let Some((first, rest)) = seats.split_first_mut() else {
         return true;
@@ -27,7 +27,7 @@ pub(crate) fn go_each<D: Machine>(seats: &mut [Seat<D>], go: Move, change: Chang
 
 /// Each of these drives hears another one's changes.
 pub(crate) fn hear_each<D: Machine>(seats: &mut [Seat<D>], changes: &[Change]) -> bool
-    ensures { result ≡ true → Goes D.failures seats.old seats.new (HaveHeard _ D.State D.stands D.step D.says changes.now seats.old seats.new) }
+    ensures { result ≡ true → GoesUnfailed D.failures seats.old seats.new (HaveAllHeard _ D.State D.stands D.step D.says changes.now seats.old seats.new) }
 {
     let Some((change, more)) = changes.split_first() else {
         return true;
@@ -40,7 +40,7 @@ pub(crate) fn hear_each<D: Machine>(seats: &mut [Seat<D>], changes: &[Change]) -
 
 /// Nothing is due to these drives before a moment.
 pub(crate) fn all_from<D: Machine>(seats: &[Seat<D>], moment: u64) -> bool
-    ensures { result ≡ true → AreInTime _ D.State D.stands D.step D.says moment seats.now }
+    ensures { result ≡ true → HaveNothingBefore _ D.State D.stands D.step D.says moment seats.now }
 {
     match seats.split_first() {
         Some((first, rest)) => first.is_from(moment) && all_from(rest, moment),
@@ -50,7 +50,7 @@ pub(crate) fn all_from<D: Machine>(seats: &[Seat<D>], moment: u64) -> bool
 
 /// Nothing is due to these drives at a moment or before it.
 pub(crate) fn all_later<D: Machine>(seats: &[Seat<D>], moment: u64) -> bool
-    ensures { result ≡ true → AreLater _ D.State D.stands D.step D.says moment seats.now }
+    ensures { result ≡ true → HaveNothingUpto _ D.State D.stands D.step D.says moment seats.now }
 {
     match seats.split_first() {
         Some((first, rest)) => first.is_later(moment) && all_later(rest, moment),
@@ -75,7 +75,7 @@ pub(crate) fn first_due<D: Machine>(seats: &[Seat<D>]) -> Option<(usize, u64)> {
 /// hosts, and the others hear it.
 pub(crate) fn react<D: Machine>(seats: &mut [Seat<D>], place: usize, moment: u64) -> Option<Answer>
     requires { moment < 2 ^ 60 }
-    ensures { IfSome result (λ a. Goes D.failures seats.old seats.new ((ss ts : List (Station D.State)) → Sit _ D.State D.stands seats.old ss ts
+    ensures { IfSome result (λ a. GoesUnfailed D.failures seats.old seats.new ((ss ts : List (Station D.State)) → Sit _ D.State D.stands seats.old ss ts
         → HaveReacted _ D.State D.stands D.step D.says moment a.device a.changes.items seats.new ss ts)) }
 {
     if place >= seats.len() {

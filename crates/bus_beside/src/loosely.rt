@@ -49,14 +49,14 @@ impl<D: Machine, const N: usize> Model for Loosely<D, N> {
 
 impl<D: Machine + Drop, const N: usize> Loosely<D, N> {
     ghost use Rattle.std.specs.Prelude.{ℕ, [], IfOk};
-    ghost use Rattle.bus_beside.specs.Courses.{AreResting};
+    ghost use Rattle.bus_beside.specs.Courses.{AreSwitchedOn};
     ghost use Rattle.bus_beside.specs.Keeping.{KeepsSoFar};
-    ghost use Rattle.bus_beside.specs.Seats.{failed};
+    ghost use Rattle.bus_beside.specs.Seats.{failed_in_all};
 
     /// Drives that are switched on, in the order in which they answer at equal moments. Nothing was seen.
     pub fn new(seats: [Seat<D>; N], parties: &[Party]) -> Result<Loosely<D, N>, NotABus>
-        ensures { IfOk result (λ l. (ms : ℕ → D.State) → AreResting _ D.State D.stands D.step D.says seats parties.now ms →
-            KeepsSoFar _ D.State D.stands D.step D.says D.failures (failed D.failures seats) parties.now ms l []) }
+        ensures { IfOk result (λ l. (ms : ℕ → D.State) → AreSwitchedOn _ D.State D.stands D.step D.says seats parties.now ms →
+            KeepsSoFar _ D.State D.stands D.step D.says D.failures (failed_in_all D.failures seats) parties.now ms l []) }
     {
         let court = Court::new(parties)?;
         Ok(Loosely {

@@ -1,10 +1,10 @@
 //! What all others hold, as a drive counts it.
 
 ghost use Rattle.std.specs.Prelude.{◌≡◌, IfSome};
+ghost use Rattle.cbm_iec.specs.Changes.{lines_after};
 ghost use Rattle.cbm_session.specs.Among.{wires_of, behind_host, behind_other, counted};
-ghost use Rattle.cbm_session.specs.Following.{lines_after};
 ghost use Rattle.cbm_session.specs.Playing.{nobody};
-ghost use Rattle.bus_beside.specs.Rests.{rest_of};
+ghost use Rattle.bus_beside.specs.Rests.{rest_by};
 
 use cbm_iec::{Change, Line, Lines, Way};
 
@@ -50,7 +50,7 @@ fn counted(way: Way, count: u64) -> Option<u64>
 impl Others {
     /// Nobody holds a line.
     pub(crate) fn nobody() -> Others
-        ensures { rest_of result ≡ nobody }
+        ensures { rest_by result ≡ nobody }
     {
         Others {
             host: Lines {
@@ -65,7 +65,7 @@ impl Others {
 
     /// Which lines are low.
     pub(crate) fn wires(&self) -> Lines
-        ensures { result ≡ wires_of (rest_of self.now) }
+        ensures { result ≡ wires_of (rest_by self.now) }
     {
         Lines {
             atn_low: self.host.atn_low,
@@ -76,7 +76,7 @@ impl Others {
 
     /// After a change of the host.
     pub(crate) fn after_host(self, change: Change) -> Others
-        ensures { rest_of result ≡ behind_host change.line change.way (rest_of self) }
+        ensures { rest_by result ≡ behind_host change.line change.way (rest_by self) }
     {
         Others {
             host: with_change(self.host, change),
@@ -86,7 +86,7 @@ impl Others {
 
     /// After a change of another drive. None where the count is too great.
     pub(crate) fn after_drive(self, change: Change) -> Option<Others>
-        ensures { IfSome result (λ o. rest_of o ≡ behind_other change.line change.way (rest_of self)) }
+        ensures { IfSome result (λ o. rest_by o ≡ behind_other change.line change.way (rest_by self)) }
     {
         match change.line {
             Line::Atn => Some(self),

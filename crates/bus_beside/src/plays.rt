@@ -39,8 +39,8 @@ impl<D: Machine, const N: usize> Model for Plays<D, N> {
 impl<D: Machine, const N: usize> Plays<D, N> {
     ghost use Rattle.std.specs.Prelude.{◌≡◌, true, [], ◌∷◌, if◌then◌else◌, IfOk, IfSome};
     ghost use Rattle.cbm_session.specs.Playing.{host_event, drive_events};
-    ghost use Rattle.bus_beside.specs.Courses.{shown_by, host_events, HaveCome, GoesOn, Ends};
-    ghost use Rattle.bus_beside.specs.Seats.{Goes};
+    ghost use Rattle.bus_beside.specs.Courses.{events_shown, host_events, HaveCome, GoOnBeside, EndsBeside};
+    ghost use Rattle.bus_beside.specs.Seats.{GoesUnfailed};
 
     /// Drives that are switched on.
     pub(crate) fn new(seats: [Seat<D>; N]) -> Plays<D, N>
@@ -57,7 +57,7 @@ impl<D: Machine, const N: usize> Plays<D, N> {
 
     /// A change comes so, where it may and nothing is due before it.
     fn come(&mut self, go: Move, change: Change) -> bool
-        ensures come { result ≡ true → Goes D.failures self.old.seats self.new.seats (HaveCome _ D.State D.stands D.step D.says go change self.old.seats self.new.seats) }
+        ensures come { result ≡ true → GoesUnfailed D.failures self.old.seats self.new.seats (HaveCome _ D.State D.stands D.step D.says go change self.old.seats self.new.seats) }
         ensures from { self.new.from ≡ self.old.from }
         ensures tidy_from { self.new.tidy_from ≡ self.old.tidy_from }
     {
@@ -69,7 +69,7 @@ impl<D: Machine, const N: usize> Plays<D, N> {
 
     /// Both hosts make a change.
     fn both(&mut self, change: Change) -> bool
-        ensures { result ≡ true → GoesOn _ D.State D.stands D.step D.says D.failures self.old self.new (host_event change ∷ []) (host_event change ∷ []) }
+        ensures { result ≡ true → GoOnBeside _ D.State D.stands D.step D.says D.failures self.old self.new (host_event change ∷ []) (host_event change ∷ []) }
     {
         if change.moment < self.from || change.moment < self.tidy_from {
             return false;
@@ -84,7 +84,7 @@ impl<D: Machine, const N: usize> Plays<D, N> {
 
     /// The host as it is makes a change alone.
     fn strays(&mut self, change: Change) -> bool
-        ensures { result ≡ true → GoesOn _ D.State D.stands D.step D.says D.failures self.old self.new (host_event change ∷ []) [] }
+        ensures { result ≡ true → GoOnBeside _ D.State D.stands D.step D.says D.failures self.old self.new (host_event change ∷ []) [] }
     {
         if change.moment < self.from || !self.come(Move::Strays, change) {
             return false;
@@ -95,7 +95,7 @@ impl<D: Machine, const N: usize> Plays<D, N> {
 
     /// The tidy host makes a change alone.
     fn tidies(&mut self, change: Change) -> bool
-        ensures { result ≡ true → GoesOn _ D.State D.stands D.step D.says D.failures self.old self.new [] (host_event change ∷ []) }
+        ensures { result ≡ true → GoOnBeside _ D.State D.stands D.step D.says D.failures self.old self.new [] (host_event change ∷ []) }
     {
         if change.moment < self.tidy_from || !self.come(Move::Tidies, change) {
             return false;
@@ -106,7 +106,7 @@ impl<D: Machine, const N: usize> Plays<D, N> {
 
     /// The reaction of the drive at a place, which is due first.
     fn react(&mut self, place: usize, moment: u64) -> Option<Answer>
-        ensures { IfSome result (λ a. GoesOn _ D.State D.stands D.step D.says D.failures self.old self.new (drive_events a.device a.changes.items) (drive_events a.device a.changes.items)) }
+        ensures { IfSome result (λ a. GoOnBeside _ D.State D.stands D.step D.says D.failures self.old self.new (drive_events a.device a.changes.items) (drive_events a.device a.changes.items)) }
     {
         if moment >= LIMIT {
             return None;
@@ -119,7 +119,7 @@ impl<D: Machine, const N: usize> Plays<D, N> {
 
     /// The first reaction before a limit that shows something; those before it, which show nothing, happen.
     pub(crate) fn next_shown(&mut self, limit: u64, fuel: u8) -> Result<Option<Answer>, Amiss>
-        ensures { IfOk result (λ o. GoesOn _ D.State D.stands D.step D.says D.failures self.old self.new (shown_by o) (shown_by o)) }
+        ensures { IfOk result (λ o. GoOnBeside _ D.State D.stands D.step D.says D.failures self.old self.new (events_shown o) (events_shown o)) }
     {
         let Some((place, moment)) = first_due(self.seats.as_slice()) else {
             return Ok(None);
@@ -141,7 +141,7 @@ impl<D: Machine, const N: usize> Plays<D, N> {
 
     /// What is due before a limit happens. It shows nothing, or this is false.
     fn settle(&mut self, limit: u64) -> bool
-        ensures { result ≡ true → GoesOn _ D.State D.stands D.step D.says D.failures self.old self.new [] [] }
+        ensures { result ≡ true → GoOnBeside _ D.State D.stands D.step D.says D.failures self.old self.new [] [] }
     {
         match self.next_shown(limit, MOST) {
             Ok(None) => true,
@@ -151,7 +151,7 @@ impl<D: Machine, const N: usize> Plays<D, N> {
 
     /// The host as it is makes a change, or has made it already, and the tidy one these. What both make comes at once.
     pub(crate) fn host(&mut self, change: Change, tidied: &[Change], is_made: bool) -> bool
-        ensures { result ≡ true → GoesOn _ D.State D.stands D.step D.says D.failures self.old self.new (if is_made then [] else (host_event change ∷ [])) (host_events tidied.now) }
+        ensures { result ≡ true → GoOnBeside _ D.State D.stands D.step D.says D.failures self.old self.new (if is_made then [] else (host_event change ∷ [])) (host_events tidied.now) }
     {
         let Some((first, rest)) = tidied.split_first() else {
             return is_made || self.late(change);
@@ -173,7 +173,7 @@ impl<D: Machine, const N: usize> Plays<D, N> {
 
     /// The host as it is makes a change alone, once what is due before it has happened.
     fn late(&mut self, change: Change) -> bool
-        ensures { result ≡ true → GoesOn _ D.State D.stands D.step D.says D.failures self.old self.new (host_event change ∷ []) [] }
+        ensures { result ≡ true → GoOnBeside _ D.State D.stands D.step D.says D.failures self.old self.new (host_event change ∷ []) [] }
     {
         if !self.settle(change.moment) {
             return false;
@@ -183,7 +183,7 @@ impl<D: Machine, const N: usize> Plays<D, N> {
 
     /// All is over up to a moment.
     pub(crate) fn end(&mut self, moment: u64) -> bool
-        ensures { result ≡ true → Ends _ D.State D.stands D.step D.says D.failures self.old self.new moment }
+        ensures { result ≡ true → EndsBeside _ D.State D.stands D.step D.says D.failures self.old self.new moment }
     {
         if moment >= LIMIT || !self.settle(moment + 1) || self.from > moment + 1 {
             return false;

@@ -3,14 +3,14 @@
 ghost use Rattle.std.specs.Prelude.{◌≡◌, ◌<◌, ◌≤◌, ◌^◌, Some, IfSome, true};
 ghost use Rattle.cbm_iec.specs.Machines.{acted};
 ghost use Rattle.cbm_iec.specs.Ports.{port_due};
-ghost use Rattle.cbm_iec.specs.declared.act.Act.{Act as ThisAct};
+ghost use Rattle.cbm_iec.specs.declared.machine.Act.{Act as ThisAct};
 ghost use Rattle.cbm_session.specs.Following.{IsInTime};
 ghost use Rattle.cbm_session.specs.Playing.{Station, IsLaterDue};
 ghost use Rattle.cbm_session.specs.Loosely.{HeedsAlike, Heeds, HeedsAfter, MayMake};
 ghost use Rattle.bus_beside.specs.Moves.{MayGo, HasMoved, HasGone};
 ghost use Rattle.bus_beside.specs.declared.moves.Move.TheVariants.{Both, Strays, Tidies, Hears};
-ghost use Rattle.bus_beside.specs.Reactions.{ReactsAlike};
-ghost use Rattle.bus_beside.specs.Seats.{station, Sits, IsResting, GoesAlone};
+ghost use Rattle.bus_beside.specs.Reactions.{ReactsTheSame};
+ghost use Rattle.bus_beside.specs.Seats.{station, Sits, IsPortAtRest, GoesAlone};
 
 use crate::answer::Answer;
 use crate::heeding::{heeds_alike, ignores, may_stray};
@@ -28,9 +28,9 @@ pub struct Seat<D: Machine> {
 }
 
 impl<D: Machine> Model for Seat<D> {
-    ghost use Rattle.bus_beside.specs.Seats.{Seated};
+    ghost use Rattle.bus_beside.specs.Seats.{SeatedTwice};
 
-    ghost Value = { Seated D };
+    ghost Value = { SeatedTwice D };
 
     ghost view = { λ d. record { real = d.real; tidy = d.tidy; machine = d.machine } };
 }
@@ -56,8 +56,8 @@ fn same_held(one: Held, other: Held) -> bool
 impl<D: Machine> Seat<D> {
     /// A drive as it is switched on, with its machine.
     pub fn new(machine: D, party: Party) -> Seat<D>
-        ensures real { IsResting result.real party }
-        ensures tidy { IsResting result.tidy party }
+        ensures real { IsPortAtRest result.real party }
+        ensures tidy { IsPortAtRest result.tidy party }
         ensures machine { result.machine ≡ machine }
     {
         Seat {
@@ -245,7 +245,7 @@ impl<D: Machine> Seat<D> {
     pub(crate) fn react(&mut self, moment: u64) -> Option<Answer>
         requires { moment < 2 ^ 60 }
         ensures { IfSome result (λ a. GoesAlone D.failures self.old self.new ((s t : Station D.State) → Sits _ D.State D.stands self.old s t
-            → ReactsAlike _ D.State D.stands D.step D.says moment a.device a.changes.items self.new s t)) }
+            → ReactsTheSame _ D.State D.stands D.step D.says moment a.device a.changes.items self.new s t)) }
     {
         if !self.is_alike(moment) {
             return None;

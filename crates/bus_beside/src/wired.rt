@@ -4,7 +4,7 @@ ghost use Rattle.std.specs.Prelude.{◌≡◌, ◌<◌, ◌^◌, MatchOption, If
 ghost use Rattle.cbm_iec.specs.Ports.{resting, told, told_act};
 ghost use Rattle.cbm_session.specs.Among.{wires_of, behind_host, behind_other};
 ghost use Rattle.cbm_session.specs.Playing.{nobody};
-ghost use Rattle.bus_beside.specs.Rests.{rest_of, ToldBy};
+ghost use Rattle.bus_beside.specs.Rests.{rest_by, ToldBy};
 
 use crate::others::Others;
 use cbm_iec::{Act, Change, Party, Port};
@@ -20,7 +20,7 @@ impl Wired {
     /// A drive as it is switched on, and nobody holds a line.
     pub(crate) fn new(party: Party) -> Wired
         ensures port { result.port ≡ resting party }
-        ensures others { rest_of result.others ≡ nobody }
+        ensures others { rest_by result.others ≡ nobody }
     {
         Wired {
             port: Port::new(party),
@@ -31,7 +31,7 @@ impl Wired {
     /// The host changes a line. Answers the act that counts with it.
     pub(crate) fn tell(&mut self, change: Change) -> Option<Act>
         requires { change.moment < 2 ^ 60 }
-        ensures { ToldBy change.moment (behind_host change.line change.way (rest_of self.old.others)) self.old self.new result }
+        ensures { ToldBy change.moment (behind_host change.line change.way (rest_by self.old.others)) self.old self.new result }
     {
         let others = self.others.after_host(change);
         self.told(change.moment, others)
@@ -40,7 +40,7 @@ impl Wired {
     /// Another drive changes a line. Answers the act that counts with it; None where there are too many drives.
     pub(crate) fn hear(&mut self, change: Change) -> Option<Option<Act>>
         requires { change.moment < 2 ^ 60 }
-        ensures { IfSome result (λ act. ToldBy change.moment (behind_other change.line change.way (rest_of self.old.others)) self.old self.new act) }
+        ensures { IfSome result (λ act. ToldBy change.moment (behind_other change.line change.way (rest_by self.old.others)) self.old self.new act) }
     {
         let others = self.others.after_drive(change)?;
         Some(self.told(change.moment, others))
@@ -49,7 +49,7 @@ impl Wired {
     /// All others hold these lines from a moment on.
     fn told(&mut self, moment: u64, others: Others) -> Option<Act>
         requires { moment < 2 ^ 60 }
-        ensures { ToldBy moment (rest_of others) self.old self.new result }
+        ensures { ToldBy moment (rest_by others) self.old self.new result }
     {
         let wires = others.wires();
         self.others = others;

@@ -3,8 +3,8 @@ use Rattle.std.proofs.Common.{◌≡◌, ℕ, ◌+◌, ◌≤◌, ◌<◌, zero,
 use Rattle.std.proofs.lemmas.List.{drop_more, drop_all}
 use Rattle.std.proofs.lemmas.Option.{slice_get_within, get_or_from_slice_get}
 use Rattle.bus_judge.proofs.Standing.{splits_with, goes_on_to_an_end}
-use Rattle.bus_judge.specs.Judging.{Stands, StandsAt, IsBusy, Rests, RestsIn, IsQuietTo, InTime}
-use Rattle.bus_judge.specs.Views.{point_of, whole_of, step_of, shown}
+use Rattle.bus_judge.specs.Judging.{JudgeStands, JudgeStandsAt, IsBusy, JudgeRests, RestsIn, IsQuietTo, InTime}
+use Rattle.bus_judge.specs.Views.{point_of, whole_of, step_of, steps_shown}
 use Rattle.bus_judge.specs.declared.judge.Judge.{Judge}
 use Rattle.bus_judge.specs.declared.step.Step.{Step as OwnStep}
 use Rattle.bus_judge.specs.declared.whole.Whole.{Whole as OwnWhole}
@@ -20,7 +20,7 @@ use Rattle.cbm_session.specs.Sessions.{session_steps, MayEnd, Splits, IsBus}
 use Rattle.cbm_session.specs.Steps.{Step, moment_of}
 use Rattle.cbm_session.specs.Timing.{LaterHost, Owes}
 
-rests-end : (p : Point) (v : Whole) → Rests v → MayEnd (whole_point p v).place
+rests-end : (p : Point) (v : Whole) → JudgeRests v → MayEnd (whole_point p v).place
 rests-end p (PullPiece at) h = tt
 rests-end p (Command f) h = tt
 rests-end p (Byte eoi f) h = tt
@@ -48,7 +48,7 @@ in-time bs ks done more moment bus s l o = record { kept = fronts_keep bs ks don
 
 -- the next step comes later
 later-step : (bs : List Party) (p : Point) (w : OwnWhole) (steps : List OwnStep) (seen : ℕ) (done : List Step) (x : OwnStep) (moment : ℕ)
-    → IsBus bs → StandsAt bs p (Some w) steps seen done → slice_get steps seen ≡ Some x → moment < x.event.change.moment → InTime bs done moment
+    → IsBus bs → JudgeStandsAt bs p (Some w) steps seen done → slice_get steps seen ≡ Some x → moment < x.event.change.moment → InTime bs done moment
 later-step bs p w steps seen done x moment bus s e l =
     let others = goes_on_to_an_end p (whole_of w) in
     let tail = session_steps (whole_point p (whole_of w)) others.0 in
@@ -56,18 +56,18 @@ later-step bs p w steps seen done x moment bus s e l =
     let split = splits_with bs p w steps seen done s others.0 others.1 in
     let d : drop seen steps ≡ x ∷ drop (seen + 1) steps =
     drop_more steps seen x (slice_get_within steps seen x e) ∙ ap (λ (y : OwnStep). y ∷ drop (seen + 1) steps) (get_or_from_slice_get steps seen x x e) in
-    let m : shown (drop seen steps) ++ tail ≡ step_of x ∷ (shown (drop (seen + 1) steps) ++ tail) = ap (λ (y : List OwnStep). shown y ++ tail) d in
-    let more = step_of x ∷ (shown (drop (seen + 1) steps) ++ tail) in
+    let m : steps_shown (drop seen steps) ++ tail ≡ step_of x ∷ (steps_shown (drop (seen + 1) steps) ++ tail) = ap (λ (y : List OwnStep). steps_shown y ++ tail) d in
+    let more = step_of x ∷ (steps_shown (drop (seen + 1) steps) ++ tail) in
     let here : Splits bs ks done more = subst (λ (y : List Step). Splits bs ks done y) m split in
     let g : GoesOn more = goes-right done more (subst GoesOn here.steps (goes_on bs ks bus here.linked)) in
-    in-time bs ks done more moment bus here (λ i. l, all-later moment x.event.who x.event.change.moment (shown (drop (seen + 1) steps) ++ tail) l g.0) (λ o. absurd (omega (arith, l, o.1)))
+    in-time bs ks done more moment bus here (λ i. l, all-later moment x.event.who x.event.change.moment (steps_shown (drop (seen + 1) steps) ++ tail) l g.0) (λ o. absurd (omega (arith, l, o.1)))
 
 -- the piece has come, and nothing need follow it
 no-step : (bs : List Party) (p : Point) (w : OwnWhole) (steps : List OwnStep) (seen : ℕ) (done : List Step) (moment : ℕ)
-    → IsBus bs → StandsAt bs p (Some w) steps seen done → length steps ≤ seen → Rests (whole_of w) → InTime bs done moment
+    → IsBus bs → JudgeStandsAt bs p (Some w) steps seen done → length steps ≤ seen → JudgeRests (whole_of w) → InTime bs done moment
 no-step bs p w steps seen done moment bus s e r =
     let split = splits_with bs p w steps seen done s [] (rests-end p (whole_of w) r) in
-    let m : shown (drop seen steps) ++ [] ≡ [] = ap (λ (y : List OwnStep). shown y ++ []) (drop_all seen steps e) in
+    let m : steps_shown (drop seen steps) ++ [] ≡ [] = ap (λ (y : List OwnStep). steps_shown y ++ []) (drop_all seen steps e) in
     let here : Splits bs (s.ks ++ Full (whole_of w) ∷ []) done [] = subst (λ (y : List Step). Splits bs (s.ks ++ Full (whole_of w) ∷ []) done y) m split in
     in-time bs (s.ks ++ Full (whole_of w) ∷ []) done [] moment bus here tt (λ o. o)
 
@@ -77,15 +77,15 @@ none-there (x ∷ steps) zero e = absurd cc
 none-there (x ∷ steps) (suc seen) e = let h = none-there steps seen e in omega (arith, h)
 
 by-next : (bs : List Party) (p : Point) (w : OwnWhole) (steps : List OwnStep) (seen : ℕ) (done : List Step) (moment : ℕ) (next : Option OwnStep)
-    → IsBus bs → StandsAt bs p (Some w) steps seen done → slice_get steps seen ≡ next → elim next as (λ x. Type 0) [ None ↦ Rests (whole_of w) | Some s ↦ moment < s.event.change.moment ] → InTime bs done moment
+    → IsBus bs → JudgeStandsAt bs p (Some w) steps seen done → slice_get steps seen ≡ next → elim next as (λ x. Type 0) [ None ↦ JudgeRests (whole_of w) | Some s ↦ moment < s.event.change.moment ] → InTime bs done moment
 by-next bs p w steps seen done moment None bus s e q = no-step bs p w steps seen done moment bus s (none-there steps seen e) q
 by-next bs p w steps seen done moment (Some x) bus s e q = later-step bs p w steps seen done x moment bus s e q
 
 -- so it is where the judge owes nothing more
-pub in_time : (bs : List Party) (j : Judge) (done : List Step) (moment : ℕ) → IsBus bs → Stands bs j done → IsBusy j → IsQuietTo j moment → InTime bs done moment
+pub in_time : (bs : List Party) (j : Judge) (done : List Step) (moment : ℕ) → IsBus bs → JudgeStands bs j done → IsBusy j → IsQuietTo j moment → InTime bs done moment
 in_time bs j done moment bus s b q =
     let p = point_of j.point in
-    let busy : StandsAt bs p (Some b.0) j.steps.items j.seen done = subst (λ (w : Option OwnWhole). StandsAt bs p w j.steps.items j.seen done) b.1 s in
-    let quiet : elim (slice_get j.steps.items j.seen) as (λ x. Type 0) [ None ↦ Rests (whole_of b.0) | Some s ↦ moment < s.event.change.moment ] =
+    let busy : JudgeStandsAt bs p (Some b.0) j.steps.items j.seen done = subst (λ (w : Option OwnWhole). JudgeStandsAt bs p w j.steps.items j.seen done) b.1 s in
+    let quiet : elim (slice_get j.steps.items j.seen) as (λ x. Type 0) [ None ↦ JudgeRests (whole_of b.0) | Some s ↦ moment < s.event.change.moment ] =
     subst (λ (w : Option OwnWhole). elim (slice_get j.steps.items j.seen) as (λ x. Type 0) [ None ↦ RestsIn w | Some s ↦ moment < s.event.change.moment ]) b.1 q in
     by-next bs p b.0 j.steps.items j.seen done moment (slice_get j.steps.items j.seen) bus busy refl quiet

@@ -1,7 +1,7 @@
 -- An event that comes too soon after another one begins no session with it.
 use Rattle.std.proofs.Common.{ℕ, List, [], ◌∷◌, ◌++◌, subst}
 use Rattle.bus_judge.specs.Judging.{BeginsSo, NoneBegins, IsTooSoon, and_then}
-use Rattle.bus_judge.specs.Views.{mark_of}
+use Rattle.bus_judge.specs.Views.{step_mark}
 use Rattle.bus_judge.specs.declared.step.Mark.{Mark as OwnMark}
 use Rattle.cbm_iec.specs.declared.event.Event.{Event}
 use Rattle.cbm_iec.specs.declared.event.Who.{Who}
@@ -46,6 +46,6 @@ none_begins bs front s back e bus soon = λ b.
 -- so it isn't taken
 pub not_taken : (bs : List Party) (done : List Step) (e : Event) (mark : OwnMark) → NoneBegins bs done e → BeginsSo bs (and_then done e mark) → ⊥
 not_taken bs done e mark n b =
-    let step : Step = record { event = e; mark = mark_of mark } in
+    let step : Step = record { event = e; mark = step_mark mark } in
     let acts = acts_of bs (and_then done e mark) in
     n (acts, subst (λ (t : List Event). Begins bs acts t) (events_append done (step ∷ [])) b)

@@ -4,7 +4,7 @@ use Rattle.bus_judge.specs.declared.judge.Judge.{Judge}
 use Rattle.bus_judge.specs.declared.step.Mark.{Mark as OwnMark}
 use Rattle.bus_judge.specs.declared.step.Step.{Step as OwnStep}
 use Rattle.bus_judge.specs.declared.whole.Whole.{Whole as OwnWhole}
-use Rattle.bus_judge.specs.Views.{point_of, whole_of, mark_of, shown}
+use Rattle.bus_judge.specs.Views.{point_of, whole_of, step_mark, steps_shown}
 use Rattle.cbm_iec.specs.declared.event.Event.{Event}
 use Rattle.cbm_iec.specs.declared.party.Party.{Party}
 use Rattle.cbm_session.specs.Frames.{is_last}
@@ -15,25 +15,25 @@ use Rattle.cbm_session.specs.Steps.{Step, moment_of, events_of}
 use Rattle.cbm_session.specs.Timing.{HostKeeps, IsLate, any}
 
 -- these pieces lead from a point to another
-abbrev pub Leads : Point → List Piece → Point → Type 0
-Leads p [] q = q ≡ p
-Leads p (k ∷ ks) q = PieceFits p k × Leads (point_after p k) ks q
+abbrev pub LeadsTo : Point → List Piece → Point → Type 0
+LeadsTo p [] q = q ≡ p
+LeadsTo p (k ∷ ks) q = PieceFits p k × LeadsTo (point_after p k) ks q
 
 -- the piece under way fits, and these are its steps
-abbrev pub IsUnderWay : Point → Option OwnWhole → List OwnStep → Type 0
-IsUnderWay p None steps = steps ≡ []
-IsUnderWay p (Some w) steps = Fits p (whole_of w) × (shown steps ≡ steps_of p (whole_of w))
+abbrev pub IsPieceUnderWay : Point → Option OwnWhole → List OwnStep → Type 0
+IsPieceUnderWay p None steps = steps ≡ []
+IsPieceUnderWay p (Some w) steps = Fits p (whole_of w) × (steps_shown steps ≡ steps_of p (whole_of w))
 
 -- behind these steps of a session of these drives: pieces up to a point, and so many steps of the one under way
-pub record StandsAt (bs : List Party) (p : Point) (whole : Option OwnWhole) (steps : List OwnStep) (seen : ℕ) (done : List Step) : Type 0 where
+pub record JudgeStandsAt (bs : List Party) (p : Point) (whole : Option OwnWhole) (steps : List OwnStep) (seen : ℕ) (done : List Step) : Type 0 where
   pub ks : List Piece
-  pub leads : Leads (rest bs) ks p
-  pub under_way : IsUnderWay p whole steps
-  pub steps_done : session_steps (rest bs) ks ++ shown (take seen steps) ≡ done
+  pub leads : LeadsTo (rest bs) ks p
+  pub under_way : IsPieceUnderWay p whole steps
+  pub steps_done : session_steps (rest bs) ks ++ steps_shown (take seen steps) ≡ done
 
 -- so stands the judge
-abbrev pub Stands : List Party → Judge → List Step → Type 0
-Stands bs j done = StandsAt bs (point_of j.point) j.whole j.steps.items j.seen done
+abbrev pub JudgeStands : List Party → Judge → List Step → Type 0
+JudgeStands bs j done = JudgeStandsAt bs (point_of j.point) j.whole j.steps.items j.seen done
 
 -- a piece is under way
 abbrev pub IsBusy : Judge → Type 0
@@ -45,21 +45,21 @@ Awaits j event mark = slice_get j.steps.items j.seen ≡ Some (record { event = 
 
 -- one more step
 abbrev pub and_then : List Step → Event → OwnMark → List Step
-and_then done event mark = done ++ (record { event = event; mark = mark_of mark } ∷ [])
+and_then done event mark = done ++ (record { event = event; mark = step_mark mark } ∷ [])
 
 -- these steps, with their events and acts, begin a session of these drives
 abbrev pub BeginsSo : List Party → List Step → Type 0
 BeginsSo bs done = Begins bs (acts_of bs done) (events_of done)
 
 -- a piece behind which a session may end
-abbrev pub Rests : Whole → Type 0
-Rests (ToTalker at clock) = ⊥
-Rests (Talk at f) = is_last f ≡ true
-Rests w = Unit {0}
+abbrev pub JudgeRests : Whole → Type 0
+JudgeRests (ToTalker at clock) = ⊥
+JudgeRests (Talk at f) = is_last f ≡ true
+JudgeRests w = Unit {0}
 
 abbrev pub RestsIn : Option OwnWhole → Type 0
 RestsIn None = Unit {0}
-RestsIn (Some w) = Rests (whole_of w)
+RestsIn (Some w) = JudgeRests (whole_of w)
 
 -- the piece under way has nothing more up to that moment
 abbrev pub IsQuietTo : Judge → ℕ → Type 0

@@ -1,5 +1,6 @@
 -- The judge's structs as the records of a session.
 use Rattle.std.specs.Prelude.{◌≡◌, ℕ, ◌≤◌, ◌<◌, ◌^◌, ◌+◌, List, map}
+use Rattle.cbm_iec.specs.Changes.{is_pull}
 use Rattle.bus_judge.specs.declared.frame.Cell.{Cell as OwnCell}
 use Rattle.bus_judge.specs.declared.frame.Sent.{Sent as OwnSent}
 use Rattle.bus_judge.specs.declared.frame.Told.{Told as OwnTold}
@@ -12,20 +13,20 @@ use Rattle.bus_judge.specs.declared.whole.Place.TheVariants.{Open as OwnOpen, Co
 use Rattle.bus_judge.specs.declared.whole.Point.{Point as OwnPoint}
 use Rattle.bus_judge.specs.declared.whole.Whole.{Whole as OwnWhole}
 use Rattle.bus_judge.specs.declared.whole.Whole.TheVariants.{PullPiece as OwnPull, Command as OwnCommand, Byte as OwnByte, ToListener as OwnToListener, ToNobody as OwnToNobody, ToTalker as OwnToTalker, Nothing as OwnNothing, Talk as OwnTalk}
-use Rattle.cbm_iec.specs.declared.line.Change.{Change}
-use Rattle.cbm_iec.specs.declared.line.Line.TheVariants.{Atn, Clock, Data}
+use Rattle.cbm_iec.specs.declared.lines.Change.{Change}
+use Rattle.cbm_iec.specs.declared.lines.Line.TheVariants.{Atn, Clock, Data}
 use Rattle.cbm_iec.specs.declared.lines.Held.{Held}
-use Rattle.cbm_session.specs.Bits.{Cell}
+use Rattle.cbm_session.specs.Bits.{BitCell}
 use Rattle.cbm_session.specs.Frames.{Sent, Told}
-use Rattle.cbm_session.specs.Pieces.{is_pull, Place, Point, Whole, Open, Commanding, Listening, Leading, Cutting, PullPiece, Command, Byte, ToListener, ToNobody, ToTalker, Nothing, Talk}
+use Rattle.cbm_session.specs.Pieces.{BusPlace, Point, Whole, Open, Commanding, Listening, Leading, Cutting, PullPiece, Command, Byte, ToListener, ToNobody, ToTalker, Nothing, Talk}
 use Rattle.cbm_session.specs.Seats.{Seat}
 use Rattle.cbm_session.specs.Steps.{Mark, Step, Plain, ForEach, For}
 
-abbrev pub cell_of : OwnCell → Cell
-cell_of c = record { bit = c.bit; set = c.set; free = c.free; pull = c.pull }
+abbrev pub bit_cell_of : OwnCell → BitCell
+bit_cell_of c = record { bit = c.bit; set = c.set; free = c.free; pull = c.pull }
 
 abbrev pub sent_of : OwnSent → Sent
-sent_of f = record { ready = f.ready; start = f.start; cells = map cell_of f.cells }
+sent_of f = record { ready = f.ready; start = f.start; cells = map bit_cell_of f.cells }
 
 abbrev pub told_of : OwnTold → Told
 told_of f = record { bits = f.bits; free = f.free; signal = f.signal; accept = f.accept }
@@ -36,27 +37,27 @@ seat_of s = record { party = s.party; role = s.role; own = s.own }
 abbrev pub seats_of : List OwnSeat → List Seat
 seats_of seats = map seat_of seats
 
-abbrev pub mark_of : OwnMark → Mark
-mark_of OwnPlain = Plain
-mark_of (OwnForEach act) = ForEach act
-mark_of (OwnFor device act) = For device act
+abbrev pub step_mark : OwnMark → Mark
+step_mark OwnPlain = Plain
+step_mark (OwnForEach act) = ForEach act
+step_mark (OwnFor device act) = For device act
 
 abbrev pub step_of : OwnStep → Step
-step_of s = record { event = s.event; mark = mark_of s.mark }
+step_of s = record { event = s.event; mark = step_mark s.mark }
 
-abbrev pub shown : List OwnStep → List Step
-shown steps = map step_of steps
+abbrev pub steps_shown : List OwnStep → List Step
+steps_shown steps = map step_of steps
 
-abbrev pub place_of : OwnPlace → Place
-place_of OwnOpen = Open
-place_of (OwnCommanding some) = Commanding some
-place_of OwnListening = Listening
-place_of (OwnLeading at) = Leading at
-place_of (OwnCutting at) = Cutting at
+abbrev pub bus_place_of : OwnPlace → BusPlace
+bus_place_of OwnOpen = Open
+bus_place_of (OwnCommanding some) = Commanding some
+bus_place_of OwnListening = Listening
+bus_place_of (OwnLeading at) = Leading at
+bus_place_of (OwnCutting at) = Cutting at
 
 abbrev pub point_of : OwnPoint → Point
 point_of p = record {
-  place = place_of p.place;
+  place = bus_place_of p.place;
   seats = seats_of p.seats.items;
   host = p.host;
   pulled = p.pulled;

@@ -6,7 +6,7 @@ ghost use Rattle.cbm_session.specs.Bits.{CellFits, CellsFit};
 ghost use Rattle.cbm_session.specs.Frames.{StartFits, SentFits, ToldFits};
 ghost use Rattle.cbm_session.specs.Pieces as spec;
 ghost use Rattle.cbm_session.specs.Seats as drives;
-ghost use Rattle.bus_judge.specs.Views.{cell_of, sent_of, told_of, seats_of, place_of, point_of, whole_of, shown};
+ghost use Rattle.bus_judge.specs.Views.{bit_cell_of, sent_of, told_of, seats_of, bus_place_of, point_of, whole_of, steps_shown};
 
 use crate::bound::{Bound, Broken, Limit, Since};
 use crate::breach::Cause;
@@ -160,7 +160,7 @@ fn pull_fits(point: &Point, at: u64) -> Result<(), Cause>
 /// CLOCK is freed once it and DATA have settled, and pulled once it has settled again. A bit that changes DATA sets it
 /// at the pull or later, another one at the pull.
 fn cell_fits(held: bool, pull: u64, cell: &Cell) -> Result<(), Cause>
-    ensures { OnOk result (CellFits held pull (cell_of cell.now)) }
+    ensures { OnOk result (CellFits held pull (bit_cell_of cell.now)) }
 {
     asked(pull <= cell.set && (held == cell.bit || cell.set == pull))?;
     least(Bound::Settled, Since::ClockPull, pull, SETTLE, cell.free)?;
@@ -175,7 +175,7 @@ fn cell_fits(held: bool, pull: u64, cell: &Cell) -> Result<(), Cause>
 }
 
 fn cells_fit(held: bool, pull: u64, cells: &[Cell]) -> Result<(), Cause>
-    ensures { OnOk result (CellsFit held pull (map cell_of cells.now)) }
+    ensures { OnOk result (CellsFit held pull (map bit_cell_of cells.now)) }
 {
     match cells {
         [] => Ok(()),
@@ -206,7 +206,7 @@ fn sent_fits(hearers: &[Seat], eoi: bool, frame: &Sent) -> Result<(), Cause>
 }
 
 fn commanding(place: Place) -> Result<(), Cause>
-    ensures { OnOk result (spec.IsCommanding (place_of place)) }
+    ensures { OnOk result (spec.IsCommanding (bus_place_of place)) }
 {
     match place {
         Place::Commanding(_) => Ok(()),
@@ -305,7 +305,7 @@ fn may_cut(point: &Point, whole: &Whole, cut: u64) -> Result<(), Cause>
 
 /// Whether some of these steps isn't before a moment.
 fn some_from(at: u64, steps: &[Step]) -> bool
-    ensures { result ≡ spec.some_from at (shown steps.now) }
+    ensures { result ≡ spec.some_from at (steps_shown steps.now) }
 {
     match steps {
         [] => false,
@@ -316,7 +316,7 @@ fn some_from(at: u64, steps: &[Step]) -> bool
 /// Whether a pull of ATN may cut a piece that fits, of which these are the steps.
 pub fn cut_fits(point: &Point, whole: &Whole, steps: &[Step], cut: u64) -> Result<(), Cause>
     ensures may { OnOk result (spec.CutFits (point_of point.now) (whole_of whole.now) cut) }
-    ensures some { OnOk result (spec.some_from cut (shown steps.now) ≡ true) }
+    ensures some { OnOk result (spec.some_from cut (steps_shown steps.now) ≡ true) }
 {
     may_cut(point, whole, cut)?;
     asked(some_from(cut, steps))

@@ -4,7 +4,7 @@ ghost use Rattle.std.specs.Prelude.{◌≡◌, ◌+◌, ◌*◌, map, IfSome, If
 ghost use Rattle.cbm_session.specs.Bits as bits;
 ghost use Rattle.cbm_iec.specs.Profile.{half_bit};
 ghost use Rattle.cbm_session.specs.Frames as spec;
-ghost use Rattle.bus_judge.specs.Views.{IsSum, cell_of, seats_of, sent_of, told_of};
+ghost use Rattle.bus_judge.specs.Views.{IsSum, bit_cell_of, seats_of, sent_of, told_of};
 
 use crate::seat::{Seat, after, fastest, longest, slowest};
 use crate::step::{Unmade, later};
@@ -61,7 +61,7 @@ fn number_of(told: &[bool]) -> Option<u8>
 
 /// The same of the bits of a frame of the host.
 fn byte_of(cells: &[Cell]) -> Option<u8>
-    ensures { IfSome result (λ n. n ≡ bits.byte_of (map cell_of cells.now)) }
+    ensures { IfSome result (λ n. n ≡ bits.byte_in_cells (map bit_cell_of cells.now)) }
 {
     match cells {
         [] => Some(0),
@@ -74,7 +74,7 @@ fn byte_of(cells: &[Cell]) -> Option<u8>
 
 /// Whether the host holds DATA after these bits.
 pub fn held_after(held: bool, cells: &[Cell]) -> bool
-    ensures { result ≡ bits.held_after held (map cell_of cells.now) }
+    ensures { result ≡ bits.held_after held (map bit_cell_of cells.now) }
 {
     match cells {
         [] => held,
@@ -84,7 +84,7 @@ pub fn held_after(held: bool, cells: &[Cell]) -> bool
 
 /// The last pull of CLOCK.
 fn last_pull(pull: u64, cells: &[Cell]) -> u64
-    ensures { result ≡ bits.last_pull pull (map cell_of cells.now) }
+    ensures { result ≡ bits.last_pull pull (map bit_cell_of cells.now) }
 {
     match cells {
         [] => pull,
@@ -131,7 +131,7 @@ impl Sent {
     }
 
     pub fn byte(&self) -> Result<u8, Unmade>
-        ensures { IfOk result (λ n. n ≡ bits.byte_of (sent_of self.now).cells) }
+        ensures { IfOk result (λ n. n ≡ bits.byte_in_cells (sent_of self.now).cells) }
     {
         made(byte_of(&self.cells))
     }

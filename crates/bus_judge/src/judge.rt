@@ -6,7 +6,7 @@ ghost use Rattle.cbm_iec.specs.declared.party.Party.{Party as ThisParty};
 ghost use Rattle.cbm_iec.specs.declared.event.Who.TheVariants.{Drive};
 ghost use Rattle.cbm_session.specs.Sessions.{IsBus, Unlike};
 ghost use Rattle.cbm_session.specs.Steps.{Step as Seen};
-ghost use Rattle.bus_judge.specs.Judging.{Stands, IsTooSoon, NoneBegins, IsBusy, Awaits, and_then, BeginsSo, Rests, IsQuietTo, InTime};
+ghost use Rattle.bus_judge.specs.Judging.{JudgeStands, IsTooSoon, NoneBegins, IsBusy, Awaits, and_then, BeginsSo, JudgeRests, IsQuietTo, InTime};
 ghost use Rattle.bus_judge.specs.Views.{whole_of};
 ghost use Rattle.bus_judge.specs.declared.step.Mark.{Mark as OwnMark};
 
@@ -45,7 +45,7 @@ impl Judge {
     /// A judge of the traces of these drives, in the order of ties: one to four, of unlike devices 8 to 11 and reactions
     /// of 1 to 60. All lines are free, and nothing was seen.
     pub fn new(parties: &[Party]) -> Result<Judge, NotABus>
-        ensures { IfOk result (λ judge. Stands parties.now judge []) }
+        ensures { IfOk result (λ judge. JudgeStands parties.now judge []) }
     {
         check_drives(parties)?;
         Ok(Judge {
@@ -73,12 +73,12 @@ impl Judge {
 
     /// The next event of the trace. Answers which act it completes; or what broke the session, from then on.
     pub fn see(&mut self, event: Event) -> Result<Mark, Breach>
-        ensures stands { (bs : List ThisParty) → (done : List Seen) → Stands bs self.old done → IfOk result (λ mark. Stands bs self.new (and_then done event mark)) }
-        ensures begins { (bs : List ThisParty) → (done : List Seen) → Stands bs self.old done → IfOk result (λ mark. BeginsSo bs (and_then done event mark)) }
+        ensures stands { (bs : List ThisParty) → (done : List Seen) → JudgeStands bs self.old done → IfOk result (λ mark. JudgeStands bs self.new (and_then done event mark)) }
+        ensures begins { (bs : List ThisParty) → (done : List Seen) → JudgeStands bs self.old done → IfOk result (λ mark. BeginsSo bs (and_then done event mark)) }
         ensures busy { OnOk result (IsBusy self.new) }
-        ensures too_soon { (bs : List ThisParty) → (front : List Seen) → (s : Seen) → (back : List Seen) → IsBus bs → Stands bs self.old (front ++ s ∷ back)
+        ensures too_soon { (bs : List ThisParty) → (front : List Seen) → (s : Seen) → (back : List Seen) → IsBus bs → JudgeStands bs self.old (front ++ s ∷ back)
             → IsTooSoon s event → IsErr result × NoneBegins bs (front ++ s ∷ back) event }
-        ensures stranger { (bs : List ThisParty) → (done : List Seen) → (d : ℕ) → Stands bs self.old done → event.who ≡ Drive d → Unlike d bs
+        ensures stranger { (bs : List ThisParty) → (done : List Seen) → (d : ℕ) → JudgeStands bs self.old done → event.who ≡ Drive d → Unlike d bs
             → IsErr result × NoneBegins bs done event }
     {
         if let Some(breach) = self.breach {
@@ -96,7 +96,7 @@ impl Judge {
     /// The trace ends at a moment: no more came up to it. Answers whether a change was due by then; if none was, the host
     /// has kept the timing, and no drive was late.
     pub fn end(&mut self, moment: u64) -> Result<(), Breach>
-        ensures { (bs : List ThisParty) → (done : List Seen) → IsBus bs → Stands bs self.old done → IsBusy self.old → OnOk result (InTime bs done moment) }
+        ensures { (bs : List ThisParty) → (done : List Seen) → IsBus bs → JudgeStands bs self.old done → IsBusy self.old → OnOk result (InTime bs done moment) }
     {
         if let Some(breach) = self.breach {
             return Err(breach);
@@ -121,7 +121,7 @@ impl Judge {
     }
 
     fn go_on(&mut self, event: Event) -> Result<Mark, Breach>
-        ensures stands { (bs : List ThisParty) → (done : List Seen) → Stands bs self.old done → IfOk result (λ mark. Stands bs self.new (and_then done event mark)) }
+        ensures stands { (bs : List ThisParty) → (done : List Seen) → JudgeStands bs self.old done → IfOk result (λ mark. JudgeStands bs self.new (and_then done event mark)) }
         ensures busy { OnOk result (IsBusy self.new) }
     {
         let mark = self.find(event)?;
@@ -131,7 +131,7 @@ impl Judge {
 
     /// Finds a piece whose next step the event is.
     fn find(&mut self, event: Event) -> Result<Mark, Breach>
-        ensures stands { (bs : List ThisParty) → (done : List Seen) → Stands bs self.old done → OnOk result (Stands bs self.new done) }
+        ensures stands { (bs : List ThisParty) → (done : List Seen) → JudgeStands bs self.old done → OnOk result (JudgeStands bs self.new done) }
         ensures awaits { IfOk result (λ mark. Awaits self.new event mark) }
     {
         let moment = event.change.moment;
@@ -150,8 +150,8 @@ impl Judge {
 
     /// The event was the next step.
     fn advance(&mut self, event: Event) -> Result<(), Breach>
-        ensures stands { (bs : List ThisParty) → (done : List Seen) → (mark : OwnMark) → Stands bs self.old done → Awaits self.old event mark
-            → OnOk result (Stands bs self.new (and_then done event mark)) }
+        ensures stands { (bs : List ThisParty) → (done : List Seen) → (mark : OwnMark) → JudgeStands bs self.old done → Awaits self.old event mark
+            → OnOk result (JudgeStands bs self.new (and_then done event mark)) }
         ensures busy { OnOk result (IsBusy self.new) }
     {
         if self.whole.is_none() || self.seen >= self.steps.len() {
@@ -169,7 +169,7 @@ impl Judge {
     /// All steps of the piece have come. Where the talker goes on, its next frame is under way at once.
     fn come(&mut self, event: Event) -> Result<(), Breach>
         requires { length self.old.steps.items ≤ self.old.seen }
-        ensures stands { (bs : List ThisParty) → (done : List Seen) → Stands bs self.old done → OnOk result (Stands bs self.new done) }
+        ensures stands { (bs : List ThisParty) → (done : List Seen) → JudgeStands bs self.old done → OnOk result (JudgeStands bs self.new done) }
         ensures busy { OnOk result (IsBusy self.new) }
     {
         let Some(whole) = self.whole else {
@@ -188,7 +188,7 @@ impl Judge {
     fn pass(&mut self, whole: &Whole) -> Result<(), Unmade>
         requires under_way { self.old.whole ≡ Some whole.now }
         requires over { length self.old.steps.items ≤ self.old.seen }
-        ensures stands { (bs : List ThisParty) → (done : List Seen) → Stands bs self.old done → OnOk result (Stands bs self.new done) }
+        ensures stands { (bs : List ThisParty) → (done : List Seen) → JudgeStands bs self.old done → OnOk result (JudgeStands bs self.new done) }
         ensures cleared { OnOk result ((self.new.whole ≡ None) × (self.new.steps.items ≡ []) × (self.new.seen ≡ 0)) }
     {
         self.point = self.point.after(whole)?;
@@ -212,7 +212,7 @@ impl Judge {
     /// The talker's next frame is under way.
     fn lead(&mut self, event: Event) -> Result<(), Breach>
         requires cleared { (self.old.whole ≡ None) × (self.old.steps.items ≡ []) × (self.old.seen ≡ 0) }
-        ensures stands { (bs : List ThisParty) → (done : List Seen) → Stands bs self.old done → OnOk result (Stands bs self.new done) }
+        ensures stands { (bs : List ThisParty) → (done : List Seen) → JudgeStands bs self.old done → OnOk result (JudgeStands bs self.new done) }
         ensures busy { OnOk result (IsBusy self.new) }
     {
         let Some(next) = offer(&self.point) else {
@@ -233,7 +233,7 @@ impl Judge {
 
 /// Whether a frame of the talker follows a piece.
 fn goes_on_talking(whole: &Whole) -> bool
-    ensures { result ≡ false → Rests (whole_of whole.now) }
+    ensures { result ≡ false → JudgeRests (whole_of whole.now) }
 {
     match whole {
         Whole::ToTalker { .. } => true,

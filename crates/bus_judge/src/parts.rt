@@ -6,7 +6,7 @@ ghost use Rattle.cbm_session.specs.Frames as frames;
 ghost use Rattle.cbm_session.specs.Pieces as spec;
 ghost use Rattle.cbm_session.specs.Seats.{at_pace};
 ghost use Rattle.cbm_session.specs.Steps as steps;
-ghost use Rattle.bus_judge.specs.Views.{IsSum, cell_of, sent_of, told_of, seat_of, seats_of, point_of, whole_of, step_of, shown};
+ghost use Rattle.bus_judge.specs.Views.{IsSum, bit_cell_of, sent_of, told_of, seat_of, seats_of, point_of, whole_of, step_of, steps_shown};
 
 use crate::frame::{Cell, EOI_WAIT, Sent, Told, held_after};
 use crate::seat::{Seat, after, listeners, talker_of};
@@ -31,7 +31,7 @@ pub fn exact(sum: u64) -> Result<u64, Unmade>
 }
 
 fn put_if(is_there: bool, step: Step, list: &mut Steps) -> Result<(), Unmade>
-    ensures { OnOk result (shown list.new.items ≡ shown list.old.items ++ (if is_there then step_of step ∷ [] else [])) }
+    ensures { OnOk result (steps_shown list.new.items ≡ steps_shown list.old.items ++ (if is_there then step_of step ∷ [] else [])) }
 {
     if is_there {
         return put(list, step);
@@ -41,7 +41,7 @@ fn put_if(is_there: bool, step: Step, list: &mut Steps) -> Result<(), Unmade>
 
 /// DATA for a bit, 1 is DATA free: a change comes only where it changes something.
 fn data_for(held: bool, bit: bool, free: Step, pull: Step, list: &mut Steps) -> Result<(), Unmade>
-    ensures { OnOk result (shown list.new.items ≡ shown list.old.items ++
+    ensures { OnOk result (steps_shown list.new.items ≡ steps_shown list.old.items ++
         (if bit then bits.where_held held (step_of free) else bits.where_free held (step_of pull))) }
 {
     if bit {
@@ -51,7 +51,7 @@ fn data_for(held: bool, bit: bool, free: Step, pull: Step, list: &mut Steps) -> 
 }
 
 fn cells_part(held: bool, cells: &[Cell], list: &mut Steps) -> Result<(), Unmade>
-    ensures { OnOk result (shown list.new.items ≡ shown list.old.items ++ bits.cells_steps held (map cell_of cells.now)) }
+    ensures { OnOk result (steps_shown list.new.items ≡ steps_shown list.old.items ++ bits.cells_steps held (map bit_cell_of cells.now)) }
 {
     match cells {
         [] => Ok(()),
@@ -68,7 +68,7 @@ fn cells_part(held: bool, cells: &[Cell], list: &mut Steps) -> Result<(), Unmade
 
 /// The host's part of its frame.
 fn sending(frame: &Sent, list: &mut Steps) -> Result<(), Unmade>
-    ensures { OnOk result (shown list.new.items ≡ shown list.old.items ++ frames.sending (sent_of frame.now)) }
+    ensures { OnOk result (steps_shown list.new.items ≡ steps_shown list.old.items ++ frames.sending (sent_of frame.now)) }
 {
     put(list, Step::host(frame.ready, Clock, Free))?;
     put(list, Step::host(frame.start, Clock, Pull))?;
@@ -78,7 +78,7 @@ fn sending(frame: &Sent, list: &mut Steps) -> Result<(), Unmade>
 }
 
 fn signal_part(signal: Option<(u64, u64)>, list: &mut Steps) -> Result<(), Unmade>
-    ensures { OnOk result (shown list.new.items ≡ shown list.old.items ++ frames.signal_steps signal) }
+    ensures { OnOk result (steps_shown list.new.items ≡ steps_shown list.old.items ++ frames.signal_steps signal) }
 {
     let Some((pull, again)) = signal else {
         return Ok(());
@@ -89,7 +89,7 @@ fn signal_part(signal: Option<(u64, u64)>, list: &mut Steps) -> Result<(), Unmad
 
 /// The host's part of a frame of the talker.
 fn taking(talker: Party, frame: &Told, list: &mut Steps) -> Result<(), Unmade>
-    ensures { OnOk result (shown list.new.items ≡ shown list.old.items ++ frames.taking talker (told_of frame.now)) }
+    ensures { OnOk result (steps_shown list.new.items ≡ steps_shown list.old.items ++ frames.taking talker (told_of frame.now)) }
 {
     put(list, Step::host(frame.free, Data, Free))?;
     signal_part(frame.signal, list)?;
@@ -99,7 +99,7 @@ fn taking(talker: Party, frame: &Told, list: &mut Steps) -> Result<(), Unmade>
 }
 
 fn pulling(point: &Point, at: u64, list: &mut Steps) -> Result<(), Unmade>
-    ensures { OnOk result (shown list.new.items ≡ shown list.old.items ++ spec.host_part (point_of point.now) (spec.PullPiece at)) }
+    ensures { OnOk result (steps_shown list.new.items ≡ steps_shown list.old.items ++ spec.host_part (point_of point.now) (spec.PullPiece at)) }
 {
     put(list, Step::host(at, Atn, Pull).for_each(Act::Pulled))?;
     put_if(!point.host.clock_low, Step::host(at, Clock, Pull), list)?;
@@ -113,7 +113,7 @@ fn released(at: u64) -> Step
 }
 
 fn turning(at: u64, clock: u64, list: &mut Steps) -> Result<(), Unmade>
-    ensures { OnOk result (shown list.new.items ≡ shown list.old.items ++
+    ensures { OnOk result (steps_shown list.new.items ≡ steps_shown list.old.items ++
         (steps.host at Line.Data Way.Pull ∷ steps.for_each Act.Released (steps.host at Line.Atn Way.Free) ∷ steps.host clock Line.Clock Way.Free ∷ [])) }
 {
     put(list, Step::host(at, Data, Pull))?;
@@ -122,7 +122,7 @@ fn turning(at: u64, clock: u64, list: &mut Steps) -> Result<(), Unmade>
 }
 
 fn freed_part(freed: Option<u64>, list: &mut Steps) -> Result<(), Unmade>
-    ensures { OnOk result (shown list.new.items ≡ shown list.old.items ++ spec.freed_steps freed) }
+    ensures { OnOk result (steps_shown list.new.items ≡ steps_shown list.old.items ++ spec.freed_steps freed) }
 {
     match freed {
         None => Ok(()),
@@ -132,7 +132,7 @@ fn freed_part(freed: Option<u64>, list: &mut Steps) -> Result<(), Unmade>
 
 /// The host's part of a piece.
 fn host_part(point: &Point, whole: &Whole, list: &mut Steps) -> Result<(), Unmade>
-    ensures { OnOk result (shown list.new.items ≡ shown list.old.items ++ spec.host_part (point_of point.now) (whole_of whole.now)) }
+    ensures { OnOk result (steps_shown list.new.items ≡ steps_shown list.old.items ++ spec.host_part (point_of point.now) (whole_of whole.now)) }
 {
     match whole {
         Whole::PullPiece { at } => pulling(point, *at, list),
@@ -154,7 +154,7 @@ fn host_part(point: &Point, whole: &Whole, list: &mut Steps) -> Result<(), Unmad
 
 /// A listener's pulse for EOI, counted from T.
 fn pulse(wire: u64, eoi: bool, seat: &Seat, list: &mut Steps) -> Result<(), Unmade>
-    ensures { OnOk result (shown list.new.items ≡ shown list.old.items ++ frames.pulse wire eoi (seat_of seat.now)) }
+    ensures { OnOk result (steps_shown list.new.items ≡ steps_shown list.old.items ++ frames.pulse wire eoi (seat_of seat.now)) }
 {
     if !eoi {
         return Ok(());
@@ -175,7 +175,7 @@ fn hearing(
     seat: &Seat,
     list: &mut Steps,
 ) -> Result<(), Unmade>
-    ensures { OnOk result (shown list.new.items ≡ shown list.old.items ++ frames.hearing wire eoi act (sent_of frame.now) (seat_of seat.now)) }
+    ensures { OnOk result (steps_shown list.new.items ≡ steps_shown list.old.items ++ frames.hearing wire eoi act (sent_of frame.now) (seat_of seat.now)) }
 {
     let freed = later(frame.ready, seat.reaction())?;
     put(list, Step::drive(seat.device(), freed, Data, Free))?;
@@ -193,7 +193,7 @@ fn bits_part(
     told: &[bool],
     list: &mut Steps,
 ) -> Result<(), Unmade>
-    ensures { OnOk result (shown list.new.items ≡ shown list.old.items ++ frames.bit_steps party at held told.now) }
+    ensures { OnOk result (steps_shown list.new.items ≡ steps_shown list.old.items ++ frames.bit_steps party at held told.now) }
 {
     let device = party.device;
     let free = Step::drive(device, at, Data, Free);
@@ -214,7 +214,7 @@ fn bits_part(
 
 /// The talker's part of its frame.
 fn telling(party: Party, at: u64, frame: &Told, list: &mut Steps) -> Result<(), Unmade>
-    ensures { OnOk result (shown list.new.items ≡ shown list.old.items ++ frames.telling party at (told_of frame.now)) }
+    ensures { OnOk result (steps_shown list.new.items ≡ steps_shown list.old.items ++ frames.telling party at (told_of frame.now)) }
 {
     put(list, Step::drive(party.device, at, Clock, Free))?;
     let first = exact(frame.first_bit(party))?;
@@ -226,7 +226,7 @@ fn telling(party: Party, at: u64, frame: &Told, list: &mut Steps) -> Result<(), 
 
 /// A talker that has nothing to say lets go of DATA; at a KERNAL's pace it holds both lines for a while first.
 fn silent_part(pace: Pace, device: u8, moment: u64, list: &mut Steps) -> Result<(), Unmade>
-    ensures { OnOk result (shown list.new.items ≡ shown list.old.items ++ spec.silent_part pace device moment) }
+    ensures { OnOk result (steps_shown list.new.items ≡ steps_shown list.old.items ++ spec.silent_part pace device moment) }
 {
     match pace {
         Pace::Profile => {
@@ -256,14 +256,14 @@ pub fn silent_end(talker: Party, clock: u64) -> u64
 
 /// A drive without a role lets go of DATA at ATN's release.
 fn let_go(at: u64, seat: &Seat, list: &mut Steps) -> Result<(), Unmade>
-    ensures { OnOk result (shown list.new.items ≡ shown list.old.items ++ spec.let_go at (seat_of seat.now)) }
+    ensures { OnOk result (steps_shown list.new.items ≡ steps_shown list.old.items ++ spec.let_go at (seat_of seat.now)) }
 {
     let moment = later(at, seat.reaction())?;
     put(list, Step::drive(seat.device(), moment, Data, Free))
 }
 
 fn answering_pull(at: u64, seat: &Seat, list: &mut Steps) -> Result<(), Unmade>
-    ensures { OnOk result (shown list.new.items ≡ shown list.old.items ++
+    ensures { OnOk result (steps_shown list.new.items ≡ steps_shown list.old.items ++
         (bits.where_held seat.now.own.clock_low (steps.drive seat.now.party.device (at + seat.now.party.reaction) Line.Clock Way.Free)
         ++ bits.where_free seat.now.own.data_low (steps.drive seat.now.party.device (at + seat.now.party.reaction) Line.Data Way.Pull))) }
 {
@@ -276,7 +276,7 @@ fn answering_pull(at: u64, seat: &Seat, list: &mut Steps) -> Result<(), Unmade>
 
 /// The talker leads: it pulls CLOCK and frees DATA.
 fn leading(clock: u64, seat: &Seat, list: &mut Steps) -> Result<(), Unmade>
-    ensures { OnOk result (shown list.new.items ≡ shown list.old.items ++
+    ensures { OnOk result (steps_shown list.new.items ≡ steps_shown list.old.items ++
         (steps.drive seat.now.party.device (clock + seat.now.party.reaction) Line.Clock Way.Pull ∷ steps.drive seat.now.party.device (clock + seat.now.party.reaction) Line.Data Way.Free ∷ [])) }
 {
     let moment = later(clock, seat.reaction())?;
@@ -285,7 +285,7 @@ fn leading(clock: u64, seat: &Seat, list: &mut Steps) -> Result<(), Unmade>
 }
 
 fn commanded(point: &Point, frame: &Sent, seat: &Seat, list: &mut Steps) -> Result<(), Unmade>
-    ensures { OnOk result (shown list.new.items ≡ shown list.old.items ++ spec.own_part (point_of point.now) (spec.Command (sent_of frame.now)) (seat_of seat.now)) }
+    ensures { OnOk result (steps_shown list.new.items ≡ steps_shown list.old.items ++ spec.own_part (point_of point.now) (spec.Command (sent_of frame.now)) (seat_of seat.now)) }
 {
     let act = Act::Attention(frame.byte()?);
     let wire = exact(frame.wire(&point.seats))?;
@@ -299,7 +299,7 @@ fn heard(
     seat: &Seat,
     list: &mut Steps,
 ) -> Result<(), Unmade>
-    ensures { OnOk result (shown list.new.items ≡ shown list.old.items ++ spec.own_part (point_of point.now) (spec.Byte eoi (sent_of frame.now)) (seat_of seat.now)) }
+    ensures { OnOk result (steps_shown list.new.items ≡ steps_shown list.old.items ++ spec.own_part (point_of point.now) (spec.Byte eoi (sent_of frame.now)) (seat_of seat.now)) }
 {
     if !seat.is_listener() {
         return Ok(());
@@ -310,7 +310,7 @@ fn heard(
 }
 
 fn talked(point: &Point, at: u64, frame: &Told, seat: &Seat, list: &mut Steps) -> Result<(), Unmade>
-    ensures { OnOk result (shown list.new.items ≡ shown list.old.items ++ spec.own_part (point_of point.now) (spec.Talk at (told_of frame.now)) (seat_of seat.now)) }
+    ensures { OnOk result (steps_shown list.new.items ≡ steps_shown list.old.items ++ spec.own_part (point_of point.now) (spec.Talk at (told_of frame.now)) (seat_of seat.now)) }
 {
     if !seat.is_talker() {
         return Ok(());
@@ -324,7 +324,7 @@ fn talked(point: &Point, at: u64, frame: &Told, seat: &Seat, list: &mut Steps) -
 
 /// A talker's answer where it has nothing to say.
 fn silenced(clock: u64, seat: &Seat, list: &mut Steps) -> Result<(), Unmade>
-    ensures { OnOk result (shown list.new.items ≡ shown list.old.items ++ spec.silent_part seat.now.party.pace seat.now.party.device (clock + seat.now.party.reaction)) }
+    ensures { OnOk result (steps_shown list.new.items ≡ steps_shown list.old.items ++ spec.silent_part seat.now.party.pace seat.now.party.device (clock + seat.now.party.reaction)) }
 {
     let moment = later(clock, seat.reaction())?;
     silent_part(seat.party.pace, seat.device(), moment, list)
@@ -332,7 +332,7 @@ fn silenced(clock: u64, seat: &Seat, list: &mut Steps) -> Result<(), Unmade>
 
 /// A drive's own part of a piece.
 fn own_part(point: &Point, whole: &Whole, seat: &Seat, list: &mut Steps) -> Result<(), Unmade>
-    ensures { OnOk result (shown list.new.items ≡ shown list.old.items ++ spec.own_part (point_of point.now) (whole_of whole.now) (seat_of seat.now)) }
+    ensures { OnOk result (steps_shown list.new.items ≡ steps_shown list.old.items ++ spec.own_part (point_of point.now) (whole_of whole.now) (seat_of seat.now)) }
 {
     match whole {
         Whole::PullPiece { at } => answering_pull(*at, seat, list),
@@ -365,7 +365,7 @@ fn join_parts(
     seats: &[Seat],
     list: &mut Steps,
 ) -> Result<(), Unmade>
-    ensures { OnOk result (shown list.new.items ≡ shown list.old.items ++ steps.merge_all (shown first.now)
+    ensures { OnOk result (steps_shown list.new.items ≡ steps_shown list.old.items ++ steps.merge_all (steps_shown first.now)
         (map (λ s. spec.own_part (point_of point.now) (whole_of whole.now) s) (seats_of seats.now))) }
 {
     let [seat, rest @ ..] = seats else {
@@ -383,7 +383,7 @@ fn join_parts(
 
 /// The steps of a piece, after what is in a list: at one moment the host's first, then the drives' as they are listed.
 pub fn steps_of(point: &Point, whole: &Whole, list: &mut Steps) -> Result<(), Unmade>
-    ensures { OnOk result (shown list.new.items ≡ shown list.old.items ++ spec.steps_of (point_of point.now) (whole_of whole.now)) }
+    ensures { OnOk result (steps_shown list.new.items ≡ steps_shown list.old.items ++ spec.steps_of (point_of point.now) (whole_of whole.now)) }
 {
     let mut host = Steps::new();
     host_part(point, whole, &mut host)?;
@@ -392,7 +392,7 @@ pub fn steps_of(point: &Point, whole: &Whole, list: &mut Steps) -> Result<(), Un
 
 /// The host's part of a piece, and a drive's own, by itself.
 pub fn host_steps(point: &Point, whole: &Whole) -> Result<Steps, Unmade>
-    ensures { IfOk result (λ list. shown list.items ≡ spec.host_part (point_of point.now) (whole_of whole.now)) }
+    ensures { IfOk result (λ list. steps_shown list.items ≡ spec.host_part (point_of point.now) (whole_of whole.now)) }
 {
     let mut list = Steps::new();
     host_part(point, whole, &mut list)?;
@@ -400,7 +400,7 @@ pub fn host_steps(point: &Point, whole: &Whole) -> Result<Steps, Unmade>
 }
 
 pub fn own_steps(point: &Point, whole: &Whole, seat: &Seat) -> Result<Steps, Unmade>
-    ensures { IfOk result (λ list. shown list.items ≡ spec.own_part (point_of point.now) (whole_of whole.now) (seat_of seat.now)) }
+    ensures { IfOk result (λ list. steps_shown list.items ≡ spec.own_part (point_of point.now) (whole_of whole.now) (seat_of seat.now)) }
 {
     let mut list = Steps::new();
     own_part(point, whole, seat, &mut list)?;

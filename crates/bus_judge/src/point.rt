@@ -4,7 +4,7 @@ ghost use Rattle.std.specs.Prelude.{◌≡◌, ◌≤◌, false, true, length, m
 ghost use Rattle.cbm_session.specs.Seats.{lines};
 ghost use Rattle.cbm_session.specs.Pieces as spec;
 ghost use Rattle.cbm_session.specs.Sessions as sessions;
-ghost use Rattle.bus_judge.specs.Views.{seats_of, place_of, point_of, whole_of, sent_of, told_of, shown};
+ghost use Rattle.bus_judge.specs.Views.{seats_of, bus_place_of, point_of, whole_of, sent_of, told_of, steps_shown};
 
 use crate::frame::{Sent, Told};
 use crate::parts::{exact, host_steps, own_steps, silent_end};
@@ -20,7 +20,7 @@ const NEXT_BYTE: u64 = 100;
 
 /// The lines that a party holds after those of these steps that come before a moment.
 fn held_before(held: Held, steps: &[Step], at: u64) -> Held
-    ensures { result ≡ spec.held_by held (spec.before at (shown steps.now)) }
+    ensures { result ≡ spec.held_by held (spec.before at (steps_shown steps.now)) }
 {
     match steps {
         [] => held,
@@ -50,7 +50,7 @@ fn behind_all(at: u64, moment: u64, seats: &[Seat]) -> Result<u64, Unmade>
 
 /// Where a frame of the talker leads.
 fn told_place(frame: &Told) -> Result<Place, Unmade>
-    ensures { IfOk result (λ place. place_of place ≡ spec.told_place (told_of frame.now)) }
+    ensures { IfOk result (λ place. bus_place_of place ≡ spec.told_place (told_of frame.now)) }
 {
     if frame.is_last() {
         return Ok(Place::Open);

@@ -236,7 +236,7 @@ pub fn spread(seats: &[Seat]) -> u64
 
 /// How long after the wait for EOI the last pulse has ended.
 pub fn longest(seats: &[Seat]) -> u64
-    ensures { result ≡ frames.longest (seats_of seats.now) }
+    ensures { result ≡ frames.longest_lasting (seats_of seats.now) }
 {
     match seats {
         [] => 0,

@@ -2,7 +2,7 @@
 
 ghost use Rattle.std.specs.Prelude.{◌≡◌, ◌++◌, ◌∷◌, [], ◌+◌, IfOk, OnOk, length};
 ghost use Rattle.cbm_session.specs.Steps as spec;
-ghost use Rattle.bus_judge.specs.Views.{mark_of, step_of, shown};
+ghost use Rattle.bus_judge.specs.Views.{step_mark, step_of, steps_shown};
 
 use arrayvec::ArrayVec;
 use cbm_iec::{Act, Change, Event, Line, Way, Who};
@@ -115,7 +115,7 @@ pub fn later(moment: u64, wait: u64) -> Result<u64, Unmade>
 
 /// Adds a step.
 pub fn put(steps: &mut Steps, step: Step) -> Result<(), Unmade>
-    ensures { OnOk result (shown steps.new.items ≡ shown steps.old.items ++ step_of step ∷ []) }
+    ensures { OnOk result (steps_shown steps.new.items ≡ steps_shown steps.old.items ++ step_of step ∷ []) }
 {
     match steps.try_push(step) {
         Ok(()) => Ok(()),
@@ -125,7 +125,7 @@ pub fn put(steps: &mut Steps, step: Step) -> Result<(), Unmade>
 
 /// Adds steps.
 pub fn put_all(steps: &mut Steps, more: &[Step]) -> Result<(), Unmade>
-    ensures { OnOk result (shown steps.new.items ≡ shown steps.old.items ++ shown more.now) }
+    ensures { OnOk result (steps_shown steps.new.items ≡ steps_shown steps.old.items ++ steps_shown more.now) }
 {
     match steps.try_extend_from_slice(more) {
         Ok(()) => Ok(()),
@@ -136,7 +136,7 @@ pub fn put_all(steps: &mut Steps, more: &[Step]) -> Result<(), Unmade>
 /// Joins two lists of steps by moments, after what is in a third: at one moment the first list's come before the
 /// second's.
 pub fn join(first: &[Step], second: &[Step], joined: &mut Steps) -> Result<(), Unmade>
-    ensures { OnOk result (shown joined.new.items ≡ shown joined.old.items ++ spec.merge (shown first.now) (shown second.now)) }
+    ensures { OnOk result (steps_shown joined.new.items ≡ steps_shown joined.old.items ++ spec.merge (steps_shown first.now) (steps_shown second.now)) }
 {
     match (first, second) {
         ([], _) => put_all(joined, second),

@@ -2,8 +2,8 @@
 
 ghost use Rattle.std.specs.Prelude.{◌≡◌, [], Some, length, take, slice_get, true, IfSome, IfOk, OnOk};
 ghost use Rattle.cbm_session.specs.Pieces.{before};
-ghost use Rattle.bus_judge.specs.Judging.{IsUnderWay};
-ghost use Rattle.bus_judge.specs.Views.{point_of, shown};
+ghost use Rattle.bus_judge.specs.Judging.{IsPieceUnderWay};
+ghost use Rattle.bus_judge.specs.Views.{point_of, steps_shown};
 
 use crate::breach::Cause;
 use crate::fits::fits;
@@ -39,7 +39,7 @@ pub fn tried(
     list: &mut Steps,
 ) -> Result<Mark, Cause>
     requires { list.old.items ≡ [] }
-    ensures fits { OnOk result (IsUnderWay (point_of point.now) (Some whole.now) list.new.items) }
+    ensures fits { OnOk result (IsPieceUnderWay (point_of point.now) (Some whole.now) list.new.items) }
     ensures front { OnOk result (take (length seen.now) list.new.items ≡ seen.now) }
     ensures next { IfOk result (λ mark. slice_get list.new.items (length seen.now) ≡ Some (record { event = event; mark = mark })) }
 {
@@ -59,7 +59,7 @@ pub fn tried(
 
 /// Whether exactly so many of the first steps come before a moment, and no other.
 pub fn is_cut(steps: &[Step], seen: usize, cut: u64) -> bool
-    ensures { result ≡ true → before cut (shown steps.now) ≡ shown (take seen steps.now) }
+    ensures { result ≡ true → before cut (steps_shown steps.now) ≡ steps_shown (take seen steps.now) }
 {
     match steps {
         [] => seen == 0,

@@ -5,10 +5,10 @@ use Rattle.std.specs.Io.KnownBytes.{Appends, Keeps}
 use Rattle.cbm_iec.specs.declared.event.Event.{Event}
 use Rattle.bus_traces.specs.Events.{trace_text}
 use Rattle.bus_traces.proofs.Appending.{appends-nothing, appends-more, appends-kept}
-use Rattle.bus_replies.specs.Plays.{HasGiven}
+use Rattle.bus_replies.specs.Plays.{HasGivenEvents}
 use Rattle.bus_replies.specs.Ready.{ready_text}
 use Rattle.bus_replies.specs.declared.request.ReplyRequest.{ReplyRequest}
-use Rattle.bus_replies.specs.Replies.{Reply, IsReply, AreReplies, reply_text, changes_in, come_to, moment_after, HasAnswered, HaveAnswered}
+use Rattle.bus_replies.specs.Replies.{Reply, IsReply, AreReplies, reply_text, changes_in, come_to, reply_moment_after, HasAnswered, HaveAnswered}
 
 abbrev events_of : List Reply → List Event
 events_of replies = flat_map (λ r. r.events) replies
@@ -30,7 +30,7 @@ come_to_last now (x ∷ rs) r = come_to_last x.moment rs r
 
 module _ {S Start : Type 0} (gave : S → Start → List Event → Type 0) (due : S → Option ℕ → Type 0) where
   -- what was given, and the mark after it
-  pub marked : (a b c : Option (List ℕ)) (now : ℕ) (request : ReplyRequest) (x y : S) (moment : ℕ) (next : Option ℕ) → HasGiven gave a b (changes_in request) x y → moment ≡ moment_after now request → due y next
+  pub marked : (a b c : Option (List ℕ)) (now : ℕ) (request : ReplyRequest) (x y : S) (moment : ℕ) (next : Option ℕ) → HasGivenEvents gave a b (changes_in request) x y → moment ≡ reply_moment_after now request → due y next
       → Appends b c (ready_text moment next) → HasAnswered gave due a c now request x y
   marked a b c now request x y moment next h m d w = record {
     reply = record { request = request; events = h.events; moment = moment; due = next };
@@ -64,7 +64,7 @@ module _ {S Start : Type 0} (gave : S → Start → List Event → Type 0) (due 
   come_on (q ∷ rs) r now x y z h k = (h.0, h.1, come_on rs r q.moment h.0 y z h.2 k)
 
   answered_on : (a b c : Option (List ℕ)) (now : ℕ) (request : ReplyRequest) (x y z : S) (h : HaveAnswered gave due a b x y) → now ≡ come_to 0 h.replies → (k : HasAnswered gave due b c now request y z)
-      → (v : HaveAnswered gave due a c x z) × (moment_after now request ≡ come_to 0 v.replies)
+      → (v : HaveAnswered gave due a c x z) × (reply_moment_after now request ≡ come_to 0 v.replies)
   answered_on a b c now request x y z h at k = (
     record {
       replies = h.replies ++ k.reply ∷ [];
@@ -73,12 +73,12 @@ module _ {S Start : Type 0} (gave : S → Start → List Event → Type 0) (due 
           (k.comes.leads s (es ++ events_of h.replies) (h.leads s es i));
       written = subst (λ t. Appends a c t) (sym (text_on h.replies (k.reply ∷ []) ∙ ap (λ t. text_of h.replies ++ t) (append-nil (reply_text k.reply)))) (appends-more a b c (text_of h.replies) (reply_text k.reply) h.written k.written);
     },
-    sym (come_to_last 0 h.replies k.reply ∙ (k.comes.moment ∙ ap (λ q. moment_after now q) k.asked)),
+    sym (come_to_last 0 h.replies k.reply ∙ (k.comes.moment ∙ ap (λ q. reply_moment_after now q) k.asked)),
   )
 
   -- one line more, and the moment to which the talk has come then
   pub one_more : (a b c d : Option (List ℕ)) (now : ℕ) (request : ReplyRequest) (x y z : S) (h : HaveAnswered gave due a b x y) → now ≡ come_to 0 h.replies → Keeps b c → (k : HasAnswered gave due c d now request y z)
-      → (v : HaveAnswered gave due a d x z) × (moment_after now request ≡ come_to 0 v.replies)
+      → (v : HaveAnswered gave due a d x z) × (reply_moment_after now request ≡ come_to 0 v.replies)
   unfolding kept_answered
   one_more a b c d now request x y z h at keeps k = answered_on a c d now request x y z (kept_answered a b c x y h keeps) at k
 

@@ -2,12 +2,12 @@
 use Rattle.std.specs.Prelude.{ℕ, ◌≡◌, ◌≤◌, ◌+◌, List, [], ◌∷◌, ◌++◌, Option, None, flat_map}
 use Rattle.std.specs.Io.KnownBytes.{Appends}
 use Rattle.cbm_iec.specs.declared.event.Event.{Event}
-use Rattle.cbm_iec.specs.declared.line.Change.{Change}
+use Rattle.cbm_iec.specs.declared.lines.Change.{Change}
 use Rattle.bus_traces.specs.Events.{trace_text}
 use Rattle.bus_replies.specs.declared.clock.Clock.{Clock}
 use Rattle.bus_replies.specs.declared.request.ReplyRequest.{ReplyRequest}
 use Rattle.bus_replies.specs.declared.request.ReplyRequest.TheVariants as asks
-use Rattle.bus_replies.specs.Plays.{host_changes}
+use Rattle.bus_replies.specs.Plays.{changes_of_host}
 use Rattle.bus_replies.specs.Ready.{ready_text}
 
 -- the changes of the host that a line asks for
@@ -18,25 +18,25 @@ changes_in (asks.Until moment) = []
 changes_in (asks.End moment) = []
 
 -- no moment of a line is above 10 ^ 15
-abbrev pub IsInRange : ReplyRequest → Type 0
-IsInRange asks.Nothing = Unit {0}
-IsInRange (asks.Change c) = c.moment ≤ 1000000000000000
-IsInRange (asks.Until moment) = moment ≤ 1000000000000000
-IsInRange (asks.End moment) = moment ≤ 1000000000000000
+abbrev pub IsReplyInRange : ReplyRequest → Type 0
+IsReplyInRange asks.Nothing = Unit {0}
+IsReplyInRange (asks.Change c) = c.moment ≤ 1000000000000000
+IsReplyInRange (asks.Until moment) = moment ≤ 1000000000000000
+IsReplyInRange (asks.End moment) = moment ≤ 1000000000000000
 
 -- WHAT MAY BE ASKED where the talk has come to a moment, and the host may change a line from another one on
-abbrev pub IsInTime : ℕ → ℕ → ReplyRequest → Type 0
-IsInTime now from asks.Nothing = Unit {0}
-IsInTime now from (asks.Change c) = (from ≤ c.moment) × (c.moment ≤ 1000000000000000)
-IsInTime now from (asks.Until moment) = (now ≤ moment) × (moment ≤ 1000000000000000)
-IsInTime now from (asks.End moment) = (now ≤ moment) × (moment ≤ 1000000000000000)
+abbrev pub IsReplyInTime : ℕ → ℕ → ReplyRequest → Type 0
+IsReplyInTime now from asks.Nothing = Unit {0}
+IsReplyInTime now from (asks.Change c) = (from ≤ c.moment) × (c.moment ≤ 1000000000000000)
+IsReplyInTime now from (asks.Until moment) = (now ≤ moment) × (moment ≤ 1000000000000000)
+IsReplyInTime now from (asks.End moment) = (now ≤ moment) × (moment ≤ 1000000000000000)
 
 -- the moment up to which a talk has come after a line, in microseconds, where it had come to another before it
-abbrev pub moment_after : ℕ → ReplyRequest → ℕ
-moment_after now asks.Nothing = now
-moment_after now (asks.Change c) = c.moment
-moment_after now (asks.Until moment) = moment
-moment_after now (asks.End moment) = moment
+abbrev pub reply_moment_after : ℕ → ReplyRequest → ℕ
+reply_moment_after now asks.Nothing = now
+reply_moment_after now (asks.Change c) = c.moment
+reply_moment_after now (asks.Until moment) = moment
+reply_moment_after now (asks.End moment) = moment
 
 -- what comes of a line that asks for this: events, and the mark that all were given up to a moment, and when the next reaction is due
 pub record Reply : Type 0 where
@@ -64,8 +64,8 @@ module _ {S Start : Type 0} (gave : S → Start → List Event → Type 0) (due 
   -- the moment up to which the talk has come now, and the reaction that is due next as the bus stands after them.
   pub record IsReply (r : Reply) (now : ℕ) (x y : S) : Type 0 where
     pub leads : (s : Start) (es : List Event) → gave x s es → gave y s (es ++ r.events)
-    pub hosts : host_changes r.events ≡ changes_in r.request
-    pub moment : r.moment ≡ moment_after now r.request
+    pub hosts : changes_of_host r.events ≡ changes_in r.request
+    pub moment : r.moment ≡ reply_moment_after now r.request
     pub next : due y r.due
 
   -- what comes of lines, each in its turn: the bus and the moment are those that the line before left

@@ -4,8 +4,8 @@ ghost use Rattle.std.specs.Prelude.{◌≡◌, ◌+◌, ◌-◌, ◌^◌, ◌<�
 ghost use Rattle.std.specs.Io.KnownBytes.{Appends};
 ghost use Rattle.bus_traces.specs.Events.{event_text};
 ghost use Rattle.bus_replies.specs.Ready.{ready_text};
-ghost use Rattle.bus_replies.specs.Plays.{HasGiven};
-ghost use Rattle.bus_replies.specs.Replies.{HasAnswered, IsInTime, IsReady, changes_in, moment_after};
+ghost use Rattle.bus_replies.specs.Plays.{HasGivenEvents};
+ghost use Rattle.bus_replies.specs.Replies.{HasAnswered, IsReplyInTime, IsReady, changes_in, reply_moment_after};
 
 use crate::clock::Clock;
 use crate::fault::ReplyFault;
@@ -38,7 +38,7 @@ fn change<B: Plays, W: Write>(bus: &mut B, change: Change, writer: &mut W) -> Re
     requires none { B.waiting bus.old ≡ None }
     requires from { B.from bus.old ≤ change.moment }
     requires moment { change.moment < 2 ^ 59 - 1 }
-    ensures given { OnOk result (HasGiven B.gave (W.contents writer.old) (W.contents writer.new) (change ∷ []) bus.old bus.new) }
+    ensures given { OnOk result (HasGivenEvents B.gave (W.contents writer.old) (W.contents writer.new) (change ∷ []) bus.old bus.new) }
     ensures waiting { OnOk result (B.waiting bus.new ≡ None) }
     ensures from { OnOk result (B.from bus.new ≡ change.moment) }
 {
@@ -57,7 +57,7 @@ fn play<B: Plays, W: Write>(bus: &mut B, upto: u64, writer: &mut W) -> Result<()
     requires none { B.waiting bus.old ≡ None }
     requires from { B.from bus.old ≤ upto + 1 }
     requires upto { upto < 2 ^ 59 - 1 }
-    ensures given { OnOk result (HasGiven B.gave (W.contents writer.old) (W.contents writer.new) [] bus.old bus.new) }
+    ensures given { OnOk result (HasGivenEvents B.gave (W.contents writer.old) (W.contents writer.new) [] bus.old bus.new) }
     ensures waiting { OnOk result (B.waiting bus.new ≡ None) }
     ensures from { OnOk result (B.from bus.new ≤ upto + 1) }
 {
@@ -75,10 +75,10 @@ fn give<B: Plays, W: Write>(
     writer: &mut W,
 ) -> Result<(), ReplyFault>
     requires ready { IsReady B.waiting B.from bus.old clock.old }
-    requires request { IsInTime clock.old.moment clock.old.from request }
-    ensures given { OnOk result (HasGiven B.gave (W.contents writer.old) (W.contents writer.new) (changes_in request) bus.old bus.new) }
+    requires request { IsReplyInTime clock.old.moment clock.old.from request }
+    ensures given { OnOk result (HasGivenEvents B.gave (W.contents writer.old) (W.contents writer.new) (changes_in request) bus.old bus.new) }
     ensures ready { OnOk result (IsReady B.waiting B.from bus.new clock.new) }
-    ensures moment { clock.new.moment ≡ moment_after clock.old.moment request }
+    ensures moment { clock.new.moment ≡ reply_moment_after clock.old.moment request }
 {
     match request {
         ReplyRequest::Nothing => Ok(()),
@@ -101,10 +101,10 @@ pub(crate) fn carry_out<B: Plays, W: Write>(
     writer: &mut W,
 ) -> Result<(), ReplyFault>
     requires ready { IsReady B.waiting B.from bus.old clock.old }
-    requires request { IsInTime clock.old.moment clock.old.from request }
+    requires request { IsReplyInTime clock.old.moment clock.old.from request }
     ensures answered { OnOk result (HasAnswered B.gave B.due (W.contents writer.old) (W.contents writer.new) clock.old.moment request bus.old bus.new) }
     ensures ready { OnOk result (IsReady B.waiting B.from bus.new clock.new) }
-    ensures moment { clock.new.moment ≡ moment_after clock.old.moment request }
+    ensures moment { clock.new.moment ≡ reply_moment_after clock.old.moment request }
 {
     give(bus, clock, request, writer)?;
     write_mark(writer, clock.moment(), bus.next_due())

@@ -1,7 +1,7 @@
 //! How far a talk has come.
 
 ghost use Rattle.std.specs.Prelude.{◌≡◌, ◌+◌, ◌<◌, ◌≤◌, ◌^◌, None};
-ghost use Rattle.bus_replies.specs.Replies.{IsInRange, IsInTime};
+ghost use Rattle.bus_replies.specs.Replies.{IsReplyInRange, IsReplyInTime};
 
 use crate::fault::ReplyRefusal;
 use crate::request::ReplyRequest;
@@ -53,7 +53,7 @@ impl Clock {
 
     /// Why a request can't be carried out now, if it can't: a change that comes too early, or a moment that is over.
     pub(crate) fn refuses(&self, request: ReplyRequest) -> Option<ReplyRefusal>
-        ensures { result ≡ None → IsInRange request → IsInTime self.now.moment self.now.from request }
+        ensures { result ≡ None → IsReplyInRange request → IsReplyInTime self.now.moment self.now.from request }
     {
         match request {
             ReplyRequest::Change(Change { moment, .. }) if moment < self.from => {

@@ -1,6 +1,6 @@
 //! The lines of a host, read where they stand.
 ghost use Rattle.std.specs.Prelude.{◌≡◌, ◌-◌, ◌<◌, ◌≤◌, length, IfOk, IfSome};
-ghost use Rattle.bus_replies.specs.Replies.{IsInRange};
+ghost use Rattle.bus_replies.specs.Replies.{IsReplyInRange};
 
 use crate::fault::ReplyRefusal;
 use crate::request::{LONGEST, ReplyRequest, request_of};
@@ -48,7 +48,7 @@ impl<R: Read> LineReader<R> {
 
     /// Takes the next line, if its end was read: what it asks for, or why it is refused.
     pub fn take(&mut self) -> Option<Result<ReplyRequest, ReplyRefusal>>
-        ensures { IfSome result (λ asked. IfOk asked IsInRange) }
+        ensures { IfSome result (λ asked. IfOk asked IsReplyInRange) }
     {
         let length = line_end(self.waiting())?;
         let line = self.start;
@@ -58,7 +58,7 @@ impl<R: Read> LineReader<R> {
 
     /// Takes the last line where it has no end, as far as it was read.
     pub fn take_rest(&mut self) -> Option<Result<ReplyRequest, ReplyRefusal>>
-        ensures { IfSome result (λ asked. IfOk asked IsInRange) }
+        ensures { IfSome result (λ asked. IfOk asked IsReplyInRange) }
     {
         if self.start == self.end {
             return None;

@@ -6,8 +6,8 @@ use cbm_iec::{Change, Event};
 pub trait Plays {
     ghost use Rattle.std.specs.Prelude.{◌≡◌, ◌+◌, ◌-◌, ◌^◌, ◌<◌, ◌≤◌, ◌∷◌, ◌++◌, [], ℕ, List, Option, Some, None, IfSome, IsSome, MatchOption};
     ghost use Rattle.cbm_iec.specs.declared.event.Event.{Event};
-    ghost use Rattle.cbm_iec.specs.declared.line.Change.{Change};
-    ghost use Rattle.bus_replies.specs.Plays.{IsDrives, IsTurnOf, IsFromHost};
+    ghost use Rattle.cbm_iec.specs.declared.lines.Change.{Change};
+    ghost use Rattle.bus_replies.specs.Plays.{IsOfDrive, IsTurnOfReply, IsFromHost};
 
     /// What the bus may have stood for before the first event.
     ghost Start: { Type 0 };
@@ -35,10 +35,10 @@ pub trait Plays {
         requires { upto < 2 ^ 59 - 1 }
         ensures given { (s : Start) (es : List Event) → gave self.old s es →
             MatchOption result (gave self.new s es) (λ e. gave self.new s (es ++ e ∷ [])) }
-        ensures turn { IfSome result (λ e. IsTurnOf e.who e.change (waiting self.old) (waiting self.new)) }
+        ensures turn { IfSome result (λ e. IsTurnOfReply e.who e.change (waiting self.old) (waiting self.new)) }
         ensures comes { IfSome (waiting self.old) (λ c. c.moment ≤ upto → IsSome result) }
         ensures from { IfSome result (λ e. IsFromHost e.who e.change.moment (from self.new)) }
-        ensures fewer { IfSome result (λ e. IsDrives e.who → (limit : ℕ) → upto < limit →
+        ensures fewer { IfSome result (λ e. IsOfDrive e.who → (limit : ℕ) → upto < limit →
             most limit self.new < most limit self.old) };
 
     /// The next event at a moment or before it, where no change waits; None where nothing is left to come up to it.
@@ -48,7 +48,7 @@ pub trait Plays {
         requires upto { upto < 2 ^ 59 - 1 }
         ensures given { (s : Start) (es : List Event) → gave self.old s es →
             MatchOption result (gave self.new s es) (λ e. gave self.new s (es ++ e ∷ [])) }
-        ensures drive { IfSome result (λ e. IsDrives e.who) }
+        ensures drive { IfSome result (λ e. IsOfDrive e.who) }
         ensures waiting { waiting self.new ≡ None }
         ensures from { from self.new ≤ upto + 1 }
         ensures fewer { IfSome result (λ e. (limit : ℕ) → upto < limit → most limit self.new < most limit self.old) };

@@ -2,7 +2,7 @@
 
 ghost use Rattle.std.specs.Prelude.{◌≡◌, ◌≤◌, IfOk, IfSome, None, OnOk};
 ghost use Rattle.std.specs.Io.KnownBytes.{Keeps};
-ghost use Rattle.bus_replies.specs.Replies.{IsInRange, IsInTime, HaveAnswered};
+ghost use Rattle.bus_replies.specs.Replies.{IsReplyInRange, IsReplyInTime, HaveAnswered};
 
 use crate::carrying::carry_out;
 use crate::clock::Clock;
@@ -25,7 +25,7 @@ fn next_request<R: Read, W: Write>(
     lines: &mut LineReader<R>,
     writer: &mut W,
 ) -> Result<Option<Result<ReplyRequest, ReplyRefusal>>, ReplyFault>
-    ensures range { IfOk result (λ next. IfSome next (λ asked. IfOk asked IsInRange)) }
+    ensures range { IfOk result (λ next. IfSome next (λ asked. IfOk asked IsReplyInRange)) }
     ensures kept { OnOk result (Keeps (W.contents writer.old) (W.contents writer.new)) }
 {
     'reads: for _ in 0..=LONGEST {
@@ -48,8 +48,8 @@ fn in_time(
     asked: Result<ReplyRequest, ReplyRefusal>,
     clock: &Clock,
 ) -> Result<ReplyRequest, ReplyRefusal>
-    requires { IfOk asked IsInRange }
-    ensures { IfOk result (IsInTime clock.now.moment clock.now.from) }
+    requires { IfOk asked IsReplyInRange }
+    ensures { IfOk result (IsReplyInTime clock.now.moment clock.now.from) }
 {
     let request = asked?;
     match clock.refuses(request) {

@@ -1,6 +1,6 @@
 //! What a line of the host asks for.
 ghost use Rattle.std.specs.Prelude.{◌≡◌, ◌<◌, Err, length, IfOk, IfSome};
-ghost use Rattle.bus_replies.specs.Replies.{IsInRange};
+ghost use Rattle.bus_replies.specs.Replies.{IsReplyInRange};
 
 use crate::fault::ReplyRefusal;
 use bus_traces::{host_event_of, moment_of};
@@ -21,7 +21,7 @@ pub enum ReplyRequest {
 
 /// `MOMENT LINE WAY`.
 fn change(line: &[u8]) -> Option<ReplyRequest>
-    ensures { IfSome result IsInRange }
+    ensures { IfSome result IsReplyInRange }
 {
     let event = host_event_of(line)?;
     Some(ReplyRequest::Change(event.change))
@@ -29,7 +29,7 @@ fn change(line: &[u8]) -> Option<ReplyRequest>
 
 /// What the words of a line ask for, if they ask for something.
 fn request_in(line: &[u8]) -> Option<ReplyRequest>
-    ensures { IfSome result IsInRange }
+    ensures { IfSome result IsReplyInRange }
 {
     match line {
         [] | [b';', ..] => Some(ReplyRequest::Nothing),
@@ -51,7 +51,7 @@ fn without_return(line: &[u8]) -> &[u8] {
 
 /// What a line without its end asks for. Errors: `Long` for more than 1,000 bytes, then `Words`.
 pub fn request_of(line: &[u8]) -> Result<ReplyRequest, ReplyRefusal>
-    ensures range { IfOk result IsInRange }
+    ensures range { IfOk result IsReplyInRange }
     ensures long { 1000 < length line.now → result ≡ Err ReplyRefusal.Long }
 {
     if line.len() > LONGEST {

@@ -1,11 +1,7 @@
 //! Which lines each party pulls, and the drives' roles.
 
-ghost use Rattle.std.specs.Prelude.{◌≡◌};
-ghost use Rattle.bus_tidy.specs.Tidied.{changed};
-ghost use Rattle.cbm_session.specs.Pieces.{is_pull};
-
 use arrayvec::ArrayVec;
-use cbm_iec::{Change, Held, Line, Lines, Pace, Party, Role, Way};
+use cbm_iec::{Change, Held, Line, Lines, Pace, Party, Role};
 
 /// No line is pulled.
 pub const FREE: Lines = Lines {
@@ -46,37 +42,6 @@ pub struct Cable {
     seats: ArrayVec<Seat, 4>,
 }
 
-/// Whether it is a pull.
-pub fn is_pull(way: Way) -> bool
-    ensures { result ≡ is_pull way }
-{
-    match way {
-        Way::Pull => true,
-        Way::Free => false,
-    }
-}
-
-/// The lines after a change of one of them.
-pub fn with_change(lines: Lines, change: Change) -> Lines
-    ensures { result ≡ changed change lines }
-{
-    let low = is_pull(change.way);
-    match change.line {
-        Line::Atn => Lines {
-            atn_low: low,
-            ..lines
-        },
-        Line::Clock => Lines {
-            clock_low: low,
-            ..lines
-        },
-        Line::Data => Lines {
-            data_low: low,
-            ..lines
-        },
-    }
-}
-
 impl Cable {
     /// These drives as they are switched on; the first four, where they are more.
     pub fn new(parties: &[Party]) -> Cable {
@@ -95,7 +60,7 @@ impl Cable {
 
     /// A drive changes a line.
     pub fn change(&mut self, device: u8, change: Change) {
-        let low = is_pull(change.way);
+        let low = change.way.is_pull();
         for seat in self.seats.as_mut_slice() {
             if seat.device == device {
                 match change.line {

@@ -1,6 +1,5 @@
 //! What the bus is about: who says something, and how far it is.
 
-use crate::cable::is_pull;
 use cbm_iec::{Change, Line};
 
 /// How many bits a byte has.
@@ -85,7 +84,7 @@ impl Phase {
 
     /// After a change of the talker's.
     pub fn told(self, change: Change) -> Phase {
-        let low = is_pull(change.way);
+        let low = change.way.is_pull();
         match (self, change.line) {
             (Phase::Turn, Line::Clock) if low => Phase::Answered(change.moment),
             (Phase::Turn, Line::Data) if !low => Phase::Rest,

@@ -2,9 +2,10 @@
 
 ghost use Rattle.std.specs.Prelude.{◌≡◌, ◌≤◌, ◌+◌, length, ℕ};
 ghost use Rattle.cbm_iec.specs.declared.lines.Lines.{Lines as TheseLines};
-ghost use Rattle.bus_tidy.specs.Tidied.{changed, after_all};
+ghost use Rattle.cbm_iec.specs.Changes.{lines_changed};
+ghost use Rattle.bus_tidy.specs.Tidied.{after_all};
 
-use crate::cable::{Cable, FREE, is_pull, with_change};
+use crate::cable::{Cable, FREE};
 use crate::phase::Phase;
 use arrayvec::ArrayVec;
 use cbm_iec::{Change, Line, Lines, Party, Role, Way};
@@ -49,12 +50,12 @@ impl Tidy {
     /// The host changes a line. Answers the tidy host's changes that it comes to: none where no drive heeds it; with ATN's
     /// changes come those that a session has there.
     pub fn host(&mut self, change: Change) -> Changes
-        ensures host { self.new.host ≡ changed change self.old.host }
+        ensures host { self.new.host ≡ lines_changed change self.old.host }
         ensures tidy { self.new.tidy ≡ after_all result.items self.old.tidy }
     {
         let mut changes = Changes::new();
         self.phase = self.phase.settled(change, false);
-        self.host = with_change(self.host, change);
+        self.host = self.host.after(change);
         match (change.line, change.way) {
             (Line::Atn, Way::Pull) => self.call(change.moment, &mut changes),
             (Line::Atn, Way::Free) => self.release(change.moment, &mut changes),
@@ -108,7 +109,7 @@ impl Tidy {
         ensures room { length changes.new.items ≤ length changes.old.items + 2 }
         ensures tidy { (l : TheseLines) → self.old.tidy ≡ after_all changes.old.items l → self.new.tidy ≡ after_all changes.new.items l }
     {
-        let low = is_pull(change.way);
+        let low = change.way.is_pull();
         if matches!(
             self.phase,
             Phase::Rest | Phase::Talk { .. } | Phase::Answered(_)
@@ -135,7 +136,7 @@ impl Tidy {
         ensures room { length changes.new.items ≤ length changes.old.items + 1 }
         ensures tidy { (l : TheseLines) → self.old.tidy ≡ after_all changes.old.items l → self.new.tidy ≡ after_all changes.new.items l }
     {
-        let low = is_pull(change.way);
+        let low = change.way.is_pull();
         self.data_since = change.moment;
         let waits = match self.phase {
             Phase::Rest | Phase::Called => true,
@@ -158,7 +159,7 @@ impl Tidy {
     {
         let way = if low { Way::Pull } else { Way::Free };
         let change = Change { moment, line, way };
-        let tidy = with_change(self.tidy, change);
+        let tidy = self.tidy.after(change);
         if tidy != self.tidy {
             self.tidy = tidy;
             changes.try_push(change).ok();

@@ -6,12 +6,12 @@ use Rattle.std.specs.List.{list_all, position_or_len}
 use Rattle.std.proofs.lemmas.Fmt.{digits_decimal, digits_value-decimal, length-decimal-le, decimal_nonempty}
 use Rattle.std.proofs.lemmas.Str.Parse.{IsNumeralModel, numerals_by_fold}
 use Rattle.std.proofs.lemmas.Grind.{common_steps}
-use Rattle.bus_traces.specs.Words.{is_space, is_digit, first_word, after_word, number_of, number_upto}
-use Rattle.bus_traces.specs.Events.{who_text, line_text, way_text, event_words, event_of, who_called, line_called, way_called, IsParty, IsOfTrace}
-use Rattle.cbm_iec.specs.declared.line.Line.{Line}
-use Rattle.cbm_iec.specs.declared.line.Line.TheVariants.{Atn, Clock, Data}
-use Rattle.cbm_iec.specs.declared.line.Way.{Way}
-use Rattle.cbm_iec.specs.declared.line.Way.TheVariants.{Pull, Free}
+use Rattle.bus_traces.specs.Words.{is_space, is_decimal, first_word, after_word, trace_number, number_upto}
+use Rattle.bus_traces.specs.Events.{who_text, line_text, way_text, event_words, event_read, who_called, line_called, way_called, IsParty, IsOfTrace}
+use Rattle.cbm_iec.specs.declared.lines.Line.{Line}
+use Rattle.cbm_iec.specs.declared.lines.Line.TheVariants.{Atn, Clock, Data}
+use Rattle.cbm_iec.specs.declared.lines.Way.{Way}
+use Rattle.cbm_iec.specs.declared.lines.Way.TheVariants.{Pull, Free}
 use Rattle.cbm_iec.specs.declared.event.Event.{Event}
 use Rattle.cbm_iec.specs.declared.event.Who.{Who}
 use Rattle.cbm_iec.specs.declared.event.Who.TheVariants.{Host, Drive}
@@ -21,10 +21,10 @@ use Rattle.cbm_iec.specs.declared.event.Who.TheVariants.{Host, Drive}
 abbrev pub reads : ℕ → List ℕ → ℕ
 reads n digits = fold (λ m d. 10 * m + (d - 48)) n digits
 
-pub own : IsNumeralModel (λ ds. list_all is_digit ds ≡ true) (reads 0)
+pub own : IsNumeralModel (λ ds. list_all is_decimal ds ≡ true) (reads 0)
 own = numerals_by_fold _ (search rules) reads (search rules)
 
-pub number_back : (n : ℕ) → n ≤ 1000000000000000 → number_of (decimal n) ≡ Some n
+pub number_back : (n : ℕ) → n ≤ 1000000000000000 → trace_number (decimal n) ≡ Some n
 number_back n small =
     let room : n < 2 ^ 64 = omega (arith, small) in
     let digits = digits_decimal own n room in
@@ -42,7 +42,7 @@ ends : (word rest : List ℕ) → IsWord word → position_or_len is_space (word
 ends [] rest h = refl
 ends (b ∷ word) rest h = let more = ends word rest (grind (arith, h)) in grind (arith, more, h)
 
-digits_word : (ds : List ℕ) → list_all is_digit ds ≡ true → IsWord ds
+digits_word : (ds : List ℕ) → list_all is_decimal ds ≡ true → IsWord ds
 digits_word [] h = refl
 digits_word (b ∷ ds) h = let more = digits_word ds (grind (arith, h)) in grind (arith, more, h)
 
@@ -110,7 +110,7 @@ way_back Free = refl
 words_apart : (e : Event) → event_words e ≡ decimal e.change.moment ++ 32 ∷ (who_text e.who ++ 32 ∷ (line_text e.change.line ++ 32 ∷ way_text e.change.way))
 words_apart e = grind (arith, common_steps)
 
-pub event_back : (e : Event) → IsOfTrace e → event_of (event_words e) ≡ Some e
+pub event_back : (e : Event) → IsOfTrace e → event_read (event_words e) ≡ Some e
 event_back e h =
     let apart = words_apart e in
     let moment = moment_back e.change.moment h.moment in

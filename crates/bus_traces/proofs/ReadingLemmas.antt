@@ -4,7 +4,7 @@ use Rattle.std.specs.Prelude.{⊤}
 use Rattle.std.specs.Io.KnownBytes.{IsAtEnd}
 use Rattle.cbm_iec.specs.declared.event.Event.{Event}
 use Rattle.bus_traces.specs.Lines.{lines_of, TakesLine}
-use Rattle.bus_traces.specs.Reading.{line_says, events_from, with_front, moment_after, EventRead}
+use Rattle.bus_traces.specs.Reading.{line_says, events_from, with_event, moment_after, EventRead}
 
 -- what is left says what there was
 abbrev pub SaysSame : ℕ → Option (List ℕ) → Option (List ℕ) → Type 0
@@ -18,8 +18,8 @@ same-start from (Some xs) = refl
 
 -- a line and what it says
 front : (from : ℕ) (line : List ℕ) (lines : List (List ℕ)) (says : Option (Option Event)) → line_says from line ≡ says
-    → events_from from (line ∷ lines) ≡ with_front says (events_from (moment_after from says) lines)
-front from line lines says e = ap (λ (s : Option (Option Event)). with_front s (events_from (moment_after from s) lines)) e
+    → events_from from (line ∷ lines) ≡ with_event says (events_from (moment_after from says) lines)
+front from line lines says e = ap (λ (s : Option (Option Event)). with_event s (events_from (moment_after from s) lines)) e
 
 pub same-skipped : (from : ℕ) (a b c : Option (List ℕ)) (line : List ℕ) → SaysSame from a b → TakesLine b c line → line_says from line ≡ Some None → SaysSame from a c
 same-skipped from None b c line h k e = tt

@@ -6,7 +6,7 @@ use Rattle.cbm_iec.specs.declared.event.Event.{Event}
 use Rattle.bus_traces.specs.declared.cable.Cable.{Cable}
 use Rattle.bus_traces.specs.declared.recorder.TraceForm.{TraceForm}
 use Rattle.bus_traces.specs.Cables.{after}
-use Rattle.bus_traces.specs.Records.{record_event, recorded}
+use Rattle.bus_traces.specs.Records.{record_event, events_recorded}
 use Rattle.bus_traces.proofs.Appending.{appends-nothing, appends-more}
 
 -- a text was written, and with what is to be written of the rest it is all of it
@@ -25,12 +25,12 @@ pub has-none : (old : Option (List ℕ)) (all : List ℕ) → HasRecorded old ol
 has-none old all = record { text = []; written = appends-nothing old; whole = refl }
 
 pub has-more : (old new then : Option (List ℕ)) (all : List ℕ) (form : TraceForm) (last : ℕ) (cable : Cable) (e : Event) (es : List Event)
-    → HasRecorded old new all (recorded form last cable (e ∷ es)) → Appends new then (record_event form last cable e)
-    → HasRecorded old then all (recorded form e.change.moment (after e cable) es)
+    → HasRecorded old new all (events_recorded form last cable (e ∷ es)) → Appends new then (record_event form last cable e)
+    → HasRecorded old then all (events_recorded form e.change.moment (after e cable) es)
 has-more old new then all form last cable e es h k = record {
   text = h.text ++ record_event form last cable e;
   written = appends-more old new then h.text (record_event form last cable e) h.written k;
-  whole = h.whole ∙ sym (append_assoc h.text (record_event form last cable e) (recorded form e.change.moment (after e cable) es));
+  whole = h.whole ∙ sym (append_assoc h.text (record_event form last cable e) (events_recorded form e.change.moment (after e cable) es));
 }
 
 pub has-all : (old new : Option (List ℕ)) (all : List ℕ) → HasRecorded old new all [] → Appends old new all
@@ -38,7 +38,7 @@ has-all old new all h = rw (h.whole, append-nil h.text) h.written
 
 -- the next of a list
 pub has-step : (old new then : Option (List ℕ)) (all : List ℕ) (form : TraceForm) (last : ℕ) (cable : Cable) (es : List Event) (i : ℕ) (d : Event)
-    → i < length es → HasRecorded old new all (recorded form last cable (drop i es)) → Appends new then (record_event form last cable (slice_index_or es i d))
-    → HasRecorded old then all (recorded form (slice_index_or es i d).change.moment (after (slice_index_or es i d) cable) (drop (i + 1) es))
+    → i < length es → HasRecorded old new all (events_recorded form last cable (drop i es)) → Appends new then (record_event form last cable (slice_index_or es i d))
+    → HasRecorded old then all (events_recorded form (slice_index_or es i d).change.moment (after (slice_index_or es i d) cable) (drop (i + 1) es))
 has-step old new then all form last cable es i d within h k =
     has-more old new then all form last cable (slice_index_or es i d) (drop (i + 1) es) (rw (drop_more es i d within) at h) k

@@ -6,18 +6,18 @@ use Rattle.std.proofs.lemmas.Fmt.{digits_decimal, decimal_nonempty}
 use Rattle.cbm_iec.specs.declared.event.Event.{Event}
 use Rattle.cbm_iec.specs.declared.event.Who.{Who}
 use Rattle.cbm_iec.specs.declared.event.Who.TheVariants.{Host, Drive}
-use Rattle.cbm_iec.specs.declared.line.Line.{Line}
-use Rattle.cbm_iec.specs.declared.line.Line.TheVariants.{Atn, Clock, Data}
-use Rattle.cbm_iec.specs.declared.line.Way.{Way}
-use Rattle.cbm_iec.specs.declared.line.Way.TheVariants.{Pull, Free}
-use Rattle.bus_traces.specs.Words.{is_digit}
-use Rattle.bus_traces.specs.Events.{who_text, line_text, way_text, event_words, event_text, trace_text, event_of, IsParty, IsOfTrace}
+use Rattle.cbm_iec.specs.declared.lines.Line.{Line}
+use Rattle.cbm_iec.specs.declared.lines.Line.TheVariants.{Atn, Clock, Data}
+use Rattle.cbm_iec.specs.declared.lines.Way.{Way}
+use Rattle.cbm_iec.specs.declared.lines.Way.TheVariants.{Pull, Free}
+use Rattle.bus_traces.specs.Words.{is_decimal}
+use Rattle.bus_traces.specs.Events.{who_text, line_text, way_text, event_words, event_text, trace_text, event_read, IsParty, IsOfTrace}
 use Rattle.bus_traces.specs.declared.cable.Cable.{Cable}
 use Rattle.bus_traces.specs.declared.recorder.TraceForm.TheVariants.{Lines}
 use Rattle.bus_traces.specs.Cables.{after}
-use Rattle.bus_traces.specs.Records.{recorded}
+use Rattle.bus_traces.specs.Records.{events_recorded}
 use Rattle.bus_traces.specs.Lines.{lines_of}
-use Rattle.bus_traces.specs.Reading.{after_moment, line_says, with_front, moment_after, events_from, AreOfTrace, trace_of}
+use Rattle.bus_traces.specs.Reading.{after_moment, line_says, with_event, moment_after, events_from, AreOfTrace, trace_of}
 use Rattle.bus_traces.proofs.LineLemmas.{IsUnbroken, broken}
 use Rattle.bus_traces.proofs.ReadingBack.{own, event_back}
 
@@ -27,7 +27,7 @@ unbroken-join : (xs ys : List ℕ) → IsUnbroken xs → IsUnbroken ys → IsUnb
 unbroken-join [] ys h k = k
 unbroken-join (x ∷ xs) ys h k = (h.0, unbroken-join xs ys h.1 k)
 
-digits_unbroken : (ds : List ℕ) → list_all is_digit ds ≡ true → IsUnbroken ds
+digits_unbroken : (ds : List ℕ) → list_all is_decimal ds ≡ true → IsUnbroken ds
 digits_unbroken [] h = tt
 digits_unbroken (b ∷ ds) h =
     let more = digits_unbroken ds (grind (arith, h)) in
@@ -64,8 +64,8 @@ words_unbroken e h =
 -- ---- the line says the event
 
 -- what begins with a digit is no comment
-says_event : (digits rest : List ℕ) (from : ℕ) → list_all is_digit digits ≡ true → 0 < length digits
-    → line_says from (digits ++ rest) ≡ after_moment from (event_of (digits ++ rest))
+says_event : (digits rest : List ℕ) (from : ℕ) → list_all is_decimal digits ≡ true → 0 < length digits
+    → line_says from (digits ++ rest) ≡ after_moment from (event_read (digits ++ rest))
 says_event [] rest from h n = absurd (omega arith)
 says_event (b ∷ digits) rest from h n = let other : b ≢ 59 = grind (arith, h) in grind (arith, other)
 
@@ -89,7 +89,7 @@ line_back from e later h =
     let room : e.change.moment < 2 ^ 64 = (let m = h.moment in omega (arith, m)) in
     let b = begins e in
     let says = says_event (decimal e.change.moment) b.0 from (digits_decimal own e.change.moment room) (decimal_nonempty e.change.moment room) in
-    let same : line_says from (event_words e) ≡ after_moment from (event_of (event_words e)) = rw b.1 says in
+    let same : line_says from (event_words e) ≡ after_moment from (event_read (event_words e)) = rw b.1 says in
     let back = event_back e h in
     same ∙ (ap (after_moment from) back ∙ grind (arith, later))
 
@@ -103,13 +103,13 @@ trace_back from (e ∷ es) h =
     let says = line_back from e h.0 h.1 in
     let rest = trace_back e.change.moment es h.2 in
     ap (events_from from) lines
-    ∙ ap (λ (s : Option (Option Event)). with_front s (events_from (moment_after from s) (lines_of (trace_text es)))) says
+    ∙ ap (λ (s : Option (Option Event)). with_event s (events_from (moment_after from s) (lines_of (trace_text es)))) says
     ∙ ap (option_map (λ (xs : List Event). e ∷ xs)) rest
 
 -- what a recorder writes as lines
-recorded_lines : (last : ℕ) (cable : Cable) (es : List Event) → recorded Lines last cable es ≡ trace_text es
+recorded_lines : (last : ℕ) (cable : Cable) (es : List Event) → events_recorded Lines last cable es ≡ trace_text es
 recorded_lines last cable [] = refl
 recorded_lines last cable (e ∷ es) = ap (λ t. event_text e ++ t) (recorded_lines e.change.moment (after e cable) es)
 
-pub recorded_back : (last : ℕ) (cable : Cable) (es : List Event) → AreOfTrace 0 es → trace_of (recorded Lines last cable es) ≡ Some es
+pub recorded_back : (last : ℕ) (cable : Cable) (es : List Event) → AreOfTrace 0 es → trace_of (events_recorded Lines last cable es) ≡ Some es
 recorded_back last cable es h = ap trace_of (recorded_lines last cable es) ∙ trace_back 0 es h

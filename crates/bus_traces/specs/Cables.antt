@@ -1,19 +1,20 @@
 -- The cable: a line is pulled as long as any party pulls it.
 use Rattle.std.specs.Prelude.{ℕ, ◌%◌, List, Bool, true, false, slice_set}
 use Rattle.std.specs.List.{list_any}
+use Rattle.cbm_iec.specs.Changes.{is_pull}
 use Rattle.cbm_iec.specs.declared.event.Event.{Event}
 use Rattle.cbm_iec.specs.declared.event.Who.{Who}
 use Rattle.cbm_iec.specs.declared.event.Who.TheVariants.{Host, Drive}
-use Rattle.cbm_iec.specs.declared.line.Line.{Line}
-use Rattle.cbm_iec.specs.declared.line.Line.TheVariants.{Atn, Clock, Data}
-use Rattle.cbm_iec.specs.declared.line.Way.{Way}
-use Rattle.cbm_iec.specs.declared.line.Way.TheVariants.{Pull, Free}
+use Rattle.cbm_iec.specs.declared.lines.Line.{Line}
+use Rattle.cbm_iec.specs.declared.lines.Line.TheVariants.{Atn, Clock, Data}
+use Rattle.cbm_iec.specs.declared.lines.Way.{Way}
+use Rattle.cbm_iec.specs.declared.lines.Way.TheVariants.{Pull, Free}
 use Rattle.bus_traces.specs.declared.cable.Cable.{Cable}
 
 -- the seat of a party: a drive's number, at most 30, and the host's
-abbrev pub seat_of : Who → ℕ
-seat_of Host = 31
-seat_of (Drive device) = device % 31
+abbrev pub seat_number : Who → ℕ
+seat_number Host = 31
+seat_number (Drive device) = device % 31
 
 -- who pulls a line, seat by seat
 abbrev pub pulling : Line → Cable → List Bool
@@ -25,16 +26,12 @@ pulling Data cable = cable.data_seats
 abbrev pub is_low : Line → Cable → Bool
 is_low line cable = list_any (λ pulls. pulls) (pulling line cable)
 
-abbrev pub is_pull : Way → Bool
-is_pull Pull = true
-is_pull Free = false
-
 -- the cable with these seats for a line
-abbrev pub with_line : Line → List Bool → Cable → Cable
-with_line Atn seats cable = record { atn_seats = seats; clock_seats = cable.clock_seats; data_seats = cable.data_seats }
-with_line Clock seats cable = record { atn_seats = cable.atn_seats; clock_seats = seats; data_seats = cable.data_seats }
-with_line Data seats cable = record { atn_seats = cable.atn_seats; clock_seats = cable.clock_seats; data_seats = seats }
+abbrev pub with_seats : Line → List Bool → Cable → Cable
+with_seats Atn seats cable = record { atn_seats = seats; clock_seats = cable.clock_seats; data_seats = cable.data_seats }
+with_seats Clock seats cable = record { atn_seats = cable.atn_seats; clock_seats = seats; data_seats = cable.data_seats }
+with_seats Data seats cable = record { atn_seats = cable.atn_seats; clock_seats = cable.clock_seats; data_seats = seats }
 
 -- the cable after an event: that party's seat changes, in that line
 abbrev pub after : Event → Cable → Cable
-after e cable = with_line e.change.line (slice_set (pulling e.change.line cable) (seat_of e.who) (is_pull e.change.way)) cable
+after e cable = with_seats e.change.line (slice_set (pulling e.change.line cable) (seat_number e.who) (is_pull e.change.way)) cable

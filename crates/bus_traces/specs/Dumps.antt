@@ -1,12 +1,13 @@
 -- A trace as a Value Change Dump: 0 is pulled, 1 is free.
 use Rattle.std.specs.Prelude.{ℕ, List, [], ◌++◌, codes, decimal, Bool, true, false, ◌==◌, if◌then◌else◌}
+use Rattle.cbm_iec.specs.Changes.{is_pull}
 use Rattle.cbm_iec.specs.declared.event.Event.{Event}
 use Rattle.cbm_iec.specs.declared.event.Who.{Who}
 use Rattle.cbm_iec.specs.declared.event.Who.TheVariants.{Host, Drive}
-use Rattle.cbm_iec.specs.declared.line.Line.{Line}
-use Rattle.cbm_iec.specs.declared.line.Line.TheVariants.{Atn, Clock, Data}
+use Rattle.cbm_iec.specs.declared.lines.Line.{Line}
+use Rattle.cbm_iec.specs.declared.lines.Line.TheVariants.{Atn, Clock, Data}
 use Rattle.bus_traces.specs.declared.cable.Cable.{Cable}
-use Rattle.bus_traces.specs.Cables.{is_low, is_pull, after}
+use Rattle.bus_traces.specs.Cables.{is_low, after}
 
 -- a variable's code: a line's letter, after `h` for the host's own and after its number for a drive's
 abbrev pub line_code : Line → List ℕ

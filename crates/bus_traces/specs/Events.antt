@@ -4,10 +4,10 @@ use Rattle.std.specs.Str.{bytes_eq}
 use Rattle.cbm_iec.specs.declared.event.Event.{Event}
 use Rattle.cbm_iec.specs.declared.event.Who.{Who}
 use Rattle.cbm_iec.specs.declared.event.Who.TheVariants.{Host, Drive}
-use Rattle.cbm_iec.specs.declared.line.Line.{Line}
-use Rattle.cbm_iec.specs.declared.line.Line.TheVariants.{Atn, Clock, Data}
-use Rattle.cbm_iec.specs.declared.line.Way.{Way}
-use Rattle.cbm_iec.specs.declared.line.Way.TheVariants.{Pull, Free}
+use Rattle.cbm_iec.specs.declared.lines.Line.{Line}
+use Rattle.cbm_iec.specs.declared.lines.Line.TheVariants.{Atn, Clock, Data}
+use Rattle.cbm_iec.specs.declared.lines.Way.{Way}
+use Rattle.cbm_iec.specs.declared.lines.Way.TheVariants.{Pull, Free}
 use Rattle.bus_traces.specs.Words.{first_word, after_word, number_upto}
 
 -- ---- writing
@@ -72,8 +72,8 @@ event_of_party moment None = None
 event_of_party moment (Some words) = event_of_change moment (who_called (first_word words)) (after_word words)
 
 -- THE EVENT OF A LINE, without its end; None where it is none. Its moment is at most 10 ^ 15.
-abbrev pub event_of : List ℕ → Option Event
-event_of bytes = event_of_party (number_upto 1000000000000000 (first_word bytes)) (after_word bytes)
+abbrev pub event_read : List ℕ → Option Event
+event_read bytes = event_of_party (number_upto 1000000000000000 (first_word bytes)) (after_word bytes)
 
 -- THE HOST'S EVENT OF A LINE `MOMENT LINE WAY`, without its end; None where it is none
 abbrev pub host_event_of : List ℕ → Option Event

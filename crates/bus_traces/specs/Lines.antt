@@ -14,8 +14,8 @@ lines_of [] = []
 lines_of (b ∷ bytes) = if b == 10 then [] ∷ lines_of bytes else onto_first b (lines_of bytes)
 
 -- the bytes that weren't taken yet, where the reader's are known
-abbrev pub bytes_left : {R : Type 0} → (R → Option (List ℕ)) → Source R → Option (List ℕ)
-bytes_left remaining source = prepend_known (slice_range source.block source.start source.end) (remaining source.reader)
+abbrev pub source_bytes_left : {R : Type 0} → (R → Option (List ℕ)) → Source R → Option (List ℕ)
+source_bytes_left remaining source = prepend_known (slice_range source.block source.start source.end) (remaining source.reader)
 
 -- the next byte was taken, or none is left
 abbrev pub TakesByte : Option (List ℕ) → Option (List ℕ) → Option ℕ → Type 0

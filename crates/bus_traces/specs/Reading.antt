@@ -1,7 +1,7 @@
 -- What the lines of a trace say.
 use Rattle.std.specs.Prelude.{◌≡◌, ◌≤◌, ℕ, List, [], ◌∷◌, ◌==◌, nat_lt, if◌then◌else◌, ⊤, Option, Some, None, option_map}
 use Rattle.cbm_iec.specs.declared.event.Event.{Event}
-use Rattle.bus_traces.specs.Events.{event_of, IsOfTrace}
+use Rattle.bus_traces.specs.Events.{event_read, IsOfTrace}
 use Rattle.bus_traces.specs.Lines.{lines_of}
 
 -- an event that doesn't come before a moment; None where there is none, or it comes before
@@ -12,13 +12,13 @@ after_moment from (Some e) = if nat_lt e.change.moment from then None else Some 
 -- what a line says after a moment: nothing where it is empty or begins with `;`, else an event; None where it is refused
 abbrev pub line_says : ℕ → List ℕ → Option (Option Event)
 line_says from [] = Some None
-line_says from (b ∷ bytes) = if b == 59 then Some None else after_moment from (event_of (b ∷ bytes))
+line_says from (b ∷ bytes) = if b == 59 then Some None else after_moment from (event_read (b ∷ bytes))
 
 -- what a line says, and then what the others say
-abbrev pub with_front : Option (Option Event) → Option (List Event) → Option (List Event)
-with_front None rest = None
-with_front (Some None) rest = rest
-with_front (Some (Some e)) rest = option_map (λ es. e ∷ es) rest
+abbrev pub with_event : Option (Option Event) → Option (List Event) → Option (List Event)
+with_event None rest = None
+with_event (Some None) rest = rest
+with_event (Some (Some e)) rest = option_map (λ es. e ∷ es) rest
 
 -- the moment that a line leaves
 abbrev pub moment_after : ℕ → Option (Option Event) → ℕ
@@ -29,7 +29,7 @@ moment_after from (Some (Some e)) = e.change.moment
 -- THE EVENTS OF A TRACE'S LINES after a moment; None where a line is refused
 abbrev pub events_from : ℕ → List (List ℕ) → Option (List Event)
 events_from from [] = Some []
-events_from from (line ∷ lines) = with_front (line_says from line) (events_from (moment_after from (line_says from line)) lines)
+events_from from (line ∷ lines) = with_event (line_says from line) (events_from (moment_after from (line_says from line)) lines)
 
 -- the events of a trace's bytes
 abbrev pub trace_of : List ℕ → Option (List Event)

@@ -16,9 +16,9 @@ record_event Lines last cable e = event_text e
 record_event Vcd last cable e = dump_event last cable e
 
 -- WHAT IS WRITTEN OF EVENTS, one after the other, after those of a moment, where the cable was so
-abbrev pub recorded : TraceForm → ℕ → Cable → List Event → List ℕ
-recorded form last cable [] = []
-recorded form last cable (e ∷ es) = record_event form last cable e ++ recorded form e.change.moment (after e cable) es
+abbrev pub events_recorded : TraceForm → ℕ → Cable → List Event → List ℕ
+events_recorded form last cable [] = []
+events_recorded form last cable (e ∷ es) = record_event form last cable e ++ events_recorded form e.change.moment (after e cable) es
 
 -- what ends a trace at a moment: in a VCD that moment, where it comes after the last event's
 abbrev pub end_text : TraceForm → ℕ → ℕ → List ℕ

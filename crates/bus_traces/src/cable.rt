@@ -1,6 +1,6 @@
 //! The cable: a line is pulled as long as any party pulls it.
 ghost use Rattle.std.specs.Prelude.{◌≡◌, ◌<◌};
-ghost use Rattle.bus_traces.specs.Cables.{seat_of, pulling, is_low, after};
+ghost use Rattle.bus_traces.specs.Cables.{seat_number, pulling, is_low, after};
 
 use cbm_iec::{Event, Line, Way, Who};
 
@@ -17,7 +17,7 @@ pub(crate) struct Cable {
 
 /// The seat of a party: a drive's number, which is at most 30, or 31.
 fn seat_of(who: Who) -> usize
-    ensures seat { result ≡ seat_of who }
+    ensures seat { result ≡ seat_number who }
     ensures within { result < 32 }
 {
     match who {

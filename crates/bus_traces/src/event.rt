@@ -2,8 +2,8 @@
 ghost use Rattle.std.specs.Prelude.{◌≡◌, ◌≤◌, ◌+◌, ◌++◌, ℕ, List, Some, IfSome, codes, decimal, length, option_map};
 ghost use Rattle.arrayvec.specs.ArrayVec.{array_vec_len};
 ghost use Rattle.bus_traces.specs.Words.{first_word, after_word, number_upto};
-ghost use Rattle.bus_traces.specs.Events.{who_text, line_text, way_text, event_text, event_words, who_called, line_called, way_called, event_with, event_of_change, event_of_party, event_of, host_event_of, trace_text, IsOfTrace};
-ghost use Rattle.bus_traces.specs.Records.{recorded};
+ghost use Rattle.bus_traces.specs.Events.{who_text, line_text, way_text, event_text, event_words, who_called, line_called, way_called, event_with, event_of_change, event_of_party, event_read, host_event_of, trace_text, IsOfTrace};
+ghost use Rattle.bus_traces.specs.Records.{events_recorded};
 ghost use Rattle.bus_traces.specs.declared.cable.Cable.{Cable};
 ghost use Rattle.bus_traces.specs.declared.recorder.TraceForm.TheVariants.{Lines};
 ghost use Rattle.bus_traces.specs.Reading.{trace_of, AreOfTrace};
@@ -153,7 +153,7 @@ fn event_of_party(moment: Option<u64>, rest: Option<&[u8]>) -> Option<Event>
 
 /// The event of a line without its end; None where the line is none.
 pub fn event_of(bytes: &[u8]) -> Option<Event>
-    ensures { result ≡ event_of bytes.now }
+    ensures { result ≡ event_read bytes.now }
 {
     let (first, rest) = split_word(bytes);
     event_of_party(number_upto(LATEST, first), rest)
@@ -178,8 +178,8 @@ pub fn moment_of(word: &[u8]) -> Option<u64>
 /// A law, and nothing is done: an event that is written as a line is read back from it, and a trace from its lines, also as a
 /// recorder writes them.
 pub fn what_is_written_reads_back()
-    ensures event { (e : Event) → IsOfTrace e → event_of (event_words e) ≡ Some e }
+    ensures event { (e : Event) → IsOfTrace e → event_read (event_words e) ≡ Some e }
     ensures trace { (es : List Event) → AreOfTrace 0 es → trace_of (trace_text es) ≡ Some es }
     ensures recorded { (last : ℕ) (cable : Cable) (es : List Event) → AreOfTrace 0 es →
-        trace_of (recorded Lines last cable es) ≡ Some es }
+        trace_of (events_recorded Lines last cable es) ≡ Some es }
 {}

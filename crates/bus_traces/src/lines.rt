@@ -2,7 +2,7 @@
 ghost use Rattle.std.specs.Prelude.{◌≡◌, IfOk, MatchBool};
 ghost use Rattle.std.specs.Io.KnownBytes.{IsAtEnd};
 ghost use Rattle.std.specs.Result.{result_ok};
-ghost use Rattle.bus_traces.specs.Lines.{bytes_left, TakesLine};
+ghost use Rattle.bus_traces.specs.Lines.{source_bytes_left, TakesLine};
 ghost use Rattle.bus_traces.specs.Reading.{line_says, EventRead, moment_of_read};
 
 use crate::event::event_of;
@@ -18,8 +18,8 @@ fn next_line<R: Read>(
     line: &mut ArrayVec<u8, 1000>,
 ) -> Result<bool, TraceFault>
     ensures { IfOk result (λ found. MatchBool found
-        (TakesLine (bytes_left R.remaining source.old) (bytes_left R.remaining source.new) line.new.items)
-        (IsAtEnd (bytes_left R.remaining source.old))) }
+        (TakesLine (source_bytes_left R.remaining source.old) (source_bytes_left R.remaining source.new) line.new.items)
+        (IsAtEnd (source_bytes_left R.remaining source.old))) }
 {
     match source.next_line(line) {
         Ok(found) => Ok(found),
@@ -49,7 +49,7 @@ pub(crate) fn next_event<R: Read>(
     source: &mut Source<R>,
     from: u64,
 ) -> Result<Option<Event>, TraceFault>
-    ensures { IfOk result (EventRead (bytes_left R.remaining source.old) (bytes_left R.remaining source.new) from) }
+    ensures { IfOk result (EventRead (source_bytes_left R.remaining source.old) (source_bytes_left R.remaining source.new) from) }
 {
     let mut line = ArrayVec::new();
     'lines: for _ in 0..u64::MAX {
@@ -76,7 +76,7 @@ pub struct EventLines<R> {
 impl<R: Read> EventLines<R> {
     /// A trace of which nothing was read yet.
     pub fn new(reader: R) -> EventLines<R>
-        ensures left { bytes_left R.remaining result.source ≡ R.remaining reader }
+        ensures left { source_bytes_left R.remaining result.source ≡ R.remaining reader }
         ensures moment { result.moment ≡ 0 }
     {
         EventLines {
@@ -88,8 +88,8 @@ impl<R: Read> EventLines<R> {
     /// The next event; None at the end. Errors: `Reading`, or the number of a line and `Long`, `Event` or `Early`. After an error
     /// nothing is promised.
     pub fn next(&mut self) -> Result<Option<Event>, TraceFault>
-        ensures read { IfOk result (EventRead (bytes_left R.remaining self.old.source)
-            (bytes_left R.remaining self.new.source) self.old.moment) }
+        ensures read { IfOk result (EventRead (source_bytes_left R.remaining self.old.source)
+            (source_bytes_left R.remaining self.new.source) self.old.moment) }
         ensures moment { IfOk result (λ read. self.new.moment ≡ moment_of_read self.old.moment read) }
     {
         let read = next_event(&mut self.source, self.moment)?;

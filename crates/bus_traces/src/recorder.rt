@@ -2,7 +2,7 @@
 ghost use Rattle.std.specs.Prelude.{◌≡◌, ◌≤◌, ◌++◌, [], length, OnOk};
 ghost use Rattle.std.specs.Io.KnownBytes.{Appends, Keeps};
 ghost use Rattle.bus_traces.specs.Cables.{after};
-ghost use Rattle.bus_traces.specs.Records.{record_event, recorded, recorded_by, end_text};
+ghost use Rattle.bus_traces.specs.Records.{record_event, events_recorded, recorded_by, end_text};
 
 use crate::cable::Cable;
 use crate::event::put_event;
@@ -109,7 +109,7 @@ impl<W: Write> Recorder<W> {
     /// Writes events, none of which comes before the one before.
     pub fn events(&mut self, events: &[Event]) -> io::Result<()>
         ensures written { OnOk result (Appends (recorded_by W.contents self.old) (recorded_by W.contents self.new)
-            (recorded self.old.form self.old.moment self.old.cable events.now)) }
+            (events_recorded self.old.form self.old.moment self.old.cable events.now)) }
         ensures form { self.new.form ≡ self.old.form }
     {
         for event in events {

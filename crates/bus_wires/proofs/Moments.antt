@@ -1,11 +1,12 @@
 -- Lists of events, of changes and of looks, up to a moment.
 use Rattle.std.proofs.Common.{◌≡◌, ℕ, ◌≤◌, ◌<◌, List, [], ◌∷◌, ◌++◌, Bool, true, false, refl, ◌∙◌, ap, arith, if◌then◌else◌, nat_le}
 use Rattle.std.proofs.lemmas.Bool.{le-leb, lt-leb}
-use Rattle.bus_wires.specs.Cable.{Parties, changed, after}
+use Rattle.cbm_iec.specs.Changes.{lines_changed}
+use Rattle.bus_wires.specs.Cable.{Parties, parties_after}
 use Rattle.bus_wires.specs.Looks.{all_changed, all_after, changes_upto, events_upto, wires_at, InTurn, AllUpto, last_look}
 use Rattle.bus_wires.specs.declared.looks.Look.{Look}
 use Rattle.cbm_iec.specs.declared.event.Event.{Event}
-use Rattle.cbm_iec.specs.declared.line.Change.{Change}
+use Rattle.cbm_iec.specs.declared.lines.Change.{Change}
 use Rattle.cbm_iec.specs.declared.lines.Lines.{Lines}
 
 -- a choice by a test that is known
@@ -22,13 +23,13 @@ either true x z y e = e
 either false x z y e = refl
 
 -- one event more
-pub after-more : (es : List Event) (e : Event) (p : Parties) → all_after (es ++ e ∷ []) p ≡ after e (all_after es p)
+pub after-more : (es : List Event) (e : Event) (p : Parties) → all_after (es ++ e ∷ []) p ≡ parties_after e (all_after es p)
 after-more [] e p = refl
-after-more (x ∷ es) e p = after-more es e (after x p)
+after-more (x ∷ es) e p = after-more es e (parties_after x p)
 
-pub changed-more : (cs : List Change) (c : Change) (l : Lines) → all_changed (cs ++ c ∷ []) l ≡ changed c (all_changed cs l)
+pub changed-more : (cs : List Change) (c : Change) (l : Lines) → all_changed (cs ++ c ∷ []) l ≡ lines_changed c (all_changed cs l)
 changed-more [] c l = refl
-changed-more (x ∷ cs) c l = changed-more cs c (changed x l)
+changed-more (x ∷ cs) c l = changed-more cs c (lines_changed x l)
 
 -- an event that comes later
 pub events-later : (m : ℕ) (es : List Event) (e : Event) → m < e.change.moment → events_upto m (es ++ e ∷ []) ≡ events_upto m es

@@ -1,22 +1,18 @@
 -- What each party pulls, and what the wires show of it.
 use Rattle.std.specs.Prelude.{◌≡◌, ◌==◌, ℕ, Bool, true, false, List, [], ◌∷◌, map, if◌then◌else◌}
+use Rattle.cbm_iec.specs.Changes.{is_pull, lines_changed}
 use Rattle.bus_wires.specs.declared.hands.Hands.{Hands}
 use Rattle.bus_wires.specs.declared.hands.Seat.{Seat}
 use Rattle.cbm_iec.specs.declared.event.Event.{Event}
 use Rattle.cbm_iec.specs.declared.event.Who.TheVariants.{Host, Drive}
-use Rattle.cbm_iec.specs.declared.line.Change.{Change}
-use Rattle.cbm_iec.specs.declared.line.Line.{Line}
-use Rattle.cbm_iec.specs.declared.line.Line.TheVariants.{Atn, Clock, Data}
-use Rattle.cbm_iec.specs.declared.line.Way.{Way}
-use Rattle.cbm_iec.specs.declared.line.Way.TheVariants.{Pull, Free}
+use Rattle.cbm_iec.specs.declared.lines.Change.{Change}
+use Rattle.cbm_iec.specs.declared.lines.Line.{Line}
+use Rattle.cbm_iec.specs.declared.lines.Line.TheVariants.{Atn, Clock, Data}
+use Rattle.cbm_iec.specs.declared.lines.Way.{Way}
+use Rattle.cbm_iec.specs.declared.lines.Way.TheVariants.{Pull, Free}
 use Rattle.cbm_iec.specs.declared.lines.Held.{Held}
 use Rattle.cbm_iec.specs.declared.lines.Lines.{Lines}
 use Rattle.cbm_iec.specs.declared.party.Party.{Party}
-
--- whether a change is a pull
-abbrev pub is_pull : Way → Bool
-is_pull Pull = true
-is_pull Free = false
 
 -- whether a line is pulled, of three
 abbrev pub low : Line → Lines → Bool
@@ -30,21 +26,11 @@ holds Atn held = false
 holds Clock held = held.clock_low
 holds Data held = held.data_low
 
--- three lines, one of which is pulled or free
-abbrev pub with_line : Line → Bool → Lines → Lines
-with_line Atn is_low lines = record { atn_low = is_low; clock_low = lines.clock_low; data_low = lines.data_low }
-with_line Clock is_low lines = record { atn_low = lines.atn_low; clock_low = is_low; data_low = lines.data_low }
-with_line Data is_low lines = record { atn_low = lines.atn_low; clock_low = lines.clock_low; data_low = is_low }
-
 -- what a drive holds after it pulls or frees a line
 abbrev pub with_held : Line → Bool → Held → Held
 with_held Atn is_low held = held
 with_held Clock is_low held = record { clock_low = is_low; data_low = held.data_low }
 with_held Data is_low held = record { clock_low = held.clock_low; data_low = is_low }
-
--- three lines after a change of one of them
-abbrev pub changed : Change → Lines → Lines
-changed c lines = with_line c.line (is_pull c.way) lines
 
 -- what each party pulls: the host, and the drives
 pub record Parties : Type 0 where
@@ -55,8 +41,8 @@ abbrev pub parties_of : Hands → Parties
 parties_of h = record { host = h.host; drives = h.seats.items }
 
 -- nobody pulls a line
-abbrev pub at_rest : List Party → Parties
-at_rest bs = record {
+abbrev pub parties_at_rest : List Party → Parties
+parties_at_rest bs = record {
   host = record { atn_low = false; clock_low = false; data_low = false };
   drives = map (λ b. (record { device = b.device; held = record { clock_low = false; data_low = false } })) bs;
 }
@@ -67,20 +53,20 @@ any_pulls line [] = false
 any_pulls line (s ∷ ss) = if holds line s.held then true else any_pulls line ss
 
 -- A LINE IS PULLED ON THE WIRE AS LONG AS ANY PARTY PULLS IT.
-abbrev pub wire : Line → Parties → Bool
-wire line p = if low line p.host then true else any_pulls line p.drives
+abbrev pub wire_low : Line → Parties → Bool
+wire_low line p = if low line p.host then true else any_pulls line p.drives
 
 -- the wires show what was read
 abbrev pub Shows : Parties → Lines → Type 0
-Shows p lines = (line : Line) → wire line p ≡ low line lines
+Shows p lines = (line : Line) → wire_low line p ≡ low line lines
 
 -- a drive after a change of the drive with that device number
 abbrev pub seat_after : ℕ → Change → Seat → Seat
 seat_after device c s = if s.device == device then record { device = s.device; held = with_held c.line (is_pull c.way) s.held } else s
 
 -- what the parties pull after a change of one of them
-abbrev pub after : Event → Parties → Parties
-after e p = elim e.who [
-  | Host ↦ record { host = changed e.change p.host; drives = p.drives }
+abbrev pub parties_after : Event → Parties → Parties
+parties_after e p = elim e.who [
+  | Host ↦ record { host = lines_changed e.change p.host; drives = p.drives }
   | Drive device ↦ record { host = p.host; drives = map (λ s. seat_after device e.change s) p.drives }
 ]

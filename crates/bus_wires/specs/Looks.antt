@@ -1,22 +1,23 @@
 -- The wires moment by moment: as they were read, and as the parties' events make them.
 use Rattle.std.specs.Prelude.{◌≡◌, ◌≤◌, ◌<◌, ℕ, false, List, [], ◌∷◌, ◌++◌, if◌then◌else◌, nat_le, filter}
-use Rattle.bus_wires.specs.Cable.{Parties, parties_of, at_rest, Shows, changed, after}
+use Rattle.cbm_iec.specs.Changes.{lines_changed}
+use Rattle.bus_wires.specs.Cable.{Parties, parties_of, parties_at_rest, Shows, parties_after}
 use Rattle.bus_wires.specs.declared.looks.Look.{Look}
 use Rattle.bus_wires.specs.declared.wires.Wires.{Wires}
 use Rattle.cbm_iec.specs.declared.event.Event.{Event}
-use Rattle.cbm_iec.specs.declared.line.Change.{Change}
+use Rattle.cbm_iec.specs.declared.lines.Change.{Change}
 use Rattle.cbm_iec.specs.declared.lines.Lines.{Lines}
 use Rattle.cbm_iec.specs.declared.party.Party.{Party}
 
 -- the wires after these changes, one after another
 abbrev pub all_changed : List Change → Lines → Lines
 all_changed [] lines = lines
-all_changed (c ∷ cs) lines = all_changed cs (changed c lines)
+all_changed (c ∷ cs) lines = all_changed cs (lines_changed c lines)
 
 -- what the parties pull after these events, one after another
 abbrev pub all_after : List Event → Parties → Parties
 all_after [] p = p
-all_after (e ∷ es) p = all_after es (after e p)
+all_after (e ∷ es) p = all_after es (parties_after e p)
 
 -- the changes, and the events, up to a moment
 abbrev pub changes_upto : ℕ → List Change → List Change
@@ -26,16 +27,16 @@ abbrev pub events_upto : ℕ → List Event → List Event
 events_upto m es = filter (λ e. nat_le e.change.moment m) es
 
 -- all wires are free
-abbrev pub all_free : Lines
-all_free = record { atn_low = false; clock_low = false; data_low = false }
+abbrev pub no_line_low : Lines
+no_line_low = record { atn_low = false; clock_low = false; data_low = false }
 
 -- the wires at a moment, by the changes that were read: all are free before the first
 abbrev pub read_at : ℕ → List Change → Lines
-read_at m cs = all_changed (changes_upto m cs) all_free
+read_at m cs = all_changed (changes_upto m cs) no_line_low
 
 -- what the parties pull at a moment, by their events: nothing before the first
 abbrev pub pulled_at : ℕ → List Party → List Event → Parties
-pulled_at m bs es = all_after (events_upto m es) (at_rest bs)
+pulled_at m bs es = all_after (events_upto m es) (parties_at_rest bs)
 
 -- THE EVENTS HAVE EXACTLY THE WIRES THAT WERE READ: at each moment a line is pulled by some party where its wire is pulled, and by none where it is free.
 abbrev pub HaveWires : List Party → List Event → List Change → Type 0
@@ -57,15 +58,15 @@ AllUpto m [] = Unit {0}
 AllUpto m (e ∷ es) = (e.change.moment ≤ m) × AllUpto m es
 
 -- these changes were read and these events given: what the parties pull, the present moment with its wires, and what is ahead
-pub record StandsAt (bs : List Party) (p : Parties) (moment : ℕ) (wires : Lines) (looks : List Look) (cs : List Change) (es : List Event) : Type 0 where
-  pub parties : p ≡ all_after es (at_rest bs)
+pub record WiresStandAt (bs : List Party) (p : Parties) (moment : ℕ) (wires : Lines) (looks : List Look) (cs : List Change) (es : List Event) : Type 0 where
+  pub parties : p ≡ all_after es (parties_at_rest bs)
   pub given : AllUpto moment es
   pub before : (m : ℕ) → m < moment → Shows (pulled_at m bs es) (read_at m cs)
   pub ahead : (m : ℕ) → moment ≤ m → read_at m cs ≡ wires_at m wires looks
   pub in_turn : InTurn moment looks
 
-abbrev pub Stands : List Party → Wires → List Change → List Event → Type 0
-Stands bs w cs es = StandsAt bs (parties_of w.hands) w.moment w.wires w.ahead.items cs es
+abbrev pub WiresStand : List Party → Wires → List Change → List Event → Type 0
+WiresStand bs w cs es = WiresStandAt bs (parties_of w.hands) w.moment w.wires w.ahead.items cs es
 
 -- one more change, and one more event
 abbrev pub and_read : List Change → Change → List Change
@@ -93,13 +94,13 @@ NoneBefore m [] = Unit {0}
 NoneBefore m (k ∷ ks) = m ≤ k.moment
 
 -- nothing more of the present moment is ahead
-abbrev pub IsWhole : Wires → Type 0
-IsWhole w = FirstAfter w.moment w.ahead.items
+abbrev pub IsLookWhole : Wires → Type 0
+IsLookWhole w = FirstAfter w.moment w.ahead.items
 
 -- where that is so, the parties pull what the wires show
-abbrev pub IsSettled : Wires → Type 0
-IsSettled w = IsWhole w → Shows (parties_of w.hands) w.wires
+abbrev pub AreWiresSettled : Wires → Type 0
+AreWiresSettled w = IsLookWhole w → Shows (parties_of w.hands) w.wires
 
 -- as much is read and given as before, and the capture's end is the same
-abbrev pub IsAlike : Wires → Wires → Type 0
-IsAlike v w = (v.moment ≡ w.moment) × (v.wires ≡ w.wires) × (v.ahead.items ≡ w.ahead.items) × (v.end ≡ w.end)
+abbrev pub IsSameLook : Wires → Wires → Type 0
+IsSameLook v w = (v.moment ≡ w.moment) × (v.wires ≡ w.wires) × (v.ahead.items ≡ w.ahead.items) × (v.end ≡ w.end)

@@ -1,10 +1,10 @@
 //! Which lines each party pulls, and so the wires.
 
 ghost use Rattle.std.specs.Prelude.{◌≡◌, ◌≤◌, length, map, None, false};
-ghost use Rattle.bus_wires.specs.Cable.{low, holds, with_line, with_held, is_pull, changed, any_pulls, wire, seat_after, after, parties_of, at_rest};
+ghost use Rattle.bus_wires.specs.Cable.{low, holds, with_held, any_pulls, wire_low, seat_after, parties_after, parties_of, parties_at_rest};
 
 use arrayvec::ArrayVec;
-use cbm_iec::{Change, Event, Held, Line, Lines, Party, Way, Who};
+use cbm_iec::{Change, Event, Held, Line, Lines, Party, Who};
 
 /// No line is pulled.
 pub const FREE: Lines = Lines {
@@ -30,15 +30,6 @@ pub struct Hands {
     pub seats: Seats,
 }
 
-pub fn is_pull(way: Way) -> bool
-    ensures { result ≡ is_pull way }
-{
-    match way {
-        Way::Pull => true,
-        Way::Free => false,
-    }
-}
-
 /// Whether a line is pulled, of three.
 pub fn low(lines: Lines, line: Line) -> bool
     ensures { result ≡ low line lines }
@@ -59,41 +50,6 @@ pub fn holds(held: Held, line: Line) -> bool
         Line::Clock => held.clock_low,
         Line::Data => held.data_low,
     }
-}
-
-/// Three lines, one of which is pulled or free.
-pub fn with_line(lines: Lines, line: Line, is_low: bool) -> Lines
-    ensures { result ≡ with_line line is_low lines }
-{
-    let Lines {
-        atn_low,
-        clock_low,
-        data_low,
-    } = lines;
-    match line {
-        Line::Atn => Lines {
-            atn_low: is_low,
-            clock_low,
-            data_low,
-        },
-        Line::Clock => Lines {
-            atn_low,
-            clock_low: is_low,
-            data_low,
-        },
-        Line::Data => Lines {
-            atn_low,
-            clock_low,
-            data_low: is_low,
-        },
-    }
-}
-
-/// Three lines after a change of one of them.
-pub fn with_change(lines: Lines, change: Change) -> Lines
-    ensures { result ≡ changed change lines }
-{
-    with_line(lines, change.line, is_pull(change.way))
 }
 
 impl Default for Seat {
@@ -135,7 +91,7 @@ impl Seat {
         ensures { result ≡ seat_after device change self }
     {
         if self.device == device {
-            return self.with(change.line, is_pull(change.way));
+            return self.with(change.line, change.way.is_pull());
         }
         self
     }
@@ -164,7 +120,7 @@ fn all_after(seats: &[Seat], device: u8, change: Change) -> Seats
 
 fn all_free(parties: &[Party]) -> Seats
     requires { length parties.now ≤ 4 }
-    ensures { result.items ≡ (at_rest parties.now).drives }
+    ensures { result.items ≡ (parties_at_rest parties.now).drives }
 {
     let mut seats = Seats::new();
     for party in parties {
@@ -177,7 +133,7 @@ impl Hands {
     /// Nobody pulls a line.
     pub fn free(parties: &[Party]) -> Hands
         requires { length parties.now ≤ 4 }
-        ensures { parties_of result ≡ at_rest parties.now }
+        ensures { parties_of result ≡ parties_at_rest parties.now }
     {
         Hands {
             host: FREE,
@@ -187,7 +143,7 @@ impl Hands {
 
     /// Whether a line is pulled on the wire.
     pub fn wire(&self, line: Line) -> bool
-        ensures { result ≡ wire line (parties_of self.now) }
+        ensures { result ≡ wire_low line (parties_of self.now) }
     {
         low(self.host, line) || any_pulls(&self.seats, line)
     }
@@ -240,10 +196,10 @@ impl Hands {
 
     /// A party changes a line.
     pub fn change(&mut self, event: Event)
-        ensures { parties_of self.new ≡ after event (parties_of self.old) }
+        ensures { parties_of self.new ≡ parties_after event (parties_of self.old) }
     {
         match event.who {
-            Who::Host => self.host = with_change(self.host, event.change),
+            Who::Host => self.host = self.host.after(event.change),
             Who::Drive(device) => self.seats = all_after(&self.seats, device, event.change),
         }
     }

@@ -1,14 +1,15 @@
 //! Reads the changes of the wires, and gives the events of the parties that have exactly these wires.
 
 ghost use Rattle.std.specs.Prelude.{is_some, ◌≡◌, ◌<◌, ◌≤◌, ◌+◌, ◌-◌, ◌^◌, List, [], ◌++◌, ◌∷◌, None, true, false, length, IfSome, IfNone, OnOk, OnErr};
-ghost use Rattle.bus_wires.specs.Cable.{parties_of, after, wire, low, changed, Shows};
-ghost use Rattle.bus_wires.specs.Looks.{Stands, HaveWires, IsSettled, IsWhole, IsAlike, NoneBefore, and_read, and_given, last_look, present};
+ghost use Rattle.cbm_iec.specs.Changes.{lines_changed};
+ghost use Rattle.bus_wires.specs.Cable.{parties_of, parties_after, wire_low, low, Shows};
+ghost use Rattle.bus_wires.specs.Looks.{WiresStand, HaveWires, AreWiresSettled, IsLookWhole, IsSameLook, NoneBefore, and_read, and_given, last_look, present};
 ghost use Rattle.cbm_iec.specs.declared.event.Event.{Event as ThisEvent};
-ghost use Rattle.cbm_iec.specs.declared.line.Change.{Change as ThisChange};
+ghost use Rattle.cbm_iec.specs.declared.lines.Change.{Change as ThisChange};
 ghost use Rattle.cbm_iec.specs.declared.party.Party.{Party as ThisParty};
 
 use crate::drive::{LIMIT, Now};
-use crate::hands::{FREE, Hands, low, with_change};
+use crate::hands::{FREE, Hands, low};
 use crate::looks::{Look, Looks, says_a_byte};
 use crate::playing::{Move, Playing};
 use cbm_iec::{Change, Event, Line, Lines, Party, Way, Who};
@@ -54,7 +55,7 @@ impl Wires {
     /// The wires of a bus of these drives, in the order of ties; None where they are more than four. All lines are free, and
     /// nothing was read.
     pub fn new(parties: &[Party]) -> Option<Wires>
-        ensures { IfSome result (λ w. Stands parties.now w [] []) }
+        ensures { IfSome result (λ w. WiresStand parties.now w [] []) }
     {
         if parties.len() > 4 {
             return None;
@@ -72,8 +73,8 @@ impl Wires {
 
     /// Reads the next change of a wire. Errors, and then nothing has changed: `Full`, `Early`, `Far`, `Ended`.
     pub fn read(&mut self, change: Change) -> Result<(), Unread>
-        ensures stands { (bs : List ThisParty) → (cs : List ThisChange) → (es : List ThisEvent) → Stands bs self.old cs es
-            → OnOk result (Stands bs self.new (and_read cs change) es) }
+        ensures stands { (bs : List ThisParty) → (cs : List ThisChange) → (es : List ThisEvent) → WiresStand bs self.old cs es
+            → OnOk result (WiresStand bs self.new (and_read cs change) es) }
         ensures same { OnErr result (self.new ≡ self.old) }
     {
         if self.end.is_some() {
@@ -87,7 +88,7 @@ impl Wires {
 
     /// The trace ends at a moment: no more will be read.
     pub fn finish(&mut self, moment: u64)
-        ensures { (bs : List ThisParty) → (cs : List ThisChange) → (es : List ThisEvent) → Stands bs self.old cs es → Stands bs self.new cs es }
+        ensures { (bs : List ThisParty) → (cs : List ThisChange) → (es : List ThisEvent) → WiresStand bs self.old cs es → WiresStand bs self.new cs es }
     {
         self.end = Some(moment);
     }
@@ -95,13 +96,13 @@ impl Wires {
     /// The next event. None where more has to be read before one is known; or, where the trace has ended, where all events
     /// up to its end were given.
     pub fn next(&mut self) -> Option<Event>
-        ensures given { (bs : List ThisParty) → (cs : List ThisChange) → (es : List ThisEvent) → Stands bs self.old cs es
-            → IfSome result (λ e. Stands bs self.new cs (and_given es e)) }
-        ensures shown { (bs : List ThisParty) → (cs : List ThisChange) → (es : List ThisEvent) → Stands bs self.old cs es
-            → IfNone result (Stands bs self.new cs es) }
-        ensures exact { (bs : List ThisParty) → (cs : List ThisChange) → (es : List ThisEvent) → Stands bs self.old cs es
+        ensures given { (bs : List ThisParty) → (cs : List ThisChange) → (es : List ThisEvent) → WiresStand bs self.old cs es
+            → IfSome result (λ e. WiresStand bs self.new cs (and_given es e)) }
+        ensures shown { (bs : List ThisParty) → (cs : List ThisChange) → (es : List ThisEvent) → WiresStand bs self.old cs es
+            → IfNone result (WiresStand bs self.new cs es) }
+        ensures exact { (bs : List ThisParty) → (cs : List ThisChange) → (es : List ThisEvent) → WiresStand bs self.old cs es
             → IfNone result (self.new.ahead.items ≡ [] → HaveWires bs es cs) }
-        ensures over { (bs : List ThisParty) → (cs : List ThisChange) → (es : List ThisEvent) → Stands bs self.old cs es → is_some self.old.end ≡ true
+        ensures over { (bs : List ThisParty) → (cs : List ThisChange) → (es : List ThisEvent) → WiresStand bs self.old cs es → is_some self.old.end ≡ true
             → IfNone result (self.new.ahead.items ≡ []) }
     {
         'moments: loop {
@@ -117,7 +118,7 @@ impl Wires {
     /// Adds what a change makes of the wires to what is ahead.
     fn look(&mut self, change: Change) -> Result<(), Unread>
         ensures added { OnOk result (self.new.ahead.items ≡ self.old.ahead.items ++
-            (record { moment = change.moment; wires = changed change (last_look (present self.old) self.old.ahead.items).wires } ∷ [])) }
+            (record { moment = change.moment; wires = lines_changed change (last_look (present self.old) self.old.ahead.items).wires } ∷ [])) }
         ensures later { OnOk result ((last_look (present self.old) self.old.ahead.items).moment ≤ change.moment) }
         ensures hands { self.new.hands ≡ self.old.hands }
         ensures now { present self.new ≡ present self.old }
@@ -129,7 +130,7 @@ impl Wires {
         }
         let look = Look {
             moment: change.moment,
-            wires: with_change(last.wires, change),
+            wires: last.wires.after(change),
         };
         match self.ahead.try_push(look) {
             Ok(()) => Ok(()),
@@ -149,7 +150,7 @@ impl Wires {
 
     /// Whether more of the present moment is ahead.
     fn is_parted(&self) -> bool
-        ensures { result ≡ true → IsWhole self.now → ⊥ }
+        ensures { result ≡ true → IsLookWhole self.now → ⊥ }
     {
         match self.ahead.as_slice() {
             [look, ..] => look.moment <= self.moment,
@@ -161,10 +162,10 @@ impl Wires {
     /// ahead.
     fn event(&mut self) -> Option<Event>
         ensures moment { IfSome result (λ e. e.change.moment ≡ self.old.moment) }
-        ensures given { IfSome result (λ e. parties_of self.new.hands ≡ after e (parties_of self.old.hands)) }
-        ensures settled { IfNone result (IsSettled self.new) }
+        ensures given { IfSome result (λ e. parties_of self.new.hands ≡ parties_after e (parties_of self.old.hands)) }
+        ensures settled { IfNone result (AreWiresSettled self.new) }
         ensures kept { IfNone result (parties_of self.new.hands ≡ parties_of self.old.hands) }
-        ensures alike { IsAlike self.new self.old }
+        ensures alike { IsSameLook self.new self.old }
     {
         if self.is_parted() {
             return None;
@@ -186,7 +187,7 @@ impl Wires {
 
     /// What a party does with a line for the wire to be as it was read.
     fn amiss(&self, line: Line) -> Option<Move>
-        ensures { result ≡ None → wire line (parties_of self.now.hands) ≡ low line self.now.wires }
+        ensures { result ≡ None → wire_low line (parties_of self.now.hands) ≡ low line self.now.wires }
     {
         let (who, way) = match (self.hands.wire(line), low(self.wires, line)) {
             (false, true) => (self.playing.unseen(self.wires, line), Way::Pull),
@@ -223,7 +224,7 @@ impl Wires {
 
     /// The moment begins, with the wires that it has.
     fn begin(&mut self)
-        ensures alike { IsAlike self.new self.old }
+        ensures alike { IsSameLook self.new self.old }
         ensures hands { self.new.hands ≡ self.old.hands }
     {
         self.says = says_a_byte(self.wires, &self.ahead);
@@ -234,8 +235,8 @@ impl Wires {
     fn react(&mut self, limit: u64) -> bool
         requires { NoneBefore limit self.old.ahead.items }
         ensures end { self.new.end ≡ self.old.end }
-        ensures stands { (bs : List ThisParty) → (cs : List ThisChange) → (es : List ThisEvent) → Stands bs self.old cs es → IsSettled self.old
-            → result ≡ true → Stands bs self.new cs es }
+        ensures stands { (bs : List ThisParty) → (cs : List ThisChange) → (es : List ThisEvent) → WiresStand bs self.old cs es → AreWiresSettled self.old
+            → result ≡ true → WiresStand bs self.new cs es }
         ensures less { result ≡ true → (2 ^ 50 - self.new.moment) + length self.new.ahead.items < (2 ^ 50 - self.old.moment) + length self.old.ahead.items }
         ensures same { result ≡ false → self.new ≡ self.old }
     {
@@ -250,9 +251,9 @@ impl Wires {
     /// Goes on to the first moment that is ahead.
     fn take(&mut self) -> bool
         ensures end { self.new.end ≡ self.old.end }
-        ensures left { (bs : List ThisParty) → (cs : List ThisChange) → (es : List ThisEvent) → Stands bs self.old cs es → result ≡ false → self.old.ahead.items ≡ [] }
-        ensures stands { (bs : List ThisParty) → (cs : List ThisChange) → (es : List ThisEvent) → Stands bs self.old cs es → IsSettled self.old
-            → result ≡ true → Stands bs self.new cs es }
+        ensures left { (bs : List ThisParty) → (cs : List ThisChange) → (es : List ThisEvent) → WiresStand bs self.old cs es → result ≡ false → self.old.ahead.items ≡ [] }
+        ensures stands { (bs : List ThisParty) → (cs : List ThisChange) → (es : List ThisEvent) → WiresStand bs self.old cs es → AreWiresSettled self.old
+            → result ≡ true → WiresStand bs self.new cs es }
         ensures less { result ≡ true → (2 ^ 50 - self.new.moment) + length self.new.ahead.items < (2 ^ 50 - self.old.moment) + length self.old.ahead.items }
         ensures same { result ≡ false → self.new ≡ self.old }
     {
@@ -274,10 +275,10 @@ impl Wires {
     /// ended; then nothing has changed.
     fn turn(&mut self) -> bool
         ensures end { self.new.end ≡ self.old.end }
-        ensures left { (bs : List ThisParty) → (cs : List ThisChange) → (es : List ThisEvent) → Stands bs self.old cs es → is_some self.old.end ≡ true
+        ensures left { (bs : List ThisParty) → (cs : List ThisChange) → (es : List ThisEvent) → WiresStand bs self.old cs es → is_some self.old.end ≡ true
             → result ≡ false → self.old.ahead.items ≡ [] }
-        ensures stands { (bs : List ThisParty) → (cs : List ThisChange) → (es : List ThisEvent) → Stands bs self.old cs es → IsSettled self.old
-            → result ≡ true → Stands bs self.new cs es }
+        ensures stands { (bs : List ThisParty) → (cs : List ThisChange) → (es : List ThisEvent) → WiresStand bs self.old cs es → AreWiresSettled self.old
+            → result ≡ true → WiresStand bs self.new cs es }
         ensures less { result ≡ true → (2 ^ 50 - self.new.moment) + length self.new.ahead.items < (2 ^ 50 - self.old.moment) + length self.old.ahead.items }
         ensures same { result ≡ false → self.new ≡ self.old }
     {

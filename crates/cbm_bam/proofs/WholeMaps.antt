@@ -5,8 +5,8 @@ use Rattle.std.specs.Int.{bit_at}
 use Rattle.std.proofs.lemmas.Bool.{cases_eq, cases_lt, lt-ltb, le-ltb, eq-eqb, ne_eqb}
 use Rattle.std.proofs.lemmas.Nat.Bits.{bit_at-zero}
 use Rattle.cbm_medium.specs.Place.{Place, Has, sectors_on}
-use Rattle.cbm_bam.specs.Map.{count_index, is_free_in, count_in, at, with_bit, IsOutside, IsGiven}
-use Rattle.cbm_bam.specs.WrittenAnew.{is_before, IsAnew}
+use Rattle.cbm_bam.specs.Map.{count_index, is_free_in, count_in, at, with_bit, IsOutsideMap, IsGiven}
+use Rattle.cbm_bam.specs.WrittenAnew.{is_place_before, IsAnew}
 use Rattle.cbm_medium.proofs.Places.{place_decide}
 use Rattle.cbm_bam.proofs.Counts.{tally_none, bit_there, bit_elsewhere}
 use Rattle.cbm_bam.proofs.Bits.{index_low, index_high, few_sectors}
@@ -56,7 +56,7 @@ pub step_used : (tracks : ℕ) (old new : List ℕ) (used : Place → Bool) (t s
 step_used tracks old new used t s u h = record {
   length = h.length;
   bits = λ p k. h.bits p k ∙ elim (place_decide (at t s) p) [
-    | inl e ↦ subst (λ (x : Place). (is_before t s x && not (used x)) ≡ (is_before t (s + 1) x && not (used x))) e (rw (not_before t s, before_here t s, u) refl)
+    | inl e ↦ subst (λ (x : Place). (is_place_before t s x && not (used x)) ≡ (is_place_before t (s + 1) x && not (used x))) e (rw (not_before t s, before_here t s, u) refl)
     | inr ne ↦ ap (λ (b : Bool). b && not (used p)) (sym (before_same t s p.track p.sector (apart_from t s p ne)))
   ];
   counted = h.counted;
@@ -69,7 +69,7 @@ pub step_free : (tracks : ℕ) (old mid new : List ℕ) (used : Place → Bool) 
 step_free tracks old mid new used t s u g h = record {
   length = g.mapped.length ∙ h.length;
   bits = λ p k. g.mapped.bits p k ∙ elim (place_decide (at t s) p) [
-    | inl e ↦ subst (λ (x : Place). with_bit (is_free_in mid) (at t s) true x ≡ (is_before t (s + 1) x && not (used x))) e
+    | inl e ↦ subst (λ (x : Place). with_bit (is_free_in mid) (at t s) true x ≡ (is_place_before t (s + 1) x && not (used x))) e
         (bit_there (is_free_in mid) (at t s) true ∙ sym (rw (before_here t s, u) refl))
     | inr ne ↦ bit_elsewhere (is_free_in mid) (at t s) p true ne ∙ h.bits p k ∙ ap (λ (b : Bool). b && not (used p)) (sym (before_same t s p.track p.sector (apart_from t s p ne)))
   ];
@@ -108,7 +108,7 @@ none_counted tracks map t z a b =
     let i : count_index t ≡ count_index t + 0 = omega arith in
     ap (λ (k : ℕ). get_or map k 0) i ∙ z t 0 a b (omega arith)
 
-begun : (tracks : ℕ) (old new : List ℕ) (used : Place → Bool) → length new ≡ 256 → IsZeroMap tracks new → ((i : ℕ) → IsOutside tracks i → slice_index new i ≡ slice_index old i) → IsAnew tracks old new used 1 0
+begun : (tracks : ℕ) (old new : List ℕ) (used : Place → Bool) → length new ≡ 256 → IsZeroMap tracks new → ((i : ℕ) → IsOutsideMap tracks i → slice_index new i ≡ slice_index old i) → IsAnew tracks old new used 1 0
 begun tracks old new used l z o = record {
   length = l;
   bits = λ p k. free_nowhere tracks new p z k.0 k.1 (omega (arith, few_sectors p.track, k.2)) ∙ sym (ap (λ (b : Bool). b && not (used p)) (none_before p.track p.sector k.0));
@@ -145,5 +145,5 @@ begun_40 tracks old mid new used either most l z r z' r' = begun tracks old new 
 
 pub all_free : (tracks : ℕ) (old new : List ℕ) (used : Place → Bool) (t : ℕ) → tracks < t → IsAnew tracks old new used t 0 → (p : Place) → Has tracks p → is_free_in new p ≡ not (used p)
 all_free tracks old new used t l h p k =
-    let before : is_before t 0 p ≡ true = rw (lt-ltb p.track t (omega (arith, k.1))) refl in
+    let before : is_place_before t 0 p ≡ true = rw (lt-ltb p.track t (omega (arith, k.1))) refl in
     h.bits p k ∙ ap (λ (b : Bool). b && not (used p)) before

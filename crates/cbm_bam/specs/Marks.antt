@@ -8,8 +8,8 @@ unfoldable pub is_marked : List ℕ → Place → Bool
 is_marked rows p = bit_at (slice_index rows p.track) p.sector == 1
 
 -- the rows with one sector more
-unfoldable pub with_mark : List ℕ → Place → List ℕ
-with_mark rows p = slice_set rows p.track (bit_or (slice_index rows p.track) (1 * 2 ^ p.sector % 2 ^ 32))
+unfoldable pub with_row_mark : List ℕ → Place → List ℕ
+with_row_mark rows p = slice_set rows p.track (bit_or (slice_index rows p.track) (1 * 2 ^ p.sector % 2 ^ 32))
 
 -- no sector
 abbrev pub nothing : Place → Bool

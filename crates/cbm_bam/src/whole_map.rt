@@ -2,7 +2,7 @@
 
 ghost use Rattle.std.specs.Prelude.{◌≡◌, ℕ, List, Bool, false, not, ◌+◌, ◌<◌, ◌≤◌, ◌⊎◌, length, slice_index};
 ghost use Rattle.cbm_medium.specs.Place.{Place, Has};
-ghost use Rattle.cbm_bam.specs.Map.{is_free_in, IsCounted, IsOutside, IsSpare};
+ghost use Rattle.cbm_bam.specs.Map.{is_free_in, IsCounted, IsOutsideMap, IsSpare};
 ghost use Rattle.cbm_bam.specs.Marks.{is_marked};
 ghost use Rattle.cbm_bam.specs.WrittenAnew.{IsAnew};
 
@@ -54,7 +54,7 @@ fn free_unused(map: &mut [u8; 256], track: u8, used: &SectorSet)
 pub fn anew(map: &[u8; 256], geometry: Geometry, used: &SectorSet) -> [u8; 256]
     ensures free { (p : Place) → Has geometry p → is_free_in result p ≡ not (is_marked used.now p) }
     ensures counted { IsCounted geometry result }
-    ensures outside { (i : ℕ) → IsOutside geometry i → slice_index result i ≡ slice_index map.now i }
+    ensures outside { (i : ℕ) → IsOutsideMap geometry i → slice_index result i ≡ slice_index map.now i }
     ensures spare { (p : Place) → IsSpare geometry p → is_free_in result p ≡ false }
     ensures length { length result ≡ 256 }
 {

@@ -13,7 +13,7 @@ use Rattle.cbm_session.specs.Playing.{Station}
 use Rattle.cbm_session.specs.Sessions.{Unlike, AllUnlike}
 use Rattle.cbm_drive.specs.Cables.{Cabled, all_free}
 use Rattle.cbm_drive.specs.Desks.{Desk, DeskStands}
-use Rattle.cbm_drive.specs.Seats.{Seated, AreResting, IsSeat, held_by}
+use Rattle.cbm_drive.specs.Seats.{Seated, AreResting, IsSeat, wires_held_by}
 use Rattle.cbm_iec.specs.declared.lines.Lines.{Lines}
 use Rattle.cbm_bus.proofs.Rests.{rests}
 use Rattle.cbm_bus.specs.Headline.{AreAt, machines_now}
@@ -36,7 +36,7 @@ finds ms (s ∷ ss) u =
     (ap (λ (b : Bool). if b then s.machine else machines_now ss ms s.port.party.device) (eq-eqb s.port.party.device s.port.party.device refl), finds_behind ms s ss ss u.0 (finds ms ss u.1))
 
 module _ {M : Type 0} (seen : M → Seen) where
-  powered_now : (f : ℕ → Desk Machine) (h : Lines) (all : List (Seated (Desk (Kept M)))) (xs : List (Seated (Desk (Kept M)))) (ss : List (Station (Desk Machine))) → AllZip (IsSeat (Desk (Kept M)) (Desk Machine) (DeskStands seen) (held_by h all)) xs ss → AreResting xs → Finds f ss
+  powered_now : (f : ℕ → Desk Machine) (h : Lines) (all : List (Seated (Desk (Kept M)))) (xs : List (Seated (Desk (Kept M)))) (ss : List (Station (Desk Machine))) → AllZip (IsSeat (Desk (Kept M)) (Desk Machine) (DeskStands seen) (wires_held_by h all)) xs ss → AreResting xs → Finds f ss
       → ArePowered seen (map (λ s. s.port.party) ss) f xs
   powered_now f held all [] [] h r l = tt
   powered_now f held all [] (s ∷ ss) h r l = absurd h

@@ -3,9 +3,9 @@ use Rattle.std.proofs.Common.{◌≡◌, ℕ, ◌+◌, Bool, false, List, [], �
 use Rattle.std.specs.List.{AllZip}
 use Rattle.std.specs.Prelude.{Result, Ok, Err, OnOk, MatchResult, map}
 use Rattle.cbm_iec.specs.Ports.{port_due}
-use Rattle.cbm_iec.specs.declared.act.Act.TheVariants.{Said}
+use Rattle.cbm_iec.specs.declared.machine.Act.TheVariants.{Said}
 use Rattle.cbm_iec.specs.declared.event.Event.{Event}
-use Rattle.cbm_iec.specs.declared.line.Change.{Change}
+use Rattle.cbm_iec.specs.declared.lines.Change.{Change}
 use Rattle.cbm_iec.specs.declared.lines.Lines.{Lines}
 use Rattle.cbm_iec.specs.declared.party.Party.{Party}
 use Rattle.cbm_medium.specs.Seen.{Seen}
@@ -22,13 +22,13 @@ use Rattle.cbm_session.specs.Sessions.{IsBus}
 use Rattle.cbm_drive.proofs.Reacted.{stations_in_time}
 use Rattle.cbm_drive.specs.declared.fault.PlayFault.{PlayFault}
 use Rattle.cbm_drive.specs.Played.{HasPlayed, IsPlayCut}
-use Rattle.cbm_drive.specs.Seats.{Seated, AreInTime, IsBusAt, IsSeat, held_by}
+use Rattle.cbm_drive.specs.Seats.{Seated, AreInTime, IsBusAt, IsSeat, wires_held_by}
 use Rattle.cbm_bus.proofs.Parties.{plays_parties, rest_parties}
 use Rattle.cbm_bus.specs.Headline.{HasDisk, AreDisks, HasPlayedFiles, HasPlayedFilesLoosely}
 
 module _ {M : Type 0} (seen : M → Seen) where
   -- each medium means its machine's disk
-  media : (h : Lines) (all : List (Seated (Desk (Kept M)))) (xs : List (Seated (Desk (Kept M)))) (ss : List (Station (Desk Machine))) → AllZip (IsSeat (Desk (Kept M)) (Desk Machine) (DeskStands seen) (held_by h all)) xs ss
+  media : (h : Lines) (all : List (Seated (Desk (Kept M)))) (xs : List (Seated (Desk (Kept M)))) (ss : List (Station (Desk Machine))) → AllZip (IsSeat (Desk (Kept M)) (Desk Machine) (DeskStands seen) (wires_held_by h all)) xs ss
       → AllZip (λ x s. HasDisk seen s.machine.dos.disk x) xs ss
   media l all [] [] h = tt
   media l all [] (s ∷ ss) h = absurd h
@@ -89,7 +89,7 @@ module _ {M : Type 0} (seen : M → Seen) where
   }
     where
       quiet_now : AllLater (Desk Machine) desk_step desk_says end p.stations
-      quiet_now = later end p.stations (stations_in_time (Desk (Kept M)) (Desk Machine) (DeskStands seen) desk_step desk_says (held_by b.host b.drives) (end + 1) b.drives p.stations p.now quiet)
+      quiet_now = later end p.stations (stations_in_time (Desk (Kept M)) (Desk Machine) (DeskStands seen) desk_step desk_says (wires_held_by b.host b.drives) (end + 1) b.drives p.stations p.now quiet)
 
   pub loose : {A E : Type 0} (r : Result A E) → ((m : Desk Machine) (n : ℕ) → desk_says m ≡ Some (n, false) → (x : ℕ × Bool) × (desk_says (desk_step m (Said n false)) ≡ Some x)) → (bs : List Party) (ms : ℕ → Desk Machine) (end : ℕ) (cs : List Change) (b : Cabled (Desk (Kept M))) (old new : List Event)
       → IsBus bs → OnOk r (AreInTime (end + 1) b.drives)

@@ -1,7 +1,7 @@
 -- What drives do on the wires leaves each of them its device number, its reaction and its pace.
 use Rattle.std.proofs.Common.{◌≡◌, ℕ, Bool, List, [], ◌∷◌, ◌++◌, map, Option, ap, sym, ◌∙◌, refl}
 use Rattle.std.proofs.lemmas.List.{map-append}
-use Rattle.cbm_iec.specs.declared.act.Act.{Act}
+use Rattle.cbm_iec.specs.declared.machine.Act.{Act}
 use Rattle.cbm_iec.specs.declared.event.Event.{Event}
 use Rattle.cbm_iec.specs.declared.party.Party.{Party}
 use Rattle.cbm_session.proofs.handed.Handing.{parties, party_map, party_heard}

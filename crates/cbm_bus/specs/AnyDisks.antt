@@ -13,21 +13,21 @@ use Rattle.cbm_bus.specs.declared.any_disk.AnyDisk.{AnyDisk}
 use Rattle.cbm_bus.specs.declared.any_disk.AnyDisk.TheVariants.{D64, G64}
 
 -- what a disk shows, by its format
-abbrev pub seen_of : AnyDisk → Seen
-seen_of (D64 d) = d64.seen_of d
-seen_of (G64 d) = g64.seen_of d
+abbrev pub any_seen : AnyDisk → Seen
+any_seen (D64 d) = d64.d64_seen d
+any_seen (G64 d) = g64.g64_seen d
 
 -- a sector that doesn't read has the code of a fault, in either format
-pub has_codes : (m : AnyDisk) (p : Place) → HasFaultCode ((seen_of m).content p)
-has_codes (D64 d) p = d64_faults.has_codes d.bytes p
-has_codes (G64 d) p = g64_faults.has_codes d.tracks p
+pub any_has_codes : (m : AnyDisk) (p : Place) → HasFaultCode ((any_seen m).content p)
+any_has_codes (D64 d) p = d64_faults.d64_has_codes d.bytes p
+any_has_codes (G64 d) p = g64_faults.g64_has_codes d.tracks p
 
 -- on a disk of forty tracks the headers beyond track 35 have no fault
-pub outer_good : (m : AnyDisk) (p : Place) → (seen_of m).tracks ≡ 40 → 35 < p.track → header_fault ((seen_of m).content p) ≡ None
-outer_good (D64 d) p = d64_outer.outer_good d.bytes p
-outer_good (G64 d) p = g64_outer.no_outer 35 refl (g64.content_of d.tracks) p
+pub outer_good : (m : AnyDisk) (p : Place) → (any_seen m).tracks ≡ 40 → 35 < p.track → header_fault ((any_seen m).content p) ≡ None
+outer_good (D64 d) p = d64_outer.d64_outer_good d.bytes p
+outer_good (G64 d) p = g64_outer.no_outer 35 refl (g64.g64_content d.tracks) p
 
 -- a disk in memory never fails by itself
-pub is_steady : (m : AnyDisk) → (seen_of m).failures ≡ 0
+pub is_steady : (m : AnyDisk) → (any_seen m).failures ≡ 0
 is_steady (D64 d) = refl
 is_steady (G64 d) = refl

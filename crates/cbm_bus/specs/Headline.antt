@@ -2,7 +2,7 @@
 use Rattle.std.specs.Prelude.{ℕ, Result, OnOk, ◌≡◌, ◌≤◌, ◌==◌, List, [], ◌∷◌, ◌++◌, map, if◌then◌else◌}
 use Rattle.std.specs.List.{AllZip}
 use Rattle.cbm_iec.specs.declared.event.Event.{Event}
-use Rattle.cbm_iec.specs.declared.line.Change.{Change}
+use Rattle.cbm_iec.specs.declared.lines.Change.{Change}
 use Rattle.cbm_iec.specs.declared.party.Party.{Party}
 use Rattle.cbm_medium.specs.Seen.{Seen}
 use Rattle.cbm_channel.specs.Files.{Disk}

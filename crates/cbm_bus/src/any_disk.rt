@@ -1,5 +1,5 @@
 //! A disk of either format, so that both may stand on one bus.
-ghost use Rattle.cbm_bus.specs.AnyDisks.{seen_of, has_codes, outer_good, is_steady};
+ghost use Rattle.cbm_bus.specs.AnyDisks.{any_seen, any_has_codes, outer_good, is_steady};
 
 use cbm_d64::D64Disk;
 use cbm_g64::G64Disk;
@@ -15,11 +15,11 @@ pub enum AnyDisk {
 }
 
 impl Medium for AnyDisk {
-    ghost use Rattle.cbm_bus.specs.AnyDisks.{seen_of, has_codes, outer_good};
+    ghost use Rattle.cbm_bus.specs.AnyDisks.{any_seen, any_has_codes, outer_good};
 
-    ghost seen = { seen_of };
+    ghost seen = { any_seen };
 
-    ghost codes = { has_codes };
+    ghost codes = { any_has_codes };
 
     ghost outer_headers = { outer_good };
 

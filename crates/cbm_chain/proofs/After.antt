@@ -12,7 +12,7 @@ use Rattle.cbm_medium.proofs.Walks.{follow_end}
 use Rattle.cbm_chain.specs.Data.{data_end, data_of, chain_bytes}
 use Rattle.cbm_chain.proofs.Filling.{zeros_at}
 use Rattle.cbm_chain.proofs.Parts.{part_chain_bytes}
-use Rattle.cbm_chain.specs.Writing.{State, StandsAfter, taken_up, first_or, first_of, end_of, last_of, data_at, one_more, Part, part_bytes, Wrote}
+use Rattle.cbm_chain.specs.Writing.{State, StandsAfter, taken_up, place_or, first_block_of, last_block_of, last_of, block_data_at, one_more, Part, part_bytes, Wrote}
 
 -- what follows, with these blocks before it
 abbrev pub behind_these : List Place → Followed → Followed
@@ -27,7 +27,7 @@ none_before tracks c s e = record {
   waiting = ap (λ (x : State). x.waiting) e;
 }
 
-first_more : (before : List Place) (p : Place) → first_or (first_of before) p ≡ first_of (before ++ p ∷ [])
+first_more : (before : List Place) (p : Place) → place_or (first_block_of before) p ≡ first_block_of (before ++ p ∷ [])
 first_more [] p = refl
 first_more (b ∷ rest) p = refl
 
@@ -35,7 +35,7 @@ last_more : (a : Place) (rest : List Place) (p : Place) → last_of a (rest ++ p
 last_more a [] p = refl
 last_more a (b ∷ rest) p = last_more b rest p
 
-end_more : (before : List Place) (p : Place) → end_of (before ++ p ∷ []) ≡ Some p
+end_more : (before : List Place) (p : Place) → last_block_of (before ++ p ∷ []) ≡ Some p
 end_more [] p = refl
 end_more (b ∷ rest) p = ap (λ (q : Place). Some q) (last_more b rest p)
 
@@ -43,10 +43,10 @@ end_more (b ∷ rest) p = ap (λ (q : Place). Some q) (last_more b rest p)
 pub one_taken : (tracks : ℕ) (c : Content) (before : List Place) (p : Place) (old new : State) → StandsAfter tracks c before old → new ≡ taken_up p (data_of (bytes_at c p)) old → StandsAfter tracks c (before ++ p ∷ []) new
 one_taken tracks c before p old new s e = record {
   same_tracks = ap (λ (x : State). x.tracks) e ∙ s.same_tracks;
-  first = ap (λ (x : State). x.first) e ∙ ap (λ (o : Option Place). first_or o p) s.first ∙ first_more before p;
+  first = ap (λ (x : State). x.first) e ∙ ap (λ (o : Option Place). place_or o p) s.first ∙ first_more before p;
   current = ap (λ (x : State). x.current) e ∙ sym (end_more before p);
   count = ap (λ (x : State). x.count) e ∙ ap one_more s.count ∙ more;
-  waiting = ap (λ (x : State). x.waiting) e ∙ ap (data_at c) (sym (end_more before p));
+  waiting = ap (λ (x : State). x.waiting) e ∙ ap (block_data_at c) (sym (end_more before p));
 }
   where
     more : one_more (min (length before) 65535) ≡ min (length (before ++ p ∷ [])) 65535
@@ -81,7 +81,7 @@ alone_zeros block zs end n l few z i h =
 -- ---- what it has written
 
 -- a block has at most 254 bytes of data
-data_fits : (c : Content) (o : Option Place) → ((p : Place) → IsWhole (c p)) → length (data_at c o) ≤ 254
+data_fits : (c : Content) (o : Option Place) → ((p : Place) → IsWhole (c p)) → length (block_data_at c o) ≤ 254
 data_fits c None whole = omega arith
 data_fits c (Some p) whole = by_cell (c p) (whole p)
   where
@@ -97,10 +97,10 @@ chain_wrote tracks c xs s whole part after = record {
   current = after.current;
   count = after.count;
   all = all xs part ∙ ap (λ (x : List ℕ). part_bytes c xs ++ x) (sym after.waiting);
-  fits = subst (λ (x : List ℕ). length x ≤ 254) (sym after.waiting) (data_fits c (end_of xs) whole);
-  none = λ e. after.waiting ∙ ap (data_at c) (sym after.current ∙ e);
+  fits = subst (λ (x : List ℕ). length x ≤ 254) (sym after.waiting) (data_fits c (last_block_of xs) whole);
+  none = λ e. after.waiting ∙ ap (block_data_at c) (sym after.current ∙ e);
 }
   where
-    all : (ys : List Place) → Part tracks c ys → chain_bytes c ys ≡ part_bytes c ys ++ data_at c (end_of ys)
+    all : (ys : List Place) → Part tracks c ys → chain_bytes c ys ≡ part_bytes c ys ++ block_data_at c (last_block_of ys)
     all [] h = refl
     all (b ∷ rest) h = part_chain_bytes tracks c b rest h

@@ -5,7 +5,7 @@ use Rattle.cbm_medium.specs.Content.{Cell, Content, written}
 use Rattle.cbm_medium.specs.Links.{bytes_at, link, or_nothing, Chain}
 use Rattle.cbm_medium.proofs.Places.{written_there, written_elsewhere}
 use Rattle.cbm_chain.specs.Data.{data_of, chain_bytes}
-use Rattle.cbm_chain.specs.Writing.{State, Part, part_bytes, end_of, last_of, place_or_none, Wrote, Ends, IsChainOf}
+use Rattle.cbm_chain.specs.Writing.{State, Part, part_bytes, last_block_of, last_of, place_or_none, Wrote, EndsChain, IsChainOf}
 use Rattle.cbm_chain.proofs.Parts.{part_last, part_chain, part_chain_bytes}
 
 -- the blocks of a writer whose last one is written
@@ -21,10 +21,10 @@ pub record EndsAt (tracks : ℕ) (c c' : Content) (b : Place) (rest : List Place
   pub written : c' ≡ written c (last_of b rest) sector
   pub ended : IsEnded tracks c' b rest bytes
 
-pub ends_at : (c c' : Content) (s : State) (b : Place) (rest : List Place) (bytes : List ℕ) → Wrote c s (b ∷ rest) bytes → Ends c c' s.current s.waiting → EndsAt s.tracks c c' b rest bytes
+pub ends_at : (c c' : Content) (s : State) (b : Place) (rest : List Place) (bytes : List ℕ) → Wrote c s (b ∷ rest) bytes → EndsChain c c' s.current s.waiting → EndsAt s.tracks c c' b rest bytes
 ends_at c c' s b rest bytes h e = by_current s.current h.current e
   where
-    by_current : (x : Option Place) → x ≡ end_of (b ∷ rest) → Ends c c' x s.waiting → EndsAt s.tracks c c' b rest bytes
+    by_current : (x : Option Place) → x ≡ last_block_of (b ∷ rest) → EndsChain c c' x s.waiting → EndsAt s.tracks c c' b rest bytes
     by_current None z e = absurd (cc)
     by_current (Some p) z e =
         let sector : List ℕ = e.0 in
@@ -46,7 +46,7 @@ ends_at c c' s b rest bytes h e = by_current s.current h.current e
           };
         }
 
-pub chain_ended : (c c' : Content) (s : State) (blocks : List Place) (bytes : List ℕ) → Wrote c s blocks bytes → Ends c c' s.current s.waiting → IsChainOf s.tracks c' (place_or_none s.first) blocks bytes
+pub chain_ended : (c c' : Content) (s : State) (blocks : List Place) (bytes : List ℕ) → Wrote c s blocks bytes → EndsChain c c' s.current s.waiting → IsChainOf s.tracks c' (place_or_none s.first) blocks bytes
 chain_ended c c' s [] bytes h e = record {
   chain = ap (λ (o : Option Place). (place_or_none o).track) h.first;
   holds = sym (h.all ∙ h.none h.current);

@@ -4,7 +4,7 @@ use Rattle.std.specs.Prelude.{◌≤◌, Result, OnOk, SomeIff}
 use Rattle.cbm_medium.specs.Place.{Place, Has, has, directory_head}
 use Rattle.cbm_medium.specs.Content.{Cell, Content, written}
 use Rattle.cbm_medium.specs.declared.fault.Trouble.{Trouble}
-use Rattle.cbm_medium.specs.Links.{Followed, ended, cut_at, with_block, behind, link, or_nothing}
+use Rattle.cbm_medium.specs.Links.{Followed, ended, cut_at, with_block, followed_after, link, or_nothing}
 use Rattle.cbm_medium.specs.Met.{IsMet}
 use Rattle.cbm_medium.proofs.Walks.{has_true, true_has, bool_cases}
 use Rattle.cbm_bam.specs.Map.{IsGiven, Frees}
@@ -22,15 +22,15 @@ unfolding linked_blocks
 linked_off tracks c zero p h = rw h refl
 linked_off tracks c (suc n) p h = rw h refl
 
-linked_on : (tracks : ℕ) (c : Content) (n : ℕ) (p : Place) → Has tracks p → linked_blocks tracks c (suc n) p ≡ behind p (c p) (λ q. linked_blocks tracks c n q)
+linked_on : (tracks : ℕ) (c : Content) (n : ℕ) (p : Place) → Has tracks p → linked_blocks tracks c (suc n) p ≡ followed_after p (c p) (λ q. linked_blocks tracks c n q)
 unfolding linked_blocks
 linked_on tracks c n p h = rw (has_true tracks p h) refl
 
 pub linked_next : (tracks : ℕ) (c : Content) (n : ℕ) (p : Place) (bytes : List ℕ) → Has tracks p → c p ≡ Ok bytes → linked_blocks tracks c (suc n) p ≡ with_block p (linked_blocks tracks c n (link bytes))
-linked_next tracks c n p bytes h e = linked_on tracks c n p h ∙ ap (λ (cell : Cell). behind p cell (λ q. linked_blocks tracks c n q)) e
+linked_next tracks c n p bytes h e = linked_on tracks c n p h ∙ ap (λ (cell : Cell). followed_after p cell (λ q. linked_blocks tracks c n q)) e
 
 pub linked_fault : (tracks : ℕ) (c : Content) (n : ℕ) (p : Place) (code : ℕ) → Has tracks p → c p ≡ Err code → linked_blocks tracks c (suc n) p ≡ cut_at code p
-linked_fault tracks c n p code h e = linked_on tracks c n p h ∙ ap (λ (cell : Cell). behind p cell (λ q. linked_blocks tracks c n q)) e
+linked_fault tracks c n p code h e = linked_on tracks c n p h ∙ ap (λ (cell : Cell). followed_after p cell (λ q. linked_blocks tracks c n q)) e
 
 -- a link that names a sector of the disk
 pub named : (o : Option Place) (P : Type 0) (v x : Place) → SomeIff o P v → o ≡ Some x → P

@@ -8,7 +8,7 @@ use Rattle.cbm_medium.specs.Links.{bytes_at, link, or_nothing, IsApart}
 use Rattle.cbm_medium.proofs.Places.{written_there, written_elsewhere, place_is_itself}
 use Rattle.cbm_bam.specs.Map.{map_of, is_free_in, with_bit, Claims}
 use Rattle.cbm_chain.specs.Data.{data_of}
-use Rattle.cbm_chain.specs.Writing.{State, Part, part_bytes, last_of, Wrote, Fills, GoesOn, Puts, with_byte, begun_at, gone_on, AreTaken, PutsAll, HasPut}
+use Rattle.cbm_chain.specs.Writing.{State, Part, part_bytes, last_of, Wrote, Fills, GoesOnWriting, Puts, with_byte, begun_at, gone_on, AreTaken, PutsAll, HasPut}
 use Rattle.cbm_chain.proofs.Filling.{claim_leaves}
 use Rattle.cbm_chain.proofs.Parts.{AreKept, part_kept, part_bytes_kept, last_push, last_off, part_push, part_push_bytes}
 
@@ -143,7 +143,7 @@ one_put c c' s s' blocks bytes byte h t (inl stays) =
     (none_more 1 c (with_byte byte s) blocks (bytes ++ byte ∷ []) (wrote_more c s blocks bytes byte h stays.2 stays.3) t))
 one_put c c' s s' blocks bytes byte h t (inr goes) = subst (λ (x : State). HasPut 1 c' x blocks (bytes ++ byte ∷ [])) (sym goes.2) (by_current s.current refl goes.1)
   where
-    by_current : (x : Option Place) → s.current ≡ x → GoesOn c c' x s goes.0 → HasPut 1 c' (with_byte byte goes.0) blocks (bytes ++ byte ∷ [])
+    by_current : (x : Option Place) → s.current ≡ x → GoesOnWriting c c' x s goes.0 → HasPut 1 c' (with_byte byte goes.0) blocks (bytes ++ byte ∷ [])
     by_current None z g = subst (λ (x : State). HasPut 1 c' (with_byte byte x) blocks (bytes ++ byte ∷ [])) (sym g.2) (in_first c c' s blocks bytes byte g.0 h z g.1)
     by_current (Some p) z g = subst (λ (x : State). HasPut 1 c' (with_byte byte x) blocks (bytes ++ byte ∷ [])) (sym g.2) (in_next c c' s blocks bytes byte p g.0 h t z g.1)
 

@@ -8,19 +8,19 @@ use Rattle.cbm_medium.specs.Content.{Content}
 use Rattle.cbm_medium.specs.Links.{Followed}
 use Rattle.cbm_medium.proofs.Walks.{follow_end}
 use Rattle.cbm_chain.specs.Data.{chain_bytes}
-use Rattle.cbm_chain.specs.Reading.{Rest, held_from, with_front, one_less}
-use Rattle.cbm_file.specs.Waiting.{shown}
+use Rattle.cbm_chain.specs.Reading.{RestOfFile, held_from, with_front, one_less}
+use Rattle.cbm_file.specs.Waiting.{next_shown}
 
 range_empty : (xs : List ℕ) (from to : ℕ) → to ≤ from → slice_range xs from to ≡ []
 range_empty xs from to h = let none : to - from ≡ 0 = omega arith in ap (λ (k : ℕ). take k (drop from xs)) none
 
-followed : (byte : ℕ) (xs : List ℕ) → 0 < length xs → shown (byte ∷ xs) ≡ Some (byte, false)
+followed : (byte : ℕ) (xs : List ℕ) → 0 < length xs → next_shown (byte ∷ xs) ≡ Some (byte, false)
 followed byte [] h = absurd (omega arith)
 followed byte (x ∷ xs) h = refl
 
-pub shown_next : (byte : ℕ) (xs : List ℕ) (from to : ℕ) → from ≤ to → to ≤ length xs → shown (byte ∷ slice_range xs from to) ≡ Some (byte, from == to)
+pub shown_next : (byte : ℕ) (xs : List ℕ) (from to : ℕ) → from ≤ to → to ≤ length xs → next_shown (byte ∷ slice_range xs from to) ≡ Some (byte, from == to)
 shown_next byte xs from to h k = elim (cases_eq from to) [
-  | inl e ↦ ap (λ ys. shown (byte ∷ ys)) (range_empty xs from to (omega arith)) ∙ (λ i. Some (byte, sym (eq-eqb from to e) i))
+  | inl e ↦ ap (λ ys. next_shown (byte ∷ ys)) (range_empty xs from to (omega arith)) ∙ (λ i. Some (byte, sym (eq-eqb from to e) i))
   | inr ne ↦ followed byte (slice_range xs from to) (omega (arith, length-take-le (to - from) (drop from xs) (omega (arith, length-drop {A = ℕ} from xs)), length-drop {A = ℕ} from xs))
       ∙ (λ i. Some (byte, sym (ne_eqb from to ne) i))
 ]
@@ -31,7 +31,7 @@ unfolding held_from
 held_end tracks content left at z = ap (λ (f : Followed). chain_bytes content f.blocks) (follow_end tracks content left at z)
 
 -- the byte that waits was taken, and nothing is left but what its sector holds
-pub taken_last : (waiting first : Option ℕ) (sector : List ℕ) (from behind to : ℕ) (rest : Rest) → rest.bytes ≡ [] → (waiting ≡ None → to ≤ from)
+pub taken_last : (waiting first : Option ℕ) (sector : List ℕ) (from behind to : ℕ) (rest : RestOfFile) → rest.bytes ≡ [] → (waiting ≡ None → to ≤ from)
     → option_to_list first ++ slice_range sector behind to ≡ slice_range sector from to
     → with_front (option_to_list first ++ slice_range sector behind to) rest ≡ one_less (with_front (option_to_list waiting ++ slice_range sector from to) rest)
 taken_last (Some byte) first sector from behind to rest end some e = ap (λ (ys : List ℕ). with_front ys rest) e

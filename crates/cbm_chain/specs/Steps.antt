@@ -4,12 +4,12 @@ use Rattle.cbm_medium.specs.Place.{Place}
 use Rattle.cbm_medium.specs.Seen.{Seen}
 use Rattle.cbm_medium.specs.declared.fault.Trouble.{Trouble}
 use Rattle.cbm_bam.specs.Map.{map_of}
-use Rattle.cbm_chain.specs.Writing.{State, IsForFiles, GoesOn, IsFullFor, IsStopped, IsRefusedFor, free_after}
+use Rattle.cbm_chain.specs.Writing.{State, IsForFiles, GoesOnWriting, IsFullFor, IsWriteStopped, IsRefusedFor, free_after}
 
 -- a writer that fills a block of files, or none, goes on to one of its own, or no block is free
 abbrev pub GoesOnIfFree : Result Bool Trouble → Seen → Seen → Option Place → State → State → Type 0
 GoesOnIfFree result old new current s t =
-    IsForFiles s.tracks current → IfOk result (λ gone. MatchBool gone (GoesOn old.content new.content current s t) (IsFullFor old.content new.content s t))
+    IsForFiles s.tracks current → IfOk result (λ gone. MatchBool gone (GoesOnWriting old.content new.content current s t) (IsFullFor old.content new.content s t))
 
 -- the block that it goes on to is the first that is free in the order of search
 abbrev pub IsNextFree : Result Bool Trouble → Seen → Option Place → State → State → Type 0
@@ -17,7 +17,7 @@ IsNextFree result old current s t = IfOk result (λ gone. gone ≡ true → t.cu
 
 -- where it is refused a block, the content is as it was, or a block was claimed that is nobody's
 abbrev pub StopsFor : Result Bool Trouble → Seen → Seen → ℕ → Option Place → Type 0
-StopsFor result old new tracks current = IsForFiles tracks current → OnErr result (IsStopped tracks old.content new.content)
+StopsFor result old new tracks current = IsForFiles tracks current → OnErr result (IsWriteStopped tracks old.content new.content)
 
 -- where it is refused a block, the map refuses it, or the block that is full
 abbrev pub IsHeldUp : Result Bool Trouble → Seen → Seen → ℕ → Option Place → Type 0

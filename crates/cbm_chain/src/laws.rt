@@ -5,7 +5,7 @@ ghost use Rattle.cbm_medium.specs.Place.{Place};
 ghost use Rattle.cbm_medium.specs.Content.{Content, IsWhole};
 ghost use Rattle.cbm_bam.specs.Map.{map_of};
 ghost use Rattle.cbm_chain.specs.Data.{chain_bytes};
-ghost use Rattle.cbm_chain.specs.Writing.{State, Part, StandsAfter, Wrote, Puts, Ends, place_or_none, AreTaken, PutsAll, HasPut, IsChainOf};
+ghost use Rattle.cbm_chain.specs.Writing.{State, Part, StandsAfter, Wrote, Puts, EndsChain, place_or_none, AreTaken, PutsAll, HasPut, IsChainOf};
 
 /// A writer that stands after the last byte of blocks that are there has written what they hold.
 pub fn a_writer_after_a_chain_has_its_bytes()
@@ -24,7 +24,7 @@ pub fn a_byte_stands_behind_the_others()
 /// When the last block is written, a writer's blocks are a chain of all that it put.
 pub fn a_last_block_makes_a_chain()
     ensures { (old new : Content) (s : State) (blocks : List Place) (bytes : List ℕ) →
-        Wrote old s blocks bytes → Ends old new s.current s.waiting →
+        Wrote old s blocks bytes → EndsChain old new s.current s.waiting →
         IsChainOf s.tracks new (place_or_none s.first) blocks bytes }
 {}
 
@@ -32,6 +32,6 @@ pub fn a_last_block_makes_a_chain()
 pub fn chains_hold_what_was_put()
     ensures { (old middle new : Content) (s t : State) (blocks : List Place) (bytes put : List ℕ) →
         Wrote old s blocks bytes → AreTaken (map_of old) blocks → PutsAll put old s middle t →
-        Ends middle new t.current t.waiting →
+        EndsChain middle new t.current t.waiting →
         (more : List Place) × IsChainOf t.tracks new (place_or_none t.first) (blocks ++ more) (bytes ++ put) }
 {}

@@ -8,7 +8,7 @@ use Rattle.cbm_command.specs.declared.command.Command.TheVariants.{Position}
 use Rattle.cbm_machine.specs.Machines.{Machine, Closed, Relative, channel, with_channel, say, answered}
 use Rattle.cbm_machine.specs.Machines as machine
 use Rattle.cbm_machine.specs.Closing.{put_on, without_text}
-use Rattle.cbm_machine.specs.Talking.{peek, peek_on, taken, taken_on, talk, talk_refusal, listen, listen_refusal, only_refused}
+use Rattle.cbm_machine.specs.Talking.{peek, peek_on, taken, taken_on, after_talk, talk_refusal, after_listen, listen_refusal, only_refused}
 use Rattle.cbm_machine.specs.Records.{write_record}
 use Rattle.cbm_machine.specs.Calls.{put, gather, command, store_text, is_relative_channel}
 use Rattle.cbm_machine.specs.Running.{place, run}
@@ -68,22 +68,22 @@ record_of_none ch text m (Relative s k p) e = absurd (cc)
 -- ---- the calls on channels 0 to 14
 
 module _ (ch : ℕ) (m : Machine) (x : Channel) (other : (ch == 15) ≡ false) (stands : ChannelStands x (channel m ch)) where
-  listen_is : (b : Bool) → is_written x ≡ b → listen ch m ≡ only_refused (if b then None else Some FileNotOpen) m
+  listen_is : (b : Bool) → is_written x ≡ b → after_listen ch m ≡ only_refused (if b then None else Some FileNotOpen) m
   listen_is b e = rw other (ap (λ r. only_refused r m) (listen_of x (channel m ch) stands ∙ ap (λ (t : Bool). if t then None else Some FileNotOpen) e))
 
-  pub listen_written : is_written x ≡ true → listen ch m ≡ m
+  pub listen_written : is_written x ≡ true → after_listen ch m ≡ m
   listen_written e = listen_is true e
 
-  pub listen_other : is_written x ≡ false → listen ch m ≡ say FileNotOpen m
+  pub listen_other : is_written x ≡ false → after_listen ch m ≡ say FileNotOpen m
   listen_other e = listen_is false e
 
-  talk_is : (w : WaitsFor m.disk x) (o : Option Code) → talk_refused x ≡ o → talk ch m ≡ only_refused o m
+  talk_is : (w : WaitsFor m.disk x) (o : Option Code) → talk_refused x ≡ o → after_talk ch m ≡ only_refused o m
   talk_is w o e = rw other (ap (λ r. only_refused r m) (talk_of m.disk x (channel m ch) stands w ∙ e))
 
-  pub talk_fine : WaitsFor m.disk x → talk_refused x ≡ None → talk ch m ≡ m
+  pub talk_fine : WaitsFor m.disk x → talk_refused x ≡ None → after_talk ch m ≡ m
   talk_fine w e = talk_is w None e
 
-  pub talk_said : (code : Code) → WaitsFor m.disk x → talk_refused x ≡ Some code → talk ch m ≡ say code m
+  pub talk_said : (code : Code) → WaitsFor m.disk x → talk_refused x ≡ Some code → after_talk ch m ≡ say code m
   talk_said code w e = talk_is w (Some code) e
 
   pub put_other : (b : ℕ) → has_records x ≡ false → put ch b m ≡ put_on ch b (channel m ch) m
@@ -105,13 +105,13 @@ none_of (Some x) none = absurd (none x refl)
 
 -- ---- channel 15, and past it
 
-pub listen_15 : (ch : ℕ) (m : Machine) → ch ≡ 15 → listen ch m ≡ m
+pub listen_15 : (ch : ℕ) (m : Machine) → ch ≡ 15 → after_listen ch m ≡ m
 listen_15 ch m e = rw e refl
 
 pub put_15 : (ch b : ℕ) (m : Machine) → ch ≡ 15 → put ch b m ≡ gather ch b m
 put_15 ch b m e = rw e refl
 
-pub talk_15 : (ch : ℕ) (m : Machine) → ch ≡ 15 → talk ch m ≡ m
+pub talk_15 : (ch : ℕ) (m : Machine) → ch ≡ 15 → after_talk ch m ≡ m
 talk_15 ch m e = rw e refl
 
 -- P finds no channel

@@ -9,7 +9,7 @@ use Rattle.cbm_command.specs.declared.opening.Mode.TheVariants.{Read, Write, App
 use Rattle.cbm_command.specs.contracts.opening.ModePartialEq.TheImpl.{eq-value}
 use Rattle.cbm_command.specs.declared.opening.Wanted.{Wanted}
 use Rattle.cbm_command.specs.declared.opening.Opening.TheVariants as opening
-use Rattle.cbm_command.specs.Openings.{is_relative}
+use Rattle.cbm_command.specs.Openings.{wants_relative}
 use Rattle.cbm_command.specs.Refusals.{◌>>=◌}
 use Rattle.cbm_medium.specs.Content.{Content}
 use Rattle.cbm_machine.specs.declared.code.Code.{Code}
@@ -85,7 +85,7 @@ module _ (t : ℕ) (c : Content) (m : Machine) where
           unwritten = unwritten;
         })
 
-  module _ (ch : ℕ) (w : Wanted) (bytes : is_relative w ≡ false) where
+  module _ (ch : ℕ) (w : Wanted) (bytes : wants_relative w ≡ false) where
     -- ---- reading
 
     module _ (mode : w.mode ≡ Read) where

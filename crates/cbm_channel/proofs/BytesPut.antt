@@ -9,7 +9,7 @@ use Rattle.cbm_volume.specs.Writers as usage
 use Rattle.cbm_machine.specs.Machines as machine
 use Rattle.cbm_channel.specs.declared.channel.Channel.{Channel}
 use Rattle.cbm_channel.specs.declared.channel.Channel.TheVariants as code
-use Rattle.cbm_channel.specs.Standing.{Fits, ChannelStands, use_of}
+use Rattle.cbm_channel.specs.Standing.{FitsTracks, ChannelStands, use_of}
 use Rattle.cbm_channel.specs.Written.{is_lost, channel_put, disk_put, IsCutOff, IsBeingWritten}
 use Rattle.cbm_channel.proofs.Uses.{with_same}
 
@@ -64,8 +64,8 @@ pub put_full : (t : ℕ) (c : Content) (byte : ℕ) (d : Disk) (uses : ℕ → U
 put_full t c byte d uses ch k w full x e f h used stands =
     subst (λ (y : Channel). IsPut t c d uses ch y x byte true) e (put_nothing t c byte d uses ch k x (full_before byte d k w full x e f stands) h used stands)
 
-pub fits_on : (t t' : ℕ) (k : Channel) (w v : Filling) (full : Bool) → k ≡ code.Writing w full → v.chain.tracks ≡ w.chain.tracks → t' ≡ t → Fits t k → v.chain.tracks ≤ t'
-fits_on t t' k w v full e same tracks h = let at : w.chain.tracks ≤ t = subst (Fits t) e h in omega (arith, at, same, tracks)
+pub fits_on : (t t' : ℕ) (k : Channel) (w v : Filling) (full : Bool) → k ≡ code.Writing w full → v.chain.tracks ≡ w.chain.tracks → t' ≡ t → FitsTracks t k → v.chain.tracks ≤ t'
+fits_on t t' k w v full e same tracks h = let at : w.chain.tracks ≤ t = subst (FitsTracks t) e h in omega (arith, at, same, tracks)
 
 some_left : (b : Bool) (free : ℕ) → (b ≡ true → 0 < free) → (b && (free == 0)) ≡ false
 some_left false free h = refl

@@ -5,7 +5,7 @@ use Rattle.std.proofs.lemmas.List.{get_or-set_same, get_or-set_other, length-set
 use Rattle.std.proofs.lemmas.Bool.Decides.{eqb_tells}
 use Rattle.cbm_channel.specs.declared.channel.Channel.{Channel}
 use Rattle.cbm_channel.specs.declared.channel.Channel.TheVariants.{Closed}
-use Rattle.cbm_channel.specs.Standing.{SameBut, Fits, AreFit, IsSameFile, HaveSameFiles}
+use Rattle.cbm_channel.specs.Standing.{SameBut, FitsTracks, AreFit, IsSameFile, HaveSameFiles}
 use Rattle.cbm_channel.proofs.Stands.{any_default}
 
 -- one more is closed
@@ -29,11 +29,11 @@ have_same old new ch x d e lt same k = elim (eqb_tells k ch) [
 ]
 
 -- one that fits
-pub fit_set : (t : ℕ) (chs : List Channel) (ch : ℕ) (x : Channel) → AreFit t chs → Fits t x → ch < length chs → AreFit t (slice_set chs ch x)
+pub fit_set : (t : ℕ) (chs : List Channel) (ch : ℕ) (x : Channel) → AreFit t chs → FitsTracks t x → ch < length chs → AreFit t (slice_set chs ch x)
 fit_set t chs ch x fit one lt = record {
   count = length-set chs ch x ∙ fit.count;
   each = λ i d more. elim (eqb_tells i ch) [
-    | inl here ↦ subst (Fits t) (sym (ap (λ (j : ℕ). slice_index_or (slice_set chs ch x) j d) here.1 ∙ get_or-set_same chs ch x d lt)) one
-    | inr other ↦ subst (Fits t) (sym (get_or-set_other chs ch i x d other.1)) (fit.each i d (omega (arith, more, length-set chs ch x)))
+    | inl here ↦ subst (FitsTracks t) (sym (ap (λ (j : ℕ). slice_index_or (slice_set chs ch x) j d) here.1 ∙ get_or-set_same chs ch x d lt)) one
+    | inr other ↦ subst (FitsTracks t) (sym (get_or-set_other chs ch i x d other.1)) (fit.each i d (omega (arith, more, length-set chs ch x)))
   ];
 }

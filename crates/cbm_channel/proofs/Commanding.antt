@@ -9,7 +9,7 @@ use Rattle.cbm_machine.specs.declared.code.Code.{Code}
 use Rattle.cbm_machine.specs.declared.code.Code.TheVariants.{Fine, WriteFileOpen, FileExists, WriteProtected}
 use Rattle.cbm_machine.specs.declared.status.Status.{Status}
 use Rattle.cbm_machine.specs.Statuses.{plain, trouble_status}
-use Rattle.cbm_machine.specs.Machines.{Machine, Channel, Closed, Reading, Writing, Stopped, Relative, answered, say, tell, with_disk, channel, in_writing, is_open, any_open}
+use Rattle.cbm_machine.specs.Machines.{Machine, Channel, Closed, Reading, Writing, Stopped, Relative, answered, say, with_status, with_disk, channel, in_writing, is_open, any_open}
 use Rattle.cbm_machine.specs.Codes.{code_of_fault}
 use Rattle.cbm_machine.specs.Orderly.{channel_in, still_uses}
 use Rattle.cbm_command.specs.declared.command.Command.TheVariants.{New, Validate}
@@ -20,14 +20,14 @@ use Rattle.std.specs.Prelude.{◌⊎◌, if◌then◌else◌, slice_index_or}
 use Rattle.std.specs.List.{AllZip, list_any}
 use Rattle.cbm_machine.specs.Finding.{is_there, found}
 use Rattle.cbm_machine.specs.Running.{rename, scratch, run}
-use Rattle.cbm_machine.specs.Told.{Told}
+use Rattle.cbm_machine.specs.Told.{ToldStatus}
 use Rattle.cbm_channel.specs.declared.channel.Channel as kept
 use Rattle.cbm_channel.specs.declared.channel.Channel.TheVariants as code
 use Rattle.cbm_channel.specs.Standing.{ChannelStands, StandsBy, use_of, uses_of}
 use Rattle.cbm_channel.specs.Going.{IsStopped}
 use Rattle.cbm_channel.specs.declared.finding.Found.{Found}
 use Rattle.cbm_channel.specs.Planned.{FoundAs}
-use Rattle.cbm_channel.specs.Commanded.{all_scratched, IsGoing, IsRenamable, RenamesAs}
+use Rattle.cbm_channel.specs.Commanded.{all_scratched, AreSlotsGoing, IsRenamable, RenamesAs}
 use Rattle.cbm_channel.proofs.DiskSteps.{KeepsOpen, with_other_disk, changed_keeps, known_keeps}
 use Rattle.cbm_channel.proofs.Scratches.{open_stays, still_in_use, scratch_done}
 use Rattle.cbm_channel.proofs.Stands.{past_end, zip_at}
@@ -54,13 +54,13 @@ open_if_used slot (Writing s bytes blocks full replaces) u = refl
 open_if_used slot (Stopped s) u = refl
 open_if_used slot (Relative s k p) u = refl
 
-module _ (t : ℕ) (c c' : Content) (p : Bool) (chs : List kept.Channel) (told : Told) (text : Option (ℕ × List ℕ)) (m : Machine) (st : StandsBy c t p chs told text m) where
+module _ (t : ℕ) (c c' : Content) (p : Bool) (chs : List kept.Channel) (told : ToldStatus) (text : Option (ℕ × List ℕ)) (m : Machine) (st : StandsBy c t p chs told text m) where
   -- 15 is none of the machine's channels
   pub none_at_15 : length chs ≡ 15 → channel m 15 ≡ Closed
   none_at_15 count = past_end chs m.channels 15 (omega (arith, count)) st.each
 
   -- nothing was written
-  pub stopped_at_once : (after : Machine) (trouble : Trouble) (status : Status) → length chs ≡ 15 → status ≡ trouble_status trouble → IsStopped 15 m after (tell status m)
+  pub stopped_at_once : (after : Machine) (trouble : Trouble) (status : Status) → length chs ≡ 15 → status ≡ trouble_status trouble → IsStopped 15 m after (with_status status m)
   stopped_at_once after trouble status count e = record {
     either = λ n. inl refl;
     same_tracks = refl;
@@ -84,13 +84,13 @@ module _ (t : ℕ) (c c' : Content) (p : Bool) (chs : List kept.Channel) (told :
 
   -- ---- S
 
-  module _ (ps : List (List ℕ)) (slots : List ℕ) (is : IsGoing m ps slots) where
+  module _ (ps : List (List ℕ)) (slots : List ℕ) (is : AreSlotsGoing m ps slots) where
     pub scratch_stands : HoldsNow t c' (all_scratched m.disk slots) (uses_of chs m.channels) → StandsBy c' t p chs told text (with_disk (all_scratched m.disk slots) m)
     scratch_stands holds = with_other_disk t c c' p chs told text m (all_scratched m.disk slots) st holds
         (known_keeps m.disk (all_scratched m.disk slots) m.channels (λ k slot u. ap known (open_stays m ps slots slot is.all (still_in_use m k slot u))))
 
     pub scratch_cut : usage.Stopped t c' m.disk (all_scratched m.disk slots) (uses_of chs m.channels)
-        → (n : Machine) × ((trouble : Trouble) (status : Status) → length chs ≡ 15 → status ≡ trouble_status trouble → IsStopped 15 m (answered m (scratch ps m)) (tell status n)) × StandsBy c' t p chs told text n
+        → (n : Machine) × ((trouble : Trouble) (status : Status) → length chs ≡ 15 → status ≡ trouble_status trouble → IsStopped 15 m (answered m (scratch ps m)) (with_status status n)) × StandsBy c' t p chs told text n
     scratch_cut stop =
         let same : (answered m (scratch ps m)).disk ≡ all_scratched m.disk slots = ap (λ (y : Machine). y.disk) (scratch_done m ps slots is) in (
           with_disk stop.disk m,
@@ -125,7 +125,7 @@ module _ (t : ℕ) (c c' : Content) (p : Bool) (chs : List kept.Channel) (told :
     validate_stands holds = with_other_disk t c c' p chs told text m (validated m.disk) st holds (none_open (validated m.disk))
 
     pub validate_cut : m.protected ≡ false → usage.Stopped t c' m.disk (validated m.disk) (uses_of chs m.channels)
-        → (n : Machine) × ((trouble : Trouble) (status : Status) → length chs ≡ 15 → status ≡ trouble_status trouble → IsStopped 15 m (answered m (run Validate m)) (tell status n)) × StandsBy c' t p chs told text n
+        → (n : Machine) × ((trouble : Trouble) (status : Status) → length chs ≡ 15 → status ≡ trouble_status trouble → IsStopped 15 m (answered m (run Validate m)) (with_status status n)) × StandsBy c' t p chs told text n
     validate_cut unprotected stop =
         let same : (answered m (run Validate m)).disk ≡ validated m.disk = ap (λ (y : Machine). y.disk) (validate_done unprotected) in (
           with_disk stop.disk m,

@@ -10,10 +10,10 @@ use Rattle.cbm_file.specs.declared.file_type.FileType.{FileType}
 use Rattle.cbm_file.specs.declared.file_type.FileType.TheVariants.{Del, Rel}
 use Rattle.cbm_file.specs.Types.{is_same_type}
 use Rattle.cbm_file.specs.Files.{Bytes, File, Disk, file_at, bytes_in, blocks_of, parts}
-use Rattle.cbm_file.specs.Changes.{has_slot, new_slot, with_file, closed_file, bytes_at, joined, copy_blocks, with_copy}
+use Rattle.cbm_file.specs.Changes.{has_slot, new_slot, with_file, closed_file, slot_bytes, joined, copy_blocks, with_copy}
 use Rattle.cbm_command.specs.Refusals.{◌>>=◌, unless}
 use Rattle.cbm_medium.specs.Content.{Content}
-use Rattle.cbm_volume.specs.Holding.{Says}
+use Rattle.cbm_volume.specs.Holding.{EntrySays}
 use Rattle.cbm_volume.specs.Copies.{AreCopied, HasNoRoomFor}
 use Rattle.cbm_volume.specs.Writers.{Use, HoldsNow, known, IsEither}
 use Rattle.cbm_volume.specs.Writers as usage
@@ -22,10 +22,10 @@ use Rattle.cbm_machine.specs.declared.code.Code.TheVariants.{Fine, WrongType, Wr
 use Rattle.cbm_machine.specs.declared.status.Status.{Status}
 use Rattle.cbm_machine.specs.Codes.{code_number, code_of_fault}
 use Rattle.cbm_machine.specs.Statuses.{plain, trouble_status}
-use Rattle.cbm_machine.specs.Machines.{Machine, Channel, answered, say, tell, with_disk}
+use Rattle.cbm_machine.specs.Machines.{Machine, Channel, answered, say, with_status, with_disk}
 use Rattle.cbm_machine.specs.Finding.{is_there, found}
 use Rattle.cbm_machine.specs.Running.{source, sources, copied, copy}
-use Rattle.cbm_machine.specs.Told.{Told}
+use Rattle.cbm_machine.specs.Told.{ToldStatus}
 use Rattle.cbm_channel.specs.declared.channel.Channel as kept
 use Rattle.cbm_channel.specs.declared.channel.Channel.TheVariants as code
 use Rattle.cbm_channel.specs.declared.finding.Found.{Found}
@@ -47,7 +47,7 @@ pub record IsMet (d : Disk) (r : Result (ℕ × File) Code) (file : Found) : Typ
   pub f : File
   pub is : r ≡ Ok (file.slot, f)
   pub in_slot : file_at d file.slot ≡ Some f
-  pub says : Says f file.entry
+  pub says : EntrySays f file.entry
 
 pub met_is : (t : ℕ) (c : Content) (d : Disk) (r : Result (ℕ × File) Code) (file : Found) → FoundAs t c d r (Ok file) → IsMet d r file
 met_is t c d (Ok x) file h =
@@ -224,7 +224,7 @@ joined_is d [] (n ∷ ns) h = absurd h
 joined_is d (f ∷ fs) [] h = absurd h
 joined_is d (f ∷ fs) (n ∷ ns) h =
     ap (λ (xs : List ℕ). bytes_in f.body ++ xs) (joined_is d fs ns h.1)
-    ∙ sym (ap (λ (o : Option File). bytes_at o ++ joined d ns) h.0.in_slot)
+    ∙ sym (ap (λ (o : Option File). slot_bytes o ++ joined d ns) h.0.in_slot)
 
 pub are_copied : (d : Disk) (fs : List File) (ns : List ℕ) → AllZip (IsSource d) fs ns → AreCopied d ns
 are_copied d [] [] h = tt
@@ -308,13 +308,13 @@ module _ (m : Machine) (new : List ℕ) (olds : List (List ℕ)) (kind : FileTyp
 
   -- ---- what is left of the drive
 
-  module _ (t : ℕ) (c c' : Content) (p : Bool) (chs : List kept.Channel) (told : Told) (text : Option (ℕ × List ℕ)) (st : StandsBy c t p chs told text m) where
+  module _ (t : ℕ) (c c' : Content) (p : Bool) (chs : List kept.Channel) (told : ToldStatus) (text : Option (ℕ × List ℕ)) (st : StandsBy c t p chs told text m) where
     pub copy_stands : HoldsNow t c' (with_copy m.disk kind new slots) (uses_of chs m.channels) → StandsBy c' t p chs told text (with_disk (with_copy m.disk kind new slots) m)
     copy_stands holds = with_other_disk t c c' p chs told text m (with_copy m.disk kind new slots) st holds
         (filed_keeps m.disk (closed_file kind new (copy_blocks m.disk slots) (Bytes (joined m.disk slots))) (copy_blocks m.disk slots) m.channels)
 
     pub copy_cut : (nat_lt m.disk.free (copy_blocks m.disk slots) || not (has_slot m.disk)) ≡ false → m.protected ≡ false → usage.Stopped t c' m.disk (with_copy m.disk kind new slots) (uses_of chs m.channels)
-        → (n : Machine) × ((trouble : Trouble) (status : Status) → length chs ≡ 15 → status ≡ trouble_status trouble → IsStopped 15 m (answered m (copy new olds m)) (tell status n)) × StandsBy c' t p chs told text n
+        → (n : Machine) × ((trouble : Trouble) (status : Status) → length chs ≡ 15 → status ≡ trouble_status trouble → IsStopped 15 m (answered m (copy new olds m)) (with_status status n)) × StandsBy c' t p chs told text n
     copy_cut room unprotected stop =
         let same : (answered m (copy new olds m)).disk ≡ with_copy m.disk kind new slots = ap (λ (y : Machine). y.disk) (copy_done room unprotected) in (
           with_disk stop.disk m,

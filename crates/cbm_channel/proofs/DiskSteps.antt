@@ -10,7 +10,7 @@ use Rattle.cbm_medium.specs.Content.{Content}
 use Rattle.cbm_volume.specs.Writers.{HoldsNow, known}
 use Rattle.cbm_machine.specs.Machines.{Channel, Machine, with_disk}
 use Rattle.cbm_machine.specs.Orderly.{IsReadFrom, IsPlace, IsOrderly, channel_in, still_uses}
-use Rattle.cbm_machine.specs.Told.{Told}
+use Rattle.cbm_machine.specs.Told.{ToldStatus}
 use Rattle.cbm_channel.specs.declared.channel.Channel as kept
 use Rattle.cbm_channel.specs.ChannelCalls.{KeepsElse}
 use Rattle.cbm_channel.specs.Standing.{AreFit, StandsBy, uses_of}
@@ -50,7 +50,7 @@ orderly_on d d' p channels o keeps = record {
 }
 
 -- THE DRIVE STANDS FOR THE MACHINE WITH THE DISK THAT THE MEDIUM HOLDS NOW
-pub with_other_disk : (t : ℕ) (c c' : Content) (p : Bool) (chs : List kept.Channel) (told : Told) (text : Option (ℕ × List ℕ)) (m : Machine) (d' : Disk) → StandsBy c t p chs told text m → HoldsNow t c' d' (uses_of chs m.channels)
+pub with_other_disk : (t : ℕ) (c c' : Content) (p : Bool) (chs : List kept.Channel) (told : ToldStatus) (text : Option (ℕ × List ℕ)) (m : Machine) (d' : Disk) → StandsBy c t p chs told text m → HoldsNow t c' d' (uses_of chs m.channels)
     → KeepsOpen m.disk d' m.channels → StandsBy c' t p chs told text (with_disk d' m)
 with_other_disk t c c' p chs told text m d' st holds keeps = record {
   holds = holds;

@@ -9,7 +9,7 @@ use Rattle.cbm_channel.specs.Calls.{put, end_put, command, after_open}
 use Rattle.cbm_channel.specs.Standing.{Kept, Stands, Leads}
 use Rattle.cbm_channel.specs.Commanded.{FormatsUnfailing, open_formats, end_formats}
 use Rattle.cbm_channel.proofs.Goings.{rises}
-use Rattle.cbm_channel.specs.Going.{Passes, PassesAll, closings, closing, opening_parts, GoesFrom, Goes, Ends, EndsFrom}
+use Rattle.cbm_channel.specs.Going.{Passes, PassesAll, closings, closing, opening_parts, GoesFrom, Goes, EndsPut, EndsFrom}
 
 -- the machine after all parts
 abbrev done : List (ℕ × (Machine → Machine)) → Machine → Machine
@@ -29,7 +29,7 @@ all_done a b (p ∷ parts) m n few h =
     subst (λ x. n ≡ done parts x) (is_done (HasFailed a h.0) p.0 p.1 m h.2 (λ f. omega (arith, f, more, few)) h.3) (all_done h.0 b parts h.2 n (omega (arith, few, first)) h.4)
 
 -- so is the end of what was put
-is_ended : (failed : Type 0) (ch : ℕ) (m n : Machine) → (failed → ⊥) → Ends failed ch m n → n ≡ end_put ch m
+is_ended : (failed : Type 0) (ch : ℕ) (m n : Machine) → (failed → ⊥) → EndsPut failed ch m n → n ≡ end_put ch m
 is_ended failed ch m n never (inl passed) = is_done failed ch (end_put ch) m n never passed
 is_ended failed ch m n never (inr stopped) = absurd (never stopped.0)
 

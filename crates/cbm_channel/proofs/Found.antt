@@ -11,7 +11,7 @@ use Rattle.cbm_volume.specs.Entries.{type_byte, name_in}
 use Rattle.cbm_medium.specs.Content.{Content}
 use Rattle.cbm_volume.specs.Map.{geometry_of}
 use Rattle.cbm_volume.specs.Slots.{Listed, Finds, first_from, directory_of}
-use Rattle.cbm_volume.specs.Holding.{Says, SlotSays, TellsOf}
+use Rattle.cbm_volume.specs.Holding.{EntrySays, SlotSays, TellsOf}
 use Rattle.cbm_machine.specs.declared.code.Code.{Code}
 use Rattle.cbm_machine.specs.declared.code.Code.TheVariants.{WrongType, FileNotFound}
 use Rattle.cbm_machine.specs.declared.status.Status.{Status}
@@ -25,7 +25,7 @@ meant_kind : (k : Option FileType) (f : File) → is_meant k (Some f.kind) ≡ o
 meant_kind None f = refl
 meant_kind (Some x) f = refl
 
-pub sought_file : (p : List ℕ) (k : Option FileType) (f : File) (e : List ℕ) → Says f e → is_sought p k e ≡ (is_match p f.name && of_kind k f)
+pub sought_file : (p : List ℕ) (k : Option FileType) (f : File) (e : List ℕ) → EntrySays f e → is_sought p k e ≡ (is_match p f.name && of_kind k f)
 sought_file p k f e s = (λ i. not (s.used i) && is_match p (s.name i) && is_meant k (s.kind i)) ∙ ap (λ b. is_match p f.name && b) (meant_kind k f)
 
 pub sought_empty : (p : List ℕ) (k : Option FileType) (e : List ℕ) → (type_byte e == 0) ≡ true → is_sought p k e ≡ false
@@ -60,7 +60,7 @@ module _ (p : List ℕ) (k : Option FileType) (code : Code) where
     pub is : chosen (files_from n slots) ≡ Ok (j, file)
     pub behind : n ≤ j
     pub in_slot : slice_index_or slots (j - n) None ≡ Some file
-    pub says : Says file e
+    pub says : EntrySays file e
     pub entry : slice_get entries (j - n) ≡ Some e
 
   later : (n : ℕ) (s : Option File) (slots : List (Option File)) (x : List ℕ) (entries : List (List ℕ)) (j : ℕ) (e : List ℕ)
@@ -99,7 +99,7 @@ module _ (p : List ℕ) (k : Option FileType) (code : Code) where
             is = first_is n f (files_from (n + 1) slots) (is_match p f.name) (of_kind k f) refl refl t ∙ ap (λ (i : ℕ). Ok (i, f)) number;
             behind = omega (arith, number);
             in_slot = rw none refl;
-            says = subst (Says f) entry_same z.0;
+            says = subst (EntrySays f) entry_same z.0;
             entry = rw none (ap Some entry_same);
           }
 

@@ -17,7 +17,7 @@ use Rattle.cbm_channel.specs.Written.{disk_closed}
 use Rattle.cbm_channel.proofs.Finished.{finish_law}
 use Rattle.cbm_channel.proofs.Stands.{zip_at}
 use Rattle.cbm_channel.specs.Standing.{Kept, ChannelStands, Stands}
-use Rattle.cbm_channel.specs.Going.{Ends, IsRecordStopped, IsStopped, Passes, PassesAll, WentFrom, Went, Goes, GoesFrom, opening_parts, KeepsMedium, some_byte_put}
+use Rattle.cbm_channel.specs.Going.{EndsPut, IsRecordStopped, IsStopped, Passes, PassesAll, WentFrom, Went, Goes, GoesFrom, opening_parts, KeepsMedium, some_byte_put}
 
 -- a part by another name, from this machine
 pub part_same : (failed : Type 0) (ch : ℕ) (part part' : Machine → Machine) (m n : Machine) → part' m ≡ part m → Passes failed ch part m n → Passes failed ch part' m n
@@ -232,6 +232,6 @@ stopped_record ch number whole m now s = record {
 
 -- the text is dropped, and is then one write of a record
 pub record_ends : (failed failed' : Type 0) (ch : ℕ) (m now : Machine) → (failed → failed') → end_put ch m ≡ write_record ch (channel m ch) (text_for ch m.text) (without_text ch m)
-    → (now ≡ write_record ch (channel m ch) (text_for ch m.text) (without_text ch m)) ⊎ (failed × IsRecordStopped ch (text_for ch m.text) (without_text ch m) now) → Ends failed' ch m now
+    → (now ≡ write_record ch (channel m ch) (text_for ch m.text) (without_text ch m)) ⊎ (failed × IsRecordStopped ch (text_for ch m.text) (without_text ch m) now) → EndsPut failed' ch m now
 record_ends failed failed' ch m now f law (inl e) = inl (inl (e ∙ sym law))
 record_ends failed failed' ch m now f law (inr s) = inr (f s.0, stopped_record ch ch (text_for ch m.text) m now s.1)

@@ -15,7 +15,7 @@ use Rattle.cbm_command.specs.declared.opening.Mode.TheVariants.{Read, Write, App
 use Rattle.cbm_command.specs.declared.opening.Wanted.{Wanted}
 use Rattle.cbm_command.specs.declared.opening.Opening.{Opening}
 use Rattle.cbm_command.specs.declared.opening.Opening.TheVariants as opening
-use Rattle.cbm_command.specs.Texts.{comma, colon, equals, before, behind, has, parts_at}
+use Rattle.cbm_command.specs.Texts.{comma, colon, equals, before_byte, after_byte, holds_byte, parts_at}
 use Rattle.cbm_command.specs.Names.{name_of, is_empty, is_wild, filler, asterisk}
 use Rattle.cbm_command.specs.Refusals.{◌>>=◌, unless, drive_head}
 use Rattle.std.specs.List.{list_any}
@@ -49,13 +49,13 @@ always (Err e) = tt
 
 -- ---- the name
 
-cut : (n : ℕ) (text : List ℕ) → before_filler (take n (before filler text)) ≡ take n (before filler text)
+cut : (n : ℕ) (text : List ℕ) → before_filler (take n (before_byte filler text)) ≡ take n (before_byte filler text)
 cut zero text = refl
 cut (suc n) [] = refl
 cut (suc n) (x ∷ text) = by_test (x == 160) refl (cut n text)
   where
-    by_test : (b : Bool) → (x == 160) ≡ b → before_filler (take n (before filler text)) ≡ take n (before filler text)
-        → before_filler (take (suc n) (before filler (x ∷ text))) ≡ take (suc n) (before filler (x ∷ text))
+    by_test : (b : Bool) → (x == 160) ≡ b → before_filler (take n (before_byte filler text)) ≡ take n (before_byte filler text)
+        → before_filler (take (suc n) (before_byte filler (x ∷ text))) ≡ take (suc n) (before_byte filler (x ∷ text))
     by_test true t more = rw t refl
     by_test false t more = rw t (rw t (ap (λ xs. x ∷ xs) more))
 
@@ -103,30 +103,30 @@ file_opens w h = chosen Opens (is_named_whole w && is_wild w.name) _ _ tt h
 
 asked_opens : (ch : ℕ) (at : Bool) (text : List ℕ) → Opens (file_asked ch at text)
 asked_opens ch at text =
-    let name = name_of (before comma text) in
-    let all : IsAskable (plain_file at name) = (cut 16 (before comma text), refl) in
+    let name = name_of (before_byte comma text) in
+    let all : IsAskable (plain_file at name) = (cut 16 (before_byte comma text), refl) in
     chosen Opens (is_empty name) _ _ tt
-    (bound IsAskable CanBeAsked (if has comma text then with_pieces (parts_at comma (behind comma text)) (plain_file at name) else Ok (plain_file at name))
+    (bound IsAskable CanBeAsked (if holds_byte comma text then with_pieces (parts_at comma (after_byte comma text)) (plain_file at name) else Ok (plain_file at name))
     (λ w. file_named (or_default ch (by_channel ch w)))
-    (chosen Answers (has comma text) (with_pieces (parts_at comma (behind comma text)) (plain_file at name)) (Ok (plain_file at name))
-    (pieces_asked (parts_at comma (behind comma text)) (plain_file at name) all) all)
+    (chosen Answers (holds_byte comma text) (with_pieces (parts_at comma (after_byte comma text)) (plain_file at name)) (Ok (plain_file at name))
+    (pieces_asked (parts_at comma (after_byte comma text)) (plain_file at name) all) all)
     (λ w x. file_opens (or_default ch (by_channel ch w)) (default_asked ch (by_channel ch w) (channel_asked ch w x))))
 
 headed_opens : (ch : ℕ) (text : List ℕ) → Opens (headed_file ch text)
 headed_opens ch text =
-    chosen Opens (has colon (before comma text)) _ _
-    (bound (λ at. Unit {0}) CanBeAsked (at_in_head (before colon text)) (λ at. file_asked ch at (behind colon text)) (always (at_in_head (before colon text))) (λ at x. asked_opens ch at (behind colon text)))
+    chosen Opens (holds_byte colon (before_byte comma text)) _ _
+    (bound (λ at. Unit {0}) CanBeAsked (at_in_head (before_byte colon text)) (λ at. file_asked ch at (after_byte colon text)) (always (at_in_head (before_byte colon text))) (λ at x. asked_opens ch at (after_byte colon text)))
     (asked_opens ch false text)
 
 pattern_opens : (text : List ℕ) → Opens (pattern_asked text)
 pattern_opens text =
-    chosen Opens (is_empty (name_of (before comma text))) _ _ tt
-    (chosen Opens (has comma text || has equals text) _ _ tt tt)
+    chosen Opens (is_empty (name_of (before_byte comma text))) _ _ tt
+    (chosen Opens (holds_byte comma text || holds_byte equals text) _ _ tt tt)
 
 listing_opens : (text : List ℕ) → Opens (listing_asked text)
 listing_opens text =
-    bound (λ x. Unit {0}) CanBeAsked (drive_head (before colon text)) (λ x. if has colon text then pattern_asked (behind colon text) else Ok (opening.Listing (asterisk ∷ []))) (always (drive_head (before colon text)))
-    (λ x y. chosen Opens (has colon text) (pattern_asked (behind colon text)) (Ok (opening.Listing (asterisk ∷ []))) (pattern_opens (behind colon text)) tt)
+    bound (λ x. Unit {0}) CanBeAsked (drive_head (before_byte colon text)) (λ x. if holds_byte colon text then pattern_asked (after_byte colon text) else Ok (opening.Listing (asterisk ∷ []))) (always (drive_head (before_byte colon text)))
+    (λ x y. chosen Opens (holds_byte colon text) (pattern_asked (after_byte colon text)) (Ok (opening.Listing (asterisk ∷ []))) (pattern_opens (after_byte colon text)) tt)
 
 first_opens : (ch : ℕ) (text : List ℕ) → Opens (by_first ch text)
 first_opens ch [] = tt
@@ -163,8 +163,8 @@ Cuts r = IfOk r IsCutName
 
 new_cuts : (text : List ℕ) → Cuts (new_asked text)
 new_cuts text =
-    chosen Cuts (is_empty (name_of (before comma text))) _ _ tt
-    (chosen Cuts (is_wild (name_of (before comma text))) _ _ tt (chosen Cuts (has comma text && nat_lt (length (behind comma text)) 2) _ _ tt tt))
+    chosen Cuts (is_empty (name_of (before_byte comma text))) _ _ tt
+    (chosen Cuts (is_wild (name_of (before_byte comma text))) _ _ tt (chosen Cuts (holds_byte comma text && nat_lt (length (after_byte comma text)) 2) _ _ tt tt))
 
 scratch_cuts : (text : List ℕ) → Cuts (scratch_asked text)
 scratch_cuts text =
@@ -173,19 +173,19 @@ scratch_cuts text =
 
 rename_cuts : (text : List ℕ) → Cuts (rename_asked text)
 rename_cuts text =
-    let new = name_of (before equals text) in
-    bound (λ x. Unit {0}) IsCutName (later_name (behind equals text))
-    (λ old. unless ((not (has equals text) || is_empty new || is_empty old, NoName) ∷ (is_wild new || is_wild old, WildName) ∷ []) (Ok (Rename new old))) (always (later_name (behind equals text)))
-    (λ old x. chosen Cuts (not (has equals text) || is_empty new || is_empty old) _ _ tt (chosen Cuts (is_wild new || is_wild old) (Err WildName) (Ok (Rename new old)) tt (cut 16 (before equals text))))
+    let new = name_of (before_byte equals text) in
+    bound (λ x. Unit {0}) IsCutName (later_name (after_byte equals text))
+    (λ old. unless ((not (holds_byte equals text) || is_empty new || is_empty old, NoName) ∷ (is_wild new || is_wild old, WildName) ∷ []) (Ok (Rename new old))) (always (later_name (after_byte equals text)))
+    (λ old x. chosen Cuts (not (holds_byte equals text) || is_empty new || is_empty old) _ _ tt (chosen Cuts (is_wild new || is_wild old) (Err WildName) (Ok (Rename new old)) tt (cut 16 (before_byte equals text))))
 
 copy_cuts : (text : List ℕ) → Cuts (copy_asked text)
 copy_cuts text =
-    let new = name_of (before equals text) in
-    bound (λ x. Unit {0}) IsCutName (later_names (parts_at comma (behind equals text)))
-    (λ olds. unless ((not (has equals text) || is_empty new || list_any is_empty olds, NoName) ∷ (is_wild new || list_any is_wild olds, WildName) ∷ (nat_lt 4 (length olds), Syntax) ∷ []) (Ok (Copy new olds)))
-    (always (later_names (parts_at comma (behind equals text))))
-    (λ olds x. chosen Cuts (not (has equals text) || is_empty new || list_any is_empty olds) _ _ tt
-    (chosen Cuts (is_wild new || list_any is_wild olds) _ _ tt (chosen Cuts (nat_lt 4 (length olds)) (Err Syntax) (Ok (Copy new olds)) tt (cut 16 (before equals text)))))
+    let new = name_of (before_byte equals text) in
+    bound (λ x. Unit {0}) IsCutName (later_names (parts_at comma (after_byte equals text)))
+    (λ olds. unless ((not (holds_byte equals text) || is_empty new || list_any is_empty olds, NoName) ∷ (is_wild new || list_any is_wild olds, WildName) ∷ (nat_lt 4 (length olds), Syntax) ∷ []) (Ok (Copy new olds)))
+    (always (later_names (parts_at comma (after_byte equals text))))
+    (λ olds x. chosen Cuts (not (holds_byte equals text) || is_empty new || list_any is_empty olds) _ _ tt
+    (chosen Cuts (is_wild new || list_any is_wild olds) _ _ tt (chosen Cuts (nat_lt 4 (length olds)) (Err Syntax) (Ok (Copy new olds)) tt (cut 16 (before_byte equals text)))))
 
 some_max : (n : ℕ) → 1 ≤ max 1 n
 some_max n = omega arith
@@ -199,8 +199,8 @@ position_cuts (a ∷ b ∷ c ∷ text) = (some_max (b + 256 * c), some_max (slic
 headed_cuts : (text : List ℕ) (f : List ℕ → Result Command Refusal) → ((rest : List ℕ) → Cuts (f rest)) → Cuts (behind_head text >>= f)
 headed_cuts text f h = bound (λ x. Unit {0}) IsCutName (behind_head text) f (always (behind_head text)) (λ rest x. h rest)
 
-plain_cuts : (text : List ℕ) (x : Command) → IsCutName x → Cuts (command_head (before colon text) >>= λ _. Ok x)
-plain_cuts text x h = bound (λ y. Unit {0}) IsCutName (command_head (before colon text)) (λ y. Ok x) (always (command_head (before colon text))) (λ y z. h)
+plain_cuts : (text : List ℕ) (x : Command) → IsCutName x → Cuts (command_head (before_byte colon text) >>= λ _. Ok x)
+plain_cuts text x h = bound (λ y. Unit {0}) IsCutName (command_head (before_byte colon text)) (λ y. Ok x) (always (command_head (before_byte colon text))) (λ y z. h)
 
 letter_cuts : (c : ℕ) (text : List ℕ) → Cuts (by_letter c text)
 letter_cuts c text =

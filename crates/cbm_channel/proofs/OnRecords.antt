@@ -8,7 +8,7 @@ use Rattle.cbm_machine.specs.Machines.{Channel, Relative}
 use Rattle.cbm_machine.specs.Finding.{body_at}
 use Rattle.cbm_machine.specs.Records.{record_at}
 use Rattle.cbm_machine.specs.Talking.{taken_on}
-use Rattle.cbm_channel.specs.Placed.{Placed, IsOnRecord, IsPlacedAt, Waits, record_of, is_broken, is_last}
+use Rattle.cbm_channel.specs.Placed.{Placed, IsOnRecord, IsPlacedAt, Waits, record_of, is_broken, is_last_filled}
 use Rattle.cbm_channel.specs.declared.on_record.Waiting.{Waiting}
 
 -- the body of the slot's file
@@ -32,14 +32,14 @@ pub nothing_waits : (d : Disk) (r : Placed) → IsOnRecord d r → record_of r.w
 nothing_waits d r h e = taken_as d r.slot r.number r.position None (record_on d r h ∙ e)
 
 -- the last byte of a record is taken
-pub next_record : (d : Disk) (old new : Placed) (bytes : List ℕ) → IsOnRecord d old → record_of old.waiting ≡ Some bytes → is_last bytes old.position ≡ true → IsPlacedAt old new (old.number + 1) 1
+pub next_record : (d : Disk) (old new : Placed) (bytes : List ℕ) → IsOnRecord d old → record_of old.waiting ≡ Some bytes → is_last_filled bytes old.position ≡ true → IsPlacedAt old new (old.number + 1) 1
     → Relative new.slot new.number new.position ≡ taken_on d (Relative old.slot old.number old.position)
 next_record d old new bytes h e last at =
     (λ i. Relative (at.same_slot i) (at.at_number i) (at.at_position i))
     ∙ sym (taken_as d old.slot old.number old.position (Some bytes) (record_on d old h ∙ e) ∙ ap (λ (b : Bool). if b then Relative old.slot (old.number + 1) 1 else Relative old.slot old.number (old.position + 1)) last)
 
 -- a byte within a record is taken
-pub next_byte : (d : Disk) (old : Placed) (bytes : List ℕ) → IsOnRecord d old → record_of old.waiting ≡ Some bytes → is_last bytes old.position ≡ false
+pub next_byte : (d : Disk) (old : Placed) (bytes : List ℕ) → IsOnRecord d old → record_of old.waiting ≡ Some bytes → is_last_filled bytes old.position ≡ false
     → Relative old.slot old.number (old.position + 1) ≡ taken_on d (Relative old.slot old.number old.position)
 next_byte d old bytes h e last =
     sym (taken_as d old.slot old.number old.position (Some bytes) (record_on d old h ∙ e) ∙ ap (λ (b : Bool). if b then Relative old.slot (old.number + 1) 1 else Relative old.slot old.number (old.position + 1)) last)

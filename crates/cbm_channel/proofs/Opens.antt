@@ -16,16 +16,16 @@ use Rattle.cbm_volume.specs.Layouts.{Layout}
 use Rattle.cbm_volume.specs.Map.{geometry_of}
 use Rattle.cbm_volume.specs.NewRecords.{HasNoRoomForRecords}
 use Rattle.cbm_medium.specs.Content.{Content}
-use Rattle.cbm_volume.specs.Opens.{Begins, CanBeWritten, IsUnused, HasNoPlace, IsHindered}
+use Rattle.cbm_volume.specs.Opens.{BeginsFile, CanBeWritten, IsUnused, HasNoPlace, IsHindered}
 use Rattle.cbm_volume.specs.Writers.{Filling, Use, IsUsed, Writes, HoldsNow, with_use, known, IsEither}
 use Rattle.cbm_volume.specs.Writers as usage
 use Rattle.cbm_volume.proofs.layouts.Writers.{use_here, use_other}
 use Rattle.cbm_volume.proofs.written.Closing.{other_slot}
 use Rattle.cbm_machine.specs.Machines as machine
-use Rattle.cbm_machine.specs.Machines.{Machine, Channel, Closed, Reading, Writing, Stopped, Relative, with_channel, with_disk, in_use, say, tell}
+use Rattle.cbm_machine.specs.Machines.{Machine, Channel, Closed, Reading, Writing, Stopped, Relative, with_channel, with_disk, in_use, say, with_status}
 use Rattle.cbm_machine.specs.Orderly.{IsPlace, channel_in, still_uses, still_writes}
 use Rattle.cbm_machine.specs.Plans.{Plan, ReadListing, ReadFile, WriteFile, AppendFile, ReplaceFile, OpenRecords, MakeRecords, act, append_slot}
-use Rattle.cbm_machine.specs.Told.{Told}
+use Rattle.cbm_machine.specs.Told.{ToldStatus}
 use Rattle.cbm_machine.specs.declared.code.Code.TheVariants.{Fine}
 use Rattle.cbm_machine.specs.declared.status.Status.{Status}
 use Rattle.cbm_machine.specs.Statuses.{trouble_status}
@@ -47,7 +47,7 @@ use Rattle.cbm_channel.proofs.Stands.{zip_at, zip_length, means_of, moved, with_
 
 -- ---- what the channels still use
 
-uses_alike : (n : ℕ) (x : kept.Channel) (y : Channel) → ChannelStands x y → still_uses n y ≡ usage.has_slot n (use_of x y)
+uses_alike : (n : ℕ) (x : kept.Channel) (y : Channel) → ChannelStands x y → still_uses n y ≡ usage.uses_slot n (use_of x y)
 uses_alike n code.Closed y h = ap (still_uses n) h
 uses_alike n (code.Listing l) y h = ap (still_uses n) h
 uses_alike n (code.File slot r) y h = ap (still_uses n) h.1
@@ -91,8 +91,8 @@ module _ (t : ℕ) (c : Content) (d d' : Disk) (protected : Bool) (chs : List ke
   -- its slot is open on it alone
   alone_here : (k slot : ℕ) → k ≢ ch → (w.slot == slot) ≡ true → still_uses slot (channel_in ys k) ≡ false
   alone_here k slot ne same = not_so (still_uses slot (channel_in ys k)) (λ u.
-      let has : usage.has_slot slot (with_use (uses_of chs ys) ch (Writes w bytes blocks) k) ≡ true =
-      ap (usage.has_slot slot) (use_other (uses_of chs ys) ch k (Writes w bytes blocks) ne) ∙ sym (uses_alike slot (slice_index_or chs k code.Closed) (channel_in ys k) (zip_at chs ys k each)) ∙ u in
+      let has : usage.uses_slot slot (with_use (uses_of chs ys) ch (Writes w bytes blocks) k) ≡ true =
+      ap (usage.uses_slot slot) (use_other (uses_of chs ys) ch k (Writes w bytes blocks) ne) ∙ sym (uses_alike slot (slice_index_or chs k code.Closed) (channel_in ys k) (zip_at chs ys k each)) ∙ u in
       let wrote : usage.writes_slot slot (with_use (uses_of chs ys) ch (Writes w bytes blocks) ch) ≡ true = ap (usage.writes_slot slot) (use_here (uses_of chs ys) ch (Writes w bytes blocks)) ∙ same in
       ne (sym (h.so.alone ch k slot wrote has)))
 
@@ -188,14 +188,14 @@ pub has_place_of : (d : Disk) → (nat_lt d.free 2 || not (has_slot d)) ≡ fals
 has_place_of d h = second (nat_lt d.free 2) (has_slot d) h
 
 -- a slot that a channel still uses has a file
-used_file : (tracks : ℕ) (c : Content) (l : Layout) (d : Disk) (n : ℕ) (u : Use) (slot : ℕ) → IsUsed tracks c l d n u → usage.has_slot slot u ≡ true → (f : File) × (file_at d slot ≡ Some f)
+used_file : (tracks : ℕ) (c : Content) (l : Layout) (d : Disk) (n : ℕ) (u : Use) (slot : ℕ) → IsUsed tracks c l d n u → usage.uses_slot slot u ≡ true → (f : File) × (file_at d slot ≡ Some f)
 used_file tracks c l d n usage.Idle slot h e = absurd (cc)
 used_file tracks c l d n (usage.Reads s r left) slot h e = (h.file, ap (file_at d) (sym (eqb-true s slot e)) ∙ h.in_slot)
 used_file tracks c l d n (usage.Relates s) slot h e = (h.file, ap (file_at d) (sym (eqb-true s slot e)) ∙ h.in_slot)
 used_file tracks c l d n (usage.Writes w bytes blocks) slot h e = (h.file, ap (file_at d) (sym (eqb-true w.slot slot e)) ∙ h.in_slot)
 
 -- and so isn't where a new one comes
-pub used_else : (t : ℕ) (c : Content) (p : Bool) (chs : List kept.Channel) (told : Told) (text : Option (ℕ × List ℕ)) (m : Machine) → StandsBy c t p chs told text m → (k slot : ℕ) → still_uses slot (channel_in m.channels k) ≡ true → slot ≢ new_slot m.disk
+pub used_else : (t : ℕ) (c : Content) (p : Bool) (chs : List kept.Channel) (told : ToldStatus) (text : Option (ℕ × List ℕ)) (m : Machine) → StandsBy c t p chs told text m → (k slot : ℕ) → still_uses slot (channel_in m.channels k) ≡ true → slot ≢ new_slot m.disk
 used_else t c p chs told text m st k slot u e =
     let has = sym (uses_alike slot (slice_index_or chs k code.Closed) (channel_in m.channels k) (zip_at chs m.channels k st.each)) ∙ u in
     let file = used_file (geometry_of t c) c st.holds.layout m.disk k (uses_of chs m.channels k) slot (st.holds.so.each k) has in
@@ -262,7 +262,7 @@ module _ (t : ℕ) (c : Content) (d d' : Disk) (protected : Bool) (chs : List ke
 other_of : (n k : ℕ) → n ≢ k → (n == k) ≡ false
 other_of n k ne = not_so (n == k) (λ e. ne (eqb-true n k e))
 
-pub opened_fits : (t : ℕ) (c c' : Content) (p : Bool) (chs : List kept.Channel) (told : Told) (text : Option (ℕ × List ℕ)) (m : Machine) (ch : ℕ) (q : Plan) (x : plan.Plan) (k : kept.Channel) → StandsBy c t p chs told text m
+pub opened_fits : (t : ℕ) (c c' : Content) (p : Bool) (chs : List kept.Channel) (told : ToldStatus) (text : Option (ℕ × List ℕ)) (m : Machine) (ch : ℕ) (q : Plan) (x : plan.Plan) (k : kept.Channel) → StandsBy c t p chs told text m
     → PlannedAs t c m (Ok q) (Ok x) → IsOpened t c' m ch q (uses_of chs m.channels) (Some k) → FitsIn m.disk (disk_opened m.disk q) m.protected m.channels ch (opened_by m.disk q)
 opened_fits t c c' p chs told text m ch (ReadListing a) x k st h is = record {
   reads = λ slot left e. absurd (cc);
@@ -385,7 +385,7 @@ opened_fits t c c' p chs told text m ch (MakeRecords name len) (planned.MakeReco
 -- ---- the ends of `opened`
 
 -- a relative file
-pub relates_opened : (t : ℕ) (c : Content) (p : Bool) (chs : List kept.Channel) (told : Told) (text : Option (ℕ × List ℕ)) (m : Machine) (ch : ℕ) (q : Plan) (s : ℕ) (found : Found) (r : Placed) → StandsBy c t p chs told text m → q ≡ OpenRecords s → IsRelatable t c m s found
+pub relates_opened : (t : ℕ) (c : Content) (p : Bool) (chs : List kept.Channel) (told : ToldStatus) (text : Option (ℕ × List ℕ)) (m : Machine) (ch : ℕ) (q : Plan) (s : ℕ) (found : Found) (r : Placed) → StandsBy c t p chs told text m → q ≡ OpenRecords s → IsRelatable t c m s found
     → r.slot ≡ found.slot → r.number ≡ 1 → r.position ≡ 1 → IsOnRecord m.disk r → IsOpened t c m ch q (uses_of chs m.channels) (Some (code.Records r))
 relates_opened t c p chs told text m ch q s found r st e h slot number position on =
     let file = of_records t c m.disk s h.file (means_of c t p chs told text m st) h.in_slot h.closed h.relative in
@@ -402,7 +402,7 @@ relates_opened t c p chs told text m ch q s found r st e h slot number position 
     )
 
 -- a relative file that is made
-pub makes_opened : (t : ℕ) (c c' : Content) (p : Bool) (chs : List kept.Channel) (told : Told) (text : Option (ℕ × List ℕ)) (m : Machine) (ch : ℕ) (q : Plan) (name : List ℕ) (len slot : ℕ) (r : Placed) → StandsBy c t p chs told text m → q ≡ MakeRecords name len → IsMakeable m name len
+pub makes_opened : (t : ℕ) (c c' : Content) (p : Bool) (chs : List kept.Channel) (told : ToldStatus) (text : Option (ℕ × List ℕ)) (m : Machine) (ch : ℕ) (q : Plan) (name : List ℕ) (len slot : ℕ) (r : Placed) → StandsBy c t p chs told text m → q ≡ MakeRecords name len → IsMakeable m name len
     → empty_from 0 (grown m.disk).slots ≡ Some slot → HoldsNow t c' (with_new_records m.disk name len) (uses_of chs m.channels) → r.slot ≡ slot → r.number ≡ 1 → r.position ≡ 1 → IsOnRecord (with_new_records m.disk name len) r
     → IsOpened t c' m ch q (uses_of chs m.channels) (Some (code.Records r))
 makes_opened t c c' p chs told text m ch q name len slot r st e h empty holds at number position on =
@@ -431,7 +431,7 @@ has_room_of m name len h none = let z = sym h.room ∙ none in absurd (cc)
 
 -- a writer that begins
 pub begins_as : (t : ℕ) (c : Content) (m : Machine) (q : Plan) (d : Disk) (uses : ℕ → Use) (ch slot : ℕ) (replaces : Bool) (bytes : List ℕ) (blocks : ℕ) (w : Filling) → opened_by m.disk q ≡ Writing slot bytes blocks false replaces
-    → disk_opened m.disk q ≡ d → Begins t c d uses ch slot replaces bytes blocks w → IsOpened t c m ch q uses (Some (code.Writing w false))
+    → disk_opened m.disk q ≡ d → BeginsFile t c d uses ch slot replaces bytes blocks w → IsOpened t c m ch q uses (Some (code.Writing w false))
 begins_as t c m q d uses ch slot replaces bytes blocks w is same b = (
   (bytes, blocks, is ∙ (λ i. Writing (sym b.same_slot i) bytes blocks false (sym b.same_way i))),
   tt,
@@ -514,14 +514,14 @@ either_stays before after now slot (inr e) h = e ∙ h
 
 -- ---- the drive after an OPEN
 
-module _ (t : ℕ) (c c' : Content) (p : Bool) (chs : List kept.Channel) (told : Told) (text : Option (ℕ × List ℕ)) (m : Machine) (ch : ℕ) (q : Plan) (x : plan.Plan) (more : ch < length chs) (st : StandsBy c t p chs told text m)
+module _ (t : ℕ) (c c' : Content) (p : Bool) (chs : List kept.Channel) (told : ToldStatus) (text : Option (ℕ × List ℕ)) (m : Machine) (ch : ℕ) (q : Plan) (x : plan.Plan) (more : ch < length chs) (st : StandsBy c t p chs told text m)
     (h : PlannedAs t c m (Ok q) (Ok x)) where
   pub opened_stands : (k : kept.Channel) → IsOpened t c' m ch q (uses_of chs m.channels) (Some k) → StandsBy c' t p (slice_set chs ch k) told text (act ch q m)
   opened_stands k is = moved _ _ _ _ _ _ _ _ (act_is t c ch m q x h)
       (with_step_at c t p chs told text m c' (disk_opened m.disk q) ch k (opened_by m.disk q) more is.0 is.1 is.2 (opened_fits t c c' p chs told text m ch q x k st h is) st)
 
   pub opened_cut : slice_index_or chs ch code.Closed ≡ code.Closed → usage.Stopped t c' m.disk (disk_opened m.disk q) (uses_of chs m.channels)
-      → (n : Machine) × ((trouble : Trouble) (status : Status) → status ≡ trouble_status trouble → IsStopped ch m (say Fine (act ch q m)) (tell status n)) × StandsBy c' t p chs told text n
+      → (n : Machine) × ((trouble : Trouble) (status : Status) → status ≡ trouble_status trouble → IsStopped ch m (say Fine (act ch q m)) (with_status status n)) × StandsBy c' t p chs told text n
   opened_cut shut stop =
       let also : ch < length m.channels = omega (arith, more, zip_length chs m.channels st.each) in
       let n : Machine = with_channel ch Closed (with_disk stop.disk m) in

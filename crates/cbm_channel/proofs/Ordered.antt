@@ -11,7 +11,7 @@ use Rattle.cbm_machine.specs.declared.code.Code.TheVariants.{Fine, WriteProtecte
 use Rattle.cbm_machine.specs.declared.status.Status.{Status}
 use Rattle.cbm_machine.specs.Codes.{code_of_fault}
 use Rattle.cbm_machine.specs.Statuses.{plain, trouble_status}
-use Rattle.cbm_machine.specs.Told.{Told}
+use Rattle.cbm_machine.specs.Told.{ToldStatus}
 use Rattle.cbm_channel.specs.Commanded.{end_validates}
 use Rattle.cbm_channel.proofs.Refused.{either_way}
 
@@ -42,25 +42,25 @@ pub trouble_not_fine : (t : Trouble) (s : Status) → s ≡ trouble_status t →
 trouble_not_fine t s e f = not_fine (t.code == 26) t (sym (ap (λ (x : Status). x.code) e) ∙ f)
 
 -- the same over the parts that it speaks of
-abbrev pub OrdersFor : {M : Type 0} → (M → Seen) → M → M → Told → Type 0
+abbrev pub OrdersFor : {M : Type 0} → (M → Seen) → M → M → ToldStatus → Type 0
 OrdersFor seen a b told =
     ((told.status.code ≡ Fine) × IsPutInOrder (geometry_of (seen a).tracks (seen a).content) (seen a).content (seen b).content)
     ⊎ ((told.status.code ≢ Fine) × IsPartlyInOrder (geometry_of (seen a).tracks (seen a).content) (seen a).content (seen b).content)
 
 -- 00 is told, and the disk is in order
-pub fine_ordered : {M : Type 0} (seen : M → Seen) (a b : M) (now : Told) (before after : Seen) → before ≡ seen a → seen b ≡ after → now ≡ record { status = plain Fine; told = 0 }
+pub fine_ordered : {M : Type 0} (seen : M → Seen) (a b : M) (now : ToldStatus) (before after : Seen) → before ≡ seen a → seen b ≡ after → now ≡ record { status = plain Fine; told = 0 }
     → IsPutInOrder (geometry_of before.tracks before.content) before.content after.content → OrdersFor seen a b now
 fine_ordered seen a b now before after was is told h = inl (
-  ap (λ (t : Told). t.status.code) told,
+  ap (λ (t : ToldStatus). t.status.code) told,
   subst (λ (s : Seen). IsPutInOrder (geometry_of (seen a).tracks (seen a).content) (seen a).content s.content) (sym is)
       (subst (λ (s : Seen). IsPutInOrder (geometry_of s.tracks s.content) s.content after.content) was h),
 )
 
 -- a refusal or a fault is told
-pub refused_ordered : {M : Type 0} (seen : M → Seen) (a b : M) (now : Told) (before after : Seen) (s : Status) → (s.code ≡ Fine → ⊥) → before ≡ seen a → seen b ≡ after → now ≡ record { status = s; told = 0 }
+pub refused_ordered : {M : Type 0} (seen : M → Seen) (a b : M) (now : ToldStatus) (before after : Seen) (s : Status) → (s.code ≡ Fine → ⊥) → before ≡ seen a → seen b ≡ after → now ≡ record { status = s; told = 0 }
     → IsPartlyInOrder (geometry_of before.tracks before.content) before.content after.content → OrdersFor seen a b now
 refused_ordered seen a b now before after s other was is told h = inr (
-  (λ e. other (sym (ap (λ (t : Told). t.status.code) told) ∙ e)),
+  (λ e. other (sym (ap (λ (t : ToldStatus). t.status.code) told) ∙ e)),
   subst (λ (s : Seen). IsPartlyInOrder (geometry_of (seen a).tracks (seen a).content) (seen a).content s.content) (sym is)
       (subst (λ (s : Seen). IsPartlyInOrder (geometry_of s.tracks s.content) s.content after.content) was h),
 )

@@ -14,7 +14,7 @@ use Rattle.cbm_volume.specs.Map.{geometry_of}
 use Rattle.cbm_volume.specs.Calls.{IsCall, IsChange}
 use Rattle.cbm_volume.specs.Writers.{Filling, Use, Idle, Writes, IsUsed, HoldsNow, Stopped, IsStored, IsFullDisk, needs_block, one_block_less}
 use Rattle.cbm_volume.specs.Growth.{IsGrowth, IsGrowthCut, IsTooLarge, with_growth}
-use Rattle.cbm_volume.specs.Opens.{Begins, CanBeWritten}
+use Rattle.cbm_volume.specs.Opens.{BeginsFile, CanBeWritten}
 use Rattle.cbm_volume.specs.RecordWrites.{IsRecordPut, IsRecordCut}
 use Rattle.cbm_volume.proofs.layouts.Sizes.{same_size}
 use Rattle.cbm_channel.specs.ChannelCalls.{KeepsOutside}
@@ -138,19 +138,19 @@ made_outside r old new d after uses none some but only size h call total = outsi
 
 -- a channel begins to write, or nothing has changed
 pub begun_outside : {disk : ℕ} (r : Result (Option Filling) Trouble) (old new : Seen) (d after : Disk) (uses : ℕ → Use) (ch slot : ℕ) (replaces : Bool) (bytes : List ℕ) (blocks : ℕ) (none : Type 0) → OnlyContent disk r old new → disk ≡ geometry_of old.tracks old.content → HoldsNow old.tracks old.content d uses
-    → IfOk r (λ o. MatchOption o (none × (new.content ≡ old.content)) (Begins old.tracks new.content after uses ch slot replaces bytes blocks)) → OnErr r (HoldsSized old.tracks new.content d) → after.total ≡ d.total → KeepsOutside old new
+    → IfOk r (λ o. MatchOption o (none × (new.content ≡ old.content)) (BeginsFile old.tracks new.content after uses ch slot replaces bytes blocks)) → OnErr r (HoldsSized old.tracks new.content d) → after.total ≡ d.total → KeepsOutside old new
 begun_outside r old new d after uses ch slot replaces bytes blocks none only size h done stopped total = outside_held r old new d uses only size h (by_result r done stopped)
   where
-    by_result : (q : Result (Option Filling) Trouble) → IfOk q (λ o. MatchOption o (none × (new.content ≡ old.content)) (Begins old.tracks new.content after uses ch slot replaces bytes blocks)) → OnErr q (HoldsSized old.tracks new.content d) → HoldsSized old.tracks new.content d
+    by_result : (q : Result (Option Filling) Trouble) → IfOk q (λ o. MatchOption o (none × (new.content ≡ old.content)) (BeginsFile old.tracks new.content after uses ch slot replaces bytes blocks)) → OnErr q (HoldsSized old.tracks new.content d) → HoldsSized old.tracks new.content d
     by_result (Ok (Some w)) k s = record { disk = after; uses = _; holds = k.holds; total = total }
     by_result (Ok None) k s = record { disk = d; uses = uses; holds = subst (λ (x : Content). HoldsNow old.tracks x d uses) (sym k.1) h; total = refl }
     by_result (Err t) k s = s
 
 pub appended_outside : {disk : ℕ} (r : Result Filling Trouble) (old new : Seen) (d after : Disk) (uses : ℕ → Use) (ch slot : ℕ) (replaces : Bool) (bytes : List ℕ) (blocks : ℕ) → OnlyContent disk r old new → disk ≡ geometry_of old.tracks old.content → HoldsNow old.tracks old.content d uses
-    → IfOk r (Begins old.tracks new.content after uses ch slot replaces bytes blocks) → OnErr r (new.content ≡ old.content) → after.total ≡ d.total → KeepsOutside old new
+    → IfOk r (BeginsFile old.tracks new.content after uses ch slot replaces bytes blocks) → OnErr r (new.content ≡ old.content) → after.total ≡ d.total → KeepsOutside old new
 appended_outside r old new d after uses ch slot replaces bytes blocks only size h done same total = outside_held r old new d uses only size h (by_result r done same)
   where
-    by_result : (q : Result Filling Trouble) → IfOk q (Begins old.tracks new.content after uses ch slot replaces bytes blocks) → OnErr q (new.content ≡ old.content) → HoldsSized old.tracks new.content d
+    by_result : (q : Result Filling Trouble) → IfOk q (BeginsFile old.tracks new.content after uses ch slot replaces bytes blocks) → OnErr q (new.content ≡ old.content) → HoldsSized old.tracks new.content d
     by_result (Ok w) k s = record { disk = after; uses = _; holds = k.holds; total = total }
     by_result (Err t) k s = record { disk = d; uses = uses; holds = subst (λ (x : Content). HoldsNow old.tracks x d uses) (sym s) h; total = refl }
 

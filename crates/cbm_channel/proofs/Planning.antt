@@ -11,7 +11,7 @@ use Rattle.cbm_command.specs.declared.opening.Mode.TheVariants.{Read, Write, App
 use Rattle.cbm_command.specs.declared.opening.Wanted.{Wanted}
 use Rattle.cbm_command.specs.declared.refusal.Refusal.{Refusal}
 use Rattle.cbm_command.specs.declared.refusal.Refusal.TheVariants as refusal
-use Rattle.cbm_command.specs.Openings.{is_relative, opening_of}
+use Rattle.cbm_command.specs.Openings.{wants_relative, opening_of}
 use Rattle.cbm_command.specs.Refusals.{◌>>=◌}
 use Rattle.cbm_medium.specs.Content.{Content}
 use Rattle.cbm_volume.specs.Reading.{Reading}
@@ -25,7 +25,7 @@ use Rattle.cbm_channel.specs.declared.finding.Found.{Found}
 use Rattle.cbm_channel.specs.declared.plan.Plan as code
 use Rattle.cbm_channel.specs.declared.plan.Plan.TheVariants as planned
 use Rattle.cbm_machine.specs.Statuses.{plain}
-use Rattle.cbm_machine.specs.Machines.{Machine, answered, say, tell}
+use Rattle.cbm_machine.specs.Machines.{Machine, answered, say, with_status}
 use Rattle.cbm_machine.specs.Machines as machine
 use Rattle.cbm_machine.specs.Finding.{body_at}
 use Rattle.cbm_machine.specs.Plans.{Plan, ReadListing, ReadFile, WriteFile, AppendFile, ReplaceFile, OpenRecords, MakeRecords, plan, act, asked, open_text}
@@ -47,8 +47,8 @@ begun_err t c d (Err e) status h = (e, refl, h)
 pub begun_does : (ch : ℕ) (o : Opening) (m : Machine) (p : Plan) → plan ch o m ≡ Ok p → begun_by ch o m ≡ say Fine (act ch p m)
 begun_does ch o m p h = ap (λ (r : Result Plan Code). answered m (r >>= λ q. Ok (say Fine (act ch q m)))) h
 
-pub begun_refuses : (ch : ℕ) (o : Opening) (m : Machine) (e : Code) (status : Status) → plan ch o m ≡ Err e → status ≡ plain e → begun_by ch o m ≡ tell status m
-begun_refuses ch o m e status h is = ap (λ (r : Result Plan Code). answered m (r >>= λ q. Ok (say Fine (act ch q m)))) h ∙ ap (λ x. tell x m) (sym is)
+pub begun_refuses : (ch : ℕ) (o : Opening) (m : Machine) (e : Code) (status : Status) → plan ch o m ≡ Err e → status ≡ plain e → begun_by ch o m ≡ with_status status m
+begun_refuses ch o m e status h is = ap (λ (r : Result Plan Code). answered m (r >>= λ q. Ok (say Fine (act ch q m)))) h ∙ ap (λ x. with_status x m) (sym is)
 
 -- a file that is read
 pub readable : (t : ℕ) (c : Content) (d : Machine) (p : Plan) (x : code.Plan) (file : Found) → PlannedAs t c d (Ok p) (Ok x) → x ≡ planned.ReadFile file → (s : ℕ) × (p ≡ ReadFile s) × IsReadable t c d s file
@@ -175,7 +175,7 @@ pub refused_text : (ch : ℕ) (text : List ℕ) (e : Refusal) (m : Machine) → 
 refused_text ch text e m is = ap (λ (r : Result Opening Refusal). answered m (asked r >>= λ x. plan ch x m >>= λ p. Ok (say Fine (act ch p m)))) is
 
 -- what isn't for writing, and isn't relative, reads
-pub reads_mode : (w : Wanted) → is_relative w ≡ false → is_for_writing (opening.File w) ≡ false → w.mode ≡ Read
+pub reads_mode : (w : Wanted) → wants_relative w ≡ false → is_for_writing (opening.File w) ≡ false → w.mode ≡ Read
 reads_mode w plain h = by_mode w.mode refl (sym (ap (λ (b : Bool). if b then true else elim w.mode [ Read ↦ false | _ ↦ true ]) plain) ∙ h)
   where
     by_mode : (x : Mode) → w.mode ≡ x → (elim w.mode [ Read ↦ false | _ ↦ true ]) ≡ false → w.mode ≡ Read
@@ -184,7 +184,7 @@ reads_mode w plain h = by_mode w.mode refl (sym (ap (λ (b : Bool). if b then tr
     by_mode Append e g = absurd (let z = ap (λ (y : Mode). elim y [ Read ↦ false | _ ↦ true ]) (sym e) ∙ g in (cc))
 
 -- a relative file may be made
-pub relative_writes : (o : Opening) (w : Wanted) → o ≡ opening.File w → is_relative w ≡ true → is_for_writing o ≡ false → ⊥
+pub relative_writes : (o : Opening) (w : Wanted) → o ≡ opening.File w → wants_relative w ≡ true → is_for_writing o ≡ false → ⊥
 relative_writes o w e relative h = let z = ap (λ (b : Bool). if b then true else elim w.mode [ Read ↦ false | _ ↦ true ]) (sym relative) ∙ sym (ap is_for_writing e) ∙ h in absurd (cc)
 
 pub writes_text : (ch : ℕ) (text : List ℕ) (o : Opening) → (ch == 15) ≡ false → opening_of ch text ≡ Ok o → text_writes ch text ≡ false → is_for_writing o ≡ false

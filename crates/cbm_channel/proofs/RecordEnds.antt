@@ -15,11 +15,11 @@ use Rattle.cbm_machine.specs.declared.code.Code.TheVariants.{RecordOverflow, Fil
 use Rattle.cbm_machine.specs.declared.code.Code.{Code}
 use Rattle.cbm_volume.specs.Growth.{more_blocks, filled_up, with_growth, IsTooLarge}
 use Rattle.cbm_volume.specs.Opens.{IsHindered}
-use Rattle.cbm_machine.specs.Machines.{Machine, Relative, Channel, say, tell, answered, channel, with_channel, with_disk}
+use Rattle.cbm_machine.specs.Machines.{Machine, Relative, Channel, say, with_status, answered, channel, with_channel, with_disk}
 use Rattle.cbm_machine.specs.Finding.{body_at}
 use Rattle.cbm_machine.specs.Orderly.{IsPlace, channel_in, still_uses, still_writes}
-use Rattle.cbm_machine.specs.Records.{record_at, written, grown_to, write_record}
-use Rattle.cbm_machine.specs.Told.{Told}
+use Rattle.cbm_machine.specs.Records.{record_at, with_written_record, grown_to, write_record}
+use Rattle.cbm_machine.specs.Told.{ToldStatus}
 use Rattle.cbm_machine.specs.Statuses.{plain, trouble_status}
 use Rattle.cbm_machine.specs.declared.status.Status.{Status}
 use Rattle.cbm_medium.specs.declared.fault.Trouble.{Trouble}
@@ -80,7 +80,7 @@ told_cut cut m = if cut then say RecordOverflow m else m
 abbrev pub behind_on : Disk → ℕ → ℕ → ℕ → ℕ → ℕ → ℕ → ℕ → List (List ℕ) → List ℕ → Machine → Machine
 behind_on d ch s k p l b sides rs bytes m = with_channel ch (Relative s (k + 1) 1) (with_disk (with_record d s l rs b sides k (new_record l rs k p bytes)) m)
 
-written_is : (ch s k p l b sides : ℕ) (rs : List (List ℕ)) (bytes : List ℕ) (m : Machine) → body_at m.disk s ≡ Records l rs b sides → written ch s k p bytes m ≡ told_cut (nat_lt (l + 1 - p) (length bytes)) (behind_on m.disk ch s k p l b sides rs bytes m)
+written_is : (ch s k p l b sides : ℕ) (rs : List (List ℕ)) (bytes : List ℕ) (m : Machine) → body_at m.disk s ≡ Records l rs b sides → with_written_record ch s k p bytes m ≡ told_cut (nat_lt (l + 1 - p) (length bytes)) (behind_on m.disk ch s k p l b sides rs bytes m)
 written_is ch s k p l b sides rs bytes m body = ap (λ (x : Body). elim x [
   | Bytes _ ↦ m
   | Records l rs b sides ↦
@@ -90,16 +90,16 @@ written_is ch s k p l b sides rs bytes m body = ap (λ (x : Body). elim x [
 
 module _ (ch s k p l b sides : ℕ) (rs : List (List ℕ)) (bytes : List ℕ) (m : Machine) (body : body_at m.disk s ≡ Records l rs b sides) where
   by_there : (t : Bool) → is_some (record_at (Records l rs b sides) k) ≡ t
-      → write_record ch (Relative s k p) bytes m ≡ answered m ((if t then unless ((m.protected, WriteProtected) ∷ []) (Ok m) else grown_to s k m) >>= λ n. Ok (written ch s k p bytes n))
-  by_there t e = ap (λ (t : Bool). answered m ((if t then unless ((m.protected, WriteProtected) ∷ []) (Ok m) else grown_to s k m) >>= λ n. Ok (written ch s k p bytes n))) (ap (λ (x : Body). is_some (record_at x k)) body ∙ e)
+      → write_record ch (Relative s k p) bytes m ≡ answered m ((if t then unless ((m.protected, WriteProtected) ∷ []) (Ok m) else grown_to s k m) >>= λ n. Ok (with_written_record ch s k p bytes n))
+  by_there t e = ap (λ (t : Bool). answered m ((if t then unless ((m.protected, WriteProtected) ∷ []) (Ok m) else grown_to s k m) >>= λ n. Ok (with_written_record ch s k p bytes n))) (ap (λ (x : Body). is_some (record_at x k)) body ∙ e)
 
   -- THE RECORD IS THERE
   pub record_written : is_some (record_at (Records l rs b sides) k) ≡ true → m.protected ≡ false → write_record ch (Relative s k p) bytes m ≡ told_cut (nat_lt (l + 1 - p) (length bytes)) (behind_on m.disk ch s k p l b sides rs bytes m)
-  record_written e free = by_there true e ∙ ap (λ (t : Bool). answered m (unless ((t, WriteProtected) ∷ []) (Ok m) >>= λ n. Ok (written ch s k p bytes n))) free ∙ written_is ch s k p l b sides rs bytes m body
+  record_written e free = by_there true e ∙ ap (λ (t : Bool). answered m (unless ((t, WriteProtected) ∷ []) (Ok m) >>= λ n. Ok (with_written_record ch s k p bytes n))) free ∙ written_is ch s k p l b sides rs bytes m body
 
   -- on a protected disk
   pub record_guarded : is_some (record_at (Records l rs b sides) k) ≡ true → m.protected ≡ true → write_record ch (Relative s k p) bytes m ≡ say WriteProtected m
-  record_guarded e closed = by_there true e ∙ ap (λ (t : Bool). answered m (unless ((t, WriteProtected) ∷ []) (Ok m) >>= λ n. Ok (written ch s k p bytes n))) closed
+  record_guarded e closed = by_there true e ∙ ap (λ (t : Bool). answered m (unless ((t, WriteProtected) ∷ []) (Ok m) >>= λ n. Ok (with_written_record ch s k p bytes n))) closed
 
   -- IT ISN'T: the file grows
   abbrev too_large : Bool
@@ -118,8 +118,8 @@ module _ (ch s k p l b sides : ℕ) (rs : List (List ℕ)) (bytes : List ℕ) (m
   ]) body
 
   step_grown : record_at (Records l rs b sides) k ≡ None → (large closed : Bool) → too_large ≡ large → m.protected ≡ closed
-      → write_record ch (Relative s k p) bytes m ≡ answered m (unless ((large, FileTooLarge) ∷ (closed, WriteProtected) ∷ []) (Ok (with_disk (with_growth m.disk s l b sides rs k) m)) >>= λ n. Ok (written ch s k p bytes n))
-  step_grown none large closed e f = by_there false (ap is_some none) ∙ ap (λ (r : Result Machine Code). answered m (r >>= λ n. Ok (written ch s k p bytes n))) (grows_to ∙ (λ i. unless ((e i, FileTooLarge) ∷ (f i, WriteProtected) ∷ []) (Ok (with_disk (with_growth m.disk s l b sides rs k) m))))
+      → write_record ch (Relative s k p) bytes m ≡ answered m (unless ((large, FileTooLarge) ∷ (closed, WriteProtected) ∷ []) (Ok (with_disk (with_growth m.disk s l b sides rs k) m)) >>= λ n. Ok (with_written_record ch s k p bytes n))
+  step_grown none large closed e f = by_there false (ap is_some none) ∙ ap (λ (r : Result Machine Code). answered m (r >>= λ n. Ok (with_written_record ch s k p bytes n))) (grows_to ∙ (λ i. unless ((e i, FileTooLarge) ∷ (f i, WriteProtected) ∷ []) (Ok (with_disk (with_growth m.disk s l b sides rs k) m))))
 
   -- it can't
   pub record_large : record_at (Records l rs b sides) k ≡ None → too_large ≡ true → write_record ch (Relative s k p) bytes m ≡ say FileTooLarge m
@@ -156,7 +156,7 @@ abbrev file_in : File → Option File → File
 file_in f None = f
 file_in f (Some g) = g
 
-module _ (t : ℕ) (c c' : Content) (protected : Bool) (chs : List kept.Channel) (told : Told) (text : Option (ℕ × List ℕ)) (m : Machine) (ch : ℕ) (r : Placed) (lt : ch < 15) (fit : AreFit t chs) (st : StandsBy c t protected chs told text m) (at : slice_index_or chs ch code.Closed ≡ code.Records r) (on : IsOnRecord m.disk r) where
+module _ (t : ℕ) (c c' : Content) (protected : Bool) (chs : List kept.Channel) (told : ToldStatus) (text : Option (ℕ × List ℕ)) (m : Machine) (ch : ℕ) (r : Placed) (lt : ch < 15) (fit : AreFit t chs) (st : StandsBy c t protected chs told text m) (at : slice_index_or chs ch code.Closed ≡ code.Records r) (on : IsOnRecord m.disk r) where
   -- the machine's channel is at the same place
   pub place_of : channel m ch ≡ Relative r.slot r.number r.position
   place_of = subst (λ (x : kept.Channel). ChannelStands x (channel m ch)) at (zip_at chs m.channels ch st.each)
@@ -322,7 +322,7 @@ module _ (t : ℕ) (c c' : Content) (protected : Bool) (chs : List kept.Channel)
   -- OR STOPPED by a failure
   pub stopped_ends : (old new : Seen) (q : Placed) (bytes whole : List ℕ) (tr : Trouble) (s : Status) → bytes ≡ take 256 whole → s ≡ trouble_status tr → old.tracks ≡ t → new.tracks ≡ t → new.content ≡ c' → IsPlacedAt r q r.number r.position → IsReadAnew new q
       → IsTextCut old new m.disk (uses_of chs m.channels) r on.blocks on.sides on.records bytes tr
-      → (d' : Disk) × IsRecordStopped ch whole m (tell s (with_disk d' m)) × StandsBy c' t protected (slice_set chs ch (code.Records q)) told text (with_disk d' m)
+      → (d' : Disk) × IsRecordStopped ch whole m (with_status s (with_disk d' m)) × StandsBy c' t protected (slice_set chs ch (code.Records q)) told text (with_disk d' m)
   stopped_ends old new q bytes whole tr s e is same_tracks tracks content at anew cut = by_way cut
     where
       same : (rs : List (List ℕ)) → new_record r.width rs r.number r.position bytes ≡ new_record r.width rs r.number r.position whole
@@ -335,7 +335,7 @@ module _ (t : ℕ) (c c' : Content) (protected : Bool) (chs : List kept.Channel)
           → HasBegun m.disk r.slot r.width on.blocks on.sides on.records r.number r.position whole d'
           ⊎ (HasBegunToGrow m.disk r.slot r.width on.records d'
           ⊎ HasBegun (disk_grown m.disk r on.blocks on.sides on.records) r.slot r.width (blocks_grown r on.blocks) (sides_grown r on.blocks on.sides) (records_grown r on.blocks on.records) r.number r.position whole d')
-          → IsRecordStopped ch whole m (tell s (with_disk d' m))
+          → IsRecordStopped ch whole m (with_status s (with_disk d' m))
       stopped d' begun = record {
         slot = r.slot;
         record_number = r.number;
@@ -354,7 +354,7 @@ module _ (t : ℕ) (c c' : Content) (protected : Bool) (chs : List kept.Channel)
       }
 
       by_way : IsTextCut old new m.disk (uses_of chs m.channels) r on.blocks on.sides on.records bytes tr
-          → (d' : Disk) × IsRecordStopped ch whole m (tell s (with_disk d' m)) × StandsBy c' t protected (slice_set chs ch (code.Records q)) told text (with_disk d' m)
+          → (d' : Disk) × IsRecordStopped ch whole m (with_status s (with_disk d' m)) × StandsBy c' t protected (slice_set chs ch (code.Records q)) told text (with_disk d' m)
       by_way (inl x) =
           let half : List ℕ = take x.so_far (new_record r.width on.records r.number r.position bytes) ++ drop x.so_far (slice_index_or on.records (r.number - 1) []) in
           let d' : Disk = with_record m.disk r.slot r.width on.records on.blocks on.sides r.number half in (
@@ -401,9 +401,9 @@ PutsRecord old new x x' bytes result = (r : Placed) → x ≡ code.Records r →
     → (q : Placed) × (x' ≡ code.Records q) × MatchResult result (IsTextEnded old new d uses r q b s rs bytes) (IsTextStopped old new d uses r q b s rs bytes)
 
 -- the drive stands for a machine with a status that is told anew
-pub record EndsAs (old new : Seen) (chs : List kept.Channel) (told : Told) (text : Option (ℕ × List ℕ)) (whole : List ℕ) (m : Machine) (ch : ℕ) (x' : kept.Channel) (s : Status) : Type 0 where
+pub record EndsAs (old new : Seen) (chs : List kept.Channel) (told : ToldStatus) (text : Option (ℕ × List ℕ)) (whole : List ℕ) (m : Machine) (ch : ℕ) (x' : kept.Channel) (s : Status) : Type 0 where
   pub now : Machine
-  pub either : (tell s now ≡ write_record ch (channel m ch) whole m) ⊎ (HasFailed old new × IsRecordStopped ch whole m (tell s now))
+  pub either : (with_status s now ≡ write_record ch (channel m ch) whole m) ⊎ (HasFailed old new × IsRecordStopped ch whole m (with_status s now))
   pub stands : StandsBy new.content old.tracks old.protected (slice_set chs ch x') told text now
 
 -- why a text was refused
@@ -412,7 +412,7 @@ cause_of old new d uses r b s rs bytes tr (inl x) = x.cause
 cause_of old new d uses r b s rs bytes tr (inr (can, inl x)) = x.cause
 cause_of old new d uses r b s rs bytes tr (inr (can, inr x)) = x.cause
 
-module _ (old new : Seen) (chs : List kept.Channel) (told : Told) (text : Option (ℕ × List ℕ)) (m : Machine) (ch : ℕ) (lt : ch < 15) (fit : AreFit old.tracks chs) (st : StandsBy old.content old.tracks old.protected chs told text m) (x x' dflt : kept.Channel) (is_x : x ≡ slice_index_or chs ch dflt) (bytes whole : List ℕ) (first : bytes ≡ take 256 whole) (tracks : new.tracks ≡ old.tracks) where
+module _ (old new : Seen) (chs : List kept.Channel) (told : ToldStatus) (text : Option (ℕ × List ℕ)) (m : Machine) (ch : ℕ) (lt : ch < 15) (fit : AreFit old.tracks chs) (st : StandsBy old.content old.tracks old.protected chs told text m) (x x' dflt : kept.Channel) (is_x : x ≡ slice_index_or chs ch dflt) (bytes whole : List ℕ) (first : bytes ≡ take 256 whole) (tracks : new.tracks ≡ old.tracks) where
   here : (r : Placed) → x ≡ code.Records r → slice_index_or chs ch code.Closed ≡ code.Records r
   here r e = any_default chs ch code.Closed dflt (omega (arith, lt, fit.count)) ∙ sym is_x ∙ e
 
@@ -469,7 +469,7 @@ module _ (old new : Seen) (chs : List kept.Channel) (told : Told) (text : Option
           let said : s ≡ plain WriteProtected = protected_status tr s is p.1 in
           record {
             now = m;
-            either = inl (ap (λ (y : Status). tell y m) said ∙ sym (guarded_law old.tracks old.content new.content old.protected chs told text m ch r lt fit st at on old new bytes whole tr p.0 q.2.0));
+            either = inl (ap (λ (y : Status). with_status y m) said ∙ sym (guarded_law old.tracks old.content new.content old.protected chs told text m ch r lt fit st at on old new bytes whole tr p.0 q.2.0));
             stands = subst (λ (y : kept.Channel). StandsBy new.content old.tracks old.protected (slice_set chs ch y) told text m) (sym q.1)
                 (still_stands old.tracks old.content new.content old.protected chs told text m ch r lt fit st at on new m.disk q.0 tracks refl q.2.1.0 q.2.1.1
                 (but_itself m.disk r.slot r.width on.blocks on.sides on.records on.file on.in_slot on.closed on.body) (subst (λ (c : Content). HoldsNow old.tracks c m.disk (uses_of chs m.channels)) (sym (guarded p.0)) st.holds));
@@ -483,7 +483,7 @@ module _ (old new : Seen) (chs : List kept.Channel) (told : Told) (text : Option
           }
 
 -- nothing becomes of a text on a channel without records
-pub none_done : (old new : Seen) (chs : List kept.Channel) (told : Told) (text : Option (ℕ × List ℕ)) (m : Machine) (ch : ℕ) → ch < 15 → AreFit old.tracks chs → StandsBy old.content old.tracks old.protected chs told text m
+pub none_done : (old new : Seen) (chs : List kept.Channel) (told : ToldStatus) (text : Option (ℕ × List ℕ)) (m : Machine) (ch : ℕ) → ch < 15 → AreFit old.tracks chs → StandsBy old.content old.tracks old.protected chs told text m
     → (x x' dflt : kept.Channel) → x ≡ slice_index_or chs ch dflt → (whole : List ℕ) → has_records x ≡ false → x' ≡ x → new ≡ old
     → (m ≡ write_record ch (channel m ch) whole m) × StandsBy new.content old.tracks old.protected (slice_set chs ch x') told text m
 none_done old new chs told text m ch lt fit st x x' dflt is whole none same quiet =

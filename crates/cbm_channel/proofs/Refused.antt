@@ -8,7 +8,7 @@ use Rattle.cbm_machine.specs.declared.code.Code.TheVariants.{WriteProtected, Wri
 use Rattle.cbm_machine.specs.declared.status.Status.{Status}
 use Rattle.cbm_machine.specs.Codes.{code_of_fault}
 use Rattle.cbm_machine.specs.Statuses.{plain, trouble_status}
-use Rattle.cbm_machine.specs.Told.{Told}
+use Rattle.cbm_machine.specs.Told.{ToldStatus}
 use Rattle.cbm_channel.specs.declared.plan.Plan.{Plan}
 use Rattle.cbm_channel.specs.Grounds.{is_refusal}
 use Rattle.cbm_channel.specs.Planned.{plan_writes}
@@ -51,12 +51,12 @@ trouble_26 t s e is = elim (eqb_tells t.code 26) [
 ]
 
 -- a trouble that is told as a refusal is 26
-pub refused_26 : (t : Trouble) (s : Status) (new : Told) → s ≡ trouble_status t → new ≡ record { status = s; told = 0 } → is_refusal new.status.code ≡ true → t.code ≡ 26
-refused_26 t s new e told is = trouble_26 t s e (sym (ap (λ (x : Told). is_refusal x.status.code) told) ∙ is)
+pub refused_26 : (t : Trouble) (s : Status) (new : ToldStatus) → s ≡ trouble_status t → new ≡ record { status = s; told = 0 } → is_refusal new.status.code ≡ true → t.code ≡ 26
+refused_26 t s new e told is = trouble_26 t s e (sym (ap (λ (x : ToldStatus). is_refusal x.status.code) told) ∙ is)
 
 -- what is told is no refusal
-pub not_refused : {P : Type 0} (s : Status) (new : Told) → new ≡ record { status = s; told = 0 } → is_refusal s.code ≡ false → is_refusal new.status.code ≡ true → P
-not_refused s new told none is = let z = sym none ∙ sym (ap (λ (x : Told). is_refusal x.status.code) told) ∙ is in absurd (cc)
+pub not_refused : {P : Type 0} (s : Status) (new : ToldStatus) → new ≡ record { status = s; told = 0 } → is_refusal s.code ≡ false → is_refusal new.status.code ≡ true → P
+not_refused s new told none is = let z = sym none ∙ sym (ap (λ (x : ToldStatus). is_refusal x.status.code) told) ∙ is in absurd (cc)
 
 -- a plan that reads asks nothing of the disk
 pub only_reads : {E : Type 0} (r : Result Plan E) (P : Type 0) → IfOk r (λ p. plan_writes p ≡ false) → IfOk r (λ p. plan_writes p ≡ true → P)

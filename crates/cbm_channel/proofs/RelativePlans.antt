@@ -9,7 +9,7 @@ use Rattle.cbm_file.specs.Types.{is_same_type}
 use Rattle.cbm_file.specs.Files.{File}
 use Rattle.cbm_command.specs.declared.opening.Wanted.{Wanted}
 use Rattle.cbm_command.specs.declared.opening.Opening.TheVariants as opening
-use Rattle.cbm_command.specs.Openings.{is_relative}
+use Rattle.cbm_command.specs.Openings.{wants_relative}
 use Rattle.cbm_command.specs.Refusals.{◌>>=◌}
 use Rattle.cbm_medium.specs.Content.{Content}
 use Rattle.cbm_machine.specs.declared.status.Status.{Status}
@@ -28,21 +28,21 @@ use Rattle.cbm_channel.proofs.Asking.{refused_by, planned_by}
 use Rattle.cbm_channel.proofs.WritePlans.{found_kind, relative_is, type_tested}
 
 -- the code's test of type L
-pub not_relative : (w : Wanted) (b : Bool) → b ≡ option_eq eq-value.it w.kind (Some Rel) → b ≡ false → is_relative w ≡ false
+pub not_relative : (w : Wanted) (b : Bool) → b ≡ option_eq eq-value.it w.kind (Some Rel) → b ≡ false → wants_relative w ≡ false
 not_relative w b e h = by_kind w.kind refl
   where
-    by_kind : (k : Option FileType) → w.kind ≡ k → is_relative w ≡ false
+    by_kind : (k : Option FileType) → w.kind ≡ k → wants_relative w ≡ false
     by_kind None is = rw is refl
     by_kind (Some k) is = relative_is w k is ∙ type_tested Rel k w.kind b is e ∙ h
 
-pub relative_if : (w : Wanted) (b : Bool) → b ≡ option_eq eq-value.it w.kind (Some Rel) → b ≡ true → is_relative w ≡ true
+pub relative_if : (w : Wanted) (b : Bool) → b ≡ option_eq eq-value.it w.kind (Some Rel) → b ≡ true → wants_relative w ≡ true
 relative_if w b e h = by_kind w.kind refl
   where
-    by_kind : (k : Option FileType) → w.kind ≡ k → is_relative w ≡ true
+    by_kind : (k : Option FileType) → w.kind ≡ k → wants_relative w ≡ true
     by_kind None is = absurd (let z = sym h ∙ e ∙ ap (λ k. option_eq eq-value.it k (Some Rel)) is in (cc))
     by_kind (Some k) is = relative_is w k is ∙ type_tested Rel k w.kind b is e ∙ h
 
-module _ (t : ℕ) (c : Content) (m : Machine) (ch : ℕ) (w : Wanted) (relative : is_relative w ≡ true) (few : too_many 2 m ≡ false) (free : w.has_at ≡ false) (high : nat_lt ch 2 ≡ false) (there : is_there m.disk w.name ≡ true) where
+module _ (t : ℕ) (c : Content) (m : Machine) (ch : ℕ) (w : Wanted) (relative : wants_relative w ≡ true) (few : too_many 2 m ≡ false) (free : w.has_at ≡ false) (high : nat_lt ch 2 ≡ false) (there : is_there m.disk w.name ≡ true) where
   there_is : plan ch (opening.File w) m ≡ (found m.disk w.name (Some Rel) >>= plan_there w m)
   there_is = rw (relative, few, free, high, there) refl
 
@@ -56,7 +56,7 @@ module _ (t : ℕ) (c : Content) (m : Machine) (ch : ℕ) (w : Wanted) (relative
       (planned_by t c m file result (found m.disk w.name (Some Rel)) (plan_there w m) h (λ s f is x. more s f x (found_kind m.disk w.name Rel s f is)))
 
 -- the name isn't there
-pub missing_planned : (t : ℕ) (c : Content) (m : Machine) (ch : ℕ) (w : Wanted) → is_relative w ≡ true → too_many 2 m ≡ false → w.has_at ≡ false → nat_lt ch 2 ≡ false → is_there m.disk w.name ≡ false → (result : Result code.Plan Status)
+pub missing_planned : (t : ℕ) (c : Content) (m : Machine) (ch : ℕ) (w : Wanted) → wants_relative w ≡ true → too_many 2 m ≡ false → w.has_at ≡ false → nat_lt ch 2 ≡ false → is_there m.disk w.name ≡ false → (result : Result code.Plan Status)
     → PlannedAs t c m (plan_missing w m) result → PlannedAs t c m (plan ch (opening.File w) m) result
 missing_planned t c m ch w relative few free high there result h =
     let is : plan ch (opening.File w) m ≡ plan_missing w m = rw (relative, few, free, high, there) refl in

@@ -6,25 +6,25 @@ use Rattle.std.proofs.lemmas.List.{at_drop_more, append-nil, append_assoc, lengt
 use Rattle.std.proofs.lemmas.Bool.{cases_lt}
 use Rattle.std.proofs.lemmas.Bool.Decides.{eqb_tells, nat_tests}
 use Rattle.std.proofs.lemmas.List.Sums.{sum_by-cons}
-use Rattle.cbm_file.specs.Files.{File, Disk, held_by, files, files_from, file_at}
+use Rattle.cbm_file.specs.Files.{File, Disk, blocks_held, files, files_from, file_at}
 use Rattle.cbm_file.specs.Changes.{scratched_in, scratched}
 use Rattle.cbm_command.specs.Names.{is_match}
 use Rattle.cbm_medium.specs.declared.fault.Trouble.{Trouble}
 use Rattle.cbm_volume.specs.Entries.{type_byte, bit_of, name_in}
-use Rattle.cbm_volume.specs.Slots.{Listed, behind}
-use Rattle.cbm_volume.specs.Holding.{Says, SlotSays, TellsOf}
+use Rattle.cbm_volume.specs.Slots.{Listed, listed_after}
+use Rattle.cbm_volume.specs.Holding.{EntrySays, SlotSays, TellsOf}
 use Rattle.cbm_medium.specs.Content.{Content}
 use Rattle.cbm_volume.specs.Writers.{Use, HoldsNow, known, Stopped}
 use Rattle.cbm_volume.specs.Opens.{IsUnused}
 use Rattle.cbm_machine.specs.declared.code.Code.TheVariants.{FilesScratched, WriteProtected}
 use Rattle.cbm_machine.specs.Machines as machine
-use Rattle.cbm_machine.specs.Machines.{Machine, answered, tell, with_disk, in_use, uses}
+use Rattle.cbm_machine.specs.Machines.{Machine, answered, with_status, with_disk, in_use, uses}
 use Rattle.cbm_machine.specs.Orderly.{channel_in, still_uses}
 use Rattle.cbm_machine.specs.Running.{may_go, kept_slots, scratched_disk, scratch}
 use Rattle.cbm_channel.specs.declared.channel.Channel.{Channel}
 use Rattle.cbm_channel.specs.Standing.{ChannelStands}
 use Rattle.cbm_channel.specs.Shown.{uses_on}
-use Rattle.cbm_channel.specs.Commanded.{entry_may_go, entries_going, slots_going, all_scratched, CanGo, CanAllGo, IsGoing}
+use Rattle.cbm_channel.specs.Commanded.{entry_may_go, entries_going, slots_going, all_scratched, CanGo, CanAllGo, AreSlotsGoing}
 use Rattle.cbm_channel.proofs.Planning.{none_passes}
 use Rattle.cbm_channel.proofs.Uses.{any_uses_same}
 use Rattle.cbm_channel.proofs.Outside.{scratched_total}
@@ -35,7 +35,7 @@ module _ (chs : List Channel) (m : Machine) (each : AllZip ChannelStands chs m.c
   same_use : (n : ℕ) → list_any (uses_on n) chs ≡ in_use m n
   same_use n = sym (any_uses_same n chs m.channels each)
 
-  entry_says : (n : ℕ) (f : File) (e : List ℕ) → Says f e → entry_may_go chs ps n e ≡ may_go m ps n f
+  entry_says : (n : ℕ) (f : File) (e : List ℕ) → EntrySays f e → entry_may_go chs ps n e ≡ may_go m ps n f
   entry_says n f e s = λ i. not (s.used i) && list_any (λ p. is_match p (s.name i)) ps && not (s.locked i) && not (same_use n i)
 
   entry_none : (n : ℕ) (e : List ℕ) → (type_byte e == 0) ≡ true → entry_may_go chs ps n e ≡ false
@@ -71,15 +71,15 @@ module _ (m : Machine) (ps : List (List ℕ)) where
   abbrev pub held_going : ℕ → List (Option File) → ℕ
   held_going n [] = 0
   held_going n (None ∷ slots) = held_going (n + 1) slots
-  held_going n (Some f ∷ slots) = (if may_go m ps n f then held_by (Some f) else 0) + held_going (n + 1) slots
+  held_going n (Some f ∷ slots) = (if may_go m ps n f then blocks_held (Some f) else 0) + held_going (n + 1) slots
 
   scratched_behind : (d : Disk) (pre slots : List (Option File)) (n free : ℕ) (f : File) → n ≡ length pre
-      → scratched (having d (pre ++ Some f ∷ slots) free) n ≡ having d (pre ++ None ∷ slots) (free + held_by (Some f))
+      → scratched (having d (pre ++ Some f ∷ slots) free) n ≡ having d (pre ++ None ∷ slots) (free + blocks_held (Some f))
   scratched_behind d pre slots n free f e =
       let x : Disk = having d (pre ++ Some f ∷ slots) free in
       let here : file_at x n ≡ Some f = ap (file_at x) e ∙ at_behind pre slots (Some f) None in
       ap (λ (o : Option File). scratched_in o x n) here
-      ∙ ap (λ (xs : List (Option File)). having d xs (free + held_by (Some f))) (ap (λ (k : ℕ). slice_set (pre ++ Some f ∷ slots) k None) e ∙ set_behind pre slots (Some f) None)
+      ∙ ap (λ (xs : List (Option File)). having d xs (free + blocks_held (Some f))) (ap (λ (k : ℕ). slice_set (pre ++ Some f ∷ slots) k None) e ∙ set_behind pre slots (Some f) None)
 
   -- the slots are cleared, one after another
   pub all_gone : (d : Disk) (pre slots : List (Option File)) (n free : ℕ) → n ≡ length pre
@@ -90,21 +90,21 @@ module _ (m : Machine) (ps : List (List ℕ)) where
       ∙ all_gone d (pre ++ None ∷ []) slots (n + 1) free (one_more pre None n e)
       ∙ ap (λ (xs : List (Option File)). having d xs (free + held_going (n + 1) slots)) (append_assoc pre (None ∷ []) (kept_slots m ps (n + 1) slots))
   all_gone d pre (Some f ∷ slots) n free e =
-      by_test (may_go m ps n f) refl (all_gone d (pre ++ None ∷ []) slots (n + 1) (free + held_by (Some f)) (one_more pre None n e)) (all_gone d (pre ++ Some f ∷ []) slots (n + 1) free (one_more pre (Some f) n e))
+      by_test (may_go m ps n f) refl (all_gone d (pre ++ None ∷ []) slots (n + 1) (free + blocks_held (Some f)) (one_more pre None n e)) (all_gone d (pre ++ Some f ∷ []) slots (n + 1) free (one_more pre (Some f) n e))
     where
-      sum_is : (free + held_by (Some f)) + held_going (n + 1) slots ≡ free + (held_by (Some f) + held_going (n + 1) slots)
+      sum_is : (free + blocks_held (Some f)) + held_going (n + 1) slots ≡ free + (blocks_held (Some f) + held_going (n + 1) slots)
       sum_is = omega arith
 
       none_is : free + held_going (n + 1) slots ≡ free + (0 + held_going (n + 1) slots)
       none_is = omega arith
 
       by_test : (b : Bool) → may_go m ps n f ≡ b
-          → all_scratched (having d ((pre ++ None ∷ []) ++ slots) (free + held_by (Some f))) (slots_going m ps (n + 1) slots) ≡ having d ((pre ++ None ∷ []) ++ kept_slots m ps (n + 1) slots) ((free + held_by (Some f)) + held_going (n + 1) slots)
+          → all_scratched (having d ((pre ++ None ∷ []) ++ slots) (free + blocks_held (Some f))) (slots_going m ps (n + 1) slots) ≡ having d ((pre ++ None ∷ []) ++ kept_slots m ps (n + 1) slots) ((free + blocks_held (Some f)) + held_going (n + 1) slots)
           → all_scratched (having d ((pre ++ Some f ∷ []) ++ slots) free) (slots_going m ps (n + 1) slots) ≡ having d ((pre ++ Some f ∷ []) ++ kept_slots m ps (n + 1) slots) (free + held_going (n + 1) slots)
           → all_scratched (having d (pre ++ Some f ∷ slots) free) (slots_going m ps n (Some f ∷ slots)) ≡ having d (pre ++ kept_slots m ps n (Some f ∷ slots)) (free + held_going n (Some f ∷ slots))
       by_test true t gone kept = rw t
           (ap (λ (x : Disk). all_scratched x (slots_going m ps (n + 1) slots)) (scratched_behind d pre slots n free f e)
-          ∙ ap (λ (xs : List (Option File)). all_scratched (having d xs (free + held_by (Some f))) (slots_going m ps (n + 1) slots)) (sym (append_assoc pre (None ∷ []) slots))
+          ∙ ap (λ (xs : List (Option File)). all_scratched (having d xs (free + blocks_held (Some f))) (slots_going m ps (n + 1) slots)) (sym (append_assoc pre (None ∷ []) slots))
           ∙ gone
           ∙ (λ i. having d (append_assoc pre (None ∷ []) (kept_slots m ps (n + 1) slots) i) (sum_is i)))
       by_test false t gone kept = rw t
@@ -113,21 +113,21 @@ module _ (m : Machine) (ps : List (List ℕ)) where
           ∙ (λ i. having d (append_assoc pre (Some f ∷ []) (kept_slots m ps (n + 1) slots) i) (none_is i)))
 
   -- what they hold is what is held no more
-  held_less : (n : ℕ) (slots : List (Option File)) → sum_by held_by slots ≡ sum_by held_by (kept_slots m ps n slots) + held_going n slots
+  held_less : (n : ℕ) (slots : List (Option File)) → sum_by blocks_held slots ≡ sum_by blocks_held (kept_slots m ps n slots) + held_going n slots
   held_less n [] = refl
   held_less n (None ∷ slots) = held_less (n + 1) slots
   held_less n (Some f ∷ slots) = by_test (may_go m ps n f) refl (held_less (n + 1) slots)
     where
-      by_test : (b : Bool) → may_go m ps n f ≡ b → sum_by held_by slots ≡ sum_by held_by (kept_slots m ps (n + 1) slots) + held_going (n + 1) slots
-          → sum_by held_by (Some f ∷ slots) ≡ sum_by held_by (kept_slots m ps n (Some f ∷ slots)) + held_going n (Some f ∷ slots)
+      by_test : (b : Bool) → may_go m ps n f ≡ b → sum_by blocks_held slots ≡ sum_by blocks_held (kept_slots m ps (n + 1) slots) + held_going (n + 1) slots
+          → sum_by blocks_held (Some f ∷ slots) ≡ sum_by blocks_held (kept_slots m ps n (Some f ∷ slots)) + held_going n (Some f ∷ slots)
       by_test true t rest =
-          let all = sum_by-cons held_by (Some f) slots in
-          let kept = sum_by-cons held_by None (kept_slots m ps (n + 1) slots) in
-          let g : sum_by held_by (Some f ∷ slots) ≡ sum_by held_by (None ∷ kept_slots m ps (n + 1) slots) + (held_by (Some f) + held_going (n + 1) slots) = omega (arith, rest, all, kept) in rw t g
+          let all = sum_by-cons blocks_held (Some f) slots in
+          let kept = sum_by-cons blocks_held None (kept_slots m ps (n + 1) slots) in
+          let g : sum_by blocks_held (Some f ∷ slots) ≡ sum_by blocks_held (None ∷ kept_slots m ps (n + 1) slots) + (blocks_held (Some f) + held_going (n + 1) slots) = omega (arith, rest, all, kept) in rw t g
       by_test false t rest =
-          let all = sum_by-cons held_by (Some f) slots in
-          let kept = sum_by-cons held_by (Some f) (kept_slots m ps (n + 1) slots) in
-          let g : sum_by held_by (Some f ∷ slots) ≡ sum_by held_by (Some f ∷ kept_slots m ps (n + 1) slots) + (0 + held_going (n + 1) slots) = omega (arith, rest, all, kept) in rw t g
+          let all = sum_by-cons blocks_held (Some f) slots in
+          let kept = sum_by-cons blocks_held (Some f) (kept_slots m ps (n + 1) slots) in
+          let g : sum_by blocks_held (Some f ∷ slots) ≡ sum_by blocks_held (Some f ∷ kept_slots m ps (n + 1) slots) + (0 + held_going (n + 1) slots) = omega (arith, rest, all, kept) in rw t g
 
   -- and they are as many as the files that aren't there any more
   count_less : (n : ℕ) (slots : List (Option File)) → length (files_from n slots) ≡ length (files_from n (kept_slots m ps n slots)) + length (slots_going m ps n slots)
@@ -143,7 +143,7 @@ module _ (m : Machine) (ps : List (List ℕ)) where
   -- THE DISK IS THE MACHINE'S
   pub scratched_as : all_scratched m.disk (slots_going m ps 0 m.disk.slots) ≡ scratched_disk m ps
   scratched_as =
-      let less : held_going 0 m.disk.slots ≡ sum_by held_by m.disk.slots - sum_by held_by (kept_slots m ps 0 m.disk.slots) = omega (arith, held_less 0 m.disk.slots) in
+      let less : held_going 0 m.disk.slots ≡ sum_by blocks_held m.disk.slots - sum_by blocks_held (kept_slots m ps 0 m.disk.slots) = omega (arith, held_less 0 m.disk.slots) in
       all_gone m.disk [] m.disk.slots 0 m.disk.free refl ∙ ap (λ (k : ℕ). having m.disk (kept_slots m ps 0 m.disk.slots) (m.disk.free + k)) less
 
   count_as : length (files m.disk) - length (files (scratched_disk m ps)) ≡ length (slots_going m ps 0 m.disk.slots)
@@ -158,12 +158,12 @@ module _ (m : Machine) (ps : List (List ℕ)) where
   none_refused (n ∷ slots) h = ap (λ (b : Bool). nat_lt 0 (length (n ∷ slots)) && b) (h (λ e. (cc))) ∙ and_false (nat_lt 0 (length (n ∷ slots)))
 
   -- what is told then
-  pub scratch_done : (slots : List ℕ) → IsGoing m ps slots
-      → answered m (scratch ps m) ≡ tell (record { code = FilesScratched; first = length slots; second = 0 }) (with_disk (all_scratched m.disk slots) m)
+  pub scratch_done : (slots : List ℕ) → AreSlotsGoing m ps slots
+      → answered m (scratch ps m) ≡ with_status (record { code = FilesScratched; first = length slots; second = 0 }) (with_disk (all_scratched m.disk slots) m)
   scratch_done slots h =
       let count : length (files m.disk) - length (files (scratched_disk m ps)) ≡ length slots = count_as ∙ ap length (sym h.all) in
       let test : (nat_lt 0 (length (files m.disk) - length (files (scratched_disk m ps))) && m.protected) ≡ false = ap (λ (k : ℕ). nat_lt 0 k && m.protected) count ∙ none_refused slots h.unprotected in
-      rw test (λ i. tell (record { code = FilesScratched; first = count i; second = 0 }) (with_disk ((sym scratched_as ∙ ap (all_scratched m.disk) (sym h.all)) i) m))
+      rw test (λ i. with_status (record { code = FilesScratched; first = count i; second = 0 }) (with_disk ((sym scratched_as ∙ ap (all_scratched m.disk) (sym h.all)) i) m))
 
   -- or nothing, on a protected disk
   pub scratch_refused : (slots : List ℕ) → slots ≡ slots_going m ps 0 m.disk.slots → 1 ≤ length slots → m.protected ≡ true → scratch ps m ≡ Err WriteProtected
@@ -189,17 +189,17 @@ module _ (m : Machine) (ps : List (List ℕ)) where
     can_go d pre (None ∷ slots) n free e =
         subst (λ (xs : List (Option File)). CanAllGo (having d xs free) uses (slots_going m ps (n + 1) slots)) (append_assoc pre (None ∷ []) slots) (can_go d (pre ++ None ∷ []) slots (n + 1) free (one_more pre None n e))
     can_go d pre (Some f ∷ slots) n free e =
-        by_test (may_go m ps n f) refl (can_go d (pre ++ None ∷ []) slots (n + 1) (free + held_by (Some f)) (one_more pre None n e)) (can_go d (pre ++ Some f ∷ []) slots (n + 1) free (one_more pre (Some f) n e))
+        by_test (may_go m ps n f) refl (can_go d (pre ++ None ∷ []) slots (n + 1) (free + blocks_held (Some f)) (one_more pre None n e)) (can_go d (pre ++ Some f ∷ []) slots (n + 1) free (one_more pre (Some f) n e))
       where
         x : Disk
         x = having d (pre ++ Some f ∷ slots) free
 
         by_test : (b : Bool) → may_go m ps n f ≡ b
-            → CanAllGo (having d ((pre ++ None ∷ []) ++ slots) (free + held_by (Some f))) uses (slots_going m ps (n + 1) slots)
+            → CanAllGo (having d ((pre ++ None ∷ []) ++ slots) (free + blocks_held (Some f))) uses (slots_going m ps (n + 1) slots)
             → CanAllGo (having d ((pre ++ Some f ∷ []) ++ slots) free) uses (slots_going m ps (n + 1) slots) → CanAllGo x uses (slots_going m ps n (Some f ∷ slots))
         by_test true t gone kept =
-            let same : having d ((pre ++ None ∷ []) ++ slots) (free + held_by (Some f)) ≡ scratched x n =
-            ap (λ (xs : List (Option File)). having d xs (free + held_by (Some f))) (append_assoc pre (None ∷ []) slots) ∙ sym (scratched_behind d pre slots n free f e) in
+            let same : having d ((pre ++ None ∷ []) ++ slots) (free + blocks_held (Some f)) ≡ scratched x n =
+            ap (λ (xs : List (Option File)). having d xs (free + blocks_held (Some f))) (append_assoc pre (None ∷ []) slots) ∙ sym (scratched_behind d pre slots n free f e) in
             let can : CanGo x uses n × CanAllGo (scratched x n) uses (slots_going m ps (n + 1) slots) = (
               record {
                 file = f;
@@ -358,7 +358,7 @@ gathers_first chs ps all left most e n = record {
   room = omega arith;
 }
 
-module _ (chs : List Channel) (ps : List (List ℕ)) (all left next : Listed) (most less n : ℕ) (items : List ℕ) (entry : List ℕ) (e : left ≡ behind (entry ∷ []) next) (fewer : less + 1 ≡ most)
+module _ (chs : List Channel) (ps : List (List ℕ)) (all left next : Listed) (most less n : ℕ) (items : List ℕ) (entry : List ℕ) (e : left ≡ listed_after (entry ∷ []) next) (fewer : less + 1 ≡ most)
     (h : Gathers chs ps all left most n items) where
   -- an entry may go
   pub gathers_on : entry_may_go chs ps n entry ≡ true → Gathers chs ps all next less (n + 1) (items ++ n ∷ [])

@@ -9,8 +9,8 @@ use Rattle.cbm_medium.proofs.Walks.{follow_end}
 use Rattle.cbm_machine.specs.Statuses.{status_line}
 use Rattle.cbm_medium.specs.Seen.{Seen}
 use Rattle.cbm_medium.specs.Content.{Content}
-use Rattle.cbm_volume.specs.Reading.{Reading, Rest, rest_of, held_from, held_in, IsSettled}
-use Rattle.cbm_file.specs.Waiting.{shown}
+use Rattle.cbm_volume.specs.Reading.{Reading, RestOfFile, rest_of, held_from, held_in, IsSettled}
+use Rattle.cbm_file.specs.Waiting.{next_shown}
 use Rattle.cbm_file.specs.Files.{File, Disk, file_at}
 use Rattle.cbm_volume.specs.Holding.{HoldsDisk}
 use Rattle.cbm_volume.specs.Map.{geometry_of}
@@ -29,9 +29,9 @@ use Rattle.cbm_machine.specs.Orderly.{channel_in, still_uses}
 use Rattle.cbm_machine.specs.Closing.{forget_text, without_text}
 use Rattle.cbm_machine.specs.Talking.{peek_on, taken, taken_on, next_of_record}
 use Rattle.cbm_machine.specs.Calls.{text_for, is_relative_channel}
-use Rattle.cbm_machine.specs.Told.{Told, told_by, behind_next}
+use Rattle.cbm_machine.specs.Told.{ToldStatus, told_by, behind_next}
 use Rattle.cbm_channel.specs.Exchanged.{still_telling}
-use Rattle.cbm_channel.specs.Standing.{Kept, Fits, AreFit, ChannelStands, WaitsFor, use_of, uses_of, kept_text, StandsBy, Stands, HasText, HasNoText}
+use Rattle.cbm_channel.specs.Standing.{Kept, FitsTracks, AreFit, ChannelStands, WaitsFor, use_of, uses_of, kept_text, StandsBy, Stands, HasText, HasNoText}
 use Rattle.cbm_channel.specs.Shown.{shown_on, cost_on, writes_on}
 use Rattle.cbm_volume.proofs.written.Storing.{let_go}
 use Rattle.cbm_volume.proofs.held.ReadingUses.{read_whole}
@@ -107,12 +107,12 @@ costs_same (x ∷ xs) (y ∷ ys) h =
     sum_by-cons machine.cost y ys ∙ (λ i. cost_same x y h.0 i + costs_same xs ys h.1 i) ∙ sym (sum_by-cons cost_on x xs)
 
 -- a reader that holds one byte at most holds all that is left
-more_shown : (xs ys : List ℕ) → (length xs ≤ 1 → ys ≡ []) → shown (xs ++ ys) ≡ shown xs
-more_shown [] ys h = ap shown (h (omega arith))
-more_shown (x ∷ []) ys h = ap (λ zs. shown (x ∷ zs)) (h (omega arith))
+more_shown : (xs ys : List ℕ) → (length xs ≤ 1 → ys ≡ []) → next_shown (xs ++ ys) ≡ next_shown xs
+more_shown [] ys h = ap next_shown (h (omega arith))
+more_shown (x ∷ []) ys h = ap (λ zs. next_shown (x ∷ zs)) (h (omega arith))
 more_shown (x ∷ z ∷ xs) ys h = refl
 
-rest_shown : (c : Content) (r : Reading) → IsSettled r → shown (rest_of c r).bytes ≡ shown r.bytes
+rest_shown : (c : Content) (r : Reading) → IsSettled r → next_shown (rest_of c r).bytes ≡ next_shown r.bytes
 unfolding rest_of held_from
 rest_shown c r settled = more_shown r.bytes (held_in c (follow r.tracks c r.left r.next)).bytes (λ few. ap (λ f. (held_in c f).bytes) (follow_end r.tracks c r.left r.next (settled few)))
 
@@ -122,11 +122,11 @@ shown_as waits.Absent p h = refl
 shown_as waits.Broken p h = absurd (cc)
 
 -- what waits on a channel, where a file's reader gives what the machine has left
-pub shows : (t : ℕ) (c : Content) (d : Disk) (uses : ℕ → Use) (ch : ℕ) (x : Channel) (y : machine.Channel) → Fits t x → ChannelStands x y → WaitsFor d x → HoldsNow t c d uses → uses ch ≡ use_of x y → peek_on d y ≡ shown_on x
+pub shows : (t : ℕ) (c : Content) (d : Disk) (uses : ℕ → Use) (ch : ℕ) (x : Channel) (y : machine.Channel) → FitsTracks t x → ChannelStands x y → WaitsFor d x → HoldsNow t c d uses → uses ch ≡ use_of x y → peek_on d y ≡ shown_on x
 shows t c d uses ch code.Closed y f h w k e = ap (peek_on d) h
 shows t c d uses ch (code.Listing l) y f h w k e = ap (peek_on d) h
 shows t c d uses ch (code.File slot r) y f h w k e =
-    ap (peek_on d) h.1 ∙ sym (ap (λ (x : Rest). shown x.bytes) (read_whole t c d uses ch slot h.0 r k (e ∙ ap (use_of (code.File slot r)) h.1))) ∙ rest_shown c r f.1
+    ap (peek_on d) h.1 ∙ sym (ap (λ (x : RestOfFile). next_shown x.bytes) (read_whole t c d uses ch slot h.0 r k (e ∙ ap (use_of (code.File slot r)) h.1))) ∙ rest_shown c r f.1
 shows t c d uses ch (code.Writing x full) y f h w k e = ap (peek_on d) h.2
 shows t c d uses ch (code.Stopped slot) y f h w k e = ap (peek_on d) h
 shows t c d uses ch (code.Records r) y f h w k e = ap (peek_on d) h ∙ ap (λ (o : Option (List ℕ)). next_of_record o r.position) (record_on d r w) ∙ shown_as r.waiting r.position w.waits.whole
@@ -141,14 +141,14 @@ drop_all zero (x ∷ xs) h = absurd (omega (arith, h))
 drop_all (suc n) [] h = refl
 drop_all (suc n) (x ∷ xs) h = drop_all n xs (omega (arith, h))
 
-listed_on : (l : listed.Listed) (b : Bool) → nat_lt l.taken (length l.bytes) ≡ b → drop 1 (drop l.taken l.bytes) ≡ drop (listed.behind_next l).taken (listed.behind_next l).bytes
+listed_on : (l : listed.ListedBytes) (b : Bool) → nat_lt l.taken (length l.bytes) ≡ b → drop 1 (drop l.taken l.bytes) ≡ drop (listed.with_next_taken l).taken (listed.with_next_taken l).bytes
 listed_on l true e = rw e (drop_on l.taken l.bytes)
 listed_on l false e = rw e (drop_all l.taken l.bytes (grind (arith, nat_tests, e)))
 
-pub listing_on : (d : Disk) (l new : listed.Listed) (y : machine.Channel) → new ≡ listed.behind_next l → y ≡ machine.Reading None (drop l.taken l.bytes)
+pub listing_on : (d : Disk) (l new : listed.ListedBytes) (y : machine.Channel) → new ≡ listed.with_next_taken l → y ≡ machine.Reading None (drop l.taken l.bytes)
     → taken_on d y ≡ machine.Reading None (drop new.taken new.bytes)
 listing_on d l new y e h =
-    ap (taken_on d) h ∙ ap (λ xs. machine.Reading None xs) (listed_on l (nat_lt l.taken (length l.bytes)) refl) ∙ ap (λ (x : listed.Listed). machine.Reading None (drop x.taken x.bytes)) (sym e)
+    ap (taken_on d) h ∙ ap (λ xs. machine.Reading None xs) (listed_on l (nat_lt l.taken (length l.bytes)) refl) ∙ ap (λ (x : listed.ListedBytes). machine.Reading None (drop x.taken x.bytes)) (sym e)
 
 -- ---- the text
 
@@ -199,8 +199,8 @@ waits_set d chs ch x more w others k = elim (eqb_tells k ch) [
 
 -- ---- the parts of a drive
 
-module _ (c : Content) (t : ℕ) (p : Bool) (chs : List Channel) (told : Told) (text : Option (ℕ × List ℕ)) (m : machine.Machine) where
-  pub told_anew : (s : Status) (new : Told) → new ≡ record { status = s; told = 0 } → StandsBy c t p chs told text m → StandsBy c t p chs new text (machine.tell s m)
+module _ (c : Content) (t : ℕ) (p : Bool) (chs : List Channel) (told : ToldStatus) (text : Option (ℕ × List ℕ)) (m : machine.Machine) where
+  pub told_anew : (s : Status) (new : ToldStatus) → new ≡ record { status = s; told = 0 } → StandsBy c t p chs told text m → StandsBy c t p chs new text (machine.with_status s m)
   told_anew s new is st = record {
     holds = st.holds;
     orderly = st.orderly;
@@ -281,7 +281,7 @@ module _ (c : Content) (t : ℕ) (p : Bool) (chs : List Channel) (told : Told) (
   ended e = rw e refl
 
   -- the byte that channel 15 tells was taken
-  pub told_on : (new : Told) → new ≡ behind_next told → StandsBy c t p chs told text m → StandsBy c t p chs new text (taken 15 m)
+  pub told_on : (new : ToldStatus) → new ≡ behind_next told → StandsBy c t p chs told text m → StandsBy c t p chs new text (taken 15 m)
   told_on new is st = by_test (nat_lt (m.told + 1) (length (status_line m.status))) refl
     where
       by_test : (b : Bool) → nat_lt (m.told + 1) (length (status_line m.status)) ≡ b → StandsBy c t p chs new text (taken 15 m)
@@ -320,7 +320,7 @@ module _ (c : Content) (t : ℕ) (p : Bool) (chs : List Channel) (told : Told) (
   closed_past ch far fit st = past_end chs m.channels ch (omega (arith, far, fit.count)) st.each
 
 -- the machine goes by another name
-pub moved : (c : Content) (t : ℕ) (p : Bool) (chs : List Channel) (told : Told) (text : Option (ℕ × List ℕ)) (m n : machine.Machine) → m ≡ n → StandsBy c t p chs told text n → StandsBy c t p chs told text m
+pub moved : (c : Content) (t : ℕ) (p : Bool) (chs : List Channel) (told : ToldStatus) (text : Option (ℕ × List ℕ)) (m n : machine.Machine) → m ≡ n → StandsBy c t p chs told text n → StandsBy c t p chs told text m
 moved c t p chs told text m n e st = subst (λ x. StandsBy c t p chs told text x) (sym e) st
 
 -- at power up no channel uses the disk
@@ -356,12 +356,12 @@ powered_up c t p d h = record {
   same_text = refl;
 }
 
-pub stands_at_first : (c : Content) (t : ℕ) (p : Bool) (d : Disk) (chs : List Channel) (told : Told) → chs ≡ replicate 15 code.Closed → told ≡ told_by (machine.start d p t)
+pub stands_at_first : (c : Content) (t : ℕ) (p : Bool) (d : Disk) (chs : List Channel) (told : ToldStatus) → chs ≡ replicate 15 code.Closed → told ≡ told_by (machine.start d p t)
     → HoldsDisk t c d → StandsBy c t p chs told None (machine.start d p t)
 stands_at_first c t p d chs told e f h = subst (λ xs. StandsBy c t p xs told None (machine.start d p t)) (sym e) (subst (λ x. StandsBy c t p (replicate 15 code.Closed) x None (machine.start d p t)) (sym f) (powered_up c t p d h))
 
 -- the same, where the status is another one
-pub stands_telling : (c : Content) (t : ℕ) (p : Bool) (d : Disk) (chs : List Channel) (told : Told) → chs ≡ replicate 15 code.Closed
+pub stands_telling : (c : Content) (t : ℕ) (p : Bool) (d : Disk) (chs : List Channel) (told : ToldStatus) → chs ≡ replicate 15 code.Closed
     → HoldsDisk t c d → StandsBy c t p chs told None (still_telling told (machine.start d p t))
 stands_telling c t p d chs told e h = subst (λ xs. StandsBy c t p xs told None (still_telling told (machine.start d p t))) (sym e) (record {
   holds = s.holds;

@@ -14,11 +14,11 @@ use Rattle.cbm_machine.specs.declared.code.Code.TheVariants.{DiskFull}
 use Rattle.cbm_machine.specs.declared.status.Status.{Status}
 use Rattle.cbm_machine.specs.Statuses.{trouble_status}
 use Rattle.cbm_machine.specs.Machines as machine
-use Rattle.cbm_machine.specs.Machines.{Machine, Channel, Closed, Reading, Writing, Stopped, Relative, with_channel, with_disk, say, tell}
+use Rattle.cbm_machine.specs.Machines.{Machine, Channel, Closed, Reading, Writing, Stopped, Relative, with_channel, with_disk, say, with_status}
 use Rattle.cbm_machine.specs.Orderly.{IsOrderly, channel_in, still_uses, still_writes}
 use Rattle.cbm_machine.specs.Closing.{put_on, with_some_byte, finish_channel}
 use Rattle.cbm_machine.specs.Statuses.{return}
-use Rattle.cbm_machine.specs.Told.{Told}
+use Rattle.cbm_machine.specs.Told.{ToldStatus}
 use Rattle.cbm_machine.specs.Calls.{is_relative_channel}
 use Rattle.cbm_channel.specs.Shown.{is_writing}
 use Rattle.cbm_channel.specs.declared.channel.Channel.TheVariants as code
@@ -139,7 +139,7 @@ was_lost : (b : Bool) → false ≡ not b → b ≡ true
 was_lost true h = refl
 was_lost false h = absurd (cc)
 
-module _ (c : Content) (t : ℕ) (p : Bool) (chs : List kept.Channel) (told : Told) (text : Option (ℕ × List ℕ)) (m : Machine) (ch : ℕ) (lt : ch < 15) (fit : AreFit t chs) (st : StandsBy c t p chs told text m) where
+module _ (c : Content) (t : ℕ) (p : Bool) (chs : List kept.Channel) (told : ToldStatus) (text : Option (ℕ × List ℕ)) (m : Machine) (ch : ℕ) (lt : ch < 15) (fit : AreFit t chs) (st : StandsBy c t p chs told text m) where
   also : ch < length m.channels
   also = omega (arith, lt, fit.count, zip_length chs m.channels st.each)
 
@@ -162,7 +162,7 @@ module _ (c : Content) (t : ℕ) (p : Bool) (chs : List kept.Channel) (told : To
   cut_at slot d = with_channel ch (Stopped slot) (with_disk d m)
 
   pub put_cut : (c' : Content) (k : kept.Channel) → IsCutOff k (machine.channel m ch) → usage.Stopped t c' m.disk m.disk (with_use (uses_of chs m.channels) ch usage.Idle)
-      → (n : Machine) × ((next : Machine) (trouble : Trouble) (status : Status) → status ≡ trouble_status trouble → IsStopped ch m next (tell status n)) × StandsBy c' t p (slice_set chs ch k) told text n
+      → (n : Machine) × ((next : Machine) (trouble : Trouble) (status : Status) → status ≡ trouble_status trouble → IsStopped ch m next (with_status status n)) × StandsBy c' t p (slice_set chs ch k) told text n
   put_cut c' k cut stop =
       let same : (slot : ℕ) → known (file_at stop.disk slot) ≡ known (file_at m.disk slot) = λ slot. stop_else m.disk m.disk stop.disk slot (stop.either slot) refl in
       let n : Machine = cut_at cut.slot stop.disk in (
@@ -186,7 +186,7 @@ has_failed d p channels ch s old new t o same bytes blocks full replaces at (inl
 has_failed d p channels ch s old new t o same bytes blocks full replaces at (inr h) = h
 
 -- the same with other names for tracks and protection
-pub renamed : (c : Content) (t t' : ℕ) (p p' : Bool) (chs : List kept.Channel) (told : Told) (text : Option (ℕ × List ℕ)) (m : Machine) → t' ≡ t → p' ≡ p → StandsBy c t p chs told text m → StandsBy c t' p' chs told text m
+pub renamed : (c : Content) (t t' : ℕ) (p p' : Bool) (chs : List kept.Channel) (told : ToldStatus) (text : Option (ℕ × List ℕ)) (m : Machine) → t' ≡ t → p' ≡ p → StandsBy c t p chs told text m → StandsBy c t' p' chs told text m
 renamed c t t' p p' chs told text m e f st = subst (λ x. StandsBy c x p' chs told text m) (sym e) (subst (λ y. StandsBy c t y chs told text m) (sym f) st)
 
 -- ---- CLOSE
@@ -208,21 +208,21 @@ fills_none ch (Relative s k p) m e = refl
 fills_none ch (Writing s [] blocks full replaces) m e = absurd (cc)
 fills_none ch (Writing s (b ∷ bytes) blocks full replaces) m e = refl
 
-module _ (c : Content) (t : ℕ) (p : Bool) (chs : List kept.Channel) (told : Told) (text : Option (ℕ × List ℕ)) (m : Machine) (ch : ℕ) (lt : ch < 15) (fit : AreFit t chs) (st : StandsBy c t p chs told text m) where
+module _ (c : Content) (t : ℕ) (p : Bool) (chs : List kept.Channel) (told : ToldStatus) (text : Option (ℕ × List ℕ)) (m : Machine) (ch : ℕ) (lt : ch < 15) (fit : AreFit t chs) (st : StandsBy c t p chs told text m) where
   pub finish_done : (c' : Content) → HoldsNow t c' (disk_closed m.disk (machine.channel m ch)) (with_use (uses_of chs m.channels) ch usage.Idle) → StandsBy c' t p (slice_set chs ch code.Closed) told text (finish_channel ch m)
   finish_done c' h = subst (StandsBy c' t p (slice_set chs ch code.Closed) told text) (sym (finish_law ch m (machine.channel m ch) refl))
       (with_step c t p chs told text m c' (disk_closed m.disk (machine.channel m ch)) ch code.Closed Closed lt fit refl tt h
       (closed_fits m.disk (disk_closed m.disk (machine.channel m ch)) m.protected m.channels ch st.orderly (λ k slot ne u. ap known (closed_else m.disk m.protected m.channels ch (machine.channel m ch) st.orderly refl k slot ne u))) st)
 
   pub finish_cut : (c' : Content) → usage.Stopped t c' m.disk (disk_closed m.disk (machine.channel m ch)) (with_use (uses_of chs m.channels) ch usage.Idle)
-      → (n : Machine) × ((trouble : Trouble) (status : Status) → status ≡ trouble_status trouble → IsStopped ch m (finish_channel ch m) (tell status n)) × StandsBy c' t p (slice_set chs ch code.Closed) told text n
+      → (n : Machine) × ((trouble : Trouble) (status : Status) → status ≡ trouble_status trouble → IsStopped ch m (finish_channel ch m) (with_status status n)) × StandsBy c' t p (slice_set chs ch code.Closed) told text n
   finish_cut c' stop =
       let x : Channel = machine.channel m ch in
       let more : ch < length m.channels = omega (arith, lt, fit.count, zip_length chs m.channels st.each) in
       let n : Machine = with_channel ch Closed (with_disk stop.disk m) in
       let same : finish_channel ch m ≡ with_channel ch Closed (with_disk (disk_closed m.disk x) m) = finish_law ch m x refl in (
         n,
-        (λ trouble status e. subst (λ y. IsStopped ch m y (tell status n)) (sym same) (record {
+        (λ trouble status e. subst (λ y. IsStopped ch m y (with_status status n)) (sym same) (record {
           either = stop.either;
           same_tracks = refl;
           same_protection = refl;

@@ -15,7 +15,7 @@ use Rattle.cbm_channel.specs.Standing.{ChannelStands, use_of}
 use Rattle.cbm_channel.proofs.Uses.{with_same}
 
 -- a channel that gives nothing stays
-stays : (d : Disk) (k : Channel) (x : machine.Channel) → ((l : listed.Listed) → k ≡ code.Listing l → ⊥) → ((slot : ℕ) (r : Reading) → k ≡ code.File slot r → ⊥) → ((r : Placed) → k ≡ code.Records r → ⊥) → ChannelStands k x → taken_on d x ≡ x
+stays : (d : Disk) (k : Channel) (x : machine.Channel) → ((l : listed.ListedBytes) → k ≡ code.Listing l → ⊥) → ((slot : ℕ) (r : Reading) → k ≡ code.File slot r → ⊥) → ((r : Placed) → k ≡ code.Records r → ⊥) → ChannelStands k x → taken_on d x ≡ x
 stays d code.Closed x no_listing no_file no_records h = ap (taken_on d) h ∙ sym h
 stays d (code.Listing l) x no_listing no_file no_records h = absurd (no_listing l refl)
 stays d (code.File slot r) x no_listing no_file no_records h = absurd (no_file slot r refl)
@@ -23,7 +23,7 @@ stays d (code.Writing w full) x no_listing no_file no_records h = ap (taken_on d
 stays d (code.Stopped slot) x no_listing no_file no_records h = ap (taken_on d) h ∙ sym h
 stays d (code.Records r) x no_listing no_file no_records h = absurd (no_records r refl)
 
-pub nothing_taken : (t : ℕ) (c : Content) (d : Disk) (uses : ℕ → Use) (ch : ℕ) (k : Channel) (x : machine.Channel) → ((l : listed.Listed) → k ≡ code.Listing l → ⊥) → ((slot : ℕ) (r : Reading) → k ≡ code.File slot r → ⊥)
+pub nothing_taken : (t : ℕ) (c : Content) (d : Disk) (uses : ℕ → Use) (ch : ℕ) (k : Channel) (x : machine.Channel) → ((l : listed.ListedBytes) → k ≡ code.Listing l → ⊥) → ((slot : ℕ) (r : Reading) → k ≡ code.File slot r → ⊥)
     → ((r : Placed) → k ≡ code.Records r → ⊥) → HoldsNow t c d uses → uses ch ≡ use_of k x → ChannelStands k x → ChannelStands k (taken_on d x) × HoldsNow t c d (with_use uses ch (use_of k (taken_on d x)))
 nothing_taken t c d uses ch k x no_listing no_file no_records h e stands =
     let same = sym (stays d k x no_listing no_file no_records stands) in

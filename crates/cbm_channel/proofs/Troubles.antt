@@ -9,7 +9,7 @@ use Rattle.cbm_medium.specs.Seen.{Seen, HasFailed}
 use Rattle.cbm_medium.specs.Met.{IsMet}
 use Rattle.cbm_volume.specs.RecordFaults.{IsMislisted}
 use Rattle.cbm_medium.specs.Content.{Content}
-use Rattle.cbm_volume.specs.Reading.{Rest, held_from}
+use Rattle.cbm_volume.specs.Reading.{RestOfFile, held_from}
 use Rattle.cbm_volume.specs.Map.{geometry_of}
 use Rattle.cbm_volume.specs.Entries.{first_block}
 use Rattle.cbm_volume.specs.Slots.{first_from, directory_of}
@@ -37,7 +37,7 @@ first_contained test n (x ∷ entries) j e h = by_test (test x) refl (first_cont
 -- a chain that breaks off at once
 pub broken_at_once : (tracks : ℕ) (c : Content) (left : ℕ) (at : Place) (t : Trouble) → held_from tracks c left at ≡ record { bytes = []; trouble = Some t } → (follow tracks c left at).trouble ≡ Some t
 unfolding held_from
-broken_at_once tracks c left at t e = ap (λ (r : Rest). r.trouble) e
+broken_at_once tracks c left at t e = ap (λ (r : RestOfFile). r.trouble) e
 
 -- the chain of one of the directory's entries breaks off at once
 pub entry_broken : (tracks : ℕ) (c : Content) (entry : List ℕ) (t : Trouble) → Contains (directory_of tracks c).entries entry

@@ -9,7 +9,7 @@ use Rattle.cbm_channel.specs.declared.channel.Channel.{Channel}
 use Rattle.cbm_channel.specs.declared.channel.Channel.TheVariants as code
 use Rattle.cbm_machine.specs.Machines as machine
 use Rattle.cbm_channel.specs.Standing.{ChannelStands, use_of, uses_of}
-use Rattle.cbm_channel.specs.Shown.{uses_on, is_open}
+use Rattle.cbm_channel.specs.Shown.{uses_on, is_channel_open}
 
 module _ (xs : List Channel) (ys : List machine.Channel) (i : ℕ) (x : Channel) (y : machine.Channel) (more : i < length xs) (also : i < length ys) where
   set_here : uses_of (slice_set xs i x) (slice_set ys i y) i ≡ use_of x y
@@ -58,7 +58,7 @@ any_uses_same n (x ∷ xs) (y ∷ ys) h = λ i. uses_same n x y h.0 i || any_use
 
 -- ---- what is open
 
-open_same : (x : Channel) (y : machine.Channel) → ChannelStands x y → machine.is_open y ≡ is_open x
+open_same : (x : Channel) (y : machine.Channel) → ChannelStands x y → machine.is_open y ≡ is_channel_open x
 open_same code.Closed y h = ap machine.is_open h
 open_same (code.Listing l) y h = ap machine.is_open h
 open_same (code.File slot r) y h = ap machine.is_open h.1
@@ -66,7 +66,7 @@ open_same (code.Writing w full) y h = ap machine.is_open h.2
 open_same (code.Stopped slot) y h = ap machine.is_open h
 open_same (code.Records r) y h = ap machine.is_open h
 
-pub any_open_same : (xs : List Channel) (ys : List machine.Channel) → AllZip ChannelStands xs ys → list_any machine.is_open ys ≡ list_any is_open xs
+pub any_open_same : (xs : List Channel) (ys : List machine.Channel) → AllZip ChannelStands xs ys → list_any machine.is_open ys ≡ list_any is_channel_open xs
 any_open_same [] [] h = refl
 any_open_same [] (y ∷ ys) h = absurd h
 any_open_same (x ∷ xs) [] h = absurd h

@@ -10,7 +10,7 @@ use Rattle.cbm_file.specs.Files.{Disk, File}
 use Rattle.cbm_file.specs.Changes.{has_slot}
 use Rattle.cbm_file.specs.Padding.{before_filler}
 use Rattle.cbm_command.specs.declared.opening.Wanted.{Wanted}
-use Rattle.cbm_command.specs.Openings.{is_relative}
+use Rattle.cbm_command.specs.Openings.{wants_relative}
 use Rattle.cbm_command.specs.Refusals.{◌>>=◌}
 use Rattle.cbm_medium.specs.Content.{Content}
 use Rattle.cbm_machine.specs.declared.code.Code.{Code}
@@ -123,7 +123,7 @@ bytes_kind Rel Prg h n = absurd (cc)
 bytes_kind Rel Usr h n = absurd (cc)
 bytes_kind Rel Rel h n = absurd (cc)
 
-pub relative_is : (w : Wanted) (k : FileType) → w.kind ≡ Some k → is_relative w ≡ is_same_type Rel k
+pub relative_is : (w : Wanted) (k : FileType) → w.kind ≡ Some k → wants_relative w ≡ is_same_type Rel k
 relative_is w Del e = rw e refl
 relative_is w Seq e = rw e refl
 relative_is w Prg e = rw e refl

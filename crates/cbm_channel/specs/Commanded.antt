@@ -178,7 +178,7 @@ CanAllGo d uses [] = Unit {0}
 CanAllGo d uses (n ∷ ns) = CanGo d uses n × CanAllGo (scratched d n) uses ns
 
 -- the slots that the machine clears, none on a protected disk
-pub record IsGoing (m : Machine) (ps : List (List ℕ)) (slots : List ℕ) : Type 0 where
+pub record AreSlotsGoing (m : Machine) (ps : List (List ℕ)) (slots : List ℕ) : Type 0 where
   pub all : slots ≡ slots_going m ps 0 m.disk.slots
   pub unprotected : slots ≢ [] → m.protected ≡ false
 

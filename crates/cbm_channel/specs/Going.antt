@@ -39,15 +39,15 @@ PassesAll old new (p ∷ parts) before now =
 
 -- WHAT ONE PART MAKES OF THE MEDIUM, on any disk: it refused no write by itself; or it refused one, the part made no other after that, and the
 -- status is what the medium answered.
-abbrev pub IsCounted : {M : Type 0} → (M → Seen) → Kept M → Kept M → Type 0
-IsCounted seen old new =
+abbrev pub IsFailureCounted : {M : Type 0} → (M → Seen) → Kept M → Kept M → Type 0
+IsFailureCounted seen old new =
     ((seen new.medium).failures ≡ (seen old.medium).failures)
     ⊎ ((t : Trouble) × ((seen new.medium).failures ≡ (seen old.medium).failures + 1) × ((seen new.medium).refused ≡ Some t) × (new.told.status ≡ trouble_status t))
 
 -- the same of this many parts, one after another
 abbrev pub AreCounted : {M : Type 0} → (M → Seen) → ℕ → Kept M → Kept M → Type 0
 AreCounted seen zero old new = (seen new.medium).failures ≡ (seen old.medium).failures
-AreCounted {M} seen (suc n) old new = (mid : Kept M) × AreCounted seen n old mid × IsCounted seen mid new
+AreCounted {M} seen (suc n) old new = (mid : Kept M) × AreCounted seen n old mid × IsFailureCounted seen mid new
 
 -- one part of a call is done from a machine
 abbrev pub WentFrom : {M : Type 0} → (M → Seen) → Kept M → Kept M → ℕ → (Machine → Machine) → Machine → Type 0
@@ -140,9 +140,9 @@ RecordsFrom seen old new ch text m =
     (now : Machine) × ((now ≡ write_record ch (channel m ch) text m) ⊎ (HasFailed (seen old.medium) (seen new.medium) × IsRecordStopped ch text m now)) × Stands seen new now
 
 -- the text that was gathered for a channel was carried out; or the medium failed, and a command or the write of a record was stopped
-abbrev pub Ends : Type 0 → ℕ → Machine → Machine → Type 0
-Ends failed ch before now = Passes failed ch (end_put ch) before now ⊎ (failed × IsRecordStopped ch (text_for ch before.text) before now)
+abbrev pub EndsPut : Type 0 → ℕ → Machine → Machine → Type 0
+EndsPut failed ch before now = Passes failed ch (end_put ch) before now ⊎ (failed × IsRecordStopped ch (text_for ch before.text) before now)
 
 -- THE END OF WHAT IS PUT GOES ON from a machine, and the drive represents a machine again.
 abbrev pub EndsFrom : {M : Type 0} → (M → Seen) → Kept M → Kept M → ℕ → Machine → Type 0
-EndsFrom seen old new ch m = (now : Machine) × Ends (HasFailed (seen old.medium) (seen new.medium)) ch m now × Stands seen new now
+EndsFrom seen old new ch m = (now : Machine) × EndsPut (HasFailed (seen old.medium) (seen new.medium)) ch m now × Stands seen new now

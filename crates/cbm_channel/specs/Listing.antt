@@ -6,12 +6,12 @@ use Rattle.cbm_volume.specs.Entries.{type_byte, bit_of, is_closed, name_in}
 use Rattle.cbm_channel.specs.Sought.{is_sought}
 
 -- the line of an entry that isn't empty and matches
-abbrev pub line_of : List ℕ → List ℕ → List ℕ
-line_of pattern entry =
+abbrev pub listing_line : List ℕ → List ℕ → List ℕ
+listing_line pattern entry =
     if is_sought pattern None entry
     then entry_line (slice_index entry 28 + 256 * slice_index entry 29) (name_in entry) (type_with (type_byte entry % 16)) (is_closed entry) (bit_of (type_byte entry) 6)
     else []
 
 -- the lines of these entries
-abbrev pub lines_of : List ℕ → List (List ℕ) → List ℕ
-lines_of pattern entries = flat_map (line_of pattern) entries
+abbrev pub listing_lines : List ℕ → List (List ℕ) → List ℕ
+listing_lines pattern entries = flat_map (listing_line pattern) entries

@@ -13,7 +13,7 @@ use Rattle.cbm_channel.specs.declared.plan.Plan.{Plan}
 use Rattle.cbm_channel.specs.ChannelCalls.{KeepsOutside}
 use Rattle.cbm_channel.specs.Standing.{Kept, SameBut, Stands, uses_of}
 use Rattle.cbm_channel.specs.Grounds.{HasTold, IsToldFor, IsFromDirectory, KeepsIfRefused, ShowsTrouble}
-use Rattle.cbm_channel.specs.Going.{IsCounted, GoesFrom, opening_parts}
+use Rattle.cbm_channel.specs.Going.{IsFailureCounted, GoesFrom, opening_parts}
 use Rattle.cbm_channel.specs.Commanded.{FormatsUnfailing, open_formats}
 use Rattle.cbm_channel.specs.Shown.{is_writing_on}
 use Rattle.cbm_channel.specs.Planned.{PlannedAs, IsOpened, disk_opened, plan_writes, text_writes}
@@ -24,10 +24,10 @@ pub record ClosesFirst {M : Type 0} (seen : M → Seen) (ch : ℕ) (text : List 
   pub closed : Kept M
   pub is_closed : slice_index_or closed.channels ch Closed ≡ Closed
   pub others : SameBut ch old.channels closed.channels
-  pub close_counted : IsCounted seen old closed
+  pub close_counted : IsFailureCounted seen old closed
   pub quiet : text_writes ch text ≡ false → HasTold seen closed new × (new.medium ≡ closed.medium)
   pub spared : KeepsIfRefused seen closed new
-  pub counted : IsCounted seen closed new
+  pub counted : IsFailureCounted seen closed new
 
 -- from each machine that the drive stood for it is done, or stopped; of NEW that says nothing where the medium failed in it
 abbrev pub OpensFrom : {M : Type 0} → (M → Seen) → ℕ → List ℕ → Kept M → Kept M → Type 0

@@ -42,8 +42,8 @@ shown_at waits.Absent position = next_of_record None position
 shown_at waits.Broken position = None
 
 -- only zeros stand after the position
-abbrev pub is_last : List ℕ → ℕ → Bool
-is_last bytes position = list_all (λ c. c == 0) (drop position bytes)
+abbrev pub is_last_filled : List ℕ → ℕ → Bool
+is_last_filled bytes position = list_all (λ c. c == 0) (drop position bytes)
 
 -- this record waits, or none where there is none, as it was read
 pub record Waits (there : Option (List ℕ)) (waiting : Waiting) : Type 0 where
@@ -72,8 +72,8 @@ pub record IsPlacedAt (old new : Placed) (number position : ℕ) : Type 0 where
 -- byte the next record's first byte is the place, which may not be read.
 abbrev pub IsMoved : Waiting → Placed → Placed → Result (Unit {0}) Trouble → Type 0
 IsMoved (waits.Record r) old new (Ok _) =
-    MatchBool (is_last r.items old.position) (IsPlacedAt old new (old.number + 1) 1 × (is_broken new.waiting ≡ false)) (new ≡ record old { position = old.position + 1 })
-IsMoved (waits.Record r) old new (Err t) = (is_last r.items old.position ≡ true) × IsPlacedAt old new (old.number + 1) 1 × (new.waiting ≡ waits.Broken)
+    MatchBool (is_last_filled r.items old.position) (IsPlacedAt old new (old.number + 1) 1 × (is_broken new.waiting ≡ false)) (new ≡ record old { position = old.position + 1 })
+IsMoved (waits.Record r) old new (Err t) = (is_last_filled r.items old.position ≡ true) × IsPlacedAt old new (old.number + 1) 1 × (new.waiting ≡ waits.Broken)
 IsMoved waits.Absent old new (Ok _) = new ≡ old
 IsMoved waits.Absent old new (Err t) = ⊥
 IsMoved waits.Broken old new (Ok _) = new ≡ old

@@ -8,7 +8,7 @@ use Rattle.cbm_file.specs.Files.{Disk, File, file_at, bytes_in, record_length_in
 use Rattle.cbm_file.specs.Changes.{has_slot, new_slot, with_file, unclosed, reopened}
 use Rattle.cbm_file.specs.Records.{with_new_records}
 use Rattle.cbm_medium.specs.Content.{Content}
-use Rattle.cbm_volume.specs.Holding.{StandsAt, HasBytes, Says}
+use Rattle.cbm_volume.specs.Holding.{EntryStandsAt, HasBytes, EntrySays}
 use Rattle.cbm_volume.specs.Writers.{Use, HoldsNow, with_use}
 use Rattle.cbm_channel.specs.declared.channel.Channel as kept
 use Rattle.cbm_channel.specs.Standing.{ChannelStands, WaitsFor, use_of}
@@ -24,7 +24,7 @@ use Rattle.cbm_machine.specs.declared.code.Code.TheVariants.{Fine}
 use Rattle.cbm_command.specs.declared.opening.Opening.{Opening}
 use Rattle.cbm_command.specs.declared.opening.Opening.TheVariants as opening
 use Rattle.cbm_command.specs.declared.opening.Mode.TheVariants.{Read}
-use Rattle.cbm_command.specs.Openings.{is_relative, opening_of}
+use Rattle.cbm_command.specs.Openings.{wants_relative, opening_of}
 use Rattle.cbm_command.specs.Refusals.{◌>>=◌}
 use Rattle.cbm_machine.specs.Listings.{listing}
 use Rattle.cbm_machine.specs.Machines.{Channel, Closed, Reading, Writing, Relative, Machine, answered, say, in_writing, in_use}
@@ -35,8 +35,8 @@ use Rattle.cbm_machine.specs.Plans.{Plan, ReadListing, ReadFile, WriteFile, Appe
 pub record IsFound (tracks : ℕ) (c : Content) (d : Disk) (s : ℕ) (f : File) (found : Found) : Type 0 where
   pub number : s ≡ found.slot
   pub in_slot : file_at d s ≡ Some f
-  pub says : Says f found.entry
-  pub stands : StandsAt tracks c s found.entry
+  pub says : EntrySays f found.entry
+  pub stands : EntryStandsAt tracks c s found.entry
 
 -- the code found the same file, or refuses by the same code
 abbrev pub FoundAs : ℕ → Content → Disk → Result (ℕ × File) Code → Result Found Status → Type 0
@@ -48,7 +48,7 @@ FoundAs tracks c d (Err code) (Err status) = status ≡ plain code
 -- the entry of a closed file with bytes that no channel writes, which stands in the directory at the slot's number
 pub record IsReadable (tracks : ℕ) (c : Content) (m : Machine) (s : ℕ) (found : Found) : Type 0 where
   pub number : s ≡ found.slot
-  pub stands : StandsAt tracks c s found.entry
+  pub stands : EntryStandsAt tracks c s found.entry
   pub has : HasBytes m.disk s (bytes_in (body_at m.disk s))
   pub unwritten : in_writing m s ≡ false
 
@@ -65,7 +65,7 @@ pub record IsWritable (m : Machine) (kind : FileType) (name : List ℕ) : Type 0
 -- directory at the slot's number.
 pub record IsAppendable (tracks : ℕ) (c : Content) (m : Machine) (s : ℕ) (found : Found) : Type 0 where
   pub number : s ≡ found.slot
-  pub stands : StandsAt tracks c s found.entry
+  pub stands : EntryStandsAt tracks c s found.entry
   pub file : File
   pub in_slot : file_at m.disk s ≡ Some file
   pub closed : file.closed ≡ true
@@ -89,7 +89,7 @@ pub record IsReplaceable (m : Machine) (s slot : ℕ) : Type 0 where
 -- the slot's number.
 pub record IsRelatable (tracks : ℕ) (c : Content) (m : Machine) (s : ℕ) (found : Found) : Type 0 where
   pub number : s ≡ found.slot
-  pub stands : StandsAt tracks c s found.entry
+  pub stands : EntryStandsAt tracks c s found.entry
   pub file : File
   pub in_slot : file_at m.disk s ≡ Some file
   pub closed : file.closed ≡ true
@@ -165,7 +165,7 @@ IsOfText o = (ch : ℕ) × (text : List ℕ) × (opening_of ch text ≡ Ok o)
 -- it asks for a file to be written, or for a relative one, which may be made
 abbrev pub is_for_writing : Opening → Bool
 is_for_writing (opening.Listing pattern) = false
-is_for_writing (opening.File w) = if is_relative w then true else elim w.mode [ Read ↦ false | _ ↦ true ]
+is_for_writing (opening.File w) = if wants_relative w then true else elim w.mode [ Read ↦ false | _ ↦ true ]
 
 -- the text of an OPEN does; on 15 it is a command, which may change the disk
 abbrev pub text_writes : ℕ → List ℕ → Bool

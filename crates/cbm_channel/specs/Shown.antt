@@ -1,6 +1,6 @@
 -- What a channel of the code shows, on any disk.
 use Rattle.std.specs.Prelude.{ℕ, ◌≡◌, ◌==◌, Bool, true, false, not, drop, slice_index_or, if◌then◌else◌, Option, Some, None}
-use Rattle.cbm_file.specs.Waiting.{shown}
+use Rattle.cbm_file.specs.Waiting.{next_shown}
 use Rattle.cbm_channel.specs.declared.channel.Channel.{Channel}
 use Rattle.cbm_channel.specs.declared.channel.Channel.TheVariants as code
 use Rattle.cbm_channel.specs.Placed.{is_absent, shown_at}
@@ -10,17 +10,17 @@ use Rattle.cbm_machine.specs.declared.code.Code.TheVariants.{NoRecord, FileNotOp
 use Rattle.cbm_machine.specs.Told.{next_told}
 
 -- nothing is open
-abbrev pub is_closed : Channel → Bool
-is_closed code.Closed = true
-is_closed (code.Listing l) = false
-is_closed (code.File slot r) = false
-is_closed (code.Writing w full) = false
-is_closed (code.Stopped slot) = false
-is_closed (code.Records r) = false
+abbrev pub is_channel_closed : Channel → Bool
+is_channel_closed code.Closed = true
+is_channel_closed (code.Listing l) = false
+is_channel_closed (code.File slot r) = false
+is_channel_closed (code.Writing w full) = false
+is_channel_closed (code.Stopped slot) = false
+is_channel_closed (code.Records r) = false
 
 -- something is open
-abbrev pub is_open : Channel → Bool
-is_open x = not (is_closed x)
+abbrev pub is_channel_open : Channel → Bool
+is_channel_open x = not (is_channel_closed x)
 
 -- what the channel refuses where it is asked to talk: it isn't open for reading, or the record of its place isn't there
 abbrev pub talk_refused : Channel → Option Code
@@ -66,8 +66,8 @@ abbrev pub has_records_on : {M : Type 0} → ℕ → Kept M → Bool
 has_records_on ch k = has_records (slice_index_or k.channels ch code.Closed)
 
 -- what is reported and the medium are as they were
-abbrev pub IsQuiet : {M : Type 0} → Kept M → Kept M → Type 0
-IsQuiet old new = (new.told ≡ old.told) × (new.medium ≡ old.medium)
+abbrev pub KeepsMediumAndStatus : {M : Type 0} → Kept M → Kept M → Type 0
+KeepsMediumAndStatus old new = (new.told ≡ old.told) × (new.medium ≡ old.medium)
 
 -- it has the slot open for writing
 abbrev pub writes_on : ℕ → Channel → Bool
@@ -99,8 +99,8 @@ cost_on (code.Records r) = 2
 -- the byte that waits on a channel from 0 to 14, and whether it is the last
 abbrev pub shown_on : Channel → Option (ℕ × Bool)
 shown_on code.Closed = None
-shown_on (code.Listing l) = shown (drop l.taken l.bytes)
-shown_on (code.File slot r) = shown r.bytes
+shown_on (code.Listing l) = next_shown (drop l.taken l.bytes)
+shown_on (code.File slot r) = next_shown r.bytes
 shown_on (code.Writing w full) = None
 shown_on (code.Stopped slot) = None
 shown_on (code.Records r) = shown_at r.waiting r.position

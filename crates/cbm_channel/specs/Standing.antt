@@ -13,28 +13,28 @@ use Rattle.cbm_machine.specs.Machines as machine
 use Rattle.cbm_machine.specs.Orderly.{IsOrderly}
 use Rattle.cbm_machine.specs.Closing.{forget_text}
 use Rattle.cbm_machine.specs.Calls.{text_for}
-use Rattle.cbm_machine.specs.Told.{Told, told_by}
+use Rattle.cbm_machine.specs.Told.{ToldStatus, told_by}
 
 -- what the drive keeps: its medium, fifteen channels, the status, and the text that is gathered with its channel
 pub record Kept (M : Type 0) : Type 0 where
   pub medium : M
   pub channels : List Channel
-  pub told : Told
+  pub told : ToldStatus
   pub text : Option (ℕ × List ℕ)
 
 -- A channel that reads or writes a file does so on a disk of no more tracks than the medium has; one that reads is one byte ahead.
-abbrev pub Fits : ℕ → Channel → Type 0
-Fits tracks code.Closed = Unit {0}
-Fits tracks (code.Listing l) = Unit {0}
-Fits tracks (code.File slot r) = (r.tracks ≤ tracks) × IsSettled r
-Fits tracks (code.Writing w full) = w.chain.tracks ≤ tracks
-Fits tracks (code.Stopped slot) = Unit {0}
-Fits tracks (code.Records r) = Unit {0}
+abbrev pub FitsTracks : ℕ → Channel → Type 0
+FitsTracks tracks code.Closed = Unit {0}
+FitsTracks tracks (code.Listing l) = Unit {0}
+FitsTracks tracks (code.File slot r) = (r.tracks ≤ tracks) × IsSettled r
+FitsTracks tracks (code.Writing w full) = w.chain.tracks ≤ tracks
+FitsTracks tracks (code.Stopped slot) = Unit {0}
+FitsTracks tracks (code.Records r) = Unit {0}
 
 -- there are fifteen channels, and each fits the medium
 pub record AreFit (tracks : ℕ) (channels : List Channel) : Type 0 where
   pub count : length channels ≡ 15
-  pub each : All (Fits tracks) channels
+  pub each : All (FitsTracks tracks) channels
 
 -- A channel represents the machine's. That the bytes of a file are those which the machine has is said of the use of the disk.
 abbrev pub ChannelStands : Channel → machine.Channel → Type 0
@@ -55,26 +55,26 @@ WaitsFor d (code.Stopped slot) = Unit {0}
 WaitsFor d (code.Records r) = IsOnRecord d r
 
 -- what is left to be read on a channel of the machine, or was written on it so far: bytes, and blocks
-abbrev pub bytes_on : machine.Channel → List ℕ
-bytes_on machine.Closed = []
-bytes_on (machine.Reading slot left) = left
-bytes_on (machine.Writing slot bytes blocks full replaces) = bytes
-bytes_on (machine.Stopped slot) = []
-bytes_on (machine.Relative slot k p) = []
+abbrev pub channel_bytes : machine.Channel → List ℕ
+channel_bytes machine.Closed = []
+channel_bytes (machine.Reading slot left) = left
+channel_bytes (machine.Writing slot bytes blocks full replaces) = bytes
+channel_bytes (machine.Stopped slot) = []
+channel_bytes (machine.Relative slot k p) = []
 
-abbrev pub blocks_on : machine.Channel → ℕ
-blocks_on machine.Closed = 0
-blocks_on (machine.Reading slot left) = 0
-blocks_on (machine.Writing slot bytes blocks full replaces) = blocks
-blocks_on (machine.Stopped slot) = 0
-blocks_on (machine.Relative slot k p) = 0
+abbrev pub channel_blocks : machine.Channel → ℕ
+channel_blocks machine.Closed = 0
+channel_blocks (machine.Reading slot left) = 0
+channel_blocks (machine.Writing slot bytes blocks full replaces) = blocks
+channel_blocks (machine.Stopped slot) = 0
+channel_blocks (machine.Relative slot k p) = 0
 
 -- What a channel does with the disk, by what the code keeps and what the machine has.
 abbrev pub use_of : Channel → machine.Channel → Use
 use_of code.Closed channel = Idle
 use_of (code.Listing l) channel = Idle
-use_of (code.File slot r) channel = Reads slot r (bytes_on channel)
-use_of (code.Writing w full) channel = Writes w (bytes_on channel) (blocks_on channel)
+use_of (code.File slot r) channel = Reads slot r (channel_bytes channel)
+use_of (code.Writing w full) channel = Writes w (channel_bytes channel) (channel_blocks channel)
 use_of (code.Stopped slot) channel = Idle
 use_of (code.Records r) channel = Relates r.slot
 
@@ -111,7 +111,7 @@ pub record HasText (ch : ℕ) (m : machine.Machine) (text : ℕ × List ℕ) : T
 
 -- The parts of a drive, over a content, represent a machine: the content holds the machine's disk, which all channels use in one
 -- layout, and each channel, what is pending on it, what is reported and what is gathered represent the machine's.
-pub record StandsBy (c : Content) (tracks : ℕ) (protected : Bool) (channels : List Channel) (told : Told) (text : Option (ℕ × List ℕ)) (m : machine.Machine) : Type 0 where
+pub record StandsBy (c : Content) (tracks : ℕ) (protected : Bool) (channels : List Channel) (told : ToldStatus) (text : Option (ℕ × List ℕ)) (m : machine.Machine) : Type 0 where
   pub holds : HoldsNow tracks c m.disk (uses_of channels m.channels)
   pub orderly : IsOrderly m.disk m.protected m.channels
   pub same_tracks : m.tracks ≡ tracks

@@ -3,19 +3,19 @@ use Rattle.std.specs.Prelude.{◌≡◌, drop, Some, Result, Ok, Err}
 use Rattle.cbm_medium.specs.declared.fault.Trouble.{Trouble}
 use Rattle.cbm_medium.specs.Content.{Content}
 use Rattle.cbm_volume.specs.Reading.{Reading, rest_of, one_less}
-use Rattle.cbm_listing.specs.Listed.{behind_next}
+use Rattle.cbm_listing.specs.Listed.{with_next_taken}
 use Rattle.cbm_channel.specs.declared.channel.Channel.{Channel}
 use Rattle.cbm_channel.specs.declared.channel.Channel.TheVariants as code
 use Rattle.cbm_channel.specs.Placed.{Placed, IsMoved}
 use Rattle.cbm_machine.specs.Statuses.{trouble_status}
-use Rattle.cbm_machine.specs.Told.{Told}
+use Rattle.cbm_machine.specs.Told.{ToldStatus}
 
 -- A byte was taken of a channel. Of a file one byte less is left; or its chain breaks off after the byte that waits next,
 -- which is the last then, and the trouble is reported. Of records the place goes on.
 abbrev pub IsTakenBy : Content → Channel → Channel → Result (Unit {0}) Trouble → Type 0
 IsTakenBy c (code.File slot r) new (Ok _) = (s : Reading) × (new ≡ code.File slot s) × (rest_of c s ≡ one_less (rest_of c r))
 IsTakenBy c (code.File slot r) new (Err t) = (s : Reading) × (new ≡ code.File slot s) × ((rest_of c r).trouble ≡ Some t) × (s.bytes ≡ drop 1 (rest_of c r).bytes)
-IsTakenBy c (code.Listing l) new (Ok _) = new ≡ code.Listing (behind_next l)
+IsTakenBy c (code.Listing l) new (Ok _) = new ≡ code.Listing (with_next_taken l)
 IsTakenBy c code.Closed new (Ok _) = new ≡ code.Closed
 IsTakenBy c (code.Writing w full) new (Ok _) = new ≡ code.Writing w full
 IsTakenBy c (code.Stopped slot) new (Ok _) = new ≡ code.Stopped slot
@@ -26,10 +26,10 @@ IsTakenBy c (code.Writing w full) new (Err t) = ⊥
 IsTakenBy c (code.Stopped slot) new (Err t) = ⊥
 
 -- a trouble is the status, reported from its beginning
-abbrev pub told_after : Result (Unit {0}) Trouble → Told → Told
+abbrev pub told_after : Result (Unit {0}) Trouble → ToldStatus → ToldStatus
 told_after (Ok _) told = told
 told_after (Err t) told = record { status = trouble_status t; told = 0 }
 
 -- a byte was taken, and what was met after it is reported
-abbrev pub IsTaken : Content → Channel → Channel → Told → Told → Type 0
+abbrev pub IsTaken : Content → Channel → Channel → ToldStatus → ToldStatus → Type 0
 IsTaken c old new told next = (result : Result (Unit {0}) Trouble) × IsTakenBy c old new result × (next ≡ told_after result told)

@@ -1,7 +1,7 @@
 ghost use Rattle.std.specs.Prelude.{◌≡◌, ◌≤◌, ◌*◌, length, sum_by};
 ghost use Rattle.std.specs.List.{list_any};
-ghost use Rattle.cbm_channel.specs.Shown.{is_open, cost_on, writes_on, uses_on};
-ghost use Rattle.cbm_file.specs.Waiting.{shown};
+ghost use Rattle.cbm_channel.specs.Shown.{is_channel_open, cost_on, writes_on, uses_on};
+ghost use Rattle.cbm_file.specs.Waiting.{next_shown};
 ghost use Rattle.cbm_channel.specs.declared.channel.Channel.TheVariants.{Closed};
 
 use crate::on_record::OnRecord;
@@ -37,7 +37,7 @@ pub enum Channel {
 
 /// The first of these bytes, and whether it is the last.
 fn first_of(bytes: &[u8]) -> Option<(u8, bool)>
-    ensures { result ≡ shown bytes.now }
+    ensures { result ≡ next_shown bytes.now }
 {
     let (byte, rest) = bytes.split_first()?;
     Some((*byte, rest.is_empty()))
@@ -76,7 +76,7 @@ pub(crate) fn any_uses(channels: &[Channel], slot: u8) -> bool
 
 /// Whether a channel is open.
 pub(crate) fn any_open(channels: &[Channel]) -> bool
-    ensures { result ≡ list_any is_open channels.now }
+    ensures { result ≡ list_any is_channel_open channels.now }
 {
     channels.iter().any(|channel| !channel.is_closed())
 }
@@ -86,15 +86,15 @@ impl Channel {
     ghost use Rattle.cbm_volume.specs.Writers.{Use, Idle, HoldsNow, with_use, Stopped};
     ghost use Rattle.cbm_volume.specs.Calls.{KeepsProtected, IsSameOn};
     ghost use Rattle.cbm_channel.specs.ChannelCalls.{KeepsElse, KeepsOutside, OfChannel, OfPlaced, IsChannelCall};
-    ghost use Rattle.cbm_file.specs.Waiting.{shown};
+    ghost use Rattle.cbm_file.specs.Waiting.{next_shown};
     ghost use Rattle.cbm_file.specs.Files.{Disk};
     ghost use Rattle.cbm_machine.specs.Machines as machine;
     ghost use Rattle.cbm_machine.specs.Talking.{taken_on};
     ghost use Rattle.cbm_machine.specs.Codes.{code_number};
     ghost use Rattle.cbm_channel.specs.Grounds.{HidesRecords, is_fault_number};
     ghost use Rattle.cbm_channel.specs.Moved.{code_placed, placed_on};
-    ghost use Rattle.cbm_channel.specs.Standing.{Fits, ChannelStands, WaitsFor, IsSameFile, use_of};
-    ghost use Rattle.cbm_channel.specs.Shown.{is_closed, talk_refused, is_written, is_writing, has_records, writes_on, uses_on, cost_on, shown_on};
+    ghost use Rattle.cbm_channel.specs.Standing.{FitsTracks, ChannelStands, WaitsFor, IsSameFile, use_of};
+    ghost use Rattle.cbm_channel.specs.Shown.{is_channel_closed, talk_refused, is_written, is_writing, has_records, writes_on, uses_on, cost_on, shown_on};
     ghost use Rattle.cbm_channel.specs.Written.{is_lost, channel_put, disk_put, IsCutOff, is_unbegun, disk_closed, IsBeingWritten};
     ghost use Rattle.cbm_channel.specs.Taken.{IsTakenBy};
     ghost use Rattle.cbm_channel.specs.declared.channel.Channel.TheVariants.{Records};
@@ -115,7 +115,7 @@ impl Channel {
 
     /// Whether nothing is open.
     pub(crate) fn is_closed(&self) -> bool
-        ensures { result ≡ is_closed self.now }
+        ensures { result ≡ is_channel_closed self.now }
     {
         matches!(self, Channel::Closed)
     }
@@ -207,8 +207,8 @@ impl Channel {
     /// Goes to the next byte. Errors: why the chain cannot be followed past that byte, which thereby becomes its last;
     /// or why the next record can't be read, of which nothing waits then.
     pub(crate) fn taken<M: Medium>(&mut self, volume: &Volume<M>) -> Result<(), Trouble>
-        requires { Fits (M.seen volume.now).tracks self.old }
-        ensures fits { Fits (M.seen volume.now).tracks self.new }
+        requires { FitsTracks (M.seen volume.now).tracks self.old }
+        ensures fits { FitsTracks (M.seen volume.now).tracks self.new }
         ensures taken { IsTakenBy (M.seen volume.now).content self.old self.new result }
         ensures cause { has_records self.old ≡ true → IfErr result (HidesRecords (M.seen volume.now)) }
         ensures well { let now = M.seen volume.now in (d : Disk) (uses : ℕ → Use) (ch : ℕ) (x : machine.Channel) →
@@ -236,9 +236,9 @@ impl Channel {
         number: u32,
         position: u8,
     ) -> Result<Code, Trouble>
-        requires fits { Fits (M.seen volume.now).tracks self.old }
+        requires fits { FitsTracks (M.seen volume.now).tracks self.old }
         requires number { number < 2 ^ 24 }
-        ensures fits { Fits (M.seen volume.now).tracks self.new }
+        ensures fits { FitsTracks (M.seen volume.now).tracks self.new }
         ensures same { IsSameFile self.old self.new }
         ensures own { IfOk result (λ code. is_fault_number (code_number code) ≡ false) }
         ensures well { let now = M.seen volume.now in (d : Disk) (uses : ℕ → Use) (ch : ℕ) (x : machine.Channel) →
@@ -274,8 +274,8 @@ impl Channel {
         volume: &mut Volume<M>,
         byte: u8,
     ) -> Result<bool, Trouble>
-        requires { Fits (M.seen volume.old).tracks self.old }
-        ensures fits { Fits (M.seen volume.new).tracks self.new }
+        requires { FitsTracks (M.seen volume.old).tracks self.old }
+        ensures fits { FitsTracks (M.seen volume.new).tracks self.new }
         ensures call { let old = M.seen volume.old in let new = M.seen volume.new in
             OfChannel old self.old (λ d uses ch x. IsChannelCall result old new
             (λ done. (done ≡ not (is_lost d x)) × ChannelStands self.new (channel_put byte d x) ×
@@ -313,8 +313,8 @@ impl Channel {
         volume: &mut Volume<M>,
         bytes: &[u8],
     ) -> Result<Option<bool>, Trouble>
-        requires { Fits (M.seen volume.old).tracks self.old }
-        ensures fits { Fits (M.seen volume.new).tracks self.new }
+        requires { FitsTracks (M.seen volume.old).tracks self.old }
+        ensures fits { FitsTracks (M.seen volume.new).tracks self.new }
         ensures same { IsSameFile self.old self.new }
         ensures put { let old = M.seen volume.old in let new = M.seen volume.new in
             (r : Placed) → self.old ≡ Records r → OfPlaced old r (λ d uses b s rs. (q : Placed) × (self.new ≡ Records q) ×
@@ -350,7 +350,7 @@ impl Channel {
     /// Finishes the file that it writes; a replacement after the disk was full is given up. Errors: why a write was
     /// refused; the slot has the file from before or the one from after.
     fn finish_file<M: Medium>(&self, volume: &mut Volume<M>) -> Result<(), Trouble>
-        requires { Fits (M.seen volume.old).tracks self.now }
+        requires { FitsTracks (M.seen volume.old).tracks self.now }
         ensures call { let old = M.seen volume.old in let new = M.seen volume.new in
             OfChannel old self.now (λ d uses ch x. let rest = with_use uses ch Idle in IsChannelCall result old new
             (λ done. HoldsNow old.tracks new.content (disk_closed d x) rest)
@@ -374,7 +374,7 @@ impl Channel {
 
     /// CLOSE: the file that it writes is finished, and the channel is closed. Errors: why a write was refused.
     pub(crate) fn finish<M: Medium>(&mut self, volume: &mut Volume<M>) -> Result<(), Trouble>
-        requires { Fits (M.seen volume.old).tracks self.old }
+        requires { FitsTracks (M.seen volume.old).tracks self.old }
         ensures is_closed { self.new ≡ Closed }
         ensures call { let old = M.seen volume.old in let new = M.seen volume.new in
             OfChannel old self.old (λ d uses ch x. let rest = with_use uses ch Idle in IsChannelCall result old new

@@ -39,7 +39,7 @@ impl<M: Medium> Dos<M> {
     ghost use Rattle.std.specs.Prelude.{◌≡◌, ◌≤◌};
     ghost use Rattle.cbm_file.specs.Files.{Disk};
     ghost use Rattle.cbm_volume.specs.Holding.{HoldsDisk};
-    ghost use Rattle.cbm_machine.specs.Machines.{Machine, start, tell, say};
+    ghost use Rattle.cbm_machine.specs.Machines.{Machine, start, with_status, say};
     ghost use Rattle.cbm_machine.specs.Codes.{code_number};
     ghost use Rattle.cbm_machine.specs.Statuses.{plain};
     ghost use Rattle.cbm_channel.specs.Standing.{Stands, Leads};
@@ -91,7 +91,7 @@ impl<M: Medium> Dos<M> {
 
     /// Sets the status; channel 15 sends it from its beginning.
     fn set(&mut self, status: Status)
-        ensures leads { Leads M.seen self.old self.new (tell status) }
+        ensures leads { Leads M.seen self.old self.new (with_status status) }
         ensures medium { self.new.medium ≡ self.old.medium }
         ensures channels { self.new.channels ≡ self.old.channels }
         ensures told { self.new.told ≡ (record { status = status; told = 0 }) }

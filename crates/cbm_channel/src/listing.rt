@@ -4,7 +4,7 @@ ghost use Rattle.cbm_channel.specs.Grounds.{ShowsTrouble};
 ghost use Rattle.cbm_file.specs.Files.{Disk};
 ghost use Rattle.cbm_volume.specs.Holding.{HoldsDisk};
 ghost use Rattle.cbm_machine.specs.Listings.{listing};
-ghost use Rattle.cbm_channel.specs.Listing.{line_of};
+ghost use Rattle.cbm_channel.specs.Listing.{listing_line};
 
 use crate::sought::Sought;
 use cbm_command::Name;
@@ -14,7 +14,7 @@ use cbm_volume::{Entry, Medium, Trouble, Volume, Wanted};
 /// Adds the line of an entry that isn't empty and matches.
 fn add_entry(listing: &mut Listing, pattern: &Name, entry: &Entry)
     requires { length listing.old.bytes ≤ 4640 }
-    ensures bytes { listing.new.bytes ≡ listing.old.bytes ++ line_of pattern.now entry.now }
+    ensures bytes { listing.new.bytes ≡ listing.old.bytes ++ listing_line pattern.now entry.now }
     ensures taken { listing.new.taken ≡ listing.old.taken }
     ensures longer { length listing.new.bytes ≤ length listing.old.bytes + 32 }
 {

@@ -7,7 +7,7 @@ ghost use Rattle.cbm_channel.specs.Grounds.{HidesRecords};
 ghost use Rattle.cbm_volume.specs.Growth.{with_growth, IsTooLarge, IsGrowthCut};
 ghost use Rattle.cbm_volume.specs.RecordWrites.{HasRecordsOpen};
 ghost use Rattle.cbm_volume.specs.Writers.{Use, HoldsNow};
-ghost use Rattle.cbm_channel.specs.Placed.{Waits, is_last, is_broken, record_of};
+ghost use Rattle.cbm_channel.specs.Placed.{Waits, is_last_filled, is_broken, record_of};
 
 use cbm_medium::codes::ENDLESS_CHAIN;
 use cbm_volume::{Medium, Record, Trouble, Volume, WrittenRecord};
@@ -55,7 +55,7 @@ fn are_zeros(bytes: &[u8]) -> bool
 
 /// Whether only zeros stand after a position.
 fn is_last(bytes: &[u8], position: u8) -> bool
-    ensures value { result ≡ is_last bytes.now position }
+    ensures value { result ≡ is_last_filled bytes.now position }
     ensures more { result ≡ false → position < length bytes.now }
 {
     let place = position as usize;

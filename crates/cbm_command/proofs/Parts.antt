@@ -2,7 +2,7 @@
 use Rattle.std.proofs.Common.{◌≡◌, ℕ, ◌<◌, ◌≤◌, Bool, true, false, List, [], ◌∷◌, length, refl, ap, sym, ◌∙◌, arith, cond, eqb, if◌then◌else◌, ◌||◌, ◌⊎◌, inl, inr}
 use Rattle.std.proofs.lemmas.Bool.Decides.{eqb_tells}
 use Rattle.std.specs.Prelude.{slice_index_or}
-use Rattle.cbm_command.specs.Texts.{comma, before, behind, has, add_to_first, parts_at}
+use Rattle.cbm_command.specs.Texts.{comma, before_byte, after_byte, holds_byte, add_to_first, parts_at}
 use Rattle.cbm_command.specs.Openings.{first_byte}
 
 -- a test is true or false
@@ -25,34 +25,34 @@ right_false true b h = cc
 right_false false b h = h
 
 -- what follows a byte is shorter than the text
-pub behind_short : (c : ℕ) (text : List ℕ) → length (behind c text) ≤ length text
+pub behind_short : (c : ℕ) (text : List ℕ) → length (after_byte c text) ≤ length text
 behind_short c [] = omega arith
 behind_short c (x ∷ text) = let rest = behind_short c text in
-    elim (eqb x c) as (λ b. length (cond b text (behind c text)) ≤ length (x ∷ text)) [ true ↦ omega arith | false ↦ omega arith ]
+    elim (eqb x c) as (λ b. length (cond b text (after_byte c text)) ≤ length (x ∷ text)) [ true ↦ omega arith | false ↦ omega arith ]
 
-pub behind_shorter : (c : ℕ) (text : List ℕ) → has c text ≡ true → length (behind c text) < length text
+pub behind_shorter : (c : ℕ) (text : List ℕ) → holds_byte c text ≡ true → length (after_byte c text) < length text
 behind_shorter c [] h = cc
 behind_shorter c (x ∷ text) h = let rest = behind_short c text in
-    elim (eqb x c) as (λ b. length (cond b text (behind c text)) < length (x ∷ text)) [ true ↦ omega arith | false ↦ omega arith ]
+    elim (eqb x c) as (λ b. length (cond b text (after_byte c text)) < length (x ∷ text)) [ true ↦ omega arith | false ↦ omega arith ]
 
 -- what isn't there has nothing behind it
-pub behind-none : (c : ℕ) (text : List ℕ) → has c text ≡ false → behind c text ≡ []
+pub behind-none : (c : ℕ) (text : List ℕ) → holds_byte c text ≡ false → after_byte c text ≡ []
 behind-none c [] h = refl
 behind-none c (x ∷ text) h = elim (eqb_tells x c) [
-  | inl e ↦ absurd (no_or (eqb x c) (has c text) e.0 h)
-  | inr e ↦ (rw e.0 (behind-none c text (right_false (eqb x c) (has c text) h)))
+  | inl e ↦ absurd (no_or (eqb x c) (holds_byte c text) e.0 h)
+  | inr e ↦ (rw e.0 (behind-none c text (right_false (eqb x c) (holds_byte c text) h)))
 ]
 
 -- the parts after the first
 abbrev pub more_parts : ℕ → List ℕ → List (List ℕ)
-more_parts c text = if has c text then parts_at c (behind c text) else []
+more_parts c text = if holds_byte c text then parts_at c (after_byte c text) else []
 
 -- the first part is what stands before the first such byte
-pub parts_at-cut : (c : ℕ) (text : List ℕ) → parts_at c text ≡ before c text ∷ more_parts c text
+pub parts_at-cut : (c : ℕ) (text : List ℕ) → parts_at c text ≡ before_byte c text ∷ more_parts c text
 parts_at-cut c [] = refl
 parts_at-cut c (x ∷ text) = let rest = ap (add_to_first x) (parts_at-cut c text) in
     elim (eqb x c) as (λ b. (if b then [] ∷ parts_at c text else add_to_first x (parts_at c text))
-    ≡ (if b then [] else x ∷ before c text) ∷ (if b || has c text then parts_at c (if b then text else behind c text) else []))
+    ≡ (if b then [] else x ∷ before_byte c text) ∷ (if b || holds_byte c text then parts_at c (if b then text else after_byte c text) else []))
     [ true ↦ refl | false ↦ rest ]
 
 -- the first byte of parts that have one
@@ -73,8 +73,8 @@ first_byte-parts_at (x ∷ text) =
     elim (eqb_tells x comma) [ inl h ↦ (rw h.0 (here ∙ sym h.1)) | inr h ↦ (rw h.0 there) ]
 
 -- the first byte behind the first separator
-pub first_byte-more_parts : (text : List ℕ) → first_byte (more_parts comma text) ≡ slice_index_or (behind comma text) 0 0
-first_byte-more_parts text = elim (bool_cases (has comma text)) [
-  | inl h ↦ (rw h (first_byte-parts_at (behind comma text)))
+pub first_byte-more_parts : (text : List ℕ) → first_byte (more_parts comma text) ≡ slice_index_or (after_byte comma text) 0 0
+first_byte-more_parts text = elim (bool_cases (holds_byte comma text)) [
+  | inl h ↦ (rw h (first_byte-parts_at (after_byte comma text)))
   | inr h ↦ (rw (h, behind-none comma text h))
 ]

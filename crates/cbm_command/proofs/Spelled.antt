@@ -9,7 +9,7 @@ use Rattle.cbm_file.specs.declared.file_type.FileType.TheVariants.{Del, Seq, Prg
 use Rattle.cbm_command.specs.declared.opening.Mode.{Mode}
 use Rattle.cbm_command.specs.declared.opening.Mode.TheVariants.{Read, Write, Append}
 use Rattle.cbm_command.specs.declared.opening.Opening.TheVariants.{File}
-use Rattle.cbm_command.specs.Texts.{comma, colon, before, behind, has, parts_at}
+use Rattle.cbm_command.specs.Texts.{comma, colon, before_byte, after_byte, holds_byte, parts_at}
 use Rattle.cbm_command.specs.Names.{filler, name_of, is_wild, is_empty}
 use Rattle.cbm_command.specs.Refusals.{◌>>=◌}
 use Rattle.cbm_command.specs.Openings.{opening_of, headed_file, by_first, file_asked, file_named, with_pieces, plain_file, or_default, by_channel}
@@ -18,37 +18,37 @@ use Rattle.cbm_command.proofs.Parts.{right_false, left_false}
 
 -- ---- a byte that isn't in the front
 
-before-front : (c : ℕ) (front rest : List ℕ) → has c front ≡ false → before c (front ++ c ∷ rest) ≡ front
+before-front : (c : ℕ) (front rest : List ℕ) → holds_byte c front ≡ false → before_byte c (front ++ c ∷ rest) ≡ front
 before-front c [] rest h = rw (eq-eqb c c refl)
 before-front c (x ∷ front) rest h =
-    let here = left_false (eqb x c) (has c front) h in
-    let there = before-front c front rest (right_false (eqb x c) (has c front) h) in
+    let here = left_false (eqb x c) (holds_byte c front) h in
+    let there = before-front c front rest (right_false (eqb x c) (holds_byte c front) h) in
     rw (here, there)
 
-behind-front : (c : ℕ) (front rest : List ℕ) → has c front ≡ false → behind c (front ++ c ∷ rest) ≡ rest
+behind-front : (c : ℕ) (front rest : List ℕ) → holds_byte c front ≡ false → after_byte c (front ++ c ∷ rest) ≡ rest
 behind-front c [] rest h = rw (eq-eqb c c refl)
 behind-front c (x ∷ front) rest h =
-    let here = left_false (eqb x c) (has c front) h in
-    let there = behind-front c front rest (right_false (eqb x c) (has c front) h) in
+    let here = left_false (eqb x c) (holds_byte c front) h in
+    let there = behind-front c front rest (right_false (eqb x c) (holds_byte c front) h) in
     rw (here, there)
 
 or-true : (b : Bool) → (b || true) ≡ true
 or-true true = refl
 or-true false = refl
 
-has-front : (c : ℕ) (front rest : List ℕ) → has c (front ++ c ∷ rest) ≡ true
+has-front : (c : ℕ) (front rest : List ℕ) → holds_byte c (front ++ c ∷ rest) ≡ true
 has-front c [] rest = rw (eq-eqb c c refl)
 has-front c (x ∷ front) rest = let there = has-front c front rest in rw there (or-true (eqb x c))
 
-before-none : (c : ℕ) (text : List ℕ) → has c text ≡ false → before c text ≡ text
+before-none : (c : ℕ) (text : List ℕ) → holds_byte c text ≡ false → before_byte c text ≡ text
 before-none c [] h = refl
 before-none c (x ∷ text) h =
-    let here = left_false (eqb x c) (has c text) h in
-    let there = before-none c text (right_false (eqb x c) (has c text) h) in
+    let here = left_false (eqb x c) (holds_byte c text) h in
+    let there = before-none c text (right_false (eqb x c) (holds_byte c text) h) in
     rw (here, there)
 
 -- a short name without fillers is itself
-name_of-plain : (name : List ℕ) → has filler name ≡ false → length name ≤ 16 → name_of name ≡ name
+name_of-plain : (name : List ℕ) → holds_byte filler name ≡ false → length name ≤ 16 → name_of name ≡ name
 name_of-plain name h short = ap (take 16) (before-none filler name h) ∙ take_all 16 name short
 
 -- ---- the readings, one inside the other
@@ -62,10 +62,10 @@ by_ordinary ch c text h =
     let dollar = right_false (eqb c 35) (eqb c 36) h in
     rw (hash, dollar)
 
-by_no_head : (ch : ℕ) (text : List ℕ) → has colon (before comma text) ≡ false → headed_file ch text ≡ file_asked ch false text
+by_no_head : (ch : ℕ) (text : List ℕ) → holds_byte colon (before_byte comma text) ≡ false → headed_file ch text ≡ file_asked ch false text
 by_no_head ch text h = rw h
 
-by_parts : (ch : ℕ) (text name rest : List ℕ) → name_of (before comma text) ≡ name → is_empty name ≡ false → has comma text ≡ true → behind comma text ≡ rest →
+by_parts : (ch : ℕ) (text name rest : List ℕ) → name_of (before_byte comma text) ≡ name → is_empty name ≡ false → holds_byte comma text ≡ true → after_byte comma text ≡ rest →
     file_asked ch false text ≡ (with_pieces (parts_at comma rest) (plain_file false name) >>= λ w. file_named (or_default ch (by_channel ch w)))
 by_parts ch text name rest n some c r = rw (n, some, c, r)
 
@@ -99,7 +99,7 @@ usual ch (c ∷ name) kind mode two plain h =
     let one : eqb ch 1 ≡ false = grind (arith, nat_tests) in
     by_length ch text (omega (arith, length-append (c ∷ name) (comma ∷ rest), plain.short))
     ∙ by_ordinary ch c (name ++ comma ∷ rest) plain.ordinary
-    ∙ by_no_head ch text (ap (has colon) front ∙ plain.no_colon)
+    ∙ by_no_head ch text (ap (holds_byte colon) front ∙ plain.no_colon)
     ∙ by_parts ch text (c ∷ name) rest (ap name_of front ∙ name_of-plain (c ∷ name) plain.no_filler plain.short) (some_byte c name)
     (has-front comma (c ∷ name) rest) (behind-front comma (c ∷ name) rest plain.no_comma)
     ∙ by_pieces ch (c ∷ name) kind mode h zero one plain.no_pattern

@@ -5,7 +5,7 @@ use Rattle.cbm_command.specs.declared.refusal.Refusal.{Refusal}
 use Rattle.cbm_command.specs.declared.refusal.Refusal.TheVariants.{Syntax, UnknownCommand, LongText, WildName, NoName, DriveNotReady}
 use Rattle.cbm_command.specs.declared.command.Command.{Command}
 use Rattle.cbm_command.specs.declared.command.Command.TheVariants.{New, Scratch, Rename, Copy, Validate, Initialize, Position}
-use Rattle.cbm_command.specs.Texts.{comma, colon, equals, drive_digit, is_digit, is_letter, before, behind, has, parts_at}
+use Rattle.cbm_command.specs.Texts.{comma, colon, equals, drive_digit, is_digit, is_letter, before_byte, after_byte, holds_byte, parts_at}
 use Rattle.cbm_command.specs.Names.{name_of, is_empty, is_wild}
 use Rattle.cbm_command.specs.Refusals.{◌>>=◌, unless, drive_head}
 
@@ -42,10 +42,10 @@ names_and ns more = more >>= λ ms. Ok (ns ++ ms)
 -- N: a name, and perhaps a comma and an id, of which two bytes count
 abbrev pub new_asked : List ℕ → Result Command Refusal
 new_asked text =
-    let name = name_of (before comma text) in
-    let id = behind comma text in
-    unless ((is_empty name, NoName) ∷ (is_wild name, WildName) ∷ (has comma text && nat_lt (length id) 2, Syntax) ∷ [])
-    (Ok (New name (if has comma text then Some (take 2 id) else None)))
+    let name = name_of (before_byte comma text) in
+    let id = after_byte comma text in
+    unless ((is_empty name, NoName) ∷ (is_wild name, WildName) ∷ (holds_byte comma text && nat_lt (length id) 2, Syntax) ∷ [])
+    (Ok (New name (if holds_byte comma text then Some (take 2 id) else None)))
 
 -- S: patterns
 abbrev pub scratch_asked : List ℕ → Result Command Refusal
@@ -54,18 +54,18 @@ scratch_asked text = names_in (parts_at comma text) >>= λ ps. unless ((list_any
 -- R: a new name, `=` and an old name
 abbrev pub rename_asked : List ℕ → Result Command Refusal
 rename_asked text =
-    let new = name_of (before equals text) in
-    later_name (behind equals text) >>= λ old.
-    unless ((not (has equals text) || is_empty new || is_empty old, NoName) ∷ (is_wild new || is_wild old, WildName) ∷ [])
+    let new = name_of (before_byte equals text) in
+    later_name (after_byte equals text) >>= λ old.
+    unless ((not (holds_byte equals text) || is_empty new || is_empty old, NoName) ∷ (is_wild new || is_wild old, WildName) ∷ [])
     (Ok (Rename new old))
 
 -- C: a new name, `=` and one to four old names
 abbrev pub copy_asked : List ℕ → Result Command Refusal
 copy_asked text =
-    let new = name_of (before equals text) in
-    later_names (parts_at comma (behind equals text)) >>= λ olds.
+    let new = name_of (before_byte equals text) in
+    later_names (parts_at comma (after_byte equals text)) >>= λ olds.
     unless (
-    (not (has equals text) || is_empty new || list_any is_empty olds, NoName)
+    (not (holds_byte equals text) || is_empty new || list_any is_empty olds, NoName)
     ∷ (is_wild new || list_any is_wild olds, WildName)
     ∷ (nat_lt 4 (length olds), Syntax) ∷ [])
     (Ok (Copy new olds))
@@ -75,7 +75,7 @@ copy_asked text =
 -- a colon is there and the head before it is right: what stands after it
 abbrev pub behind_head : List ℕ → Result (List ℕ) Refusal
 behind_head text =
-    unless ((not (has colon text), NoName) ∷ []) (command_head (before colon text) >>= λ _. Ok (behind colon text))
+    unless ((not (holds_byte colon text), NoName) ∷ []) (command_head (before_byte colon text) >>= λ _. Ok (after_byte colon text))
 
 -- P: a channel, a record's number low byte first, and perhaps a position; 0 means 1
 abbrev pub position_asked : List ℕ → Result Command Refusal
@@ -89,8 +89,8 @@ by_letter c text =
     if c == 83 then (behind_head text >>= scratch_asked) else
     if c == 82 then (behind_head text >>= rename_asked) else
     if c == 67 then (behind_head text >>= copy_asked) else
-    if c == 86 then (command_head (before colon text) >>= λ _. Ok Validate) else
-    if c == 73 then (command_head (before colon text) >>= λ _. Ok Initialize) else
+    if c == 86 then (command_head (before_byte colon text) >>= λ _. Ok Validate) else
+    if c == 73 then (command_head (before_byte colon text) >>= λ _. Ok Initialize) else
     if c == 80 then position_asked text else Err UnknownCommand
 
 -- the text of at most 58 bytes

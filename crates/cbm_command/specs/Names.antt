@@ -1,7 +1,7 @@
 -- Names and patterns.
 use Rattle.std.specs.Prelude.{ℕ, ◌==◌, Bool, true, false, ◌&&◌, ◌||◌, List, [], ◌∷◌, take, length}
 use Rattle.std.specs.List.{list_any}
-use Rattle.cbm_command.specs.Texts.{before}
+use Rattle.cbm_command.specs.Texts.{before_byte}
 
 -- in a pattern: all that follows
 abbrev pub asterisk : ℕ
@@ -24,7 +24,7 @@ is_match (p ∷ pattern) (c ∷ name) = (p == asterisk) || (((p == question_mark
 
 -- a name as it is meant: cut at its first filler and to sixteen bytes
 abbrev pub name_of : List ℕ → List ℕ
-name_of text = take 16 (before filler text)
+name_of text = take 16 (before_byte filler text)
 
 -- no byte is left of it
 abbrev pub is_empty : List ℕ → Bool

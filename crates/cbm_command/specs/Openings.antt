@@ -9,7 +9,7 @@ use Rattle.cbm_command.specs.declared.opening.Mode.TheVariants.{Read, Write, App
 use Rattle.cbm_command.specs.declared.opening.Wanted.{Wanted}
 use Rattle.cbm_command.specs.declared.opening.Opening.{Opening}
 use Rattle.cbm_command.specs.declared.opening.Opening.TheVariants.{Listing, File}
-use Rattle.cbm_command.specs.Texts.{comma, colon, equals, at_sign, before, behind, has, parts_at}
+use Rattle.cbm_command.specs.Texts.{comma, colon, equals, at_sign, before_byte, after_byte, holds_byte, parts_at}
 use Rattle.cbm_command.specs.Names.{name_of, is_empty, is_wild, asterisk}
 use Rattle.cbm_command.specs.Refusals.{◌>>=◌, unless, drive_head}
 
@@ -24,13 +24,13 @@ at_in_head (c ∷ rest) =
 -- one pattern, and no filter of types after it
 abbrev pub pattern_asked : List ℕ → Result Opening Refusal
 pattern_asked text = unless
-    ((is_empty (name_of (before comma text)), NoName) ∷ (has comma text || has equals text, Syntax) ∷ [])
+    ((is_empty (name_of (before_byte comma text)), NoName) ∷ (holds_byte comma text || holds_byte equals text, Syntax) ∷ [])
     (Ok (Listing (name_of text)))
 
 -- after `$`: perhaps the drive's digit, and perhaps a colon and a pattern
 abbrev pub listing_asked : List ℕ → Result Opening Refusal
-listing_asked text = drive_head (before colon text) >>= λ _.
-    if has colon text then pattern_asked (behind colon text) else Ok (Listing (asterisk ∷ []))
+listing_asked text = drive_head (before_byte colon text) >>= λ _.
+    if holds_byte colon text then pattern_asked (after_byte colon text) else Ok (Listing (asterisk ∷ []))
 
 -- ---- a name and its pieces
 
@@ -88,12 +88,12 @@ abbrev pub or_default : ℕ → Wanted → Wanted
 or_default ch w = if is_some w.kind then w else record w { kind = default_kind ch w.mode }
 
 -- the type is the one of records
-abbrev pub is_relative : Wanted → Bool
-is_relative w = elim w.kind [ Some Rel ↦ true | _ ↦ false ]
+abbrev pub wants_relative : Wanted → Bool
+wants_relative w = elim w.kind [ Some Rel ↦ true | _ ↦ false ]
 
 -- the file is written, appended to or made, or may be: its name is given whole
 abbrev pub is_named_whole : Wanted → Bool
-is_named_whole w = elim w.mode [ Write ↦ true | Append ↦ true | Read ↦ is_relative w ]
+is_named_whole w = elim w.mode [ Write ↦ true | Append ↦ true | Read ↦ wants_relative w ]
 
 -- A pattern is no name that is given whole.
 abbrev pub file_named : Wanted → Result Opening Refusal
@@ -106,16 +106,16 @@ plain_file at name = record { has_at = at; name = name; mode = Read; kind = None
 -- a name, and pieces after commas
 abbrev pub file_asked : ℕ → Bool → List ℕ → Result Opening Refusal
 file_asked ch at text =
-    let name = name_of (before comma text) in
+    let name = name_of (before_byte comma text) in
     unless ((is_empty name, NoName) ∷ [])
-    ((if has comma text then with_pieces (parts_at comma (behind comma text)) (plain_file at name) else Ok (plain_file at name))
+    ((if holds_byte comma text then with_pieces (parts_at comma (after_byte comma text)) (plain_file at name) else Ok (plain_file at name))
     >>= λ w. file_named (or_default ch (by_channel ch w)))
 
 -- perhaps a head and its colon, which counts only before the first comma
 abbrev pub headed_file : ℕ → List ℕ → Result Opening Refusal
 headed_file ch text =
-    if has colon (before comma text)
-    then (at_in_head (before colon text) >>= λ at. file_asked ch at (behind colon text))
+    if holds_byte colon (before_byte comma text)
+    then (at_in_head (before_byte colon text) >>= λ at. file_asked ch at (after_byte colon text))
     else file_asked ch false text
 
 -- The first byte chooses: `#` is a direct channel, `$` the listing, which channel 0 alone has.

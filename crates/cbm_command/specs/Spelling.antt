@@ -5,7 +5,7 @@ use Rattle.cbm_file.specs.declared.file_type.FileType.TheVariants.{Del, Seq, Usr
 use Rattle.cbm_command.specs.declared.opening.Mode.{Mode}
 use Rattle.cbm_command.specs.declared.opening.Mode.TheVariants.{Read, Write, Append}
 use Rattle.cbm_command.specs.declared.opening.Wanted.{Wanted}
-use Rattle.cbm_command.specs.Texts.{comma, colon, has}
+use Rattle.cbm_command.specs.Texts.{comma, colon, holds_byte}
 use Rattle.cbm_command.specs.Names.{filler, is_wild}
 
 -- `#` or `$`, which begin other texts than a file's
@@ -16,9 +16,9 @@ is_special c = (c == 35) || (c == 36)
 pub record IsPlain (name : List ℕ) : Type 0 where
   pub some : 0 < length name
   pub short : length name ≤ 16
-  pub no_comma : has comma name ≡ false
-  pub no_colon : has colon name ≡ false
-  pub no_filler : has filler name ≡ false
+  pub no_comma : holds_byte comma name ≡ false
+  pub no_colon : holds_byte colon name ≡ false
+  pub no_filler : holds_byte filler name ≡ false
   pub no_pattern : is_wild name ≡ false
   pub ordinary : is_special (slice_index_or name 0 0) ≡ false
 

@@ -30,19 +30,19 @@ abbrev pub is_letter : ℕ → Bool
 is_letter c = nat_le 65 c && nat_le c 90
 
 -- the part before the first such byte; all where there is none
-abbrev pub before : ℕ → List ℕ → List ℕ
-before c [] = []
-before c (x ∷ text) = if x == c then [] else x ∷ before c text
+abbrev pub before_byte : ℕ → List ℕ → List ℕ
+before_byte c [] = []
+before_byte c (x ∷ text) = if x == c then [] else x ∷ before_byte c text
 
 -- what follows the first such byte; nothing where there is none
-abbrev pub behind : ℕ → List ℕ → List ℕ
-behind c [] = []
-behind c (x ∷ text) = if x == c then text else behind c text
+abbrev pub after_byte : ℕ → List ℕ → List ℕ
+after_byte c [] = []
+after_byte c (x ∷ text) = if x == c then text else after_byte c text
 
 -- whether such a byte stands in the text
-abbrev pub has : ℕ → List ℕ → Bool
-has c [] = false
-has c (x ∷ text) = (x == c) || has c text
+abbrev pub holds_byte : ℕ → List ℕ → Bool
+holds_byte c [] = false
+holds_byte c (x ∷ text) = (x == c) || holds_byte c text
 
 -- the byte goes before the first part
 abbrev pub add_to_first : ℕ → List (List ℕ) → List (List ℕ)

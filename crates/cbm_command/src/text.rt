@@ -1,11 +1,11 @@
 //! The parts of a text.
 
 ghost use Rattle.std.specs.Prelude.{◌≡◌, ◌+◌, ◌<◌, ◌≤◌, true, length, slice_index_or};
-ghost use Rattle.cbm_command.specs.Texts.{has, before, behind, is_digit, is_letter};
+ghost use Rattle.cbm_command.specs.Texts.{holds_byte, before_byte, after_byte, is_digit, is_letter};
 
 /// Whether a byte stands in a text.
 pub(crate) fn contains(byte: u8, text: &[u8]) -> bool
-    ensures { result ≡ has byte text.now }
+    ensures { result ≡ holds_byte byte text.now }
 {
     for here in text {
         if *here == byte {
@@ -17,7 +17,7 @@ pub(crate) fn contains(byte: u8, text: &[u8]) -> bool
 
 /// The part of a text before the first such byte; all where there is none.
 pub(crate) fn before_first(byte: u8, text: &[u8]) -> &[u8]
-    ensures { result.now ≡ before byte text.now }
+    ensures { result.now ≡ before_byte byte text.now }
 {
     for i in 0..text.len() {
         if text[i] == byte {
@@ -29,9 +29,9 @@ pub(crate) fn before_first(byte: u8, text: &[u8]) -> &[u8]
 
 /// What follows the first such byte; nothing where there is none.
 pub(crate) fn behind_first(byte: u8, text: &[u8]) -> &[u8]
-    ensures value { result.now ≡ behind byte text.now }
+    ensures value { result.now ≡ after_byte byte text.now }
     ensures short { length result.now ≤ length text.now }
-    ensures shorter { has byte text.now ≡ true → length result.now < length text.now }
+    ensures shorter { holds_byte byte text.now ≡ true → length result.now < length text.now }
 {
     let mut rest = text;
     while let Some((first, more)) = rest.split_first() {

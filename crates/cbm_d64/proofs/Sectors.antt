@@ -11,7 +11,7 @@ use mathlib.Core.Path.{fun_ext}
 use Rattle.cbm_medium.specs.Place.{Place, sectors_on, IsOnDisk, Has, has, is_place}
 use Rattle.cbm_medium.specs.Content.{Cell, Content, IsWhole, written, blank}
 use Rattle.cbm_medium.specs.Seen.{with_content}
-use Rattle.cbm_d64.specs.Image.{Image, IsImageSize, IsStored, IsErased, mended, tracks_in, sectors_in, index_of, sectors_before, code_of, cell_of, error_at, sector_at, content_of, seen_of}
+use Rattle.cbm_d64.specs.Image.{Image, IsImageSize, IsSectorStored, IsErased, mended, d64_tracks, sectors_in, index_of, sectors_before, code_of_error, cell_of, error_at, sector_at, d64_content, d64_seen}
 
 -- a sector by the bytes up to its end
 sector_in_front : (xs : List ℕ) (j : ℕ) → sector_at xs j ≡ drop (256 * j) (take (256 * j + 256) xs)
@@ -64,13 +64,13 @@ sector-set xs i j y e b = let h : j < 683 = subst (λ (n : ℕ). j < sectors_in 
     ∙ sym (sector_in_front xs j)
 
 -- what a content is at a sector of the image
-pub content_on_disk : (image : List ℕ) (p : Place) → IsOnDisk p → p.track ≤ tracks_in (length image)
-    → content_of image p ≡ cell_of (code_of (error_at image (index_of p))) (sector_at image (index_of p))
-unfolding content_of
-content_on_disk image p h t = rw (has_true (tracks_in (length image)) p (on_a_track p h, t, h)) refl
+pub content_on_disk : (image : List ℕ) (p : Place) → IsOnDisk p → p.track ≤ d64_tracks (length image)
+    → d64_content image p ≡ cell_of (code_of_error (error_at image (index_of p))) (sector_at image (index_of p))
+unfolding d64_content
+content_on_disk image p h t = rw (has_true (d64_tracks (length image)) p (on_a_track p h, t, h)) refl
 
-content_off_disk : (image : List ℕ) (p : Place) → has (tracks_in (length image)) p ≡ false → content_of image p ≡ Ok (replicate 256 0)
-unfolding content_of
+content_off_disk : (image : List ℕ) (p : Place) → has (d64_tracks (length image)) p ≡ false → d64_content image p ≡ Ok (replicate 256 0)
+unfolding d64_content
 content_off_disk image p h = rw h refl
 
 -- an index of a disk of so many tracks
@@ -80,7 +80,7 @@ below_683 p h t = grind arith
 below_768 : (p : Place) → IsOnDisk p → index_of p < 768
 below_768 p h = grind arith
 
-pub index_in : (n : ℕ) (p : Place) → IsOnDisk p → p.track ≤ tracks_in n → index_of p < sectors_in n
+pub index_in : (n : ℕ) (p : Place) → IsOnDisk p → p.track ≤ d64_tracks n → index_of p < sectors_in n
 index_in n p h t = elim (cases_eq n 196608) [
   | inl e ↦ subst (λ (k : ℕ). index_of p < sectors_in k) (sym e) (below_768 p h)
   | inr ne ↦ rw (ne_eqb n 196608 ne) (below_683 p h (rw (ne_eqb n 196608 ne) at t))
@@ -114,10 +114,10 @@ index_apart p q h k e =
     let s : p.sector ≡ q.sector = omega arith in
     grind arith
 
-pub mended_good : (e : ℕ) → code_of (mended e) ≡ None
-mended_good e = go (code_of e) refl
+pub mended_good : (e : ℕ) → code_of_error (mended e) ≡ None
+mended_good e = go (code_of_error e) refl
   where
-    go : (o : Option ℕ) → code_of e ≡ o → code_of (elim o [ None ↦ e | Some code ↦ 1 ]) ≡ None
+    go : (o : Option ℕ) → code_of_error e ≡ o → code_of_error (elim o [ None ↦ e | Some code ↦ 1 ]) ≡ None
     go None h = h
     go (Some code) h = refl
 
@@ -125,64 +125,64 @@ abbrev one_or : ℕ → Option ℕ → ℕ
 one_or e None = e
 one_or e (Some code) = 1
 
-pub mended_fault : (e : ℕ) → is_some (code_of e) ≡ true → mended e ≡ 1
-mended_fault e h = go (code_of e) h
+pub mended_fault : (e : ℕ) → is_some (code_of_error e) ≡ true → mended e ≡ 1
+mended_fault e h = go (code_of_error e) h
   where
     go : (o : Option ℕ) → is_some o ≡ true → one_or e o ≡ 1
     go None h = absurd (cc)
     go (Some code) h = refl
 
-pub mended_same : (e : ℕ) → is_some (code_of e) ≡ false → mended e ≡ e
-mended_same e h = go (code_of e) h
+pub mended_same : (e : ℕ) → is_some (code_of_error e) ≡ false → mended e ≡ e
+mended_same e h = go (code_of_error e) h
   where
     go : (o : Option ℕ) → is_some o ≡ false → elim o [ None ↦ e | Some code ↦ 1 ] ≡ e
     go None h = refl
     go (Some code) h = absurd (cc)
 
 -- the content after a write
-pub content_written : (old new : List ℕ) (at : Place) (bytes : List ℕ) → IsOnDisk at → at.track ≤ tracks_in (length old) → IsStored old new (index_of at) bytes
-    → content_of new ≡ written (content_of old) at bytes
+pub content_written : (old new : List ℕ) (at : Place) (bytes : List ℕ) → IsOnDisk at → at.track ≤ d64_tracks (length old) → IsSectorStored old new (index_of at) bytes
+    → d64_content new ≡ written (d64_content old) at bytes
 content_written old new at bytes h room stored = fun_ext (λ p. at_place p)
   where
     size : length new ≡ length old
     size = stored.size
 
-    good : code_of (error_at new (index_of at)) ≡ None
-    good = ap code_of stored.error ∙ mended_good (error_at old (index_of at))
+    good : code_of_error (error_at new (index_of at)) ≡ None
+    good = ap code_of_error stored.error ∙ mended_good (error_at old (index_of at))
 
-    tracks : tracks_in (length new) ≡ tracks_in (length old)
-    tracks = ap tracks_in size
+    tracks : d64_tracks (length new) ≡ d64_tracks (length old)
+    tracks = ap d64_tracks size
 
-    elsewhere : (p : Place) → at ≢ p → content_of new p ≡ content_of old p
-    elsewhere p ne = elim (bool_cases (has (tracks_in (length old)) p)) [
-      | inl on ↦ (let here : Has (tracks_in (length old)) p = true_has (tracks_in (length old)) p on in
+    elsewhere : (p : Place) → at ≢ p → d64_content new p ≡ d64_content old p
+    elsewhere p ne = elim (bool_cases (has (d64_tracks (length old)) p)) [
+      | inl on ↦ (let here : Has (d64_tracks (length old)) p = true_has (d64_tracks (length old)) p on in
           let apart : index_of p ≢ index_of at = λ e. false≢true (sym (places_apart at p ne) ∙ index_apart at p h here.2 (sym e)) in
           content_on_disk new p here.2 (subst (λ (n : ℕ). p.track ≤ n) (sym tracks) here.1)
-          ∙ ap (λ (e : ℕ). cell_of (code_of e) (sector_at new (index_of p))) (stored.other_errors (index_of p) apart)
-          ∙ ap (cell_of (code_of (error_at old (index_of p)))) (stored.other_sectors (index_of p) (index_in (length old) p here.2 here.1) apart)
+          ∙ ap (λ (e : ℕ). cell_of (code_of_error e) (sector_at new (index_of p))) (stored.other_errors (index_of p) apart)
+          ∙ ap (cell_of (code_of_error (error_at old (index_of p)))) (stored.other_sectors (index_of p) (index_in (length old) p here.2 here.1) apart)
           ∙ sym (content_on_disk old p here.2 here.1))
       | inr off ↦ content_off_disk new p (ap (λ (n : ℕ). has n p) tracks ∙ off) ∙ sym (content_off_disk old p off)
     ]
 
-    there : content_of new at ≡ Ok bytes
+    there : d64_content new at ≡ Ok bytes
     there = content_on_disk new at h (subst (λ (n : ℕ). at.track ≤ n) (sym tracks) room) ∙ ap (λ o. cell_of o (sector_at new (index_of at))) good ∙ ap (cell_of None) stored.sector
 
-    at_place : (p : Place) → content_of new p ≡ written (content_of old) at bytes p
+    at_place : (p : Place) → d64_content new p ≡ written (d64_content old) at bytes p
     at_place p = elim (place_cases at p) [
-      | inl e ↦ subst (λ (q : Place). content_of new q ≡ written (content_of old) at bytes q) e (there ∙ sym (written_there (content_of old) at bytes))
+      | inl e ↦ subst (λ (q : Place). d64_content new q ≡ written (d64_content old) at bytes q) e (there ∙ sym (written_there (d64_content old) at bytes))
       | inr f ↦ (let apart : at ≢ p = λ e. false≢true (sym f ∙ subst (λ (q : Place). is_place at q ≡ true) e (place_is_itself at)) in
-          elsewhere p apart ∙ sym (written_elsewhere (content_of old) at p bytes apart))
+          elsewhere p apart ∙ sym (written_elsewhere (d64_content old) at p bytes apart))
     ]
 
-pub content_blank : (old new : List ℕ) → IsErased old new → content_of new ≡ blank
+pub content_blank : (old new : List ℕ) → IsErased old new → d64_content new ≡ blank
 content_blank old new erased = fun_ext (λ p. at_place p)
   where
-    at_place : (p : Place) → content_of new p ≡ blank p
-    at_place p = elim (bool_cases (has (tracks_in (length new)) p)) [
-      | inl on ↦ (let here : Has (tracks_in (length new)) p = true_has (tracks_in (length new)) p on in
+    at_place : (p : Place) → d64_content new p ≡ blank p
+    at_place p = elim (bool_cases (has (d64_tracks (length new)) p)) [
+      | inl on ↦ (let here : Has (d64_tracks (length new)) p = true_has (d64_tracks (length new)) p on in
           let below : index_of p < sectors_in (length old) = subst (λ (n : ℕ). index_of p < sectors_in n) erased.size (index_in (length new) p here.2 here.1) in
           content_on_disk new p here.2 here.1
-          ∙ ap (λ (e : ℕ). cell_of (code_of e) (sector_at new (index_of p))) (erased.errors (index_of p) below)
+          ∙ ap (λ (e : ℕ). cell_of (code_of_error e) (sector_at new (index_of p))) (erased.errors (index_of p) below)
           ∙ ap (cell_of None) (erased.sectors (index_of p) below))
       | inr off ↦ content_off_disk new p off
     ]
@@ -207,10 +207,10 @@ ones_are_good front n j l h = elim (cases_eq (length (front ++ replicate n 1)) 1
 ]
 
 -- a fault is told in images of one size alone
-pub fault_told : (image : List ℕ) (i : ℕ) → is_some (code_of (error_at image i)) ≡ true → length image ≡ 175531
+pub fault_told : (image : List ℕ) (i : ℕ) → is_some (code_of_error (error_at image i)) ≡ true → length image ≡ 175531
 fault_told image i h = elim (cases_eq (length image) 175531) [
   | inl e ↦ e
-  | inr ne ↦ absurd (false≢true (ap (λ (e : ℕ). is_some (code_of e)) (sym (no_error ne)) ∙ h))
+  | inr ne ↦ absurd (false≢true (ap (λ (e : ℕ). is_some (code_of_error e)) (sym (no_error ne)) ∙ h))
 ]
   where
     no_error : length image ≢ 175531 → error_at image i ≡ 1
@@ -227,22 +227,22 @@ error-set_other image i j ne = error-same image (set image (174848 + i) 1) j (le
     (λ _. get_or-set_other image (174848 + i) (174848 + j) 1 0 (omega arith))
 
 -- each sector that reads has 256 bytes
-pub image_whole : (image : List ℕ) (p : Place) → IsImageSize (length image) → IsWhole (content_of image p)
-image_whole image p size = by_test (has (tracks_in (length image)) p) refl
+pub image_whole : (image : List ℕ) (p : Place) → IsImageSize (length image) → IsWhole (d64_content image p)
+image_whole image p size = by_test (has (d64_tracks (length image)) p) refl
   where
     cell_whole : (o : Option ℕ) → length (sector_at image (index_of p)) ≡ 256 → IsWhole (cell_of o (sector_at image (index_of p)))
     cell_whole None e = e
     cell_whole (Some code) e = tt
 
-    by_test : (b : Bool) → has (tracks_in (length image)) p ≡ b → IsWhole (content_of image p)
+    by_test : (b : Bool) → has (d64_tracks (length image)) p ≡ b → IsWhole (d64_content image p)
     by_test true h =
-        let t = true_has (tracks_in (length image)) p h in
+        let t = true_has (d64_tracks (length image)) p h in
         let room : 256 * index_of p + 256 ≤ length image = sector_room (length image) (index_of p) size (index_in (length image) p t.2 t.1) in
         subst (λ (x : Cell). IsWhole x) (sym (content_on_disk image p t.2 t.1))
-        (cell_whole (code_of (error_at image (index_of p))) (length-take-le 256 (drop (256 * index_of p) image) (omega (arith, room, length-drop {A = ℕ} (256 * index_of p) image))))
+        (cell_whole (code_of_error (error_at image (index_of p))) (length-take-le 256 (drop (256 * index_of p) image) (omega (arith, room, length-drop {A = ℕ} (256 * index_of p) image))))
     by_test false h = subst (λ (x : Cell). IsWhole x) (sym (content_off_disk image p h)) (length-replicate {A = ℕ} 256 0)
 
 -- an image of as many bytes shows another content, and nothing else that is new
-pub seen_with : (old new : Image) (content : Content) → content_of new.bytes ≡ content → length new.bytes ≡ length old.bytes
-    → new.protected ≡ old.protected → seen_of new ≡ with_content content (seen_of old)
+pub seen_with : (old new : Image) (content : Content) → d64_content new.bytes ≡ content → length new.bytes ≡ length old.bytes
+    → new.protected ≡ old.protected → d64_seen new ≡ with_content content (d64_seen old)
 seen_with old new content is size protected = rw (is, size, protected) refl

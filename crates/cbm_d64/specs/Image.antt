@@ -14,8 +14,8 @@ abbrev pub IsImageSize : ℕ → Type 0
 IsImageSize n = (n ≡ 174848) ⊎ ((n ≡ 175531) ⊎ (n ≡ 196608))
 
 -- how many tracks an image of this many bytes has, and how many sectors
-abbrev pub tracks_in : ℕ → ℕ
-tracks_in n = if n == 196608 then 40 else 35
+abbrev pub d64_tracks : ℕ → ℕ
+d64_tracks n = if n == 196608 then 40 else 35
 
 abbrev pub sectors_in : ℕ → ℕ
 sectors_in n = if n == 196608 then 768 else 683
@@ -32,8 +32,8 @@ abbrev pub index_of : Place → ℕ
 index_of p = sectors_before p.track + p.sector
 
 -- The fault that an error byte means. 1 is good, and so are 7, 8 and 10, which speak of writing, and all others.
-abbrev pub code_of : ℕ → Option ℕ
-code_of e =
+abbrev pub code_of_error : ℕ → Option ℕ
+code_of_error e =
     if e == 2 then Some 20
     else if e == 3 then Some 21
     else if e == 4 then Some 22
@@ -55,21 +55,21 @@ abbrev pub sector_at : List ℕ → ℕ → List ℕ
 sector_at image i = take 256 (drop (256 * i) image)
 
 -- What the sectors of an image hold; a place that the image lacks counts as 256 zeros.
-unfoldable pub content_of : List ℕ → Content
-content_of image p =
-    if has (tracks_in (length image)) p then cell_of (code_of (error_at image (index_of p))) (sector_at image (index_of p))
+unfoldable pub d64_content : List ℕ → Content
+d64_content image p =
+    if has (d64_tracks (length image)) p then cell_of (code_of_error (error_at image (index_of p))) (sector_at image (index_of p))
     else Ok (replicate 256 0)
 
 -- what the disk shows; an image in memory never fails by itself
-abbrev pub seen_of : Image → Seen
-seen_of d = record { content = content_of d.bytes; tracks = tracks_in (length d.bytes); protected = d.protected; failures = 0; refused = None; id = None }
+abbrev pub d64_seen : Image → Seen
+d64_seen d = record { content = d64_content d.bytes; tracks = d64_tracks (length d.bytes); protected = d.protected; failures = 0; refused = None; id = None }
 
 -- the error byte of a sector that was written: a fault is mended, and what was good stays, whatever it says of writing
 abbrev pub mended : ℕ → ℕ
-mended e = elim (code_of e) [ None ↦ e | Some code ↦ 1 ]
+mended e = elim (code_of_error e) [ None ↦ e | Some code ↦ 1 ]
 
 -- One sector of an image is written: its bytes and its error byte, and nothing else.
-pub record IsStored (old new : List ℕ) (i : ℕ) (bytes : List ℕ) : Type 0 where
+pub record IsSectorStored (old new : List ℕ) (i : ℕ) (bytes : List ℕ) : Type 0 where
   pub size : length new ≡ length old
   pub sector : sector_at new i ≡ bytes
   pub error : error_at new i ≡ mended (error_at old i)

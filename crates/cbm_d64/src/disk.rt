@@ -1,5 +1,5 @@
 ghost use Rattle.std.specs.Prelude.{refl, ◌≡◌, ◌≢◌, ◌≤◌, ◌↔◌, length, IfOk, IfErr, OnOk, OnErr, IfSome};
-ghost use Rattle.cbm_d64.specs.Image.{IsImageSize, IsStored, IsErased, content_of, tracks_in, seen_of, index_of};
+ghost use Rattle.cbm_d64.specs.Image.{IsImageSize, IsSectorStored, IsErased, d64_content, d64_tracks, d64_seen, index_of};
 ghost use Rattle.cbm_medium.specs.Place.{directory_head};
 ghost use Rattle.cbm_medium.specs.Content.{written, blank, refusal, format_refusal};
 ghost use Rattle.cbm_medium.specs.Seen.{with_content, formatted_as, write_refusal, IsRefused};
@@ -56,8 +56,8 @@ impl D64Disk {
     /// The code that refuses a write.
     #[tactic(auto, using(crate::proofs::Sectors::content_on_disk, crate::proofs::Sectors::index_in))]
     fn refusal(&self, at: Address) -> Option<u8>
-        requires { at.track ≤ tracks_in (length self.now.bytes) }
-        ensures { result ≡ refusal self.now.protected (content_of self.now.bytes at) }
+        requires { at.track ≤ d64_tracks (length self.now.bytes) }
+        ensures { result ≡ refusal self.now.protected (d64_content self.now.bytes at) }
     {
         if self.protected {
             return Some(WRITE_PROTECT_ON);
@@ -67,15 +67,15 @@ impl D64Disk {
 }
 
 impl Medium for D64Disk {
-    ghost use Rattle.cbm_d64.specs.Image.{seen_of};
-    ghost use Rattle.cbm_d64.specs.Outer.{outer_good};
-    ghost use Rattle.cbm_d64.specs.Faults.{has_codes};
+    ghost use Rattle.cbm_d64.specs.Image.{d64_seen};
+    ghost use Rattle.cbm_d64.specs.Outer.{d64_outer_good};
+    ghost use Rattle.cbm_d64.specs.Faults.{d64_has_codes};
 
-    ghost seen = { seen_of };
+    ghost seen = { d64_seen };
 
-    ghost codes = { λ d p. has_codes d.bytes p };
+    ghost codes = { λ d p. d64_has_codes d.bytes p };
 
-    ghost outer_headers = { λ d p. outer_good d.bytes p };
+    ghost outer_headers = { λ d p. d64_outer_good d.bytes p };
 
     #[tactic(auto, using(crate::proofs::Sectors::content_on_disk, crate::proofs::Sectors::index_in))]
     fn read(&self, at: Address) -> Result<[u8; 256], Fault> {
@@ -88,16 +88,16 @@ impl Medium for D64Disk {
 
     #[tactic(auto, using(crate::proofs::Sectors::index_in))]
     fn write(&mut self, at: Address, bytes: &[u8; 256]) -> Result<(), Fault>
-        requires { at.track ≤ tracks_in (length self.old.bytes) }
-        ensures ok { let old = seen_of self.old in
-            OnOk result (seen_of self.new ≡ with_content (written old.content at bytes.now) old) }
-        ensures refused { IfSome (refusal self.old.protected (content_of self.old.bytes at))
+        requires { at.track ≤ d64_tracks (length self.old.bytes) }
+        ensures ok { let old = d64_seen self.old in
+            OnOk result (d64_seen self.new ≡ with_content (written old.content at bytes.now) old) }
+        ensures refused { IfSome (refusal self.old.protected (d64_content self.old.bytes at))
             (λ code. result ≡ Err (record { code = code; at = at })) }
         ensures err { IfErr result (λ fault. (fault.at ≡ at)
-            × IsRefused (write_refusal (seen_of self.old) at) fault (seen_of self.old) (seen_of self.new)) }
+            × IsRefused (write_refusal (d64_seen self.old) at) fault (d64_seen self.old) (d64_seen self.new)) }
 
         // What the image holds then, its error bytes too, which the content doesn't show.
-        ensures stored { OnOk result (IsStored self.old.bytes self.new.bytes (index_of at) bytes.now) }
+        ensures stored { OnOk result (IsSectorStored self.old.bytes self.new.bytes (index_of at) bytes.now) }
         ensures unchanged { OnErr result (self.new ≡ self.old) }
     {
         if let Some(code) = self.refusal(at) {
@@ -108,11 +108,11 @@ impl Medium for D64Disk {
     }
 
     fn format(&mut self, id: [u8; 2]) -> Result<(), Fault>
-        ensures ok { OnOk result (seen_of self.new ≡ formatted_as id (with_content blank (seen_of self.old))) }
+        ensures ok { OnOk result (d64_seen self.new ≡ formatted_as id (with_content blank (d64_seen self.old))) }
         ensures refused { IfSome (format_refusal self.old.protected)
             (λ code. result ≡ Err (record { code = code; at = directory_head })) }
         ensures err { IfErr result (λ fault. (fault.at ≡ directory_head)
-            × IsRefused (format_refusal self.old.protected) fault (seen_of self.old) (seen_of self.new)) }
+            × IsRefused (format_refusal self.old.protected) fault (d64_seen self.old) (d64_seen self.new)) }
         ensures erased { OnOk result (IsErased self.old.bytes self.new.bytes) }
         ensures unchanged { OnErr result (self.new ≡ self.old) }
     {

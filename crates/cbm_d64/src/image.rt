@@ -1,7 +1,7 @@
 // Work on the bytes of an image.
 
 ghost use Rattle.std.specs.Prelude.{◌*◌, ◌≢◌, ◌≤◌, ◌≡◌, ℕ, ◌<◌, ◌+◌, length, ◌↔◌, IsTrue};
-ghost use Rattle.cbm_d64.specs.Image.{index_of, IsImageSize, IsStored, IsErased, code_of, mended, error_at, sector_at, tracks_in, sectors_in};
+ghost use Rattle.cbm_d64.specs.Image.{index_of, IsImageSize, IsSectorStored, IsErased, code_of_error, mended, error_at, sector_at, d64_tracks, sectors_in};
 ghost use Rattle.cbm_medium.specs.Place.{IsOnDisk};
 
 use cbm_medium::Address;
@@ -26,7 +26,7 @@ pub fn is_size(bytes: usize) -> bool
 
 /// How many tracks an image of this many bytes has.
 pub fn tracks_in(bytes: usize) -> u8
-    ensures { result ≡ tracks_in bytes }
+    ensures { result ≡ d64_tracks bytes }
 {
     if bytes == OF_40_TRACKS { 40 } else { 35 }
 }
@@ -55,7 +55,7 @@ pub fn index(at: Address) -> usize
 
 /// The status code that an error byte means (the D64 format).
 fn fault_code(error: u8) -> Option<u8>
-    ensures { result ≡ code_of error }
+    ensures { result ≡ code_of_error error }
 {
     match error {
         2..=6 => Some(error + 18),
@@ -68,7 +68,7 @@ fn fault_code(error: u8) -> Option<u8>
 /// The fault of a sector, where its error byte is one.
 pub fn code_at(image: &[u8], place: usize) -> Option<u8>
     requires { place < sectors_in (length image.now) }
-    ensures { result ≡ code_of (error_at image.now place) }
+    ensures { result ≡ code_of_error (error_at image.now place) }
 {
     if image.len() == WITH_ERRORS {
         fault_code(image[OF_35_TRACKS + place])
@@ -105,7 +105,7 @@ fn mend(image: &mut [u8], place: usize)
 pub fn store(image: &mut [u8], place: usize, sector: &[u8; 256])
     requires place { place < sectors_in (length image.old) }
     requires size { IsImageSize (length image.old) }
-    ensures { IsStored image.old image.new place sector.now }
+    ensures { IsSectorStored image.old image.new place sector.now }
 {
     mend(image, place);
     image[256 * place..256 * place + 256].copy_from_slice(sector);

@@ -2,14 +2,14 @@
 use Rattle.std.proofs.Common.{◌≡◌, ◌≢◌, ℕ, ◌∙◌, List, ap, inl, inr, refl, sym}
 use Rattle.cbm_medium.specs.Content.{Content}
 use Rattle.cbm_file.specs.Files.{Disk}
-use Rattle.cbm_channel.specs.Codes.{code_number}
+use Rattle.cbm_machine.specs.Codes.{code_number}
 use Rattle.cbm_channel.specs.declared.Status as status
-use Rattle.cbm_channel.specs.Machines.{Machine}
+use Rattle.cbm_machine.specs.Machines.{Machine}
 use Rattle.cbm_image.specs.Images.{kind_of, tracks_of, content_of}
 use Rattle.cbm_shell.specs.declared.changing.DiskChange.{DiskChange}
 use Rattle.cbm_shell.specs.declared.fault.ShellFault.{ShellFault}
 use Rattle.cbm_shell.specs.declared.fault.ShellFault.TheVariants as fault
-use Rattle.cbm_shell.specs.Changing.{begun, after_change, IsFaultOf, IsUndone}
+use Rattle.cbm_shell.specs.Changing.{begun, disk_after_change, IsFaultOf, IsUndone}
 use Rattle.cbm_shell.specs.Listing.{opened, IsUnlisted}
 use Rattle.cbm_shell.specs.Reading.{IsGetFault}
 use Rattle.cbm_device.specs.declared.refusal.DeviceRefusal.{DeviceRefusal}
@@ -42,7 +42,7 @@ ungot image d pattern (fault.Refused s) h = absurd h
 ungot image d pattern fault.Mistaken h = absurd h
 
 -- the change isn't made
-pub unmade : (image : List ℕ) (change : DiskChange) (m : Machine) (f : ShellFault) → IsUndone change m f → IsUnmade image (begun change m) (after_change change m) (refusal_of f)
+pub unmade : (image : List ℕ) (change : DiskChange) (m : Machine) (f : ShellFault) → IsUndone change m f → IsUnmade image (begun change m) (disk_after_change change m) (refusal_of f)
 unmade image change m (fault.Refused s) h = (s, record { told = h.told; error = h.error }, refl)
 unmade image change m fault.Memory h = absurd h
 unmade image change m (fault.Image n) h = absurd h

@@ -8,7 +8,7 @@ use Rattle.cbm_iec.specs.declared.port.Port.{Port}
 use Rattle.cbm_session.specs.Following.{IsInTime}
 use Rattle.cbm_session.specs.Playing.{IsLaterDue}
 use Rattle.cbm_file.specs.Files.{Disk}
-use Rattle.cbm_channel.specs.Machines.{Machine, start}
+use Rattle.cbm_machine.specs.Machines.{Machine, start}
 use Rattle.cbm_channel.specs.Standing.{Kept}
 use Rattle.cbm_channel.specs.Exchanged.{still_telling}
 use Rattle.cbm_drive.specs.Addressing.{paced, unaddressed}
@@ -20,8 +20,8 @@ use Rattle.cbm_image.specs.Images.{kind_of, tracks_of, ImageHolds}
 use Rattle.cbm_image.specs.declared.kind.Kind.{Kind}
 use Rattle.cbm_device.specs.declared.refusal.DeviceRefusal.{DeviceRefusal}
 use Rattle.cbm_device.specs.declared.refusal.DeviceRefusal.TheVariants.{Memory, Invalid, NoRoom, Absent, NoImage, Unsound, NoDrive, Status}
-use Rattle.cbm_device.specs.Answers.{Gives}
-use Rattle.cbm_device.specs.ImageDisks.{Counted, seen_of, IsDiskOf, IsImageIn}
+use Rattle.cbm_device.specs.Answers.{GivesBytes}
+use Rattle.cbm_device.specs.ImageDisks.{Counted, counted_seen, IsDiskOf, IsImageIn}
 use Rattle.cbm_device.specs.declared.device.DeviceReaction.{DeviceReaction}
 
 -- a drive, the format of its disk's image, none where it has no disk, and when anything last happened
@@ -31,8 +31,8 @@ pub record OnLines : Type 0 where
   pub latest : ℕ
 
 -- a drive has the number 8 to 11, and reacts after 1 to 60 microseconds
-abbrev pub IsOutside : Party → Type 0
-IsOutside b = ((b.device < 8) ⊎ (11 < b.device)) ⊎ ((b.reaction < 1) ⊎ (60 < b.reaction))
+abbrev pub IsUnfitParty : Party → Type 0
+IsUnfitParty b = ((b.device < 8) ⊎ (11 < b.device)) ⊎ ((b.reaction < 1) ⊎ (60 < b.reaction))
 
 -- A DRIVE THAT IS SWITCHED ON with the disk of an image; where that is sound, it represents the machine of its files.
 pub record IsSwitchedOn (image : List ℕ) (protected : Bool) (b : Party) (d : OnLines) : Type 0 where
@@ -42,11 +42,11 @@ pub record IsSwitchedOn (image : List ℕ) (protected : Bool) (b : Party) (d : O
   pub addressed : d.seat.machine.addressed ≡ paced b.pace (unaddressed b.device)
   pub first : d.latest ≡ 0
   pub stands : (x : Disk) → ImageHolds (kind_of image) image x
-      → DeskStands seen_of d.seat.machine (with_pace b.pace (at_first b.device (start x protected (tracks_of (kind_of image) image))))
+      → DeskStands counted_seen d.seat.machine (with_pace b.pace (at_first b.device (start x protected (tracks_of (kind_of image) image))))
 
 -- A drive represents another one: the same port, and above it the machine of its files.
 abbrev pub StandsFor : Seated (Desk (Kept Counted)) → Seated (Desk Machine) → Type 0
-StandsFor x s = (x.port ≡ s.port) × DeskStands seen_of x.machine s.machine
+StandsFor x s = (x.port ≡ s.port) × DeskStands counted_seen x.machine s.machine
 
 -- ---- lines that change
 
@@ -55,12 +55,12 @@ abbrev pub after_atn : Lines → Lines → Lines
 after_atn was now = record { atn_low = now.atn_low; clock_low = was.clock_low; data_low = was.data_low }
 
 -- the lines after ATN and CLOCK changed; DATA is the last to change
-abbrev pub after_clock : Lines → Lines → Lines
-after_clock was now = record { atn_low = now.atn_low; clock_low = now.clock_low; data_low = was.data_low }
+abbrev pub lines_after_clock : Lines → Lines → Lines
+lines_after_clock was now = record { atn_low = now.atn_low; clock_low = now.clock_low; data_low = was.data_low }
 
 -- a port that is told of the changes of ATN, CLOCK and DATA in turn
 abbrev pub port_in_turn : ℕ → Lines → Lines → Port → Port
-port_in_turn t was now p = told t now (told t (after_clock was now) (told t (after_atn was now) p))
+port_in_turn t was now p = told t now (told t (lines_after_clock was now) (told t (after_atn was now) p))
 
 -- a drive that is told of the lines at a moment
 abbrev pub tell_lines : ℕ → Lines → Seated (Desk Machine) → Seated (Desk Machine)
@@ -68,7 +68,7 @@ tell_lines t now s = record { port = told t now s.port; machine = acted (Desk Ma
 
 -- a drive that is told of the changes of ATN, CLOCK and DATA in turn
 abbrev pub tell_in_turn : ℕ → Lines → Lines → Seated (Desk Machine) → Seated (Desk Machine)
-tell_in_turn t was now s = tell_lines t now (tell_lines t (after_clock was now) (tell_lines t (after_atn was now) s))
+tell_in_turn t was now s = tell_lines t now (tell_lines t (lines_after_clock was now) (tell_lines t (after_atn was now) s))
 
 -- a reaction is due before a moment
 abbrev pub IsDueBefore : ℕ → Option ℕ → Type 0
@@ -98,7 +98,7 @@ abbrev pub HasNothingDue : ℕ → OnLines → Type 0
 HasNothingDue moment d = IsLaterDue moment (port_due d.seat.port) ⊎ IsInTime (2 ^ 60) (port_due d.seat.port)
 
 -- THE REACTION THAT WAS DUE HAS HAPPENED, on any disk; and these lines the drive held before and holds since.
-pub record HasReacted (r : DeviceReaction) (old new : OnLines) : Type 0 where
+pub record DeviceHasReacted (r : DeviceReaction) (old new : OnLines) : Type 0 where
   pub due : port_due old.seat.port ≡ Some r.moment
   pub port : new.seat.port ≡ reacted r.moment (desk_shows old.seat.machine) old.seat.port
   pub machine : IsActed desk_shows (reaction_act (desk_shows old.seat.machine) old.seat.port) old.seat.machine new.seat.machine
@@ -123,9 +123,9 @@ pub record IsRestarted (old new : OnLines) : Type 0 where
   pub same_disk : new.seat.machine.dos.medium ≡ old.seat.machine.dos.medium
   pub kind : new.kind ≡ old.kind
   pub latest : new.latest ≡ old.latest
-  pub stands : (d : Disk) → HoldsDisk (seen_of old.seat.machine.dos.medium).tracks (seen_of old.seat.machine.dos.medium).content d
-      → DeskStands seen_of new.seat.machine (with_pace old.seat.machine.addressed.pace
-      (at_first old.seat.machine.addressed.device (start d (seen_of old.seat.machine.dos.medium).protected (seen_of old.seat.machine.dos.medium).tracks)))
+  pub stands : (d : Disk) → HoldsDisk (counted_seen old.seat.machine.dos.medium).tracks (counted_seen old.seat.machine.dos.medium).content d
+      → DeskStands counted_seen new.seat.machine (with_pace old.seat.machine.addressed.pace
+      (at_first old.seat.machine.addressed.device (start d (counted_seen old.seat.machine.dos.medium).protected (counted_seen old.seat.machine.dos.medium).tracks)))
 
 -- A DRIVE THAT GOES ON WAS GIVEN THIS DISK, of an image of this format: what it does on its lines stays; where the disk holds one of files, it represents the machine of these, with no
 -- channel open, which reports what it reported before, and who is addressed stays.
@@ -134,8 +134,8 @@ pub record IsExchanged (disk : Counted) (kind : Option Kind) (old new : OnLines)
   pub inside : new.seat.machine.dos.medium ≡ disk
   pub same_kind : new.kind ≡ kind
   pub latest : new.latest ≡ old.latest
-  pub stands : (d : Disk) → HoldsDisk (seen_of disk).tracks (seen_of disk).content d → DeskStands seen_of new.seat.machine
-      (record { dos = still_telling old.seat.machine.dos.told (start d (seen_of disk).protected (seen_of disk).tracks); addressed = old.seat.machine.addressed })
+  pub stands : (d : Disk) → HoldsDisk (counted_seen disk).tracks (counted_seen disk).content d → DeskStands counted_seen new.seat.machine
+      (record { dos = still_telling old.seat.machine.dos.told (start d (counted_seen disk).protected (counted_seen disk).tracks); addressed = old.seat.machine.addressed })
 
 -- the disk of another image
 abbrev pub HasAnotherDisk : List ℕ → Bool → OnLines → OnLines → Type 0
@@ -160,4 +160,4 @@ IsImageFrom d image = (kind : Kind) × (d.kind ≡ Some kind) × IsImageIn kind 
 
 -- THE IMAGE OF THE DISK IN A DRIVE is given, or a number says why not.
 abbrev pub GivesImage : ℤ → List ℕ → List ℕ → ℕ → ℕ → OnLines → Type 0
-GivesImage n old new before needed d = Gives n old new before needed (IsImageFrom d) (IsUnsaved d.kind)
+GivesImage n old new before needed d = GivesBytes n old new before needed (IsImageFrom d) (IsUnsaved d.kind)

@@ -4,7 +4,7 @@ use Rattle.cbm_medium.specs.Place.{Place}
 use Rattle.cbm_medium.specs.Content.{HasFaultCode, blank, header_fault}
 use Rattle.cbm_medium.specs.Seen.{Seen}
 use Rattle.cbm_d64.specs.Image as d64
-use Rattle.cbm_d64.specs.Outer.{outer_good}
+use Rattle.cbm_d64.specs.Outer.{d64_outer_good}
 use Rattle.cbm_d64.specs.Faults as d64_faults
 use Rattle.cbm_g64.specs.Tracks as g64
 use Rattle.cbm_g64.specs.Outer.{no_outer}
@@ -18,10 +18,10 @@ use Rattle.cbm_device.specs.declared.refusal.DeviceRefusal.{DeviceRefusal}
 use Rattle.cbm_device.specs.declared.refusal.DeviceRefusal.TheVariants.{Memory, Invalid, NoRoom, Absent, NoImage, Unsound, NoDrive, Status}
 
 -- what the sectors of a format show
-abbrev pub shown_by : Sectors → Seen
-shown_by (D64 disk) = d64.seen_of disk
-shown_by (G64 disk) = g64.seen_of disk
-shown_by Blank = record { content = blank; tracks = 35; protected = true; failures = 0; refused = None; id = None }
+abbrev pub sectors_seen : Sectors → Seen
+sectors_seen (D64 disk) = d64.d64_seen disk
+sectors_seen (G64 disk) = g64.g64_seen disk
+sectors_seen Blank = record { content = blank; tracks = 35; protected = true; failures = 0; refused = None; id = None }
 
 -- which format that is; of a blank it doesn't count
 abbrev pub format_of : Sectors → Kind
@@ -35,8 +35,8 @@ pub record Counted : Type 0 where
   pub writes : ℕ
 
 -- what a disk shows
-abbrev pub seen_of : Counted → Seen
-seen_of d = shown_by d.sectors
+abbrev pub counted_seen : Counted → Seen
+counted_seen d = sectors_seen d.sectors
 
 -- no disk
 abbrev pub no_disk : Counted
@@ -46,9 +46,9 @@ no_disk = record { sectors = Blank; writes = 0 }
 pub record IsDiskOf (image : List ℕ) (protected : Bool) (d : Counted) : Type 0 where
   pub accepted : image_fault (kind_of image) image ≡ None
   pub same_format : format_of d.sectors ≡ kind_of image
-  pub same_tracks : (seen_of d).tracks ≡ tracks_of (kind_of image) image
-  pub same_content : (seen_of d).content ≡ content_of (kind_of image) image
-  pub same_protection : (seen_of d).protected ≡ protected
+  pub same_tracks : (counted_seen d).tracks ≡ tracks_of (kind_of image) image
+  pub same_content : (counted_seen d).content ≡ content_of (kind_of image) image
+  pub same_protection : (counted_seen d).protected ≡ protected
   pub unwritten : d.writes ≡ 0
 
 -- why an image isn't opened: it has a fault, or memory runs out
@@ -64,33 +64,33 @@ IsOpenRefusal image (Status code) = ⊥
 
 -- THE IMAGE OF A DISK as it is now, in this format
 abbrev pub IsImageIn : Kind → Counted → List ℕ → Type 0
-IsImageIn kind d image = IsOf kind image (seen_of d).tracks (seen_of d).content
+IsImageIn kind d image = IsOf kind image (counted_seen d).tracks (counted_seen d).content
 
 -- ---- the laws of a medium
 
-codes_on : (s : Sectors) (p : Place) → HasFaultCode ((shown_by s).content p)
-codes_on (D64 disk) p = d64_faults.has_codes disk.bytes p
-codes_on (G64 disk) p = g64_faults.has_codes disk.tracks p
+codes_on : (s : Sectors) (p : Place) → HasFaultCode ((sectors_seen s).content p)
+codes_on (D64 disk) p = d64_faults.d64_has_codes disk.bytes p
+codes_on (G64 disk) p = g64_faults.g64_has_codes disk.tracks p
 codes_on Blank p = tt
 
 -- in place of a sector's bytes stands the code of a fault that reading meets
-pub has_codes : (d : Counted) (p : Place) → HasFaultCode ((seen_of d).content p)
-has_codes d p = codes_on d.sectors p
+pub counted_has_codes : (d : Counted) (p : Place) → HasFaultCode ((counted_seen d).content p)
+counted_has_codes d p = codes_on d.sectors p
 
-outer_on : (s : Sectors) (p : Place) → (shown_by s).tracks ≡ 40 → 35 < p.track → header_fault ((shown_by s).content p) ≡ None
-outer_on (D64 disk) p = outer_good disk.bytes p
-outer_on (G64 disk) p = no_outer 35 refl (g64.content_of disk.tracks) p
+outer_on : (s : Sectors) (p : Place) → (sectors_seen s).tracks ≡ 40 → 35 < p.track → header_fault ((sectors_seen s).content p) ≡ None
+outer_on (D64 disk) p = d64_outer_good disk.bytes p
+outer_on (G64 disk) p = no_outer 35 refl (g64.g64_content disk.tracks) p
 outer_on Blank p = no_outer 35 refl blank p
 
 -- no sector of the outer tracks has a fault of its header
-pub outer_free : (d : Counted) (p : Place) → (seen_of d).tracks ≡ 40 → 35 < p.track → header_fault ((seen_of d).content p) ≡ None
+pub outer_free : (d : Counted) (p : Place) → (counted_seen d).tracks ≡ 40 → 35 < p.track → header_fault ((counted_seen d).content p) ≡ None
 outer_free d p = outer_on d.sectors p
 
-steady_on : (s : Sectors) → (shown_by s).failures ≡ 0
+steady_on : (s : Sectors) → (sectors_seen s).failures ≡ 0
 steady_on (D64 disk) = refl
 steady_on (G64 disk) = refl
 steady_on Blank = refl
 
 -- it never fails by itself
-pub never_fails : (d : Counted) → (seen_of d).failures ≡ 0
+pub never_fails : (d : Counted) → (counted_seen d).failures ≡ 0
 never_fails d = steady_on d.sectors

@@ -8,11 +8,11 @@ use Rattle.cbm_volume.specs.Layouts.{Layout, Sound}
 use Rattle.cbm_volume.specs.check.WholeDisk.{DiskFault}
 use Rattle.cbm_volume.specs.declared.Unsound as unsound
 use Rattle.cbm_channel.specs.declared.Code.TheVariants.{FileNotFound}
-use Rattle.cbm_channel.specs.Codes.{code_number}
-use Rattle.cbm_channel.specs.Finding.{found}
-use Rattle.cbm_channel.specs.Machines.{Machine}
+use Rattle.cbm_machine.specs.Codes.{code_number}
+use Rattle.cbm_machine.specs.Finding.{found}
+use Rattle.cbm_machine.specs.Machines.{Machine}
 use Rattle.cbm_shell.specs.Listing.{opened}
-use Rattle.cbm_shell.specs.Reading.{IsUnclosed, HasRecords}
+use Rattle.cbm_shell.specs.Reading.{IsUnclosed, FindsRecords}
 use Rattle.cbm_medium.specs.declared.fault.Trouble.{Trouble}
 use Rattle.cbm_image.specs.Images.{kind_of, image_fault, tracks_of, content_of}
 use Rattle.cbm_device.specs.declared.looking.Heading.{Heading}
@@ -42,15 +42,15 @@ abbrev pub SlotAnswers : List ℕ → ℕ → Result (Option (List ℕ)) Trouble
 SlotAnswers image slot = Answers (directory_of (geometry_of (tracks_of (kind_of image) image) (content_of (kind_of image) image)) (content_of (kind_of image) image)) slot
 
 -- why there is no entry: the image isn't opened, the slot is past the last one, or the directory breaks off before it
-abbrev pub IsNoEntry : List ℕ → ℕ → DeviceRefusal → Type 0
-IsNoEntry image slot (Status code) = (t : Trouble) × (t.code ≡ code) × SlotAnswers image slot (Err t)
-IsNoEntry image slot Absent = SlotAnswers image slot (Ok None)
-IsNoEntry image slot Memory = IsOpenRefusal image Memory
-IsNoEntry image slot Invalid = IsOpenRefusal image Invalid
-IsNoEntry image slot NoRoom = IsOpenRefusal image NoRoom
-IsNoEntry image slot NoImage = IsOpenRefusal image NoImage
-IsNoEntry image slot Unsound = IsOpenRefusal image Unsound
-IsNoEntry image slot NoDrive = IsOpenRefusal image NoDrive
+abbrev pub IsNoDeviceEntry : List ℕ → ℕ → DeviceRefusal → Type 0
+IsNoDeviceEntry image slot (Status code) = (t : Trouble) × (t.code ≡ code) × SlotAnswers image slot (Err t)
+IsNoDeviceEntry image slot Absent = SlotAnswers image slot (Ok None)
+IsNoDeviceEntry image slot Memory = IsOpenRefusal image Memory
+IsNoDeviceEntry image slot Invalid = IsOpenRefusal image Invalid
+IsNoDeviceEntry image slot NoRoom = IsOpenRefusal image NoRoom
+IsNoDeviceEntry image slot NoImage = IsOpenRefusal image NoImage
+IsNoDeviceEntry image slot Unsound = IsOpenRefusal image Unsound
+IsNoDeviceEntry image slot NoDrive = IsOpenRefusal image NoDrive
 
 -- why there are no bytes of a sector: the image isn't opened, the disk has no such sector, or a fault stands in their place
 abbrev pub IsNoSector : List ℕ → Place → DeviceRefusal → Type 0
@@ -70,8 +70,8 @@ abbrev pub IsAccepted : List ℕ → Type 0
 IsAccepted image = image_fault (kind_of image) image ≡ None
 
 -- a call is refused: an image with a fault for that one, or for want of memory
-abbrev pub IsRefused : List ℕ → DeviceRefusal → Type 0
-IsRefused image r = IsAccepted image ⊎ IsOpenRefusal image r
+abbrev pub IsLookRefused : List ℕ → DeviceRefusal → Type 0
+IsLookRefused image r = IsAccepted image ⊎ IsOpenRefusal image r
 
 -- the disk of an image is sound
 abbrev pub IsSound : List ℕ → Type 0
@@ -95,7 +95,7 @@ IsUnsent image pattern m NoDrive = ⊥
 -- why a file of a sound disk isn't got: the image isn't opened, memory runs out, no file matches, or the first one that does was never closed; one with records
 -- may have a sector that doesn't read
 abbrev pub IsUngot : List ℕ → Disk → List ℕ → DeviceRefusal → Type 0
-IsUngot image d pattern (Status code) = ((code ≡ 60) × IsUnclosed d pattern) ⊎ HasRecords d pattern
+IsUngot image d pattern (Status code) = ((code ≡ 60) × IsUnclosed d pattern) ⊎ FindsRecords d pattern
 IsUngot image d pattern Memory = Unit {0}
 IsUngot image d pattern Absent = found d pattern None ≡ Err FileNotFound
 IsUngot image d pattern NoImage = IsOpenRefusal image NoImage

@@ -1,9 +1,9 @@
 //! Changes of an image's disk, as the drive makes them.
 ghost use Rattle.std.specs.Prelude.{◌≡◌, false, MatchResult};
 ghost use Rattle.cbm_file.specs.Files.{Disk};
-ghost use Rattle.cbm_channel.specs.Machines.{start};
+ghost use Rattle.cbm_machine.specs.Machines.{start};
 ghost use Rattle.cbm_image.specs.Images.{kind_of, tracks_of, ImageHolds};
-ghost use Rattle.cbm_shell.specs.Changing.{begun, after_change, IsFine};
+ghost use Rattle.cbm_shell.specs.Changing.{begun, disk_after_change, IsFine};
 ghost use Rattle.cbm_device.specs.Looking.{IsAccepted, IsSound};
 ghost use Rattle.cbm_device.specs.Making.{IsUnmade, IsUnchanged};
 
@@ -21,7 +21,7 @@ pub fn change(
     change: &DiskChange<'_>,
 ) -> Result<Vec<u8>, DeviceRefusal>
     ensures made { let kind = kind_of image.now in (d : Disk) → ImageHolds kind image.now d →
-        let m = start d false (tracks_of kind image.now) in let after = after_change change.now m in
+        let m = start d false (tracks_of kind image.now) in let after = disk_after_change change.now m in
         MatchResult result (λ v. IsFine after.status × ImageHolds kind v.items after.disk)
         (IsUnmade image.now (begun change.now m) after) }
     // Of any disk: one that isn't sound isn't changed.

@@ -1,8 +1,8 @@
 //! A drive on lines, with the disk of an image.
 ghost use Rattle.std.specs.Prelude.{◌≡◌, ◌≤◌, ◌<◌, ◌^◌, ◌⊎◌, None, Err, OnOk, OnErr, IfOk, IfErr, MatchBool};
 ghost use Rattle.cbm_file.specs.Files.{Disk};
-ghost use Rattle.cbm_channel.specs.Codes.{code_number};
-ghost use Rattle.cbm_channel.specs.Machines.{Machine, start};
+ghost use Rattle.cbm_machine.specs.Codes.{code_number};
+ghost use Rattle.cbm_machine.specs.Machines.{Machine, start};
 ghost use Rattle.cbm_iec.specs.Machines.{acted};
 ghost use Rattle.cbm_iec.specs.Ports.{port_due, resting, told, told_act, reacted, reaction_act};
 ghost use Rattle.cbm_session.specs.Following.{IsInTime};
@@ -13,8 +13,8 @@ ghost use Rattle.cbm_drive.specs.Playback.{IsActed};
 ghost use Rattle.cbm_drive.specs.Seats.{Seated};
 ghost use Rattle.cbm_volume.specs.Holding.{HoldsDisk};
 ghost use Rattle.cbm_device.specs.Answers.{answer};
-ghost use Rattle.cbm_device.specs.ImageDisks.{no_disk, seen_of, IsOpenRefusal};
-ghost use Rattle.cbm_device.specs.Devices.{tell_in_turn, react_at, IsOutside, IsSwitchedOn, IsOnTime, IsOutOfTime, IsDueBefore, HasHeard, HasReacted, HasNothingDue, IsRestarted, IsExchanged, HasAnotherDisk, GivesImage, StandsFor};
+ghost use Rattle.cbm_device.specs.ImageDisks.{no_disk, counted_seen, IsOpenRefusal};
+ghost use Rattle.cbm_device.specs.Devices.{tell_in_turn, react_at, IsUnfitParty, IsSwitchedOn, IsOnTime, IsOutOfTime, IsDueBefore, HasHeard, DeviceHasReacted, HasNothingDue, IsRestarted, IsExchanged, HasAnotherDisk, GivesImage, StandsFor};
 
 use crate::image_disk::ImageDisk;
 use crate::refusal::DeviceRefusal;
@@ -79,8 +79,8 @@ fn powered(disk: ImageDisk, party: Party) -> Drive<Desk<ImageDisk>>
     ensures port { result.port ≡ resting party }
     ensures disk { result.machine.dos.medium ≡ disk }
     ensures addressed { result.machine.addressed ≡ paced party.pace (unaddressed party.device) }
-    ensures stands { let now = seen_of disk in (d : Disk) → HoldsDisk now.tracks now.content d →
-        DeskStands seen_of result.machine (desks.with_pace party.pace
+    ensures stands { let now = counted_seen disk in (d : Disk) → HoldsDisk now.tracks now.content d →
+        DeskStands counted_seen result.machine (desks.with_pace party.pace
         (desks.at_first party.device (start d now.protected now.tracks))) }
 {
     let desk = Desk::at_power_up(disk, party.device).with_pace(party.pace);
@@ -97,8 +97,8 @@ impl Device {
         party: Party,
     ) -> Result<Device, DeviceRefusal>
         ensures ok { IfOk result (IsSwitchedOn image.now protected party) }
-        ensures outside { IsOutside party → result ≡ Err DeviceRefusal.Invalid }
-        ensures err { IfErr result (λ r. ((r ≡ DeviceRefusal.Invalid) × IsOutside party) ⊎ IsOpenRefusal image.now r) }
+        ensures outside { IsUnfitParty party → result ≡ Err DeviceRefusal.Invalid }
+        ensures err { IfErr result (λ r. ((r ≡ DeviceRefusal.Invalid) × IsUnfitParty party) ⊎ IsOpenRefusal image.now r) }
     {
         if party.device < DEVICES.0
             || party.device > DEVICES.1
@@ -121,8 +121,8 @@ impl Device {
     fn hear(&mut self, moment: u64, others: Lines)
         requires { moment < 2 ^ 60 }
         ensures port { self.new.seat.port ≡ told moment others self.old.seat.port }
-        ensures machine { (m : desks.Desk Machine) → DeskStands seen_of self.old.seat.machine m →
-            DeskStands seen_of self.new.seat.machine
+        ensures machine { (m : desks.Desk Machine) → DeskStands counted_seen self.old.seat.machine m →
+            DeskStands counted_seen self.new.seat.machine
             (acted (desks.Desk Machine) desk_step (told_act others self.old.seat.port) m) }
         ensures acted { IsActed desk_shows (told_act others self.old.seat.port) self.old.seat.machine self.new.seat.machine }
         ensures latest { self.new.latest ≡ self.old.latest }
@@ -187,10 +187,10 @@ impl Device {
         ensures port { self.new.seat.port ≡ reacted moment (desk_shows self.old.seat.machine) self.old.seat.port }
         ensures acted { let shown = desk_shows self.old.seat.machine in
             IsActed desk_shows (reaction_act shown self.old.seat.port) self.old.seat.machine self.new.seat.machine }
-        ensures says { (m : desks.Desk Machine) → DeskStands seen_of self.old.seat.machine m →
+        ensures says { (m : desks.Desk Machine) → DeskStands counted_seen self.old.seat.machine m →
             self.new.seat.port ≡ reacted moment (desk_says m) self.old.seat.port }
-        ensures machine { (m : desks.Desk Machine) → DeskStands seen_of self.old.seat.machine m →
-            DeskStands seen_of self.new.seat.machine
+        ensures machine { (m : desks.Desk Machine) → DeskStands counted_seen self.old.seat.machine m →
+            DeskStands counted_seen self.new.seat.machine
             (acted (desks.Desk Machine) desk_step (reaction_act (desk_says m) self.old.seat.port) m) }
         ensures latest { self.new.latest ≡ self.old.latest }
         ensures kind { self.new.kind ≡ self.old.kind }
@@ -200,7 +200,7 @@ impl Device {
 
     /// The reaction that is due by a moment happens, when it is due. The one error is `Absent`: none is due by then.
     pub fn due(&mut self, moment: u64) -> Result<DeviceReaction, DeviceRefusal>
-        ensures ok { IfOk result (λ r. (r.moment ≤ moment) × HasReacted r self.old self.new) }
+        ensures ok { IfOk result (λ r. (r.moment ≤ moment) × DeviceHasReacted r self.old self.new) }
         ensures stands { (s : Seated (desks.Desk Machine)) → StandsFor self.old.seat s →
             IfOk result (λ r. StandsFor self.new.seat (react_at r.moment s)) }
         ensures err { IfErr result (λ r. (r ≡ DeviceRefusal.Absent) × HasNothingDue moment self.old × (self.new ≡ self.old)) }
@@ -231,7 +231,7 @@ impl Device {
     /// The number of the status, which channel 15 reports; nothing of it is taken.
     pub fn status(&self) -> u8
         ensures value { result ≡ code_number self.now.seat.machine.dos.told.status.code }
-        ensures code { (d : desks.Desk Machine) → DeskStands seen_of self.now.seat.machine d →
+        ensures code { (d : desks.Desk Machine) → DeskStands counted_seen self.now.seat.machine d →
             result ≡ code_number d.dos.status.code }
     {
         self.drive.machine().dos().status_code()

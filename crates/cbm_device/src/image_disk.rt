@@ -4,7 +4,7 @@ ghost use Rattle.cbm_medium.specs.Place.{directory_head};
 ghost use Rattle.cbm_medium.specs.Content.{written, blank, format_refusal};
 ghost use Rattle.cbm_medium.specs.Seen.{with_content, formatted_as, write_refusal, IsRefused};
 ghost use Rattle.cbm_image.specs.Images.{kind_of, image_fault, IsOf};
-ghost use Rattle.cbm_device.specs.ImageDisks.{no_disk, shown_by, IsDiskOf, IsOpenRefusal, IsImageIn};
+ghost use Rattle.cbm_device.specs.ImageDisks.{no_disk, sectors_seen, IsDiskOf, IsOpenRefusal, IsImageIn};
 
 use crate::refusal::DeviceRefusal;
 use cbm_d64::D64Disk;
@@ -68,13 +68,13 @@ fn saved<I: DiskImage>(alloc: Global, disk: &I) -> Result<Vec<u8>, DeviceRefusal
 
 /// Writes a sector.
 fn write_on(sectors: &mut Sectors, at: Address, bytes: &[u8; 256]) -> Result<(), Fault>
-    requires { at.track ≤ (shown_by sectors.old).tracks }
-    ensures ok { let old = shown_by sectors.old in
-        OnOk result (shown_by sectors.new ≡ with_content (written old.content at bytes.now) old) }
-    ensures refused { IfSome (write_refusal (shown_by sectors.old) at)
+    requires { at.track ≤ (sectors_seen sectors.old).tracks }
+    ensures ok { let old = sectors_seen sectors.old in
+        OnOk result (sectors_seen sectors.new ≡ with_content (written old.content at bytes.now) old) }
+    ensures refused { IfSome (write_refusal (sectors_seen sectors.old) at)
         (λ code. result ≡ Err (record { code = code; at = at })) }
     ensures err { IfErr result (λ fault. (fault.at ≡ at)
-        × IsRefused (write_refusal (shown_by sectors.old) at) fault (shown_by sectors.old) (shown_by sectors.new)) }
+        × IsRefused (write_refusal (sectors_seen sectors.old) at) fault (sectors_seen sectors.old) (sectors_seen sectors.new)) }
 {
     match sectors {
         Sectors::D64(disk) => disk.write(at, bytes),
@@ -88,12 +88,12 @@ fn write_on(sectors: &mut Sectors, at: Address, bytes: &[u8; 256]) -> Result<(),
 
 /// Makes each sector zeros.
 fn format_on(sectors: &mut Sectors, id: [u8; 2]) -> Result<(), Fault>
-    ensures ok { OnOk result (shown_by sectors.new ≡ formatted_as id (with_content blank (shown_by sectors.old))) }
-    ensures refused { IfSome (format_refusal (shown_by sectors.old).protected)
+    ensures ok { OnOk result (sectors_seen sectors.new ≡ formatted_as id (with_content blank (sectors_seen sectors.old))) }
+    ensures refused { IfSome (format_refusal (sectors_seen sectors.old).protected)
         (λ code. result ≡ Err (record { code = code; at = directory_head })) }
     ensures err { IfErr result (λ fault. (fault.at ≡ directory_head)
-        × IsRefused (format_refusal (shown_by sectors.old).protected) fault (shown_by sectors.old)
-        (shown_by sectors.new)) }
+        × IsRefused (format_refusal (sectors_seen sectors.old).protected) fault (sectors_seen sectors.old)
+        (sectors_seen sectors.new)) }
 {
     match sectors {
         Sectors::D64(disk) => disk.format(id),
@@ -161,11 +161,11 @@ impl Medium for ImageDisk {
     ghost use Rattle.cbm_medium.specs.Place.{directory_head};
     ghost use Rattle.cbm_medium.specs.Content.{written, blank, format_refusal};
     ghost use Rattle.cbm_medium.specs.Seen.{with_content, formatted_as, write_refusal, IsRefused};
-    ghost use Rattle.cbm_device.specs.ImageDisks.{seen_of, has_codes, outer_free};
+    ghost use Rattle.cbm_device.specs.ImageDisks.{counted_seen, counted_has_codes, outer_free};
 
-    ghost seen = { seen_of };
+    ghost seen = { counted_seen };
 
-    ghost codes = { has_codes };
+    ghost codes = { counted_has_codes };
 
     ghost outer_headers = { outer_free };
 
@@ -178,13 +178,13 @@ impl Medium for ImageDisk {
     }
 
     fn write(&mut self, at: Address, bytes: &[u8; 256]) -> Result<(), Fault>
-        requires { at.track ≤ (seen_of self.old).tracks }
-        ensures ok { let old = seen_of self.old in
-            OnOk result (seen_of self.new ≡ with_content (written old.content at bytes.now) old) }
-        ensures refused { IfSome (write_refusal (seen_of self.old) at)
+        requires { at.track ≤ (counted_seen self.old).tracks }
+        ensures ok { let old = counted_seen self.old in
+            OnOk result (counted_seen self.new ≡ with_content (written old.content at bytes.now) old) }
+        ensures refused { IfSome (write_refusal (counted_seen self.old) at)
             (λ code. result ≡ Err (record { code = code; at = at })) }
         ensures err { IfErr result (λ fault. (fault.at ≡ at)
-            × IsRefused (write_refusal (seen_of self.old) at) fault (seen_of self.old) (seen_of self.new)) }
+            × IsRefused (write_refusal (counted_seen self.old) at) fault (counted_seen self.old) (counted_seen self.new)) }
 
         // It is counted, up to the greatest number.
         ensures counted { OnOk result (self.new.writes ≡ min (self.old.writes + 1) (2 ^ 64 - 1)) }
@@ -195,11 +195,11 @@ impl Medium for ImageDisk {
     }
 
     fn format(&mut self, id: [u8; 2]) -> Result<(), Fault>
-        ensures ok { OnOk result (seen_of self.new ≡ formatted_as id (with_content blank (seen_of self.old))) }
-        ensures refused { IfSome (format_refusal (seen_of self.old).protected)
+        ensures ok { OnOk result (counted_seen self.new ≡ formatted_as id (with_content blank (counted_seen self.old))) }
+        ensures refused { IfSome (format_refusal (counted_seen self.old).protected)
             (λ code. result ≡ Err (record { code = code; at = directory_head })) }
         ensures err { IfErr result (λ fault. (fault.at ≡ directory_head)
-            × IsRefused (format_refusal (seen_of self.old).protected) fault (seen_of self.old) (seen_of self.new)) }
+            × IsRefused (format_refusal (counted_seen self.old).protected) fault (counted_seen self.old) (counted_seen self.new)) }
         ensures counted { OnOk result (self.new.writes ≡ min (self.old.writes + 1) (2 ^ 64 - 1)) }
     {
         format_on(&mut self.sectors, id)?;

@@ -2,16 +2,16 @@
 ghost use Rattle.std.specs.Prelude.{◌≡◌, Err, Ok, false, true, IfErr, IfOk, IsOk, IsOkAnd, MatchResult};
 ghost use Rattle.cbm_file.specs.Files.{Disk};
 ghost use Rattle.cbm_medium.specs.Place.{directory_head};
-ghost use Rattle.cbm_volume.specs.Holding.{HoldsDisk, StandsAt};
+ghost use Rattle.cbm_volume.specs.Holding.{HoldsDisk, EntryStandsAt};
 ghost use Rattle.cbm_volume.specs.Layouts.{Layout, Sound};
 ghost use Rattle.cbm_volume.specs.Map.{geometry_of};
 ghost use Rattle.cbm_image.specs.Images.{kind_of, tracks_of, content_of, ImageHolds};
-ghost use Rattle.cbm_channel.specs.Machines.{start};
+ghost use Rattle.cbm_machine.specs.Machines.{start};
 ghost use Rattle.cbm_shell.specs.Images.{IsChecked};
 ghost use Rattle.cbm_shell.specs.Listing.{IsSent};
 ghost use Rattle.cbm_shell.specs.Reading.{Gets};
 ghost use Rattle.cbm_device.specs.ImageDisks.{IsDiskOf, IsOpenRefusal};
-ghost use Rattle.cbm_device.specs.Looking.{IsTitleOf, IsUntitled, IsNoEntry, IsNoSector, IsAccepted, IsRefused, IsUnsent, IsUngot};
+ghost use Rattle.cbm_device.specs.Looking.{IsTitleOf, IsUntitled, IsNoDeviceEntry, IsNoSector, IsAccepted, IsLookRefused, IsUnsent, IsUngot};
 
 use crate::image_disk::ImageDisk;
 use crate::refusal::DeviceRefusal;
@@ -79,8 +79,8 @@ pub fn title(alloc: Global, image: &[u8]) -> Result<Heading, DeviceRefusal>
 /// what breaks the directory off.
 pub fn entry(alloc: Global, image: &[u8], slot: u8) -> Result<Entry, DeviceRefusal>
     ensures ok { let kind = kind_of image.now in
-        IfOk result (StandsAt (tracks_of kind image.now) (content_of kind image.now) slot) }
-    ensures err { IfErr result (IsNoEntry image.now slot) }
+        IfOk result (EntryStandsAt (tracks_of kind image.now) (content_of kind image.now) slot) }
+    ensures err { IfErr result (IsNoDeviceEntry image.now slot) }
 {
     let volume = volume_of(alloc, image)?;
     match volume.slot(slot) {
@@ -122,7 +122,7 @@ pub fn list(alloc: Global, image: &[u8], pattern: &[u8]) -> Result<Vec<u8>, Devi
         let m = start d false (tracks_of kind image.now) in
         MatchResult result (λ v. IsSent pattern.now m v.items) (IsUnsent image.now pattern.now m) }
     // Of any disk:
-    ensures refused { MatchResult result (λ _. IsAccepted image.now) (IsRefused image.now) }
+    ensures refused { MatchResult result (λ _. IsAccepted image.now) (IsLookRefused image.now) }
 {
     let mut dos = Dos::new(ImageDisk::open(alloc, image, false)?);
     match raw_list(alloc, &mut dos, pattern) {
@@ -137,7 +137,7 @@ pub fn file(alloc: Global, image: &[u8], pattern: &[u8]) -> Result<Vec<u8>, Devi
     ensures got { (d : Disk) → ImageHolds (kind_of image.now) image.now d →
         MatchResult result (λ v. Gets d pattern.now v.items) (IsUngot image.now d pattern.now) }
     // Of any disk:
-    ensures refused { MatchResult result (λ _. IsAccepted image.now) (IsRefused image.now) }
+    ensures refused { MatchResult result (λ _. IsAccepted image.now) (IsLookRefused image.now) }
 {
     let volume = volume_of(alloc, image)?;
     match get(alloc, &volume, pattern) {

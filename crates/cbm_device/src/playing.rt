@@ -1,10 +1,10 @@
 //! A drive that is switched on and played under a whole list of line changes.
 ghost use Rattle.std.specs.Prelude.{◌≡◌, ◌≤◌, ◌<◌, ◌^◌, ◌⊎◌, Err, IfErr, IfOk, IfSome, IsSome};
 ghost use Rattle.cbm_file.specs.Files.{Disk};
-ghost use Rattle.cbm_channel.specs.Machines.{start};
+ghost use Rattle.cbm_machine.specs.Machines.{start};
 ghost use Rattle.cbm_drive.specs.Ordered.{fault_of};
 ghost use Rattle.cbm_volume.specs.Holding.{HoldsDisk};
-ghost use Rattle.cbm_device.specs.ImageDisks.{seen_of};
+ghost use Rattle.cbm_device.specs.ImageDisks.{counted_seen};
 ghost use Rattle.cbm_device.specs.Plays.{HasPlayedAll, IsDiskIn};
 
 use crate::image_disk::ImageDisk;
@@ -26,7 +26,7 @@ pub fn play(
     requires end { end < 2 ^ 59 }
     ensures refused { IfSome (fault_of 0 0 end changes.now) (λ _. (result ≡ Err DeviceRefusal.Invalid) × (events.new ≡ events.old)) }
     ensures cause { IfErr result (λ r. ((r ≡ DeviceRefusal.Invalid) × IsSome (fault_of 0 0 end changes.now)) ⊎ (r ≡ DeviceRefusal.Memory)) }
-    ensures played { let now = seen_of disk in (d : Disk) → HoldsDisk now.tracks now.content d → IfOk result (λ after.
+    ensures played { let now = counted_seen disk in (d : Disk) → HoldsDisk now.tracks now.content d → IfOk result (λ after.
         HasPlayedAll party (start d now.protected now.tracks) changes.now end events.old.items events.new.items after) }
 {
     let desk = Desk::at_power_up(disk, party.device).with_pace(party.pace);

@@ -1,6 +1,6 @@
 //! Why a call isn't carried out, and the number that says so.
 ghost use Rattle.std.specs.Prelude.{◌≡◌};
-ghost use Rattle.cbm_device.specs.Answers.{number_of, answer};
+ghost use Rattle.cbm_device.specs.Answers.{answer_number, answer};
 
 use cbm_shell::ShellFault;
 use cbm_volume::Trouble;
@@ -35,7 +35,7 @@ const NOT_CLOSED: u8 = 60;
 impl DeviceRefusal {
     /// Its number: below 0 the call's own, from 20 on the drive's status.
     pub fn number(self) -> i32
-        ensures { result ≡ number_of self }
+        ensures { result ≡ answer_number self }
     {
         match self {
             DeviceRefusal::Memory => -1,

@@ -8,7 +8,7 @@ use Rattle.cbm_medium.proofs.Places.{place_decide, written_there, written_elsewh
 use Rattle.cbm_medium.proofs.Walks.{follow_full, follow_next}
 use Rattle.cbm_bam.specs.Map.{map_of}
 use Rattle.cbm_directory.specs.Entries.{first_directory, type_byte}
-use Rattle.cbm_directory.specs.Slots.{Listed, entries_from, listed_from, behind, directory_of}
+use Rattle.cbm_directory.specs.Slots.{Listed, entries_from, listed_from, listed_after, directory_of}
 use Rattle.cbm_directory.specs.Growth.{Grows, new_sector}
 use Rattle.cbm_directory.specs.Empties.{empty_in, FindsEmpty}
 use Rattle.cbm_directory.proofs.Stepping.{listed_cut, listed_next}
@@ -17,7 +17,7 @@ use Rattle.cbm_directory.proofs.Stepping.{listed_cut, listed_next}
 abbrev IsTaken : ℕ → Listed → Type 0
 IsTaken n d = (empty_in n d.entries ≡ None) × (d.trouble ≡ None)
 
-taken_behind : (n : ℕ) (xs : List (List ℕ)) (rest : Listed) → IsTaken n (behind xs rest) → (m : ℕ) × IsTaken m rest
+taken_behind : (n : ℕ) (xs : List (List ℕ)) (rest : Listed) → IsTaken n (listed_after xs rest) → (m : ℕ) × IsTaken m rest
 taken_behind n [] rest h = (n, h)
 taken_behind n (x ∷ xs) rest h = by_test (type_byte x == 0) h.0 (λ e. taken_behind (n + 1) xs rest (e, h.1))
   where
@@ -55,7 +55,7 @@ first_is_empty n rest = refl
 new_met : (tracks : ℕ) (c : Content) (left : ℕ) (a : Place) (n : ℕ) → Has tracks a → c a ≡ Ok new_sector → IsTaken n (listed_from tracks c left a) → ⊥
 new_met tracks c zero a n has ok h = none_left tracks c a n has h
 new_met tracks c (suc left) a n has ok h =
-    let k : IsTaken n (behind (entries_from 8 new_sector 0) (listed_from tracks c left (link new_sector))) =
+    let k : IsTaken n (listed_after (entries_from 8 new_sector 0) (listed_from tracks c left (link new_sector))) =
     subst (IsTaken n) (listed_next tracks c (suc left) left a new_sector ok (follow_next tracks c (suc left) left a new_sector (on_a_track tracks a has) has refl ok)) h in
     let z = sym (first_is_empty n (listed_from tracks c left (link new_sector)).entries) ∙ k.0 in
     cc

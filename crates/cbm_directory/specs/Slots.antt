@@ -39,12 +39,12 @@ pub record Cursor : Type 0 where
   pub next : Place
   pub left : ℕ
 
-abbrev pub behind : List (List ℕ) → Listed → Listed
-behind front rest = record { entries = front ++ rest.entries; trouble = rest.trouble }
+abbrev pub listed_after : List (List ℕ) → Listed → Listed
+listed_after front rest = record { entries = front ++ rest.entries; trouble = rest.trouble }
 
 -- what a reader still gives
-unfoldable pub left_of : Content → Cursor → Listed
-left_of content c = behind c.entries (listed_from c.tracks content c.left c.next)
+unfoldable pub listed_left : Content → Cursor → Listed
+listed_left content c = listed_after c.entries (listed_from c.tracks content c.left c.next)
 
 -- the answer to a number: the entry there, none past the last one, or the trouble where the list breaks off before
 abbrev pub Answers : Listed → ℕ → Result (Option (List ℕ)) Trouble → Type 0
@@ -54,7 +54,7 @@ Answers d n (Err t) = (length d.entries ≤ n) × (d.trouble ≡ Some t)
 
 -- One entry is given, or none where none is left; a trouble comes where the list breaks off.
 abbrev pub Gives : Listed → Listed → Result (Option (List ℕ)) Trouble → Type 0
-Gives old new (Ok (Some entry)) = old ≡ behind (entry ∷ []) new
+Gives old new (Ok (Some entry)) = old ≡ listed_after (entry ∷ []) new
 Gives old new (Ok None) = (old ≡ record { entries = []; trouble = None }) × (new ≡ old)
 Gives old new (Err t) = (old ≡ record { entries = []; trouble = Some t }) × (new ≡ old)
 

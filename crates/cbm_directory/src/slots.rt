@@ -1,5 +1,5 @@
 ghost use Rattle.std.specs.Prelude.{Bool, List, ℕ, ◌≡◌, ◌≤◌, ◌<◌, ◌+◌, ◌-◌, ◌⊎◌, OnOk, IfErr, Some, [], slice_range};
-ghost use Rattle.cbm_directory.specs.Slots.{Answers, Gives, IfGiven, Finds, directory_of, left_of, most_left};
+ghost use Rattle.cbm_directory.specs.Slots.{Answers, Gives, IfGiven, Finds, directory_of, listed_left, most_left};
 
 use crate::entry::Entry;
 use cbm_medium::{Geometry, Link, Medium, Trouble, read_linked};
@@ -39,9 +39,9 @@ impl Model for Slots {
 
 impl Slots {
     /// Stands before the first slot. It reads nothing.
-    #[tactic(auto, unfolding(crate::specs::Slots::left_of, crate::specs::Slots::directory_of))]
+    #[tactic(auto, unfolding(crate::specs::Slots::listed_left, crate::specs::Slots::directory_of))]
     pub fn begin(geometry: Geometry) -> Slots
-        ensures left { (content : _) → left_of content result ≡ directory_of geometry content }
+        ensures left { (content : _) → listed_left content result ≡ directory_of geometry content }
         ensures tracks { result.tracks ≡ geometry }
         ensures most { most_left result ≡ 144 }
     {
@@ -57,10 +57,10 @@ impl Slots {
     /// Reads the next sector where this one is used up and another follows.
     fn fill<M: Medium>(&mut self, medium: &M) -> Result<(), Trouble>
         requires { self.old.tracks ≤ (M.seen medium.now).tracks }
-        ensures left { left_of (M.seen medium.now).content self.new ≡ left_of (M.seen medium.now).content self.old }
+        ensures left { listed_left (M.seen medium.now).content self.new ≡ listed_left (M.seen medium.now).content self.old }
         ensures ready { OnOk result (self.new.entries ≡ [] → self.new.next.track ≡ 0) }
         ensures err { IfErr result
-            (λ t. left_of (M.seen medium.now).content self.old ≡ record { entries = []; trouble = Some t }) }
+            (λ t. listed_left (M.seen medium.now).content self.old ≡ record { entries = []; trouble = Some t }) }
         ensures tracks { self.new.tracks ≡ self.old.tracks }
         ensures most { most_left self.new ≡ most_left self.old }
     {
@@ -79,8 +79,8 @@ impl Slots {
     /// a link to no sector of the disk, 71 at a nineteenth sector, or the medium's fault; and it comes again.
     pub fn next<M: Medium>(&mut self, medium: &M) -> Result<Option<Entry>, Trouble>
         requires { self.old.tracks ≤ (M.seen medium.now).tracks }
-        ensures gives { Gives (left_of (M.seen medium.now).content self.old)
-            (left_of (M.seen medium.now).content self.new) result }
+        ensures gives { Gives (listed_left (M.seen medium.now).content self.old)
+            (listed_left (M.seen medium.now).content self.new) result }
         ensures tracks { self.new.tracks ≡ self.old.tracks }
         ensures most { IfGiven result (most_left self.new + 1 ≡ most_left self.old) }
     {

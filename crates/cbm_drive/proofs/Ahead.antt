@@ -7,9 +7,9 @@ use Rattle.cbm_iec.specs.Ports.{port_due, reacted, reaction_act, next_role, next
 use Rattle.cbm_iec.specs.Hearing.{ear_row}
 use Rattle.cbm_iec.specs.Speaking.{mouth_row, answer_row, after_taken, end_frame_row, set_bit_row, show_bit_row}
 use Rattle.cbm_iec.specs.Table.{TableRow}
-use Rattle.cbm_iec.specs.declared.act.Act.{Act}
+use Rattle.cbm_iec.specs.declared.machine.Act.{Act}
 use Rattle.cbm_iec.specs.declared.ear.Ear.{Ear}
-use Rattle.cbm_iec.specs.declared.line.Change.{Change}
+use Rattle.cbm_iec.specs.declared.lines.Change.{Change}
 use Rattle.cbm_iec.specs.declared.lines.Held.{Held}
 use Rattle.cbm_iec.specs.declared.lines.Lines.{Lines}
 use Rattle.cbm_iec.specs.declared.mouth.Mouth.TheVariants.{Turned, Answering, Mute, Led, Offering, EoiOffered, EoiPulsed, Sending, Waiting, Ending, Over}
@@ -28,7 +28,7 @@ use Rattle.cbm_drive.proofs.Firsts.{some_same}
 use Rattle.cbm_drive.proofs.Heard.{no_items, same_map}
 use Rattle.cbm_drive.proofs.Reacted.{stations_in_time}
 use Rattle.cbm_drive.specs.Reactions.{HasReacted}
-use Rattle.cbm_drive.specs.Seats.{Seated, IsBusAt, AreInTime, held_by}
+use Rattle.cbm_drive.specs.Seats.{Seated, IsBusAt, AreInTime, wires_held_by}
 use Rattle.cbm_drive.specs.Silence.{Foreseen, quiet, shows, passes, Foretold, idle, seen, over, AnyShows, AreSilent}
 
 -- how long it is to the limit
@@ -189,7 +189,7 @@ module _ (D M : Type 0) (stands : D → M → Type 0) (step : M → Act → M) (
     pub any : AnyShows M step says limit stations
 
   pub shows_never : (host : Lines) (limit : ℕ) (xs : List (Seated D)) → AreInTime limit xs → ShowsStill host limit xs → ⊥
-  shows_never host limit xs l k = any_due M step says limit k.stations (stations_in_time D M stands step says (held_by host xs) limit xs k.stations k.now l) k.any
+  shows_never host limit xs l k = any_due M step says limit k.stations (stations_in_time D M stands step says (wires_held_by host xs) limit xs k.stations k.now l) k.any
 
 module _ (D M : Type 0) (stood stands : D → M → Type 0) (step : M → Act → M) (says : M → Option (ℕ × Bool)) where
   -- one reaction on

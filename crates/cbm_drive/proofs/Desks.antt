@@ -2,14 +2,14 @@
 use Rattle.std.proofs.Common.{◌≡◌, ◌<◌, ℕ, Bool, true, false, Option, Some, None, IfSome, refl, sym, subst, ap, ◌∙◌}
 use Rattle.std.specs.Prelude.{IsSome}
 use Rattle.cbm_medium.specs.Seen.{Seen}
-use Rattle.cbm_channel.specs.Machines.{Machine}
+use Rattle.cbm_machine.specs.Machines.{Machine}
 use Rattle.cbm_channel.specs.Shown.{shown_by}
 use Rattle.cbm_channel.specs.Standing.{Kept, Stands, Leads}
 use Rattle.cbm_iec.specs.Machines.{owes}
-use Rattle.cbm_iec.specs.declared.act.Act.TheVariants.{Pulled, Attention, Released, Heard, Said, Silent}
-use Rattle.cbm_iec.specs.declared.act.Act.{Act}
+use Rattle.cbm_iec.specs.declared.machine.Act.TheVariants.{Pulled, Attention, Released, Heard, Said, Silent}
+use Rattle.cbm_iec.specs.declared.machine.Act.{Act}
 use Rattle.cbm_drive.specs.Addressing.{addressed_after}
-use Rattle.cbm_drive.specs.Desks.{Desk, asked, desk_step, desk_says, shown_from, IsAlike, DeskStands}
+use Rattle.cbm_drive.specs.Desks.{Desk, desk_asked, desk_step, desk_says, shown_from, IsAlike, DeskStands}
 
 -- what is owed is another byte, behind one that isn't the last
 pub owes_next : (act : Act) (shown : Option (ℕ × Bool)) → owes act shown ≡ true → (n : ℕ) × (shown ≡ Some (n, false))
@@ -33,15 +33,15 @@ none_from o n k P is e = absurd (let z = subst (λ (p : Option ℕ). shown_from 
 
 module _ {M : Type 0} (seen : M → Seen) (old new : Desk (Kept M)) (act : Act) where
   -- a call for an act leads to the desk's next state
-  pub alike_after : Leads seen old.dos new.dos (asked act old.addressed) → new.addressed ≡ addressed_after act old.addressed
+  pub alike_after : Leads seen old.dos new.dos (desk_asked act old.addressed) → new.addressed ≡ addressed_after act old.addressed
       → (d : Desk Machine) → IsAlike seen old d → IsAlike seen new (desk_step d act)
   alike_after leads e d (stands, same) = (
-    subst (λ a. Stands seen new.dos (asked act a d.dos)) (sym same) (leads d.dos stands),
+    subst (λ a. Stands seen new.dos (desk_asked act a d.dos)) (sym same) (leads d.dos stands),
     ap (addressed_after act) same ∙ sym e,
   )
 
   -- and stands for it, where what it shows then are bytes
-  pub stands_after : (shown : Option (ℕ × Bool)) → Leads seen old.dos new.dos (asked act old.addressed) → new.addressed ≡ addressed_after act old.addressed
+  pub stands_after : (shown : Option (ℕ × Bool)) → Leads seen old.dos new.dos (desk_asked act old.addressed) → new.addressed ≡ addressed_after act old.addressed
       → ((d : Desk Machine) → IsAlike seen new d → shown ≡ desk_says d) → IfSome shown (λ s. s.0 < 256)
       → (d : Desk Machine) → DeskStands seen old d → DeskStands seen new (desk_step d act)
   stands_after shown leads e says byte d stood =

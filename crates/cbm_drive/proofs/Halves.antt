@@ -4,7 +4,7 @@ use Rattle.std.proofs.lemmas.List.{append-nil}
 use Rattle.std.specs.Prelude.{false, is_some, MatchOption}
 use Rattle.cbm_iec.specs.Machines.{acted}
 use Rattle.cbm_iec.specs.Ports.{changes_between}
-use Rattle.cbm_iec.specs.declared.act.Act.{Act}
+use Rattle.cbm_iec.specs.declared.machine.Act.{Act}
 use Rattle.cbm_iec.specs.declared.event.Event.{Event}
 use Rattle.cbm_iec.specs.declared.lines.Lines.{Lines}
 use Rattle.cbm_iec.specs.declared.port.Port.{Port}
@@ -16,7 +16,7 @@ use Rattle.cbm_drive.specs.Played.{HasSettled}
 use Rattle.cbm_drive.specs.Players.{Turns, pending, IsSecond, IsAfter}
 use Rattle.cbm_drive.specs.Progress.{left}
 use Rattle.cbm_drive.specs.Reactions.{HasReacted}
-use Rattle.cbm_drive.specs.Seats.{Seated, IsBusAt, held_by, numbers}
+use Rattle.cbm_drive.specs.Seats.{Seated, IsBusAt, wires_held_by, numbers}
 use Rattle.cbm_drive.specs.declared.half.Half.{Half}
 use Rattle.cbm_drive.proofs.Alone.{heard_nobody}
 use Rattle.cbm_drive.proofs.Left.{less_left}
@@ -56,7 +56,7 @@ module _ (D M : Type 0) (stands : D → M → Type 0) (step : M → Act → M) (
       (λ m s. k.port (says m))
       (λ m s. (λ i. changes_between h.moment (k.was i) ((k.now ∙ ap (λ (p : Port). p.own) (k.port (says m))) i)))
       (λ m s. subst (λ (o : Option Act). stands y.machine (acted M step o m)) (sym (k.act (says m))) (subst (λ (d : D). stands d m) (sym k.machine) s))
-      (λ own bs hs at_ toggles counts b g. heard_nobody D M stands step says (half_lines h) (held_by host (x ∷ [])) own [] [] bs hs refl refl toggles counts b g)
+      (λ own bs hs at_ toggles counts b g. heard_nobody D M stands step says (half_lines h) (wires_held_by host (x ∷ [])) own [] [] bs hs refl refl toggles counts b g)
       bus (k.due, tt))
 
   half_settled : (limit : ℕ) (b c : Cabled D) (h : Half) (n : ℕ) (ss : List (Station M)) → SaysHalfAlone limit b c h → IsBusAt D M stands b.host b.drives ss → HasSettled D M stands step says b.host (h.moment + 1) c.drives [] (half_events h) n ss

@@ -2,9 +2,9 @@
 use Rattle.std.proofs.Common.{ℕ, ◌+◌, Bool, List, [], ◌∷◌, Option, Some, None, arith}
 use Rattle.std.specs.Prelude.{Result, Ok, Err, OnOk, MatchResult}
 use Rattle.cbm_iec.specs.Ports.{port_due}
-use Rattle.cbm_iec.specs.declared.act.Act.{Act}
+use Rattle.cbm_iec.specs.declared.machine.Act.{Act}
 use Rattle.cbm_iec.specs.declared.event.Event.{Event}
-use Rattle.cbm_iec.specs.declared.line.Change.{Change}
+use Rattle.cbm_iec.specs.declared.lines.Change.{Change}
 use Rattle.cbm_iec.specs.declared.lines.Lines.{Lines}
 use Rattle.cbm_iec.specs.declared.party.Party.{Party}
 use Rattle.cbm_session.proofs.handed.Handed.{hands_each}
@@ -14,7 +14,7 @@ use Rattle.cbm_session.specs.Playing.{Station, IsLaterDue, AllInTime, AllLater, 
 use Rattle.cbm_session.specs.Sessions.{AllUnlike}
 use Rattle.cbm_drive.proofs.Reacted.{stations_in_time}
 use Rattle.cbm_drive.specs.Played.{HasPlayed, IsPlayCut, HasHanded}
-use Rattle.cbm_drive.specs.Seats.{Seated, AreInTime, held_by}
+use Rattle.cbm_drive.specs.Seats.{Seated, AreInTime, wires_held_by}
 
 module _ (D M : Type 0) (stands : D → M → Type 0) (step : M → Act → M) (says : M → Option (ℕ × Bool)) where
   later_all : (end : ℕ) (ss : List (Station M)) → AllInTime M step says (end + 1) ss → AllLater M step says end ss
@@ -32,7 +32,7 @@ module _ (D M : Type 0) (stands : D → M → Type 0) (step : M → Act → M) (
     stations = p.stations;
     added = p.added;
     hosts = p.hosts;
-    handed = hands_each M step says bs ms p.from end p.made p.stations unlike swift p.plays (let b = p.before in omega (arith, b)) (later_all end p.stations (stations_in_time D M stands step says (held_by host xs) (end + 1) xs p.stations p.now quiet));
+    handed = hands_each M step says bs ms p.from end p.made p.stations unlike swift p.plays (let b = p.before in omega (arith, b)) (later_all end p.stations (stations_in_time D M stands step says (wires_held_by host xs) (end + 1) xs p.stations p.now quiet));
     now = p.now;
   }
 

@@ -2,10 +2,10 @@
 use Rattle.std.proofs.Common.{◌≡◌, ℕ, ◌+◌, Bool, false, List, [], ◌∷◌, ◌++◌, append-nil, Option, Some, None, ap, subst, ◌∙◌, arith}
 use Rattle.std.specs.Prelude.{Result, Ok, Err, OnOk}
 use Rattle.cbm_iec.specs.Ports.{port_due}
-use Rattle.cbm_iec.specs.declared.act.Act.TheVariants.{Said}
-use Rattle.cbm_iec.specs.declared.act.Act.{Act}
+use Rattle.cbm_iec.specs.declared.machine.Act.TheVariants.{Said}
+use Rattle.cbm_iec.specs.declared.machine.Act.{Act}
 use Rattle.cbm_iec.specs.declared.event.Event.{Event}
-use Rattle.cbm_iec.specs.declared.line.Change.{Change}
+use Rattle.cbm_iec.specs.declared.lines.Change.{Change}
 use Rattle.cbm_iec.specs.declared.lines.Lines.{Lines}
 use Rattle.cbm_iec.specs.declared.party.Party.{Party}
 use Rattle.cbm_session.proofs.headline.LawsMet.{keeps}
@@ -18,7 +18,7 @@ use Rattle.cbm_drive.proofs.Reacted.{stations_later, stations_in_time}
 use Rattle.cbm_drive.specs.Kept.{HasKept, HasKeptLoosely}
 use Rattle.cbm_drive.specs.Played.{HasPlayed}
 use Rattle.cbm_drive.specs.Players.{Turns, pending, IsAfter}
-use Rattle.cbm_drive.specs.Seats.{Seated, AreLater, AreInTime, held_by}
+use Rattle.cbm_drive.specs.Seats.{Seated, AreLater, AreInTime, wires_held_by}
 use Rattle.cbm_drive.specs.Cables.{Cabled}
 
 module _ (D M : Type 0) (stands : D → M → Type 0) (step : M → Act → M) (says : M → Option (ℕ × Bool)) where
@@ -33,7 +33,7 @@ module _ (D M : Type 0) (stands : D → M → Type 0) (step : M → Act → M) (
   pub kept_from : ((m : M) (n : ℕ) → says m ≡ Some (n, false) → (x : ℕ × Bool) × (says (step m (Said n false)) ≡ Some x)) → (bs : List Party) (ms : ℕ → M) (host : Lines) (end : ℕ) (xs : List (Seated D)) (old new : List Event) (cs : List Change)
       → HasPlayed D M stands step says host (end + 1) xs old new cs (at_rest M step says ms bs) → AreInTime (end + 1) xs → IsBus bs → HasKeptLoosely D M stands step says bs ms host end xs old new
   kept_from more bs ms host end xs old new cs p time is_bus =
-      let later = later_than end p.stations (stations_in_time D M stands step says (held_by host xs) (end + 1) xs p.stations p.now time) in
+      let later = later_than end p.stations (stations_in_time D M stands step says (wires_held_by host xs) (end + 1) xs p.stations p.now time) in
       record {
         play = record { made = p.made; stations = p.stations; added = p.added; now = p.now; kept = λ timing. keeps M step says bs ms p.from end p.made p.stations is_bus (record { more = more }) p.plays later timing };
         loosely = λ timing. keeps_loosely M step says bs ms p.from end p.made p.stations is_bus (record { more = more }) p.plays (let b = p.before in omega (arith, b)) later timing;
@@ -50,4 +50,4 @@ module _ (D M : Type 0) (stands : D → M → Type 0) (step : M → Act → M) (
       → (a : IsAfter D M stands step says p b 0 (at_rest M step says ms bs) es) → AreLater end b.drives → HostKeeps bs es end → IsKept M step says bs ms es end a.stations
   kept_after more p b bs ms es end is_bus none a late timing =
       let all : es ++ pending p.second ≡ es = ap (λ (o : Option Event). es ++ pending o) none ∙ append-nil es in
-      keeps M step says bs ms a.from end es a.stations is_bus (record { more = more }) (subst (λ (l : List Event). Plays M step says 0 (at_rest M step says ms bs) l a.from a.stations) all a.plays) (stations_later D M stands step says (held_by b.host b.drives) end b.drives a.stations a.now late) timing
+      keeps M step says bs ms a.from end es a.stations is_bus (record { more = more }) (subst (λ (l : List Event). Plays M step says 0 (at_rest M step says ms bs) l a.from a.stations) all a.plays) (stations_later D M stands step says (wires_held_by b.host b.drives) end b.drives a.stations a.now late) timing

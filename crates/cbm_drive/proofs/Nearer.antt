@@ -5,7 +5,7 @@ use Rattle.std.specs.Prelude.{if◌then◌else◌}
 use Rattle.cbm_iec.specs.Ports.{port_due}
 use Rattle.cbm_session.specs.Following.{IsInTime}
 use Rattle.cbm_session.specs.Playing.{IsLaterDue}
-use Rattle.cbm_drive.specs.Progress.{IsKept, AreKept, IsNearer, due_at, due_now}
+use Rattle.cbm_drive.specs.Progress.{IsKeptOrLater, AreKept, IsNearer, due_at, due_now}
 use Rattle.cbm_drive.specs.Seats.{Seated, AreInTime, IsFirstDue, AreIdle}
 use Rattle.cbm_drive.proofs.Firsts.{first_in_time}
 
@@ -23,11 +23,11 @@ later_is_in_time : (t : ℕ) (due : Option ℕ) → IsLaterDue t due → IsInTim
 later_is_in_time t None l = tt
 later_is_in_time t (Some u) l = omega (arith, l)
 
-kept_in_time : (t : ℕ) (was now : Option ℕ) → IsKept t was now → IsInTime t was → IsInTime t now
+kept_in_time : (t : ℕ) (was now : Option ℕ) → IsKeptOrLater t was now → IsInTime t was → IsInTime t now
 kept_in_time t was now (inl e) h = subst (IsInTime t) (sym e) h
 kept_in_time t was now (inr l) h = later_is_in_time t now l
 
-kept_no_more : (t : ℕ) (was now : Option ℕ) → IsKept t was now → due_at t now ≤ due_at t was
+kept_no_more : (t : ℕ) (was now : Option ℕ) → IsKeptOrLater t was now → due_at t now ≤ due_at t was
 kept_no_more t was now (inl e) = (let z : due_at t now ≡ due_at t was = ap (due_at t) e in omega (arith, z))
 kept_no_more t was now (inr l) = (let z : due_at t now ≡ 0 = later_none t now l in omega (arith, z))
 
@@ -100,7 +100,7 @@ pub kept_same : {D : Type 0} (t : ℕ) (xs : List (Seated D)) → AreKept t xs x
 kept_same t [] = tt
 kept_same t (x ∷ xs) = (inl refl, kept_same t xs)
 
-kept_on : (t : ℕ) (a b c : Option ℕ) → IsKept t a b → IsKept t b c → IsKept t a c
+kept_on : (t : ℕ) (a b c : Option ℕ) → IsKeptOrLater t a b → IsKeptOrLater t b c → IsKeptOrLater t a c
 kept_on t a b c h (inr l) = inr l
 kept_on t a b c (inl e) (inl f) = inl (f ∙ e)
 kept_on t a b c (inr l) (inl f) = inr (subst (IsLaterDue t) (sym f) l)

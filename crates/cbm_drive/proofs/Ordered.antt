@@ -4,9 +4,9 @@ use Rattle.std.specs.Prelude.{Some, None, Bool, nat_lt, if◌then◌else◌}
 use Rattle.std.proofs.Common.{inl, inr}
 use Rattle.std.proofs.lemmas.Bool.{cases_lt, lt-ltb, le-ltb}
 use Rattle.cbm_drive.specs.declared.fault.PlayFault.TheVariants.{Backwards, PastEnd}
-use Rattle.cbm_iec.specs.declared.line.Change.{Change}
-use Rattle.cbm_iec.specs.declared.line.Line.TheVariants.{Atn}
-use Rattle.cbm_iec.specs.declared.line.Way.TheVariants.{Pull}
+use Rattle.cbm_iec.specs.declared.lines.Change.{Change}
+use Rattle.cbm_iec.specs.declared.lines.Line.TheVariants.{Atn}
+use Rattle.cbm_iec.specs.declared.lines.Way.TheVariants.{Pull}
 use Rattle.cbm_drive.specs.Ordered.{fault_of, AreOrdered, latest}
 
 -- what stands where no change does

@@ -3,11 +3,11 @@ use Rattle.std.proofs.Common.{◌≡◌, ℕ, suc, ◌+◌, ◌<◌, ◌≤◌, 
 use Rattle.std.proofs.lemmas.List.{append_assoc, append-nil}
 use Rattle.std.specs.Prelude.{Result, Ok, Err, IsErr, MatchResult}
 use Rattle.std.specs.List.{AllZip}
-use Rattle.cbm_iec.specs.declared.act.Act.{Act}
+use Rattle.cbm_iec.specs.declared.machine.Act.{Act}
 use Rattle.cbm_iec.specs.declared.event.Event.{Event}
 use Rattle.cbm_iec.specs.declared.event.Who.TheVariants.{Host, Drive}
 use Rattle.cbm_iec.specs.declared.event.Who.{Who}
-use Rattle.cbm_iec.specs.declared.line.Change.{Change}
+use Rattle.cbm_iec.specs.declared.lines.Change.{Change}
 use Rattle.cbm_iec.specs.declared.lines.Lines.{Lines}
 use Rattle.cbm_session.specs.Playing.{Station, Plays, stays, change, reaction, tell, host_event, AllBytes, IsByte, reacting, shown, drive_events}
 use Rattle.cbm_session.proofs.headline.Keeping.{plays_then}
@@ -16,7 +16,7 @@ use Rattle.cbm_drive.specs.Played.{HasSettled, HasPlayed, IsPlayCut}
 use Rattle.cbm_drive.specs.Ordered.{host_changes, with_host}
 use Rattle.cbm_drive.proofs.Reacted.{stations_in_time}
 use Rattle.cbm_drive.specs.Reactions.{HasReacted}
-use Rattle.cbm_drive.specs.Seats.{Seated, IsSeat, IsBusAt, AreInTime, held_by}
+use Rattle.cbm_drive.specs.Seats.{Seated, IsSeat, IsBusAt, AreInTime, wires_held_by}
 
 pub host_append : (xs ys : List Event) → host_changes (xs ++ ys) ≡ host_changes xs ++ host_changes ys
 host_append [] ys = refl
@@ -46,7 +46,7 @@ module _ (D M : Type 0) (stands : D → M → Type 0) (step : M → Act → M) (
   bytes_of all (x ∷ xs) (s ∷ ss) h = (one_byte x.machine s.machine (says s.machine) h.0.machine refl, bytes_of all xs ss h.1)
 
   at_bus : (host : Lines) (xs : List (Seated D)) (ss : List (Station M)) → IsBusAt D M stands host xs ss → AllBytes M step says ss
-  at_bus host xs ss h = bytes_of (held_by host xs) xs ss h
+  at_bus host xs ss h = bytes_of (wires_held_by host xs) xs ss h
 
   -- nothing has happened yet
   pub settled_none : (host : Lines) (limit : ℕ) (xs : List (Seated D)) (es : List Event) (n : ℕ) (ss : List (Station M)) → IsBusAt D M stands host xs ss → n ≤ limit → HasSettled D M stands step says host limit xs es es n ss
@@ -104,7 +104,7 @@ module _ (D M : Type 0) (stood stands : D → M → Type 0) (step : M → Act �
   pub one_change : (host now : Lines) (c : Change) (n : ℕ) (xs ys : List (Seated D)) (ss : List (Station M)) → IsBusAt D M stood host xs ss → AreInTime c.moment xs → n ≤ c.moment → IsBusAt D M stands now ys (map (λ s. tell M step says c s) ss)
       → Plays M step says n ss (host_event c ∷ []) c.moment (map (λ s. tell M step says c s) ss)
   one_change host now c n xs ys ss h t l k =
-      change c [] (at_bus D M stood step says byte host xs ss h) l (stations_in_time D M stood step says (held_by host xs) c.moment xs ss h t) refl (stays (at_bus D M stands step says byte_now now ys (map (λ s. tell M step says c s) ss) k) refl refl refl)
+      change c [] (at_bus D M stood step says byte host xs ss h) l (stations_in_time D M stood step says (wires_held_by host xs) c.moment xs ss h t) refl (stays (at_bus D M stands step says byte_now now ys (map (λ s. tell M step says c s) ss) k) refl refl refl)
 
 module _ (D M : Type 0) (stands : D → M → Type 0) (step : M → Act → M) (says : M → Option (ℕ × Bool)) (byte : (x : D) (m : M) (n : ℕ) (last : Bool) → stands x m → says m ≡ Some (n, last) → n < 256) where
   -- the reactions before it, and the change

@@ -1,12 +1,12 @@
 -- A player gives the events of a play one by one.
 use Rattle.std.proofs.Common.{◌≡◌, ℕ, ◌+◌, ◌<◌, ◌≤◌, Bool, List, [], ◌∷◌, ◌++◌, map, Option, Some, None, refl, sym, ap, subst, ◌∙◌, arith}
 use Rattle.std.proofs.lemmas.List.{append_assoc, append-nil}
-use Rattle.cbm_iec.specs.declared.act.Act.{Act}
+use Rattle.cbm_iec.specs.declared.machine.Act.{Act}
 use Rattle.std.specs.Prelude.{◌^◌, IfSome, IsSome, MatchOption}
 use Rattle.cbm_iec.specs.declared.event.Event.{Event}
 use Rattle.cbm_iec.specs.declared.event.Who.TheVariants.{Host, Drive}
 use Rattle.cbm_iec.specs.declared.event.Who.{Who}
-use Rattle.cbm_iec.specs.declared.line.Change.{Change}
+use Rattle.cbm_iec.specs.declared.lines.Change.{Change}
 use Rattle.cbm_iec.specs.declared.lines.Lines.{Lines}
 use Rattle.cbm_session.specs.Playing.{Station, Plays, tell, host_event, drive_events}
 use Rattle.cbm_session.proofs.headline.Keeping.{plays_then}
@@ -14,7 +14,7 @@ use Rattle.cbm_drive.specs.Cables.{Cabled}
 use Rattle.cbm_drive.specs.Played.{HasSettled}
 use Rattle.cbm_drive.specs.Players.{Turns, pending, at_most, IsDrives, IsWaitingFrom, from_behind, IsSecond, IsAfter, HasGiven, IsFinished}
 use Rattle.cbm_drive.specs.Progress.{left}
-use Rattle.cbm_drive.specs.Reactions.{AreAt}
+use Rattle.cbm_drive.specs.Reactions.{AreAtMoment}
 use Rattle.cbm_drive.specs.Seats.{Seated, IsBusAt, AreInTime}
 use Rattle.cbm_drive.proofs.Played.{one_change}
 
@@ -31,7 +31,7 @@ waits_past upto None h = tt
 waits_past upto (Some c) h = (let from = h.0 in omega (arith, from))
 
 -- the first change of a reaction is of its moment
-first_at : (t device : ℕ) (cs : List Change) (e : Event) (more : List Event) → AreAt t cs → drive_events device cs ≡ e ∷ more → e.change.moment ≡ t
+first_at : (t device : ℕ) (cs : List Change) (e : Event) (more : List Event) → AreAtMoment t cs → drive_events device cs ≡ e ∷ more → e.change.moment ≡ t
 first_at t device [] e more h k = absurd (cc)
 first_at t device (c ∷ cs) e more h k = (let same : (record { who = Drive device; change = c }) ≡ e = cc in sym (ap (λ (x : Event). x.change.moment) same) ∙ h.0)
 
@@ -40,7 +40,7 @@ after_match None P R Q f h = (let z = h.1 in absurd (cc))
 after_match (Some x) P R Q f h = f x h.0
 
 -- and so is the second
-second_at : (t device : ℕ) (cs : List Change) (e : Event) (o : Option Event) (from : ℕ) → AreAt t cs → from ≡ t + 1 → drive_events device cs ≡ e ∷ pending o → IsSecond from o
+second_at : (t device : ℕ) (cs : List Change) (e : Event) (o : Option Event) (from : ℕ) → AreAtMoment t cs → from ≡ t + 1 → drive_events device cs ≡ e ∷ pending o → IsSecond from o
 second_at t device cs e None from h f k = tt
 second_at t device [] e (Some x) from h f k = absurd (cc)
 second_at t device (c ∷ []) e (Some x) from h f k = absurd (cc)
@@ -97,7 +97,7 @@ module _ (D M : Type 0) (stands : D → M → Type 0) (step : M → Act → M) (
 
   -- the first event of what a drive shows, where the second one is kept
   pub given_shown : (stood : D → M → Type 0) (p q : Turns) (b c : Cabled D) (upto t device n until : ℕ) (cs : List Change) (ss : List (Station M)) (es : List Event) (e : Event) → p.second ≡ None → (a : IsAfter D M stood step says p b n ss es)
-      → HasSettled D M stands step says b.host until c.drives [] (drive_events device cs) a.from a.stations → c.host ≡ b.host → until ≤ q.from → q.from ≡ t + 1 → AreAt t cs → drive_events device cs ≡ e ∷ pending q.second → t ≤ upto → HasGiven D M stands step says q c upto n ss es e
+      → HasSettled D M stands step says b.host until c.drives [] (drive_events device cs) a.from a.stations → c.host ≡ b.host → until ≤ q.from → q.from ≡ t + 1 → AreAtMoment t cs → drive_events device cs ≡ e ∷ pending q.second → t ≤ upto → HasGiven D M stands step says q c upto n ss es e
   given_shown stood p q b c upto t device n until cs ss es e none a s host from behind at_ made moment = record {
     after = record {
       from = s.from;
@@ -133,7 +133,7 @@ module _ (D M : Type 0) (stands : D → M → Type 0) (step : M → Act → M) (
   }
 
   pub shown_next : (stood : D → M → Type 0) (p q : Turns) (b c : Cabled D) (upto t device n : ℕ) (cs : List Change) (ss : List (Station M)) (es : List Event) (r : Option Event) → p.second ≡ None → (a : IsAfter D M stood step says p b n ss es)
-      → HasSettled D M stands step says b.host (t + 1) c.drives [] (drive_events device cs) a.from a.stations → c.host ≡ b.host → q.from ≡ t + 1 → AreAt t cs → (cs ≡ [] → ⊥)
+      → HasSettled D M stands step says b.host (t + 1) c.drives [] (drive_events device cs) a.from a.stations → c.host ≡ b.host → q.from ≡ t + 1 → AreAtMoment t cs → (cs ≡ [] → ⊥)
       → MatchOption r (cs ≡ []) (λ e. drive_events device cs ≡ e ∷ pending q.second) → t ≤ upto → IfSome r (HasGiven D M stands step says q c upto n ss es) × IsSome r
   shown_next stood p q b c upto t device n cs ss es None none a s host from at_ shows h l = absurd (shows h)
   shown_next stood p q b c upto t device n cs ss es (Some e) none a s host from at_ shows h l =

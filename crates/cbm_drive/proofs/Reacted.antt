@@ -2,14 +2,15 @@
 use Rattle.std.proofs.Common.{◌≡◌, ℕ, zero, suc, length, ◌+◌, Bool, true, false, List, [], ◌∷◌, ◌++◌, map, Option, Some, refl, sym, ap, subst, ◌∙◌, arith}
 use Rattle.std.specs.Prelude.{not}
 use Rattle.std.specs.List.{AllZip}
+use Rattle.cbm_iec.specs.Changes.{is_pull}
 use Rattle.cbm_iec.specs.Machines.{acted}
 use Rattle.cbm_iec.specs.Ports.{port_due, reacted, reaction_act, reaction_changes, next_held, changes_between}
-use Rattle.cbm_iec.specs.declared.act.Act.{Act}
-use Rattle.cbm_iec.specs.declared.line.Change.{Change}
-use Rattle.cbm_iec.specs.declared.line.Line.TheVariants.{Atn, Clock, Data}
-use Rattle.cbm_iec.specs.declared.line.Line.{Line}
-use Rattle.cbm_iec.specs.declared.line.Way.TheVariants.{Pull, Free}
-use Rattle.cbm_iec.specs.declared.line.Way.{Way}
+use Rattle.cbm_iec.specs.declared.machine.Act.{Act}
+use Rattle.cbm_iec.specs.declared.lines.Change.{Change}
+use Rattle.cbm_iec.specs.declared.lines.Line.TheVariants.{Atn, Clock, Data}
+use Rattle.cbm_iec.specs.declared.lines.Line.{Line}
+use Rattle.cbm_iec.specs.declared.lines.Way.TheVariants.{Pull, Free}
+use Rattle.cbm_iec.specs.declared.lines.Way.{Way}
 use Rattle.cbm_iec.specs.declared.lines.Held.{Held}
 use Rattle.cbm_iec.specs.declared.lines.Lines.{Lines}
 use Rattle.cbm_iec.specs.declared.port.Port.{Port}
@@ -17,15 +18,15 @@ use Rattle.cbm_session.specs.Among.{Rest, counted}
 use Rattle.cbm_session.specs.Following.{IsInTime}
 use Rattle.cbm_session.specs.Playing.{Station, IsLaterDue, AllLater, AllInTime, hear_all, react, shown}
 use Rattle.cbm_drive.specs.declared.wires.Wires.{Wires}
-use Rattle.cbm_drive.specs.Seats.{Seated, IsSeat, IsWithout, IsBusAt, IsFirstDue, AreLater, AreInTime, bit, total, clock_of, data_of, held_by}
-use Rattle.cbm_drive.specs.Reactions.{AreAt, Toggles, IsToggled, Hear, HasReacted, pulls, behind_change, behind_all, held_after, held_behind}
+use Rattle.cbm_drive.specs.Seats.{Seated, IsSeat, IsWithout, IsBusAt, IsFirstDue, AreLater, AreInTime, pulls_counted, total, clock_of, data_pulls, wires_held_by}
+use Rattle.cbm_drive.specs.Reactions.{AreAtMoment, Toggles, IsToggled, Hear, HasReacted, behind_change, wires_after_all, own_after, held_behind}
 
 -- ---- the changes of a reaction
 
 abbrev two : Bool → Bool → Held
 two clock data_low = record { clock_low = clock; data_low = data_low }
 
-pub changes_at : (t : ℕ) (a b c d : Bool) → AreAt t (changes_between t (two a c) (two b d))
+pub changes_at : (t : ℕ) (a b c d : Bool) → AreAtMoment t (changes_between t (two a c) (two b d))
 changes_at t false false false false = tt
 changes_at t false false false true = (refl, tt)
 changes_at t false false true false = (refl, tt)
@@ -44,7 +45,7 @@ changes_at t true true true false = (refl, tt)
 changes_at t true true true true = tt
 
 -- all changes of a reaction are of its moment
-pub reaction_at : (t : ℕ) (peek : Option (ℕ × Bool)) (p : Port) → AreAt t (reaction_changes t peek p)
+pub reaction_at : (t : ℕ) (peek : Option (ℕ × Bool)) (p : Port) → AreAtMoment t (reaction_changes t peek p)
 reaction_at t peek p = changes_at t p.own.clock_low (next_held peek p).clock_low p.own.data_low (next_held peek p).data_low
 
 changes_toggle : (t : ℕ) (a b c d : Bool) → Toggles (two a c) (changes_between t (two a c) (two b d))
@@ -85,19 +86,19 @@ changes_lead t true true true true = refl
 
 -- ---- what the reacting drive itself knows of the others stays right
 
-pulled_self : (way : Way) (low after : Bool) (n c : ℕ) → low ≡ not (pulls way) → after ≡ pulls way → n + bit low ≡ c → n + bit after ≡ counted way c
-pulled_self Pull low after n c t a e = (let z : bit low ≡ 0 = ap bit t in let y : bit after ≡ 1 = ap bit a in omega (arith, e, z, y))
-pulled_self Free low after n zero t a e = (let z : bit low ≡ 1 = ap bit t in absurd (omega (arith, e, z)))
-pulled_self Free low after n (suc c) t a e = (let z : bit low ≡ 1 = ap bit t in let y : bit after ≡ 0 = ap bit a in omega (arith, e, z, y))
+pulled_self : (way : Way) (low after : Bool) (n c : ℕ) → low ≡ not (is_pull way) → after ≡ is_pull way → n + pulls_counted low ≡ c → n + pulls_counted after ≡ counted way c
+pulled_self Pull low after n c t a e = (let z : pulls_counted low ≡ 0 = ap pulls_counted t in let y : pulls_counted after ≡ 1 = ap pulls_counted a in omega (arith, e, z, y))
+pulled_self Free low after n zero t a e = (let z : pulls_counted low ≡ 1 = ap pulls_counted t in absurd (omega (arith, e, z)))
+pulled_self Free low after n (suc c) t a e = (let z : pulls_counted low ≡ 1 = ap pulls_counted t in let y : pulls_counted after ≡ 0 = ap pulls_counted a in omega (arith, e, z, y))
 
-self_one : (line : Line) (way : Way) (all : Wires) (own : Held) (r : Rest) → IsToggled line way own → IsWithout all own r → IsWithout (behind_change line way all) (held_after line way own) r
+self_one : (line : Line) (way : Way) (all : Wires) (own : Held) (r : Rest) → IsToggled line way own → IsWithout all own r → IsWithout (behind_change line way all) (own_after line way own) r
 self_one Atn way all own r t h = absurd t
-self_one Clock way all own r t h = record { host = h.host; clocks = pulled_self way own.clock_low (pulls way) r.clocks all.clocks t refl h.clocks; datas = h.datas }
-self_one Data way all own r t h = record { host = h.host; clocks = h.clocks; datas = pulled_self way own.data_low (pulls way) r.datas all.datas t refl h.datas }
+self_one Clock way all own r t h = record { host = h.host; clocks = pulled_self way own.clock_low (is_pull way) r.clocks all.clocks t refl h.clocks; datas = h.datas }
+self_one Data way all own r t h = record { host = h.host; clocks = h.clocks; datas = pulled_self way own.data_low (is_pull way) r.datas all.datas t refl h.datas }
 
-self_all : (cs : List Change) (all : Wires) (own : Held) (r : Rest) → Toggles own cs → IsWithout all own r → IsWithout (behind_all cs all) (held_behind cs own) r
+self_all : (cs : List Change) (all : Wires) (own : Held) (r : Rest) → Toggles own cs → IsWithout all own r → IsWithout (wires_after_all cs all) (held_behind cs own) r
 self_all [] all own r t h = h
-self_all (c ∷ cs) all own r t h = self_all cs (behind_change c.line c.way all) (held_after c.line c.way own) r t.1 (self_one c.line c.way all own r t.0 h)
+self_all (c ∷ cs) all own r t h = self_all cs (behind_change c.line c.way all) (own_after c.line c.way own) r t.1 (self_one c.line c.way all own r t.0 h)
 
 -- the host's lines stay
 host_one : (line : Line) (way : Way) (all : Wires) → (behind_change line way all).host ≡ all.host
@@ -105,7 +106,7 @@ host_one Atn way all = refl
 host_one Clock way all = refl
 host_one Data way all = refl
 
-host_all : (cs : List Change) (all : Wires) → (behind_all cs all).host ≡ all.host
+host_all : (cs : List Change) (all : Wires) → (wires_after_all cs all).host ≡ all.host
 host_all [] all = refl
 host_all (c ∷ cs) all = host_all cs (behind_change c.line c.way all) ∙ host_one c.line c.way all
 
@@ -169,10 +170,10 @@ module _ (D M : Type 0) (stood stands : D → M → Type 0) (step : M → Act �
   pub reacts : (host : Lines) (t n : ℕ) (front : List (Seated D)) (x x' : Seated D) (back front' back' : List (Seated D)) (cs : List Change) (ss : List (Station M)) → length front ≡ n
       → ((m : M) → stood x.machine m → x'.port ≡ reacted t (says m) x.port) → ((m : M) → stood x.machine m → cs ≡ reaction_changes t (says m) x.port)
       → ((m : M) → stood x.machine m → stands x'.machine (acted M step (reaction_act (says m) x.port) m))
-      → Hear D M stood stands step says t front back front' back' (held_by host (front ++ x ∷ back)) cs
+      → Hear D M stood stands step says t front back front' back' (wires_held_by host (front ++ x ∷ back)) cs
       → IsBusAt D M stood host (front ++ x ∷ back) ss → IsFirstDue (front ++ x ∷ back) (n, t) → HasReacted D M stands step says host t x.port.party.device (front' ++ x' ∷ back') cs ss
   reacts host t n front x x' back front' back' cs ss len port changes machine heard bus first =
-      let all : Wires = held_by host (front ++ x ∷ back) in
+      let all : Wires = wires_held_by host (front ++ x ∷ back) in
       let p = parts (IsSeat D M stood all) front x back ss bus in
       let f = first_parts n t front x back len first in
       let s : Station M = p.station in
@@ -181,15 +182,15 @@ module _ (D M : Type 0) (stood stands : D → M → Type 0) (step : M → Act �
       let is_changes : cs ≡ reaction_changes t (says m) x.port = changes m p.here.machine in
       let was : Held = x.port.own in
       let now : Held = next_held (says m) x.port in
-      let at_t : AreAt t cs = subst (AreAt t) (sym is_changes) (changes_at t was.clock_low now.clock_low was.data_low now.data_low) in
+      let at_t : AreAtMoment t cs = subst (AreAtMoment t) (sym is_changes) (changes_at t was.clock_low now.clock_low was.data_low now.data_low) in
       let toggles : Toggles was cs = subst (Toggles was) (sym is_changes) (changes_toggle t was.clock_low now.clock_low was.data_low now.data_low) in
       let leads : held_behind cs was ≡ x'.port.own = ap (λ (ys : List Change). held_behind ys was) is_changes ∙ changes_lead t was.clock_low now.clock_low was.data_low now.data_low ∙ sym (ap (λ (q : Port). q.own) is_port) in
-      let told = heard was p.before p.behind at_t toggles (record { clocks = total_parts clock_of front x back; datas = total_parts data_of front x back }) p.front p.back in
-      let after : Wires = behind_all cs all in
+      let told = heard was p.before p.behind at_t toggles (record { clocks = total_parts clock_of front x back; datas = total_parts data_pulls front x back }) p.front p.back in
+      let after : Wires = wires_after_all cs all in
       let new : List (Seated D) = front' ++ x' ∷ back' in
-      let clocks : after.clocks ≡ total clock_of new = told.counts.clocks ∙ ap (λ (h : Held). total clock_of front' + (bit h.clock_low + total clock_of back')) leads ∙ sym (total_parts clock_of front' x' back') in
-      let datas : after.datas ≡ total data_of new = told.counts.datas ∙ ap (λ (h : Held). total data_of front' + (bit h.data_low + total data_of back')) leads ∙ sym (total_parts data_of front' x' back') in
-      let same : after ≡ held_by host new = λ i. record { host = host_all cs all i; clocks = clocks i; datas = datas i } in
+      let clocks : after.clocks ≡ total clock_of new = told.counts.clocks ∙ ap (λ (h : Held). total clock_of front' + (pulls_counted h.clock_low + total clock_of back')) leads ∙ sym (total_parts clock_of front' x' back') in
+      let datas : after.datas ≡ total data_pulls new = told.counts.datas ∙ ap (λ (h : Held). total data_pulls front' + (pulls_counted h.data_low + total data_pulls back')) leads ∙ sym (total_parts data_pulls front' x' back') in
+      let same : after ≡ wires_held_by host new = λ i. record { host = host_all cs all i; clocks = clocks i; datas = datas i } in
       let here : IsSeat D M stands after x' (react M step says t s) = record {
         port = is_port ∙ ap (reacted t (says m)) p.here.port;
         machine = subst (λ (q : Port). stands x'.machine (acted M step (reaction_act (says m) q) m)) p.here.port (machine m p.here.machine);
@@ -210,6 +211,6 @@ module _ (D M : Type 0) (stood stands : D → M → Type 0) (step : M → Act �
         };
         which = ap (λ (q : Port). q.party.device) p.here.port;
         changes = is_shown;
-        now = subst (λ (ys : List Change). AllZip (IsSeat D M stands (held_by host new)) new (map (λ u. hear_all M step says ys u) p.before ++ react M step says t s ∷ map (λ u. hear_all M step says ys u) p.behind)) is_shown
+        now = subst (λ (ys : List Change). AllZip (IsSeat D M stands (wires_held_by host new)) new (map (λ u. hear_all M step says ys u) p.before ++ react M step says t s ∷ map (λ u. hear_all M step says ys u) p.behind)) is_shown
             (subst (λ (w : Wires). AllZip (IsSeat D M stands w) new (map (λ u. hear_all M step says cs u) p.before ++ react M step says t s ∷ map (λ u. hear_all M step says cs u) p.behind)) same bus_now);
       }

@@ -4,14 +4,14 @@ use Rattle.cbm_iec.specs.declared.pace.Pace.{Pace}
 use Rattle.cbm_iec.specs.declared.pace.Pace.TheVariants.{Profile}
 use Rattle.cbm_iec.specs.declared.party.Role.{Role}
 use Rattle.cbm_iec.specs.declared.party.Role.TheVariants.{Absent, Listener, Talker}
-use Rattle.cbm_iec.specs.declared.act.Act.{Act}
-use Rattle.cbm_iec.specs.declared.act.Act.TheVariants.{Pulled, Attention, Released, Heard, Said, Silent}
+use Rattle.cbm_iec.specs.declared.machine.Act.{Act}
+use Rattle.cbm_iec.specs.declared.machine.Act.TheVariants.{Pulled, Attention, Released, Heard, Said, Silent}
 use Rattle.cbm_iec.specs.Attentions.{listen, talk, data_on, close_on, open_on}
 use Rattle.cbm_iec.specs.Roles.{role_after}
 use Rattle.cbm_drive.specs.declared.secondary.Secondary.{Secondary}
 use Rattle.cbm_drive.specs.declared.secondary.Secondary.TheVariants.{Data, Close, Open}
-use Rattle.cbm_drive.specs.declared.ended.Ended.{Ended}
-use Rattle.cbm_drive.specs.declared.ended.Ended.TheVariants.{Name, Bytes}
+use Rattle.cbm_drive.specs.declared.addressee.ended.Ended.{Ended}
+use Rattle.cbm_drive.specs.declared.addressee.ended.Ended.TheVariants.{Name, Bytes}
 
 -- $60 + c asks for bytes on channel c, $E0 + c closes it, and after $F0 + c comes the name of an OPEN; c is 0 to 15. No other byte is
 -- a secondary address.
@@ -25,10 +25,10 @@ secondary_of byte =
     else None
 
 -- the channel that it names
-abbrev pub channel_of : Secondary → ℕ
-channel_of (Data channel) = channel
-channel_of (Close channel) = channel
-channel_of (Open channel) = channel
+abbrev pub channel_named : Secondary → ℕ
+channel_named (Data channel) = channel
+channel_named (Close channel) = channel
+channel_named (Open channel) = channel
 
 -- What the bytes in attention made of a drive, and what came since.
 pub record Addressed : Type 0 where
@@ -75,36 +75,36 @@ abbrev pub called : ℕ → Addressed → Addressed
 called byte a = if (byte == listen + a.device) || (byte == talk + a.device) then waiting a else a
 
 -- the role is another
-abbrev pub turned : ℕ → Addressed → Addressed
-turned byte a = record a { role = role_after a.device byte a.role }
+abbrev pub role_turned : ℕ → Addressed → Addressed
+role_turned byte a = record a { role = role_after a.device byte a.role }
 
 -- $60 is for a listener or a talker, $F0 for a listener; $E0 names no channel for what comes.
-abbrev pub taken_up : Option Secondary → Role → Addressed → Addressed
-taken_up (Some (Data channel)) Listener a = given channel false a
-taken_up (Some (Data channel)) Talker a = given channel false a
-taken_up (Some (Open channel)) Listener a = given channel true a
-taken_up secondary role a = a
+abbrev pub role_taken_up : Option Secondary → Role → Addressed → Addressed
+role_taken_up (Some (Data channel)) Listener a = given channel false a
+role_taken_up (Some (Data channel)) Talker a = given channel false a
+role_taken_up (Some (Open channel)) Listener a = given channel true a
+role_taken_up secondary role a = a
 
 -- the role first, then the secondary address
 abbrev pub attended : ℕ → Addressed → Addressed
-attended byte a = taken_up (secondary_of byte) (role_after a.device byte a.role) (turned byte (called byte a))
+attended byte a = role_taken_up (secondary_of byte) (role_after a.device byte a.role) (role_turned byte (called byte a))
 
 -- ---- the other acts
 
 -- ATN is freed: what comes now is for the channel.
-abbrev pub released : Addressed → Addressed
-released a = record a { freed = is_some a.channel }
+abbrev pub atn_released : Addressed → Addressed
+atn_released a = record a { freed = is_some a.channel }
 
 -- A byte came to the listener: of a name the first 256 bytes are kept, more than any command has.
-abbrev pub heard : ℕ → Addressed → Addressed
-heard byte a = record a { name = if a.naming then take 256 (a.name ++ byte ∷ []) else a.name }
+abbrev pub name_heard : ℕ → Addressed → Addressed
+name_heard byte a = record a { name = if a.naming then take 256 (a.name ++ byte ∷ []) else a.name }
 
 -- EACH ACT OF THE BUS, for how the drive is addressed: where ATN is pulled the role stays and the secondary address goes.
 abbrev pub addressed_after : Act → Addressed → Addressed
 addressed_after Pulled a = waiting a
 addressed_after (Attention byte) a = attended byte a
-addressed_after Released a = released a
-addressed_after (Heard byte eoi) a = heard byte a
+addressed_after Released a = atn_released a
+addressed_after (Heard byte eoi) a = name_heard byte a
 addressed_after (Said byte last) a = a
 addressed_after Silent a = a
 
@@ -118,8 +118,8 @@ ended_on true true (Some channel) = Some (Name channel)
 ended_on true false (Some channel) = Some (Bytes channel)
 
 -- what a pull of ATN completes, as the drive is addressed now
-abbrev pub ended : Addressed → Option Ended
-ended a = ended_on a.freed a.naming (channel_heard a.role a.channel)
+abbrev pub channel_ended : Addressed → Option Ended
+channel_ended a = ended_on a.freed a.naming (channel_heard a.role a.channel)
 
 -- the channel that it came on
 abbrev pub ended_channel : Ended → ℕ

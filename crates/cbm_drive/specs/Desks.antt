@@ -1,23 +1,23 @@
 -- The named-files machine on the bus: what each act of the bus asks of it, and what it has to say.
 use Rattle.std.specs.Prelude.{ℕ, ◌≡◌, ◌<◌, ◌≤◌, Bool, true, false, List, Option, Some, None, IfSome}
 use Rattle.cbm_medium.specs.Seen.{Seen}
-use Rattle.cbm_channel.specs.Machines.{Machine}
-use Rattle.cbm_channel.specs.Closing.{close}
-use Rattle.cbm_channel.specs.Talking.{talk, talk_keeping_error, listen, peek, taken}
-use Rattle.cbm_channel.specs.Calls.{put, end_put, after_open}
+use Rattle.cbm_machine.specs.Machines.{Machine}
+use Rattle.cbm_machine.specs.Closing.{close}
+use Rattle.cbm_machine.specs.Talking.{after_talk, talk_keeping_error, after_listen, peek, taken}
+use Rattle.cbm_machine.specs.Calls.{put, end_put, after_open}
 use Rattle.cbm_channel.specs.Shown.{shown_by}
 use Rattle.cbm_channel.specs.Standing.{Kept, Stands, Leads}
 use Rattle.cbm_iec.specs.declared.pace.Pace.{Pace}
 use Rattle.cbm_iec.specs.declared.pace.Pace.TheVariants.{Profile, Kernal}
 use Rattle.cbm_iec.specs.declared.party.Role.{Role}
 use Rattle.cbm_iec.specs.declared.party.Role.TheVariants.{Listener, Talker}
-use Rattle.cbm_iec.specs.declared.act.Act.{Act}
-use Rattle.cbm_iec.specs.declared.act.Act.TheVariants.{Pulled, Attention, Released, Heard, Said, Silent}
+use Rattle.cbm_iec.specs.declared.machine.Act.{Act}
+use Rattle.cbm_iec.specs.declared.machine.Act.TheVariants.{Pulled, Attention, Released, Heard, Said, Silent}
 use Rattle.cbm_drive.specs.declared.secondary.Secondary.{Secondary}
 use Rattle.cbm_drive.specs.declared.secondary.Secondary.TheVariants.{Data, Close}
-use Rattle.cbm_drive.specs.declared.ended.Ended.{Ended}
-use Rattle.cbm_drive.specs.declared.ended.Ended.TheVariants.{Name, Bytes}
-use Rattle.cbm_drive.specs.Addressing.{Addressed, unaddressed, paced, secondary_of, channel_heard, channel_said, addressed_after, ended}
+use Rattle.cbm_drive.specs.declared.addressee.ended.Ended.{Ended}
+use Rattle.cbm_drive.specs.declared.addressee.ended.Ended.TheVariants.{Name, Bytes}
+use Rattle.cbm_drive.specs.Addressing.{Addressed, unaddressed, paced, secondary_of, channel_heard, channel_said, addressed_after, channel_ended}
 
 -- a DOS, or a machine that it represents, and how its drive is addressed
 pub record Desk (A : Type 0) : Type 0 where
@@ -34,12 +34,12 @@ with_pace pace d = record { dos = d.dos; addressed = paced pace d.addressed }
 
 -- A talker's channel is asked for bytes; at a KERNAL's pace an error stays that nobody has begun to read.
 abbrev pub talked_to : Pace → ℕ → Machine → Machine
-talked_to Profile channel m = talk channel m
+talked_to Profile channel m = after_talk channel m
 talked_to Kernal channel m = talk_keeping_error channel m
 
 -- $60 asks a listener's channel to take bytes, or a talker's to send; $E0 closes a listener's, at once. To others they are nothing.
 abbrev pub seconded : Pace → Option Secondary → Role → Machine → Machine
-seconded pace (Some (Data channel)) Listener m = listen channel m
+seconded pace (Some (Data channel)) Listener m = after_listen channel m
 seconded pace (Some (Data channel)) Talker m = talked_to pace channel m
 seconded pace (Some (Close channel)) Listener m = close channel m
 seconded pace secondary role m = m
@@ -62,17 +62,17 @@ taken_from None m = m
 taken_from (Some channel) m = taken channel m
 
 -- EACH ACT OF THE BUS, for the machine of a drive that is addressed so
-abbrev pub asked : Act → Addressed → Machine → Machine
-asked Pulled a m = ending (ended a) a.name m
-asked (Attention byte) a m = seconded a.pace (secondary_of byte) a.role m
-asked Released a m = m
-asked (Heard byte eoi) a m = put_to a.naming (channel_heard a.role a.channel) byte m
-asked (Said byte last) a m = taken_from (channel_said a.role a.channel) m
-asked Silent a m = m
+abbrev pub desk_asked : Act → Addressed → Machine → Machine
+desk_asked Pulled a m = ending (channel_ended a) a.name m
+desk_asked (Attention byte) a m = seconded a.pace (secondary_of byte) a.role m
+desk_asked Released a m = m
+desk_asked (Heard byte eoi) a m = put_to a.naming (channel_heard a.role a.channel) byte m
+desk_asked (Said byte last) a m = taken_from (channel_said a.role a.channel) m
+desk_asked Silent a m = m
 
 -- the desk after an act
 abbrev pub desk_step : Desk Machine → Act → Desk Machine
-desk_step d act = record { dos = asked act d.addressed d.dos; addressed = addressed_after act d.addressed }
+desk_step d act = record { dos = desk_asked act d.addressed d.dos; addressed = addressed_after act d.addressed }
 
 -- what a machine says on a channel, if it is a talker's
 abbrev pub peek_from : Option ℕ → Machine → Option (ℕ × Bool)
@@ -105,5 +105,5 @@ abbrev pub LeadsUnfailed : {M : Type 0} → (M → Seen) → Kept M → Kept M �
 LeadsUnfailed seen old new next = (seen new.medium).failures ≤ (seen old.medium).failures → Leads seen old new next
 
 -- A call leads from each desk that is alike to its next state.
-abbrev pub Turns : {M : Type 0} → (M → Seen) → Desk (Kept M) → Desk (Kept M) → (Desk Machine → Desk Machine) → Type 0
-Turns seen old new next = (d : Desk Machine) → IsAlike seen old d → IsAlike seen new (next d)
+abbrev pub DeskTurns : {M : Type 0} → (M → Seen) → Desk (Kept M) → Desk (Kept M) → (Desk Machine → Desk Machine) → Type 0
+DeskTurns seen old new next = (d : Desk Machine) → IsAlike seen old d → IsAlike seen new (next d)

@@ -6,20 +6,20 @@ use Rattle.cbm_drive.specs.Seats.{Seated}
 use Rattle.cbm_drive.specs.declared.half.Half.{Half}
 use Rattle.cbm_iec.specs.Ports.{port_due, port_half, reacted, reaction_act, changes_between}
 use Rattle.cbm_iec.specs.declared.event.Event.{Event}
-use Rattle.cbm_iec.specs.declared.line.Change.{Change}
+use Rattle.cbm_iec.specs.declared.lines.Change.{Change}
 use Rattle.cbm_iec.specs.declared.port.Port.{Port}
 use Rattle.cbm_session.specs.Playing.{IsLaterDue, drive_events}
 
 -- ---- whether it comes
 
 -- whether there is a moment, and it is before a limit
-abbrev pub is_before : ℕ → Option ℕ → Bool
-is_before limit None = false
-is_before limit (Some t) = nat_lt t limit
+abbrev pub is_due_before : ℕ → Option ℕ → Bool
+is_due_before limit None = false
+is_due_before limit (Some t) = nat_lt t limit
 
 -- whether a drive's next reaction is half of a bit before a limit
 abbrev pub half_before : ℕ → Port → Bool
-half_before limit p = is_before limit (port_due p) && port_half p
+half_before limit p = is_due_before limit (port_due p) && port_half p
 
 -- whether a drive alone on the bus has such a reaction next
 abbrev pub half_alone : {D : Type 0} → ℕ → List (Seated D) → Bool

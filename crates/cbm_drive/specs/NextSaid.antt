@@ -5,13 +5,13 @@ use Rattle.std.specs.List.{list_all}
 use Rattle.std.proofs.lemmas.List.{get_or-set_same, get_or_past}
 use Rattle.std.proofs.lemmas.Bool.{cases_lt, lt-ltb, false≢true}
 use Rattle.cbm_file.specs.Files.{Disk}
-use Rattle.cbm_file.specs.Waiting.{shown}
-use Rattle.cbm_channel.specs.Statuses.{return, status_line}
-use Rattle.cbm_channel.specs.Machines.{Channel, Closed, Reading, Writing, Stopped, Relative, Machine, channel}
-use Rattle.cbm_channel.specs.Finding.{body_at}
-use Rattle.cbm_channel.specs.Records.{record_at}
-use Rattle.cbm_channel.specs.Talking.{next_of_record, peek_on, peek, taken_on, taken}
-use Rattle.cbm_iec.specs.declared.act.Act.TheVariants.{Said}
+use Rattle.cbm_file.specs.Waiting.{next_shown}
+use Rattle.cbm_machine.specs.Statuses.{return, status_line}
+use Rattle.cbm_machine.specs.Machines.{Channel, Closed, Reading, Writing, Stopped, Relative, Machine, channel}
+use Rattle.cbm_machine.specs.Finding.{body_at}
+use Rattle.cbm_machine.specs.Records.{record_at}
+use Rattle.cbm_machine.specs.Talking.{next_of_record, peek_on, peek, taken_on, taken}
+use Rattle.cbm_iec.specs.declared.machine.Act.TheVariants.{Said}
 use Rattle.cbm_drive.specs.Addressing.{channel_said}
 use Rattle.cbm_drive.specs.Desks.{Desk, taken_from, peek_from, desk_step, desk_says}
 
@@ -28,14 +28,14 @@ abbrev IsMore : Option (ℕ × Bool) → Type 0
 IsMore said = (x : ℕ × Bool) × (said ≡ Some x)
 
 -- of the bytes that are left
-more_left : (left : List ℕ) (n : ℕ) → shown left ≡ Some (n, false) → IsMore (shown (drop 1 left))
+more_left : (left : List ℕ) (n : ℕ) → next_shown left ≡ Some (n, false) → IsMore (next_shown (drop 1 left))
 more_left [] n e = absurd cc
 more_left (b ∷ []) n e = absurd (not_last b n e)
 more_left (b ∷ c ∷ []) n e = ((c, true), refl)
 more_left (b ∷ c ∷ d ∷ left) n e = ((c, false), refl)
 
 -- of a line of which some were taken
-more_line : (line : List ℕ) (told n : ℕ) → shown (drop told line) ≡ Some (n, false) → IsMore (shown (drop (told + 1) line)) × (told + 1 < length line)
+more_line : (line : List ℕ) (told n : ℕ) → next_shown (drop told line) ≡ Some (n, false) → IsMore (next_shown (drop (told + 1) line)) × (told + 1 < length line)
 more_line [] zero n e = absurd cc
 more_line [] (suc told) n e = absurd cc
 more_line (b ∷ []) zero n e = absurd (not_last b n e)
@@ -43,7 +43,7 @@ more_line (b ∷ c ∷ line) zero n e = (more_left (b ∷ c ∷ line) n e, omega
 more_line (b ∷ line) (suc told) n e =
     let rest = more_line line told n e in
     let same : suc (told + 1) ≡ suc told + 1 = omega arith in
-    (subst (λ t. IsMore (shown (drop t (b ∷ line)))) same rest.0, omega (arith, rest.1))
+    (subst (λ t. IsMore (next_shown (drop t (b ∷ line)))) same rest.0, omega (arith, rest.1))
 
 -- ---- a channel from 0 to 14
 
@@ -82,7 +82,7 @@ is_there xs ch d n e = elim (cases_lt ch (length xs)) [
 more_taken : (ch n : ℕ) (m : Machine) → peek ch m ≡ Some (n, false) → IsMore (peek ch (taken ch m))
 more_taken ch n m = by_number (ch == 15) refl
   where
-    by_number : (b : Bool) → (ch == 15) ≡ b → (if b then shown (drop m.told (status_line m.status)) else peek_on m.disk (channel m ch)) ≡ Some (n, false) → IsMore (peek ch (taken ch m))
+    by_number : (b : Bool) → (ch == 15) ≡ b → (if b then next_shown (drop m.told (status_line m.status)) else peek_on m.disk (channel m ch)) ≡ Some (n, false) → IsMore (peek ch (taken ch m))
     by_number true t e =
         let more = more_line (status_line m.status) m.told n e in
         rw (t, lt-ltb (m.told + 1) (length (status_line m.status)) more.1) more.0

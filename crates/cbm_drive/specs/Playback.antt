@@ -1,7 +1,7 @@
 -- A machine that plays back what another one showed, act by act. So a drive on any disk is a machine, too: of what it showed nothing else is known.
 use Rattle.std.specs.Prelude.{ℕ, ◌≡◌, ◌<◌, Bool, true, List, [], ◌∷◌, Option, Some, None, IfSome, IsSome, if◌then◌else◌}
 use Rattle.cbm_iec.specs.Machines.{owes, IsShownBehind}
-use Rattle.cbm_iec.specs.declared.act.Act.{Act}
+use Rattle.cbm_iec.specs.declared.machine.Act.{Act}
 
 -- the byte to say, and whether it is the last
 abbrev pub Shown : Type 0
@@ -18,22 +18,22 @@ says_or owed None = if owed then Some (0, true) else None
 says_or owed (Some said) = Some said
 
 -- what is shown first; where nothing is recorded any more, nothing to say
-abbrev pub first_of : List Shown → Shown
-first_of [] = None
-first_of (now ∷ later) = now
+abbrev pub shown_first : List Shown → Shown
+shown_first [] = None
+shown_first (now ∷ later) = now
 
 -- what is shown after that
-abbrev pub behind_first : List Shown → List Shown
-behind_first [] = []
-behind_first (now ∷ later) = later
+abbrev pub shown_later : List Shown → List Shown
+shown_later [] = []
+shown_later (now ∷ later) = later
 
 -- what a machine that plays back has to say now
 abbrev pub played_says : Playback → Shown
-played_says p = says_or p.owed (first_of p.shown)
+played_says p = says_or p.owed (shown_first p.shown)
 
 -- after each act the next is shown
 abbrev pub played_step : Playback → Act → Playback
-played_step p act = record { shown = behind_first p.shown; owed = owes act (played_says p) }
+played_step p act = record { shown = shown_later p.shown; owed = owes act (played_says p) }
 
 module _ {D : Type 0} (shows : D → Shown) where
   -- IT PLAYS BACK THIS MACHINE: what that shows now, and then these.

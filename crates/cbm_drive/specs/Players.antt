@@ -1,10 +1,10 @@
 -- Changes of a host played one at a time, event by event.
 use Rattle.std.specs.Prelude.{ℕ, ◌+◌, ◌*◌, ◌^◌, ◌≡◌, ◌<◌, ◌≤◌, Bool, List, length, [], ◌∷◌, ◌++◌, Option, Some, None, IfSome}
-use Rattle.cbm_iec.specs.declared.act.Act.{Act}
+use Rattle.cbm_iec.specs.declared.machine.Act.{Act}
 use Rattle.cbm_iec.specs.declared.event.Event.{Event}
 use Rattle.cbm_iec.specs.declared.event.Who.TheVariants.{Host, Drive}
 use Rattle.cbm_iec.specs.declared.event.Who.{Who}
-use Rattle.cbm_iec.specs.declared.line.Change.{Change}
+use Rattle.cbm_iec.specs.declared.lines.Change.{Change}
 use Rattle.cbm_session.specs.Playing.{Station, Plays}
 use Rattle.cbm_drive.specs.Cables.{Cabled}
 use Rattle.cbm_drive.specs.Progress.{left}
@@ -66,9 +66,9 @@ IsTurnOf Host c was now = (was ≡ Some c) × (now ≡ None)
 IsTurnOf (Drive d) c was now = now ≡ was
 
 -- After a change of the host nothing is still to be given, and its next one may come at that very moment.
-abbrev pub IsBehind : Who → Change → Turns → Type 0
-IsBehind Host c p = (p.from ≡ c.moment) × (p.second ≡ None)
-IsBehind (Drive d) c p = Unit {0}
+abbrev pub IsAfterEvent : Who → Change → Turns → Type 0
+IsAfterEvent Host c p = (p.from ≡ c.moment) × (p.second ≡ None)
+IsAfterEvent (Drive d) c p = Unit {0}
 
 module _ (D M : Type 0) (stands : D → M → Type 0) (step : M → Act → M) (says : M → Option (ℕ × Bool)) where
   -- THESE EVENTS WERE GIVEN: they, and the one that is still to be given, which is of the last reaction, are a play, and the drives represent the stations after it.

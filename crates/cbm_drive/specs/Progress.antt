@@ -6,12 +6,12 @@ use Rattle.cbm_session.specs.Playing.{IsLaterDue}
 use Rattle.cbm_drive.specs.Seats.{Seated, AreInTime, total}
 
 -- What was due is still due, or something is due later than this moment, or nothing.
-abbrev pub IsKept : ℕ → Option ℕ → Option ℕ → Type 0
-IsKept t was now = (now ≡ was) ⊎ IsLaterDue t now
+abbrev pub IsKeptOrLater : ℕ → Option ℕ → Option ℕ → Type 0
+IsKeptOrLater t was now = (now ≡ was) ⊎ IsLaterDue t now
 
 -- the same of drives, one by one
 abbrev pub AreKept : {D : Type 0} → ℕ → List (Seated D) → List (Seated D) → Type 0
-AreKept t xs ys = AllZip (λ x y. IsKept t (port_due x.port) (port_due y.port)) xs ys
+AreKept t xs ys = AllZip (λ x y. IsKeptOrLater t (port_due x.port) (port_due y.port)) xs ys
 
 -- a reaction that is due at this moment, or none
 abbrev pub due_at : ℕ → Option ℕ → ℕ

@@ -1,29 +1,25 @@
 -- A drive's reaction on a bus: it changes the lines that it holds, and all others are told each change.
 use Rattle.std.specs.Prelude.{ℕ, ◌+◌, ◌≡◌, Bool, true, false, not, List, [], ◌∷◌, ◌++◌, map, Option}
 use Rattle.std.specs.List.{AllZip}
+use Rattle.cbm_iec.specs.Changes.{is_pull}
 use Rattle.cbm_iec.specs.Table.{with_clock, with_data}
-use Rattle.cbm_iec.specs.declared.act.Act.{Act}
-use Rattle.cbm_iec.specs.declared.line.Change.{Change}
-use Rattle.cbm_iec.specs.declared.line.Line.TheVariants.{Atn, Clock, Data}
-use Rattle.cbm_iec.specs.declared.line.Line.{Line}
-use Rattle.cbm_iec.specs.declared.line.Way.TheVariants.{Pull, Free}
-use Rattle.cbm_iec.specs.declared.line.Way.{Way}
+use Rattle.cbm_iec.specs.declared.machine.Act.{Act}
+use Rattle.cbm_iec.specs.declared.lines.Change.{Change}
+use Rattle.cbm_iec.specs.declared.lines.Line.TheVariants.{Atn, Clock, Data}
+use Rattle.cbm_iec.specs.declared.lines.Line.{Line}
+use Rattle.cbm_iec.specs.declared.lines.Way.TheVariants.{Pull, Free}
+use Rattle.cbm_iec.specs.declared.lines.Way.{Way}
 use Rattle.cbm_iec.specs.declared.lines.Held.{Held}
 use Rattle.cbm_iec.specs.declared.lines.Lines.{Lines}
 use Rattle.cbm_session.specs.Among.{counted}
 use Rattle.cbm_session.specs.Playing.{Station, hear_all, IsFirst, shown, reacting}
 use Rattle.cbm_drive.specs.declared.wires.Wires.{Wires}
-use Rattle.cbm_drive.specs.Seats.{Seated, IsSeat, IsBusAt, bit, total, clock_of, data_of}
+use Rattle.cbm_drive.specs.Seats.{Seated, IsSeat, IsBusAt, pulls_counted, total, clock_of, data_pulls}
 
 -- all changes come at this moment
-abbrev pub AreAt : ℕ → List Change → Type 0
-AreAt t [] = Unit {0}
-AreAt t (c ∷ cs) = (c.moment ≡ t) × AreAt t cs
-
--- the line is pulled after such a change
-abbrev pub pulls : Way → Bool
-pulls Pull = true
-pulls Free = false
+abbrev pub AreAtMoment : ℕ → List Change → Type 0
+AreAtMoment t [] = Unit {0}
+AreAtMoment t (c ∷ cs) = (c.moment ≡ t) × AreAtMoment t cs
 
 -- what all hold after a change of a drive
 abbrev pub behind_change : Line → Way → Wires → Wires
@@ -32,36 +28,36 @@ behind_change Clock way all = record { host = all.host; clocks = counted way all
 behind_change Data way all = record { host = all.host; clocks = all.clocks; datas = counted way all.datas }
 
 -- what all hold after changes of a drive
-abbrev pub behind_all : List Change → Wires → Wires
-behind_all [] all = all
-behind_all (c ∷ cs) all = behind_all cs (behind_change c.line c.way all)
+abbrev pub wires_after_all : List Change → Wires → Wires
+wires_after_all [] all = all
+wires_after_all (c ∷ cs) all = wires_after_all cs (behind_change c.line c.way all)
 
 -- what a drive holds after a change of its own
-abbrev pub held_after : Line → Way → Held → Held
-held_after Atn way own = own
-held_after Clock way own = with_clock (pulls way) own
-held_after Data way own = with_data (pulls way) own
+abbrev pub own_after : Line → Way → Held → Held
+own_after Atn way own = own
+own_after Clock way own = with_clock (is_pull way) own
+own_after Data way own = with_data (is_pull way) own
 
 -- what a drive holds after changes of its own
 abbrev pub held_behind : List Change → Held → Held
 held_behind [] own = own
-held_behind (c ∷ cs) own = held_behind cs (held_after c.line c.way own)
+held_behind (c ∷ cs) own = held_behind cs (own_after c.line c.way own)
 
 -- A line is pulled where it was free, and freed where it was held.
 abbrev pub IsToggled : Line → Way → Held → Type 0
 IsToggled Atn way own = ⊥
-IsToggled Clock way own = own.clock_low ≡ not (pulls way)
-IsToggled Data way own = own.data_low ≡ not (pulls way)
+IsToggled Clock way own = own.clock_low ≡ not (is_pull way)
+IsToggled Data way own = own.data_low ≡ not (is_pull way)
 
 -- each of these changes pulls a line that is free then, or frees one that is held
 abbrev pub Toggles : Held → List Change → Type 0
 Toggles own [] = Unit {0}
-Toggles own (c ∷ cs) = IsToggled c.line c.way own × Toggles (held_after c.line c.way own) cs
+Toggles own (c ∷ cs) = IsToggled c.line c.way own × Toggles (own_after c.line c.way own) cs
 
 -- These are counted: one drive that holds its own lines, and those before and after it.
 pub record IsAllOf {D : Type 0} (all : Wires) (own : Held) (front back : List (Seated D)) : Type 0 where
-  pub clocks : all.clocks ≡ total clock_of front + (bit own.clock_low + total clock_of back)
-  pub datas : all.datas ≡ total data_of front + (bit own.data_low + total data_of back)
+  pub clocks : all.clocks ≡ total clock_of front + (pulls_counted own.clock_low + total clock_of back)
+  pub datas : all.datas ≡ total data_pulls front + (pulls_counted own.data_low + total data_pulls back)
 
 -- the drives before and after another one have been told its changes
 pub record HaveHeard (D M : Type 0) (stands : D → M → Type 0) (step : M → Act → M) (says : M → Option (ℕ × Bool)) (all : Wires) (own : Held) (cs : List Change) (front back : List (Seated D)) (bs hs : List (Station M)) : Type 0 where
@@ -72,8 +68,8 @@ pub record HaveHeard (D M : Type 0) (stands : D → M → Type 0) (step : M → 
 -- The drives before and after one that made these changes at this moment hear each of them, where it changed its own lines with them and these counts of
 -- who holds a line are true.
 abbrev pub Hear : (D M : Type 0) (stood stands : D → M → Type 0) (step : M → Act → M) (says : M → Option (ℕ × Bool)) → ℕ → List (Seated D) → List (Seated D) → List (Seated D) → List (Seated D) → Wires → List Change → Type 0
-Hear D M stood stands step says t front back front' back' all cs = (own : Held) (bs hs : List (Station M)) → AreAt t cs → Toggles own cs → IsAllOf all own front back → AllZip (IsSeat D M stood all) front bs → AllZip (IsSeat D M stood all) back hs
-    → HaveHeard D M stands step says (behind_all cs all) (held_behind cs own) cs front' back' bs hs
+Hear D M stood stands step says t front back front' back' all cs = (own : Held) (bs hs : List (Station M)) → AreAtMoment t cs → Toggles own cs → IsAllOf all own front back → AllZip (IsSeat D M stood all) front bs → AllZip (IsSeat D M stood all) back hs
+    → HaveHeard D M stands step says (wires_after_all cs all) (held_behind cs own) cs front' back' bs hs
 
 -- THE REACTION THAT IS DUE FIRST HAS HAPPENED: the drives represent the stations after it.
 pub record HasReacted (D M : Type 0) (stands : D → M → Type 0) (step : M → Act → M) (says : M → Option (ℕ × Bool)) (host : Lines) (t device : ℕ) (xs : List (Seated D)) (cs : List Change) (ss : List (Station M)) : Type 0 where

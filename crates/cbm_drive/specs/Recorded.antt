@@ -1,7 +1,7 @@
 -- What a drive does, whatever its machine represents: by what that shows before, and after each act.
 use Rattle.std.specs.Prelude.{ℕ, ◌≡◌, List}
 use Rattle.cbm_iec.specs.Ports.{told, told_act, reacted, reaction_act, reaction_changes}
-use Rattle.cbm_iec.specs.declared.line.Change.{Change}
+use Rattle.cbm_iec.specs.declared.lines.Change.{Change}
 use Rattle.cbm_iec.specs.declared.lines.Lines.{Lines}
 use Rattle.cbm_session.specs.Among.{Rest, wires_of}
 use Rattle.cbm_drive.specs.declared.wires.Wires.{Wires}

@@ -16,9 +16,9 @@ pub record Seated (D : Type 0) : Type 0 where
   pub machine : D
 
 -- one party that holds a line, or none
-abbrev pub bit : Bool → ℕ
-bit true = 1
-bit false = 0
+abbrev pub pulls_counted : Bool → ℕ
+pulls_counted true = 1
+pulls_counted false = 0
 
 -- how many these are together
 abbrev pub total : {A : Type 0} → (A → ℕ) → List A → ℕ
@@ -32,11 +32,11 @@ module _ {D : Type 0} where
 
   -- 1 for a drive that holds CLOCK, else 0
   abbrev pub clock_of : Seated D → ℕ
-  clock_of x = bit x.port.own.clock_low
+  clock_of x = pulls_counted x.port.own.clock_low
 
   -- 1 for a drive that holds DATA, else 0
-  abbrev pub data_of : Seated D → ℕ
-  data_of x = bit x.port.own.data_low
+  abbrev pub data_pulls : Seated D → ℕ
+  data_pulls x = pulls_counted x.port.own.data_low
 
   -- a number of each drive's machine
   abbrev pub numbers : (D → ℕ) → List (Seated D) → List ℕ
@@ -77,14 +77,14 @@ module _ {D : Type 0} where
   IsFirstDue (x ∷ xs) (suc n, t) = IsLaterDue t (port_due x.port) × IsFirstDue xs (n, t)
 
   -- what the host and these drives hold
-  abbrev pub held_by : Lines → List (Seated D) → Wires
-  held_by host xs = record { host = host; clocks = total clock_of xs; datas = total data_of xs }
+  abbrev pub wires_held_by : Lines → List (Seated D) → Wires
+  wires_held_by host xs = record { host = host; clocks = total clock_of xs; datas = total data_pulls xs }
 
 -- What all others than a drive hold is what all hold without its own.
 pub record IsWithout (all : Wires) (own : Held) (r : Rest) : Type 0 where
   pub host : r.host ≡ all.host
-  pub clocks : r.clocks + bit own.clock_low ≡ all.clocks
-  pub datas : r.datas + bit own.data_low ≡ all.datas
+  pub clocks : r.clocks + pulls_counted own.clock_low ≡ all.clocks
+  pub datas : r.datas + pulls_counted own.data_low ≡ all.datas
 
 module _ (D M : Type 0) (stands : D → M → Type 0) where
   -- the drive represents a station, once this is what all others hold
@@ -99,4 +99,4 @@ module _ (D M : Type 0) (stands : D → M → Type 0) where
 
   -- THE DRIVES REPRESENT THE STATIONS of a bus, one by one, beside a host that holds these lines.
   abbrev pub IsBusAt : Lines → List (Seated D) → List (Station M) → Type 0
-  IsBusAt host xs ss = AllZip (IsSeat (held_by host xs)) xs ss
+  IsBusAt host xs ss = AllZip (IsSeat (wires_held_by host xs)) xs ss

@@ -1,7 +1,7 @@
 -- Reactions that change no line. Nobody on the wires sees them, so who asks for the next change looks past them.
 use Rattle.std.specs.Prelude.{ℕ, ◌≡◌, ◌<◌, Bool, true, false, List, [], ◌∷◌, ◌⊎◌, Option, Some}
 use Rattle.cbm_iec.specs.Ports.{port_due, reacted, reaction_changes}
-use Rattle.cbm_iec.specs.declared.act.Act.{Act}
+use Rattle.cbm_iec.specs.declared.machine.Act.{Act}
 use Rattle.cbm_iec.specs.declared.port.Port.{Port}
 use Rattle.cbm_session.specs.Following.{IsInTime}
 use Rattle.cbm_session.specs.Playing.{Station, react, shown}

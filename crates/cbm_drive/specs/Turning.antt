@@ -1,9 +1,9 @@
 -- What the calls of a bus and of its player give: whatever kind of machine the drives represent, and of a drive alone, on any disk, of the machine that
 -- replays what the drive showed.
 use Rattle.std.specs.Prelude.{ℕ, ◌+◌, ◌≤◌, ◌≡◌, Bool, List, [], ◌∷◌, ◌++◌, map, Option, None, IfSome, IsSome, MatchOption, Result, OnOk, MatchResult}
-use Rattle.cbm_iec.specs.declared.act.Act.{Act}
+use Rattle.cbm_iec.specs.declared.machine.Act.{Act}
 use Rattle.cbm_iec.specs.declared.event.Event.{Event}
-use Rattle.cbm_iec.specs.declared.line.Change.{Change}
+use Rattle.cbm_iec.specs.declared.lines.Change.{Change}
 use Rattle.cbm_iec.specs.declared.lines.Lines.{Lines}
 use Rattle.cbm_iec.specs.declared.party.Party.{Party}
 use Rattle.cbm_session.specs.Handed.{AllReact}

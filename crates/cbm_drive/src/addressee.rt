@@ -1,8 +1,10 @@
 //! How a drive is addressed on the bus.
 ghost use Rattle.std.specs.Prelude.{◌≡◌, ◌≤◌, ◌<◌, ◌++◌, ◌∷◌, [], take, IfSome};
-ghost use Rattle.cbm_drive.specs.Addressing.{unaddressed, paced, called, turned, given, attended, waiting, released, heard, ended, ended_channel, channel_heard, channel_said};
+ghost use Rattle.cbm_drive.specs.Addressing.{unaddressed, paced, called, role_turned, given, attended, waiting, atn_released, name_heard, channel_ended, ended_channel, channel_heard, channel_said};
 
-use crate::ended::Ended;
+pub(crate) mod ended;
+
+use self::ended::Ended;
 use crate::secondary::Secondary;
 use arrayvec::ArrayVec;
 use cbm_iec::attention::{LISTEN, TALK};
@@ -149,7 +151,7 @@ impl Addressee {
 
     /// The role after a byte in attention.
     fn turn(&mut self, byte: u8)
-        ensures { self.new ≡ turned byte self.old }
+        ensures { self.new ≡ role_turned byte self.old }
     {
         self.role = self.role.after(self.device, byte);
     }
@@ -167,14 +169,14 @@ impl Addressee {
 
     /// ATN was freed: what comes now is for the channel.
     pub(crate) fn release(&mut self)
-        ensures { self.new ≡ released self.old }
+        ensures { self.new ≡ atn_released self.old }
     {
         self.freed = self.channel.is_some();
     }
 
     /// A byte came to the listener: of a name the first 256 bytes are kept.
     pub(crate) fn hear(&mut self, byte: u8)
-        ensures { self.new ≡ heard byte self.old }
+        ensures { self.new ≡ name_heard byte self.old }
     {
         if self.naming {
             keep(&mut self.name, byte);
@@ -183,7 +185,7 @@ impl Addressee {
 
     /// What a listener was sent and would end with a pull of ATN.
     pub(crate) fn ended(&self) -> Option<Ended>
-        ensures value { result ≡ ended self.now }
+        ensures value { result ≡ channel_ended self.now }
         ensures channel { IfSome result (λ e. ended_channel e ≤ 15) }
     {
         if !self.freed {

@@ -45,7 +45,7 @@ impl<D: Machine, const N: usize> Bus<D, N> {
     ghost use Rattle.cbm_drive.specs.Turning.{ShowsFirst, ShowsAny, PlaysList, HandsToEach, PlaysSessions, PlaysLoosely, ToldBack, ShownBack};
     ghost use Rattle.cbm_drive.specs.Playback.{Shown, Playback, IsPlayedBack, played_says, played_step};
     ghost use Rattle.cbm_drive.specs.Progress.{AreKept, IsNearer, left};
-    ghost use Rattle.cbm_drive.specs.Reactions.{AreAt, HasReacted};
+    ghost use Rattle.cbm_drive.specs.Reactions.{AreAtMoment, HasReacted};
 
     /// Drives on a cable of which the host holds no line, in the order in which they answer at equal moments.
     pub fn new(drives: [Drive<D>; N]) -> Bus<D, N>
@@ -158,7 +158,7 @@ impl<D: Machine, const N: usize> Bus<D, N> {
         // Whatever the machines represent, before each later limit less is left to happen.
         ensures fewer { IfSome result (λ r. (until : ℕ) → limit ≤ until →
             left until self.new.drives < left until self.old.drives) }
-        ensures moments { IfSome result (λ r. AreAt r.0 r.1.changes.items) }
+        ensures moments { IfSome result (λ r. AreAtMoment r.0 r.1.changes.items) }
         ensures some { ShowsAny _ D.State D.stands D.step D.says D.failures self.old.host limit self.old.drives
             self.new.drives result }
         ensures host { self.new.host ≡ self.old.host }

@@ -1,7 +1,7 @@
 //! The calls of a DOS that may write: if the medium didn't fail by itself in it, each leads to the machine's next state.
 ghost use Rattle.std.specs.Prelude.{◌≡◌, ◌≤◌};
-ghost use Rattle.cbm_channel.specs.Closing as closing;
-ghost use Rattle.cbm_channel.specs.Calls as calls;
+ghost use Rattle.cbm_machine.specs.Closing as closing;
+ghost use Rattle.cbm_machine.specs.Calls as calls;
 ghost use Rattle.cbm_drive.specs.Desks.{LeadsUnfailed};
 
 use cbm_channel::Dos;

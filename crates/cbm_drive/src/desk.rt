@@ -1,8 +1,8 @@
 //! The drive's DOS on the bus.
 
 use crate::addressee::Addressee;
+use crate::addressee::ended::Ended;
 use crate::calls::{close, end_put, open, put};
-use crate::ended::Ended;
 use crate::secondary::Secondary;
 use cbm_channel::Dos;
 use cbm_iec::{Act, Machine, Pace, Role};
@@ -31,7 +31,7 @@ impl<M: Medium> Model for Desk<M> {
 impl<M: Medium> Desk<M> {
     ghost use Rattle.std.specs.Prelude.{◌≡◌, ◌<◌};
     ghost use Rattle.cbm_file.specs.Files.{Disk};
-    ghost use Rattle.cbm_channel.specs.Machines as files;
+    ghost use Rattle.cbm_machine.specs.Machines as files;
     ghost use Rattle.cbm_channel.specs.Standing.{Stands};
     ghost use Rattle.cbm_volume.specs.Holding.{HoldsDisk};
     ghost use Rattle.cbm_drive.specs.Addressing.{unaddressed};
@@ -101,15 +101,15 @@ impl<M: Medium> Desk<M> {
     ghost use Rattle.cbm_iec.specs.Machines.{owes};
     ghost use Rattle.cbm_channel.specs.Exchanged.{still_telling};
     ghost use Rattle.cbm_file.specs.Files.{Disk};
-    ghost use Rattle.cbm_channel.specs.Machines as files;
+    ghost use Rattle.cbm_machine.specs.Machines as files;
     ghost use Rattle.cbm_volume.specs.Holding.{HoldsDisk};
-    ghost use Rattle.cbm_drive.specs.Addressing.{unaddressed, paced, attended, waiting, heard, released, secondary_of, channel_of, channel_heard, channel_said, ended, addressed_after};
+    ghost use Rattle.cbm_drive.specs.Addressing.{unaddressed, paced, attended, waiting, name_heard, atn_released, secondary_of, channel_named, channel_heard, channel_said, channel_ended, addressed_after};
     ghost use Rattle.cbm_drive.specs.Desks as desks;
-    ghost use Rattle.cbm_drive.specs.Desks.{talked_to, seconded, ending, put_to, taken_from, asked, desk_says, desk_shows, DeskStands, LeadsUnfailed, IsAlike};
+    ghost use Rattle.cbm_drive.specs.Desks.{talked_to, seconded, ending, put_to, taken_from, desk_asked, desk_says, desk_shows, DeskStands, LeadsUnfailed, IsAlike};
 
     /// ATN was pulled: what a listener was sent ends, and the secondary address goes.
     fn pulled(&mut self)
-        ensures leads { LeadsUnfailed M.seen self.old.dos self.new.dos (ending (ended self.old.addressed) self.old.addressed.name) }
+        ensures leads { LeadsUnfailed M.seen self.old.dos self.new.dos (ending (channel_ended self.old.addressed) self.old.addressed.name) }
         ensures addressed { self.new.addressed ≡ waiting self.old.addressed }
         ensures tracks { (M.seen self.new.dos.medium).tracks ≡ (M.seen self.old.dos.medium).tracks }
         ensures counted { (M.seen self.old.dos.medium).failures ≤ (M.seen self.new.dos.medium).failures }
@@ -136,7 +136,7 @@ impl<M: Medium> Desk<M> {
 
     /// What a secondary address asks of the DOS.
     fn second(&mut self, secondary: Option<Secondary>)
-        requires { IfSome secondary (λ s. channel_of s ≤ 15) }
+        requires { IfSome secondary (λ s. channel_named s ≤ 15) }
         ensures leads { LeadsUnfailed M.seen self.old.dos self.new.dos (seconded self.old.addressed.pace secondary self.old.addressed.role) }
         ensures addressed { self.new.addressed ≡ self.old.addressed }
         ensures tracks { (M.seen self.new.dos.medium).tracks ≡ (M.seen self.old.dos.medium).tracks }
@@ -168,7 +168,7 @@ impl<M: Medium> Desk<M> {
     fn heard(&mut self, byte: u8)
         ensures leads { let a = self.old.addressed in
             LeadsUnfailed M.seen self.old.dos self.new.dos (put_to a.naming (channel_heard a.role a.channel) byte) }
-        ensures addressed { self.new.addressed ≡ heard byte self.old.addressed }
+        ensures addressed { self.new.addressed ≡ name_heard byte self.old.addressed }
         ensures tracks { (M.seen self.new.dos.medium).tracks ≡ (M.seen self.old.dos.medium).tracks }
         ensures counted { (M.seen self.old.dos.medium).failures ≤ (M.seen self.new.dos.medium).failures }
     {
@@ -184,7 +184,7 @@ impl<M: Medium> Desk<M> {
     /// ATN was freed.
     fn released(&mut self)
         ensures dos { self.new.dos ≡ self.old.dos }
-        ensures addressed { self.new.addressed ≡ released self.old.addressed }
+        ensures addressed { self.new.addressed ≡ atn_released self.old.addressed }
         ensures tracks { (M.seen self.new.dos.medium).tracks ≡ (M.seen self.old.dos.medium).tracks }
         ensures counted { (M.seen self.old.dos.medium).failures ≤ (M.seen self.new.dos.medium).failures }
     {
@@ -208,7 +208,7 @@ impl<M: Medium> Desk<M> {
 
     /// Does what an act asks.
     fn obey(&mut self, act: Act)
-        ensures leads { LeadsUnfailed M.seen self.old.dos self.new.dos (asked act self.old.addressed) }
+        ensures leads { LeadsUnfailed M.seen self.old.dos self.new.dos (desk_asked act self.old.addressed) }
         ensures addressed { self.new.addressed ≡ addressed_after act self.old.addressed }
         ensures tracks { (M.seen self.new.dos.medium).tracks ≡ (M.seen self.old.dos.medium).tracks }
         ensures counted { (M.seen self.old.dos.medium).failures ≤ (M.seen self.new.dos.medium).failures }
@@ -264,7 +264,7 @@ impl<M: Medium> Desk<M> {
 }
 
 impl<M: Medium> Machine for Desk<M> {
-    ghost use Rattle.cbm_channel.specs.Machines as files;
+    ghost use Rattle.cbm_machine.specs.Machines as files;
     ghost use Rattle.cbm_drive.specs.Desks as desks;
     ghost use Rattle.cbm_drive.specs.Desks.{desk_step, desk_says, desk_shows, DeskStands};
     ghost use Rattle.cbm_drive.specs.NextSaid.{is_byte, more_said};

@@ -2,17 +2,17 @@
 
 ghost use Rattle.std.specs.Prelude.{◌≡◌, ◌↔◌, ◌+◌, ◌<◌, ◌≤◌, ◌^◌, true, List, [], ◌∷◌, ◌++◌, length, map, IfSome, IsSome, MatchOption};
 ghost use Rattle.std.specs.List.{AllZip};
+ghost use Rattle.cbm_iec.specs.Changes.{lines_after};
 ghost use Rattle.cbm_session.specs.Among.{Rest};
-ghost use Rattle.cbm_session.specs.Following.{lines_after};
 ghost use Rattle.cbm_session.specs.Playing.{Station, tell, told_lines};
 ghost use Rattle.cbm_drive.specs.Seats.{Seated, Meets, IsSeat, IsBusAt, own_of, numbers, IsFirstDue, AreIdle, AreResting, Unfailed, failed};
 ghost use Rattle.cbm_drive.specs.Recorded.{IsToldBy};
 ghost use Rattle.cbm_drive.specs.Turning.{ToldBack, ReactedBack};
 ghost use Rattle.cbm_drive.specs.Progress.{AreKept, IsNearer};
-ghost use Rattle.cbm_drive.specs.Reactions.{AreAt, Hear, HasReacted};
+ghost use Rattle.cbm_drive.specs.Reactions.{AreAtMoment, Hear, HasReacted};
 
 use crate::drive::Drive;
-use crate::wires::{Wires, with_change};
+use crate::wires::Wires;
 use arrayvec::ArrayVec;
 use cbm_iec::{Change, Lines, Machine};
 
@@ -187,7 +187,7 @@ pub(crate) fn react<D: Machine>(
     // Also on disks that aren't sound, of a drive alone: so it is of the machine that replays what this one showed.
     ensures recorded { length drives.old ≡ 1 → IsFirstDue drives.old (place, moment) →
         IfSome result (ReactedBack D.shows host moment drives.old drives.new) }
-    ensures moments { IfSome result (λ a. AreAt moment a.changes.items) }
+    ensures moments { IfSome result (λ a. AreAtMoment moment a.changes.items) }
     ensures some { IsSome result }
     ensures nearer { IsFirstDue drives.old (place, moment) → IsNearer moment drives.old drives.new }
     ensures same { length drives.new ≡ length drives.old }
@@ -218,7 +218,7 @@ pub(crate) fn tell_all<D: Machine>(drives: &mut [Drive<D>], host: Lines, change:
     ensures lasting { numbers D.lasting drives.new ≡ numbers D.lasting drives.old }
     ensures counted { failed D.failures drives.old ≤ failed D.failures drives.new }
 {
-    let now = with_change(host, change);
+    let now = host.after(change);
     let wires = Wires::of(now, drives);
     tell_each(drives, change.moment, &wires);
     now

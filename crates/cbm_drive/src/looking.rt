@@ -5,7 +5,7 @@ ghost use Rattle.std.specs.List.{AllZip};
 ghost use Rattle.cbm_session.specs.Playing.{Station};
 ghost use Rattle.cbm_drive.specs.Playback.{Shown, Playback, IsPlayedBack, played_says, played_step};
 ghost use Rattle.cbm_drive.specs.Progress.{left};
-ghost use Rattle.cbm_drive.specs.Reactions.{AreAt};
+ghost use Rattle.cbm_drive.specs.Reactions.{AreAtMoment};
 ghost use Rattle.cbm_drive.specs.Seats.{IsSeat, IsBusAt, AreInTime, numbers, Unfailed, failed};
 ghost use Rattle.cbm_drive.specs.Silence.{AnyShows, AreSilent, Foretold};
 ghost use Rattle.cbm_drive.specs.Turning.{HasShown, ShowsFirst, ShowsAny, ShownBack};
@@ -67,7 +67,7 @@ pub(crate) fn first_shown<D: Machine>(
     ensures settled { result ≡ None → AreInTime limit drives.new }
     // Whatever the machines represent, before each later limit less is left to happen.
     ensures fewer { IfSome result (λ r. (until : ℕ) → limit ≤ until → left until drives.new < left until drives.old) }
-    ensures moments { IfSome result (λ r. AreAt r.0 r.1.changes.items) }
+    ensures moments { IfSome result (λ r. AreAtMoment r.0 r.1.changes.items) }
     ensures some { ShowsAny _ D.State D.stands D.step D.says D.failures host limit drives.old drives.new result }
     ensures same { length drives.new ≡ length drives.old }
     ensures lasting { numbers D.lasting drives.new ≡ numbers D.lasting drives.old }

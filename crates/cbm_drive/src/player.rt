@@ -39,9 +39,9 @@ impl Player {
     ghost use Rattle.cbm_iec.specs.declared.party.Party.{Party};
     ghost use Rattle.cbm_drive.specs.Playback.{Shown, Playback, IsPlayedBack, played_says, played_step};
     ghost use Rattle.cbm_drive.specs.Halves.{has_nothing, half_alone, half_events, half_given};
-    ghost use Rattle.cbm_drive.specs.Reactions.{AreAt};
+    ghost use Rattle.cbm_drive.specs.Reactions.{AreAtMoment};
     ghost use Rattle.cbm_drive.specs.Seats.{AreLater, numbers, Unfailed, failed};
-    ghost use Rattle.cbm_drive.specs.Players.{at_start, pending, at_most, IsLessLeft, IsWaitingFrom, IsTurnOf, IsBehind, IsDrives, IsGivenBefore, IsAfter};
+    ghost use Rattle.cbm_drive.specs.Players.{at_start, pending, at_most, IsLessLeft, IsWaitingFrom, IsTurnOf, IsAfterEvent, IsDrives, IsGivenBefore, IsAfter};
     ghost use Rattle.cbm_drive.specs.Turning.{GivesNext, GivesOne, GivesHalf, Finishes, GivesNextBack, GivesOneBack, GivesHalfBack, FinishesBack};
     ghost use Rattle.cbm_iec.specs.declared.event.Who.TheVariants.{Drive};
     ghost use Rattle.cbm_drive.specs.declared.fault.PlayFault.TheVariants.{Backwards};
@@ -106,7 +106,7 @@ impl Player {
         ensures second { IfSome result (λ e. IsGivenBefore (upto + 1) self.new.second) }
         // A change pending for that moment or before comes, or a drive's comes before it.
         ensures comes { IfSome self.old.waiting (λ c. c.moment ≤ upto → IsSome result) }
-        ensures behind { IfSome result (λ e. IsBehind e.who e.change self.new) }
+        ensures behind { IfSome result (λ e. IsAfterEvent e.who e.change self.new) }
         // Also on disks that aren't sound, less is left to come after a change of a drive.
         ensures fewer { IfSome result (λ e. IsDrives e.who → (limit : ℕ) → upto < limit →
             at_most limit self.new.second bus.new.drives < at_most limit self.old.second bus.old.drives) }
@@ -225,7 +225,7 @@ impl Player {
         ensures waiting { IsWaitingFrom self.new.from self.new.waiting }
         ensures comes { IsSome result }
         ensures second { IsGivenBefore change.moment self.new.second }
-        ensures behind { IfSome result (λ e. IsBehind e.who e.change self.new) }
+        ensures behind { IfSome result (λ e. IsAfterEvent e.who e.change self.new) }
         // Also on disks that aren't sound, less is left to come after a change of a drive.
         ensures fewer { IfSome result (λ e. IsDrives e.who → IsLessLeft change.moment self.old self.new bus.old bus.new) }
         ensures taken { self.new.taken ≡ self.old.taken }
@@ -263,7 +263,7 @@ impl Player {
         ensures second { IfSome result (λ e. IsGivenBefore (upto + 1) self.new.second) }
         ensures turn { IfSome result (λ e. IsTurnOf e.who e.change self.old.waiting self.new.waiting) }
         ensures waiting { IsWaitingFrom self.new.from self.new.waiting }
-        ensures behind { IfSome result (λ e. IsBehind e.who e.change self.new) }
+        ensures behind { IfSome result (λ e. IsAfterEvent e.who e.change self.new) }
         // Also on disks that aren't sound, less is left to come after a change of a drive.
         ensures fewer { IfSome result (λ e. IsDrives e.who → (limit : ℕ) → upto < limit →
             at_most limit self.new.second bus.new.drives < at_most limit self.old.second bus.old.drives) }
@@ -284,7 +284,7 @@ impl Player {
         requires second { self.old.second ≡ None }
         requires waiting { IsWaitingFrom (moment + 1) self.old.waiting }
         requires moment { moment < 2 ^ 59 }
-        requires moments { AreAt moment answer.now.changes.items }
+        requires moments { AreAtMoment moment answer.now.changes.items }
         ensures second { IsGivenBefore (moment + 1) self.new.second }
         ensures given { MatchOption result (answer.now.changes.items ≡ [])
             (λ e. drive_events answer.now.device answer.now.changes.items ≡ e ∷ pending self.new.second) }

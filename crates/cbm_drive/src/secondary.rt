@@ -1,6 +1,6 @@
 //! Secondary addresses.
 ghost use Rattle.std.specs.Prelude.{◌≡◌, ◌≤◌, IfSome};
-ghost use Rattle.cbm_drive.specs.Addressing.{secondary_of, channel_of};
+ghost use Rattle.cbm_drive.specs.Addressing.{secondary_of, channel_named};
 
 use cbm_iec::attention::{CLOSE, DATA, OPEN};
 
@@ -19,7 +19,7 @@ impl Secondary {
     /// What the byte asks, None where it is no secondary address.
     pub fn of(byte: u8) -> Option<Secondary>
         ensures value { result ≡ secondary_of byte }
-        ensures channel { IfSome result (λ s. channel_of s ≤ 15) }
+        ensures channel { IfSome result (λ s. channel_named s ≤ 15) }
     {
         let channel = byte % 16;
         match byte - channel {

@@ -2,8 +2,7 @@
 
 ghost use Rattle.std.specs.Prelude.{◌≡◌, ◌≤◌, ◌<◌, ◌+◌, ◌^◌, length};
 ghost use Rattle.cbm_session.specs.Among.{Rest, wires_of, counted};
-ghost use Rattle.cbm_drive.specs.Seats.{bit, held_by, IsWithout};
-ghost use Rattle.cbm_session.specs.Following.{lines_after};
+ghost use Rattle.cbm_drive.specs.Seats.{pulls_counted, wires_held_by, IsWithout};
 ghost use Rattle.cbm_drive.specs.Reactions.{behind_change};
 
 use crate::drive::Drive;
@@ -19,7 +18,7 @@ pub(crate) struct Wires {
 
 /// One party that holds a line, or none.
 fn bit(low: bool) -> usize
-    ensures value { result ≡ bit low }
+    ensures value { result ≡ pulls_counted low }
     ensures most { result ≤ 1 }
 {
     if low { 1 } else { 0 }
@@ -28,7 +27,7 @@ fn bit(low: bool) -> usize
 impl Wires {
     /// What the host and these drives hold.
     pub(crate) fn of<D: Machine>(host: Lines, drives: &[Drive<D>]) -> Wires
-        ensures value { result ≡ held_by host drives.now }
+        ensures value { result ≡ wires_held_by host drives.now }
         ensures clocks { result.clocks ≤ length drives.now }
         ensures datas { result.datas ≤ length drives.now }
     {
@@ -88,26 +87,5 @@ fn counted(way: Way, count: usize) -> usize
     match way {
         Way::Pull => count + 1,
         Way::Free => count.saturating_sub(1),
-    }
-}
-
-/// What the host holds after its change.
-pub(crate) fn with_change(lines: Lines, change: Change) -> Lines
-    ensures { result ≡ lines_after lines change.line change.way }
-{
-    let low = change.way == Way::Pull;
-    match change.line {
-        Line::Atn => Lines {
-            atn_low: low,
-            ..lines
-        },
-        Line::Clock => Lines {
-            clock_low: low,
-            ..lines
-        },
-        Line::Data => Lines {
-            data_low: low,
-            ..lines
-        },
     }
 }

@@ -1,7 +1,7 @@
 -- What writing does to a disk: an empty disk, a new file, a file that is appended to or replaced, CLOSE.
 use Rattle.std.specs.Prelude.{ℕ, ◌+◌, ◌-◌, ◌/◌, ◌++◌, nat_lt, Bool, true, false, ◌||◌, List, [], ◌∷◌, length, map, take, replicate, slice_set, if◌then◌else◌, Option, Some, None, is_some, is_none, unwrap_or}
 use Rattle.cbm_file.specs.declared.file_type.FileType.{FileType}
-use Rattle.cbm_file.specs.Files.{Body, Bytes, File, Disk, bytes_in, held_by, held_on, empty_from, file_at, with_slot, blocks_on, blocks_of}
+use Rattle.cbm_file.specs.Files.{Body, Bytes, File, Disk, bytes_in, blocks_held, held_on, empty_from, file_at, with_slot, blocks_on, blocks_of}
 use Rattle.cbm_file.specs.Padding.{padded}
 
 -- ---- an empty disk
@@ -75,7 +75,7 @@ with_replaced d n bytes blocks = replaced_in (file_at d n) d n bytes blocks
 
 abbrev pub scratched_in : Option File → Disk → ℕ → Disk
 scratched_in None d n = d
-scratched_in (Some f) d n = record (with_slot d n None) { free = d.free + held_by (Some f) }
+scratched_in (Some f) d n = record (with_slot d n None) { free = d.free + blocks_held (Some f) }
 
 abbrev pub scratched : Disk → ℕ → Disk
 scratched d n = scratched_in (file_at d n) d n
@@ -83,14 +83,14 @@ scratched d n = scratched_in (file_at d n) d n
 -- ---- COPY
 
 -- the bytes of what a slot has
-abbrev pub bytes_at : Option File → List ℕ
-bytes_at None = []
-bytes_at (Some f) = bytes_in f.body
+abbrev pub slot_bytes : Option File → List ℕ
+slot_bytes None = []
+slot_bytes (Some f) = bytes_in f.body
 
 -- the bytes of the files in these slots, one after another
 abbrev pub joined : Disk → List ℕ → List ℕ
 joined d [] = []
-joined d (n ∷ ns) = bytes_at (file_at d n) ++ joined d ns
+joined d (n ∷ ns) = slot_bytes (file_at d n) ++ joined d ns
 
 -- how many blocks they take as one file
 abbrev pub copy_blocks : Disk → List ℕ → ℕ

@@ -39,13 +39,13 @@ abbrev pub blocks_of : ℕ → ℕ
 blocks_of n = max 1 (parts n 254)
 
 -- The blocks that a slot holds. One that is empty or not closed holds none.
-abbrev pub held_by : Option File → ℕ
-held_by None = 0
-held_by (Some f) = if f.closed then f.held else 0
+abbrev pub blocks_held : Option File → ℕ
+blocks_held None = 0
+blocks_held (Some f) = if f.closed then f.held else 0
 
 -- the blocks of all closed files
 abbrev pub held_on : Disk → ℕ
-held_on d = sum_by held_by d.slots
+held_on d = sum_by blocks_held d.slots
 
 -- the blocks that are neither free nor a closed file's
 abbrev pub lost : Disk → ℕ

@@ -2,7 +2,7 @@
 use Rattle.std.specs.Prelude.{ℕ, List, [], ◌∷◌, Bool, true, false, Option, Some, None}
 
 -- the first of these bytes, and whether it is the last
-abbrev pub shown : List ℕ → Option (ℕ × Bool)
-shown [] = None
-shown (byte ∷ []) = Some (byte, true)
-shown (byte ∷ more ∷ rest) = Some (byte, false)
+abbrev pub next_shown : List ℕ → Option (ℕ × Bool)
+next_shown [] = None
+next_shown (byte ∷ []) = Some (byte, true)
+next_shown (byte ∷ more ∷ rest) = Some (byte, false)

@@ -7,9 +7,9 @@ use Rattle.cbm_medium.specs.Place.{Place, sectors_on, Has, has, is_place}
 use Rattle.cbm_medium.specs.Content.{Cell, HasFaultCode, is_fault_code, written}
 use Rattle.cbm_medium.proofs.Walks.{has_true, true_has, on_a_track as track_is}
 use Rattle.cbm_medium.proofs.Places.{place_cases, place_is_itself, written_there, written_elsewhere}
-use Rattle.cbm_sector.specs.Answer.{shown, id_shown, block_of, block_code, IsOverwritten}
-use Rattle.cbm_g64.specs.Tracks.{bits_at, id_for, content_of, AreLaid, IsChanged, IsPut}
-use Rattle.cbm_g64.specs.Faults.{has_codes}
+use Rattle.cbm_sector.specs.Answer.{sector_shown, id_shown, block_of, block_code, IsOverwritten}
+use Rattle.cbm_g64.specs.Tracks.{bits_at, id_for, g64_content, AreLaid, IsCircleChanged, IsPut}
+use Rattle.cbm_g64.specs.Faults.{g64_has_codes}
 
 -- a sector of the first 35 tracks, as a test and as a fact
 pub has_parts : (p : Place) → has 35 p ≡ true → Has 35 p
@@ -21,12 +21,12 @@ has_test p h = has_true 35 p h
 pub has_of : (p : Place) → p.sector < sectors_on p.track → p.track ≤ 35 → Has 35 p
 has_of p s t = (track_is p s, t, s)
 
-pub content_on : (tracks : List (List Bool)) (p : Place) → Has 35 p → content_of tracks p ≡ shown (bits_at tracks p.track) (id_for tracks) p
-unfolding content_of
+pub content_on : (tracks : List (List Bool)) (p : Place) → Has 35 p → g64_content tracks p ≡ sector_shown (bits_at tracks p.track) (id_for tracks) p
+unfolding g64_content
 content_on tracks p h = cond-true _ _ _ (has_test p h)
 
-pub content_off : (tracks : List (List Bool)) (p : Place) → has 35 p ≡ false → content_of tracks p ≡ Ok (replicate 256 0)
-unfolding content_of
+pub content_off : (tracks : List (List Bool)) (p : Place) → has 35 p ≡ false → g64_content tracks p ≡ Ok (replicate 256 0)
+unfolding g64_content
 content_off tracks p h = cond-false _ _ _ h
 
 -- a track of the disk is one of 35
@@ -36,9 +36,9 @@ on_a_track p h = let low = h.0 in let high = h.1 in (low, omega arith)
 -- one track written anew, its id as it was
 pub content_written : (tracks : List (List Bool)) (new : List Bool) (a : Place) (bytes : List ℕ) → length tracks ≡ 35 → Has 35 a
     → id_shown new ≡ id_shown (bits_at tracks a.track)
-    → shown new (id_for tracks) a ≡ Ok bytes
-    → ((id2 : List ℕ) (b : Place) → a ≢ b → shown new id2 b ≡ shown (bits_at tracks a.track) id2 b)
-    → content_of (set tracks (a.track - 1) new) ≡ written (content_of tracks) a bytes
+    → sector_shown new (id_for tracks) a ≡ Ok bytes
+    → ((id2 : List ℕ) (b : Place) → a ≢ b → sector_shown new id2 b ≡ sector_shown (bits_at tracks a.track) id2 b)
+    → g64_content (set tracks (a.track - 1) new) ≡ written (g64_content tracks) a bytes
 unfolding id_for
 content_written tracks new a bytes l h ids own others = fun_ext (λ p. here p)
   where
@@ -58,31 +58,31 @@ content_written tracks new a bytes l h ids own others = fun_ext (λ p. here p)
     ])
 
     -- the answer for another sector
-    elsewhere_on : (p : Place) → a ≢ p → Has 35 p → shown (bits_at after p.track) (id_for tracks) p ≡ shown (bits_at tracks p.track) (id_for tracks) p
+    elsewhere_on : (p : Place) → a ≢ p → Has 35 p → sector_shown (bits_at after p.track) (id_for tracks) p ≡ sector_shown (bits_at tracks p.track) (id_for tracks) p
     elsewhere_on p ne on = elim (cases_eq p.track a.track) [
-      | inl e ↦ ap (λ (t : ℕ). shown (bits_at after t) (id_for tracks) p) e
-          ∙ ap (λ (bits : List Bool). shown bits (id_for tracks) p) at_track
+      | inl e ↦ ap (λ (t : ℕ). sector_shown (bits_at after t) (id_for tracks) p) e
+          ∙ ap (λ (bits : List Bool). sector_shown bits (id_for tracks) p) at_track
           ∙ others (id_for tracks) p ne
-          ∙ sym (ap (λ (t : ℕ). shown (bits_at tracks t) (id_for tracks) p) e)
-      | inr apart ↦ ap (λ (bits : List Bool). shown bits (id_for tracks) p) (at_other p.track ((on_a_track p on).0) apart)
+          ∙ sym (ap (λ (t : ℕ). sector_shown (bits_at tracks t) (id_for tracks) p) e)
+      | inr apart ↦ ap (λ (bits : List Bool). sector_shown bits (id_for tracks) p) (at_other p.track ((on_a_track p on).0) apart)
     ]
 
-    elsewhere : (p : Place) → a ≢ p → content_of after p ≡ content_of tracks p
+    elsewhere : (p : Place) → a ≢ p → g64_content after p ≡ g64_content tracks p
     elsewhere p ne = elim (cases_Bool (has 35 p)) [
-      | inl t ↦ (let on = has_parts p t in content_on after p on ∙ ap (λ (id : List ℕ). shown (bits_at after p.track) id p) same_id ∙ elsewhere_on p ne on ∙ sym (content_on tracks p on))
+      | inl t ↦ (let on = has_parts p t in content_on after p on ∙ ap (λ (id : List ℕ). sector_shown (bits_at after p.track) id p) same_id ∙ elsewhere_on p ne on ∙ sym (content_on tracks p on))
       | inr off ↦ content_off after p off ∙ sym (content_off tracks p off)
     ]
 
-    there : content_of after a ≡ Ok bytes
-    there = content_on after a h ∙ ap (λ (id : List ℕ). shown (bits_at after a.track) id a) same_id ∙ ap (λ (bits : List Bool). shown bits (id_for tracks) a) at_track ∙ own
+    there : g64_content after a ≡ Ok bytes
+    there = content_on after a h ∙ ap (λ (id : List ℕ). sector_shown (bits_at after a.track) id a) same_id ∙ ap (λ (bits : List Bool). sector_shown bits (id_for tracks) a) at_track ∙ own
 
     apart_from : (p : Place) → is_place a p ≡ false → a ≢ p
     apart_from p f e = false≢true (sym f ∙ subst (λ (q : Place). is_place a q ≡ true) e (place_is_itself a))
 
-    here : (p : Place) → content_of after p ≡ written (content_of tracks) a bytes p
+    here : (p : Place) → g64_content after p ≡ written (g64_content tracks) a bytes p
     here p = elim (place_cases a p) [
-      | inl e ↦ subst (λ (q : Place). content_of after q ≡ written (content_of tracks) a bytes q) e (there ∙ sym (written_there (content_of tracks) a bytes))
-      | inr f ↦ elsewhere p (apart_from p f) ∙ sym (written_elsewhere (content_of tracks) a p bytes (apart_from p f))
+      | inl e ↦ subst (λ (q : Place). g64_content after q ≡ written (g64_content tracks) a bytes q) e (there ∙ sym (written_there (g64_content tracks) a bytes))
+      | inr f ↦ elsewhere p (apart_from p f) ∙ sym (written_elsewhere (g64_content tracks) a p bytes (apart_from p f))
     ]
 
 bits_is : (tracks : List (List Bool)) (a : Place) (bits d : List Bool) (i : ℕ) → length tracks ≡ 35 → Has 35 a → i ≡ a.track → bits ≡ get_or tracks (i - 1) d → bits ≡ bits_at tracks a.track
@@ -90,26 +90,26 @@ bits_is tracks a bits d i l h t e = let b = on_a_track a h in
     e ∙ get_or_default tracks (i - 1) d [] (omega (arith, b.0, b.1)) ∙ ap (λ (n : ℕ). get_or tracks (n - 1) []) t
 
 -- a sector's answer by its track and the disk's id
-pub answer_is : (tracks : List (List Bool)) (a : Place) (bits d : List Bool) (id : List ℕ) (i : ℕ) → length tracks ≡ 35 → Has 35 a → i ≡ a.track → bits ≡ get_or tracks (i - 1) d → id ≡ id_for tracks → content_of tracks a ≡ shown bits id a
+pub answer_is : (tracks : List (List Bool)) (a : Place) (bits d : List Bool) (id : List ℕ) (i : ℕ) → length tracks ≡ 35 → Has 35 a → i ≡ a.track → bits ≡ get_or tracks (i - 1) d → id ≡ id_for tracks → g64_content tracks a ≡ sector_shown bits id a
 answer_is tracks a bits d id i l h t e f =
     content_on tracks a h
-    ∙ ap (λ (n : List ℕ). shown (bits_at tracks a.track) n a) (sym f)
-    ∙ ap (λ (b : List Bool). shown b id a) (sym (bits_is tracks a bits d i l h t e))
+    ∙ ap (λ (n : List ℕ). sector_shown (bits_at tracks a.track) n a) (sym f)
+    ∙ ap (λ (b : List Bool). sector_shown b id a) (sym (bits_is tracks a bits d i l h t e))
 
 -- what a write of one track leaves, where it succeeds
 pub write_is : {E : Type 0} (r : Result (Unit {0}) E) (tracks : List (List Bool)) (bits d new : List Bool) (a : Place) (bytes id : List ℕ) (i : ℕ)
     → length tracks ≡ 35 → Has 35 a → i ≡ a.track → bits ≡ get_or tracks (i - 1) d → id ≡ id_for tracks
     → id_shown new ≡ id_shown bits
-    → OnOk r (shown new id a ≡ Ok bytes)
-    → OnOk r ((id2 : List ℕ) (b : Place) → a ≢ b → shown new id2 b ≡ shown bits id2 b)
-    → OnOk r (content_of (set tracks (i - 1) new) ≡ written (content_of tracks) a bytes)
+    → OnOk r (sector_shown new id a ≡ Ok bytes)
+    → OnOk r ((id2 : List ℕ) (b : Place) → a ≢ b → sector_shown new id2 b ≡ sector_shown bits id2 b)
+    → OnOk r (g64_content (set tracks (i - 1) new) ≡ written (g64_content tracks) a bytes)
 write_is (Err e) tracks bits d new a bytes id i l h t be f ids own others = tt
 write_is (Ok u) tracks bits d new a bytes id i l h t be f ids own others =
     let b = bits_is tracks a bits d i l h t be in
-    ap (λ (n : ℕ). content_of (set tracks (n - 1) new)) t
+    ap (λ (n : ℕ). g64_content (set tracks (n - 1) new)) t
     ∙ content_written tracks new a bytes l h (ids ∙ ap id_shown b)
-    (ap (λ (n : List ℕ). shown new n a) (sym f) ∙ own)
-    (λ id2 c ne. others id2 c ne ∙ ap (λ (x : List Bool). shown x id2 c) b)
+    (ap (λ (n : List ℕ). sector_shown new n a) (sym f) ∙ own)
+    (λ id2 c ne. others id2 c ne ∙ ap (λ (x : List Bool). sector_shown x id2 c) b)
 
 -- which bits of its track it changes
 pub put_is : {E : Type 0} (r : Result (Unit {0}) E) (tracks : List (List Bool)) (bits d new : List Bool) (a : Place) (bytes id : List ℕ) (i : ℕ)
@@ -138,7 +138,7 @@ id_same tracks new i h e = ap (λ (o : Option (List ℕ)). unwrap_or o (0 ∷ 0 
 
 -- what a write of one track leaves
 pub change_is : {E : Type 0} (r : Result (Unit {0}) E) (tracks : List (List Bool)) (bits d new : List Bool) (i : ℕ) → i < length tracks → bits ≡ get_or tracks i d
-    → length new ≡ length bits → OnOk r (2610 ≤ length bits) → OnErr r (new ≡ bits) → id_shown new ≡ id_shown bits → IsChanged tracks (set tracks i new) i
+    → length new ≡ length bits → OnOk r (2610 ≤ length bits) → OnErr r (new ≡ bits) → id_shown new ≡ id_shown bits → IsCircleChanged tracks (set tracks i new) i
 change_is {E = E} r tracks bits d new i h e l long same ids = record {
   count = length-set tracks i new;
   lengths = λ j. elim (cases_eq j i) [
@@ -162,7 +162,7 @@ change_is {E = E} r tracks bits d new i h e l long same ids = record {
 
 -- blocks stay where they are when a sector is filled
 pub laid_kept : (tracks : List (List Bool)) (bits d new : List Bool) (a : Place) (i : ℕ) → length tracks ≡ 35 → Has 35 a → i ≡ a.track → bits ≡ get_or tracks (i - 1) d
-    → IsChanged tracks (set tracks (i - 1) new) (i - 1) → ((id2 : List ℕ) (p : Place) → block_of new id2 p ≡ block_of bits id2 p) → AreLaid tracks → AreLaid (set tracks (i - 1) new)
+    → IsCircleChanged tracks (set tracks (i - 1) new) (i - 1) → ((id2 : List ℕ) (p : Place) → block_of new id2 p ≡ block_of bits id2 p) → AreLaid tracks → AreLaid (set tracks (i - 1) new)
 laid_kept tracks bits d new a i l h t be c same laid = record {
   blocks = λ p q.
       (ap (λ (n : List ℕ). block_of (bits_at (set tracks (i - 1) new) p.track) n p) c.id
@@ -182,5 +182,5 @@ laid_kept tracks bits d new a i l h t be c same laid = record {
     before p e = bits_is tracks a bits d i l h t be ∙ ap (bits_at tracks) (sym (e ∙ t))
 
 -- the code of a sector that doesn't read is one of the seven
-pub known_code : (tracks : List (List Bool)) (p : Place) (code : ℕ) → content_of tracks p ≡ Err code → is_fault_code code ≡ true
-known_code tracks p code e = subst (λ (x : Cell). HasFaultCode x) e (has_codes tracks p)
+pub known_code : (tracks : List (List Bool)) (p : Place) (code : ℕ) → g64_content tracks p ≡ Err code → is_fault_code code ≡ true
+known_code tracks p code e = subst (λ (x : Cell). HasFaultCode x) e (g64_has_codes tracks p)

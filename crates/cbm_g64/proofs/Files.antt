@@ -1,15 +1,15 @@
 use Rattle.std.proofs.Common.{◌≡◌, ℕ, suc, ◌+◌, List, [], ◌∷◌, ◌++◌, get_or, drop, ap, refl, arith}
 use Rattle.std.proofs.lemmas.List.{get_or-drop}
 use Rattle.byteorder.specs.Endian.{little_number}
-use Rattle.cbm_g64.specs.File.{tracks_in, track_in, two_at, four_at}
+use Rattle.cbm_g64.specs.File.{g64_circles, track_in, two_at, four_at}
 
-pub tracks_none : (file : List ℕ) → tracks_in file 0 ≡ []
-unfolding tracks_in
+pub tracks_none : (file : List ℕ) → g64_circles file 0 ≡ []
+unfolding g64_circles
 tracks_none file = refl
 
-pub tracks_more : (file : List ℕ) (n : ℕ) → tracks_in file (n + 1) ≡ tracks_in file n ++ (track_in file n ∷ [])
-unfolding tracks_in
-tracks_more file n = ap (tracks_in file) (let e : n + 1 ≡ suc n = omega arith in e)
+pub tracks_more : (file : List ℕ) (n : ℕ) → g64_circles file (n + 1) ≡ g64_circles file n ++ (track_in file n ∷ [])
+unfolding g64_circles
+tracks_more file n = ap (g64_circles file) (let e : n + 1 ≡ suc n = omega arith in e)
 
 pub two_is : (file : List ℕ) (at : ℕ) → little_number 2 (drop at file) ≡ two_at file at
 two_is file at =

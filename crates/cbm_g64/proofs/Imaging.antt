@@ -5,14 +5,14 @@ use Rattle.std.proofs.lemmas.Grind.{same_number_lists}
 use Rattle.std.proofs.lemmas.Bool.{cases_eq}
 use Rattle.std.proofs.lemmas.Slice.{drop-put_mid, take-put_mid}
 use borrow.Rule.Slice.PartMut.{put_mid, post_of}
-use Rattle.cbm_track.specs.Circle.{bits_of, bit, stretch}
+use Rattle.cbm_track.specs.Circle.{circle_bits_of, circle_bit, stretch}
 use Rattle.cbm_track.proofs.Places.{length-stretch, get_or-stretch, bit_below}
 use Rattle.cbm_g64.specs.declared.fault.G64Fault.{G64Fault}
-use Rattle.cbm_g64.specs.File.{offset, size, fault_of}
+use Rattle.cbm_g64.specs.File.{offset, size, g64_fault}
 use Rattle.byteorder.specs.Endian.{little_bytes}
 use Rattle.cbm_sector.specs.Fresh.{bytes_on}
-use Rattle.cbm_g64.specs.NewFile.{entries_of, blocks_of, front, new_file, new_place, new_zone}
-use Rattle.cbm_g64.specs.Image.{IsOutside, track_bytes, IsImageOf, IsHeld}
+use Rattle.cbm_g64.specs.NewFile.{entries_of, new_track_blocks, front, new_file, new_place, new_zone}
+use Rattle.cbm_g64.specs.Image.{IsOutsideTracks, track_bytes, IsImageOf, IsHeld}
 use Rattle.cbm_g64.proofs.Sound.{Passes, passes, Stands, stands, apart}
 
 -- ---- a new file, by parts
@@ -27,28 +27,28 @@ entries_more f o xs e n h g =
     let m : suc n ≡ n + 1 = omega arith in
     ap (λ (v : List ℕ). v ++ e) h ∙ append_assoc o (entries_of f n) e ∙ ap (λ (v : List ℕ). o ++ (entries_of f n ++ v)) g ∙ ap (λ (k : ℕ). o ++ entries_of f k) m
 
-pub blocks_none : (xs : List ℕ) → xs ≡ xs ++ blocks_of 0
-unfolding blocks_of
+pub blocks_none : (xs : List ℕ) → xs ≡ xs ++ new_track_blocks 0
+unfolding new_track_blocks
 blocks_none xs = sym (append-nil xs)
 
-pub blocks_more : (o xs e : List ℕ) (n : ℕ) → xs ≡ o ++ blocks_of n → e ≡ little_bytes 2 (bytes_on (n + 1)) → (xs ++ e) ++ replicate 7928 0 ≡ o ++ blocks_of (n + 1)
-unfolding blocks_of
+pub blocks_more : (o xs e : List ℕ) (n : ℕ) → xs ≡ o ++ new_track_blocks n → e ≡ little_bytes 2 (bytes_on (n + 1)) → (xs ++ e) ++ replicate 7928 0 ≡ o ++ new_track_blocks (n + 1)
+unfolding new_track_blocks
 blocks_more o xs e n h g =
     let m : suc n ≡ n + 1 = omega arith in
     append_assoc xs e (replicate 7928 0)
     ∙ ap (λ (v : List ℕ). v ++ (e ++ replicate 7928 0)) h
-    ∙ append_assoc o (blocks_of n) (e ++ replicate 7928 0)
-    ∙ ap (λ (v : List ℕ). o ++ (blocks_of n ++ (v ++ replicate 7928 0))) g
-    ∙ ap (λ (k : ℕ). o ++ blocks_of k) m
+    ∙ append_assoc o (new_track_blocks n) (e ++ replicate 7928 0)
+    ∙ ap (λ (v : List ℕ). o ++ (new_track_blocks n ++ (v ++ replicate 7928 0))) g
+    ∙ ap (λ (k : ℕ). o ++ new_track_blocks k) m
 
-pub file_built : (a b c d e f : List ℕ) → a ≡ front → b ≡ a ++ entries_of new_place 35 → c ≡ b ++ replicate 56 0 → d ≡ c ++ entries_of new_zone 35 → e ≡ d ++ replicate 56 0 → f ≡ e ++ blocks_of 35 → f ≡ new_file
+pub file_built : (a b c d e f : List ℕ) → a ≡ front → b ≡ a ++ entries_of new_place 35 → c ≡ b ++ replicate 56 0 → d ≡ c ++ entries_of new_zone 35 → e ≡ d ++ replicate 56 0 → f ≡ e ++ new_track_blocks 35 → f ≡ new_file
 unfolding new_file
 file_built a b c d e f ha hb hc hd he hf =
-    hf ∙ ap (λ (v : List ℕ). v ++ blocks_of 35) (he ∙ ap (λ (v : List ℕ). v ++ replicate 56 0) (hd ∙ ap (λ (v : List ℕ). v ++ entries_of new_zone 35) (hc ∙ ap (λ (v : List ℕ). v ++ replicate 56 0) (hb ∙ ap (λ (v : List ℕ). v ++ entries_of new_place 35) ha))))
-    ∙ append_assoc (((front ++ entries_of new_place 35) ++ replicate 56 0) ++ entries_of new_zone 35) (replicate 56 0) (blocks_of 35)
-    ∙ append_assoc ((front ++ entries_of new_place 35) ++ replicate 56 0) (entries_of new_zone 35) (replicate 56 0 ++ blocks_of 35)
-    ∙ append_assoc (front ++ entries_of new_place 35) (replicate 56 0) (entries_of new_zone 35 ++ (replicate 56 0 ++ blocks_of 35))
-    ∙ append_assoc front (entries_of new_place 35) (replicate 56 0 ++ (entries_of new_zone 35 ++ (replicate 56 0 ++ blocks_of 35)))
+    hf ∙ ap (λ (v : List ℕ). v ++ new_track_blocks 35) (he ∙ ap (λ (v : List ℕ). v ++ replicate 56 0) (hd ∙ ap (λ (v : List ℕ). v ++ entries_of new_zone 35) (hc ∙ ap (λ (v : List ℕ). v ++ replicate 56 0) (hb ∙ ap (λ (v : List ℕ). v ++ entries_of new_place 35) ha))))
+    ∙ append_assoc (((front ++ entries_of new_place 35) ++ replicate 56 0) ++ entries_of new_zone 35) (replicate 56 0) (new_track_blocks 35)
+    ∙ append_assoc ((front ++ entries_of new_place 35) ++ replicate 56 0) (entries_of new_zone 35) (replicate 56 0 ++ new_track_blocks 35)
+    ∙ append_assoc (front ++ entries_of new_place 35) (replicate 56 0) (entries_of new_zone 35 ++ (replicate 56 0 ++ new_track_blocks 35))
+    ∙ append_assoc front (entries_of new_place 35) (replicate 56 0 ++ (entries_of new_zone 35 ++ (replicate 56 0 ++ new_track_blocks 35)))
 
 -- ---- a list with a part put into it
 
@@ -87,20 +87,20 @@ pub whole_circle : (t : List Bool) (n : ℕ) → n ≡ length t → stretch t 0 
 whole_circle t n e = same_lists _ _ (length-stretch t 0 n ∙ e) (λ k d l. at k d (omega (arith, length-stretch t 0 n)))
   where
     at : (k : ℕ) (d : Bool) → k < n → get_or (stretch t 0 n) k d ≡ get_or t k d
-    at k d l = get_or-stretch t 0 n k d l ∙ ap (bit t) (omega arith) ∙ bit_below t k (omega arith) ∙ get_or_default t k false d (omega arith)
+    at k d l = get_or-stretch t 0 n k d l ∙ ap (circle_bit t) (omega arith) ∙ bit_below t k (omega arith) ∙ get_or_default t k false d (omega arith)
 
 pub none_is : (o : Option G64Fault) → is_some o ≡ false → o ≡ None
 none_is None h = refl
 none_is (Some x) h = cc
 
 pub held_passes : (file : List ℕ) (tracks : List (List Bool)) → IsHeld file tracks → Passes file
-held_passes file tracks h = passes file (none_is (fault_of file) h.right)
+held_passes file tracks h = passes file (none_is (g64_fault file) h.right)
 
 -- the first n tracks were put in
 pub record IsPut (file : List ℕ) (tracks : List (List Bool)) (image : List ℕ) (n : ℕ) : Type 0 where
   pub same_length : length image ≡ length file
-  pub circles : (i : ℕ) → i < n → offset file i ≢ 0 → bits_of (track_bytes file image i) ≡ get_or tracks i []
-  pub others : (p : ℕ) → IsOutside file p → get_or image p 0 ≡ get_or file p 0
+  pub circles : (i : ℕ) → i < n → offset file i ≢ 0 → circle_bits_of (track_bytes file image i) ≡ get_or tracks i []
+  pub others : (p : ℕ) → IsOutsideTracks file p → get_or image p 0 ≡ get_or file p 0
 
 pub put_none : (file : List ℕ) (tracks : List (List Bool)) (image : List ℕ) → image ≡ file → IsPut file tracks image 0
 put_none file tracks image e = record { same_length = ap length e; circles = λ i h. absurd (omega arith); others = λ p h. ap (λ (xs : List ℕ). get_or xs p 0) e }
@@ -130,7 +130,7 @@ same_bytes file xs ys i e h same =
     ∙ sym (get_or-take (size file i) (drop (offset file i + 2) ys) k 0 (omega (arith, l)) ∙ get_or-drop (offset file i + 2) ys k 0))
 
 pub put_more : (file : List ℕ) (tracks : List (List Bool)) (image ys : List ℕ) (n k : ℕ) → IsHeld file tracks → n < 35 → IsPut file tracks image n → offset file n ≢ 0 → k ≡ length ys → length ys ≡ size file n
-    → bits_of ys ≡ stretch (get_or tracks n []) 0 (8 * size file n) → IsPut file tracks (put_mid (offset file n + 2) k image ys) (n + 1)
+    → circle_bits_of ys ≡ stretch (get_or tracks n []) 0 (8 * size file n) → IsPut file tracks (put_mid (offset file n + 2) k image ys) (n + 1)
 put_more file tracks image ys n k h l p ne e f g =
     let q = held_passes file tracks h in
     let s = stands file q n l ne in
@@ -140,11 +140,11 @@ put_more file tracks image ys n k h l p ne e f g =
       same_length = size' ∙ p.same_length;
       circles = λ i b z. elim (cases_eq i n) [
         | inl c ↦ (let own : track_bytes file (put_mid (offset file n + 2) k image ys) n ≡ ys = own_bytes size' s a in
-            ap (λ (j : ℕ). bits_of (track_bytes file (put_mid (offset file n + 2) k image ys) j)) c
-            ∙ ap bits_of own ∙ g
+            ap (λ (j : ℕ). circle_bits_of (track_bytes file (put_mid (offset file n + 2) k image ys) j)) c
+            ∙ ap circle_bits_of own ∙ g
             ∙ whole_circle (get_or tracks n []) (8 * size file n) (sym (h.lengths n l ne))
             ∙ ap (λ (j : ℕ). get_or tracks j []) (sym c))
-        | inr c ↦ ap bits_of (same_bytes file (put_mid (offset file n + 2) k image ys) image i size' (omega (arith, size', p.same_length, (stands file q i (omega arith) z).within)) (λ r x y.
+        | inr c ↦ ap circle_bits_of (same_bytes file (put_mid (offset file n + 2) k image ys) image i size' (omega (arith, size', p.same_length, (stands file q i (omega arith) z).within)) (λ r x y.
             elim (apart file q i n (omega arith) l c z ne) [
               | inl u ↦ put_before (offset file n + 2) k image ys r a (omega arith)
               | inr u ↦ put_behind (offset file n + 2) k image ys r a e (omega arith)
@@ -176,7 +176,7 @@ track_ends file image tracks t n at bits h l e f ne b g =
     (omega arith, omega (arith, s.within))
 
 pub put_at : (file image ys out : List ℕ) (tracks : List (List Bool)) (t : List Bool) (n at bits k m : ℕ) → IsHeld file tracks → n < 35 → IsPut file tracks image n → at ≡ offset file n → at ≢ 0 → bits ≡ length t → t ≡ get_or tracks n []
-    → out ≡ put_mid (at + 2) k image ys → k ≡ bits / 8 → bits_of ys ≡ stretch t 0 (8 * m) → m ≡ bits / 8 → length ys ≡ m → IsPut file tracks out (n + 1)
+    → out ≡ put_mid (at + 2) k image ys → k ≡ bits / 8 → circle_bits_of ys ≡ stretch t 0 (8 * m) → m ≡ bits / 8 → length ys ≡ m → IsPut file tracks out (n + 1)
 put_at file image ys out tracks t n at bits k m h l p f ne b g o e r q y =
     let z : offset file n ≢ 0 = λ x. ne (f ∙ x) in
     let d = track_ends file image tracks t n at bits h l p.same_length f ne b g in

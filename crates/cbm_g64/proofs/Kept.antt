@@ -5,10 +5,10 @@ use Rattle.std.proofs.lemmas.Grind.{same_number_lists}
 use Rattle.std.proofs.lemmas.Bool.{cases_eq, cases_lt, and_from, le-leb, eq-eqb, or_left}
 use Rattle.cbm_sector.specs.Decoding.{IsBytes}
 use Rattle.cbm_sector.proofs.Coding.{byte_from_bits}
-use Rattle.cbm_track.specs.Circle.{bits, bits_of, each_below}
+use Rattle.cbm_track.specs.Circle.{circle_bits, circle_bits_of, each_below}
 use Rattle.cbm_track.proofs.Firsts.{each_from}
-use Rattle.cbm_g64.specs.File.{two_at, offset, size, tables_end, fault_of, is_inside, is_sized, is_apart, are_inside, are_sized, are_apart, track_in, tracks_in}
-use Rattle.cbm_g64.specs.Image.{IsOutside, track_bytes, IsImageOf, IsHeld}
+use Rattle.cbm_g64.specs.File.{two_at, offset, size, tables_end, g64_fault, is_track_inside, is_sized, is_apart, are_inside, are_sized, are_apart, track_in, g64_circles}
+use Rattle.cbm_g64.specs.Image.{IsOutsideTracks, track_bytes, IsImageOf, IsHeld}
 use Rattle.cbm_g64.proofs.Sound.{Passes, no_fault, stands, apart, many_entries, inside_at, sized_at, apart_at, tables_inside}
 use Rattle.cbm_g64.proofs.Imaging.{held_passes}
 use Rattle.cbm_g64.proofs.Held.{length-tracks_in, tracks_at, present, absent}
@@ -33,7 +33,7 @@ offset_kept file tracks image p m i h =
       tables_kept file tracks image p m (12 + 8 * i + 2 + 1) (omega arith),
     )
 
-field_outside : (file : List ℕ) → Passes file → (i q : ℕ) → i < 35 → offset file i ≢ 0 → offset file i ≤ q → q < offset file i + 2 → IsOutside file q
+field_outside : (file : List ℕ) → Passes file → (i q : ℕ) → i < 35 → offset file i ≢ 0 → offset file i ≤ q → q < offset file i + 2 → IsOutsideTracks file q
 field_outside file p i q h ne a b j l z = elim (cases_eq i j) [
   | inl e ↦ inl (let f : offset file i ≡ offset file j = ap (offset file) e in omega arith)
   | inr apart' ↦ elim (apart file p i j h l apart' ne z) [
@@ -54,8 +54,8 @@ size_kept file tracks image p m i h ne =
 
 -- ---- the image passes what its file passes
 
-inside_kept : (file : List ℕ) (tracks : List (List Bool)) (image : List ℕ) → Passes file → IsImageOf file tracks image → (i : ℕ) → i < 35 → is_inside image i ≡ true
-unfolding is_inside
+inside_kept : (file : List ℕ) (tracks : List (List Bool)) (image : List ℕ) → Passes file → IsImageOf file tracks image → (i : ℕ) → i < 35 → is_track_inside image i ≡ true
+unfolding is_track_inside
 inside_kept file tracks image p m i h = elim (cases_eq (offset file i) 0) [
   | inl z ↦ or_left (offset image i == 0) _ (eq-eqb (offset image i) 0 (offset_kept file tracks image p m i h ∙ z))
   | inr ne ↦ (let t = many file p in
@@ -88,9 +88,9 @@ are_inside_kept : (file : List ℕ) (tracks : List (List Bool)) (image : List �
 unfolding are_inside
 are_inside_kept file tracks image p m =
     let t = many file p in
-    and_from (leb (tables_end image) (length image)) (each_below (is_inside image) 35)
+    and_from (leb (tables_end image) (length image)) (each_below (is_track_inside image) 35)
     (le-leb (tables_end image) (length image) (omega (arith, tables_kept file tracks image p m 9 (omega arith), m.same_length, tables_inside file p.inside)))
-    (each_from (is_inside image) 35 (inside_kept file tracks image p m))
+    (each_from (is_track_inside image) 35 (inside_kept file tracks image p m))
 
 are_sized_kept : (file : List ℕ) (tracks : List (List Bool)) (image : List ℕ) → Passes file → IsImageOf file tracks image → are_sized image ≡ true
 unfolding are_sized
@@ -122,20 +122,20 @@ track_kept file tracks image h m i l =
     elim (cases_eq (offset file i) 0) [
       | inl z ↦ absent image i (offset_kept file tracks image p m i l ∙ z) ∙ sym (h.absent i l z)
       | inr ne ↦ present image i (λ e. ne (sym (offset_kept file tracks image p m i l) ∙ e))
-          ∙ ap (λ (n : ℕ). bits_of (take n (drop (offset image i + 2) image))) (size_kept file tracks image p m i l ne)
-          ∙ ap (λ (n : ℕ). bits_of (take (size file i) (drop (n + 2) image))) (offset_kept file tracks image p m i l)
+          ∙ ap (λ (n : ℕ). circle_bits_of (take n (drop (offset image i + 2) image))) (size_kept file tracks image p m i l ne)
+          ∙ ap (λ (n : ℕ). circle_bits_of (take (size file i) (drop (n + 2) image))) (offset_kept file tracks image p m i l)
           ∙ m.circles i l ne
     ]
 
-pub tracks_kept : (file : List ℕ) (tracks : List (List Bool)) (image : List ℕ) → IsHeld file tracks → IsImageOf file tracks image → tracks_in image 35 ≡ tracks
+pub tracks_kept : (file : List ℕ) (tracks : List (List Bool)) (image : List ℕ) → IsHeld file tracks → IsImageOf file tracks image → g64_circles image 35 ≡ tracks
 tracks_kept file tracks image h m = same_lists _ _ (length-tracks_in image 35 ∙ sym h.count) (λ k d l.
     let b : k < 35 = omega (arith, length-tracks_in image 35) in
-    get_or_default (tracks_in image 35) k d [] l
+    get_or_default (g64_circles image 35) k d [] l
     ∙ tracks_at image 35 k b
     ∙ track_kept file tracks image h m k b
     ∙ get_or_default tracks k [] d (omega (arith, h.count)))
 
-pub read_again : (file : List ℕ) (tracks : List (List Bool)) (image : List ℕ) → IsHeld file tracks → IsImageOf file tracks image → (fault_of image ≡ None) × (tracks_in image 35 ≡ tracks)
+pub read_again : (file : List ℕ) (tracks : List (List Bool)) (image : List ℕ) → IsHeld file tracks → IsImageOf file tracks image → (g64_fault image ≡ None) × (g64_circles image 35 ≡ tracks)
 read_again file tracks image h m = (no_fault image (passes_kept file tracks image (held_passes file tracks h) m), tracks_kept file tracks image h m)
 
 -- ---- a disk that nobody wrote
@@ -144,12 +144,12 @@ tail_bytes : (x : ℕ) (xs : List ℕ) → IsBytes (x ∷ xs) → IsBytes xs
 tail_bytes x xs h i = h (suc i)
 
 -- bits give their bytes back
-bytes_back : (xs ys : List ℕ) → length xs ≡ length ys → IsBytes xs → IsBytes ys → bits_of xs ≡ bits_of ys → xs ≡ ys
+bytes_back : (xs ys : List ℕ) → length xs ≡ length ys → IsBytes xs → IsBytes ys → circle_bits_of xs ≡ circle_bits_of ys → xs ≡ ys
 bytes_back [] [] l a b e = refl
 bytes_back [] (y ∷ ys) l a b e = absurd (omega arith)
 bytes_back (x ∷ xs) [] l a b e = absurd (omega arith)
 bytes_back (x ∷ xs) (y ∷ ys) l a b e =
-    let front : bits 8 x ≡ bits 8 y = ap (λ (t : List Bool). take 8 t) e in
+    let front : circle_bits 8 x ≡ circle_bits 8 y = ap (λ (t : List Bool). take 8 t) e in
     let same : x ≡ y = byte_from_bits x y (a 0) (b 0) front in
     let rest : xs ≡ ys = bytes_back xs ys (omega arith) (tail_bytes x xs a) (tail_bytes y ys b) (ap (λ (t : List Bool). drop 8 t) e) in
     ap (λ (n : ℕ). n ∷ xs) same ∙ ap (λ (v : List ℕ). y ∷ v) rest
@@ -179,7 +179,7 @@ in_track file q (suc n) h = elim (in_track file q n (omega arith)) [
   ]
 ]
 
-pub unwritten : (file : List ℕ) (image : List ℕ) → IsHeld file (tracks_in file 35) → IsBytes file → IsBytes image → IsImageOf file (tracks_in file 35) image → image ≡ file
+pub unwritten : (file : List ℕ) (image : List ℕ) → IsHeld file (g64_circles file 35) → IsBytes file → IsBytes image → IsImageOf file (g64_circles file 35) image → image ≡ file
 unwritten file image h a b m = same_number_lists image file m.same_length (λ q l. elim (in_track file q 35 (omega arith)) [
   | inr out ↦ m.others q out
   | inl f ↦ here q f.0 f.1 f.2 f.3 f.4
@@ -187,7 +187,7 @@ unwritten file image h a b m = same_number_lists image file m.same_length (λ q 
   where
     here : (q j : ℕ) → j < 35 → offset file j ≢ 0 → offset file j + 2 ≤ q → q < offset file j + 2 + size file j → get_or image q 0 ≡ get_or file q 0
     here q j l ne g u =
-        let s = stands file (held_passes file (tracks_in file 35) h) j l ne in
+        let s = stands file (held_passes file (g64_circles file 35) h) j l ne in
         let x : length (track_bytes file image j) ≡ size file j = length-take-le (size file j) (drop (offset file j + 2) image) (omega (arith, length-drop (offset file j + 2) image, s.within, m.same_length)) in
         let y : length (track_bytes file file j) ≡ size file j = length-take-le (size file j) (drop (offset file j + 2) file) (omega (arith, length-drop (offset file j + 2) file, s.within)) in
         let same : track_bytes file image j ≡ track_bytes file file j =

@@ -7,8 +7,8 @@ use Rattle.byteorder.specs.Numbers.{little_number-reads_back}
 use Rattle.cbm_sector.specs.Fresh.{bytes_on}
 use Rattle.cbm_track.specs.Circle.{each_below}
 use Rattle.cbm_track.proofs.Firsts.{each_from}
-use Rattle.cbm_g64.specs.File.{two_at, offset, size, is_inside, is_sized, is_apart, are_inside, are_sized, are_apart, entries, tables_end, has_signature, has_version, has_entries, has_greatest}
-use Rattle.cbm_g64.specs.NewFile.{new_place, new_zone, entries_of, blocks_of, front, new_file}
+use Rattle.cbm_g64.specs.File.{two_at, offset, size, is_track_inside, is_sized, is_apart, are_inside, are_sized, are_apart, entries, tables_end, has_signature, has_version, has_entries, has_greatest}
+use Rattle.cbm_g64.specs.NewFile.{new_place, new_zone, entries_of, new_track_blocks, front, new_file}
 use Rattle.cbm_g64.proofs.Sound.{Passes}
 
 length-entry : (x : ℕ) → length (little_bytes 4 x ++ replicate 4 0) ≡ 8
@@ -22,10 +22,10 @@ unfolding entries_of
 length-entries_of f zero = refl
 length-entries_of f (suc n) = omega (arith, length-append (entries_of f n) (little_bytes 4 (f n) ++ replicate 4 0), length-entries_of f n, length-entry (f n))
 
-pub length-blocks_of : (n : ℕ) → length (blocks_of n) ≡ 7930 * n
-unfolding blocks_of
+pub length-blocks_of : (n : ℕ) → length (new_track_blocks n) ≡ 7930 * n
+unfolding new_track_blocks
 length-blocks_of zero = refl
-length-blocks_of (suc n) = omega (arith, length-append (blocks_of n) (little_bytes 2 (bytes_on (n + 1)) ++ replicate 7928 0), length-blocks_of n, length-block (bytes_on (n + 1)))
+length-blocks_of (suc n) = omega (arith, length-append (new_track_blocks n) (little_bytes 2 (bytes_on (n + 1)) ++ replicate 7928 0), length-blocks_of n, length-block (bytes_on (n + 1)))
 
 skip : (xs ys : List ℕ) (n k q : ℕ) → length xs ≡ n → q ≡ n + k → get_or (xs ++ ys) q 0 ≡ get_or ys k 0
 skip xs ys n k q e f = ap (λ (p : ℕ). get_or (xs ++ ys) p 0) (omega arith) ∙ get_or-append-add xs ys k 0
@@ -38,18 +38,18 @@ entry_at f (suc n) i k h l = elim (cases_eq i n) [
   | inl e ↦ skip (entries_of f n) (little_bytes 4 (f n) ++ replicate 4 0) (8 * n) k (8 * i + k) (length-entries_of f n) (omega arith) ∙ ap (λ (m : ℕ). get_or (little_bytes 4 (f m) ++ replicate 4 0) k 0) (sym e)
 ]
 
-block_at : (n i k : ℕ) → i < n → k < 7930 → get_or (blocks_of n) (7930 * i + k) 0 ≡ get_or (little_bytes 2 (bytes_on (i + 1)) ++ replicate 7928 0) k 0
-unfolding blocks_of
+block_at : (n i k : ℕ) → i < n → k < 7930 → get_or (new_track_blocks n) (7930 * i + k) 0 ≡ get_or (little_bytes 2 (bytes_on (i + 1)) ++ replicate 7928 0) k 0
+unfolding new_track_blocks
 block_at zero i k h l = absurd (omega arith)
 block_at (suc n) i k h l = elim (cases_eq i n) [
-  | inr ne ↦ get_or_append_left (blocks_of n) (little_bytes 2 (bytes_on (n + 1)) ++ replicate 7928 0) 0 (7930 * i + k) (omega (arith, length-blocks_of n)) ∙ block_at n i k (omega arith) l
-  | inl e ↦ skip (blocks_of n) (little_bytes 2 (bytes_on (n + 1)) ++ replicate 7928 0) (7930 * n) k (7930 * i + k) (length-blocks_of n) (omega arith) ∙ ap (λ (m : ℕ). get_or (little_bytes 2 (bytes_on (m + 1)) ++ replicate 7928 0) k 0) (sym e)
+  | inr ne ↦ get_or_append_left (new_track_blocks n) (little_bytes 2 (bytes_on (n + 1)) ++ replicate 7928 0) 0 (7930 * i + k) (omega (arith, length-blocks_of n)) ∙ block_at n i k (omega arith) l
+  | inl e ↦ skip (new_track_blocks n) (little_bytes 2 (bytes_on (n + 1)) ++ replicate 7928 0) (7930 * n) k (7930 * i + k) (length-blocks_of n) (omega arith) ∙ ap (λ (m : ℕ). get_or (little_bytes 2 (bytes_on (m + 1)) ++ replicate 7928 0) k 0) (sym e)
 ]
 
 -- ---- the parts of the new file
 
 abbrev p5 : List ℕ
-p5 = replicate 56 0 ++ blocks_of 35
+p5 = replicate 56 0 ++ new_track_blocks 35
 
 abbrev p4 : List ℕ
 p4 = entries_of new_zone 35 ++ p5
@@ -67,7 +67,7 @@ length-new_file = omega (
   length-append (entries_of new_place 35) p3,
   length-append (replicate 56 0) p4,
   length-append (entries_of new_zone 35) p5,
-  length-append (replicate 56 0) (blocks_of 35),
+  length-append (replicate 56 0) (new_track_blocks 35),
   length-entries_of new_place 35,
   length-entries_of new_zone 35,
   length-blocks_of 35,
@@ -93,7 +93,7 @@ in_blocks i k h l =
     ∙ skip (entries_of new_place 35) p3 280 (392 + 7930 * i + k) (672 + 7930 * i + k) (length-entries_of new_place 35) (omega arith)
     ∙ skip (replicate 56 0) p4 56 (336 + 7930 * i + k) (392 + 7930 * i + k) (length-replicate {A = ℕ} 56 0) (omega arith)
     ∙ skip (entries_of new_zone 35) p5 280 (56 + 7930 * i + k) (336 + 7930 * i + k) (length-entries_of new_zone 35) (omega arith)
-    ∙ skip (replicate 56 0) (blocks_of 35) 56 (7930 * i + k) (56 + 7930 * i + k) (length-replicate {A = ℕ} 56 0) (omega arith)
+    ∙ skip (replicate 56 0) (new_track_blocks 35) 56 (7930 * i + k) (56 + 7930 * i + k) (length-replicate {A = ℕ} 56 0) (omega arith)
     ∙ block_at 35 i k h (omega arith)
     ∙ get_or_append_left (little_bytes 2 (bytes_on (i + 1))) (replicate 7928 0) 0 k l
 
@@ -119,8 +119,8 @@ new_size i h =
 front_byte : (k x : ℕ) → k < 12 → get_or front k 0 ≡ x → get_or new_file k 0 ≡ x
 front_byte k x h e = in_front k h ∙ e
 
-new_inside : (i : ℕ) → i < 35 → is_inside new_file i ≡ true
-unfolding is_inside
+new_inside : (i : ℕ) → i < 35 → is_track_inside new_file i ≡ true
+unfolding is_track_inside
 new_inside i h =
     let o = new_offset i h in
     let s = new_size i h in
@@ -177,8 +177,8 @@ new_are_inside : are_inside new_file ≡ true
 unfolding are_inside
 new_are_inside =
     let e : entries new_file ≡ 84 = front_byte 9 84 (omega arith) refl in
-    and_from (leb (tables_end new_file) (length new_file)) (each_below (is_inside new_file) 35) (le-leb (tables_end new_file) (length new_file) (omega (arith, length-new_file)))
-    (each_from (is_inside new_file) 35 new_inside)
+    and_from (leb (tables_end new_file) (length new_file)) (each_below (is_track_inside new_file) 35) (le-leb (tables_end new_file) (length new_file) (omega (arith, length-new_file)))
+    (each_from (is_track_inside new_file) 35 new_inside)
 
 new_are_sized : are_sized new_file ≡ true
 unfolding are_sized

@@ -5,7 +5,7 @@ use Rattle.cbm_track.specs.Circle.{each_below}
 use Rattle.cbm_track.proofs.Firsts.{each_at}
 use Rattle.cbm_g64.specs.declared.fault.G64Fault.{G64Fault}
 use Rattle.cbm_g64.specs.declared.fault.G64Fault.TheVariants.{Signature, Version, Entries, GreatestSize, OffsetOutside, TrackLength, Overlap}
-use Rattle.cbm_g64.specs.File.{has_signature, has_version, has_entries, has_greatest, entries, greatest, tables_end, offset, size, is_inside, is_sized, is_apart, are_inside, are_sized, are_apart, fault_of, IsGood}
+use Rattle.cbm_g64.specs.File.{has_signature, has_version, has_entries, has_greatest, entries, greatest, tables_end, offset, size, is_track_inside, is_sized, is_apart, are_inside, are_sized, are_apart, g64_fault, IsGood}
 
 -- what a file without fault passes
 pub record Passes (file : List ℕ) : Type 0 where
@@ -31,12 +31,12 @@ all_pass true true true true true false g h = cc
 all_pass true true true true true true false h = cc
 all_pass true true true true true true true h = (refl, refl, refl, refl, refl, refl, refl)
 
-pub passes : (file : List ℕ) → fault_of file ≡ None → Passes file
+pub passes : (file : List ℕ) → g64_fault file ≡ None → Passes file
 passes file h =
     let p = all_pass (has_signature file) (has_version file) (has_entries file) (has_greatest file) (are_inside file) (are_sized file) (are_apart file) h in
     record { signature = p.0; version = p.1; few_entries = p.2; few_bytes = p.3; inside = p.4; sized = p.5; apart = p.6 }
 
-pub no_fault : (file : List ℕ) → Passes file → fault_of file ≡ None
+pub no_fault : (file : List ℕ) → Passes file → g64_fault file ≡ None
 no_fault file p = rw (p.signature, p.version, p.few_entries, p.few_bytes, p.inside, p.sized, p.apart) refl
 
 pub many_entries : (file : List ℕ) → has_entries file ≡ true → (10 ≤ length file) × (69 ≤ entries file) × (entries file ≤ 84)
@@ -49,9 +49,9 @@ pub tables_inside : (file : List ℕ) → are_inside file ≡ true → tables_en
 unfolding are_inside
 tables_inside file h = leb-true (tables_end file) (length file) ((and_parts (leb (tables_end file) (length file)) _ h).0)
 
-pub inside_at : (file : List ℕ) → are_inside file ≡ true → (i : ℕ) → i < 35 → is_inside file i ≡ true
+pub inside_at : (file : List ℕ) → are_inside file ≡ true → (i : ℕ) → i < 35 → is_track_inside file i ≡ true
 unfolding are_inside
-inside_at file h i l = each_at (is_inside file) 35 i ((and_parts (leb (tables_end file) (length file)) _ h).1) l
+inside_at file h i l = each_at (is_track_inside file) 35 i ((and_parts (leb (tables_end file) (length file)) _ h).1) l
 
 pub sized_at : (file : List ℕ) → are_sized file ≡ true → (i : ℕ) → i < 35 → is_sized file i ≡ true
 unfolding are_sized
@@ -85,7 +85,7 @@ or_right true y h e = cc
 or_right false y h e = h
 
 pub stands : (file : List ℕ) → Passes file → (i : ℕ) → i < 35 → offset file i ≢ 0 → Stands file i
-unfolding is_inside is_sized
+unfolding is_track_inside is_sized
 stands file p i l ne =
     let z : (offset file i == 0) ≡ false = ne_eqb (offset file i) 0 ne in
     let a = and_parts (leb (tables_end file) (offset file i)) _ (or_right (offset file i == 0) _ (inside_at file p.inside i l) z) in

@@ -1,5 +1,5 @@
 use Rattle.std.specs.Prelude.{ℕ, zero, suc, ◌≤◌, ◌+◌, ◌*◌, ◌<◌, ◌≡◌, List, [], ◌∷◌, ◌++◌, Bool, true, not, ◌&&◌, ◌||◌, ◌==◌, nat_lt, nat_le, if◌then◌else◌, Option, Some, None, length, take, drop, slice_index}
-use Rattle.cbm_track.specs.Circle.{each_below, bits_of}
+use Rattle.cbm_track.specs.Circle.{each_below, circle_bits_of}
 use Rattle.cbm_g64.specs.declared.fault.G64Fault.{G64Fault}
 use Rattle.cbm_g64.specs.declared.fault.G64Fault.TheVariants.{Signature, Version, Entries, GreatestSize, OffsetOutside, TrackLength, Overlap}
 
@@ -41,8 +41,8 @@ abbrev pub has_greatest : List ℕ → Bool
 has_greatest file = nat_le 12 (length file) && nat_le (greatest file) 7928
 
 -- no track, or one after the tables whose length and bytes lie in the file
-unfoldable pub is_inside : List ℕ → ℕ → Bool
-is_inside file i = (offset file i == 0) || (nat_le (tables_end file) (offset file i) && (nat_le (offset file i + 2) (length file) && nat_le (offset file i + 2 + size file i) (length file)))
+unfoldable pub is_track_inside : List ℕ → ℕ → Bool
+is_track_inside file i = (offset file i == 0) || (nat_le (tables_end file) (offset file i) && (nat_le (offset file i + 2) (length file) && nat_le (offset file i + 2 + size file i) (length file)))
 
 unfoldable pub is_sized : List ℕ → ℕ → Bool
 is_sized file i = (offset file i == 0) || (nat_lt 0 (size file i) && nat_le (size file i) (greatest file))
@@ -52,7 +52,7 @@ unfoldable pub is_apart : List ℕ → ℕ → ℕ → Bool
 is_apart file i j = (i == j) || ((offset file i == 0) || ((offset file j == 0) || (nat_le (offset file i + 2 + size file i) (offset file j) || nat_le (offset file j + 2 + size file j) (offset file i))))
 
 unfoldable pub are_inside : List ℕ → Bool
-are_inside file = nat_le (tables_end file) (length file) && each_below (is_inside file) 35
+are_inside file = nat_le (tables_end file) (length file) && each_below (is_track_inside file) 35
 
 unfoldable pub are_sized : List ℕ → Bool
 are_sized file = each_below (is_sized file) 35
@@ -61,8 +61,8 @@ unfoldable pub are_apart : List ℕ → Bool
 are_apart file = each_below (λ i. each_below (is_apart file i) 35) 35
 
 -- the first fault of a file
-abbrev pub fault_of : List ℕ → Option G64Fault
-fault_of file =
+abbrev pub g64_fault : List ℕ → Option G64Fault
+g64_fault file =
     if not (has_signature file) then Some Signature
     else if not (has_version file) then Some Version
     else if not (has_entries file) then Some Entries
@@ -74,16 +74,16 @@ fault_of file =
 
 -- the circle of track i + 1, one without sync mark where there is no track
 unfoldable pub track_in : List ℕ → ℕ → List Bool
-track_in file i = if offset file i == 0 then bits_of (0 ∷ []) else bits_of (take (size file i) (drop (offset file i + 2) file))
+track_in file i = if offset file i == 0 then circle_bits_of (0 ∷ []) else circle_bits_of (take (size file i) (drop (offset file i + 2) file))
 
 -- the circles of the first n tracks
-unfoldable pub tracks_in : List ℕ → ℕ → List (List Bool)
-tracks_in file zero = []
-tracks_in file (suc n) = tracks_in file n ++ (track_in file n ∷ [])
+unfoldable pub g64_circles : List ℕ → ℕ → List (List Bool)
+g64_circles file zero = []
+g64_circles file (suc n) = g64_circles file n ++ (track_in file n ∷ [])
 
 -- each track lies in the file and has a length that may be
 pub record IsGood (file : List ℕ) : Type 0 where
   pub tables : 292 ≤ length file
   pub few : greatest file ≤ 7928
-  pub inside : (i : ℕ) → i < 35 → is_inside file i ≡ true
+  pub inside : (i : ℕ) → i < 35 → is_track_inside file i ≡ true
   pub sized : (i : ℕ) → i < 35 → is_sized file i ≡ true

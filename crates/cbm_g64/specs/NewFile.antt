@@ -17,9 +17,9 @@ entries_of f zero = []
 entries_of f (suc n) = entries_of f n ++ (little_bytes 4 (f n) ++ replicate 4 0)
 
 -- the lengths of the first n tracks, each before 7,928 zeros
-unfoldable pub blocks_of : ℕ → List ℕ
-blocks_of zero = []
-blocks_of (suc n) = blocks_of n ++ (little_bytes 2 (bytes_on (n + 1)) ++ replicate 7928 0)
+unfoldable pub new_track_blocks : ℕ → List ℕ
+new_track_blocks zero = []
+new_track_blocks (suc n) = new_track_blocks n ++ (little_bytes 2 (bytes_on (n + 1)) ++ replicate 7928 0)
 
 -- the signature, version 0, 84 entries and the greatest size 7,928
 abbrev pub front : List ℕ
@@ -27,7 +27,7 @@ front = 71 ∷ 67 ∷ 82 ∷ 45 ∷ 49 ∷ 53 ∷ 52 ∷ 49 ∷ 0 ∷ 84 ∷ 248
 
 -- offsets and speeds have 84 entries each, of which 14 are for the tracks 36 to 42
 unfoldable pub new_file : List ℕ
-new_file = front ++ (entries_of new_place 35 ++ (replicate 56 0 ++ (entries_of new_zone 35 ++ (replicate 56 0 ++ blocks_of 35))))
+new_file = front ++ (entries_of new_place 35 ++ (replicate 56 0 ++ (entries_of new_zone 35 ++ (replicate 56 0 ++ new_track_blocks 35))))
 
 -- the file that a disk's tracks are put into
 abbrev pub base_of : Bool → List ℕ → List ℕ

@@ -2,14 +2,14 @@ use Rattle.std.specs.Prelude.{ℕ, ◌≡◌, ◌≢◌, ◌<◌, ◌≤◌, ◌
 use Rattle.cbm_medium.specs.Place.{Place, Has, has, sectors_on}
 use Rattle.cbm_medium.specs.Content.{Cell, Content}
 use Rattle.cbm_medium.specs.Seen.{Seen}
-use Rattle.cbm_track.specs.Circle.{bit}
-use Rattle.cbm_sector.specs.Answer.{shown, id_shown, block_of, block_code, IsOverwritten}
+use Rattle.cbm_track.specs.Circle.{circle_bit}
+use Rattle.cbm_sector.specs.Answer.{sector_shown, id_shown, block_of, block_code, IsOverwritten}
 use Rattle.cbm_sector.specs.Fresh.{block_place, bytes_on, fresh}
 use Rattle.cbm_g64.specs.File.{offset}
 use Rattle.cbm_g64.specs.NewFile.{base_of}
 
 -- the 35 tracks of a disk, the file that it came from, whether it was formatted since, and whether it is protected. A track that it hasn't is a circle without sync mark, which answers as no track does.
-pub record Disk : Type 0 where
+pub record G64State : Type 0 where
   pub tracks : List (List Bool)
   pub file : List ℕ
   pub formatted : Bool
@@ -24,11 +24,11 @@ unfoldable pub id_for : List (List Bool) → List ℕ
 id_for tracks = unwrap_or (id_shown (bits_at tracks 18)) (0 ∷ 0 ∷ [])
 
 -- what the sectors hold; a place that the disk lacks counts as 256 zeros
-unfoldable pub content_of : List (List Bool) → Content
-content_of tracks p = if has 35 p then shown (bits_at tracks p.track) (id_for tracks) p else Ok (replicate 256 0)
+unfoldable pub g64_content : List (List Bool) → Content
+g64_content tracks p = if has 35 p then sector_shown (bits_at tracks p.track) (id_for tracks) p else Ok (replicate 256 0)
 
 -- a write to track i + 1: all others stay, each keeps its length, and so does the disk's id; a track on which no sector has room stays as it is
-pub record IsChanged (old new : List (List Bool)) (i : ℕ) : Type 0 where
+pub record IsCircleChanged (old new : List (List Bool)) (i : ℕ) : Type 0 where
   pub count : length new ≡ length old
   pub lengths : (j : ℕ) → length (slice_index_or new j []) ≡ length (slice_index_or old j [])
   pub others : (j : ℕ) → j ≢ i → slice_index_or new j [] ≡ slice_index_or old j []
@@ -40,12 +40,12 @@ pub record IsPut (old new : List (List Bool)) (a : Place) (bytes : List ℕ) : T
   pub block : (d : ℕ) → block_of (bits_at old a.track) (id_for old) a ≡ Ok d → IsOverwritten (bits_at old a.track) (bits_at new a.track) d (block_code bytes)
 
 -- a track of the disk: one of the first 35, for which its file has a place
-abbrev pub HasTrack : Disk → ℕ → Type 0
+abbrev pub HasTrack : G64State → ℕ → Type 0
 HasTrack d t = (0 < t) × (t ≤ 35) × (offset (base_of d.formatted d.file) (t - 1) ≢ 0)
 
 -- what the disk shows: an image has 35 tracks, and a disk in memory never fails by itself
-abbrev pub seen_of : Disk → Seen
-seen_of d = record { content = content_of d.tracks; tracks = 35; protected = d.protected; failures = 0; refused = None; id = Some (id_for d.tracks) }
+abbrev pub g64_seen : G64State → Seen
+g64_seen d = record { content = g64_content d.tracks; tracks = 35; protected = d.protected; failures = 0; refused = None; id = Some (id_for d.tracks) }
 
 -- each track is as formatting writes it
 abbrev pub AreFresh : List ℕ → List (List Bool) → Type 0
@@ -62,9 +62,9 @@ IsBetween t k = (s : ℕ) → s < sectors_on t → (k < block_place s) ⊎ (bloc
 -- Tracks that were formatted and then written: lengths, marks, headers and gaps are as formatting writes them, and each sector's data block is the code of what the sector shows.
 pub record AreFilled (id : List ℕ) (tracks : List (List Bool)) : Type 0 where
   pub lengths : (i : ℕ) → i < 35 → length (slice_index_or tracks i []) ≡ 8 * bytes_on (i + 1)
-  pub between : (i k : ℕ) → i < 35 → k < 8 * bytes_on (i + 1) → IsBetween (i + 1) k → bit (slice_index_or tracks i []) k ≡ bit (fresh (i + 1) id) k
-  pub blocks : (p : Place) → Has 35 p → (bytes : List ℕ) → content_of tracks p ≡ Ok bytes
-      → (k : ℕ) → k < 2600 → bit (bits_at tracks p.track) (block_place p.sector + k) ≡ slice_index_or (block_code bytes) k false
+  pub between : (i k : ℕ) → i < 35 → k < 8 * bytes_on (i + 1) → IsBetween (i + 1) k → circle_bit (slice_index_or tracks i []) k ≡ circle_bit (fresh (i + 1) id) k
+  pub blocks : (p : Place) → Has 35 p → (bytes : List ℕ) → g64_content tracks p ≡ Ok bytes
+      → (k : ℕ) → k < 2600 → circle_bit (bits_at tracks p.track) (block_place p.sector + k) ≡ slice_index_or (block_code bytes) k false
 
 -- a cell, or zeros where it holds a fault
 abbrev pub or_zeros : Cell → Cell

@@ -1,5 +1,5 @@
 ghost use Rattle.std.specs.Prelude.{◌≡◌, ℕ, ◌<◌, ◌≤◌, true, length, slice_index};
-ghost use Rattle.cbm_g64.specs.File.{has_signature, has_version, has_entries, has_greatest, is_inside, is_sized, is_apart, are_inside, are_sized, are_apart, fault_of};
+ghost use Rattle.cbm_g64.specs.File.{has_signature, has_version, has_entries, has_greatest, is_track_inside, is_sized, is_apart, are_inside, are_sized, are_apart, g64_fault};
 ghost use Rattle.cbm_track.specs.Circle.{each_below};
 
 use crate::fault::G64Fault;
@@ -34,11 +34,11 @@ fn has_greatest(file: &[u8]) -> bool
 }
 
 /// Whether a track lies in the file, after the tables.
-#[tactic(auto, unfolding(crate::specs::File::is_inside, crate::specs::File::size))]
+#[tactic(auto, unfolding(crate::specs::File::is_track_inside, crate::specs::File::size))]
 fn is_inside(file: &[u8], i: usize) -> bool
     requires track { i < 35 }
     requires tables { 292 ≤ length file.now }
-    ensures { result ≡ is_inside file.now i }
+    ensures { result ≡ is_track_inside file.now i }
 {
     let at = offset(file, i);
     let tables = 12 + 8 * file[9] as usize;
@@ -54,7 +54,7 @@ fn is_inside(file: &[u8], i: usize) -> bool
 /// Whether each track lies in the file.
 fn each_inside(file: &[u8]) -> bool
     requires { 292 ≤ length file.now }
-    ensures { result ≡ each_below (is_inside file.now) 35 }
+    ensures { result ≡ each_below (is_track_inside file.now) 35 }
 {
     for i in 0..35 {
         if !is_inside(file, i) {
@@ -78,11 +78,11 @@ fn are_inside(file: &[u8]) -> bool
 }
 
 /// Whether a track that lies in the file has a length that may be.
-#[tactic(auto, unfolding(crate::specs::File::is_inside, crate::specs::File::is_sized, crate::specs::File::size))]
+#[tactic(auto, unfolding(crate::specs::File::is_track_inside, crate::specs::File::is_sized, crate::specs::File::size))]
 fn is_sized(file: &[u8], i: usize) -> bool
     requires track { i < 35 }
     requires tables { 292 ≤ length file.now }
-    requires inside { is_inside file.now i ≡ true }
+    requires inside { is_track_inside file.now i ≡ true }
     ensures { result ≡ is_sized file.now i }
 {
     let at = offset(file, i);
@@ -97,7 +97,7 @@ fn is_sized(file: &[u8], i: usize) -> bool
 #[tactic(auto, unfolding(crate::specs::File::are_sized))]
 fn are_sized(file: &[u8]) -> bool
     requires tables { 292 ≤ length file.now }
-    requires inside { (i : ℕ) → i < 35 → is_inside file.now i ≡ true }
+    requires inside { (i : ℕ) → i < 35 → is_track_inside file.now i ≡ true }
     ensures { result ≡ are_sized file.now }
 {
     for i in 0..35 {
@@ -109,12 +109,12 @@ fn are_sized(file: &[u8]) -> bool
 }
 
 /// Whether two tracks that lie in the file share no byte.
-#[tactic(auto, unfolding(crate::specs::File::is_inside, crate::specs::File::is_apart, crate::specs::File::size))]
+#[tactic(auto, unfolding(crate::specs::File::is_track_inside, crate::specs::File::is_apart, crate::specs::File::size))]
 fn is_apart(file: &[u8], i: usize, j: usize) -> bool
     requires tracks { (i < 35) × (j < 35) }
     requires tables { 292 ≤ length file.now }
-    requires first { is_inside file.now i ≡ true }
-    requires second { is_inside file.now j ≡ true }
+    requires first { is_track_inside file.now i ≡ true }
+    requires second { is_track_inside file.now j ≡ true }
     ensures { result ≡ is_apart file.now i j }
 {
     let (one, other) = (offset(file, i), offset(file, j));
@@ -128,7 +128,7 @@ fn is_apart(file: &[u8], i: usize, j: usize) -> bool
 fn is_apart_from_all(file: &[u8], i: usize) -> bool
     requires track { i < 35 }
     requires tables { 292 ≤ length file.now }
-    requires inside { (i : ℕ) → i < 35 → is_inside file.now i ≡ true }
+    requires inside { (i : ℕ) → i < 35 → is_track_inside file.now i ≡ true }
     ensures { result ≡ each_below (is_apart file.now i) 35 }
 {
     for j in 0..35 {
@@ -143,7 +143,7 @@ fn is_apart_from_all(file: &[u8], i: usize) -> bool
 #[tactic(auto, unfolding(crate::specs::File::are_apart))]
 fn are_apart(file: &[u8]) -> bool
     requires tables { 292 ≤ length file.now }
-    requires inside { (i : ℕ) → i < 35 → is_inside file.now i ≡ true }
+    requires inside { (i : ℕ) → i < 35 → is_track_inside file.now i ≡ true }
     ensures { result ≡ are_apart file.now }
 {
     for i in 0..35 {
@@ -156,7 +156,7 @@ fn are_apart(file: &[u8]) -> bool
 
 /// The first fault of a file that is to be an image.
 pub(crate) fn fault_of(file: &[u8]) -> Option<G64Fault>
-    ensures { result ≡ fault_of file.now }
+    ensures { result ≡ g64_fault file.now }
 {
     if !has_signature(file) {
         return Some(G64Fault::Signature);

@@ -1,8 +1,8 @@
 ghost use Rattle.std.specs.Prelude.{◌≡◌, ℕ, ◌<◌, ◌≤◌, ◌-◌, List, true, Ok, Err, Some, length, IfOk, IfErr, OnOk, OnErr, IfSome};
 ghost use Rattle.cbm_medium.specs.Content.{blank, written, header_fault};
-ghost use Rattle.cbm_g64.specs.Tracks.{AreFilled, AreFresh, AreLaid, content_of, id_for, IsChanged, IsPut};
-ghost use Rattle.cbm_g64.specs.File.{is_inside, is_sized, track_in, tracks_in, greatest, IsGood};
-ghost use Rattle.cbm_track.specs.Circle.{bits_of};
+ghost use Rattle.cbm_g64.specs.Tracks.{AreFilled, AreFresh, AreLaid, g64_content, id_for, IsCircleChanged, IsPut};
+ghost use Rattle.cbm_g64.specs.File.{is_track_inside, is_sized, track_in, g64_circles, greatest, IsGood};
+ghost use Rattle.cbm_track.specs.Circle.{circle_bits_of};
 
 use crate::numbers::{offset, two_at};
 use cbm_medium::{Address, Fault};
@@ -14,7 +14,7 @@ use std::alloc::{AllocError, Global};
 fn circle(bytes: &[u8]) -> Track
     requires some { 0 < length bytes.now }
     requires most { length bytes.now ≤ 7928 }
-    ensures { result ≡ bits_of bytes.now }
+    ensures { result ≡ circle_bits_of bytes.now }
 {
     match Track::from_bytes(bytes) {
         Some(track) => track,
@@ -23,12 +23,12 @@ fn circle(bytes: &[u8]) -> Track
 }
 
 /// The circle of a track, one without sync mark where there is no track.
-#[tactic(auto, unfolding(crate::specs::File::is_inside, crate::specs::File::is_sized, crate::specs::File::size, crate::specs::File::track_in))]
+#[tactic(auto, unfolding(crate::specs::File::is_track_inside, crate::specs::File::is_sized, crate::specs::File::size, crate::specs::File::track_in))]
 fn track_at(file: &[u8], i: usize) -> Track
     requires track { i < 35 }
     requires tables { 292 ≤ length file.now }
     requires few { greatest file.now ≤ 7928 }
-    requires inside { is_inside file.now i ≡ true }
+    requires inside { is_track_inside file.now i ≡ true }
     requires sized { is_sized file.now i ≡ true }
     ensures { result ≡ track_in file.now i }
 {
@@ -44,7 +44,7 @@ fn track_at(file: &[u8], i: usize) -> Track
 #[tactic(auto, using(crate::proofs::Files::tracks_none, crate::proofs::Files::tracks_more))]
 pub(crate) fn tracks_of(alloc: Global, file: &[u8]) -> Result<Vec<IndexedTrack>, AllocError>
     requires { IsGood file.now }
-    ensures { IfOk result (λ v. v.items ≡ tracks_in file.now 35) }
+    ensures { IfOk result (λ v. v.items ≡ g64_circles file.now 35) }
 {
     let mut tracks = Vec::with_capacity(alloc, 35)?;
     for i in 0..35u8 {
@@ -65,8 +65,8 @@ fn id_on(tracks: &[IndexedTrack]) -> [u8; 2]
 pub(crate) fn read_on(tracks: &[IndexedTrack], at: Address) -> Result<[u8; 256], Fault>
     requires count { length tracks.now ≡ 35 }
     requires track { at.track ≤ 35 }
-    ensures ok { IfOk result (λ bytes. content_of tracks.now at ≡ Ok bytes) }
-    ensures err { IfErr result (λ fault. (content_of tracks.now at ≡ Err fault.code) × (fault.at ≡ at)) }
+    ensures ok { IfOk result (λ bytes. g64_content tracks.now at ≡ Ok bytes) }
+    ensures err { IfErr result (λ fault. (g64_content tracks.now at ≡ Err fault.code) × (fault.at ≡ at)) }
 {
     tracks[at.track() as usize - 1].read_sector(at, id_on(tracks))
 }
@@ -79,13 +79,13 @@ pub(crate) fn write_on(
 ) -> Result<(), Fault>
     requires count { length tracks.old ≡ 35 }
     requires track { at.track ≤ 35 }
-    ensures ok { OnOk result (content_of tracks.new ≡ written (content_of tracks.old) at bytes.now) }
+    ensures ok { OnOk result (g64_content tracks.new ≡ written (g64_content tracks.old) at bytes.now) }
     ensures err { OnErr result (tracks.new ≡ tracks.old) }
-    ensures refused { IfSome (header_fault (content_of tracks.old at))
+    ensures refused { IfSome (header_fault (g64_content tracks.old at))
         (λ code. result ≡ Err (record { code = code; at = at })) }
-    ensures cause { IfErr result (λ fault. (header_fault (content_of tracks.old at) ≡ Some fault.code) ×
+    ensures cause { IfErr result (λ fault. (header_fault (g64_content tracks.old at) ≡ Some fault.code) ×
         (fault.at ≡ at)) }
-    ensures changed { IsChanged tracks.old tracks.new (at.track - 1) }
+    ensures changed { IsCircleChanged tracks.old tracks.new (at.track - 1) }
     ensures block { OnOk result (IsPut tracks.old tracks.new at bytes.now) }
 {
     let id = id_on(tracks);
@@ -100,8 +100,8 @@ pub(crate) fn fill_on(tracks: &mut [IndexedTrack], at: Address, id: &[u8; 2], by
     requires laid { AreLaid tracks.old }
     requires filled { AreFilled id.now tracks.old }
     requires id { id_for tracks.old ≡ id.now }
-    ensures content { content_of tracks.new ≡ written (content_of tracks.old) at bytes.now }
-    ensures changed { IsChanged tracks.old tracks.new (at.track - 1) }
+    ensures content { g64_content tracks.new ≡ written (g64_content tracks.old) at bytes.now }
+    ensures changed { IsCircleChanged tracks.old tracks.new (at.track - 1) }
     ensures laid { AreLaid tracks.new }
     ensures filled { AreFilled id.now tracks.new }
 {
@@ -113,7 +113,7 @@ pub(crate) fn fill_on(tracks: &mut [IndexedTrack], at: Address, id: &[u8; 2], by
 pub(crate) fn format_on(tracks: &mut [IndexedTrack], id: &[u8; 2])
     requires { length tracks.old ≡ 35 }
     ensures fresh { AreFresh id.now tracks.new }
-    ensures blank { content_of tracks.new ≡ blank }
+    ensures blank { g64_content tracks.new ≡ blank }
     ensures id { id_for tracks.new ≡ id.now }
 {
     for i in 0..35u8 {

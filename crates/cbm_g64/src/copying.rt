@@ -1,8 +1,8 @@
 ghost use Rattle.std.specs.Prelude.{◌≡◌, ◌≢◌, ℕ, ◌<◌, ◌≤◌, List, Ok, None, IfErr, IfOk, length, replicate, true};
 ghost use Rattle.cbm_medium.specs.Place.{Has, Place, sectors_on};
-ghost use Rattle.cbm_g64.specs.File.{fault_of, tracks_in};
+ghost use Rattle.cbm_g64.specs.File.{g64_fault, g64_circles};
 ghost use Rattle.cbm_g64.specs.NewFile.{new_file};
-ghost use Rattle.cbm_g64.specs.Tracks.{content_of, id_for, or_zeros, AreFilled, AreFresh, AreLaid};
+ghost use Rattle.cbm_g64.specs.Tracks.{g64_content, id_for, or_zeros, AreFilled, AreFresh, AreLaid};
 ghost use Rattle.cbm_g64.specs.Image.{IsHeld, IsImageOf};
 
 use crate::circles::fill_on;
@@ -17,7 +17,7 @@ fn fresh_tracks(alloc: Global, id: &[u8; 2]) -> Result<Vec<IndexedTrack>, AllocE
     ensures fresh { IfOk result (λ v. AreFresh id.now v.items) }
     ensures count { IfOk result (λ v. length v.items ≡ 35) }
     ensures held { IfOk result (λ v. IsHeld new_file v.items) }
-    ensures blank { IfOk result (λ v. (p : Place) → content_of v.items p ≡ Ok (replicate 256 0)) }
+    ensures blank { IfOk result (λ v. (p : Place) → g64_content v.items p ≡ Ok (replicate 256 0)) }
     ensures id { IfOk result (λ v. id_for v.items ≡ id.now) }
     ensures laid { IfOk result (λ v. AreLaid v.items) }
     ensures filled { IfOk result (λ v. AreFilled id.now v.items) }
@@ -37,9 +37,9 @@ fn copy_sector<M: Medium>(medium: &M, tracks: &mut [IndexedTrack], at: Address, 
     requires filled { AreFilled id.now tracks.old }
     requires id { id_for tracks.old ≡ id.now }
     requires track { at.track ≤ 35 }
-    requires blank { content_of tracks.old at ≡ Ok (replicate 256 0) }
-    ensures here { content_of tracks.new at ≡ or_zeros ((M.seen medium.now).content at) }
-    ensures others { (p : Place) → at ≢ p → content_of tracks.new p ≡ content_of tracks.old p }
+    requires blank { g64_content tracks.old at ≡ Ok (replicate 256 0) }
+    ensures here { g64_content tracks.new at ≡ or_zeros ((M.seen medium.now).content at) }
+    ensures others { (p : Place) → at ≢ p → g64_content tracks.new p ≡ g64_content tracks.old p }
     ensures held { IsHeld new_file tracks.new }
     ensures id { id_for tracks.new ≡ id_for tracks.old }
     ensures laid { AreLaid tracks.new }
@@ -59,10 +59,10 @@ fn copy_track<M: Medium>(medium: &M, tracks: &mut [IndexedTrack], track: u8, id:
     requires filled { AreFilled id.now tracks.old }
     requires id { id_for tracks.old ≡ id.now }
     requires track { track ≤ 35 }
-    requires blank { (p : Place) → p.track ≡ track → content_of tracks.old p ≡ Ok (replicate 256 0) }
+    requires blank { (p : Place) → p.track ≡ track → g64_content tracks.old p ≡ Ok (replicate 256 0) }
     ensures here { (p : Place) → p.track ≡ track → p.sector < sectors_on track →
-        content_of tracks.new p ≡ or_zeros ((M.seen medium.now).content p) }
-    ensures others { (p : Place) → p.track ≢ track → content_of tracks.new p ≡ content_of tracks.old p }
+        g64_content tracks.new p ≡ or_zeros ((M.seen medium.now).content p) }
+    ensures others { (p : Place) → p.track ≢ track → g64_content tracks.new p ≡ g64_content tracks.old p }
     ensures held { IsHeld new_file tracks.new }
     ensures id { id_for tracks.new ≡ id_for tracks.old }
     ensures laid { AreLaid tracks.new }
@@ -83,8 +83,8 @@ fn copy_tracks<M: Medium>(medium: &M, tracks: &mut [IndexedTrack], id: &[u8; 2])
     requires laid { AreLaid tracks.old }
     requires filled { AreFilled id.now tracks.old }
     requires id { id_for tracks.old ≡ id.now }
-    requires blank { (p : Place) → content_of tracks.old p ≡ Ok (replicate 256 0) }
-    ensures shown { (p : Place) → Has 35 p → content_of tracks.new p ≡ or_zeros ((M.seen medium.now).content p) }
+    requires blank { (p : Place) → g64_content tracks.old p ≡ Ok (replicate 256 0) }
+    ensures shown { (p : Place) → Has 35 p → g64_content tracks.new p ≡ or_zeros ((M.seen medium.now).content p) }
     ensures held { IsHeld new_file tracks.new }
     ensures id { id_for tracks.new ≡ id_for tracks.old }
     ensures laid { AreLaid tracks.new }
@@ -103,13 +103,13 @@ pub(crate) fn image_of<M: Medium>(
 ) -> Result<Vec<u8>, G64Fault>
     requires { (M.seen medium.now).tracks ≡ 35 }
     ensures size { IfOk result (λ v. length v.items ≡ 278234) }
-    ensures right { IfOk result (λ v. fault_of v.items ≡ None) }
-    ensures form { IfOk result (λ v. IsImageOf new_file (tracks_in v.items 35) v.items) }
-    ensures laid { IfOk result (λ v. AreLaid (tracks_in v.items 35)) }
-    ensures filled { IfOk result (λ v. AreFilled id (tracks_in v.items 35)) }
+    ensures right { IfOk result (λ v. g64_fault v.items ≡ None) }
+    ensures form { IfOk result (λ v. IsImageOf new_file (g64_circles v.items 35) v.items) }
+    ensures laid { IfOk result (λ v. AreLaid (g64_circles v.items 35)) }
+    ensures filled { IfOk result (λ v. AreFilled id (g64_circles v.items 35)) }
     ensures shown { IfOk result (λ v. (p : Place) → Has 35 p →
-        content_of (tracks_in v.items 35) p ≡ or_zeros ((M.seen medium.now).content p)) }
-    ensures id { IfOk result (λ v. id_for (tracks_in v.items 35) ≡ id) }
+        g64_content (g64_circles v.items 35) p ≡ or_zeros ((M.seen medium.now).content p)) }
+    ensures id { IfOk result (λ v. id_for (g64_circles v.items 35) ≡ id) }
     ensures err { IfErr result (λ fault. fault ≡ G64Fault.Memory) }
 {
     let Ok(mut tracks) = fresh_tracks(alloc, &id) else {

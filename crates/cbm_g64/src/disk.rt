@@ -2,9 +2,9 @@ ghost use Rattle.std.specs.Prelude.{refl, ◌≡◌, ◌≤◌, ◌-◌, ◌⊎�
 ghost use Rattle.cbm_medium.specs.Place.{Has, Place, directory_head};
 ghost use Rattle.cbm_medium.specs.Content.{blank, format_refusal, refusal, written};
 ghost use Rattle.cbm_medium.specs.Seen.{with_content, formatted_as, write_refusal, IsRefused};
-ghost use Rattle.cbm_g64.specs.File.{fault_of, tracks_in};
+ghost use Rattle.cbm_g64.specs.File.{g64_fault, g64_circles};
 ghost use Rattle.cbm_g64.specs.NewFile.{base_of, new_file};
-ghost use Rattle.cbm_g64.specs.Tracks.{bits_at, content_of, id_for, or_zeros, seen_of, AreFilled, AreFresh, AreLaid, HasTrack, IsChanged, IsPut};
+ghost use Rattle.cbm_g64.specs.Tracks.{bits_at, g64_content, id_for, or_zeros, g64_seen, AreFilled, AreFresh, AreLaid, HasTrack, IsCircleChanged, IsPut};
 ghost use Rattle.cbm_g64.specs.Image.{IsImageOf};
 
 use crate::checks::fault_of;
@@ -30,11 +30,11 @@ pub struct G64Disk {
 }
 
 impl Model for G64Disk {
-    ghost use Rattle.cbm_g64.specs.Tracks.{Disk};
+    ghost use Rattle.cbm_g64.specs.Tracks.{G64State};
     ghost use Rattle.cbm_g64.specs.NewFile.{base_of};
     ghost use Rattle.cbm_g64.specs.Image.{IsHeld};
 
-    ghost Value = { Disk };
+    ghost Value = { G64State };
 
     ghost view = { λ d. record {
       tracks = d.tracks.items;
@@ -51,13 +51,13 @@ impl G64Disk {
     /// tests.
     pub fn from_bytes(alloc: Global, bytes: &[u8], protected: bool) -> Result<G64Disk, G64Fault>
         ensures ok { IfOk result (λ d. d ≡ (record {
-          tracks = tracks_in bytes.now 35;
+          tracks = g64_circles bytes.now 35;
           file = bytes.now;
           formatted = false;
           protected = protected;
         })) }
-        ensures refused { IfSome (fault_of bytes.now) (λ fault. result ≡ Err fault) }
-        ensures cause { IfErr result (λ fault. (fault_of bytes.now ≡ Some fault) ⊎ (fault ≡ G64Fault.Memory)) }
+        ensures refused { IfSome (g64_fault bytes.now) (λ fault. result ≡ Err fault) }
+        ensures cause { IfErr result (λ fault. (g64_fault bytes.now ≡ Some fault) ⊎ (fault ≡ G64Fault.Memory)) }
     {
         match fault_of(bytes) {
             Some(fault) => return Err(fault),
@@ -82,9 +82,9 @@ impl G64Disk {
     pub fn to_bytes(&self, alloc: Global) -> Result<Vec<u8>, G64Fault>
         ensures ok { IfOk result (λ v. IsImageOf (base_of self.now.formatted self.now.file) self.now.tracks v.items) }
         // Opened again it is the same disk.
-        ensures again { IfOk result (λ v. (fault_of v.items ≡ None) × (tracks_in v.items 35 ≡ self.now.tracks)) }
+        ensures again { IfOk result (λ v. (g64_fault v.items ≡ None) × (g64_circles v.items 35 ≡ self.now.tracks)) }
         // A disk that nobody wrote gives its bytes back.
-        ensures unwritten { self.now.formatted ≡ false → self.now.tracks ≡ tracks_in self.now.file 35
+        ensures unwritten { self.now.formatted ≡ false → self.now.tracks ≡ g64_circles self.now.file 35
             → IfOk result (λ v. v.items ≡ self.now.file) }
         ensures err { IfErr result (λ fault. fault ≡ G64Fault.Memory) }
     {
@@ -110,15 +110,15 @@ impl G64Disk {
     ) -> Result<Vec<u8>, G64Fault>
         requires { (M.seen medium.now).tracks ≡ 35 }
         ensures size { IfOk result (λ v. length v.items ≡ 278234) }
-        ensures right { IfOk result (λ v. fault_of v.items ≡ None) }
+        ensures right { IfOk result (λ v. g64_fault v.items ≡ None) }
         // All but the tracks' bytes is that of a new file: entries, speeds, lengths and padding.
-        ensures form { IfOk result (λ v. IsImageOf new_file (tracks_in v.items 35) v.items) }
+        ensures form { IfOk result (λ v. IsImageOf new_file (g64_circles v.items 35) v.items) }
         // Each data block stands where formatting puts it, between marks, headers and gaps as formatting writes them.
-        ensures laid { IfOk result (λ v. AreLaid (tracks_in v.items 35)) }
-        ensures filled { IfOk result (λ v. AreFilled id (tracks_in v.items 35)) }
+        ensures laid { IfOk result (λ v. AreLaid (g64_circles v.items 35)) }
+        ensures filled { IfOk result (λ v. AreFilled id (g64_circles v.items 35)) }
         ensures shown { IfOk result (λ v. (p : Place) → Has 35 p →
-            content_of (tracks_in v.items 35) p ≡ or_zeros ((M.seen medium.now).content p)) }
-        ensures id { IfOk result (λ v. id_for (tracks_in v.items 35) ≡ id) }
+            g64_content (g64_circles v.items 35) p ≡ or_zeros ((M.seen medium.now).content p)) }
+        ensures id { IfOk result (λ v. id_for (g64_circles v.items 35) ≡ id) }
         ensures err { IfErr result (λ fault. fault ≡ G64Fault.Memory) }
     {
         image_of(alloc, medium, id)
@@ -143,15 +143,15 @@ impl G64Disk {
 
 impl Medium for G64Disk {
     ghost use Rattle.std.specs.Prelude.{refl};
-    ghost use Rattle.cbm_g64.specs.Tracks.{content_of, seen_of};
+    ghost use Rattle.cbm_g64.specs.Tracks.{g64_content, g64_seen};
     ghost use Rattle.cbm_g64.specs.Outer.{no_outer};
-    ghost use Rattle.cbm_g64.specs.Faults.{has_codes};
+    ghost use Rattle.cbm_g64.specs.Faults.{g64_has_codes};
 
-    ghost seen = { seen_of };
+    ghost seen = { g64_seen };
 
-    ghost codes = { λ d p. has_codes d.tracks p };
+    ghost codes = { λ d p. g64_has_codes d.tracks p };
 
-    ghost outer_headers = { λ d p. no_outer 35 refl (content_of d.tracks) p };
+    ghost outer_headers = { λ d p. no_outer 35 refl (g64_content d.tracks) p };
 
     #[tactic(auto, using(crate::proofs::Contents::known_code))]
     fn read(&self, at: Address) -> Result<[u8; 256], Fault> {
@@ -160,15 +160,15 @@ impl Medium for G64Disk {
 
     fn write(&mut self, at: Address, bytes: &[u8; 256]) -> Result<(), Fault>
         requires { at.track ≤ 35 }
-        ensures ok { let old = seen_of self.old in
-            OnOk result (seen_of self.new ≡ with_content (written old.content at bytes.now) old) }
-        ensures refused { IfSome (refusal self.old.protected (content_of self.old.tracks at))
+        ensures ok { let old = g64_seen self.old in
+            OnOk result (g64_seen self.new ≡ with_content (written old.content at bytes.now) old) }
+        ensures refused { IfSome (refusal self.old.protected (g64_content self.old.tracks at))
             (λ code. result ≡ Err (record { code = code; at = at })) }
         ensures err { IfErr result (λ fault. (fault.at ≡ at)
-            × IsRefused (write_refusal (seen_of self.old) at) fault (seen_of self.old) (seen_of self.new)) }
+            × IsRefused (write_refusal (g64_seen self.old) at) fault (g64_seen self.old) (g64_seen self.new)) }
 
         // What the circles are then, which the content doesn't show.
-        ensures changed { OnOk result (IsChanged self.old.tracks self.new.tracks (at.track - 1)) }
+        ensures changed { OnOk result (IsCircleChanged self.old.tracks self.new.tracks (at.track - 1)) }
         // Its own track, within the 2,600 bits of the sector's block.
         ensures block { OnOk result (IsPut self.old.tracks self.new.tracks at bytes.now) }
         ensures kept { self.new ≡ record self.old { tracks = self.new.tracks } }
@@ -184,11 +184,11 @@ impl Medium for G64Disk {
     }
 
     fn format(&mut self, id: [u8; 2]) -> Result<(), Fault>
-        ensures ok { OnOk result (seen_of self.new ≡ formatted_as id (with_content blank (seen_of self.old))) }
+        ensures ok { OnOk result (g64_seen self.new ≡ formatted_as id (with_content blank (g64_seen self.old))) }
         ensures refused { IfSome (format_refusal self.old.protected)
             (λ code. result ≡ Err (record { code = code; at = directory_head })) }
         ensures err { IfErr result (λ fault. (fault.at ≡ directory_head)
-            × IsRefused (format_refusal self.old.protected) fault (seen_of self.old) (seen_of self.new)) }
+            × IsRefused (format_refusal self.old.protected) fault (g64_seen self.old) (g64_seen self.new)) }
 
         // The tracks are fresh ones, and the image will be a new file.
         ensures fresh { OnOk result (AreFresh id self.new.tracks) }

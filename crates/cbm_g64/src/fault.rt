@@ -1,5 +1,5 @@
 ghost use Rattle.std.specs.Prelude.{◌≡◌};
-ghost use Rattle.cbm_g64.specs.Numbers.{number_of};
+ghost use Rattle.cbm_g64.specs.Numbers.{g64_fault_number};
 
 use thiserror::Error;
 
@@ -36,7 +36,7 @@ pub enum G64Fault {
 impl G64Fault {
     /// Its number, as the program shows it.
     pub fn number(self) -> u8
-        ensures { result ≡ number_of self }
+        ensures { result ≡ g64_fault_number self }
     {
         match self {
             G64Fault::Signature => 1,

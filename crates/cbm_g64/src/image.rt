@@ -2,8 +2,8 @@ ghost use Rattle.std.specs.Prelude.{◌≡◌, ◌<◌, ◌≤◌, ◌+◌, ◌+
 ghost use Rattle.byteorder.specs.Endian.{little_bytes};
 ghost use Rattle.cbm_sector.specs.Decoding.{IsBytes};
 ghost use Rattle.cbm_sector.specs.Fresh.{bytes_on};
-ghost use Rattle.cbm_g64.specs.File.{offset, fault_of, tracks_in};
-ghost use Rattle.cbm_g64.specs.NewFile.{base_of, blocks_of, entries_of, new_file, new_place, new_zone};
+ghost use Rattle.cbm_g64.specs.File.{offset, g64_fault, g64_circles};
+ghost use Rattle.cbm_g64.specs.NewFile.{base_of, new_track_blocks, entries_of, new_file, new_place, new_zone};
 ghost use Rattle.cbm_g64.specs.Image.{IsHeld, IsImageOf};
 
 use crate::numbers::offset;
@@ -76,7 +76,7 @@ fn append_speeds(out: &mut Vec<u8>) -> Result<(), AllocError>
 
 /// Appends the tracks of a new file, as zeros.
 fn append_blocks(out: &mut Vec<u8>) -> Result<(), AllocError>
-    ensures { OnOk result (out.new.items ≡ out.old.items ++ blocks_of 35) }
+    ensures { OnOk result (out.new.items ≡ out.old.items ++ new_track_blocks 35) }
 {
     for i in 0..35 {
         out.extend_from_slice(&length_field(i))?;
@@ -113,7 +113,7 @@ pub(crate) fn base(alloc: Global, file: &[u8], formatted: bool) -> Result<Vec<u8
 /// The offset of track `i + 1` in the file that a disk's tracks are put into.
 pub(crate) fn offset_in(file: &[u8], formatted: bool, i: usize) -> usize
     requires track { i < 35 }
-    requires right { is_some (fault_of (base_of formatted file.now)) ≡ false }
+    requires right { is_some (g64_fault (base_of formatted file.now)) ≡ false }
     ensures value { result ≡ offset (base_of formatted file.now) i }
     ensures below { result < 4294967296 }
 {
@@ -134,8 +134,8 @@ pub(crate) fn put_tracks(file: &[u8], formatted: bool, tracks: &[IndexedTrack], 
     requires held { IsHeld (base_of formatted file.now) tracks.now }
     requires base { out.old ≡ base_of formatted file.now }
     ensures image { IsImageOf (base_of formatted file.now) tracks.now out.new }
-    ensures again { (fault_of out.new ≡ None) × (tracks_in out.new 35 ≡ tracks.now) }
-    ensures unwritten { formatted ≡ false → tracks.now ≡ tracks_in file.now 35 → out.new ≡ file.now }
+    ensures again { (g64_fault out.new ≡ None) × (g64_circles out.new 35 ≡ tracks.now) }
+    ensures unwritten { formatted ≡ false → tracks.now ≡ g64_circles file.now 35 → out.new ≡ file.now }
 {
     for i in 0..35 {
         let at = offset_in(file, formatted, i);

@@ -3,7 +3,7 @@ use Rattle.std.proofs.Common.{inl, inr}
 use Rattle.std.proofs.lemmas.Bool.{cases_lt}
 use Rattle.std.proofs.lemmas.List.{get_or_past}
 use Rattle.std.proofs.lemmas.List.Elements.{All-get_or}
-use Rattle.cbm_gcr.specs.Code.{bits_of, code, ten_bits, IsBlock}
+use Rattle.cbm_gcr.specs.Code.{bits_of, code, ten_bits, IsFourBytes}
 use Rattle.cbm_gcr.proofs.Bits.{value, same_bits, value_of_four, value_of_five, ten_below}
 
 abbrev pub at : List ℕ → ℕ → ℕ
@@ -64,13 +64,13 @@ tens_apart : (a b c d w : ℕ) → a < 1024 → b < 1024 → c < 1024 → d < 10
     → (w / 1073741824 ≡ a) × (w / 1048576 % 1024 ≡ b) × (w / 1024 % 1024 ≡ c) × (w % 1024 ≡ d)
 tens_apart a b c d w p q r s e = (omega arith, omega arith, omega arith, omega arith)
 
-block_bytes : (v : List ℕ) → IsBlock v → IsBytes v
+block_bytes : (v : List ℕ) → IsFourBytes v → IsBytes v
 block_bytes v h i = elim (cases_lt i (length v)) [
   | inl l ↦ All-get_or (λ b. b < 256) v i 0 l h.1
   | inr g ↦ rw (get_or_past v i 0 g) (omega arith)
 ]
 
-pub parts : (v xs : List ℕ) → IsBlock v → length xs ≡ 5 → IsBytes xs → code v ≡ bits_of xs → Parts v (word xs)
+pub parts : (v xs : List ℕ) → IsFourBytes v → length xs ≡ 5 → IsBytes xs → code v ≡ bits_of xs → Parts v (word xs)
 parts v xs h m d e =
     let b : IsBytes v = block_bytes v h in
     let t = tens_apart (ten_bits (at v 0)) (ten_bits (at v 1)) (ten_bits (at v 2)) (ten_bits (at v 3)) (word xs)

@@ -1,5 +1,5 @@
 ghost use Rattle.std.specs.Prelude.{◌≡◌, ℕ, ◌<◌, ◌↔◌, List, Some, IfSome};
-ghost use Rattle.cbm_gcr.specs.Code.{code, bits_of, IsBlock};
+ghost use Rattle.cbm_gcr.specs.Code.{code, bits_of, IsFourBytes};
 
 use crate::byte::{byte_of, ten_of};
 
@@ -21,8 +21,8 @@ pub fn encode4(bytes: &[u8; 4]) -> [u8; 5]
 
 /// The four bytes that five are the code of; `None` exactly where they are the code of none.
 pub fn decode5(coded: &[u8; 5]) -> Option<[u8; 4]>
-    ensures value { (v : List ℕ) → IsBlock v → ((result ≡ Some v) ↔ (code v ≡ bits_of coded.now)) }
-    ensures block { IfSome result IsBlock }
+    ensures value { (v : List ℕ) → IsFourBytes v → ((result ≡ Some v) ↔ (code v ≡ bits_of coded.now)) }
+    ensures block { IfSome result IsFourBytes }
 {
     let [a, b, c, d, e] = *coded;
     let word = (((a as u64 * 256 + b as u64) * 256 + c as u64) * 256 + d as u64) * 256 + e as u64;

@@ -1,8 +1,8 @@
 -- For each machine there is what it says in a request, and the pieces of the request with it.
 use Rattle.std.proofs.Common.{replicate, ◌≡◌, ℕ, zero, suc, ◌+◌, ◌-◌, ◌<◌, ◌≤◌, ◌⊎◌, inl, inr, Bool, true, false, List, [], ◌∷◌, ◌++◌, length, append_assoc, append-nil, Option, Some, None, refl, sym, ap, ◌∙◌, subst, arith, eq-eqb}
 use Rattle.std.specs.Prelude.{if◌then◌else◌}
-use Rattle.cbm_iec.specs.declared.act.Act.TheVariants.{Pulled, Attention, Released, Heard, Said as Spoken, Silent}
-use Rattle.cbm_iec.specs.declared.act.Act.{Act}
+use Rattle.cbm_iec.specs.declared.machine.Act.TheVariants.{Pulled, Attention, Released, Heard, Said as Spoken, Silent}
+use Rattle.cbm_iec.specs.declared.machine.Act.{Act}
 use Rattle.cbm_iec.specs.declared.event.Who.TheVariants.{Host, Drive}
 use Rattle.cbm_iec.specs.declared.event.Who.{Who}
 use Rattle.cbm_iec.specs.declared.party.Party.{Party}
@@ -16,9 +16,9 @@ use Rattle.cbm_host.proofs.Fronts.{said_from, said_append, none_front, OnlyLast,
 use Rattle.cbm_host.proofs.Requests.{plays_requests}
 use Rattle.cbm_host.proofs.Saying.{Marks, by_drive, heard_marks, said_marks, leave_marks, AreSmall, Counts, SaysLast, SaysMost, IsSaid, turned_marks, sends_counts, takes_counts, closes_counts}
 use Rattle.cbm_iec.specs.Attentions.{listen, unlisten, talk, untalk, data_on, close_on}
-use Rattle.cbm_host.specs.CarriedOut.{heard, spoken, said as talked, called, left_by, acts_of, IsTakenUpTo, IsTakenBy, AreBytes, SaysOn, SaysFew, IsShort}
-use Rattle.cbm_host.specs.Engines.{engine_at, channel_of, most_bytes, most_of, is_last}
-use Rattle.cbm_host.specs.Requests.{sending, Said, Mute, UpToLast, UpToMost, count_of, IsSaidFor, longest, pieces_of, IsPlayed}
+use Rattle.cbm_host.specs.CarriedOut.{acts_heard, spoken, said as talked, acts_called, left_by, acts_carried_out, IsTakenUpTo, AreTakenBy, AreBytes, SaysOn, SaysFew, IsShort}
+use Rattle.cbm_host.specs.Engines.{engine_at, channel_of, most_bytes, most_of, is_last_byte}
+use Rattle.cbm_host.specs.Requests.{sending_pieces, Said, Mute, UpToLast, UpToMost, said_count, IsSaidFor, longest, pieces_of, IsPlayed}
 use Rattle.cbm_host.specs.declared.request.Request.{Request}
 use Rattle.cbm_host.specs.declared.request.Request.TheVariants.{Open, Put, Fill, Get, Close, Status}
 
@@ -40,9 +40,9 @@ acts_append : (d : ℕ) (xs ys : Marks) → acts_from d (xs ++ ys) ≡ acts_from
 acts_append d [] ys = refl
 acts_append d (x ∷ xs) ys = ap (λ (l : List Act). with_mark d x.1 l) (acts_append d xs ys) ∙ with_append d x.1 (acts_from d xs) (acts_from d ys)
 
-heard_acts : (d : ℕ) (bytes : List ℕ) → acts_from d (heard_marks d bytes) ≡ heard bytes
+heard_acts : (d : ℕ) (bytes : List ℕ) → acts_from d (heard_marks d bytes) ≡ acts_heard bytes
 heard_acts d [] = refl
-heard_acts d (byte ∷ left) = act_cons d (Drive d) (Heard byte (is_last left)) (heard_marks d left) ∙ ap (λ (l : List Act). Heard byte (is_last left) ∷ l) (heard_acts d left)
+heard_acts d (byte ∷ left) = act_cons d (Drive d) (Heard byte (is_last_byte left)) (heard_marks d left) ∙ ap (λ (l : List Act). Heard byte (is_last_byte left) ∷ l) (heard_acts d left)
 
 said_acts : (d : ℕ) (last : Bool) (byte : ℕ) (more : List ℕ) → acts_from d (said_marks d last byte more) ≡ spoken last byte more
 said_acts d last byte [] = act_cons d Host (Spoken byte last) []
@@ -54,7 +54,7 @@ leave_acts d byte = ap (λ (l : List Act). Pulled ∷ l) (act_cons d (Drive d) (
 two_acts : (d one two : ℕ) (ms : Marks) → acts_from d ((Host, ForEach Pulled) ∷ by_drive d (Attention one) ∷ by_drive d (Attention two) ∷ ms) ≡ Pulled ∷ Attention one ∷ Attention two ∷ acts_from d ms
 two_acts d one two ms = ap (λ (l : List Act). Pulled ∷ l) (act_cons d (Drive d) (Attention one) (by_drive d (Attention two) ∷ ms) ∙ ap (λ (l : List Act). Attention one ∷ l) (act_cons d (Drive d) (Attention two) ms))
 
-called_acts : (d one two byte : ℕ) (ms : Marks) (acts : List Act) → acts_from d ms ≡ acts → acts_from d ((Host, ForEach Pulled) ∷ by_drive d (Attention one) ∷ by_drive d (Attention two) ∷ (Host, ForEach Released) ∷ (ms ++ leave_marks d byte)) ≡ called one two ++ (acts ++ left_by byte)
+called_acts : (d one two byte : ℕ) (ms : Marks) (acts : List Act) → acts_from d ms ≡ acts → acts_from d ((Host, ForEach Pulled) ∷ by_drive d (Attention one) ∷ by_drive d (Attention two) ∷ (Host, ForEach Released) ∷ (ms ++ leave_marks d byte)) ≡ acts_called one two ++ (acts ++ left_by byte)
 called_acts d one two byte ms acts e =
     two_acts d one two ((Host, ForEach Released) ∷ (ms ++ leave_marks d byte))
     ∙ ap (λ (l : List Act). Pulled ∷ Attention one ∷ Attention two ∷ Released ∷ l) (acts_append d ms (leave_marks d byte) ∙ ap (λ (l : List Act). l ++ acts_from d (leave_marks d byte)) e ∙ ap (λ (l : List Act). acts ++ l) (leave_acts d byte))
@@ -94,8 +94,8 @@ pub record Plan (M : Type 0) (step : M → Act → M) (peek : M → Option (ℕ 
   pub marks : Marks
   pub played : IsPlayed b (rest (b ∷ [])) (engine_at start b.device request) pieces (start + longest b.pace)
   pub counts : Counts M step peek small b drive.some drive.prompt (rest (b ∷ [])) m pieces marks
-  pub acts : acts_from b.device marks ≡ acts_of b.device request (taken_from marks) (last_from false marks)
-  pub taken : IsTakenBy request (taken_from marks) (last_from false marks)
+  pub acts : acts_from b.device marks ≡ acts_carried_out b.device request (taken_from marks) (last_from false marks)
+  pub taken : AreTakenBy request (taken_from marks) (last_from false marks)
   pub fronts : (ms1 ms2 : Marks) → marks ≡ ms1 ++ ms2 → SaysFront M step peek b.device m request (taken_from ms1) (last_from false ms1)
 
 -- the bytes that the talker said, and whether the last of them carried EOI
@@ -176,7 +176,7 @@ module _ (M : Type 0) (step : M → Act → M) (says : M → Option (ℕ × Bool
       pub said : Said
       pub is : Says m said
       pub wanted : IsSaidFor most said
-      pub few : count_of said ≤ most_bytes
+      pub few : said_count said ≤ most_bytes
 
     answer : (most : ℕ) (m : M) → SaysFew M step says most m → Answer most m
     answer most m h = by_peek (peek m) refl
@@ -195,18 +195,18 @@ module _ (M : Type 0) (step : M → Act → M) (says : M → Option (ℕ × Bool
     abbrev PlanOf : M → ℕ → Request → Type 0
     PlanOf m start request = Plan M step peek all_small b drive m start request
 
-    send_acts : (second : ℕ) (bytes : List ℕ) → acts_from d ((Host, ForEach Pulled) ∷ by_drive d (Attention (32 + d)) ∷ by_drive d (Attention second) ∷ (Host, ForEach Released) ∷ (heard_marks d bytes ++ leave_marks d unlisten)) ≡ called (listen + d) second ++ (heard bytes ++ left_by unlisten)
-    send_acts second bytes = called_acts d (32 + d) second unlisten (heard_marks d bytes) (heard bytes) (heard_acts d bytes)
+    send_acts : (second : ℕ) (bytes : List ℕ) → acts_from d ((Host, ForEach Pulled) ∷ by_drive d (Attention (32 + d)) ∷ by_drive d (Attention second) ∷ (Host, ForEach Released) ∷ (heard_marks d bytes ++ leave_marks d unlisten)) ≡ acts_called (listen + d) second ++ (acts_heard bytes ++ left_by unlisten)
+    send_acts second bytes = called_acts d (32 + d) second unlisten (heard_marks d bytes) (acts_heard bytes) (heard_acts d bytes)
 
     send_taken : (bytes : List ℕ) → (taken_from (heard_marks d bytes ++ leave_marks d unlisten) ≡ []) × (last_from false (heard_marks d bytes ++ leave_marks d unlisten) ≡ false)
     send_taken bytes = (taken_append (heard_marks d bytes) (leave_marks d unlisten) ∙ append-nil (taken_from (heard_marks d bytes)) ∙ heard_taken d bytes, last_append false (heard_marks d bytes) (leave_marks d unlisten) ∙ heard_last d false bytes)
 
     take_acts : (channel : ℕ) (s : Said) → let marks = (Host, ForEach Pulled) ∷ by_drive d (Attention (64 + d)) ∷ by_drive d (Attention (96 + channel)) ∷ (Host, ForEach Released) ∷ (Marked s ++ leave_marks d untalk) in
-        acts_from d marks ≡ called (talk + d) (data_on + channel) ++ (talked (taken_from marks) (last_from false marks) ++ left_by untalk)
+        acts_from d marks ≡ acts_called (talk + d) (data_on + channel) ++ (talked (taken_from marks) (last_from false marks) ++ left_by untalk)
     take_acts channel s =
         called_acts d (64 + d) (96 + channel) untalk (Marked s) (talked (bytes_of s) (last_of s)) (turned_acts s)
-        ∙ ap (λ (l : List ℕ). called (talk + d) (data_on + channel) ++ (talked l (last_of s) ++ left_by untalk)) (sym (turned_taken s))
-        ∙ ap (λ (v : Bool). called (talk + d) (data_on + channel) ++ (talked (taken_from (Marked s ++ leave_marks d untalk)) v ++ left_by untalk)) (sym (turned_last s))
+        ∙ ap (λ (l : List ℕ). acts_called (talk + d) (data_on + channel) ++ (talked l (last_of s) ++ left_by untalk)) (sym (turned_taken s))
+        ∙ ap (λ (v : Bool). acts_called (talk + d) (data_on + channel) ++ (talked (taken_from (Marked s ++ leave_marks d untalk)) v ++ left_by untalk)) (sym (turned_last s))
 
     take_taken : (most : ℕ) (s : Said) → IsSaidFor most s → IsTakenUpTo most (taken_from (Marked s ++ leave_marks d untalk)) (last_from false (Marked s ++ leave_marks d untalk))
     take_taken most s h = subst (λ (v : Bool). IsTakenUpTo most (taken_from (Marked s ++ leave_marks d untalk)) v) (sym (turned_last s)) (subst (λ (l : List ℕ). IsTakenUpTo most l (last_of s)) (sym (turned_taken s)) (taken_up_to most s h))
@@ -259,13 +259,13 @@ module _ (M : Type 0) (step : M → Act → M) (says : M → Option (ℕ × Bool
         (subst (λ (l : List (ℕ × Bool)). length l ≤ most) same (few_of most s wanted))
 
     -- where bytes are sent none are taken
-    sent_plan : (m : M) (start : ℕ) (request : Request) (second : ℕ) (sent : List ℕ) → 96 ≤ second → second < 256 → AreBytes sent → IsPlayed b (rest (b ∷ [])) (engine_at start d request) (sending b start second sent) (start + longest b.pace)
-        → ((bytes : List ℕ) (last : Bool) → acts_of d request bytes last ≡ called (listen + d) second ++ (heard sent ++ left_by unlisten))
-        → ((bytes : List ℕ) (last : Bool) → (bytes ≡ []) × (last ≡ false) → IsTakenBy request bytes last × SaysFront M step peek d m request bytes last) → PlanOf m start request
+    sent_plan : (m : M) (start : ℕ) (request : Request) (second : ℕ) (sent : List ℕ) → 96 ≤ second → second < 256 → AreBytes sent → IsPlayed b (rest (b ∷ [])) (engine_at start d request) (sending_pieces b start second sent) (start + longest b.pace)
+        → ((bytes : List ℕ) (last : Bool) → acts_carried_out d request bytes last ≡ acts_called (listen + d) second ++ (acts_heard sent ++ left_by unlisten))
+        → ((bytes : List ℕ) (last : Bool) → (bytes ≡ []) × (last ≡ false) → AreTakenBy request bytes last × SaysFront M step peek d m request bytes last) → PlanOf m start request
     sent_plan m start request second sent high few small played acts none =
         let marks = (Host, ForEach Pulled) ∷ by_drive d (Attention (32 + d)) ∷ by_drive d (Attention second) ∷ (Host, ForEach Released) ∷ (heard_marks d sent ++ leave_marks d unlisten) in
         record {
-          pieces = sending b start second sent;
+          pieces = sending_pieces b start second sent;
           marks = marks;
           played = played;
           counts = sends_counts M step peek all_small b drive.some drive.prompt start second sent m drive.upto high few (small_bytes sent small);

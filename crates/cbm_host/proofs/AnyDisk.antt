@@ -3,8 +3,8 @@ use Rattle.std.proofs.Common.{ℕ, ◌<◌, false, List, [], ◌∷◌, None, re
 use Rattle.std.specs.Prelude.{IfSome}
 use Rattle.std.specs.List.{AllZip}
 use Rattle.cbm_drive.specs.Cables.{Cabled}
-use Rattle.cbm_drive.specs.Seats.{Seated, IsSeat, IsBusAt, held_by}
-use Rattle.cbm_host.specs.AnyDisk.{IsAtRest}
+use Rattle.cbm_drive.specs.Seats.{Seated, IsSeat, IsBusAt, wires_held_by}
+use Rattle.cbm_host.specs.AnyDisk.{IsAtRestAnyway}
 use Rattle.cbm_host.specs.CarriedOut.{IsShort}
 use Rattle.cbm_drive.specs.Playback.{Shown, Playback, played_says, played_step, IsPlayedBack}
 use Rattle.cbm_host.specs.Served.{IsModest}
@@ -15,11 +15,11 @@ use Rattle.cbm_session.specs.Playing.{at_rest}
 
 module _ {D : Type 0} (shows : D → Shown) (b : Party) where
   -- A machine plays back what it shows, and then this.
-  pub rest_played : (bus : Cabled D) (trail : List Shown) → IsAtRest shows b bus → (p : Playback) × IsBusAt D Playback (IsPlayedBack shows trail) bus.host bus.drives (at_rest Playback played_step played_says (λ d. p) (b ∷ []))
+  pub rest_played : (bus : Cabled D) (trail : List Shown) → IsAtRestAnyway shows b bus → (p : Playback) × IsBusAt D Playback (IsPlayedBack shows trail) bus.host bus.drives (at_rest Playback played_step played_says (λ d. p) (b ∷ []))
   rest_played bus trail k = by_drives bus.drives k
     where
-      by_drives : (xs : List (Seated D)) → AllZip (IsSeat D (Unit {0}) (λ x u. IfSome (shows x) (λ s. s.0 < 256)) (held_by bus.host bus.drives)) xs (at_rest (Unit {0}) (λ u act. u) (λ u. None) (λ d. tt) (b ∷ []))
-          → (p : Playback) × AllZip (IsSeat D Playback (IsPlayedBack shows trail) (held_by bus.host bus.drives)) xs (at_rest Playback played_step played_says (λ d. p) (b ∷ []))
+      by_drives : (xs : List (Seated D)) → AllZip (IsSeat D (Unit {0}) (λ x u. IfSome (shows x) (λ s. s.0 < 256)) (wires_held_by bus.host bus.drives)) xs (at_rest (Unit {0}) (λ u act. u) (λ u. None) (λ d. tt) (b ∷ []))
+          → (p : Playback) × AllZip (IsSeat D Playback (IsPlayedBack shows trail) (wires_held_by bus.host bus.drives)) xs (at_rest Playback played_step played_says (λ d. p) (b ∷ []))
       by_drives [] k = elim k [ ]
       by_drives (x ∷ y ∷ xs) k = elim k.1 [ ]
       by_drives (x ∷ []) k = (
@@ -28,11 +28,11 @@ module _ {D : Type 0} (shows : D → Shown) (b : Party) where
       )
 
   -- What a machine plays back shows a byte, or nothing to say.
-  pub rests_again : (bus : Cabled D) (trail : List Shown) (p : Playback) → IsBusAt D Playback (IsPlayedBack shows trail) bus.host bus.drives (at_rest Playback played_step played_says (λ d. p) (b ∷ [])) → IsAtRest shows b bus
+  pub rests_again : (bus : Cabled D) (trail : List Shown) (p : Playback) → IsBusAt D Playback (IsPlayedBack shows trail) bus.host bus.drives (at_rest Playback played_step played_says (λ d. p) (b ∷ [])) → IsAtRestAnyway shows b bus
   rests_again bus trail p k = by_drives bus.drives k
     where
-      by_drives : (xs : List (Seated D)) → AllZip (IsSeat D Playback (IsPlayedBack shows trail) (held_by bus.host bus.drives)) xs (at_rest Playback played_step played_says (λ d. p) (b ∷ []))
-          → AllZip (IsSeat D (Unit {0}) (λ x u. IfSome (shows x) (λ s. s.0 < 256)) (held_by bus.host bus.drives)) xs (at_rest (Unit {0}) (λ u act. u) (λ u. None) (λ d. tt) (b ∷ []))
+      by_drives : (xs : List (Seated D)) → AllZip (IsSeat D Playback (IsPlayedBack shows trail) (wires_held_by bus.host bus.drives)) xs (at_rest Playback played_step played_says (λ d. p) (b ∷ []))
+          → AllZip (IsSeat D (Unit {0}) (λ x u. IfSome (shows x) (λ s. s.0 < 256)) (wires_held_by bus.host bus.drives)) xs (at_rest (Unit {0}) (λ u act. u) (λ u. None) (λ d. tt) (b ∷ []))
       by_drives [] k = elim k [ ]
       by_drives (x ∷ y ∷ xs) k = elim k.1 [ ]
       by_drives (x ∷ []) k = (record { port = k.0.port; machine = k.0.machine.byte; rest = k.0.rest }, tt)

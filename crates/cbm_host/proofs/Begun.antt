@@ -1,10 +1,10 @@
 -- The bytes that the host has of a request under way are the first of those that the drive's machine says in it.
 use Rattle.std.proofs.Common.{replicate, ◌≡◌, ℕ, ◌+◌, ◌≤◌, Bool, true, false, List, [], ◌∷◌, ◌++◌, append-nil, Option, refl, sym, ap, ◌∙◌, subst, arith}
-use Rattle.cbm_iec.specs.declared.act.Act.TheVariants.{Heard}
-use Rattle.cbm_iec.specs.declared.act.Act.{Act}
+use Rattle.cbm_iec.specs.declared.machine.Act.TheVariants.{Heard}
+use Rattle.cbm_iec.specs.declared.machine.Act.{Act}
 use Rattle.cbm_iec.specs.declared.event.Event.{Event}
 use Rattle.cbm_iec.specs.declared.party.Party.{Party}
-use Rattle.cbm_session.specs.Answers.{Allowed, Run, run}
+use Rattle.cbm_session.specs.Answers.{Allowed, Run, run_acts}
 use Rattle.cbm_session.specs.Playing.{at_rest, IsMachine}
 use Rattle.cbm_session.specs.Sessions.{rest, IsDrive, IsBus}
 use Rattle.cbm_session.specs.Steps.{Step}
@@ -17,8 +17,8 @@ use Rattle.cbm_host.proofs.Fronts.{IsFrontSaid, SaysFront, truly, whole, all_run
 use Rattle.cbm_host.proofs.Joint.{met}
 use Rattle.cbm_iec.specs.Attentions.{listen, unlisten, talk, untalk, data_on, open_on}
 use Rattle.cbm_host.specs.Begun.{IsRequestBegun}
-use Rattle.cbm_host.specs.CarriedOut.{heard, called, left_by, acts_of, IsTakenBy, IsShort}
-use Rattle.cbm_host.specs.Engines.{engine_at, channel_of, is_last, most_of}
+use Rattle.cbm_host.specs.CarriedOut.{acts_heard, acts_called, left_by, acts_carried_out, AreTakenBy, IsShort}
+use Rattle.cbm_host.specs.Engines.{engine_at, channel_of, is_last_byte, most_of}
 use Rattle.cbm_host.specs.Performed.{IsPerforming}
 use Rattle.cbm_host.specs.Performers.{Performing}
 use Rattle.cbm_host.specs.Requests.{longest}
@@ -26,24 +26,24 @@ use Rattle.cbm_host.specs.declared.request.Request.{Request}
 use Rattle.cbm_host.specs.declared.request.Request.TheVariants.{Open, Put, Fill, Get, Close, Status}
 
 module _ (M : Type 0) (step : M → Act → M) (says : M → Option (ℕ × Bool)) where
-  heard_runs : (m : M) (bytes : List ℕ) (acts : List Act) (m2 : M) → Run M step says (run M step says m (heard bytes)) acts m2 → Run M step says m (heard bytes ++ acts) m2
+  heard_runs : (m : M) (bytes : List ℕ) (acts : List Act) (m2 : M) → Run M step says (run_acts M step says m (acts_heard bytes)) acts m2 → Run M step says m (acts_heard bytes ++ acts) m2
   heard_runs m [] acts m2 r = r
-  heard_runs m (byte ∷ left) acts m2 r = (tt, heard_runs (step m (Heard byte (is_last left))) left acts m2 r)
+  heard_runs m (byte ∷ left) acts m2 r = (tt, heard_runs (step m (Heard byte (is_last_byte left))) left acts m2 r)
 
   module _ (machine : IsMachine M step says) (d : ℕ) (m : M) where
     none_more : (bytes : List ℕ) → bytes ≡ [] → [] ≡ bytes ++ []
     none_more bytes none = sym (append-nil bytes ∙ none)
 
     -- where bytes are sent, none come
-    sent : (request : Request) (second : ℕ) (sent_bytes bytes : List ℕ) (last : Bool) → acts_of d request [] false ≡ called (listen + d) second ++ (heard sent_bytes ++ left_by unlisten) → IsTakenBy request [] false → (bytes ≡ []) × (last ≡ false) → IsRequestBegun M step says d m request bytes last
+    sent : (request : Request) (second : ℕ) (sent_bytes bytes : List ℕ) (last : Bool) → acts_carried_out d request [] false ≡ acts_called (listen + d) second ++ (acts_heard sent_bytes ++ left_by unlisten) → AreTakenBy request [] false → (bytes ≡ []) × (last ≡ false) → IsRequestBegun M step says d m request bytes last
     sent request second sent_bytes bytes last acts taken h =
-        let m1 = run M step says m (called (listen + d) second) in
-        let m2 = run M step says (run M step says m1 (heard sent_bytes)) (left_by unlisten) in
-        let ran : Run M step says m (called (listen + d) second ++ (heard sent_bytes ++ left_by unlisten)) m2 = (tt, (tt, (tt, (tt, heard_runs m1 sent_bytes (left_by unlisten) _ (tt, (tt, (tt, refl))))))) in
+        let m1 = run_acts M step says m (acts_called (listen + d) second) in
+        let m2 = run_acts M step says (run_acts M step says m1 (acts_heard sent_bytes)) (left_by unlisten) in
+        let ran : Run M step says m (acts_called (listen + d) second ++ (acts_heard sent_bytes ++ left_by unlisten)) m2 = (tt, (tt, (tt, (tt, heard_runs m1 sent_bytes (left_by unlisten) _ (tt, (tt, (tt, refl))))))) in
         record { whole = []; marked = false; behind = m2; ran = subst (λ (l : List Act). Run M step says m l m2) (sym acts) ran; taken = taken; more = []; front = none_more bytes h.0; all = λ e. (let no = sym h.1 ∙ e in absurd cc) }
 
     -- where they are taken, the machine says all
-    taken : (most second : ℕ) (bytes : List ℕ) (last : Bool) → 1 ≤ most → let m1 = run M step says m (called (talk + d) second) in
+    taken : (most second : ℕ) (bytes : List ℕ) (last : Bool) → 1 ≤ most → let m1 = run_acts M step says m (acts_called (talk + d) second) in
         IsFrontSaid M step (bytewise M step says false) most m1 bytes last → IsFrontSaid M step (bytewise M step says true) most m1 bytes last → Rattle.cbm_host.proofs.Fronts.Whole M step says machine most m1 bytes last
     taken most second bytes last some h k = whole M step says machine most _ bytes last some (truly M step says _ bytes last h.0 k.0, h.1, h.2)
 
@@ -51,13 +51,13 @@ module _ (M : Type 0) (step : M → Act → M) (says : M → Option (ℕ × Bool
     begun_of (Open channel text) bytes last short h k = sent (Open channel text) (open_on + channel) text.now bytes last refl (refl, refl) h
     begun_of (Put channel sent_bytes) bytes last short h k = sent (Put channel sent_bytes) (data_on + channel) sent_bytes.now bytes last refl (refl, refl) h
     begun_of (Fill channel count byte) bytes last short h k = sent (Fill channel count byte) (data_on + channel) (replicate count byte) bytes last refl (refl, refl) h
-    begun_of (Close channel) bytes last short h k = record { whole = []; marked = false; behind = run M step says m (acts_of d (Close channel) [] false); ran = (tt, (tt, (tt, (tt, (tt, refl))))); taken = (refl, refl); more = []; front = none_more bytes h.0; all = λ e. (let no = sym h.1 ∙ e in absurd cc) }
+    begun_of (Close channel) bytes last short h k = record { whole = []; marked = false; behind = run_acts M step says m (acts_carried_out d (Close channel) [] false); ran = (tt, (tt, (tt, (tt, (tt, refl))))); taken = (refl, refl); more = []; front = none_more bytes h.0; all = λ e. (let no = sym h.1 ∙ e in absurd cc) }
     begun_of (Get channel most) bytes last short h k =
-        let m1 = run M step says m (called (talk + d) (data_on + channel)) in
+        let m1 = run_acts M step says m (acts_called (talk + d) (data_on + channel)) in
         let w = taken most (data_on + channel) bytes last short.0 h k in
         record { whole = w.bytes_all; marked = w.marked; behind = _; ran = (tt, (tt, (tt, (tt, all_runs M step says machine m1 w.bytes_all w.marked (left_by untalk) _ w.said (tt, (tt, (tt, refl))))))); taken = w.taken; more = w.more; front = w.front; all = w.all }
     begun_of Status bytes last short h k =
-        let m1 = run M step says m (called (talk + d) (data_on + 15)) in
+        let m1 = run_acts M step says m (acts_called (talk + d) (data_on + 15)) in
         let w = taken (most_of Status) (data_on + 15) bytes last short.0 h k in
         record { whole = w.bytes_all; marked = w.marked; behind = _; ran = (tt, (tt, (tt, (tt, all_runs M step says machine m1 w.bytes_all w.marked (left_by untalk) _ w.said (tt, (tt, (tt, refl))))))); taken = w.taken; more = w.more; front = w.front; all = w.all }
 

@@ -3,11 +3,11 @@ use Rattle.cbm_session.proofs.alone.Frames.{done_due}
 use Rattle.std.proofs.Common.{◌≡◌, ℕ, zero, ◌+◌, ◌≤◌, Bool, false, List, [], ◌∷◌, ◌++◌, append-nil, Option, Some, None, refl, sym, ap, ◌∙◌, subst, arith}
 use Rattle.std.specs.List.{All}
 use Rattle.cbm_iec.specs.Ports.{resting, port_due}
-use Rattle.cbm_iec.specs.declared.act.Act.{Act}
+use Rattle.cbm_iec.specs.declared.machine.Act.{Act}
 use Rattle.cbm_iec.specs.declared.event.Event.{Event}
 use Rattle.cbm_iec.specs.declared.event.Who.TheVariants.{Host, Drive}
 use Rattle.cbm_iec.specs.declared.event.Who.{Who}
-use Rattle.cbm_iec.specs.declared.line.Line.TheVariants.{Clock, Data}
+use Rattle.cbm_iec.specs.declared.lines.Line.TheVariants.{Clock, Data}
 use Rattle.cbm_iec.specs.declared.lines.Held.{Held}
 use Rattle.cbm_iec.specs.declared.party.Party.{Party}
 use Rattle.cbm_iec.specs.declared.party.Role.TheVariants.{Absent}
@@ -25,7 +25,7 @@ use Rattle.cbm_session.specs.Answers.{Allowed, Run}
 use Rattle.cbm_session.specs.Buses.{SideAmong, rest_at, holding}
 use Rattle.cbm_session.specs.Following.{in_attention}
 use Rattle.cbm_session.specs.Laws.{GoesOn}
-use Rattle.cbm_session.specs.Pieces.{Piece, Place, Point, Open}
+use Rattle.cbm_session.specs.Pieces.{Piece, BusPlace, Point, Open}
 use Rattle.cbm_session.specs.Playing.{Station, IsLaterDue, nobody, Plays, at_rest, IsMachine, IsKept}
 use Rattle.cbm_session.specs.Seats.{lines, Seat}
 use Rattle.cbm_session.specs.Sessions.{rest, Splits, session_steps, acts_of, IsDrive, IsBus}
@@ -47,10 +47,10 @@ use Rattle.cbm_host.proofs.Settling.{Settles, rests, one_settles}
 use Rattle.cbm_host.proofs.Started.{not_before_start, starts_at}
 use Rattle.cbm_host.proofs.Within.{IsIn, host_first, between}
 use Rattle.cbm_host.specs.CarriedOut as asked
-use Rattle.cbm_host.specs.CarriedOut.{IsTakenBy, IsShort, HasCarriedOut}
+use Rattle.cbm_host.specs.CarriedOut.{AreTakenBy, IsShort, HasCarriedOut}
 use Rattle.cbm_host.specs.Engines.{engine_at, engine_due, stage_end, channel_of}
 use Rattle.cbm_host.specs.Performed.{HasPerformed}
-use Rattle.cbm_host.specs.Performers.{Performing, Stops}
+use Rattle.cbm_host.specs.Performers.{Performing, StopsPerforming}
 use Rattle.cbm_host.specs.Requests.{longest, end_point}
 use Rattle.cbm_host.specs.Stages.{stage_due, take_due, due_of}
 use Rattle.cbm_host.specs.declared.due.Due.{Due}
@@ -62,7 +62,7 @@ use Rattle.cbm_host.specs.declared.take.Take.{Take}
 use Rattle.cbm_host.specs.declared.take.Take.TheVariants.{Awaiting, Freeing, Listening, Marking, Unmarking, Gathering, Accepting}
 
 -- a request that is over ended then
-due_over : (o : Option Rattle.cbm_iec.specs.declared.line.Change.Change) (at : ℕ) → due_of o ≡ Over at → ⊥
+due_over : (o : Option Rattle.cbm_iec.specs.declared.lines.Change.Change) (at : ℕ) → due_of o ≡ Over at → ⊥
 due_over None at e = cc
 due_over (Some c) at e = cc
 
@@ -88,7 +88,7 @@ ended_then (Done t) at e = let same : t ≡ at = cc in ap (λ (n : ℕ). Some n)
 -- nobody else holds a line where all is free
 free_rest : (b : Party) (p : Point) → p.place ≡ Open → p.host ≡ lines false false → p.seats ≡ (record { party = b; role = Absent; own = lines false false }) ∷ [] → rest_at b.device p ≡ nobody
 free_rest b p place host seats =
-    ap (λ (q : Place). record { host = record { atn_low = in_attention q; clock_low = p.host.clock_low; data_low = p.host.data_low }; clocks = holding Clock b.device p.seats; datas = holding Data b.device p.seats }) place
+    ap (λ (q : BusPlace). record { host = record { atn_low = in_attention q; clock_low = p.host.clock_low; data_low = p.host.data_low }; clocks = holding Clock b.device p.seats; datas = holding Data b.device p.seats }) place
     ∙ ap (λ (h : Held). record { host = record { atn_low = false; clock_low = h.clock_low; data_low = h.data_low }; clocks = holding Clock b.device p.seats; datas = holding Data b.device p.seats }) host
     ∙ ap (λ (ss : List Seat). record { host = all_free; clocks = holding Clock b.device ss; datas = holding Data b.device ss }) seats
     ∙ Rattle.cbm_session.proofs.among.Sessions.rest_free (b ∷ []) b
@@ -106,7 +106,7 @@ module _ (D M : Type 0) (stands : D → M → Type 0) (step : M → Act → M) (
   the_plan : Plan M step (bytewise M step says false) (all_small M step says false machine) b drive (ms b.device) start request
   the_plan = plan M step says false machine b drive (ms b.device) start request channel short
 
-  stops_bytes : (p : Turns) (limit n : ℕ) (ss : List (Station M)) (es : List Event) (d : Due) → Stops M step says p limit n ss es d → Stops M step (bytewise M step says false) p limit n ss es d
+  stops_bytes : (p : Turns) (limit n : ℕ) (ss : List (Station M)) (es : List Event) (d : Due) → StopsPerforming M step says p limit n ss es d → StopsPerforming M step (bytewise M step says false) p limit n ss es d
   stops_bytes p limit n ss es (Makes c) h = h
   stops_bytes p limit n ss es (Waits u) h = (h.0, quiet_bytes M step says false (limit + 1) n ss es h.1)
   stops_bytes p limit n ss es Hears h = quiet_bytes M step says false (limit + 1) n ss es h
@@ -178,7 +178,7 @@ module _ (D M : Type 0) (stands : D → M → Type 0) (step : M → Act → M) (
     nobody_holds = free_rest b (end_point (rest (b ∷ [])) the_plan.pieces) the_plan.played.at_rest the_plan.played.free the_plan.played.alone
 
     idle : port_due one.0.port ≡ None
-    idle = done_due one.0.port.side (subst (λ (v : Place). SideAmong v Absent one.0.port.side) the_plan.played.at_rest end_stands.stands.side)
+    idle = done_due one.0.port.side (subst (λ (v : BusPlace). SideAmong v Absent one.0.port.side) the_plan.played.at_rest end_stands.stands.side)
 
     -- and it is at rest there
     is_at_rest : h.going.after.stations ≡ at_rest M step says (λ d. one.0.machine) (b ∷ [])
@@ -216,14 +216,14 @@ module _ (D M : Type 0) (stands : D → M → Type 0) (step : M → Act → M) (
         one_reading_lem (b ∷ []) h.made (acts_of (b ∷ []) k.done) (acts_of (b ∷ []) joint.done) is_bus (k.pieces, (k.done, (k.more, (k.splits, k.events, refl)))) (the_plan.pieces, (joint.done, ([], (the_splits, joint.shown, refl)))) in
         cc
 
-    ran : Run M step says (ms b.device) (asked.acts_of b.device request bytes last) one.0.machine
+    ran : Run M step says (ms b.device) (asked.acts_carried_out b.device request bytes last) one.0.machine
     ran =
         let k = kept_one zero in
         let party = end_stands.stands.party in
         let r : Run M step says (ms b.device) (acts_for b.device k.done) one.0.machine = subst (λ (v : Party). Run M step says (ms v.device) (acts_for v.device k.done) one.0.machine) party k.ran.0 in
-        let acts : acts_for b.device k.done ≡ asked.acts_of b.device request bytes last =
+        let acts : acts_for b.device k.done ≡ asked.acts_carried_out b.device request bytes last =
         one_reading ∙ acts_are b.device joint.done ∙ ap (λ (l : List (Who × Rattle.cbm_session.specs.Steps.Mark)). acts_from b.device l) all_marks ∙ the_plan.acts
-        ∙ ap (λ (l : List ℕ). asked.acts_of b.device request l (last_from false the_plan.marks)) (sym is_taken) ∙ ap (λ (v : Bool). asked.acts_of b.device request bytes v) (sym is_last) in
+        ∙ ap (λ (l : List ℕ). asked.acts_carried_out b.device request l (last_from false the_plan.marks)) (sym is_taken) ∙ ap (λ (v : Bool). asked.acts_carried_out b.device request bytes v) (sym is_last) in
         subst (λ (l : List Act). Run M step says (ms b.device) l one.0.machine) acts r
 
     end_is : stage_end p.engine.stage ≡ Some the_plan.played.until
@@ -254,7 +254,7 @@ module _ (D M : Type 0) (stands : D → M → Type 0) (step : M → Act → M) (
         timing = timing the_plan.played.until;
         kept = subst (λ (v : List (Station M)). IsKept M step says (b ∷ []) ms h.made the_plan.played.until v) (sym one.1 ∙ is_at_rest) (kept_one the_plan.played.until);
         ran = ran;
-        taken = subst (λ (v : Bool). IsTakenBy request bytes v) (sym is_last) (subst (λ (l : List ℕ). IsTakenBy request l (last_from false the_plan.marks)) (sym is_taken) the_plan.taken);
+        taken = subst (λ (v : Bool). AreTakenBy request bytes v) (sym is_last) (subst (λ (l : List ℕ). AreTakenBy request l (last_from false the_plan.marks)) (sym is_taken) the_plan.taken);
         within = is_within;
         later = not_before_start b start b.device (start + longest b.pace) request the_plan.pieces is_bus the_plan.played;
         soon = the_plan.played.soon;

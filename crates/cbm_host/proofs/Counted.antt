@@ -2,18 +2,18 @@
 use Rattle.cbm_iec.specs.Profile.{bit_time}
 use Rattle.std.proofs.Common.{◌≡◌, ℕ, ◌+◌, ◌≤◌, Bool, true, false, not, List, [], ◌∷◌, ◌++◌, Option, Some, None, refl, ap, ◌∙◌, arith}
 use Rattle.std.specs.Prelude.{if◌then◌else◌}
-use Rattle.cbm_iec.specs.declared.act.Act.TheVariants.{Pulled, Attention, Heard, Said}
-use Rattle.cbm_iec.specs.declared.act.Act.{Act}
+use Rattle.cbm_iec.specs.declared.machine.Act.TheVariants.{Pulled, Attention, Heard, Said}
+use Rattle.cbm_iec.specs.declared.machine.Act.{Act}
 use Rattle.cbm_iec.specs.declared.event.Who.TheVariants.{Host, Drive}
 use Rattle.cbm_iec.specs.declared.event.Who.{Who}
-use Rattle.cbm_iec.specs.declared.line.Line.TheVariants.{Atn, Clock, Data}
-use Rattle.cbm_iec.specs.declared.line.Way.TheVariants.{Pull, Free}
+use Rattle.cbm_iec.specs.declared.lines.Line.TheVariants.{Atn, Clock, Data}
+use Rattle.cbm_iec.specs.declared.lines.Way.TheVariants.{Pull, Free}
 use Rattle.cbm_iec.specs.declared.lines.Held.{Held}
 use Rattle.cbm_iec.specs.declared.party.Party.{Party}
 use Rattle.cbm_iec.specs.declared.party.Role.TheVariants.{Listener}
 use Rattle.cbm_session.proofs.joining.OneDrive.{one_frame, one_told, frame_is, pull_is}
 use Rattle.cbm_session.proofs.reading.PieceReadings.{seat}
-use Rattle.cbm_session.specs.Bits.{where_held, where_free, Cell, cell_steps, cells_steps, held_after, byte_of, number_of}
+use Rattle.cbm_session.specs.Bits.{where_held, where_free, BitCell, cell_steps, cells_steps, held_after, byte_in_cells, number_of}
 use Rattle.cbm_session.specs.Following.{alone}
 use Rattle.cbm_session.specs.Frames.{Sent, Told, end_of, signal_steps, bit_steps, first_bit, is_last}
 use Rattle.cbm_session.specs.Pieces.{Point, steps_of, PullPiece, Command, Byte}
@@ -92,7 +92,7 @@ held_none : (v : Bool) (s : Step) → s.mark ≡ Plain → marks_of (where_held 
 held_none true s e = ap (λ (m : Mark). with_who s.event.who m []) e
 held_none false s e = refl
 
-cells_none : (held : Bool) (cs : List Cell) → marks_of (cells_steps held cs) ≡ []
+cells_none : (held : Bool) (cs : List BitCell) → marks_of (cells_steps held cs) ≡ []
 cells_none held [] = refl
 cells_none held (c ∷ cs) = marks_append (cell_steps held c) (cells_steps (not c.bit) cs) ∙ ap (λ (l : List (Who × Mark)). l ++ marks_of (cells_steps (not c.bit) cs)) (one held c.bit c.set c.free c.pull) ∙ cells_none (not c.bit) cs
   where
@@ -157,19 +157,19 @@ pull_marks p s at = ap (λ (l : List Step). marks_of l) (pull_is (alone p s) s a
     go false false false false = refl
 
 pub command_marks : (p : Point) (s : Seat) (byte ready : ℕ) → 1 ≤ reaction s → let f = frame_for s.party false byte ready in
-    marks_of (steps_of (alone p s) (Command f)) ≡ (Drive (device s), For (device s) (Attention (byte_of f.cells))) ∷ []
+    marks_of (steps_of (alone p s) (Command f)) ≡ (Drive (device s), For (device s) (Attention (byte_in_cells f.cells))) ∷ []
 command_marks p s byte ready some =
     let f = frame_for s.party false byte ready in
-    ap (λ (l : List Step). marks_of l) (frame_is (ready + reaction s) s (Attention (byte_of f.cells)) f false (omega arith) (cells_fit false 8 byte f.start)) ∙ frame_marks (ready + reaction s) s false (Attention (byte_of f.cells)) f
+    ap (λ (l : List Step). marks_of l) (frame_is (ready + reaction s) s (Attention (byte_in_cells f.cells)) f false (omega arith) (cells_fit false 8 byte f.start)) ∙ frame_marks (ready + reaction s) s false (Attention (byte_in_cells f.cells)) f
 
 pub byte_marks : (p : Point) (b : Party) (o : Held) (eoi : Bool) (byte ready : ℕ) → let f = frame_for b eoi byte ready in
-    marks_of (steps_of (alone p (seat b Listener o)) (Byte eoi f)) ≡ (Drive b.device, For b.device (Heard (byte_of f.cells) eoi)) ∷ []
+    marks_of (steps_of (alone p (seat b Listener o)) (Byte eoi f)) ≡ (Drive b.device, For b.device (Heard (byte_in_cells f.cells) eoi)) ∷ []
 byte_marks p b o false byte ready =
     let f = frame_for b false byte ready in
-    ap (λ (l : List Step). marks_of l) (frame_is (ready + b.reaction) (seat b Listener o) (Heard (byte_of f.cells) false) f false (omega arith) (cells_fit false 8 byte f.start)) ∙ frame_marks (ready + b.reaction) (seat b Listener o) false (Heard (byte_of f.cells) false) f
+    ap (λ (l : List Step). marks_of l) (frame_is (ready + b.reaction) (seat b Listener o) (Heard (byte_in_cells f.cells) false) f false (omega arith) (cells_fit false 8 byte f.start)) ∙ frame_marks (ready + b.reaction) (seat b Listener o) false (Heard (byte_in_cells f.cells) false) f
 byte_marks p b o true byte ready =
     let f = frame_for b true byte ready in
-    ap (λ (l : List Step). marks_of l) (frame_is (ready + b.reaction) (seat b Listener o) (Heard (byte_of f.cells) true) f true (omega arith, omega arith) (cells_fit false 8 byte f.start)) ∙ frame_marks (ready + b.reaction) (seat b Listener o) true (Heard (byte_of f.cells) true) f
+    ap (λ (l : List Step). marks_of l) (frame_is (ready + b.reaction) (seat b Listener o) (Heard (byte_in_cells f.cells) true) f true (omega arith, omega arith) (cells_fit false 8 byte f.start)) ∙ frame_marks (ready + b.reaction) (seat b Listener o) true (Heard (byte_in_cells f.cells) true) f
 
 -- a byte of the talker, and CLOCK's release behind the last one
 signal_none : (x : Option (ℕ × ℕ)) → marks_of (signal_steps x) ≡ []

@@ -1,14 +1,14 @@
 -- Behind all events of an allowed session that doesn't end in attention the stations stand at its end.
 use Rattle.std.proofs.Common.{◌≡◌, ℕ, ◌⊎◌, inl, inr, Bool, true, false, List, [], ◌∷◌, ◌++◌, append_assoc, map, Option, Some, None, ap, sym, ◌∙◌, subst, refl}
 use Rattle.std.specs.Prelude.{nat_le}
-use Rattle.cbm_iec.specs.declared.act.Act.{Act}
+use Rattle.cbm_iec.specs.declared.machine.Act.{Act}
 use Rattle.cbm_iec.specs.declared.event.Event.{Event}
 use Rattle.cbm_session.proofs.headline.Here.{Here, IsHosts, IsTalkers, Out, hosts_out, talkers_out, PullInside, pull_out}
 use Rattle.cbm_session.proofs.headline.Onward.{here_behind}
 use Rattle.cbm_session.proofs.headline.PieceBus.{upto, Behind}
 use Rattle.cbm_session.proofs.headline.Walk.{left_of, same_front, first_events, cut_talks, quiet_stays, end_quiet, pull_next, react_of, self_compat}
 use Rattle.cbm_session.specs.Answers.{IsAnswer, PieceAnswers, Allowed, run_each}
-use Rattle.cbm_session.specs.Pieces.{Whole, Piece, Place, Point, PullFits, Fits, PieceFits, own_part, steps_of, piece_steps, whole_point, point_after, Full, Cut, PullPiece, Command, Byte, ToListener, ToNobody, ToTalker, Nothing, Talk, Open, Commanding, Listening, Leading}
+use Rattle.cbm_session.specs.Pieces.{Whole, Piece, BusPlace, Point, PullFits, Fits, PieceFits, own_part, steps_of, piece_steps, whole_point, point_after, Full, Cut, PullPiece, Command, Byte, ToListener, ToNobody, ToTalker, Nothing, Talk, Open, Commanding, Listening, Leading}
 use Rattle.cbm_session.specs.Frames.{Sent, sending}
 use Rattle.cbm_session.specs.Seats.{Seat, talker_of}
 use Rattle.cbm_session.specs.Playing.{Station, Plays, IsMachine}
@@ -48,7 +48,7 @@ none_behind (x ∷ xs) ys e = absurd cc
 -- behind ATN's pull a session goes on, or ends in attention
 pulled_on : (p : Point) → p.place ≡ Commanding false → (ks : List Piece) → Linked p ks → session_steps p ks ≡ [] → (end_point p ks).place ≡ Commanding false
 pulled_on p at [] l e = at
-pulled_on p at (Full (PullPiece t) ∷ ks) l e = absurd (subst (λ (v : Place). PullFits p t v) at l.0)
+pulled_on p at (Full (PullPiece t) ∷ ks) l e = absurd (subst (λ (v : BusPlace). PullFits p t v) at l.0)
 pulled_on p at (Full (Command f) ∷ ks) l e = absurd (frame_there p f (none_left (steps_of p (Command f)) (session_steps (whole_point p (Command f)) ks) e))
 pulled_on p at (Full (Byte eoi f) ∷ ks) l e = let c : Commanding false ≡ Listening = sym at ∙ l.0.0 in absurd cc
 pulled_on p at (Full (ToListener t) ∷ ks) l e = let c : Commanding false ≡ Commanding true = sym at ∙ l.0.commanding in absurd cc

@@ -4,11 +4,11 @@ use Rattle.std.specs.Prelude.{nat_le}
 use Rattle.cbm_drive.specs.Players.{Turns}
 use Rattle.cbm_host.specs.Engines.{Engined, engine_due, stage_end}
 use Rattle.cbm_host.specs.Performed.{over_at}
-use Rattle.cbm_host.specs.Performers.{GoesOnFrom, Stops}
+use Rattle.cbm_host.specs.Performers.{GoesOnFrom, StopsPerforming}
 use Rattle.cbm_host.specs.Stages.{stage_due, stage_passed}
 use Rattle.cbm_host.specs.declared.stage.Stage.{Stage}
 use Rattle.cbm_host.specs.declared.stage.Stage.TheVariants.{Attending, Framing, Calling, Releasing, Turning, Taking, Ending, Done}
-use Rattle.cbm_iec.specs.declared.act.Act.{Act}
+use Rattle.cbm_iec.specs.declared.machine.Act.{Act}
 use Rattle.cbm_iec.specs.declared.event.Event.{Event}
 use Rattle.cbm_session.specs.Playing.{Station}
 
@@ -27,7 +27,7 @@ sooner_of limit end t h = by (nat_le t limit) refl
 
 module _ (M : Type 0) (step : M → Act → M) (says : M → Option (ℕ × Bool)) (p : Turns) (limit end n : ℕ) (ss : List (Station M)) (es : List Event) where
   -- the host still waits, or does something
-  still : (s : Stage) → Tells limit end s → Stops M step says p limit n ss es (stage_due s) → end ≡ over_at limit s
+  still : (s : Stage) → Tells limit end s → StopsPerforming M step says p limit n ss es (stage_due s) → end ≡ over_at limit s
   still (Attending at q a) h k = h.given_up refl
   still (Framing frame behind) h k = h.given_up refl
   still (Calling at) h k = h.given_up refl
@@ -49,7 +49,7 @@ module _ (M : Type 0) (step : M → Act → M) (says : M → Option (ℕ × Bool
   waited (Done t) h = sooner_of limit end t h
 
   -- THE END, by the stage after the last event
-  pub over_then : (behind e : Engined) → GoesOnFrom M step says n ss es behind e → Stops M step says p limit n ss es (engine_due e)
+  pub over_then : (behind e : Engined) → GoesOnFrom M step says n ss es behind e → StopsPerforming M step says p limit n ss es (engine_due e)
       → ((t : ℕ) → stage_end e.stage ≡ Some t → t ≤ limit → end ≡ t) → ((t : ℕ) → stage_end e.stage ≡ Some t → limit < t → end ≡ limit) → (stage_end e.stage ≡ None → end ≡ limit) → end ≡ over_at limit behind.stage
   over_then behind e (inl same) stops there late given_up = subst (λ (x : Engined). end ≡ over_at limit x.stage) same (still e.stage (record { there = there; late = late; given_up = given_up }) stops)
   over_then behind e (inr passed) stops there late given_up = waited behind.stage (subst (λ (x : Engined). Tells limit end x.stage) passed.2 (record { there = there; late = late; given_up = given_up }))

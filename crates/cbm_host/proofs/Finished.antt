@@ -1,11 +1,11 @@
 -- Where no more events come the session is over: what the host does next is always a step of it, and a drive changes a line as long as it has to.
 use Rattle.std.proofs.Common.{◌≡◌, ℕ, zero, ◌+◌, ◌<◌, ◌≤◌, ◌⊎◌, inl, inr, Bool, List, [], ◌∷◌, ◌++◌, append_assoc, Option, Some, refl, sym, ap, ◌∙◌, subst, arith}
 use Rattle.cbm_iec.specs.Ports.{change_at}
-use Rattle.cbm_iec.specs.declared.act.Act.{Act}
+use Rattle.cbm_iec.specs.declared.machine.Act.{Act}
 use Rattle.cbm_iec.specs.declared.event.Event.{Event}
 use Rattle.cbm_iec.specs.declared.event.Who.TheVariants.{Host, Drive}
 use Rattle.cbm_iec.specs.declared.event.Who.{Who}
-use Rattle.cbm_iec.specs.declared.line.Change.{Change}
+use Rattle.cbm_iec.specs.declared.lines.Change.{Change}
 use Rattle.cbm_iec.specs.declared.party.Party.{Party}
 use Rattle.cbm_session.proofs.timing.SessionOrder.{goes_on}
 use Rattle.cbm_session.specs.Answers.{Allowed}
@@ -21,7 +21,7 @@ use Rattle.cbm_host.proofs.Joining.{quiet_next}
 use Rattle.cbm_host.proofs.Waiting.{passed_due}
 use Rattle.cbm_host.specs.Engines.{Engined, engine_due, engine_passed}
 use Rattle.cbm_host.specs.Performed.{from_last}
-use Rattle.cbm_host.specs.Performers.{IsQuietUntil, GoesOnFrom, Stops}
+use Rattle.cbm_host.specs.Performers.{IsQuietUntil, GoesOnFrom, StopsPerforming}
 use Rattle.cbm_host.specs.Performing.{Performs, IsBefore, IsSilent, ends, makes, sees, passes}
 use Rattle.cbm_host.specs.declared.due.Due.{Due}
 use Rattle.cbm_host.specs.declared.due.Due.TheVariants.{Makes, Waits, Hears, Over}
@@ -158,15 +158,15 @@ module _ (M : Type 0) (step : M → Act → M) (peek : M → Option (ℕ × Bool
   never_over more {e} at (passes u wait silent h) due = let k : Waits u ≡ Over at = sym wait ∙ due in cc
 
   -- THE SESSION IS OVER
-  pub finished : (es : List Event) (e : Engined) (said : List ℕ) (l : Bool) (j : Joined M step peek bytes b ms is_bus machine ks linked allowed behind until ending es e said l) (found : Engined) → GoesOnFrom M step peek zero start es e found → (p : Turns) → p.from ≡ from_last 0 es → Stops M step peek p limit zero start es (engine_due found)
+  pub finished : (es : List Event) (e : Engined) (said : List ℕ) (l : Bool) (j : Joined M step peek bytes b ms is_bus machine ks linked allowed behind until ending es e said l) (found : Engined) → GoesOnFrom M step peek zero start es e found → (p : Turns) → p.from ≡ from_last 0 es → StopsPerforming M step peek p limit zero start es (engine_due found)
       → (j.more ≡ []) × (engine_due found ≡ Over until)
   finished es e said l j found g p from stops =
       elim (found_performs j.done j.more j.performs j.all found (subst (λ (x : List Event). GoesOnFrom M step peek zero start x e found) (sym j.shown) g)) [
-        | inl k ↦ absurd (by_due (engine_due found) refl (subst (λ (x : List Event). Stops M step peek p limit zero start x (engine_due found)) (sym j.shown) stops) k)
+        | inl k ↦ absurd (by_due (engine_due found) refl (subst (λ (x : List Event). StopsPerforming M step peek p limit zero start x (engine_due found)) (sym j.shown) stops) k)
         | inr k ↦ k
       ]
     where
-      by_due : (d : Due) → engine_due found ≡ d → Stops M step peek p limit zero start (events_of j.done) d → Performs found j.more behind → ⊥
+      by_due : (d : Due) → engine_due found ≡ d → StopsPerforming M step peek p limit zero start (events_of j.done) d → Performs found j.more behind → ⊥
       by_due (Makes c) is (inl late) k =
           let m = made_later j.more k c is in
           let w = within (j.done ++ m.before) m.made m.left (j.all ∙ ap (λ (x : List Step). j.done ++ x) m.is ∙ sym (append_assoc j.done m.before (m.made ∷ m.left))) in

@@ -4,11 +4,11 @@ use Rattle.std.proofs.lemmas.List.{append_assoc}
 use Rattle.std.proofs.lemmas.Bool.{ne_eqb}
 use Rattle.std.specs.Prelude.{if◌then◌else◌, ◌==◌}
 use Rattle.cbm_iec.specs.Hearing.{is_same}
-use Rattle.cbm_iec.specs.declared.act.Act.{Act}
-use Rattle.cbm_iec.specs.declared.line.Line.TheVariants.{Data}
-use Rattle.cbm_iec.specs.declared.line.Way.TheVariants.{Free}
+use Rattle.cbm_iec.specs.declared.machine.Act.{Act}
+use Rattle.cbm_iec.specs.declared.lines.Line.TheVariants.{Data}
+use Rattle.cbm_iec.specs.declared.lines.Way.TheVariants.{Free}
 use Rattle.cbm_session.proofs.joining.OneDrive.{one_frame}
-use Rattle.cbm_session.specs.Bits.{where_held, Cell, cell_steps, cells_steps, held_after, last_pull, SetFits, CellsFit}
+use Rattle.cbm_session.specs.Bits.{where_held, BitCell, cell_steps, cells_steps, held_after, last_pull, SetFits, CellsFit}
 use Rattle.cbm_session.specs.Frames.{end_of, SentFits}
 use Rattle.cbm_session.specs.Seats.{Seat, reaction}
 use Rattle.cbm_session.specs.Steps.{Step, host}
@@ -16,7 +16,7 @@ use Rattle.cbm_host.proofs.Composing.{performs_then}
 use Rattle.cbm_host.specs.Engines.{Engined, accepted}
 use Rattle.cbm_host.specs.Framed.{cells_for, start_for, frame_for}
 use Rattle.cbm_host.specs.Performing.{Performs, ends, makes, sees}
-use Rattle.cbm_host.specs.Sending.{is_low, next_bit}
+use Rattle.cbm_host.specs.Sending.{starts_low, next_bit}
 use Rattle.cbm_host.specs.Waits.{phase}
 use Rattle.cbm_host.specs.declared.frame.Bits.{Bits}
 use Rattle.cbm_host.specs.declared.frame.Frame.{Frame}
@@ -36,7 +36,7 @@ set_fits false false t = refl
 
 pub cells_fit : (held : Bool) (n l t : ℕ) → CellsFit held t (cells_for n l t)
 cells_fit held zero l t = tt
-cells_fit held (suc n) l t = (record { set = set_fits held (is_low l) t; free = omega arith; settled = omega arith; pulled = omega arith }, cells_fit (not (not (is_low l))) n (l / 2) (t + phase + phase))
+cells_fit held (suc n) l t = (record { set = set_fits held (starts_low l) t; free = omega arith; settled = omega arith; pulled = omega arith }, cells_fit (not (not (starts_low l))) n (l / 2) (t + phase + phase))
 
 pub cells_end : (n l t : ℕ) → last_pull t (cells_for n l t) ≡ t + 40 * n
 cells_end zero l t = omega arith
@@ -59,7 +59,7 @@ module _ (behind : Behind) (left : List ℕ) (most : ℕ) where
   abbrev bit_frame : Bool → ℕ → Bits → Frame
   bit_frame low t b = if is_same b.low low then Showing (t + phase) b else Setting t b
 
-  abbrev cell : Bool → ℕ → Cell
+  abbrev cell : Bool → ℕ → BitCell
   cell low t = record { bit = not low; set = t; free = t + phase; pull = t + phase + phase }
 
   -- one bit
@@ -82,15 +82,15 @@ module _ (behind : Behind) (left : List ℕ) (most : ℕ) where
   bits_perform zero true t l = makes refl refl (ends refl)
   bits_perform zero false t l = ends refl
   bits_perform (suc n) held t l =
-      let rest = bits_perform n (is_low l) (t + phase + phase) (l / 2) in
+      let rest = bits_perform n (starts_low l) (t + phase + phase) (l / 2) in
       let less : suc n - 1 ≡ n = omega arith in
-      let next = subst (λ (m : ℕ). Performs (framing (next_bit (t + phase + phase) (bits (l / 2) m (is_low l)))) (bit_steps (is_low l) n (l / 2) (t + phase + phase)) (framing Sent)) (sym less) rest in
-      let all = cell_performs held (is_low l) t n l (bit_steps (is_low l) n (l / 2) (t + phase + phase)) (framing Sent) next in
-      let again = subst (λ (v : Bool). Performs (framing (bit_frame (is_low l) t (bits l (suc n) held))) (cell_steps held (cell (is_low l) t) ++ bit_steps v n (l / 2) (t + phase + phase)) (framing Sent)) (sym (not_not (is_low l))) all in
+      let next = subst (λ (m : ℕ). Performs (framing (next_bit (t + phase + phase) (bits (l / 2) m (starts_low l)))) (bit_steps (starts_low l) n (l / 2) (t + phase + phase)) (framing Sent)) (sym less) rest in
+      let all = cell_performs held (starts_low l) t n l (bit_steps (starts_low l) n (l / 2) (t + phase + phase)) (framing Sent) next in
+      let again = subst (λ (v : Bool). Performs (framing (bit_frame (starts_low l) t (bits l (suc n) held))) (cell_steps held (cell (starts_low l) t) ++ bit_steps v n (l / 2) (t + phase + phase)) (framing Sent)) (sym (not_not (starts_low l))) all in
       let some : (suc n == 0) ≡ false = ne_eqb (suc n) 0 (λ (x : suc n ≡ 0). omega (arith, x)) in
-      subst (λ (v : Bool). Performs (framing (if v then (if held then Clearing t else Sent) else bit_frame (is_low l) t (bits l (suc n) held))) (bit_steps held (suc n) l t) (framing Sent)) (sym some)
-      (subst (λ (zs : List Step). Performs (framing (bit_frame (is_low l) t (bits l (suc n) held))) zs (framing Sent))
-      (sym (append_assoc (cell_steps held (cell (is_low l) t)) (cells_steps (not (not (is_low l))) (cells_for n (l / 2) (t + phase + phase))) (where_held (held_after (not (not (is_low l))) (cells_for n (l / 2) (t + phase + phase))) (host (last_pull (t + phase + phase) (cells_for n (l / 2) (t + phase + phase))) Data Free))))
+      subst (λ (v : Bool). Performs (framing (if v then (if held then Clearing t else Sent) else bit_frame (starts_low l) t (bits l (suc n) held))) (bit_steps held (suc n) l t) (framing Sent)) (sym some)
+      (subst (λ (zs : List Step). Performs (framing (bit_frame (starts_low l) t (bits l (suc n) held))) zs (framing Sent))
+      (sym (append_assoc (cell_steps held (cell (starts_low l) t)) (cells_steps (not (not (starts_low l))) (cells_for n (l / 2) (t + phase + phase))) (where_held (held_after (not (not (starts_low l))) (cells_for n (l / 2) (t + phase + phase))) (host (last_pull (t + phase + phase) (cells_for n (l / 2) (t + phase + phase))) Data Free))))
       again)
 
   -- a whole frame, up to the accept

@@ -2,16 +2,16 @@
 use Rattle.std.proofs.Common.{◌≡◌, ℕ, zero, suc, ◌+◌, ◌-◌, ◌≤◌, ◌⊎◌, inl, inr, Bool, true, false, List, [], ◌∷◌, ◌++◌, length, append_assoc, Option, Some, None, refl, sym, ap, ◌∙◌, subst, arith}
 use Rattle.std.proofs.lemmas.Bool.Decides.{leb_tells}
 use Rattle.std.specs.Prelude.{if◌then◌else◌}
-use Rattle.cbm_iec.specs.declared.act.Act.TheVariants.{Said}
-use Rattle.cbm_iec.specs.declared.act.Act.{Act}
-use Rattle.cbm_session.specs.Answers.{Run, run}
+use Rattle.cbm_iec.specs.declared.machine.Act.TheVariants.{Said}
+use Rattle.cbm_iec.specs.declared.machine.Act.{Act}
+use Rattle.cbm_session.specs.Answers.{Run, run_acts}
 use Rattle.cbm_session.specs.Playing.{IsMachine}
 use Rattle.cbm_host.proofs.Along.{said_with}
 use Rattle.cbm_host.proofs.Bytewise.{as_byte, bytewise}
 use Rattle.cbm_host.proofs.Counted.{taken_from, last_from}
 use Rattle.cbm_host.proofs.Saying.{Marks}
 use Rattle.cbm_iec.specs.Attentions.{talk, data_on}
-use Rattle.cbm_host.specs.CarriedOut.{spoken, said as talked, called, IsTakenUpTo}
+use Rattle.cbm_host.specs.CarriedOut.{spoken, said as talked, acts_called, IsTakenUpTo}
 use Rattle.cbm_host.specs.Engines.{most_of}
 use Rattle.cbm_host.specs.Performed.{taken_with, last_with}
 use Rattle.cbm_host.specs.declared.request.Request.{Request}
@@ -90,8 +90,8 @@ module _ (M : Type 0) (step : M → Act → M) (says : M → Option (ℕ × Bool
 
   -- the bytes of a front of a request
   abbrev pub SaysFront : ℕ → M → Request → List ℕ → Bool → Type 0
-  SaysFront d m (Get channel most) bytes last = IsFrontSaid most (run M step says m (called (talk + d) (data_on + channel))) bytes last
-  SaysFront d m Status bytes last = IsFrontSaid (most_of Status) (run M step says m (called (talk + d) (data_on + 15))) bytes last
+  SaysFront d m (Get channel most) bytes last = IsFrontSaid most (run_acts M step says m (acts_called (talk + d) (data_on + channel))) bytes last
+  SaysFront d m Status bytes last = IsFrontSaid (most_of Status) (run_acts M step says m (acts_called (talk + d) (data_on + 15))) bytes last
   SaysFront d m request bytes last = (bytes ≡ []) × (last ≡ false)
 
   -- the same said one by one, each with its own mark
@@ -265,10 +265,10 @@ module _ (M : Type 0) (step : M → Act → M) (says : M → Option (ℕ × Bool
         }
 
     -- its acts, and what comes behind them
-    so_runs : (m : M) (byte : ℕ) (more : List ℕ) (last : Bool) (acts : List Act) (m2 : M) → SaysSo M step says m (byte ∷ more) last → Run M step says (run M step says m (spoken last byte more)) acts m2 → Run M step says m (spoken last byte more ++ acts) m2
+    so_runs : (m : M) (byte : ℕ) (more : List ℕ) (last : Bool) (acts : List Act) (m2 : M) → SaysSo M step says m (byte ∷ more) last → Run M step says (run_acts M step says m (spoken last byte more)) acts m2 → Run M step says m (spoken last byte more ++ acts) m2
     so_runs m byte [] last acts m2 h r = (h.0, r)
     so_runs m byte (next ∷ more) last acts m2 h r = (h.0, so_runs (step m (Said byte false)) next more last acts m2 h.1 r)
 
-    pub all_runs : (m : M) (bytes : List ℕ) (last : Bool) (acts : List Act) (m2 : M) → SaysAll m bytes last → Run M step says (run M step says m (talked bytes last)) acts m2 → Run M step says m (talked bytes last ++ acts) m2
+    pub all_runs : (m : M) (bytes : List ℕ) (last : Bool) (acts : List Act) (m2 : M) → SaysAll m bytes last → Run M step says (run_acts M step says m (talked bytes last)) acts m2 → Run M step says m (talked bytes last ++ acts) m2
     all_runs m [] last acts m2 h r = (h, r)
     all_runs m (byte ∷ more) last acts m2 h r = so_runs m byte more last acts m2 h r

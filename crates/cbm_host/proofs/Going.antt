@@ -2,11 +2,11 @@
 use Rattle.std.proofs.Common.{◌≡◌, ℕ, ◌+◌, ◌<◌, ◌≤◌, inl, inr, min, Bool, List, [], ◌∷◌, ◌++◌, Option, Some, None, refl, sym, ap, ◌∙◌, subst, arith}
 use Rattle.std.specs.Prelude.{IfSome, MatchOption}
 use Rattle.cbm_iec.specs.Ports.{port_due}
-use Rattle.cbm_iec.specs.declared.act.Act.{Act}
+use Rattle.cbm_iec.specs.declared.machine.Act.{Act}
 use Rattle.cbm_iec.specs.declared.event.Event.{Event}
 use Rattle.cbm_iec.specs.declared.event.Who.TheVariants.{Host, Drive}
 use Rattle.cbm_iec.specs.declared.event.Who.{Who}
-use Rattle.cbm_iec.specs.declared.line.Change.{Change}
+use Rattle.cbm_iec.specs.declared.lines.Change.{Change}
 use Rattle.cbm_session.specs.Following.{IsInTime}
 use Rattle.cbm_session.specs.Playing.{Station, Plays}
 use Rattle.cbm_drive.specs.Cables.{Cabled}
@@ -15,7 +15,7 @@ use Rattle.cbm_drive.specs.Silence.{AreSilent, quiet, idle}
 use Rattle.cbm_host.proofs.Handed.{handed_on}
 use Rattle.cbm_host.specs.Engines.{Engined, engine_due, engine_passed}
 use Rattle.cbm_host.specs.Performing.{IsBefore}
-use Rattle.cbm_host.specs.Performers.{Performing, IsHandedOn, IsDue, IsAsked, IsRefused, IsQuietUntil, GoesOnFrom, Stops, engine_behind, byte_with, IsGoing, IsHeldBack, IsUnmoved, HasStopped, HasCome, HasNext}
+use Rattle.cbm_host.specs.Performers.{Performing, IsHandedOn, IsDue, IsAsked, IsChangeRefused, IsQuietUntil, GoesOnFrom, StopsPerforming, engine_behind, byte_with, IsGoing, IsHeldBack, IsUnmoved, HasStopped, HasCome, HasNext}
 use Rattle.cbm_host.specs.declared.due.Due.{Due}
 use Rattle.cbm_host.specs.declared.due.Due.TheVariants.{Makes, Waits, Hears, Over}
 
@@ -103,7 +103,7 @@ module _ (D M : Type 0) (stands : D → M → Type 0) (step : M → Act → M) (
   heard_none old new b b2 upto n ss es all due engine limit same bus quiet_until g = record {
     going = going_same old new b b2 n ss es g same bus (subst (λ (x : Turns). IsHandedOn x.waiting new.engine) (sym same) (subst (λ (x : Engined). IsHandedOn old.player.waiting x) (sym engine) g.handed));
     goes_on = inl engine;
-    stops = subst (Stops M step says new.player new.limit n ss es) (sym (ap engine_due engine ∙ due)) (subst (λ (l : ℕ). IsQuietUntil M step says (l + 1) n ss es) (all ∙ sym limit) quiet_until);
+    stops = subst (StopsPerforming M step says new.player new.limit n ss es) (sym (ap engine_due engine ∙ due)) (subst (λ (l : ℕ). IsQuietUntil M step says (l + 1) n ss es) (all ∙ sym limit) quiet_until);
     from = ap (λ (x : Turns). x.from) same;
     limit = limit;
   }
@@ -180,7 +180,7 @@ module _ (D M : Type 0) (stands : D → M → Type 0) (step : M → Act → M) (
     going =
         going_same old new b b2 n ss es g k.player k.bus (subst (λ (x : Turns). IsHandedOn x.waiting new.engine) (sym k.player) (subst (λ (x : Engined). IsHandedOn old.player.waiting x) (sym engine) g.handed));
     goes_on = inl engine;
-    stops = subst (Stops M step says new.player new.limit n ss es) (sym (ap engine_due engine ∙ due)) (subst (λ (x : Turns). IsRefused x new.limit change) (sym k.player) (subst (λ (l : ℕ). IsRefused old.player l change) (sym limit) k.why));
+    stops = subst (StopsPerforming M step says new.player new.limit n ss es) (sym (ap engine_due engine ∙ due)) (subst (λ (x : Turns). IsChangeRefused x new.limit change) (sym k.player) (subst (λ (l : ℕ). IsChangeRefused old.player l change) (sym limit) k.why));
     from = ap (λ (x : Turns). x.from) k.player;
     limit = limit;
   }
@@ -232,7 +232,7 @@ module _ (D M : Type 0) (stands : D → M → Type 0) (step : M → Act → M) (
     going =
         going_same old new b b2 n ss es g k.player k.bus (subst (λ (x : Turns). IsHandedOn x.waiting new.engine) (sym k.player) (subst (λ (x : Engined). IsHandedOn old.player.waiting x) (sym engine) g.handed));
     goes_on = inl engine;
-    stops = subst (Stops M step says new.player new.limit n ss es) (sym (ap engine_due engine ∙ due))
+    stops = subst (StopsPerforming M step says new.player new.limit n ss es) (sym (ap engine_due engine ∙ due))
         (omega (arith, late, limit), subst (λ (l : ℕ). IsQuietUntil M step says (l + 1) n ss es) (sym limit) (subst (λ (t : ℕ). IsQuietUntil M step says t n ss es) (min_later until (old.limit + 1) (omega (arith, late))) k.quiet));
     from = ap (λ (x : Turns). x.from) k.player;
     limit = limit;
@@ -248,8 +248,8 @@ module _ (D M : Type 0) (stands : D → M → Type 0) (step : M → Act → M) (
     waited = going_same old mid b b2 n ss es g (player ∙ k.player) k.bus (subst (λ (x : Turns). IsHandedOn x.waiting mid.engine) (sym (player ∙ k.player)) (none_waits old.player.waiting old.engine mid.engine until due g.handed))
 
     -- it is over
-    pub waited_over : (e : Due) → engine_due mid.engine ≡ e → Stops M step says mid.player mid.limit n ss es e → HasStopped D M stands step says old mid b2 n ss es
-    waited_over e is s = record { going = waited; goes_on = inr (until, due, passed, waited_quiet); stops = subst (Stops M step says mid.player mid.limit n ss es) (sym is) s; from = ap (λ (x : Turns). x.from) (player ∙ k.player); limit = limit }
+    pub waited_over : (e : Due) → engine_due mid.engine ≡ e → StopsPerforming M step says mid.player mid.limit n ss es e → HasStopped D M stands step says old mid b2 n ss es
+    waited_over e is s = record { going = waited; goes_on = inr (until, due, passed, waited_quiet); stops = subst (StopsPerforming M step says mid.player mid.limit n ss es) (sym is) s; from = ap (λ (x : Turns). x.from) (player ∙ k.player); limit = limit }
 
     -- or its change comes
     pub waited_then : (new : Performing) (b3 : Cabled D) (r : Option Event) → new.engine ≡ mid.engine → MatchOption r (HasStopped D M stands step says mid new b3 n ss es) (HasCome D M stands step says mid new b3 n ss es) → MatchOption r (HasStopped D M stands step says old new b3 n ss es) (HasCome D M stands step says old new b3 n ss es)

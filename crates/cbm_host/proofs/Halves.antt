@@ -23,10 +23,10 @@ use Rattle.cbm_host.specs.declared.stage.Stage.{Stage}
 use Rattle.cbm_host.specs.declared.take.Came.{Came}
 use Rattle.cbm_host.specs.declared.take.Take.TheVariants.{Awaiting, Freeing, Listening, Marking, Unmarking, Gathering, Accepting}
 use Rattle.cbm_iec.specs.Ports.{changes_between}
-use Rattle.cbm_iec.specs.declared.act.Act.{Act}
+use Rattle.cbm_iec.specs.declared.machine.Act.{Act}
 use Rattle.cbm_iec.specs.declared.event.Event.{Event}
 use Rattle.cbm_iec.specs.declared.event.Who.TheVariants.{Drive}
-use Rattle.cbm_iec.specs.declared.line.Change.{Change}
+use Rattle.cbm_iec.specs.declared.lines.Change.{Change}
 use Rattle.cbm_iec.specs.declared.lines.Held.{Held}
 use Rattle.cbm_session.specs.Playing.{Station, drive_events}
 

@@ -8,13 +8,13 @@ use Rattle.cbm_iec.specs.declared.pace.Pace.{Pace}
 use Rattle.cbm_iec.specs.declared.port.Port.{Port}
 use Rattle.cbm_drive.specs.Cables.{Cabled, all_free}
 use Rattle.cbm_drive.specs.Players.{at_start}
-use Rattle.cbm_drive.specs.Seats.{Seated, IsWithout, IsBusAt, held_by}
+use Rattle.cbm_drive.specs.Seats.{Seated, IsWithout, IsBusAt, wires_held_by}
 use Rattle.cbm_drive.specs.PlayedBack.{played_byte}
 use Rattle.cbm_host.proofs.AnyDisk.{rest_played}
 use Rattle.cbm_host.proofs.Anyway.{carried_anyway}
 use Rattle.cbm_host.proofs.Hosting.{is_drive}
 use Rattle.cbm_host.proofs.Performed.{performing_none}
-use Rattle.cbm_host.specs.AnyDisk.{IsAtRest, IsUnderWayAnyway, IsOverAnyway}
+use Rattle.cbm_host.specs.AnyDisk.{IsAtRestAnyway, IsUnderWayAnyway, IsOverAnyway}
 use Rattle.cbm_host.specs.Engines.{engine_at, stage_end, channel_of}
 use Rattle.cbm_host.specs.Hosted.{party_of}
 use Rattle.cbm_host.specs.Performers.{Performing}
@@ -32,17 +32,17 @@ module _ {D : Type 0} (shows : D → Shown) (pace : Pace) (device : ℕ) where
   IsOnBus shown b m = IsBusAt D Playback (IsPlayedBack shows shown) b.host b.drives (resting m)
 
   -- at power up
-  pub rests_first_anyway : (b : Cabled D) (x : Seated D) → b.host ≡ all_free → b.drives ≡ x ∷ [] → x.port ≡ ports.resting (party_of pace device) → IfSome (shows x.machine) (λ s. s.0 < 256) → IsAtRest shows (party_of pace device) b
+  pub rests_first_anyway : (b : Cabled D) (x : Seated D) → b.host ≡ all_free → b.drives ≡ x ∷ [] → x.port ≡ ports.resting (party_of pace device) → IfSome (shows x.machine) (λ s. s.0 < 256) → IsAtRestAnyway shows (party_of pace device) b
   rests_first_anyway b x free one port byte =
       subst (λ (l : Lines). IsBusAt D (Unit {0}) (λ x u. IfSome (shows x) (λ s. s.0 < 256)) l b.drives (at_rest (Unit {0}) (λ u act. u) (λ u. None) (λ d. tt) (party_of pace device ∷ []))) (sym free)
       (subst (λ (xs : List (Seated D)). IsBusAt D (Unit {0}) (λ x u. IfSome (shows x) (λ s. s.0 < 256)) all_free xs (at_rest (Unit {0}) (λ u act. u) (λ u. None) (λ d. tt) (party_of pace device ∷ []))) (sym one)
       (record { port = port; machine = byte; rest = rest }, tt))
     where
-      rest : IsWithout (held_by all_free (x ∷ [])) x.port.own nobody
-      rest = subst (λ (q : Port). IsWithout (held_by all_free ((record { port = q; machine = x.machine }) ∷ [])) q.own nobody) (sym port) (record { host = refl; clocks = refl; datas = refl })
+      rest : IsWithout (wires_held_by all_free (x ∷ [])) x.port.own nobody
+      rest = subst (λ (q : Port). IsWithout (wires_held_by all_free ((record { port = q; machine = x.machine }) ∷ [])) q.own nobody) (sym port) (record { host = refl; clocks = refl; datas = refl })
 
   -- before the first event
-  pub begun_anyway : (start : ℕ) (b : Cabled D) (p : Performing) (request : Request) → IsAtRest shows (party_of pace device) b → p.player ≡ at_start → p.engine ≡ engine_at start device request → p.limit ≡ start + longest pace → IsUnderWayAnyway shows pace device start b p request
+  pub begun_anyway : (start : ℕ) (b : Cabled D) (p : Performing) (request : Request) → IsAtRestAnyway shows (party_of pace device) b → p.player ≡ at_start → p.engine ≡ engine_at start device request → p.limit ≡ start + longest pace → IsUnderWayAnyway shows pace device start b p request
   begun_anyway start b p request rests player engine limit = record {
     before = b;
     rested = rests;

@@ -3,13 +3,13 @@ use Rattle.cbm_iec.specs.declared.pace.Pace.{Pace}
 use Rattle.std.proofs.Common.{◌≡◌, ℕ, zero, suc, get_or, replicate, ◌+◌, ◌<◌, ◌≤◌, Bool, false, List, [], ◌∷◌, ◌++◌, append-nil, length, Option, Some, None, refl, sym, ap, ◌∙◌, subst, arith}
 use Rattle.std.specs.Prelude.{MatchOption}
 use Rattle.cbm_medium.specs.Seen.{Seen}
-use Rattle.cbm_channel.specs.Machines.{Machine}
+use Rattle.cbm_machine.specs.Machines.{Machine}
 use Rattle.cbm_channel.specs.Standing.{Kept}
 use Rattle.cbm_drive.specs.Cables.{Cabled, all_free}
 use Rattle.cbm_drive.specs.Desks.{Desk, DeskStands, desk_step, desk_says}
 use Rattle.cbm_drive.specs.NextSaid.{is_byte}
 use Rattle.cbm_drive.specs.Players.{at_start}
-use Rattle.cbm_drive.specs.Seats.{Seated, IsBusAt, IsWithout, held_by, numbers}
+use Rattle.cbm_drive.specs.Seats.{Seated, IsBusAt, IsWithout, wires_held_by, numbers}
 use Rattle.cbm_iec.specs.Ports.{resting}
 use Rattle.cbm_iec.specs.declared.lines.Lines.{Lines}
 use Rattle.cbm_iec.specs.declared.port.Port.{Port}
@@ -27,7 +27,7 @@ use Rattle.cbm_host.specs.Requests.{longest}
 use Rattle.cbm_host.specs.Served.{IsModest, MovesFew, at_power_up}
 use Rattle.cbm_host.specs.declared.request.Request.{Request}
 use Rattle.cbm_host.specs.declared.request.Request.TheVariants.{Open, Put, Fill, Get, Close, Status}
-use Rattle.cbm_iec.specs.declared.act.Act.{Act}
+use Rattle.cbm_iec.specs.declared.machine.Act.{Act}
 use Rattle.cbm_iec.specs.declared.event.Event.{Event}
 use Rattle.cbm_iec.specs.declared.party.Party.{Party}
 use Rattle.cbm_session.specs.Playing.{Station, at_rest, nobody}
@@ -185,8 +185,8 @@ module _ {M : Type 0} (seen : M → Seen) where
       (subst (λ (l : Lines). IsBusAt (Desk (Kept M)) (Desk Machine) (DeskStands seen) l h.bus.drives (resting_for pace device m)) (sym free)
       (subst (λ (xs : List (Seated (Desk (Kept M)))). IsBusAt (Desk (Kept M)) (Desk Machine) (DeskStands seen) all_free xs (resting_for pace device m)) (sym one) seat)))
     where
-      rest : IsWithout (held_by all_free (x ∷ [])) x.port.own nobody
-      rest = subst (λ (q : Port). IsWithout (held_by all_free ((record { port = q; machine = x.machine }) ∷ [])) q.own nobody) (sym port) (record { host = refl; clocks = refl; datas = refl })
+      rest : IsWithout (wires_held_by all_free (x ∷ [])) x.port.own nobody
+      rest = subst (λ (q : Port). IsWithout (wires_held_by all_free ((record { port = q; machine = x.machine }) ∷ [])) q.own nobody) (sym port) (record { host = refl; clocks = refl; datas = refl })
 
       seat : IsBusAt (Desk (Kept M)) (Desk Machine) (DeskStands seen) all_free (x ∷ []) (resting_for pace device m)
       seat = (record { port = port; machine = stands; rest = rest }, tt)

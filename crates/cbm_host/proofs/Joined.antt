@@ -1,10 +1,10 @@
 -- The events that came are a front of a session which the host performs: event by event, by what is due first in the session and on the bus.
 use Rattle.std.proofs.Common.{◌≡◌, ℕ, suc, ◌⊎◌, inl, inr, Bool, List, [], ◌∷◌, ◌++◌, append_assoc, append-nil, Option, refl, sym, ap, ◌∙◌, subst}
-use Rattle.cbm_iec.specs.declared.act.Act.{Act}
+use Rattle.cbm_iec.specs.declared.machine.Act.{Act}
 use Rattle.cbm_iec.specs.declared.event.Event.{Event}
 use Rattle.cbm_iec.specs.declared.event.Who.TheVariants.{Host, Drive}
 use Rattle.cbm_iec.specs.declared.event.Who.{Who}
-use Rattle.cbm_iec.specs.declared.line.Change.{Change}
+use Rattle.cbm_iec.specs.declared.lines.Change.{Change}
 use Rattle.cbm_session.proofs.headline.Keeping.{plays_then}
 use Rattle.cbm_session.specs.Playing.{Station, host_event, drive_events, shown, AllInTime, IsFirst, Plays, stays, change, reaction, reacting, at_rest, IsMachine}
 

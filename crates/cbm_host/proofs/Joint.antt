@@ -1,6 +1,6 @@
 -- A request that runs along a play from rest goes along the session that its host performs.
 use Rattle.std.proofs.Common.{◌≡◌, ℕ, zero, inl, inr, Bool, false, List, [], ◌∷◌, ◌++◌, append_assoc, Option, refl, sym, ap, ◌∙◌, subst}
-use Rattle.cbm_iec.specs.declared.act.Act.{Act}
+use Rattle.cbm_iec.specs.declared.machine.Act.{Act}
 use Rattle.cbm_iec.specs.declared.event.Event.{Event}
 use Rattle.cbm_iec.specs.declared.party.Party.{Party}
 use Rattle.cbm_session.specs.Answers.{Allowed}

@@ -6,11 +6,11 @@ use Rattle.std.specs.List.{AllZip}
 use Rattle.std.specs.Prelude.{IsErrAnd, MatchBool, MatchResult, slice_index_or}
 use Rattle.cbm_drive.specs.Cables.{Cabled}
 use Rattle.cbm_drive.specs.Players.{at_start, from_behind, pending, IsAfter}
-use Rattle.cbm_drive.specs.Seats.{Seated, IsSeat, IsBusAt, held_by}
+use Rattle.cbm_drive.specs.Seats.{Seated, IsSeat, IsBusAt, wires_held_by}
 use Rattle.cbm_host.specs.Engines.{Engined, engine_due}
 use Rattle.cbm_host.specs.Performed.{taken_with, last_with, from_last, begins, goes, IsPerforming, IsCutShort, HasAddedUpTo, HasPerformed}
-use Rattle.cbm_host.specs.Performers.{Performing, IsHandedOn, Stops, HasStopped, HasNext}
-use Rattle.cbm_iec.specs.declared.act.Act.{Act}
+use Rattle.cbm_host.specs.Performers.{Performing, IsHandedOn, StopsPerforming, HasStopped, HasNext}
+use Rattle.cbm_iec.specs.declared.machine.Act.{Act}
 use Rattle.cbm_iec.specs.declared.event.Event.{Event}
 use Rattle.cbm_session.specs.Playing.{Station, Plays, stays, IsByte, AllBytes}
 
@@ -106,7 +106,7 @@ module _ (D M : Type 0) (stood stands : D → M → Type 0) (step : M → Act �
     behind = old.engine;
     runs = p.runs;
     goes_on = k.goes_on;
-    stops = subst (λ (l : ℕ). Stops M step says new.player l 0 ss p.made (engine_due new.engine)) (k.limit ∙ p.until) k.stops;
+    stops = subst (λ (l : ℕ). StopsPerforming M step says new.player l 0 ss p.made (engine_due new.engine)) (k.limit ∙ p.until) k.stops;
     from = k.from ∙ p.from;
     until = k.limit ∙ p.until;
   }
@@ -134,7 +134,7 @@ module _ (D M : Type 0) (stands : D → M → Type 0) (step : M → Act → M) (
         from = 0;
         stations = ss;
         before = omega arith;
-        plays = stays (all_bytes (IsSeat D M stands (held_by b.host b.drives)) (λ x s h. one_byte (says s.machine) (λ n l said. byte x.machine s.machine n l h.machine said)) b.drives ss bus) refl refl refl;
+        plays = stays (all_bytes (IsSeat D M stands (wires_held_by b.host b.drives)) (λ x s h. one_byte (says s.machine) (λ n l said. byte x.machine s.machine n l h.machine said)) b.drives ss bus) refl refl refl;
         now = bus;
         second = tt;
       });

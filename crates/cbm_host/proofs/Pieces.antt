@@ -1,8 +1,8 @@
 -- The host performs each piece of a request.
 use Rattle.std.proofs.Common.{◌≡◌, ℕ, ◌+◌, ◌≤◌, Bool, true, false, List, [], ◌∷◌, ◌++◌, Some, ap, sym, ◌∙◌, subst, arith, refl}
-use Rattle.cbm_iec.specs.declared.act.Act.TheVariants.{Pulled, Attention, Released, Heard, Silent}
-use Rattle.cbm_iec.specs.declared.line.Line.TheVariants.{Atn, Clock, Data}
-use Rattle.cbm_iec.specs.declared.line.Way.TheVariants.{Pull, Free}
+use Rattle.cbm_iec.specs.declared.machine.Act.TheVariants.{Pulled, Attention, Released, Heard, Silent}
+use Rattle.cbm_iec.specs.declared.lines.Line.TheVariants.{Atn, Clock, Data}
+use Rattle.cbm_iec.specs.declared.lines.Way.TheVariants.{Pull, Free}
 use Rattle.cbm_iec.specs.Profile.{mute}
 use Rattle.cbm_iec.specs.declared.lines.Held.{Held}
 use Rattle.cbm_iec.specs.declared.pace.Pace.TheVariants.{Profile, Kernal}
@@ -12,7 +12,7 @@ use Rattle.cbm_iec.specs.declared.party.Role.TheVariants.{Absent, Listener, Talk
 use Rattle.cbm_session.proofs.joining.Merging.{merge_here, merge_there}
 use Rattle.cbm_session.proofs.joining.OneDrive.{pull_is, frame_is}
 use Rattle.cbm_session.proofs.reading.PieceReadings.{seat, turn_first}
-use Rattle.cbm_session.specs.Bits.{where_held, where_free, byte_of}
+use Rattle.cbm_session.specs.Bits.{where_held, where_free, byte_in_cells}
 use Rattle.cbm_session.specs.Following.{alone}
 use Rattle.cbm_session.specs.Frames.{end_of}
 use Rattle.cbm_session.specs.Pieces.{silent_part, silent_at, Point, steps_of, PullPiece, Command, Byte, ToListener, ToNobody, ToTalker, Nothing}
@@ -68,8 +68,8 @@ module _ (s : Seat) (some : 1 ≤ reaction s) (prompt : reaction s ≤ 60) (left
       let f = frame_for s.party false byte ready in
       let e = framing behind left most (Readying ready byte false) in
       let e2 = accepted (end_of f + reaction s) behind (framing behind left most Sent) in
-      subst (λ (zs : List Step). Performs e zs e2) (sym (frame_is (ready + reaction s) s (Attention (byte_of f.cells)) f false (omega arith) (cells_fit false 8 byte f.start)))
-      (frame_performs behind left most s (Attention (byte_of f.cells)) byte ready)
+      subst (λ (zs : List Step). Performs e zs e2) (sym (frame_is (ready + reaction s) s (Attention (byte_in_cells f.cells)) f false (omega arith) (cells_fit false 8 byte f.start)))
+      (frame_performs behind left most s (Attention (byte_in_cells f.cells)) byte ready)
 
   -- ATN's release
   pub listener_performed : (p : Point) (o : Held) (at : ℕ) → let t = seat s.party Listener o in
@@ -109,12 +109,12 @@ byte_performed b o left most p false byte ready behind =
     let s = seat b Listener o in
     let f = frame_for b false byte ready in
     subst (λ (zs : List Step). Performs (framing behind left most (Readying ready byte false)) zs (accepted (end_of f + b.reaction) behind (framing behind left most Sent)))
-    (sym (frame_is (ready + b.reaction) s (Heard (byte_of f.cells) false) f false (omega arith) (cells_fit false 8 byte f.start))) (frame_performs behind left most s (Heard (byte_of f.cells) false) byte ready)
+    (sym (frame_is (ready + b.reaction) s (Heard (byte_in_cells f.cells) false) f false (omega arith) (cells_fit false 8 byte f.start))) (frame_performs behind left most s (Heard (byte_in_cells f.cells) false) byte ready)
 byte_performed b o left most p true byte ready behind =
     let s = seat b Listener o in
     let f = frame_for b true byte ready in
     subst (λ (zs : List Step). Performs (framing behind left most (Readying ready byte true)) zs (accepted (end_of f + b.reaction) behind (framing behind left most Sent)))
-    (sym (frame_is (ready + b.reaction) s (Heard (byte_of f.cells) true) f true (omega arith, omega arith) (cells_fit false 8 byte f.start))) (last_performs behind left most s (Heard (byte_of f.cells) true) byte ready)
+    (sym (frame_is (ready + b.reaction) s (Heard (byte_in_cells f.cells) true) f true (omega arith, omega arith) (cells_fit false 8 byte f.start))) (last_performs behind left most s (Heard (byte_in_cells f.cells) true) byte ready)
 
 -- ---- nothing to say
 

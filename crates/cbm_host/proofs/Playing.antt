@@ -12,14 +12,14 @@ use Rattle.cbm_iec.specs.declared.party.Party.{Party}
 use Rattle.cbm_iec.specs.declared.party.Role.TheVariants.{Absent, Listener, Talker}
 use Rattle.cbm_iec.specs.declared.party.Role.{Role}
 use Rattle.cbm_session.proofs.reading.PieceReadings.{seat}
-use Rattle.cbm_session.specs.Bits.{byte_of}
+use Rattle.cbm_session.specs.Bits.{byte_in_cells}
 use Rattle.cbm_session.specs.Following.{alone}
-use Rattle.cbm_session.specs.Pieces.{Piece, Place, Point, gap_at, gap, PullFits, PieceFits, piece_steps, point_after, PullPiece, Command, ToNobody, Full, Commanding, commanding}
+use Rattle.cbm_session.specs.Pieces.{Piece, BusPlace, Point, gap_at, gap, PullFits, PieceFits, piece_steps, point_after, PullPiece, Command, ToNobody, Full, Commanding, commanding}
 use Rattle.cbm_session.specs.Seats.{lines, Seat, bus_pace}
 use Rattle.cbm_session.specs.Steps.{Step, host, drive, for_each}
-use Rattle.cbm_iec.specs.declared.act.Act.TheVariants.{Released}
-use Rattle.cbm_iec.specs.declared.line.Line.TheVariants.{Atn, Clock, Data}
-use Rattle.cbm_iec.specs.declared.line.Way.TheVariants.{Free}
+use Rattle.cbm_iec.specs.declared.machine.Act.TheVariants.{Released}
+use Rattle.cbm_iec.specs.declared.lines.Line.TheVariants.{Atn, Clock, Data}
+use Rattle.cbm_iec.specs.declared.lines.Way.TheVariants.{Free}
 use Rattle.cbm_host.proofs.Composing.{performs_then}
 use Rattle.cbm_host.proofs.Frames.{framing, frame_fits, cells_end}
 use Rattle.cbm_host.proofs.Pieces.{at_stage, pull_performed, command_performed, nobody_steps, nobody_performed}
@@ -27,7 +27,7 @@ use Rattle.cbm_host.specs.Engines.{Engined, accepted}
 use Rattle.cbm_host.specs.Framed.{cells_for, start_for, frame_for}
 use Rattle.cbm_host.specs.Performing.{Performs}
 use Rattle.cbm_host.specs.Requests.{accept_for, leave, IsPlayed}
-use Rattle.cbm_host.specs.Sending.{is_low}
+use Rattle.cbm_host.specs.Sending.{starts_low}
 use Rattle.cbm_host.specs.Stages as stages
 use Rattle.cbm_host.specs.Waits.{ready_wait, turn_wait, phase}
 use Rattle.cbm_host.specs.declared.commands.Commands.TheVariants.{One}
@@ -49,13 +49,13 @@ abbrev power : ℕ → ℕ
 power zero = 1
 power (suc n) = 2 * power n
 
-cells_number : (n l t : ℕ) → l < power n → byte_of (cells_for n l t) ≡ l
+cells_number : (n l t : ℕ) → l < power n → byte_in_cells (cells_for n l t) ≡ l
 cells_number zero l t h = omega (arith, h)
 cells_number (suc n) l t h =
     let rest = cells_number n (l / 2) (t + phase + phase) (omega (arith, h)) in
-    ap (λ (m : ℕ). (if not (is_low l) then 1 else 0) + 2 * m) rest ∙ low_one l (is_low l) refl
+    ap (λ (m : ℕ). (if not (starts_low l) then 1 else 0) + 2 * m) rest ∙ low_one l (starts_low l) refl
 
-pub frame_byte : (b : Party) (eoi : Bool) (byte ready : ℕ) → byte < 256 → byte_of (frame_for b eoi byte ready).cells ≡ byte
+pub frame_byte : (b : Party) (eoi : Bool) (byte ready : ℕ) → byte < 256 → byte_in_cells (frame_for b eoi byte ready).cells ≡ byte
 frame_byte b eoi byte ready h = cells_number 8 byte (start_for b eoi ready) h
 
 -- ---- the role that it makes
@@ -114,7 +114,7 @@ go_on {p} k ks limit e1 fits here more = record {
 }
 
 -- a drive alone at a point
-abbrev pub point : Party → Role → Held → Place → Held → ℕ → Option ℕ → ℕ → ℕ → Point
+abbrev pub point : Party → Role → Held → BusPlace → Held → ℕ → Option ℕ → ℕ → ℕ → Point
 point b role own place host pulled released accepted since = record {
   place = place;
   seats = seat b role own ∷ [];

@@ -11,15 +11,15 @@ use Rattle.cbm_iec.specs.Ports.{port_due}
 use Rattle.cbm_iec.specs.declared.event.Event.{Event}
 use Rattle.cbm_iec.specs.declared.event.Who.TheVariants.{Host, Drive}
 use Rattle.cbm_iec.specs.declared.event.Who.{Who}
-use Rattle.cbm_iec.specs.declared.line.Change.{Change}
-use Rattle.cbm_iec.specs.declared.line.Line.{Line}
-use Rattle.cbm_iec.specs.declared.line.Line.TheVariants.{Atn, Clock, Data}
-use Rattle.cbm_iec.specs.declared.line.Way.{Way}
-use Rattle.cbm_iec.specs.declared.line.Way.TheVariants.{Pull, Free}
+use Rattle.cbm_iec.specs.declared.lines.Change.{Change}
+use Rattle.cbm_iec.specs.declared.lines.Line.{Line}
+use Rattle.cbm_iec.specs.declared.lines.Line.TheVariants.{Atn, Clock, Data}
+use Rattle.cbm_iec.specs.declared.lines.Way.{Way}
+use Rattle.cbm_iec.specs.declared.lines.Way.TheVariants.{Pull, Free}
 use Rattle.cbm_host.specs.Engines.{Engined, at_stage, sending_on, accepted, took, made_at, engine_made, heard_data, heard, seen_at, engine_seen, engine_passed, engine_due}
 use Rattle.cbm_host.specs.Progress.{bits_left, frame_left, sends_left, take_left, takes_left, commands_left, errand_left, behind_left, stage_left, engine_left, more_than, left_of, FallsBy}
 use Rattle.cbm_host.specs.Performers.{Performing, engine_behind}
-use Rattle.cbm_host.specs.Sending.{is_low, behind_bit, bits_of, next_bit, frame_change, frame_made, frame_freed, frame_pulled, frame_lined}
+use Rattle.cbm_host.specs.Sending.{starts_low, behind_bit, bits_to_send, next_bit, frame_change, frame_made, frame_freed, frame_pulled, frame_lined}
 use Rattle.cbm_host.specs.Stages.{commanding, leaving, due_of, take_due, stage_due, turned, hushed, taking_seen, stage_passed}
 use Rattle.cbm_host.specs.Taking.{take_lined, came_bit}
 use Rattle.cbm_host.specs.declared.commands.Commands.{Commands}
@@ -42,7 +42,7 @@ use Rattle.cbm_host.specs.declared.take.Take.TheVariants.{Awaiting, Freeing, Lis
 -- ---- a byte to the drive
 
 bit_least : (t : ℕ) (b : Bits) → frame_left (next_bit t b) ≤ bits_left b.count
-bit_least t b = by_count (b.count == 0) b.low (is_same b.low (is_low b.left)) refl
+bit_least t b = by_count (b.count == 0) b.low (is_same b.low (starts_low b.left)) refl
   where
     by_count : (none low same : Bool) → (b.count == 0) ≡ none → frame_left (if none then (if low then Clearing t else Sent) else (if same then Showing (t + Rattle.cbm_host.specs.Waits.phase) b else Setting t b)) ≤ bits_left b.count
     by_count true true same e = omega arith
@@ -55,7 +55,7 @@ frame_less t (Readying at byte eoi) c e = omega arith
 frame_less t (Ready byte eoi) c e = absurd cc
 frame_less t (EoiSent byte) c e = absurd cc
 frame_less t (EoiHeard byte) c e = absurd cc
-frame_less t (Starting at byte) c e = let k = bit_least t (bits_of byte) in omega (arith, k)
+frame_less t (Starting at byte) c e = let k = bit_least t (bits_to_send byte) in omega (arith, k)
 frame_less t (Setting at b) c e = omega arith
 frame_less t (Showing at b) c e = omega arith
 frame_less t (Hiding at b) c e = let k = bit_least t (behind_bit b) in omega (arith, k)

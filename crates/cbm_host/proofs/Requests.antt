@@ -17,7 +17,7 @@ use Rattle.cbm_host.proofs.Sent.{accepted_soon, listener_then}
 use Rattle.cbm_host.proofs.Taken.{byte_time, talker_then, nothing_then, up_to_last_then, as_many_then}
 use Rattle.cbm_iec.specs.Attentions.{listen, unlisten, talk, data_on, close_on, open_on}
 use Rattle.cbm_host.specs.Engines.{most_bytes}
-use Rattle.cbm_host.specs.Requests.{accept_for, attention, sending, Said, Mute, UpToLast, UpToMost, turned, taking, leave, count_of, IsSaidFor, longest, IsPlayed, PlaysRequests}
+use Rattle.cbm_host.specs.Requests.{accept_for, attention, sending_pieces, Said, Mute, UpToLast, UpToMost, turnaround_pieces, taking_pieces, leave, said_count, IsSaidFor, longest, IsPlayed, PlaysRequests}
 use Rattle.cbm_host.specs.Stages as stages
 use Rattle.cbm_host.specs.Waits.{ready_wait, turn_wait, phase}
 use Rattle.cbm_host.specs.declared.commands.Commands.TheVariants.{One, Two, Three}
@@ -68,7 +68,7 @@ module _ (b : Party) (drive : IsDrive b) (start : ℕ) (left : List ℕ) (most :
 
   -- a request that sends
   pub sends : (second limit : ℕ) → 96 ≤ second → second < 256 → start + 2700 + 900 * length left ≤ limit
-      → IsPlayed b (rest (b ∷ [])) (at_stage left most (Attending start (PullAtn false false) (record { commands = Two (listen + d) second; errand = Sends }))) (sending b start second left) limit
+      → IsPlayed b (rest (b ∷ [])) (at_stage left most (Attending start (PullAtn false false) (record { commands = Two (listen + d) second; errand = Sends }))) (sending_pieces b start second left) limit
   sends second limit high small soon =
       let few = drive.upto in
       let two = second_soon (listen + d) second in
@@ -77,8 +77,8 @@ module _ (b : Party) (drive : IsDrive b) (start : ℕ) (left : List ℕ) (most :
       two_then (listen + d) second limit Sends _ (omega (arith, few)) small (listener_then b drive.some drive.prompt most (behind_two (listen + d) second) start (second_accept (listen + d) second) start limit left role (omega (arith, two_soon, soon)))
 
   -- a request that takes
-  pub takes : (channel limit : ℕ) (said : Said) → channel ≤ 15 → IsSaidFor most said → start + 5000 + byte_time b.pace * count_of said ≤ limit
-      → IsPlayed b (rest (b ∷ [])) (at_stage left most (Attending start (PullAtn false false) (record { commands = Two (talk + d) (data_on + channel); errand = Takes }))) (taking b start channel said) limit
+  pub takes : (channel limit : ℕ) (said : Said) → channel ≤ 15 → IsSaidFor most said → start + 5000 + byte_time b.pace * said_count said ≤ limit
+      → IsPlayed b (rest (b ∷ [])) (at_stage left most (Attending start (PullAtn false false) (record { commands = Two (talk + d) (data_on + channel); errand = Takes }))) (taking_pieces b start channel said) limit
   takes channel limit said few_channels wanted soon =
       two_then (talk + d) (data_on + channel) limit Takes _ (omega (arith, few)) (omega (arith, few_channels)) (by_said said wanted soon)
     where
@@ -94,8 +94,8 @@ module _ (b : Party) (drive : IsDrive b) (start : ℕ) (left : List ℕ) (most :
       role : behind_two (talk + d) (data_on + channel) ≡ Talker
       role = ap (λ (x : Role). role_after d (data_on + channel) x) (talks d) ∙ still_talks d (data_on + channel) few (omega arith)
 
-      by_said : (said : Said) → IsSaidFor most said → start + 5000 + byte_time b.pace * count_of said ≤ limit
-          → IsPlayed b (attending b (behind_two (talk + d) (data_on + channel)) true start accept start) (at_stage left most (stages.releasing accept Takes)) (turned b (accept + turn_wait) said) limit
+      by_said : (said : Said) → IsSaidFor most said → start + 5000 + byte_time b.pace * said_count said ≤ limit
+          → IsPlayed b (attending b (behind_two (talk + d) (data_on + channel)) true start accept start) (at_stage left most (stages.releasing accept Takes)) (turnaround_pieces b (accept + turn_wait) said) limit
       by_said Mute wanted soon = nothing_then b drive.some drive.prompt (behind_two (talk + d) (data_on + channel)) left most start accept start limit role few (let t = two_soon in omega (arith, t, soon))
       by_said (UpToLast first more) wanted soon =
           let t = two_soon in
@@ -142,6 +142,6 @@ plays_requests b start said (Open channel text) drive c n w m = sends b drive st
 plays_requests b start said (Put channel bytes) drive c n w m = sends b drive start bytes.now 0 (data_on + channel) (start + longest b.pace) (omega arith) (omega (arith, c)) (omega (arith, sent_long b.pace (length bytes.now) n))
 plays_requests b start said (Fill channel count byte) drive c n w m =
     sends b drive start (replicate count byte) 0 (data_on + channel) (start + longest b.pace) (omega arith) (omega (arith, c)) (omega (arith, sent_long b.pace (length (replicate count byte)) n))
-plays_requests b start said (Get channel most) drive c n w m = takes b drive start [] most channel (start + longest b.pace) said c w (omega (arith, taken_long b.pace (count_of said) m))
+plays_requests b start said (Get channel most) drive c n w m = takes b drive start [] most channel (start + longest b.pace) said c w (omega (arith, taken_long b.pace (said_count said) m))
 plays_requests b start said (Close channel) drive c n w m = closes b drive start [] 0 channel (start + longest b.pace) c (omega (arith, taken_long b.pace 0 (omega arith)))
-plays_requests b start said Status drive c n w m = takes b drive start [] most_bytes 15 (start + longest b.pace) said (omega arith) w (omega (arith, taken_long b.pace (count_of said) m))
+plays_requests b start said Status drive c n w m = takes b drive start [] most_bytes 15 (start + longest b.pace) said (omega arith) w (omega (arith, taken_long b.pace (said_count said) m))

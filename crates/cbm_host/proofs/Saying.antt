@@ -3,13 +3,13 @@ use Rattle.std.proofs.Common.{◌≡◌, ℕ, zero, suc, ◌+◌, ◌-◌, ◌*�
 use Rattle.std.proofs.lemmas.Bool.Decides.{leb_tells}
 use Rattle.std.specs.Prelude.{if◌then◌else◌}
 use Rattle.cbm_iec.specs.Profile.{lead, next_byte}
-use Rattle.cbm_iec.specs.declared.line.Line.TheVariants.{Data}
-use Rattle.cbm_iec.specs.declared.line.Way.TheVariants.{Free}
+use Rattle.cbm_iec.specs.declared.lines.Line.TheVariants.{Data}
+use Rattle.cbm_iec.specs.declared.lines.Way.TheVariants.{Free}
 use Rattle.cbm_iec.specs.declared.pace.Pace.TheVariants.{Profile, Kernal}
 use Rattle.cbm_iec.specs.declared.pace.Pace.{Pace}
 use Rattle.cbm_iec.specs.Roles.{role_after}
-use Rattle.cbm_iec.specs.declared.act.Act.TheVariants.{Pulled, Attention, Released, Heard, Said as Spoken, Silent}
-use Rattle.cbm_iec.specs.declared.act.Act.{Act}
+use Rattle.cbm_iec.specs.declared.machine.Act.TheVariants.{Pulled, Attention, Released, Heard, Said as Spoken, Silent}
+use Rattle.cbm_iec.specs.declared.machine.Act.{Act}
 use Rattle.cbm_iec.specs.declared.event.Who.TheVariants.{Host, Drive}
 use Rattle.cbm_iec.specs.declared.event.Who.{Who}
 use Rattle.cbm_iec.specs.declared.lines.Held.{Held}
@@ -19,8 +19,8 @@ use Rattle.cbm_iec.specs.declared.party.Role.{Role}
 use Rattle.cbm_session.proofs.headline.Unasked.{Runs}
 use Rattle.cbm_session.proofs.joining.OneDrive.{told_is}
 use Rattle.cbm_session.proofs.reading.PieceReadings.{seat}
-use Rattle.cbm_session.specs.Answers.{PieceAnswers, run, run_each, RunEach, Allowed}
-use Rattle.cbm_session.specs.Bits.{bits_of, number_of}
+use Rattle.cbm_session.specs.Answers.{PieceAnswers, run_acts, run_each, RunEach, Allowed}
+use Rattle.cbm_session.specs.Bits.{bits_in_cells, number_of}
 use Rattle.cbm_session.specs.Following.{alone}
 use Rattle.cbm_session.specs.Pieces.{silent_part, Piece, Point, before, steps_of, piece_steps, held_by, own_part, seat_with, point_after, PullPiece, Command, Byte, ToListener, ToNobody, ToTalker, Nothing, Talk, Full, Cut, Open}
 use Rattle.cbm_session.specs.Seats.{lines, Seat, talker_of}
@@ -32,15 +32,15 @@ use Rattle.cbm_host.proofs.Playing.{attending, point, frame_byte, untalked, list
 use Rattle.cbm_host.proofs.Sent.{listening}
 use Rattle.cbm_host.proofs.Taken.{leading, told_fits, told_front, nothing_cut, cut_last}
 use Rattle.cbm_iec.specs.Attentions.{untalk, unlisten}
-use Rattle.cbm_host.specs.Engines.{is_last}
+use Rattle.cbm_host.specs.Engines.{is_last_byte}
 use Rattle.cbm_host.specs.Framed.{cells_for, bits_for, start_for, frame_for, told_for, hushed_for}
-use Rattle.cbm_host.specs.Requests.{accept_for, attention, leave, sent, sending, Said, Mute, UpToLast, UpToMost, at_last, up_to_last, at_most, up_to_most, turned, taking}
+use Rattle.cbm_host.specs.Requests.{accept_for, attention, leave, bytes_sent, sending_pieces, Said, Mute, UpToLast, UpToMost, at_last, up_to_last, taken_at_most, up_to_most, turnaround_pieces, taking_pieces}
 use Rattle.cbm_host.specs.Waits.{ready_wait, answer_wait, turn_wait, phase}
 
 -- the bits of a byte spell it
-same_bits : (n l t : ℕ) → bits_of (cells_for n l t) ≡ bits_for n l
+same_bits : (n l t : ℕ) → bits_in_cells (cells_for n l t) ≡ bits_for n l
 same_bits zero l t = refl
-same_bits (suc n) l t = ap (λ (bs : List Bool). not (Rattle.cbm_host.specs.Sending.is_low l) ∷ bs) (same_bits n (l / 2) (t + phase + phase))
+same_bits (suc n) l t = ap (λ (bs : List Bool). not (Rattle.cbm_host.specs.Sending.starts_low l) ∷ bs) (same_bits n (l / 2) (t + phase + phase))
 
 nobody : Party
 nobody = record { device = 0; reaction = 0; pace = Profile }
@@ -57,7 +57,7 @@ by_drive d act = (Drive d, For d act)
 
 abbrev pub heard_marks : ℕ → List ℕ → Marks
 heard_marks d [] = []
-heard_marks d (byte ∷ left) = by_drive d (Heard byte (is_last left)) ∷ heard_marks d left
+heard_marks d (byte ∷ left) = by_drive d (Heard byte (is_last_byte left)) ∷ heard_marks d left
 
 abbrev pub said_marks : ℕ → Bool → ℕ → List ℕ → Marks
 said_marks d last byte [] = (Host, For d (Spoken byte last)) ∷ []
@@ -89,13 +89,13 @@ module _ (M : Type 0) (step : M → Act → M) (peek : M → Option (ℕ × Bool
   one_act w act = ap (λ (v : Bool). if v then act ∷ [] else []) (eq-eqb d d refl)
 
   counts_on : (p : Point) (s : Seat) (k : Piece) (ks : List Piece) (m : M) (marks1 marks2 : Marks) (acts : List Act) → p.seats ≡ s ∷ [] → s.party ≡ b → ((ms : ℕ → M) → ms d ≡ m → PieceAnswers M step peek (ms (talker_of p.seats).device) k) → marks_of (piece_steps p k) ≡ marks1 → acts_from d marks1 ≡ acts
-      → Runs M step peek m acts → Counts (point_after p k) (run M step peek m acts) ks marks2 → Counts p m (k ∷ ks) (marks1 ++ marks2)
+      → Runs M step peek m acts → Counts (point_after p k) (run_acts M step peek m acts) ks marks2 → Counts p m (k ∷ ks) (marks1 ++ marks2)
   counts_on p s k ks m marks1 marks2 acts seats same answers counted is runs more = record {
     allowed = λ ms e. (
       answers ms e,
       subst (λ (ss : List Seat). RunEach M step peek ss ms (piece_steps p k)) (sym seats)
           (subst (λ (x : Party). Runs M step peek (ms x.device) (acts_for x.device (piece_steps p k))) (sym same) (subst (λ (x : M). Runs M step peek x (acts_for d (piece_steps p k))) (sym e) (subst (λ (l : List Act). Runs M step peek m l) (sym there) runs)), tt),
-      more.allowed (run_each M step peek ms (piece_steps p k)) (ap (λ (x : M). run M step peek x (acts_for d (piece_steps p k))) e ∙ ap (λ (l : List Act). run M step peek m l) there),
+      more.allowed (run_each M step peek ms (piece_steps p k)) (ap (λ (x : M). run_acts M step peek x (acts_for d (piece_steps p k))) e ∙ ap (λ (l : List Act). run_acts M step peek m l) there),
     );
     counted = marks_append (piece_steps p k) (session_steps (point_after p k) ks) ∙ ap (λ (l : Marks). l ++ marks_of (session_steps (point_after p k) ks)) counted ∙ ap (λ (l : Marks). marks1 ++ l) more.counted;
   }
@@ -136,23 +136,23 @@ module _ (M : Type 0) (step : M → Act → M) (peek : M → Option (ℕ × Bool
 
   -- ---- bytes to a listener
 
-  sent_counts : (pulled released accept since t wait : ℕ) (bytes : List ℕ) (m : M) → AreSmall bytes → Counts (listening b pulled released accept since) m (sent b t wait bytes) (heard_marks d bytes ++ leave_marks d unlisten)
+  sent_counts : (pulled released accept since t wait : ℕ) (bytes : List ℕ) (m : M) → AreSmall bytes → Counts (listening b pulled released accept since) m (bytes_sent b t wait bytes) (heard_marks d bytes ++ leave_marks d unlisten)
   sent_counts pulled released accept since t wait [] m few = leave_counts (listening b pulled released accept since) (seat b Listener (lines false true)) (t + wait) 63 m refl (omega arith) refl
   sent_counts pulled released accept since t wait (byte ∷ left) m few =
-      let eoi = is_last left in
+      let eoi = is_last_byte left in
       let ready = t + ready_wait in
       let next = accept_for b eoi byte ready in
       let f = frame_for b eoi byte ready in
-      counts_on (listening b pulled released accept since) (seat b Listener (lines false true)) (Full (Byte eoi f)) (sent b next turn_wait left) m (by_drive d (Heard byte eoi) ∷ []) (heard_marks d left ++ leave_marks d unlisten) (Heard byte eoi ∷ []) refl refl (λ ms e. tt)
+      counts_on (listening b pulled released accept since) (seat b Listener (lines false true)) (Full (Byte eoi f)) (bytes_sent b next turn_wait left) m (by_drive d (Heard byte eoi) ∷ []) (heard_marks d left ++ leave_marks d unlisten) (Heard byte eoi ∷ []) refl refl (λ ms e. tt)
       (byte_marks (listening b pulled released accept since) b (lines false true) eoi byte ready ∙ ap (λ (n : ℕ). by_drive d (Heard n eoi) ∷ []) (frame_byte b eoi byte ready few.0)) (one_act (Drive d) (Heard byte eoi)) (tt, refl)
       (sent_counts pulled released next since next turn_wait left (step m (Heard byte eoi)) few.1)
 
   listener_counts : (role : Role) (pulled accept since : ℕ) (bytes : List ℕ) (m : M) → role ≡ Listener → AreSmall bytes
-      → Counts (attending b role true pulled accept since) m (Full (ToListener (accept + turn_wait)) ∷ sent b (accept + turn_wait) ready_wait bytes) ((Host, ForEach Released) ∷ (heard_marks d bytes ++ leave_marks d unlisten))
+      → Counts (attending b role true pulled accept since) m (Full (ToListener (accept + turn_wait)) ∷ bytes_sent b (accept + turn_wait) ready_wait bytes) ((Host, ForEach Released) ∷ (heard_marks d bytes ++ leave_marks d unlisten))
   listener_counts role pulled accept since bytes m listens few =
       let at = accept + turn_wait in
-      subst (λ (x : Role). Counts (attending b x true pulled accept since) m (Full (ToListener at) ∷ sent b at ready_wait bytes) ((Host, ForEach Released) ∷ (heard_marks d bytes ++ leave_marks d unlisten))) (sym listens)
-      (counts_on (attending b Listener true pulled accept since) (seat b Listener (lines false true)) (Full (ToListener at)) (sent b at ready_wait bytes) m ((Host, ForEach Released) ∷ []) (heard_marks d bytes ++ leave_marks d unlisten) (Released ∷ []) refl refl (λ ms e. tt) refl refl (tt, refl)
+      subst (λ (x : Role). Counts (attending b x true pulled accept since) m (Full (ToListener at) ∷ bytes_sent b at ready_wait bytes) ((Host, ForEach Released) ∷ (heard_marks d bytes ++ leave_marks d unlisten))) (sym listens)
+      (counts_on (attending b Listener true pulled accept since) (seat b Listener (lines false true)) (Full (ToListener at)) (bytes_sent b at ready_wait bytes) m ((Host, ForEach Released) ∷ []) (heard_marks d bytes ++ leave_marks d unlisten) (Released ∷ []) refl refl (λ ms e. tt) refl refl (tt, refl)
       (sent_counts pulled at accept at at ready_wait bytes (step m Released) few))
 
   -- ---- bytes of the talker
@@ -187,7 +187,7 @@ module _ (M : Type 0) (step : M → Act → M) (peek : M → Option (ℕ × Bool
       counts_on (leading b at pulled accept since) (seat b Talker (lines true false)) (Full (Talk at (told_for b false byte at))) ks m ((Host, For d (Spoken byte false)) ∷ []) marks (Spoken byte false ∷ []) refl refl (said_so m byte false at says)
       (talk_marks (leading b at pulled accept since) (lines true false) false byte at few) (one_act Host (Spoken byte false)) (says, refl) more
 
-  most_counts : (pulled accept since next byte at : ℕ) (last : Bool) (m : M) → b.device ≤ 11 → SaysMost next last m byte [] → Counts (leading b at pulled accept since) m (at_most b next last byte at) ((Host, For d (Spoken byte false)) ∷ leave_marks d untalk)
+  most_counts : (pulled accept since next byte at : ℕ) (last : Bool) (m : M) → b.device ≤ 11 → SaysMost next last m byte [] → Counts (leading b at pulled accept since) m (taken_at_most b next last byte at) ((Host, For d (Spoken byte false)) ∷ leave_marks d untalk)
   most_counts pulled accept since next byte at last m few says =
       let f = told_for b false byte at in
       let cut = f.accept + answer_wait in
@@ -252,7 +252,7 @@ module _ (M : Type 0) (step : M → Act → M) (peek : M → Option (ℕ × Bool
   silent_marks Kernal t freed = refl
 
   nothing_counts : (role : Role) (pulled accept since : ℕ) (m : M) → role ≡ Talker → b.device ≤ 11 → peek (step m Released) ≡ None
-      → Counts (attending b role true pulled accept since) m (turned b (accept + turn_wait) Mute) ((Host, ForEach Released) ∷ by_drive d Silent ∷ leave_marks d untalk)
+      → Counts (attending b role true pulled accept since) m (turnaround_pieces b (accept + turn_wait) Mute) ((Host, ForEach Released) ∷ by_drive d Silent ∷ leave_marks d untalk)
   nothing_counts role pulled accept since m talks few says =
       let at = accept + turn_wait in
       let freed = hushed_for b.pace r (at + phase) in
@@ -276,7 +276,7 @@ module _ (M : Type 0) (step : M → Act → M) (peek : M → Option (ℕ × Bool
   turned_marks (UpToLast first more) = said_marks d true first more
   turned_marks (UpToMost first more next last) = said_marks d false first more
 
-  turned_counts : (role : Role) (pulled accept since : ℕ) (m : M) (said : Said) → role ≡ Talker → b.device ≤ 11 → IsSaid (step m Released) said → Counts (attending b role true pulled accept since) m (turned b (accept + turn_wait) said) ((Host, ForEach Released) ∷ (turned_marks said ++ leave_marks d untalk))
+  turned_counts : (role : Role) (pulled accept since : ℕ) (m : M) (said : Said) → role ≡ Talker → b.device ≤ 11 → IsSaid (step m Released) said → Counts (attending b role true pulled accept since) m (turnaround_pieces b (accept + turn_wait) said) ((Host, ForEach Released) ∷ (turned_marks said ++ leave_marks d untalk))
   turned_counts role pulled accept since m Mute talks few says = nothing_counts role pulled accept since m talks few says
   turned_counts role pulled accept since m (UpToLast first []) talks few says = talker_counts role pulled accept since m (up_to_last b (accept + turn_wait + phase + r + lead) first []) (said_marks d true first [] ++ leave_marks d untalk) (first, true) talks says (up_to_last_counts pulled accept (accept + turn_wait + phase + r + 1) (accept + turn_wait + phase + r + lead) first [] (step m Released) few says)
   turned_counts role pulled accept since m (UpToLast first (next ∷ more)) talks few says = talker_counts role pulled accept since m (up_to_last b (accept + turn_wait + phase + r + lead) first (next ∷ more)) (said_marks d true first (next ∷ more) ++ leave_marks d untalk) (first, false) talks says.0 (up_to_last_counts pulled accept (accept + turn_wait + phase + r + 1) (accept + turn_wait + phase + r + lead) first (next ∷ more) (step m Released) few says)
@@ -297,14 +297,14 @@ module _ (M : Type 0) (step : M → Act → M) (peek : M → Option (ℕ × Bool
       (command_counts (role_after d one Absent) true start (accept_for b false one (start + ready_wait)) start (accept_for b false one (start + ready_wait)) two (step (step m Pulled) (Attention one)) ks marks few2 more))
 
   pub sends_counts : (start second : ℕ) (bytes : List ℕ) (m : M) → b.device ≤ 11 → 96 ≤ second → second < 256 → AreSmall bytes
-      → Counts (rest (b ∷ [])) m (sending b start second bytes) ((Host, ForEach Pulled) ∷ by_drive d (Attention (32 + d)) ∷ by_drive d (Attention second) ∷ (Host, ForEach Released) ∷ (heard_marks d bytes ++ leave_marks d unlisten))
+      → Counts (rest (b ∷ [])) m (sending_pieces b start second bytes) ((Host, ForEach Pulled) ∷ by_drive d (Attention (32 + d)) ∷ by_drive d (Attention second) ∷ (Host, ForEach Released) ∷ (heard_marks d bytes ++ leave_marks d unlisten))
   sends_counts start second bytes m few high small2 bytes_small =
       two_counts start (32 + d) second m _ ((Host, ForEach Released) ∷ (heard_marks d bytes ++ leave_marks d unlisten)) (omega (arith, few)) small2
       (listener_counts (role_after d second (role_after d (32 + d) Absent)) start (accept_for b false second (accept_for b false (32 + d) (start + ready_wait) + ready_wait)) start bytes (called (32 + d) second m)
       (ap (λ (x : Role). role_after d second x) (listens d) ∙ still_listens d second few high) bytes_small)
 
   pub takes_counts : (start channel : ℕ) (said : Said) (m : M) → b.device ≤ 11 → channel ≤ 15 → IsSaid (step (called (64 + d) (96 + channel) m) Released) said
-      → Counts (rest (b ∷ [])) m (taking b start channel said) ((Host, ForEach Pulled) ∷ by_drive d (Attention (64 + d)) ∷ by_drive d (Attention (96 + channel)) ∷ (Host, ForEach Released) ∷ (turned_marks said ++ leave_marks d untalk))
+      → Counts (rest (b ∷ [])) m (taking_pieces b start channel said) ((Host, ForEach Pulled) ∷ by_drive d (Attention (64 + d)) ∷ by_drive d (Attention (96 + channel)) ∷ (Host, ForEach Released) ∷ (turned_marks said ++ leave_marks d untalk))
   takes_counts start channel said m few few_channels says =
       two_counts start (64 + d) (96 + channel) m _ ((Host, ForEach Released) ∷ (turned_marks said ++ leave_marks d untalk)) (omega (arith, few)) (omega (arith, few_channels))
       (turned_counts (role_after d (96 + channel) (role_after d (64 + d) Absent)) start (accept_for b false (96 + channel) (accept_for b false (64 + d) (start + ready_wait) + ready_wait)) start (called (64 + d) (96 + channel) m) said

@@ -5,34 +5,34 @@ use Rattle.std.proofs.lemmas.Bool.{cases_lt, ne_eqb, false≢true}
 use Rattle.std.proofs.lemmas.Bool.Decides.{nat_tests}
 use Rattle.cbm_channel.proofs.Kept.{take_all}
 use Rattle.cbm_channel.proofs.Texts.{command_kept}
-use Rattle.cbm_channel.specs.Calls.{put, after_open, command}
-use Rattle.cbm_channel.specs.Closing.{close}
-use Rattle.cbm_channel.specs.Machines.{Machine}
-use Rattle.cbm_channel.specs.Plans.{open_text}
-use Rattle.cbm_channel.specs.Statuses.{status_line}
-use Rattle.cbm_channel.specs.Talking.{taken, talk, listen}
-use Rattle.cbm_drive.specs.Addressing.{Addressed, secondary_of, turned, taken_up}
-use Rattle.cbm_channel.specs.Told.{is_unread_error, told_by}
+use Rattle.cbm_machine.specs.Calls.{put, after_open, command}
+use Rattle.cbm_machine.specs.Closing.{close}
+use Rattle.cbm_machine.specs.Machines.{Machine}
+use Rattle.cbm_machine.specs.Plans.{open_text}
+use Rattle.cbm_machine.specs.Statuses.{status_line}
+use Rattle.cbm_machine.specs.Talking.{taken, after_talk, after_listen}
+use Rattle.cbm_drive.specs.Addressing.{Addressed, secondary_of, role_turned, role_taken_up}
+use Rattle.cbm_machine.specs.Told.{is_unread_error, told_by}
 use Rattle.cbm_iec.specs.declared.pace.Pace.TheVariants.{Profile, Kernal}
 use Rattle.cbm_iec.specs.declared.pace.Pace.{Pace}
 use Rattle.cbm_drive.specs.Desks.{Desk, talked_to, seconded, desk_step, desk_says}
 use Rattle.cbm_drive.specs.declared.secondary.Secondary.{Secondary}
 use Rattle.cbm_drive.specs.declared.secondary.Secondary.TheVariants.{Data, Close as CloseOf, Open as OpenOf}
-use Rattle.cbm_file.specs.Waiting.{shown}
+use Rattle.cbm_file.specs.Waiting.{next_shown}
 use Rattle.cbm_talk.proofs.Spoken.{says_from, none_said}
 use Rattle.cbm_host.proofs.Statuses.{left_behind, enough, left_short}
 use Rattle.cbm_iec.specs.Attentions.{listen as listen_to, unlisten, talk as talk_to, untalk, data_on, open_on}
-use Rattle.cbm_host.specs.CarriedOut.{heard, spoken, said, called, left_by, acts_of, IsTakenUpTo, IsTakenBy, SaysOn, IsShort}
+use Rattle.cbm_host.specs.CarriedOut.{acts_heard, spoken, said, acts_called, left_by, acts_carried_out, IsTakenUpTo, AreTakenBy, SaysOn, IsShort}
 use Rattle.cbm_host.specs.Engines.{channel_of, most_of}
-use Rattle.cbm_host.specs.Served.{puts, hear, Said, says, status_said, served, at_power_up, IsServed, IsModest}
+use Rattle.cbm_host.specs.Served.{puts, hear_bytes, TalkSaid, says, status_said, served, at_power_up, IsServed, IsModest}
 use Rattle.cbm_host.specs.declared.request.Request.{Request}
 use Rattle.cbm_host.specs.declared.request.Request.TheVariants.{Open, Put, Fill, Get, Close, Status}
 use Rattle.cbm_iec.specs.Roles.{role_after}
-use Rattle.cbm_iec.specs.declared.act.Act.TheVariants.{Attention, Released}
-use Rattle.cbm_iec.specs.declared.act.Act.{Act}
+use Rattle.cbm_iec.specs.declared.machine.Act.TheVariants.{Attention, Released}
+use Rattle.cbm_iec.specs.declared.machine.Act.{Act}
 use Rattle.cbm_iec.specs.declared.party.Role.TheVariants.{Absent, Listener, Talker}
 use Rattle.cbm_iec.specs.declared.party.Role.{Role}
-use Rattle.cbm_session.specs.Answers.{Run, run}
+use Rattle.cbm_session.specs.Answers.{Run, run_acts}
 
 -- ---- the bytes of an attention
 
@@ -98,7 +98,7 @@ untalks d small =
     ∙ ap (λ v. if v then Talker else if nat_le 64 95 && nat_le 95 95 then Absent else Talker) (ne_eqb 95 (64 + d) (λ e. omega (arith, e)))
 
 -- the status is told whatever error it is, at either pace
-status_talks : (e : Pace) (m : Machine) → talked_to e 15 m ≡ talk 15 m
+status_talks : (e : Pace) (m : Machine) → talked_to e 15 m ≡ after_talk 15 m
 status_talks Profile m = refl
 status_talks Kernal m = same_either (is_unread_error (told_by m)) m
 
@@ -121,12 +121,12 @@ module _ (pace : Pace) where
 
   -- A byte in attention, by the secondary address and the role that it makes.
   abbrev taken_by : Option Secondary → Role → Role → Addressed → Machine → Desk Machine
-  taken_by s old new a m = record { dos = seconded pace s old m; addressed = taken_up s new a }
+  taken_by s old new a m = record { dos = seconded pace s old m; addressed = role_taken_up s new a }
 
   attends : (d byte : ℕ) (s : Option Secondary) (old new : Role) (m : Machine) → secondary_of byte ≡ s → role_after d byte old ≡ new
       → desk_step (waits d old m) (Attention byte) ≡ taken_by s old new (in_role d new) m
   attends d byte s old new m e r =
-      ap (λ (a : Addressed). taken_by (secondary_of byte) old (role_after d byte old) (turned byte a) m) (same_either ((byte == 32 + d) || (byte == 64 + d)) (in_role d old))
+      ap (λ (a : Addressed). taken_by (secondary_of byte) old (role_after d byte old) (role_turned byte a) m) (same_either ((byte == 32 + d) || (byte == 64 + d)) (in_role d old))
       ∙ ap (λ (x : Option Secondary). taken_by x old (role_after d byte old) (in_role d (role_after d byte old)) m) e
       ∙ ap (λ (x : Role). taken_by s old x (in_role d x) m) r
 
@@ -143,7 +143,7 @@ module _ (pace : Pace) where
   -- ---- LISTEN or TALK, and a secondary address
 
   open_called : (d ch : ℕ) (m : Machine) (acts : List Act) (y : Desk Machine) → d < 31 → ch ≤ 15
-      → Goes (at_power_up pace d m) (called (listen_to + d) (open_on + ch) ++ acts) y → Goes (hearing d ch true [] m) acts y
+      → Goes (at_power_up pace d m) (acts_called (listen_to + d) (open_on + ch) ++ acts) y → Goes (hearing d ch true [] m) acts y
   open_called d ch m acts y small few r =
       let one : Goes (waits d Listener m) (Attention (240 + ch) ∷ Released ∷ acts) y =
       subst (λ (x : Desk Machine). Goes x (Attention (240 + ch) ∷ Released ∷ acts) y) (listened d m small) r.1.1 in
@@ -151,7 +151,7 @@ module _ (pace : Pace) where
       (subst (λ (x : Desk Machine). Goes x (Released ∷ acts) y) two one.1).1
 
   data_called : (d ch : ℕ) (m : Machine) (acts : List Act) (y : Desk Machine) → d < 31 → ch ≤ 15
-      → Goes (at_power_up pace d m) (called (listen_to + d) (data_on + ch) ++ acts) y → Goes (hearing d ch false [] (listen ch m)) acts y
+      → Goes (at_power_up pace d m) (acts_called (listen_to + d) (data_on + ch) ++ acts) y → Goes (hearing d ch false [] (after_listen ch m)) acts y
   data_called d ch m acts y small few r =
       let one : Goes (waits d Listener m) (Attention (96 + ch) ∷ Released ∷ acts) y =
       subst (λ (x : Desk Machine). Goes x (Attention (96 + ch) ∷ Released ∷ acts) y) (listened d m small) r.1.1 in
@@ -162,13 +162,13 @@ module _ (pace : Pace) where
   spoken_to d ch m small few = attends d (96 + ch) (Some (Data ch)) Talker Talker m (data_is ch few) (stays_talker d (96 + ch) small (omega arith))
 
   talk_called : (d ch : ℕ) (m : Machine) (acts : List Act) (y : Desk Machine) → d < 31 → ch ≤ 15
-      → Goes (at_power_up pace d m) (called (talk_to + d) (data_on + ch) ++ acts) y → Goes (speaking d ch (talked_to pace ch m)) acts y
+      → Goes (at_power_up pace d m) (acts_called (talk_to + d) (data_on + ch) ++ acts) y → Goes (speaking d ch (talked_to pace ch m)) acts y
   talk_called d ch m acts y small few r =
       let one : Goes (waits d Talker m) (Attention (96 + ch) ∷ Released ∷ acts) y =
       subst (λ (x : Desk Machine). Goes x (Attention (96 + ch) ∷ Released ∷ acts) y) (talker d m small) r.1.1 in
       (subst (λ (x : Desk Machine). Goes x (Released ∷ acts) y) (spoken_to d ch m small few) one.1).1
 
-  talk_runs : (d ch : ℕ) (m : Machine) → d < 31 → ch ≤ 15 → run (Desk Machine) desk_step desk_says (at_power_up pace d m) (called (talk_to + d) (data_on + ch)) ≡ speaking d ch (talked_to pace ch m)
+  talk_runs : (d ch : ℕ) (m : Machine) → d < 31 → ch ≤ 15 → run_acts (Desk Machine) desk_step desk_says (at_power_up pace d m) (acts_called (talk_to + d) (data_on + ch)) ≡ speaking d ch (talked_to pace ch m)
   talk_runs d ch m small few =
       ap (λ (x : Desk Machine). desk_step (desk_step x (Attention (96 + ch))) Released) (talker d m small)
       ∙ ap (λ (x : Desk Machine). desk_step x Released) (spoken_to d ch m small few)
@@ -191,11 +191,11 @@ module _ (pace : Pace) where
       ap (λ l. kept l bytes) (take_over 256 front (b ∷ []))
       ∙ kept_front (front ++ b ∷ []) bytes ∙ ap (λ l. take 256 l) (append_assoc front (b ∷ []) bytes)
 
-  named : (d ch : ℕ) (name bytes : List ℕ) (m : Machine) (acts : List Act) (y : Desk Machine) → Goes (hearing d ch true name m) (heard bytes ++ acts) y → Goes (hearing d ch true (kept name bytes) m) acts y
+  named : (d ch : ℕ) (name bytes : List ℕ) (m : Machine) (acts : List Act) (y : Desk Machine) → Goes (hearing d ch true name m) (acts_heard bytes ++ acts) y → Goes (hearing d ch true (kept name bytes) m) acts y
   named d ch name [] m acts y r = r
   named d ch name (b ∷ bytes) m acts y r = named d ch (take 256 (name ++ b ∷ [])) bytes m acts y r.1
 
-  put_each : (d ch : ℕ) (bytes : List ℕ) (m : Machine) (acts : List Act) (y : Desk Machine) → Goes (hearing d ch false [] m) (heard bytes ++ acts) y → Goes (hearing d ch false [] (puts ch bytes m)) acts y
+  put_each : (d ch : ℕ) (bytes : List ℕ) (m : Machine) (acts : List Act) (y : Desk Machine) → Goes (hearing d ch false [] m) (acts_heard bytes ++ acts) y → Goes (hearing d ch false [] (puts ch bytes m)) acts y
   put_each d ch [] m acts y r = r
   put_each d ch (b ∷ bytes) m acts y r = put_each d ch bytes (put ch b m) acts y r.1
 
@@ -239,7 +239,7 @@ module _ (pace : Pace) where
   -- ---- bytes of a talker
 
   -- what a channel said, and the desk behind it
-  abbrev IsSpoken : ℕ → List ℕ → Bool → Said → Desk Machine → Type 0
+  abbrev IsSpoken : ℕ → List ℕ → Bool → TalkSaid → Desk Machine → Type 0
   IsSpoken d bytes last whole y = (m : Machine) × (whole ≡ record { bytes = bytes; marked = last; machine = m }) × (y ≡ at_power_up pace d m)
 
   spoken_up : (d most ch : ℕ) (so_far : List ℕ) (m : Machine) (byte : ℕ) (more : List ℕ) (last : Bool) (y : Desk Machine) → d < 31
@@ -253,13 +253,13 @@ module _ (pace : Pace) where
       (taken ch m, ap (λ p. says_from p n ch so_far m) r.0 ∙ ap (λ k. says k ch (so_far ++ byte ∷ []) (taken ch m)) none, untalked d (taken ch m) y small r.1.1)
   spoken_up d (suc n) ch so_far m byte (next ∷ more) last y small room end r =
       let rest = spoken_up d n ch (so_far ++ byte ∷ []) (taken ch m) next more last y small (omega (arith, room)) (elim end [ inl e ↦ inl e | inr e ↦ (let k = e.1 in inr (e.0, omega (arith, k))) ]) r.1 in
-      (rest.0, ap (λ p. says_from p n ch so_far m) r.0 ∙ rest.1 ∙ ap (λ (l : List ℕ). let s : Said = record { bytes = l; marked = last; machine = rest.0 } in s) (append_assoc so_far (byte ∷ []) (next ∷ more)), rest.2)
+      (rest.0, ap (λ p. says_from p n ch so_far m) r.0 ∙ rest.1 ∙ ap (λ (l : List ℕ). let s : TalkSaid = record { bytes = l; marked = last; machine = rest.0 } in s) (append_assoc so_far (byte ∷ []) (next ∷ more)), rest.2)
 
   talk_served : (d most ch : ℕ) (m : Machine) (bytes : List ℕ) (last : Bool) (y : Desk Machine) → d < 31 → IsTakenUpTo most bytes last
       → Goes (speaking d ch m) (said bytes last ++ left_by untalk) y → IsSpoken d bytes last (says most ch [] m) y
   talk_served d most ch m [] last y small taken r =
       let unmarked : last ≡ false = elim taken.1 [ inl e ↦ (let k = e.1 in absurd (omega (arith, k))) | inr e ↦ e.0 ] in
-      (m, none_said most ch [] m r.0 ∙ ap (λ (v : Bool). let s : Said = record { bytes = []; marked = v; machine = m } in s) (sym unmarked), untalked d m y small r.1.1)
+      (m, none_said most ch [] m r.0 ∙ ap (λ (v : Bool). let s : TalkSaid = record { bytes = []; marked = v; machine = m } in s) (sym unmarked), untalked d m y small r.1.1)
   talk_served d most ch m (byte ∷ more) last y small taken r =
       spoken_up d most ch [] m byte more last y small (omega (arith, taken)) (elim taken.1 [ inl e ↦ inl e.0 | inr e ↦ inr (e.0, elim e.1 [ inl none ↦ absurd cc | inr k ↦ omega (arith, k) ]) ]) r
 
@@ -267,24 +267,24 @@ module _ (pace : Pace) where
 
   told : (d : ℕ) (request : Request) (m : Machine) (bytes : List ℕ) (last : Bool) (y : Desk Machine) → IsSpoken d bytes last (served pace request m) y → IsServed pace d request m bytes last y
   told d request m bytes last y s = record {
-    behind = s.2 ∙ ap (λ (x : Said). at_power_up pace d x.machine) (sym s.1);
-    said = sym (ap (λ (x : Said). x.bytes) s.1);
-    marked = sym (ap (λ (x : Said). x.marked) s.1);
+    behind = s.2 ∙ ap (λ (x : TalkSaid). at_power_up pace d x.machine) (sym s.1);
+    said = sym (ap (λ (x : TalkSaid). x.bytes) s.1);
+    marked = sym (ap (λ (x : TalkSaid). x.marked) s.1);
   }
 
   -- bytes that are sent
   sent_served : (d ch : ℕ) (sent : List ℕ) (m : Machine) (y : Desk Machine) → d < 31 → ch ≤ 15
-      → Goes (at_power_up pace d m) (called (listen_to + d) (data_on + ch) ++ (heard sent ++ left_by unlisten)) y → y ≡ at_power_up pace d (hear ch sent m)
+      → Goes (at_power_up pace d m) (acts_called (listen_to + d) (data_on + ch) ++ (acts_heard sent ++ left_by unlisten)) y → y ≡ at_power_up pace d (hear_bytes ch sent m)
   sent_served d ch sent m y small few r =
-      let one = data_called d ch m (heard sent ++ left_by unlisten) y small few r in
-      let two = put_each d ch sent (listen ch m) (left_by unlisten) y one in
-      unlistened d (hear ch sent m) y small two.1
+      let one = data_called d ch m (acts_heard sent ++ left_by unlisten) y small few r in
+      let two = put_each d ch sent (after_listen ch m) (left_by unlisten) y one in
+      unlistened d (hear_bytes ch sent m) y small two.1
 
   -- WHAT THE ACTS OF A REQUEST COME TO
-  pub serves : (d : ℕ) (request : Request) (m : Machine) (bytes : List ℕ) (last : Bool) (y : Desk Machine) → d < 31 → channel_of request ≤ 15 → IsTakenBy request bytes last
-      → Run (Desk Machine) desk_step desk_says (at_power_up pace d m) (acts_of d request bytes last) y → IsServed pace d request m bytes last y
+  pub serves : (d : ℕ) (request : Request) (m : Machine) (bytes : List ℕ) (last : Bool) (y : Desk Machine) → d < 31 → channel_of request ≤ 15 → AreTakenBy request bytes last
+      → Run (Desk Machine) desk_step desk_says (at_power_up pace d m) (acts_carried_out d request bytes last) y → IsServed pace d request m bytes last y
   serves d (Open ch text) m bytes last y small few taken r =
-      let one = open_called d ch m (heard text.now ++ left_by unlisten) y small few r in
+      let one = open_called d ch m (acts_heard text.now ++ left_by unlisten) y small few r in
       let two = named d ch [] text.now m (left_by unlisten) y one in
       let three = unlistened d (after_open ch (kept [] text.now) m) y small two.1 in
       record {
@@ -306,12 +306,12 @@ module _ (pace : Pace) where
       told d Status m bytes last y (status_served (most_of Status) (omega arith) taken
       (subst (λ (x : Machine). Goes (speaking d 15 x) (said bytes last ++ left_by untalk) y) (status_talks pace m) (talk_called d 15 m (said bytes last ++ left_by untalk) y small (omega arith) r)))
     where
-      status_served : (most : ℕ) → 33 ≤ most → IsTakenUpTo most bytes last → Goes (speaking d 15 (talk 15 m)) (said bytes last ++ left_by untalk) y → IsSpoken d bytes last (status_said m) y
+      status_served : (most : ℕ) → 33 ≤ most → IsTakenUpTo most bytes last → Goes (speaking d 15 (after_talk 15 m)) (said bytes last ++ left_by untalk) y → IsSpoken d bytes last (status_said m) y
       status_served most room taken r =
           let whole = left_short m in
-          subst (λ (s : Said). IsSpoken d bytes last s y)
-          (enough (drop m.told (status_line m.status)) most (length (status_line m.status)) [] (talk 15 m) refl (omega (arith, whole, room)) (let d = length-drop m.told (status_line m.status) in omega (arith, d)))
-          (talk_served d most 15 (talk 15 m) bytes last y small taken r)
+          subst (λ (s : TalkSaid). IsSpoken d bytes last s y)
+          (enough (drop m.told (status_line m.status)) most (length (status_line m.status)) [] (after_talk 15 m) refl (omega (arith, whole, room)) (let d = length-drop m.told (status_line m.status) in omega (arith, d)))
+          (talk_served d most 15 (after_talk 15 m) bytes last y small taken r)
 
   -- ---- each request is short
 
@@ -322,8 +322,8 @@ module _ (pace : Pace) where
   -- behind each byte that isn't the last of a status line there is one more of it
   few_said : (d : ℕ) (left : List ℕ) (m : Machine) (bytes : List ℕ) → drop m.told (status_line m.status) ≡ left → SaysOn (Desk Machine) desk_step desk_says (speaking d 15 m) bytes → length bytes ≤ length left
   few_said d left m [] e on = omega arith
-  few_said d [] m (byte ∷ bytes) e on = let said = sym (ap shown e) ∙ on.0 in absurd cc
-  few_said d (c ∷ []) m (byte ∷ bytes) e on = let said : shown (c ∷ []) ≡ Some (byte, false) = sym (ap shown e) ∙ on.0 in absurd (false≢true (sym (ap marked said)))
+  few_said d [] m (byte ∷ bytes) e on = let said = sym (ap next_shown e) ∙ on.0 in absurd cc
+  few_said d (c ∷ []) m (byte ∷ bytes) e on = let said : next_shown (c ∷ []) ≡ Some (byte, false) = sym (ap next_shown e) ∙ on.0 in absurd (false≢true (sym (ap marked said)))
   few_said d (c ∷ next ∷ rest) m (byte ∷ bytes) e on =
       let more = few_said d (next ∷ rest) (taken 15 m) bytes (left_behind m c next rest e) on.1 in omega (arith, more)
 
@@ -338,6 +338,6 @@ module _ (pace : Pace) where
     λ bytes on l. (
         let whole = left_short m in
         let on2 = subst (λ (x : Desk Machine). SaysOn (Desk Machine) desk_step desk_says x bytes) (talk_runs d 15 m small (omega arith) ∙ ap (λ (x : Machine). speaking d 15 x) (status_talks pace m)) on in
-        let few = few_said d (drop m.told (status_line m.status)) (talk 15 m) bytes refl on2 in
+        let few = few_said d (drop m.told (status_line m.status)) (after_talk 15 m) bytes refl on2 in
         omega (arith, few, whole)),
   )

@@ -5,11 +5,11 @@ use Rattle.std.specs.Prelude.{nat_lt}
 use Rattle.cbm_channel.specs.declared.Code.{Code}
 use Rattle.cbm_channel.specs.declared.Code.TheVariants.{Fine, FilesScratched, NoHeader, NoSync, NoData, DataChecksum, DataCode, WriteFailed, WriteProtected, HeaderChecksum, LongData, WrongId, Syntax, UnknownCommand, LongText, WildName, NoName, NoRecord, RecordOverflow, FileTooLarge, WriteFileOpen, FileNotOpen, FileNotFound, FileExists, WrongType, WrongLink, NoChannel, EndlessChain, DiskFull, PowerUp, DriveNotReady}
 use Rattle.cbm_channel.specs.declared.Status.{Status}
-use Rattle.cbm_channel.specs.Codes.{code_text}
-use Rattle.cbm_channel.specs.Statuses.{status_line}
-use Rattle.cbm_channel.specs.Machines.{Machine, say}
-use Rattle.cbm_channel.specs.Talking.{taken}
-use Rattle.cbm_file.specs.Waiting.{shown}
+use Rattle.cbm_machine.specs.Codes.{code_text}
+use Rattle.cbm_machine.specs.Statuses.{status_line}
+use Rattle.cbm_machine.specs.Machines.{Machine, say}
+use Rattle.cbm_machine.specs.Talking.{taken}
+use Rattle.cbm_file.specs.Waiting.{next_shown}
 use Rattle.cbm_host.specs.Served.{says}
 use Rattle.cbm_talk.proofs.Spoken.{none_said}
 
@@ -70,17 +70,17 @@ left_behind m c d rest e =
 -- Any two numbers of bytes that suffice say the same.
 pub enough : (left : List ℕ) (k n : ℕ) (so_far : List ℕ) (m : Machine) → drop m.told (status_line m.status) ≡ left → length left ≤ k → length left ≤ n
     → says k 15 so_far m ≡ says n 15 so_far m
-enough [] k n so_far m e a b = none_said k 15 so_far m (ap shown e) ∙ sym (none_said n 15 so_far m (ap shown e))
+enough [] k n so_far m e a b = none_said k 15 so_far m (ap next_shown e) ∙ sym (none_said n 15 so_far m (ap next_shown e))
 enough (c ∷ []) zero n so_far m e a b = absurd (omega arith)
 enough (c ∷ []) (suc k) zero so_far m e a b = absurd (omega arith)
 enough (c ∷ []) (suc k) (suc n) so_far m e a b =
-    ap (λ p. says_from p k 15 so_far m) (ap shown e) ∙ sym (ap (λ p. says_from p n 15 so_far m) (ap shown e))
+    ap (λ p. says_from p k 15 so_far m) (ap next_shown e) ∙ sym (ap (λ p. says_from p n 15 so_far m) (ap next_shown e))
 enough (c ∷ d ∷ rest) zero n so_far m e a b = absurd (omega arith)
 enough (c ∷ d ∷ rest) (suc k) zero so_far m e a b = absurd (omega arith)
 enough (c ∷ d ∷ rest) (suc k) (suc n) so_far m e a b =
-    ap (λ p. says_from p k 15 so_far m) (ap shown e)
+    ap (λ p. says_from p k 15 so_far m) (ap next_shown e)
     ∙ (enough (d ∷ rest) k n (so_far ++ c ∷ []) (taken 15 m) (left_behind m c d rest e) (omega (arith, a)) (omega (arith, b))
-    ∙ sym (ap (λ p. says_from p n 15 so_far m) (ap shown e)))
+    ∙ sym (ap (λ p. says_from p n 15 so_far m) (ap next_shown e)))
 
 -- what is left of the line has at most 33 bytes
 pub left_short : (m : Machine) → length (drop m.told (status_line m.status)) ≤ 33

@@ -8,9 +8,9 @@ use Rattle.cbm_iec.specs.Profile.{bit_time, lead, next_byte}
 use Rattle.cbm_iec.specs.declared.pace.Pace.TheVariants.{Profile, Kernal}
 use Rattle.cbm_iec.specs.declared.pace.Pace.{Pace}
 use Rattle.cbm_iec.specs.Roles.{role_after}
-use Rattle.cbm_iec.specs.declared.act.Act.TheVariants.{Said}
-use Rattle.cbm_iec.specs.declared.line.Line.TheVariants.{Clock, Data}
-use Rattle.cbm_iec.specs.declared.line.Way.TheVariants.{Pull, Free}
+use Rattle.cbm_iec.specs.declared.machine.Act.TheVariants.{Said}
+use Rattle.cbm_iec.specs.declared.lines.Line.TheVariants.{Clock, Data}
+use Rattle.cbm_iec.specs.declared.lines.Way.TheVariants.{Pull, Free}
 use Rattle.cbm_iec.specs.declared.lines.Held.{Held}
 use Rattle.cbm_iec.specs.declared.party.Party.{Party}
 use Rattle.cbm_iec.specs.declared.party.Role.TheVariants.{Talker}
@@ -22,7 +22,7 @@ use Rattle.cbm_session.proofs.reading.PieceReadings.{seat}
 use Rattle.cbm_session.specs.Bits.{number_of}
 use Rattle.cbm_session.specs.Following.{alone}
 use Rattle.cbm_session.specs.Frames.{bit_steps, first_bit, signal_steps, taking, ToldFits, is_last}
-use Rattle.cbm_session.specs.Pieces.{Piece, Place, Point, PullFits, before, some_from, steps_of, held_by, own_part, seat_with, point_after, Talk, ToTalker, Nothing, Full, Cut, Leading, Open, Cutting}
+use Rattle.cbm_session.specs.Pieces.{Piece, BusPlace, Point, PullFits, before, some_from, steps_of, held_by, own_part, seat_with, point_after, Talk, ToTalker, Nothing, Full, Cut, Leading, Open, Cutting}
 use Rattle.cbm_session.specs.Seats.{lines, Seat}
 use Rattle.cbm_session.specs.Steps.{Step, host, drive, for_one, moment_of}
 use Rattle.cbm_host.proofs.Composing.{performs_then}
@@ -33,7 +33,7 @@ use Rattle.cbm_iec.specs.Attentions.{untalk}
 use Rattle.cbm_host.specs.Engines.{Engined, taking_on}
 use Rattle.cbm_host.specs.Framed.{bits_for, told_for, hushed_for}
 use Rattle.cbm_host.specs.Performing.{Performs, ends, sees}
-use Rattle.cbm_host.specs.Requests.{leave, Mute, at_last, up_to_last, at_most, up_to_most, turned, IsPlayed}
+use Rattle.cbm_host.specs.Requests.{leave, Mute, at_last, up_to_last, taken_at_most, up_to_most, turnaround_pieces, IsPlayed}
 use Rattle.cbm_host.specs.Stages as stages
 use Rattle.cbm_host.specs.Waits.{answer_wait, turn_wait, phase}
 use Rattle.cbm_host.specs.declared.stage.Errand.TheVariants.{Takes}
@@ -145,7 +145,7 @@ module _ (b : Party) (some : 1 ≤ b.reaction) (prompt : b.reaction ≤ 60) wher
       → IsPlayed b (alone p s) (at_stage left most (stages.leaving at untalk false true)) (leave b at (untalk ∷ [])) limit
   untalk_then p s left most at limit same talks place late held few soon =
       subst (λ (h : Held). IsPlayed b (alone p s) (at_stage left most (stages.leaving at untalk h.clock_low h.data_low)) (leave b at (untalk ∷ [])) limit) held
-      (leave_then b some prompt left most p s at untalk limit same (subst (λ (x : Place). PullFits (alone p s) at x) (sym place) refl) late (omega arith) (ap (λ (x : Role). role_after b.device untalk x) talks ∙ untalked b.device few) soon)
+      (leave_then b some prompt left most p s at untalk limit same (subst (λ (x : BusPlace). PullFits (alone p s) at x) (sym place) refl) late (omega arith) (ap (λ (x : Role). role_after b.device untalk x) talks ∙ untalked b.device few) soon)
 
   none_taken : (last : Bool) (next at2 cut : ℕ) → cut ≤ at2 → NoneBefore cut (taking b (told_for b last next at2))
   none_taken true next at2 cut h = (omega (arith, h), (omega (arith, h), (omega (arith, h), (omega (arith, h), tt))))
@@ -165,7 +165,7 @@ module _ (b : Party) (some : 1 ≤ b.reaction) (prompt : b.reaction ≤ 60) wher
 
   -- the last byte that is wanted: the next frame is cut before it begins
   pub most_then : (left : List ℕ) (pulled accept since next byte at limit : ℕ) (last : Bool) → b.device ≤ 11 → accept ≤ at → at + 2400 ≤ limit
-      → IsPlayed b (leading b at pulled accept since) (at_stage left 1 (Taking Awaiting)) (at_most b next last byte at) limit
+      → IsPlayed b (leading b at pulled accept since) (at_stage left 1 (Taking Awaiting)) (taken_at_most b next last byte at) limit
   most_then left pulled accept since next byte at limit last few late soon =
       let f = told_for b false byte at in
       let cut = f.accept + answer_wait in
@@ -269,7 +269,7 @@ module _ (b : Party) (some : 1 ≤ b.reaction) (prompt : b.reaction ≤ 60) wher
       (talker_performed (seat b Talker (lines false true)) some prompt left most (attending b Talker true pulled accept since) (lines false true) at) more)
 
   pub nothing_then : (role : Role) (left : List ℕ) (most pulled accept since limit : ℕ) → role ≡ Talker → b.device ≤ 11 → accept + 2000 ≤ limit
-      → IsPlayed b (attending b role true pulled accept since) (at_stage left most (stages.releasing accept Takes)) (turned b (accept + turn_wait) Mute) limit
+      → IsPlayed b (attending b role true pulled accept since) (at_stage left most (stages.releasing accept Takes)) (turnaround_pieces b (accept + turn_wait) Mute) limit
   nothing_then role left most pulled accept since limit talks few soon =
       let at = accept + turn_wait in
       let freed = hushed_for b.pace r (at + phase) in

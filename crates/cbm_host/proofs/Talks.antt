@@ -2,15 +2,15 @@
 use Rattle.std.proofs.Common.{◌≡◌, ℕ, zero, suc, ◌+◌, ◌*◌, ◌/◌, ◌≤◌, ◌<◌, Bool, true, false, not, List, [], ◌∷◌, ◌++◌, length, Option, None, ap, sym, ◌∙◌, subst, arith, refl}
 use Rattle.std.proofs.lemmas.Bool.{ne_eqb, le-leb}
 use Rattle.std.specs.Prelude.{if◌then◌else◌, ◌==◌, nat_lt}
-use Rattle.cbm_iec.specs.Hearing.{with_bit}
+use Rattle.cbm_iec.specs.Hearing.{with_bit_read}
 use Rattle.cbm_iec.specs.Profile.{half_bit, bit_time}
-use Rattle.cbm_iec.specs.declared.act.Act.TheVariants.{Said}
-use Rattle.cbm_iec.specs.declared.line.Line.TheVariants.{Clock, Data}
-use Rattle.cbm_iec.specs.declared.line.Way.TheVariants.{Pull, Free}
+use Rattle.cbm_iec.specs.declared.machine.Act.TheVariants.{Said}
+use Rattle.cbm_iec.specs.declared.lines.Line.TheVariants.{Clock, Data}
+use Rattle.cbm_iec.specs.declared.lines.Way.TheVariants.{Pull, Free}
 use Rattle.cbm_iec.specs.declared.party.Party.{Party}
 use Rattle.cbm_iec.specs.declared.party.Role.{Role}
 use Rattle.cbm_iec.specs.declared.party.Role.TheVariants.{Absent}
-use Rattle.cbm_session.specs.Bits.{data_for, Cell, number_of, bits_of}
+use Rattle.cbm_session.specs.Bits.{data_for, BitCell, number_of, bits_in_cells}
 use Rattle.cbm_session.proofs.alone.Frames.{shifted, shifted_is}
 use Rattle.cbm_session.specs.Frames.{bit_steps, signal_steps, first_bit}
 use Rattle.cbm_session.specs.Steps.{Step, host, drive, for_one}
@@ -30,7 +30,7 @@ came count byte low last = record { count = count; byte = byte; low = low; last 
 -- the byte as its bits come in at the top
 abbrev pub came_in : ℕ → List Bool → ℕ
 came_in byte [] = byte
-came_in byte (bit ∷ bits) = came_in (with_bit byte (not bit)) bits
+came_in byte (bit ∷ bits) = came_in (with_bit_read byte (not bit)) bits
 
 module _ (b : Party) (left : List ℕ) (most : ℕ) where
   abbrev pub taking : Take → Engined
@@ -38,16 +38,16 @@ module _ (b : Party) (left : List ℕ) (most : ℕ) where
 
   -- a bit comes: CLOCK is pulled, DATA set, CLOCK freed
   bit_seen : (held bit last : Bool) (at count byte : ℕ) (more : List Step) (e2 : Engined) → (count == 8) ≡ false → nat_lt count 8 ≡ true
-      → Performs (taking (Gathering (came (count + 1) (with_bit byte (not bit)) (not bit) last))) more e2
+      → Performs (taking (Gathering (came (count + 1) (with_bit_read byte (not bit)) (not bit) last))) more e2
       → Performs (taking (Gathering (came count byte held last))) (drive b.device at Clock Pull ∷ (data_for (λ way. drive b.device at Data way) held bit ++ drive b.device (at + half_bit b.pace) Clock Free ∷ more)) e2
   bit_seen held bit last at count byte more e2 some few k =
       sees tt (subst (λ (v : Bool). Performs (taking (if v then Accepting (at + answer_wait) byte last else Gathering (came count byte held last))) (data_for (λ way. drive b.device at Data way) held bit ++ drive b.device (at + half_bit b.pace) Clock Free ∷ more) e2) (sym some)
       (set held bit))
     where
-      shown : (bit : Bool) → Performs (taking (Gathering (came (count + 1) (with_bit byte (not bit)) (not bit) last))) more e2 → Performs (taking (Gathering (came count byte (not bit) last))) (drive b.device (at + half_bit b.pace) Clock Free ∷ more) e2
-      shown bit k = sees tt (subst (λ (v : Bool). Performs (taking (if v then Gathering (came (count + 1) (with_bit byte (not bit)) (not bit) last) else Gathering (came count byte (not bit) last))) more e2) (sym few) k)
+      shown : (bit : Bool) → Performs (taking (Gathering (came (count + 1) (with_bit_read byte (not bit)) (not bit) last))) more e2 → Performs (taking (Gathering (came count byte (not bit) last))) (drive b.device (at + half_bit b.pace) Clock Free ∷ more) e2
+      shown bit k = sees tt (subst (λ (v : Bool). Performs (taking (if v then Gathering (came (count + 1) (with_bit_read byte (not bit)) (not bit) last) else Gathering (came count byte (not bit) last))) more e2) (sym few) k)
 
-      by_bit : (held bit : Bool) → Performs (taking (Gathering (came (count + 1) (with_bit byte (not bit)) (not bit) last))) more e2
+      by_bit : (held bit : Bool) → Performs (taking (Gathering (came (count + 1) (with_bit_read byte (not bit)) (not bit) last))) more e2
           → Performs (taking (Gathering (came count byte held last))) (data_for (λ way. drive b.device at Data way) held bit ++ drive b.device (at + half_bit b.pace) Clock Free ∷ more) e2
       by_bit true true k = sees tt (shown true k)
       by_bit false true k = shown true k
@@ -70,22 +70,22 @@ module _ (b : Party) (left : List ℕ) (most : ℕ) where
       over true = sees tt (sees (omega arith) (ends refl))
       over false = sees tt (ends refl)
   bits_seen (bit ∷ bits) held last at count byte e =
-      let rest = bits_seen bits (not bit) last (at + bit_time b.pace) (count + 1) (with_bit byte (not bit)) (omega (arith, e)) in
+      let rest = bits_seen bits (not bit) last (at + bit_time b.pace) (count + 1) (with_bit_read byte (not bit)) (omega (arith, e)) in
       let same : at + bit_time b.pace + bit_time b.pace * length bits ≡ at + bit_time b.pace * length (bit ∷ bits) = omega arith in
-      let next = subst (λ (n : ℕ). Performs (taking (Gathering (came (count + 1) (with_bit byte (not bit)) (not bit) last))) (bit_steps b (at + bit_time b.pace) (not bit) bits) (taking (Accepting (n + answer_wait) (came_in (with_bit byte (not bit)) bits) last))) same rest in
-      bit_seen held bit last at count byte (bit_steps b (at + bit_time b.pace) (not bit) bits) (taking (Accepting (at + bit_time b.pace * length (bit ∷ bits) + answer_wait) (came_in (with_bit byte (not bit)) bits) last))
+      let next = subst (λ (n : ℕ). Performs (taking (Gathering (came (count + 1) (with_bit_read byte (not bit)) (not bit) last))) (bit_steps b (at + bit_time b.pace) (not bit) bits) (taking (Accepting (n + answer_wait) (came_in (with_bit_read byte (not bit)) bits) last))) same rest in
+      bit_seen held bit last at count byte (bit_steps b (at + bit_time b.pace) (not bit) bits) (taking (Accepting (at + bit_time b.pace * length (bit ∷ bits) + answer_wait) (came_in (with_bit_read byte (not bit)) bits) last))
       (ne_eqb count 8 (λ (x : count ≡ 8). omega (arith, x, e))) (le-leb (suc count) 8 (omega (arith, e))) next
 
   -- the byte that came is the number of its bits
-  abbrev as_cells : List Bool → List Cell
+  abbrev as_cells : List Bool → List BitCell
   as_cells [] = []
   as_cells (bit ∷ bits) = record { bit = bit; set = 0; free = 0; pull = 0 } ∷ as_cells bits
 
   shifted_in : (peek : Option (ℕ × Bool)) (r : Role) (bits : List Bool) (byte : ℕ) → shifted peek b r byte (as_cells bits) ≡ came_in byte bits
   shifted_in peek r [] byte = refl
-  shifted_in peek r (bit ∷ bits) byte = shifted_in peek r bits (with_bit byte (not bit))
+  shifted_in peek r (bit ∷ bits) byte = shifted_in peek r bits (with_bit_read byte (not bit))
 
-  cells_bits : (bits : List Bool) → bits_of (as_cells bits) ≡ bits
+  cells_bits : (bits : List Bool) → bits_in_cells (as_cells bits) ≡ bits
   cells_bits [] = refl
   cells_bits (bit ∷ bits) = ap (λ (zs : List Bool). bit ∷ zs) (cells_bits bits)
 

@@ -1,6 +1,6 @@
 -- What the host does where it waited to no avail: it changes a line at that moment, or the request is over.
 use Rattle.std.proofs.Common.{◌≡◌, ℕ, Option, Some, None, refl}
-use Rattle.cbm_iec.specs.declared.line.Change.{Change}
+use Rattle.cbm_iec.specs.declared.lines.Change.{Change}
 use Rattle.cbm_host.specs.Engines.{Engined, engine_due, engine_passed}
 use Rattle.cbm_host.specs.Sending.{frame_change}
 use Rattle.cbm_host.specs.Stages.{due_of, stage_due, take_due, stage_passed}

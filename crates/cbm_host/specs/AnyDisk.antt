@@ -19,8 +19,8 @@ use Rattle.cbm_session.specs.Playing.{at_rest}
 
 module _ {D : Type 0} (shows : D → Shown) where
   -- THE DRIVE IS AT REST: all lines are free and nothing is due; it shows a byte, or nothing to say.
-  abbrev pub IsAtRest : Party → Cabled D → Type 0
-  IsAtRest b bus = IsBusAt D (Unit {0}) (λ x u. IfSome (shows x) (λ s. s.0 < 256)) bus.host bus.drives (at_rest (Unit {0}) (λ u act. u) (λ u. None) (λ d. tt) (b ∷ []))
+  abbrev pub IsAtRestAnyway : Party → Cabled D → Type 0
+  IsAtRestAnyway b bus = IsBusAt D (Unit {0}) (λ x u. IfSome (shows x) (λ s. s.0 < 256)) bus.host bus.drives (at_rest (Unit {0}) (λ u act. u) (λ u. None) (λ d. tt) (b ∷ []))
 
   -- THE REQUEST WAS CARRIED OUT, whatever the disk: this machine plays back what the drive showed from the beginning on, for it the request was carried out,
   -- and the drive is at rest again, so that another request may come. Nothing is asked of the drive or its disk, only that the request is of at most 200,000
@@ -30,7 +30,7 @@ module _ {D : Type 0} (shows : D → Shown) where
     pub trail : List Shown
     pub began : IsBusAt D Playback (IsPlayedBack shows trail) before.host before.drives (at_rest Playback played_step played_says (λ d. played) (b ∷ []))
     pub done : IsModest request → HasCarriedOut D Playback (IsPlayedBack shows []) played_step played_says b (λ d. played) start request now old new bytes last end
-    pub rests : IsModest request → IsAtRest b now
+    pub rests : IsModest request → IsAtRestAnyway b now
 
   -- MEMORY RAN OUT, whatever the disk: the events that were added are a beginning of what such a machine made.
   pub record IsCutShortAnyway (b : Party) (before now : Cabled D) (old new : List Event) : Type 0 where
@@ -46,16 +46,16 @@ module _ {D : Type 0} (shows : D → Shown) where
   -- the drive showed so far, and then these, it is one to that machine.
   pub record IsUnderWayAnyway (pace : Pace) (device start : ℕ) (bus : Cabled D) (p : Performing) (request : Request) : Type 0 where
     pub before : Cabled D
-    pub rested : IsAtRest shows (party_of pace device) before
+    pub rested : IsAtRestAnyway shows (party_of pace device) before
     pub trail : List Shown
     pub goes : (later : List Shown) (m : Playback) → IsBusAt D Playback (IsPlayedBack shows (trail ++ later)) before.host before.drives (at_rest Playback played_step played_says (λ d. m) (party_of pace device ∷ []))
         → (bytes : List ℕ) × (last : Bool) × IsTaking D Playback (IsPlayedBack shows later) played_step played_says (engine_at start device request) (start + longest pace) p bus bytes last (at_rest Playback played_step played_says (λ d. m) (party_of pace device ∷ []))
 
   -- IT IS OVER at that moment: where it was a request of at most 200,000 bytes, the drive is at rest again, and the moment isn't before the start.
   pub record IsOverAnyway (pace : Pace) (device start : ℕ) (bus : Cabled D) (moment : ℕ) (request : Request) : Type 0 where
-    pub rests : IsModest request → IsAtRest shows (party_of pace device) bus
+    pub rests : IsModest request → IsAtRestAnyway shows (party_of pace device) bus
     pub later : IsModest request → start ≤ moment
 
 -- THE DRIVE RESTS, on any disk.
 abbrev pub RestsAnyway : {K : Type 0} → (Desk K → Shown) → Hosting K → Type 0
-RestsAnyway shows h = IsAtRest shows (party_of h.pace h.device) h.bus
+RestsAnyway shows h = IsAtRestAnyway shows (party_of h.pace h.device) h.bus

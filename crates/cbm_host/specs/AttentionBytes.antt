@@ -4,13 +4,13 @@ use Rattle.cbm_host.specs.declared.commands.Commands.{Commands}
 use Rattle.cbm_host.specs.declared.commands.Commands.TheVariants.{One, Two, Three}
 
 -- the next byte of an attention
-abbrev pub first_of : Commands → ℕ
-first_of (One a) = a
-first_of (Two a b) = a
-first_of (Three a b c) = a
+abbrev pub first_command : Commands → ℕ
+first_command (One a) = a
+first_command (Two a b) = a
+first_command (Three a b c) = a
 
 -- the bytes of an attention after the next one, or none
-abbrev pub rest_of : Commands → Option Commands
-rest_of (One a) = None
-rest_of (Two a b) = Some (One b)
-rest_of (Three a b c) = Some (Two b c)
+abbrev pub other_commands : Commands → Option Commands
+other_commands (One a) = None
+other_commands (Two a b) = Some (One b)
+other_commands (Three a b c) = Some (Two b c)

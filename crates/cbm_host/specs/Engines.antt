@@ -1,10 +1,10 @@
 -- A request under way: what the host is at, the bytes that are left, and what becomes of it after each change.
 use Rattle.std.specs.Prelude.{ℕ, ◌+◌, ◌-◌, Bool, true, false, List, [], ◌∷◌, Option, Some, None, nat_le, ◌||◌, replicate, if◌then◌else◌}
-use Rattle.cbm_iec.specs.declared.line.Change.{Change}
-use Rattle.cbm_iec.specs.declared.line.Line.{Line}
-use Rattle.cbm_iec.specs.declared.line.Line.TheVariants.{Data}
-use Rattle.cbm_iec.specs.declared.line.Way.{Way}
-use Rattle.cbm_iec.specs.declared.line.Way.TheVariants.{Pull}
+use Rattle.cbm_iec.specs.declared.lines.Change.{Change}
+use Rattle.cbm_iec.specs.declared.lines.Line.{Line}
+use Rattle.cbm_iec.specs.declared.lines.Line.TheVariants.{Data}
+use Rattle.cbm_iec.specs.declared.lines.Way.{Way}
+use Rattle.cbm_iec.specs.declared.lines.Way.TheVariants.{Pull}
 use Rattle.cbm_iec.specs.Attentions.{listen, unlisten, talk, untalk, data_on, close_on, open_on}
 use Rattle.cbm_host.specs.Stages.{commanding, releasing, leaving, stage_due, stage_made, stage_seen, stage_passed}
 use Rattle.cbm_host.specs.Sending.{frame_seen}
@@ -101,14 +101,14 @@ abbrev pub at_stage : Stage → Engined → Engined
 at_stage stage e = record { stage = stage; left = e.left; most = e.most }
 
 -- no byte is left
-abbrev pub is_last : List ℕ → Bool
-is_last [] = true
-is_last (byte ∷ left) = false
+abbrev pub is_last_byte : List ℕ → Bool
+is_last_byte [] = true
+is_last_byte (byte ∷ left) = false
 
 -- The next byte to the listener, after ATN's release or the accept of the byte before it; where none is left UNLISTEN comes after a wait.
 abbrev pub sending_on : ℕ → ℕ → ℕ → List ℕ → Engined
 sending_on t wait most [] = record { stage = leaving (t + wait) unlisten true false; left = []; most = most }
-sending_on t wait most (byte ∷ left) = record { stage = Framing (Readying (t + ready_wait) byte (is_last left)) Listened; left = left; most = most }
+sending_on t wait most (byte ∷ left) = record { stage = Framing (Readying (t + ready_wait) byte (is_last_byte left)) Listened; left = left; most = most }
 
 -- A byte of the talker was accepted: the next one is awaited; after the last, or where no more are wanted, UNTALK comes.
 abbrev pub taking_on : ℕ → Bool → Engined → Engined

@@ -4,16 +4,16 @@ use Rattle.cbm_iec.specs.Profile.{eoi_wait, eoi_pulse, bit_time}
 use Rattle.cbm_iec.specs.declared.party.Party.{Party}
 use Rattle.cbm_iec.specs.declared.pace.Pace.TheVariants.{Profile, Kernal}
 use Rattle.cbm_iec.specs.declared.pace.Pace.{Pace}
-use Rattle.cbm_session.specs.Bits.{Cell}
+use Rattle.cbm_session.specs.Bits.{BitCell}
 use Rattle.cbm_session.specs.Frames.{Sent, Told}
 use Rattle.cbm_session.specs.Pieces.{silent_at}
-use Rattle.cbm_host.specs.Sending.{is_low}
+use Rattle.cbm_host.specs.Sending.{starts_low}
 use Rattle.cbm_host.specs.Waits.{answer_wait, phase, last_wait, last_pulse, silence}
 
 -- this many bits of a byte, the lowest first, from a pull of CLOCK on: DATA is set at the pull, CLOCK is freed a phase later and pulled another one later
-abbrev pub cells_for : ℕ → ℕ → ℕ → List Cell
+abbrev pub cells_for : ℕ → ℕ → ℕ → List BitCell
 cells_for zero left at = []
-cells_for (suc n) left at = record { bit = not (is_low left); set = at; free = at + phase; pull = at + phase + phase } ∷ cells_for n (left / 2) (at + phase + phase)
+cells_for (suc n) left at = record { bit = not (starts_low left); set = at; free = at + phase; pull = at + phase + phase } ∷ cells_for n (left / 2) (at + phase + phase)
 
 -- The first bit begins a wait after T, when the drive has freed DATA; with EOI after the drive's pulse.
 abbrev pub start_for : Party → Bool → ℕ → ℕ
@@ -26,7 +26,7 @@ frame_for b eoi byte ready = record { ready = ready; start = start_for b eoi rea
 -- this many bits of a byte, the lowest first
 abbrev pub bits_for : ℕ → ℕ → List Bool
 bits_for zero left = []
-bits_for (suc n) left = not (is_low left) ∷ bits_for n (left / 2)
+bits_for (suc n) left = not (starts_low left) ∷ bits_for n (left / 2)
 
 -- the host's answer to a last byte, where it freed DATA then
 abbrev pub signal_for : Bool → ℕ → Option (ℕ × ℕ)

@@ -1,7 +1,7 @@
 -- A drive with its DOS alone on a cable with a host: at rest between the host's requests, and in the middle of one.
 use Rattle.std.specs.Prelude.{◌≡◌, ◌≤◌, ℕ, ◌+◌, Bool, true, List, [], ◌∷◌, ◌++◌, Option, MatchOption}
 use Rattle.cbm_medium.specs.Seen.{Seen}
-use Rattle.cbm_channel.specs.Machines.{Machine}
+use Rattle.cbm_machine.specs.Machines.{Machine}
 use Rattle.cbm_channel.specs.Standing.{Kept}
 use Rattle.cbm_drive.specs.Cables.{Cabled}
 use Rattle.cbm_drive.specs.Desks.{Desk, DeskStands, desk_step, desk_says}
@@ -12,7 +12,7 @@ use Rattle.cbm_host.specs.Performers.{Performing}
 use Rattle.cbm_host.specs.Requests.{longest}
 use Rattle.cbm_host.specs.Served.{served, at_power_up, IsModest}
 use Rattle.cbm_host.specs.declared.request.Request.{Request}
-use Rattle.cbm_iec.specs.declared.act.Act.{Act}
+use Rattle.cbm_iec.specs.declared.machine.Act.{Act}
 use Rattle.cbm_iec.specs.declared.event.Event.{Event}
 use Rattle.cbm_iec.specs.declared.pace.Pace.{Pace}
 use Rattle.cbm_iec.specs.declared.party.Party.{Party}
@@ -60,12 +60,12 @@ module _ {M : Type 0} (seen : M → Seen) where
   tracks_on h = numbers (λ x. (seen x.dos.medium).tracks) h.bus.drives
 
   -- how often the medium failed by itself
-  abbrev pub failures_on : Hosting (Kept M) → ℕ
-  failures_on h = failed (λ x. (seen x.dos.medium).failures) h.bus.drives
+  abbrev pub hosted_failures : Hosting (Kept M) → ℕ
+  hosted_failures h = failed (λ x. (seen x.dos.medium).failures) h.bus.drives
 
   -- the medium didn't fail by itself in between
   abbrev pub HasNotFailed : Hosting (Kept M) → Hosting (Kept M) → Type 0
-  HasNotFailed old new = failures_on new ≤ failures_on old
+  HasNotFailed old new = hosted_failures new ≤ hosted_failures old
 
   -- THE DRIVE RESTS, for a machine: all lines are free, and nothing is due.
   abbrev pub Rests : Hosting (Kept M) → Machine → Type 0

@@ -5,10 +5,10 @@ use Rattle.cbm_drive.specs.Cables.{Cabled}
 use Rattle.cbm_drive.specs.Players.{from_behind}
 use Rattle.cbm_drive.specs.Seats.{IsBusAt}
 use Rattle.cbm_host.specs.Engines.{Engined, engine_due}
-use Rattle.cbm_host.specs.Performers.{Performing, GoesOnFrom, Stops, IsDue, engine_behind, byte_with, IsGoing}
+use Rattle.cbm_host.specs.Performers.{Performing, GoesOnFrom, StopsPerforming, IsDue, engine_behind, byte_with, IsGoing}
 use Rattle.cbm_host.specs.declared.stage.Stage.{Stage}
 use Rattle.cbm_host.specs.declared.stage.Stage.TheVariants.{Ending, Done}
-use Rattle.cbm_iec.specs.declared.act.Act.{Act}
+use Rattle.cbm_iec.specs.declared.machine.Act.{Act}
 use Rattle.cbm_iec.specs.declared.event.Event.{Event}
 use Rattle.cbm_session.specs.Playing.{Station, Plays}
 
@@ -84,6 +84,6 @@ module _ (D M : Type 0) (stands : D → M → Type 0) (step : M → Act → M) (
     pub behind : Engined
     pub runs : Runs M step says ss e made bytes last behind
     pub goes_on : GoesOnFrom M step says 0 ss made behind p.engine
-    pub stops : Stops M step says p.player limit 0 ss made (engine_due p.engine)
+    pub stops : StopsPerforming M step says p.player limit 0 ss made (engine_due p.engine)
     pub from : p.player.from ≡ from_last 0 made
     pub until : p.limit ≡ limit

@@ -7,11 +7,11 @@ use Rattle.cbm_host.specs.Engines.{Engined, stage_taken, engine_due, engine_made
 use Rattle.cbm_host.specs.declared.due.Due.{Due}
 use Rattle.cbm_host.specs.declared.due.Due.TheVariants.{Makes, Waits, Hears, Over}
 use Rattle.cbm_host.specs.Performing.{IsBefore}
-use Rattle.cbm_iec.specs.declared.act.Act.{Act}
+use Rattle.cbm_iec.specs.declared.machine.Act.{Act}
 use Rattle.cbm_iec.specs.declared.event.Event.{Event}
 use Rattle.cbm_iec.specs.declared.event.Who.TheVariants.{Host, Drive}
 use Rattle.cbm_iec.specs.declared.event.Who.{Who}
-use Rattle.cbm_iec.specs.declared.line.Change.{Change}
+use Rattle.cbm_iec.specs.declared.lines.Change.{Change}
 use Rattle.cbm_session.specs.Playing.{Station, Plays}
 
 -- a player with the engine that hands it the host's changes, the byte that the last event took, and the moment at which it gives up
@@ -49,8 +49,8 @@ IsAsked upto waiting Hears = Unit {0}
 IsAsked upto waiting (Over at) = ⊥
 
 -- the host's change that is due comes no more: it is later than the host gives up, or the player refuses it
-abbrev pub IsRefused : Turns → ℕ → Change → Type 0
-IsRefused p limit c = (limit < c.moment) ⊎ (c.moment < p.from)
+abbrev pub IsChangeRefused : Turns → ℕ → Change → Type 0
+IsChangeRefused p limit c = (limit < c.moment) ⊎ (c.moment < p.from)
 
 module _ (M : Type 0) (step : M → Act → M) (says : M → Option (ℕ × Bool)) where
   -- AFTER THESE EVENTS NO DRIVE CHANGES A LINE before a moment, if the host changes none.
@@ -67,11 +67,11 @@ module _ (M : Type 0) (step : M → Act → M) (says : M → Option (ℕ × Bool
   GoesOnFrom n ss es old e = (e ≡ old) ⊎ ((until : ℕ) × (engine_due old ≡ Waits until) × (e ≡ engine_passed old) × IsQuietUntil until n ss es)
 
   -- WHY NO EVENT COMES: the host's change that is due comes no more; nothing comes up to the limit; or the request is over.
-  abbrev pub Stops : Turns → ℕ → ℕ → List (Station M) → List Event → Due → Type 0
-  Stops p limit n ss es (Makes c) = IsRefused p limit c
-  Stops p limit n ss es (Waits until) = (limit < until) × IsQuietUntil (limit + 1) n ss es
-  Stops p limit n ss es Hears = IsQuietUntil (limit + 1) n ss es
-  Stops p limit n ss es (Over at) = Unit {0}
+  abbrev pub StopsPerforming : Turns → ℕ → ℕ → List (Station M) → List Event → Due → Type 0
+  StopsPerforming p limit n ss es (Makes c) = IsChangeRefused p limit c
+  StopsPerforming p limit n ss es (Waits until) = (limit < until) × IsQuietUntil (limit + 1) n ss es
+  StopsPerforming p limit n ss es Hears = IsQuietUntil (limit + 1) n ss es
+  StopsPerforming p limit n ss es (Over at) = Unit {0}
 
 module _ (D M : Type 0) (stands : D → M → Type 0) (step : M → Act → M) (says : M → Option (ℕ × Bool)) where
   -- THESE EVENTS CAME: they are a play of the bus from these stations, and the change pending in the player is what the host does next.
@@ -83,7 +83,7 @@ module _ (D M : Type 0) (stands : D → M → Type 0) (step : M → Act → M) (
   pub record IsHeldBack (old new : Performing) (b c : Cabled D) (change : Change) : Type 0 where
     pub player : new.player ≡ old.player
     pub bus : c ≡ b
-    pub why : IsRefused old.player old.limit change
+    pub why : IsChangeRefused old.player old.limit change
 
   -- no drive changes a line before this moment, nor up to the limit, and all is as it was
   pub record IsUnmoved (old new : Performing) (b c : Cabled D) (until n : ℕ) (ss : List (Station M)) (es : List Event) : Type 0 where
@@ -95,7 +95,7 @@ module _ (D M : Type 0) (stands : D → M → Type 0) (step : M → Act → M) (
   pub record HasStopped (old new : Performing) (b : Cabled D) (n : ℕ) (ss : List (Station M)) (es : List Event) : Type 0 where
     pub going : IsGoing new b n ss es
     pub goes_on : GoesOnFrom M step says n ss es old.engine new.engine
-    pub stops : Stops M step says new.player new.limit n ss es (engine_due new.engine)
+    pub stops : StopsPerforming M step says new.player new.limit n ss es (engine_due new.engine)
     pub from : new.player.from ≡ old.player.from
     pub limit : new.limit ≡ old.limit
 
@@ -121,8 +121,8 @@ module _ (D M : Type 0) (stands : D → M → Type 0) (step : M → Act → M) (
     pub limit : new.limit ≡ old.limit
 
   -- WHERE A REQUEST GOES ON: after all events that came so far one more comes, or none comes, and why.
-  abbrev pub GoesOn : Performing → Performing → Cabled D → Cabled D → Option Event → Type 0
-  GoesOn old new b c result = (n : ℕ) (ss : List (Station M)) (es : List Event) → IsGoing old b n ss es → MatchOption result (HasStopped old new c n ss es) (HasCome old new c n ss es)
+  abbrev pub GoesOnPerforming : Performing → Performing → Cabled D → Cabled D → Option Event → Type 0
+  GoesOnPerforming old new b c result = (n : ℕ) (ss : List (Station M)) (es : List Event) → IsGoing old b n ss es → MatchOption result (HasStopped old new c n ss es) (HasCome old new c n ss es)
 
   -- the same up to a moment, where the host does nothing else than what it has handed on
   abbrev pub GoesUpTo : ℕ → Performing → Performing → Cabled D → Cabled D → Option Event → Type 0

@@ -6,7 +6,7 @@ use Rattle.cbm_host.specs.Engines.{Engined, engine_due}
 use Rattle.cbm_host.specs.Performers.{Performing}
 use Rattle.cbm_iec.specs.declared.event.Who.TheVariants.{Host, Drive}
 use Rattle.cbm_iec.specs.declared.event.Who.{Who}
-use Rattle.cbm_iec.specs.declared.line.Change.{Change}
+use Rattle.cbm_iec.specs.declared.lines.Change.{Change}
 use Rattle.cbm_host.specs.declared.commands.Commands.{Commands}
 use Rattle.cbm_host.specs.declared.commands.Commands.TheVariants.{One, Two, Three}
 use Rattle.cbm_host.specs.declared.due.Due.TheVariants.{Makes}

@@ -8,7 +8,7 @@ use Rattle.cbm_host.specs.Performed.{IsPerforming, IsCutShort, HasPerformed}
 use Rattle.cbm_host.specs.Performers.{Performing, IsAsked, IsGoing, IsHeldBack, IsUnmoved, HasStopped, HasCome, HasNext}
 use Rattle.cbm_drive.specs.Playback.{Shown, Playback, played_says, played_step, IsPlayedBack}
 use Rattle.cbm_iec.specs.declared.event.Event.{Event}
-use Rattle.cbm_iec.specs.declared.line.Change.{Change}
+use Rattle.cbm_iec.specs.declared.lines.Change.{Change}
 use Rattle.cbm_session.specs.Playing.{Station}
 
 module _ {D : Type 0} (shows : D → Shown) where

@@ -14,7 +14,7 @@ use Rattle.cbm_host.specs.Performers.{Performing}
 use Rattle.cbm_host.specs.Recorded.{IsPerformingBack, HasPerformedBack, IsCutShortBack}
 use Rattle.cbm_host.specs.declared.done.Done.{Done}
 use Rattle.cbm_host.specs.declared.request.Request.{Request}
-use Rattle.cbm_iec.specs.declared.act.Act.{Act}
+use Rattle.cbm_iec.specs.declared.machine.Act.{Act}
 use Rattle.cbm_iec.specs.declared.event.Event.{Event}
 use Rattle.cbm_iec.specs.declared.pace.Pace.TheVariants.{Profile}
 use Rattle.cbm_iec.specs.declared.pace.Pace.{Pace}

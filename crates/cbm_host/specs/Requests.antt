@@ -12,7 +12,7 @@ use Rattle.cbm_session.specs.Sessions.{rest, Linked, session_steps, IsDrive}
 use Rattle.cbm_session.specs.Steps.{Step, moment_of}
 use Rattle.cbm_iec.specs.declared.party.Role.TheVariants.{Absent}
 use Rattle.cbm_iec.specs.Attentions.{listen, unlisten, talk, untalk, data_on, close_on, open_on}
-use Rattle.cbm_host.specs.Engines.{Engined, engine_at, is_last, channel_of, sent_by, most_bytes, most_of}
+use Rattle.cbm_host.specs.Engines.{Engined, engine_at, is_last_byte, channel_of, sent_by, most_bytes, most_of}
 use Rattle.cbm_host.specs.Framed.{frame_for, told_for, hushed_for}
 use Rattle.cbm_host.specs.Performing.{Performs}
 use Rattle.cbm_host.specs.Waits.{ready_wait, answer_wait, phase, turn_wait}
@@ -47,16 +47,16 @@ abbrev pub leave : Party → ℕ → List ℕ → List Piece
 leave b at bytes = attention b at bytes ++ Full (ToNobody (released_for b at bytes) (released_for b at bytes)) ∷ []
 
 -- BYTES TO THE LISTENER, after ATN's release or an accept at t, with EOI on the last, and UNLISTEN. Where none is left ATN is pulled a wait after t.
-abbrev pub sent : Party → ℕ → ℕ → List ℕ → List Piece
-sent b t wait [] = leave b (t + wait) (unlisten ∷ [])
-sent b t wait (byte ∷ left) = Full (Byte (is_last left) (frame_for b (is_last left) byte (t + ready_wait))) ∷ sent b (accept_for b (is_last left) byte (t + ready_wait)) turn_wait left
+abbrev pub bytes_sent : Party → ℕ → ℕ → List ℕ → List Piece
+bytes_sent b t wait [] = leave b (t + wait) (unlisten ∷ [])
+bytes_sent b t wait (byte ∷ left) = Full (Byte (is_last_byte left) (frame_for b (is_last_byte left) byte (t + ready_wait))) ∷ bytes_sent b (accept_for b (is_last_byte left) byte (t + ready_wait)) turn_wait left
 
 -- a request that sends: LISTEN and a secondary address in attention, the bytes, and UNLISTEN
-abbrev pub sending : Party → ℕ → ℕ → List ℕ → List Piece
-sending b start second bytes =
+abbrev pub sending_pieces : Party → ℕ → ℕ → List ℕ → List Piece
+sending_pieces b start second bytes =
     let first = (listen + b.device) ∷ second ∷ [] in
     let at = released_for b start first in
-    attention b start first ++ Full (ToListener at) ∷ sent b at ready_wait bytes
+    attention b start first ++ Full (ToListener at) ∷ bytes_sent b at ready_wait bytes
 
 -- What the talker said: nothing; bytes up to the one with EOI; or as many as were wanted, and after them this byte is pending, the last one or not.
 pub data Said : Type 0 where
@@ -77,45 +77,45 @@ up_to_last b at byte [] = at_last b byte at
 up_to_last b at byte (next ∷ more) = Full (Talk at (told_for b false byte at)) ∷ up_to_last b ((told_for b false byte at).accept + next_byte) next more
 
 -- The last byte that is wanted: the frame of the next one is cut before it begins.
-abbrev pub at_most : Party → ℕ → Bool → ℕ → ℕ → List Piece
-at_most b next last byte at =
+abbrev pub taken_at_most : Party → ℕ → Bool → ℕ → ℕ → List Piece
+taken_at_most b next last byte at =
     let f = told_for b false byte at in
     let at2 = f.accept + next_byte in
     Full (Talk at f) ∷ Cut (Talk at2 (told_for b last next at2)) (f.accept + answer_wait) ∷ leave b (f.accept + answer_wait) (untalk ∷ [])
 
 -- as many bytes of the talker as are wanted, and UNTALK
 abbrev pub up_to_most : Party → ℕ → Bool → ℕ → ℕ → List ℕ → List Piece
-up_to_most b next last at byte [] = at_most b next last byte at
+up_to_most b next last at byte [] = taken_at_most b next last byte at
 up_to_most b next last at byte (byte2 ∷ more) = Full (Talk at (told_for b false byte at)) ∷ up_to_most b next last ((told_for b false byte at).accept + next_byte) byte2 more
 
 -- BYTES OF THE TALKER, after ATN's release at that moment
-abbrev pub turned : Party → ℕ → Said → List Piece
-turned b at Mute =
+abbrev pub turnaround_pieces : Party → ℕ → Said → List Piece
+turnaround_pieces b at Mute =
     let freed = hushed_for b.pace b.reaction (at + phase) in
     Full (Nothing at (at + phase) (Some freed)) ∷ leave b (freed + answer_wait) (untalk ∷ [])
-turned b at (UpToLast first more) = Full (ToTalker at (at + phase)) ∷ up_to_last b (at + phase + b.reaction + lead) first more
-turned b at (UpToMost first more next last) = Full (ToTalker at (at + phase)) ∷ up_to_most b next last (at + phase + b.reaction + lead) first more
+turnaround_pieces b at (UpToLast first more) = Full (ToTalker at (at + phase)) ∷ up_to_last b (at + phase + b.reaction + lead) first more
+turnaround_pieces b at (UpToMost first more next last) = Full (ToTalker at (at + phase)) ∷ up_to_most b next last (at + phase + b.reaction + lead) first more
 
 -- a request that takes: TALK and a secondary address in attention, the turnaround, the bytes, and UNTALK
-abbrev pub taking : Party → ℕ → ℕ → Said → List Piece
-taking b start channel said =
+abbrev pub taking_pieces : Party → ℕ → ℕ → Said → List Piece
+taking_pieces b start channel said =
     let first = (talk + b.device) ∷ (data_on + channel) ∷ [] in
-    attention b start first ++ turned b (released_for b start first) said
+    attention b start first ++ turnaround_pieces b (released_for b start first) said
 
 -- THE PIECES OF A REQUEST, by what the talker says
 abbrev pub pieces_of : Party → ℕ → Said → Request → List Piece
-pieces_of b start said (Open channel text) = sending b start (open_on + channel) text.now
-pieces_of b start said (Put channel bytes) = sending b start (data_on + channel) bytes.now
-pieces_of b start said (Fill channel count byte) = sending b start (data_on + channel) (replicate count byte)
-pieces_of b start said (Get channel most) = taking b start channel said
+pieces_of b start said (Open channel text) = sending_pieces b start (open_on + channel) text.now
+pieces_of b start said (Put channel bytes) = sending_pieces b start (data_on + channel) bytes.now
+pieces_of b start said (Fill channel count byte) = sending_pieces b start (data_on + channel) (replicate count byte)
+pieces_of b start said (Get channel most) = taking_pieces b start channel said
 pieces_of b start said (Close channel) = leave b start ((listen + b.device) ∷ (close_on + channel) ∷ unlisten ∷ [])
-pieces_of b start said Status = taking b start 15 said
+pieces_of b start said Status = taking_pieces b start 15 said
 
 -- how many bytes were said
-abbrev pub count_of : Said → ℕ
-count_of Mute = 0
-count_of (UpToLast first more) = length more + 1
-count_of (UpToMost first more next last) = length more + 1
+abbrev pub said_count : Said → ℕ
+said_count Mute = 0
+said_count (UpToLast first more) = length more + 1
+said_count (UpToMost first more next last) = length more + 1
 
 -- what the talker said is what a request takes that wants this many bytes at most
 abbrev pub IsSaidFor : ℕ → Said → Type 0
@@ -152,5 +152,5 @@ pub record IsPlayed (b : Party) (p : Point) (e : Engined) (ks : List Piece) (lim
 
 -- EVERY REQUEST is a session of its own, whatever the drive says in it, and the host performs its part of it.
 abbrev pub PlaysRequests : Type 0
-PlaysRequests = (b : Party) (start : ℕ) (said : Said) (request : Request) → IsDrive b → channel_of request ≤ 15 → length (sent_by request) ≤ most_bytes → IsSaidFor (most_of request) said → count_of said ≤ most_bytes
+PlaysRequests = (b : Party) (start : ℕ) (said : Said) (request : Request) → IsDrive b → channel_of request ≤ 15 → length (sent_by request) ≤ most_bytes → IsSaidFor (most_of request) said → said_count said ≤ most_bytes
     → IsPlayed b (rest (b ∷ [])) (engine_at start b.device request) (pieces_of b start said request) (start + longest b.pace)

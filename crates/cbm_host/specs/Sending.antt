@@ -2,23 +2,23 @@
 use Rattle.std.specs.Prelude.{ℕ, ◌+◌, ◌-◌, ◌/◌, ◌%◌, ◌==◌, Bool, false, not, Option, Some, None, if◌then◌else◌}
 use Rattle.cbm_iec.specs.Hearing.{is_same}
 use Rattle.cbm_iec.specs.Ports.{change_at}
-use Rattle.cbm_iec.specs.declared.line.Change.{Change}
-use Rattle.cbm_iec.specs.declared.line.Line.{Line}
-use Rattle.cbm_iec.specs.declared.line.Line.TheVariants.{Atn, Clock, Data}
-use Rattle.cbm_iec.specs.declared.line.Way.{Way}
-use Rattle.cbm_iec.specs.declared.line.Way.TheVariants.{Pull, Free}
+use Rattle.cbm_iec.specs.declared.lines.Change.{Change}
+use Rattle.cbm_iec.specs.declared.lines.Line.{Line}
+use Rattle.cbm_iec.specs.declared.lines.Line.TheVariants.{Atn, Clock, Data}
+use Rattle.cbm_iec.specs.declared.lines.Way.{Way}
+use Rattle.cbm_iec.specs.declared.lines.Way.TheVariants.{Pull, Free}
 use Rattle.cbm_host.specs.Waits.{answer_wait, phase}
 use Rattle.cbm_host.specs.declared.frame.Bits.{Bits}
 use Rattle.cbm_host.specs.declared.frame.Frame.{Frame}
 use Rattle.cbm_host.specs.declared.frame.Frame.TheVariants.{Readying, Ready, EoiSent, EoiHeard, Starting, Setting, Showing, Hiding, Clearing, Sent}
 
 -- eight bits, DATA free before them
-abbrev pub bits_of : ℕ → Bits
-bits_of byte = record { left = byte; count = 8; low = false }
+abbrev pub bits_to_send : ℕ → Bits
+bits_to_send byte = record { left = byte; count = 8; low = false }
 
 -- whether DATA is held for the next bit: 1 is DATA free
-abbrev pub is_low : ℕ → Bool
-is_low left = (left % 2) == 0
+abbrev pub starts_low : ℕ → Bool
+starts_low left = (left % 2) == 0
 
 -- the bits of a byte after DATA was changed
 abbrev pub toggled : Bits → Bits
@@ -37,7 +37,7 @@ abbrev pub next_bit : ℕ → Bits → Frame
 next_bit t b =
     if b.count == 0
     then (if b.low then Clearing t else Sent)
-    else (if is_same b.low (is_low b.left) then Showing (t + phase) b else Setting t b)
+    else (if is_same b.low (starts_low b.left) then Showing (t + phase) b else Setting t b)
 
 -- the host's next change, None where it waits for who hears
 abbrev pub frame_change : Frame → Option Change
@@ -52,7 +52,7 @@ frame_change frame = None
 -- a byte to the drive after the host's change, made at t
 abbrev pub frame_made : ℕ → Frame → Frame
 frame_made t (Readying at byte eoi) = Ready byte eoi
-frame_made t (Starting at byte) = next_bit t (bits_of byte)
+frame_made t (Starting at byte) = next_bit t (bits_to_send byte)
 frame_made t (Setting at b) = Showing (t + phase) (toggled b)
 frame_made t (Showing at b) = Hiding (t + phase) b
 frame_made t (Hiding at b) = next_bit t (behind_bit b)

@@ -1,12 +1,12 @@
 -- What the host is at on the wires, and what becomes of it after each change.
 use Rattle.std.specs.Prelude.{ℕ, ◌+◌, Bool, true, false, Option, Some, None}
 use Rattle.cbm_iec.specs.Ports.{change_at}
-use Rattle.cbm_iec.specs.declared.line.Change.{Change}
-use Rattle.cbm_iec.specs.declared.line.Line.{Line}
-use Rattle.cbm_iec.specs.declared.line.Line.TheVariants.{Atn, Clock, Data}
-use Rattle.cbm_iec.specs.declared.line.Way.{Way}
-use Rattle.cbm_iec.specs.declared.line.Way.TheVariants.{Pull, Free}
-use Rattle.cbm_host.specs.AttentionBytes.{first_of, rest_of}
+use Rattle.cbm_iec.specs.declared.lines.Change.{Change}
+use Rattle.cbm_iec.specs.declared.lines.Line.{Line}
+use Rattle.cbm_iec.specs.declared.lines.Line.TheVariants.{Atn, Clock, Data}
+use Rattle.cbm_iec.specs.declared.lines.Way.{Way}
+use Rattle.cbm_iec.specs.declared.lines.Way.TheVariants.{Pull, Free}
+use Rattle.cbm_host.specs.AttentionBytes.{first_command, other_commands}
 use Rattle.cbm_iec.specs.Attentions.{untalk}
 use Rattle.cbm_host.specs.Sending.{frame_change, frame_made, frame_seen}
 use Rattle.cbm_host.specs.Taking.{take_change, take_made, take_seen}
@@ -30,7 +30,7 @@ use Rattle.cbm_host.specs.declared.take.Take.TheVariants.{Awaiting, Freeing, Lis
 
 -- the next byte of an attention, after ATN's pull or an accept at t
 abbrev pub commanding : ℕ → Sequence → Stage
-commanding t a = Framing (Readying (t + ready_wait) (first_of a.commands) false) (Commanded (rest_of a.commands) a.errand)
+commanding t a = Framing (Readying (t + ready_wait) (first_command a.commands) false) (Commanded (other_commands a.commands) a.errand)
 
 -- ATN's release after the last accept of an attention, at t
 abbrev pub releasing : ℕ → Errand → Stage
@@ -58,9 +58,9 @@ behind_pull (PullClock false) = None
 behind_pull FreeData = None
 
 -- what the host is at after one of these changes, made at t: the next of them, or the first byte of the attention
-abbrev pub attended : ℕ → Sequence → Option Pulls → Stage
-attended t a None = commanding t a
-attended t a (Some p) = Attending t p a
+abbrev pub stage_attended : ℕ → Sequence → Option Pulls → Stage
+stage_attended t a None = commanding t a
+stage_attended t a (Some p) = Attending t p a
 
 -- ATN's release, and what goes with it
 abbrev pub release_change : ℕ → Release → Change
@@ -107,7 +107,7 @@ stage_due (Done at) = Over at
 
 -- what the host is at after its own change, made at t
 abbrev pub stage_made : ℕ → Stage → Stage
-stage_made t (Attending at p a) = attended t a (behind_pull p)
+stage_made t (Attending at p a) = stage_attended t a (behind_pull p)
 stage_made t (Framing frame behind) = Framing (frame_made t frame) behind
 stage_made t (Releasing at r) = released t r
 stage_made t (Taking take) = Taking (take_made t take)

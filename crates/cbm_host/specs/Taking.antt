@@ -1,13 +1,13 @@
 -- A byte of the talker on the wires: what the host changes next, and what becomes of it after its own changes and the talker's.
 use Rattle.std.specs.Prelude.{ℕ, ◌+◌, ◌==◌, nat_lt, Bool, true, false, Option, Some, None, List, [], ◌∷◌, if◌then◌else◌}
-use Rattle.cbm_iec.specs.Hearing.{with_bit}
+use Rattle.cbm_iec.specs.Changes.{is_pull}
+use Rattle.cbm_iec.specs.Hearing.{with_bit_read}
 use Rattle.cbm_iec.specs.Ports.{change_at}
-use Rattle.cbm_iec.specs.declared.line.Change.{Change}
-use Rattle.cbm_iec.specs.declared.line.Line.{Line}
-use Rattle.cbm_iec.specs.declared.line.Line.TheVariants.{Atn, Clock, Data}
-use Rattle.cbm_iec.specs.declared.line.Way.{Way}
-use Rattle.cbm_iec.specs.declared.line.Way.TheVariants.{Pull, Free}
-use Rattle.cbm_session.specs.Pieces.{is_pull}
+use Rattle.cbm_iec.specs.declared.lines.Change.{Change}
+use Rattle.cbm_iec.specs.declared.lines.Line.{Line}
+use Rattle.cbm_iec.specs.declared.lines.Line.TheVariants.{Atn, Clock, Data}
+use Rattle.cbm_iec.specs.declared.lines.Way.{Way}
+use Rattle.cbm_iec.specs.declared.lines.Way.TheVariants.{Pull, Free}
 use Rattle.cbm_host.specs.Waits.{answer_wait, last_wait, last_pulse}
 use Rattle.cbm_host.specs.declared.take.Came.{Came}
 use Rattle.cbm_host.specs.declared.take.Take.{Take}
@@ -19,7 +19,7 @@ nothing_came last = record { count = 0; byte = 0; low = false; last = last }
 
 -- CLOCK was freed: a bit counts
 abbrev pub came_bit : Came → Came
-came_bit c = record { count = c.count + 1; byte = with_bit c.byte c.low; low = c.low; last = c.last }
+came_bit c = record { count = c.count + 1; byte = with_bit_read c.byte c.low; low = c.low; last = c.last }
 
 -- the host's next change, None where it waits for the talker
 abbrev pub take_change : Take → Option Change

@@ -1,7 +1,7 @@
 //! The bytes of an attention.
 
 ghost use Rattle.std.specs.Prelude.{◌≡◌};
-ghost use Rattle.cbm_host.specs.AttentionBytes.{first_of, rest_of};
+ghost use Rattle.cbm_host.specs.AttentionBytes.{first_command, other_commands};
 
 /// The bytes of an attention that are still to be sent: at least one.
 #[derive(Clone, Copy, Drop)]
@@ -14,7 +14,7 @@ pub(crate) enum Commands {
 impl Commands {
     /// The next byte.
     pub(crate) fn first(self) -> u8
-        ensures { result ≡ first_of self }
+        ensures { result ≡ first_command self }
     {
         match self {
             Commands::One(byte) | Commands::Two(byte, _) | Commands::Three(byte, _, _) => byte,
@@ -23,7 +23,7 @@ impl Commands {
 
     /// The bytes after the next one.
     pub(crate) fn rest(self) -> Option<Commands>
-        ensures { result ≡ rest_of self }
+        ensures { result ≡ other_commands self }
     {
         match self {
             Commands::One(_) => None,

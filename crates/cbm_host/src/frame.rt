@@ -1,7 +1,7 @@
 //! A byte of the host on the wires.
 
 ghost use Rattle.std.specs.Prelude.{◌≡◌, ◌^◌, ◌<◌};
-ghost use Rattle.cbm_host.specs.Sending.{frame_change, frame_made, frame_seen, bits_of, is_low, toggle, toggled, behind_bit, next_bit};
+ghost use Rattle.cbm_host.specs.Sending.{frame_change, frame_made, frame_seen, bits_to_send, starts_low, toggle, toggled, behind_bit, next_bit};
 
 use crate::waits::{ANSWER, PHASE};
 use cbm_iec::{Change, Line, Way};
@@ -108,7 +108,7 @@ impl Frame {
 impl Bits {
     /// The bits of a byte, DATA free before them.
     fn of(byte: u8) -> Bits
-        ensures { result ≡ bits_of byte }
+        ensures { result ≡ bits_to_send byte }
     {
         Bits {
             left: byte,
@@ -119,7 +119,7 @@ impl Bits {
 
     /// Whether DATA is held for the next bit: 1 is DATA free.
     fn is_low(self) -> bool
-        ensures { result ≡ is_low self.left }
+        ensures { result ≡ starts_low self.left }
     {
         self.left % 2 == 0
     }

@@ -43,11 +43,11 @@ impl<M: Medium> Model for Hosted<M> {
 impl<M: Medium> Hosted<M> {
     ghost use Rattle.std.specs.Prelude.{◌≡◌, ◌+◌, ◌∷◌, ◌++◌, ◌<◌, ◌≤◌, ◌^◌, [], ℕ, List, Bool, false, None, Some, IfSome, MatchOption};
     ghost use Rattle.cbm_file.specs.Files.{Disk};
-    ghost use Rattle.cbm_channel.specs.Machines.{Machine, start};
+    ghost use Rattle.cbm_machine.specs.Machines.{Machine, start};
     ghost use Rattle.cbm_volume.specs.Holding.{HoldsDisk};
     ghost use Rattle.cbm_host.specs.declared.request.Request.{Request};
     ghost use Rattle.cbm_host.specs.Engines.{channel_of};
-    ghost use Rattle.cbm_host.specs.Hosted.{Rests, IsUnderWay, IsGoingOn, IsOver, TakesNext, tracks_on, failures_on, HasNotFailed};
+    ghost use Rattle.cbm_host.specs.Hosted.{Rests, IsUnderWay, IsGoingOn, IsOver, TakesNext, tracks_on, hosted_failures, HasNotFailed};
     ghost use Rattle.cbm_host.specs.Progress.{left_of};
     ghost use Rattle.cbm_host.specs.Requests.{longest};
     ghost use Rattle.cbm_iec.specs.declared.pace.Pace.TheVariants.{Profile};
@@ -128,7 +128,7 @@ impl<M: Medium> Hosted<M> {
         ensures moment { MatchOption result (self.new.moment ≤ performer.old.limit)
             (λ x. self.new.moment ≡ self.old.moment) }
         ensures tracks { tracks_on M.seen self.new ≡ tracks_on M.seen self.old }
-        ensures counted { failures_on M.seen self.old ≤ failures_on M.seen self.new }
+        ensures counted { hosted_failures M.seen self.old ≤ hosted_failures M.seen self.new }
     {
         match performer.next_byte(&mut self.bus) {
             Some(said) => {
@@ -157,7 +157,7 @@ impl<M: Medium> Hosted<M> {
         ensures soon { self.new.moment ≤ self.old.moment + longest self.old.pace }
         ensures pace { self.new.pace ≡ self.old.pace }
         ensures tracks { tracks_on M.seen self.new ≡ tracks_on M.seen self.old }
-        ensures counted { failures_on M.seen self.old ≤ failures_on M.seen self.new }
+        ensures counted { hosted_failures M.seen self.old ≤ hosted_failures M.seen self.new }
     {
         request.sends_bytes();
         let mut performer = self.ask(request);

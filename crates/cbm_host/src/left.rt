@@ -1,7 +1,7 @@
 //! The bytes that a request still has to send.
 
 ghost use Rattle.std.specs.Prelude.{◌≡◌, [], ◌∷◌, MatchOption};
-ghost use Rattle.cbm_host.specs.Engines.{is_last};
+ghost use Rattle.cbm_host.specs.Engines.{is_last_byte};
 ghost use Rattle.cbm_host.specs.Left.{bytes_left};
 
 /// Bytes that are still to be sent.
@@ -34,7 +34,7 @@ impl<'a> Left<'a> {
 
     /// Whether none is left.
     pub(crate) fn is_empty(self) -> bool
-        ensures { result ≡ is_last (bytes_left self.entry) }
+        ensures { result ≡ is_last_byte (bytes_left self.entry) }
     {
         match self {
             Left::Bytes(bytes) => bytes.is_empty(),

@@ -58,9 +58,9 @@ impl<'a> Performer<'a> {
     ghost use Rattle.cbm_drive.specs.Playback.{Shown, Playback, IsPlayedBack, played_says, played_step};
     ghost use Rattle.cbm_host.specs.Engines.{Engined};
     ghost use Rattle.cbm_host.specs.Engines.{channel_of, engine_at, engine_due, stage_end};
-    ghost use Rattle.cbm_host.specs.Performers.{IsHandedOn, IsHeldBack, IsUnmoved, IsGoing, GoesOn, GoesUpTo, HasStopped, HasCome, HasNext, engine_behind, byte_with};
+    ghost use Rattle.cbm_host.specs.Performers.{IsHandedOn, IsHeldBack, IsUnmoved, IsGoing, GoesOnPerforming, GoesUpTo, HasStopped, HasCome, HasNext, engine_behind, byte_with};
     ghost use Rattle.cbm_iec.specs.declared.event.Event.{Event};
-    ghost use Rattle.cbm_iec.specs.declared.line.Change.{Change};
+    ghost use Rattle.cbm_iec.specs.declared.lines.Change.{Change};
     ghost use Rattle.cbm_host.specs.declared.due.Due.TheVariants.{Makes, Waits, Hears};
     ghost use Rattle.cbm_host.specs.Recorded.{GoesUpToRecorded, GoesOnRecorded, PlaysRecorded, ComesRecorded, NextRecorded, TakesRecorded};
 
@@ -267,7 +267,7 @@ impl<'a> Performer<'a> {
     #[inline(always)]
     fn event<D: Machine, const N: usize>(&mut self, bus: &mut Bus<D, N>) -> Option<Event>
         ensures come { Unfailed D.failures bus.old.drives bus.new.drives →
-            GoesOn _ D.State D.stands D.step D.says self.old self.new bus.old bus.new result }
+            GoesOnPerforming _ D.State D.stands D.step D.says self.old self.new bus.old bus.new result }
         ensures recorded { N ≡ 1 → GoesOnRecorded D.shows self.old self.new bus.old bus.new result }
         ensures fewer { IfSome result (λ e. FallsBy e.who self.old self.new bus.old bus.new) }
         ensures limit { self.new.limit ≡ self.old.limit }
@@ -329,7 +329,7 @@ impl<'a> Performer<'a> {
     fn hear<D: Machine, const N: usize>(&mut self, bus: &mut Bus<D, N>) -> Option<Event>
         requires due { engine_due self.old.engine ≡ Hears }
         ensures come { Unfailed D.failures bus.old.drives bus.new.drives →
-            GoesOn _ D.State D.stands D.step D.says self.old self.new bus.old bus.new result }
+            GoesOnPerforming _ D.State D.stands D.step D.says self.old self.new bus.old bus.new result }
         ensures recorded { N ≡ 1 → GoesOnRecorded D.shows self.old self.new bus.old bus.new result }
         ensures fewer { IfSome result (λ e. FallsBy e.who self.old self.new bus.old bus.new) }
         ensures limit { self.new.limit ≡ self.old.limit }
@@ -388,7 +388,7 @@ impl<'a> Performer<'a> {
     fn wait<D: Machine, const N: usize>(&mut self, bus: &mut Bus<D, N>, until: u64) -> Option<Event>
         requires due { engine_due self.old.engine ≡ Waits until }
         ensures come { Unfailed D.failures bus.old.drives bus.new.drives →
-            GoesOn _ D.State D.stands D.step D.says self.old self.new bus.old bus.new result }
+            GoesOnPerforming _ D.State D.stands D.step D.says self.old self.new bus.old bus.new result }
         ensures recorded { N ≡ 1 → GoesOnRecorded D.shows self.old self.new bus.old bus.new result }
         ensures fewer { IfSome result (λ e. FallsBy e.who self.old self.new bus.old bus.new) }
         ensures limit { self.new.limit ≡ self.old.limit }

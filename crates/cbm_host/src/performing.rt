@@ -13,7 +13,7 @@ ghost use Rattle.cbm_host.specs.Progress.{left_of};
 ghost use Rattle.cbm_host.specs.Requests.{longest};
 ghost use Rattle.cbm_host.specs.Requested.{CarriesOutAt, CarriesOutAtProfile, KeepsMomentsUnfailed, LacksMemoryUnfailed, CarriesOutAnyway, RunsOut, RunsOutBack, Steps, StepsBack, IsCutOnTheWay};
 ghost use Rattle.cbm_host.specs.Performed.{HasAddedUpTo};
-ghost use Rattle.cbm_host.specs.AnyDisk.{IsAtRest};
+ghost use Rattle.cbm_host.specs.AnyDisk.{IsAtRestAnyway};
 
 use crate::done::Done;
 use crate::performer::Performer;
@@ -44,7 +44,7 @@ pub fn perform<D: Machine, const N: usize>(
     ensures moments { KeepsMomentsUnfailed _ D.State D.stands D.step D.says D.failures
         (engine_at start device request.entry) (start + 250000000) bus.old bus.new events.old.items events.new.items result }
     // On any disk a machine plays back what the drive showed, and for that machine the request was carried out.
-    ensures recorded { (v : Party) → let b = at_pace Profile v in IsDrive b → b.device ≡ device → IsAtRest D.shows b bus.old →
+    ensures recorded { (v : Party) → let b = at_pace Profile v in IsDrive b → b.device ≡ device → IsAtRestAnyway D.shows b bus.old →
         CarriesOutAnyway D.shows b start request.entry bus.old bus.new events.old.items events.new.items result }
     ensures end { IfOk result (λ done. done.end ≤ start + 250000000) }
     // Whatever the machine represents, nothing happens later than that.
@@ -77,7 +77,7 @@ pub fn perform_at<D: Machine, const N: usize>(
     ensures moments { KeepsMomentsUnfailed _ D.State D.stands D.step D.says D.failures
         (engine_at start device request.entry) (start + longest pace) bus.old bus.new events.old.items events.new.items result }
     // On any disk a machine plays back what the drive showed, and for that machine the request was carried out.
-    ensures recorded { (b : Party) → IsDrive b → b.device ≡ device → b.pace ≡ pace → IsAtRest D.shows b bus.old →
+    ensures recorded { (b : Party) → IsDrive b → b.device ≡ device → b.pace ≡ pace → IsAtRestAnyway D.shows b bus.old →
         CarriesOutAnyway D.shows b start request.entry bus.old bus.new events.old.items events.new.items result }
     ensures end { IfOk result (λ done. done.end ≤ start + longest pace) }
     // Whatever the machine represents, nothing happens later than that.

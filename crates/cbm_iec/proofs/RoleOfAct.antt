@@ -4,7 +4,7 @@ use Rattle.cbm_iec.specs.Hearing.{heard_act}
 use Rattle.cbm_iec.specs.Ports.{side_act, side_role}
 use Rattle.cbm_iec.specs.Roles.{role_after, role_with}
 use Rattle.cbm_iec.specs.Speaking.{mouth_row, end_frame_row, set_bit_row, show_bit_row}
-use Rattle.cbm_iec.specs.declared.act.Act.TheVariants.{Said}
+use Rattle.cbm_iec.specs.declared.machine.Act.TheVariants.{Said}
 use Rattle.cbm_iec.specs.declared.ear.Ear.TheVariants.{Idle, Starting, Await, Leaving, Returning, Holding, Freeing, Ready, Timed, Pulsing, EoiNoted, Gathering, Accepting}
 use Rattle.cbm_iec.specs.declared.lines.Lines.{Lines}
 use Rattle.cbm_iec.specs.declared.mouth.Mouth.TheVariants.{Turned, Answering, Mute, Led, Offering, EoiOffered, EoiPulsed, Sending, Waiting, Ending, Over}

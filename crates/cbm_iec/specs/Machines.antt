@@ -1,7 +1,7 @@
 -- The machine above the wires and what it is told by the bus.
 use Rattle.std.specs.Prelude.{ℕ, ◌≡◌, ◌<◌, ◌&&◌, Bool, true, false, not, Option, Some, None, IfSome, IsSome}
-use Rattle.cbm_iec.specs.declared.act.Act.{Act}
-use Rattle.cbm_iec.specs.declared.act.Act.TheVariants.{Said}
+use Rattle.cbm_iec.specs.declared.machine.Act.{Act}
+use Rattle.cbm_iec.specs.declared.machine.Act.TheVariants.{Said}
 
 module _ (M : Type 0) (step : M → Act → M) where
   -- the machine after an act, or after none

@@ -1,8 +1,8 @@
 -- What the attention bytes make of a drive: listener, talker, or neither.
 use Rattle.std.specs.Prelude.{ℕ, ◌+◌, if◌then◌else◌, nat_le, nat_eq, ◌&&◌, Option, Some}
 use Rattle.cbm_iec.specs.Attentions.{listen, unlisten, talk, untalk}
-use Rattle.cbm_iec.specs.declared.act.Act.TheVariants.{Attention}
-use Rattle.cbm_iec.specs.declared.act.Act.{Act}
+use Rattle.cbm_iec.specs.declared.machine.Act.TheVariants.{Attention}
+use Rattle.cbm_iec.specs.declared.machine.Act.{Act}
 use Rattle.cbm_iec.specs.declared.party.Role.TheVariants.{Absent, Listener, Talker}
 use Rattle.cbm_iec.specs.declared.party.Role.{Role}
 

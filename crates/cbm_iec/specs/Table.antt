@@ -1,6 +1,6 @@
 -- A row of the drive's table: what a drive does when its reaction is due.
 use Rattle.std.specs.Prelude.{ℕ, Bool, Option, None}
-use Rattle.cbm_iec.specs.declared.act.Act.{Act}
+use Rattle.cbm_iec.specs.declared.machine.Act.{Act}
 use Rattle.cbm_iec.specs.declared.lines.Held.{Held}
 use Rattle.cbm_iec.specs.declared.lines.Lines.{Lines}
 use Rattle.cbm_iec.specs.declared.row.Due.{Due}
@@ -14,12 +14,12 @@ pub record TableRow (W : Type 0) : Type 0 where
   pub act : Lines → Option Act
 
 -- a reaction with which no act counts
-abbrev pub plain : {W : Type 0} → (Held → Held) → (ℕ → ℕ → Lines → W) → TableRow W
-plain held next = record { held = held; next = next; act = λ others. None }
+abbrev pub plain_row : {W : Type 0} → (Held → Held) → (ℕ → ℕ → Lines → W) → TableRow W
+plain_row held next = record { held = held; next = next; act = λ others. None }
 
 -- nothing is due
 abbrev pub stays : {W : Type 0} → W → TableRow W
-stays waits = plain (λ own. own) (λ r moment others. waits)
+stays waits = plain_row (λ own. own) (λ r moment others. waits)
 
 -- the row at a moment
 abbrev pub happens : {W : Type 0} → Due → TableRow W → Row W

@@ -3,8 +3,8 @@
 ghost use Rattle.std.specs.Prelude.{◌≡◌};
 ghost use Rattle.cbm_iec.specs.Table.{happens, stays};
 
-use crate::act::Act;
 use crate::lines::{Held, Lines};
+use crate::machine::Act;
 use crate::pace::Pace;
 
 /// A reaction that is due: what its drive sees then.

@@ -5,7 +5,7 @@ use Rattle.cbm_medium.specs.Content.{Content}
 use Rattle.cbm_volume.specs.Holding.{HoldsDisk}
 use Rattle.cbm_d64.specs.Image as d64
 use Rattle.cbm_g64.specs.File as g64
-use Rattle.cbm_g64.specs.Numbers.{number_of}
+use Rattle.cbm_g64.specs.Numbers.{g64_fault_number}
 use Rattle.cbm_g64.specs.Tracks as circles
 use Rattle.cbm_file.specs.Files.{Disk}
 use Rattle.cbm_image.specs.declared.kind.Kind.{Kind}
@@ -24,17 +24,17 @@ size_fault n = if nat_eq n 174848 || nat_eq n 175531 || nat_eq n 196608 then Non
 -- the number of what an image is refused for
 abbrev pub image_fault : Kind → List ℕ → Option ℕ
 image_fault D64 image = size_fault (length image)
-image_fault G64 image = option_map number_of (g64.fault_of image)
+image_fault G64 image = option_map g64_fault_number (g64.g64_fault image)
 
 -- how many tracks an image has
 abbrev pub tracks_of : Kind → List ℕ → ℕ
-tracks_of D64 image = d64.tracks_in (length image)
+tracks_of D64 image = d64.d64_tracks (length image)
 tracks_of G64 image = 35
 
 -- what the sectors of an image hold
 abbrev pub content_of : Kind → List ℕ → Content
-content_of D64 image = d64.content_of image
-content_of G64 image = circles.content_of (g64.tracks_in image 35)
+content_of D64 image = d64.d64_content image
+content_of G64 image = circles.g64_content (g64.g64_circles image 35)
 
 -- AN IMAGE HOLDS A DISK: its content is sound, and means it
 abbrev pub ImageHolds : Kind → List ℕ → Disk → Type 0
@@ -47,6 +47,6 @@ pub record IsOf (kind : Kind) (image : List ℕ) (tracks : ℕ) (content : Conte
   pub same_content : content_of kind image ≡ content
 
 -- why an image isn't taken: its fault, or want of memory
-abbrev pub IsRefusal : Option ℕ → ImageFault → Type 0
-IsRefusal why (Format n) = why ≡ Some n
-IsRefusal why Memory = Unit {0}
+abbrev pub IsImageRefusal : Option ℕ → ImageFault → Type 0
+IsImageRefusal why (Format n) = why ≡ Some n
+IsImageRefusal why Memory = Unit {0}

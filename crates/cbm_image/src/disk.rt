@@ -1,7 +1,7 @@
 //! Opening and saving the disk of an image.
 ghost use Rattle.std.specs.Prelude.{◌≡◌, Err, IfSome, IfOk, IfErr};
 ghost use Rattle.cbm_image.specs.declared.kind.Kind.{Kind};
-ghost use Rattle.cbm_image.specs.Images.{image_fault, IsOf, IsRefusal};
+ghost use Rattle.cbm_image.specs.Images.{image_fault, IsOf, IsImageRefusal};
 
 use crate::fault::ImageFault;
 use cbm_d64::{D64Disk, D64Fault};
@@ -19,7 +19,7 @@ pub trait DiskImage: Steady {
         ensures ok { IfOk result (λ d. IsOf kind image.now (Self.seen d).tracks (Self.seen d).content
             × ((Self.seen d).protected ≡ protected)) }
         ensures refused { IfSome (image_fault kind image.now) (λ n. result ≡ Err (ImageFault.Format n)) }
-        ensures cause { IfErr result (IsRefusal (image_fault kind image.now)) };
+        ensures cause { IfErr result (IsImageRefusal (image_fault kind image.now)) };
 
     /// The image of the disk as it is now, which opens again. The one error is want of memory.
     fn save(&self, alloc: Global) -> Result<Vec<u8>, AllocError>

@@ -14,16 +14,16 @@ abbrev pub quote : ℕ
 quote = 34
 
 -- what fills a title and a name on the disk
-abbrev pub filler : ℕ
-filler = 0xa0
+abbrev pub name_filler : ℕ
+name_filler = 0xa0
 
 -- a number as two bytes, low first
 abbrev pub low_first : ℕ → List ℕ
 low_first n = n % 256 ∷ n / 256 ∷ []
 
 -- a text with spaces after it, n bytes together
-abbrev pub padded : ℕ → List ℕ → List ℕ
-padded n text = text ++ replicate (n - length text) space
+abbrev pub padded_to : ℕ → List ℕ → List ℕ
+padded_to n text = text ++ replicate (n - length text) space
 
 -- a line: the link 1 1, a number, a text and a zero
 abbrev pub line : ℕ → List ℕ → List ℕ
@@ -31,7 +31,7 @@ line n text = 1 ∷ 1 ∷ low_first n ++ text ++ 0 ∷ []
 
 -- a filler is shown as a space
 abbrev pub shown_byte : ℕ → ℕ
-shown_byte c = if c == filler then space else c
+shown_byte c = if c == name_filler then space else c
 
 -- bytes of the header as they are shown
 abbrev pub shown_bytes : List ℕ → List ℕ
@@ -64,8 +64,8 @@ locked_mark locked = if locked then 60 else space
 
 -- The line of an entry: its blocks, its name up to the first filler in quotes, its type, and a mark before and after that.
 abbrev pub entry_line : ℕ → List ℕ → Option FileType → Bool → Bool → List ℕ
-entry_line blocks name kind closed locked = line blocks (padded 27 (
-    indent blocks ++ padded 18 (quote ∷ before_filler name ++ quote ∷ [])
+entry_line blocks name kind closed locked = line blocks (padded_to 27 (
+    indent blocks ++ padded_to 18 (quote ∷ before_filler name ++ quote ∷ [])
     ++ closed_mark closed ∷ kind_text kind ++ locked_mark locked ∷ []))
 
 -- the line of a file
@@ -74,4 +74,4 @@ file_line f = entry_line f.shown f.name (Some f.kind) f.closed f.locked
 
 -- the last line: the free blocks, and two zeros more that end the listing
 abbrev pub last_line : ℕ → List ℕ
-last_line free = line free (padded 25 (codes "BLOCKS FREE.")) ++ 0 ∷ 0 ∷ []
+last_line free = line free (padded_to 25 (codes "BLOCKS FREE.")) ++ 0 ∷ 0 ∷ []

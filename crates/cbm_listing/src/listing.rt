@@ -1,6 +1,6 @@
 ghost use Rattle.std.specs.Prelude.{◌≡◌, ◌+◌, ◌≤◌, ◌++◌, ◌↔◌, IsTrue, length, drop, slice_get};
 ghost use Rattle.cbm_listing.specs.Lines.{title_line, entry_line, last_line};
-ghost use Rattle.cbm_listing.specs.Listed.{Listed, with_line, behind_next};
+ghost use Rattle.cbm_listing.specs.Listed.{ListedBytes, with_listing_line, with_next_taken};
 
 use crate::entry::Entry;
 use crate::line::{self, Line};
@@ -19,7 +19,7 @@ pub struct Listing {
 }
 
 impl Model for Listing {
-    ghost Value = { Listed };
+    ghost Value = { ListedBytes };
 
     ghost view = { λ l. record { bytes = l.bytes.items; taken = l.place } };
 
@@ -42,7 +42,7 @@ impl Listing {
 
     fn add(&mut self, line: &Line)
         requires { length self.old.bytes + length line.now.items ≤ 4672 }
-        ensures { self.new ≡ with_line line.now.items self.old }
+        ensures { self.new ≡ with_listing_line line.now.items self.old }
     {
         self.bytes.try_extend_from_slice(line.as_slice()).unwrap()
     }
@@ -58,7 +58,7 @@ impl Listing {
     pub fn line(&mut self, entry: &Entry<'_>)
         requires room { length self.old.bytes ≤ 4640 }
         requires short { length entry.now.name.now ≤ 16 }
-        ensures value { self.new ≡ with_line
+        ensures value { self.new ≡ with_listing_line
             (entry_line entry.now.blocks entry.now.name.now entry.now.kind entry.now.closed entry.now.locked) self.old }
         ensures longer { length self.new.bytes ≡ length self.old.bytes + 32 }
     {
@@ -68,7 +68,7 @@ impl Listing {
     /// The line of the free blocks, 32 bytes.
     pub fn finish(&mut self, free: u16)
         requires { length self.old.bytes ≤ 4640 }
-        ensures value { self.new ≡ with_line (last_line free) self.old }
+        ensures value { self.new ≡ with_listing_line (last_line free) self.old }
         ensures longer { length self.new.bytes ≡ length self.old.bytes + 32 }
     {
         self.add(&line::last_line(free));
@@ -77,7 +77,7 @@ impl Listing {
     /// Takes the next byte, if one is left.
     pub fn next_byte(&mut self) -> Option<u8>
         ensures byte { result ≡ slice_get self.old.bytes self.old.taken }
-        ensures moved { self.new ≡ behind_next self.old }
+        ensures moved { self.new ≡ with_next_taken self.old }
     {
         let byte = self.bytes.as_slice().get(self.place).copied();
         if byte.is_some() {

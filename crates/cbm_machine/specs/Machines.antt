@@ -44,16 +44,16 @@ start disk protected tracks = record {
 }
 
 -- the disk with its channels forgotten
-abbrev pub at_rest : Machine → Disk
-at_rest m = m.disk
+abbrev pub disk_at_rest : Machine → Disk
+disk_at_rest m = m.disk
 
 -- a new status is reported from its beginning
-abbrev pub tell : Status → Machine → Machine
-tell s m = record m { status = s; told = 0 }
+abbrev pub with_status : Status → Machine → Machine
+with_status s m = record m { status = s; told = 0 }
 
 -- a status with no numbers is reported
 abbrev pub say : Code → Machine → Machine
-say code m = tell (plain code) m
+say code m = with_status (plain code) m
 
 -- the machine with this disk
 abbrev pub with_disk : Disk → Machine → Machine

@@ -11,7 +11,7 @@ use Rattle.cbm_command.specs.declared.opening.Wanted.{Wanted}
 use Rattle.cbm_command.specs.declared.opening.Opening.{Opening}
 use Rattle.cbm_command.specs.declared.opening.Opening.TheVariants as opening
 use Rattle.cbm_command.specs.Refusals.{◌>>=◌, unless}
-use Rattle.cbm_command.specs.Openings.{is_relative, opening_of}
+use Rattle.cbm_command.specs.Openings.{wants_relative, opening_of}
 use Rattle.cbm_machine.specs.declared.code.Code.{Code}
 use Rattle.cbm_machine.specs.declared.code.Code.TheVariants.{Fine, WriteProtected, NoRecord, WriteFileOpen, FileNotFound, FileExists, WrongType, NoChannel, DiskFull}
 use Rattle.cbm_machine.specs.Codes.{code_of_refusal}
@@ -95,14 +95,14 @@ meets_records (Err e) = false
 -- What the channel would cost: two where records are asked for, or would be met by reading.
 abbrev pub asked_cost : Wanted → Machine → ℕ
 asked_cost w m =
-    if is_relative w then 2 else
+    if wants_relative w then 2 else
     elim w.mode [ Read ↦ if not w.has_at && meets_records (found m.disk w.name w.kind) then 2 else 1 | _ ↦ 1 ]
 
 -- What an OPEN will do. Too many channels are refused before all that the disk answers.
 abbrev pub plan : ℕ → Opening → Machine → Result Plan Code
 plan ch (opening.Listing pattern) m = unless ((too_many 1 m, NoChannel) ∷ []) (Ok (ReadListing pattern))
 plan ch (opening.File w) m = unless ((too_many (asked_cost w m) m, NoChannel) ∷ [])
-    (if is_relative w then plan_relative ch w m else plan_by_mode w.mode w m)
+    (if wants_relative w then plan_relative ch w m else plan_by_mode w.mode w m)
 
 -- ---- doing it
 

@@ -9,8 +9,8 @@ pub use Rattle.cbm_file.specs.Records.{zeros, fresh_record, record_count, new_re
 use Rattle.cbm_machine.specs.Finding.{body_at}
 
 -- The record is there: the bytes are written, and the place is the next record's first byte. Bytes that did not fit are reported.
-abbrev pub written : ℕ → ℕ → ℕ → ℕ → List ℕ → Machine → Machine
-written ch s k p bytes m = elim (body_at m.disk s) [
+abbrev pub with_written_record : ℕ → ℕ → ℕ → ℕ → List ℕ → Machine → Machine
+with_written_record ch s k p bytes m = elim (body_at m.disk s) [
   | Bytes _ ↦ m
   | Records l rs b sides ↦
       (let next = with_channel ch (Relative s (k + 1) 1) (with_disk (with_body m.disk s
@@ -35,5 +35,5 @@ grown_to s k m = elim (body_at m.disk s) [
 abbrev pub write_record : ℕ → Channel → List ℕ → Machine → Machine
 write_record ch (Relative s k p) bytes m = answered m (
     (if is_some (record_at (body_at m.disk s) k) then unless ((m.protected, WriteProtected) ∷ []) (Ok m) else grown_to s k m)
-    >>= λ n. Ok (written ch s k p bytes n))
+    >>= λ n. Ok (with_written_record ch s k p bytes n))
 write_record ch c bytes m = m

@@ -9,7 +9,7 @@ use Rattle.cbm_command.specs.Names.{is_match}
 use Rattle.cbm_command.specs.Refusals.{◌>>=◌, unless}
 use Rattle.cbm_machine.specs.declared.code.Code.{Code}
 use Rattle.cbm_machine.specs.declared.code.Code.TheVariants.{Fine, FilesScratched, WriteProtected, NoName, NoRecord, RecordOverflow, WriteFileOpen, FileExists, WrongType, NoChannel, DiskFull}
-use Rattle.cbm_machine.specs.Machines.{Channel, Closed, Relative, Machine, tell, say, with_disk, channel, with_channel, in_use, in_writing, any_open}
+use Rattle.cbm_machine.specs.Machines.{Channel, Closed, Relative, Machine, with_status, say, with_disk, channel, with_channel, in_use, in_writing, any_open}
 pub use Rattle.cbm_file.specs.Changes.{new_disk}
 use Rattle.cbm_file.specs.Changes.{has_slot, with_file, closed_file, validated}
 use Rattle.cbm_machine.specs.Finding.{is_kind, is_there, found, body_at}
@@ -39,7 +39,7 @@ scratch ps m =
     let d = scratched_disk m ps in
     let count = length (files m.disk) - length (files d) in
     unless ((nat_lt 0 count && m.protected, WriteProtected) ∷ [])
-    (Ok (tell (record { code = FilesScratched; first = count; second = 0 }) (with_disk d m)))
+    (Ok (with_status (record { code = FilesScratched; first = count; second = 0 }) (with_disk d m)))
 
 -- ---- R
 

@@ -15,8 +15,8 @@ abbrev pub two_digits : ℕ → List ℕ
 two_digits n = (48 + min n 99 / 10) ∷ (48 + min n 99 % 10) ∷ []
 
 -- what stands between the parts of a line
-abbrev pub comma : ℕ
-comma = 44
+abbrev pub status_comma : ℕ
+status_comma = 44
 
 -- what ends a line
 abbrev pub return : ℕ
@@ -25,8 +25,8 @@ return = 13
 -- what channel 15 reports: the code, the text, two numbers and a return
 abbrev pub status_line : Status → List ℕ
 status_line s =
-    two_digits (code_number s.code) ++ comma ∷ code_text s.code
-    ++ comma ∷ two_digits s.first ++ comma ∷ two_digits s.second ++ return ∷ []
+    two_digits (code_number s.code) ++ status_comma ∷ code_text s.code
+    ++ status_comma ∷ two_digits s.first ++ status_comma ∷ two_digits s.second ++ return ∷ []
 
 -- What a disk answers in place of bytes: the fault, its track and its sector. A protected disk is reported with 0 and 0.
 abbrev pub trouble_status : Trouble → Status

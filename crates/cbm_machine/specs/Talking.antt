@@ -2,7 +2,7 @@
 use Rattle.std.specs.Prelude.{ℕ, ◌+◌, ◌-◌, ◌==◌, nat_lt, Bool, true, List, length, drop, slice_index_or, if◌then◌else◌, Option, Some, None, is_some}
 use Rattle.std.specs.List.{list_all}
 use Rattle.cbm_file.specs.Files.{Disk}
-use Rattle.cbm_file.specs.Waiting.{shown}
+use Rattle.cbm_file.specs.Waiting.{next_shown}
 use Rattle.cbm_machine.specs.declared.code.Code.{Code}
 use Rattle.cbm_machine.specs.declared.code.Code.TheVariants.{Fine, NoRecord, FileNotOpen}
 use Rattle.cbm_machine.specs.Told.{is_unread_error, told_by}
@@ -21,12 +21,12 @@ abbrev pub peek_on : Disk → Channel → Option (ℕ × Bool)
 peek_on d Closed = None
 peek_on d (Writing s bytes blocks full replaces) = None
 peek_on d (Stopped s) = None
-peek_on d (Reading s left) = shown left
+peek_on d (Reading s left) = next_shown left
 peek_on d (Relative s k p) = next_of_record (record_at (body_at d s) k) p
 
 -- the next byte that a channel has to say, and whether it is the last
 abbrev pub peek : ℕ → Machine → Option (ℕ × Bool)
-peek ch m = if ch == 15 then shown (drop m.told (status_line m.status)) else peek_on m.disk (channel m ch)
+peek ch m = if ch == 15 then next_shown (drop m.told (status_line m.status)) else peek_on m.disk (channel m ch)
 
 -- the place after the byte at a place was taken; a record that isn't there leaves it
 abbrev pub taken_on : Disk → Channel → Channel
@@ -60,12 +60,12 @@ talk_refusal d (Reading s left) = None
 talk_refusal d (Relative s k p) = if is_some (record_at (body_at d s) k) then None else Some NoRecord
 
 -- a channel is asked to talk
-abbrev pub talk : ℕ → Machine → Machine
-talk ch m = if ch == 15 then m else only_refused (talk_refusal m.disk (channel m ch)) m
+abbrev pub after_talk : ℕ → Machine → Machine
+after_talk ch m = if ch == 15 then m else only_refused (talk_refusal m.disk (channel m ch)) m
 
 -- The same of a computer that asks for a file's bytes though its OPEN was refused: an error that nobody has begun to read stays.
 abbrev pub talk_keeping_error : ℕ → Machine → Machine
-talk_keeping_error ch m = if is_unread_error (told_by m) then m else talk ch m
+talk_keeping_error ch m = if is_unread_error (told_by m) then m else after_talk ch m
 
 -- what a channel that is asked to listen refuses
 abbrev pub listen_refusal : Channel → Option Code
@@ -76,5 +76,5 @@ listen_refusal (Stopped s) = None
 listen_refusal (Relative s k p) = None
 
 -- a channel is asked to listen
-abbrev pub listen : ℕ → Machine → Machine
-listen ch m = if ch == 15 then m else only_refused (listen_refusal (channel m ch)) m
+abbrev pub after_listen : ℕ → Machine → Machine
+after_listen ch m = if ch == 15 then m else only_refused (listen_refusal (channel m ch)) m

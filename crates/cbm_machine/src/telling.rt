@@ -21,9 +21,9 @@ pub struct Telling {
 impl Model for Telling {
     ghost use Rattle.std.specs.Prelude.{◌≡◌, ◌<◌, length};
     ghost use Rattle.cbm_machine.specs.Statuses.{status_line};
-    ghost use Rattle.cbm_machine.specs.Told.{Told};
+    ghost use Rattle.cbm_machine.specs.Told.{ToldStatus};
 
-    ghost Value = { Told };
+    ghost Value = { ToldStatus };
 
     ghost view = { λ t. record { status = t.status; told = t.told } };
 

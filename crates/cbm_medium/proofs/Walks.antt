@@ -4,7 +4,7 @@ use Rattle.std.proofs.lemmas.Bool.{lt-ltb, eq-eqb, ne_eqb, cases_eq}
 use Rattle.cbm_medium.specs.Place.{Place, Has, has, sectors_on}
 use Rattle.cbm_medium.specs.Content.{Cell, Content, written}
 use Rattle.cbm_medium.specs.declared.fault.Trouble.{Trouble}
-use Rattle.cbm_medium.specs.Links.{or_nothing, bytes_at, link, Leads, Chain, Stops, IsCut, Followed, ended, cut_at, with_block, behind, follow, AllSame, IsApart}
+use Rattle.cbm_medium.specs.Links.{or_nothing, bytes_at, link, LinksLead, Chain, Stops, IsCut, Followed, ended, cut_at, with_block, followed_after, follow, AllSame, IsApart}
 use Rattle.cbm_medium.proofs.Places.{written_elsewhere}
 
 pub has_true : (tracks : ℕ) (p : Place) → Has tracks p → has tracks p ≡ true
@@ -45,17 +45,17 @@ unfolding follow
 follow_full tracks content n a nz h e = ap (λ k. follow tracks content k a) e ∙ rw (ne_eqb a.track 0 nz, has_true tracks a h) refl
 
 pub follow_on : (tracks : ℕ) (content : Content) (m n : ℕ) (a : Place) → a.track ≢ 0 → Has tracks a → m ≡ suc n
-    → follow tracks content m a ≡ behind a (content a) (λ q. follow tracks content n q)
+    → follow tracks content m a ≡ followed_after a (content a) (λ q. follow tracks content n q)
 unfolding follow
 follow_on tracks content m n a nz h e = ap (λ k. follow tracks content k a) e ∙ rw (ne_eqb a.track 0 nz, has_true tracks a h) refl
 
 pub follow_fault : (tracks : ℕ) (content : Content) (m n : ℕ) (a : Place) (code : ℕ) → a.track ≢ 0 → Has tracks a → m ≡ suc n → content a ≡ Err code
     → follow tracks content m a ≡ cut_at code a
-follow_fault tracks content m n a code nz h e c = follow_on tracks content m n a nz h e ∙ ap (λ cell. behind a cell (λ q. follow tracks content n q)) c
+follow_fault tracks content m n a code nz h e c = follow_on tracks content m n a nz h e ∙ ap (λ cell. followed_after a cell (λ q. follow tracks content n q)) c
 
 pub follow_next : (tracks : ℕ) (content : Content) (m n : ℕ) (a : Place) (bytes : List ℕ) → a.track ≢ 0 → Has tracks a → m ≡ suc n → content a ≡ Ok bytes
     → follow tracks content m a ≡ with_block a (follow tracks content n (link bytes))
-follow_next tracks content m n a bytes nz h e c = follow_on tracks content m n a nz h e ∙ ap (λ cell. behind a cell (λ q. follow tracks content n q)) c
+follow_next tracks content m n a bytes nz h e c = follow_on tracks content m n a nz h e ∙ ap (λ cell. followed_after a cell (λ q. follow tracks content n q)) c
 
 -- ---- a chain is followed, and so is one that is cut
 
@@ -98,7 +98,7 @@ one_more tracks content most n p code (inr (inl w)) = inr (inl (w.0, w.1, omega 
 one_more tracks content most n p code (inr (inr w)) = inr (inr (w.0, omega (arith, w.1), w.2))
 
 leads_followed : (tracks : ℕ) (content : Content) (blocks : List Place) (n : ℕ) (a p : Place) (code : ℕ)
-    → Leads tracks content a blocks p → p.track ≢ 0 → length blocks ≤ n → Stops tracks content n (length blocks) p code
+    → LinksLead tracks content a blocks p → p.track ≢ 0 → length blocks ≤ n → Stops tracks content n (length blocks) p code
     → follow tracks content n a ≡ cut_of blocks code p
 leads_followed tracks content [] n a p code h nz k s = ap (λ q. follow tracks content n q) h ∙ stopped tracks content n p code nz s
 leads_followed tracks content (b ∷ rest) zero a p code h nz k s = absurd (omega arith)
@@ -109,8 +109,8 @@ leads_followed tracks content (b ∷ rest) (suc n) a p code h nz k s =
     going : b.track ≢ 0
     going e = omega (arith, h.1.0)
 
-    go : (cell : Cell) → content b ≡ cell → IsOk cell → Leads tracks content (link (or_nothing cell)) rest p
-        → ((q : Place) → Leads tracks content q rest p → follow tracks content n q ≡ cut_of rest code p)
+    go : (cell : Cell) → content b ≡ cell → IsOk cell → LinksLead tracks content (link (or_nothing cell)) rest p
+        → ((q : Place) → LinksLead tracks content q rest p → follow tracks content n q ≡ cut_of rest code p)
         → follow tracks content (suc n) b ≡ cut_of (b ∷ rest) code p
     go (Ok bytes) e ok tail more = follow_next tracks content (suc n) n b bytes going h.1 refl e ∙ ap (with_block b) (more (link bytes) tail)
     go (Err c) e ok tail more = absurd (cc)
@@ -140,7 +140,7 @@ met_on tracks content n a bytes blocks None nz h c m =
     ((refl, h, subst (λ (cell : Cell). IsOk cell) (sym c) refl, subst (λ (cell : Cell). Chain tracks content (link (or_nothing cell)) blocks) (sym c) m.0), omega (arith, m.1))
 met_on tracks content n a bytes blocks (Some t) nz h c m = record {
   at = m.at;
-  leads = (refl, h, subst (λ (cell : Cell). IsOk cell) (sym c) refl, subst (λ (cell : Cell). Leads tracks content (link (or_nothing cell)) blocks m.at) (sym c) m.leads);
+  leads = (refl, h, subst (λ (cell : Cell). IsOk cell) (sym c) refl, subst (λ (cell : Cell). LinksLead tracks content (link (or_nothing cell)) blocks m.at) (sym c) m.leads);
   number = omega (arith, m.number);
   going = m.going;
   named = m.named;

@@ -22,22 +22,22 @@ is_none_left (Some (suc n)) = false
 abbrev pub is_due : Countdown → Bool
 is_due c = if nat_lt c.failures (2 ^ 64 - 1) then is_none_left c.passes else false
 
-abbrev pub one_less : Option ℕ → Option ℕ
-one_less None = None
-one_less (Some zero) = Some 0
-one_less (Some (suc n)) = Some n
+abbrev pub one_pass_less : Option ℕ → Option ℕ
+one_pass_less None = None
+one_pass_less (Some zero) = Some 0
+one_pass_less (Some (suc n)) = Some n
 
 -- after a write that passed
 abbrev pub passed : Countdown → Countdown
-passed c = record c { passes = one_less c.passes }
+passed c = record c { passes = one_pass_less c.passes }
 
 -- a write error at a place
 abbrev pub write_error : Place → Trouble
 write_error at = record { code = 25; track = at.track; sector = at.sector }
 
 -- after a write to this place that was refused
-abbrev pub failed : Place → Countdown → Countdown
-failed at c = record c { passes = if c.all then c.passes else None; failures = c.failures + 1; refused = Some (write_error at) }
+abbrev pub count_failed : Place → Countdown → Countdown
+count_failed at c = record c { passes = if c.all then c.passes else None; failures = c.failures + 1; refused = Some (write_error at) }
 
 -- a medium with its countdown
 pub record Watched (M : Type 0) : Type 0 where
@@ -51,7 +51,7 @@ seen_by seen w = record (seen w.inner) { failures = w.countdown.failures; refuse
 -- the countdown after a write to a place; one that is refused for what the medium shows (why) isn't counted
 abbrev pub after_write : Option ℕ → Place → Countdown → Countdown
 after_write (Some code) at c = c
-after_write None at c = if is_due c then failed at c else passed c
+after_write None at c = if is_due c then count_failed at c else passed c
 
 -- What a write makes of the countdown, and what it answers at this place where the medium shows nothing that refuses it:
 -- 25 where the countdown is due, else Ok.

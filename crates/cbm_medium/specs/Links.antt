@@ -21,10 +21,10 @@ abbrev pub link : List ℕ → Place
 link bytes = place_in bytes 0
 
 -- From a, these sectors link each to the next one, and the last to this end.
-abbrev pub Leads : ℕ → Content → Place → List Place → Place → Type 0
-Leads tracks content a [] end = a ≡ end
-Leads tracks content a (b ∷ rest) end =
-    (a ≡ b) × Has tracks b × IsOk (content b) × Leads tracks content (link (bytes_at content b)) rest end
+abbrev pub LinksLead : ℕ → Content → Place → List Place → Place → Type 0
+LinksLead tracks content a [] end = a ≡ end
+LinksLead tracks content a (b ∷ rest) end =
+    (a ≡ b) × Has tracks b × IsOk (content b) × LinksLead tracks content (link (bytes_at content b)) rest end
 
 -- These are the sectors of a chain that begins at a: the last one links to track 0, and from track 0 there are none.
 abbrev pub Chain : ℕ → Content → Place → List Place → Type 0
@@ -42,7 +42,7 @@ Stops tracks content most n p code =
 -- From a on these sectors are met, at most this many, and then this trouble.
 pub record IsCut (tracks : ℕ) (content : Content) (most : ℕ) (a : Place) (blocks : List Place) (t : Trouble) : Type 0 where
   pub at : Place
-  pub leads : Leads tracks content a blocks at
+  pub leads : LinksLead tracks content a blocks at
   pub number : length blocks ≤ most
   pub going : at.track ≢ 0
   pub named : t ≡ record { code = t.code; track = at.track; sector = at.sector }
@@ -63,9 +63,9 @@ abbrev pub with_block : Place → Followed → Followed
 with_block p f = record { blocks = p ∷ f.blocks; trouble = f.trouble }
 
 -- what a cell gives, and what its link gives
-abbrev pub behind : Place → Cell → (Place → Followed) → Followed
-behind p (Err code) rest = cut_at code p
-behind p (Ok bytes) rest = with_block p (rest (link bytes))
+abbrev pub followed_after : Place → Cell → (Place → Followed) → Followed
+followed_after p (Err code) rest = cut_at code p
+followed_after p (Ok bytes) rest = with_block p (rest (link bytes))
 
 -- What following links from a place on meets, where this many sectors are left.
 unfoldable pub follow : ℕ → Content → ℕ → Place → Followed
@@ -73,7 +73,7 @@ follow tracks content zero p =
     if p.track == 0 then ended [] else if has tracks p then cut_at 71 p else cut_at 66 p
 follow tracks content (suc n) p =
     if p.track == 0 then ended []
-    else if has tracks p then behind p (content p) (λ q. follow tracks content n q)
+    else if has tracks p then followed_after p (content p) (λ q. follow tracks content n q)
     else cut_at 66 p
 
 -- these sectors are byte for byte as they were

@@ -1,7 +1,7 @@
 ghost use Rattle.std.specs.Prelude.{◌≡◌, ◌≤◌, Some, true, OnOk, IfErr, IfSome};
 ghost use Rattle.cbm_medium.specs.Place.{directory_head};
 ghost use Rattle.cbm_medium.specs.Content.{written, blank, format_refusal};
-ghost use Rattle.cbm_medium.specs.Countdown.{is_due, passed, failed, seen_by, CountsDown};
+ghost use Rattle.cbm_medium.specs.Countdown.{is_due, passed, count_failed, seen_by, CountsDown};
 ghost use Rattle.cbm_medium.specs.Seen.{with_content, formatted_as, write_refusal, IsRefused};
 
 use crate::address::Address;
@@ -86,7 +86,7 @@ impl<M: Steady> Failing<M> {
     /// Counts a refusal, and answers it.
     fn fail(&mut self, at: Address) -> Fault
         requires { is_due self.old.countdown ≡ true }
-        ensures failed { self.new ≡ record self.old { countdown = failed at self.old.countdown } }
+        ensures failed { self.new ≡ record self.old { countdown = count_failed at self.old.countdown } }
         ensures fault { result ≡ record { code = 25; at = at } }
     {
         if !self.all {

@@ -1,9 +1,9 @@
 -- What each act of a machine keeps, a bus keeps as long as it plays.
 use Rattle.std.proofs.Common.{ℕ, Bool, List, [], ◌∷◌, ◌++◌, map, Option, Some, None, sym, subst}
 use Rattle.cbm_iec.specs.Machines.{acted}
-use Rattle.cbm_iec.specs.declared.act.Act.{Act}
+use Rattle.cbm_iec.specs.declared.machine.Act.{Act}
 use Rattle.cbm_iec.specs.declared.event.Event.{Event}
-use Rattle.cbm_iec.specs.declared.line.Change.{Change}
+use Rattle.cbm_iec.specs.declared.lines.Change.{Change}
 use Rattle.cbm_session.specs.Playing.{Station, Plays, stays, change, reaction, tell, hear, hear_all, react, shown}
 
 module _ (M : Type 0) (step : M → Act → M) (says : M → Option (ℕ × Bool)) (P : M → Type 0) (kept : (m : M) (act : Act) → P m → P (step m act)) where

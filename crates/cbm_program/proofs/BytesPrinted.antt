@@ -10,7 +10,7 @@ use Rattle.cbm_medium.specs.Seen.{Seen}
 use Rattle.cbm_host.specs.Engines.{channel_of}
 use Rattle.cbm_host.specs.Hosted.{Hosting, AreFirst, Rests, IsUnderWay, IsGoingOn, IsOver}
 use Rattle.cbm_host.specs.Performers.{Performing}
-use Rattle.cbm_host.specs.Served.{Said, served, talked_at, IsModest}
+use Rattle.cbm_host.specs.Served.{TalkSaid, served, talked_at, IsModest}
 use Rattle.cbm_host.specs.declared.request.Request as asks
 use Rattle.cbm_program.specs.Output.{AppendsPart}
 use Rattle.cbm_program.specs.Scripts.{hex, eoi_mark, bytes_text, get_line}
@@ -132,7 +132,7 @@ module _ {M : Type 0} (seen : M → Seen) where
 
 -- ---- the whole line
 
-none_line : (ch : ℕ) (said : Said) → [] ≡ said.bytes → get_line ch said ≡ get_head ch (codes " none\n")
+none_line : (ch : ℕ) (said : TalkSaid) → [] ≡ said.bytes → get_line ch said ≡ get_head ch (codes " none\n")
 none_line ch said e =
     ap (λ l. codes "get " ++ decimal ch ++ codes " " ++ bytes_text l said.marked ++ codes "\n") (sym e)
     ∙ (append_assoc (codes "get " ++ decimal ch ++ codes " ") (codes "none") (codes "\n") ∙ append_assoc (codes "get " ++ decimal ch) (codes " ") (codes "none\n"))
@@ -140,21 +140,21 @@ none_line ch said e =
 text_of_some : (bytes : List ℕ) (marked : Bool) (x : ℕ) (rest : List ℕ) → bytes ≡ x ∷ rest → bytes_text bytes marked ≡ said_text bytes marked
 text_of_some bytes marked x rest e = rw e refl
 
-some_line : (ch : ℕ) (said : Said) (x : ℕ) (rest : List ℕ) → said.bytes ≡ x ∷ rest → get_line ch said ≡ (get_head ch (codes " ") ++ said_text said.bytes said.marked) ++ codes "\n"
+some_line : (ch : ℕ) (said : TalkSaid) (x : ℕ) (rest : List ℕ) → said.bytes ≡ x ∷ rest → get_line ch said ≡ (get_head ch (codes " ") ++ said_text said.bytes said.marked) ++ codes "\n"
 some_line ch said x rest e = ap (λ t. codes "get " ++ decimal ch ++ codes " " ++ t ++ codes "\n") (text_of_some said.bytes said.marked x rest e)
 
-pub line_none : (a b : Option (List ℕ)) (ch : ℕ) (said : Said) → [] ≡ said.bytes → Appends a b (get_head ch (codes " none\n")) → Appends a b (get_line ch said)
+pub line_none : (a b : Option (List ℕ)) (ch : ℕ) (said : TalkSaid) → [] ≡ said.bytes → Appends a b (get_head ch (codes " none\n")) → Appends a b (get_line ch said)
 line_none a b ch said e written = subst (λ t. Appends a b t) (sym (none_line ch said e)) written
 
-pub line_none_part : (a b : Option (List ℕ)) (ch : ℕ) (said : Said) → [] ≡ said.bytes → AppendsPart a b (get_head ch (codes " none\n")) → AppendsPart a b (get_line ch said)
+pub line_none_part : (a b : Option (List ℕ)) (ch : ℕ) (said : TalkSaid) → [] ≡ said.bytes → AppendsPart a b (get_head ch (codes " none\n")) → AppendsPart a b (get_line ch said)
 line_none_part a b ch said e written = subst (λ t. AppendsPart a b t) (sym (none_line ch said e)) written
 
-pub line_head_part : (a b : Option (List ℕ)) (ch x : ℕ) (l : Bool) (said : Said) → AreFirst (x ∷ []) l said.bytes said.marked → AppendsPart a b (get_head ch (codes " ")) → AppendsPart a b (get_line ch said)
+pub line_head_part : (a b : Option (List ℕ)) (ch x : ℕ) (l : Bool) (said : TalkSaid) → AreFirst (x ∷ []) l said.bytes said.marked → AppendsPart a b (get_head ch (codes " ")) → AppendsPart a b (get_line ch said)
 line_head_part a b ch x l said f part =
     subst (λ t. AppendsPart a b t) (sym (some_line ch said x f.more f.front))
     (part_before a b (get_head ch (codes " ") ++ said_text said.bytes said.marked) (codes "\n") (part_before a b (get_head ch (codes " ")) (said_text said.bytes said.marked) part))
 
-pub line_byte_part : (a b c : Option (List ℕ)) (ch x : ℕ) (l : Bool) (said : Said) → AreFirst (x ∷ []) l said.bytes said.marked → Appends a b (get_head ch (codes " ")) → AppendsPart b c (unit_text (Some (x, l))) → AppendsPart a c (get_line ch said)
+pub line_byte_part : (a b c : Option (List ℕ)) (ch x : ℕ) (l : Bool) (said : TalkSaid) → AreFirst (x ∷ []) l said.bytes said.marked → Appends a b (get_head ch (codes " ")) → AppendsPart b c (unit_text (Some (x, l))) → AppendsPart a c (get_line ch said)
 line_byte_part a b c ch x l said f head part =
     let more = begins (x ∷ []) l said.bytes said.marked f in
     subst (λ t. AppendsPart a c t) (sym (some_line ch said x f.more f.front))
@@ -162,7 +162,7 @@ line_byte_part a b c ch x l said f head part =
     (part_behind a b c (get_head ch (codes " ")) (said_text said.bytes said.marked) head
     (subst (λ t. AppendsPart b c t) (ap (λ t. t ++ more.0) (unit_is x l) ∙ sym more.1) (part_before b c (unit_text (Some (x, l))) more.0 part))))
 
-pub line_rest_part : (a b c d : Option (List ℕ)) (ch x : ℕ) (l : Bool) (said : Said) → AreFirst (x ∷ []) l said.bytes said.marked → Appends a b (get_head ch (codes " ")) → Appends b c (unit_text (Some (x, l)))
+pub line_rest_part : (a b c d : Option (List ℕ)) (ch x : ℕ) (l : Bool) (said : TalkSaid) → AreFirst (x ∷ []) l said.bytes said.marked → Appends a b (get_head ch (codes " ")) → Appends b c (unit_text (Some (x, l)))
     → PrintsRestPart c d (x ∷ []) l said → AppendsPart a d (get_line ch said)
 line_rest_part a b c d ch x l said f head unit rest =
     subst (λ t. AppendsPart a d t) (sym (some_line ch said x f.more f.front))
@@ -177,18 +177,18 @@ rest_at a b x l channel most m e f same = subst (λ (v : Pace). PrintsRest a b (
 pub rest_part_at : (a b : Option (List ℕ)) (x : ℕ) (l : Bool) (channel most : ℕ) (m : Machine) (e f : Pace) → e ≡ f → PrintsRestPart a b (x ∷ []) l (talked_at e channel most m) → PrintsRestPart a b (x ∷ []) l (talked_at f channel most m)
 rest_part_at a b x l channel most m e f same = subst (λ (v : Pace). PrintsRestPart a b (x ∷ []) l (talked_at v channel most m)) same
 
-all_bytes : (a b c d : Option (List ℕ)) (ch x : ℕ) (l : Bool) (said : Said) → Appends a b (get_head ch (codes " ")) → Appends b c (unit_text (Some (x, l))) → PrintsRest c d (x ∷ []) l said → Appends a d (get_head ch (codes " ") ++ said_text said.bytes said.marked)
+all_bytes : (a b c d : Option (List ℕ)) (ch x : ℕ) (l : Bool) (said : TalkSaid) → Appends a b (get_head ch (codes " ")) → Appends b c (unit_text (Some (x, l))) → PrintsRest c d (x ∷ []) l said → Appends a d (get_head ch (codes " ") ++ said_text said.bytes said.marked)
 all_bytes a b c d ch x l said head unit rest =
     appends-more a b d (get_head ch (codes " ")) (said_text said.bytes said.marked) head
     (subst (λ t. Appends b d t) (ap (λ t. t ++ rest.rest) (unit_is x l) ∙ sym rest.whole) (appends-more b c d (unit_text (Some (x, l))) rest.rest unit rest.written))
 
-pub line_all : (a b c d e : Option (List ℕ)) (ch x : ℕ) (l : Bool) (said : Said) → AreFirst (x ∷ []) l said.bytes said.marked → Appends a b (get_head ch (codes " ")) → Appends b c (unit_text (Some (x, l))) → PrintsRest c d (x ∷ []) l said
+pub line_all : (a b c d e : Option (List ℕ)) (ch x : ℕ) (l : Bool) (said : TalkSaid) → AreFirst (x ∷ []) l said.bytes said.marked → Appends a b (get_head ch (codes " ")) → Appends b c (unit_text (Some (x, l))) → PrintsRest c d (x ∷ []) l said
     → Appends d e (codes "\n") → Appends a e (get_line ch said)
 line_all a b c d e ch x l said f head unit rest end =
     subst (λ t. Appends a e t) (sym (some_line ch said x f.more f.front))
     (appends-more a d e (get_head ch (codes " ") ++ said_text said.bytes said.marked) (codes "\n") (all_bytes a b c d ch x l said head unit rest) end)
 
-pub line_end_part : (a b c d e : Option (List ℕ)) (ch x : ℕ) (l : Bool) (said : Said) → AreFirst (x ∷ []) l said.bytes said.marked → Appends a b (get_head ch (codes " ")) → Appends b c (unit_text (Some (x, l))) → PrintsRest c d (x ∷ []) l said
+pub line_end_part : (a b c d e : Option (List ℕ)) (ch x : ℕ) (l : Bool) (said : TalkSaid) → AreFirst (x ∷ []) l said.bytes said.marked → Appends a b (get_head ch (codes " ")) → Appends b c (unit_text (Some (x, l))) → PrintsRest c d (x ∷ []) l said
     → AppendsPart d e (codes "\n") → AppendsPart a e (get_line ch said)
 line_end_part a b c d e ch x l said f head unit rest part =
     subst (λ t. AppendsPart a e t) (sym (some_line ch said x f.more f.front))

@@ -9,7 +9,7 @@ use Rattle.cbm_command.specs.declared.opening.Mode.{Mode}
 use Rattle.cbm_command.specs.declared.opening.Wanted.{Wanted}
 use Rattle.cbm_command.specs.declared.opening.Opening.{Opening}
 use Rattle.cbm_command.specs.declared.opening.Opening.TheVariants as opening
-use Rattle.cbm_command.specs.Openings.{is_relative, opening_of}
+use Rattle.cbm_command.specs.Openings.{wants_relative, opening_of}
 use Rattle.cbm_command.specs.Commands.{command_of}
 use Rattle.cbm_file.specs.declared.file_type.FileType.{FileType}
 use Rattle.cbm_machine.specs.declared.code.Code.{Code}
@@ -19,11 +19,11 @@ use Rattle.cbm_machine.specs.Closing.{put_on, with_some_byte, finish_on, without
 use Rattle.cbm_machine.specs.Finding.{is_kind, is_there, found, body_at}
 use Rattle.cbm_file.specs.Changes.{has_slot}
 use Rattle.cbm_file.specs.declared.file_type.FileType.TheVariants.{Del, Rel}
-use Rattle.cbm_machine.specs.Machines.{Channel, Closed, Reading, Writing, Stopped, Relative, Machine, start, with_channel, channel, say, tell, with_disk, answered, in_writing, in_use}
+use Rattle.cbm_machine.specs.Machines.{Channel, Closed, Reading, Writing, Stopped, Relative, Machine, start, with_channel, channel, say, with_status, with_disk, answered, in_writing, in_use}
 use Rattle.cbm_machine.specs.Plans.{Plan, ReadListing, ReadFile, WriteFile, AppendFile, ReplaceFile, OpenRecords, MakeRecords, plan_read, plan_write, plan_append, plan_replace, plan_writing, plan_there, plan_missing, plan_relative, plan_by_mode, plan, act, asked, open_text}
-use Rattle.cbm_machine.specs.Records.{written, grown_to, write_record, record_at, blocks_for, sides_for, with_sized_body, record_count, fresh_record, with_body, with_bytes}
+use Rattle.cbm_machine.specs.Records.{with_written_record, grown_to, write_record, record_at, blocks_for, sides_for, with_sized_body, record_count, fresh_record, with_body, with_bytes}
 use Rattle.cbm_machine.specs.Running.{may_go, kept_slots, scratched_disk, scratch, rename_to, sources, copied, place, run}
-use Rattle.cbm_machine.specs.Talking.{taken_on, taken, only_refused, talk_refusal, talk, talk_keeping_error, listen_refusal, listen}
+use Rattle.cbm_machine.specs.Talking.{taken_on, taken, only_refused, talk_refusal, after_talk, talk_keeping_error, listen_refusal, after_listen}
 
 -- the channel has no file to be written
 abbrev pub IsUnwritten : Channel → Type 0
@@ -169,13 +169,13 @@ module _ (d : Disk) where
   refused_only None m g = g
   refused_only (Some code) m g = g
 
-  pub talks : (ch : ℕ) (m : Machine) → IsGuarded d m → IsGuarded d (talk ch m)
+  pub talks : (ch : ℕ) (m : Machine) → IsGuarded d m → IsGuarded d (after_talk ch m)
   talks ch m g = if_both (IsGuarded d) (ch == 15) m (only_refused (talk_refusal m.disk (channel m ch)) m) g (refused_only (talk_refusal m.disk (channel m ch)) m g)
 
   pub talks_keeping : (ch : ℕ) (m : Machine) → IsGuarded d m → IsGuarded d (talk_keeping_error ch m)
-  talks_keeping ch m g = if_both (IsGuarded d) _ m (talk ch m) g (talks ch m g)
+  talks_keeping ch m g = if_both (IsGuarded d) _ m (after_talk ch m) g (talks ch m g)
 
-  pub listens : (ch : ℕ) (m : Machine) → IsGuarded d m → IsGuarded d (listen ch m)
+  pub listens : (ch : ℕ) (m : Machine) → IsGuarded d m → IsGuarded d (after_listen ch m)
   listens ch m g = if_both (IsGuarded d) (ch == 15) m (only_refused (listen_refusal (channel m ch)) m) g (refused_only (listen_refusal (channel m ch)) m g)
 
   pub puts_one : (ch b : ℕ) (m : Machine) → IsGuarded d m → IsGuarded d (put ch b m)
@@ -227,7 +227,7 @@ module _ (d : Disk) where
 
   plans : (ch : ℕ) (o : Opening) (m : Machine) → IsGuarded d m → OfOk IsHarmless (plan ch o m)
   plans ch (opening.Listing pattern) m g = skip IsHarmless _ _ _ (done IsHarmless _ tt)
-  plans ch (opening.File w) m g = skip IsHarmless _ _ _ (if_both (OfOk IsHarmless) (is_relative w) (plan_relative ch w m) (plan_by_mode w.mode w m) (relative ch w m g) (by_mode w.mode w m g))
+  plans ch (opening.File w) m g = skip IsHarmless _ _ _ (if_both (OfOk IsHarmless) (wants_relative w) (plan_relative ch w m) (plan_by_mode w.mode w m) (relative ch w m g) (by_mode w.mode w m g))
 
   acts : (ch : ℕ) (p : Plan) (m : Machine) → IsGuarded d m → IsHarmless p → IsGuarded d (act ch p m)
   acts ch (ReadListing pattern) m g h = with_one m ch _ g tt
@@ -265,7 +265,7 @@ module _ (d : Disk) where
       by (Bytes bytes) = record { so = (refl, tt) }
       by (Records l rs b sides) = skip (λ (n : Machine). (n ≡ m) × IsBytes (Records l rs b sides)) _ _ _ (stop (λ (n : Machine). (n ≡ m) × IsBytes (Records l rs b sides)) _ _ _ g.0)
 
-  writes_bytes : (ch s k p : ℕ) (bytes : List ℕ) (m : Machine) → IsGuarded d m → IsBytes (body_at m.disk s) → IsGuarded d (written ch s k p bytes m)
+  writes_bytes : (ch s k p : ℕ) (bytes : List ℕ) (m : Machine) → IsGuarded d m → IsBytes (body_at m.disk s) → IsGuarded d (with_written_record ch s k p bytes m)
   writes_bytes ch s k p bytes m g h = by (body_at m.disk s) h
     where
       by : (body : Body) → IsBytes body → IsGuarded d (elim body [
@@ -286,10 +286,10 @@ module _ (d : Disk) where
   writes_record ch (Relative s k p) bytes m g =
       let there = is_some (record_at (body_at m.disk s) k) in
       let first = if there then unless ((m.protected, WriteProtected) ∷ []) (Ok m) else grown_to s k m in
-      answers m (first >>= λ n. Ok (written ch s k p bytes n)) g
-      (binds (λ (n : Machine). (n ≡ m) × IsBytes (body_at m.disk s)) (IsGuarded d) first (λ n. Ok (written ch s k p bytes n))
+      answers m (first >>= λ n. Ok (with_written_record ch s k p bytes n)) g
+      (binds (λ (n : Machine). (n ≡ m) × IsBytes (body_at m.disk s)) (IsGuarded d) first (λ n. Ok (with_written_record ch s k p bytes n))
       (if_both (OfOk (λ (n : Machine). (n ≡ m) × IsBytes (body_at m.disk s))) there (unless ((m.protected, WriteProtected) ∷ []) (Ok m)) (grown_to s k m) (stop (λ (n : Machine). (n ≡ m) × IsBytes (body_at m.disk s)) _ _ _ g.0) (grows s k m g))
-      (λ n h. done (IsGuarded d) _ (subst (λ (x : Machine). IsGuarded d (written ch s k p bytes x)) (sym h.0) (writes_bytes ch s k p bytes m g h.1))))
+      (λ n h. done (IsGuarded d) _ (subst (λ (x : Machine). IsGuarded d (with_written_record ch s k p bytes x)) (sym h.0) (writes_bytes ch s k p bytes m g h.1))))
 
   -- ---- commands
 
@@ -327,7 +327,7 @@ module _ (d : Disk) where
       count : ℕ
       count = length (files m.disk) - length (files (scratched_disk m ps))
 
-      by : (b : Bool) → nat_lt 0 count ≡ b → OfOk (IsGuarded d) (unless ((b && m.protected, WriteProtected) ∷ []) (Ok (tell (record { code = FilesScratched; first = count; second = 0 }) (with_disk (scratched_disk m ps) m))))
+      by : (b : Bool) → nat_lt 0 count ≡ b → OfOk (IsGuarded d) (unless ((b && m.protected, WriteProtected) ∷ []) (Ok (with_status (record { code = FilesScratched; first = count; second = 0 }) (with_disk (scratched_disk m ps) m))))
       by true e = stop (IsGuarded d) _ _ _ g.0
       by false e = done (IsGuarded d) _ (g.0, same_disk m ps e ∙ g.1, g.2)
 

@@ -3,27 +3,27 @@ use Rattle.std.proofs.Common.{◌≡◌, ℕ, zero, suc, Bool, true, false, List
 use Rattle.cbm_medium.specs.Content.{Content}
 use Rattle.cbm_volume.specs.Holding.{HoldsDisk}
 use Rattle.cbm_file.specs.Files.{Disk}
-use Rattle.cbm_iec.specs.declared.act.Act.{Act}
-use Rattle.cbm_iec.specs.declared.act.Act.TheVariants.{Pulled, Attention, Released, Heard, Said, Silent}
+use Rattle.cbm_iec.specs.declared.machine.Act.{Act}
+use Rattle.cbm_iec.specs.declared.machine.Act.TheVariants.{Pulled, Attention, Released, Heard, Said, Silent}
 use Rattle.cbm_iec.specs.declared.pace.Pace.{Pace}
 use Rattle.cbm_iec.specs.declared.pace.Pace.TheVariants.{Profile, Kernal}
 use Rattle.cbm_iec.specs.declared.party.Party.{Party}
 use Rattle.cbm_iec.specs.declared.party.Role.{Role}
 use Rattle.cbm_iec.specs.declared.party.Role.TheVariants.{Absent, Listener, Talker}
 use Rattle.cbm_machine.specs.Statuses.{status_line}
-use Rattle.cbm_machine.specs.Talking.{peek, talk, taken}
-use Rattle.cbm_drive.specs.Addressing.{secondary_of, channel_heard, channel_said, ended}
+use Rattle.cbm_machine.specs.Talking.{peek, after_talk, taken}
+use Rattle.cbm_drive.specs.Addressing.{secondary_of, channel_heard, channel_said, channel_ended}
 use Rattle.cbm_drive.specs.Desks.{Desk, talked_to, seconded, ending, put_to, taken_from, desk_step, desk_says}
 use Rattle.cbm_machine.specs.Machines.{Machine}
-use Rattle.cbm_drive.specs.declared.ended.Ended.{Ended}
-use Rattle.cbm_drive.specs.declared.ended.Ended.TheVariants.{Name, Bytes}
+use Rattle.cbm_drive.specs.declared.addressee.ended.Ended.{Ended}
+use Rattle.cbm_drive.specs.declared.addressee.ended.Ended.TheVariants.{Name, Bytes}
 use Rattle.cbm_drive.specs.declared.secondary.Secondary.{Secondary}
 use Rattle.cbm_drive.specs.declared.secondary.Secondary.TheVariants.{Data, Close, Open}
 use Rattle.cbm_host.specs.Served as served
-use Rattle.cbm_host.specs.Served.{puts, hear, says, talked_at, status_said}
+use Rattle.cbm_host.specs.Served.{puts, hear_bytes, says, talked_at, status_said}
 use Rattle.cbm_program.proofs.Along.{kept_along}
 use Rattle.cbm_program.proofs.Guarded.{IsGuarded, guarded_start, if_both, closes, takes, talks, talks_keeping, listens, puts_one, opens, ends_put}
-use Rattle.cbm_program.specs.Outcome.{IsServed}
+use Rattle.cbm_program.specs.Outcome.{IsScriptServed}
 use Rattle.cbm_program.proofs.TraceLemmas.{Left}
 use Rattle.cbm_program.specs.Starts.{StartsOn}
 use Rattle.cbm_program.specs.Running.{script_of}
@@ -43,14 +43,14 @@ module _ (d : Disk) where
   puts_all ch [] m g = g
   puts_all ch (b ∷ bytes) m g = puts_all ch bytes _ (puts_one d ch b m g)
 
-  hears : (ch : ℕ) (bytes : List ℕ) (m : Machine) → IsGuarded d m → IsGuarded d (hear ch bytes m)
+  hears : (ch : ℕ) (bytes : List ℕ) (m : Machine) → IsGuarded d m → IsGuarded d (hear_bytes ch bytes m)
   hears ch bytes m g = ends_put d ch _ (puts_all ch bytes _ (listens d ch m g))
 
   talks_at : (pace : Pace) (ch : ℕ) (m : Machine) → IsGuarded d m → IsGuarded d (talked_to pace ch m)
   talks_at Profile ch m g = talks d ch m g
   talks_at Kernal ch m g = talks_keeping d ch m g
 
-  abbrev said_by : ℕ → ℕ → List ℕ → Machine → Option (ℕ × Bool) → served.Said
+  abbrev said_by : ℕ → ℕ → List ℕ → Machine → Option (ℕ × Bool) → served.TalkSaid
   said_by n ch so_far m None = record { bytes = so_far; marked = false; machine = m }
   said_by n ch so_far m (Some p) =
       if p.1 then record { bytes = so_far ++ p.0 ∷ []; marked = true; machine = taken ch m }
@@ -62,7 +62,7 @@ module _ (d : Disk) where
     where
       by : (o : Option (ℕ × Bool)) → ((bytes : List ℕ) → IsGuarded d (says n ch bytes (taken ch m)).machine) → IsGuarded d (said_by n ch so_far m o).machine
       by None on = g
-      by (Some p) on = if_both (λ (s : served.Said). IsGuarded d s.machine) p.1 (record { bytes = so_far ++ p.0 ∷ []; marked = true; machine = taken ch m }) (says n ch (so_far ++ p.0 ∷ []) (taken ch m)) (takes d ch m g) (on (so_far ++ p.0 ∷ []))
+      by (Some p) on = if_both (λ (s : served.TalkSaid). IsGuarded d s.machine) p.1 (record { bytes = so_far ++ p.0 ∷ []; marked = true; machine = taken ch m }) (says n ch (so_far ++ p.0 ∷ []) (taken ch m)) (takes d ch m g) (on (so_far ++ p.0 ∷ []))
 
   one : (pace : Pace) (r : asks.ScriptRequest) (m : Machine) → IsGuarded d m → IsGuarded d (printed_by pace r m).machine
   one pace (request.Open ch text) m g = opens d ch text.items m g
@@ -70,7 +70,7 @@ module _ (d : Disk) where
   one pace (request.Fill ch n b) m g = hears ch (replicate n b) m g
   one pace (request.Get ch most) m g = says_all most ch [] (talked_to pace ch m) (talks_at pace ch m g)
   one pace (request.Close ch) m g = closes d ch m g
-  one pace request.Status m g = says_all (length (status_line m.status)) 15 [] (talk 15 m) (talks d 15 m g)
+  one pace request.Status m g = says_all (length (status_line m.status)) 15 [] (after_talk 15 m) (talks d 15 m g)
 
   all : (pace : Pace) (rs : List asks.ScriptRequest) (m : Machine) → IsGuarded d m → IsGuarded d (printed pace rs m).machine
   all pace [] m g = g
@@ -103,7 +103,7 @@ module _ (d : Disk) where
   said_on (Some ch) m g = takes d ch m g
 
   steps : (k : Desk Machine) (act : Act) → IsGuarded d k.dos → IsGuarded d (desk_step k act).dos
-  steps k Pulled g = ends (ended k.addressed) k.addressed.name k.dos g
+  steps k Pulled g = ends (channel_ended k.addressed) k.addressed.name k.dos g
   steps k (Attention byte) g = seconds k.addressed.pace (secondary_of byte) k.addressed.role k.dos g
   steps k Released g = g
   steps k (Heard byte eoi) g = heard_on k.addressed.naming (channel_heard k.addressed.role k.addressed.channel) byte k.dos g
@@ -120,8 +120,8 @@ module _ (tracks : ℕ) (content : Content) (protected : Bool) (is : protected �
   holds m n s g = subst (λ (x : Disk). HoldsDisk tracks content x) (sym g.1) s.1
 
   -- what was held before, is held after the script
-  pub kept-behind : (pace : Pace) (checks : Bool) (a b x : Option (List ℕ)) (now : Machine → Type 0) → IsServed pace checks x a b (StartsOn tracks content protected) now
-      → IsServed pace checks x a b (StartsOn tracks content protected) (λ m. HoldsDisk tracks content m.disk)
+  pub kept-behind : (pace : Pace) (checks : Bool) (a b x : Option (List ℕ)) (now : Machine → Type 0) → IsScriptServed pace checks x a b (StartsOn tracks content protected) now
+      → IsScriptServed pace checks x a b (StartsOn tracks content protected) (λ m. HoldsDisk tracks content m.disk)
   kept-behind pace checks a b None now h = tt
   kept-behind pace checks a b (Some xs) now h = λ m s. ((h m s).0, holds m (printed pace (script_of xs).requests m).machine s (all s.0 pace (script_of xs).requests m (starts m s)))
 

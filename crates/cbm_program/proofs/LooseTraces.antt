@@ -1,6 +1,6 @@
 -- The trace of a script under a host that keeps the timing loosely.
 use Rattle.cbm_iec.specs.Ports.{port_due}
-use Rattle.cbm_iec.specs.declared.act.Act.{Act}
+use Rattle.cbm_iec.specs.declared.machine.Act.{Act}
 use Rattle.cbm_iec.specs.declared.event.Event.{Event}
 use Rattle.cbm_iec.specs.declared.party.Party.{Party}
 use Rattle.cbm_session.proofs.loose.Loosely.{keeps_loosely}

@@ -12,9 +12,9 @@ use Rattle.cbm_program.specs.declared.fault.RunFault.TheVariants.{Script, Image,
 use Rattle.cbm_program.specs.Beginnings.{NotTimed, FirstRead}
 use Rattle.cbm_program.specs.Checking.{checked_text}
 use Rattle.cbm_program.specs.Outcome.{ServesScript, PlaysScript, IsRun}
-use Rattle.cbm_program.specs.Output.{AppendsPart, Grows}
+use Rattle.cbm_program.specs.Output.{AppendsPart, AppendsMore}
 use Rattle.cbm_program.specs.Running.{EndsAs, EndsBy, IsOfScript, IsOfWriting}
-use Rattle.cbm_program.specs.Starts.{IsRefusal}
+use Rattle.cbm_program.specs.Starts.{IsRunRefusal}
 use Rattle.cbm_program.specs.Timetables.{of_requests, of_changes}
 use Rattle.cbm_program.specs.Traces.{WritesTrace, WritesBehind}
 use Rattle.cbm_program.proofs.LinePrints.{if_err}
@@ -40,10 +40,10 @@ module _ {A : Type 0} (r : Result A RunFault) (a b : Option (List ℕ)) (stood :
   plays-none drive checks = record { ended = ends-any r _ (λ bad. tt); disk = any-ok r; fault = if_err r tt }
 
   -- a trace, and no line of a check before it
-  writes-behind : (drive : Party) (input : Option (List ℕ)) → Grows a b → EndsAs r (WritesTrace drive input a b) → EndsAs r (λ bad. WritesBehind drive false input a b bad)
+  writes-behind : (drive : Party) (input : Option (List ℕ)) → AppendsMore a b → EndsAs r (WritesTrace drive input a b) → EndsAs r (λ bad. WritesBehind drive false input a b bad)
   writes-behind drive input grows w = ends-map r _ _ w (λ bad h. (a, (λ off. refl), grows_none a, h))
 
-  pub run-served : (pace : Pace) (device : ℕ) (x : Option (List ℕ)) → NotTimed x → ServesScript r stood holds pace false x a b → Grows a b → IsRun r stood holds pace device false x a b
+  pub run-served : (pace : Pace) (device : ℕ) (x : Option (List ℕ)) → NotTimed x → ServesScript r stood holds pace false x a b → AppendsMore a b → IsRun r stood holds pace device false x a b
   run-served pace device x n s grows = record {
     served = subst (λ o. ServesScript r stood holds pace false o a b) (sym (requests_are x n)) s;
     played = subst (λ o. PlaysScript r stood holds (party_of pace device) false o a b) (sym (no_changes x n)) (plays-none (party_of pace device) false);
@@ -52,7 +52,7 @@ module _ {A : Type 0} (r : Result A RunFault) (a b : Option (List ℕ)) (stood :
   }
 
   pub run-played : (pace : Pace) (device : ℕ) (x k : Option (List ℕ)) → TakesLine x k (codes "lines") → PlaysScript r stood holds (party_of pace device) false x a b → EndsAs r (WritesTrace (party_of pace device) x a b)
-      → Grows a b → IsRun r stood holds pace device false x a b
+      → AppendsMore a b → IsRun r stood holds pace device false x a b
   run-played pace device x k t p w grows = record {
     served = subst (λ o. ServesScript r stood holds pace false o a b) (sym (no_requests x k t)) (serves-none pace false);
     played = subst (λ o. PlaysScript r stood holds (party_of pace device) false o a b) (sym (changes_are x k t)) p;
@@ -80,7 +80,7 @@ run-first r f a y x k stood holds pace device same h e = record {
 
 -- ---- behind the line of a check
 
-pub run-behind : {A : Type 0} (r : Result A RunFault) (a b c x : Option (List ℕ)) (stood : Machine → Type 0) (holds : A → Machine → Type 0) (pace : Pace) (device : ℕ) (checks : Bool) → Said checks a b stood → (checks ≡ false → b ≡ a) → Grows a b
+pub run-behind : {A : Type 0} (r : Result A RunFault) (a b c x : Option (List ℕ)) (stood : Machine → Type 0) (holds : A → Machine → Type 0) (pace : Pace) (device : ℕ) (checks : Bool) → Said checks a b stood → (checks ≡ false → b ≡ a) → AppendsMore a b
     → IsRun r stood holds pace device false x b c → IsRun r stood holds pace device checks x a c
 run-behind r a b c x stood holds pace device checks said none grows run = record {
   served = record {
@@ -99,7 +99,7 @@ run-behind r a b c x stood holds pace device checks said none grows run = record
 
 -- the check's own line broke off
 pub run-cut : {A : Type 0} (r : Result A RunFault) (f : RunFault) (a b x : Option (List ℕ)) (stood : Machine → Type 0) (holds : A → Machine → Type 0) (pace : Pace) (device : ℕ) (checks : Bool) → r ≡ Err f → IsOfWriting f
-    → ((m : Machine) → stood m → AppendsPart a b (checked_text checks)) → Grows a b → IsRun r stood holds pace device checks x a b
+    → ((m : Machine) → stood m → AppendsPart a b (checked_text checks)) → AppendsMore a b → IsRun r stood holds pace device checks x a b
 run-cut r f a b x stood holds pace device checks e writing part grows = record {
   served = record { ended = outside r f _ e writing; disk = no-ok r f _ e; fault = if_err r (part-cut pace checks a b (of_requests x) stood part) };
   played = record { ended = outside r f _ e writing; disk = no-ok r f _ e; fault = if_err r (cut-text (checked_text checks) a b (of_changes x) stood (party_of pace device) part) };
@@ -137,7 +137,7 @@ run-refused r f a x stood holds pace device checks e no-end = record {
   grows = grows_none a;
 }
 
-refused-by : (why : Option ℕ) (f : RunFault) (P : Option ℕ → Type 0) → IsRefusal why f → EndsBy f P
+refused-by : (why : Option ℕ) (f : RunFault) (P : Option ℕ → Type 0) → IsRunRefusal why f → EndsBy f P
 refused-by why (Script line) P h = absurd h
 refused-by why (Image n) P h = tt
 refused-by why Memory P h = tt
@@ -145,7 +145,7 @@ refused-by why Reading P h = tt
 refused-by why Writing P h = tt
 
 -- such a fault is no end of a script
-pub refused-ends : {A : Type 0} (r : Result A RunFault) (f : RunFault) (why : Option ℕ) (P : Option ℕ → Type 0) → r ≡ Err f → IsRefusal why f → EndsAs r P
+pub refused-ends : {A : Type 0} (r : Result A RunFault) (f : RunFault) (why : Option ℕ) (P : Option ℕ → Type 0) → r ≡ Err f → IsRunRefusal why f → EndsAs r P
 refused-ends r f why P e h = subst (λ v. EndsAs v P) (sym e) (refused-by why f P h)
 
 not-image : (f : RunFault) (n : ℕ) → IsOfScript f → f ≡ Image n → ⊥

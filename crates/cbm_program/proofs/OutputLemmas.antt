@@ -2,13 +2,13 @@
 use Rattle.std.proofs.Common.{◌≡◌, ℕ, List, [], ◌++◌, take, drop, Option, ap, sym, ◌∙◌, append_assoc, append-nil, take-append-drop}
 use Rattle.std.specs.Io.KnownBytes.{Appends, Keeps}
 use Rattle.bus_traces.proofs.Appending.{appends-nothing, appends-more, appends-kept}
-use Rattle.cbm_program.specs.Output.{AppendsPart, Grows}
+use Rattle.cbm_program.specs.Output.{AppendsPart, AppendsMore}
 
 -- what only grows
-pub grows_none : (o : Option (List ℕ)) → Grows o o
+pub grows_none : (o : Option (List ℕ)) → AppendsMore o o
 grows_none o = ([], appends-nothing o)
 
-pub grows_on : (a b c : Option (List ℕ)) → Grows a b → Grows b c → Grows a c
+pub grows_on : (a b c : Option (List ℕ)) → AppendsMore a b → AppendsMore b c → AppendsMore a c
 grows_on a b c (xs, h) (ys, k) = (xs ++ ys, appends-more a b c xs ys h k)
 
 pub part_behind : (a b c : Option (List ℕ)) (xs ys : List ℕ) → Appends a b xs → AppendsPart b c ys → AppendsPart a c (xs ++ ys)
@@ -21,7 +21,7 @@ part_before a b xs ys (part, rest, k, e) = (part, rest ++ ys, k, ap (λ t. t ++ 
 pub whole_part : (a b : Option (List ℕ)) (xs : List ℕ) → Appends a b xs → AppendsPart a b xs
 whole_part a b xs h = (xs, [], h, sym (append-nil xs))
 
-pub grows_kept : (a b c : Option (List ℕ)) → Grows a b → Keeps b c → Grows a c
+pub grows_kept : (a b c : Option (List ℕ)) → AppendsMore a b → Keeps b c → AppendsMore a c
 grows_kept a b c (xs, h) k = (xs, appends-kept a b c xs h k)
 
 -- a write that took some of what is left

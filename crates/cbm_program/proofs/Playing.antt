@@ -5,7 +5,7 @@ use Rattle.std.specs.Prelude.{IfSome, Result, Err, codes}
 use Rattle.std.specs.Io.KnownBytes.{Appends, Keeps}
 use Rattle.cbm_iec.specs.Ports.{port_due}
 use Rattle.cbm_iec.specs.declared.event.Event.{Event}
-use Rattle.cbm_iec.specs.declared.line.Change.{Change}
+use Rattle.cbm_iec.specs.declared.lines.Change.{Change}
 use Rattle.cbm_iec.specs.declared.port.Port.{Port}
 use Rattle.cbm_medium.specs.Seen.{Seen}
 use Rattle.cbm_session.specs.Following.{IsInTime}
@@ -23,13 +23,13 @@ use Rattle.cbm_drive.specs.Players.{Turns, pending}
 use Rattle.cbm_drive.specs.Seats.{Seated, IsBusAt, AreInTime, AreLater, numbers}
 use Rattle.cbm_drive.proofs.Kept.{kept_after}
 use Rattle.bus_traces.specs.Lines.{lines_of, TakesLine}
-use Rattle.cbm_program.specs.Output.{AppendsPart, Grows}
+use Rattle.cbm_program.specs.Output.{AppendsPart, AppendsMore}
 use Rattle.cbm_program.specs.Running.{EndsAs}
-use Rattle.cbm_program.specs.Staging.{IsOpen, IsAt, IsBorne, IsFresh, PlaysOn, PlaysPart, Ends, ReplaysOn, ReplaysTo, tracks_in}
+use Rattle.cbm_program.specs.Staging.{IsOpen, IsAt, IsBorne, IsFresh, PlaysOn, PlaysPart, Ends, ReplaysOn, ReplaysTo, tracks_of_drives}
 use Rattle.cbm_program.specs.TimedReading.{ReadsTimed, LacksTimed, TimedRead, IsBadBehind, BehindRead}
 use Rattle.cbm_program.specs.Timetables.{Timetable, timetable_of, timetable_from, timed_meaning, with_timed, stopped_at, ended_at, latest_if, bad_behind}
 use Rattle.bus_traces.specs.Events.{trace_text}
-use Rattle.cbm_program.specs.Traces.{PrintsTrace, PrintsTracePart, powered, replaying, machines_of, HasWritten, WritesTrace}
+use Rattle.cbm_program.specs.Traces.{PrintsTrace, PrintsTracePart, trace_powered, replaying, machines_of, HasWritten, WritesTrace}
 use Rattle.cbm_program.specs.declared.fault.RunFault.{RunFault}
 use Rattle.cbm_program.specs.declared.fault.RunFault.TheVariants.{Script, Image, Memory, Reading, Writing}
 use Rattle.cbm_program.specs.declared.wires.timed.Timed.{Timed}
@@ -150,8 +150,8 @@ module _ {M : Type 0} (seen : M → Seen) where
     pub opened : IsOpen q from
     pub small : from ≤ 1000000000000000
     pub few : n ≤ 1000001
-    pub tracks : tracks_in seen y ≡ tracks_in seen x
-    pub grown : Grows a b
+    pub tracks : tracks_of_drives seen y ≡ tracks_of_drives seen x
+    pub grown : AppendsMore a b
 
   pub timing_start : (a input left : Option (List ℕ)) (p : Turns) (x : Cabled (Desk (Kept M))) → PlaysOn seen a a [] p x p x → TakesLine input left (codes "lines") → Timing a a input left 2 0 p x p x
   timing_start a input left p x none t = record { done = []; follows = follows_start input left t; last = refl; played = none; wrote = replays_none desk_shows a p p x x refl refl refl }
@@ -180,12 +180,12 @@ module _ {M : Type 0} (seen : M → Seen) where
   -- ---- a beginning of what the input asks
 
   abbrev pub Begun : Option (List ℕ) → Option (List ℕ) → Option (List ℕ) → Party → Turns → Cabled (Desk (Kept M)) → Type 0
-  Begun a b input drive p x = IfSome input (λ bytes. PrintsTracePart a b (λ m. IsAt seen p x (powered drive m) []) drive [] (timetable_of bytes))
+  Begun a b input drive p x = IfSome input (λ bytes. PrintsTracePart a b (λ m. IsAt seen p x (trace_powered drive m) []) drive [] (timetable_of bytes))
 
   -- of the first changes
   begun : (a b : Option (List ℕ)) (xs : List ℕ) (drive : Party) (p : Turns) (x : Cabled (Desk (Kept M))) (done : List Change) (t : Timetable) → timetable_of xs ≡ behind done t → PlaysPart seen a b done p x → Begun a b (Some xs) drive p x
   begun a b xs drive p x done t e part m at_ =
-      let h = part (powered drive m) [] at_ in (
+      let h = part (trace_powered drive m) [] at_ in (
         h.made,
         record {
           from = h.from;
@@ -287,15 +287,15 @@ module _ {M : Type 0} (seen : M → Seen) where
       seated x alone (s ∷ t ∷ us) h = absurd h.1
 
   abbrev pub Ended : Option (List ℕ) → Option (List ℕ) → Option (List ℕ) → Party → Turns → Cabled (Desk (Kept M)) → Cabled (Desk (Kept M)) → Option ℕ → Type 0
-  Ended a b input drive p x y bad = IfSome input (λ bytes. ((timetable_of bytes).bad ≡ bad) × PrintsTrace a b (λ m. IsAt seen p x (powered drive m) []) (IsBorne seen y) drive [] (timetable_of bytes))
+  Ended a b input drive p x y bad = IfSome input (λ bytes. ((timetable_of bytes).bad ≡ bad) × PrintsTrace a b (λ m. IsAt seen p x (trace_powered drive m) []) (IsBorne seen y) drive [] (timetable_of bytes))
 
   -- the input, up to its bad line
   stopped : (a b : Option (List ℕ)) (xs : List ℕ) (n from : ℕ) (drive : Party) (done : List Change) (f : Desk (Kept M) → ℕ) (p q : Turns) (x y : Cabled (Desk (Kept M))) → length (numbers f y.drives) ≡ 1 → timetable_of xs ≡ behind done (stopped_at n) → latest 0 done ≡ from
       → PlaysOn seen a b done p x q y → IsOpen q from → Ended a b (Some xs) drive p x y (Some n)
   stopped a b xs n from drive done f p q x y one e last on is_open = (
     ap (λ (o : Timetable). o.bad) e,
-    subst (λ (o : Timetable). PrintsTrace a b (λ m. IsAt seen p x (powered drive m) []) (IsBorne seen y) drive [] o) (sym e) (λ m at_.
-        (let all = on (powered drive m) [] at_ in
+    subst (λ (o : Timetable). PrintsTrace a b (λ m. IsAt seen p x (trace_powered drive m) []) (IsBorne seen y) drive [] o) (sym e) (λ m at_.
+        (let all = on (trace_powered drive m) [] at_ in
         let now = all.now in
         let whole : all.made ++ pending q.second ≡ all.made = ap (λ (o : Option Event). all.made ++ pending o) is_open.second ∙ append-nil all.made in
         let own = borne f y now.stations one now.now in (
@@ -303,7 +303,7 @@ module _ {M : Type 0} (seen : M → Seen) where
           own.station,
           record {
             from = now.from;
-            plays = subst (λ (ss : List (Station (Desk Machine))). Plays (Desk Machine) desk_step desk_says 0 (powered drive m) all.made now.from ss) own.only (subst (λ (v : List Event). Plays (Desk Machine) desk_step desk_says 0 (powered drive m) v now.from now.stations) whole now.plays);
+            plays = subst (λ (ss : List (Station (Desk Machine))). Plays (Desk Machine) desk_step desk_says 0 (trace_powered drive m) all.made now.from ss) own.only (subst (λ (v : List Event). Plays (Desk Machine) desk_step desk_says 0 (trace_powered drive m) v now.from now.stations) whole now.plays);
             hosts = all.hosts ∙ sym (append-nil done);
             within = (let u : latest 0 (done ++ []) ≡ from = ap (latest 0) (append-nil done) ∙ last in let before = now.before in let opened = is_open.from in omega (arith, u, before, opened));
             settled = tt;
@@ -323,9 +323,9 @@ module _ {M : Type 0} (seen : M → Seen) where
       → timetable_of xs ≡ behind done (ended_at end None) → PlaysOn seen a b done p x q y → Ends seen b c end q y r z → Ended a c (Some xs) drive p x z None
   finished a b c xs end drive done f p q r x y z sits one e on ends = (
     ap (λ (o : Timetable). o.bad) e,
-    subst (λ (o : Timetable). PrintsTrace a c (λ m. IsAt seen p x (powered drive m) []) (IsBorne seen z) drive [] o) (sym e) (λ m at_.
-        (let first = on (powered drive m) [] at_ in
-        let all = ends (powered drive m) first.made first.now in
+    subst (λ (o : Timetable). PrintsTrace a c (λ m. IsAt seen p x (trace_powered drive m) []) (IsBorne seen z) drive [] o) (sym e) (λ m at_.
+        (let first = on (trace_powered drive m) [] at_ in
+        let all = ends (trace_powered drive m) first.made first.now in
         let trace = first.made ++ all.made in
         let over = all.now in
         let now = over.after in
@@ -336,7 +336,7 @@ module _ {M : Type 0} (seen : M → Seen) where
           own.station,
           record {
             from = now.from;
-            plays = subst (λ (ss : List (Station (Desk Machine))). Plays (Desk Machine) desk_step desk_says 0 (powered drive m) trace now.from ss) own.only (subst (λ (v : List Event). Plays (Desk Machine) desk_step desk_says 0 (powered drive m) v now.from now.stations) whole now.plays);
+            plays = subst (λ (ss : List (Station (Desk Machine))). Plays (Desk Machine) desk_step desk_says 0 (trace_powered drive m) trace now.from ss) own.only (subst (λ (v : List Event). Plays (Desk Machine) desk_step desk_says 0 (trace_powered drive m) v now.from now.stations) whole now.plays);
             hosts = hosts_on first.made all.made ∙ (λ i. first.hosts i ++ all.hosts i);
             within = (let before = now.before in let from = over.from in omega (arith, before, from));
             settled = subst (λ (o : Port). IsLaterDue end (port_due o)) own.port (subst (λ (us : List (Seated (Desk (Kept M)))). AreLater end us) own.alone later).0;
@@ -504,7 +504,7 @@ module _ {M : Type 0} (seen : M → Seen) (drive : Party) where
       over (Some xs) g = wrote_whole desk_shows drive a b d xs end t.done f p q r x y z sits one fresh g t.wrote kept_end
 
 -- the one disk has as many tracks
-pub sole_tracks : {M : Type 0} (seen : M → Seen) (b : Cabled (Desk (Kept M))) (k : M) → length (tracks_in seen b) ≡ 1 → ((x : Seated (Desk (Kept M))) → b.drives ≡ x ∷ [] → k ≡ x.machine.dos.medium) → (seen k).tracks ∷ [] ≡ tracks_in seen b
+pub sole_tracks : {M : Type 0} (seen : M → Seen) (b : Cabled (Desk (Kept M))) (k : M) → length (tracks_of_drives seen b) ≡ 1 → ((x : Seated (Desk (Kept M))) → b.drives ≡ x ∷ [] → k ≡ x.machine.dos.medium) → (seen k).tracks ∷ [] ≡ tracks_of_drives seen b
 sole_tracks {M = M} seen b k one is = by b.drives refl one
   where
     by : (xs : List (Seated (Desk (Kept M)))) → b.drives ≡ xs → length (numbers (λ y. (seen y.dos.medium).tracks) xs) ≡ 1 → (seen k).tracks ∷ [] ≡ numbers (λ y. (seen y.dos.medium).tracks) xs

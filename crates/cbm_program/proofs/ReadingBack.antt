@@ -3,9 +3,9 @@ use Rattle.std.proofs.Common.{◌≡◌, ℕ, ◌+◌, ◌*◌, ◌/◌, ◌%◌
 use Rattle.std.specs.Prelude.{◌≢◌}
 use Rattle.std.proofs.lemmas.List.Elements.{All-head, All-tail}
 use Rattle.bus_traces.specs.Lines.{lines_of}
-use Rattle.cbm_program.specs.Texts.{is_hex, is_plain, hex_value, with_front, text_of}
+use Rattle.cbm_program.specs.Texts.{is_hex, is_plain, hex_value, with_text_front, text_of}
 use Rattle.cbm_program.specs.Scripts.{hex_digit}
-use Rattle.cbm_program.specs.Spelling.{ended_lines, IsLine, AreLines, escapes, AreBytes, ArePlain}
+use Rattle.cbm_program.specs.Spelling.{ended_lines, IsLine, AreLines, escapes, AreByteValues, ArePlain}
 use Rattle.bus_traces.proofs.LineLemmas.{IsUnbroken, broken}
 use Rattle.cbm_program.proofs.TextLemmas.{text_of-plain, text_of-escape}
 
@@ -24,7 +24,7 @@ digit_is n h = grind (arith, h)
 digit_value : (n : ℕ) → n < 16 → hex_value (hex_digit n) ≡ n
 digit_value n h = grind (arith, h)
 
-pub escapes_back : (bytes : List ℕ) → AreBytes bytes → text_of (escapes bytes) ≡ Some bytes
+pub escapes_back : (bytes : List ℕ) → AreByteValues bytes → text_of (escapes bytes) ≡ Some bytes
 escapes_back [] h = refl
 escapes_back (b ∷ bytes) h =
     let small = All-head (λ x. x < 256) b bytes h in
@@ -44,4 +44,4 @@ plain_back [] h = refl
 plain_back (b ∷ bytes) h =
     let first = All-head (λ x. (x ≢ 92) × (is_plain x ≡ true)) b bytes h in
     let rest = All-tail (λ x. (x ≢ 92) × (is_plain x ≡ true)) b bytes h in
-    text_of-plain (b ∷ bytes) b bytes refl first.0 first.1 ∙ ap (λ o. with_front (b ∷ []) o) (plain_back bytes rest)
+    text_of-plain (b ∷ bytes) b bytes refl first.0 first.1 ∙ ap (λ o. with_text_front (b ∷ []) o) (plain_back bytes rest)

@@ -15,7 +15,7 @@ use Rattle.bus_traces.specs.Lines.{lines_of}
 use Rattle.cbm_program.specs.Scripts.{printed, printed_by}
 use Rattle.cbm_program.specs.Outcome.{IsServedTo, IsServedPart}
 use Rattle.cbm_program.specs.Output.{AppendsPart, Prints, PrintsPart}
-use Rattle.cbm_program.specs.Running.{requests_in, meaning, Asked, refused_at, with_line, asked_from, script_of, ReadsLine, ComesBad, LineRead, LineIsInRange, EndsAs, IsOfWriting}
+use Rattle.cbm_program.specs.Running.{requests_in, meaning, Asked, refused_at, with_script_line, asked_from, script_of, ReadsLine, ComesBad, LineRead, LineIsInRange, EndsAs, IsOfWriting}
 use Rattle.bus_traces.proofs.Appending.{appends-nothing, appends-more}
 use Rattle.cbm_program.proofs.OutputLemmas.{part_behind, part_before, whole_part}
 
@@ -44,16 +44,16 @@ asked-end n = refl
 
 asked-bad : (n : ℕ) (line : List ℕ) (lines : List (List ℕ)) → meaning n line ≡ None → asked_from n (line ∷ lines) ≡ refused_at (Some n)
 unfolding asked_from
-asked-bad n line lines e = ap (λ o. with_line o n (asked_from (n + 1) lines)) e
+asked-bad n line lines e = ap (λ o. with_script_line o n (asked_from (n + 1) lines)) e
 
-line-asks : (line : ScriptLine) (n : ℕ) (rest : Asked) → with_line (Some line) n rest ≡ behind (requests_in line) rest
+line-asks : (line : ScriptLine) (n : ℕ) (rest : Asked) → with_script_line (Some line) n rest ≡ behind (requests_in line) rest
 line-asks Skipped n rest = refl
 line-asks (Asks request) n rest = refl
 
 asked-line : (n : ℕ) (bytes : List ℕ) (lines : List (List ℕ)) (line : ScriptLine) → meaning n bytes ≡ Some line
     → asked_from n (bytes ∷ lines) ≡ behind (requests_in line) (asked_from (n + 1) lines)
 unfolding asked_from
-asked-line n bytes lines line e = ap (λ o. with_line o n (asked_from (n + 1) lines)) e ∙ line-asks line n (asked_from (n + 1) lines)
+asked-line n bytes lines line e = ap (λ o. with_script_line o n (asked_from (n + 1) lines)) e ∙ line-asks line n (asked_from (n + 1) lines)
 
 -- ---- a run before line n
 

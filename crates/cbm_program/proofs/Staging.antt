@@ -3,14 +3,14 @@ use Rattle.std.proofs.Common.{◌≡◌, ℕ, ◌≤◌, ◌<◌, Bool, List, []
 use Rattle.std.specs.Prelude.{IfSome}
 use Rattle.std.specs.List.{AllZip}
 use Rattle.std.specs.Io.KnownBytes.{Appends, Keeps}
-use Rattle.cbm_iec.specs.declared.act.Act.{Act}
+use Rattle.cbm_iec.specs.declared.machine.Act.{Act}
 use Rattle.cbm_iec.specs.declared.pace.Pace.{Pace}
 use Rattle.cbm_iec.specs.declared.party.Party.{Party}
 use Rattle.cbm_iec.specs.Ports.{resting}
 use Rattle.cbm_iec.specs.declared.event.Event.{Event}
 use Rattle.cbm_iec.specs.declared.event.Who.TheVariants.{Host, Drive}
 use Rattle.cbm_iec.specs.declared.event.Who.{Who}
-use Rattle.cbm_iec.specs.declared.line.Change.{Change}
+use Rattle.cbm_iec.specs.declared.lines.Change.{Change}
 use Rattle.cbm_iec.specs.declared.lines.Lines.{Lines}
 use Rattle.cbm_iec.specs.declared.port.Port.{Port}
 use Rattle.cbm_medium.specs.Seen.{Seen}
@@ -27,11 +27,11 @@ use Rattle.cbm_drive.specs.Playback.{Shown, Playback, IsPlayedBack, played_says,
 use Rattle.cbm_drive.specs.PlayedBack.{played_byte}
 use Rattle.cbm_drive.specs.Ordered.{host_changes}
 use Rattle.cbm_drive.specs.Players.{Turns, at_start, pending, IsDrives, IsTurnOf, IsGivenBefore, IsSecond, IsAfter, IsFinished}
-use Rattle.cbm_drive.specs.Seats.{Seated, IsSeat, IsBusAt, IsWithout, held_by}
+use Rattle.cbm_drive.specs.Seats.{Seated, IsSeat, IsBusAt, IsWithout, wires_held_by}
 use Rattle.cbm_program.specs.Output.{AppendsPart}
 use Rattle.cbm_program.specs.Staging.{HasMade, IsAt, HasPlayedOn, HasPlayedPart, PlaysOn, Ends, IsReplayed, ReplaysOn, ReplaysTo, IsFresh}
 use Rattle.bus_traces.specs.Events.{trace_text, event_text}
-use Rattle.cbm_program.specs.Traces.{powered, replaying}
+use Rattle.cbm_program.specs.Traces.{trace_powered, replaying}
 use Rattle.bus_traces.proofs.Appending.{appends-nothing, appends-more, appends-kept, text_on, text_one}
 use Rattle.cbm_program.proofs.OutputLemmas.{part_behind, part_before}
 
@@ -175,7 +175,7 @@ module _ {D : Type 0} (shows : D → Shown) where
   a_byte None h = tt
   a_byte (Some x) h = h x.0 x.1 refl
 
-  seat_byte : (drive : Party) (trail : List Shown) (host : Lines) (all xs : List (Seated D)) (m : Playback) → AllZip (IsSeat D Playback (IsPlayedBack shows trail) (held_by host all)) xs (replaying drive m) → IsByte Playback played_step played_says (played_says m)
+  seat_byte : (drive : Party) (trail : List Shown) (host : Lines) (all xs : List (Seated D)) (m : Playback) → AllZip (IsSeat D Playback (IsPlayedBack shows trail) (wires_held_by host all)) xs (replaying drive m) → IsByte Playback played_step played_says (played_says m)
   seat_byte drive trail host all [] m h = absurd h
   seat_byte drive trail host all (x ∷ xs) m h = a_byte (played_says m) (λ n l said. played_byte shows trail x.machine m n l h.0.machine said)
 
@@ -197,21 +197,21 @@ module _ {D : Type 0} (shows : D → Shown) where
 module _ {M : Type 0} (seen : M → Seen) where
   -- a drive at power up
   pub starts_at : (drive : Party) (m : Machine) (p : Turns) (b : Cabled (Desk (Kept M))) (x : Seated (Desk (Kept M))) → p ≡ at_start → b.host ≡ all_free → b.drives ≡ x ∷ [] → x.port ≡ resting drive → DeskStands seen x.machine (at_power_up drive.pace drive.device m)
-      → IsAt seen p b (powered drive m) []
+      → IsAt seen p b (trace_powered drive m) []
   starts_at drive m p b x start free one port stands = record {
     from = 0;
-    stations = powered drive m;
+    stations = trace_powered drive m;
     before = omega arith;
     plays = stays (tt, tt) (ap (λ (q : Turns). pending q.second) start) refl refl;
-    now = subst (λ (h : Lines). IsBusAt (Desk (Kept M)) (Desk Machine) (DeskStands seen) h b.drives (powered drive m)) (sym free)
-        (subst (λ (xs : List (Seated (Desk (Kept M)))). IsBusAt (Desk (Kept M)) (Desk Machine) (DeskStands seen) all_free xs (powered drive m)) (sym one) seat);
+    now = subst (λ (h : Lines). IsBusAt (Desk (Kept M)) (Desk Machine) (DeskStands seen) h b.drives (trace_powered drive m)) (sym free)
+        (subst (λ (xs : List (Seated (Desk (Kept M)))). IsBusAt (Desk (Kept M)) (Desk Machine) (DeskStands seen) all_free xs (trace_powered drive m)) (sym one) seat);
     second = subst (λ (q : Turns). IsSecond q.from q.second) (sym start) tt;
   }
     where
-      rest : IsWithout (held_by all_free (x ∷ [])) x.port.own nobody
-      rest = subst (λ (q : Port). IsWithout (held_by all_free ((record { port = q; machine = x.machine }) ∷ [])) q.own nobody) (sym port) (record { host = refl; clocks = refl; datas = refl })
+      rest : IsWithout (wires_held_by all_free (x ∷ [])) x.port.own nobody
+      rest = subst (λ (q : Port). IsWithout (wires_held_by all_free ((record { port = q; machine = x.machine }) ∷ [])) q.own nobody) (sym port) (record { host = refl; clocks = refl; datas = refl })
 
-      seat : IsBusAt (Desk (Kept M)) (Desk Machine) (DeskStands seen) all_free (x ∷ []) (powered drive m)
+      seat : IsBusAt (Desk (Kept M)) (Desk Machine) (DeskStands seen) all_free (x ∷ []) (trace_powered drive m)
       seat = (record { port = port; machine = stands; rest = rest }, tt)
 
   -- ---- what was played

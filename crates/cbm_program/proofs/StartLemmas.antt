@@ -14,8 +14,8 @@ use Rattle.cbm_program.specs.declared.request.ScriptRequest.{ScriptRequest}
 use Rattle.cbm_program.specs.declared.fault.RunFault.{RunFault}
 use Rattle.cbm_program.specs.declared.fault.RunFault.TheVariants.{Script, Image, Memory, Reading, Writing}
 use Rattle.cbm_program.specs.Checking.{checked_text, IsCheckPrinted, IsCheckedFirst, printed_behind}
-use Rattle.cbm_program.specs.Outcome.{IsServed, IsServedTo, IsServedPart}
-use Rattle.cbm_program.specs.Output.{AppendsPart, Grows, Prints}
+use Rattle.cbm_program.specs.Outcome.{IsScriptServed, IsServedTo, IsServedPart}
+use Rattle.cbm_program.specs.Output.{AppendsPart, AppendsMore, Prints}
 use Rattle.cbm_program.specs.Running.{script_of, EndsAs, EndsBy}
 use Rattle.cbm_program.specs.Scripts.{printed}
 use Rattle.cbm_program.specs.Starts.{StartsOn, StartsFrom}
@@ -36,7 +36,7 @@ module _ (pace : Pace) (checks : Bool) (a b : Option (List ℕ)) (some all now n
   prints-among : (script : List ScriptRequest) → Prints a b all now (printed_behind pace checks script) → Prints a b some next (printed_behind pace checks script)
   prints-among script p m s = let r = p m (is m s) in (r.0, then (printed pace script m).machine r.1)
 
-  pub served-among : (x : Option (List ℕ)) → IsServed pace checks x a b all now → IsServed pace checks x a b some next
+  pub served-among : (x : Option (List ℕ)) → IsScriptServed pace checks x a b all now → IsScriptServed pace checks x a b some next
   served-among None e = tt
   served-among (Some xs) e = prints-among (script_of xs).requests e
 
@@ -44,7 +44,7 @@ module _ (pace : Pace) (checks : Bool) (a b : Option (List ℕ)) (some all now n
   ended-among None bad e = tt
   ended-among (Some xs) bad e = (e.0, prints-among (script_of xs).requests e.1)
 
-  pub served-ended : (x : Option (List ℕ)) (bad : Option ℕ) → IsServedTo pace checks x a b all now bad → IsServed pace checks x a b some next
+  pub served-ended : (x : Option (List ℕ)) (bad : Option ℕ) → IsServedTo pace checks x a b all now bad → IsScriptServed pace checks x a b some next
   served-ended None bad e = tt
   served-ended (Some xs) bad e = prints-among (script_of xs).requests e.1
 
@@ -89,7 +89,7 @@ module _ (pace : Pace) (checks : Bool) (a b c : Option (List ℕ)) (stood : Mach
   ended-behind now None bad e = tt
   ended-behind now (Some xs) bad e = (e.0, prints-behind now (script_of xs).requests e.1)
 
-  pub served-behind : (now : Machine → Type 0) (x : Option (List ℕ)) → IsServed pace false x b c stood now → IsServed pace checks x a c stood now
+  pub served-behind : (now : Machine → Type 0) (x : Option (List ℕ)) → IsScriptServed pace false x b c stood now → IsScriptServed pace checks x a c stood now
   served-behind now None e = tt
   served-behind now (Some xs) e = prints-behind now (script_of xs).requests e
 
@@ -107,7 +107,7 @@ part-cut pace checks a b None stood h = tt
 part-cut pace checks a b (Some xs) stood h = λ m s. part_before a b (checked_text checks) (printed pace (script_of xs).requests m).text (h m s)
 
 -- what was printed whole is a beginning, and so is nothing
-pub served-part : (pace : Pace) (checks : Bool) (a b x : Option (List ℕ)) (stood now : Machine → Type 0) → IsServed pace checks x a b stood now → IsServedPart pace checks x a b stood
+pub served-part : (pace : Pace) (checks : Bool) (a b x : Option (List ℕ)) (stood now : Machine → Type 0) → IsScriptServed pace checks x a b stood now → IsServedPart pace checks x a b stood
 served-part pace checks a b None stood now e = tt
 served-part pace checks a b (Some xs) stood now e = λ m s. whole_part a b (printed_behind pace checks (script_of xs).requests m).text (e m s).0
 
@@ -142,7 +142,7 @@ checked-as kind other image tracks content a b same is h = rw same
     (subst (λ c. IsCheckedFirst (tracks_of kind image) c a b) (sym is.same_content) (subst (λ n. IsCheckedFirst n content a b) (sym is.same_tracks) h))
 
 -- the check of a medium, and what was printed behind its line
-pub checked-first : (tracks : ℕ) (content : Content) (a b c : Option (List ℕ)) → IsCheckPrinted tracks content a b → Grows b c → IsCheckedFirst tracks content a c
+pub checked-first : (tracks : ℕ) (content : Content) (a b c : Option (List ℕ)) → IsCheckPrinted tracks content a b → AppendsMore b c → IsCheckedFirst tracks content a c
 checked-first tracks content a b c h g = (b, h, g)
 
 -- ---- where memory is lacking

@@ -5,7 +5,7 @@ use Rattle.std.specs.Io.KnownBytes.{Appends}
 use Rattle.cbm_machine.specs.Calls.{without_return}
 use Rattle.cbm_machine.specs.Machines.{Machine}
 use Rattle.cbm_machine.specs.Statuses.{status_line}
-use Rattle.cbm_machine.specs.Talking.{peek, taken, talk}
+use Rattle.cbm_machine.specs.Talking.{peek, taken, after_talk}
 use Rattle.cbm_host.proofs.Statuses.{says_from, line_short}
 use Rattle.cbm_host.specs.Hosted.{AreFirst}
 use Rattle.cbm_program.specs.Output.{AppendsPart}
@@ -27,7 +27,7 @@ pub room : (m : Machine) (bytes : List ℕ) (b : ℕ) (l : Bool) → AreFirst (b
 room m bytes b l f =
     let whole = ap (λ (x : List ℕ). length x) f.front ∙ length-append (bytes ++ b ∷ []) f.more in
     let one = length-append bytes (b ∷ []) in
-    let most = short_said (length (status_line m.status)) 15 [] (talk 15 m) in
+    let most = short_said (length (status_line m.status)) 15 [] (after_talk 15 m) in
     let line = line_short m.status in
     omega (arith, whole, one, most, line)
 

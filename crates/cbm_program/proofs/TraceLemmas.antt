@@ -12,7 +12,7 @@ use Rattle.cbm_program.specs.Output.{AppendsPart}
 use Rattle.cbm_program.specs.Running.{EndsAs, EndsBy}
 use Rattle.cbm_program.specs.Timetables.{Timetable, of_requests, of_changes, script_if, begins_timed, is_timed, timetable_of}
 use Rattle.bus_traces.specs.Events.{trace_text}
-use Rattle.cbm_program.specs.Traces.{IsTraceBegun, PrintsTrace, PrintsTracePart, WritesTrace, powered}
+use Rattle.cbm_program.specs.Traces.{IsTraceBegun, PrintsTrace, PrintsTracePart, WritesTrace, trace_powered}
 use Rattle.cbm_program.specs.declared.fault.RunFault.{RunFault}
 use Rattle.cbm_program.specs.declared.fault.RunFault.TheVariants.{Script, Image, Memory, Reading, Writing}
 use Rattle.bus_traces.proofs.Appending.{appends-nothing, appends-more}
@@ -83,7 +83,7 @@ cut-left text a b (Some xs) stood now drive h = λ m s. (let r = h m s in let tr
 ))
 
 begun-none : (drive : Party) (m : Machine) (t : Timetable) → IsTraceBegun drive m t []
-begun-none drive m t = record { from = 0; stations = powered drive m; plays = stays (tt, tt) refl refl refl; rest = t.changes; hosts = refl }
+begun-none drive m t = record { from = 0; stations = trace_powered drive m; plays = stays (tt, tt) refl refl refl; rest = t.changes; hosts = refl }
 
 pub cut-text : (text : List ℕ) (a b x : Option (List ℕ)) (stood : Machine → Type 0) (drive : Party) → ((m : Machine) → stood m → AppendsPart a b text) → Cut text a b x stood drive
 cut-text text a b None stood drive h = tt

@@ -13,7 +13,7 @@ use Rattle.cbm_machine.specs.Machines.{Machine}
 use Rattle.cbm_iec.specs.declared.pace.Pace.{Pace}
 use Rattle.cbm_program.specs.declared.request.ScriptRequest.{ScriptRequest}
 use Rattle.cbm_program.specs.declared.fault.RunFault.{RunFault}
-use Rattle.cbm_program.specs.Output.{AppendsPart, Grows}
+use Rattle.cbm_program.specs.Output.{AppendsPart, AppendsMore}
 use Rattle.cbm_program.specs.Running.{IsOfWriting}
 use Rattle.cbm_program.specs.Scripts.{Printed, printed}
 
@@ -46,12 +46,12 @@ pub record PrintsCheck {A : Type 0} (result : Result A RunFault) (shows : Seen) 
   pub err : (d : Disk) → HoldsDisk shows.tracks shows.content d → OnErr result (AppendsPart old new (checked_text checks))
   -- Of any medium the line is that of what is wrong, or of a sound disk.
   pub said : checks ≡ true → OnOk result (IsCheckPrinted shows.tracks shows.content old new)
-  pub grows : Grows old new
+  pub grows : AppendsMore old new
   pub fault : IfErr result IsOfWriting
 
 -- The line of the check was printed first, and only then anything else.
 abbrev pub IsCheckedFirst : ℕ → Content → Option (List ℕ) → Option (List ℕ) → Type 0
-IsCheckedFirst tracks content old new = (between : Option (List ℕ)) × IsCheckPrinted tracks content old between × Grows between new
+IsCheckedFirst tracks content old new = (between : Option (List ℕ)) × IsCheckPrinted tracks content old between × AppendsMore between new
 
 -- what a script prints, after the line of the check if one is asked for
 abbrev pub printed_behind : Pace → Bool → List ScriptRequest → Machine → Printed

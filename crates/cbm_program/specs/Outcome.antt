@@ -8,19 +8,19 @@ use Rattle.cbm_iec.specs.declared.party.Party.{Party}
 use Rattle.cbm_image.specs.Images.{kind_of, image_fault, tracks_of, content_of, ImageHolds}
 use Rattle.cbm_program.specs.declared.fault.RunFault.{RunFault}
 use Rattle.cbm_program.specs.declared.fault.RunFault.TheVariants.{Image, Memory}
-use Rattle.cbm_program.specs.Output.{Grows, Prints, PrintsPart}
+use Rattle.cbm_program.specs.Output.{AppendsMore, Prints, PrintsPart}
 use Rattle.cbm_program.specs.Running.{script_of, EndsAs}
 use Rattle.cbm_program.specs.Checking.{printed_behind, checked_text, IsCheckedFirst}
 use Rattle.cbm_program.specs.Timetables.{of_requests, of_changes, timetable_of}
 use Rattle.cbm_program.specs.Traces.{PrintsTrace, PrintsTracePart, WritesBehind}
-use Rattle.cbm_program.specs.Starts.{Begins}
+use Rattle.cbm_program.specs.Starts.{BeginsOn}
 
 -- ---- a script of requests, and one of line changes: what was written, where the machines that stood before are these
 
 module _ (pace : Pace) (checks : Bool) (input old new : Option (List ℕ)) (stood : Machine → Type 0) where
   -- what a script of requests prints, and the machine after it is one of these
-  abbrev pub IsServed : (Machine → Type 0) → Type 0
-  IsServed stands = IfSome input (λ bytes. Prints old new stood stands (printed_behind pace checks (script_of bytes).requests))
+  abbrev pub IsScriptServed : (Machine → Type 0) → Type 0
+  IsScriptServed stands = IfSome input (λ bytes. Prints old new stood stands (printed_behind pace checks (script_of bytes).requests))
 
   -- the same, and this is the number of its first bad line, or it has none
   abbrev pub IsServedTo : (Machine → Type 0) → Option ℕ → Type 0
@@ -49,7 +49,7 @@ pub record ServesScript {A : Type 0} (result : Result A RunFault) (stood : Machi
   -- What was written is what the script prints up to its end or its first bad line.
   pub ended : EndsAs result (IsServedTo pace checks input old new stood (λ _. Unit {0}))
   -- What is given back holds the disk after the script, with all that the script wrote.
-  pub disk : IfOk result (λ after. IsServed pace checks input old new stood (holds after))
+  pub disk : IfOk result (λ after. IsScriptServed pace checks input old new stood (holds after))
   -- At a fault a beginning of what the script prints was written.
   pub fault : OnErr result (IsServedPart pace checks input old new stood)
 
@@ -72,7 +72,7 @@ pub record IsRun {A : Type 0} (result : Result A RunFault) (stood : Machine → 
   -- bad line: of a drive above which a machine plays back what the DOS showed.
   pub wrote : EndsAs result (λ bad. WritesBehind (party_of pace device) checks (of_changes input) old new bad)
   -- All that is printed is added to what was written.
-  pub grows : Grows old new
+  pub grows : AppendsMore old new
 
 -- ---- an image
 
@@ -81,7 +81,7 @@ pub record IsRun {A : Type 0} (result : Result A RunFault) (stood : Machine → 
 pub record IsOutcome {A : Type 0} (result : Result A RunFault) (items : A → List ℕ) (pace : Pace) (image : List ℕ) (protected checks : Bool) (device : ℕ)
     (input old new : Option (List ℕ)) : Type 0 where
   -- The script was run on the image's disk, and the image that is given back holds the disk after it.
-  pub run : IsRun result (Begins image protected) (λ saved m. ImageHolds (kind_of image) (items saved) m.disk) pace device checks input old new
+  pub run : IsRun result (BeginsOn image protected) (λ saved m. ImageHolds (kind_of image) (items saved) m.disk) pace device checks input old new
   -- Of any image the line of the check is printed first, where one is asked for.
   pub checked : checks ≡ true → EndsAs result (λ bad. IsCheckedFirst (tracks_of (kind_of image) image) (content_of (kind_of image) image) old new)
   -- The image of a protected disk, sound or not, is given back byte for byte.
@@ -95,5 +95,5 @@ pub record IsOutcome {A : Type 0} (result : Result A RunFault) (items : A → Li
   -- and by no other.
   pub cause : (n : ℕ) → result ≡ Err (Image n) → image_fault (kind_of image) image ≡ Some n
   -- Memory is lacking for the disk, before anything is read or written, or for the new image, after the whole script; and at no other time.
-  pub memory : result ≡ Err Memory → Keeps old new ⊎ (IsServedTo pace checks (of_requests input) old new (Begins image protected) (λ _. Unit {0}) None
-      × IsTracedTo (party_of pace device) checks (of_changes input) old new (Begins image protected) (λ _. Unit {0}) None)
+  pub memory : result ≡ Err Memory → Keeps old new ⊎ (IsServedTo pace checks (of_requests input) old new (BeginsOn image protected) (λ _. Unit {0}) None
+      × IsTracedTo (party_of pace device) checks (of_changes input) old new (BeginsOn image protected) (λ _. Unit {0}) None)

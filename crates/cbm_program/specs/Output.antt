@@ -11,14 +11,14 @@ abbrev pub AppendsPart : Option (List ℕ) → Option (List ℕ) → List ℕ �
 AppendsPart old new bytes = (part : List ℕ) × (rest : List ℕ) × Appends old new part × (bytes ≡ part ++ rest)
 
 -- known bytes only grew
-abbrev pub Grows : Option (List ℕ) → Option (List ℕ) → Type 0
-Grows old new = (more : List ℕ) × Appends old new more
+abbrev pub AppendsMore : Option (List ℕ) → Option (List ℕ) → Type 0
+AppendsMore old new = (more : List ℕ) × Appends old new more
 
 -- BYTES WERE WRITTEN; at a fault, which is one of writing, a beginning of them was.
 pub record Writes {A : Type 0} (result : Result A RunFault) (old new : Option (List ℕ)) (bytes : List ℕ) : Type 0 where
   pub ok : OnOk result (Appends old new bytes)
   pub err : OnErr result (AppendsPart old new bytes)
-  pub grows : Grows old new
+  pub grows : AppendsMore old new
   pub fault : IfErr result IsOfWriting
 
 -- For each machine that was represented before, what it prints was written, and the machine after it is represented now.

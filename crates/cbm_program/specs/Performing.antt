@@ -12,7 +12,7 @@ use Rattle.cbm_host.specs.declared.request.Request.{Request}
 use Rattle.cbm_medium.specs.Seen.{Seen}
 use Rattle.cbm_volume.specs.Holding.{HoldsDisk}
 use Rattle.cbm_program.specs.declared.fault.RunFault.{RunFault}
-use Rattle.cbm_program.specs.Output.{Grows, Prints, PrintsPart}
+use Rattle.cbm_program.specs.Output.{AppendsMore, Prints, PrintsPart}
 use Rattle.cbm_program.specs.Running.{IsOfWriting}
 use Rattle.cbm_program.specs.Scripts.{Printed}
 use Rattle.cbm_program.specs.Units.{PrintsRest, PrintsRestPart}
@@ -23,7 +23,7 @@ module _ {M : Type 0} (seen : M → Seen) where
   RestsOn shows drive = (d : Disk) → HoldsDisk shows.tracks shows.content d → Rests seen drive (start d shows.protected shows.tracks)
 
   -- THE DRIVE GOES ON after a request, which takes no longer than the longest one: at its pace, with a disk of as many tracks.
-  pub record GoesOn (was now : Hosting (Kept M)) : Type 0 where
+  pub record GoesOnHosting (was now : Hosting (Kept M)) : Type 0 where
     pub soon : now.moment ≤ was.moment + longest was.pace
     pub pace : now.pace ≡ was.pace
     pub tracks : tracks_on seen now ≡ tracks_on seen was
@@ -32,7 +32,7 @@ module _ {M : Type 0} (seen : M → Seen) where
   pub record HasPrinted {A : Type 0} (result : Result A RunFault) (old new : Option (List ℕ)) (was now : Hosting (Kept M)) (step : Machine → Printed) : Type 0 where
     pub ok : OnOk result (Prints old new (Rests seen was) (Rests seen now) step)
     pub err : OnErr result (PrintsPart old new (Rests seen was) step)
-    pub grows : Grows old new
+    pub grows : AppendsMore old new
     pub fault : IfErr result IsOfWriting
 
   -- THE REST OF WHAT A CHANNEL SAYS was written, where a request is under way of which these bytes were taken; at a fault, which is one of writing, a beginning of it was written.
@@ -41,5 +41,5 @@ module _ {M : Type 0} (seen : M → Seen) where
         → OnOk result (Rests seen now (served was.pace request m).machine × PrintsRest old new bytes last (served was.pace request m))
     pub err : (m : Machine) (request : Request) (bytes : List ℕ) (last : Bool) → channel_of request ≤ 15 → IsModest request → IsGoingOn seen was performer m request bytes last
         → OnErr result (PrintsRestPart old new bytes last (served was.pace request m))
-    pub grows : Grows old new
+    pub grows : AppendsMore old new
     pub fault : IfErr result IsOfWriting

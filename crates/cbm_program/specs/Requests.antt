@@ -2,7 +2,7 @@
 use Rattle.std.specs.Prelude.{ℕ, List, [], ◌∷◌, codes, ◌==◌, Option, Some, None, option_map, option_and_then, if◌then◌else◌}
 use Rattle.std.specs.Str.{bytes_eq}
 use Rattle.cbm_program.specs.Texts.{text_of}
-use Rattle.cbm_program.specs.Words.{first_word, after_word, channel_of, count_of, byte_of}
+use Rattle.cbm_program.specs.Words.{first_word, after_word, channel_number, count_of, hex_byte}
 use Rattle.cbm_program.specs.declared.request.ScriptRequest.{ScriptRequest}
 use Rattle.cbm_program.specs.declared.request.ScriptRequest.TheVariants.{Open, Put, Fill, Get, Close, Status}
 use Rattle.cbm_program.specs.declared.line.ScriptLine.{ScriptLine}
@@ -21,7 +21,7 @@ fill_with channel _ _ = None
 -- a fill asks for a count and a byte
 abbrev pub fill_of : ℕ → Option (List ℕ) → Option ScriptRequest
 fill_of channel None = None
-fill_of channel (Some words) = fill_with channel (count_of (first_word words)) (option_and_then byte_of (after_word words))
+fill_of channel (Some words) = fill_with channel (count_of (first_word words)) (option_and_then hex_byte (after_word words))
 
 -- a get asks for a count
 abbrev pub get_of : ℕ → Option (List ℕ) → Option ScriptRequest
@@ -51,7 +51,7 @@ asked_of verb channel rest =
 -- what a request's first word asks of the channel that follows it
 abbrev pub channel_asked : List ℕ → Option (List ℕ) → Option ScriptRequest
 channel_asked verb None = None
-channel_asked verb (Some words) = option_and_then (λ channel. asked_of verb channel (after_word words)) (channel_of (first_word words))
+channel_asked verb (Some words) = option_and_then (λ channel. asked_of verb channel (after_word words)) (channel_number (first_word words))
 
 -- the request of a line, None where it is refused
 abbrev pub request_of : List ℕ → Option ScriptRequest

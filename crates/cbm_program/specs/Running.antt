@@ -56,15 +56,15 @@ abbrev pub refused_at : Option ℕ → Asked
 refused_at bad = record { requests = []; bad = bad }
 
 -- one line, and what follows it
-abbrev pub with_line : Option ScriptLine → ℕ → Asked → Asked
-with_line None n rest = refused_at (Some n)
-with_line (Some Skipped) n rest = rest
-with_line (Some (Asks request)) n rest = record { requests = request ∷ rest.requests; bad = rest.bad }
+abbrev pub with_script_line : Option ScriptLine → ℕ → Asked → Asked
+with_script_line None n rest = refused_at (Some n)
+with_script_line (Some Skipped) n rest = rest
+with_script_line (Some (Asks request)) n rest = record { requests = request ∷ rest.requests; bad = rest.bad }
 
 -- the lines of a script from line n on
 unfoldable pub asked_from : ℕ → List (List ℕ) → Asked
 asked_from n [] = refused_at None
-asked_from n (line ∷ lines) = with_line (meaning n line) n (asked_from (n + 1) lines)
+asked_from n (line ∷ lines) = with_script_line (meaning n line) n (asked_from (n + 1) lines)
 
 -- a script's requests up to its first bad line, if it has one
 abbrev pub script_of : List ℕ → Asked

@@ -1,5 +1,5 @@
 -- A script of requests on a machine, and what it prints.
-pub use Rattle.cbm_host.specs.Served.{puts, hear, Said, says, talked, talked_at, status_said}
+pub use Rattle.cbm_host.specs.Served.{puts, hear_bytes, TalkSaid, says, talked, talked_at, status_said}
 use Rattle.std.specs.Prelude.{ℕ, ◌+◌, ◌/◌, ◌%◌, nat_lt, Bool, List, [], ◌∷◌, ◌++◌, flat_map, replicate, codes, decimal, if◌then◌else◌}
 use Rattle.cbm_machine.specs.Machines.{Machine}
 use Rattle.cbm_machine.specs.Closing.{close}
@@ -37,18 +37,18 @@ bytes_text [] marked = codes "none"
 bytes_text (b ∷ bytes) marked = flat_map hex (b ∷ bytes) ++ eoi_mark marked
 
 -- the line of a get
-abbrev pub get_line : ℕ → Said → List ℕ
+abbrev pub get_line : ℕ → TalkSaid → List ℕ
 get_line ch said = codes "get " ++ decimal ch ++ codes " " ++ bytes_text said.bytes said.marked ++ codes "\n"
 
 -- the line of a status, without its return
-abbrev pub status_text : Said → List ℕ
+abbrev pub status_text : TalkSaid → List ℕ
 status_text said = codes "status " ++ without_return said.bytes ++ codes "\n"
 
 -- what a request prints, at the drive's pace, and the machine after it
 abbrev pub printed_by : Pace → ScriptRequest → Machine → Printed
 printed_by pace (Open ch text) m = silent (after_open ch text.items m)
-printed_by pace (Put ch text) m = silent (hear ch text.items m)
-printed_by pace (Fill ch n b) m = silent (hear ch (replicate n b) m)
+printed_by pace (Put ch text) m = silent (hear_bytes ch text.items m)
+printed_by pace (Fill ch n b) m = silent (hear_bytes ch (replicate n b) m)
 printed_by pace (Get ch most) m = record { text = get_line ch (talked_at pace ch most m); machine = (talked_at pace ch most m).machine }
 printed_by pace (Close ch) m = silent (close ch m)
 printed_by pace Status m = record { text = status_text (status_said m); machine = (status_said m).machine }

@@ -23,8 +23,8 @@ escapes [] = []
 escapes (b ∷ bytes) = 92 ∷ hex_digit (b / 16) ∷ hex_digit (b % 16) ∷ escapes bytes
 
 -- each number is that of a byte
-abbrev pub AreBytes : List ℕ → Type 0
-AreBytes bytes = All (λ b. b < 256) bytes
+abbrev pub AreByteValues : List ℕ → Type 0
+AreByteValues bytes = All (λ b. b < 256) bytes
 
 -- each byte is written as itself: $20 to $7E but the backslash
 abbrev pub ArePlain : List ℕ → Type 0

@@ -1,9 +1,9 @@
 -- A drive under a host whose changes are made one at a time, and printed with what comes of them.
 use Rattle.std.specs.Prelude.{Bool, ◌≡◌, ◌≤◌, ℕ, List, [], ◌∷◌, ◌++◌, Option, None, Result, OnErr, IfErr}
 use Rattle.std.specs.Io.KnownBytes.{Appends}
-use Rattle.cbm_iec.specs.declared.act.Act.{Act}
+use Rattle.cbm_iec.specs.declared.machine.Act.{Act}
 use Rattle.cbm_iec.specs.declared.event.Event.{Event}
-use Rattle.cbm_iec.specs.declared.line.Change.{Change}
+use Rattle.cbm_iec.specs.declared.lines.Change.{Change}
 use Rattle.cbm_iec.specs.declared.party.Party.{Party}
 use Rattle.cbm_medium.specs.Seen.{Seen}
 use Rattle.cbm_session.specs.Playing.{Station, Plays}
@@ -18,10 +18,10 @@ use Rattle.cbm_drive.specs.Players.{Turns, IsAfter, IsFinished}
 use Rattle.cbm_drive.specs.Seats.{Seated, numbers}
 use Rattle.cbm_volume.specs.Holding.{HoldsDisk}
 use Rattle.cbm_program.specs.declared.fault.RunFault.{RunFault}
-use Rattle.cbm_program.specs.Output.{AppendsPart, Grows}
+use Rattle.cbm_program.specs.Output.{AppendsPart, AppendsMore}
 use Rattle.cbm_program.specs.Running.{IsOfWriting}
 use Rattle.bus_traces.specs.Events.{trace_text}
-use Rattle.cbm_program.specs.Traces.{powered, replaying}
+use Rattle.cbm_program.specs.Traces.{trace_powered, replaying}
 
 -- No change is pending, none is still to be given, and the host's next one may come from this moment on.
 pub record IsOpen (p : Turns) (moment : ℕ) : Type 0 where
@@ -46,8 +46,8 @@ module _ (D S : Type 0) (stands : D → S → Type 0) (step : S → Act → S) (
 
 module _ {M : Type 0} (seen : M → Seen) where
   -- how many tracks the disks of these drives have
-  abbrev pub tracks_in : Cabled (Desk (Kept M)) → List ℕ
-  tracks_in b = numbers (λ x. (seen x.dos.medium).tracks) b.drives
+  abbrev pub tracks_of_drives : Cabled (Desk (Kept M)) → List ℕ
+  tracks_of_drives b = numbers (λ x. (seen x.dos.medium).tracks) b.drives
 
   -- the one drive of this bus represents a machine
   abbrev pub IsBorne : Cabled (Desk (Kept M)) → Machine → Type 0
@@ -58,12 +58,12 @@ module _ {M : Type 0} (seen : M → Seen) where
   IsAt p b ss es = IsAfter (Desk (Kept M)) (Desk Machine) (DeskStands seen) desk_step desk_says p b 0 ss es
 
   -- the drive is at power up, for a machine
-  abbrev pub IsSwitchedOn : Party → Turns → Cabled (Desk (Kept M)) → Machine → Type 0
-  IsSwitchedOn drive p b m = IsAt p b (powered drive m) []
+  abbrev pub IsDriveSwitchedOn : Party → Turns → Cabled (Desk (Kept M)) → Machine → Type 0
+  IsDriveSwitchedOn drive p b m = IsAt p b (trace_powered drive m) []
 
   -- the same with each disk that a medium which shows this holds
   abbrev pub StandsOn : Seen → Party → Turns → Cabled (Desk (Kept M)) → Type 0
-  StandsOn shows drive p b = (d : Disk) → HoldsDisk shows.tracks shows.content d → IsSwitchedOn drive p b (start d shows.protected shows.tracks)
+  StandsOn shows drive p b = (d : Disk) → HoldsDisk shows.tracks shows.content d → IsDriveSwitchedOn drive p b (start d shows.protected shows.tracks)
 
   -- what was played of a drive that represents a machine of named files
   abbrev pub HasPlayedOn : Option (List ℕ) → Option (List ℕ) → List Change → Turns → Cabled (Desk (Kept M)) → List (Station (Desk Machine)) → List Event → Type 0
@@ -99,8 +99,8 @@ module _ {M : Type 0} (seen : M → Seen) where
   pub record HasStaged {A : Type 0} (result : Result A RunFault) (a b : Option (List ℕ)) (cs : List Change) (p : Turns) (x y : Cabled (Desk (Kept M))) : Type 0 where
     pub err : OnErr result (PlaysPart a b cs p x)
     pub fault : IfErr result IsOfWriting
-    pub grows : Grows a b
-    pub tracks : tracks_in y ≡ tracks_in x
+    pub grows : AppendsMore a b
+    pub tracks : tracks_of_drives y ≡ tracks_of_drives x
 
 module _ {D : Type 0} (shows : D → Shown) where
   -- from these stations of a machine that plays back these events were given, and it will still show these

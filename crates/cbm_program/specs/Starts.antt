@@ -26,13 +26,13 @@ abbrev pub KeptBy : Seen → Machine → Type 0
 KeptBy seen m = HoldsDisk seen.tracks seen.content m.disk
 
 -- the same of an image's disk
-abbrev pub Begins : List ℕ → Bool → Machine → Type 0
-Begins image protected m = StartsOn (tracks_of (kind_of image) image) (content_of (kind_of image) image) protected m
+abbrev pub BeginsOn : List ℕ → Bool → Machine → Type 0
+BeginsOn image protected m = StartsOn (tracks_of (kind_of image) image) (content_of (kind_of image) image) protected m
 
 -- why an image isn't taken: its fault, or want of memory
-abbrev pub IsRefusal : Option ℕ → RunFault → Type 0
-IsRefusal why (Script line) = ⊥
-IsRefusal why (Image n) = why ≡ Some n
-IsRefusal why Memory = Unit {0}
-IsRefusal why Reading = ⊥
-IsRefusal why Writing = ⊥
+abbrev pub IsRunRefusal : Option ℕ → RunFault → Type 0
+IsRunRefusal why (Script line) = ⊥
+IsRunRefusal why (Image n) = why ≡ Some n
+IsRunRefusal why Memory = Unit {0}
+IsRunRefusal why Reading = ⊥
+IsRunRefusal why Writing = ⊥

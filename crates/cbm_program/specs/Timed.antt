@@ -3,27 +3,27 @@ use Rattle.std.specs.Prelude.{ℕ, ◌≤◌, List, [], ◌∷◌, codes, Bool, 
 use Rattle.std.specs.Str.{bytes_eq}
 use Rattle.cbm_iec.specs.declared.event.Event.{Event}
 use Rattle.bus_traces.specs.Events.{host_event_of}
-use Rattle.cbm_program.specs.Words.{first_word, after_word, moment_of}
+use Rattle.cbm_program.specs.Words.{first_word, after_word, moment_number}
 use Rattle.cbm_program.specs.declared.wires.timed.Timed.{Timed}
 use Rattle.cbm_program.specs.declared.wires.timed.Timed.TheVariants.{Skipped, Changes, Ends}
 
 -- a change of the host
-abbrev pub change_of : Option Event → Option Timed
-change_of event = option_map (λ e. Changes e.change) event
+abbrev pub timed_change : Option Event → Option Timed
+timed_change event = option_map (λ e. Changes e.change) event
 
 -- a moment after `end`
-abbrev pub end_of : Option (List ℕ) → Option Timed
-end_of None = None
-end_of (Some word) = option_map Ends (moment_of word)
+abbrev pub timed_end : Option (List ℕ) → Option Timed
+timed_end None = None
+timed_end (Some word) = option_map Ends (moment_number word)
 
 -- what a line asks for: the end, or a change
-abbrev pub asked_of : List ℕ → Option Timed
-asked_of bytes = if bytes_eq (first_word bytes) (codes "end") then end_of (after_word bytes) else change_of (host_event_of bytes)
+abbrev pub timed_asked : List ℕ → Option Timed
+timed_asked bytes = if bytes_eq (first_word bytes) (codes "end") then timed_end (after_word bytes) else timed_change (host_event_of bytes)
 
 -- what a line is, None where it is refused
 abbrev pub timed_of : List ℕ → Option Timed
 timed_of [] = Some Skipped
-timed_of (b ∷ bytes) = if b == 59 then Some Skipped else asked_of (b ∷ bytes)
+timed_of (b ∷ bytes) = if b == 59 then Some Skipped else timed_asked (b ∷ bytes)
 
 -- Nothing comes before what came before it.
 abbrev pub timed_behind : ℕ → Option Timed → Option Timed
@@ -46,7 +46,7 @@ IsTimed (Changes change) = change.moment ≤ 1000000000000000
 IsTimed (Ends end) = end ≤ 1000000000000000
 
 -- the moment that holds after a line
-abbrev pub latest : ℕ → Timed → ℕ
-latest from Skipped = from
-latest from (Changes change) = change.moment
-latest from (Ends end) = end
+abbrev pub latest_timed : ℕ → Timed → ℕ
+latest_timed from Skipped = from
+latest_timed from (Changes change) = change.moment
+latest_timed from (Ends end) = end

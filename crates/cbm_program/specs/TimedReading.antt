@@ -1,7 +1,7 @@
 -- What the reading of a line of a script of line changes says.
 use Rattle.std.specs.Prelude.{◌≡◌, ◌<◌, ◌≤◌, ◌⊎◌, ℕ, List, [], ◌∷◌, Option, Some, None, Result, Ok, Err}
 use Rattle.bus_traces.specs.Lines.{lines_of}
-use Rattle.cbm_program.specs.Timed.{IsTimed, latest}
+use Rattle.cbm_program.specs.Timed.{IsTimed, latest_timed}
 use Rattle.cbm_program.specs.Timetables.{timed_meaning, bad_behind}
 use Rattle.cbm_program.specs.declared.fault.RunFault.{RunFault}
 use Rattle.cbm_program.specs.declared.fault.RunFault.TheVariants.{Script, Image, Memory, Reading, Writing}
@@ -20,7 +20,7 @@ LacksTimed (Some xs) n from = (xs ≡ []) ⊎ ((bytes : List ℕ) × (lines : Li
 
 -- after the reading of line n, which follows a moment
 abbrev pub TimedRead : Option (List ℕ) → Option (List ℕ) → ℕ → ℕ → Result Timed RunFault → Type 0
-TimedRead old new n from (Ok timed) = ReadsTimed old new n from timed × (n < 1000001) × IsTimed timed × (from ≤ latest from timed)
+TimedRead old new n from (Ok timed) = ReadsTimed old new n from timed × (n < 1000001) × IsTimed timed × (from ≤ latest_timed from timed)
 TimedRead old new n from (Err (Script bad)) = (bad ≡ n) × LacksTimed old n from
 TimedRead old new n from (Err (Image number)) = ⊥
 TimedRead old new n from (Err Memory) = ⊥

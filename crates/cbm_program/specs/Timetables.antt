@@ -1,10 +1,10 @@
 -- A script of line changes: what its lines ask for, one after the other.
 use Rattle.std.specs.Prelude.{ℕ, ◌+◌, List, [], ◌∷◌, codes, drop, Bool, true, false, if◌then◌else◌, Option, Some, None}
 use Rattle.std.specs.Str.{bytes_eq}
-use Rattle.cbm_iec.specs.declared.line.Change.{Change}
+use Rattle.cbm_iec.specs.declared.lines.Change.{Change}
 use Rattle.bus_traces.specs.Lines.{lines_of}
 use Rattle.cbm_program.specs.Running.{may_stand}
-use Rattle.cbm_program.specs.Timed.{timed_of, timed_behind, is_skipped, latest}
+use Rattle.cbm_program.specs.Timed.{timed_of, timed_behind, is_skipped, latest_timed}
 use Rattle.cbm_program.specs.declared.wires.timed.Timed.{Timed}
 use Rattle.cbm_program.specs.declared.wires.timed.Timed.TheVariants.{Skipped, Changes, Ends}
 
@@ -79,7 +79,7 @@ with_timed (Some (Ends end)) n bad rest = ended_at end bad
 -- the moment after which the next line stands
 abbrev pub latest_if : ℕ → Option Timed → ℕ
 latest_if from None = from
-latest_if from (Some timed) = latest from timed
+latest_if from (Some timed) = latest_timed from timed
 
 -- The lines from line n on, after a moment. Where no line is the end, the line that is missing is refused.
 unfoldable pub timetable_from : ℕ → ℕ → List (List ℕ) → Timetable

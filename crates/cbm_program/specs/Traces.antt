@@ -2,9 +2,9 @@
 use Rattle.std.specs.Prelude.{◌≡◌, ◌+◌, ◌≤◌, ℕ, Bool, false, List, [], ◌∷◌, ◌++◌, Option, Some, None, IfSome}
 use Rattle.std.specs.Io.KnownBytes.{Appends}
 use Rattle.cbm_iec.specs.Ports.{port_due}
-use Rattle.cbm_iec.specs.declared.act.Act.{Act}
+use Rattle.cbm_iec.specs.declared.machine.Act.{Act}
 use Rattle.cbm_iec.specs.declared.event.Event.{Event}
-use Rattle.cbm_iec.specs.declared.line.Change.{Change}
+use Rattle.cbm_iec.specs.declared.lines.Change.{Change}
 use Rattle.cbm_iec.specs.declared.party.Party.{Party}
 use Rattle.cbm_session.specs.Loosely.{HostKeepsLoosely, IsKeptLoosely}
 use Rattle.cbm_session.specs.Playing.{Station, Plays, IsKept, IsLaterDue, at_rest}
@@ -15,7 +15,7 @@ use Rattle.cbm_drive.specs.Playback.{Playback, played_says, played_step}
 use Rattle.cbm_host.specs.Served.{at_power_up}
 use Rattle.cbm_drive.specs.Ordered.{host_changes, latest}
 use Rattle.bus_traces.specs.Events.{trace_text}
-use Rattle.cbm_program.specs.Output.{AppendsPart, Grows}
+use Rattle.cbm_program.specs.Output.{AppendsPart, AppendsMore}
 use Rattle.cbm_program.specs.Timetables.{Timetable, timetable_of}
 
 -- ---- the drive of a script
@@ -25,16 +25,16 @@ abbrev pub machines_of : Party → Machine → ℕ → Desk Machine
 machines_of drive m d = at_power_up drive.pace drive.device m
 
 -- the drive at power up alone on a bus, above it the machine of named files
-abbrev pub powered : Party → Machine → List (Station (Desk Machine))
-powered drive m = at_rest (Desk Machine) desk_step desk_says (machines_of drive m) (drive ∷ [])
+abbrev pub trace_powered : Party → Machine → List (Station (Desk Machine))
+trace_powered drive m = at_rest (Desk Machine) desk_step desk_says (machines_of drive m) (drive ∷ [])
 
 -- the same, above it a machine that plays back
 abbrev pub replaying : Party → Playback → List (Station Playback)
 replaying drive p = at_rest Playback played_step played_says (λ d. p) (drive ∷ [])
 
 -- From power up these events come, and then the drive stands so.
-abbrev pub IsPlayed : Party → Machine → List Event → ℕ → List (Station (Desk Machine)) → Type 0
-IsPlayed drive m trace from ss = Plays (Desk Machine) desk_step desk_says 0 (powered drive m) trace from ss
+abbrev pub IsPlayedFrom : Party → Machine → List Event → ℕ → List (Station (Desk Machine)) → Type 0
+IsPlayedFrom drive m trace from ss = Plays (Desk Machine) desk_step desk_says 0 (trace_powered drive m) trace from ss
 
 -- A script is played up to its end, the reactions of that moment too. Where its end isn't read it is played up to its last change, and the
 -- reactions of that moment are still due.
@@ -72,7 +72,7 @@ KeepTracesLoosely drive = ((m : Machine) (t : Timetable) (trace : List Event) (s
 pub record IsTraceBegun (drive : Party) (m : Machine) (t : Timetable) (trace : List Event) : Type 0 where
   pub from : ℕ
   pub stations : List (Station (Desk Machine))
-  pub plays : IsPlayed drive m trace from stations
+  pub plays : IsPlayedFrom drive m trace from stations
   pub rest : List Change
   pub hosts : host_changes trace ++ rest ≡ t.changes
 
@@ -92,7 +92,7 @@ WritesTrace drive input old new bad = IfSome input (λ bytes. ((timetable_of byt
 
 -- the same after the line of a check, if one is asked for
 abbrev pub WritesBehind : Party → Bool → Option (List ℕ) → Option (List ℕ) → Option (List ℕ) → Option ℕ → Type 0
-WritesBehind drive checks input old new bad = (between : Option (List ℕ)) × (checks ≡ false → between ≡ old) × Grows old between × WritesTrace drive input between new bad
+WritesBehind drive checks input old new bad = (between : Option (List ℕ)) × (checks ≡ false → between ≡ old) × AppendsMore old between × WritesTrace drive input between new bad
 
 -- For each machine that was represented before, the trace of the script was written after this text, and the machine above the drive is represented now.
 abbrev pub PrintsTrace : Option (List ℕ) → Option (List ℕ) → (Machine → Type 0) → (Machine → Type 0) → Party → List ℕ → Timetable → Type 0

@@ -6,7 +6,7 @@ ghost use Rattle.cbm_image.specs.Images.{kind_of, image_fault, IsOf};
 ghost use Rattle.cbm_program.specs.Checking.{IsCheckedFirst};
 ghost use Rattle.cbm_program.specs.Outcome.{IsRun, IsOutcome};
 ghost use Rattle.cbm_program.specs.Running.{EndsAs, IsOfScript};
-ghost use Rattle.cbm_program.specs.Starts.{IsDevice, StartsFrom, KeptBy, IsRefusal};
+ghost use Rattle.cbm_program.specs.Starts.{IsDevice, StartsFrom, KeptBy, IsRunRefusal};
 ghost use Rattle.cbm_program.specs.Traces.{KeepTracesLoosely};
 
 use crate::fault::RunFault;
@@ -90,7 +90,7 @@ fn opened<I: DiskImage>(alloc: Global, image: &[u8], protected: bool) -> Result<
     ensures ok { IfOk result (λ d. IsOf I.kind image.now (I.seen d).tracks (I.seen d).content
         × ((I.seen d).protected ≡ protected)) }
     ensures refused { IfSome (image_fault I.kind image.now) (λ n. result ≡ Err (RunFault.Image n)) }
-    ensures cause { IfErr result (IsRefusal (image_fault I.kind image.now)) }
+    ensures cause { IfErr result (IsRunRefusal (image_fault I.kind image.now)) }
 {
     match I::open(alloc, image, protected) {
         Ok(disk) => Ok(disk),

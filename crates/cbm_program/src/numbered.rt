@@ -1,6 +1,6 @@
 //! The lines of a script by their numbers, and what the first one says of it.
 ghost use Rattle.std.specs.Prelude.{◌≡◌, ◌≤◌, true, length, IfOk};
-ghost use Rattle.bus_traces.specs.Lines.{bytes_left};
+ghost use Rattle.bus_traces.specs.Lines.{source_bytes_left};
 ghost use Rattle.cbm_program.specs.Beginnings.{BytesRead, FirstRead, BeginsInRange};
 
 use crate::fault::RunFault;
@@ -27,7 +27,7 @@ pub(crate) fn next_line<R: Read>(
     bytes: &mut ArrayVec<u8, 1000>,
     number: u32,
 ) -> Result<bool, RunFault>
-    ensures { BytesRead (bytes_left R.remaining lines.old) (bytes_left R.remaining lines.new) number bytes.new.items result }
+    ensures { BytesRead (source_bytes_left R.remaining lines.old) (source_bytes_left R.remaining lines.new) number bytes.new.items result }
 {
     let found = match lines.next_line(bytes) {
         Ok(found) => found,
@@ -42,7 +42,7 @@ pub(crate) fn next_line<R: Read>(
 
 /// Reads the first line of a script.
 pub(crate) fn read_first<R: Read>(lines: &mut Source<R>) -> Result<Beginning, RunFault>
-    ensures read { FirstRead (bytes_left R.remaining lines.old) (bytes_left R.remaining lines.new) result }
+    ensures read { FirstRead (source_bytes_left R.remaining lines.old) (source_bytes_left R.remaining lines.new) result }
     ensures channel { IfOk result BeginsInRange }
 {
     let mut bytes = ArrayVec::new();

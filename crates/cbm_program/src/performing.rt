@@ -1,6 +1,6 @@
 //! Carrying out the requests of a script, over the wires.
 ghost use Rattle.std.specs.Prelude.{◌<◌, ◌^◌};
-ghost use Rattle.cbm_program.specs.Performing.{GoesOn, HasPrinted};
+ghost use Rattle.cbm_program.specs.Performing.{GoesOnHosting, HasPrinted};
 ghost use Rattle.cbm_program.specs.Scripts.{printed, printed_by};
 ghost use Rattle.cbm_program.specs.Running.{IsInRange, LineIsInRange, requests_in};
 
@@ -28,7 +28,7 @@ fn perform<M: Steady, W: Write>(
     requires moment { drive.old.moment < 2 ^ 58 }
     ensures printed { HasPrinted M.seen result (W.contents writer.old) (W.contents writer.new) drive.old drive.new
         (printed_by drive.old.pace request.now) }
-    ensures drive { GoesOn M.seen drive.old drive.new }
+    ensures drive { GoesOnHosting M.seen drive.old drive.new }
 {
     match request {
         ScriptRequest::Open(channel, text) => {
@@ -62,7 +62,7 @@ pub(crate) fn perform_line<M: Steady, W: Write>(
     requires moment { drive.old.moment < 2 ^ 58 }
     ensures printed { HasPrinted M.seen result (W.contents writer.old) (W.contents writer.new) drive.old drive.new
         (printed drive.old.pace (requests_in line.now)) }
-    ensures drive { GoesOn M.seen drive.old drive.new }
+    ensures drive { GoesOnHosting M.seen drive.old drive.new }
 {
     match line {
         ScriptLine::Skipped => Ok(()),

@@ -1,10 +1,10 @@
 //! A script of requests, from its first line to its last or its first bad one.
 ghost use Rattle.std.specs.Prelude.{◌≡◌, ◌∷◌, [], ℕ, false, List, Option, Ok, IfSome, IfOk, IfErr, OnErr};
-ghost use Rattle.bus_traces.specs.Lines.{bytes_left};
+ghost use Rattle.bus_traces.specs.Lines.{source_bytes_left};
 ghost use Rattle.cbm_host.specs.Hosted.{Rests, tracks_on};
 ghost use Rattle.cbm_medium.specs.Seen.{Seen};
 ghost use Rattle.cbm_program.specs.Outcome.{IsServedTo, IsServedPart, ServesScript};
-ghost use Rattle.cbm_program.specs.Output.{Grows};
+ghost use Rattle.cbm_program.specs.Output.{AppendsMore};
 ghost use Rattle.cbm_program.specs.Performing.{RestsOn};
 ghost use Rattle.cbm_program.specs.Running.{LineRead, LineIsInRange, EndsAs, IsOfScript};
 ghost use Rattle.cbm_program.specs.Starts.{StartsFrom, KeptBy};
@@ -25,7 +25,7 @@ fn read_line<R: Read>(
     bytes: &mut ArrayVec<u8, 1000>,
     number: u32,
 ) -> Result<Option<ScriptLine>, RunFault>
-    ensures { LineRead (bytes_left R.remaining lines.old) (bytes_left R.remaining lines.new) number result }
+    ensures { LineRead (source_bytes_left R.remaining lines.old) (source_bytes_left R.remaining lines.new) number result }
 {
     if !next_line(lines, bytes, number)? {
         return Ok(None);
@@ -47,15 +47,15 @@ fn run_on<M: Steady, R: Read, W: Write>(
     requires first { IfSome first LineIsInRange }
     requires moment { drive.old.moment ≡ 1000 }
     // Up to its end or its first bad line the script prints what was written, and the drive is in the state after it.
-    ensures ended { (input : Option (List ℕ)) → LineRead input (bytes_left R.remaining lines.old) 1 (Ok first) →
+    ensures ended { (input : Option (List ℕ)) → LineRead input (source_bytes_left R.remaining lines.old) 1 (Ok first) →
         EndsAs result (IsServedTo drive.old.pace false input (W.contents writer.old) (W.contents writer.new)
         (Rests M.seen drive.old) (Rests M.seen drive.new)) }
     // At a fault a beginning of that was written.
-    ensures fault { (input : Option (List ℕ)) → LineRead input (bytes_left R.remaining lines.old) 1 (Ok first) →
+    ensures fault { (input : Option (List ℕ)) → LineRead input (source_bytes_left R.remaining lines.old) 1 (Ok first) →
         OnErr result (IsServedPart drive.old.pace false input (W.contents writer.old) (W.contents writer.new)
         (Rests M.seen drive.old)) }
     ensures tracks { tracks_on M.seen drive.new ≡ tracks_on M.seen drive.old }
-    ensures grows { Grows (W.contents writer.old) (W.contents writer.new) }
+    ensures grows { AppendsMore (W.contents writer.old) (W.contents writer.new) }
     ensures cause { IfErr result IsOfScript }
 {
     let mut bytes = ArrayVec::new();
@@ -80,9 +80,9 @@ pub(crate) fn run_requests<M: Steady + Drop, R: Read, W: Write>(
     requires first { IfSome first LineIsInRange }
     requires moment { drive.moment ≡ 1000 }
     ensures served { (shows : Seen) (input : Option (List ℕ)) → RestsOn M.seen shows drive →
-        LineRead input (bytes_left R.remaining lines.old) 1 (Ok first) → ServesScript result (StartsFrom shows)
+        LineRead input (source_bytes_left R.remaining lines.old) 1 (Ok first) → ServesScript result (StartsFrom shows)
         (λ after. KeptBy (M.seen after)) drive.pace false input (W.contents writer.old) (W.contents writer.new) }
-    ensures grows { Grows (W.contents writer.old) (W.contents writer.new) }
+    ensures grows { AppendsMore (W.contents writer.old) (W.contents writer.new) }
     ensures same_tracks { IfOk result (λ after. (M.seen after).tracks ∷ [] ≡ tracks_on M.seen drive) }
     ensures cause { IfErr result IsOfScript }
 {

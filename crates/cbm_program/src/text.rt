@@ -2,7 +2,7 @@
 ghost use Rattle.std.specs.Prelude.{◌≡◌, ◌<◌, ◌≤◌, ℕ, List, length, option_map, IfSome, Some, None, if◌then◌else◌};
 ghost use Rattle.cbm_program.specs.Texts.{is_hex, hex_value, is_plain, text_of};
 ghost use Rattle.bus_traces.specs.Lines.{lines_of};
-ghost use Rattle.cbm_program.specs.Spelling.{ended_lines, AreLines, escapes, AreBytes, ArePlain};
+ghost use Rattle.cbm_program.specs.Spelling.{ended_lines, AreLines, escapes, AreByteValues, ArePlain};
 
 use crate::request::Text;
 
@@ -50,6 +50,6 @@ pub fn decode(text: &[u8]) -> Option<Text>
 /// Lines that are written each with its end read back, and so do texts, escaped or plain.
 pub fn what_is_written_reads_back()
     ensures lines { (lines : List (List ℕ)) → AreLines lines → lines_of (ended_lines lines) ≡ lines }
-    ensures escaped { (bytes : List ℕ) → AreBytes bytes → text_of (escapes bytes) ≡ Some bytes }
+    ensures escaped { (bytes : List ℕ) → AreByteValues bytes → text_of (escapes bytes) ≡ Some bytes }
     ensures plain { (bytes : List ℕ) → ArePlain bytes → text_of bytes ≡ Some bytes }
 {}

@@ -1,6 +1,6 @@
 //! The numbers in the words of a line.
 ghost use Rattle.std.specs.Prelude.{◌≡◌, ◌≤◌, IfSome};
-ghost use Rattle.cbm_program.specs.Words.{number_within, channel_of, count_of, byte_of};
+ghost use Rattle.cbm_program.specs.Words.{number_within, channel_number, count_of, hex_byte};
 
 use crate::text::hex_digit;
 use bus_traces::number;
@@ -20,7 +20,7 @@ fn number_within(low: u64, high: u64, word: &[u8]) -> Option<u64>
 
 /// A channel, 0 to 15.
 pub(crate) fn channel(word: &[u8]) -> Option<u8>
-    ensures value { result ≡ channel_of word.now }
+    ensures value { result ≡ channel_number word.now }
     ensures small { IfSome result (λ channel. channel ≤ 15) }
 {
     Some(number_within(0, 15, word)? as u8)
@@ -36,7 +36,7 @@ pub(crate) fn count(word: &[u8]) -> Option<u32>
 
 /// A byte of two hexadecimal digits.
 pub(crate) fn byte(word: &[u8]) -> Option<u8>
-    ensures { result ≡ byte_of word.now }
+    ensures { result ≡ hex_byte word.now }
 {
     let (high, rest) = word.split_first()?;
     let (low, rest) = rest.split_first()?;

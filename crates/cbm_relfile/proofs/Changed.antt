@@ -13,7 +13,7 @@ use Rattle.cbm_medium.proofs.Places.{place_decide, written_there, written_elsewh
 use Rattle.cbm_file.specs.Records.{zeros, with_bytes}
 use Rattle.cbm_chain.specs.Data.{data_of, chain_bytes}
 use Rattle.cbm_relfile.specs.Records.{AllWhole, record_in, stretch_in, EndsBefore}
-use Rattle.cbm_relfile.specs.Changing.{record_bytes, LiesFrom, HasNext, IsWriteRefused}
+use Rattle.cbm_relfile.specs.Changing.{record_bytes, LiesFrom, HasNextBlock, IsWriteRefused}
 use Rattle.cbm_relfile.proofs.Positions.{record_there, record_absent}
 use Rattle.cbm_relfile.proofs.Stretches.{ends_here, ends_next, next_from, block_found, record_stretch}
 
@@ -77,7 +77,7 @@ no_end tracks c x xs sector items place w whole holds chain here few is (short, 
     by_next ne (inr (more, h, l)) =
         by_none (ends_next tracks c x xs sector (data_of sector) more (data_of more) place w (place + w) (place + w - 254) whole holds chain.2 refl refl here few ne chain.3 h refl refl (omega (arith, l)))
 
-pub has_next : (tracks : ℕ) (c : Content) (x : Place) (xs : List Place) (sector : List ℕ) → c x ≡ Ok sector → Chain tracks c x (x ∷ xs) → HasNext tracks c sector
+pub has_next : (tracks : ℕ) (c : Content) (x : Place) (xs : List Place) (sector : List ℕ) → c x ≡ Ok sector → Chain tracks c x (x ∷ xs) → HasNextBlock tracks c sector
 has_next tracks c x xs sector holds chain = λ ne. let next = next_from tracks c x xs sector holds ne chain.3 in (next.has, next.reads)
 
 -- where a record lies that was read
@@ -85,7 +85,7 @@ pub record IsReadFrom (tracks : ℕ) (c : Content) (blocks : List Place) (w k : 
   pub lies : LiesFrom c blocks w k at sector place
   pub bytes : items ≡ record_bytes w (chain_bytes c blocks) k
   pub has : Has tracks at
-  pub next : HasNext tracks c sector
+  pub next : HasNextBlock tracks c sector
   pub goes_on : EndsBefore c sector (place + w) → ⊥
 
 pub read_from : (tracks : ℕ) (c : Content) (a : Place) (blocks : List Place) (k w from : ℕ) (at : Place) (sector items : List ℕ) → AllWhole c → Chain tracks c a blocks → 0 < k → 0 < w → w ≤ 254 → from ≡ (k - 1) * w → Some at ≡ slice_get blocks (from / 254)

@@ -3,7 +3,7 @@ use Rattle.std.proofs.Common.{◌≡◌, ◌≢◌, ℕ, ◌+◌, ◌-◌, ◌*�
 use Rattle.std.proofs.lemmas.List.{length-append}
 use Rattle.cbm_medium.specs.Place.{Place, Has}
 use Rattle.cbm_medium.specs.Content.{Cell, Content}
-use Rattle.cbm_medium.specs.Links.{bytes_at, or_nothing, link, Leads, Chain}
+use Rattle.cbm_medium.specs.Links.{bytes_at, or_nothing, link, LinksLead, Chain}
 use Rattle.cbm_relfile.specs.SideSectors.{named_in, sides_listed, sides_behind}
 use Rattle.cbm_relfile.proofs.Listed.{at_bytes, list_none, list_some}
 
@@ -80,12 +80,12 @@ behind_all head = refl
 pub record WalksTo (tracks : ℕ) (c : Content) (first p : Place) (passed : ℕ) : Type 0 where
   pub blocks : List Place
   pub number : length blocks ≡ passed
-  pub leads : Leads tracks c first blocks p
+  pub leads : LinksLead tracks c first blocks p
 
 pub walks_none : (tracks : ℕ) (c : Content) (first : Place) → WalksTo tracks c first first 0
 walks_none tracks c first = record { blocks = []; number = refl; leads = refl }
 
-leads_more : (tracks : ℕ) (c : Content) (a p : Place) (xs : List Place) → Leads tracks c a xs p → Has tracks p → IsOk (c p) → Leads tracks c a (xs ++ p ∷ []) (link (bytes_at c p))
+leads_more : (tracks : ℕ) (c : Content) (a p : Place) (xs : List Place) → LinksLead tracks c a xs p → Has tracks p → IsOk (c p) → LinksLead tracks c a (xs ++ p ∷ []) (link (bytes_at c p))
 leads_more tracks c a p [] h has reads = (h, has, reads, refl)
 leads_more tracks c a p (x ∷ xs) h has reads = (h.0, h.1, h.2, leads_more tracks c (link (bytes_at c x)) p xs h.3 has reads)
 
@@ -93,5 +93,5 @@ pub walks_more : (tracks : ℕ) (c : Content) (first p q : Place) (passed : ℕ)
 walks_more tracks c first p q passed bytes w has holds is = record {
   blocks = w.blocks ++ p ∷ [];
   number = omega (arith, w.number, length-append w.blocks (p ∷ []));
-  leads = subst (λ (r : Place). Leads tracks c first (w.blocks ++ p ∷ []) r) (ap (λ (x : Cell). link (or_nothing x)) holds ∙ sym is) (leads_more tracks c first p w.blocks w.leads has (subst (λ (x : Cell). IsOk x) (sym holds) refl));
+  leads = subst (λ (r : Place). LinksLead tracks c first (w.blocks ++ p ∷ []) r) (ap (λ (x : Cell). link (or_nothing x)) holds ∙ sym is) (leads_more tracks c first p w.blocks w.leads has (subst (λ (x : Cell). IsOk x) (sym holds) refl));
 }

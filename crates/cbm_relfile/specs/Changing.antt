@@ -35,8 +35,8 @@ IsChangedIfThere c c' blocks w k p bytes None = (record_in w (chain_bytes c bloc
 IsChangedIfThere c c' blocks w k p bytes (Some cut) = IsChanged c c' blocks w k p bytes cut
 
 -- the block goes on in a sector of the disk that reads, or nowhere
-abbrev pub HasNext : ℕ → Content → List ℕ → Type 0
-HasNext tracks c sector = ((link sector).track ≢ 0) → Has tracks (link sector) × IsOk (c (link sector))
+abbrev pub HasNextBlock : ℕ → Content → List ℕ → Type 0
+HasNextBlock tracks c sector = ((link sector).track ≢ 0) → Has tracks (link sector) × IsOk (c (link sector))
 
 -- why a sector of the disk isn't written
 abbrev pub IsWriteRefused : ℕ → Seen → Seen → ℕ → Type 0

@@ -44,7 +44,7 @@ pub record IsClaimStopped (tracks : ℕ) (old new : Seen) (code : ℕ) : Type 0 
   pub cause : HasCause mid new directory_head code
 
 -- The block is written, and then the side sector.
-pub record IsNew (old new : Content) (p q : Place) (w : ℕ) : Type 0 where
+pub record IsNewRelfile (old new : Content) (p q : Place) (w : ℕ) : Type 0 where
   pub block : List ℕ
   pub fresh : IsFreshBlock w block
   pub written : new ≡ written (written old p block) q (one_listed p q w)

@@ -4,7 +4,7 @@ ghost use Rattle.std.specs.Prelude.{◌≡◌, ◌≢◌, ◌≤◌, ℕ, List, 
 ghost use Rattle.cbm_medium.specs.Place.{Place, Has, sector_count};
 ghost use Rattle.cbm_medium.specs.Links.{Chain};
 ghost use Rattle.cbm_medium.specs.Met.{IsMet};
-ghost use Rattle.cbm_relfile.specs.Counting.{IsCounted};
+ghost use Rattle.cbm_relfile.specs.Counting.{IsChainCounted};
 ghost use Rattle.cbm_relfile.specs.SideSectors.{sides_behind};
 
 use crate::relative::Relative;
@@ -24,7 +24,7 @@ fn block_count<M: Medium>(medium: &M, geometry: Geometry, first: Link) -> Result
     requires { geometry ≤ (M.seen medium.now).tracks }
     ensures chain { (blocks : List Place) → Chain geometry (M.seen medium.now).content first blocks →
         length blocks ≤ sector_count geometry → IsOkAnd result (λ k. k ≡ length blocks) }
-    ensures walked { IfOk result (IsCounted geometry (M.seen medium.now).content first) }
+    ensures walked { IfOk result (IsChainCounted geometry (M.seen medium.now).content first) }
     ensures err { IfErr result (IsMet geometry (M.seen medium.now).content) }
     ensures never_26 { IfErr result (λ t. t.code ≢ 26) }
 {
@@ -65,7 +65,7 @@ pub fn extent_of<M: Medium>(
         Has geometry file.side → now.content file.side ≡ Ok head →
         IsOkAnd result (λ x. (x.blocks ≡ length blocks) × (x.sides ≡ length (sides_behind 0 head))) }
     // On any disk: the blocks were walked, and the first side sector was read.
-    ensures walked { IfOk result (λ x. IsCounted geometry (M.seen medium.now).content file.first x.blocks) }
+    ensures walked { IfOk result (λ x. IsChainCounted geometry (M.seen medium.now).content file.first x.blocks) }
     ensures sides { IfOk result (λ x. IsOkAnd ((M.seen medium.now).content file.side)
         (λ head. x.sides ≡ length (sides_behind 0 head))) }
     ensures most { IfOk result (λ x. x.sides ≤ 6) }

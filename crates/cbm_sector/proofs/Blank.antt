@@ -5,13 +5,13 @@ use Rattle.std.proofs.lemmas.Bool.{cases_lt, cases_eq, cases_Bool, eq-eqb, ne_eq
 use Rattle.std.proofs.Math.Nat.{mod-eq_of_lt}
 use Rattle.cbm_gcr.specs.Code.{code}
 use Rattle.cbm_medium.specs.Place.{Place, sectors_on}
-use Rattle.cbm_track.specs.Circle.{bit, begins, ten_ones, next_block, first_below}
+use Rattle.cbm_track.specs.Circle.{circle_bit, begins, ten_ones, next_block, first_below}
 use Rattle.cbm_track.proofs.Firsts.{first_some}
 use Rattle.cbm_track.proofs.Steps.{next_some}
 use Rattle.cbm_track.proofs.Round.{clear_from, ten_ones_at, ten_ones_not}
 use Rattle.cbm_sector.specs.Decoding.{IsBytes, coded_at}
-use Rattle.cbm_sector.specs.Answer.{is_header, is_right, has_id, names, names_18, passes, is_crowded, header_at, header_of, block_at, behind, behind_header, block_of, shown, id_at, id_in, id_shown, data_block, xor_of}
-use Rattle.cbm_sector.specs.Fresh.{fresh, header_block, zeros}
+use Rattle.cbm_sector.specs.Answer.{is_header, is_right, has_id, names, names_18, passes, is_crowded, header_at, header_of, block_at, block_after_header, behind_header, block_of, sector_shown, id_at, id_in, id_shown, data_block, xor_of}
+use Rattle.cbm_sector.specs.Fresh.{fresh, header_block, zero_bytes}
 use Rattle.cbm_sector.proofs.Coding.{code_in, no_ten_ones}
 use Rattle.cbm_sector.proofs.Stands.{coded_front}
 use Rattle.cbm_sector.proofs.Writing.{IsWritten}
@@ -34,11 +34,11 @@ long track id s f = omega (arith, length-fresh track id f.some f.most, (sized tr
 header : (track : ℕ) (id : List ℕ) (s : ℕ) → IsFresh track id s → IsLaid (fresh track id) (2896 * s) (header_block track id s) 72
 header track id s f = header_laid track id s f.some f.most f.bytes f.below
 
-block : (track : ℕ) (id : List ℕ) (s : ℕ) → IsFresh track id s → IsLaid (fresh track id) (2896 * s + 192) (data_block zeros) 64
+block : (track : ℕ) (id : List ℕ) (s : ℕ) → IsFresh track id s → IsLaid (fresh track id) (2896 * s + 192) (data_block zero_bytes) 64
 block track id s f = data_laid track id s f.some f.most f.below
 
-size : length (data_block zeros) ≡ 260
-size = block_length zeros length-zeros
+size : length (data_block zero_bytes) ≡ 260
+size = block_length zero_bytes length-zeros
 
 -- ---- what is read there
 
@@ -46,14 +46,14 @@ header_coded : (track : ℕ) (id : List ℕ) (s : ℕ) → IsFresh track id s �
 header_coded track id s f = let l = header track id s f in
     coded_front (fresh track id) (2896 * s + 40) 8 (header_block track id s) (omega arith) l.bytes (λ k u. l.here k u)
 
-block_coded : (track : ℕ) (id : List ℕ) (s : ℕ) → IsFresh track id s → (m : ℕ) → m ≤ 260 → coded_at (fresh track id) (2896 * s + 232) m ≡ Some (take m (data_block zeros))
+block_coded : (track : ℕ) (id : List ℕ) (s : ℕ) → IsFresh track id s → (m : ℕ) → m ≤ 260 → coded_at (fresh track id) (2896 * s + 232) m ≡ Some (take m (data_block zero_bytes))
 block_coded track id s f m h = let l = block track id s f in
-    coded_front (fresh track id) (2896 * s + 232) m (data_block zeros) (omega (arith, size)) l.bytes (λ k u. ap (bit (fresh track id)) (omega arith) ∙ l.here k (omega (arith, size)))
+    coded_front (fresh track id) (2896 * s + 232) m (data_block zero_bytes) (omega (arith, size)) l.bytes (λ k u. ap (circle_bit (fresh track id)) (omega arith) ∙ l.here k (omega (arith, size)))
 
 no_header : (test : List ℕ → Bool) → IsOfHeaders test → (track : ℕ) (id : List ℕ) (s : ℕ) → IsFresh track id s → (m : ℕ) → 0 < m → m ≤ 260 → passes test (coded_at (fresh track id) (2896 * s + 232) m) ≡ false
 no_header test only track id s f m z h =
     ap (passes test) (block_coded track id s f m h)
-    ∙ only (take m (data_block zeros)) (ap (λ (x : ℕ). x == 8) (get_or-take m (data_block zeros) 0 0 z))
+    ∙ only (take m (data_block zero_bytes)) (ap (λ (x : ℕ). x == 8) (get_or-take m (data_block zero_bytes) 0 0 z))
 
 -- ---- where blocks begin
 
@@ -64,14 +64,14 @@ header_begins : (track : ℕ) (id : List ℕ) (s : ℕ) → IsFresh track id s �
 header_begins track id s f = laid_begins (fresh track id) (2896 * s) (header_block track id s) 72 (enough track id s f) (header track id s f)
 
 block_begins : (track : ℕ) (id : List ℕ) (s : ℕ) → IsFresh track id s → begins (fresh track id) (2896 * s + 232) ≡ true
-block_begins track id s f = ap (begins (fresh track id)) (omega arith) ∙ laid_begins (fresh track id) (2896 * s + 192) (data_block zeros) 64 (enough track id s f) (block track id s f)
+block_begins track id s f = ap (begins (fresh track id)) (omega arith) ∙ laid_begins (fresh track id) (2896 * s + 192) (data_block zero_bytes) 64 (enough track id s f) (block track id s f)
 
 -- no other block begins in a sector
 quiet : (track : ℕ) (id : List ℕ) (s : ℕ) → IsFresh track id s → (r : ℕ) → r < 2896 → r ≢ 40 → r ≢ 232 → begins (fresh track id) (2896 * s + r) ≡ false
 quiet track id s f r h ne ne' = elim (cases_lt r 192) [
   | inl u ↦ laid_quiet (fresh track id) (2896 * s) (header_block track id s) 72 r (enough track id s f) (header track id s f) u ne
   | inr u ↦ ap (begins (fresh track id)) (omega arith)
-      ∙ laid_quiet (fresh track id) (2896 * s + 192) (data_block zeros) 64 (r - 192) (enough track id s f) (block track id s f) (omega (arith, size)) (λ e. ne' (omega arith))
+      ∙ laid_quiet (fresh track id) (2896 * s + 192) (data_block zero_bytes) 64 (r - 192) (enough track id s f) (block track id s f) (omega (arith, size)) (λ e. ne' (omega arith))
 ]
 
 lower : (track : ℕ) (id : List ℕ) (s q : ℕ) → IsFresh track id s → q ≤ s → IsFresh track id q
@@ -119,14 +119,14 @@ first_is_some track id s f =
 no_ten : (track : ℕ) (id : List ℕ) (s : ℕ) → IsFresh track id s → (j : ℕ) → j < 2600 → ten_ones (fresh track id) (2896 * s + 232 + j) ≡ false
 no_ten track id s f j h =
     let l = block track id s f in
-    let at : (k : ℕ) → k < 2600 → bit (fresh track id) (2896 * s + 232 + k) ≡ get_or (code (data_block zeros)) k false = λ k u. ap (bit (fresh track id)) (omega arith) ∙ l.here k (omega (arith, size)) in
+    let at : (k : ℕ) → k < 2600 → circle_bit (fresh track id) (2896 * s + 232 + k) ≡ get_or (code (data_block zero_bytes)) k false = λ k u. ap (circle_bit (fresh track id)) (omega arith) ∙ l.here k (omega (arith, size)) in
     elim (cases_lt 2590 j) [
       | inl u ↦ ten_ones_not (fresh track id) (2896 * s + 232 + j) (2599 - j) (omega arith)
-          (ap (bit (fresh track id)) (omega arith) ∙ at 2599 (omega arith) ∙ code_in (data_block zeros) 259 9 (omega (arith, size)) (omega arith) ∙ ap (λ (x : ℕ). get_or (code (x ∷ [])) 9 false) (block_end zeros length-zeros))
+          (ap (circle_bit (fresh track id)) (omega arith) ∙ at 2599 (omega arith) ∙ code_in (data_block zero_bytes) 259 9 (omega (arith, size)) (omega arith) ∙ ap (λ (x : ℕ). get_or (code (x ∷ [])) 9 false) (block_end zero_bytes length-zeros))
       | inr u ↦ elim (cases_Bool (ten_ones (fresh track id) (2896 * s + 232 + j))) [
         | inr e ↦ e
-        | inl e ↦ absurd (no_ten_ones (data_block zeros) l.bytes j (omega (arith, size)) (λ k b.
-            sym (at (j + k) (omega arith)) ∙ ap (bit (fresh track id)) (omega arith) ∙ ten_ones_at (fresh track id) (2896 * s + 232 + j) k e b))
+        | inl e ↦ absurd (no_ten_ones (data_block zero_bytes) l.bytes j (omega (arith, size)) (λ k b.
+            sym (at (j + k) (omega arith)) ∙ ap (circle_bit (fresh track id)) (omega arith) ∙ ten_ones_at (fresh track id) (2896 * s + 232 + j) k e b))
       ]
     ]
 
@@ -161,7 +161,7 @@ block_found track id s f =
     let p = 2896 * s + 40 in
     ap (λ (x : Bool). cond {A = Result ℕ ℕ} x (behind_header t id (header_of t a)) (Err 21)) (first_is_some track id s f)
     ∙ ap (behind_header t id) (header_first (names a) (names_headers a) track id s f (λ q h. not_named track id s q h) (named track id s))
-    ∙ ap (behind t id p) (header_coded track id s f)
+    ∙ ap (block_after_header t id p) (header_coded track id s f)
     ∙ ap (λ (x : Bool). cond {A = Result ℕ ℕ} x (cond (has_id id (header_block track id s)) (block_at t (next_block t (p + 1))) (Err 29)) (Err 27)) (right track id s)
     ∙ ap (λ (x : Bool). cond {A = Result ℕ ℕ} x (block_at t (next_block t (p + 1))) (Err 29)) (of_id track id s)
     ∙ ap (block_at t) (next_is_block track id s f)
@@ -169,14 +169,14 @@ block_found track id s f =
     ∙ ap (λ (x : Bool). cond {A = Result ℕ ℕ} x (Err 20) (Ok (2896 * s + 232))) (room track id s f)
 
 -- it is as if zeros had been written there
-as_written : (track : ℕ) (id : List ℕ) (s : ℕ) → IsFresh track id s → IsWritten (fresh track id) (fresh track id) (2896 * s + 232) (data_block zeros)
+as_written : (track : ℕ) (id : List ℕ) (s : ℕ) → IsFresh track id s → IsWritten (fresh track id) (fresh track id) (2896 * s + 232) (data_block zero_bytes)
 as_written track id s f = let l = block track id s f in record {
   same_length = refl;
   size = size;
   bytes = l.bytes;
   seven = refl;
-  last = block_end zeros length-zeros;
-  here = λ k u. ap (bit (fresh track id)) (omega arith) ∙ l.here k (omega (arith, size));
+  last = block_end zero_bytes length-zeros;
+  here = λ k u. ap (circle_bit (fresh track id)) (omega arith) ∙ l.here k (omega (arith, size));
   others = λ k u b. refl;
   place = omega (arith, long track id s f);
   begins = block_begins track id s f;
@@ -184,16 +184,16 @@ as_written track id s f = let l = block track id s f in record {
   room = room track id s f;
 }
 
-pub fresh_shown : (track : ℕ) (id : List ℕ) (s : ℕ) → 0 < track → track < 36 → IsBytes id → s < sectors_on track → shown (fresh track id) id (record { track = track; sector = s }) ≡ Ok zeros
+pub fresh_shown : (track : ℕ) (id : List ℕ) (s : ℕ) → 0 < track → track < 36 → IsBytes id → s < sectors_on track → sector_shown (fresh track id) id (record { track = track; sector = s }) ≡ Ok zero_bytes
 fresh_shown track id s z h b l =
     let f : IsFresh track id s = record { some = z; most = h; bytes = b; below = l } in
-    own_shown (fresh track id) (fresh track id) (2896 * s + 232) zeros (as_written track id s f) length-zeros id (record { track = track; sector = s }) (block_found track id s f)
+    own_shown (fresh track id) (fresh track id) (2896 * s + 232) zero_bytes (as_written track id s f) length-zeros id (record { track = track; sector = s }) (block_found track id s f)
 
 pub fresh_block : (track : ℕ) (id : List ℕ) (s : ℕ) → 0 < track → track < 36 → IsBytes id → s < sectors_on track → block_of (fresh track id) id (record { track = track; sector = s }) ≡ Ok (2896 * s + 232)
 fresh_block track id s z h b l = block_found track id s (record { some = z; most = h; bytes = b; below = l })
 
-pub zeros_shown : (t : List Bool) (id : List ℕ) (a : Place) → shown t id a ≡ Ok zeros → shown t id a ≡ Ok (replicate 256 0)
-unfolding zeros
+pub zeros_shown : (t : List Bool) (id : List ℕ) (a : Place) → sector_shown t id a ≡ Ok zero_bytes → sector_shown t id a ≡ Ok (replicate 256 0)
+unfolding zero_bytes
 zeros_shown t id a e = e
 
 two : (v : List ℕ) → length v ≡ 2 → get_or v 0 0 ∷ get_or v 1 0 ∷ [] ≡ v

@@ -4,7 +4,7 @@ use Rattle.std.proofs.lemmas.Grind.{flat_map-append}
 use Rattle.cbm_gcr.specs.Code.{code, bits, bits_of}
 use Rattle.cbm_medium.specs.Place.{sectors_on}
 use Rattle.cbm_sector.specs.Answer.{data_block}
-use Rattle.cbm_sector.specs.Fresh.{mark, gap, zeros, laid, fresh, fresh_sectors, header_block, bytes_on}
+use Rattle.cbm_sector.specs.Fresh.{mark, gap_bits, zero_bytes, laid, fresh, fresh_sectors, header_block, bytes_on}
 use Rattle.cbm_sector.proofs.Reading.{code-append}
 
 bits-append : (xs ys : List ℕ) → bits_of (xs ++ ys) ≡ bits_of xs ++ bits_of ys
@@ -47,7 +47,7 @@ six o a b c d e f =
 -- six parts appended are a sector
 pub sector_built : (o x1 x2 x3 x4 x5 x6 h b : List ℕ) → x1 ≡ o ++ replicate 5 255 → bits_of x2 ≡ bits_of x1 ++ code h → x3 ≡ x2 ++ replicate 9 85
     → x4 ≡ x3 ++ replicate 5 255 → x5 ≡ x4 ++ b → x6 ≡ x5 ++ replicate 8 85 → bits_of x6 ≡ bits_of o ++ laid h (bits_of b)
-unfolding laid mark gap
+unfolding laid mark gap_bits
 sector_built o x1 x2 x3 x4 x5 x6 h b e1 e2 e3 e4 e5 e6 =
     ap bits_of e6 ∙ bits-append x5 (replicate 8 85)
     ∙ ap (λ (t : List Bool). t ++ bits_of (replicate 8 85)) (ap bits_of e5 ∙ bits-append x4 b
@@ -63,7 +63,7 @@ sectors_none track id = refl
 
 pub sectors_more : (track : ℕ) (id : List ℕ) (s : ℕ) (old new : List ℕ) (header block raw : List ℕ) → bits_of old ≡ fresh_sectors track id s → bits_of new ≡ bits_of old ++ laid header (bits_of block)
     → header ≡ header_block track id s → bits_of block ≡ code raw → raw ≡ data_block (replicate 256 0) → bits_of new ≡ fresh_sectors track id (s + 1)
-unfolding fresh_sectors zeros
+unfolding fresh_sectors zero_bytes
 sectors_more track id s old new header block raw e f h b d =
     let m : suc s ≡ s + 1 = omega arith in
     f ∙ ap (λ (t : List Bool). t ++ laid header (bits_of block)) e
@@ -83,7 +83,7 @@ pub sized : (t : ℕ) → 0 < t → t < 36 → IsSized t
 sized t z h = record { fits = grind arith; rest = grind arith; few = grind arith; some = grind arith; most = grind arith }
 
 pub track_built : (track : ℕ) (id items all : List ℕ) (r : ℕ) → bits_of items ≡ fresh_sectors track id (sectors_on track) → all ≡ items ++ take r (replicate 264 85) → r ≡ bytes_on track - 362 * sectors_on track → r ≤ 264 → bits_of all ≡ fresh track id
-unfolding fresh gap
+unfolding fresh gap_bits
 track_built track id items all r e f g h =
     ap bits_of f ∙ bits-append items (take r (replicate 264 85))
     ∙ ap (λ (v : List ℕ). bits_of items ++ bits_of v) (take-replicate r 264 85 h)

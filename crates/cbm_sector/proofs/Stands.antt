@@ -3,14 +3,14 @@ use Rattle.std.proofs.lemmas.List.{same_lists, get_or_default, length-take-le, g
 use Rattle.std.proofs.lemmas.Bool.{cases_lt}
 use Rattle.std.proofs.lemmas.List.{get_or_past}
 use Rattle.cbm_gcr.specs.Code.{code}
-use Rattle.cbm_track.specs.Circle.{bit, stretch, ten_ones}
+use Rattle.cbm_track.specs.Circle.{circle_bit, stretch, ten_ones}
 use Rattle.cbm_track.proofs.Places.{length-stretch, get_or-stretch, stretch_same}
 use Rattle.cbm_track.proofs.Round.{ten_ones_at}
 use Rattle.cbm_sector.specs.Decoding.{decoded, coded_at, IsBytes}
 use Rattle.cbm_sector.proofs.Coding.{length-code, code_in, decoded_again, code_from_decoded, no_ten_ones}
 
 -- what is read at a place goes by the bits there
-pub coded_same : (t u : List Bool) (p q n : ℕ) → ((k : ℕ) → k < 10 * n → bit t (p + k) ≡ bit u (q + k)) → coded_at t p n ≡ coded_at u q n
+pub coded_same : (t u : List Bool) (p q n : ℕ) → ((k : ℕ) → k < 10 * n → circle_bit t (p + k) ≡ circle_bit u (q + k)) → coded_at t p n ≡ coded_at u q n
 unfolding coded_at
 coded_same t u p q n h = ap (decoded n) (stretch_same t u p q (10 * n) h)
 
@@ -31,7 +31,7 @@ not_coded t p n j h ones = go (coded_at t p n) refl
         no_ten_ones v c.1 j (omega (arith, c.0)) (λ k l.
         sym (ap (λ (bs : List Bool). get_or bs (j + k) false) c.2)
         ∙ get_or-stretch t p (10 * n) (j + k) false (omega arith)
-        ∙ ap (bit t) (omega arith)
+        ∙ ap (circle_bit t) (omega arith)
         ∙ ten_ones_at t (p + j) k ones l)
 
     go : (o : Option (List ℕ)) → coded_at t p n ≡ o → o ≡ None
@@ -39,7 +39,7 @@ not_coded t p n j h ones = go (coded_at t p n) refl
     go (Some v) e = absurd (no v e)
 
 -- a front of bytes whose code stands there
-pub coded_front : (t : List Bool) (p n : ℕ) (v : List ℕ) → n ≤ length v → IsBytes v → ((k : ℕ) → k < 10 * n → bit t (p + k) ≡ get_or (code v) k false) → coded_at t p n ≡ Some (take n v)
+pub coded_front : (t : List Bool) (p n : ℕ) (v : List ℕ) → n ≤ length v → IsBytes v → ((k : ℕ) → k < 10 * n → circle_bit t (p + k) ≡ get_or (code v) k false) → coded_at t p n ≡ Some (take n v)
 coded_front t p n v h b same = coded_here t p n (take n v) (length-take-le n v h) front_bytes
     (same_lists _ _ (omega (arith, length-stretch t p (10 * n), length-code (take n v), length-take-le n v h)) (λ k d l. at k d (omega (arith, length-stretch t p (10 * n)))))
   where

@@ -5,7 +5,7 @@ use Rattle.std.proofs.lemmas.List.{length-take-le, length-drop}
 use Rattle.cbm_medium.specs.Place.{Place}
 use Rattle.cbm_medium.specs.Content.{IsWhole}
 use Rattle.cbm_sector.specs.Decoding.{coded_at}
-use Rattle.cbm_sector.specs.Answer.{xor_of, checked, data_of, data_at, data_behind, block_of, shown}
+use Rattle.cbm_sector.specs.Answer.{xor_of, checked, block_data, data_at, data_behind, block_of, sector_shown}
 use Rattle.cbm_sector.proofs.Stands.{coded_is}
 
 checked_whole : (o : Option (List ℕ)) → ((v : List ℕ) → o ≡ Some v → length v ≡ 260) → IsWhole (checked o)
@@ -16,7 +16,7 @@ checked_whole (Some v) h = by_test (xor_of (take 256 (drop 1 v)) == slice_index 
     by_test true = length-take-le 256 (drop 1 v) (omega (arith, length-drop {A = ℕ} 1 v, h v refl))
     by_test false = tt
 
-data_whole : (v o : Option (List ℕ)) → ((w : List ℕ) → o ≡ Some w → length w ≡ 260) → IsWhole (data_of v o)
+data_whole : (v o : Option (List ℕ)) → ((w : List ℕ) → o ≡ Some w → length w ≡ 260) → IsWhole (block_data v o)
 data_whole None o h = tt
 data_whole (Some v) o h = by_test (slice_index v 0 == 7)
   where
@@ -32,6 +32,6 @@ behind_whole : (track : List Bool) (r : Result ℕ ℕ) → IsWhole (data_behind
 behind_whole track (Err code) = tt
 behind_whole track (Ok p) = at_whole track p
 
-pub shown_whole : (track : List Bool) (id : List ℕ) (a : Place) → IsWhole (shown track id a)
-unfolding shown
+pub shown_whole : (track : List Bool) (id : List ℕ) (a : Place) → IsWhole (sector_shown track id a)
+unfolding sector_shown
 shown_whole track id a = behind_whole track (block_of track id a)

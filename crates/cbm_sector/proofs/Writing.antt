@@ -3,7 +3,7 @@ use Rattle.std.specs.Prelude.{not}
 use Rattle.std.proofs.Math.Nat.{mod-eq_of_lt, add-mod_right}
 use Rattle.std.proofs.lemmas.Bool.{false≢true, cases_lt, cases_eq, cases_Bool, not-false}
 use Rattle.cbm_gcr.specs.Code.{code}
-use Rattle.cbm_track.specs.Circle.{bit, ten_ones, begins, is_clear}
+use Rattle.cbm_track.specs.Circle.{circle_bit, ten_ones, begins, is_clear}
 use Rattle.cbm_track.proofs.Places.{bit_round, ten_ones_same}
 use Rattle.cbm_track.proofs.Round.{Around, around, bit_there, ten_ones_at, ten_ones_not, ten_ones_there, begins_zero, begins_ten, begins_no_ten, begins_same, begins_there, clear_at, clear_same}
 use Rattle.cbm_sector.specs.Decoding.{coded_at, IsBytes}
@@ -26,8 +26,8 @@ pub record IsWritten (old new : List Bool) (d : ℕ) (v : List ℕ) : Type 0 whe
   pub bytes : IsBytes v
   pub seven : get_or v 0 0 ≡ 7
   pub last : get_or v 259 0 ≡ 0
-  pub here : (k : ℕ) → k < 2600 → bit new (d + k) ≡ get_or (code v) k false
-  pub others : (k : ℕ) → 2600 ≤ k → k < length old → bit new (d + k) ≡ bit old (d + k)
+  pub here : (k : ℕ) → k < 2600 → circle_bit new (d + k) ≡ get_or (code v) k false
+  pub others : (k : ℕ) → 2600 ≤ k → k < length old → circle_bit new (d + k) ≡ circle_bit old (d + k)
   pub place : d < length old
   pub begins : begins old d ≡ true
   pub header : passes is_header (coded_at old d 4) ≡ false
@@ -49,10 +49,10 @@ long_enough t d z b r = elim (cases_lt (length t) 2610) [
 pub enough : (old new : List Bool) (d : ℕ) (v : List ℕ) → IsWritten old new d v → 2610 ≤ length old
 enough old new d v w = long_enough old d (omega (arith, w.place)) w.begins w.room
 
-first_old : (old new : List Bool) (d : ℕ) (v : List ℕ) → IsWritten old new d v → bit old (d + 0) ≡ false
-first_old old new d v w = ap (bit old) (omega arith) ∙ begins_zero old d w.begins
+first_old : (old new : List Bool) (d : ℕ) (v : List ℕ) → IsWritten old new d v → circle_bit old (d + 0) ≡ false
+first_old old new d v w = ap (circle_bit old) (omega arith) ∙ begins_zero old d w.begins
 
-first_new : (old new : List Bool) (d : ℕ) (v : List ℕ) → IsWritten old new d v → bit new (d + 0) ≡ false
+first_new : (old new : List Bool) (d : ℕ) (v : List ℕ) → IsWritten old new d v → circle_bit new (d + 0) ≡ false
 first_new old new d v w =
     w.here 0 (omega arith)
     ∙ code_in v 0 0 (omega (arith, w.size)) (omega arith)
@@ -66,7 +66,7 @@ own_ten old new d v w =
     (sym (ap (λ (a : ℕ). a % length old) (omega arith) ∙ add-mod_right (d + (length old - 10)) (length old)))
     ∙ begins_ten old d w.begins
 
-last_new : (old new : List Bool) (d : ℕ) (v : List ℕ) → IsWritten old new d v → bit new (d + 2599) ≡ false
+last_new : (old new : List Bool) (d : ℕ) (v : List ℕ) → IsWritten old new d v → circle_bit new (d + 2599) ≡ false
 last_new old new d v w =
     w.here 2599 (omega arith)
     ∙ code_in v 259 9 (omega (arith, w.size)) (omega arith)
@@ -75,17 +75,17 @@ last_new old new d v w =
 -- no ten ones begin in what was written
 ten_inside : (old new : List Bool) (d : ℕ) (v : List ℕ) → IsWritten old new d v → (j : ℕ) → j < 2600 → ten_ones new (d + j) ≡ false
 ten_inside old new d v w j h = elim (cases_lt 2590 j) [
-  | inl l ↦ ten_ones_not new (d + j) (2599 - j) (omega arith) (ap (bit new) (omega arith) ∙ last_new old new d v w)
+  | inl l ↦ ten_ones_not new (d + j) (2599 - j) (omega arith) (ap (circle_bit new) (omega arith) ∙ last_new old new d v w)
   | inr l ↦ elim (cases_Bool (ten_ones new (d + j))) [
     | inr e ↦ e
     | inl e ↦ absurd (no_ten_ones v w.bytes j (omega (arith, w.size)) (λ k b.
-        sym (w.here (j + k) (omega arith)) ∙ ap (bit new) (omega arith) ∙ ten_ones_at new (d + j) k e b))
+        sym (w.here (j + k) (omega arith)) ∙ ap (circle_bit new) (omega arith) ∙ ten_ones_at new (d + j) k e b))
   ]
 ]
 
 -- ten ones that would go over the block's first bit
-ten_over : (t : List Bool) (d j : ℕ) → bit t (d + 0) ≡ false → j < length t → length t < j + 10 → ten_ones t (d + j) ≡ false
-ten_over t d j h l b = ten_ones_not t (d + j) (length t - j) (omega arith) (ap (bit t) (omega arith) ∙ bit_round t (d + 0) ∙ h)
+ten_over : (t : List Bool) (d j : ℕ) → circle_bit t (d + 0) ≡ false → j < length t → length t < j + 10 → ten_ones t (d + j) ≡ false
+ten_over t d j h l b = ten_ones_not t (d + j) (length t - j) (omega arith) (ap (circle_bit t) (omega arith) ∙ bit_round t (d + 0) ∙ h)
 
 -- ten ones begin where they did
 ten_kept : (old new : List Bool) (d : ℕ) (v : List ℕ) → IsWritten old new d v → (j : ℕ) → j < length old → ten_ones new (d + j) ≡ ten_ones old (d + j)
@@ -93,7 +93,7 @@ ten_kept old new d v w j h = elim (cases_lt j 2600) [
   | inl l ↦ ten_inside old new d v w j l ∙ sym (no_ten_from old d w.room j l)
   | inr l ↦ elim (cases_lt (length old) (j + 10)) [
     | inl b ↦ ten_over new d j (first_new old new d v w) (omega (arith, w.same_length)) (omega (arith, w.same_length)) ∙ sym (ten_over old d j (first_old old new d v w) h b)
-    | inr b ↦ ten_ones_same new old (d + j) (d + j) (λ k c. ap (bit new) (omega arith) ∙ w.others (j + k) (omega arith) (omega arith) ∙ ap (bit old) (omega arith))
+    | inr b ↦ ten_ones_same new old (d + j) (d + j) (λ k c. ap (circle_bit new) (omega arith) ∙ w.others (j + k) (omega arith) (omega arith) ∙ ap (circle_bit old) (omega arith))
   ]
 ]
 
@@ -124,7 +124,7 @@ begins_kept : (old new : List Bool) (d : ℕ) (v : List ℕ) → IsWritten old n
 begins_kept old new d v w j h = elim (cases_lt j 2600) [
   | inl l ↦ elim (cases_eq j 0) [
     | inl e ↦ begins_same new old (d + j) w.same_length
-        (ap (λ (k : ℕ). bit new (d + k)) e ∙ first_new old new d v w ∙ sym (ap (λ (k : ℕ). bit old (d + k)) e ∙ first_old old new d v w))
+        (ap (λ (k : ℕ). circle_bit new (d + k)) e ∙ first_new old new d v w ∙ sym (ap (λ (k : ℕ). circle_bit old (d + k)) e ∙ first_old old new d v w))
         (ten_everywhere old new d v w (d + j + (2 * length new - 10)))
     | inr ne ↦ begins_no_ten new (d + j) (ten_everywhere old new d v w (d + j + (2 * length new - 10)) ∙ ap (λ (n : ℕ). ten_ones old (d + j + (2 * n - 10))) w.same_length ∙ none_inside old new d v w j (omega arith) l)
         ∙ sym (begins_no_ten old (d + j) (none_inside old new d v w j (omega arith) l))
@@ -148,9 +148,9 @@ other_kept old new d v w j m z h b =
     elim (cases_lt j 2600) [
       | inl l ↦ absurd (false≢true (sym (none_inside old new d v w j z l) ∙ begins_ten old (d + j) b))
       | inr l ↦ elim (cases_lt (length old) (j + 10 * m)) [
-        | inr u ↦ coded_same new old (d + j) (d + j) m (λ k c. ap (bit new) (omega arith) ∙ w.others (j + k) (omega arith) (omega arith) ∙ ap (bit old) (omega arith))
+        | inr u ↦ coded_same new old (d + j) (d + j) m (λ k c. ap (circle_bit new) (omega arith) ∙ w.others (j + k) (omega arith) (omega arith) ∙ ap (circle_bit old) (omega arith))
         | inl u ↦ elim (cases_lt (length old - 10) j) [
-          | inl past ↦ absurd (false≢true (sym (begins_zero old (d + j) b) ∙ ap (bit old) (omega arith) ∙ ten_ones_at old (d + (length old - 10)) (j + 10 - length old) (own_ten old new d v w) (omega arith)))
+          | inl past ↦ absurd (false≢true (sym (begins_zero old (d + j) b) ∙ ap (circle_bit old) (omega arith) ∙ ten_ones_at old (d + (length old - 10)) (j + 10 - length old) (own_ten old new d v w) (omega arith)))
           | inr front ↦
               not_coded new (d + j) m (length old - 10 - j) (omega arith) (ap (ten_ones new) (omega arith) ∙ ten_everywhere old new d v w (d + (length old - 10)) ∙ own_ten old new d v w)
               ∙ sym (not_coded old (d + j) m (length old - 10 - j) (omega arith) (ap (ten_ones old) (omega arith) ∙ own_ten old new d v w))

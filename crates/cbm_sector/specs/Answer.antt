@@ -2,7 +2,7 @@ use Rattle.std.specs.Prelude.{ℕ, ◌≡◌, ◌<◌, ◌≤◌, ◌+◌, List,
 use Rattle.cbm_gcr.specs.Code.{code}
 use Rattle.cbm_medium.specs.Place.{Place}
 use Rattle.cbm_medium.specs.Content.{Cell}
-use Rattle.cbm_track.specs.Circle.{bit, begins, is_clear, first_below, next_block}
+use Rattle.cbm_track.specs.Circle.{circle_bit, begins, is_clear, first_below, next_block}
 use Rattle.cbm_sector.specs.Decoding.{coded_at}
 
 -- the exclusive or of bytes
@@ -52,13 +52,13 @@ abbrev pub block_code : List ℕ → List Bool
 block_code bytes = code (data_block bytes)
 
 -- the same after a header's bytes
-abbrev pub behind : List Bool → List ℕ → ℕ → Option (List ℕ) → Result ℕ ℕ
-behind track id p None = Err 20
-behind track id p (Some v) = if is_right v then (if has_id id v then block_at track (next_block track (p + 1)) else Err 29) else Err 27
+abbrev pub block_after_header : List Bool → List ℕ → ℕ → Option (List ℕ) → Result ℕ ℕ
+block_after_header track id p None = Err 20
+block_after_header track id p (Some v) = if is_right v then (if has_id id v then block_at track (next_block track (p + 1)) else Err 29) else Err 27
 
 abbrev pub behind_header : List Bool → List ℕ → Option ℕ → Result ℕ ℕ
 behind_header track id None = Err 20
-behind_header track id (Some p) = behind track id p (coded_at track p 8)
+behind_header track id (Some p) = block_after_header track id p (coded_at track p 8)
 
 -- where a sector's data block begins, or the fault of its header
 unfoldable pub block_of : List Bool → List ℕ → Place → Result ℕ ℕ
@@ -68,21 +68,21 @@ abbrev pub checked : Option (List ℕ) → Cell
 checked None = Err 24
 checked (Some v) = if xor_of (take 256 (drop 1 v)) == slice_index v 257 then Ok (take 256 (drop 1 v)) else Err 23
 
-abbrev pub data_of : Option (List ℕ) → Option (List ℕ) → Cell
-data_of None block = Err 24
-data_of (Some v) block = if slice_index v 0 == 7 then checked block else Err 22
+abbrev pub block_data : Option (List ℕ) → Option (List ℕ) → Cell
+block_data None block = Err 24
+block_data (Some v) block = if slice_index v 0 == 7 then checked block else Err 22
 
 -- what a data block says: 7, the 256 bytes, their exclusive or, and two more
 unfoldable pub data_at : List Bool → ℕ → Cell
-data_at track p = data_of (coded_at track p 4) (coded_at track p 260)
+data_at track p = block_data (coded_at track p 4) (coded_at track p 260)
 
 abbrev pub data_behind : List Bool → Result ℕ ℕ → Cell
 data_behind track (Err code) = Err code
 data_behind track (Ok p) = data_at track p
 
 -- the answer for a sector on a track, under the disk's id
-unfoldable pub shown : List Bool → List ℕ → Place → Cell
-shown track id a = data_behind track (block_of track id a)
+unfoldable pub sector_shown : List Bool → List ℕ → Place → Cell
+sector_shown track id a = data_behind track (block_of track id a)
 
 abbrev pub id_in : Option (List ℕ) → Option (List ℕ)
 id_in None = None
@@ -107,5 +107,5 @@ wanted_test None = names_18
 
 -- bits stand from a place of the new circle on, and all other bits are as they were
 pub record IsOverwritten (old new : List Bool) (d : ℕ) (bits : List Bool) : Type 0 where
-  pub here : (k : ℕ) → k < length bits → bit new (d + k) ≡ slice_index_or bits k false
-  pub others : (k : ℕ) → length bits ≤ k → k < length old → bit new (d + k) ≡ bit old (d + k)
+  pub here : (k : ℕ) → k < length bits → circle_bit new (d + k) ≡ slice_index_or bits k false
+  pub others : (k : ℕ) → length bits ≤ k → k < length old → circle_bit new (d + k) ≡ circle_bit old (d + k)

@@ -4,7 +4,7 @@ use Rattle.cbm_medium.specs.Place.{Place}
 use Rattle.cbm_medium.specs.Content.{HasFaultCode, is_fault_code}
 use Rattle.cbm_track.specs.Circle.{next_block}
 use Rattle.cbm_sector.specs.Decoding.{coded_at}
-use Rattle.cbm_sector.specs.Answer.{xor_of, passes, is_header, is_crowded, is_right, has_id, header_of, block_at, behind, behind_header, block_of, checked, data_of, data_at, data_behind, shown}
+use Rattle.cbm_sector.specs.Answer.{xor_of, passes, is_header, is_crowded, is_right, has_id, header_of, block_at, block_after_header, behind_header, block_of, checked, block_data, data_at, data_behind, sector_shown}
 
 -- a test that both ways meets a fact
 either : {A : Type 0} (F : A → Type 0) (b : Bool) (x y : A) → F x → F y → F (if b then x else y)
@@ -20,7 +20,7 @@ at_next : (track : List Bool) (o : Option ℕ) → HasBlockCode (block_at track 
 at_next track None = refl
 at_next track (Some p) = either HasBlockCode (passes is_header (coded_at track p 4) || is_crowded track p) (Err 20) (Ok p) refl tt
 
-at_bytes : (track : List Bool) (id : List ℕ) (p : ℕ) (o : Option (List ℕ)) → HasBlockCode (behind track id p o)
+at_bytes : (track : List Bool) (id : List ℕ) (p : ℕ) (o : Option (List ℕ)) → HasBlockCode (block_after_header track id p o)
 at_bytes track id p None = refl
 at_bytes track id p (Some v) =
     either HasBlockCode (is_right v) (if has_id id v then block_at track (next_block track (p + 1)) else Err 29) (Err 27)
@@ -41,7 +41,7 @@ of_sum None = refl
 of_sum (Some v) =
     either HasFaultCode (xor_of (take 256 (drop 1 v)) == slice_index v 257) (Ok (take 256 (drop 1 v))) (Err 23) tt refl
 
-of_bytes : (v o : Option (List ℕ)) → HasFaultCode (data_of v o)
+of_bytes : (v o : Option (List ℕ)) → HasFaultCode (block_data v o)
 of_bytes None o = refl
 of_bytes (Some v) o = either HasFaultCode (slice_index v 0 == 7) (checked o) (Err 22) (of_sum o) refl
 
@@ -54,6 +54,6 @@ behind_block track (Err code) h = h
 behind_block track (Ok p) h = of_data track p
 
 -- in place of a sector's bytes stands one of the seven codes
-pub shown_codes : (track : List Bool) (id : List ℕ) (a : Place) → HasFaultCode (shown track id a)
-unfolding shown
+pub shown_codes : (track : List Bool) (id : List ℕ) (a : Place) → HasFaultCode (sector_shown track id a)
+unfolding sector_shown
 shown_codes track id a = behind_block track (block_of track id a) (of_block track id a)

@@ -8,12 +8,12 @@ unfoldable pub mark : List Bool
 mark = bits_of (replicate 5 255)
 
 -- a gap of n bytes $55
-unfoldable pub gap : ℕ → List Bool
-gap n = bits_of (replicate n 85)
+unfoldable pub gap_bits : ℕ → List Bool
+gap_bits n = bits_of (replicate n 85)
 
 -- 256 zeros
-unfoldable pub zeros : List ℕ
-zeros = replicate 256 0
+unfoldable pub zero_bytes : List ℕ
+zero_bytes = replicate 256 0
 
 -- a sector's header: 8, the exclusive or of the next four, sector, track, second and first byte of the id, and 15 twice
 abbrev pub header_block : ℕ → List ℕ → ℕ → List ℕ
@@ -21,11 +21,11 @@ header_block track id sector = 8 ∷ xor_of (sector ∷ track ∷ slice_index id
 
 -- a header and the bits of a data block on the track: a mark, the header's code, a gap of nine bytes, a mark, the data block, a gap of eight bytes
 unfoldable pub laid : List ℕ → List Bool → List Bool
-laid header block = mark ++ (code header ++ (gap 9 ++ (mark ++ (block ++ gap 8))))
+laid header block = mark ++ (code header ++ (gap_bits 9 ++ (mark ++ (block ++ gap_bits 8))))
 
 -- a sector as formatting writes it, with a data block of zeros
 abbrev pub fresh_sector : ℕ → List ℕ → ℕ → List Bool
-fresh_sector track id sector = laid (header_block track id sector) (code (data_block zeros))
+fresh_sector track id sector = laid (header_block track id sector) (code (data_block zero_bytes))
 
 -- the first n sectors, from 0 on
 unfoldable pub fresh_sectors : ℕ → List ℕ → ℕ → List Bool
@@ -42,4 +42,4 @@ block_place sector = 2896 * sector + 232
 
 -- a track as formatting writes it: its sectors, and a gap up to its length
 unfoldable pub fresh : ℕ → List ℕ → List Bool
-fresh track id = fresh_sectors track id (sectors_on track) ++ gap (bytes_on track - 362 * sectors_on track)
+fresh track id = fresh_sectors track id (sectors_on track) ++ gap_bits (bytes_on track - 362 * sectors_on track)

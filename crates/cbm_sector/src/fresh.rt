@@ -2,7 +2,7 @@ ghost use Rattle.std.specs.Prelude.{◌≡◌, ℕ, ◌<◌, ◌≤◌, ◌+◌,
 ghost use Rattle.arrayvec.specs.ArrayVec.{array_vec_len};
 ghost use Rattle.cbm_gcr.specs.Code.{code, bits_of};
 ghost use Rattle.cbm_medium.specs.Place.{sectors_on};
-ghost use Rattle.cbm_sector.specs.Answer.{block_of, shown, id_shown, data_block};
+ghost use Rattle.cbm_sector.specs.Answer.{block_of, sector_shown, id_shown, data_block};
 ghost use Rattle.cbm_sector.specs.Fresh.{block_place, bytes_on, fresh, fresh_sector, fresh_sectors, header_block, laid};
 
 use crate::block::{coded_block, data_block, xor};
@@ -77,7 +77,7 @@ fn laid_track(track: u8, id: &[u8; 2]) -> Track
     ensures value { result ≡ fresh track id.now }
     ensures length { length result ≡ 8 * bytes_on track }
     ensures shown { (s : ℕ) → s < sectors_on track →
-        shown result id.now (record { track = track; sector = s }) ≡ Ok (replicate 256 0) }
+        sector_shown result id.now (record { track = track; sector = s }) ≡ Ok (replicate 256 0) }
     ensures id { track ≡ 18 → id_shown result ≡ Some id.now }
     ensures blocks { (s : ℕ) → s < sectors_on track →
         block_of result id.now (record { track = track; sector = s }) ≡ Ok (block_place s) }
@@ -103,7 +103,7 @@ pub fn fresh_track(track: u8, id: [u8; 2]) -> Track
     ensures value { result ≡ fresh track id }
     ensures length { length result ≡ 8 * bytes_on track }
     ensures shown { (s : ℕ) → s < sectors_on track →
-        shown result id (record { track = track; sector = s }) ≡ Ok (replicate 256 0) }
+        sector_shown result id (record { track = track; sector = s }) ≡ Ok (replicate 256 0) }
     ensures id { track ≡ 18 → id_shown result ≡ Some id }
     ensures blocks { (s : ℕ) → s < sectors_on track →
         block_of result id (record { track = track; sector = s }) ≡ Ok (block_place s) }

@@ -1,5 +1,5 @@
 ghost use Rattle.std.specs.Prelude.{◌≡◌, ◌↔◌, ℕ, ◌<◌, ◌≤◌, ◌+◌, ◌*◌, List, Bool, Some, IfSome, true, false, length, slice_index_or, take, drop};
-ghost use Rattle.cbm_gcr.specs.Code.{code, bits_of, IsBlock};
+ghost use Rattle.cbm_gcr.specs.Code.{code, bits_of, IsFourBytes};
 ghost use Rattle.cbm_sector.specs.Decoding.{decoded, coded_at, IsBytes};
 
 use cbm_gcr::decode5;
@@ -19,9 +19,9 @@ pub fn decoding_undoes_code()
 fn group_in(coded: &[u8], at: usize) -> Option<[u8; 4]>
     requires inside { at + 5 ≤ length coded.now }
     requires few { length coded.now ≤ 325 }
-    ensures value { (v : List ℕ) → IsBlock v →
+    ensures value { (v : List ℕ) → IsFourBytes v →
         ((result ≡ Some v) ↔ (code v ≡ take 40 (drop (8 * at) (bits_of coded.now)))) }
-    ensures block { IfSome result IsBlock }
+    ensures block { IfSome result IsFourBytes }
 {
     decode5(&[
         coded[at],

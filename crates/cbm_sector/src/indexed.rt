@@ -6,7 +6,7 @@ ghost use Rattle.cbm_medium.specs.Place.{Place};
 ghost use Rattle.cbm_medium.specs.Content.{header_fault};
 ghost use Rattle.cbm_track.specs.Circle.{or_then, some_if};
 ghost use Rattle.cbm_sector.specs.Decoding.{coded_at};
-ghost use Rattle.cbm_sector.specs.Answer.{shown, header_of, names, passes, block_of, id_shown, data_block, IsOverwritten};
+ghost use Rattle.cbm_sector.specs.Answer.{sector_shown, header_of, names, passes, block_of, id_shown, data_block, IsOverwritten};
 ghost use Rattle.cbm_sector.specs.Fresh.{block_place};
 ghost use Rattle.cbm_sector.specs.Index.{IsIndex, is_of};
 
@@ -126,8 +126,8 @@ impl IndexedTrack {
     /// Reads a sector, as `read_sector` does.
     pub fn read_sector(&self, at: Address, id: [u8; 2]) -> Result<[u8; 256], Fault>
         requires { at.track ≤ 35 }
-        ensures ok { IfOk result (λ bytes. shown self.now id at ≡ Ok bytes) }
-        ensures err { IfErr result (λ fault. (shown self.now id at ≡ Err fault.code) × (fault.at ≡ at)) }
+        ensures ok { IfOk result (λ bytes. sector_shown self.now id at ≡ Ok bytes) }
+        ensures err { IfErr result (λ fault. (sector_shown self.now id at ≡ Err fault.code) × (fault.at ≡ at)) }
     {
         read_at(&self.track, self.header(at), at, id)
     }
@@ -135,18 +135,18 @@ impl IndexedTrack {
     /// Writes a sector's data block anew, as `write_sector` does; an `Err` changes nothing.
     pub fn write_sector(&mut self, at: Address, id: [u8; 2], bytes: &[u8; 256]) -> Result<(), Fault>
         requires { at.track ≤ 35 }
-        ensures ok { OnOk result (shown self.new id at ≡ Ok bytes.now) }
+        ensures ok { OnOk result (sector_shown self.new id at ≡ Ok bytes.now) }
         ensures others { OnOk result ((id2 : List ℕ) (other : Place) → at ≢ other →
-            shown self.new id2 other ≡ shown self.old id2 other) }
+            sector_shown self.new id2 other ≡ sector_shown self.old id2 other) }
         ensures bits { OnOk result ((d : ℕ) → block_of self.old id at ≡ Ok d →
             IsOverwritten self.old self.new d (code (data_block bytes.now))) }
         ensures id { id_shown self.new ≡ id_shown self.old }
         ensures length { length self.new ≡ length self.old }
         ensures long { OnOk result (2610 ≤ length self.old) }
         ensures err { OnErr result (self.new ≡ self.old) }
-        ensures refused { IfSome (header_fault (shown self.old id at))
+        ensures refused { IfSome (header_fault (sector_shown self.old id at))
             (λ code. result ≡ Err (record { code = code; at = at })) }
-        ensures cause { IfErr result (λ fault. (header_fault (shown self.old id at) ≡ Some fault.code) × (fault.at ≡ at)) }
+        ensures cause { IfErr result (λ fault. (header_fault (sector_shown self.old id at) ≡ Some fault.code) × (fault.at ≡ at)) }
     {
         let header = self.header(at);
         write_at(&mut self.track, header, at, id, bytes)
@@ -155,9 +155,9 @@ impl IndexedTrack {
     /// Overwrites a sector's data block on a freshly formatted track, as `fill_sector` does.
     pub fn fill_sector(&mut self, at: Address, id: &[u8; 2], bytes: &[u8; 256])
         requires laid { block_of self.old id.now at ≡ Ok (block_place at.sector) }
-        ensures ok { shown self.new id.now at ≡ Ok bytes.now }
+        ensures ok { sector_shown self.new id.now at ≡ Ok bytes.now }
         ensures others { (id2 : List ℕ) (other : Place) → at ≢ other →
-            shown self.new id2 other ≡ shown self.old id2 other }
+            sector_shown self.new id2 other ≡ sector_shown self.old id2 other }
         ensures blocks { (id2 : List ℕ) (other : Place) → block_of self.new id2 other ≡ block_of self.old id2 other }
         ensures bits { (d : ℕ) → block_of self.old id.now at ≡ Ok d →
             IsOverwritten self.old self.new d (code (data_block bytes.now)) }

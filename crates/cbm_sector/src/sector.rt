@@ -3,7 +3,7 @@ ghost use Rattle.cbm_gcr.specs.Code.{code};
 ghost use Rattle.cbm_medium.specs.Place.{Place};
 ghost use Rattle.cbm_medium.specs.Content.{header_fault};
 ghost use Rattle.cbm_track.specs.Circle.{next_block};
-ghost use Rattle.cbm_sector.specs.Answer.{shown, header_of, block_of, id_shown, data_block, IsOverwritten};
+ghost use Rattle.cbm_sector.specs.Answer.{sector_shown, header_of, block_of, id_shown, data_block, IsOverwritten};
 ghost use Rattle.cbm_sector.specs.Fresh.{block_place};
 
 use crate::block::{coded_block, data_at, data_block};
@@ -69,14 +69,14 @@ pub(crate) fn header_of(track: &Track, at: Address) -> Option<u32>
 /// that isn't group code; 22 not a data block; 23 data checksum.
 pub fn read_sector(track: &Track, at: Address, id: [u8; 2]) -> Result<[u8; 256], Fault>
     requires { at.track ≤ 35 }
-    ensures ok { IfOk result (λ bytes. shown track.now id at ≡ Ok bytes) }
-    ensures err { IfErr result (λ fault. (shown track.now id at ≡ Err fault.code) × (fault.at ≡ at)) }
+    ensures ok { IfOk result (λ bytes. sector_shown track.now id at ≡ Ok bytes) }
+    ensures err { IfErr result (λ fault. (sector_shown track.now id at ≡ Err fault.code) × (fault.at ≡ at)) }
 {
     read_at(track, header_of(track, at), at, id)
 }
 
 /// Reads a sector whose header stands at this place.
-#[tactic(auto, unfolding(crate::specs::Answer::shown))]
+#[tactic(auto, unfolding(crate::specs::Answer::sector_shown))]
 pub(crate) fn read_at(
     track: &Track,
     header: Option<u32>,
@@ -85,8 +85,8 @@ pub(crate) fn read_at(
 ) -> Result<[u8; 256], Fault>
     requires track { at.track ≤ 35 }
     requires header { header ≡ header_of track.now at }
-    ensures ok { IfOk result (λ bytes. shown track.now id at ≡ Ok bytes) }
-    ensures err { IfErr result (λ fault. (shown track.now id at ≡ Err fault.code) × (fault.at ≡ at)) }
+    ensures ok { IfOk result (λ bytes. sector_shown track.now id at ≡ Ok bytes) }
+    ensures err { IfErr result (λ fault. (sector_shown track.now id at ≡ Err fault.code) × (fault.at ≡ at)) }
 {
     match block_of(track, header, at, id) {
         Err(code) => Err(Fault { code, at }),
@@ -106,9 +106,9 @@ pub fn write_sector(
     bytes: &[u8; 256],
 ) -> Result<(), Fault>
     requires { at.track ≤ 35 }
-    ensures ok { OnOk result (shown track.new id at ≡ Ok bytes.now) }
+    ensures ok { OnOk result (sector_shown track.new id at ≡ Ok bytes.now) }
     ensures others { OnOk result ((id2 : List ℕ) (other : Place) → at ≢ other →
-        shown track.new id2 other ≡ shown track.old id2 other) }
+        sector_shown track.new id2 other ≡ sector_shown track.old id2 other) }
     ensures bits { OnOk result ((d : ℕ) → block_of track.old id at ≡ Ok d →
         IsOverwritten track.old track.new d (code (data_block bytes.now))) }
     ensures id { id_shown track.new ≡ id_shown track.old }
@@ -116,9 +116,9 @@ pub fn write_sector(
     // A data block and its sync mark take 2,610 bits.
     ensures long { OnOk result (2610 ≤ length track.old) }
     ensures err { OnErr result (track.new ≡ track.old) }
-    ensures refused { IfSome (header_fault (shown track.old id at))
+    ensures refused { IfSome (header_fault (sector_shown track.old id at))
         (λ code. result ≡ Err (record { code = code; at = at })) }
-    ensures cause { IfErr result (λ fault. (header_fault (shown track.old id at) ≡ Some fault.code) × (fault.at ≡ at)) }
+    ensures cause { IfErr result (λ fault. (header_fault (sector_shown track.old id at) ≡ Some fault.code) × (fault.at ≡ at)) }
 {
     let header = header_of(track, at);
     write_at(track, header, at, id, bytes)
@@ -134,9 +134,9 @@ pub(crate) fn write_at(
 ) -> Result<(), Fault>
     requires header { header ≡ header_of track.old at }
     requires track { at.track ≤ 35 }
-    ensures ok { OnOk result (shown track.new id at ≡ Ok bytes.now) }
+    ensures ok { OnOk result (sector_shown track.new id at ≡ Ok bytes.now) }
     ensures others { OnOk result ((id2 : List ℕ) (other : Place) → at ≢ other →
-        shown track.new id2 other ≡ shown track.old id2 other) }
+        sector_shown track.new id2 other ≡ sector_shown track.old id2 other) }
     ensures bits { OnOk result ((d : ℕ) → block_of track.old id at ≡ Ok d →
         IsOverwritten track.old track.new d (code (data_block bytes.now))) }
     ensures id { id_shown track.new ≡ id_shown track.old }
@@ -144,9 +144,9 @@ pub(crate) fn write_at(
     // A data block and its sync mark take 2,610 bits.
     ensures long { OnOk result (2610 ≤ length track.old) }
     ensures err { OnErr result (track.new ≡ track.old) }
-    ensures refused { IfSome (header_fault (shown track.old id at))
+    ensures refused { IfSome (header_fault (sector_shown track.old id at))
         (λ code. result ≡ Err (record { code = code; at = at })) }
-    ensures cause { IfErr result (λ fault. (header_fault (shown track.old id at) ≡ Some fault.code) × (fault.at ≡ at)) }
+    ensures cause { IfErr result (λ fault. (header_fault (sector_shown track.old id at) ≡ Some fault.code) × (fault.at ≡ at)) }
     // No header is written over.
     ensures headers { (other : Place) → header_of track.new other ≡ header_of track.old other }
 {
@@ -169,9 +169,9 @@ const BITS_BEFORE: u32 = 232;
 /// search would find the same place.
 pub fn fill_sector(track: &mut Track, at: Address, id: &[u8; 2], bytes: &[u8; 256])
     requires laid { block_of track.old id.now at ≡ Ok (block_place at.sector) }
-    ensures ok { shown track.new id.now at ≡ Ok bytes.now }
+    ensures ok { sector_shown track.new id.now at ≡ Ok bytes.now }
     ensures others { (id2 : List ℕ) (other : Place) → at ≢ other →
-        shown track.new id2 other ≡ shown track.old id2 other }
+        sector_shown track.new id2 other ≡ sector_shown track.old id2 other }
     ensures blocks { (id2 : List ℕ) (other : Place) → block_of track.new id2 other ≡ block_of track.old id2 other }
     ensures headers { (other : Place) → header_of track.new other ≡ header_of track.old other }
     ensures bits { (d : ℕ) → block_of track.old id.now at ≡ Ok d →

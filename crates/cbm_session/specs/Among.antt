@@ -1,16 +1,17 @@
 -- A drive among a host and other drives: told each change of theirs with the lines that all of them hold, it makes its own changes when they are due.
 use Rattle.std.specs.Prelude.{◌≡◌, ◌≤◌, ◌<◌, ℕ, zero, suc, Bool, true, false, List, [], ◌∷◌, ◌++◌, ◌||◌, nat_eq, Option, Some, None, if◌then◌else◌}
+use Rattle.cbm_iec.specs.Changes.{lines_after}
 use Rattle.cbm_iec.specs.Ports.{port_due, told, told_act, reaction_act, reacted}
-use Rattle.cbm_iec.specs.declared.act.Act.{Act}
+use Rattle.cbm_iec.specs.declared.machine.Act.{Act}
 use Rattle.cbm_iec.specs.declared.event.Who.TheVariants.{Host, Drive}
 use Rattle.cbm_iec.specs.declared.event.Who.{Who}
-use Rattle.cbm_iec.specs.declared.line.Line.TheVariants.{Atn, Clock, Data}
-use Rattle.cbm_iec.specs.declared.line.Line.{Line}
-use Rattle.cbm_iec.specs.declared.line.Way.TheVariants.{Pull, Free}
-use Rattle.cbm_iec.specs.declared.line.Way.{Way}
+use Rattle.cbm_iec.specs.declared.lines.Line.TheVariants.{Atn, Clock, Data}
+use Rattle.cbm_iec.specs.declared.lines.Line.{Line}
+use Rattle.cbm_iec.specs.declared.lines.Way.TheVariants.{Pull, Free}
+use Rattle.cbm_iec.specs.declared.lines.Way.{Way}
 use Rattle.cbm_iec.specs.declared.lines.Lines.{Lines}
 use Rattle.cbm_iec.specs.declared.port.Port.{Port}
-use Rattle.cbm_session.specs.Following.{lines_after, IsInTime, IsShown, reaction_steps}
+use Rattle.cbm_session.specs.Following.{IsInTime, IsShown, reaction_steps}
 use Rattle.cbm_session.specs.Steps.{Mark, Step, event_of, moment_of, Plain, ForEach, For}
 
 -- what the rest of a bus holds: the lines of the host, and how many of the other drives hold CLOCK, and how many DATA

@@ -1,7 +1,7 @@
 -- What the machines above the lines allow: each byte talked is the answer of the talker's machine. One machine for each drive, by its device.
 use Rattle.std.specs.Prelude.{◌≡◌, ℕ, List, [], ◌∷◌, Bool, Option, Some, None}
-use Rattle.cbm_iec.specs.declared.act.Act.TheVariants.{Released, Said, Silent}
-use Rattle.cbm_iec.specs.declared.act.Act.{Act}
+use Rattle.cbm_iec.specs.declared.machine.Act.TheVariants.{Released, Said, Silent}
+use Rattle.cbm_iec.specs.declared.machine.Act.{Act}
 use Rattle.cbm_session.specs.Bits.{number_of}
 use Rattle.cbm_session.specs.Frames.{is_last}
 use Rattle.cbm_session.specs.Pieces.{Whole, Piece, Point, piece_steps, point_after, ToTalker, Nothing, Talk, Full, Cut}
@@ -10,20 +10,20 @@ use Rattle.cbm_session.specs.Steps.{Step, acts_for}
 
 module _ (M : Type 0) (step : M → Act → M) (peek : M → Option (ℕ × Bool)) where
   -- an act is the machine's answer: a byte said is the one that it has to say, and silence that it has none; any other act is allowed
-  abbrev pub Answers : M → Act → Type 0
-  Answers m (Said byte last) = peek m ≡ Some (byte, last)
-  Answers m Silent = peek m ≡ None
-  Answers m act = Unit {0}
+  abbrev pub AnswersAct : M → Act → Type 0
+  AnswersAct m (Said byte last) = peek m ≡ Some (byte, last)
+  AnswersAct m Silent = peek m ≡ None
+  AnswersAct m act = Unit {0}
 
   -- the acts are this machine's answers one after another, and lead it to that one
   abbrev pub Run : M → List Act → M → Type 0
   Run m [] m2 = m2 ≡ m
-  Run m (act ∷ acts) m2 = Answers m act × Run (step m act) acts m2
+  Run m (act ∷ acts) m2 = AnswersAct m act × Run (step m act) acts m2
 
   -- the machine after these acts
-  abbrev pub run : M → List Act → M
-  run m [] = m
-  run m (act ∷ acts) = run (step m act) acts
+  abbrev pub run_acts : M → List Act → M
+  run_acts m [] = m
+  run_acts m (act ∷ acts) = run_acts (step m act) acts
 
   -- A frame, whole or cut, is that of peek. A turnaround, also one that is cut, is up to Lead where peek has a byte, and nothing to say where it has none.
   abbrev pub IsAnswer : M → Whole → Type 0
@@ -39,7 +39,7 @@ module _ (M : Type 0) (step : M → Act → M) (peek : M → Option (ℕ × Bool
 
   -- each drive's machine, after its acts among these steps
   abbrev pub run_each : (ℕ → M) → List Step → ℕ → M
-  run_each ms steps d = run (ms d) (acts_for d steps)
+  run_each ms steps d = run_acts (ms d) (acts_for d steps)
 
   -- each drive's acts among these steps are its machine's answers
   abbrev pub RunEach : List Seat → (ℕ → M) → List Step → Type 0

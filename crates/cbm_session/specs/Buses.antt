@@ -3,8 +3,8 @@ use Rattle.cbm_iec.specs.declared.pace.Pace.TheVariants.{Profile}
 use Rattle.std.specs.Prelude.{◌≡◌, ℕ, ◌+◌, zero, Bool, true, false, List, [], ◌∷◌, Option, nat_eq, if◌then◌else◌}
 use Rattle.cbm_iec.specs.Ports.{resting, side_due, port_due}
 use Rattle.cbm_iec.specs.declared.ear.Ear.TheVariants.{Idle, Holding}
-use Rattle.cbm_iec.specs.declared.line.Line.TheVariants.{Atn, Clock, Data}
-use Rattle.cbm_iec.specs.declared.line.Line.{Line}
+use Rattle.cbm_iec.specs.declared.lines.Line.TheVariants.{Atn, Clock, Data}
+use Rattle.cbm_iec.specs.declared.lines.Line.{Line}
 use Rattle.cbm_iec.specs.declared.lines.Held.{Held}
 use Rattle.cbm_iec.specs.declared.mouth.Mouth.TheVariants.{Led}
 use Rattle.cbm_iec.specs.declared.party.Party.{Party}
@@ -15,7 +15,7 @@ use Rattle.cbm_iec.specs.declared.port.Side.TheVariants.{Hearing, Speaking}
 use Rattle.cbm_iec.specs.declared.port.Side.{Side}
 use Rattle.cbm_session.specs.Among.{Rest, wires_of, FollowsAmong}
 use Rattle.cbm_session.specs.Following.{IsInTime, IsDone, in_attention, SaysPiece}
-use Rattle.cbm_session.specs.Pieces.{Piece, Place, Point, before, piece_steps, some_from, point_after, Open, Commanding, Listening, Leading, Cutting}
+use Rattle.cbm_session.specs.Pieces.{Piece, BusPlace, Point, before, piece_steps, some_from, point_after, Open, Commanding, Listening, Leading, Cutting}
 use Rattle.cbm_session.specs.Seats.{lines, Seat, device}
 use Rattle.cbm_session.specs.Sessions.{rest, Linked, IsBus}
 
@@ -26,14 +26,14 @@ is_held Clock h = h.clock_low
 is_held Data h = h.data_low
 
 -- 1 for a line that is held, 0 for one that isn't
-abbrev pub one_if : Bool → ℕ
-one_if true = 1
-one_if false = zero
+abbrev pub one_where : Bool → ℕ
+one_where true = 1
+one_where false = zero
 
 -- how many drives but d hold it
 abbrev pub holding : Line → ℕ → List Seat → ℕ
 holding line d [] = zero
-holding line d (x ∷ xs) = if nat_eq d (device x) then holding line d xs else one_if (is_held line x.own) + holding line d xs
+holding line d (x ∷ xs) = if nat_eq d (device x) then holding line d xs else one_where (is_held line x.own) + holding line d xs
 
 -- what all but drive d hold at a point of a session
 abbrev pub rest_at : ℕ → Point → Rest
@@ -41,7 +41,7 @@ rest_at d p = record { host = record { atn_low = in_attention p.place; clock_low
 
 -- What a drive waits for at a place, by its role: in attention, and as a listener, for CLOCK to be freed; as a talker that leads, for the moment of its
 -- next frame; else for nothing but ATN, and nobody listens or talks on. At a cut nothing is due before it.
-abbrev pub SideAmong : Place → Role → Side → Type 0
+abbrev pub SideAmong : BusPlace → Role → Side → Type 0
 SideAmong Open role side = IsDone side
 SideAmong (Commanding some) role side = side ≡ Hearing Holding
 SideAmong Listening Absent side = side ≡ Hearing Idle
@@ -53,7 +53,7 @@ SideAmong (Leading at) Talker side = side ≡ Speaking (Led at)
 SideAmong (Cutting at) role side = IsInTime at (side_due side)
 
 -- The lines that it holds there: in attention, and as a listener, DATA; as a talker that leads, CLOCK; else none.
-abbrev pub OwnAt : Place → Role → Held → Type 0
+abbrev pub OwnAt : BusPlace → Role → Held → Type 0
 OwnAt Open role own = own ≡ lines false false
 OwnAt (Commanding some) role own = own ≡ lines false true
 OwnAt Listening Absent own = own ≡ lines false false

@@ -1,15 +1,16 @@
 -- A drive among the host's changes: told each of them, it makes its own changes when they are due, and gives the acts that count.
 use Rattle.std.specs.Prelude.{◌≡◌, ◌⊎◌, ℕ, ◌≤◌, ◌<◌, Bool, true, false, List, [], ◌∷◌, ◌++◌, Option, Some, None}
+use Rattle.cbm_iec.specs.Changes.{is_pull, lines_after}
 use Rattle.cbm_iec.specs.Ports.{resting, side_due, port_due, told, told_act, reaction_act, reacted, reaction_changes}
 use Rattle.cbm_iec.specs.Profile.{slowest_reaction}
-use Rattle.cbm_iec.specs.declared.act.Act.{Act}
+use Rattle.cbm_iec.specs.declared.machine.Act.{Act}
 use Rattle.cbm_iec.specs.declared.ear.Ear.TheVariants.{Idle, Holding}
 use Rattle.cbm_iec.specs.declared.event.Who.TheVariants.{Host, Drive}
 use Rattle.cbm_iec.specs.declared.event.Who.{Who}
-use Rattle.cbm_iec.specs.declared.line.Change.{Change}
-use Rattle.cbm_iec.specs.declared.line.Line.TheVariants.{Atn, Clock, Data}
-use Rattle.cbm_iec.specs.declared.line.Line.{Line}
-use Rattle.cbm_iec.specs.declared.line.Way.{Way}
+use Rattle.cbm_iec.specs.declared.lines.Change.{Change}
+use Rattle.cbm_iec.specs.declared.lines.Line.TheVariants.{Atn, Clock, Data}
+use Rattle.cbm_iec.specs.declared.lines.Line.{Line}
+use Rattle.cbm_iec.specs.declared.lines.Way.{Way}
 use Rattle.cbm_iec.specs.declared.lines.Held.{Held}
 use Rattle.cbm_iec.specs.declared.lines.Lines.{Lines}
 use Rattle.cbm_iec.specs.declared.mouth.Mouth.TheVariants.{Led, Over}
@@ -21,16 +22,10 @@ use Rattle.cbm_iec.specs.declared.port.Side.TheVariants.{Hearing, Speaking}
 use Rattle.cbm_iec.specs.declared.port.Side.{Side}
 use Rattle.cbm_session.specs.Bits.{number_of}
 use Rattle.cbm_session.specs.Frames.{is_last}
-use Rattle.cbm_session.specs.Pieces.{Whole, Piece, Place, Point, steps_of, before, piece_steps, Fits, some_from, is_pull, whole_point, point_after, ToTalker, Nothing, Talk, Full, Cut, Open, Commanding, Listening, Leading, Cutting}
+use Rattle.cbm_session.specs.Pieces.{Whole, Piece, BusPlace, Point, steps_of, before, piece_steps, Fits, some_from, whole_point, point_after, ToTalker, Nothing, Talk, Full, Cut, Open, Commanding, Listening, Leading, Cutting}
 use Rattle.cbm_session.specs.Seats.{lines, Seat, device, reaction}
 use Rattle.cbm_session.specs.Sessions.{rest, Linked}
 use Rattle.cbm_session.specs.Steps.{Mark, Step, event_of, host, moment_of, Plain, ForEach, For}
-
--- the lines that the host holds after a change of one of them
-abbrev pub lines_after : Lines → Line → Way → Lines
-lines_after l Atn way = record { atn_low = is_pull way; clock_low = l.clock_low; data_low = l.data_low }
-lines_after l Clock way = record { atn_low = l.atn_low; clock_low = is_pull way; data_low = l.data_low }
-lines_after l Data way = record { atn_low = l.atn_low; clock_low = l.clock_low; data_low = is_pull way }
 
 -- nothing is due before this moment
 abbrev pub IsInTime : ℕ → Option ℕ → Type 0
@@ -88,7 +83,7 @@ abbrev pub alone : Point → Seat → Point
 alone p s = record { place = p.place; seats = s ∷ []; host = p.host; pulled = p.pulled; released = p.released; accepted = p.accepted; since = p.since }
 
 -- whether ATN is pulled at a place
-abbrev pub in_attention : Place → Bool
+abbrev pub in_attention : BusPlace → Bool
 in_attention (Commanding some) = true
 in_attention place = false
 
@@ -97,7 +92,7 @@ abbrev pub IsDone : Side → Type 0
 IsDone side = (side ≡ Hearing Idle) ⊎ (side ≡ Speaking Over)
 
 -- what the drive waits for at a place
-abbrev pub SideAt : Place → Role → Side → Type 0
+abbrev pub SideAt : BusPlace → Role → Side → Type 0
 SideAt Open role side = IsDone side
 SideAt (Commanding some) role side = side ≡ Hearing Holding
 SideAt Listening role side = (role ≡ Listener) × (side ≡ Hearing Holding)
@@ -105,7 +100,7 @@ SideAt (Leading at) role side = (role ≡ Talker) × (side ≡ Speaking (Led at)
 SideAt (Cutting at) role side = IsInTime at (side_due side)
 
 -- the lines there: a drive that hears holds DATA and the host CLOCK, a drive that leads holds CLOCK and the host DATA
-abbrev pub LinesAt : Place → Held → Held → Type 0
+abbrev pub LinesAt : BusPlace → Held → Held → Type 0
 LinesAt Open own host = Unit {0}
 LinesAt (Commanding some) own host = (own ≡ lines false true) × (host ≡ lines true false)
 LinesAt Listening own host = (own ≡ lines false true) × (host ≡ lines true false)

@@ -2,12 +2,12 @@
 use Rattle.cbm_iec.specs.declared.pace.Pace.TheVariants.{Profile}
 use Rattle.std.specs.Prelude.{◌≡◌, ℕ, ◌+◌, ◌≤◌, max, Bool, true, false, List, [], ◌∷◌, ◌++◌, length, not, Option, Some, None, if◌then◌else◌}
 use Rattle.cbm_iec.specs.Profile.{eoi_wait, eoi_pulse, half_bit, bit_time, latest_start, first_accept, latest_accept}
-use Rattle.cbm_iec.specs.declared.act.Act.TheVariants.{Said}
-use Rattle.cbm_iec.specs.declared.act.Act.{Act}
-use Rattle.cbm_iec.specs.declared.line.Line.TheVariants.{Clock, Data}
-use Rattle.cbm_iec.specs.declared.line.Way.TheVariants.{Pull, Free}
+use Rattle.cbm_iec.specs.declared.machine.Act.TheVariants.{Said}
+use Rattle.cbm_iec.specs.declared.machine.Act.{Act}
+use Rattle.cbm_iec.specs.declared.lines.Line.TheVariants.{Clock, Data}
+use Rattle.cbm_iec.specs.declared.lines.Way.TheVariants.{Pull, Free}
 use Rattle.cbm_iec.specs.declared.party.Party.{Party}
-use Rattle.cbm_session.specs.Bits.{where_held, data_for, Cell, cells_steps, held_after, last_pull, CellsFit, number_of}
+use Rattle.cbm_session.specs.Bits.{where_held, data_for, BitCell, cells_steps, held_after, last_pull, CellsFit, number_of}
 use Rattle.cbm_session.specs.Seats.{Seat, device, reaction, slowest, fastest}
 use Rattle.cbm_session.specs.Steps.{Step, host, drive, for_one}
 
@@ -15,7 +15,7 @@ use Rattle.cbm_session.specs.Steps.{Step, host, drive, for_one}
 pub record Sent : Type 0 where
   pub ready : ℕ
   pub start : ℕ
-  pub cells : List Cell
+  pub cells : List BitCell
 
 -- a frame of the drive: when the host frees DATA, its answer to a last byte (pull, free), and its accept
 pub record Told : Type 0 where
@@ -29,9 +29,9 @@ abbrev pub lasting : Seat → ℕ
 lasting s = eoi_pulse s.party.pace + reaction s
 
 -- the greatest of these among drives; 0 where there are none
-abbrev pub longest : List Seat → ℕ
-longest [] = 0
-longest (s ∷ ss) = elim ss [ [] ↦ lasting s | t ∷ ts ↦ max (lasting s) (longest ss) ]
+abbrev pub longest_lasting : List Seat → ℕ
+longest_lasting [] = 0
+longest_lasting (s ∷ ss) = elim ss [ [] ↦ lasting s | t ∷ ts ↦ max (lasting s) (longest_lasting ss) ]
 
 -- T, when DATA is free on the wire: the slowest has freed it
 abbrev pub wire : List Seat → Sent → ℕ
@@ -39,7 +39,7 @@ wire hs f = f.ready + slowest hs
 
 -- when the pulse has ended on the wire
 abbrev pub quiet : List Seat → Sent → ℕ
-quiet hs f = wire hs f + eoi_wait + longest hs
+quiet hs f = wire hs f + eoi_wait + longest_lasting hs
 
 -- the last pull of CLOCK in a frame of the host, at which DATA is freed
 abbrev pub end_of : Sent → ℕ

@@ -1,18 +1,19 @@
 -- What a drive's machine is handed, whatever the host does with the lines and whenever: also where no timing is kept.
 use Rattle.std.specs.Prelude.{◌≡◌, ◌+◌, ◌≤◌, ◌||◌, ℕ, zero, suc, Bool, true, false, not, List, [], ◌∷◌, ◌++◌, map, length, nat_eq, nat_le, nat_lt, if◌then◌else◌, Option, Some, None}
+use Rattle.cbm_iec.specs.Changes.{is_pull}
 use Rattle.cbm_iec.specs.Hearing.{ear_due, ear_row, is_same, after_lines, after_release}
 use Rattle.cbm_iec.specs.Roles.{role_with}
-use Rattle.cbm_iec.specs.declared.act.Act.TheVariants.{Pulled, Attention, Released, Heard, Said, Silent}
-use Rattle.cbm_iec.specs.declared.act.Act.{Act}
+use Rattle.cbm_iec.specs.declared.machine.Act.TheVariants.{Pulled, Attention, Released, Heard, Said, Silent}
+use Rattle.cbm_iec.specs.declared.machine.Act.{Act}
 use Rattle.cbm_iec.specs.declared.ear.Ear.TheVariants.{Idle, Starting, Leaving, Returning}
 use Rattle.cbm_iec.specs.declared.ear.Ear.{Ear}
 use Rattle.cbm_iec.specs.declared.event.Event.{Event}
 use Rattle.cbm_iec.specs.declared.event.Who.TheVariants.{Host, Drive}
 use Rattle.cbm_iec.specs.declared.event.Who.{Who}
-use Rattle.cbm_iec.specs.declared.line.Line.TheVariants.{Atn, Clock, Data}
-use Rattle.cbm_iec.specs.declared.line.Line.{Line}
-use Rattle.cbm_iec.specs.declared.line.Way.TheVariants.{Pull, Free}
-use Rattle.cbm_iec.specs.declared.line.Way.{Way}
+use Rattle.cbm_iec.specs.declared.lines.Line.TheVariants.{Atn, Clock, Data}
+use Rattle.cbm_iec.specs.declared.lines.Line.{Line}
+use Rattle.cbm_iec.specs.declared.lines.Way.TheVariants.{Pull, Free}
+use Rattle.cbm_iec.specs.declared.lines.Way.{Way}
 use Rattle.cbm_iec.specs.declared.lines.Lines.{Lines}
 use Rattle.cbm_iec.specs.declared.pace.Pace.{Pace}
 use Rattle.cbm_iec.specs.declared.party.Party.{Party}
@@ -21,7 +22,6 @@ use Rattle.cbm_iec.specs.declared.party.Role.{Role}
 use Rattle.cbm_session.specs.Among.{Rest, wires_of, behind_other, behind_host}
 use Rattle.cbm_session.specs.Answers.{Run}
 use Rattle.cbm_session.specs.Bits.{number_of}
-use Rattle.cbm_session.specs.Pieces.{is_pull}
 use Rattle.cbm_session.specs.Playing.{Station, nobody, AllLater, Plays, at_rest}
 use Rattle.cbm_session.specs.Sessions.{AllUnlike}
 
@@ -121,9 +121,9 @@ comes_next later end t [] = nat_le t end
 comes_next later end t (e ∷ es) = is_before later t e.who e.change.moment
 
 -- nothing that is due comes before what comes next
-abbrev pub IsQuiet : List ℕ → ℕ → Option ℕ → List Event → Type 0
-IsQuiet later end None es = Unit {0}
-IsQuiet later end (Some t) es = comes_next later end t es ≡ false
+abbrev pub IsNothingDue : List ℕ → ℕ → Option ℕ → List Event → Type 0
+IsNothingDue later end None es = Unit {0}
+IsNothingDue later end (Some t) es = comes_next later end t es ≡ false
 
 -- ---- the acts
 
@@ -149,8 +149,8 @@ heard_of (act ∷ acts) = if is_answer act then heard_of acts else act ∷ heard
 -- THE WIRES HAND THESE ACTS to a drive, by what the host and the other drives do up to an end: ATN's changes, and the bytes that it accepts, each in its
 -- turn; and, while it may talk, its answers.
 pub data Hands (later : List ℕ) (end : ℕ) : Hearer → List Event → List Act → Type 0 where
-  ends : {h : Hearer} {es : List Event} {acts : List Act} → es ≡ [] → acts ≡ [] → IsQuiet later end (ear_time h.ear) es → Hands later end h es acts
-  tells : {h : Hearer} {es : List Event} {acts : List Act} (e : Event) (more : List Event) (rest : List Act) → es ≡ e ∷ more → IsQuiet later end (ear_time h.ear) es
+  ends : {h : Hearer} {es : List Event} {acts : List Act} → es ≡ [] → acts ≡ [] → IsNothingDue later end (ear_time h.ear) es → Hands later end h es acts
+  tells : {h : Hearer} {es : List Event} {acts : List Act} (e : Event) (more : List Event) (rest : List Act) → es ≡ e ∷ more → IsNothingDue later end (ear_time h.ear) es
       → acts ≡ with_act (atn_act (wires_of h.rest) (wires_of (rest_behind e.who e.change.line e.change.way h.rest))) rest
       → Hands later end (hears e.change.moment (rest_behind e.who e.change.line e.change.way h.rest) h) more rest → Hands later end h es acts
   reacts : {h : Hearer} {es : List Event} {acts : List Act} (t : ℕ) (rest : List Act) → ear_time h.ear ≡ Some t → comes_next later end t es ≡ true
@@ -171,8 +171,8 @@ pub record Voice : Type 0 where
   pub bits : Option (List Bool)
 
 -- what the wires showed at first: nothing
-abbrev pub quiet : Voice
-quiet = record { atn = false; low = false; bits = None }
+abbrev pub quiet_voice : Voice
+quiet_voice = record { atn = false; low = false; bits = None }
 
 -- its CLOCK was freed: it offers a byte, or a bit of it stands on the wire, 1 where it leaves DATA free
 abbrev pub clocked : Bool → Option (List Bool) → Option (List Bool)
@@ -213,11 +213,11 @@ said_of [] = []
 said_of (act ∷ acts) = if is_said act then act ∷ said_of acts else said_of acts
 
 -- THE WIRES SHOWED THESE BYTES: each one that was taken is the number of the eight bits that the drive showed since it offered it, and is taken once.
-pub data Says (d : ℕ) : Voice → List Event → List Act → Type 0 where
-  over : {v : Voice} {es : List Event} {acts : List Act} → es ≡ [] → acts ≡ [] → Says d v es acts
-  passes : {v : Voice} {es : List Event} {acts : List Act} (e : Event) (more : List Event) → es ≡ e ∷ more → Says d (voice_by d e.who e.change.line e.change.way v) more acts → Says d v es acts
+pub data HasSaid (d : ℕ) : Voice → List Event → List Act → Type 0 where
+  over : {v : Voice} {es : List Event} {acts : List Act} → es ≡ [] → acts ≡ [] → HasSaid d v es acts
+  passes : {v : Voice} {es : List Event} {acts : List Act} (e : Event) (more : List Event) → es ≡ e ∷ more → HasSaid d (voice_by d e.who e.change.line e.change.way v) more acts → HasSaid d v es acts
   says : {v : Voice} {es : List Event} {acts : List Act} (byte : ℕ) (last : Bool) (bits : List Bool) (rest : List Act) → v.bits ≡ Some bits → length bits ≡ 8 → number_of bits ≡ byte
-      → acts ≡ Said byte last ∷ rest → Says d (record { atn = v.atn; low = v.low; bits = None }) es rest → Says d v es acts
+      → acts ≡ Said byte last ∷ rest → HasSaid d (record { atn = v.atn; low = v.low; bits = None }) es rest → HasSaid d v es acts
 
 -- ---- any host
 
@@ -231,7 +231,7 @@ module _ (M : Type 0) (step : M → Act → M) (peek : M → Option (ℕ × Bool
   pub record IsHanded (later : List ℕ) (end : ℕ) (b : Party) (m : M) (trace : List Event) (s : Station M) : Type 0 where
     pub acts : List Act
     pub hands : Hands later end (newly b) (others_of b.device trace) acts
-    pub says : Says b.device quiet trace (said_of acts)
+    pub says : HasSaid b.device quiet_voice trace (said_of acts)
     pub ran : Run M step peek m acts s.machine
 
   -- this is so of each drive of a bus and its station, in their order

@@ -23,16 +23,16 @@ AllEmpty [] = Unit {0}
 AllEmpty (l ∷ ls) = (l ≡ []) × AllEmpty ls
 
 -- the step is the first of one list: sooner than those of the lists before it, not later than those of the lists after it
-abbrev pub Takes : List (List Step) → Step → List (List Step) → Type 0
-Takes [] s ls2 = ⊥
-Takes (l ∷ ls) s [] = ⊥
-Takes (l ∷ ls) s (l2 ∷ ls2) = ((l ≡ s ∷ l2) × (ls2 ≡ ls) × Clear (moment_of s) ls) ⊎ (Sooner s l × (l2 ≡ l) × Takes ls s ls2)
+abbrev pub TakesPieces : List (List Step) → Step → List (List Step) → Type 0
+TakesPieces [] s ls2 = ⊥
+TakesPieces (l ∷ ls) s [] = ⊥
+TakesPieces (l ∷ ls) s (l2 ∷ ls2) = ((l ≡ s ∷ l2) × (ls2 ≡ ls) × Clear (moment_of s) ls) ⊎ (Sooner s l × (l2 ≡ l) × TakesPieces ls s ls2)
 
 -- the host's list and the drives' lists, taken step by step
 abbrev pub Joins : List Step → List (List Step) → List Step → Type 0
 Joins hs ls [] = (hs ≡ []) × AllEmpty ls
 Joins hs ls (s ∷ ss) =
-    ((hs2 : List Step) × (hs ≡ s ∷ hs2) × Clear (moment_of s) ls × Joins hs2 ls ss) ⊎ ((ls2 : List (List Step)) × Takes ls s ls2 × Sooner s hs × Joins hs ls2 ss)
+    ((hs2 : List Step) × (hs ≡ s ∷ hs2) × Clear (moment_of s) ls × Joins hs2 ls ss) ⊎ ((ls2 : List (List Step)) × TakesPieces ls s ls2 × Sooner s hs × Joins hs ls2 ss)
 
 -- what `merge_all` makes of the host's list and the drives' lists is a join of them
 abbrev pub JoinsItsParts : Type 0

@@ -1,17 +1,17 @@
 -- Laws of the definitions: what must hold of them if they say what they mean.
 use Rattle.std.specs.Prelude.{◌≡◌, ℕ, ◌+◌, ◌≤◌, ◌<◌, ◌⊎◌, Bool, true, false, List, [], ◌∷◌, ◌++◌, map}
 use Rattle.cbm_iec.specs.Profile.{slowest_reaction, eoi_wait}
-use Rattle.cbm_iec.specs.declared.act.Act.TheVariants.{Attention, Heard}
-use Rattle.cbm_iec.specs.declared.act.Act.{Act}
+use Rattle.cbm_iec.specs.declared.machine.Act.TheVariants.{Attention, Heard}
+use Rattle.cbm_iec.specs.declared.machine.Act.{Act}
 use Rattle.cbm_iec.specs.declared.event.Event.{Event}
 use Rattle.cbm_iec.specs.declared.event.Who.TheVariants.{Host, Drive}
 use Rattle.cbm_iec.specs.declared.event.Who.{Who}
-use Rattle.cbm_iec.specs.declared.line.Line.TheVariants.{Clock, Data}
-use Rattle.cbm_iec.specs.declared.line.Way.TheVariants.{Pull, Free}
+use Rattle.cbm_iec.specs.declared.lines.Line.TheVariants.{Clock, Data}
+use Rattle.cbm_iec.specs.declared.lines.Way.TheVariants.{Pull, Free}
 use Rattle.cbm_iec.specs.declared.party.Party.{Party}
 use Rattle.cbm_session.specs.Among.{ComesBehind}
-use Rattle.cbm_session.specs.Bits.{where_held, cells_steps, held_after, byte_of}
-use Rattle.cbm_session.specs.Frames.{Sent, wire, end_of, pulse_from, longest, pulse_to, pulse, SentFits}
+use Rattle.cbm_session.specs.Bits.{where_held, cells_steps, held_after, byte_in_cells}
+use Rattle.cbm_session.specs.Frames.{Sent, wire, end_of, pulse_from, longest_lasting, pulse_to, pulse, SentFits}
 use Rattle.cbm_session.specs.Pieces.{Whole, Piece, Point, steps_of, Fits, whole_point, PullPiece, Command, Byte, ToListener, ToNobody, ToTalker, Nothing, Talk}
 use Rattle.cbm_session.specs.Seats.{Seat, device, reaction, listeners, fastest}
 use Rattle.cbm_session.specs.Sessions.{rest, Linked, session_steps, Splits, Begins, IsBus}
@@ -31,8 +31,8 @@ IsPulsing (s ∷ ss) t m = ((pulse_from t s ≤ m) × (m < pulse_to t s)) ⊎ Is
 -- the pulses of listeners are one pulse on the wire: DATA is held exactly from the fastest's pull to the last release
 pub record IsOnePulse (hs : List Seat) (t m : ℕ) : Type 0 where
   pub from : IsPulsing hs t m → t + eoi_wait + fastest hs ≤ m
-  pub upto : IsPulsing hs t m → m < t + eoi_wait + longest hs
-  pub held : t + eoi_wait + fastest hs ≤ m → m < t + eoi_wait + longest hs → IsPulsing hs t m
+  pub upto : IsPulsing hs t m → m < t + eoi_wait + longest_lasting hs
+  pub held : t + eoi_wait + fastest hs ≤ m → m < t + eoi_wait + longest_lasting hs → IsPulsing hs t m
 
 -- the pulses of one or more drives that react in time are one pulse
 abbrev pub OnePulse : Type 0
@@ -89,11 +89,11 @@ frame_in_parts hs eoi act f = host f.ready Clock Free ∷ (releases hs f ++ (pul
 
 -- A frame in attention goes so, one part whole after the other, with any number of drives and whatever their reactions are.
 abbrev pub CommandsGoInParts : Type 0
-CommandsGoInParts = (p : Point) (f : Sent) → SeatsReact p.seats → Fits p (Command f) → steps_of p (Command f) ≡ frame_in_parts p.seats false (Attention (byte_of f.cells)) f
+CommandsGoInParts = (p : Point) (f : Sent) → SeatsReact p.seats → Fits p (Command f) → steps_of p (Command f) ≡ frame_in_parts p.seats false (Attention (byte_in_cells f.cells)) f
 
 -- A frame to listeners goes so too, with those that listen.
 abbrev pub BytesGoInParts : Type 0
-BytesGoInParts = (p : Point) (eoi : Bool) (f : Sent) → SeatsReact p.seats → Fits p (Byte eoi f) → steps_of p (Byte eoi f) ≡ frame_in_parts (listeners p.seats) eoi (Heard (byte_of f.cells) eoi) f
+BytesGoInParts = (p : Point) (eoi : Bool) (f : Sent) → SeatsReact p.seats → Fits p (Byte eoi f) → steps_of p (Byte eoi f) ≡ frame_in_parts (listeners p.seats) eoi (Heard (byte_in_cells f.cells) eoi) f
 
 -- the second change isn't sooner than the first, and later where the first is a drive's and the second the host's
 abbrev pub NotSooner : Who → ℕ → Who → ℕ → Type 0

@@ -2,17 +2,18 @@
 use Rattle.cbm_iec.specs.declared.pace.Pace.{Pace}
 use Rattle.cbm_iec.specs.declared.pace.Pace.TheVariants.{Profile, Kernal}
 use Rattle.std.specs.Prelude.{◌≡◌, ℕ, ◌+◌, ◌≤◌, max, Bool, true, false, not, List, [], ◌∷◌, ◌++◌, map, Option, Some, None, if◌then◌else◌, nat_le, nat_lt, filter}
+use Rattle.cbm_iec.specs.Changes.{is_pull}
 use Rattle.cbm_iec.specs.Profile.{lead, mute, next_byte, settle, settle_all, turn_settle, pause, pull_pause}
 use Rattle.cbm_iec.specs.Roles.{role_after}
-use Rattle.cbm_iec.specs.declared.act.Act.TheVariants.{Pulled, Attention, Released, Heard, Silent}
-use Rattle.cbm_iec.specs.declared.line.Line.TheVariants.{Atn, Clock, Data}
-use Rattle.cbm_iec.specs.declared.line.Way.TheVariants.{Pull, Free}
-use Rattle.cbm_iec.specs.declared.line.Way.{Way}
+use Rattle.cbm_iec.specs.declared.machine.Act.TheVariants.{Pulled, Attention, Released, Heard, Silent}
+use Rattle.cbm_iec.specs.declared.lines.Line.TheVariants.{Atn, Clock, Data}
+use Rattle.cbm_iec.specs.declared.lines.Way.TheVariants.{Pull, Free}
+use Rattle.cbm_iec.specs.declared.lines.Way.{Way}
 use Rattle.cbm_iec.specs.declared.lines.Held.{Held}
 use Rattle.cbm_iec.specs.declared.party.Party.{Party}
 use Rattle.cbm_iec.specs.declared.party.Role.TheVariants.{Absent, Listener, Talker}
 use Rattle.cbm_iec.specs.declared.party.Role.{Role}
-use Rattle.cbm_session.specs.Bits.{where_held, where_free, byte_of}
+use Rattle.cbm_session.specs.Bits.{where_held, where_free, byte_in_cells}
 use Rattle.cbm_session.specs.Frames.{Sent, Told, wire, accept_of, hearing, sending, SentFits, is_last, telling, taking, ToldFits}
 use Rattle.cbm_session.specs.Seats.{at_pace, lines, Seat, device, reaction, is_listener, is_talker, has_listener, has_talker, talker_of, listeners, spread, bus_pace}
 use Rattle.cbm_session.specs.Steps.{Step, host, drive, for_each, for_one, moment_of, merge_all}
@@ -40,20 +41,20 @@ pub data Piece : Type 0 where
   Cut : Whole → (at : ℕ) → Piece
 
 -- where a session stands between two pieces
-pub data Place : Type 0 where
+pub data BusPlace : Type 0 where
   -- from rest, and after a talk is over
-  Open : Place
+  Open : BusPlace
   -- in attention, after a byte or before the first
-  Commanding : (some : Bool) → Place
-  Listening : Place
+  Commanding : (some : Bool) → BusPlace
+  Listening : BusPlace
   -- the drive frees CLOCK at that moment for its next frame
-  Leading : (at : ℕ) → Place
+  Leading : (at : ℕ) → BusPlace
   -- a pull at that moment comes next
-  Cutting : (at : ℕ) → Place
+  Cutting : (at : ℕ) → BusPlace
 
 -- what the next piece reads of the past
 pub record Point : Type 0 where
-  pub place : Place
+  pub place : BusPlace
   pub seats : List Seat
   pub host : Held
   -- ATN's last pull, and its release where no drive talks; none before the first
@@ -101,8 +102,8 @@ silent_end b clock = silent_at b.pace (clock + b.reaction)
 -- each drive's own part
 abbrev pub own_part : Point → Whole → Seat → List Step
 own_part p (PullPiece at) s = where_held s.own.clock_low (drive (device s) (at + reaction s) Clock Free) ++ where_free s.own.data_low (drive (device s) (at + reaction s) Data Pull)
-own_part p (Command f) s = hearing (wire p.seats f) false (Attention (byte_of f.cells)) f s
-own_part p (Byte eoi f) s = if is_listener s.role then hearing (wire (listeners p.seats) f) eoi (Heard (byte_of f.cells) eoi) f s else []
+own_part p (Command f) s = hearing (wire p.seats f) false (Attention (byte_in_cells f.cells)) f s
+own_part p (Byte eoi f) s = if is_listener s.role then hearing (wire (listeners p.seats) f) eoi (Heard (byte_in_cells f.cells) eoi) f s else []
 own_part p (ToListener at) s = elim s.role [ Absent ↦ let_go at s | Listener ↦ [] | Talker ↦ [] ]
 own_part p (ToNobody at clock) s = let_go at s
 own_part p (ToTalker at clock) s = elim s.role [
@@ -159,7 +160,7 @@ pub record MayRelease (p : Point) (listens talks : Bool) (at : ℕ) : Type 0 whe
 
 -- when the host may pull ATN: where nothing is under way or drives listen, a pause after ATN's release and after what came last; at a cut, at its
 -- moment; at no other place
-abbrev pub PullFits : Point → ℕ → Place → Type 0
+abbrev pub PullFits : Point → ℕ → BusPlace → Type 0
 PullFits p at Open = AtLeast (pull_pause (bus_pace p.seats)) p.released at × (p.since ≤ at)
 PullFits p at (Commanding some) = ⊥
 PullFits p at Listening = AtLeast (pull_pause (bus_pace p.seats)) p.released at × (p.accepted + gap (listeners p.seats) p.seats ≤ at)
@@ -172,7 +173,7 @@ FreedFits since None = Unit {0}
 FreedFits since (Some at) = since + 1 ≤ at
 
 -- the place is in attention
-pub data IsCommanding : Place → Type 0 where
+pub data IsCommanding : BusPlace → Type 0 where
   commanding : {some : Bool} → IsCommanding (Commanding some)
 
 -- a whole piece may follow at a point, and its moments keep their bounds
@@ -203,11 +204,6 @@ abbrev pub PieceFits : Point → Piece → Type 0
 PieceFits p (Full w) = Fits p w
 PieceFits p (Cut w at) = Fits p w × CutFits p w at × (some_from at (steps_of p w) ≡ true)
 
--- whether a change is a pull
-abbrev pub is_pull : Way → Bool
-is_pull Pull = true
-is_pull Free = false
-
 -- the lines that a party holds after these steps of its own
 abbrev pub held_by : Held → List Step → Held
 held_by held [] = held
@@ -215,7 +211,7 @@ held_by held (s ∷ ss) =
     held_by (elim s.event.change.line [ Atn ↦ held | Clock ↦ record held { clock_low = is_pull s.event.change.way } | Data ↦ record held { data_low = is_pull s.event.change.way } ]) ss
 
 -- the place after a byte of the talker: open after its last, else the next frame is led
-abbrev pub told_place : Told → Place
+abbrev pub told_place : Told → BusPlace
 told_place f = if is_last f then Open else Leading (f.accept + next_byte)
 
 -- the moment before which no pull of ATN comes, after a byte of the talker
@@ -252,7 +248,7 @@ standing talking s = elim s.role [ Absent ↦ seat_with Absent (lines false fals
 -- the point after a whole piece
 abbrev pub whole_point : Point → Whole → Point
 whole_point p (PullPiece at) = record { place = Commanding false; seats = map (λ s. seat_with s.role (lines false true) s) p.seats; host = lines true false; pulled = at; released = None; accepted = p.accepted; since = at }
-whole_point p (Command f) = record { place = Commanding true; seats = map (λ s. obeying (byte_of f.cells) s) p.seats; host = lines true false; pulled = p.pulled; released = None; accepted = accept_of p.seats f; since = p.since }
+whole_point p (Command f) = record { place = Commanding true; seats = map (λ s. obeying (byte_in_cells f.cells) s) p.seats; host = lines true false; pulled = p.pulled; released = None; accepted = accept_of p.seats f; since = p.since }
 whole_point p (Byte eoi f) = record { place = Listening; seats = map (λ s. standing (lines false false) s) p.seats; host = lines true false; pulled = p.pulled; released = p.released; accepted = accept_of (listeners p.seats) f; since = p.since }
 whole_point p (ToListener at) = record { place = Listening; seats = map (λ s. standing (lines false false) s) p.seats; host = lines true false; pulled = p.pulled; released = Some at; accepted = p.accepted; since = at }
 whole_point p (ToNobody at clock) = record { place = Open; seats = map (λ s. standing (lines false false) s) p.seats; host = lines false false; pulled = p.pulled; released = Some at; accepted = p.accepted; since = clock }

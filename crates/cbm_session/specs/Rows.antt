@@ -1,14 +1,14 @@
 -- Worked sessions, by numbers.
 use Rattle.std.specs.Prelude.{◌≡◌, ℕ, ◌+◌, Bool, true, false, List, [], ◌∷◌, Some, None}
-use Rattle.cbm_iec.specs.declared.act.Act.TheVariants.{Pulled, Attention, Released, Heard, Silent}
-use Rattle.cbm_iec.specs.declared.act.Act.{Act}
+use Rattle.cbm_iec.specs.declared.machine.Act.TheVariants.{Pulled, Attention, Released, Heard, Silent}
+use Rattle.cbm_iec.specs.declared.machine.Act.{Act}
 use Rattle.cbm_iec.specs.declared.event.Event.{Event}
 use Rattle.cbm_iec.specs.declared.event.Who.TheVariants.{Host, Drive}
-use Rattle.cbm_iec.specs.declared.line.Line.TheVariants.{Atn, Clock, Data}
-use Rattle.cbm_iec.specs.declared.line.Way.TheVariants.{Pull, Free}
+use Rattle.cbm_iec.specs.declared.lines.Line.TheVariants.{Atn, Clock, Data}
+use Rattle.cbm_iec.specs.declared.lines.Way.TheVariants.{Pull, Free}
 use Rattle.cbm_iec.specs.declared.pace.Pace.TheVariants.{Profile}
 use Rattle.cbm_iec.specs.declared.party.Party.{Party}
-use Rattle.cbm_session.specs.Bits.{Cell}
+use Rattle.cbm_session.specs.Bits.{BitCell}
 use Rattle.cbm_session.specs.Frames.{Sent}
 use Rattle.cbm_session.specs.Pieces.{Piece, PullPiece, Command, Byte, ToListener, ToNobody, ToTalker, Nothing, Talk, Full, Cut}
 use Rattle.cbm_session.specs.Seats.{device, reaction}
@@ -20,13 +20,13 @@ abbrev pub party : ℕ → ℕ → Party
 party device reaction = record { device = device; reaction = reaction; pace = Profile }
 
 -- bits of 40 microseconds, DATA set at the pull before
-abbrev pub each_40 : ℕ → List Bool → List Cell
+abbrev pub each_40 : ℕ → List Bool → List BitCell
 each_40 at [] = []
 each_40 at (bit ∷ bits) = record { bit = bit; set = at; free = at + 20; pull = at + 40 } ∷ each_40 (at + 40) bits
 
 -- a frame of the host with these bits of 40 microseconds
-abbrev pub sent : ℕ → ℕ → List Bool → Sent
-sent ready start bits = record { ready = ready; start = start; cells = each_40 start bits }
+abbrev pub frame_sent : ℕ → ℕ → List Bool → Sent
+frame_sent ready start bits = record { ready = ready; start = start; cells = each_40 start bits }
 
 -- these pieces are a session of these drives, with these events and acts
 pub record Tells (bs : List Party) (ks : List Piece) (trace : List Event) (told : List (List Act)) : Type 0 where
@@ -37,7 +37,7 @@ pub record Tells (bs : List Party) (ks : List Piece) (trace : List Event) (told 
 -- LISTEN to device 8, reaction 20, device 8
 abbrev pub listen_own_pieces : List Piece
 listen_own_pieces =
-    Full (PullPiece 0) ∷ Full (Command (sent 1000 1040 (false ∷ false ∷ false ∷ true ∷ false ∷ true ∷ false ∷ false ∷ []))) ∷ Full (ToListener 1400) ∷ []
+    Full (PullPiece 0) ∷ Full (Command (frame_sent 1000 1040 (false ∷ false ∷ false ∷ true ∷ false ∷ true ∷ false ∷ false ∷ []))) ∷ Full (ToListener 1400) ∷ []
 
 -- the events of that session
 abbrev pub listen_own_events : List Event
@@ -61,7 +61,7 @@ ListenOwn = Tells (party 8 20 ∷ []) listen_own_pieces listen_own_events ((Pull
 -- LISTEN to device 9 on a bus with device 8 alone
 abbrev pub listen_other_pieces : List Piece
 listen_other_pieces =
-    Full (PullPiece 0) ∷ Full (Command (sent 1000 1040 (true ∷ false ∷ false ∷ true ∷ false ∷ true ∷ false ∷ false ∷ []))) ∷ Full (ToNobody 1400 1501) ∷ []
+    Full (PullPiece 0) ∷ Full (Command (frame_sent 1000 1040 (true ∷ false ∷ false ∷ true ∷ false ∷ true ∷ false ∷ false ∷ []))) ∷ Full (ToNobody 1400 1501) ∷ []
 
 -- the events of that session: the drive lets go of DATA after ATN's release
 abbrev pub listen_other_events : List Event
@@ -86,7 +86,7 @@ ListenOther = Tells (party 8 20 ∷ []) listen_other_pieces listen_other_events 
 -- TALK to device 8, which says 55; the host frees DATA 20 after the drive frees CLOCK, and pulls ATN just after the last pull of CLOCK
 abbrev pub talk_cut_pieces : List Piece
 talk_cut_pieces =
-    Full (PullPiece 0) ∷ Full (Command (sent 100 140 (false ∷ false ∷ false ∷ true ∷ false ∷ false ∷ true ∷ false ∷ []))) ∷ Full (Command (sent 580 620 (true ∷ true ∷ true ∷ true ∷ false ∷ true ∷ true ∷ false ∷ []))) ∷ Full (ToTalker 1020 1040) ∷ Cut (Talk 1140 (record { bits = true ∷ true ∷ true ∷ false ∷ true ∷ true ∷ false ∷ false ∷ []; free = 1160; signal = None; accept = 2240 })) 2141 ∷ Full (PullPiece 2141) ∷ []
+    Full (PullPiece 0) ∷ Full (Command (frame_sent 100 140 (false ∷ false ∷ false ∷ true ∷ false ∷ false ∷ true ∷ false ∷ []))) ∷ Full (Command (frame_sent 580 620 (true ∷ true ∷ true ∷ true ∷ false ∷ true ∷ true ∷ false ∷ []))) ∷ Full (ToTalker 1020 1040) ∷ Cut (Talk 1140 (record { bits = true ∷ true ∷ true ∷ false ∷ true ∷ true ∷ false ∷ false ∷ []; free = 1160; signal = None; accept = 2240 })) 2141 ∷ Full (PullPiece 2141) ∷ []
 
 -- the events of that session: the drive frees CLOCK and pulls DATA after the cut
 abbrev pub talk_cut_events : List Event
@@ -129,7 +129,7 @@ TalkCut = Tells (party 8 20 ∷ []) talk_cut_pieces talk_cut_events ((Pulled ∷
 -- the same, ATN pulled after four bits
 abbrev pub talk_cut_early_pieces : List Piece
 talk_cut_early_pieces =
-    Full (PullPiece 0) ∷ Full (Command (sent 100 140 (false ∷ false ∷ false ∷ true ∷ false ∷ false ∷ true ∷ false ∷ []))) ∷ Full (Command (sent 580 620 (true ∷ true ∷ true ∷ true ∷ false ∷ true ∷ true ∷ false ∷ []))) ∷ Full (ToTalker 1020 1040) ∷ Cut (Talk 1140 (record { bits = true ∷ true ∷ true ∷ false ∷ true ∷ true ∷ false ∷ false ∷ []; free = 1160; signal = None; accept = 2240 })) 1630 ∷ Full (PullPiece 1630) ∷ []
+    Full (PullPiece 0) ∷ Full (Command (frame_sent 100 140 (false ∷ false ∷ false ∷ true ∷ false ∷ false ∷ true ∷ false ∷ []))) ∷ Full (Command (frame_sent 580 620 (true ∷ true ∷ true ∷ true ∷ false ∷ true ∷ true ∷ false ∷ []))) ∷ Full (ToTalker 1020 1040) ∷ Cut (Talk 1140 (record { bits = true ∷ true ∷ true ∷ false ∷ true ∷ true ∷ false ∷ false ∷ []; free = 1160; signal = None; accept = 2240 })) 1630 ∷ Full (PullPiece 1630) ∷ []
 
 -- the events of that session: half of the byte was shown
 abbrev pub talk_cut_early_events : List Event
@@ -167,7 +167,7 @@ TalkCutEarly = Tells (party 8 20 ∷ []) talk_cut_early_pieces talk_cut_early_ev
 -- devices 8 and 9 with reactions 1 and 60 both listen, with EOI: one pulse on the wire
 abbrev pub two_listeners_pieces : List Piece
 two_listeners_pieces =
-    Full (PullPiece 0) ∷ Full (Command (sent 100 180 (false ∷ false ∷ false ∷ true ∷ false ∷ true ∷ false ∷ false ∷ []))) ∷ Full (Command (sent 601 681 (true ∷ false ∷ false ∷ true ∷ false ∷ true ∷ false ∷ false ∷ []))) ∷ Full (ToListener 1062) ∷ Full (Byte true (sent 1162 1543 (true ∷ false ∷ false ∷ false ∷ false ∷ false ∷ true ∷ false ∷ []))) ∷ []
+    Full (PullPiece 0) ∷ Full (Command (frame_sent 100 180 (false ∷ false ∷ false ∷ true ∷ false ∷ true ∷ false ∷ false ∷ []))) ∷ Full (Command (frame_sent 601 681 (true ∷ false ∷ false ∷ true ∷ false ∷ true ∷ false ∷ false ∷ []))) ∷ Full (ToListener 1062) ∷ Full (Byte true (frame_sent 1162 1543 (true ∷ false ∷ false ∷ false ∷ false ∷ false ∷ true ∷ false ∷ []))) ∷ []
 
 -- the events of that session: each drive pulses on DATA, and the host starts after the slower pulse
 abbrev pub two_listeners_events : List Event
@@ -244,7 +244,7 @@ Ties89 = Tells (party 8 20 ∷ party 9 20 ∷ []) ties_8_9_pieces ties_8_9_event
 -- devices 8 and 9 with reactions 1 and 60, LISTEN to 8: 9 lets go of DATA beside it
 abbrev pub beside_a_listener_pieces : List Piece
 beside_a_listener_pieces =
-    Full (PullPiece 0) ∷ Full (Command (sent 1000 1080 (false ∷ false ∷ false ∷ true ∷ false ∷ true ∷ false ∷ false ∷ []))) ∷ Full (ToListener 1480) ∷ []
+    Full (PullPiece 0) ∷ Full (Command (frame_sent 1000 1080 (false ∷ false ∷ false ∷ true ∷ false ∷ true ∷ false ∷ false ∷ []))) ∷ Full (ToListener 1480) ∷ []
 
 -- the events of that session
 abbrev pub beside_a_listener_events : List Event
@@ -270,7 +270,7 @@ BesideAListener = Tells (party 8 1 ∷ party 9 60 ∷ []) beside_a_listener_piec
 -- TALK to 8 with reaction 1, which has nothing to say, beside 9 with reaction 60 and 10 with reaction 20: a pull cuts before 9 has let go
 abbrev pub silent_beside_pieces : List Piece
 silent_beside_pieces =
-    Full (PullPiece 0) ∷ Full (Command (sent 100 161 (false ∷ false ∷ false ∷ true ∷ false ∷ false ∷ true ∷ false ∷ []))) ∷ Cut (Nothing 542 562 (Some 564)) 572 ∷ Full (PullPiece 572) ∷ []
+    Full (PullPiece 0) ∷ Full (Command (frame_sent 100 161 (false ∷ false ∷ false ∷ true ∷ false ∷ false ∷ true ∷ false ∷ []))) ∷ Cut (Nothing 542 562 (Some 564)) 572 ∷ Full (PullPiece 572) ∷ []
 
 -- the events of that session: 8 and 10 let go of DATA, and 9 holds it throughout
 abbrev pub silent_beside_events : List Event

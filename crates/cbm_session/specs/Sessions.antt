@@ -1,11 +1,11 @@
 -- A session is a join of pieces, and a beginning of one is a prefix.
 use Rattle.std.specs.Prelude.{◌≡◌, ℕ, ◌≤◌, List, [], ◌∷◌, ◌++◌, map, length, None, false}
 use Rattle.cbm_iec.specs.Profile.{slowest_reaction}
-use Rattle.cbm_iec.specs.declared.act.Act.{Act}
+use Rattle.cbm_iec.specs.declared.machine.Act.{Act}
 use Rattle.cbm_iec.specs.declared.event.Event.{Event}
 use Rattle.cbm_iec.specs.declared.party.Party.{Party}
 use Rattle.cbm_iec.specs.declared.party.Role.TheVariants.{Absent}
-use Rattle.cbm_session.specs.Pieces.{Piece, Place, Point, piece_steps, PieceFits, point_after, Open, Leading, Cutting}
+use Rattle.cbm_session.specs.Pieces.{Piece, BusPlace, Point, piece_steps, PieceFits, point_after, Open, Leading, Cutting}
 use Rattle.cbm_session.specs.Seats.{lines, device}
 use Rattle.cbm_session.specs.Steps.{Step, events_of, acts_for}
 
@@ -22,7 +22,7 @@ rest bs = record {
 }
 
 -- a session may end at each place but where a frame is led or a cut waits for its pull
-abbrev pub MayEnd : Place → Type 0
+abbrev pub MayEnd : BusPlace → Type 0
 MayEnd (Leading at) = ⊥
 MayEnd (Cutting at) = ⊥
 MayEnd place = Unit {0}

@@ -16,7 +16,7 @@ use Rattle.cbm_bam.proofs.Counts.{tally_none}
 use Rattle.cbm_bam.proofs.Geometries.{wide}
 use Rattle.cbm_directory.specs.Entries.{entry_of, type_byte, bit_of, is_relative, entry_at, first_directory}
 use Rattle.cbm_volume.specs.Blocks.{no_blocks, LiesAs, file_of}
-use Rattle.cbm_volume.specs.Layouts.{Owner, Nobody, TheMap, Directory, DataOf, SideOf, Layout, IsWritable, Stands}
+use Rattle.cbm_volume.specs.Layouts.{Owner, Nobody, TheMap, Directory, DataOf, SideOf, Layout, IsCellWritable, HasLayout}
 use Rattle.cbm_volume.specs.Opens.{IsHindered}
 use Rattle.cbm_volume.specs.Writers.{Idle, HoldsNow}
 
@@ -98,7 +98,7 @@ disk_of tracks c = record {
 abbrev pub AreZeros : ℕ → Content → Type 0
 AreZeros tracks c = (p : Place) → Has tracks p → c p ≡ Ok (replicate 256 0)
 
-stands_blank : (tracks : ℕ) (c : Content) → 35 ≤ tracks → AreZeros tracks c → Stands tracks c layout_of (disk_of tracks c)
+stands_blank : (tracks : ℕ) (c : Content) → 35 ≤ tracks → AreZeros tracks c → HasLayout tracks c layout_of (disk_of tracks c)
 stands_blank tracks c wide z = record {
   sound = record {
     owned = record {
@@ -109,7 +109,7 @@ stands_blank tracks c wide z = record {
       on_18 = on_track_18;
       off_18 = λ p t n. no_file p n;
     };
-    writable = λ p h. subst (λ (x : Cell). IsWritable x) (sym (z p h)) tt;
+    writable = λ p h. subst (λ (x : Cell). IsCellWritable x) (sym (z p h)) tt;
     map_reads = subst (λ (x : Cell). IsOk x) (sym at_head) refl;
     directory = (refl, (omega arith, omega (arith, wide), omega arith), subst (λ (x : Cell). IsOk x) (sym at_first) refl, ap (λ (x : Cell). (link (or_nothing x)).track) at_first);
     kinds = λ n k. subst (λ (x : ℕ). x % 16 < 5) (sym (empty n k)) (omega arith);
@@ -164,7 +164,7 @@ blank_holds tracks c either z =
       record {
         layout = layout_of;
         so = record {
-          stands = subst (λ (n : ℕ). Stands n c layout_of (disk_of tracks c)) (sym (all_used tracks c either head)) (stands_blank tracks c (enough tracks either) z);
+          stands = subst (λ (n : ℕ). HasLayout n c layout_of (disk_of tracks c)) (sym (all_used tracks c either head)) (stands_blank tracks c (enough tracks either) z);
           each = λ ch. tt;
           alone = λ a b n w h. absurd (cc);
         };

@@ -2,19 +2,19 @@
 use Rattle.std.proofs.Common.{◌≡◌, ℕ, ◌≤◌, sym, subst, inr}
 use Rattle.std.specs.Prelude.{Result, Ok, Err, MatchResult}
 use Rattle.cbm_channel.specs.declared.Status.{Status}
-use Rattle.cbm_channel.specs.Codes.{code_number}
-use Rattle.cbm_channel.specs.Machines.{Machine}
+use Rattle.cbm_machine.specs.Codes.{code_number}
+use Rattle.cbm_machine.specs.Machines.{Machine}
 use Rattle.cbm_medium.specs.Content.{Content}
 use Rattle.cbm_shell.specs.declared.changing.DiskChange.{DiskChange}
 use Rattle.cbm_shell.specs.declared.fault.ShellFault.{ShellFault}
 use Rattle.cbm_shell.specs.declared.fault.ShellFault.TheVariants as fault
-use Rattle.cbm_shell.specs.Changing.{after_change, IsFine, IsUndone, IsRefusal, IsFaultOf}
+use Rattle.cbm_shell.specs.Changing.{disk_after_change, IsFine, IsUndone, IsStatusRefusal, IsFaultOf}
 use Rattle.cbm_shell.specs.Editing.{IsUnedited}
 
 -- the status at the end decides
-pub made : (change : DiskChange) (m : Machine) (stands : Machine → Type 0) (r : Result (Unit {0}) ShellFault) (s : Status) → stands (after_change change m)
-    → s ≡ (after_change change m).status → MatchResult r (λ _. IsFine s) (λ f. (f ≡ fault.Refused s) × (20 ≤ code_number s.code))
-    → MatchResult r (λ _. IsFine (after_change change m).status × stands (after_change change m)) (IsUndone change m)
+pub made : (change : DiskChange) (m : Machine) (stands : Machine → Type 0) (r : Result (Unit {0}) ShellFault) (s : Status) → stands (disk_after_change change m)
+    → s ≡ (disk_after_change change m).status → MatchResult r (λ _. IsFine s) (λ f. (f ≡ fault.Refused s) × (20 ≤ code_number s.code))
+    → MatchResult r (λ _. IsFine (disk_after_change change m).status × stands (disk_after_change change m)) (IsUndone change m)
 made change m stands (Ok _) s now e h = (subst IsFine e h, now)
 made change m stands (Err f) s now e h = subst (IsUndone change m) (sym h.0) (record { told = inr e; error = h.1 })
 
@@ -30,5 +30,5 @@ unsound_of tracks content fault.NotClosed h = absurd h
 unsound_of tracks content fault.Mistaken h = absurd h
 
 -- a refusal isn't for want of soundness
-pub refusal_of : (tracks : ℕ) (content : Content) (f : ShellFault) → IsRefusal f → IsFaultOf tracks content f
+pub refusal_of : (tracks : ℕ) (content : Content) (f : ShellFault) → IsStatusRefusal f → IsFaultOf tracks content f
 refusal_of tracks content f (s, e) = subst (IsFaultOf tracks content) (sym e) tt

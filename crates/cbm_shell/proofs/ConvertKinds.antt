@@ -6,23 +6,23 @@ use Rattle.std.proofs.lemmas.Bool.{cases_eq}
 use Rattle.std.proofs.lemmas.List.{take-take}
 use Rattle.std.proofs.lemmas.Slice.Eq.{bytes_eq-Decides}
 use Rattle.cbm_medium.specs.Content.{Cell}
-use Rattle.cbm_d64.specs.Image.{content_of, cell_of, code_of, error_at}
+use Rattle.cbm_d64.specs.Image.{d64_content, cell_of, code_of_error, error_at}
 use Rattle.cbm_d64.proofs.Sectors.{content_on_disk}
-use Rattle.cbm_g64.specs.File.{fault_of}
-use Rattle.cbm_track.specs.Circle.{bits_of, first_below, ten_ones, each_below, begins, bit}
+use Rattle.cbm_g64.specs.File.{g64_fault}
+use Rattle.cbm_track.specs.Circle.{circle_bits_of, first_below, ten_ones, each_below, begins, circle_bit}
 use Rattle.cbm_sector.specs.Answer.{id_shown, header_at}
-use Rattle.cbm_g64.specs.File.{tracks_in, offset}
+use Rattle.cbm_g64.specs.File.{g64_circles, offset}
 use Rattle.cbm_g64.specs.Image.{IsHeld}
 use Rattle.cbm_g64.specs.NewFile.{base_of}
-use Rattle.cbm_g64.specs.Tracks.{or_zeros, content_of as circles_of, id_for, HasTrack, Disk}
+use Rattle.cbm_g64.specs.Tracks.{or_zeros, g64_content as circles_of, id_for, HasTrack, G64State}
 use Rattle.cbm_image.specs.declared.kind.Kind.{Kind}
 use Rattle.cbm_image.specs.declared.kind.Kind.TheVariants.{D64, G64}
 use Rattle.cbm_image.specs.Images.{kind_of, content_of as image_content}
-use Rattle.cbm_shell.specs.Converting.{held_by, told_id, HasOtherId}
+use Rattle.cbm_shell.specs.Converting.{content_held, told_id, HasOtherId}
 use Rattle.cbm_shell.proofs.NewImages.{has_kind, some_track, bytes_of}
 
 -- a new G64 has no fault, and so is none that would be taken for a D64
-pub never_mistaken : (new : List ℕ) → fault_of new ≡ None → kind_of new ≢ G64 → ⊥
+pub never_mistaken : (new : List ℕ) → g64_fault new ≡ None → kind_of new ≢ G64 → ⊥
 never_mistaken new right other = other (has_kind new right)
 
 -- what isn't taken for a D64 begins as a G64 does
@@ -34,29 +34,29 @@ signed_first new other = by_test (bytes_eq (take 8 new) (codes "GCR-1541")) refl
     by_test false e = absurd (other (ap (λ (x : Bool). if x then G64 else D64) e))
 
 -- the first eight bytes of a D64 are those of its first sector
-first_eight : (new bytes : List ℕ) → content_of new (record { track = 1; sector = 0 }) ≡ Ok bytes → take 8 bytes ≡ take 8 new
+first_eight : (new bytes : List ℕ) → d64_content new (record { track = 1; sector = 0 }) ≡ Ok bytes → take 8 bytes ≡ take 8 new
 first_eight new bytes h =
-    let here : content_of new (record { track = 1; sector = 0 }) ≡ cell_of (code_of (error_at new 0)) (take 256 new) = content_on_disk new (record { track = 1; sector = 0 }) (omega arith) (some_track (length new)) in
-    let front : take 256 new ≡ bytes = bytes_of (code_of (error_at new 0)) (take 256 new) bytes (sym here ∙ h) in
+    let here : d64_content new (record { track = 1; sector = 0 }) ≡ cell_of (code_of_error (error_at new 0)) (take 256 new) = content_on_disk new (record { track = 1; sector = 0 }) (omega arith) (some_track (length new)) in
+    let front : take 256 new ≡ bytes = bytes_of (code_of_error (error_at new 0)) (take 256 new) bytes (sym here ∙ h) in
     ap (take 8) (sym front) ∙ take-take 8 256 new (omega arith)
 
 -- THE FIRST SECTOR of what was converted begins as a G64 does
-pub mistakable : (new : List ℕ) (was : Cell) → content_of new (record { track = 1; sector = 0 }) ≡ or_zeros was → kind_of new ≢ D64 → (bytes : List ℕ) × (was ≡ Ok bytes) × (take 8 bytes ≡ codes "GCR-1541")
+pub mistakable : (new : List ℕ) (was : Cell) → d64_content new (record { track = 1; sector = 0 }) ≡ or_zeros was → kind_of new ≢ D64 → (bytes : List ℕ) × (was ≡ Ok bytes) × (take 8 bytes ≡ codes "GCR-1541")
 mistakable new (Ok bytes) is other = (bytes, refl, first_eight new bytes is ∙ signed_first new other)
 mistakable new (Err code) is other = absurd (let z = first_eight new (replicate 256 0) is ∙ signed_first new other in cc)
 
 -- ---- the disk of a G64
 
-abbrev pub opened_disk : List ℕ → Disk
-opened_disk image = record { tracks = tracks_in image 35; file = image; formatted = false; protected = false }
+abbrev pub opened_disk : List ℕ → G64State
+opened_disk image = record { tracks = g64_circles image 35; file = image; formatted = false; protected = false }
 
 -- what a G64's disk shows is what its image holds
-pub opened_holds : (image : List ℕ) (d : Disk) → d ≡ opened_disk image → kind_of image ≡ G64 → circles_of d.tracks ≡ held_by image
-opened_holds image d e k = ap (λ (x : Disk). circles_of x.tracks) e ∙ sym (ap (λ (x : Kind). image_content x image) k)
+pub opened_holds : (image : List ℕ) (d : G64State) → d ≡ opened_disk image → kind_of image ≡ G64 → circles_of d.tracks ≡ content_held image
+opened_holds image d e k = ap (λ (x : G64State). circles_of x.tracks) e ∙ sym (ap (λ (x : Kind). image_content x image) k)
 
 -- a track that isn't there has no header
-no_header : id_shown (bits_of (0 ∷ [])) ≡ None
-unfolding id_shown first_below ten_ones each_below header_at begins bit
+no_header : id_shown (circle_bits_of (0 ∷ [])) ≡ None
+unfolding id_shown first_below ten_ones each_below header_at begins circle_bit
 no_header = refl
 
 pub no_id : (file : List ℕ) (tracks : List (List Bool)) → IsHeld file tracks → offset file 17 ≡ 0 → id_for tracks ≡ 0 ∷ 0 ∷ []
@@ -64,7 +64,7 @@ unfolding id_for
 no_id file tracks h z = ap (λ o. unwrap_or o (0 ∷ 0 ∷ [])) (ap id_shown (h.absent 17 (omega arith) z) ∙ no_header)
 
 -- the id of a disk's headers
-pub id_found : (d : Disk) (id : List ℕ) → d.formatted ≡ false → IsHeld d.file d.tracks → (HasTrack d 18 → id ≡ id_for d.tracks) → ((HasTrack d 18 → ⊥) → id ≡ 0 ∷ 0 ∷ []) → id ≡ id_for d.tracks
+pub id_found : (d : G64State) (id : List ℕ) → d.formatted ≡ false → IsHeld d.file d.tracks → (HasTrack d 18 → id ≡ id_for d.tracks) → ((HasTrack d 18 → ⊥) → id ≡ 0 ∷ 0 ∷ []) → id ≡ id_for d.tracks
 id_found d id f h there missing = elim (cases_eq (offset d.file 17) 0) [
   | inl z ↦ missing (λ t. t.2 (subst (λ b. offset (base_of b d.file) 17 ≡ 0) (sym f) z)) ∙ sym (no_id d.file d.tracks h z)
   | inr ne ↦ there (omega arith, omega arith, subst (λ b. offset (base_of b d.file) 17 ≢ 0) (sym f) ne)
@@ -79,11 +79,11 @@ differ b xs ys e = subst (λ v. IsTrue v ↔ (xs ≢ ys)) (sym e) (by_test (byte
     by_test false s = ((λ t same. absurd (let q = sym s ∙ (bytes_eq-Decides xs ys).1 same in cc)), (λ n. refl))
 
 -- the headers have another id than 18/0 tells
-pub other_id : (image : List ℕ) (d : Disk) (header told : List ℕ) (b : Bool) → d ≡ opened_disk image → kind_of image ≡ G64 → IsHeld (base_of d.formatted d.file) d.tracks
+pub other_id : (image : List ℕ) (d : G64State) (header told : List ℕ) (b : Bool) → d ≡ opened_disk image → kind_of image ≡ G64 → IsHeld (base_of d.formatted d.file) d.tracks
     → (HasTrack d 18 → header ≡ id_for d.tracks) → ((HasTrack d 18 → ⊥) → header ≡ 0 ∷ 0 ∷ []) → told ≡ told_id (circles_of d.tracks) → b ≡ not (bytes_eq header told) → IsTrue b ↔ HasOtherId image
 other_id image d header told b e k held there missing tells is =
-    let free : d.formatted ≡ false = ap (λ (x : Disk). x.formatted) e in
-    let found : header ≡ id_for (tracks_in image 35) = id_found d header free (subst (λ f. IsHeld (base_of f d.file) d.tracks) free held) there missing ∙ ap (λ (x : Disk). id_for x.tracks) e in
-    let said : told ≡ told_id (held_by image) = tells ∙ ap told_id (opened_holds image d e k) in
+    let free : d.formatted ≡ false = ap (λ (x : G64State). x.formatted) e in
+    let found : header ≡ id_for (g64_circles image 35) = id_found d header free (subst (λ f. IsHeld (base_of f d.file) d.tracks) free held) there missing ∙ ap (λ (x : G64State). id_for x.tracks) e in
+    let said : told ≡ told_id (content_held image) = tells ∙ ap told_id (opened_holds image d e k) in
     let both = differ b header told is in
     ((λ t. (k, λ same. both.0 t (found ∙ same ∙ sym said))), (λ h. both.1 (λ same. h.1 (sym found ∙ same ∙ said))))

@@ -21,7 +21,7 @@ use Rattle.cbm_image.specs.declared.kind.Kind.{Kind}
 use Rattle.cbm_image.specs.Images.{kind_of, tracks_of, content_of, ImageHolds}
 use Rattle.cbm_shell.specs.declared.fault.ShellFault.{ShellFault}
 use Rattle.cbm_shell.specs.declared.fault.ShellFault.TheVariants as fault
-use Rattle.cbm_shell.specs.Images.{IsOpened, IsSaved, IsOpenFault, IsSoundDisk, IsSoundImage}
+use Rattle.cbm_shell.specs.Images.{IsImageOpened, IsSaved, IsOpenFault, IsSoundDisk, IsSoundImage}
 use Rattle.cbm_shell.specs.Editing.{IsUnedited, IsUneditedIn, CanBeEdited}
 use Rattle.cbm_shell.proofs.ImageLemmas.{of_image, as_open_fault, as_other_fault, saved_holds}
 use Rattle.cbm_shell.proofs.EntryLemmas.{StaysSound}
@@ -61,14 +61,14 @@ put_at seen volume medium after tracks geometry n entry t steady same at can sta
 pub edit_opened : (image : List ℕ) (absent : Type 0) (f : ShellFault) → IsOpenFault image f → IsUneditedIn image absent f
 edit_opened image absent f h = as_open_fault image (IsUnedited (tracks_of (kind_of image) image) (content_of (kind_of image) image) absent) f h
 
-pub edit_fault : (image : List ℕ) (seen : Seen) (absent : ℕ → Content → Type 0) (f : ShellFault) → IsOpened image seen → IsUnedited seen.tracks seen.content (absent seen.tracks seen.content) f
+pub edit_fault : (image : List ℕ) (seen : Seen) (absent : ℕ → Content → Type 0) (f : ShellFault) → IsImageOpened image seen → IsUnedited seen.tracks seen.content (absent seen.tracks seen.content) f
     → IsUneditedIn image (absent (tracks_of (kind_of image) image) (content_of (kind_of image) image)) f
 edit_fault image seen absent f opened h =
     as_other_fault image (IsUnedited (tracks_of (kind_of image) image) (content_of (kind_of image) image) (absent (tracks_of (kind_of image) image) (content_of (kind_of image) image))) f (λ n k. k)
     (of_image (λ (n : ℕ) (c : Content). IsUnedited n c (absent n c) f) image seen opened h)
 
 -- the disk isn't sound
-pub edit_unsound : (image : List ℕ) (seen : Seen) (absent : Type 0) (f : ShellFault) → IsOpened image seen → IsUnedited seen.tracks seen.content ⊥ f → IsUneditedIn image absent f
+pub edit_unsound : (image : List ℕ) (seen : Seen) (absent : Type 0) (f : ShellFault) → IsImageOpened image seen → IsUnedited seen.tracks seen.content ⊥ f → IsUneditedIn image absent f
 edit_unsound image seen absent f opened h = edit_fault image seen (λ n c. absent) f opened (more f h)
   where
     more : (f : ShellFault) → IsUnedited seen.tracks seen.content ⊥ f → IsUnedited seen.tracks seen.content absent f
@@ -82,7 +82,7 @@ edit_unsound image seen absent f opened h = edit_fault image seen (λ n c. absen
     more fault.Mistaken k = absurd k
 
 -- a fault of the change itself, on the sound disk of an image
-pub edit_volume : {M : Type 0} (seen : M → Seen) (image : List ℕ) (volume opened : M) (absent : ℕ → Content → Type 0) (f : ShellFault) → IsOpened image (seen opened) → volume ≡ opened → IsSoundDisk (seen volume).tracks (seen volume).content
+pub edit_volume : {M : Type 0} (seen : M → Seen) (image : List ℕ) (volume opened : M) (absent : ℕ → Content → Type 0) (f : ShellFault) → IsImageOpened image (seen opened) → volume ≡ opened → IsSoundDisk (seen volume).tracks (seen volume).content
     → (CanBeEdited (geometry_of (seen volume).tracks (seen volume).content) (seen volume) → IsUnedited (seen volume).tracks (seen volume).content (absent (seen volume).tracks (seen volume).content) f)
     → IsUneditedIn image (absent (tracks_of (kind_of image) image) (content_of (kind_of image) image)) f
 edit_volume seen image volume opened absent f is same sound h =

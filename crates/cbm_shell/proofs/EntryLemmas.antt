@@ -11,7 +11,7 @@ use Rattle.cbm_directory.proofs.Placing.{led_on}
 use Rattle.cbm_file.specs.Files.{Disk}
 use Rattle.cbm_directory.specs.Slots.{Answers, directory_of}
 use Rattle.cbm_volume.specs.Blocks.{Blocks, LiesAs, Lies}
-use Rattle.cbm_volume.specs.Layouts.{DataOf, SideOf, OwnedBy, Layout, slot_count, Sound, Stands}
+use Rattle.cbm_volume.specs.Layouts.{DataOf, SideOf, OwnedBy, Layout, slot_count, Sound, HasLayout}
 use Rattle.cbm_volume.proofs.layouts.Listing.{entry_found}
 use Rattle.cbm_volume.proofs.layouts.Loose.{sector_owned}
 use Rattle.cbm_volume.proofs.layouts.Meaning.{sound_stands}
@@ -72,7 +72,7 @@ put_sound tracks c c2 l n new b s room kind lies blocks sides led = record {
   head = ap (λ (x : Content). x directory_head) enters.written ∙ written_elsewhere c (sector_of l.directory n) directory_head enters.sector apart;
 }
   where
-    d : (d : Disk) × Stands tracks c l d
+    d : (d : Disk) × HasLayout tracks c l d
     d = sound_stands tracks c l s
 
     enters : Enters c c2 (sector_of l.directory n) (n % 8) new

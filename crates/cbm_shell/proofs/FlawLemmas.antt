@@ -23,7 +23,7 @@ use Rattle.cbm_shell.specs.Marking.{with_places}
 use Rattle.cbm_shell.proofs.MapLemmas.{among}
 use Rattle.cbm_shell.specs.Flaws as flaws
 use Rattle.cbm_shell.specs.FlawSteps as steps
-use Rattle.cbm_shell.specs.Flaws.{part_of, flaw_if, flawed, sides_walk, relative_walk, entry_walk, entries_walk, sector_walk, slots_walk, found_at, chain_flaws, directory_walk, map_flaws, flaws_of, Walked, at_end, cut_off, goes_on, told, met, with_sector, along, chain_from, then_walk, if_whole, header_flaw, header_flaws_on, header_flaws, count_flaw, count_flaws}
+use Rattle.cbm_shell.specs.Flaws.{part_of, flaw_if, flawed, sides_walk, relative_walk, entry_walk, entries_walk, sector_walk, slots_walk, found_at, chain_flaws, directory_walk, map_flaws, flaws_of, Walked, at_end, cut_off, may_go_on, flaws_for, met, with_sector, flaws_along, chain_from, then_walk, if_whole, header_flaw, header_flaws_on, header_flaws, count_flaw, count_flaws}
 use Rattle.cbm_shell.specs.FlawSteps.{IsStep, HasWalked, IsWalked}
 use Rattle.cbm_shell.specs.Users.{is_user, slot_if, users_among}
 
@@ -82,42 +82,42 @@ step_on whose tracks content claimed new p q bytes free flaw two before after e 
 
 -- where no bytes are answered the walk ends there
 pub stopped : (w : Option ℕ) (flaw : ℕ → DiskFlaw) (content : Content) (p : Place) (claimed new : Place → Bool) (before after : List DiskFlaw)
-    → IsStep w flaw content p claimed new before after None → (goes_on w ≡ false) × (new ≡ claimed)
-stopped w flaw content p claimed new before after s = go (goes_on w) refl s.next s.claims
+    → IsStep w flaw content p claimed new before after None → (may_go_on w ≡ false) × (new ≡ claimed)
+stopped w flaw content p claimed new before after s = go (may_go_on w) refl s.next s.claims
   where
-    go : (b : Bool) → goes_on w ≡ b → None ≡ steps.next_bytes b (bytes_at content p) → new ≡ steps.claimed_if b claimed p → (goes_on w ≡ false) × (new ≡ claimed)
+    go : (b : Bool) → may_go_on w ≡ b → None ≡ steps.next_bytes b (bytes_at content p) → new ≡ steps.claimed_if b claimed p → (may_go_on w ≡ false) × (new ≡ claimed)
     go true e n c = absurd (let z = ap is_some n in cc)
     go false e n c = (e, c)
 
 -- where they are it goes on
 pub went : (w : Option ℕ) (flaw : ℕ → DiskFlaw) (content : Content) (p : Place) (claimed new : Place → Bool) (before after : List DiskFlaw) (bytes : List ℕ)
-    → IsStep w flaw content p claimed new before after (Some bytes) → (goes_on w ≡ true) × (bytes ≡ bytes_at content p) × (new ≡ with_bit claimed p true)
-went w flaw content p claimed new before after bytes s = go (goes_on w) refl s.next s.claims
+    → IsStep w flaw content p claimed new before after (Some bytes) → (may_go_on w ≡ true) × (bytes ≡ bytes_at content p) × (new ≡ with_bit claimed p true)
+went w flaw content p claimed new before after bytes s = go (may_go_on w) refl s.next s.claims
   where
     same : (xs ys : List ℕ) → Some xs ≡ Some ys → xs ≡ ys
     same xs ys e = cc
 
-    go : (b : Bool) → goes_on w ≡ b → Some bytes ≡ steps.next_bytes b (bytes_at content p) → new ≡ steps.claimed_if b claimed p
-        → (goes_on w ≡ true) × (bytes ≡ bytes_at content p) × (new ≡ with_bit claimed p true)
+    go : (b : Bool) → may_go_on w ≡ b → Some bytes ≡ steps.next_bytes b (bytes_at content p) → new ≡ steps.claimed_if b claimed p
+        → (may_go_on w ≡ true) × (bytes ≡ bytes_at content p) × (new ≡ with_bit claimed p true)
     go true e n c = (e, same bytes (bytes_at content p) n, c)
     go false e n c = absurd (let z = ap is_some n in cc)
 
 -- the same, by whether bytes were answered
 pub stopped_by : (w : Option ℕ) (flaw : ℕ → DiskFlaw) (content : Content) (p : Place) (claimed new : Place → Bool) (before after : List DiskFlaw) (o : Option (List ℕ))
-    → IsStep w flaw content p claimed new before after o → is_some o ≡ false → (goes_on w ≡ false) × (new ≡ claimed)
+    → IsStep w flaw content p claimed new before after o → is_some o ≡ false → (may_go_on w ≡ false) × (new ≡ claimed)
 stopped_by w flaw content p claimed new before after None s e = stopped w flaw content p claimed new before after s
 stopped_by w flaw content p claimed new before after (Some bytes) s e = absurd (cc)
 
 pub went_by : (w : Option ℕ) (flaw : ℕ → DiskFlaw) (content : Content) (p : Place) (claimed new : Place → Bool) (before after : List DiskFlaw) (o : Option (List ℕ))
-    → IsStep w flaw content p claimed new before after o → is_some o ≡ true → (goes_on w ≡ true) × (new ≡ with_bit claimed p true)
+    → IsStep w flaw content p claimed new before after o → is_some o ≡ true → (may_go_on w ≡ true) × (new ≡ with_bit claimed p true)
 went_by w flaw content p claimed new before after None s e = absurd (cc)
 went_by w flaw content p claimed new before after (Some bytes) s e = let g = went w flaw content p claimed new before after bytes s in (g.0, g.2)
 
-pub met_on : (w : Option ℕ) (flaw : ℕ → DiskFlaw) (p : Place) (claimed : Place → Bool) (rest : Walked) → goes_on w ≡ true → met w flaw p claimed rest ≡ with_sector (told w flaw) p rest
-met_on w flaw p claimed rest e = ap (λ (b : Bool). if b then with_sector (told w flaw) p rest else cut_off claimed (told w flaw)) e
+pub met_on : (w : Option ℕ) (flaw : ℕ → DiskFlaw) (p : Place) (claimed : Place → Bool) (rest : Walked) → may_go_on w ≡ true → met w flaw p claimed rest ≡ with_sector (flaws_for w flaw) p rest
+met_on w flaw p claimed rest e = ap (λ (b : Bool). if b then with_sector (flaws_for w flaw) p rest else cut_off claimed (flaws_for w flaw)) e
 
-pub met_off : (w : Option ℕ) (flaw : ℕ → DiskFlaw) (p : Place) (claimed : Place → Bool) (rest : Walked) → goes_on w ≡ false → met w flaw p claimed rest ≡ cut_off claimed (told w flaw)
-met_off w flaw p claimed rest e = ap (λ (b : Bool). if b then with_sector (told w flaw) p rest else cut_off claimed (told w flaw)) e
+pub met_off : (w : Option ℕ) (flaw : ℕ → DiskFlaw) (p : Place) (claimed : Place → Bool) (rest : Walked) → may_go_on w ≡ false → met w flaw p claimed rest ≡ cut_off claimed (flaws_for w flaw)
+met_off w flaw p claimed rest e = ap (λ (b : Bool). if b then with_sector (flaws_for w flaw) p rest else cut_off claimed (flaws_for w flaw)) e
 
 -- ---- a walk under way: what is left of it makes the whole
 
@@ -150,45 +150,45 @@ one_more old rest whole before now after flaws p l e a = record {
 -- ---- along a chain
 
 pub along-end : (whose : Whose) (tracks : ℕ) (content : Content) (n m before : ℕ) (claimed : Place → Bool) (p : Place) → n ≡ suc m → p.track ≡ 0
-    → along whose tracks content n before claimed p ≡ at_end claimed
-unfolding along
+    → flaws_along whose tracks content n before claimed p ≡ at_end claimed
+unfolding flaws_along
 along-end whose tracks content n m before claimed p e z =
-    ap (λ (k : ℕ). along whose tracks content k before claimed p) e
+    ap (λ (k : ℕ). flaws_along whose tracks content k before claimed p) e
     ∙ ap (λ (b : Bool). if b then at_end claimed else met (wrong_at (part_of whose) tracks content claimed p) (flawed whose before p) p claimed
-    (along whose tracks content m (before + 1) (with_bit claimed p true) (link (bytes_at content p)))) (eq-eqb p.track 0 z)
+    (flaws_along whose tracks content m (before + 1) (with_bit claimed p true) (link (bytes_at content p)))) (eq-eqb p.track 0 z)
 
 pub along-met : (whose : Whose) (tracks : ℕ) (content : Content) (n m before : ℕ) (claimed : Place → Bool) (p : Place) → n ≡ suc m → p.track ≢ 0
-    → along whose tracks content n before claimed p ≡ met (wrong_at (part_of whose) tracks content claimed p) (flawed whose before p) p claimed
-    (along whose tracks content m (before + 1) (with_bit claimed p true) (link (bytes_at content p)))
-unfolding along
+    → flaws_along whose tracks content n before claimed p ≡ met (wrong_at (part_of whose) tracks content claimed p) (flawed whose before p) p claimed
+    (flaws_along whose tracks content m (before + 1) (with_bit claimed p true) (link (bytes_at content p)))
+unfolding flaws_along
 along-met whose tracks content n m before claimed p e nz =
-    ap (λ (k : ℕ). along whose tracks content k before claimed p) e
+    ap (λ (k : ℕ). flaws_along whose tracks content k before claimed p) e
     ∙ ap (λ (b : Bool). if b then at_end claimed else met (wrong_at (part_of whose) tracks content claimed p) (flawed whose before p) p claimed
-    (along whose tracks content m (before + 1) (with_bit claimed p true) (link (bytes_at content p)))) (ne_eqb p.track 0 nz)
+    (flaws_along whose tracks content m (before + 1) (with_bit claimed p true) (link (bytes_at content p)))) (ne_eqb p.track 0 nz)
 
 pub along-none : (whose : Whose) (tracks : ℕ) (content : Content) (n before : ℕ) (claimed : Place → Bool) (p : Place) → n ≡ 0
-    → along whose tracks content n before claimed p ≡ cut_off claimed []
-unfolding along
-along-none whose tracks content n before claimed p e = ap (λ (k : ℕ). along whose tracks content k before claimed p) e
+    → flaws_along whose tracks content n before claimed p ≡ cut_off claimed []
+unfolding flaws_along
+along-none whose tracks content n before claimed p e = ap (λ (k : ℕ). flaws_along whose tracks content k before claimed p) e
 
 -- the walk goes on to the next sector
 pub along-on : (whose : Whose) (tracks : ℕ) (content : Content) (n m before : ℕ) (claimed new : Place → Bool) (p q : Place) (bytes : List ℕ) → n ≡ suc m → p.track ≢ 0
-    → goes_on (wrong_at (part_of whose) tracks content claimed p) ≡ true → bytes ≡ bytes_at content p → new ≡ with_bit claimed p true → q ≡ link bytes
-    → along whose tracks content n before claimed p ≡ with_sector (told (wrong_at (part_of whose) tracks content claimed p) (flawed whose before p)) p (along whose tracks content m (before + 1) new q)
+    → may_go_on (wrong_at (part_of whose) tracks content claimed p) ≡ true → bytes ≡ bytes_at content p → new ≡ with_bit claimed p true → q ≡ link bytes
+    → flaws_along whose tracks content n before claimed p ≡ with_sector (flaws_for (wrong_at (part_of whose) tracks content claimed p) (flawed whose before p)) p (flaws_along whose tracks content m (before + 1) new q)
 along-on whose tracks content n m before claimed new p q bytes e nz g b c l =
     along-met whose tracks content n m before claimed p e nz
     ∙ met_on (wrong_at (part_of whose) tracks content claimed p) (flawed whose before p) p claimed _ g
-    ∙ ap (λ (u : Place → Bool). with_sector (told (wrong_at (part_of whose) tracks content claimed p) (flawed whose before p)) p (along whose tracks content m (before + 1) u (link (bytes_at content p)))) (sym c)
-    ∙ ap (λ (x : Place). with_sector (told (wrong_at (part_of whose) tracks content claimed p) (flawed whose before p)) p (along whose tracks content m (before + 1) new x)) (ap link (sym b) ∙ sym l)
+    ∙ ap (λ (u : Place → Bool). with_sector (flaws_for (wrong_at (part_of whose) tracks content claimed p) (flawed whose before p)) p (flaws_along whose tracks content m (before + 1) u (link (bytes_at content p)))) (sym c)
+    ∙ ap (λ (x : Place). with_sector (flaws_for (wrong_at (part_of whose) tracks content claimed p) (flawed whose before p)) p (flaws_along whose tracks content m (before + 1) new x)) (ap link (sym b) ∙ sym l)
 
 -- the walk ends at a sector that isn't claimed
 pub along-off : (whose : Whose) (tracks : ℕ) (content : Content) (n m before : ℕ) (claimed new : Place → Bool) (p : Place) → n ≡ suc m → p.track ≢ 0
-    → goes_on (wrong_at (part_of whose) tracks content claimed p) ≡ false → new ≡ claimed
-    → along whose tracks content n before claimed p ≡ cut_off new (told (wrong_at (part_of whose) tracks content claimed p) (flawed whose before p))
+    → may_go_on (wrong_at (part_of whose) tracks content claimed p) ≡ false → new ≡ claimed
+    → flaws_along whose tracks content n before claimed p ≡ cut_off new (flaws_for (wrong_at (part_of whose) tracks content claimed p) (flawed whose before p))
 along-off whose tracks content n m before claimed new p e nz g c =
     along-met whose tracks content n m before claimed p e nz
     ∙ met_off (wrong_at (part_of whose) tracks content claimed p) (flawed whose before p) p claimed _ g
-    ∙ ap (λ (u : Place → Bool). cut_off u (told (wrong_at (part_of whose) tracks content claimed p) (flawed whose before p))) (sym c)
+    ∙ ap (λ (u : Place → Bool). cut_off u (flaws_for (wrong_at (part_of whose) tracks content claimed p) (flawed whose before p))) (sym c)
 
 -- its sectors so far, and those that are left
 pub no_blocks : (blocks all : List Place) (rest : Walked) (claimed : Place → Bool) (flaws : List DiskFlaw) (b : Bool) → blocks ++ rest.blocks ≡ all
@@ -207,22 +207,22 @@ unfolding flaws.among
 among-none whose tracks content claimed xs e = ap (λ (l : List Place). flaws.among whose tracks content claimed l) e
 
 pub among-on : (whose : Whose) (tracks : ℕ) (content : Content) (claimed new : Place → Bool) (p : Place) (xs rest : List Place) → xs ≡ p ∷ rest
-    → goes_on (wrong_at (part_of whose) tracks content claimed p) ≡ true → new ≡ with_bit claimed p true
-    → flaws.among whose tracks content claimed xs ≡ with_sector (told (wrong_at (part_of whose) tracks content claimed p) (flawed whose 0 p)) p (flaws.among whose tracks content new rest)
+    → may_go_on (wrong_at (part_of whose) tracks content claimed p) ≡ true → new ≡ with_bit claimed p true
+    → flaws.among whose tracks content claimed xs ≡ with_sector (flaws_for (wrong_at (part_of whose) tracks content claimed p) (flawed whose 0 p)) p (flaws.among whose tracks content new rest)
 unfolding flaws.among
 among-on whose tracks content claimed new p xs rest e g c =
     ap (λ (l : List Place). flaws.among whose tracks content claimed l) e
     ∙ met_on (wrong_at (part_of whose) tracks content claimed p) (flawed whose 0 p) p claimed _ g
-    ∙ ap (λ (u : Place → Bool). with_sector (told (wrong_at (part_of whose) tracks content claimed p) (flawed whose 0 p)) p (flaws.among whose tracks content u rest)) (sym c)
+    ∙ ap (λ (u : Place → Bool). with_sector (flaws_for (wrong_at (part_of whose) tracks content claimed p) (flawed whose 0 p)) p (flaws.among whose tracks content u rest)) (sym c)
 
 pub among-off : (whose : Whose) (tracks : ℕ) (content : Content) (claimed new : Place → Bool) (p : Place) (xs rest : List Place) → xs ≡ p ∷ rest
-    → goes_on (wrong_at (part_of whose) tracks content claimed p) ≡ false → new ≡ claimed
-    → flaws.among whose tracks content claimed xs ≡ cut_off new (told (wrong_at (part_of whose) tracks content claimed p) (flawed whose 0 p))
+    → may_go_on (wrong_at (part_of whose) tracks content claimed p) ≡ false → new ≡ claimed
+    → flaws.among whose tracks content claimed xs ≡ cut_off new (flaws_for (wrong_at (part_of whose) tracks content claimed p) (flawed whose 0 p))
 unfolding flaws.among
 among-off whose tracks content claimed new p xs rest e g c =
     ap (λ (l : List Place). flaws.among whose tracks content claimed l) e
     ∙ met_off (wrong_at (part_of whose) tracks content claimed p) (flawed whose 0 p) p claimed _ g
-    ∙ ap (λ (u : Place → Bool). cut_off u (told (wrong_at (part_of whose) tracks content claimed p) (flawed whose 0 p))) (sym c)
+    ∙ ap (λ (u : Place → Bool). cut_off u (flaws_for (wrong_at (part_of whose) tracks content claimed p) (flawed whose 0 p))) (sym c)
 
 -- a whole walk that is only these flaws
 pub only : (w : Walked) (before after flaws : List DiskFlaw) (claimed : Place → Bool) (b : Bool) → w ≡ record { blocks = []; claimed = claimed; flaws = flaws; whole = b }

@@ -9,7 +9,7 @@ use Rattle.cbm_medium.proofs.Walks.{has_true, bool_cases}
 use Rattle.cbm_bam.specs.Map.{map_of, is_free_in, with_bit, tally, number, at}
 use Rattle.cbm_bam.proofs.Counts.{tally_most, number_most, blocks_on_40}
 use Rattle.cbm_directory.specs.Entries.{type_byte, is_closed, is_relative, first_block, first_side, first_directory}
-use Rattle.cbm_volume.specs.Layouts.{Layout, Sound, IsWritable}
+use Rattle.cbm_volume.specs.Layouts.{Layout, Sound, IsCellWritable}
 use Rattle.cbm_bam.specs.Map.{geometry_of}
 use Rattle.cbm_volume.specs.declared.check.unsound.Part.{Part}
 use Rattle.cbm_volume.specs.declared.check.unsound.Part.TheVariants.{OfDirectory, OfFile}
@@ -25,7 +25,7 @@ use Rattle.cbm_shell.specs.declared.broken.flaws.found.Whose.{Whose}
 use Rattle.cbm_shell.specs.declared.broken.flaws.found.Whose.TheVariants.{Disk, Directory, File}
 use Rattle.cbm_shell.specs.declared.broken.flaws.found.DiskFlaw.{DiskFlaw}
 use Rattle.cbm_shell.specs.Flaws as flaws
-use Rattle.cbm_shell.specs.Flaws.{part_of, flaw_if, flawed, Walked, at_end, cut_off, with_sector, goes_on, told, met, along, chain_from, then_walk, if_whole, records_walk, sides_walk, relative_walk, file_walk, entry_walk, entries_walk, bytes_of, found_at, sector_walk, slots_walk, header_flaw, header_flaws_on, header_flaws, count_flaws, map_flaws, directory_walk, chain_flaws, flaws_of, first_of}
+use Rattle.cbm_shell.specs.Flaws.{part_of, flaw_if, flawed, Walked, at_end, cut_off, with_sector, may_go_on, flaws_for, met, flaws_along, chain_from, then_walk, if_whole, records_walk, sides_walk, relative_walk, file_walk, entry_walk, entries_walk, bytes_of, found_at, sector_walk, slots_walk, header_flaw, header_flaws_on, header_flaws, count_flaws, map_flaws, directory_walk, chain_flaws, flaws_of, first_flaw}
 use Rattle.cbm_shell.specs.Images.{IsChecked}
 use Rattle.cbm_shell.proofs.FlawLemmas.{met_on, met_off, along-end, along-met, among-none, if_whole-on, if_whole-off, relative_is, entries_walk-none, entries_walk-some, slots_walk-none, slots_walk-some}
 
@@ -93,17 +93,17 @@ whole_after first next between u c b = begins_is (if_whole first next) (then_wal
 
 -- ---- one sector
 
-told_begins : (w : Option ℕ) (whose : Whose) (before : ℕ) (p : Place) (u : Unsound) → w ≡ Some u.number → u ≡ fault_at u.number p → Begins (told w (flawed whose before p)) u
+told_begins : (w : Option ℕ) (whose : Whose) (before : ℕ) (p : Place) (u : Unsound) → w ≡ Some u.number → u ≡ fault_at u.number p → Begins (flaws_for w (flawed whose before p)) u
 told_begins w whose before p u e is =
-    begins_here (told w (flawed whose before p)) (flawed whose before p u.number ∷ []) u (ap (λ (o : Option ℕ). told o (flawed whose before p)) e)
+    begins_here (flaws_for w (flawed whose before p)) (flawed whose before p u.number ∷ []) u (ap (λ (o : Option ℕ). flaws_for o (flawed whose before p)) e)
     (begins_with (flawed whose before p u.number) [] u (sym is))
 
 met_begins : (w : Option ℕ) (whose : Whose) (before : ℕ) (p : Place) (claimed : Place → Bool) (rest : Walked) (u : Unsound) → w ≡ Some u.number → u ≡ fault_at u.number p
     → Begins (met w (flawed whose before p) p claimed rest).flaws u
-met_begins w whose before p claimed rest u e is = elim (bool_cases (goes_on w)) [
-  | inl on ↦ begins_is (met w (flawed whose before p) p claimed rest) (with_sector (told w (flawed whose before p)) p rest) u (met_on w (flawed whose before p) p claimed rest on)
-      (begins_append (told w (flawed whose before p)) rest.flaws u (told_begins w whose before p u e is))
-  | inr off ↦ begins_is (met w (flawed whose before p) p claimed rest) (cut_off claimed (told w (flawed whose before p))) u (met_off w (flawed whose before p) p claimed rest off)
+met_begins w whose before p claimed rest u e is = elim (bool_cases (may_go_on w)) [
+  | inl on ↦ begins_is (met w (flawed whose before p) p claimed rest) (with_sector (flaws_for w (flawed whose before p)) p rest) u (met_on w (flawed whose before p) p claimed rest on)
+      (begins_append (flaws_for w (flawed whose before p)) rest.flaws u (told_begins w whose before p u e is))
+  | inr off ↦ begins_is (met w (flawed whose before p) p claimed rest) (cut_off claimed (flaws_for w (flawed whose before p))) u (met_off w (flawed whose before p) p claimed rest off)
       (told_begins w whose before p u e is)
 ]
 
@@ -137,37 +137,37 @@ few OfDirectory claimed = below (tally (λ p. not (claimed p)) 18 19) 19 (tally_
 few OfFile claimed = below (number 40 (λ p. not (claimed p))) 749 (subst (λ (n : ℕ). number 40 (λ p. not (claimed p)) ≤ n) blocks_on_40 (number_most 40 (λ p. not (claimed p)))) (omega arith)
 
 goes_to : (whose : Whose) (tracks : ℕ) (content : Content) (n m before : ℕ) (claimed : Place → Bool) (b : Place) → n ≡ suc m → wrong_at (part_of whose) tracks content claimed b ≡ None
-    → along whose tracks content n before claimed b ≡ with_sector [] b (along whose tracks content m (before + 1) (with_bit claimed b true) (link (bytes_at content b)))
+    → flaws_along whose tracks content n before claimed b ≡ with_sector [] b (flaws_along whose tracks content m (before + 1) (with_bit claimed b true) (link (bytes_at content b)))
 goes_to whose tracks content n m before claimed b e none =
     along-met whose tracks content n m before claimed b e (on_track (part_of whose) tracks content claimed b none)
     ∙ met_none (wrong_at (part_of whose) tracks content claimed b) (flawed whose before b) b claimed _ none
 
 -- a chain that is claimed
 along_clean : (whose : Whose) (tracks : ℕ) (content : Content) (n before : ℕ) (claimed : Place → Bool) (a : Place) (blocks : List Place) (after : Place → Bool) → ClaimsChain (part_of whose) tracks content claimed a blocks after
-    → length blocks < n → Clean (along whose tracks content n before claimed a) after × ((along whose tracks content n before claimed a).blocks ≡ blocks)
+    → length blocks < n → Clean (flaws_along whose tracks content n before claimed a) after × ((flaws_along whose tracks content n before claimed a).blocks ≡ blocks)
 along_clean whose tracks content zero before claimed a blocks after h l = absurd (omega (arith, l))
 along_clean whose tracks content (suc m) before claimed a [] after h l =
     let e = along-end whose tracks content (suc m) m before claimed a refl h.0 in
     (clean_is _ (at_end claimed) after e (clean_end claimed after h.1), ap (λ (w : Walked). w.blocks) e)
 along_clean whose tracks content (suc m) before claimed a (b ∷ rest) after h l =
-    let e = ap (λ (p : Place). along whose tracks content (suc m) before claimed p) h.0 ∙ goes_to whose tracks content (suc m) m before claimed b refl h.1 in
+    let e = ap (λ (p : Place). flaws_along whose tracks content (suc m) before claimed p) h.0 ∙ goes_to whose tracks content (suc m) m before claimed b refl h.1 in
     let k = along_clean whose tracks content m (before + 1) (with_bit claimed b true) (link (bytes_at content b)) rest after h.2 (omega (arith, l)) in (
-      clean_is _ (with_sector [] b (along whose tracks content m (before + 1) (with_bit claimed b true) (link (bytes_at content b)))) after e
+      clean_is _ (with_sector [] b (flaws_along whose tracks content m (before + 1) (with_bit claimed b true) (link (bytes_at content b)))) after e
           (record { claims = k.0.claims; none = k.0.none; whole = k.0.whole }),
       ap (λ (w : Walked). w.blocks) e ∙ ap (λ (l : List Place). b ∷ l) k.1,
     )
 
 -- and one that meets a fault
 along_begins : (whose : Whose) (tracks : ℕ) (content : Content) (n before : ℕ) (claimed : Place → Bool) (a : Place) (blocks : List Place) (u : Unsound) → MeetsFault (part_of whose) tracks content claimed a blocks u
-    → length blocks < n → Begins (along whose tracks content n before claimed a).flaws u
+    → length blocks < n → Begins (flaws_along whose tracks content n before claimed a).flaws u
 along_begins whose tracks content zero before claimed a blocks u h l = absurd (omega (arith, l))
 along_begins whose tracks content (suc m) before claimed a [] u h l =
-    begins_is _ (met (wrong_at (part_of whose) tracks content claimed a) (flawed whose before a) a claimed (along whose tracks content m (before + 1) (with_bit claimed a true) (link (bytes_at content a)))) u
+    begins_is _ (met (wrong_at (part_of whose) tracks content claimed a) (flawed whose before a) a claimed (flaws_along whose tracks content m (before + 1) (with_bit claimed a true) (link (bytes_at content a)))) u
     (along-met whose tracks content (suc m) m before claimed a refl h.0)
     (met_begins (wrong_at (part_of whose) tracks content claimed a) whose before a claimed _ u h.1 h.2)
 along_begins whose tracks content (suc m) before claimed a (b ∷ rest) u h l =
-    let e = ap (λ (p : Place). along whose tracks content (suc m) before claimed p) h.0 ∙ goes_to whose tracks content (suc m) m before claimed b refl h.1 in
-    begins_is _ (with_sector [] b (along whose tracks content m (before + 1) (with_bit claimed b true) (link (bytes_at content b)))) u e
+    let e = ap (λ (p : Place). flaws_along whose tracks content (suc m) before claimed p) h.0 ∙ goes_to whose tracks content (suc m) m before claimed b refl h.1 in
+    begins_is _ (with_sector [] b (flaws_along whose tracks content m (before + 1) (with_bit claimed b true) (link (bytes_at content b)))) u e
     (along_begins whose tracks content m (before + 1) (with_bit claimed b true) (link (bytes_at content b)) rest u h.2 (omega (arith, l)))
 
 chain_clean : (whose : Whose) (tracks : ℕ) (content : Content) (claimed : Place → Bool) (a : Place) (blocks : List Place) (after : Place → Bool) → ClaimsChain (part_of whose) tracks content claimed a blocks after
@@ -365,24 +365,24 @@ slots_begin slot tracks content seen claimed a (d ∷ blocks) (b ∷ again) x u 
 
 -- ---- headers
 
-header_none : (p : Place) (cell : Cell) → IsWritable cell → header_flaw p cell ≡ []
+header_none : (p : Place) (cell : Cell) → IsCellWritable cell → header_flaw p cell ≡ []
 header_none p (Ok bytes) h = refl
 header_none p (Err code) h = ap (λ (b : Bool). flaw_if b (flawed Disk 0 p 5)) h
 
-none_on : (content : Content) (t n : ℕ) → ((s : ℕ) → s < n → IsWritable (content (at t s))) → header_flaws_on content t n ≡ []
+none_on : (content : Content) (t n : ℕ) → ((s : ℕ) → s < n → IsCellWritable (content (at t s))) → header_flaws_on content t n ≡ []
 unfolding header_flaws_on
 none_on content t zero h = refl
 none_on content t (suc n) h =
     ap (λ (l : List DiskFlaw). l ++ header_flaw (at t n) (content (at t n))) (none_on content t n (λ s l. h s (omega (arith, l)))) ∙ header_none (at t n) (content (at t n)) (h n (omega arith))
 
-none_in : (content : Content) (n : ℕ) → ((p : Place) → Has n p → IsWritable (content p)) → header_flaws content n ≡ []
+none_in : (content : Content) (n : ℕ) → ((p : Place) → Has n p → IsCellWritable (content p)) → header_flaws content n ≡ []
 unfolding header_flaws
 none_in content zero h = refl
 none_in content (suc n) h =
     ap (λ (l : List DiskFlaw). l ++ header_flaws_on content (suc n) (sectors_on (suc n))) (none_in content n (λ p k. h p (k.0, omega (arith, k.1), k.2)))
     ∙ none_on content (suc n) (sectors_on (suc n)) (λ s l. h (at (suc n) s) (omega arith, omega arith, l))
 
-begins_on : (content : Content) (t n s : ℕ) → s < n → is_bad_header (content (at t s)) ≡ true → ((r : ℕ) → r < s → IsWritable (content (at t r))) → Begins (header_flaws_on content t n) (fault_at 5 (at t s))
+begins_on : (content : Content) (t n s : ℕ) → s < n → is_bad_header (content (at t s)) ≡ true → ((r : ℕ) → r < s → IsCellWritable (content (at t r))) → Begins (header_flaws_on content t n) (fault_at 5 (at t s))
 unfolding header_flaws_on
 begins_on content t zero s l bad first = absurd (omega (arith, l))
 begins_on content t (suc n) s l bad first = elim (cases_eq s n) [
@@ -394,7 +394,7 @@ begins_on content t (suc n) s l bad first = elim (cases_eq s n) [
 ]
 
 begins_in : (content : Content) (n : ℕ) (p : Place) → 0 < p.track → p.track ≤ n → p.sector < sectors_on p.track → is_bad_header (content p) ≡ true
-    → ((q : Place) → 0 < q.track → q.sector < sectors_on q.track → q.track < p.track → IsWritable (content q)) → ((r : ℕ) → r < p.sector → IsWritable (content (at p.track r))) → Begins (header_flaws content n) (fault_at 5 p)
+    → ((q : Place) → 0 < q.track → q.sector < sectors_on q.track → q.track < p.track → IsCellWritable (content q)) → ((r : ℕ) → r < p.sector → IsCellWritable (content (at p.track r))) → Begins (header_flaws content n) (fault_at 5 p)
 unfolding header_flaws
 begins_in content zero p some l s bad above before = absurd (omega (arith, some, l))
 begins_in content (suc n) p some l s bad above before = elim (cases_eq p.track (suc n)) [
@@ -503,11 +503,11 @@ fault_first tracks content u (inr (inr (inr (w, m, f)))) =
     (slots_begin 0 tracks content only_head f.between first_directory f.sectors f.again f.between u f.directory f.fault)))
 
 -- the first of the list is what the check answers
-pub first_is : (fs : List DiskFlaw) (u : Unsound) → Begins fs u → first_of fs ≡ Err u
-first_is fs u b = ap first_of b.is ∙ ap (λ (v : Unsound). Err v) b.what
+pub first_is : (fs : List DiskFlaw) (u : Unsound) → Begins fs u → first_flaw fs ≡ Err u
+first_is fs u b = ap first_flaw b.is ∙ ap (λ (v : Unsound). Err v) b.what
 
 pub all_first : {A E : Type 0} (r : Result A E) (items : A → List DiskFlaw) (tracks : ℕ) (content : Content) (u : Unsound) → IfOk r (λ v. items v ≡ flaws_of (geometry_of tracks content) content)
-    → DiskFault (geometry_of tracks content) content u → IfOk r (λ v. IsChecked tracks content (first_of (items v)))
+    → DiskFault (geometry_of tracks content) content u → IfOk r (λ v. IsChecked tracks content (first_flaw (items v)))
 all_first (Ok v) items tracks content u h fault =
-    subst (λ (x : Result (Unit {0}) Unsound). IsChecked tracks content x) (sym (ap first_of h ∙ first_is (flaws_of (geometry_of tracks content) content) u (fault_first (geometry_of tracks content) content u fault))) fault
+    subst (λ (x : Result (Unit {0}) Unsound). IsChecked tracks content x) (sym (ap first_flaw h ∙ first_is (flaws_of (geometry_of tracks content) content) u (fault_first (geometry_of tracks content) content u fault))) fault
 all_first (Err e) items tracks content u h fault = tt

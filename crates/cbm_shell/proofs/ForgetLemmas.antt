@@ -8,11 +8,11 @@ use Rattle.cbm_volume.specs.declared.Unsound.{Unsound}
 use Rattle.cbm_directory.specs.EntryChanges.{ClearsLed}
 use Rattle.cbm_image.specs.declared.kind.Kind.{Kind}
 use Rattle.cbm_image.specs.Images.{kind_of, tracks_of, content_of}
-use Rattle.cbm_shell.specs.Images.{IsOpened}
+use Rattle.cbm_shell.specs.Images.{IsImageOpened}
 use Rattle.cbm_shell.specs.Forgetting.{IsForgotten}
 use Rattle.cbm_shell.proofs.ImageLemmas.{of_image}
 
-pub forgot : (image new : List ℕ) (seen : Seen) (kind : Kind) (slot : ℕ) (u : Unsound) → IsOpened image seen → kind_of image ≡ kind
+pub forgot : (image new : List ℕ) (seen : Seen) (kind : Kind) (slot : ℕ) (u : Unsound) → IsImageOpened image seen → kind_of image ≡ kind
     → DiskFault (geometry_of seen.tracks seen.content) seen.content u → ClearsLed (geometry_of seen.tracks seen.content) seen.content (content_of kind new) slot
     → IsForgotten (geometry_of (tracks_of (kind_of image) image) (content_of (kind_of image) image)) (content_of (kind_of image) image) (content_of (kind_of image) new) slot
 forgot image new seen kind slot u opened same fault cleared =

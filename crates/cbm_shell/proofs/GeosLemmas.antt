@@ -9,7 +9,7 @@ use Rattle.cbm_bam.specs.Marks.{nothing}
 use Rattle.cbm_directory.specs.Entries.{first_block, first_side}
 use Rattle.cbm_shell.specs.Mapping.{chain_of, is_among}
 use Rattle.cbm_shell.specs.Marking.{with_places}
-use Rattle.cbm_shell.specs.Geos.{is_geos, has_records, chains_in, chains_by, records_of, records_by, blocks_by, geos_blocks, in_geos, is_geos_map, border_by, border_in}
+use Rattle.cbm_shell.specs.Geos.{is_geos, has_geos_records, chains_in, chains_by, records_of, records_by, blocks_by, geos_blocks, in_geos, is_geos_map, border_by, border_in}
 use Rattle.cbm_shell.specs.Freeing.{is_any}
 use Rattle.cbm_shell.proofs.MapLemmas.{with-append, among}
 
@@ -54,14 +54,14 @@ no_geos tracks content e is = ap (λ b. blocks_by b tracks content e) is
 
 -- ---- the info block, and the records
 
-pub geos_plain : (used new : Place → Bool) (tracks : ℕ) (content : Content) (e : List ℕ) → is_geos e ≡ true → has_records e ≡ false
+pub geos_plain : (used new : Place → Bool) (tracks : ℕ) (content : Content) (e : List ℕ) → is_geos e ≡ true → has_geos_records e ≡ false
     → new ≡ with_places used (chain_of tracks content (first_side e)) → new ≡ with_places used (geos_blocks tracks content e)
 geos_plain used new tracks content e is plain added =
     added ∙ ap (with_places used) (sym (append-nil (chain_of tracks content (first_side e)))
     ∙ sym (ap (λ b. chain_of tracks content (first_side e) ++ records_by b tracks content (first_block e)) plain)
     ∙ sym (ap (λ b. blocks_by b tracks content e) is))
 
-pub geos_listed : (used info new : Place → Bool) (tracks : ℕ) (content : Content) (e : List ℕ) → is_geos e ≡ true → has_records e ≡ true
+pub geos_listed : (used info new : Place → Bool) (tracks : ℕ) (content : Content) (e : List ℕ) → is_geos e ≡ true → has_geos_records e ≡ true
     → info ≡ with_places used (chain_of tracks content (first_side e)) → new ≡ with_places info (records_of tracks content (first_block e))
     → new ≡ with_places used (geos_blocks tracks content e)
 geos_listed used info new tracks content e is listed first added =

@@ -9,8 +9,8 @@ use Rattle.cbm_file.specs.Files.{Disk, bytes_in}
 use Rattle.cbm_directory.specs.Entries.{is_closed}
 use Rattle.cbm_bam.specs.Map.{geometry_of}
 use Rattle.cbm_directory.specs.Slots.{Listed, Finds, directory_of}
-use Rattle.cbm_volume.specs.Holding.{TellsOf, StandsAt, HasBytes}
-use Rattle.cbm_channel.specs.Finding.{found, is_there}
+use Rattle.cbm_volume.specs.Holding.{TellsOf, EntryStandsAt, HasBytes}
+use Rattle.cbm_machine.specs.Finding.{found, is_there}
 use Rattle.cbm_channel.specs.declared.Code.TheVariants.{WrongType, FileNotFound}
 use Rattle.cbm_channel.specs.Sought.{is_sought}
 use Rattle.cbm_channel.proofs.Found.{Hit, found_hit, found_none, named_as}
@@ -55,7 +55,7 @@ module _ {A : Type 0} (items : A → List ℕ) (tracks : ℕ) (c : Content) (p :
   of_records (Err f) why relative (inl h) = subst (λ g. IsGetFault d p g) (sym h) tt
   of_records (Err f) why relative (inr (t, h, met)) = subst (λ g. IsGetFault d p g) (sym h) (record { slot = j; file = x.file; first = x.is; relative = relative })
 
-  stands : StandsAt tracks c j e
+  stands : EntryStandsAt tracks c j e
   stands = let same : j - 0 ≡ j = omega arith in subst (λ i. slice_get (directory_of (geometry_of tracks c) c).entries i ≡ Some e) same x.entry
 
   has_bytes : is_same_type Rel x.file.kind ≡ false → HasBytes d j (bytes_in x.file.body)
@@ -69,7 +69,7 @@ module _ {A : Type 0} (items : A → List ℕ) (tracks : ℕ) (c : Content) (p :
       }
 
   by_type : (r : Result A ShellFault) (why : Option Trouble) → IfErr r (IsReadFault why)
-      → ((n : ℕ) (bytes : List ℕ) → StandsAt tracks c n e → HasBytes d n bytes → MatchResult r (λ v. items v ≡ bytes) (λ f. f ≡ fault.Memory))
+      → ((n : ℕ) (bytes : List ℕ) → EntryStandsAt tracks c n e → HasBytes d n bytes → MatchResult r (λ v. items v ≡ bytes) (λ f. f ≡ fault.Memory))
       → (b : Bool) → is_same_type Rel x.file.kind ≡ b → MatchResult r (λ v. Gets d p (items v)) (IsGetFault d p)
   by_type r why h means false plain = of_bytes r plain (means j (bytes_in x.file.body) stands (has_bytes plain))
   by_type r why h means true relative = of_records r why relative h
@@ -77,7 +77,7 @@ module _ {A : Type 0} (items : A → List ℕ) (tracks : ℕ) (c : Content) (p :
 pub got : {A : Type 0} (items : A → List ℕ) (tracks : ℕ) (c : Content) (p : List ℕ) (d : Disk) (o : Option (ℕ × List ℕ)) (j : ℕ) (e : List ℕ)
     → TellsOf d (directory_of (geometry_of tracks c) c) → Finds (is_sought p None) (directory_of (geometry_of tracks c) c) (Ok o) → o ≡ Some (j, e)
     → is_closed e ≡ true → (r : Result A ShellFault) (why : Option Trouble) → IfErr r (IsReadFault why)
-    → ((n : ℕ) (bytes : List ℕ) → StandsAt tracks c n e → HasBytes d n bytes → MatchResult r (λ v. items v ≡ bytes) (λ f. f ≡ fault.Memory))
+    → ((n : ℕ) (bytes : List ℕ) → EntryStandsAt tracks c n e → HasBytes d n bytes → MatchResult r (λ v. items v ≡ bytes) (λ f. f ≡ fault.Memory))
     → MatchResult r (λ v. Gets d p (items v)) (IsGetFault d p)
 got items tracks c p d o j e tells h is closed r why failed means =
     let x = first_hit p d (directory_of (geometry_of tracks c) c) o j e tells h is in

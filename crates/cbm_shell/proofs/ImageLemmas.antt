@@ -10,20 +10,20 @@ use Rattle.cbm_volume.specs.Layouts.{Layout, Sound}
 use Rattle.cbm_volume.specs.check.WholeDisk.{DiskFault}
 use Rattle.cbm_volume.specs.Holding.{HoldsDisk}
 use Rattle.cbm_volume.specs.declared.Unsound.{Unsound}
-use Rattle.cbm_channel.specs.Machines.{start}
+use Rattle.cbm_machine.specs.Machines.{start}
 use Rattle.cbm_image.specs.declared.kind.Kind.{Kind}
 use Rattle.cbm_image.specs.Images.{kind_of, image_fault, tracks_of, content_of, ImageHolds}
 use Rattle.cbm_shell.specs.declared.fault.ShellFault.{ShellFault}
 use Rattle.cbm_shell.specs.declared.fault.ShellFault.TheVariants as fault
-use Rattle.cbm_shell.specs.Images.{IsOpened, IsSaved, IsOpenFault, OrOpenFault, IsChecked, IsInOrder}
+use Rattle.cbm_shell.specs.Images.{IsImageOpened, IsSaved, IsOpenFault, OrOpenFault, IsChecked, IsInOrder}
 
 -- the disk of an image holds what the image holds
-pub opened_holds : (image : List ℕ) (seen : Seen) (d : Disk) → IsOpened image seen → ImageHolds (kind_of image) image d → HoldsDisk seen.tracks seen.content d
+pub opened_holds : (image : List ℕ) (seen : Seen) (d : Disk) → IsImageOpened image seen → ImageHolds (kind_of image) image d → HoldsDisk seen.tracks seen.content d
 opened_holds image seen d o h =
     subst (λ c. HoldsDisk seen.tracks c d) (sym o.same_content) (subst (λ n. HoldsDisk n (content_of (kind_of image) image) d) (sym o.same_tracks) h)
 
 -- the machine of the disk at power up is that of the image
-pub same_start : (image : List ℕ) (seen : Seen) (d : Disk) → IsOpened image seen → start d seen.protected seen.tracks ≡ start d false (tracks_of (kind_of image) image)
+pub same_start : (image : List ℕ) (seen : Seen) (d : Disk) → IsImageOpened image seen → start d seen.protected seen.tracks ≡ start d false (tracks_of (kind_of image) image)
 same_start image seen d o = ap (λ b. start d b seen.tracks) o.free ∙ ap (λ n. start d false n) o.same_tracks
 
 -- the image that is saved holds what the disk holds
@@ -67,13 +67,13 @@ saved_image image items kind other seen d Fine P (Ok v) same s m fine h = (fine,
 saved_image image items kind other seen d Fine P (Err f) same s m fine h = subst (λ g. OrOpenFault image P g) (sym m) tt
 
 -- what holds of a disk's content holds of the image's
-pub sound_image : (image : List ℕ) (seen : Seen) → IsOpened image seen → (l : Layout) × Sound (geometry_of seen.tracks seen.content) seen.content l
+pub sound_image : (image : List ℕ) (seen : Seen) → IsImageOpened image seen → (l : Layout) × Sound (geometry_of seen.tracks seen.content) seen.content l
     → (l : Layout) × Sound (geometry_of (tracks_of (kind_of image) image) (content_of (kind_of image) image)) (content_of (kind_of image) image) l
 sound_image image seen o h =
     subst (λ n. (l : Layout) × Sound (geometry_of n (content_of (kind_of image) image)) (content_of (kind_of image) image) l) o.same_tracks
     (subst (λ c. (l : Layout) × Sound (geometry_of seen.tracks c) c l) o.same_content h)
 
-pub checked_image : (image : List ℕ) (seen : Seen) (r : Result (Unit {0}) Unsound) → IsOpened image seen → IsChecked seen.tracks seen.content r
+pub checked_image : (image : List ℕ) (seen : Seen) (r : Result (Unit {0}) Unsound) → IsImageOpened image seen → IsChecked seen.tracks seen.content r
     → IsChecked (tracks_of (kind_of image) image) (content_of (kind_of image) image) r
 checked_image image seen r o h =
     subst (λ n. IsChecked n (content_of (kind_of image) image) r) o.same_tracks (subst (λ c. IsChecked seen.tracks c r) o.same_content h)
@@ -95,11 +95,11 @@ in_order items kind other seen (Ok v) same s (e, holds, still) = record { faultl
 in_order items kind other seen (Err f) same s h = tt
 
 -- what holds of what a disk shows holds of its image
-pub of_image : (P : ℕ → Content → Type 0) (image : List ℕ) (seen : Seen) → IsOpened image seen → P seen.tracks seen.content
+pub of_image : (P : ℕ → Content → Type 0) (image : List ℕ) (seen : Seen) → IsImageOpened image seen → P seen.tracks seen.content
     → P (tracks_of (kind_of image) image) (content_of (kind_of image) image)
 of_image P image seen o h = subst (λ n. P n (content_of (kind_of image) image)) o.same_tracks (subst (λ c. P seen.tracks c) o.same_content h)
 
-pub from_image : (P : ℕ → Content → Type 0) (image : List ℕ) (seen : Seen) → IsOpened image seen
+pub from_image : (P : ℕ → Content → Type 0) (image : List ℕ) (seen : Seen) → IsImageOpened image seen
     → P (tracks_of (kind_of image) image) (content_of (kind_of image) image) → P seen.tracks seen.content
 from_image P image seen o h =
     subst (λ n. P n seen.content) (sym o.same_tracks) (subst (λ c. P (tracks_of (kind_of image) image) c) (sym o.same_content) h)

@@ -4,7 +4,7 @@ use Rattle.std.specs.Prelude.{◌==◌, if◌then◌else◌, MatchBool}
 use Rattle.std.proofs.lemmas.Option.{slice_get_within}
 use Rattle.cbm_medium.specs.Place.{Place, has}
 use Rattle.cbm_medium.specs.Content.{Cell, Content}
-use Rattle.cbm_medium.specs.Links.{ended, cut_at, behind, follow, link}
+use Rattle.cbm_medium.specs.Links.{ended, cut_at, followed_after, follow, link}
 use Rattle.cbm_directory.specs.Entries.{EntersLed, first_directory}
 use Rattle.cbm_directory.specs.Slots.{Answers, directory_of, listed_from, all_entries}
 use Rattle.cbm_volume.specs.Layouts.{Layout, Sound}
@@ -51,7 +51,7 @@ follow_short tracks content zero p = by_tests (p.track == 0) (has tracks p)
     by_tests false false = omega arith
 follow_short tracks content (suc n) p = by_tests (p.track == 0) (has tracks p) (content p) (λ q. follow_short tracks content n q)
   where
-    by_tests : (a b : Bool) (cell : Cell) → ((q : Place) → length (follow tracks content n q).blocks ≤ n) → length (if a then ended [] else if b then behind p cell (λ q. follow tracks content n q) else cut_at 66 p).blocks ≤ suc n
+    by_tests : (a b : Bool) (cell : Cell) → ((q : Place) → length (follow tracks content n q).blocks ≤ n) → length (if a then ended [] else if b then followed_after p cell (λ q. follow tracks content n q) else cut_at 66 p).blocks ≤ suc n
     by_tests true b cell rest = omega arith
     by_tests false true (Ok bytes) rest = omega (arith, rest (link bytes))
     by_tests false true (Err code) rest = omega arith

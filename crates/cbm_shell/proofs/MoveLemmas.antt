@@ -9,7 +9,7 @@ use Rattle.cbm_medium.proofs.Places.{written_there, written_elsewhere}
 use Rattle.cbm_bam.specs.Map.{is_free_in, IsCounted, map_of}
 use Rattle.cbm_directory.specs.Entries.{Enters, entry_of, entry_at, sector_of, first_directory, type_byte}
 use Rattle.cbm_volume.specs.Blocks.{Lies}
-use Rattle.cbm_volume.specs.Layouts.{Owner, Nobody, TheMap, Directory, DataOf, SideOf, Writer, OwnedBy, IsWritable, Layout, IsOwned, slot_count, Sound}
+use Rattle.cbm_volume.specs.Layouts.{Owner, Nobody, TheMap, Directory, DataOf, SideOf, Writer, OwnedBy, IsCellWritable, Layout, IsOwned, slot_count, Sound}
 use Rattle.cbm_volume.proofs.layouts.Chained.{chain_distinct}
 use Rattle.cbm_volume.proofs.layouts.Frames.{Keeps, sector_kept, lies_kept}
 use Rattle.cbm_volume.proofs.layouts.Listing.{entry_found}
@@ -34,7 +34,7 @@ moved_owner place (Writer w) = Writer w
 -- the slots with the entries of others, by numbers that lead back, and all but the directory as it was
 record Moves (tracks : ℕ) (c c2 : Content) (l : Layout) (place : ℕ → ℕ) : Type 0 where
   pub keeps : (o : Owner) → Directory ≢ o → Keeps c c2 l.owner o
-  pub writable : (p : Place) → Has tracks p → IsWritable (c2 p)
+  pub writable : (p : Place) → Has tracks p → IsCellWritable (c2 p)
   pub directory : Chain tracks c2 first_directory l.directory
   pub back : (n : ℕ) → place (place n) ≡ n
   pub room : (n : ℕ) → n < slot_count l → place n < slot_count l
@@ -129,8 +129,8 @@ put_keeps : (c c2 : Content) (l : Layout) (n k : ℕ) (entry : List ℕ) → IsO
 put_keeps c c2 l n k entry w room e o ne p mine =
     ap (λ (x : Content). x p) e.written ∙ written_elsewhere c (sector_of l.directory n) p e.sector (λ z. ne (sym (sector_owned l w n room) ∙ ap l.owner z ∙ mine))
 
-put_writable : (tracks : ℕ) (c c2 : Content) (at : Place) (k : ℕ) (entry : List ℕ) → Enters c c2 at k entry → ((p : Place) → Has tracks p → IsWritable (c p)) → (p : Place) → Has tracks p → IsWritable (c2 p)
-put_writable tracks c c2 at k entry e h = subst (λ (x : Content). (p : Place) → Has tracks p → IsWritable (x p)) (sym e.written) (writable_written tracks c at e.sector h)
+put_writable : (tracks : ℕ) (c c2 : Content) (at : Place) (k : ℕ) (entry : List ℕ) → Enters c c2 at k entry → ((p : Place) → Has tracks p → IsCellWritable (c p)) → (p : Place) → Has tracks p → IsCellWritable (c2 p)
+put_writable tracks c c2 at k entry e h = subst (λ (x : Content). (p : Place) → Has tracks p → IsCellWritable (x p)) (sym e.written) (writable_written tracks c at e.sector h)
 
 -- ---- two slots change places
 

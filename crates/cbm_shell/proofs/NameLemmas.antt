@@ -8,7 +8,7 @@ use Rattle.std.proofs.lemmas.Str.{chars-nil, chars-append, chars-encodes}
 use Rattle.cbm_shell.specs.declared.texts.petscii.Charset.{Charset}
 use Rattle.cbm_shell.specs.declared.texts.petscii.Charset.TheVariants.{Upper, Lower}
 use Rattle.cbm_shell.specs.Petscii.{key_of, code_from, code_of}
-use Rattle.cbm_shell.specs.Names.{numbered, written, shown_as, text_of, byte_of, with_code, codes_of, number_in}
+use Rattle.cbm_shell.specs.Names.{numbered, code_written, shown_as, name_text, byte_of_digits, with_code, codes_of, number_in}
 
 -- ---- one code
 
@@ -39,14 +39,14 @@ key-read charset code h other =
       | inr e ↦ some-is_code (code_of charset (key_of charset code)) code e
     ]
 
-number-read : (code : ℕ) → code < 256 → byte_of (digit_char (code / 16)) (digit_char (code % 16)) ≡ Some code
+number-read : (code : ℕ) → code < 256 → byte_of_digits (digit_char (code / 16)) (digit_char (code % 16)) ≡ Some code
 unfolding is_code
-number-read code h = some-is_code (byte_of (digit_char (code / 16)) (digit_char (code % 16))) code
-    (agree_below_at (λ k. is_code (byte_of (digit_char (k / 16)) (digit_char (k % 16))) k) (λ k. true) 256 code refl h)
+number-read code h = some-is_code (byte_of_digits (digit_char (code / 16)) (digit_char (code % 16))) code
+    (agree_below_at (λ k. is_code (byte_of_digits (digit_char (k / 16)) (digit_char (k % 16))) k) (λ k. true) 256 code refl h)
 
 -- a code in front of a text
 written-read : (charset : Charset) (code : ℕ) (rest : List ℕ) → code < 256
-    → codes_of charset (written charset code ++ rest) ≡ with_code (Some code) (codes_of charset rest)
+    → codes_of charset (code_written charset code ++ rest) ≡ with_code (Some code) (codes_of charset rest)
 unfolding codes_of number_in
 written-read charset code rest h =
     let key = key_of charset code in
@@ -60,41 +60,41 @@ written-read charset code rest h =
 
 -- ---- UTF-8
 
-written-scalars : (charset : Charset) (code : ℕ) → code < 256 → scalars (written charset code) ≡ true
+written-scalars : (charset : Charset) (code : ℕ) → code < 256 → scalars (code_written charset code) ≡ true
 unfolding key_of
-written-scalars Upper code h = agree_below_at (λ k. scalars (written Upper k)) (λ k. true) 256 code refl h
-written-scalars Lower code h = agree_below_at (λ k. scalars (written Lower k)) (λ k. true) 256 code refl h
+written-scalars Upper code h = agree_below_at (λ k. scalars (code_written Upper k)) (λ k. true) 256 code refl h
+written-scalars Lower code h = agree_below_at (λ k. scalars (code_written Lower k)) (λ k. true) 256 code refl h
 
-shown-chars : (charset : Charset) (code : ℕ) (more : List ℕ) → code < 256 → chars (shown_as charset code ++ more) ≡ written charset code ++ chars more
+shown-chars : (charset : Charset) (code : ℕ) (more : List ℕ) → code < 256 → chars (shown_as charset code ++ more) ≡ code_written charset code ++ chars more
 shown-chars charset code more h =
     let s = written-scalars charset code h in
-    let text : IsUtf8 (shown_as charset code) = (written charset code, (s, refl)) in
-    chars-append (shown_as charset code) more text ∙ ap (λ l. l ++ chars more) (chars-encodes (written charset code) s)
+    let text : IsUtf8 (shown_as charset code) = (code_written charset code, (s, refl)) in
+    chars-append (shown_as charset code) more text ∙ ap (λ l. l ++ chars more) (chars-encodes (code_written charset code) s)
 
 -- ---- names
 
 -- WHAT IS SHOWN OF A NAME IS READ AS THE SAME BYTES
-pub read_back : (charset : Charset) (name : List ℕ) → ((k : ℕ) → get_or name k 0 < 256) → codes_of charset (chars (text_of charset name)) ≡ Some name
-unfolding text_of codes_of
+pub read_back : (charset : Charset) (name : List ℕ) → ((k : ℕ) → get_or name k 0 < 256) → codes_of charset (chars (name_text charset name)) ≡ Some name
+unfolding name_text codes_of
 read_back charset [] h = ap (codes_of charset) chars-nil
 read_back charset (code ∷ rest) h =
-    ap (codes_of charset) (shown-chars charset code (text_of charset rest) (h 0))
-    ∙ (written-read charset code (chars (text_of charset rest)) (h 0)
+    ap (codes_of charset) (shown-chars charset code (name_text charset rest) (h 0))
+    ∙ (written-read charset code (chars (name_text charset rest)) (h 0)
     ∙ ap (with_code (Some code)) (read_back charset rest (λ k. h (suc k))))
 
 -- ---- a code at a time
 
-pub text-none : (out target rest : List ℕ) (charset : Charset) → out ++ text_of charset rest ≡ target → length rest ≡ 0 → out ≡ target
-unfolding text_of
+pub text-none : (out target rest : List ℕ) (charset : Charset) → out ++ name_text charset rest ≡ target → length rest ≡ 0 → out ≡ target
+unfolding name_text
 text-none out target [] charset h r = sym (append-nil out) ∙ h
 text-none out target (x ∷ rest) charset h r = absurd (omega arith)
 
-pub text-next : (out new target rest behind : List ℕ) (charset : Charset) (code : ℕ) → out ++ text_of charset rest ≡ target → rest ≡ code ∷ behind
-    → new ≡ out ++ shown_as charset code → new ++ text_of charset behind ≡ target
-unfolding text_of
+pub text-next : (out new target rest behind : List ℕ) (charset : Charset) (code : ℕ) → out ++ name_text charset rest ≡ target → rest ≡ code ∷ behind
+    → new ≡ out ++ shown_as charset code → new ++ name_text charset behind ≡ target
+unfolding name_text
 text-next out new target rest behind charset code h r e =
-    ap (λ t. t ++ text_of charset behind) e ∙ (append_assoc out (shown_as charset code) (text_of charset behind)
-    ∙ (sym (ap (λ t. out ++ text_of charset t) r) ∙ h))
+    ap (λ t. t ++ name_text charset behind) e ∙ (append_assoc out (shown_as charset code) (name_text charset behind)
+    ∙ (sym (ap (λ t. out ++ name_text charset t) r) ∙ h))
 
 -- the codes so far before those of the rest
 abbrev pub behind : List ℕ → Option (List ℕ) → Option (List ℕ)
@@ -129,11 +129,11 @@ codes-end out (x ∷ rest) charset target h r = absurd (omega arith)
 -- ---- a number
 
 pub number-whole : (charset : Charset) (text a b rest : List ℕ) (high low brace : ℕ) (found : Option ℕ) → text ≡ high ∷ a → a ≡ low ∷ b → b ≡ brace ∷ rest → brace ≡ 125
-    → byte_of high low ≡ found → number_in charset text ≡ with_code found (codes_of charset rest)
+    → byte_of_digits high low ≡ found → number_in charset text ≡ with_code found (codes_of charset rest)
 unfolding number_in
 number-whole charset text a b rest high low brace found e f g same is =
     ap (number_in charset) (e ∙ ap (λ t. high ∷ t) (f ∙ ap (λ t. low ∷ t) g))
-    ∙ (ap (λ (b : Bool). if b then with_code (byte_of high low) (codes_of charset rest) else None) (eq-eqb brace 125 same)
+    ∙ (ap (λ (b : Bool). if b then with_code (byte_of_digits high low) (codes_of charset rest) else None) (eq-eqb brace 125 same)
     ∙ ap (λ n. with_code n (codes_of charset rest)) is)
 
 pub number-open : (charset : Charset) (text a b rest : List ℕ) (high low brace : ℕ) → text ≡ high ∷ a → a ≡ low ∷ b → b ≡ brace ∷ rest → brace ≢ 125
@@ -141,7 +141,7 @@ pub number-open : (charset : Charset) (text a b rest : List ℕ) (high low brace
 unfolding number_in
 number-open charset text a b rest high low brace e f g other =
     ap (number_in charset) (e ∙ ap (λ t. high ∷ t) (f ∙ ap (λ t. low ∷ t) g))
-    ∙ ap (λ (b : Bool). if b then with_code (byte_of high low) (codes_of charset rest) else None) (ne_eqb brace 125 other)
+    ∙ ap (λ (b : Bool). if b then with_code (byte_of_digits high low) (codes_of charset rest) else None) (ne_eqb brace 125 other)
 
 pub number-short : (charset : Charset) (text : List ℕ) → length text < 3 → number_in charset text ≡ None
 unfolding number_in

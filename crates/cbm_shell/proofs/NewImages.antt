@@ -6,11 +6,11 @@ use Rattle.std.proofs.lemmas.Bool.{and_parts, eqb-true}
 use Rattle.std.proofs.lemmas.List.{take-take, length-replicate}
 use Rattle.std.specs.Prelude.{Result, IfOk, option_map}
 use Rattle.std.specs.declared.alloc.AllocError.{AllocError}
-use Rattle.cbm_d64.specs.Image.{IsImageSize, tracks_in, error_at, code_of, cell_of, sector_at, content_of}
+use Rattle.cbm_d64.specs.Image.{IsImageSize, d64_tracks, error_at, code_of_error, cell_of, sector_at, d64_content}
 use Rattle.cbm_d64.proofs.Sectors.{content_on_disk}
 use Rattle.cbm_d64.specs.Image as sectors
-use Rattle.cbm_g64.specs.File.{has_signature, fault_of, tracks_in as tracks_in_file}
-use Rattle.cbm_g64.specs.Numbers.{number_of}
+use Rattle.cbm_g64.specs.File.{has_signature, g64_fault, g64_circles as tracks_in_file}
+use Rattle.cbm_g64.specs.Numbers.{g64_fault_number}
 use Rattle.cbm_g64.specs.Tracks as circles
 use Rattle.cbm_volume.specs.Holding.{HoldsDisk}
 use Rattle.cbm_g64.proofs.Sound.{passes}
@@ -20,12 +20,12 @@ use Rattle.cbm_image.specs.Images.{kind_of, size_fault, image_fault, tracks_of, 
 use Rattle.cbm_image.specs.Images as images
 use Rattle.cbm_image.proofs.ImageSizes.{right_size}
 use Rattle.cbm_shell.specs.declared.images.making.Form.{Form}
-use Rattle.cbm_shell.specs.Making.{kind_in, tracks_on, empty_disk, IsBlank, IsEmpty, IsNew}
+use Rattle.cbm_shell.specs.Making.{kind_in, tracks_of_form, empty_disk, IsBlankImage, IsEmpty, IsNew}
 use Rattle.cbm_shell.proofs.ZeroImages.{content_zeros}
 
 -- ---- a D64
 
-pub some_track : (n : ℕ) → 1 ≤ tracks_in n
+pub some_track : (n : ℕ) → 1 ≤ d64_tracks n
 some_track n = by_test (n == 196608)
   where
     by_test : (b : Bool) → 1 ≤ (if b then 40 else 35)
@@ -37,11 +37,11 @@ bytes_of None xs ys h = cc
 bytes_of (Some code) xs ys h = absurd (cc)
 
 -- one whose first sector is zeros isn't taken for a G64
-pub first_zeros : (image : List ℕ) → content_of image (record { track = 1; sector = 0 }) ≡ Ok (replicate 256 0) → kind_of image ≡ D64
+pub first_zeros : (image : List ℕ) → d64_content image (record { track = 1; sector = 0 }) ≡ Ok (replicate 256 0) → kind_of image ≡ D64
 first_zeros image h =
-    let here : content_of image (record { track = 1; sector = 0 }) ≡ cell_of (code_of (error_at image 0)) (take 256 image)
+    let here : d64_content image (record { track = 1; sector = 0 }) ≡ cell_of (code_of_error (error_at image 0)) (take 256 image)
     = content_on_disk image (record { track = 1; sector = 0 }) (omega arith) (some_track (length image)) in
-    let front : take 256 image ≡ replicate 256 0 = bytes_of (code_of (error_at image 0)) (take 256 image) (replicate 256 0) (sym here ∙ h) in
+    let front : take 256 image ≡ replicate 256 0 = bytes_of (code_of_error (error_at image 0)) (take 256 image) (replicate 256 0) (sym here ∙ h) in
     let eight : take 8 image ≡ take 8 (replicate 256 0) = sym (take-take 8 256 image (omega arith)) ∙ ap (take 8) front in
     ap (λ (xs : List ℕ). if bytes_eq xs (codes "GCR-1541") then G64 else D64) eight
 
@@ -69,23 +69,23 @@ signed (a ∷ b ∷ c ∷ d ∷ e ∷ f ∷ g ∷ i ∷ rest) h =
     rw (eqb-true a 71 q.0, eqb-true b 67 r.0, eqb-true c 82 s.0, eqb-true d 45 t.0, eqb-true e 49 u.0, eqb-true f 53 v.0, eqb-true g 52 w.0, eqb-true i 49 w.1) refl
 
 -- one without fault is taken for a G64
-pub has_kind : (file : List ℕ) → fault_of file ≡ None → kind_of file ≡ G64
+pub has_kind : (file : List ℕ) → g64_fault file ≡ None → kind_of file ≡ G64
 has_kind file h = ap (λ (xs : List ℕ). if bytes_eq xs (codes "GCR-1541") then G64 else D64) (signed file (passes file h).signature)
 
 -- ---- before NEW
 
 -- a D64 of zeros
-pub blank_sectors : (form : Form) (n : ℕ) (image : List ℕ) → kind_in form ≡ D64 → IsImageSize n → (n == 175531) ≡ false → tracks_in n ≡ tracks_on form → image ≡ replicate n 0 → IsBlank form image
+pub blank_sectors : (form : Form) (n : ℕ) (image : List ℕ) → kind_in form ≡ D64 → IsImageSize n → (n == 175531) ≡ false → d64_tracks n ≡ tracks_of_form form → image ≡ replicate n 0 → IsBlankImage form image
 blank_sectors form n image kind size plain tracks is =
     let wide : length image ≡ n = ap length is ∙ length-replicate n 0 in
     record {
       accepted = subst (λ (k : Kind). image_fault k image ≡ None) (sym kind) (ap size_fault wide ∙ right_size n size);
-      tracks = subst (λ (k : Kind). tracks_of k image ≡ tracks_on form) (sym kind) (ap tracks_in wide ∙ tracks);
+      tracks = subst (λ (k : Kind). tracks_of k image ≡ tracks_of_form form) (sym kind) (ap d64_tracks wide ∙ tracks);
       zeros = λ p h. subst (λ (k : Kind). images.content_of k image p ≡ Ok (replicate 256 0)) (sym kind) (content_zeros n image p size plain is);
     }
 
-pub blank_if : {A : Type 0} (r : Result A AllocError) (items : A → List ℕ) (form : Form) (n : ℕ) → kind_in form ≡ D64 → IsImageSize n → (n == 175531) ≡ false → tracks_in n ≡ tracks_on form
-    → IfOk r (λ v. items v ≡ replicate n 0) → IfOk r (λ v. IsBlank form (items v))
+pub blank_if : {A : Type 0} (r : Result A AllocError) (items : A → List ℕ) (form : Form) (n : ℕ) → kind_in form ≡ D64 → IsImageSize n → (n == 175531) ≡ false → d64_tracks n ≡ tracks_of_form form
+    → IfOk r (λ v. items v ≡ replicate n 0) → IfOk r (λ v. IsBlankImage form (items v))
 blank_if (Ok v) items form n kind size plain tracks h = blank_sectors form n (items v) kind size plain tracks h
 blank_if (Err e) items form n kind size plain tracks h = tt
 
@@ -93,22 +93,22 @@ blank_if (Err e) items form n kind size plain tracks h = tt
 
 -- the image of a D64 that shows an empty disk
 pub new_sectors : (form : Form) (title id image : List ℕ) (disk : sectors.Image) → kind_in form ≡ D64 → IsImageSize (length disk.bytes) → image ≡ disk.bytes
-    → IsEmpty (tracks_on form) title id (sectors.seen_of disk) → IsNew form title id image
+    → IsEmpty (tracks_of_form form) title id (sectors.d64_seen disk) → IsNew form title id image
 new_sectors form title id image disk kind size same e = record {
-  opens = first_zeros image (ap (λ (xs : List ℕ). content_of xs (record { track = 1; sector = 0 })) same ∙ e.first) ∙ sym kind;
+  opens = first_zeros image (ap (λ (xs : List ℕ). d64_content xs (record { track = 1; sector = 0 })) same ∙ e.first) ∙ sym kind;
   accepted = subst (λ (k : Kind). image_fault k image ≡ None) (sym kind) (ap (λ (xs : List ℕ). size_fault (length xs)) same ∙ right_size (length disk.bytes) size);
-  holds = subst (λ (k : Kind). ImageHolds k image (empty_disk (tracks_on form) title id)) (sym kind)
-      (subst (λ (xs : List ℕ). ImageHolds D64 xs (empty_disk (tracks_on form) title id)) (sym same)
-      (subst (λ (n : ℕ). HoldsDisk n (content_of disk.bytes) (empty_disk (tracks_on form) title id)) (sym e.same_tracks) e.holds));
+  holds = subst (λ (k : Kind). ImageHolds k image (empty_disk (tracks_of_form form) title id)) (sym kind)
+      (subst (λ (xs : List ℕ). ImageHolds D64 xs (empty_disk (tracks_of_form form) title id)) (sym same)
+      (subst (λ (n : ℕ). HoldsDisk n (d64_content disk.bytes) (empty_disk (tracks_of_form form) title id)) (sym e.same_tracks) e.holds));
 }
 
 -- the image of a G64 that shows one
-pub new_circles : (form : Form) (title id image : List ℕ) (disk : circles.Disk) → kind_in form ≡ G64 → (fault_of image ≡ None) × (tracks_in_file image 35 ≡ disk.tracks)
-    → IsEmpty (tracks_on form) title id (circles.seen_of disk) → IsNew form title id image
+pub new_circles : (form : Form) (title id image : List ℕ) (disk : circles.G64State) → kind_in form ≡ G64 → (g64_fault image ≡ None) × (tracks_in_file image 35 ≡ disk.tracks)
+    → IsEmpty (tracks_of_form form) title id (circles.g64_seen disk) → IsNew form title id image
 new_circles form title id image disk kind again e = record {
   opens = has_kind image again.0 ∙ sym kind;
-  accepted = subst (λ (k : Kind). image_fault k image ≡ None) (sym kind) (ap (option_map number_of) again.0);
-  holds = subst (λ (k : Kind). ImageHolds k image (empty_disk (tracks_on form) title id)) (sym kind)
-      (subst (λ (ts : List (List Bool)). HoldsDisk 35 (circles.content_of ts) (empty_disk (tracks_on form) title id)) (sym again.1)
-      (subst (λ (n : ℕ). HoldsDisk n (circles.content_of disk.tracks) (empty_disk (tracks_on form) title id)) (sym e.same_tracks) e.holds));
+  accepted = subst (λ (k : Kind). image_fault k image ≡ None) (sym kind) (ap (option_map g64_fault_number) again.0);
+  holds = subst (λ (k : Kind). ImageHolds k image (empty_disk (tracks_of_form form) title id)) (sym kind)
+      (subst (λ (ts : List (List Bool)). HoldsDisk 35 (circles.g64_content ts) (empty_disk (tracks_of_form form) title id)) (sym again.1)
+      (subst (λ (n : ℕ). HoldsDisk n (circles.g64_content disk.tracks) (empty_disk (tracks_of_form form) title id)) (sym e.same_tracks) e.holds));
 }

@@ -3,7 +3,7 @@ use Rattle.std.proofs.Common.{◌≡◌, ◌≢◌, ℕ, ◌+◌, ◌-◌, ◌*�
 use Rattle.std.specs.Prelude.{◌==◌, if◌then◌else◌}
 use Rattle.cbm_shell.specs.declared.texts.petscii.Charset.{Charset}
 use Rattle.cbm_shell.specs.Names.{shown_as}
-use Rattle.cbm_shell.specs.Readable.{opened_as, ends, lines, opening, text}
+use Rattle.cbm_shell.specs.Readable.{opened_as, ends, readable_lines, opening, text}
 
 -- a code that doesn't end its line, and what stands behind it
 pub text-more : (out new target rest behind : List ℕ) (charset : Charset) (left next code : ℕ) → out ++ text charset left rest ≡ target → rest ≡ code ∷ behind
@@ -12,28 +12,28 @@ unfolding text
 text-more out new target rest behind charset left next code h r other n e =
     ap (λ k. new ++ text charset k behind) n
     ∙ (ap (λ t. t ++ text charset (left - 1) behind) e ∙ (append_assoc out (shown_as charset code) (text charset (left - 1) behind)
-    ∙ (sym (ap (λ (b : Bool). out ++ (if b then codes "\n" ++ lines charset behind else shown_as charset code ++ text charset (left - 1) behind)) other)
+    ∙ (sym (ap (λ (b : Bool). out ++ (if b then codes "\n" ++ readable_lines charset behind else shown_as charset code ++ text charset (left - 1) behind)) other)
     ∙ (sym (ap (λ t. out ++ text charset left t) r) ∙ h))))
 
 -- the 0 of a line
 pub text-zero : (out new target rest behind after : List ℕ) (charset : Charset) (left code : ℕ) → out ++ text charset left rest ≡ target → rest ≡ code ∷ behind
-    → ends left code ≡ true → new ≡ out ++ codes "\n" → after ≡ behind → new ++ lines charset after ≡ target
+    → ends left code ≡ true → new ≡ out ++ codes "\n" → after ≡ behind → new ++ readable_lines charset after ≡ target
 unfolding text
 text-zero out new target rest behind after charset left code h r zero e a =
-    ap (λ t. new ++ lines charset t) a ∙ (ap (λ t. t ++ lines charset behind) e ∙ (append_assoc out (codes "\n") (lines charset behind)
-    ∙ (sym (ap (λ (b : Bool). out ++ (if b then codes "\n" ++ lines charset behind else shown_as charset code ++ text charset (left - 1) behind)) zero)
+    ap (λ t. new ++ readable_lines charset t) a ∙ (ap (λ t. t ++ readable_lines charset behind) e ∙ (append_assoc out (codes "\n") (readable_lines charset behind)
+    ∙ (sym (ap (λ (b : Bool). out ++ (if b then codes "\n" ++ readable_lines charset behind else shown_as charset code ++ text charset (left - 1) behind)) zero)
     ∙ (sym (ap (λ t. out ++ text charset left t) r) ∙ h))))
 
 -- a text that ends without a 0
 pub text-end : (out new target rest after : List ℕ) (charset : Charset) (left : ℕ) → out ++ text charset left rest ≡ target → length rest ≡ 0
-    → new ≡ out ++ codes "\n" → after ≡ rest → new ++ lines charset after ≡ target
-unfolding text lines
-text-end out new target [] after charset left h r e a = ap (λ t. new ++ lines charset t) a ∙ (append-nil new ∙ (e ∙ h))
+    → new ≡ out ++ codes "\n" → after ≡ rest → new ++ readable_lines charset after ≡ target
+unfolding text readable_lines
+text-end out new target [] after charset left h r e a = ap (λ t. new ++ readable_lines charset t) a ∙ (append-nil new ∙ (e ∙ h))
 text-end out new target (x ∷ rest) after charset left h r e a = absurd (omega arith)
 
 -- a text's first code, and what is added of the rest
 pub opening-more : (out first new bytes behind after : List ℕ) (charset : Charset) (code : ℕ) → bytes ≡ code ∷ behind → first ≡ out ++ opened_as charset code
-    → new ++ lines charset after ≡ first ++ text charset 24 behind → new ++ lines charset after ≡ out ++ opening charset bytes
+    → new ++ readable_lines charset after ≡ first ++ text charset 24 behind → new ++ readable_lines charset after ≡ out ++ opening charset bytes
 unfolding opening
 opening-more out first new bytes behind after charset code r e h =
     h ∙ (ap (λ t. t ++ text charset 24 behind) e ∙ (append_assoc out (opened_as charset code) (text charset 24 behind)
@@ -41,16 +41,16 @@ opening-more out first new bytes behind after charset code r e h =
 
 -- a text without a code
 pub opening-none : (out new bytes after : List ℕ) (charset : Charset) → length bytes ≡ 0 → new ≡ out ++ codes "\n" → after ≡ bytes
-    → new ++ lines charset after ≡ out ++ opening charset bytes
-unfolding opening lines
-opening-none out new [] after charset r e a = ap (λ t. new ++ lines charset t) a ∙ (append-nil new ∙ e)
+    → new ++ readable_lines charset after ≡ out ++ opening charset bytes
+unfolding opening readable_lines
+opening-none out new [] after charset r e a = ap (λ t. new ++ readable_lines charset t) a ∙ (append-nil new ∙ e)
 opening-none out new (x ∷ bytes) after charset r e a = absurd (omega arith)
 
 -- a line whose link goes on
 pub lines-more : (charset : Charset) (first second low high : ℕ) (bytes a b c rest : List ℕ) → bytes ≡ first ∷ a → a ≡ second ∷ b → b ≡ low ∷ c → c ≡ high ∷ rest
-    → second ≢ 0 → lines charset bytes ≡ decimal (low + 256 * high) ++ codes " " ++ opening charset rest
-unfolding lines
+    → second ≢ 0 → readable_lines charset bytes ≡ decimal (low + 256 * high) ++ codes " " ++ opening charset rest
+unfolding readable_lines
 lines-more charset first second low high bytes a b c rest e f g h n =
     let other : second == 0 ≡ false = grind (arith, n) in
-    ap (lines charset) (e ∙ ap (λ t. first ∷ t) (f ∙ ap (λ t. second ∷ t) (g ∙ ap (λ t. low ∷ t) h)))
+    ap (readable_lines charset) (e ∙ ap (λ t. first ∷ t) (f ∙ ap (λ t. second ∷ t) (g ∙ ap (λ t. low ∷ t) h)))
     ∙ ap (λ (b : Bool). if b then [] else decimal (low + 256 * high) ++ codes " " ++ opening charset rest) other

@@ -1,44 +1,44 @@
 -- A chain that is read byte by byte.
 use Rattle.std.proofs.Common.{◌≡◌, ℕ, ◌+◌, ◌<◌, ◌≤◌, List, [], ◌∷◌, ◌++◌, length, drop, Bool, Option, Some, None, refl, ap, sym, ◌∙◌, arith, append_assoc, append-nil, add-one}
-use Rattle.cbm_file.specs.Waiting.{shown}
+use Rattle.cbm_file.specs.Waiting.{next_shown}
 use Rattle.cbm_medium.specs.Content.{Content}
 use Rattle.cbm_medium.specs.declared.fault.Trouble.{Trouble}
 use Rattle.cbm_medium.proofs.Walks.{follow_end}
-use Rattle.cbm_shell.specs.Salvaging.{waiting}
-use Rattle.cbm_volume.specs.Reading.{Rest, Reading, held_from, held_in, rest_of, with_front, one_less, IsSettled}
+use Rattle.cbm_shell.specs.Salvaging.{waiting_bytes}
+use Rattle.cbm_volume.specs.Reading.{RestOfFile, Reading, held_from, held_in, rest_of, with_front, one_less, IsSettled}
 
 abbrev byte_in : Option (ℕ × Bool) → ℕ
 byte_in None = 0
 byte_in (Some p) = p.0
 
 -- a byte that waits is the first of what is left
-pub first_left : (c : Content) (r : Reading) (b : ℕ) (last : Bool) → shown r.bytes ≡ Some (b, last) → (rest_of c r).bytes ≡ b ∷ drop 1 (rest_of c r).bytes
+pub first_left : (c : Content) (r : Reading) (b : ℕ) (last : Bool) → next_shown r.bytes ≡ Some (b, last) → (rest_of c r).bytes ≡ b ∷ drop 1 (rest_of c r).bytes
 unfolding rest_of
 first_left c r b last e = by_bytes r.bytes e (held_from r.tracks c r.left r.next).bytes
   where
-    by_bytes : (bytes : List ℕ) → shown bytes ≡ Some (b, last) → (more : List ℕ) → bytes ++ more ≡ b ∷ drop 1 (bytes ++ more)
+    by_bytes : (bytes : List ℕ) → next_shown bytes ≡ Some (b, last) → (more : List ℕ) → bytes ++ more ≡ b ∷ drop 1 (bytes ++ more)
     by_bytes [] h more = absurd (cc)
     by_bytes (x ∷ []) h more = let same : x ≡ b = ap byte_in h in ap (λ y. y ∷ more) same
     by_bytes (x ∷ y ∷ rest) h more = let same : x ≡ b = ap byte_in h in ap (λ z. z ∷ y ∷ rest ++ more) same
 
-pub one_fewer : (c : Content) (old new : Reading) (b : ℕ) (last : Bool) → shown old.bytes ≡ Some (b, last) → rest_of c new ≡ one_less (rest_of c old)
+pub one_fewer : (c : Content) (old new : Reading) (b : ℕ) (last : Bool) → next_shown old.bytes ≡ Some (b, last) → rest_of c new ≡ one_less (rest_of c old)
     → length (rest_of c new).bytes < length (rest_of c old).bytes
 one_fewer c old new b last e h =
     let first : length (rest_of c old).bytes ≡ length (drop 1 (rest_of c old).bytes) + 1 = ap (λ (t : List ℕ). length t) (first_left c old b last e) ∙ sym (add-one (length (drop 1 (rest_of c old).bytes))) in
-    let less : length (rest_of c new).bytes ≡ length (drop 1 (rest_of c old).bytes) = ap (λ (r : Rest). length r.bytes) h in
+    let less : length (rest_of c new).bytes ≡ length (drop 1 (rest_of c old).bytes) = ap (λ (r : RestOfFile). length r.bytes) h in
     omega (arith, first, less)
 
 -- a byte goes from what is left to what was read
-pub read_more : (c : Content) (whole : Rest) (out items : List ℕ) (old new : Reading) (b : ℕ) (last : Bool) → whole ≡ with_front out (rest_of c old)
-    → shown old.bytes ≡ Some (b, last) → items ≡ out ++ b ∷ [] → rest_of c new ≡ one_less (rest_of c old) → whole ≡ with_front items (rest_of c new)
+pub read_more : (c : Content) (whole : RestOfFile) (out items : List ℕ) (old new : Reading) (b : ℕ) (last : Bool) → whole ≡ with_front out (rest_of c old)
+    → next_shown old.bytes ≡ Some (b, last) → items ≡ out ++ b ∷ [] → rest_of c new ≡ one_less (rest_of c old) → whole ≡ with_front items (rest_of c new)
 read_more c whole out items old new b last w e i h =
-    w ∙ (ap (λ t. let r : Rest = record { bytes = out ++ t; trouble = (rest_of c old).trouble } in r) (first_left c old b last e)
-    ∙ (ap (λ t. let r : Rest = record { bytes = t; trouble = (rest_of c old).trouble } in r) (sym (append_assoc out (b ∷ []) (drop 1 (rest_of c old).bytes)))
-    ∙ (ap (λ t. let r : Rest = record { bytes = t ++ drop 1 (rest_of c old).bytes; trouble = (rest_of c old).trouble } in r) (sym i)
+    w ∙ (ap (λ t. let r : RestOfFile = record { bytes = out ++ t; trouble = (rest_of c old).trouble } in r) (first_left c old b last e)
+    ∙ (ap (λ t. let r : RestOfFile = record { bytes = t; trouble = (rest_of c old).trouble } in r) (sym (append_assoc out (b ∷ []) (drop 1 (rest_of c old).bytes)))
+    ∙ (ap (λ t. let r : RestOfFile = record { bytes = t ++ drop 1 (rest_of c old).bytes; trouble = (rest_of c old).trouble } in r) (sym i)
     ∙ ap (λ r. with_front items r) (sym h))))
 
 -- nothing waits: all was read
-pub read_all : (c : Content) (whole : Rest) (out : List ℕ) (r : Reading) → whole ≡ with_front out (rest_of c r) → IsSettled r → shown r.bytes ≡ None
+pub read_all : (c : Content) (whole : RestOfFile) (out : List ℕ) (r : Reading) → whole ≡ with_front out (rest_of c r) → IsSettled r → next_shown r.bytes ≡ None
     → whole ≡ record { bytes = out; trouble = None }
 unfolding rest_of held_from
 read_all c whole out r w settled e =
@@ -46,40 +46,40 @@ read_all c whole out r w settled e =
     let short : length r.bytes ≤ 1 = rw none (omega arith) in
     let over = follow_end r.tracks c r.left r.next (settled short) in
     w ∙ (ap (λ f. with_front out (with_front r.bytes (held_in c f))) over
-    ∙ (ap (λ t. let q : Rest = record { bytes = out ++ (t ++ []); trouble = None } in q) none
-    ∙ ap (λ t. let q : Rest = record { bytes = t; trouble = None } in q) (append-nil out)))
+    ∙ (ap (λ t. let q : RestOfFile = record { bytes = out ++ (t ++ []); trouble = None } in q) none
+    ∙ ap (λ t. let q : RestOfFile = record { bytes = t; trouble = None } in q) (append-nil out)))
   where
-    no_bytes : (bytes : List ℕ) → shown bytes ≡ None → bytes ≡ []
+    no_bytes : (bytes : List ℕ) → next_shown bytes ≡ None → bytes ≡ []
     no_bytes [] h = refl
     no_bytes (x ∷ []) h = absurd (cc)
     no_bytes (x ∷ y ∷ rest) h = absurd (cc)
 
 -- the trouble that is met is the whole chain's
-pub met_trouble : (whole rest : Rest) (out : List ℕ) (t : Trouble) → whole ≡ with_front out rest → rest.trouble ≡ Some t → whole.trouble ≡ Some t
-met_trouble whole rest out t w e = ap (λ (r : Rest). r.trouble) w ∙ e
+pub met_trouble : (whole rest : RestOfFile) (out : List ℕ) (t : Trouble) → whole ≡ with_front out rest → rest.trouble ≡ Some t → whole.trouble ≡ Some t
+met_trouble whole rest out t w e = ap (λ (r : RestOfFile). r.trouble) w ∙ e
 
 -- what a whole chain gave
-pub these_bytes : (whole : Rest) (out bytes : List ℕ) → whole ≡ record { bytes = out; trouble = None } → whole ≡ record { bytes = bytes; trouble = None } → out ≡ bytes
-these_bytes whole out bytes a b = ap (λ (r : Rest). r.bytes) (sym a ∙ b)
+pub these_bytes : (whole : RestOfFile) (out bytes : List ℕ) → whole ≡ record { bytes = out; trouble = None } → whole ≡ record { bytes = bytes; trouble = None } → out ≡ bytes
+these_bytes whole out bytes a b = ap (λ (r : RestOfFile). r.bytes) (sym a ∙ b)
 
 -- a whole chain meets no trouble
-pub never_met : (whole rest : Rest) (out bytes : List ℕ) (t : Trouble) → whole ≡ with_front out rest → rest.trouble ≡ Some t → whole ≡ record { bytes = bytes; trouble = None } → ⊥
+pub never_met : (whole rest : RestOfFile) (out bytes : List ℕ) (t : Trouble) → whole ≡ with_front out rest → rest.trouble ≡ Some t → whole ≡ record { bytes = bytes; trouble = None } → ⊥
 never_met whole rest out bytes t w e h =
-    let bad : ◌≡◌ {A = Option Trouble} None (Some t) = sym (ap (λ (r : Rest). r.trouble) h) ∙ met_trouble whole rest out t w e in cc
+    let bad : ◌≡◌ {A = Option Trouble} None (Some t) = sym (ap (λ (r : RestOfFile). r.trouble) h) ∙ met_trouble whole rest out t w e in cc
 
 -- at most one byte is left, and it waits
-all_waiting : (bytes : List ℕ) → length bytes ≤ 1 → waiting (shown bytes) ≡ bytes
+all_waiting : (bytes : List ℕ) → length bytes ≤ 1 → waiting_bytes (next_shown bytes) ≡ bytes
 all_waiting [] h = refl
 all_waiting (x ∷ []) h = refl
 all_waiting (x ∷ y ∷ rest) h = absurd (omega arith)
 
 -- the chain breaks off behind the byte that was taken and the one that waits
-pub cut_off : (c : Content) (whole : Rest) (out items after : List ℕ) (old new : Reading) (b : ℕ) (last : Bool) (t : Trouble) → whole ≡ with_front out (rest_of c old)
-    → shown old.bytes ≡ Some (b, last) → items ≡ out ++ b ∷ [] → (rest_of c old).trouble ≡ Some t → new.bytes ≡ drop 1 (rest_of c old).bytes → length new.bytes ≤ 1
-    → after ≡ items ++ waiting (shown new.bytes) → whole ≡ record { bytes = after; trouble = Some t }
+pub cut_off : (c : Content) (whole : RestOfFile) (out items after : List ℕ) (old new : Reading) (b : ℕ) (last : Bool) (t : Trouble) → whole ≡ with_front out (rest_of c old)
+    → next_shown old.bytes ≡ Some (b, last) → items ≡ out ++ b ∷ [] → (rest_of c old).trouble ≡ Some t → new.bytes ≡ drop 1 (rest_of c old).bytes → length new.bytes ≤ 1
+    → after ≡ items ++ waiting_bytes (next_shown new.bytes) → whole ≡ record { bytes = after; trouble = Some t }
 cut_off c whole out items after old new b last t w e i tr left short a =
     let all : after ≡ out ++ (rest_of c old).bytes =
     a ∙ ap (λ x. items ++ x) (all_waiting new.bytes short ∙ left) ∙ ap (λ x. x ++ drop 1 (rest_of c old).bytes) i
     ∙ append_assoc out (b ∷ []) (drop 1 (rest_of c old).bytes) ∙ ap (λ x. out ++ x) (sym (first_left c old b last e)) in
-    w ∙ ap (λ x. let r : Rest = record { bytes = x; trouble = (rest_of c old).trouble } in r) (sym all)
-    ∙ ap (λ x. let r : Rest = record { bytes = after; trouble = x } in r) tr
+    w ∙ ap (λ x. let r : RestOfFile = record { bytes = x; trouble = (rest_of c old).trouble } in r) (sym all)
+    ∙ ap (λ x. let r : RestOfFile = record { bytes = after; trouble = x } in r) tr

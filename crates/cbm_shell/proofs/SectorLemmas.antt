@@ -5,22 +5,22 @@ use Rattle.cbm_medium.specs.Place.{Place, sectors_on}
 use Rattle.cbm_medium.specs.Content.{Cell, Content}
 use Rattle.cbm_medium.specs.declared.fault.Fault.{Fault}
 use Rattle.cbm_g64.specs.Tracks.{or_zeros}
-use Rattle.cbm_shell.specs.Sectors.{fault_of, faults_on, faults_in}
+use Rattle.cbm_shell.specs.Sectors.{sector_fault, faults_on, faults_in}
 
 pub faults_on-none : (xs : List Fault) (content : Content) (track : ℕ) → xs ≡ xs ++ faults_on content track 0
 unfolding faults_on
 faults_on-none xs content track = sym (append-nil xs)
 
-faults_on-next : (content : Content) (track n : ℕ) → faults_on content track (n + 1) ≡ faults_on content track n ++ fault_of (record { track = track; sector = n }) (content (record { track = track; sector = n }))
+faults_on-next : (content : Content) (track n : ℕ) → faults_on content track (n + 1) ≡ faults_on content track n ++ sector_fault (record { track = track; sector = n }) (content (record { track = track; sector = n }))
 unfolding faults_on
 faults_on-next content track n = ap (faults_on content track) (let e : n + 1 ≡ suc n = omega arith in e)
 
-pub faults_on-more : (xs ys zs : List Fault) (content : Content) (track n : ℕ) (at : Place) → ys ≡ xs ++ faults_on content track n → zs ≡ ys ++ fault_of at (content at)
+pub faults_on-more : (xs ys zs : List Fault) (content : Content) (track n : ℕ) (at : Place) → ys ≡ xs ++ faults_on content track n → zs ≡ ys ++ sector_fault at (content at)
     → at ≡ record { track = track; sector = n } → zs ≡ xs ++ faults_on content track (n + 1)
 faults_on-more xs ys zs content track n at before added same =
-    added ∙ ap (λ (p : Place). ys ++ fault_of p (content p)) same
-    ∙ ap (λ (l : List Fault). l ++ fault_of (record { track = track; sector = n }) (content (record { track = track; sector = n }))) before
-    ∙ append_assoc xs (faults_on content track n) (fault_of (record { track = track; sector = n }) (content (record { track = track; sector = n })))
+    added ∙ ap (λ (p : Place). ys ++ sector_fault p (content p)) same
+    ∙ ap (λ (l : List Fault). l ++ sector_fault (record { track = track; sector = n }) (content (record { track = track; sector = n }))) before
+    ∙ append_assoc xs (faults_on content track n) (sector_fault (record { track = track; sector = n }) (content (record { track = track; sector = n })))
     ∙ ap (λ (l : List Fault). xs ++ l) (sym (faults_on-next content track n))
 
 pub faults_in-none : (content : Content) → [] ≡ faults_in content 0
@@ -45,7 +45,7 @@ nothing_right : (xs ys : List Fault) → xs ++ ys ≡ [] → ys ≡ []
 nothing_right [] ys e = e
 nothing_right (x ∷ xs) ys e = absurd (cc)
 
-cell_read : (p : Place) (cell : Cell) → fault_of p cell ≡ [] → or_zeros cell ≡ cell
+cell_read : (p : Place) (cell : Cell) → sector_fault p cell ≡ [] → or_zeros cell ≡ cell
 cell_read p (Ok bytes) e = refl
 cell_read p (Err code) e = absurd (cc)
 
@@ -57,8 +57,8 @@ unfolding faults_on
 track_read content t zero s e l = absurd (omega arith)
 track_read content t (suc n) s e l = elim (cases_eq s n) [
   | inl same ↦ subst (λ (k : ℕ). or_zeros (content (at t k)) ≡ content (at t k)) (sym same)
-      (cell_read (at t n) (content (at t n)) (nothing_right (faults_on content t n) (fault_of (at t n) (content (at t n))) e))
-  | inr ne ↦ track_read content t n s (nothing_left (faults_on content t n) (fault_of (at t n) (content (at t n))) e) (omega arith)
+      (cell_read (at t n) (content (at t n)) (nothing_right (faults_on content t n) (sector_fault (at t n) (content (at t n))) e))
+  | inr ne ↦ track_read content t n s (nothing_left (faults_on content t n) (sector_fault (at t n) (content (at t n))) e) (omega arith)
 ]
 
 pub all_read : (content : Content) (n : ℕ) (p : Place) → faults_in content n ≡ [] → 0 < p.track → p.track ≤ n → p.sector < sectors_on p.track

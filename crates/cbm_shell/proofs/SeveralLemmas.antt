@@ -3,14 +3,14 @@ use Rattle.std.proofs.Common.{◌≡◌, ℕ, suc, ◌+◌, ◌<◌, List, [], �
 use Rattle.std.specs.Prelude.{MatchResult, IfOk, IfErr}
 use Rattle.cbm_medium.specs.Seen.{Seen}
 use Rattle.cbm_file.specs.Files.{Disk}
-use Rattle.cbm_channel.specs.Machines.{start}
+use Rattle.cbm_machine.specs.Machines.{start}
 use Rattle.cbm_volume.specs.Holding.{HoldsDisk}
 use Rattle.cbm_image.specs.declared.kind.Kind.{Kind}
 use Rattle.cbm_shell.specs.declared.changing.DiskChange.{DiskChange}
 use Rattle.cbm_shell.specs.declared.fault.ShellFault.{ShellFault}
 use Rattle.cbm_shell.specs.declared.fault.ShellFault.TheVariants as fault
 use Rattle.cbm_shell.specs.Images.{IsSaved, OrOpenFault}
-use Rattle.cbm_shell.specs.Changing.{after_change, IsFine, IsUndone}
+use Rattle.cbm_shell.specs.Changing.{disk_after_change, IsFine, IsUndone}
 use Rattle.cbm_shell.specs.Several.{AreMade, AreUndone, HoldsAfter, ImageAfter}
 use Rattle.cbm_shell.proofs.ImageLemmas.{saved_holds}
 
@@ -26,15 +26,15 @@ begun whole protected tracks d seen h = record { disk = d; holds = h; ends = λ 
 -- one change more was made
 pub one_more : (left rest whole : List DiskChange) (change : DiskChange) (protected : Bool) (tracks : ℕ) (d : Disk) (old new : Seen) → left ≡ change ∷ rest → old.protected ≡ protected → old.tracks ≡ tracks
     → (u : UnderWay left whole protected tracks d old)
-    → IsFine (after_change change (start u.disk old.protected old.tracks)).status × HoldsDisk new.tracks new.content (after_change change (start u.disk old.protected old.tracks)).disk
+    → IsFine (disk_after_change change (start u.disk old.protected old.tracks)).status × HoldsDisk new.tracks new.content (disk_after_change change (start u.disk old.protected old.tracks)).disk
     → UnderWay rest whole protected tracks d new
 unfolding AreMade AreUndone
 one_more left rest whole change protected tracks d old new begins p t u made =
     let m : start u.disk old.protected old.tracks ≡ start u.disk protected tracks = ap (λ (b : Bool). start u.disk b old.tracks) p ∙ ap (λ (k : ℕ). start u.disk protected k) t in
-    let fine : IsFine (after_change change (start u.disk protected tracks)).status = subst (λ x. IsFine (after_change change x).status) m made.0 in
+    let fine : IsFine (disk_after_change change (start u.disk protected tracks)).status = subst (λ x. IsFine (disk_after_change change x).status) m made.0 in
     record {
-      disk = (after_change change (start u.disk protected tracks)).disk;
-      holds = subst (λ x. HoldsDisk new.tracks new.content (after_change change x).disk) m made.1;
+      disk = (disk_after_change change (start u.disk protected tracks)).disk;
+      holds = subst (λ x. HoldsDisk new.tracks new.content (disk_after_change change x).disk) m made.1;
       ends = λ e later. u.ends e (subst (λ (l : List DiskChange). AreMade l protected tracks u.disk e) (sym begins) (fine, later));
       fails = λ f later. u.fails f (subst (λ (l : List DiskChange). AreUndone l protected tracks u.disk f) (sym begins) (inr (fine, later)));
     }
@@ -66,7 +66,7 @@ pub never_image : (changes : List DiskChange) (protected : Bool) (tracks : ℕ) 
 unfolding AreUndone
 never_image [] protected tracks d n h = h
 never_image (change ∷ rest) protected tracks d n (inl h) = h
-never_image (change ∷ rest) protected tracks d n (inr h) = never_image rest protected tracks (after_change change (start d protected tracks)).disk n h.1
+never_image (change ∷ rest) protected tracks d n (inr h) = never_image rest protected tracks (disk_after_change change (start d protected tracks)).disk n h.1
 
 -- the disk is saved, or memory for its image is refused
 pub saved_after : {A : Type 0} (image : List ℕ) (items : A → List ℕ) (changes : List DiskChange) (kind other : Kind) (tracks : ℕ) (d : Disk) (seen : Seen) (r : Result A ShellFault) → other ≡ kind

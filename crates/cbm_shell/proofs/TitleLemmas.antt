@@ -17,7 +17,7 @@ use Rattle.cbm_bam.proofs.Counts.{tally_same, summed_same}
 use Rattle.cbm_directory.specs.Entries.{type_byte, entry_at, first_directory}
 use Rattle.cbm_directory.proofs.Written.{range_same, mid_below, mid_above}
 use Rattle.cbm_volume.specs.Blocks.{Lies, slot_of}
-use Rattle.cbm_volume.specs.Layouts.{Directory, DataOf, SideOf, Layout, Sound, Describes, Stands}
+use Rattle.cbm_volume.specs.Layouts.{Directory, DataOf, SideOf, Layout, Sound, Describes, HasLayout}
 use Rattle.cbm_volume.specs.Holding.{HoldsDisk}
 use Rattle.cbm_volume.proofs.layouts.Frames.{Keeps, chain_kept, lies_kept, slot_kept}
 use Rattle.cbm_volume.proofs.layouts.Loose.{entry_kept, writable_written}
@@ -95,8 +95,8 @@ geometry_stays medium c c' old new a b same =
 
 -- ---- the disk
 
-stands_titled : (tracks : ℕ) (c : Content) (l : Layout) (d : Disk) (head title : List ℕ) → Stands tracks c l d → c directory_head ≡ Ok head → length head ≡ 256 → length title ≤ 16
-    → Stands tracks (with_map c (with_title title head)) l (entitled title d)
+stands_titled : (tracks : ℕ) (c : Content) (l : Layout) (d : Disk) (head title : List ℕ) → HasLayout tracks c l d → c directory_head ≡ Ok head → length head ≡ 256 → length title ≤ 16
+    → HasLayout tracks (with_map c (with_title title head)) l (entitled title d)
 stands_titled tracks c l d head title stands reads long short = record {
   sound = record {
     owned = s.owned;
@@ -158,7 +158,7 @@ titled_holds medium c c2 title d whole short is h = subst (λ (x : Content). Hol
         geometry_stays medium c (with_map c (with_title title head)) head (with_title title head) e (written_there c directory_head (with_title title head)) (around title head long short) in
         subst (λ (x : Content). HoldsDisk medium x (entitled title d)) (sym now) (record {
           layout = h.layout;
-          stands = subst (λ (n : ℕ). Stands n (with_map c (with_title title head)) h.layout (entitled title d)) (sym same)
+          stands = subst (λ (n : ℕ). HasLayout n (with_map c (with_title title head)) h.layout (entitled title d)) (sym same)
               (stands_titled (geometry_of medium c) c h.layout d head title h.stands e long short);
         })
     by_cell (Err code) e ok long = absurd (cc)

@@ -26,8 +26,8 @@ pub record HasEntered (tracks : ℕ) (old new : Content) (entry : List ℕ) : Ty
   pub entered : EntersLed tracks grown new slot entry
 
 -- no slot is empty, and the directory can't grow
-abbrev pub IsFull : ℕ → Content → Type 0
-IsFull tracks content = FindsEmpty (directory_of tracks content) (Ok None) × CannotGrow tracks content
+abbrev pub IsDirectoryFull : ℕ → Content → Type 0
+IsDirectoryFull tracks content = FindsEmpty (directory_of tracks content) (Ok None) × CannotGrow tracks content
 
 -- AN ENTRY THAT LOOKS SO: another name, another number of blocks, locked or not; its type, where its file lies and all else is as it was
 abbrev pub dressed_entry : List ℕ → ℕ → Bool → List ℕ → List ℕ

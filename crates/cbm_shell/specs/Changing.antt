@@ -4,11 +4,11 @@ use Rattle.cbm_medium.specs.Content.{Content}
 use Rattle.cbm_bam.specs.Map.{geometry_of}
 use Rattle.cbm_volume.specs.check.WholeDisk.{DiskFault}
 use Rattle.cbm_channel.specs.declared.Status.{Status}
-use Rattle.cbm_channel.specs.Codes.{code_number}
-use Rattle.cbm_channel.specs.Machines.{Machine}
-use Rattle.cbm_channel.specs.Closing.{close}
-use Rattle.cbm_channel.specs.Calls.{after_open}
-use Rattle.cbm_talk.specs.Talks.{hear}
+use Rattle.cbm_machine.specs.Codes.{code_number}
+use Rattle.cbm_machine.specs.Machines.{Machine}
+use Rattle.cbm_machine.specs.Closing.{close}
+use Rattle.cbm_machine.specs.Calls.{after_open}
+use Rattle.cbm_talk.specs.Talks.{hear_bytes}
 use Rattle.cbm_shell.specs.declared.changing.DiskChange.{DiskChange}
 use Rattle.cbm_shell.specs.declared.changing.DiskChange.TheVariants.{Command, File}
 use Rattle.cbm_shell.specs.declared.fault.ShellFault.{ShellFault}
@@ -20,9 +20,9 @@ begun (Command text) m = after_open 15 text.now m
 begun (File text bytes) m = after_open 2 text.now m
 
 -- THE MACHINE AFTER A CHANGE: a command is done by its OPEN; a file is opened, given its bytes, and closed.
-abbrev pub after_change : DiskChange → Machine → Machine
-after_change (Command text) m = begun (Command text) m
-after_change (File text bytes) m = close 2 (hear 2 bytes.now (begun (File text bytes) m))
+abbrev pub disk_after_change : DiskChange → Machine → Machine
+disk_after_change (Command text) m = begun (Command text) m
+disk_after_change (File text bytes) m = close 2 (hear_bytes 2 bytes.now (begun (File text bytes) m))
 
 -- a status below 20 reports no error
 abbrev pub IsFine : Status → Type 0
@@ -30,7 +30,7 @@ IsFine s = code_number s.code < 20
 
 -- The drive refused a change: this is its status after the OPEN or at the end, and it reports an error.
 pub record IsRefusedBy (change : DiskChange) (m : Machine) (s : Status) : Type 0 where
-  pub told : (s ≡ (begun change m).status) ⊎ (s ≡ (after_change change m).status)
+  pub told : (s ≡ (begun change m).status) ⊎ (s ≡ (disk_after_change change m).status)
   pub error : 20 ≤ code_number s.code
 
 -- Why a machine's change wasn't made.
@@ -51,5 +51,5 @@ IsFaultOf tracks content (fault.Refused s) = Unit {0}
 IsFaultOf tracks content f = ⊥
 
 -- the drive refused it
-abbrev pub IsRefusal : ShellFault → Type 0
-IsRefusal f = (s : Status) × (f ≡ fault.Refused s)
+abbrev pub IsStatusRefusal : ShellFault → Type 0
+IsStatusRefusal f = (s : Status) × (f ≡ fault.Refused s)

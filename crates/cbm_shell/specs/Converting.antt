@@ -4,7 +4,7 @@ use Rattle.cbm_medium.specs.Place.{Place, Has, directory_head}
 use Rattle.cbm_medium.specs.Content.{Cell, Content}
 use Rattle.cbm_medium.specs.declared.fault.Fault.{Fault}
 use Rattle.cbm_track.specs.Circle.{each_below}
-use Rattle.cbm_g64.specs.File.{tracks_in}
+use Rattle.cbm_g64.specs.File.{g64_circles}
 use Rattle.cbm_g64.specs.Tracks.{or_zeros, id_for}
 use Rattle.cbm_image.specs.declared.kind.Kind.{Kind}
 use Rattle.cbm_image.specs.declared.kind.Kind.TheVariants.{D64, G64}
@@ -20,22 +20,22 @@ other D64 = G64
 other G64 = D64
 
 -- the id that 18/0 has; zeros where it doesn't read
-abbrev pub id_in : Cell → List ℕ
-id_in (Ok bytes) = slice_range bytes 162 164
-id_in (Err code) = 0 ∷ 0 ∷ []
+abbrev pub id_of_cell : Cell → List ℕ
+id_of_cell (Ok bytes) = slice_range bytes 162 164
+id_of_cell (Err code) = 0 ∷ 0 ∷ []
 
 -- the id that 18/0 of a content has; zeros where it doesn't read
 abbrev pub told_id : Content → List ℕ
-told_id content = id_in (content directory_head)
+told_id content = id_of_cell (content directory_head)
 
 -- what the sectors of an image hold
-abbrev pub held_by : List ℕ → Content
-held_by image = content_of (kind_of image) image
+abbrev pub content_held : List ℕ → Content
+content_held image = content_of (kind_of image) image
 
 -- THE NEW IMAGE is of the other format. Each of the 683 sectors that reads in the old image is in the new one byte for byte, and those that don't are zeros.
 pub record IsConverted (old new : List ℕ) : Type 0 where
   pub opens : kind_of new ≡ other (kind_of old)
-  pub kept : (p : Place) → Has 35 p → held_by new p ≡ or_zeros (held_by old p)
+  pub kept : (p : Place) → Has 35 p → content_held new p ≡ or_zeros (content_held old p)
 
 -- ---- what is lost
 
@@ -44,13 +44,13 @@ abbrev pub is_zero_at : List ℕ → ℕ → Bool
 is_zero_at file i = (slice_index file i == 0) && ((slice_index file (i + 1) == 0) && ((slice_index file (i + 2) == 0) && (slice_index file (i + 3) == 0)))
 
 -- an entry of a G64's table is that of one of the tracks 1 to 35, or has no track
-unfoldable pub is_plain : List ℕ → ℕ → Bool
-is_plain file i = ((i % 2 == 0) && nat_lt i 70) || is_zero_at file (12 + 4 * i)
+unfoldable pub is_plain_table : List ℕ → ℕ → Bool
+is_plain_table file i = ((i % 2 == 0) && nat_lt i 70) || is_zero_at file (12 + 4 * i)
 
 -- an image has tracks 36 to 40; a G64, half tracks or tracks beyond 35
 abbrev pub has_more_tracks : Kind → List ℕ → Bool
 has_more_tracks D64 image = length image == 196608
-has_more_tracks G64 image = not (each_below (is_plain image) (slice_index image 9))
+has_more_tracks G64 image = not (each_below (is_plain_table image) (slice_index image 9))
 
 -- an error byte of an image is 1
 unfoldable pub is_good : List ℕ → ℕ → Bool
@@ -63,18 +63,18 @@ has_error_bytes G64 image = false
 
 -- the headers of a G64's track 18 have another id than 18/0 has; zeros stand for one that isn't there
 abbrev pub HasOtherId : List ℕ → Type 0
-HasOtherId image = (kind_of image ≡ G64) × (id_for (tracks_in image 35) ≢ told_id (held_by image))
+HasOtherId image = (kind_of image ≡ G64) × (id_for (g64_circles image 35) ≢ told_id (content_held image))
 
 -- WHAT THE NEW IMAGE LACKS is reported: the sectors that don't read, more tracks, error bytes, an id that only the headers have.
 pub record AreLosses (image : List ℕ) (unreadable : List Fault) (more_tracks error_bytes header_id : Bool) : Type 0 where
-  pub faults : unreadable ≡ faults_in (held_by image) 35
+  pub faults : unreadable ≡ faults_in (content_held image) 35
   pub tracks : more_tracks ≡ has_more_tracks (kind_of image) image
   pub errors : error_bytes ≡ has_error_bytes (kind_of image) image
   pub id : IsTrue header_id ↔ HasOtherId image
 
 -- A D64 made of this G64 would be taken for a G64: its first sector begins as a G64's file does.
 abbrev pub IsMistakable : List ℕ → Type 0
-IsMistakable image = (kind_of image ≡ G64) × ((bytes : List ℕ) × (held_by image (record { track = 1; sector = 0 }) ≡ Ok bytes) × (take 8 bytes ≡ codes "GCR-1541"))
+IsMistakable image = (kind_of image ≡ G64) × ((bytes : List ℕ) × (content_held image (record { track = 1; sector = 0 }) ≡ Ok bytes) × (take 8 bytes ≡ codes "GCR-1541"))
 
 -- why an image isn't converted: its own fault or want of memory, or the new one would be taken for one of the old format
 abbrev pub IsConvertFault : List ℕ → ShellFault → Type 0

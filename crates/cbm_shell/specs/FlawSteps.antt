@@ -7,7 +7,7 @@ use Rattle.cbm_bam.specs.Map.{with_bit}
 use Rattle.cbm_shell.specs.declared.broken.flaws.found.Whose.{Whose}
 use Rattle.cbm_shell.specs.declared.broken.flaws.found.Whose.TheVariants.{Disk, Directory, File}
 use Rattle.cbm_shell.specs.declared.broken.flaws.found.DiskFlaw.{DiskFlaw}
-use Rattle.cbm_shell.specs.Flaws.{Walked, goes_on, told}
+use Rattle.cbm_shell.specs.Flaws.{Walked, may_go_on, flaws_for}
 
 -- the directory lies on its track, the files off it
 abbrev pub is_directory : Whose → Bool
@@ -33,9 +33,9 @@ claimed_if false claimed p = claimed
 
 -- A sector was met: its bytes are answered where the walk goes on, and what is wrong with it is added.
 pub record IsStep (wrong : Option ℕ) (flaw : ℕ → DiskFlaw) (content : Content) (p : Place) (old new : Place → Bool) (before after : List DiskFlaw) (bytes : Option (List ℕ)) : Type 0 where
-  pub next : bytes ≡ next_bytes (goes_on wrong) (bytes_at content p)
-  pub claims : new ≡ claimed_if (goes_on wrong) old p
-  pub adds : after ≡ before ++ told wrong flaw
+  pub next : bytes ≡ next_bytes (may_go_on wrong) (bytes_at content p)
+  pub claims : new ≡ claimed_if (may_go_on wrong) old p
+  pub adds : after ≡ before ++ flaws_for wrong flaw
 
 -- A walk was made: what is claimed after it, and what is wrong is added.
 pub record HasWalked (w : Walked) (claimed : Place → Bool) (before after : List DiskFlaw) : Type 0 where

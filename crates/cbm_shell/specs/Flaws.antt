@@ -53,14 +53,14 @@ abbrev pub cut_off : (Place → Bool) → List DiskFlaw → Walked
 cut_off claimed flaws = record { blocks = []; claimed = claimed; flaws = flaws; whole = false }
 
 -- a walk goes on where nothing is wrong, or where the BAM alone is (2)
-abbrev pub goes_on : Option ℕ → Bool
-goes_on None = true
-goes_on (Some number) = number == 2
+abbrev pub may_go_on : Option ℕ → Bool
+may_go_on None = true
+may_go_on (Some number) = number == 2
 
 -- what is wrong with a sector, as a list
-abbrev pub told : Option ℕ → (ℕ → DiskFlaw) → List DiskFlaw
-told None flaw = []
-told (Some number) flaw = flaw number ∷ []
+abbrev pub flaws_for : Option ℕ → (ℕ → DiskFlaw) → List DiskFlaw
+flaws_for None flaw = []
+flaws_for (Some number) flaw = flaw number ∷ []
 
 -- a sector, and the walk after it
 abbrev pub with_sector : List DiskFlaw → Place → Walked → Walked
@@ -68,19 +68,19 @@ with_sector flaws p rest = record { blocks = p ∷ rest.blocks; claimed = rest.c
 
 -- a walk that meets a sector: it goes on, or ends there
 abbrev pub met : Option ℕ → (ℕ → DiskFlaw) → Place → (Place → Bool) → Walked → Walked
-met wrong flaw p claimed rest = if goes_on wrong then with_sector (told wrong flaw) p rest else cut_off claimed (told wrong flaw)
+met wrong flaw p claimed rest = if may_go_on wrong then with_sector (flaws_for wrong flaw) p rest else cut_off claimed (flaws_for wrong flaw)
 
 -- A CHAIN from a place on, where this many sectors are left and this many come before: each sector is claimed, and what is wrong with one is reported
-unfoldable pub along : Whose → ℕ → Content → ℕ → ℕ → (Place → Bool) → Place → Walked
-along whose tracks content zero before claimed p = cut_off claimed []
-along whose tracks content (suc left) before claimed p =
+unfoldable pub flaws_along : Whose → ℕ → Content → ℕ → ℕ → (Place → Bool) → Place → Walked
+flaws_along whose tracks content zero before claimed p = cut_off claimed []
+flaws_along whose tracks content (suc left) before claimed p =
     if p.track == 0 then at_end claimed
     else met (wrong_at (part_of whose) tracks content claimed p) (flawed whose before p) p claimed
-    (along whose tracks content left (before + 1) (with_bit claimed p true) (link (bytes_at content p)))
+    (flaws_along whose tracks content left (before + 1) (with_bit claimed p true) (link (bytes_at content p)))
 
 -- the whole chain: no disk has more than 768 sectors
 abbrev pub chain_from : Whose → ℕ → Content → (Place → Bool) → Place → Walked
-chain_from whose tracks content claimed p = along whose tracks content 768 0 claimed p
+chain_from whose tracks content claimed p = flaws_along whose tracks content 768 0 claimed p
 
 -- THESE SECTORS, one after another
 unfoldable pub among : Whose → ℕ → Content → (Place → Bool) → List Place → Walked
@@ -204,6 +204,6 @@ abbrev pub flaws_of : ℕ → Content → List DiskFlaw
 flaws_of tracks content = header_flaws content tracks ++ (map_flaws tracks (content directory_head) ++ chain_flaws tracks content)
 
 -- the first of them as `check` answers it; none is that the disk is sound
-abbrev pub first_of : List DiskFlaw → Result (Unit {0}) Unsound
-first_of [] = Ok tt
-first_of (flaw ∷ rest) = Err flaw.what
+abbrev pub first_flaw : List DiskFlaw → Result (Unit {0}) Unsound
+first_flaw [] = Ok tt
+first_flaw (flaw ∷ rest) = Err flaw.what

@@ -6,7 +6,7 @@ use Rattle.cbm_bam.specs.Map.{geometry_of}
 use Rattle.cbm_directory.specs.Slots.{directory_of}
 use Rattle.cbm_image.specs.declared.kind.Kind.{Kind}
 use Rattle.cbm_image.specs.Images.{tracks_of, content_of}
-use Rattle.cbm_shell.specs.Mapping.{free_by, entries_in, is_among}
+use Rattle.cbm_shell.specs.Mapping.{free_by, entries_shown, is_among}
 use Rattle.cbm_shell.specs.Geos.{geos_places}
 use Rattle.cbm_shell.specs.Passing.{places_in}
 
@@ -22,9 +22,9 @@ is_any held (p ∷ rest) = held p || is_any held rest
 -- THESE ARE THE BLOCKS that a change of a disk gives back, and whether GEOS uses one of them.
 pub record AreFreed (tracks : ℕ) (old new : Content) (blocks : List Place) (takes_geos : Bool) : Type 0 where
   pub all : blocks ≡ places_in (is_freed old new) tracks
-  pub geos : takes_geos ≡ is_any (is_among (geos_places tracks old (entries_in (directory_of tracks old)))) blocks
+  pub geos : takes_geos ≡ is_any (is_among (geos_places tracks old (entries_shown (directory_of tracks old)))) blocks
 
 -- the same, of the images before and after
-abbrev pub IsGivenBack : Kind → List ℕ → List ℕ → List Place → Bool → Type 0
-IsGivenBack kind old new blocks takes_geos =
+abbrev pub AreGivenBack : Kind → List ℕ → List ℕ → List Place → Bool → Type 0
+AreGivenBack kind old new blocks takes_geos =
     AreFreed (geometry_of (tracks_of kind old) (content_of kind old)) (content_of kind old) (content_of kind new) blocks takes_geos

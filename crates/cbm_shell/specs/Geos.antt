@@ -27,12 +27,12 @@ abbrev pub is_geos : List ℕ → Bool
 is_geos e = is_closed e && (is_one_chain (type_with (type_byte e % 16)) && (nat_lt (width_of e) 2 && not (slice_index e 22 == 0)))
 
 -- structure 1, VLIR: the file's first block lists the chains of its records
-abbrev pub has_records : List ℕ → Bool
-has_records e = width_of e == 1
+abbrev pub has_geos_records : List ℕ → Bool
+has_geos_records e = width_of e == 1
 
 -- WHAT GEOS KEEPS in an entry
 abbrev pub geos_of : List ℕ → Option Geos
-geos_of e = if is_geos e then Some (record { has_records = has_records e; kind = slice_index e 22 }) else None
+geos_of e = if is_geos e then Some (record { has_records = has_geos_records e; kind = slice_index e 22 }) else None
 
 -- ---- the blocks of its files
 
@@ -58,7 +58,7 @@ records_by false tracks content p = []
 -- the blocks of an entry's file beside its chain, where GEOS made it: that of its info, where a relative file has its side sectors, and those of its
 -- records
 abbrev pub blocks_by : Bool → ℕ → Content → List ℕ → List Place
-blocks_by true tracks content e = chain_of tracks content (first_side e) ++ records_by (has_records e) tracks content (first_block e)
+blocks_by true tracks content e = chain_of tracks content (first_side e) ++ records_by (has_geos_records e) tracks content (first_block e)
 blocks_by false tracks content e = []
 
 -- THE BLOCKS that a file of GEOS has beside its chain

@@ -10,7 +10,7 @@ use Rattle.cbm_volume.specs.Sweeps.{IsPutInOrder}
 use Rattle.cbm_volume.specs.Layouts.{Layout, Sound}
 use Rattle.cbm_volume.specs.check.WholeDisk.{DiskFault}
 use Rattle.cbm_volume.specs.declared.Unsound.{Unsound}
-use Rattle.cbm_channel.specs.Machines.{Machine}
+use Rattle.cbm_machine.specs.Machines.{Machine}
 use Rattle.cbm_image.specs.declared.kind.Kind.{Kind}
 use Rattle.cbm_image.specs.Images.{kind_of, image_fault, tracks_of, content_of, ImageHolds}
 use Rattle.cbm_shell.specs.declared.changing.DiskChange.{DiskChange}
@@ -21,7 +21,7 @@ use Rattle.cbm_shell.specs.Listing.{IsUnlisted}
 use Rattle.cbm_shell.specs.Changing.{IsUndone}
 
 -- the disk of an image: it shows what the image is, and can be written
-pub record IsOpened (image : List ℕ) (seen : Seen) : Type 0 where
+pub record IsImageOpened (image : List ℕ) (seen : Seen) : Type 0 where
   pub same_tracks : seen.tracks ≡ tracks_of (kind_of image) image
   pub same_content : seen.content ≡ content_of (kind_of image) image
   pub free : seen.protected ≡ false
@@ -80,8 +80,8 @@ IsChecked tracks content (Ok _) = IsSoundDisk tracks content
 IsChecked tracks content (Err u) = DiskFault (geometry_of tracks content) content u
 
 -- a disk that VALIDATE leaves as it is
-abbrev pub IsOrderly : ℕ → Content → Type 0
-IsOrderly tracks content = (e : Disk) × HoldsDisk tracks content e × (e ≡ validated e)
+abbrev pub IsOrderlyDisk : ℕ → Content → Type 0
+IsOrderlyDisk tracks content = (e : Disk) × HoldsDisk tracks content e × (e ≡ validated e)
 
 -- the image has no fault, and holds a disk that VALIDATE leaves as it is: each file is closed, and each block is free or a file's
 pub record IsInOrder (kind : Kind) (image : List ℕ) : Type 0 where

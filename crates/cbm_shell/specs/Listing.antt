@@ -1,8 +1,8 @@
 -- The directory as readable text.
 use Rattle.std.specs.Prelude.{ℕ, ◌≡◌, ◌≢◌, List, [], ◌∷◌, ◌++◌, codes}
-use Rattle.cbm_channel.specs.Machines.{Machine}
-use Rattle.cbm_channel.specs.Codes.{code_number}
-use Rattle.cbm_channel.specs.Calls.{after_open}
+use Rattle.cbm_machine.specs.Machines.{Machine}
+use Rattle.cbm_machine.specs.Codes.{code_number}
+use Rattle.cbm_machine.specs.Calls.{after_open}
 use Rattle.cbm_talk.specs.Talks.{talked}
 use Rattle.cbm_shell.specs.declared.texts.petscii.Charset.{Charset}
 use Rattle.cbm_shell.specs.declared.fault.ShellFault.{ShellFault}
@@ -19,18 +19,18 @@ abbrev pub opened : List ℕ → Machine → Machine
 opened pattern m = after_open 0 (list_text pattern) m
 
 -- what the machine then sends: a listing has at most 4,672 bytes
-unfoldable pub sent : Machine → List ℕ
-sent m = (talked 0 5000 m).bytes
+unfoldable pub listing_sent : Machine → List ℕ
+listing_sent m = (talked 0 5000 m).bytes
 
 -- The OPEN isn't refused, and these are the bytes that the machine sends.
 pub record IsSent (pattern : List ℕ) (m : Machine) (bytes : List ℕ) : Type 0 where
   pub fine : code_number (opened pattern m).status.code ≡ 0
-  pub same : bytes ≡ sent (opened pattern m)
+  pub same : bytes ≡ listing_sent (opened pattern m)
 
 -- The OPEN isn't refused, and these are the lines that the machine sends, made readable in a character set.
-pub record IsListed (charset : Charset) (pattern : List ℕ) (m : Machine) (lines : List ℕ) : Type 0 where
+pub record IsListing (charset : Charset) (pattern : List ℕ) (m : Machine) (lines : List ℕ) : Type 0 where
   pub fine : code_number (opened pattern m).status.code ≡ 0
-  pub same : lines ≡ readable charset (sent (opened pattern m))
+  pub same : lines ≡ readable charset (listing_sent (opened pattern m))
 
 -- The machine refused the OPEN with this status, or memory ran out.
 abbrev pub IsUnlisted : List ℕ → Machine → ShellFault → Type 0

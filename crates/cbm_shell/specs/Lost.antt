@@ -9,13 +9,13 @@ use Rattle.cbm_shell.specs.Geos.{geos_places}
 use Rattle.cbm_shell.specs.Passing.{places_in}
 
 -- a sector reads, neither the drive's files nor GEOS use it, and the BAM doesn't have it as free
-abbrev pub is_lost : Cell → Bool → Bool → Bool → Bool
-is_lost (Ok bytes) used geos free = not used && (not geos && not free)
-is_lost (Err code) used geos free = false
+abbrev pub is_block_lost : Cell → Bool → Bool → Bool → Bool
+is_block_lost (Ok bytes) used geos free = not used && (not geos && not free)
+is_block_lost (Err code) used geos free = false
 
 -- a place is lost on a disk, where these places are used, and GEOS uses those
 abbrev pub lost_at : Content → (Place → Bool) → (Place → Bool) → Place → Bool
-lost_at content used geos p = is_lost (content p) (used p) (geos p) (free_by (content directory_head) p)
+lost_at content used geos p = is_block_lost (content p) (used p) (geos p) (free_by (content directory_head) p)
 
 -- the places that are lost on a disk with these entries
 abbrev pub lost_among : ℕ → Content → List (List ℕ) → List Place

@@ -29,16 +29,16 @@ kind_in form.LongD64 = kind.D64
 kind_in form.G64 = kind.G64
 
 -- how many tracks a new image has
-abbrev pub tracks_on : Form → ℕ
-tracks_on form.D64 = 35
-tracks_on form.LongD64 = 40
-tracks_on form.G64 = 35
+abbrev pub tracks_of_form : Form → ℕ
+tracks_of_form form.D64 = 35
+tracks_of_form form.LongD64 = 40
+tracks_of_form form.G64 = 35
 
 -- An image without fault whose sectors are all zeros.
-pub record IsBlank (form : Form) (image : List ℕ) : Type 0 where
+pub record IsBlankImage (form : Form) (image : List ℕ) : Type 0 where
   pub accepted : image_fault (kind_in form) image ≡ None
-  pub tracks : tracks_of (kind_in form) image ≡ tracks_on form
-  pub zeros : (p : Place) → Has (tracks_on form) p → content_of (kind_in form) image p ≡ Ok (replicate 256 0)
+  pub tracks : tracks_of (kind_in form) image ≡ tracks_of_form form
+  pub zeros : (p : Place) → Has (tracks_of_form form) p → content_of (kind_in form) image p ≡ Ok (replicate 256 0)
 
 -- The disk shows the empty disk; its first sector is zeros.
 pub record IsEmpty (tracks : ℕ) (title id : List ℕ) (seen : Seen) : Type 0 where
@@ -50,4 +50,4 @@ pub record IsEmpty (tracks : ℕ) (title id : List ℕ) (seen : Seen) : Type 0 w
 pub record IsNew (form : Form) (title id image : List ℕ) : Type 0 where
   pub opens : kind_of image ≡ kind_in form
   pub accepted : image_fault (kind_in form) image ≡ None
-  pub holds : ImageHolds (kind_in form) image (empty_disk (tracks_on form) title id)
+  pub holds : ImageHolds (kind_in form) image (empty_disk (tracks_of_form form) title id)

@@ -55,8 +55,8 @@ entries_by None entries = entries
 entries_by (Some t) entries = []
 
 -- the entries of a directory; none where it can't be followed to its end
-abbrev pub entries_in : Listed → List (List ℕ)
-entries_in listed = entries_by listed.trouble listed.entries
+abbrev pub entries_shown : Listed → List (List ℕ)
+entries_shown listed = entries_by listed.trouble listed.entries
 
 -- WHAT IS USED: the BAM's sector, the directory, the sectors of each closed file
 abbrev pub used_in : ℕ → Content → List (List ℕ) → List Place
@@ -97,5 +97,5 @@ rows_of content used (suc n) = rows_of content used n ++ row_of content used (su
 abbrev pub picture_of : ℕ → Content → List ℕ
 picture_of tracks content =
     codes "sector 0         1         2\ntrack  012345678901234567890\n"
-    ++ rows_of content (is_among (used_in tracks content (entries_in (directory_of tracks content)))) tracks
+    ++ rows_of content (is_among (used_in tracks content (entries_shown (directory_of tracks content)))) tracks
     ++ codes ". free   # used   x can't be read\n? lost: no file uses it, but it isn't free   ! used, but marked free\n"

@@ -12,23 +12,23 @@ abbrev pub numbered : ℕ → List ℕ
 numbered code = 123 ∷ digit_char (code / 16) ∷ digit_char (code % 16) ∷ 125 ∷ []
 
 -- a code: the character of its key, or else its number
-abbrev pub written : Charset → ℕ → List ℕ
-written charset code = if key_of charset code == 123 then numbered code else key_of charset code ∷ []
+abbrev pub code_written : Charset → ℕ → List ℕ
+code_written charset code = if key_of charset code == 123 then numbered code else key_of charset code ∷ []
 
 -- the same in UTF-8
 abbrev pub shown_as : Charset → ℕ → List ℕ
-shown_as charset code = encode_utf8_all (written charset code)
+shown_as charset code = encode_utf8_all (code_written charset code)
 
 -- A NAME AS TEXT, in UTF-8
-unfoldable pub text_of : Charset → List ℕ → List ℕ
-text_of charset [] = []
-text_of charset (code ∷ rest) = shown_as charset code ++ text_of charset rest
+unfoldable pub name_text : Charset → List ℕ → List ℕ
+name_text charset [] = []
+name_text charset (code ∷ rest) = shown_as charset code ++ name_text charset rest
 
 -- ---- as it is typed
 
 -- the code of two digits to the base 16, small or capital
-abbrev pub byte_of : ℕ → ℕ → Option ℕ
-byte_of high low =
+abbrev pub byte_of_digits : ℕ → ℕ → Option ℕ
+byte_of_digits high low =
     if nat_lt (digit_value high) 16 && nat_lt (digit_value low) 16 then Some (16 * digit_value high + digit_value low) else None
 
 -- a code before others; None where one of them can't be read
@@ -46,5 +46,5 @@ unfoldable mutual
 
   -- from after the brace of a number on
   pub number_in : Charset → List ℕ → Option (List ℕ)
-  number_in charset (high ∷ low ∷ brace ∷ rest) = if brace == 125 then with_code (byte_of high low) (codes_of charset rest) else None
+  number_in charset (high ∷ low ∷ brace ∷ rest) = if brace == 125 then with_code (byte_of_digits high low) (codes_of charset rest) else None
   number_in charset _ = None

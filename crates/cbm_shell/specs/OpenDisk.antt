@@ -6,6 +6,6 @@ use Rattle.cbm_shell.specs.declared.looking.open_disk.OpenDisk.{OpenDisk}
 use Rattle.cbm_shell.specs.declared.looking.open_disk.OpenDisk.TheVariants.{D64, G64}
 
 -- what the disk of an image shows, by its format
-abbrev pub shown_by : OpenDisk → Seen
-shown_by (D64 disk) = d64.seen_of disk
-shown_by (G64 disk) = g64.seen_of disk
+abbrev pub open_disk_seen : OpenDisk → Seen
+open_disk_seen (D64 disk) = d64.d64_seen disk
+open_disk_seen (G64 disk) = g64.g64_seen disk

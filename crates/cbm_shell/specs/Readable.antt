@@ -13,9 +13,9 @@ ends left code = (left == 0) && (code == 0)
 
 unfoldable mutual
   -- From the beginning of a line on: its link, its number, its text. A link whose second code is 0 ends the lines, as LIST sees it.
-  pub lines : Charset → List ℕ → List ℕ
-  lines charset (first ∷ second ∷ low ∷ high ∷ rest) = if second == 0 then [] else decimal (low + 256 * high) ++ codes " " ++ opening charset rest
-  lines charset _ = []
+  pub readable_lines : Charset → List ℕ → List ℕ
+  readable_lines charset (first ∷ second ∷ low ∷ high ∷ rest) = if second == 0 then [] else decimal (low + 256 * high) ++ codes " " ++ opening charset rest
+  readable_lines charset _ = []
 
   -- From the beginning of a line's text on, which has at least 25 codes.
   pub opening : Charset → List ℕ → List ℕ
@@ -25,8 +25,8 @@ unfoldable mutual
   -- From a place in a line's text on: a 0 ends the line, but for the codes that are sure to come, as a name may have it.
   pub text : Charset → ℕ → List ℕ → List ℕ
   text charset left [] = codes "\n"
-  text charset left (code ∷ rest) = if ends left code then codes "\n" ++ lines charset rest else shown_as charset code ++ text charset (left - 1) rest
+  text charset left (code ∷ rest) = if ends left code then codes "\n" ++ readable_lines charset rest else shown_as charset code ++ text charset (left - 1) rest
 
 -- the lines after the load address
 abbrev pub readable : Charset → List ℕ → List ℕ
-readable charset bytes = lines charset (drop 2 bytes)
+readable charset bytes = readable_lines charset (drop 2 bytes)

@@ -5,7 +5,7 @@ use Rattle.cbm_file.specs.declared.file_type.FileType.TheVariants.{Rel}
 use Rattle.cbm_file.specs.Types.{is_same_type}
 use Rattle.cbm_file.specs.Files.{File, Disk, bytes_in}
 use Rattle.cbm_channel.specs.declared.Code.TheVariants.{FileNotFound}
-use Rattle.cbm_channel.specs.Finding.{found}
+use Rattle.cbm_machine.specs.Finding.{found}
 use Rattle.cbm_shell.specs.declared.fault.ShellFault.{ShellFault}
 use Rattle.cbm_shell.specs.declared.fault.ShellFault.TheVariants as fault
 
@@ -29,7 +29,7 @@ pub record IsUnclosed (d : Disk) (pattern : List ℕ) : Type 0 where
   pub closed : file.closed ≡ false
 
 -- The first file that matches has records.
-pub record HasRecords (d : Disk) (pattern : List ℕ) : Type 0 where
+pub record FindsRecords (d : Disk) (pattern : List ℕ) : Type 0 where
   pub slot : ℕ
   pub file : File
   pub first : found d pattern None ≡ Ok (slot, file)
@@ -40,7 +40,7 @@ abbrev pub IsGetFault : Disk → List ℕ → ShellFault → Type 0
 IsGetFault d pattern fault.Memory = Unit {0}
 IsGetFault d pattern fault.NotFound = found d pattern None ≡ Err FileNotFound
 IsGetFault d pattern fault.NotClosed = IsUnclosed d pattern
-IsGetFault d pattern (fault.Trouble t) = HasRecords d pattern
+IsGetFault d pattern (fault.Trouble t) = FindsRecords d pattern
 IsGetFault d pattern (fault.Image n) = ⊥
 IsGetFault d pattern (fault.Unsound u) = ⊥
 IsGetFault d pattern (fault.Refused s) = ⊥

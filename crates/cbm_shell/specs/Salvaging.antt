@@ -2,6 +2,6 @@
 use Rattle.std.specs.Prelude.{ℕ, Bool, List, [], ◌∷◌, Option, Some, None}
 
 -- the pending byte, if there is one
-abbrev pub waiting : Option (ℕ × Bool) → List ℕ
-waiting None = []
-waiting (Some p) = p.0 ∷ []
+abbrev pub waiting_bytes : Option (ℕ × Bool) → List ℕ
+waiting_bytes None = []
+waiting_bytes (Some p) = p.0 ∷ []

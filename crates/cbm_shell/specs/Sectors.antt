@@ -5,14 +5,14 @@ use Rattle.cbm_medium.specs.Content.{Cell, Content}
 use Rattle.cbm_medium.specs.declared.fault.Fault.{Fault}
 
 -- the fault that stands in place of a sector's bytes
-abbrev pub fault_of : Place → Cell → List Fault
-fault_of p (Ok bytes) = []
-fault_of p (Err code) = record { code = code; at = p } ∷ []
+abbrev pub sector_fault : Place → Cell → List Fault
+sector_fault p (Ok bytes) = []
+sector_fault p (Err code) = record { code = code; at = p } ∷ []
 
 -- the faults of the first n sectors of a track
 unfoldable pub faults_on : Content → ℕ → ℕ → List Fault
 faults_on content track zero = []
-faults_on content track (suc n) = faults_on content track n ++ fault_of (record { track = track; sector = n }) (content (record { track = track; sector = n }))
+faults_on content track (suc n) = faults_on content track n ++ sector_fault (record { track = track; sector = n }) (content (record { track = track; sector = n }))
 
 -- THE FAULTS of all sectors of the first n tracks, in order of track and sector
 unfoldable pub faults_in : Content → ℕ → List Fault

@@ -2,26 +2,26 @@
 use Rattle.std.specs.Prelude.{ℕ, ◌≡◌, ◌⊎◌, Bool, false, List, [], ◌∷◌}
 use Rattle.cbm_medium.specs.Seen.{Seen}
 use Rattle.cbm_file.specs.Files.{Disk}
-use Rattle.cbm_channel.specs.Machines.{start}
+use Rattle.cbm_machine.specs.Machines.{start}
 use Rattle.cbm_volume.specs.Holding.{HoldsDisk}
 use Rattle.cbm_image.specs.declared.kind.Kind.{Kind}
 use Rattle.cbm_image.specs.Images.{ImageHolds}
 use Rattle.cbm_shell.specs.declared.changing.DiskChange.{DiskChange}
 use Rattle.cbm_shell.specs.declared.fault.ShellFault.{ShellFault}
-use Rattle.cbm_shell.specs.Changing.{after_change, IsFine, IsUndone}
+use Rattle.cbm_shell.specs.Changing.{disk_after_change, IsFine, IsUndone}
 
 -- CHANGES MADE ONE AFTER ANOTHER, each by the machine at power up, lead from a disk to another: none reports an error.
 unfoldable pub AreMade : List DiskChange → Bool → ℕ → Disk → Disk → Type 0
 AreMade [] protected tracks d e = e ≡ d
 AreMade (change ∷ rest) protected tracks d e =
-    IsFine (after_change change (start d protected tracks)).status × AreMade rest protected tracks (after_change change (start d protected tracks)).disk e
+    IsFine (disk_after_change change (start d protected tracks)).status × AreMade rest protected tracks (disk_after_change change (start d protected tracks)).disk e
 
 -- why one of them wasn't made, after those before it
 unfoldable pub AreUndone : List DiskChange → Bool → ℕ → Disk → ShellFault → Type 0
 AreUndone [] protected tracks d fault = ⊥
 AreUndone (change ∷ rest) protected tracks d fault =
     IsUndone change (start d protected tracks) fault
-    ⊎ (IsFine (after_change change (start d protected tracks)).status × AreUndone rest protected tracks (after_change change (start d protected tracks)).disk fault)
+    ⊎ (IsFine (disk_after_change change (start d protected tracks)).status × AreUndone rest protected tracks (disk_after_change change (start d protected tracks)).disk fault)
 
 -- a medium that shows this holds the disk to which changes lead
 pub record HoldsAfter (changes : List DiskChange) (protected : Bool) (tracks : ℕ) (d : Disk) (seen : Seen) : Type 0 where

@@ -2,12 +2,12 @@
 use Rattle.std.specs.Prelude.{ℕ, ◌≡◌, ◌≢◌, ◌⊎◌, ◌==◌, ◌+◌, ◌&&◌, not, Bool, true, false, List, [], ◌∷◌, ◌++◌, slice_index, slice_set, Some, Ok}
 use Rattle.cbm_medium.specs.Place.{Place, Has, directory_head}
 use Rattle.cbm_medium.specs.Content.{Content, written}
-use Rattle.cbm_bam.specs.Map.{map_of, is_free_in, IsCounted, IsOutside}
+use Rattle.cbm_bam.specs.Map.{map_of, is_free_in, IsCounted, IsOutsideMap}
 use Rattle.cbm_file.specs.Types.{type_number}
 use Rattle.cbm_file.specs.declared.file_type.FileType.{FileType}
 use Rattle.cbm_directory.specs.Entries.{type_byte, first_block, EntersLed}
 use Rattle.cbm_directory.specs.Slots.{Answers, directory_of}
-use Rattle.cbm_shell.specs.Mapping.{chain_of, entries_in, free_by, is_among, used_in}
+use Rattle.cbm_shell.specs.Mapping.{chain_of, entries_shown, free_by, is_among, used_in}
 use Rattle.cbm_shell.specs.Geos.{border_in, in_geos}
 use Rattle.cbm_shell.specs.Lost.{lost_of}
 use Rattle.cbm_shell.specs.Editing.{HasNoSlot}
@@ -27,19 +27,19 @@ HasNoDeleted tracks content slot =
     HasNoSlot tracks content slot ⊎ ((entry : List ℕ) × Answers (directory_of tracks content) slot (Ok (Some entry)) × ((type_byte entry == 0) ≡ false))
 
 -- the BAM has each of these sectors as free
-unfoldable pub all_free : Content → List Place → Bool
-all_free content [] = true
-all_free content (p ∷ rest) = free_by (content directory_head) p && all_free content rest
+unfoldable pub all_blocks_free : Content → List Place → Bool
+all_blocks_free content [] = true
+all_blocks_free content (p ∷ rest) = free_by (content directory_head) p && all_blocks_free content rest
 
 -- each block of the entry's chain is free, and none of the disk is lost
 pub record IsClear (tracks : ℕ) (content : Content) (entry : List ℕ) : Type 0 where
-  pub free : all_free content (chain_of tracks content (first_block entry)) ≡ true
+  pub free : all_blocks_free content (chain_of tracks content (first_block entry)) ≡ true
   pub none_lost : lost_of content tracks (directory_of tracks content) ≡ []
 
 -- a block of the entry's chain isn't free, or blocks of the disk are lost
 abbrev pub IsInTheWay : ℕ → Content → List ℕ → Type 0
 IsInTheWay tracks content entry =
-    (all_free content (chain_of tracks content (first_block entry)) ≡ false) ⊎ (lost_of content tracks (directory_of tracks content) ≢ [])
+    (all_blocks_free content (chain_of tracks content (first_block entry)) ≡ false) ⊎ (lost_of content tracks (directory_of tracks content) ≢ [])
 
 -- WHY NOTHING IS GIVEN BACK: the slot has no deleted file, or something is in its way
 abbrev pub IsNotGiven : ℕ → Content → ℕ → Type 0
@@ -57,13 +57,13 @@ pub record IsMapAnew (tracks : ℕ) (old new : Content) (held : Place → Bool) 
   pub written : new ≡ written old directory_head map
   pub bits : (p : Place) → Has tracks p → is_free_in map p ≡ not (held p)
   pub counted : IsCounted tracks map
-  pub outside : (i : ℕ) → IsOutside tracks i → slice_index map i ≡ slice_index (map_of old) i
+  pub outside : (i : ℕ) → IsOutsideMap tracks i → slice_index map i ≡ slice_index (map_of old) i
 
 -- the entry has its type, and the BAM has the chain as taken; nothing else is changed
 pub record IsGivenAgain (tracks : ℕ) (old new : Content) (slot : ℕ) (kind : FileType) (entry : List ℕ) : Type 0 where
   pub middle : Content
   pub entered : EntersLed tracks old middle slot (restored_entry kind entry)
-  pub mapped : IsMapAnew tracks middle new (is_among (held_with tracks old (entries_in (directory_of tracks old)) (first_block entry)))
+  pub mapped : IsMapAnew tracks middle new (is_among (held_with tracks old (entries_shown (directory_of tracks old)) (first_block entry)))
 
 -- THE DELETED FILE in a slot is given back
 pub record IsUndeleted (tracks : ℕ) (old new : Content) (slot : ℕ) (kind : FileType) : Type 0 where

@@ -3,7 +3,7 @@ use Rattle.std.specs.Prelude.{ℕ, ◌+◌, Bool, true, false, List, [], ◌∷�
 use Rattle.cbm_medium.specs.Place.{Place}
 use Rattle.cbm_medium.specs.Content.{Content}
 use Rattle.cbm_directory.specs.Slots.{directory_of}
-use Rattle.cbm_shell.specs.Mapping.{entries_in, is_among, sectors_of}
+use Rattle.cbm_shell.specs.Mapping.{entries_shown, is_among, sectors_of}
 
 -- the file of an entry uses the sector at a place
 abbrev pub is_user : ℕ → Content → Place → List ℕ → Bool
@@ -21,4 +21,4 @@ users_among tracks content p slot (e ∷ rest) = slot_if (is_user tracks content
 
 -- THE SLOTS whose closed files use a sector
 abbrev pub users_of : ℕ → Content → Place → List ℕ
-users_of tracks content p = users_among tracks content p 0 (entries_in (directory_of tracks content))
+users_of tracks content p = users_among tracks content p 0 (entries_shown (directory_of tracks content))

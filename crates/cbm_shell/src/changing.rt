@@ -1,15 +1,15 @@
 //! Changes of a disk, as the drive makes them.
 ghost use Rattle.std.specs.Prelude.{◌≡◌, ◌≤◌, MatchResult, IfErr, IfOk, IsOk, OnOk};
-ghost use Rattle.cbm_channel.specs.Codes.{code_number};
-ghost use Rattle.cbm_channel.specs.Machines.{Machine};
+ghost use Rattle.cbm_machine.specs.Codes.{code_number};
+ghost use Rattle.cbm_machine.specs.Machines.{Machine};
 ghost use Rattle.cbm_channel.specs.Standing.{Stands};
 ghost use Rattle.cbm_channel.specs.Going.{KeepsMedium};
-ghost use Rattle.cbm_channel.specs.Machines.{start};
+ghost use Rattle.cbm_machine.specs.Machines.{start};
 ghost use Rattle.cbm_file.specs.Files.{Disk};
 ghost use Rattle.cbm_volume.specs.Holding.{HoldsDisk};
 ghost use Rattle.cbm_shell.specs.Images.{IsSoundDisk};
 ghost use Rattle.cbm_shell.specs.Editing.{IsUnedited};
-ghost use Rattle.cbm_shell.specs.Changing.{after_change, IsFine, IsUndone, IsRefusal, IsFaultOf};
+ghost use Rattle.cbm_shell.specs.Changing.{disk_after_change, IsFine, IsUndone, IsStatusRefusal, IsFaultOf};
 
 pub(crate) mod art;
 pub(crate) mod locking;
@@ -60,9 +60,9 @@ pub(crate) fn told(status: Status) -> Result<(), ShellFault>
 /// Makes a change on a drive.
 fn apply<M: Steady>(dos: &mut Dos<M>, change: &DiskChange<'_>) -> Result<(), ShellFault>
     ensures made { (m : Machine) → Stands M.seen dos.old m → MatchResult result
-        (λ _. IsFine (after_change change.now m).status × Stands M.seen dos.new (after_change change.now m))
+        (λ _. IsFine (disk_after_change change.now m).status × Stands M.seen dos.new (disk_after_change change.now m))
         (IsUndone change.now m) }
-    ensures refused { IfErr result IsRefusal }
+    ensures refused { IfErr result IsStatusRefusal }
     ensures medium { KeepsMedium (M.seen dos.old.medium) (M.seen dos.new.medium) }
 {
     match change {
@@ -98,8 +98,8 @@ pub(crate) fn require_sound<M: Medium>(volume: &Volume<M>) -> Result<(), ShellFa
 pub fn changed<M: Steady + Drop>(medium: M, change: &DiskChange<'_>) -> Result<M, ShellFault>
     ensures made { let old = M.seen medium in (d : Disk) → HoldsDisk old.tracks old.content d →
         let m = start d old.protected old.tracks in MatchResult result
-        (λ after. IsFine (after_change change.now m).status
-        × HoldsDisk (M.seen after).tracks (M.seen after).content (after_change change.now m).disk)
+        (λ after. IsFine (disk_after_change change.now m).status
+        × HoldsDisk (M.seen after).tracks (M.seen after).content (disk_after_change change.now m).disk)
         (IsUndone change.now m) }
     // Of any disk:
     ensures sound { let old = M.seen medium in

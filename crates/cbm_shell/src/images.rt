@@ -1,15 +1,15 @@
 //! What is done with the bytes of an image.
 ghost use Rattle.std.specs.Prelude.{◌≡◌, None, false, IfErr, IfOk, OnOk, MatchResult};
 ghost use Rattle.cbm_file.specs.Files.{Disk};
-ghost use Rattle.cbm_channel.specs.Machines.{start};
+ghost use Rattle.cbm_machine.specs.Machines.{start};
 ghost use Rattle.cbm_bam.specs.Map.{geometry_of};
 ghost use Rattle.cbm_image.specs.Images.{kind_of, image_fault, tracks_of, content_of, ImageHolds};
 ghost use Rattle.cbm_shell.specs.Reading.{Gets};
-ghost use Rattle.cbm_shell.specs.Listing.{IsListed, IsSent};
-ghost use Rattle.cbm_shell.specs.Changing.{after_change, IsFine};
-ghost use Rattle.cbm_shell.specs.Images.{IsOpened, IsSaved, IsOpenFault, IsFailed, IsLost, IsSoundImage, IsHidden, IsChecked, IsOrderly, IsInOrder, IsImageInOrder};
+ghost use Rattle.cbm_shell.specs.Listing.{IsListing, IsSent};
+ghost use Rattle.cbm_shell.specs.Changing.{disk_after_change, IsFine};
+ghost use Rattle.cbm_shell.specs.Images.{IsImageOpened, IsSaved, IsOpenFault, IsFailed, IsLost, IsSoundImage, IsHidden, IsChecked, IsOrderlyDisk, IsInOrder, IsImageInOrder};
 ghost use Rattle.cbm_volume.specs.Sweeps.{IsPutInOrder};
-ghost use Rattle.cbm_shell.specs.Freeing.{AreFreed, IsGivenBack};
+ghost use Rattle.cbm_shell.specs.Freeing.{AreFreed, AreGivenBack};
 
 pub(crate) mod converting;
 pub(crate) mod formats;
@@ -36,7 +36,7 @@ pub use wrapped::{Wrapped, unwrapped};
 /// The disk of an image. Errors: `Image` with the number of the format's first fault, `Memory`.
 pub(crate) fn opened<I: DiskImage>(alloc: Global, image: &[u8]) -> Result<I, ShellFault>
     requires { kind_of image.now ≡ I.kind }
-    ensures ok { IfOk result (λ disk. IsOpened image.now (I.seen disk)) }
+    ensures ok { IfOk result (λ disk. IsImageOpened image.now (I.seen disk)) }
     ensures err { IfErr result (IsOpenFault image.now) }
 {
     match I::open(alloc, image, false) {
@@ -63,7 +63,7 @@ fn change_in<I: DiskImage + Drop>(
     requires { kind_of image.now ≡ I.kind }
     ensures made { let kind = kind_of image.now in (d : Disk) → ImageHolds kind image.now d →
         let m = start d false (tracks_of kind image.now) in MatchResult result
-        (λ v. IsFine (after_change change.now m).status × ImageHolds kind v.items (after_change change.now m).disk)
+        (λ v. IsFine (disk_after_change change.now m).status × ImageHolds kind v.items (disk_after_change change.now m).disk)
         (IsFailed image.now change.now m) }
     ensures sound { OnOk result (IsSoundImage (kind_of image.now) image.now) }
     ensures opens { IfOk result (λ v. image_fault (kind_of image.now) v.items ≡ None) }
@@ -78,7 +78,7 @@ fn change_in<I: DiskImage + Drop>(
 pub fn change(alloc: Global, image: &[u8], change: &DiskChange<'_>) -> Result<Vec<u8>, ShellFault>
     ensures made { let kind = kind_of image.now in (d : Disk) → ImageHolds kind image.now d →
         let m = start d false (tracks_of kind image.now) in MatchResult result
-        (λ v. IsFine (after_change change.now m).status × ImageHolds kind v.items (after_change change.now m).disk)
+        (λ v. IsFine (disk_after_change change.now m).status × ImageHolds kind v.items (disk_after_change change.now m).disk)
         (IsFailed image.now change.now m) }
     // An image that isn't sound gives no new one.
     ensures sound { OnOk result (IsSoundImage (kind_of image.now) image.now) }
@@ -127,7 +127,7 @@ fn directory_in<I: DiskImage + Drop>(
     requires { kind_of image.now ≡ I.kind }
     ensures { let kind = kind_of image.now in (d : Disk) → ImageHolds kind image.now d →
         let m = start d false (tracks_of kind image.now) in
-        MatchResult result (λ v. IsListed charset pattern.now m v.items) (IsHidden image.now pattern.now m) }
+        MatchResult result (λ v. IsListing charset pattern.now m v.items) (IsHidden image.now pattern.now m) }
 {
     let mut dos = Dos::new(opened::<I>(alloc, image)?);
     list(alloc, &mut dos, charset, pattern)
@@ -143,7 +143,7 @@ pub fn directory(
 ) -> Result<Vec<u8>, ShellFault>
     ensures { let kind = kind_of image.now in (d : Disk) → ImageHolds kind image.now d →
         let m = start d false (tracks_of kind image.now) in
-        MatchResult result (λ v. IsListed charset pattern.now m v.items) (IsHidden image.now pattern.now m) }
+        MatchResult result (λ v. IsListing charset pattern.now m v.items) (IsHidden image.now pattern.now m) }
 {
     match kind_of(image) {
         Kind::D64 => directory_in::<D64Disk>(alloc, image, charset, pattern),
@@ -218,7 +218,7 @@ pub struct Order {
 fn validated<I: DiskImage + Drop>(alloc: Global, image: &[u8]) -> Result<I, ShellFault>
     requires { kind_of image.now ≡ I.kind }
     ensures tracks { IfOk result (λ disk. (I.seen disk).tracks ≡ tracks_of (kind_of image.now) image.now) }
-    ensures order { IfOk result (λ disk. IsOrderly (I.seen disk).tracks (I.seen disk).content) }
+    ensures order { IfOk result (λ disk. IsOrderlyDisk (I.seen disk).tracks (I.seen disk).content) }
     ensures changes { let kind = kind_of image.now in let content = content_of kind image.now in IfOk result (λ disk.
         IsPutInOrder (geometry_of (tracks_of kind image.now) content) content (I.seen disk).content) }
 {
@@ -249,7 +249,7 @@ fn validate_in<I: DiskImage + Drop>(alloc: Global, image: &[u8]) -> Result<Order
     ensures order { IfOk result (λ o. IsInOrder (kind_of image.now) o.image.items) }
     ensures changes { IfOk result (λ o. IsImageInOrder (kind_of image.now) image.now o.image.items) }
     ensures freed { IfOk result (λ o.
-        IsGivenBack (kind_of image.now) image.now o.image.items o.freed.blocks.items o.freed.takes_geos) }
+        AreGivenBack (kind_of image.now) image.now o.image.items o.freed.blocks.items o.freed.takes_geos) }
 {
     let new = validated::<I>(alloc, image)?;
     let freed = given_back(alloc, image, &new)?;
@@ -266,7 +266,7 @@ pub fn validate(alloc: Global, image: &[u8]) -> Result<Order, ShellFault>
     ensures changes { IfOk result (λ o. IsImageInOrder (kind_of image.now) image.now o.image.items) }
     // The blocks that it gives back are all reported, and whether GEOS uses one of them.
     ensures freed { IfOk result (λ o.
-        IsGivenBack (kind_of image.now) image.now o.image.items o.freed.blocks.items o.freed.takes_geos) }
+        AreGivenBack (kind_of image.now) image.now o.image.items o.freed.blocks.items o.freed.takes_geos) }
 {
     match kind_of(image) {
         Kind::D64 => validate_in::<D64Disk>(alloc, image),

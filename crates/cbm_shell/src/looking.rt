@@ -3,9 +3,9 @@ ghost use Rattle.std.specs.Prelude.{◌≡◌, ◌⊎◌, ℕ, List, None, Some,
 ghost use Rattle.cbm_file.specs.Files.{Disk};
 ghost use Rattle.cbm_directory.specs.Slots.{directory_of};
 ghost use Rattle.cbm_bam.specs.Map.{geometry_of};
-ghost use Rattle.cbm_volume.specs.Holding.{HasBytes, StandsAt};
+ghost use Rattle.cbm_volume.specs.Holding.{HasBytes, EntryStandsAt};
 ghost use Rattle.cbm_image.specs.Images.{kind_of, tracks_of, ImageHolds};
-ghost use Rattle.cbm_shell.specs.Converting.{held_by};
+ghost use Rattle.cbm_shell.specs.Converting.{content_held};
 ghost use Rattle.cbm_shell.specs.Images.{IsChecked, IsOpenFault, OrOpenFault};
 ghost use Rattle.cbm_shell.specs.Reading.{IsReadFault};
 ghost use Rattle.cbm_bam.specs.Marks.{is_marked};
@@ -50,10 +50,10 @@ use std::alloc::Global;
 /// The entries of an image's directory in order, those of empty slots too. Errors: `Image`; `Trouble` where the directory
 /// can't be followed to its end; `Memory`.
 pub fn entries(alloc: Global, image: &[u8]) -> Result<Vec<Entry>, ShellFault>
-    ensures ok { let content = held_by image.now in
+    ensures ok { let content = content_held image.now in
         IfOk result (λ v. directory_of (geometry_of (tracks_of (kind_of image.now) image.now) content) content
         ≡ (record { entries = v.items; trouble = None })) }
-    ensures err { let content = held_by image.now in IfErr result (λ fault. IsOpenFault image.now fault ⊎
+    ensures err { let content = content_held image.now in IfErr result (λ fault. IsOpenFault image.now fault ⊎
         IsReadFault (directory_of (geometry_of (tracks_of (kind_of image.now) image.now) content) content).trouble fault) }
 {
     let disk = OpenDisk::open(alloc, image)?;
@@ -65,7 +65,7 @@ pub fn entries(alloc: Global, image: &[u8]) -> Result<Vec<Entry>, ShellFault>
 pub fn file_of(alloc: Global, image: &[u8], entry: &Entry) -> Result<Vec<u8>, ShellFault>
     // A closed file without records on a sound disk is got byte for byte.
     ensures { let kind = kind_of image.now in (d : Disk) (n : ℕ) (bytes : List ℕ) → ImageHolds kind image.now d →
-        StandsAt (tracks_of kind image.now) (held_by image.now) n entry.now → HasBytes d n bytes →
+        EntryStandsAt (tracks_of kind image.now) (content_held image.now) n entry.now → HasBytes d n bytes →
         MatchResult result (λ v. v.items ≡ bytes) (OrOpenFault image.now (λ fault. fault ≡ ShellFault.Memory)) }
 {
     let disk = OpenDisk::open(alloc, image)?;
@@ -76,10 +76,10 @@ pub fn file_of(alloc: Global, image: &[u8], entry: &Entry) -> Result<Vec<u8>, Sh
 fn info_in<I: DiskImage + Drop>(alloc: Global, image: &[u8]) -> Result<Info, ShellFault>
     requires { kind_of image.now ≡ I.kind }
     ensures faults { IfOk result (λ info. info.unreadable.items
-        ≡ faults_in (held_by image.now) (tracks_of (kind_of image.now) image.now)) }
+        ≡ faults_in (content_held image.now) (tracks_of (kind_of image.now) image.now)) }
     ensures tracks { IfOk result (λ info. info.tracks ≡ tracks_of (kind_of image.now) image.now) }
     ensures check { IfOk result (λ info.
-        IsChecked (tracks_of (kind_of image.now) image.now) (held_by image.now) info.check) }
+        IsChecked (tracks_of (kind_of image.now) image.now) (content_held image.now) info.check) }
     ensures means { (d : Disk) → ImageHolds (kind_of image.now) image.now d →
         IfOk result (λ info. (info.label ≡ Some (record { title = d.title; mark = d.mark })) × (info.free ≡ Some d.free)) }
     ensures err { IfErr result (IsOpenFault image.now) }
@@ -93,10 +93,10 @@ fn info_in<I: DiskImage + Drop>(alloc: Global, image: &[u8]) -> Result<Info, She
 pub fn info(alloc: Global, image: &[u8]) -> Result<Info, ShellFault>
     // The sectors that don't read, in order.
     ensures faults { IfOk result (λ info. info.unreadable.items
-        ≡ faults_in (held_by image.now) (tracks_of (kind_of image.now) image.now)) }
+        ≡ faults_in (content_held image.now) (tracks_of (kind_of image.now) image.now)) }
     ensures tracks { IfOk result (λ info. info.tracks ≡ tracks_of (kind_of image.now) image.now) }
     ensures check { IfOk result (λ info.
-        IsChecked (tracks_of (kind_of image.now) image.now) (held_by image.now) info.check) }
+        IsChecked (tracks_of (kind_of image.now) image.now) (content_held image.now) info.check) }
     // Of a sound disk the title, the id, and how many blocks are free.
     ensures means { (d : Disk) → ImageHolds (kind_of image.now) image.now d →
         IfOk result (λ info. (info.label ≡ Some (record { title = d.title; mark = d.mark })) × (info.free ≡ Some d.free)) }
@@ -111,7 +111,7 @@ pub fn info(alloc: Global, image: &[u8]) -> Result<Info, ShellFault>
 /// A picture of the sectors in an image of one format.
 fn picture_in<I: DiskImage + Drop>(alloc: Global, image: &[u8]) -> Result<Vec<u8>, ShellFault>
     requires { kind_of image.now ≡ I.kind }
-    ensures ok { let content = held_by image.now in
+    ensures ok { let content = content_held image.now in
         IfOk result (λ v. v.items ≡ picture_of (geometry_of (tracks_of (kind_of image.now) image.now) content) content) }
     ensures err { IfErr result (IsOpenFault image.now) }
 {
@@ -122,7 +122,7 @@ fn picture_in<I: DiskImage + Drop>(alloc: Global, image: &[u8]) -> Result<Vec<u8
 /// A picture of an image's sectors, as lines: a sign for each sector, and what the signs mean. Errors: `Image`, `Memory`.
 pub fn picture(alloc: Global, image: &[u8]) -> Result<Vec<u8>, ShellFault>
     // A sector is shown as used exactly where the directory, its BAM or a closed file has it.
-    ensures ok { let content = held_by image.now in
+    ensures ok { let content = content_held image.now in
         IfOk result (λ v. v.items ≡ picture_of (geometry_of (tracks_of (kind_of image.now) image.now) content) content) }
     ensures err { IfErr result (IsOpenFault image.now) }
 {
@@ -139,7 +139,7 @@ fn geos_blocks_in<I: DiskImage + Drop>(
     entry: &Entry,
 ) -> Result<SectorSet, ShellFault>
     requires { kind_of image.now ≡ I.kind }
-    ensures ok { let content = held_by image.now in IfOk result (λ set. is_marked set
+    ensures ok { let content = content_held image.now in IfOk result (λ set. is_marked set
         ≡ is_among (geos_blocks (geometry_of (tracks_of (kind_of image.now) image.now) content) content entry.now)) }
     ensures err { IfErr result (IsOpenFault image.now) }
 {
@@ -151,7 +151,7 @@ fn geos_blocks_in<I: DiskImage + Drop>(
 /// The blocks that a file of GEOS has beside its chain: that of its info, and those of its records. None of another file.
 /// Errors: `Image`, `Memory`.
 pub fn geos_blocks(alloc: Global, image: &[u8], entry: &Entry) -> Result<SectorSet, ShellFault>
-    ensures ok { let content = held_by image.now in IfOk result (λ set. is_marked set
+    ensures ok { let content = content_held image.now in IfOk result (λ set. is_marked set
         ≡ is_among (geos_blocks (geometry_of (tracks_of (kind_of image.now) image.now) content) content entry.now)) }
     ensures err { IfErr result (IsOpenFault image.now) }
 {
@@ -168,7 +168,7 @@ fn file_blocks_in<I: DiskImage + Drop>(
     entry: &Entry,
 ) -> Result<SectorSet, ShellFault>
     requires { kind_of image.now ≡ I.kind }
-    ensures ok { let content = held_by image.now in IfOk result (λ set. is_marked set
+    ensures ok { let content = content_held image.now in IfOk result (λ set. is_marked set
         ≡ is_among (chain_of (geometry_of (tracks_of (kind_of image.now) image.now) content) content (first_block entry.now))) }
     ensures err { IfErr result (IsOpenFault image.now) }
 {
@@ -179,7 +179,7 @@ fn file_blocks_in<I: DiskImage + Drop>(
 
 /// The blocks of the chain of an entry's file, up to where it ends or breaks off. Errors: `Image`, `Memory`.
 pub fn file_blocks(alloc: Global, image: &[u8], entry: &Entry) -> Result<SectorSet, ShellFault>
-    ensures ok { let content = held_by image.now in IfOk result (λ set. is_marked set
+    ensures ok { let content = content_held image.now in IfOk result (λ set. is_marked set
         ≡ is_among (chain_of (geometry_of (tracks_of (kind_of image.now) image.now) content) content (first_block entry.now))) }
     ensures err { IfErr result (IsOpenFault image.now) }
 {
@@ -197,7 +197,7 @@ fn sector_in<I: DiskImage + Drop>(
 ) -> Result<Option<Result<[u8; 256], u8>>, ShellFault>
     requires { kind_of image.now ≡ I.kind }
     ensures ok { IfOk result (λ o. MatchOption o (tracks_of (kind_of image.now) image.now < at.track)
-        (λ cell. held_by image.now at ≡ cell)) }
+        (λ cell. content_held image.now at ≡ cell)) }
     ensures err { IfErr result (IsOpenFault image.now) }
 {
     let disk = opened::<I>(alloc, image)?;
@@ -218,7 +218,7 @@ pub fn sector(
     at: Address,
 ) -> Result<Option<Result<[u8; 256], u8>>, ShellFault>
     ensures ok { IfOk result (λ o. MatchOption o (tracks_of (kind_of image.now) image.now < at.track)
-        (λ cell. held_by image.now at ≡ cell)) }
+        (λ cell. content_held image.now at ≡ cell)) }
     ensures err { IfErr result (IsOpenFault image.now) }
 {
     match kind_of(image) {

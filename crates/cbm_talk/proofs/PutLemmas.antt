@@ -1,8 +1,8 @@
 -- Bytes that are put one after another.
 use Rattle.std.proofs.Common.{◌≡◌, ℕ, List, [], ◌∷◌, ap, ◌∙◌, sym, subst, suc, ◌+◌, ◌<◌, length, drop, slice_index, arith}
 use Rattle.std.proofs.Math.Seq.{drop-cons}
-use Rattle.cbm_channel.specs.Machines.{Machine}
-use Rattle.cbm_channel.specs.Calls.{put}
+use Rattle.cbm_machine.specs.Machines.{Machine}
+use Rattle.cbm_machine.specs.Calls.{put}
 use Rattle.cbm_talk.specs.Talks.{puts}
 
 -- a machine stands, from which the bytes that are left lead to the whole's machine

@@ -1,12 +1,12 @@
 -- What a channel sends, byte by byte.
 use Rattle.std.proofs.Common.{◌≡◌, ℕ, suc, List, [], ◌∷◌, ◌++◌, Some, None, Bool, true, false, refl, ap, sym, ◌∙◌, subst}
-use Rattle.cbm_channel.specs.Machines.{Machine}
-use Rattle.cbm_channel.specs.Talking.{peek, taken, talk}
-use Rattle.cbm_talk.specs.Talks.{Said, says, talked}
+use Rattle.cbm_machine.specs.Machines.{Machine}
+use Rattle.cbm_machine.specs.Talking.{peek, taken, after_talk}
+use Rattle.cbm_talk.specs.Talks.{TalkSaid, says, talked}
 use Rattle.cbm_talk.proofs.Spoken.{says_from, says-suc}
 
 -- a machine stands, from which what is said is the whole
-pub record Saying (now : Machine → Type 0) (whole : Said) (left ch : ℕ) (so_far : List ℕ) : Type 0 where
+pub record Saying (now : Machine → Type 0) (whole : TalkSaid) (left ch : ℕ) (so_far : List ℕ) : Type 0 where
   pub machine : Machine
   pub stands : now machine
   pub same : whole ≡ says left ch so_far machine
@@ -15,8 +15,8 @@ pub record Saying (now : Machine → Type 0) (whole : Said) (left ch : ℕ) (so_
 abbrev pub Sends : (Machine → Type 0) → (Machine → Type 0) → ℕ → ℕ → ℕ → List ℕ → Type 0
 Sends stood now most left ch so_far = (m : Machine) → stood m → Saying now (talked ch most m) left ch so_far
 
-pub sends-start : (stood now : Machine → Type 0) (most left ch : ℕ) → ((m : Machine) → stood m → now (talk ch m)) → left ≡ most → Sends stood now most left ch []
-sends-start stood now most left ch talks e m s = record { machine = talk ch m; stands = talks m s; same = subst (λ n. talked ch most m ≡ says n ch [] (talk ch m)) (sym e) refl }
+pub sends-start : (stood now : Machine → Type 0) (most left ch : ℕ) → ((m : Machine) → stood m → now (after_talk ch m)) → left ≡ most → Sends stood now most left ch []
+sends-start stood now most left ch talks e m s = record { machine = after_talk ch m; stands = talks m s; same = subst (λ n. talked ch most m ≡ says n ch [] (after_talk ch m)) (sym e) refl }
 
 -- a byte that isn't the last
 pub sends-more : (stood now next : Machine → Type 0) (most left less ch b : ℕ) (last : Bool) (so_far items : List ℕ) → Sends stood now most left ch so_far
@@ -39,7 +39,7 @@ pub sends-last : (stood now : Machine → Type 0) (most left less ch b : ℕ) (l
 sends-last stood now most left less ch b last so_far items g peeks end i l m s =
     let o = g m s in
     let p : peek ch o.machine ≡ Some (b, true) = sym (peeks o.machine o.stands) ∙ ap (λ v. Some (b, v)) end in
-    i ∙ sym (ap (λ (t : Said). t.bytes) (o.same ∙ (ap (λ n. says n ch so_far o.machine) l ∙ (says-suc less ch so_far o.machine
+    i ∙ sym (ap (λ (t : TalkSaid). t.bytes) (o.same ∙ (ap (λ n. says n ch so_far o.machine) l ∙ (says-suc less ch so_far o.machine
     ∙ ap (λ q. says_from q less ch so_far o.machine) p))))
 
 -- no byte waits
@@ -47,10 +47,10 @@ pub sends-none : (stood now : Machine → Type 0) (most left less ch : ℕ) (so_
     → ((m : Machine) → now m → None ≡ peek ch m) → left ≡ suc less → (m : Machine) → stood m → so_far ≡ (talked ch most m).bytes
 sends-none stood now most left less ch so_far g peeks l m s =
     let o = g m s in
-    sym (ap (λ (t : Said). t.bytes) (o.same ∙ (ap (λ n. says n ch so_far o.machine) l ∙ (says-suc less ch so_far o.machine
+    sym (ap (λ (t : TalkSaid). t.bytes) (o.same ∙ (ap (λ n. says n ch so_far o.machine) l ∙ (says-suc less ch so_far o.machine
     ∙ ap (λ q. says_from q less ch so_far o.machine) (sym (peeks o.machine o.stands))))))
 
 -- no more bytes are asked for
 pub sends-over : (stood now : Machine → Type 0) (most left ch : ℕ) (so_far : List ℕ) → Sends stood now most left ch so_far → left ≡ 0
     → (m : Machine) → stood m → so_far ≡ (talked ch most m).bytes
-sends-over stood now most left ch so_far g l m s = let o = g m s in sym (ap (λ (t : Said). t.bytes) (o.same ∙ ap (λ n. says n ch so_far o.machine) l))
+sends-over stood now most left ch so_far g l m s = let o = g m s in sym (ap (λ (t : TalkSaid). t.bytes) (o.same ∙ ap (λ n. says n ch so_far o.machine) l))

@@ -1,11 +1,11 @@
 -- What a channel says from a byte on.
 use Rattle.std.proofs.Common.{◌≡◌, ℕ, zero, suc, List, [], ◌∷◌, ◌++◌, Option, Some, None, refl, ap, true, false, Bool, if◌then◌else◌}
-use Rattle.cbm_channel.specs.Machines.{Machine}
-use Rattle.cbm_channel.specs.Talking.{peek, taken}
-use Rattle.cbm_talk.specs.Talks.{Said, says}
+use Rattle.cbm_machine.specs.Machines.{Machine}
+use Rattle.cbm_machine.specs.Talking.{peek, taken}
+use Rattle.cbm_talk.specs.Talks.{TalkSaid, says}
 
 -- by the byte that waits
-abbrev pub says_from : Option (ℕ × Bool) → ℕ → ℕ → List ℕ → Machine → Said
+abbrev pub says_from : Option (ℕ × Bool) → ℕ → ℕ → List ℕ → Machine → TalkSaid
 says_from p n ch so_far m = elim p [
   | None ↦ record { bytes = so_far; marked = false; machine = m }
   | Some p ↦

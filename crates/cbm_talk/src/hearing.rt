@@ -2,7 +2,7 @@
 ghost use Rattle.std.specs.Prelude.{◌≤◌};
 ghost use Rattle.cbm_channel.specs.Standing.{Leads};
 ghost use Rattle.cbm_channel.specs.Going.{KeepsMedium};
-ghost use Rattle.cbm_talk.specs.Talks.{puts, hear};
+ghost use Rattle.cbm_talk.specs.Talks.{puts, hear_bytes};
 
 use cbm_channel::Dos;
 use cbm_medium::Steady;
@@ -21,7 +21,7 @@ fn put_each<M: Steady>(dos: &mut Dos<M>, channel: u8, bytes: &[u8])
 /// Sends the bytes to a channel, between LISTEN and UNLISTEN.
 pub fn hear<M: Steady>(dos: &mut Dos<M>, channel: u8, bytes: &[u8])
     requires { channel ≤ 15 }
-    ensures leads { Leads M.seen dos.old dos.new (hear channel bytes.now) }
+    ensures leads { Leads M.seen dos.old dos.new (hear_bytes channel bytes.now) }
     ensures medium { KeepsMedium (M.seen dos.old.medium) (M.seen dos.new.medium) }
 {
     dos.listen(channel);

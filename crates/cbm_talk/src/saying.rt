@@ -1,6 +1,6 @@
 //! Taking bytes from a channel.
 ghost use Rattle.std.specs.Prelude.{◌≡◌, ◌≤◌, ◌++◌, IfOk};
-ghost use Rattle.cbm_channel.specs.Machines.{Machine};
+ghost use Rattle.cbm_machine.specs.Machines.{Machine};
 ghost use Rattle.cbm_channel.specs.Standing.{Stands};
 ghost use Rattle.cbm_talk.specs.Talks.{talked};
 

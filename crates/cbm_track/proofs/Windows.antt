@@ -6,47 +6,47 @@ use Rattle.std.proofs.Math.Nat.{mod-eq_of_lt}
 use Rattle.std.proofs.lemmas.Nat.{shr-shr, shr_split, leading_length, le_or_l, le_or_r}
 use Rattle.std.proofs.lemmas.Nat.Bits.{bit_at_and, bit_at_cat_low, bit_at_cat_high, bit_at-zero, bit_at_above, bit_at_not, bit_at-lt}
 use Rattle.std.proofs.lemmas.Bool.{cases_Bool, cases_lt}
-use Rattle.cbm_track.specs.Circle.{bits_of, bit, ten_ones}
-use Rattle.cbm_track.specs.Words.{number, round_byte, eight, Marks, IsWindow}
+use Rattle.cbm_track.specs.Circle.{circle_bits_of, circle_bit, ten_ones}
+use Rattle.cbm_track.specs.Words.{number_from, round_byte, eight, Marks, IsWindow}
 use Rattle.cbm_track.proofs.Bytes.{length-bits_of, bit_at_byte}
 use Rattle.cbm_track.proofs.Places.{bit_round, bit_below}
 use Rattle.cbm_track.proofs.Round.{ten_ones_at}
 
 -- the bits of a number in front of bytes stand above theirs
-number_high : (front : ℕ) (xs : List ℕ) (i : ℕ) → ((k : ℕ) → get_or xs k 0 < 256) → bit_at (number front xs) (8 * length xs + i) ≡ bit_at front i
+number_high : (front : ℕ) (xs : List ℕ) (i : ℕ) → ((k : ℕ) → get_or xs k 0 < 256) → bit_at (number_from front xs) (8 * length xs + i) ≡ bit_at front i
 number_high front [] i h = ap (bit_at front) (omega arith)
 number_high front (x ∷ xs) i h =
-    ap (bit_at (number (front * 256 + x) xs)) (omega arith)
+    ap (bit_at (number_from (front * 256 + x) xs)) (omega arith)
     ∙ number_high (front * 256 + x) xs (8 + i) (λ k. h (suc k))
     ∙ bit_at_cat_high front 8 x (8 + i) (h 0) (omega arith)
     ∙ ap (bit_at front) (omega arith)
 
 -- bit i of byte k
-number_bit : (front : ℕ) (xs : List ℕ) (k i : ℕ) → ((j : ℕ) → get_or xs j 0 < 256) → k < length xs → i < 8 → bit_at (number front xs) (8 * (length xs - 1 - k) + i) ≡ bit_at (get_or xs k 0) i
+number_bit : (front : ℕ) (xs : List ℕ) (k i : ℕ) → ((j : ℕ) → get_or xs j 0 < 256) → k < length xs → i < 8 → bit_at (number_from front xs) (8 * (length xs - 1 - k) + i) ≡ bit_at (get_or xs k 0) i
 number_bit front [] k i h l b = absurd (omega arith)
 number_bit front (x ∷ xs) zero i h l b =
-    ap (bit_at (number (front * 256 + x) xs)) (omega arith)
+    ap (bit_at (number_from (front * 256 + x) xs)) (omega arith)
     ∙ number_high (front * 256 + x) xs i (λ j. h (suc j))
     ∙ bit_at_cat_low front 8 x i b
 number_bit front (x ∷ xs) (suc k) i h l b =
-    ap (bit_at (number (front * 256 + x) xs)) (omega arith)
+    ap (bit_at (number_from (front * 256 + x) xs)) (omega arith)
     ∙ number_bit (front * 256 + x) xs k i (λ j. h (suc j)) (omega arith) b
 
 -- whole rounds are no way
-bit_rounds : (t : List Bool) (m p : ℕ) → bit t (p + m * length t) ≡ bit t p
-bit_rounds t zero p = ap (bit t) (omega arith)
-bit_rounds t (suc m) p = (let e : p + suc m * length t ≡ (p + m * length t) + length t = omega arith in ap (bit t) e) ∙ bit_round t (p + m * length t) ∙ bit_rounds t m p
+bit_rounds : (t : List Bool) (m p : ℕ) → circle_bit t (p + m * length t) ≡ circle_bit t p
+bit_rounds t zero p = ap (circle_bit t) (omega arith)
+bit_rounds t (suc m) p = (let e : p + suc m * length t ≡ (p + m * length t) + length t = omega arith in ap (circle_bit t) e) ∙ bit_round t (p + m * length t) ∙ bit_rounds t m p
 
 -- bit r of the byte at a place of the circle
-round_bit : (xs : List ℕ) (a r : ℕ) → 0 < length xs → r < 8 → (bit_at (round_byte xs a) (7 - r) == 1) ≡ bit (bits_of xs) (8 * a + r)
+round_bit : (xs : List ℕ) (a r : ℕ) → 0 < length xs → r < 8 → (bit_at (round_byte xs a) (7 - r) == 1) ≡ circle_bit (circle_bits_of xs) (8 * a + r)
 round_bit xs a r h b =
     let below : a % length xs < length xs = omega arith in
     let whole : 8 * a + r ≡ (8 * (a % length xs) + r) + (a / length xs) * (8 * length xs) = omega arith in
     sym (bit_at_byte xs (a % length xs) r below b)
-    ∙ sym (bit_below (bits_of xs) (8 * (a % length xs) + r) (omega (arith, length-bits_of xs)))
-    ∙ sym (bit_rounds (bits_of xs) (a / length xs) (8 * (a % length xs) + r))
-    ∙ ap (λ (n : ℕ). bit (bits_of xs) ((8 * (a % length xs) + r) + (a / length xs) * n)) (length-bits_of xs)
-    ∙ ap (bit (bits_of xs)) (sym whole)
+    ∙ sym (bit_below (circle_bits_of xs) (8 * (a % length xs) + r) (omega (arith, length-bits_of xs)))
+    ∙ sym (bit_rounds (circle_bits_of xs) (a / length xs) (8 * (a % length xs) + r))
+    ∙ ap (λ (n : ℕ). circle_bit (circle_bits_of xs) ((8 * (a % length xs) + r) + (a / length xs) * n)) (length-bits_of xs)
+    ∙ ap (circle_bit (circle_bits_of xs)) (sym whole)
 
 eight_at : (xs : List ℕ) (i k : ℕ) → k < 8 → get_or (eight xs i) k 0 ≡ round_byte xs (i + k)
 unfolding eight
@@ -77,15 +77,15 @@ unfolding eight
 eight_length xs i = refl
 
 -- the bits of eight bytes in a row, the first one highest
-eight_bit : (xs : List ℕ) (i m : ℕ) → 0 < length xs → ((j : ℕ) → get_or xs j 0 < 256) → m < 64 → (bit_at (number 0 (eight xs i)) (63 - m) == 1) ≡ bit (bits_of xs) (8 * i + m)
+eight_bit : (xs : List ℕ) (i m : ℕ) → 0 < length xs → ((j : ℕ) → get_or xs j 0 < 256) → m < 64 → (bit_at (number_from 0 (eight xs i)) (63 - m) == 1) ≡ circle_bit (circle_bits_of xs) (8 * i + m)
 eight_bit xs i m z h l =
     let k : ℕ = m / 8 in
     let r : ℕ = m % 8 in
-    ap (λ (n : ℕ). bit_at (number 0 (eight xs i)) n == 1) (let e : 63 - m ≡ 8 * (length (eight xs i) - 1 - m / 8) + (7 - m % 8) = omega (arith, eight_length xs i) in e)
+    ap (λ (n : ℕ). bit_at (number_from 0 (eight xs i)) n == 1) (let e : 63 - m ≡ 8 * (length (eight xs i) - 1 - m / 8) + (7 - m % 8) = omega (arith, eight_length xs i) in e)
     ∙ ap (λ (n : ℕ). n == 1) (number_bit 0 (eight xs i) (m / 8) (7 - m % 8) (λ j. eight_below xs i j h) (omega (arith, eight_length xs i)) (omega arith))
     ∙ ap (λ (x : ℕ). bit_at x (7 - m % 8) == 1) (eight_at xs i (m / 8) (omega arith))
     ∙ round_bit xs (i + m / 8) (m % 8) z (omega arith)
-    ∙ ap (bit (bits_of xs)) (let e : 8 * (i + m / 8) + m % 8 ≡ 8 * i + m = omega arith in e)
+    ∙ ap (circle_bit (circle_bits_of xs)) (let e : 8 * (i + m / 8) + m % 8 ≡ 8 * i + m = omega arith in e)
 
 -- a bit of a number that was moved up within 64 bits
 moved_bit : (n s i : ℕ) → s ≤ i → i < 64 → bit_at (n * 2 ^ s % 2 ^ 64) i ≡ bit_at n (i - s)
@@ -101,12 +101,12 @@ moved_bit n s i h l =
 
 -- the bits of the circle from a place on, in the top of a number
 pub window_bit : (xs : List ℕ) (place j : ℕ) → 0 < length xs → ((k : ℕ) → get_or xs k 0 < 256) → j < 64 - place % 8
-    → (bit_at (number 0 (eight xs (place / 8)) * 2 ^ (place % 8) % 2 ^ 64) (63 - j) == 1) ≡ bit (bits_of xs) (place + j)
+    → (bit_at (number_from 0 (eight xs (place / 8)) * 2 ^ (place % 8) % 2 ^ 64) (63 - j) == 1) ≡ circle_bit (circle_bits_of xs) (place + j)
 window_bit xs place j z h l =
-    ap (λ (n : ℕ). n == 1) (moved_bit (number 0 (eight xs (place / 8))) (place % 8) (63 - j) (omega arith) (omega arith))
-    ∙ ap (λ (n : ℕ). bit_at (number 0 (eight xs (place / 8))) n == 1) (let e : 63 - j - place % 8 ≡ 63 - (place % 8 + j) = omega arith in e)
+    ap (λ (n : ℕ). n == 1) (moved_bit (number_from 0 (eight xs (place / 8))) (place % 8) (63 - j) (omega arith) (omega arith))
+    ∙ ap (λ (n : ℕ). bit_at (number_from 0 (eight xs (place / 8))) n == 1) (let e : 63 - j - place % 8 ≡ 63 - (place % 8 + j) = omega arith in e)
     ∙ eight_bit xs (place / 8) (place % 8 + j) z h (omega arith)
-    ∙ ap (bit (bits_of xs)) (let e : 8 * (place / 8) + (place % 8 + j) ≡ place + j = omega arith in e)
+    ∙ ap (circle_bit (circle_bits_of xs)) (let e : 8 * (place / 8) + (place % 8 + j) ≡ place + j = omega arith in e)
 
 pub marks_one : (word : ℕ) → Marks word word 1
 marks_one word i h = ap (bit_at word) (omega arith) ∙ h 0 (omega arith)
@@ -130,15 +130,15 @@ eight_inside xs i h = list8 _ _ _ _ _ _ _ _ _ _ _ _ _ _ _ _ (at i (omega arith))
     at : (k : ℕ) → k < length xs → get_or xs k 0 ≡ round_byte xs k
     at k l = ap (λ (n : ℕ). get_or xs n 0) (sym (mod-eq_of_lt l))
 
-pub be_number : (a b c d e f g h : ℕ) → from_be_bytes w64 (a ∷ b ∷ c ∷ d ∷ e ∷ f ∷ g ∷ h ∷ []) ≡ number 0 (a ∷ b ∷ c ∷ d ∷ e ∷ f ∷ g ∷ h ∷ [])
+pub be_number : (a b c d e f g h : ℕ) → from_be_bytes w64 (a ∷ b ∷ c ∷ d ∷ e ∷ f ∷ g ∷ h ∷ []) ≡ number_from 0 (a ∷ b ∷ c ∷ d ∷ e ∷ f ∷ g ∷ h ∷ [])
 be_number a b c d e f g h = omega arith
 
-pub be_eight : (xs bytes : List ℕ) (i : ℕ) → bytes ≡ eight xs i → from_be_bytes w64 bytes ≡ number 0 (eight xs i)
+pub be_eight : (xs bytes : List ℕ) (i : ℕ) → bytes ≡ eight xs i → from_be_bytes w64 bytes ≡ number_from 0 (eight xs i)
 unfolding eight
 be_eight xs bytes i e = ap (from_be_bytes w64) e ∙ be_number _ _ _ _ _ _ _ _
 
 -- a bit of a window that is a one
-window_one : (t : List Bool) (place word m : ℕ) → IsWindow t place word → m < 64 - place % 8 → bit t (place + m) ≡ true → bit_at word (63 - m) ≡ 1
+window_one : (t : List Bool) (place word m : ℕ) → IsWindow t place word → m < 64 - place % 8 → circle_bit t (place + m) ≡ true → bit_at word (63 - m) ≡ 1
 window_one t place word m w l h = eqb-true (bit_at word (63 - m)) 1 (w m l ∙ h)
 
 -- no ten ones begin where no nine are marked
@@ -147,7 +147,7 @@ plain_there t place word marks j w m l z = elim (cases_Bool (ten_ones t (place +
   | inl e ↦ absurd (let one : bit_at marks (55 - j) ≡ 1 = m (55 - j) (λ k b.
       ap (bit_at word) (let q : 55 - j + k ≡ 63 - (8 - k + j) = omega arith in q)
       ∙ window_one t place word (8 - k + j) w (omega arith)
-      ((let q : place + (8 - k + j) ≡ place + j + (8 - k) = omega arith in ap (bit t) q) ∙ ten_ones_at t (place + j) (8 - k) e (omega arith))) in
+      ((let q : place + (8 - k + j) ≡ place + j + (8 - k) = omega arith in ap (circle_bit t) q) ∙ ten_ones_at t (place + j) (8 - k) e (omega arith))) in
       omega (arith, sym z ∙ one))
   | inr e ↦ e
 ]
@@ -171,7 +171,7 @@ twice : (k : ℕ) → 2 ^ suc k ≡ 2 * 2 ^ k
 twice k = omega arith
 
 -- the ones that begin a window
-pub leads : (t : List Bool) (place word j : ℕ) → IsWindow t place word → word < 2 ^ 64 → j < 64 - place % 8 → j < leading_ones w64 word → bit t (place + j) ≡ true
+pub leads : (t : List Bool) (place word j : ℕ) → IsWindow t place word → word < 2 ^ 64 → j < 64 - place % 8 → j < leading_ones w64 word → circle_bit t (place + j) ≡ true
 leads t place word j w b l h =
     let top = leading_length 64 (bit_not w64 word) (omega arith) in
     let sum : count_leading_zeros 64 (bit_not w64 word) + top.0 ≡ 64 = top.1 in
@@ -182,7 +182,7 @@ leads t place word j w b l h =
     sym (w j l) ∙ eq-eqb (bit_at word (63 - j)) 1 one
 
 -- and the zero behind them
-pub ends : (t : List Bool) (place word : ℕ) → IsWindow t place word → word < 2 ^ 64 → leading_ones w64 word < 64 - place % 8 → bit t (place + leading_ones w64 word) ≡ false
+pub ends : (t : List Bool) (place word : ℕ) → IsWindow t place word → word < 2 ^ 64 → leading_ones w64 word < 64 - place % 8 → circle_bit t (place + leading_ones w64 word) ≡ false
 ends t place word w b h =
     let top = leading_length 64 (bit_not w64 word) (omega arith) in
     let sum : count_leading_zeros 64 (bit_not w64 word) + top.0 ≡ 64 = top.1 in
@@ -196,31 +196,31 @@ ends t place word w b h =
     sym (w (leading_ones w64 word) h) ∙ ap (λ (n : ℕ). n == 1) zero_there
 
 -- no ten ones begin in seven bytes where no nine are marked in eight
-pub plain_word : (xs : List ℕ) (i word marks j : ℕ) → 0 < length xs → ((k : ℕ) → get_or xs k 0 < 256) → word ≡ number 0 (eight xs i) → Marks word marks 9 → marks ≡ 0 → j < 56 → ten_ones (bits_of xs) (8 * i + j) ≡ false
+pub plain_word : (xs : List ℕ) (i word marks j : ℕ) → 0 < length xs → ((k : ℕ) → get_or xs k 0 < 256) → word ≡ number_from 0 (eight xs i) → Marks word marks 9 → marks ≡ 0 → j < 56 → ten_ones (circle_bits_of xs) (8 * i + j) ≡ false
 plain_word xs i word marks j z h e m n l =
-    plain_all (bits_of xs) (8 * i) word marks j
+    plain_all (circle_bits_of xs) (8 * i) word marks j
     (λ k b. ap (λ (w : ℕ). bit_at w (63 - k) == 1) e ∙ eight_bit xs i k z h (omega arith))
     m (omega arith) n
 
 -- two of them, one behind the other
-pub plain_two : (xs : List ℕ) (from i a b x y j : ℕ) → 0 < length xs → ((k : ℕ) → get_or xs k 0 < 256) → from ≤ i → ((k : ℕ) → k < 8 * (i - from) → ten_ones (bits_of xs) (8 * from + k) ≡ false)
-    → a ≡ number 0 (eight xs i) → b ≡ number 0 (eight xs (i + 7)) → Marks a x 9 → Marks b y 9 → bit_or x y ≡ 0 → j < 8 * (i + 14 - from) → ten_ones (bits_of xs) (8 * from + j) ≡ false
+pub plain_two : (xs : List ℕ) (from i a b x y j : ℕ) → 0 < length xs → ((k : ℕ) → get_or xs k 0 < 256) → from ≤ i → ((k : ℕ) → k < 8 * (i - from) → ten_ones (circle_bits_of xs) (8 * from + k) ≡ false)
+    → a ≡ number_from 0 (eight xs i) → b ≡ number_from 0 (eight xs (i + 7)) → Marks a x 9 → Marks b y 9 → bit_or x y ≡ 0 → j < 8 * (i + 14 - from) → ten_ones (circle_bits_of xs) (8 * from + j) ≡ false
 plain_two xs from i a b x y j z h f none e g m n o l = elim (cases_lt j (8 * (i - from))) [
   | inl old ↦ none j old
   | inr new ↦ elim (cases_lt j (8 * (i - from) + 56)) [
-    | inl first ↦ (let q : 8 * from + j ≡ 8 * i + (j - 8 * (i - from)) = omega arith in ap (ten_ones (bits_of xs)) q)
+    | inl first ↦ (let q : 8 * from + j ≡ 8 * i + (j - 8 * (i - from)) = omega arith in ap (ten_ones (circle_bits_of xs)) q)
         ∙ plain_word xs i a x (j - 8 * (i - from)) z h e m (omega (arith, le_or_l x y, o)) (omega arith)
-    | inr second ↦ (let q : 8 * from + j ≡ 8 * (i + 7) + (j - 8 * (i - from) - 56) = omega arith in ap (ten_ones (bits_of xs)) q)
+    | inr second ↦ (let q : 8 * from + j ≡ 8 * (i + 7) + (j - 8 * (i - from) - 56) = omega arith in ap (ten_ones (circle_bits_of xs)) q)
         ∙ plain_word xs (i + 7) b y (j - 8 * (i - from) - 56) z h g n (omega (arith, le_or_r x y, o)) (omega arith)
   ]
 ]
 
 -- one of them
-pub plain_one : (xs : List ℕ) (from i word marks j : ℕ) → 0 < length xs → ((k : ℕ) → get_or xs k 0 < 256) → from ≤ i → ((k : ℕ) → k < 8 * (i - from) → ten_ones (bits_of xs) (8 * from + k) ≡ false)
-    → word ≡ number 0 (eight xs i) → Marks word marks 9 → marks ≡ 0 → j < 8 * (i + 7 - from) → ten_ones (bits_of xs) (8 * from + j) ≡ false
+pub plain_one : (xs : List ℕ) (from i word marks j : ℕ) → 0 < length xs → ((k : ℕ) → get_or xs k 0 < 256) → from ≤ i → ((k : ℕ) → k < 8 * (i - from) → ten_ones (circle_bits_of xs) (8 * from + k) ≡ false)
+    → word ≡ number_from 0 (eight xs i) → Marks word marks 9 → marks ≡ 0 → j < 8 * (i + 7 - from) → ten_ones (circle_bits_of xs) (8 * from + j) ≡ false
 plain_one xs from i word marks j z h f none e m n l = elim (cases_lt j (8 * (i - from))) [
   | inl old ↦ none j old
-  | inr new ↦ (let q : 8 * from + j ≡ 8 * i + (j - 8 * (i - from)) = omega arith in ap (ten_ones (bits_of xs)) q)
+  | inr new ↦ (let q : 8 * from + j ≡ 8 * i + (j - 8 * (i - from)) = omega arith in ap (ten_ones (circle_bits_of xs)) q)
       ∙ plain_word xs i word marks (j - 8 * (i - from)) z h e m n (omega arith)
 ]
 

@@ -1,12 +1,12 @@
 -- Eight bytes of a circle as one number.
 use Rattle.std.specs.Prelude.{ℕ, ◌≡◌, ◌<◌, ◌+◌, ◌*◌, ◌-◌, ◌%◌, List, [], ◌∷◌, Bool, ◌==◌, length, slice_index}
 use Rattle.std.specs.Int.{bit_at}
-use Rattle.cbm_track.specs.Circle.{bit}
+use Rattle.cbm_track.specs.Circle.{circle_bit}
 
 -- bytes as the digits of a number that begins with another, the highest first
-abbrev pub number : ℕ → List ℕ → ℕ
-number front [] = front
-number front (byte ∷ bytes) = number (front * 256 + byte) bytes
+abbrev pub number_from : ℕ → List ℕ → ℕ
+number_from front [] = front
+number_from front (byte ∷ bytes) = number_from (front * 256 + byte) bytes
 
 -- the byte at a place of a circle of bytes
 abbrev pub round_byte : List ℕ → ℕ → ℕ
@@ -22,4 +22,4 @@ Marks word marks n = (i : ℕ) → ((k : ℕ) → k < n → bit_at word (i + k) 
 
 -- the highest bits of a number are those from a place of a circle on, up to the end of the eighth byte
 abbrev pub IsWindow : List Bool → ℕ → ℕ → Type 0
-IsWindow track place word = (j : ℕ) → j < 64 - place % 8 → (bit_at word (63 - j) == 1) ≡ bit track (place + j)
+IsWindow track place word = (j : ℕ) → j < 64 - place % 8 → (bit_at word (63 - j) == 1) ≡ circle_bit track (place + j)

@@ -1,5 +1,5 @@
 ghost use Rattle.std.specs.Prelude.{◌≡◌, ℕ, ◌<◌, ◌≤◌, ◌+◌, ◌*◌, ◌-◌, ◌%◌, false, length, IfSome};
-ghost use Rattle.cbm_track.specs.Circle.{bits_of, first_below, is_clear, next_block, ten_ones};
+ghost use Rattle.cbm_track.specs.Circle.{circle_bits_of, first_below, is_clear, next_block, ten_ones};
 
 use crate::bits::{bit_of, rounded, wrapped};
 use crate::words::{run_at, step_at};
@@ -11,8 +11,8 @@ fn first_ten(track: &[u8], place: usize, known: usize, count: usize) -> Option<u
     requires size { length track.now ≤ 7928 }
     requires few { count ≤ 65536 }
     requires known { known ≤ 10 }
-    requires none { (j : ℕ) → j < known → ten_ones (bits_of track.now) (place + j) ≡ false }
-    ensures value { result ≡ first_below (λ k. ten_ones (bits_of track.now) (place + k)) count }
+    requires none { (j : ℕ) → j < known → ten_ones (circle_bits_of track.now) (place + j) ≡ false }
+    ensures value { result ≡ first_below (λ k. ten_ones (circle_bits_of track.now) (place + k)) count }
     ensures below { IfSome result (λ k. k < count) }
 {
     let bits = 8 * track.len();
@@ -33,7 +33,7 @@ pub(crate) fn is_clear(track: &[u8], place: usize, count: usize) -> bool
     requires place { place < 8 * length track.now }
     requires size { length track.now ≤ 7928 }
     requires few { count ≤ 65536 }
-    ensures { result ≡ is_clear (bits_of track.now) place count }
+    ensures { result ≡ is_clear (circle_bits_of track.now) place count }
 {
     first_ten(track, place, 0, count).is_none()
 }
@@ -57,7 +57,7 @@ fn ruled_out(track: &[u8], place: usize) -> usize
     requires place { place < 8 * length track.now }
     requires size { length track.now ≤ 7928 }
     ensures most { result ≤ 10 }
-    ensures none { (j : ℕ) → j < result → ten_ones (bits_of track.now) (place + j) ≡ false }
+    ensures none { (j : ℕ) → j < result → ten_ones (circle_bits_of track.now) (place + j) ≡ false }
 {
     if bit_of(track, rounded(place + 9, 8 * track.len())) {
         return 0;
@@ -70,7 +70,7 @@ fn ruled_out(track: &[u8], place: usize) -> usize
 pub(crate) fn next_place(track: &[u8], from: usize) -> Option<usize>
     requires place { from < 8 * length track.now }
     requires size { length track.now ≤ 7928 }
-    ensures value { result ≡ next_block (bits_of track.now) from }
+    ensures value { result ≡ next_block (circle_bits_of track.now) from }
     ensures below { IfSome result (λ p. p < 8 * length track.now) }
 {
     let bits = 8 * track.len();

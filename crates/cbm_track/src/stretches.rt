@@ -1,13 +1,13 @@
 ghost use Rattle.std.specs.Prelude.{◌≡◌, ℕ, ◌<◌, ◌≤◌, ◌+◌, ◌-◌, ◌*◌, [], ◌∷◌};
 ghost use Rattle.std.specs.Prelude.{drop, false, length, slice_index_or, take};
-ghost use Rattle.cbm_track.specs.Circle.{bits, bits_of, bit, stretch};
+ghost use Rattle.cbm_track.specs.Circle.{circle_bits, circle_bits_of, circle_bit, stretch};
 
 use crate::bits::wrapped;
 
 /// The eight bits from a bit of the first of two bytes on.
 fn joined(first: u8, second: u8, bit: usize) -> u8
     requires { bit < 8 }
-    ensures { bits 8 result ≡ take 8 (drop bit (bits_of (first ∷ second ∷ []))) }
+    ensures { circle_bits 8 result ≡ take 8 (drop bit (circle_bits_of (first ∷ second ∷ []))) }
 {
     let pair = 256 * first as u32 + second as u32;
     ((pair >> (8 - bit)) % 256) as u8
@@ -17,7 +17,7 @@ fn joined(first: u8, second: u8, bit: usize) -> u8
 pub(crate) fn byte_at(track: &[u8], place: usize) -> u8
     requires place { place < 8 * length track.now }
     requires size { length track.now ≤ 7928 }
-    ensures { bits 8 result ≡ stretch (bits_of track.now) place 8 }
+    ensures { circle_bits 8 result ≡ stretch (circle_bits_of track.now) place 8 }
 {
     let first = place / 8;
     let second = if first + 1 < track.len() {
@@ -32,7 +32,7 @@ pub(crate) fn byte_at(track: &[u8], place: usize) -> u8
 fn read_around(track: &[u8], place: usize, out: &mut [u8])
     requires place { place < 8 * length track.now }
     requires size { length track.now ≤ 7928 }
-    ensures { bits_of out.new ≡ stretch (bits_of track.now) place (8 * length out.old) }
+    ensures { circle_bits_of out.new ≡ stretch (circle_bits_of track.now) place (8 * length out.old) }
 {
     let bits = 8 * track.len();
     let mut at = place;
@@ -46,7 +46,7 @@ fn read_around(track: &[u8], place: usize, out: &mut [u8])
 pub(crate) fn read_bytes(track: &[u8], place: usize, out: &mut [u8])
     requires place { place < 8 * length track.now }
     requires size { length track.now ≤ 7928 }
-    ensures { bits_of out.new ≡ stretch (bits_of track.now) place (8 * length out.old) }
+    ensures { circle_bits_of out.new ≡ stretch (circle_bits_of track.now) place (8 * length out.old) }
 {
     let first = place / 8;
     let count = out.len();
@@ -60,9 +60,9 @@ pub(crate) fn read_bytes(track: &[u8], place: usize, out: &mut [u8])
 /// A byte in which another one begins at a bit.
 fn begun(old: u8, byte: u8, bit: usize) -> u8
     requires { bit < 8 }
-    ensures kept { (k : ℕ) → k < bit → slice_index_or (bits 8 result) k false ≡ slice_index_or (bits 8 old) k false }
+    ensures kept { (k : ℕ) → k < bit → slice_index_or (circle_bits 8 result) k false ≡ slice_index_or (circle_bits 8 old) k false }
     ensures written { (k : ℕ) → bit ≤ k → k < 8 →
-        slice_index_or (bits 8 result) k false ≡ slice_index_or (bits 8 byte) (k - bit) false }
+        slice_index_or (circle_bits 8 result) k false ≡ slice_index_or (circle_bits 8 byte) (k - bit) false }
 {
     let room = 8 - bit;
     ((old as u32 >> room << room) + (byte as u32 >> bit)) as u8
@@ -72,9 +72,9 @@ fn begun(old: u8, byte: u8, bit: usize) -> u8
 fn ended(old: u8, byte: u8, left: usize) -> u8
     requires { left < 8 }
     ensures written { (k : ℕ) → k < left →
-        slice_index_or (bits 8 result) k false ≡ slice_index_or (bits 8 byte) (8 - left + k) false }
+        slice_index_or (circle_bits 8 result) k false ≡ slice_index_or (circle_bits 8 byte) (8 - left + k) false }
     ensures kept { (k : ℕ) → left ≤ k → k < 8 →
-        slice_index_or (bits 8 result) k false ≡ slice_index_or (bits 8 old) k false }
+        slice_index_or (circle_bits 8 result) k false ≡ slice_index_or (circle_bits 8 old) k false }
 {
     let room = 8 - left;
     (((byte as u32) << room) % 256 + old as u32 % (1 << room)) as u8
@@ -83,9 +83,9 @@ fn ended(old: u8, byte: u8, left: usize) -> u8
 /// Writes a byte from a place of the circle on: it ends in the next byte, unless it is a whole one there.
 fn put_byte(track: &mut [u8], place: usize, byte: u8)
     requires { place < 8 * length track.old }
-    ensures written { (k : ℕ) → k < 8 → bit (bits_of track.new) (place + k) ≡ slice_index_or (bits 8 byte) k false }
+    ensures written { (k : ℕ) → k < 8 → circle_bit (circle_bits_of track.new) (place + k) ≡ slice_index_or (circle_bits 8 byte) k false }
     ensures others { (k : ℕ) → 8 ≤ k → k < 8 * length track.old →
-        bit (bits_of track.new) (place + k) ≡ bit (bits_of track.old) (place + k) }
+        circle_bit (circle_bits_of track.new) (place + k) ≡ circle_bit (circle_bits_of track.old) (place + k) }
 {
     let first = place / 8;
     let last = wrapped(first + 1, track.len());
@@ -99,9 +99,9 @@ fn write_around(track: &mut [u8], place: usize, bytes: &[u8])
     requires size { length track.old ≤ 7928 }
     requires fits { length bytes.now ≤ length track.old }
     ensures written { (k : ℕ) → k < 8 * length bytes.now →
-        bit (bits_of track.new) (place + k) ≡ slice_index_or (bits_of bytes.now) k false }
+        circle_bit (circle_bits_of track.new) (place + k) ≡ slice_index_or (circle_bits_of bytes.now) k false }
     ensures others { (k : ℕ) → 8 * length bytes.now ≤ k → k < 8 * length track.old →
-        bit (bits_of track.new) (place + k) ≡ bit (bits_of track.old) (place + k) }
+        circle_bit (circle_bits_of track.new) (place + k) ≡ circle_bit (circle_bits_of track.old) (place + k) }
 {
     let bits = 8 * track.len();
     let mut to = place;
@@ -117,9 +117,9 @@ pub(crate) fn write_bytes(track: &mut [u8], place: usize, bytes: &[u8])
     requires size { length track.old ≤ 7928 }
     requires fits { length bytes.now ≤ length track.old }
     ensures written { (k : ℕ) → k < 8 * length bytes.now →
-        bit (bits_of track.new) (place + k) ≡ slice_index_or (bits_of bytes.now) k false }
+        circle_bit (circle_bits_of track.new) (place + k) ≡ slice_index_or (circle_bits_of bytes.now) k false }
     ensures others { (k : ℕ) → 8 * length bytes.now ≤ k → k < 8 * length track.old →
-        bit (bits_of track.new) (place + k) ≡ bit (bits_of track.old) (place + k) }
+        circle_bit (circle_bits_of track.new) (place + k) ≡ circle_bit (circle_bits_of track.old) (place + k) }
 {
     let first = place / 8;
     let end = first + bytes.len();

@@ -1,5 +1,5 @@
 ghost use Rattle.std.specs.Prelude.{◌≡◌, ℕ, ◌<◌, ◌≤◌, ◌+◌, ◌*◌, ◌%◌, ◌↔◌, false, length, slice_index_or, IfSome, IsSome};
-ghost use Rattle.cbm_track.specs.Circle.{bits_of, bit, is_clear, next_block, stretch};
+ghost use Rattle.cbm_track.specs.Circle.{circle_bits_of, circle_bit, is_clear, next_block, stretch};
 
 use crate::marks::{is_clear, next_place};
 use crate::stretches::{read_bytes, write_bytes};
@@ -14,11 +14,11 @@ pub struct Track {
 
 impl Model for Track {
     ghost use Rattle.std.specs.Prelude.{List, Bool, length, ◌<◌, ◌≤◌, ℕ};
-    ghost use Rattle.cbm_track.specs.Circle.{bits_of};
+    ghost use Rattle.cbm_track.specs.Circle.{circle_bits_of};
 
     ghost Value = { List Bool };
 
-    ghost view = { λ t. bits_of t.bytes.items };
+    ghost view = { λ t. circle_bits_of t.bytes.items };
 
     ghost invariant = { λ t. (0 < length t.bytes.items) × (length t.bytes.items ≤ 7928) };
 }
@@ -30,7 +30,7 @@ impl Track {
     /// The circle of the bits of bytes, the high bit of the first byte first; `None` exactly where
     /// there is no byte or more than `MAX_BYTES`.
     pub fn from_bytes(bytes: &[u8]) -> Option<Track>
-        ensures some { IfSome result (λ t. t ≡ bits_of bytes.now) }
+        ensures some { IfSome result (λ t. t ≡ circle_bits_of bytes.now) }
         ensures which { IsSome result ↔ ((0 < length bytes.now) × (length bytes.now ≤ 7928)) }
     {
         if bytes.is_empty() || bytes.len() > Track::MAX_BYTES {
@@ -74,7 +74,7 @@ impl Track {
     /// Reads the bytes from a place on, round and round.
     pub fn bytes_at(&self, place: u32, out: &mut [u8])
         requires { place < length self.now }
-        ensures { bits_of out.new ≡ stretch self.now place (8 * length out.old) }
+        ensures { circle_bits_of out.new ≡ stretch self.now place (8 * length out.old) }
     {
         read_bytes(self.bytes.as_slice(), place as usize, out);
     }
@@ -85,9 +85,9 @@ impl Track {
         requires fits { 8 * length bytes.now ≤ length self.old }
         ensures length { length self.new ≡ length self.old }
         ensures written { (k : ℕ) → k < 8 * length bytes.now →
-            bit self.new (place + k) ≡ slice_index_or (bits_of bytes.now) k false }
+            circle_bit self.new (place + k) ≡ slice_index_or (circle_bits_of bytes.now) k false }
         ensures others { (k : ℕ) → 8 * length bytes.now ≤ k → k < length self.old →
-            bit self.new (place + k) ≡ bit self.old (place + k) }
+            circle_bit self.new (place + k) ≡ circle_bit self.old (place + k) }
     {
         write_bytes(self.bytes.as_mut_slice(), place as usize, bytes);
     }

@@ -1,6 +1,6 @@
 ghost use Rattle.std.specs.Prelude.{◌≡◌, ℕ, ◌<◌, ◌≤◌, ◌+◌, ◌*◌, ◌-◌, ◌%◌, true, false, length, IfSome, IfNone};
-ghost use Rattle.cbm_track.specs.Circle.{bits_of, bit, ten_ones};
-ghost use Rattle.cbm_track.specs.Words.{number, round_byte, eight, Marks, IsWindow};
+ghost use Rattle.cbm_track.specs.Circle.{circle_bits_of, circle_bit, ten_ones};
+ghost use Rattle.cbm_track.specs.Words.{number_from, round_byte, eight, Marks, IsWindow};
 
 use crate::bits::rounded;
 
@@ -8,7 +8,7 @@ use crate::bits::rounded;
 fn word_inside(track: &[u8], i: usize) -> u64
     requires inside { i + 8 ≤ length track.now }
     requires size { length track.now ≤ 7928 }
-    ensures { result ≡ number 0 (eight track.now i) }
+    ensures { result ≡ number_from 0 (eight track.now i) }
 {
     u64::from_be_bytes([
         track[i],
@@ -42,7 +42,7 @@ fn byte_around(track: &[u8], place: usize) -> u8
 fn word_around(track: &[u8], i: usize) -> u64
     requires place { i < length track.now }
     requires size { length track.now ≤ 7928 }
-    ensures { result ≡ number 0 (eight track.now i) }
+    ensures { result ≡ number_from 0 (eight track.now i) }
 {
     u64::from_be_bytes([
         byte_around(track, i),
@@ -60,7 +60,7 @@ fn word_around(track: &[u8], i: usize) -> u64
 fn window(track: &[u8], place: usize) -> u64
     requires place { place < 8 * length track.now }
     requires size { length track.now ≤ 7928 }
-    ensures { IsWindow (bits_of track.now) place result }
+    ensures { IsWindow (circle_bits_of track.now) place result }
 {
     let i = place / 8;
     let word = if i + 8 <= track.len() {
@@ -84,9 +84,9 @@ fn nines(word: u64) -> u64
 /// A number of places from a place on at which no ten ones begin, by the eight bytes there.
 fn plain_at(track: &[u8], place: usize, word: u64) -> usize
     requires place { place < 8 * length track.now }
-    requires window { IsWindow (bits_of track.now) place word }
+    requires window { IsWindow (circle_bits_of track.now) place word }
     ensures most { result ≤ 56 }
-    ensures none { (j : ℕ) → j < result → ten_ones (bits_of track.now) (place + j) ≡ false }
+    ensures none { (j : ℕ) → j < result → ten_ones (circle_bits_of track.now) (place + j) ≡ false }
 {
     let marks = nines(word);
     let room = 56 - place % 8;
@@ -99,10 +99,10 @@ fn plain_at(track: &[u8], place: usize, word: u64) -> usize
 /// How many ones stand from a place on, up to the end of the eighth byte.
 fn ones_at(track: &[u8], place: usize, word: u64) -> usize
     requires place { place < 8 * length track.now }
-    requires window { IsWindow (bits_of track.now) place word }
+    requires window { IsWindow (circle_bits_of track.now) place word }
     ensures most { result ≤ 64 - place % 8 }
-    ensures ones { (j : ℕ) → j < result → bit (bits_of track.now) (place + j) ≡ true }
-    ensures zero { result < 64 - place % 8 → bit (bits_of track.now) (place + result) ≡ false }
+    ensures ones { (j : ℕ) → j < result → circle_bit (circle_bits_of track.now) (place + j) ≡ true }
+    ensures zero { result < 64 - place % 8 → circle_bit (circle_bits_of track.now) (place + result) ≡ false }
 {
     (word.leading_ones() as usize).min(64 - place % 8)
 }
@@ -113,7 +113,7 @@ fn plain_bytes(track: &[u8], from: usize) -> usize
     requires size { length track.now ≤ 7928 }
     requires place { from ≤ 8000 }
     ensures most { result ≤ 7928 }
-    ensures none { (j : ℕ) → j < 8 * result → ten_ones (bits_of track.now) (8 * from + j) ≡ false }
+    ensures none { (j : ℕ) → j < 8 * result → ten_ones (circle_bits_of track.now) (8 * from + j) ≡ false }
 {
     let mut i = from;
     while i + 15 <= track.len() {
@@ -132,8 +132,8 @@ pub(crate) fn step_at(track: &[u8], place: usize) -> Option<usize>
     requires place { place < 8 * length track.now }
     requires size { length track.now ≤ 7928 }
     ensures some { IfSome result (λ s. (0 < s) × (s ≤ 63480) ×
-        ((j : ℕ) → j < s → ten_ones (bits_of track.now) (place + j) ≡ false)) }
-    ensures none { IfNone result (ten_ones (bits_of track.now) place ≡ true) }
+        ((j : ℕ) → j < s → ten_ones (circle_bits_of track.now) (place + j) ≡ false)) }
+    ensures none { IfNone result (ten_ones (circle_bits_of track.now) place ≡ true) }
 {
     let word = window(track, place);
     let plain = plain_at(track, place, word);
@@ -156,8 +156,8 @@ pub(crate) fn run_at(track: &[u8], place: usize) -> usize
     requires place { place < 8 * length track.now }
     requires size { length track.now ≤ 7928 }
     ensures most { result ≤ 8 * length track.now }
-    ensures ones { (j : ℕ) → j < result → bit (bits_of track.now) (place + j) ≡ true }
-    ensures zero { result < 8 * length track.now → bit (bits_of track.now) (place + result) ≡ false }
+    ensures ones { (j : ℕ) → j < result → circle_bit (circle_bits_of track.now) (place + j) ≡ true }
+    ensures zero { result < 8 * length track.now → circle_bit (circle_bits_of track.now) (place + result) ≡ false }
 {
     let bits = 8 * track.len();
     let mut run = 0;

@@ -38,8 +38,8 @@ abbrev pub less : ℕ → Disk → Disk
 less n d = record (grown d) { free = d.free - n }
 
 -- a write was refused on the way: the slots are as they were
-abbrev pub IsCutShort : Seen → Seen → Content → Layout → Disk → (ℕ → Use) → Trouble → Type 0
-IsCutShort old new c l d uses t = SlotLost old.tracks c l new.content d uses × IsHindered old new t
+abbrev pub IsCopyCut : Seen → Seen → Content → Layout → Disk → (ℕ → Use) → Trouble → Type 0
+IsCopyCut old new c l d uses t = SlotLost old.tracks c l new.content d uses × IsHindered old new t
 
 -- A COPY IS BEING MADE, of a disk and a layout that were before it: these bytes are in blocks of its own, but for those that wait, and
 -- no slot has them. The number is one that no channel has; what reads the source goes on too.
@@ -59,7 +59,7 @@ OfMaking now s P = (c : Content) (l : Layout) (d : Disk) (uses : ℕ → Use) (c
 
 -- WHAT A STEP OF A COPY LEAVES: these bytes are made, or a write was refused on the way.
 abbrev pub Makes : Result (Unit {0}) Trouble → Seen → Seen → Content → Layout → Disk → (ℕ → Use) → ℕ → State → List ℕ → Use → Type 0
-Makes result old new c l d uses ch s bytes source = MatchResult result (λ x. Making old.tracks c l d uses ch new.content s bytes source) (IsCutShort old new c l d uses)
+Makes result old new c l d uses ch s bytes source = MatchResult result (λ x. Making old.tracks c l d uses ch new.content s bytes source) (IsCopyCut old new c l d uses)
 
 -- this holds of each disk that the medium holds, with how it does, and of a channel that uses nothing of it, where a slot is empty or has room
 abbrev pub OfVacant : (now : Seen) → ((d : Disk) (uses : ℕ → Use) (ch : ℕ) → HoldsNow now.tracks now.content d uses → Type 0) → Type 0

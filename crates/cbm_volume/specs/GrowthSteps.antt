@@ -15,62 +15,62 @@ use Rattle.cbm_volume.specs.RecordWrites.{HasRecordsOpen}
 use Rattle.cbm_volume.specs.Writers.{Use}
 
 -- a state of a file whose records a channel had open when its growth began
-abbrev pub State : Type 1
-State = (m : ℕ) (c0 : Content) (d : Disk) (uses : ℕ → Use) (n w b s : ℕ) (rs : List (List ℕ)) → HasRecordsOpen m c0 d uses n w b s rs → Content → Type 0
+abbrev pub GrowthState : Type 1
+GrowthState = (m : ℕ) (c0 : Content) (d : Disk) (uses : ℕ → Use) (n w b s : ℕ) (rs : List (List ℕ)) → HasRecordsOpen m c0 d uses n w b s rs → Content → Type 0
 
 -- A STEP OF A GROWTH goes from one state to another, or stops; whenever the growth began, on a disk of this geometry.
-abbrev pub Goes : {A : Type 0} → Result A Trouble → Seen → Seen → ℕ → State → (A → State) → Type 0
-Goes result old new geometry From To = (c0 : Content) (d : Disk) (uses : ℕ → Use) (n w b s : ℕ) (rs : List (List ℕ)) (o : HasRecordsOpen old.tracks c0 d uses n w b s rs) → geometry ≡ geometry_of old.tracks c0
+abbrev pub GrowthGoes : {A : Type 0} → Result A Trouble → Seen → Seen → ℕ → GrowthState → (A → GrowthState) → Type 0
+GrowthGoes result old new geometry From To = (c0 : Content) (d : Disk) (uses : ℕ → Use) (n w b s : ℕ) (rs : List (List ℕ)) (o : HasRecordsOpen old.tracks c0 d uses n w b s rs) → geometry ≡ geometry_of old.tracks c0
     → From old.tracks c0 d uses n w b s rs o old.content → MatchResult result (λ x. To x old.tracks c0 d uses n w b s rs o new.content) (IsGrowthStopped old new c0 o.holds.layout d uses n w rs)
 
 -- the file has this many side sectors
-abbrev pub OfSides : Relative → ℕ → State
+abbrev pub OfSides : Relative → ℕ → GrowthState
 OfSides r s1 m c0 d uses n w b s rs o c = HasSides m c0 d uses n w b s rs o r c s1
 
 -- and a block is free for one more
-abbrev pub OfRoom : Relative → ℕ → State
+abbrev pub OfRoom : Relative → ℕ → GrowthState
 OfRoom r s1 m c0 d uses n w b s rs o c = HasSides m c0 d uses n w b s rs o r c s1 × (0 < d.free - (s1 - s))
 
 -- and enough blocks are free for this many
-abbrev pub OfRoomFor : Relative → ℕ → ℕ → State
+abbrev pub OfRoomFor : Relative → ℕ → ℕ → GrowthState
 OfRoomFor r s1 all m c0 d uses n w b s rs o c = HasSides m c0 d uses n w b s rs o r c s1 × (all - s ≤ d.free)
 
 -- it has this many, and a new one at this place, which lists no block and isn't listed
-abbrev pub OfEmpty : Relative → ℕ → Place → State
+abbrev pub OfEmpty : Relative → ℕ → Place → GrowthState
 OfEmpty r s1 t m c0 d uses n w b s rs o c = HasEmptySide m c0 d uses n w b s rs o r c s1 t
 
 -- it has as many as it is to have
-abbrev pub OfAllSides : Relative → ℕ → ℕ → State
+abbrev pub OfAllSides : Relative → ℕ → ℕ → GrowthState
 OfAllSides r all s1 m c0 d uses n w b s rs o c = (s1 ≡ all) × HasSides m c0 d uses n w b s rs o r c s1
 
 -- ---- block by block
 
 -- the file has grown to this many full data blocks, the last at this place, and side sectors that list them
-abbrev pub OfGrown : Relative → ℕ → ℕ → Place → State
+abbrev pub OfGrown : Relative → ℕ → ℕ → Place → GrowthState
 OfGrown r b1 s1 last m c0 d uses n w b s rs o c = HasGrown m c0 d uses n w b s rs o r c b1 s1 last
 
 -- and a block is free for one more
-abbrev pub OfGrowable : Relative → ℕ → ℕ → Place → State
+abbrev pub OfGrowable : Relative → ℕ → ℕ → Place → GrowthState
 OfGrowable r b1 s1 last m c0 d uses n w b s rs o c = HasGrown m c0 d uses n w b s rs o r c b1 s1 last × (0 < d.free - (b1 + s1 - (b + s)))
 
 -- and enough blocks are free to reach this many
-abbrev pub OfGoal : Relative → ℕ → ℕ → Place → ℕ → State
+abbrev pub OfGoal : Relative → ℕ → ℕ → Place → ℕ → GrowthState
 OfGoal r b1 s1 last goal m c0 d uses n w b s rs o c = HasGrown m c0 d uses n w b s rs o r c b1 s1 last × (goal + sides_for s1 goal - (b + s) ≤ d.free)
 
 -- it has grown to this many data blocks and to as many side sectors as it is to have
-abbrev pub OfReached : Relative → ℕ → ℕ → ℕ → Place → State
+abbrev pub OfReached : Relative → ℕ → ℕ → ℕ → Place → GrowthState
 OfReached r b1 all s1 last m c0 d uses n w b s rs o c = (s1 ≡ all) × HasGrown m c0 d uses n w b s rs o r c b1 s1 last
 
 -- it has one data block more, at this place, which isn't listed
-abbrev pub OfLonger : Relative → ℕ → ℕ → Place → State
+abbrev pub OfLonger : Relative → ℕ → ℕ → Place → GrowthState
 OfLonger r b1 s1 q m c0 d uses n w b s rs o c = HasLonger m c0 d uses n w b s rs o r c b1 s1 q
 
 -- and a block is free for a side sector
-abbrev pub OfSideable : Relative → ℕ → ℕ → Place → State
+abbrev pub OfSideable : Relative → ℕ → ℕ → Place → GrowthState
 OfSideable r b1 s1 q m c0 d uses n w b s rs o c = HasLonger m c0 d uses n w b s rs o r c b1 s1 q × (0 < d.free - (b1 + 1 + s1 - (b + s)))
 
 -- and a side sector at the second place lists it alone, which isn't listed
-abbrev pub OfSide : Relative → ℕ → ℕ → Place → Place → State
+abbrev pub OfSide : Relative → ℕ → ℕ → Place → Place → GrowthState
 OfSide r b1 s1 q t m c0 d uses n w b s rs o c = HasSide m c0 d uses n w b s rs o r c b1 s1 q t
 
 -- ---- the lists of the side sectors

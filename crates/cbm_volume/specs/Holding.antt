@@ -29,8 +29,8 @@ ShowsSlot d n (Ok None) = length d.slots ≤ n
 ShowsSlot d n (Err t) = ⊥
 
 -- the entry stands in the directory at this number
-abbrev pub StandsAt : ℕ → Content → ℕ → List ℕ → Type 0
-StandsAt medium content n entry = Answers (directory_of (geometry_of medium content) content) n (Ok (Some entry))
+abbrev pub EntryStandsAt : ℕ → Content → ℕ → List ℕ → Type 0
+EntryStandsAt medium content n entry = Answers (directory_of (geometry_of medium content) content) n (Ok (Some entry))
 
 -- the slot has a closed file of these bytes
 pub record HasBytes (d : Disk) (n : ℕ) (bytes : List ℕ) : Type 0 where
@@ -41,7 +41,7 @@ pub record HasBytes (d : Disk) (n : ℕ) (bytes : List ℕ) : Type 0 where
 
 -- The entry says of a file what the disk knows of it. What has no records has bytes; a closed relative file has records of the
 -- length that the entry says.
-pub record Says (f : File) (entry : List ℕ) : Type 0 where
+pub record EntrySays (f : File) (entry : List ℕ) : Type 0 where
   pub used : (type_byte entry == 0) ≡ false
   pub kind : type_with (type_byte entry % 16) ≡ Some f.kind
   pub closed : is_closed entry ≡ f.closed
@@ -54,7 +54,7 @@ pub record Says (f : File) (entry : List ℕ) : Type 0 where
 -- the entry of an empty slot, or that of its file
 abbrev pub SlotSays : Option File → List ℕ → Type 0
 SlotSays None entry = (type_byte entry == 0) ≡ true
-SlotSays (Some f) entry = Says f entry
+SlotSays (Some f) entry = EntrySays f entry
 
 -- The directory has the disk's slots, one entry for each, and nothing breaks it off.
 pub record TellsOf (d : Disk) (listed : Listed) : Type 0 where

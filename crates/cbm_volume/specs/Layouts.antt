@@ -42,9 +42,9 @@ is_loose (Writer w) = true
 is_loose _ = false
 
 -- no fault of a header
-abbrev pub IsWritable : Cell → Type 0
-IsWritable (Ok bytes) = Unit {0}
-IsWritable (Err code) = is_header_fault code ≡ false
+abbrev pub IsCellWritable : Cell → Type 0
+IsCellWritable (Ok bytes) = Unit {0}
+IsCellWritable (Err code) = is_header_fault code ≡ false
 
 -- Each sector of the disk's parts has its owner: the directory lies on track 18, the files lie off it.
 pub record IsOwned (l : Layout) : Type 0 where
@@ -58,7 +58,7 @@ pub record IsOwned (l : Layout) : Type 0 where
 pub record Sound (tracks : ℕ) (c : Content) (l : Layout) : Type 0 where
   pub owned : IsOwned l
   -- no sector has a fault of its header, and the map reads
-  pub writable : (p : Place) → Has tracks p → IsWritable (c p)
+  pub writable : (p : Place) → Has tracks p → IsCellWritable (c p)
   pub map_reads : IsOk (c directory_head)
   pub directory : Chain tracks c first_directory l.directory
   pub kinds : (n : ℕ) → n < slot_count l → type_byte (entry_at c l.directory n) % 16 < 5
@@ -78,7 +78,7 @@ pub record Describes (tracks : ℕ) (c : Content) (l : Layout) (d : Disk) : Type
   pub free : d.free ≡ free_in tracks (map_of c)
 
 -- the layout is sound, and the content means this disk
-pub record Stands (tracks : ℕ) (c : Content) (l : Layout) (d : Disk) : Type 0 where
+pub record HasLayout (tracks : ℕ) (c : Content) (l : Layout) (d : Disk) : Type 0 where
   pub sound : Sound tracks c l
   pub describes : Describes tracks c l d
 
@@ -100,15 +100,15 @@ pub record Extends (l : Layout) (n : ℕ) (owner : Place → Owner) : Type 0 whe
 
 pub record Means (tracks : ℕ) (c : Content) (d : Disk) : Type 0 where
   pub layout : Layout
-  pub stands : Stands tracks c layout d
+  pub stands : HasLayout tracks c layout d
 
 -- EACH CLOSED FILE'S SECTORS ARE AS THEY WERE, wherever the files lie; but for those of the files that pass the test
 abbrev pub Untouched : ℕ → Content → Content → (ℕ → Bool) → Type 0
 Untouched tracks c c' but = (l : Layout) → Sound tracks c l → (m : ℕ) → m < slot_count l → but m ≡ false → AllSame c c' (l.files m).data_blocks × AllSame c c' (l.files m).sides
 
 -- the layout with one more sector of the directory, and eight slots that hold nothing
-abbrev pub grown : Layout → Place → Layout
-grown l q = record {
+abbrev pub layout_grown : Layout → Place → Layout
+layout_grown l q = record {
   directory = l.directory ++ q ∷ [];
   files = λ n. if nat_lt n (slot_count l) then l.files n else record { data_blocks = []; sides = [] };
   owner = own l.owner q Directory;

@@ -5,7 +5,7 @@ use Rattle.cbm_medium.specs.Content.{Content, written, blank}
 use Rattle.cbm_medium.specs.Seen.{Seen, formatted_as, with_content, OnlyContent}
 use Rattle.cbm_medium.specs.declared.fault.Trouble.{Trouble}
 use Rattle.cbm_file.specs.Padding.{padded}
-use Rattle.cbm_bam.specs.Map.{map_of, is_free_in, IsCounted, IsOutside, IsSpare, with_bit}
+use Rattle.cbm_bam.specs.Map.{map_of, is_free_in, IsCounted, IsOutsideMap, IsSpare, with_bit}
 use Rattle.cbm_bam.specs.Marks.{nothing}
 use Rattle.cbm_directory.specs.Entries.{first_directory}
 use Rattle.cbm_directory.specs.Growth.{new_sector}
@@ -28,7 +28,7 @@ pub record IsNewHead (tracks : ℕ) (title id : List ℕ) (head : List ℕ) : Ty
   pub free : (p : Place) → Has tracks p → is_free_in head p ≡ not (used_by_new p)
   pub counted : IsCounted tracks head
   pub spare : (p : Place) → IsSpare tracks p → is_free_in head p ≡ false
-  pub around : (i : ℕ) → IsOutside tracks i → slice_index head i ≡ slice_index (around_map title id) i
+  pub around : (i : ℕ) → IsOutsideMap tracks i → slice_index head i ≡ slice_index (around_map title id) i
   pub titled : slice_range head 144 160 ≡ padded title
   pub marked : slice_range head 162 167 ≡ id ++ 160 ∷ 50 ∷ 65 ∷ []
 

@@ -12,7 +12,7 @@ use Rattle.cbm_volume.specs.Writers as usage
 
 -- no channel has the slot open
 abbrev pub IsUnused : (ℕ → Use) → ℕ → Type 0
-IsUnused uses n = (m : ℕ) → usage.has_slot n (uses m) ≡ false
+IsUnused uses n = (m : ℕ) → usage.uses_slot n (uses m) ≡ false
 
 -- no channel writes the slot; some may read it
 abbrev pub IsUnwritten : (ℕ → Use) → ℕ → Type 0
@@ -27,7 +27,7 @@ pub record CanBeWritten (d : Disk) (uses : ℕ → Use) (slot : ℕ) (file : Fil
 
 -- A CHANNEL BEGINS TO WRITE: the medium holds the disk, the channel writes the slot and has these bytes in this many blocks, and the
 -- other channels go on.
-pub record Begins (medium : ℕ) (c : Content) (d : Disk) (uses : ℕ → Use) (channel slot : ℕ) (replaces : Bool) (bytes : List ℕ) (blocks : ℕ) (w : Filling) : Type 0 where
+pub record BeginsFile (medium : ℕ) (c : Content) (d : Disk) (uses : ℕ → Use) (channel slot : ℕ) (replaces : Bool) (bytes : List ℕ) (blocks : ℕ) (w : Filling) : Type 0 where
   pub holds : HoldsNow medium c d (with_use uses channel (Writes w bytes blocks))
   pub same_slot : w.slot ≡ slot
   pub same_way : w.replaces ≡ replaces

@@ -7,7 +7,7 @@ use Rattle.cbm_bam.specs.Map.{map_of, is_free_in, IsCounted}
 use Rattle.cbm_directory.specs.Entries.{type_byte, first_directory}
 use Rattle.cbm_directory.specs.Slots.{all_entries}
 use Rattle.cbm_volume.specs.Blocks.{Blocks, Lies}
-use Rattle.cbm_volume.specs.Layouts.{IsWritable}
+use Rattle.cbm_volume.specs.Layouts.{IsCellWritable}
 
 -- the blocks and the side sectors of these files
 abbrev pub blocks_in : List Blocks → List Place
@@ -24,9 +24,9 @@ IsDistinct [] = Unit {0}
 IsDistinct (p ∷ rest) = IsApart p rest × IsDistinct rest
 
 -- each reads, and the map has it as taken
-abbrev pub AreTaken : Content → List Place → Type 0
-AreTaken c [] = Unit {0}
-AreTaken c (p ∷ rest) = IsOk (c p) × (is_free_in (map_of c) p ≡ false) × AreTaken c rest
+abbrev pub AreReadAndTaken : Content → List Place → Type 0
+AreReadAndTaken c [] = Unit {0}
+AreReadAndTaken c (p ∷ rest) = IsOk (c p) × (is_free_in (map_of c) p ≡ false) × AreReadAndTaken c rest
 
 abbrev pub AreOn18 : List Place → Type 0
 AreOn18 [] = Unit {0}
@@ -46,13 +46,13 @@ FilesLie tracks c (e ∷ es) (b ∷ bs) = (type_byte e % 16 < 5) × Lies tracks 
 -- THE SECTORS THAT A DISK USES are distinct, read and aren't free; the directory lies on track 18, the files off it;
 -- no header has a fault, and the map's counts are right.
 pub record IsPlainlySound (tracks : ℕ) (c : Content) : Type 0 where
-  pub writable : (p : Place) → Has tracks p → IsWritable (c p)
+  pub writable : (p : Place) → Has tracks p → IsCellWritable (c p)
   pub counted : IsCounted tracks (map_of c)
   pub directory : List Place
   pub files : List Blocks
   pub chain : Chain tracks c first_directory directory
   pub lie : FilesLie tracks c (all_entries c directory) files
   pub distinct : IsDistinct (claimed_sectors directory files)
-  pub taken : AreTaken c (claimed_sectors directory files)
+  pub taken : AreReadAndTaken c (claimed_sectors directory files)
   pub on_18 : AreOn18 directory
   pub off_18 : AreOff18 (blocks_in files)

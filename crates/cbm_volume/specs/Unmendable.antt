@@ -27,9 +27,9 @@ flaw_code tracks c u =
     else 71
 
 -- a flaw as the drive reports it
-abbrev pub told : ℕ → Content → Unsound → Trouble
-told tracks c u = record { code = flaw_code tracks c u; track = u.track; sector = u.sector }
+abbrev pub flaw_trouble : ℕ → Content → Unsound → Trouble
+flaw_trouble tracks c u = record { code = flaw_code tracks c u; track = u.track; sector = u.sector }
 
 -- THE DISK CAN'T BE MENDED: the directory and the closed files have this as their first flaw, whatever the map says
 abbrev pub IsUnmendable : ℕ → Content → Trouble → Type 0
-IsUnmendable tracks c t = (u : Unsound) × (DiskFault tracks (view_of tracks c) u × (t ≡ told tracks c u))
+IsUnmendable tracks c t = (u : Unsound) × (DiskFault tracks (view_of tracks c) u × (t ≡ flaw_trouble tracks c u))

@@ -23,8 +23,8 @@ swept zero sector = sector
 swept (suc n) sector = clear_open n (swept n sector)
 
 -- what a sector shows: 18/0 the taken map, another one of track 18 its closed entries, and each other one its bytes
-abbrev pub shown_at : ℕ → Place → List ℕ → List ℕ
-shown_at tracks p bytes = if p.track == 18 then (if p.sector == 0 then taken_map tracks bytes else swept 8 bytes) else bytes
+abbrev pub view_at : ℕ → Place → List ℕ → List ℕ
+view_at tracks p bytes = if p.track == 18 then (if p.sector == 0 then taken_map tracks bytes else swept 8 bytes) else bytes
 
 abbrev pub on_cell : (List ℕ → List ℕ) → Cell → Cell
 on_cell f (Ok bytes) = Ok (f bytes)
@@ -32,7 +32,7 @@ on_cell f (Err code) = Err code
 
 -- what each sector shows
 unfoldable pub view_of : ℕ → Content → Content
-view_of tracks c p = on_cell (shown_at tracks p) (c p)
+view_of tracks c p = on_cell (view_at tracks p) (c p)
 
 -- what a medium shows so; each write is refused
 abbrev pub viewed : ℕ → Seen → Seen

@@ -8,16 +8,16 @@ use Rattle.drive1541.specs.declared.reason.Reason.TheVariants.{Unknown}
 use Rattle.drive1541.specs.declared.failure.Stream.TheVariants.{Script as TheScript, Output}
 
 -- the exit status of a program that ended so
-abbrev pub status_of : RunFailure → ℕ
-status_of (Script line reason) = 1
-status_of (Image number) = 2
-status_of (File stream why) = 3
-status_of NoMemory = 3
+abbrev pub failure_status : RunFailure → ℕ
+failure_status (Script line reason) = 1
+failure_status (Image number) = 2
+failure_status (File stream why) = 3
+failure_status NoMemory = 3
 
 -- the same where it may have ended well
-abbrev pub exit_status : Result Unit RunFailure → ℕ
-exit_status (Ok done) = 0
-exit_status (Err failure) = status_of failure
+abbrev pub run_exit_status : Result Unit RunFailure → ℕ
+run_exit_status (Ok done) = 0
+run_exit_status (Err failure) = failure_status failure
 
 -- the exit status of a run that ended so: a line refused, the image refused, or something that the system refused
 abbrev pub run_status : RunFault → ℕ

@@ -1,6 +1,6 @@
 //! How the program ended: its exit status, and its line on standard error.
 ghost use Rattle.std.specs.Prelude.{◌≡◌};
-ghost use Rattle.drive1541.specs.Failure.{exit_status, failure_of, run_status, status_of};
+ghost use Rattle.drive1541.specs.Failure.{run_exit_status, failure_of, run_status, failure_status};
 
 use crate::arguments::Arguments;
 use crate::reason::{Reason, image_words};
@@ -45,7 +45,7 @@ fn tell_file(rt: &impl Eprint, name: &str, why: Option<io::ErrorKind>) -> io::Re
 
 /// The exit status of a program that ended so.
 pub fn exit_status(ended: &Result<(), RunFailure>) -> u8
-    ensures { result ≡ exit_status ended.now }
+    ensures { result ≡ run_exit_status ended.now }
 {
     match ended {
         Ok(()) => 0,
@@ -56,7 +56,7 @@ pub fn exit_status(ended: &Result<(), RunFailure>) -> u8
 impl RunFailure {
     /// The exit status.
     pub fn status(self) -> u8
-        ensures { result ≡ status_of self }
+        ensures { result ≡ failure_status self }
     {
         match self {
             RunFailure::Script(..) => 1,
@@ -101,7 +101,7 @@ impl RunFailure {
     /// What a run that ended early was.
     pub fn of_run(fault: RunFault) -> RunFailure
         ensures failure { result ≡ failure_of fault }
-        ensures status { status_of result ≡ run_status fault }
+        ensures status { failure_status result ≡ run_status fault }
     {
         match fault {
             RunFault::Script(line) => RunFailure::Script(line, Reason::Unknown),

@@ -1,31 +1,31 @@
 -- A player's turns, as a host that talks sees them.
 use Rattle.std.proofs.Common.{◌≡◌, ℕ, List, [], ◌∷◌, ◌++◌, Option, Some, None, refl, sym, ap, subst, ◌∙◌, arith}
 use Rattle.std.specs.Prelude.{◌<◌, ◌≤◌, Bool, IfSome, MatchOption}
-use Rattle.cbm_iec.specs.declared.act.Act.{Act}
+use Rattle.cbm_iec.specs.declared.machine.Act.{Act}
 use Rattle.cbm_iec.specs.declared.event.Event.{Event}
 use Rattle.cbm_iec.specs.declared.event.Who.{Who}
 use Rattle.cbm_iec.specs.declared.event.Who.TheVariants.{Host, Drive}
-use Rattle.cbm_iec.specs.declared.line.Change.{Change}
+use Rattle.cbm_iec.specs.declared.lines.Change.{Change}
 use Rattle.cbm_session.specs.Playing.{Station, Plays}
 use Rattle.cbm_drive.specs.Cables.{Cabled}
-use Rattle.cbm_drive.specs.Players.{Turns, pending, IsAfter, HasGiven, IsStill, IsFinished, IsSecond, IsBehind}
+use Rattle.cbm_drive.specs.Players.{Turns, pending, IsAfter, HasGiven, IsStill, IsFinished, IsSecond, IsAfterEvent}
 use Rattle.cbm_drive.specs.Players as players
 use Rattle.cbm_drive.specs.Seats.{IsBusAt}
-use Rattle.bus_replies.specs.Plays.{IsDrives, IsTurnOf, IsFromHost}
+use Rattle.bus_replies.specs.Plays.{IsOfDrive, IsTurnOfReply, IsFromHost}
 
-pub turn_of : (w : Who) (c : Change) (was now : Option Change) → players.IsTurnOf w c was now → IsTurnOf w c was now
+pub turn_of : (w : Who) (c : Change) (was now : Option Change) → players.IsTurnOf w c was now → IsTurnOfReply w c was now
 turn_of Host c was now h = h
 turn_of (Drive d) c was now h = h
 
-pub drives_of : (w : Who) → players.IsDrives w → IsDrives w
+pub drives_of : (w : Who) → players.IsDrives w → IsOfDrive w
 drives_of Host h = h
 drives_of (Drive d) h = h
 
-pub drives_in : (w : Who) → IsDrives w → players.IsDrives w
+pub drives_in : (w : Who) → IsOfDrive w → players.IsDrives w
 drives_in Host h = h
 drives_in (Drive d) h = h
 
-pub from_of : (w : Who) (c : Change) (p : Turns) → IsBehind w c p → IsFromHost w c.moment p.from
+pub from_of : (w : Who) (c : Change) (p : Turns) → IsAfterEvent w c p → IsFromHost w c.moment p.from
 from_of Host c p h = h.0
 from_of (Drive d) c p h = tt
 

@@ -1,7 +1,7 @@
 -- Changes of lines that C passes, one after another.
 use Rattle.std.proofs.Common.{◌≡◌, List, [], ◌∷◌, ◌++◌, Option, Some, None, refl, sym, ap, ◌∙◌, append_assoc, append-nil}
 use Rattle.std.specs.Prelude.{ℤ, Result, Ok, Err, IfOk, OnOk}
-use Rattle.cbm_iec.specs.declared.line.Change.{Change}
+use Rattle.cbm_iec.specs.declared.lines.Change.{Change}
 use Rattle.cbm_device.specs.declared.refusal.DeviceRefusal.{DeviceRefusal}
 use Rattle.cbm_device.specs.Answers.{answer, fine}
 use Rattle.cbm_device.proofs.Giving.{never_fine}

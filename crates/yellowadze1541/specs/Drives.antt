@@ -6,14 +6,14 @@ use Rattle.cbm_iec.specs.declared.pace.Pace.{Pace}
 use Rattle.cbm_iec.specs.declared.pace.Pace.TheVariants.{Profile, Kernal}
 use Rattle.cbm_iec.specs.declared.party.Party.{Party}
 use Rattle.cbm_iec.specs.Ports.{port_due}
-use Rattle.cbm_channel.specs.Machines.{Machine}
+use Rattle.cbm_machine.specs.Machines.{Machine}
 use Rattle.cbm_drive.specs.Desks.{Desk}
 use Rattle.cbm_drive.specs.Seats.{Seated}
 use Rattle.cbm_device.specs.declared.refusal.DeviceRefusal.{DeviceRefusal}
 use Rattle.cbm_device.specs.declared.refusal.DeviceRefusal.TheVariants.{Memory, Invalid, Absent, NoDrive}
 use Rattle.cbm_device.specs.declared.device.DeviceReaction.{DeviceReaction}
-use Rattle.cbm_device.specs.Answers.{fine, number_of}
-use Rattle.cbm_device.specs.Devices.{OnLines, StandsFor, react_at, tell_in_turn, IsOutside, IsSwitchedOn, IsOnTime, IsOutOfTime, HasHeard, HasReacted, HasNothingDue, HasAnotherDisk, IsExchanged, GivesImage}
+use Rattle.cbm_device.specs.Answers.{fine, answer_number}
+use Rattle.cbm_device.specs.Devices.{OnLines, StandsFor, react_at, tell_in_turn, IsUnfitParty, IsSwitchedOn, IsOnTime, IsOutOfTime, HasHeard, DeviceHasReacted, HasNothingDue, HasAnotherDisk, IsExchanged, GivesImage}
 use Rattle.cbm_device.specs.ImageDisks.{no_disk, IsOpenRefusal}
 use Rattle.yellowadze1541.specs.Looks.{flag}
 use Rattle.yellowadze1541.specs.declared.inner.Inner.{Inner}
@@ -22,7 +22,7 @@ use Rattle.yellowadze1541.specs.declared.shapes.Pulls.{Pulls}
 
 -- A CALL ON THE DRIVE OF A HANDLE: the handle held one and holds one, of which this is said; or it held none and holds none, and -7 says so.
 abbrev pub Acts : Option Inner → Option Inner → ℤ → (OnLines → OnLines → Type 0) → Type 0
-Acts None None n Does = n ≡ number_of NoDrive
+Acts None None n Does = n ≡ answer_number NoDrive
 Acts (Some old) (Some new) n Does = Does old.device new.device
 Acts None (Some new) n Does = ⊥
 Acts (Some old) None n Does = ⊥
@@ -36,30 +36,30 @@ abbrev pub pace_of : ℕ → Pace
 pace_of n = if n == 0 then Profile else Kernal
 
 -- a drive of these numbers
-abbrev pub party_of : ℕ → ℕ → ℕ → Party
-party_of device reaction pace = record { device = device; reaction = reaction; pace = pace_of pace }
+abbrev pub party_from : ℕ → ℕ → ℕ → Party
+party_from device reaction pace = record { device = device; reaction = reaction; pace = pace_of pace }
 
 -- why a handle isn't opened: it holds a drive, an argument is out of its range, or the image isn't opened
 abbrev pub IsNotOpened : Option Inner → List ℕ → Party → ℕ → DeviceRefusal → Type 0
 IsNotOpened old image b pace r =
-    ((r ≡ NoDrive) × (old ≢ None)) ⊎ (((r ≡ Invalid) × (IsOutside b ⊎ (1 < pace))) ⊎ ((r ≡ Memory) ⊎ IsOpenRefusal image r))
+    ((r ≡ NoDrive) × (old ≢ None)) ⊎ (((r ≡ Invalid) × (IsUnfitParty b ⊎ (1 < pace))) ⊎ ((r ≡ Memory) ⊎ IsOpenRefusal image r))
 
 -- A HANDLE IS OPENED: it held none, and holds a drive that is switched on with the disk of the image; or a number says why not, and it holds what it held.
 abbrev pub Opens : Option Inner → Option Inner → ℤ → List ℕ → Bool → Party → ℕ → Type 0
 Opens old new n image protected b pace =
     ((n ≡ fine) × (old ≡ None) × (pace ≤ 1) × ((inner : Inner) × (new ≡ Some inner) × IsSwitchedOn image protected b inner.device))
-    ⊎ ((new ≡ old) × ((r : DeviceRefusal) × (n ≡ number_of r) × IsNotOpened old image b pace r))
+    ⊎ ((new ≡ old) × ((r : DeviceRefusal) × (n ≡ answer_number r) × IsNotOpened old image b pace r))
 
 -- the lines that C says are low
-abbrev pub lines_of : ℕ → ℕ → ℕ → Lines
-lines_of atn clock data_low = record { atn_low = is_set atn; clock_low = is_set clock; data_low = is_set data_low }
+abbrev pub lines_from_flags : ℕ → ℕ → ℕ → Lines
+lines_from_flags atn clock data_low = record { atn_low = is_set atn; clock_low = is_set clock; data_low = is_set data_low }
 
 -- THE DRIVE IS TOLD OF LINES, and with it each machine that it represents; or it isn't the moment for them, and nothing has changed.
 abbrev pub Hears : ℕ → Lines → ℤ → OnLines → OnLines → Type 0
 Hears moment others n old new =
     ((n ≡ fine) × IsOnTime moment old × HasHeard moment others old new
     × ((s : Seated (Desk Machine)) → StandsFor old.seat s → StandsFor new.seat (tell_in_turn moment old.seat.port.others others s)))
-    ⊎ ((n ≡ number_of Invalid) × IsOutOfTime moment old × (new ≡ old))
+    ⊎ ((n ≡ answer_number Invalid) × IsOutOfTime moment old × (new ≡ old))
 
 -- a moment, or the greatest number for never
 abbrev pub moment_or_never : Option ℕ → ℕ
@@ -67,8 +67,8 @@ moment_or_never None = 2 ^ 64 - 1
 moment_or_never (Some t) = t
 
 -- the lines that a drive holds
-abbrev pub IsHeld : Held → Pulls → Type 0
-IsHeld own p = (p.clock_low ≡ flag own.clock_low) × (p.data_low ≡ flag own.data_low)
+abbrev pub IsHeldAs : Held → Pulls → Type 0
+IsHeldAs own p = (p.clock_low ≡ flag own.clock_low) × (p.data_low ≡ flag own.data_low)
 
 -- one of them is another than before
 abbrev pub differs : Bool → Bool → Bool
@@ -86,9 +86,9 @@ pub record IsTold (r : DeviceReaction) (t : Reacted) : Type 0 where
 -- THE REACTION THAT WAS DUE HAPPENED, and that of each machine that the drive represents, and C is told of it; or none was due, and nothing has changed.
 abbrev pub Reacts : ℕ → ℤ → Reacted → Reacted → OnLines → OnLines → Type 0
 Reacts moment n before told old new =
-    ((n ≡ fine) × ((r : DeviceReaction) × (r.moment ≤ moment) × HasReacted r old new × IsTold r told
+    ((n ≡ fine) × ((r : DeviceReaction) × (r.moment ≤ moment) × DeviceHasReacted r old new × IsTold r told
     × ((s : Seated (Desk Machine)) → StandsFor old.seat s → StandsFor new.seat (react_at r.moment s))))
-    ⊎ ((n ≡ number_of Absent) × HasNothingDue moment old × (new ≡ old) × (told ≡ before))
+    ⊎ ((n ≡ answer_number Absent) × HasNothingDue moment old × (new ≡ old) × (told ≡ before))
 
 -- ---- the disk
 
@@ -104,4 +104,4 @@ Ejects n out out_new before needed old new =
 -- another disk is put in, while the drive goes on; or the image isn't opened, and nothing has changed
 abbrev pub Inserts : ℤ → List ℕ → Bool → OnLines → OnLines → Type 0
 Inserts n image protected old new =
-    ((n ≡ fine) × HasAnotherDisk image protected old new) ⊎ ((new ≡ old) × ((r : DeviceRefusal) × (n ≡ number_of r) × IsOpenRefusal image r))
+    ((n ≡ fine) × HasAnotherDisk image protected old new) ⊎ ((new ≡ old) × ((r : DeviceRefusal) × (n ≡ answer_number r) × IsOpenRefusal image r))

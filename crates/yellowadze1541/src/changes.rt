@@ -1,12 +1,12 @@
 //! New images, and changes of one.
 ghost use Rattle.std.specs.Prelude.{◌≡◌, ◌≤◌, ◌<◌, ◌⊎◌, ◌∷◌, [], false, length, MatchResult};
 ghost use Rattle.cbm_file.specs.Files.{Disk};
-ghost use Rattle.cbm_channel.specs.Machines.{start};
+ghost use Rattle.cbm_machine.specs.Machines.{start};
 ghost use Rattle.cbm_image.specs.Images.{kind_of, tracks_of, ImageHolds};
-ghost use Rattle.cbm_shell.specs.Changing.{begun, after_change, IsFine};
+ghost use Rattle.cbm_shell.specs.Changing.{begun, disk_after_change, IsFine};
 ghost use Rattle.cbm_shell.specs.Making.{IsNew};
 ghost use Rattle.cbm_shell.specs.Converting.{IsConverted, IsConvertFault};
-ghost use Rattle.cbm_device.specs.Answers.{refusal_of, Gives};
+ghost use Rattle.cbm_device.specs.Answers.{refusal_of, GivesBytes};
 ghost use Rattle.cbm_device.specs.Looking.{IsAccepted, IsSound};
 ghost use Rattle.cbm_device.specs.Making.{after_command, after_put, opened_for, IsUnmade, IsUnchanged, IsWantOfMemory};
 ghost use Rattle.cbm_shell.specs.declared.fault.ShellFault.{ShellFault};
@@ -30,10 +30,10 @@ fn changed(
     needed: &mut usize,
 ) -> i32
     ensures made { let kind = kind_of image.now in (d : Disk) → ImageHolds kind image.now d →
-        let m = start d false (tracks_of kind image.now) in let after = after_change wanted.now m in
-        Gives result out.old out.new needed.old needed.new
+        let m = start d false (tracks_of kind image.now) in let after = disk_after_change wanted.now m in
+        GivesBytes result out.old out.new needed.old needed.new
         (λ bytes. IsFine after.status × ImageHolds kind bytes after.disk) (IsUnmade image.now (begun wanted.now m) after) }
-    ensures sound { Gives result out.old out.new needed.old needed.new
+    ensures sound { GivesBytes result out.old out.new needed.old needed.new
         (λ _. IsAccepted image.now × IsSound image.now) (IsUnchanged image.now) }
 {
     number(given(change(alloc, image, wanted), out, needed))
@@ -50,10 +50,10 @@ pub extern "C" fn y1541_image_command(
 ) -> i32
     ensures made { let kind = kind_of image.now in (d : Disk) → ImageHolds kind image.now d →
         let m = start d false (tracks_of kind image.now) in let after = after_command text.now m in
-        Gives result out.old out.new needed.old needed.new
+        GivesBytes result out.old out.new needed.old needed.new
         (λ bytes. IsFine after.status × ImageHolds kind bytes after.disk) (IsUnmade image.now after after) }
     // Of any disk: one that isn't sound isn't changed.
-    ensures sound { Gives result out.old out.new needed.old needed.new
+    ensures sound { GivesBytes result out.old out.new needed.old needed.new
         (λ _. IsAccepted image.now × IsSound image.now) (IsUnchanged image.now) }
 {
     changed(alloc, image, &DiskChange::Command(text), out, needed)
@@ -71,11 +71,11 @@ pub extern "C" fn y1541_image_put(
 ) -> i32
     ensures made { let kind = kind_of image.now in (d : Disk) → ImageHolds kind image.now d →
         let m = start d false (tracks_of kind image.now) in let after = after_put text.now bytes.now m in
-        Gives result out.old out.new needed.old needed.new
+        GivesBytes result out.old out.new needed.old needed.new
         (λ image. IsFine after.status × ImageHolds kind image after.disk)
         (IsUnmade image.now (opened_for text.now m) after) }
     // Of any disk: one that isn't sound isn't changed.
-    ensures sound { Gives result out.old out.new needed.old needed.new
+    ensures sound { GivesBytes result out.old out.new needed.old needed.new
         (λ _. IsAccepted image.now × IsSound image.now) (IsUnchanged image.now) }
 {
     changed(alloc, image, &DiskChange::File(text, bytes), out, needed)
@@ -116,7 +116,7 @@ pub extern "C" fn y1541_image_new(
     out: &mut [u8],
     needed: &mut usize,
 ) -> i32
-    ensures made { form < 3 → length title.now ≤ 16 → Gives result out.old out.new needed.old needed.new
+    ensures made { form < 3 → length title.now ≤ 16 → GivesBytes result out.old out.new needed.old needed.new
         (IsNew (form_of form) title.now (id0 ∷ id1 ∷ [])) IsWantOfMemory }
     ensures refused { (2 < form) ⊎ (16 < length title.now) →
         IsRefusedNew result out.old out.new needed.old needed.new }
@@ -152,7 +152,7 @@ pub extern "C" fn y1541_image_convert(
     out: &mut [u8],
     needed: &mut usize,
 ) -> i32
-    ensures { Gives result out.old out.new needed.old needed.new
+    ensures { GivesBytes result out.old out.new needed.old needed.new
         (λ bytes. IsConverted image.now bytes × IsLossOf image.now lost.new)
         (λ r. (fault : ShellFault) × IsConvertFault image.now fault × (r ≡ refusal_of fault) × (lost.new ≡ lost.old)) }
 {

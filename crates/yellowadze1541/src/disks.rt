@@ -1,6 +1,6 @@
 //! The disk in the drive of a handle: its image, and another one in its place.
 ghost use Rattle.std.specs.Prelude.{◌≡◌, None, pos, MatchOption};
-ghost use Rattle.cbm_channel.specs.Codes.{code_number};
+ghost use Rattle.cbm_machine.specs.Codes.{code_number};
 ghost use Rattle.cbm_device.specs.Answers.{fine};
 ghost use Rattle.cbm_device.specs.Devices.{IsRestarted};
 ghost use Rattle.yellowadze1541.specs.Drives.{is_set, Acts, Ejects, Inserts, ShowsImage};

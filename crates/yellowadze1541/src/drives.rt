@@ -2,9 +2,9 @@
 ghost use Rattle.std.specs.Prelude.{◌≡◌, ◌≢◌, ◌⊎◌, ◌-◌, ◌^◌, None, IfErr, IfOk, MatchBool, MatchOption};
 ghost use Rattle.cbm_iec.specs.Ports.{port_due};
 ghost use Rattle.cbm_device.specs.Answers.{fine};
-ghost use Rattle.cbm_device.specs.Devices.{IsOutside, IsSwitchedOn};
+ghost use Rattle.cbm_device.specs.Devices.{IsUnfitParty, IsSwitchedOn};
 ghost use Rattle.cbm_device.specs.ImageDisks.{IsOpenRefusal};
-ghost use Rattle.yellowadze1541.specs.Drives.{is_set, lines_of, moment_or_never, pace_of, party_of, Acts, Hears, IsHeld, IsTold, Opens, Reacts};
+ghost use Rattle.yellowadze1541.specs.Drives.{is_set, lines_from_flags, moment_or_never, pace_of, party_from, Acts, Hears, IsHeldAs, IsTold, Opens, Reacts};
 
 use crate::handle::{Handle, back, empty, of};
 use crate::inner::Inner;
@@ -25,7 +25,7 @@ fn opened(
     party: Party,
 ) -> Result<Box<Inner>, DeviceRefusal>
     ensures ok { IfOk result (λ b. IsSwitchedOn image.now protected party b.value.device) }
-    ensures err { IfErr result (λ r. ((r ≡ DeviceRefusal.Invalid) × IsOutside party) ⊎ ((r ≡ DeviceRefusal.Memory) ⊎ IsOpenRefusal image.now r)) }
+    ensures err { IfErr result (λ r. ((r ≡ DeviceRefusal.Invalid) × IsUnfitParty party) ⊎ ((r ≡ DeviceRefusal.Memory) ⊎ IsOpenRefusal image.now r)) }
 {
     let device = Device::open(alloc, image, protected, party)?;
     match Box::new(alloc, Inner { device }) {
@@ -60,7 +60,7 @@ pub extern "C" fn y1541_open(
     reaction: u8,
     pace: u8,
 ) -> i32
-    ensures { Opens d.old.value d.new.value result image.now (is_set protected) (party_of device reaction pace) pace }
+    ensures { Opens d.old.value d.new.value result image.now (is_set protected) (party_from device reaction pace) pace }
 {
     if holds(alloc, d) {
         return DeviceRefusal::NoDrive.number();
@@ -111,7 +111,7 @@ pub extern "C" fn y1541_lines(
     clock_low: u8,
     data_low: u8,
 ) -> i32
-    ensures { Acts d.old.value d.new.value result (Hears moment (lines_of atn_low clock_low data_low) result) }
+    ensures { Acts d.old.value d.new.value result (Hears moment (lines_from_flags atn_low clock_low data_low) result) }
 {
     let Some(mut inner) = back(alloc, replace(d, empty())) else {
         return DeviceRefusal::NoDrive.number();
@@ -186,7 +186,7 @@ pub extern "C" fn y1541_due(
 
 /// The lines that a drive holds, for C.
 fn shown(held: Held) -> Pulls
-    ensures { IsHeld held result }
+    ensures { IsHeldAs held result }
 {
     Pulls {
         clock_low: flag(held.clock_low),
@@ -197,7 +197,7 @@ fn shown(held: Held) -> Pulls
 /// The lines that the drive holds low now.
 #[unsafe(no_mangle)]
 pub extern "C" fn y1541_pulls_now(alloc: Global, d: &mut Handle, pulls: &mut Pulls) -> i32
-    ensures held { Acts d.old.value d.new.value result (λ old new. (result ≡ fine) × (new ≡ old) × IsHeld old.seat.port.own pulls.new) }
+    ensures held { Acts d.old.value d.new.value result (λ old new. (result ≡ fine) × (new ≡ old) × IsHeldAs old.seat.port.own pulls.new) }
     ensures none { d.old.value ≡ None → pulls.new ≡ pulls.old }
 {
     let Some(inner) = back(alloc, replace(d, empty())) else {

@@ -1,12 +1,12 @@
 //! What is looked for in an image.
 ghost use Rattle.std.specs.Prelude.{◌≡◌, Ok, false};
 ghost use Rattle.cbm_file.specs.Files.{Disk};
-ghost use Rattle.cbm_channel.specs.Machines.{start};
+ghost use Rattle.cbm_machine.specs.Machines.{start};
 ghost use Rattle.cbm_image.specs.Images.{kind_of, tracks_of, ImageHolds};
 ghost use Rattle.cbm_shell.specs.Reading.{Gets};
 ghost use Rattle.cbm_shell.specs.Listing.{IsSent};
-ghost use Rattle.cbm_device.specs.Answers.{Gives};
-ghost use Rattle.cbm_device.specs.Looking.{IsAccepted, IsRefused, IsUnsent, IsUngot};
+ghost use Rattle.cbm_device.specs.Answers.{GivesBytes};
+ghost use Rattle.cbm_device.specs.Looking.{IsAccepted, IsLookRefused, IsUnsent, IsUngot};
 ghost use Rattle.yellowadze1541.specs.Looks.{IsCheck, IsTitle, IsEntry, IsSector, Spells};
 
 use crate::shapes::{Entry, Place, Title, flag};
@@ -130,9 +130,9 @@ pub extern "C" fn y1541_image_list(
 ) -> i32
     ensures sent { let kind = kind_of image.now in (d : Disk) → ImageHolds kind image.now d →
         let m = start d false (tracks_of kind image.now) in
-        Gives result out.old out.new needed.old needed.new (IsSent pattern.now m) (IsUnsent image.now pattern.now m) }
+        GivesBytes result out.old out.new needed.old needed.new (IsSent pattern.now m) (IsUnsent image.now pattern.now m) }
     // Of any disk:
-    ensures refused { Gives result out.old out.new needed.old needed.new (λ _. IsAccepted image.now) (IsRefused image.now) }
+    ensures refused { GivesBytes result out.old out.new needed.old needed.new (λ _. IsAccepted image.now) (IsLookRefused image.now) }
 {
     number(given(list(alloc, image, pattern), out, needed))
 }
@@ -147,9 +147,9 @@ pub extern "C" fn y1541_image_file(
     needed: &mut usize,
 ) -> i32
     ensures got { (d : Disk) → ImageHolds (kind_of image.now) image.now d →
-        Gives result out.old out.new needed.old needed.new (Gets d pattern.now) (IsUngot image.now d pattern.now) }
+        GivesBytes result out.old out.new needed.old needed.new (Gets d pattern.now) (IsUngot image.now d pattern.now) }
     // Of any disk:
-    ensures refused { Gives result out.old out.new needed.old needed.new (λ _. IsAccepted image.now) (IsRefused image.now) }
+    ensures refused { GivesBytes result out.old out.new needed.old needed.new (λ _. IsAccepted image.now) (IsLookRefused image.now) }
 {
     number(given(file(alloc, image, pattern), out, needed))
 }

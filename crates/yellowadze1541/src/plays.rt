@@ -2,9 +2,9 @@
 ghost use Rattle.std.specs.Prelude.{◌≡◌, ◌≤◌, ◌<◌, ◌^◌, ◌++◌, ◌⊎◌, ℕ, List, Err, None, Some, length, map, drop, OnOk, IfOk, IfErr, MatchResult};
 ghost use Rattle.cbm_device.specs.Answers.{answer};
 ghost use Rattle.cbm_device.specs.ImageDisks.{IsImageIn};
-ghost use Rattle.yellowadze1541.specs.Drives.{party_of};
+ghost use Rattle.yellowadze1541.specs.Drives.{party_from};
 ghost use Rattle.yellowadze1541.specs.Signals.{line_with, way_with, change_of, changes_of, number_of_line, number_of_way, number_of_who, signal_of};
-ghost use Rattle.yellowadze1541.specs.Plays.{rooms, Hands, IsPlayed, IsUnplayed, PlaysAll};
+ghost use Rattle.yellowadze1541.specs.Plays.{rooms, HandsOut, IsSignalPlay, IsUnplayed, PlaysAll};
 
 use crate::drives::pace_with;
 use crate::shapes::Signal;
@@ -163,7 +163,7 @@ fn played(
     requires reaction { 1 ≤ party.reaction }
     requires end { end < 2 ^ 59 }
     ensures { MatchResult result
-        (λ disk. IsPlayed image.now party signals.now end events.old.items events.new.items disk)
+        (λ disk. IsSignalPlay image.now party signals.now end events.old.items events.new.items disk)
         (IsUnplayed image.now signals.now end) }
 {
     let changes = changes_of(alloc, signals)?;
@@ -184,7 +184,7 @@ fn told(
     needed: &mut usize,
 ) -> Result<(), DeviceRefusal>
     ensures { let old = rooms out.old count.old after.old needed.old in let new = rooms out.new count.new after.new needed.new in
-        ((bytes : List ℕ) × IsImageIn kind disk.now bytes × Hands (answer result) events.now bytes old new)
+        ((bytes : List ℕ) × IsImageIn kind disk.now bytes × HandsOut (answer result) events.now bytes old new)
         ⊎ ((result ≡ Err DeviceRefusal.Memory) × (new ≡ old)) }
 {
     let signals = signals_of(alloc, events)?;
@@ -210,7 +210,7 @@ pub extern "C" fn y1541_play(
     after: &mut [u8],
     needed: &mut usize,
 ) -> i32
-    ensures { PlaysAll result image.now (party_of device reaction pace) pace changes.now end
+    ensures { PlaysAll result image.now (party_from device reaction pace) pace changes.now end
         (rooms out.old count.old after.old needed.old) (rooms out.new count.new after.new needed.new) }
 {
     if device < 8 || device > 11 || reaction < 1 || reaction > 60 || pace > 1 || end >= LAST_END {

@@ -3,7 +3,7 @@
 ghost use Rattle.std.specs.Prelude.{◌≡◌, List, Some, IfOk, OnOk, OnErr};
 ghost use Rattle.cbm_iec.specs.declared.party.Party.{Party as ThisParty};
 ghost use Rattle.cbm_session.specs.Steps.{Step as Seen};
-ghost use Rattle.bus_judge.specs.Judging.{Stands, IsBusy, Awaits};
+ghost use Rattle.bus_judge.specs.Judging.{JudgeStands, IsBusy, Awaits};
 
 use crate::breach::{Breach, Cause};
 use crate::fits::cut_fits;
@@ -18,7 +18,7 @@ use cbm_iec::{Event, Line, Way};
 impl Judge {
     /// The event isn't the next step of the piece that was guessed: finds one of which it is.
     pub(crate) fn otherwise(&mut self, event: Event) -> Result<Mark, Breach>
-        ensures stands { (bs : List ThisParty) → (done : List Seen) → Stands bs self.old done → OnOk result (Stands bs self.new done) }
+        ensures stands { (bs : List ThisParty) → (done : List Seen) → JudgeStands bs self.old done → OnOk result (JudgeStands bs self.new done) }
         ensures awaits { IfOk result (λ mark. Awaits self.new event mark) }
         ensures busy { OnOk result (IsBusy self.new) }
     {
@@ -54,7 +54,7 @@ impl Judge {
     /// Takes a guess in place of the piece under way, if it fits, and its steps are those that were seen and then the
     /// event.
     fn adopt(&mut self, guess: &Option<Whole>, event: Event) -> Result<Mark, Cause>
-        ensures stands { (bs : List ThisParty) → (done : List Seen) → Stands bs self.old done → OnOk result (Stands bs self.new done) }
+        ensures stands { (bs : List ThisParty) → (done : List Seen) → JudgeStands bs self.old done → OnOk result (JudgeStands bs self.new done) }
         ensures awaits { IfOk result (λ mark. Awaits self.new event mark) }
         ensures busy { OnOk result (IsBusy self.new) }
         ensures unchanged { OnErr result (self.new ≡ self.old) }
@@ -74,7 +74,7 @@ impl Judge {
 
     /// A piece begins with the event.
     fn begin(&mut self, event: Event) -> Result<Mark, Breach>
-        ensures stands { (bs : List ThisParty) → (done : List Seen) → Stands bs self.old done → OnOk result (Stands bs self.new done) }
+        ensures stands { (bs : List ThisParty) → (done : List Seen) → JudgeStands bs self.old done → OnOk result (JudgeStands bs self.new done) }
         ensures awaits { IfOk result (λ mark. Awaits self.new event mark) }
         ensures busy { OnOk result (IsBusy self.new) }
     {
@@ -88,7 +88,7 @@ impl Judge {
     /// ATN's pull cuts the piece under way.
     fn cut(&mut self, whole: &Whole, event: Event) -> Result<Mark, Breach>
         requires { self.old.whole ≡ Some whole.now }
-        ensures stands { (bs : List ThisParty) → (done : List Seen) → Stands bs self.old done → OnOk result (Stands bs self.new done) }
+        ensures stands { (bs : List ThisParty) → (done : List Seen) → JudgeStands bs self.old done → OnOk result (JudgeStands bs self.new done) }
         ensures awaits { IfOk result (λ mark. Awaits self.new event mark) }
         ensures busy { OnOk result (IsBusy self.new) }
     {

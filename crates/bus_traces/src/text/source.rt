@@ -27,11 +27,11 @@ pub(crate) fn is_blank(byte: u8) -> bool {
 }
 
 impl<R: Read> Source<R> {
-    ghost use Rattle.bus_traces.specs.Lines.{bytes_left, TakesByte, TakesLine, BeginsTooLong};
+    ghost use Rattle.bus_traces.specs.Lines.{source_bytes_left, TakesByte, TakesLine, BeginsTooLong};
 
     /// The bytes of a reader, from which nothing was read yet.
     pub fn new(reader: R) -> Source<R>
-        ensures { bytes_left R.remaining result ≡ R.remaining reader }
+        ensures { source_bytes_left R.remaining result ≡ R.remaining reader }
     {
         Source {
             reader,
@@ -44,8 +44,8 @@ impl<R: Read> Source<R> {
 
     /// Reads on where no byte waits.
     fn fill(&mut self) -> io::Result<()>
-        ensures ok { OnOk result (Keeps (bytes_left R.remaining self.old) (bytes_left R.remaining self.new)) }
-        ensures end { OnOk result (self.new.start ≡ self.new.end → IsAtEnd (bytes_left R.remaining self.new)) }
+        ensures ok { OnOk result (Keeps (source_bytes_left R.remaining self.old) (source_bytes_left R.remaining self.new)) }
+        ensures end { OnOk result (self.new.start ≡ self.new.end → IsAtEnd (source_bytes_left R.remaining self.new)) }
     {
         if self.start < self.end {
             return Ok(());
@@ -68,7 +68,7 @@ impl<R: Read> Source<R> {
     /// Takes the byte that waits.
     fn take_byte(&mut self) -> u8
         requires { self.old.start < self.old.end }
-        ensures { Consumes (bytes_left R.remaining self.old) (bytes_left R.remaining self.new) (result ∷ []) }
+        ensures { Consumes (source_bytes_left R.remaining self.old) (source_bytes_left R.remaining self.new) (result ∷ []) }
     {
         let byte = self.block[self.start];
         self.start += 1;
@@ -77,7 +77,7 @@ impl<R: Read> Source<R> {
 
     /// Counts a line that ends.
     fn count(&mut self, byte: u8)
-        ensures { bytes_left R.remaining self.new ≡ bytes_left R.remaining self.old }
+        ensures { source_bytes_left R.remaining self.new ≡ source_bytes_left R.remaining self.old }
     {
         if byte == b'\n' {
             self.line = self.line.saturating_add(1);
@@ -86,7 +86,7 @@ impl<R: Read> Source<R> {
 
     /// Takes the next byte; None at the end. Error: `Reading`.
     pub(crate) fn next(&mut self) -> Result<Option<u8>, TraceFault>
-        ensures { IfOk result (TakesByte (bytes_left R.remaining self.old) (bytes_left R.remaining self.new)) }
+        ensures { IfOk result (TakesByte (source_bytes_left R.remaining self.old) (source_bytes_left R.remaining self.new)) }
     {
         if self.fill().is_err() {
             return Err(TraceFault::Reading);
@@ -103,9 +103,9 @@ impl<R: Read> Source<R> {
     /// other. Errors: `Reading`, or `Long` for a line of more than 1,000 bytes. After an error nothing is promised of later lines.
     pub fn next_line(&mut self, line: &mut ArrayVec<u8, 1000>) -> Result<bool, LineFault>
         ensures line { IfOk result (λ found. MatchBool found
-            (TakesLine (bytes_left R.remaining self.old) (bytes_left R.remaining self.new) line.new.items)
-            (IsAtEnd (bytes_left R.remaining self.old))) }
-        ensures long { IsErrOf result LineFault.Long → BeginsTooLong (bytes_left R.remaining self.old) }
+            (TakesLine (source_bytes_left R.remaining self.old) (source_bytes_left R.remaining self.new) line.new.items)
+            (IsAtEnd (source_bytes_left R.remaining self.old))) }
+        ensures long { IsErrOf result LineFault.Long → BeginsTooLong (source_bytes_left R.remaining self.old) }
     {
         line.clear();
         'bytes: loop {

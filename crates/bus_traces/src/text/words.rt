@@ -1,6 +1,6 @@
 //! The words of a line, and the numbers in them.
 ghost use Rattle.std.specs.Prelude.{◌≡◌, ◌<◌, ◌≤◌, length, position, option_map, IfSome};
-ghost use Rattle.bus_traces.specs.Words.{is_space, first_word, after_word, number_of, number_upto};
+ghost use Rattle.bus_traces.specs.Words.{is_space, first_word, after_word, trace_number, number_upto};
 
 fn space_in(bytes: &[u8]) -> Option<usize>
     ensures at { result ≡ position is_space bytes.now }
@@ -23,7 +23,7 @@ pub fn split_word(bytes: &[u8]) -> (&[u8], Option<&[u8]>)
 
 /// The number of 1 to 16 digits; None where it is none.
 pub fn number(word: &[u8]) -> Option<u64>
-    ensures { result ≡ number_of word.now }
+    ensures { result ≡ trace_number word.now }
 {
     if word.is_empty() || word.len() > 16 {
         return None;

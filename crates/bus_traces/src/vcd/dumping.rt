@@ -1,13 +1,13 @@
 //! What a VCD has of a trace.
 ghost use Rattle.std.specs.Prelude.{◌≡◌, ◌≤◌, ◌+◌, ◌++◌, ◌∷◌, [], codes};
 ghost use Rattle.arrayvec.specs.ArrayVec.{array_vec_len};
-ghost use Rattle.bus_traces.specs.Cables.{is_pull, after};
+ghost use Rattle.bus_traces.specs.Cables.{after};
 ghost use Rattle.bus_traces.specs.Dumps.{line_code, level_text, time_text, own_text, wire_text, dump_event};
 
 use crate::cable::Cable;
 use crate::event::{put_device, put_moment};
 use arrayvec::ArrayVec;
-use cbm_iec::{Event, Line, Way, Who};
+use cbm_iec::{Event, Line, Who};
 
 /// A line's letter, which is its variable's code, or its end.
 fn line_code(line: Line) -> u8
@@ -25,15 +25,6 @@ fn level(is_low: bool) -> u8
     ensures { result ∷ [] ≡ level_text is_low }
 {
     if is_low { b'0' } else { b'1' }
-}
-
-fn is_pull(way: Way) -> bool
-    ensures { result ≡ is_pull way }
-{
-    match way {
-        Way::Pull => true,
-        Way::Free => false,
-    }
 }
 
 /// Puts a moment, where it isn't the last one, after a text that has room for it: at most 22 bytes.
@@ -65,7 +56,7 @@ fn put_own<const N: usize>(text: &mut ArrayVec<u8, N>, event: Event)
     ensures text { text.new.items ≡ text.old.items ++ own_text event }
     ensures short { array_vec_len text.new ≤ array_vec_len text.old + 6 }
 {
-    text.push(level(is_pull(event.change.way)));
+    text.push(level(event.change.way.is_pull()));
     match event.who {
         Who::Host => text.push(b'h'),
         Who::Drive(device) => put_device(text, device),

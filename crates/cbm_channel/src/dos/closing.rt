@@ -12,9 +12,9 @@ impl<M: Medium> Dos<M> {
     ghost use Rattle.cbm_channel.specs.Standing.{Stands, SameBut, Leads};
     ghost use Rattle.cbm_channel.specs.Written.{is_unbegun};
     ghost use Rattle.cbm_channel.specs.ChannelCalls.{LeavesOutside};
-    ghost use Rattle.cbm_channel.specs.Shown.{is_writing_on, IsQuiet};
+    ghost use Rattle.cbm_channel.specs.Shown.{is_writing_on, KeepsMediumAndStatus};
     ghost use Rattle.cbm_machine.specs.Machines.{Machine, channel as channel_of};
-    ghost use Rattle.cbm_channel.specs.Going.{IsCounted, AreCounted, Goes, Went, some_byte_put, closing, closings, KeepsMedium};
+    ghost use Rattle.cbm_channel.specs.Going.{IsFailureCounted, AreCounted, Goes, Went, some_byte_put, closing, closings, KeepsMedium};
 
     /// CLOSE: the file that is written on the channel is finished, and the channel is closed; on 15 the channels 0 to
     /// 14 are, in order. Where the medium refuses a write, its fault becomes the status.
@@ -25,11 +25,11 @@ impl<M: Medium> Dos<M> {
         ensures others { channel < 15 → SameBut channel self.old.channels self.new.channels }
         ensures closed { (k : ℕ) → (k ≡ channel) ⊎ (channel ≡ 15) → slice_index_or self.new.channels k Closed ≡ Closed }
         // Where no file is written, nothing is reported and the medium stays as it is.
-        ensures quiet { channel < 15 → is_writing_on channel self.old ≡ false → IsQuiet self.old self.new }
-        ensures all_quiet { ((k : ℕ) → is_writing_on k self.old ≡ false) → IsQuiet self.old self.new }
+        ensures quiet { channel < 15 → is_writing_on channel self.old ≡ false → KeepsMediumAndStatus self.old self.new }
+        ensures all_quiet { ((k : ℕ) → is_writing_on k self.old ≡ false) → KeepsMediumAndStatus self.old self.new }
         ensures medium { KeepsMedium (M.seen self.old.medium) (M.seen self.new.medium) }
         ensures outside { LeavesOutside M.seen self.old self.new }
-        ensures counted { channel < 15 → IsCounted M.seen self.old self.new }
+        ensures counted { channel < 15 → IsFailureCounted M.seen self.old self.new }
         ensures all_counted { channel ≡ 15 → AreCounted M.seen 15 self.old self.new }
     {
         if channel < 15 {
@@ -47,10 +47,10 @@ impl<M: Medium> Dos<M> {
         ensures others { SameBut channel self.old.channels self.new.channels }
         ensures closed { slice_index_or self.new.channels channel Closed ≡ Closed }
         ensures count { length self.new.channels ≡ 15 }
-        ensures quiet { is_writing_on channel self.old ≡ false → IsQuiet self.old self.new }
+        ensures quiet { is_writing_on channel self.old ≡ false → KeepsMediumAndStatus self.old self.new }
         ensures medium { KeepsMedium (M.seen self.old.medium) (M.seen self.new.medium) }
         ensures outside { LeavesOutside M.seen self.old self.new }
-        ensures counted { IsCounted M.seen self.old self.new }
+        ensures counted { IsFailureCounted M.seen self.old self.new }
     {
         self.fill(channel);
         self.finish(channel);
@@ -67,7 +67,7 @@ impl<M: Medium> Dos<M> {
         ensures outside { LeavesOutside M.seen self.old self.new }
         ensures cut { HasFailed (M.seen self.old.medium) (M.seen self.new.medium) →
             is_writing_on channel self.new ≡ false }
-        ensures counted { IsCounted M.seen self.old self.new }
+        ensures counted { IsFailureCounted M.seen self.old self.new }
     {
         if self.is_empty(channel) {
             self.store(channel, b'\r');
@@ -89,10 +89,10 @@ impl<M: Medium> Dos<M> {
         ensures goes { Went M.seen self.old self.new channel (finish_channel channel) }
         ensures channels { self.new.channels ≡ slice_set self.old.channels channel Closed }
         ensures count { length self.new.channels ≡ 15 }
-        ensures quiet { is_writing_on channel self.old ≡ false → IsQuiet self.old self.new }
+        ensures quiet { is_writing_on channel self.old ≡ false → KeepsMediumAndStatus self.old self.new }
         ensures medium { KeepsMedium (M.seen self.old.medium) (M.seen self.new.medium) }
         ensures outside { LeavesOutside M.seen self.old self.new }
-        ensures counted { IsCounted M.seen self.old self.new }
+        ensures counted { IsFailureCounted M.seen self.old self.new }
     {
         if let Err(trouble) = self.channels[channel as usize].finish(&mut self.volume) {
             self.set(Status::from(trouble));
@@ -103,7 +103,7 @@ impl<M: Medium> Dos<M> {
     fn close_all(&mut self)
         ensures goes { Goes M.seen self.old self.new closings }
         ensures closed { (k : ℕ) → slice_index_or self.new.channels k Closed ≡ Closed }
-        ensures quiet { ((k : ℕ) → is_writing_on k self.old ≡ false) → IsQuiet self.old self.new }
+        ensures quiet { ((k : ℕ) → is_writing_on k self.old ≡ false) → KeepsMediumAndStatus self.old self.new }
         ensures medium { KeepsMedium (M.seen self.old.medium) (M.seen self.new.medium) }
         ensures outside { LeavesOutside M.seen self.old self.new }
         ensures counted { AreCounted M.seen 15 self.old self.new }

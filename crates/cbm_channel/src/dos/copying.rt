@@ -41,7 +41,7 @@ impl<M: Medium> Dos<M> {
     ghost use Rattle.cbm_channel.specs.Grounds.{HasGround, is_fault_number, KeepsIfRefused};
     ghost use Rattle.cbm_channel.specs.ChannelCalls.{KeepsOutside, LeavesOutside};
     ghost use Rattle.cbm_channel.specs.Standing.{Stands};
-    ghost use Rattle.cbm_channel.specs.Going.{IsCounted, Went, WentFrom, KeepsMedium};
+    ghost use Rattle.cbm_channel.specs.Going.{IsFailureCounted, Went, WentFrom, KeepsMedium};
     ghost use Rattle.cbm_channel.specs.Joined.{SourceAs, AddsSources, IsCopying, RefusesCopy};
 
     /// C: the bytes of the old names' files, one after another, are a new closed file of the first one's type.
@@ -56,7 +56,7 @@ impl<M: Medium> Dos<M> {
         ensures spared { KeepsIfRefused M.seen self.old self.new }
         ensures medium { KeepsMedium (M.seen self.old.medium) (M.seen self.new.medium) }
         ensures outside { LeavesOutside M.seen self.old self.new }
-        ensures counted { IsCounted M.seen self.old self.new }
+        ensures counted { IsFailureCounted M.seen self.old self.new }
     {
         match self.plan_copy(new, olds) {
             Ok((kind, slots)) => self.copy_slots(new, kind, slots.as_slice()),
@@ -138,7 +138,7 @@ impl<M: Medium> Dos<M> {
         ensures medium { KeepsMedium (M.seen self.old.medium) (M.seen self.new.medium) }
         ensures outside { (m : Machine) (olds : _) → IsCopying m name.now olds kind slots.now → Stands M.seen self.old m →
             KeepsOutside (M.seen self.old.medium) (M.seen self.new.medium) }
-        ensures counted { IsCounted M.seen self.old self.new }
+        ensures counted { IsFailureCounted M.seen self.old self.new }
     {
         match self.volume.copy(kind, name.bytes(), slots) {
             Ok(true) => self.say(Code::Fine),

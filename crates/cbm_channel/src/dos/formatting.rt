@@ -12,7 +12,7 @@ impl<M: Medium> Dos<M> {
     ghost use Rattle.cbm_machine.specs.Machines.{answered};
     ghost use Rattle.cbm_machine.specs.Running.{run};
     ghost use Rattle.cbm_channel.specs.Grounds.{KeepsIfRefused};
-    ghost use Rattle.cbm_channel.specs.Going.{IsCounted, Went, KeepsMedium};
+    ghost use Rattle.cbm_channel.specs.Going.{IsFailureCounted, Went, KeepsMedium};
 
     /// N: an empty disk of this title; with an id it is formatted, else it keeps its own. 60 where a channel is open,
     /// 26 where the disk is protected. Where the medium fails in it, no disk is promised.
@@ -24,7 +24,7 @@ impl<M: Medium> Dos<M> {
         // On any disk: what is refused has changed nothing of it.
         ensures spared { KeepsIfRefused M.seen self.old self.new }
         ensures medium { KeepsMedium (M.seen self.old.medium) (M.seen self.new.medium) }
-        ensures counted { IsCounted M.seen self.old self.new }
+        ensures counted { IsFailureCounted M.seen self.old self.new }
     {
         if self.is_any_open() {
             self.say(Code::WriteFileOpen);

@@ -17,8 +17,8 @@ impl<M: Medium> Dos<M> {
     ghost use Rattle.cbm_machine.specs.Plans as plans;
     ghost use Rattle.cbm_channel.specs.declared.channel.Channel.TheVariants.{Closed};
     ghost use Rattle.cbm_channel.specs.Grounds.{HasTold, IsFromDirectory, KeepsIfRefused, OrdersDisk};
-    ghost use Rattle.cbm_channel.specs.Standing.{Stands, SameBut, HaveSameFiles, Fits};
-    ghost use Rattle.cbm_channel.specs.Going.{IsCounted, WentFrom, KeepsMedium};
+    ghost use Rattle.cbm_channel.specs.Standing.{Stands, SameBut, HaveSameFiles, FitsTracks};
+    ghost use Rattle.cbm_channel.specs.Going.{IsFailureCounted, WentFrom, KeepsMedium};
     ghost use Rattle.cbm_channel.specs.Opening.{ClosesFirst, OpensOutside, OpensFrom, OpensQuietly, IsClosedUnlessFine, OpensPlan, StopsPlan, ShowsWhy};
     ghost use Rattle.cbm_channel.specs.Shown.{is_writing_on};
     ghost use Rattle.cbm_channel.specs.Commanded.{open_formats, open_validates, text_moves, AreSameBut};
@@ -42,7 +42,7 @@ impl<M: Medium> Dos<M> {
         ensures medium { KeepsMedium (M.seen self.old.medium) (M.seen self.new.medium) }
         // What lies outside the disk stays, but with NEW.
         ensures outside { open_formats channel text.now ≡ false → LeavesOutside M.seen self.old self.new }
-        ensures counted { channel ≡ 15 → IsCounted M.seen self.old self.new }
+        ensures counted { channel ≡ 15 → IsFailureCounted M.seen self.old self.new }
         // CLOSE comes first, and what the OPEN itself does is measured from there.
         ensures closes { channel < 15 → ClosesFirst M.seen channel text.now self.old self.new }
     {
@@ -72,7 +72,7 @@ impl<M: Medium> Dos<M> {
         ensures medium { KeepsMedium (M.seen self.old.medium) (M.seen self.new.medium) }
         ensures outside { (m : Machine) → IsOfText opening → Stands M.seen self.old m →
             KeepsOutside (M.seen self.old.medium) (M.seen self.new.medium) }
-        ensures counted { IsCounted M.seen self.old self.new }
+        ensures counted { IsFailureCounted M.seen self.old self.new }
     {
         match self.plan(channel, opening) {
             Ok(plan) => self.act(channel, plan),
@@ -96,7 +96,7 @@ impl<M: Medium> Dos<M> {
             KeepsIfRefused M.seen self.old self.new }
         ensures medium { KeepsMedium (M.seen self.old.medium) (M.seen self.new.medium) }
         ensures outside { OpensOutside M.seen plan self.old self.new }
-        ensures counted { IsCounted M.seen self.old self.new }
+        ensures counted { IsFailureCounted M.seen self.old self.new }
     {
         match self.opened(plan) {
             Ok(Some(opened)) => {
@@ -113,7 +113,7 @@ impl<M: Medium> Dos<M> {
     /// first record can't be read; or why a write was refused.
     fn opened(&mut self, plan: Plan) -> Result<Option<Channel>, Trouble>
         requires { IsSized plan }
-        ensures fits { IfOk result (λ o. IfSome o (Fits (M.seen self.new.medium).tracks)) }
+        ensures fits { IfOk result (λ o. IfSome o (FitsTracks (M.seen self.new.medium).tracks)) }
         ensures opened { OpensPlan M.seen plan result self.old self.new }
         ensures stopped { StopsPlan M.seen plan result self.old self.new }
         ensures quiet { plan_writes plan ≡ false →

@@ -86,7 +86,7 @@ impl<M: Medium> Dos<M> {
     ghost use Rattle.cbm_file.specs.Padding.{before_filler};
     ghost use Rattle.cbm_command.specs.declared.opening.Mode.TheVariants.{Read};
     ghost use Rattle.cbm_command.specs.declared.opening.Opening.TheVariants as opening;
-    ghost use Rattle.cbm_command.specs.Openings.{is_relative};
+    ghost use Rattle.cbm_command.specs.Openings.{wants_relative};
     ghost use Rattle.cbm_machine.specs.Machines.{Machine, too_many, in_writing, in_use};
     ghost use Rattle.cbm_machine.specs.Finding.{is_there};
     ghost use Rattle.cbm_machine.specs.Plans as plans;
@@ -128,7 +128,7 @@ impl<M: Medium> Dos<M> {
         ensures reads { wanted.mode ≡ Read → IfOk result (λ p. plan_writes p ≡ false) }
         ensures allowed { IfOk result (λ p. plan_writes p ≡ true → (M.seen self.now.medium).protected ≡ false) }
         ensures sized { IfOk result IsSized }
-        ensures planned { (m : Machine) (ch : ℕ) → IsOfText (opening.File wanted) → is_relative wanted ≡ false →
+        ensures planned { (m : Machine) (ch : ℕ) → IsOfText (opening.File wanted) → wants_relative wanted ≡ false →
             Stands M.seen self.now m →
             PlannedAs (M.seen self.now.medium).tracks (M.seen self.now.medium).content m (plans.plan ch
             (opening.File wanted) m) result }
@@ -153,7 +153,7 @@ impl<M: Medium> Dos<M> {
         ensures from { IfOk result (IsFromDirectory M.seen self.now.medium) }
         ensures allowed { IfOk result (λ p. plan_writes p ≡ true → (M.seen self.now.medium).protected ≡ false) }
         ensures sized { IfOk result IsSized }
-        ensures planned { (m : Machine) → IsOfText (opening.File wanted) → is_relative wanted ≡ true →
+        ensures planned { (m : Machine) → IsOfText (opening.File wanted) → wants_relative wanted ≡ true →
             Stands M.seen self.now m →
             PlannedAs (M.seen self.now.medium).tracks (M.seen self.now.medium).content m (plans.plan channel
             (opening.File wanted) m) result }
@@ -205,7 +205,7 @@ impl<M: Medium> Dos<M> {
         ensures from { IfOk result (IsFromDirectory M.seen self.now.medium) }
         ensures reads { IfOk result (λ p. plan_writes p ≡ false) }
         ensures sized { IfOk result IsSized }
-        ensures planned { (m : Machine) (ch : ℕ) → wanted.now.mode ≡ Read → is_relative wanted.now ≡ false →
+        ensures planned { (m : Machine) (ch : ℕ) → wanted.now.mode ≡ Read → wants_relative wanted.now ≡ false →
             Stands M.seen self.now m →
             PlannedAs (M.seen self.now.medium).tracks (M.seen self.now.medium).content m (plans.plan ch
             (opening.File wanted.now) m) result }
@@ -256,7 +256,7 @@ impl<M: Medium> Dos<M> {
         ensures from { IfOk result (IsFromDirectory M.seen self.now.medium) }
         ensures allowed { IfOk result (λ p. plan_writes p ≡ true → (M.seen self.now.medium).protected ≡ false) }
         ensures sized { IfOk result IsSized }
-        ensures planned { (m : Machine) → IsOfText (opening.File wanted) → is_relative wanted ≡ false →
+        ensures planned { (m : Machine) → IsOfText (opening.File wanted) → wants_relative wanted ≡ false →
             Stands M.seen self.now m →
             PlannedAs (M.seen self.now.medium).tracks (M.seen self.now.medium).content m
             (plans.plan_writing wanted wanted.kind m) result }

@@ -28,8 +28,8 @@ impl<M: Medium> Dos<M> {
     ghost use Rattle.cbm_channel.specs.Grounds.{HasTold, IsToldFor, KeepsIfRefused, OrdersDisk};
     ghost use Rattle.cbm_channel.specs.ChannelCalls.{LeavesOutside};
     ghost use Rattle.cbm_channel.specs.Standing.{Stands, SameBut, HaveSameFiles, Leads, HasNoText, HasText};
-    ghost use Rattle.cbm_channel.specs.Shown.{is_writing_on, has_records_on, IsQuiet};
-    ghost use Rattle.cbm_channel.specs.Going.{IsCounted, Goes, EndsFrom, RecordsFrom, Went, WentFrom, put_written, KeepsMedium};
+    ghost use Rattle.cbm_channel.specs.Shown.{is_writing_on, has_records_on, KeepsMediumAndStatus};
+    ghost use Rattle.cbm_channel.specs.Going.{IsFailureCounted, Goes, EndsFrom, RecordsFrom, Went, WentFrom, put_written, KeepsMedium};
     ghost use Rattle.cbm_channel.specs.Commanded.{IsOfCommandText, changes_disk, commands_change, ends_command, FormatsUnfailing, formats, text_formats, end_formats, validates, text_validates, end_validates, moved_by, text_moves, end_moves, AreSameBut};
 
     /// A byte that the host sends to a channel: on 15 it is gathered for a command, on a channel that has records open
@@ -40,10 +40,10 @@ impl<M: Medium> Dos<M> {
         ensures goes { Goes M.seen self.old self.new ((channel, put channel byte) ∷ []) }
         // On any disk:
         ensures others { SameBut channel self.old.channels self.new.channels }
-        ensures quiet { is_writing_on channel self.old ≡ false → IsQuiet self.old self.new }
+        ensures quiet { is_writing_on channel self.old ≡ false → KeepsMediumAndStatus self.old self.new }
         ensures medium { KeepsMedium (M.seen self.old.medium) (M.seen self.new.medium) }
         ensures outside { LeavesOutside M.seen self.old self.new }
-        ensures counted { IsCounted M.seen self.old self.new }
+        ensures counted { IsFailureCounted M.seen self.old self.new }
     {
         if channel == 15 {
             self.gather(channel, byte);
@@ -59,12 +59,12 @@ impl<M: Medium> Dos<M> {
         requires { channel < 15 }
         ensures goes { Went M.seen self.old self.new channel (put_written channel byte) }
         ensures others { SameBut channel self.old.channels self.new.channels }
-        ensures quiet { is_writing_on channel self.old ≡ false → IsQuiet self.old self.new }
+        ensures quiet { is_writing_on channel self.old ≡ false → KeepsMediumAndStatus self.old self.new }
         ensures medium { KeepsMedium (M.seen self.old.medium) (M.seen self.new.medium) }
         ensures outside { LeavesOutside M.seen self.old self.new }
         ensures cut { HasFailed (M.seen self.old.medium) (M.seen self.new.medium) →
             is_writing_on channel self.new ≡ false }
-        ensures counted { IsCounted M.seen self.old self.new }
+        ensures counted { IsFailureCounted M.seen self.old self.new }
     {
         match self.channels[channel as usize].put(&mut self.volume, byte) {
             Ok(true) => {}
@@ -123,7 +123,7 @@ impl<M: Medium> Dos<M> {
         ensures ordered { end_validates channel self.old.text ≡ true → OrdersDisk M.seen self.old self.new }
         ensures medium { KeepsMedium (M.seen self.old.medium) (M.seen self.new.medium) }
         ensures outside { end_formats channel self.old.text ≡ false → LeavesOutside M.seen self.old self.new }
-        ensures counted { IsCounted M.seen self.old self.new }
+        ensures counted { IsFailureCounted M.seen self.old self.new }
     {
         if let Some(text) = self.take_text(channel) {
             if channel == 15 {
@@ -147,7 +147,7 @@ impl<M: Medium> Dos<M> {
         ensures spared { (self.new.told ≡ self.old.told) ⊎ KeepsIfRefused M.seen self.old self.new }
         ensures medium { KeepsMedium (M.seen self.old.medium) (M.seen self.new.medium) }
         ensures outside { LeavesOutside M.seen self.old self.new }
-        ensures counted { IsCounted M.seen self.old self.new }
+        ensures counted { IsFailureCounted M.seen self.old self.new }
     {
         match self.channels[channel as usize].write_record(&mut self.volume, bytes) {
             Ok(Some(false)) => {}
@@ -170,7 +170,7 @@ impl<M: Medium> Dos<M> {
         ensures ordered { text_validates text.now ≡ true → OrdersDisk M.seen self.old self.new }
         ensures medium { KeepsMedium (M.seen self.old.medium) (M.seen self.new.medium) }
         ensures outside { text_formats text.now ≡ false → LeavesOutside M.seen self.old self.new }
-        ensures counted { IsCounted M.seen self.old self.new }
+        ensures counted { IsFailureCounted M.seen self.old self.new }
     {
         let text = without_return(text);
         if text.is_empty() {
@@ -195,7 +195,7 @@ impl<M: Medium> Dos<M> {
         ensures ordered { validates command.now ≡ true → OrdersDisk M.seen self.old self.new }
         ensures medium { KeepsMedium (M.seen self.old.medium) (M.seen self.new.medium) }
         ensures outside { formats command.now ≡ false → LeavesOutside M.seen self.old self.new }
-        ensures counted { IsCounted M.seen self.old self.new }
+        ensures counted { IsFailureCounted M.seen self.old self.new }
     {
         match command {
             Command::New(title, id) => self.format(title, *id),

@@ -15,7 +15,7 @@ impl<M: Medium> Dos<M> {
     ghost use Rattle.cbm_channel.specs.Grounds.{HasGround, KeepsIfRefused};
     ghost use Rattle.cbm_channel.specs.ChannelCalls.{KeepsOutside, LeavesOutside};
     ghost use Rattle.cbm_channel.specs.Standing.{Stands};
-    ghost use Rattle.cbm_channel.specs.Going.{IsCounted, Went, WentFrom, KeepsMedium};
+    ghost use Rattle.cbm_channel.specs.Going.{IsFailureCounted, Went, WentFrom, KeepsMedium};
     ghost use Rattle.cbm_channel.specs.Commanded.{IsRenamable, RenamesAs};
 
     /// R: the first file of the old name gets the new one, which ends before its first $A0.
@@ -29,7 +29,7 @@ impl<M: Medium> Dos<M> {
         ensures spared { KeepsIfRefused M.seen self.old self.new }
         ensures medium { KeepsMedium (M.seen self.old.medium) (M.seen self.new.medium) }
         ensures outside { LeavesOutside M.seen self.old self.new }
-        ensures counted { IsCounted M.seen self.old self.new }
+        ensures counted { IsFailureCounted M.seen self.old self.new }
     {
         match self.plan_rename(new, old) {
             Ok(slot) => self.rename_slot(slot, new),
@@ -69,7 +69,7 @@ impl<M: Medium> Dos<M> {
         ensures medium { KeepsMedium (M.seen self.old.medium) (M.seen self.new.medium) }
         ensures outside { (m : Machine) (old : _) → IsRenamable m name.now old slot → Stands M.seen self.old m →
             KeepsOutside (M.seen self.old.medium) (M.seen self.new.medium) }
-        ensures counted { IsCounted M.seen self.old self.new }
+        ensures counted { IsFailureCounted M.seen self.old self.new }
     {
         match self.volume.rename(slot, name.bytes()) {
             Ok(()) => self.say(Code::Fine),

@@ -52,8 +52,8 @@ impl<M: Medium> Dos<M> {
     ghost use Rattle.cbm_machine.specs.Running.{scratch};
     ghost use Rattle.cbm_channel.specs.Grounds.{HasGround, KeepsIfRefused};
     ghost use Rattle.cbm_channel.specs.Standing.{Stands, uses_of};
-    ghost use Rattle.cbm_channel.specs.Going.{IsCounted, WentFrom, KeepsMedium};
-    ghost use Rattle.cbm_channel.specs.Commanded.{entries_going, slots_going, all_scratched, CanAllGo, IsGoing, AreUnguarded, RefusesScratch};
+    ghost use Rattle.cbm_channel.specs.Going.{IsFailureCounted, WentFrom, KeepsMedium};
+    ghost use Rattle.cbm_channel.specs.Commanded.{entries_going, slots_going, all_scratched, CanAllGo, AreSlotsGoing, AreUnguarded, RefusesScratch};
 
     /// S: each file that matches a pattern, isn't locked and isn't open goes; 01 reports how many.
     pub(super) fn scratch(&mut self, patterns: &Names)
@@ -64,7 +64,7 @@ impl<M: Medium> Dos<M> {
         ensures spared { KeepsIfRefused M.seen self.old self.new }
         ensures medium { KeepsMedium (M.seen self.old.medium) (M.seen self.new.medium) }
         ensures outside { LeavesOutside M.seen self.old self.new }
-        ensures counted { IsCounted M.seen self.old self.new }
+        ensures counted { IsFailureCounted M.seen self.old self.new }
     {
         match self.plan_scratch(patterns) {
             Ok(slots) => self.scratch_slots(slots.as_slice()),
@@ -76,7 +76,7 @@ impl<M: Medium> Dos<M> {
     fn plan_scratch(&self, patterns: &Names) -> Result<Numbers, Status>
         ensures ground { IfErr result (HasGround M.seen self.now.medium) }
         ensures planned { (m : Machine) → Stands M.seen self.now m →
-            IfOk result (λ v. IsGoing m patterns.now v.items) }
+            IfOk result (λ v. AreSlotsGoing m patterns.now v.items) }
         ensures refused { (m : Machine) → Stands M.seen self.now m →
             IfErr result (RefusesScratch m patterns.now) }
         ensures unguarded { IfOk result (λ v. AreUnguarded (M.seen self.now.medium).protected v.items) }
@@ -113,16 +113,16 @@ impl<M: Medium> Dos<M> {
     /// Scratches these slots, and reports how many they were.
     fn scratch_slots(&mut self, slots: &[u8])
         requires { length slots.now ≤ 144 }
-        ensures goes { (m : Machine) (patterns : _) → IsGoing m patterns slots.now → Stands M.seen self.old m →
+        ensures goes { (m : Machine) (patterns : _) → AreSlotsGoing m patterns slots.now → Stands M.seen self.old m →
             WentFrom M.seen self.old self.new 15 (λ n. answered n (scratch patterns n)) m }
         ensures channels { self.new.channels ≡ self.old.channels }
         ensures count { length self.new.channels ≡ 15 }
         ensures spared { AreUnguarded (M.seen self.old.medium).protected slots.now →
             KeepsIfRefused M.seen self.old self.new }
         ensures medium { KeepsMedium (M.seen self.old.medium) (M.seen self.new.medium) }
-        ensures outside { (m : Machine) (patterns : _) → IsGoing m patterns slots.now → Stands M.seen self.old m →
+        ensures outside { (m : Machine) (patterns : _) → AreSlotsGoing m patterns slots.now → Stands M.seen self.old m →
             KeepsOutside (M.seen self.old.medium) (M.seen self.new.medium) }
-        ensures counted { IsCounted M.seen self.old self.new }
+        ensures counted { IsFailureCounted M.seen self.old self.new }
     {
         match self.clear(slots) {
             Ok(()) => self.set(Status {

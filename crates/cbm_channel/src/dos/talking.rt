@@ -8,7 +8,7 @@ use cbm_volume::Medium;
 impl<M: Medium> Dos<M> {
     ghost use Rattle.std.specs.Prelude.{◌≡◌, ◌≤◌, ◌<◌, ℕ, false, true, Some, IsSome, slice_index_or};
     ghost use Rattle.cbm_machine.specs.Machines.{Machine};
-    ghost use Rattle.cbm_machine.specs.Talking.{peek, taken, talk, talk_keeping_error, listen};
+    ghost use Rattle.cbm_machine.specs.Talking.{peek, taken, after_talk, talk_keeping_error, after_listen};
     ghost use Rattle.cbm_channel.specs.Grounds.{IsToldFor};
     ghost use Rattle.cbm_channel.specs.Standing.{Stands, SameBut, Leads};
     ghost use Rattle.cbm_channel.specs.Shown.{has_records_on, shown_by};
@@ -20,7 +20,7 @@ impl<M: Medium> Dos<M> {
     /// record of its place isn't there.
     pub fn talk(&mut self, channel: u8)
         requires { channel ≤ 15 }
-        ensures leads { Leads M.seen self.old self.new (talk channel) }
+        ensures leads { Leads M.seen self.old self.new (after_talk channel) }
         // On any disk:
         ensures channels { self.new.channels ≡ self.old.channels }
         ensures told { IsToldFor M.seen self.old self.new }
@@ -53,7 +53,7 @@ impl<M: Medium> Dos<M> {
     /// LISTEN: asks a channel to take bytes; the status becomes 61 where it is neither 15 nor open for writing.
     pub fn listen(&mut self, channel: u8)
         requires { channel ≤ 15 }
-        ensures leads { Leads M.seen self.old self.new (listen channel) }
+        ensures leads { Leads M.seen self.old self.new (after_listen channel) }
         // On any disk:
         ensures channels { self.new.channels ≡ self.old.channels }
         ensures told { IsToldFor M.seen self.old self.new }

@@ -13,7 +13,7 @@ impl<M: Medium> Dos<M> {
     ghost use Rattle.cbm_channel.specs.ChannelCalls.{LeavesOutside};
     ghost use Rattle.cbm_channel.specs.Standing.{Stands};
     ghost use Rattle.cbm_channel.specs.Grounds.{KeepsIfRefused, OrdersDisk};
-    ghost use Rattle.cbm_channel.specs.Going.{IsCounted, Went, KeepsMedium};
+    ghost use Rattle.cbm_channel.specs.Going.{IsFailureCounted, Went, KeepsMedium};
 
     /// V: files that were never closed go, and each block is free or a file's. 60 where a channel is open; where the
     /// disk can't be mended, its flaw is reported and nothing is changed.
@@ -26,7 +26,7 @@ impl<M: Medium> Dos<M> {
         ensures ordered { OrdersDisk M.seen self.old self.new }
         ensures medium { KeepsMedium (M.seen self.old.medium) (M.seen self.new.medium) }
         ensures outside { LeavesOutside M.seen self.old self.new }
-        ensures counted { IsCounted M.seen self.old self.new }
+        ensures counted { IsFailureCounted M.seen self.old self.new }
     {
         if self.is_any_open() {
             self.say(Code::WriteFileOpen);

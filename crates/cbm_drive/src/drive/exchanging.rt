@@ -9,7 +9,7 @@ impl<M: Medium> Drive<Desk<M>> {
     ghost use Rattle.std.specs.Prelude.{◌≡◌};
     ghost use Rattle.cbm_channel.specs.Exchanged.{still_telling};
     ghost use Rattle.cbm_file.specs.Files.{Disk};
-    ghost use Rattle.cbm_channel.specs.Machines.{start};
+    ghost use Rattle.cbm_machine.specs.Machines.{start};
     ghost use Rattle.cbm_iec.specs.Ports.{resting};
     ghost use Rattle.cbm_volume.specs.Holding.{HoldsDisk};
     ghost use Rattle.cbm_drive.specs.Addressing.{paced, unaddressed};

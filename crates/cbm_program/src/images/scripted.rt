@@ -1,9 +1,9 @@
 //! Scripts on the disk of an image.
 ghost use Rattle.std.specs.Prelude.{◌≡◌, ◌≤◌, ℕ, false, List, Option, Ok, codes, IfSome, IfOk, IfErr};
-ghost use Rattle.bus_traces.specs.Lines.{bytes_left, TakesLine};
+ghost use Rattle.bus_traces.specs.Lines.{source_bytes_left, TakesLine};
 ghost use Rattle.cbm_host.specs.Hosted.{party_of};
 ghost use Rattle.cbm_program.specs.Outcome.{ServesScript, PlaysScript};
-ghost use Rattle.cbm_program.specs.Output.{Grows};
+ghost use Rattle.cbm_program.specs.Output.{AppendsMore};
 ghost use Rattle.cbm_program.specs.Running.{LineRead, LineIsInRange, EndsAs, IsOfScript};
 ghost use Rattle.cbm_program.specs.Starts.{IsDevice, StartsFrom, KeptBy};
 ghost use Rattle.cbm_program.specs.Traces.{WritesTrace};
@@ -33,13 +33,13 @@ pub(crate) trait RunsScripts: DiskImage {
         writer: &mut W,
     ) -> Result<Self, RunFault>
         requires { IsDevice device }
-        ensures played { (input : Option (List ℕ)) → TakesLine input (bytes_left R.remaining lines.old) (codes "lines") →
+        ensures played { (input : Option (List ℕ)) → TakesLine input (source_bytes_left R.remaining lines.old) (codes "lines") →
             PlaysScript result (StartsFrom (Self.seen self)) (λ after. KeptBy (Self.seen after)) (party_of pace device) false
             input (W.contents writer.old) (W.contents writer.new) }
         // Whatever the drive represents:
-        ensures wrote { (input : Option (List ℕ)) → TakesLine input (bytes_left R.remaining lines.old) (codes "lines") →
+        ensures wrote { (input : Option (List ℕ)) → TakesLine input (source_bytes_left R.remaining lines.old) (codes "lines") →
             EndsAs result (WritesTrace (party_of pace device) input (W.contents writer.old) (W.contents writer.new)) }
-        ensures grows { Grows (W.contents writer.old) (W.contents writer.new) }
+        ensures grows { AppendsMore (W.contents writer.old) (W.contents writer.new) }
         ensures same_tracks { IfOk result (λ after. (Self.seen after).tracks ≡ (Self.seen self).tracks) }
         ensures cause { IfErr result IsOfScript };
 
@@ -54,10 +54,10 @@ pub(crate) trait RunsScripts: DiskImage {
     ) -> Result<Self, RunFault>
         requires first { IfSome first LineIsInRange }
         requires device { IsDevice device }
-        ensures served { (input : Option (List ℕ)) → LineRead input (bytes_left R.remaining lines.old) 1 (Ok first) →
+        ensures served { (input : Option (List ℕ)) → LineRead input (source_bytes_left R.remaining lines.old) 1 (Ok first) →
             ServesScript result (StartsFrom (Self.seen self)) (λ after. KeptBy (Self.seen after)) pace false input
             (W.contents writer.old) (W.contents writer.new) }
-        ensures grows { Grows (W.contents writer.old) (W.contents writer.new) }
+        ensures grows { AppendsMore (W.contents writer.old) (W.contents writer.new) }
         ensures same_tracks { IfOk result (λ after. (Self.seen after).tracks ≡ (Self.seen self).tracks) }
         ensures cause { IfErr result IsOfScript };
 

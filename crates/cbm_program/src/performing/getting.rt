@@ -5,7 +5,7 @@ ghost use Rattle.cbm_program.specs.declared.request.ScriptRequest.TheVariants.{G
 ghost use Rattle.cbm_program.specs.Running.{IsInRange};
 ghost use Rattle.cbm_program.specs.Scripts.{hex_digit, printed_by};
 ghost use Rattle.cbm_program.specs.Output.{Writes};
-ghost use Rattle.cbm_program.specs.Performing.{GoesOn, HasPrinted, SaysRest};
+ghost use Rattle.cbm_program.specs.Performing.{GoesOnHosting, HasPrinted, SaysRest};
 ghost use Rattle.cbm_program.specs.Units.{unit_text, get_head};
 
 use crate::fault::RunFault;
@@ -78,7 +78,7 @@ pub(crate) fn print_get<M: Steady, W: Write>(
     requires moment { drive.old.moment < 2 ^ 58 }
     ensures printed { HasPrinted M.seen result (W.contents writer.old) (W.contents writer.new) drive.old drive.new
         (printed_by drive.old.pace (Get channel most)) }
-    ensures drive { GoesOn M.seen drive.old drive.new }
+    ensures drive { GoesOnHosting M.seen drive.old drive.new }
 {
     let mut performer = drive.ask(Request::Get(channel, most));
     let Some((byte, is_last)) = drive.take(&mut performer) else {

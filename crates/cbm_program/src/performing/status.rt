@@ -4,7 +4,7 @@ ghost use Rattle.cbm_machine.specs.Machines.{Machine};
 ghost use Rattle.cbm_machine.specs.Calls.{without_return};
 ghost use Rattle.cbm_host.specs.Hosted.{Rests};
 ghost use Rattle.cbm_program.specs.declared.request.ScriptRequest.TheVariants.{Status};
-ghost use Rattle.cbm_program.specs.Performing.{GoesOn, HasPrinted};
+ghost use Rattle.cbm_program.specs.Performing.{GoesOnHosting, HasPrinted};
 ghost use Rattle.cbm_program.specs.Scripts.{status_said, printed_by};
 
 use crate::fault::RunFault;
@@ -39,7 +39,7 @@ fn status_line<M: Steady>(drive: &mut Hosted<M>) -> ArrayVec<u8, 33>
     requires { drive.old.moment < 2 ^ 58 }
     ensures told { (m : Machine) → Rests M.seen drive.old m
         → ((status_said m).bytes ≡ result.items) × Rests M.seen drive.new (status_said m).machine }
-    ensures drive { GoesOn M.seen drive.old drive.new }
+    ensures drive { GoesOnHosting M.seen drive.old drive.new }
 {
     let mut line = ArrayVec::new();
     let mut performer = drive.ask(Request::Status);
@@ -57,7 +57,7 @@ pub(crate) fn print_status<M: Steady, W: Write>(
     requires { drive.old.moment < 2 ^ 58 }
     ensures printed { HasPrinted M.seen result (W.contents writer.old) (W.contents writer.new) drive.old drive.new
         (printed_by drive.old.pace Status) }
-    ensures drive { GoesOn M.seen drive.old drive.new }
+    ensures drive { GoesOnHosting M.seen drive.old drive.new }
 {
     let told = status_line(drive);
     let mut line = ArrayVec::<u8, 64>::new();

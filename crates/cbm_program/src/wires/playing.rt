@@ -1,13 +1,13 @@
 //! A script of line changes, from its second line to its end or its first bad line.
 ghost use Rattle.std.specs.Prelude.{◌≡◌, ◌≤◌, ◌∷◌, [], ℕ, false, List, Option, codes, length, IfOk, IfErr, OnErr};
-ghost use Rattle.bus_traces.specs.Lines.{bytes_left, TakesLine};
+ghost use Rattle.bus_traces.specs.Lines.{source_bytes_left, TakesLine};
 ghost use Rattle.cbm_drive.specs.Desks.{desk_shows};
 ghost use Rattle.cbm_host.specs.Hosted.{party_of};
 ghost use Rattle.cbm_medium.specs.Seen.{Seen};
 ghost use Rattle.cbm_program.specs.Outcome.{IsTracedTo, IsTracedPart, PlaysScript};
-ghost use Rattle.cbm_program.specs.Output.{Grows};
+ghost use Rattle.cbm_program.specs.Output.{AppendsMore};
 ghost use Rattle.cbm_program.specs.Running.{EndsAs, IsOfScript};
-ghost use Rattle.cbm_program.specs.Staging.{IsOpen, IsBorne, IsFresh, IsSwitchedOn, StandsOn, tracks_in};
+ghost use Rattle.cbm_program.specs.Staging.{IsOpen, IsBorne, IsFresh, IsDriveSwitchedOn, StandsOn, tracks_of_drives};
 ghost use Rattle.cbm_program.specs.Starts.{IsDevice, StartsFrom, KeptBy};
 ghost use Rattle.cbm_program.specs.TimedReading.{TimedRead, BehindRead};
 ghost use Rattle.cbm_program.specs.Traces.{WritesTrace};
@@ -30,7 +30,7 @@ fn read_timed<R: Read>(
     number: u32,
     from: u64,
 ) -> Result<Timed, RunFault>
-    ensures { TimedRead (bytes_left R.remaining lines.old) (bytes_left R.remaining lines.new) number from result }
+    ensures { TimedRead (source_bytes_left R.remaining lines.old) (source_bytes_left R.remaining lines.new) number from result }
 {
     if !next_line(lines, bytes, number)? {
         return Err(RunFault::Script(number));
@@ -45,7 +45,7 @@ fn read_behind<R: Read>(
     first: u32,
 ) -> Result<(), RunFault>
     requires { first ≤ 1000001 }
-    ensures { BehindRead (bytes_left R.remaining lines.old) first result }
+    ensures { BehindRead (source_bytes_left R.remaining lines.old) first result }
 {
     let mut number = first;
     'lines: while next_line(lines, bytes, number)? {
@@ -67,22 +67,22 @@ fn play_on<M: Steady, R: Read, W: Write>(
     writer: &mut W,
 ) -> Result<(), RunFault>
     requires open { IsOpen stage.old.player 0 }
-    requires one { length (tracks_in M.seen stage.old.bus) ≡ 1 }
+    requires one { length (tracks_of_drives M.seen stage.old.bus) ≡ 1 }
     requires device { IsDevice device }
     // Up to its end or its first bad line the script's trace was written, and the drive is in the state after it.
-    ensures ended { (input : Option (List ℕ)) → TakesLine input (bytes_left R.remaining lines.old) (codes "lines") →
+    ensures ended { (input : Option (List ℕ)) → TakesLine input (source_bytes_left R.remaining lines.old) (codes "lines") →
         EndsAs result (IsTracedTo (party_of pace device) false input (W.contents writer.old) (W.contents writer.new)
-        (IsSwitchedOn M.seen (party_of pace device) stage.old.player stage.old.bus) (IsBorne M.seen stage.new.bus)) }
+        (IsDriveSwitchedOn M.seen (party_of pace device) stage.old.player stage.old.bus) (IsBorne M.seen stage.new.bus)) }
     // At a fault a beginning of that was written.
-    ensures fault { (input : Option (List ℕ)) → TakesLine input (bytes_left R.remaining lines.old) (codes "lines") →
+    ensures fault { (input : Option (List ℕ)) → TakesLine input (source_bytes_left R.remaining lines.old) (codes "lines") →
         OnErr result (IsTracedPart (party_of pace device) false input (W.contents writer.old) (W.contents writer.new)
-        (IsSwitchedOn M.seen (party_of pace device) stage.old.player stage.old.bus)) }
-    ensures tracks { tracks_in M.seen stage.new.bus ≡ tracks_in M.seen stage.old.bus }
+        (IsDriveSwitchedOn M.seen (party_of pace device) stage.old.player stage.old.bus)) }
+    ensures tracks { tracks_of_drives M.seen stage.new.bus ≡ tracks_of_drives M.seen stage.old.bus }
     // Whatever the drive represents:
     ensures wrote { (input : Option (List ℕ)) → IsFresh desk_shows (party_of pace device) stage.old.player stage.old.bus →
-        TakesLine input (bytes_left R.remaining lines.old) (codes "lines") → EndsAs result
+        TakesLine input (source_bytes_left R.remaining lines.old) (codes "lines") → EndsAs result
         (WritesTrace (party_of pace device) input (W.contents writer.old) (W.contents writer.new)) }
-    ensures grows { Grows (W.contents writer.old) (W.contents writer.new) }
+    ensures grows { AppendsMore (W.contents writer.old) (W.contents writer.new) }
     ensures cause { IfErr result IsOfScript }
 {
     let mut bytes = ArrayVec::new();
@@ -117,18 +117,18 @@ pub(crate) fn run_changes<M: Steady + Drop, R: Read, W: Write>(
     writer: &mut W,
 ) -> Result<M, RunFault>
     requires open { IsOpen stage.player 0 }
-    requires one { length (tracks_in M.seen stage.bus) ≡ 1 }
+    requires one { length (tracks_of_drives M.seen stage.bus) ≡ 1 }
     requires device { IsDevice device }
     ensures played { (shows : Seen) (input : Option (List ℕ)) →
         StandsOn M.seen shows (party_of pace device) stage.player stage.bus →
-        TakesLine input (bytes_left R.remaining lines.old) (codes "lines") → PlaysScript result (StartsFrom shows)
+        TakesLine input (source_bytes_left R.remaining lines.old) (codes "lines") → PlaysScript result (StartsFrom shows)
         (λ after. KeptBy (M.seen after)) (party_of pace device) false input (W.contents writer.old) (W.contents writer.new) }
     // Whatever the drive represents:
     ensures wrote { (input : Option (List ℕ)) → IsFresh desk_shows (party_of pace device) stage.player stage.bus →
-        TakesLine input (bytes_left R.remaining lines.old) (codes "lines") → EndsAs result
+        TakesLine input (source_bytes_left R.remaining lines.old) (codes "lines") → EndsAs result
         (WritesTrace (party_of pace device) input (W.contents writer.old) (W.contents writer.new)) }
-    ensures grows { Grows (W.contents writer.old) (W.contents writer.new) }
-    ensures same_tracks { IfOk result (λ after. (M.seen after).tracks ∷ [] ≡ tracks_in M.seen stage.bus) }
+    ensures grows { AppendsMore (W.contents writer.old) (W.contents writer.new) }
+    ensures same_tracks { IfOk result (λ after. (M.seen after).tracks ∷ [] ≡ tracks_of_drives M.seen stage.bus) }
     ensures cause { IfErr result IsOfScript }
 {
     let mut stage = stage;

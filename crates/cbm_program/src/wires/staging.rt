@@ -7,7 +7,7 @@ ghost use Rattle.cbm_drive.specs.Desks as desks;
 ghost use Rattle.cbm_drive.specs.Seats.{Seated};
 ghost use Rattle.cbm_host.specs.Hosted.{party_of};
 ghost use Rattle.cbm_program.specs.Output.{Writes};
-ghost use Rattle.cbm_program.specs.Staging.{IsOpen, IsBorne, IsFresh, StandsOn, PlaysOn, Ends, ReplaysOn, ReplaysTo, HasStaged, tracks_in};
+ghost use Rattle.cbm_program.specs.Staging.{IsOpen, IsBorne, IsFresh, StandsOn, PlaysOn, Ends, ReplaysOn, ReplaysTo, HasStaged, tracks_of_drives};
 ghost use Rattle.cbm_program.specs.Starts.{KeptBy};
 
 use crate::fault::RunFault;
@@ -42,7 +42,7 @@ impl<M: Steady> Stage<M> {
         ensures at { StandsOn M.seen (M.seen medium) (party_of pace device) result.player result.bus }
         // With any disk:
         ensures fresh { IsFresh desks.desk_shows (party_of pace device) result.player result.bus }
-        ensures tracks { tracks_in M.seen result.bus ≡ (M.seen medium).tracks ∷ [] }
+        ensures tracks { tracks_of_drives M.seen result.bus ≡ (M.seen medium).tracks ∷ [] }
     {
         let desk = Desk::at_power_up(medium, device).with_pace(pace);
         let party = Party {

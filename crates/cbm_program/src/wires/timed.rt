@@ -1,7 +1,7 @@
 //! What a line of a script of line changes asks for.
 ghost use Rattle.std.specs.Prelude.{◌≡◌, ◌≤◌, option_map, IfSome};
 ghost use Rattle.bus_traces.specs.Events.{host_event_of};
-ghost use Rattle.cbm_program.specs.Timed.{change_of, end_of, timed_of, timed_behind, is_skipped, IsTimed, latest};
+ghost use Rattle.cbm_program.specs.Timed.{timed_change, timed_end, timed_of, timed_behind, is_skipped, IsTimed, latest_timed};
 
 use bus_traces::{host_event_of, moment_of, split_word};
 use cbm_drive::Change;
@@ -18,7 +18,7 @@ pub(crate) enum Timed {
 }
 
 fn change(bytes: &[u8]) -> Option<Timed>
-    ensures value { result ≡ change_of (host_event_of bytes.now) }
+    ensures value { result ≡ timed_change (host_event_of bytes.now) }
     ensures moment { IfSome result IsTimed }
 {
     let event = host_event_of(bytes)?;
@@ -26,7 +26,7 @@ fn change(bytes: &[u8]) -> Option<Timed>
 }
 
 fn end(rest: Option<&[u8]>) -> Option<Timed>
-    ensures value { result ≡ end_of (option_map (λ word. word.now) rest.entry) }
+    ensures value { result ≡ timed_end (option_map (λ word. word.now) rest.entry) }
 {
     Some(Timed::Ends(moment_of(rest?)?))
 }
@@ -51,7 +51,7 @@ fn parse_timed(bytes: &[u8]) -> Option<Timed>
 /// The same of a line that comes after a moment: what it asks for doesn't come before it.
 pub(crate) fn timed_from(bytes: &[u8], from: u64) -> Option<Timed>
     ensures value { result ≡ timed_behind from (timed_of bytes.now) }
-    ensures moment { IfSome result (λ timed. IsTimed timed × (from ≤ latest from timed)) }
+    ensures moment { IfSome result (λ timed. IsTimed timed × (from ≤ latest_timed from timed)) }
 {
     match parse_timed(bytes)? {
         Timed::Skipped => Some(Timed::Skipped),

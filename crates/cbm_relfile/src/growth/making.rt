@@ -2,7 +2,7 @@
 
 ghost use Rattle.std.specs.Prelude.{◌≡◌, ◌≤◌, true, IfOk, IfErr, IfSome, OnOk, MatchOption};
 ghost use Rattle.cbm_medium.specs.Seen.{OnlyContent};
-ghost use Rattle.cbm_relfile.specs.Making.{one_listed, IsFreshBlock, AreClaimed, LacksBlocks, IsClaimStopped, IsNew, IsNewStopped};
+ghost use Rattle.cbm_relfile.specs.Making.{one_listed, IsFreshBlock, AreClaimed, LacksBlocks, IsClaimStopped, IsNewRelfile, IsNewStopped};
 
 use crate::growth::fresh::{fresh_from, full_end};
 use crate::side::{BLOCKS, RECORD_LENGTH, SIDES};
@@ -68,7 +68,7 @@ pub fn write_new<M: Medium>(
     requires block { block.track ≤ geometry }
     requires side { side.track ≤ geometry }
     requires length { 1 ≤ length }
-    ensures written { OnOk result (IsNew (M.seen medium.old).content (M.seen medium.new).content block side length) }
+    ensures written { OnOk result (IsNewRelfile (M.seen medium.old).content (M.seen medium.new).content block side length) }
     ensures stopped { IfErr result
         (λ t. IsNewStopped (M.seen medium.old) (M.seen medium.new) block side t.code) }
     ensures only { OnlyContent geometry result (M.seen medium.old) (M.seen medium.new) }

@@ -1,11 +1,11 @@
 -- A drive that hears a frame of the host: how it stands, and the byte that its bits make.
 use Rattle.std.proofs.Common.{◌≡◌, ℕ, ◌+◌, ◌*◌, ◌/◌, ◌≤◌, inl, inr, Bool, true, false, not, List, [], ◌∷◌, length, Option, None, ap, arith, refl}
 use Rattle.std.specs.Prelude.{if◌then◌else◌, ◌==◌}
-use Rattle.cbm_iec.specs.Hearing.{with_bit}
+use Rattle.cbm_iec.specs.Hearing.{with_bit_read}
 use Rattle.cbm_iec.specs.Ports.{side_due}
 use Rattle.cbm_iec.specs.Roles.{role_after}
-use Rattle.cbm_iec.specs.declared.act.Act.TheVariants.{Attention, Heard}
-use Rattle.cbm_iec.specs.declared.act.Act.{Act}
+use Rattle.cbm_iec.specs.declared.machine.Act.TheVariants.{Attention, Heard}
+use Rattle.cbm_iec.specs.declared.machine.Act.{Act}
 use Rattle.cbm_iec.specs.declared.ear.Ear.TheVariants.{Holding, Gathering, Accepting}
 use Rattle.cbm_iec.specs.declared.ear.Ear.{Ear}
 use Rattle.cbm_iec.specs.declared.lines.Held.{Held}
@@ -15,7 +15,7 @@ use Rattle.cbm_iec.specs.declared.party.Role.{Role}
 use Rattle.cbm_iec.specs.declared.port.Port.{Port}
 use Rattle.cbm_iec.specs.declared.port.Side.TheVariants.{Hearing}
 use Rattle.cbm_iec.specs.declared.port.Side.{Side}
-use Rattle.cbm_session.specs.Bits.{Cell, byte_of}
+use Rattle.cbm_session.specs.Bits.{BitCell, byte_in_cells}
 use Rattle.cbm_session.specs.Following.{IsDone}
 use Rattle.cbm_session.specs.Seats.{lines}
 
@@ -35,13 +35,13 @@ abbrev pub gathers : Party → Role → Bool → Bool → Bool → ℕ → ℕ �
 gathers b role atn held eoi count byte = stands b role (lines false false) (wires atn true held) (Hearing (Gathering eoi count byte))
 
 abbrev pub cell_ear : ℕ → Bool → ℕ → ℕ → Bool → ℕ → Ear
-cell_ear r eoi count byte bit pull = if (count + 1) == 8 then Accepting (pull + r) eoi (with_bit byte (not bit)) else Gathering eoi (count + 1) (with_bit byte (not bit))
+cell_ear r eoi count byte bit pull = if (count + 1) == 8 then Accepting (pull + r) eoi (with_bit_read byte (not bit)) else Gathering eoi (count + 1) (with_bit_read byte (not bit))
 
 module _ (peek : Option (ℕ × Bool)) (b : Party) (role : Role) where
   -- the byte as the bits come in at the top
-  abbrev pub shifted : ℕ → List Cell → ℕ
+  abbrev pub shifted : ℕ → List BitCell → ℕ
   shifted byte [] = byte
-  shifted byte (c ∷ cs) = shifted (with_bit byte (not c.bit)) cs
+  shifted byte (c ∷ cs) = shifted (with_bit_read byte (not c.bit)) cs
 
   -- behind the accept it is in hold again, with the role that the byte makes
   abbrev pub accepted_role : Bool → ℕ → Role
@@ -70,7 +70,7 @@ top_is : (bit : Bool) → (if not bit then 0 else 128) ≡ 128 * one bit
 top_is true = refl
 top_is false = refl
 
-pub shifted_is : (peek : Option (ℕ × Bool)) (p : Party) (r : Role) (cells : List Cell) → length cells ≡ 8 → shifted peek p r 0 cells ≡ byte_of cells
+pub shifted_is : (peek : Option (ℕ × Bool)) (p : Party) (r : Role) (cells : List BitCell) → length cells ≡ 8 → shifted peek p r 0 cells ≡ byte_in_cells cells
 shifted_is k p r [] l = absurd (omega (arith, l))
 shifted_is k p r (a ∷ []) l = absurd (omega (arith, l))
 shifted_is k p r (a ∷ b ∷ []) l = absurd (omega (arith, l))

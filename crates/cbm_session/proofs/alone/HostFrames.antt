@@ -1,13 +1,14 @@
 -- A drive alone with the host follows a frame: what it follows among drives, where there are none.
 use Rattle.std.proofs.Common.{◌≡◌, ℕ, zero, ◌+◌, ◌≤◌, inl, Bool, true, false, not, List, [], ◌∷◌, ◌++◌, Option, Some, None, ap, sym, ◌∙◌, subst, arith, refl, eq-eqb}
 use Rattle.std.specs.Prelude.{if◌then◌else◌, nat_eq}
+use Rattle.cbm_iec.specs.Changes.{lines_after}
 use Rattle.cbm_iec.specs.Ports.{told, told_act}
-use Rattle.cbm_iec.specs.declared.act.Act.{Act}
+use Rattle.cbm_iec.specs.declared.machine.Act.{Act}
 use Rattle.cbm_iec.specs.declared.ear.Ear.TheVariants.{Holding}
 use Rattle.cbm_iec.specs.declared.event.Who.TheVariants.{Host, Drive}
 use Rattle.cbm_iec.specs.declared.event.Who.{Who}
-use Rattle.cbm_iec.specs.declared.line.Line.TheVariants.{Clock, Data}
-use Rattle.cbm_iec.specs.declared.line.Way.TheVariants.{Pull, Free}
+use Rattle.cbm_iec.specs.declared.lines.Line.TheVariants.{Clock, Data}
+use Rattle.cbm_iec.specs.declared.lines.Way.TheVariants.{Pull, Free}
 use Rattle.cbm_iec.specs.declared.lines.Held.{Held}
 use Rattle.cbm_iec.specs.declared.lines.Lines.{Lines}
 use Rattle.cbm_iec.specs.declared.party.Party.{Party}
@@ -23,8 +24,8 @@ use Rattle.cbm_session.proofs.joining.Seating.{Sits}
 use Rattle.cbm_session.proofs.joining.Talkers.{true_false}
 use Rattle.cbm_session.specs.Among as among
 use Rattle.cbm_session.specs.Among.{Rest, wires_of, behind_host, CountsFor, ComesBehind, IsBehind, FollowsAmong}
-use Rattle.cbm_session.specs.Bits.{where_held, Cell, cell_steps, cells_steps, held_after, byte_of}
-use Rattle.cbm_session.specs.Following.{lines_after, Counts, IsLaterBy, IsLater, reaction_steps, Follows, ends, tells, reacts}
+use Rattle.cbm_session.specs.Bits.{where_held, BitCell, cell_steps, cells_steps, held_after, byte_in_cells}
+use Rattle.cbm_session.specs.Following.{Counts, IsLaterBy, IsLater, reaction_steps, Follows, ends, tells, reacts}
 use Rattle.cbm_session.specs.Frames.{Sent, end_of, pulse, SentFits}
 use Rattle.cbm_session.specs.Seats.{lines, Seat, device, reaction}
 use Rattle.cbm_session.specs.Steps.{Mark, Step, host, drive, for_one, moment_of, Plain, ForEach, For}
@@ -75,7 +76,7 @@ module _ (peek : Option (ℕ × Bool)) where
       reacts t more d e sh (later t more l) (among_alone f o (alone_right q.party.device (reaction_steps t peek q) more (subst (AllAlone q.party.device) e h)))
 
 -- a frame's steps are the host's and the drive's
-cells_alone : (d : ℕ) (held : Bool) (cs : List Cell) → AllAlone d (cells_steps held cs)
+cells_alone : (d : ℕ) (held : Bool) (cs : List BitCell) → AllAlone d (cells_steps held cs)
 cells_alone d held [] = tt
 cells_alone d held (c ∷ cs) = alone_append d (cell_steps held c) (cells_steps (not c.bit) cs) (one held c.bit c.set c.free c.pull) (cells_alone d (not c.bit) cs)
   where
@@ -118,16 +119,16 @@ module _ (peek : Option (ℕ × Bool)) (b : Party) (role : Role) (own : Held) (f
 
   -- in attention and to a listener
   pub frame_follows : (atn : Bool) → SentFits (alone_seat ∷ []) false f
-      → Follows peek (stands b role (lines false true) (wires atn true false) (Hearing Holding)) (one_frame (f.ready + b.reaction) alone_seat false (told_by peek b role atn (byte_of f.cells) false) f) (held_again peek b role atn (byte_of f.cells))
+      → Follows peek (stands b role (lines false true) (wires atn true false) (Hearing Holding)) (one_frame (f.ready + b.reaction) alone_seat false (told_by peek b role atn (byte_in_cells f.cells) false) f) (held_again peek b role atn (byte_in_cells f.cells))
   frame_follows atn h =
       let k = frame_among peek alone_seat alone_seat [] atn f (some, prompt, tt) h sits in
       let none : k.0 ≡ zero = omega (arith, k.1) in
-      let all = subst (λ (n : ℕ). FollowsAmong peek (in_hold atn n) (holds peek b role false atn n) (one_frame (f.ready + b.reaction) alone_seat false (told_by peek b role atn (byte_of f.cells) false) f) (in_hold atn n) (behind_byte peek b role false atn (byte_of f.cells) n)) none k.2 in
-      among_alone peek all refl (frame_alone (f.ready + b.reaction) alone_seat false (told_by peek b role atn (byte_of f.cells) false) f)
+      let all = subst (λ (n : ℕ). FollowsAmong peek (in_hold atn n) (holds peek b role false atn n) (one_frame (f.ready + b.reaction) alone_seat false (told_by peek b role atn (byte_in_cells f.cells) false) f) (in_hold atn n) (behind_byte peek b role false atn (byte_in_cells f.cells) n)) none k.2 in
+      among_alone peek all refl (frame_alone (f.ready + b.reaction) alone_seat false (told_by peek b role atn (byte_in_cells f.cells) false) f)
 
   -- to a listener, with the end signalled
   pub last_frame_follows : SentFits (alone_seat ∷ []) true f
-      → Follows peek (stands b role (lines false true) (wires false true false) (Hearing Holding)) (one_frame (f.ready + b.reaction) alone_seat true (told_by peek b role false (byte_of f.cells) true) f) (held_again peek b role false (byte_of f.cells))
+      → Follows peek (stands b role (lines false true) (wires false true false) (Hearing Holding)) (one_frame (f.ready + b.reaction) alone_seat true (told_by peek b role false (byte_in_cells f.cells) true) f) (held_again peek b role false (byte_in_cells f.cells))
   last_frame_follows h =
       let all = frame_with_end peek alone_seat alone_seat [] f (some, prompt, tt) h sits zero refl in
-      among_alone peek all refl (frame_alone (f.ready + b.reaction) alone_seat true (told_by peek b role false (byte_of f.cells) true) f)
+      among_alone peek all refl (frame_alone (f.ready + b.reaction) alone_seat true (told_by peek b role false (byte_in_cells f.cells) true) f)

@@ -10,10 +10,10 @@ use Rattle.std.proofs.lemmas.Bool.Decides.{leb_tells}
 use Rattle.std.specs.Prelude.{if◌then◌else◌}
 use Rattle.cbm_iec.specs.Ports.{side_due}
 use Rattle.cbm_iec.specs.Roles.{role_after}
-use Rattle.cbm_iec.specs.declared.act.Act.TheVariants.{Pulled, Attention, Released, Heard, Silent}
+use Rattle.cbm_iec.specs.declared.machine.Act.TheVariants.{Pulled, Attention, Released, Heard, Silent}
 use Rattle.cbm_iec.specs.declared.ear.Ear.TheVariants.{Idle, Starting, Leaving, Holding}
-use Rattle.cbm_iec.specs.declared.line.Line.TheVariants.{Atn, Clock, Data}
-use Rattle.cbm_iec.specs.declared.line.Way.TheVariants.{Pull, Free}
+use Rattle.cbm_iec.specs.declared.lines.Line.TheVariants.{Atn, Clock, Data}
+use Rattle.cbm_iec.specs.declared.lines.Way.TheVariants.{Pull, Free}
 use Rattle.cbm_iec.specs.declared.lines.Held.{Held}
 use Rattle.cbm_iec.specs.declared.lines.Lines.{Lines}
 use Rattle.cbm_iec.specs.declared.mouth.Mouth.TheVariants.{Answering, Led, Over}
@@ -29,10 +29,10 @@ use Rattle.cbm_session.proofs.alone.Talk.{said_port, told_follows}
 use Rattle.cbm_session.proofs.joining.Merging.{merge_here, merge_there}
 use Rattle.cbm_session.proofs.joining.OneDrive.{one_frame, StartsBehind, pull_is, told_is, frame_is}
 use Rattle.cbm_session.proofs.reading.PieceReadings.{seat, turn_first}
-use Rattle.cbm_session.specs.Bits.{where_held, where_free, number_of, byte_of}
+use Rattle.cbm_session.specs.Bits.{where_held, where_free, number_of, byte_in_cells}
 use Rattle.cbm_session.specs.Following.{IsInTime, Follows, alone, in_attention, SideAt, LinesAt, StandsAt, Says, FollowsPieces, ends, tells, reacts}
 use Rattle.cbm_session.specs.Frames.{Sent, Told, SentFits, is_last}
-use Rattle.cbm_session.specs.Pieces.{silent_at, silent_part, silent_end, Whole, Place, Point, freed_steps, steps_of, PullFits, FreedFits, IsCommanding, Fits, is_none, seat_with, obeying, whole_point, PullPiece, Command, Byte, ToListener, ToNobody, ToTalker, Nothing, Talk, Open, Commanding, Listening, Leading, Cutting, commanding}
+use Rattle.cbm_session.specs.Pieces.{silent_at, silent_part, silent_end, Whole, BusPlace, Point, freed_steps, steps_of, PullFits, FreedFits, IsCommanding, Fits, is_none, seat_with, obeying, whole_point, PullPiece, Command, Byte, ToListener, ToNobody, ToTalker, Nothing, Talk, Open, Commanding, Listening, Leading, Cutting, commanding}
 use Rattle.cbm_session.specs.Seats.{at_pace, lines, Seat, device, reaction, is_listener, is_talker}
 use Rattle.cbm_session.specs.Steps.{Step, host, drive, for_each, for_one, merge}
 
@@ -75,37 +75,37 @@ port_is q b r o l x e f g h i =
     ∙ ap (λ (y : Lines). stands b r o y q.side) h
     ∙ ap (λ (y : Side). stands b r o l y) i
 
-abbrev host_wires : Place → Held → Lines
+abbrev host_wires : BusPlace → Held → Lines
 host_wires place host = wires (in_attention place) host.clock_low host.data_low
 
 module _ (p : Point) (s : Seat) (q : Port) (h : StandsAt (alone p s) s q) where
   pub at_commanding : (some : Bool) → p.place ≡ Commanding some → q ≡ stands s.party s.role (lines false true) (wires true true false) (Hearing Holding)
   at_commanding some e =
-      let there : LinesAt (Commanding some) s.own p.host = subst (λ (x : Place). LinesAt x s.own p.host) e h.lines_there in
-      let side : SideAt (Commanding some) s.role q.side = subst (λ (x : Place). SideAt x s.role q.side) e h.side in
-      port_is q s.party s.role (lines false true) (wires true true false) (Hearing Holding) h.party h.role (h.own ∙ there.0) (h.others ∙ ap (λ (x : Place). host_wires x p.host) e ∙ ap (λ (x : Held). host_wires (Commanding some) x) there.1) side
+      let there : LinesAt (Commanding some) s.own p.host = subst (λ (x : BusPlace). LinesAt x s.own p.host) e h.lines_there in
+      let side : SideAt (Commanding some) s.role q.side = subst (λ (x : BusPlace). SideAt x s.role q.side) e h.side in
+      port_is q s.party s.role (lines false true) (wires true true false) (Hearing Holding) h.party h.role (h.own ∙ there.0) (h.others ∙ ap (λ (x : BusPlace). host_wires x p.host) e ∙ ap (λ (x : Held). host_wires (Commanding some) x) there.1) side
 
   pub at_listening : p.place ≡ Listening → q ≡ stands s.party s.role (lines false true) (wires false true false) (Hearing Holding)
   at_listening e =
-      let there : LinesAt Listening s.own p.host = subst (λ (x : Place). LinesAt x s.own p.host) e h.lines_there in
-      let side : SideAt Listening s.role q.side = subst (λ (x : Place). SideAt x s.role q.side) e h.side in
-      port_is q s.party s.role (lines false true) (wires false true false) (Hearing Holding) h.party h.role (h.own ∙ there.0) (h.others ∙ ap (λ (x : Place). host_wires x p.host) e ∙ ap (λ (x : Held). host_wires Listening x) there.1) side.1
+      let there : LinesAt Listening s.own p.host = subst (λ (x : BusPlace). LinesAt x s.own p.host) e h.lines_there in
+      let side : SideAt Listening s.role q.side = subst (λ (x : BusPlace). SideAt x s.role q.side) e h.side in
+      port_is q s.party s.role (lines false true) (wires false true false) (Hearing Holding) h.party h.role (h.own ∙ there.0) (h.others ∙ ap (λ (x : BusPlace). host_wires x p.host) e ∙ ap (λ (x : Held). host_wires Listening x) there.1) side.1
 
   pub at_leading : (at : ℕ) → p.place ≡ Leading at → q ≡ stands s.party s.role (lines true false) (wires false false true) (Speaking (Led at))
   at_leading at e =
-      let there : LinesAt (Leading at) s.own p.host = subst (λ (x : Place). LinesAt x s.own p.host) e h.lines_there in
-      let side : SideAt (Leading at) s.role q.side = subst (λ (x : Place). SideAt x s.role q.side) e h.side in
-      port_is q s.party s.role (lines true false) (wires false false true) (Speaking (Led at)) h.party h.role (h.own ∙ there.0) (h.others ∙ ap (λ (x : Place). host_wires x p.host) e ∙ ap (λ (x : Held). host_wires (Leading at) x) there.1) side.1
+      let there : LinesAt (Leading at) s.own p.host = subst (λ (x : BusPlace). LinesAt x s.own p.host) e h.lines_there in
+      let side : SideAt (Leading at) s.role q.side = subst (λ (x : BusPlace). SideAt x s.role q.side) e h.side in
+      port_is q s.party s.role (lines true false) (wires false false true) (Speaking (Led at)) h.party h.role (h.own ∙ there.0) (h.others ∙ ap (λ (x : BusPlace). host_wires x p.host) e ∙ ap (λ (x : Held). host_wires (Leading at) x) there.1) side.1
 
 -- ATN's pull finds nothing overdue
-pull_in_time : (p : Point) (at : ℕ) (place : Place) (r : Role) (x : Side) → SideAt place r x → PullFits p at place → IsInTime at (side_due x)
+pull_in_time : (p : Point) (at : ℕ) (place : BusPlace) (r : Role) (x : Side) → SideAt place r x → PullFits p at place → IsInTime at (side_due x)
 pull_in_time p at Open r x h f = subst (λ (o : Option ℕ). IsInTime at o) (sym (done_due x h)) tt
 pull_in_time p at (Commanding some) r x h f = elim f [ ]
 pull_in_time p at Listening r x h f = subst (λ (y : Side). IsInTime at (side_due y)) (sym h.1) tt
 pull_in_time p at (Leading t) r x h f = elim f [ ]
 pull_in_time p at (Cutting cut) r x h f = subst (λ (n : ℕ). IsInTime n (side_due x)) (sym f) h
 
-pub pull_out : (p : Point) (at : ℕ) (place : Place) → PullFits p at place → in_attention place ≡ false
+pub pull_out : (p : Point) (at : ℕ) (place : BusPlace) → PullFits p at place → in_attention place ≡ false
 pull_out p at Open f = refl
 pull_out p at (Commanding some) f = elim f [ ]
 pull_out p at Listening f = refl
@@ -131,7 +131,7 @@ pull_law s at p q peek h f y =
     )
 
 -- a frame of the host
-pub is_commanding : {x : Place} → IsCommanding x → (some : Bool) × (x ≡ Commanding some)
+pub is_commanding : {x : BusPlace} → IsCommanding x → (some : Bool) × (x ≡ Commanding some)
 is_commanding (commanding {some}) = (some, refl)
 
 starts_alone : (s : Seat) (eoi : Bool) (f : Sent) → SentFits (s ∷ []) eoi f → StartsBehind (f.ready + reaction s) s eoi f
@@ -142,7 +142,7 @@ command_law : (s : Seat) (f : Sent) → 1 ≤ reaction s → reaction s ≤ 60 �
 command_law s f r u p q peek h k y =
     let c = is_commanding k.0 in
     let same = at_commanding p s q h c.0 c.1 in
-    let byte = byte_of f.cells in
+    let byte = byte_in_cells f.cells in
     let q2 = stands s.party (role_after (device s) byte s.role) (lines false true) (wires true true false) (Hearing Holding) in
     let all = frame_follows peek s.party s.role s.own f r u true k.3 in (
       q2,
@@ -158,7 +158,7 @@ command_law s f r u p q peek h k y =
     )
 
 byte_follows : (peek : Option (ℕ × Bool)) (b : Party) (o : Held) (eoi : Bool) (f : Sent) → 1 ≤ b.reaction → b.reaction ≤ 60 → SentFits (seat b Listener o ∷ []) eoi f
-    → Follows peek (stands b Listener (lines false true) (wires false true false) (Hearing Holding)) (one_frame (f.ready + b.reaction) (seat b Listener o) eoi (told_by peek b Listener false (byte_of f.cells) eoi) f) (held_again peek b Listener false (byte_of f.cells))
+    → Follows peek (stands b Listener (lines false true) (wires false true false) (Hearing Holding)) (one_frame (f.ready + b.reaction) (seat b Listener o) eoi (told_by peek b Listener false (byte_in_cells f.cells) eoi) f) (held_again peek b Listener false (byte_in_cells f.cells))
 byte_follows peek b o true f r u h = last_frame_follows peek b Listener o f r u h
 byte_follows peek b o false f r u h = frame_follows peek b Listener o f r u false h
 
@@ -173,7 +173,7 @@ byte_law b o eoi f r u p q peek h k y =
         seat b Listener (lines false true),
         (
           subst (λ (x : Port). Follows peek x (steps_of (alone p s) (Byte eoi f)) q2) (sym same)
-              (subst (λ (zs : List Step). Follows peek (stands b Listener (lines false true) (wires false true false) (Hearing Holding)) zs q2) (sym (frame_is (f.ready + b.reaction) s (Heard (byte_of f.cells) eoi) f eoi (starts_alone s eoi f k.3) k.3.cells)) all),
+              (subst (λ (zs : List Step). Follows peek (stands b Listener (lines false true) (wires false true false) (Hearing Holding)) zs q2) (sym (frame_is (f.ready + b.reaction) s (Heard (byte_in_cells f.cells) eoi) f eoi (starts_alone s eoi f k.3) k.3.cells)) all),
           refl,
           record { party = refl; role = refl; own = refl; others = refl; side = (refl, refl); lines_there = (refl, refl) },
         ),
@@ -353,10 +353,10 @@ pub as_role : (w : Whole) (s : Seat) (r : Role) → s.role ≡ r → Law w (seat
 as_role w s r e f = subst (λ (x : Role). Law w (seat s.party x s.own)) (sym e) f
 
 leads_talker : (p : Point) (s : Seat) (q : Port) (at : ℕ) → StandsAt (alone p s) s q → p.place ≡ Leading at → s.role ≡ Talker
-leads_talker p s q at h e = let side : SideAt (Leading at) s.role q.side = subst (λ (x : Place). SideAt x s.role q.side) e h.side in side.0
+leads_talker p s q at h e = let side : SideAt (Leading at) s.role q.side = subst (λ (x : BusPlace). SideAt x s.role q.side) e h.side in side.0
 
 listens_listener : (p : Point) (s : Seat) (q : Port) → StandsAt (alone p s) s q → p.place ≡ Listening → s.role ≡ Listener
-listens_listener p s q h e = let side : SideAt Listening s.role q.side = subst (λ (x : Place). SideAt x s.role q.side) e h.side in side.0
+listens_listener p s q h e = let side : SideAt Listening s.role q.side = subst (λ (x : BusPlace). SideAt x s.role q.side) e h.side in side.0
 
 pub follows_pieces : FollowsPieces
 follows_pieces p s (PullPiece at) q peek r prompt h f y = pull_law s at p q peek h f y

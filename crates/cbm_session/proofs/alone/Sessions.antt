@@ -5,19 +5,20 @@ use Rattle.cbm_iec.specs.Profile.{bit_time}
 use Rattle.std.proofs.Common.{◌≡◌, ℕ, suc, ◌+◌, ◌≤◌, ◌<◌, inl, inr, Bool, true, false, List, [], ◌∷◌, ◌++◌, Option, Some, None, ap, sym, ◌∙◌, subst, arith, refl}
 use Rattle.std.proofs.lemmas.Bool.Decides.{leb_tells}
 use Rattle.std.specs.Prelude.{if◌then◌else◌}
+use Rattle.cbm_iec.specs.Changes.{is_pull, lines_after}
 use Rattle.cbm_iec.specs.Ports.{resting, port_due, next_held, side_role, side_act, reaction_act, changed, reaction_changes}
 use Rattle.cbm_iec.specs.Roles.{role_after}
-use Rattle.cbm_iec.specs.declared.act.Act.TheVariants.{Pulled, Attention, Released, Heard, Said, Silent}
-use Rattle.cbm_iec.specs.declared.act.Act.{Act}
+use Rattle.cbm_iec.specs.declared.machine.Act.TheVariants.{Pulled, Attention, Released, Heard, Said, Silent}
+use Rattle.cbm_iec.specs.declared.machine.Act.{Act}
 use Rattle.cbm_iec.specs.declared.ear.Ear.TheVariants.{Idle, Await, Starting, Leaving, Returning, Holding, Freeing, Ready, Timed, Pulsing, EoiNoted, Gathering, Accepting}
 use Rattle.cbm_iec.specs.declared.ear.Ear.{Ear}
 use Rattle.cbm_iec.specs.declared.event.Who.TheVariants.{Host, Drive}
 use Rattle.cbm_iec.specs.declared.event.Who.{Who}
-use Rattle.cbm_iec.specs.declared.line.Change.{Change}
-use Rattle.cbm_iec.specs.declared.line.Line.TheVariants.{Atn, Clock, Data}
-use Rattle.cbm_iec.specs.declared.line.Line.{Line}
-use Rattle.cbm_iec.specs.declared.line.Way.TheVariants.{Pull, Free}
-use Rattle.cbm_iec.specs.declared.line.Way.{Way}
+use Rattle.cbm_iec.specs.declared.lines.Change.{Change}
+use Rattle.cbm_iec.specs.declared.lines.Line.TheVariants.{Atn, Clock, Data}
+use Rattle.cbm_iec.specs.declared.lines.Line.{Line}
+use Rattle.cbm_iec.specs.declared.lines.Way.TheVariants.{Pull, Free}
+use Rattle.cbm_iec.specs.declared.lines.Way.{Way}
 use Rattle.cbm_iec.specs.declared.lines.Held.{Held}
 use Rattle.cbm_iec.specs.declared.lines.Lines.{Lines}
 use Rattle.cbm_iec.specs.declared.party.Party.{Party}
@@ -33,9 +34,9 @@ use Rattle.cbm_session.proofs.joining.Merging.{merge_here, merge_there, merge_ni
 use Rattle.cbm_session.proofs.joining.Owning.{AllOwned, part_owned}
 use Rattle.cbm_session.proofs.reading.OneReading.{is_atn, NoAtn, noatn_taking, noatn_freed}
 use Rattle.cbm_session.specs.Bits.{number_of}
-use Rattle.cbm_session.specs.Following.{lines_after, IsInTime, own_steps, reaction_steps, IsShown, Follows, alone, in_attention, StandsAt, FollowsAll, FollowsSessions, ends, tells, reacts}
+use Rattle.cbm_session.specs.Following.{IsInTime, own_steps, reaction_steps, IsShown, Follows, alone, in_attention, StandsAt, FollowsAll, FollowsSessions, ends, tells, reacts}
 use Rattle.cbm_session.specs.Frames.{is_last, signal_steps, first_bit, bit_steps, telling, taking}
-use Rattle.cbm_session.specs.Pieces.{silent_part, Whole, Piece, Place, Point, freed_steps, host_part, let_go, own_part, steps_of, before, Fits, CutFits, is_pull, held_by, seat_with, whole_point, point_after, PullPiece, Command, Byte, ToListener, ToNobody, ToTalker, Nothing, Talk, Full, Cut}
+use Rattle.cbm_session.specs.Pieces.{silent_part, Whole, Piece, BusPlace, Point, freed_steps, host_part, let_go, own_part, steps_of, before, Fits, CutFits, held_by, seat_with, whole_point, point_after, PullPiece, Command, Byte, ToListener, ToNobody, ToTalker, Nothing, Talk, Full, Cut}
 use Rattle.cbm_session.specs.Seats.{at_pace, lines, Seat, device, reaction, is_talker, talker_of}
 use Rattle.cbm_session.specs.Sessions.{rest, Linked}
 use Rattle.cbm_session.specs.Steps.{Mark, Step, host, drive, for_each, for_one, moment_of, merge, Plain, ForEach, For}
@@ -386,7 +387,7 @@ cut_atn p (ToNobody at clock) c k h = elim k [ ]
 cut_atn p (ToTalker at clock) c k h = turn_atn c at (in_attention p.place) (host clock Clock Free ∷ []) k (refl, tt)
 cut_atn p (Nothing at clock freed) c k h = turn_atn c at (in_attention p.place) (host clock Clock Free ∷ freed_steps freed) k (refl, noatn_freed freed)
 cut_atn p (Talk at f) c k h =
-    ap (λ (x : Place). atn_by (in_attention x) (before c (taking (talker_of p.seats) f))) h.0
+    ap (λ (x : BusPlace). atn_by (in_attention x) (before c (taking (talker_of p.seats) f))) h.0
     ∙ atn_stays (before c (taking (talker_of p.seats) f)) (noatn_before c (taking (talker_of p.seats) f) (noatn_taking (talker_of p.seats) f))
 
 -- no byte counts in attention there

@@ -6,10 +6,10 @@ use Rattle.std.specs.Prelude.{if◌then◌else◌, nat_eq, nat_le, ◌==◌, ◌
 use Rattle.cbm_iec.specs.Hearing.{ear_due, after_hold, after_start, after_ready, ear_row}
 use Rattle.cbm_iec.specs.Ports.{side_due, port_due, reaction_act, reacted, reaction_changes, side_after}
 use Rattle.cbm_iec.specs.Speaking.{mouth_due, after_offer, after_wait, after_answer, after_lead, mouth_row, end_frame_row, set_bit_row, show_bit_row}
-use Rattle.cbm_iec.specs.declared.act.Act.{Act}
+use Rattle.cbm_iec.specs.declared.machine.Act.{Act}
 use Rattle.cbm_iec.specs.declared.ear.Ear.TheVariants.{Idle, Await, Starting, Leaving, Returning, Holding, Freeing, Ready, Timed, Pulsing, EoiNoted, Gathering, Accepting}
 use Rattle.cbm_iec.specs.declared.ear.Ear.{Ear}
-use Rattle.cbm_iec.specs.declared.line.Change.{Change}
+use Rattle.cbm_iec.specs.declared.lines.Change.{Change}
 use Rattle.cbm_iec.specs.declared.lines.Lines.{Lines}
 use Rattle.cbm_iec.specs.declared.mouth.Mouth.TheVariants.{Turned, Answering, Mute, Led, Offering, EoiOffered, EoiPulsed, Sending, Waiting, Ending, Over}
 use Rattle.cbm_iec.specs.declared.mouth.Mouth.{Mouth}

@@ -4,12 +4,13 @@ use Rattle.cbm_iec.specs.declared.pace.Pace.{Pace}
 use Rattle.cbm_iec.specs.Profile.{bit_time}
 use Rattle.std.proofs.Common.{◌≡◌, ℕ, ◌+◌, Bool, true, false, not, List, [], ◌∷◌, ◌++◌, Option, Some, None, ap, sym, ◌∙◌, subst, refl}
 use Rattle.std.specs.Prelude.{if◌then◌else◌}
-use Rattle.cbm_iec.specs.declared.act.Act.TheVariants.{Attention, Heard, Said}
-use Rattle.cbm_iec.specs.declared.act.Act.{Act}
-use Rattle.cbm_iec.specs.declared.line.Line.TheVariants.{Atn, Clock, Data}
-use Rattle.cbm_iec.specs.declared.line.Line.{Line}
-use Rattle.cbm_iec.specs.declared.line.Way.TheVariants.{Pull, Free}
-use Rattle.cbm_iec.specs.declared.line.Way.{Way}
+use Rattle.cbm_iec.specs.Changes.{is_pull, lines_after}
+use Rattle.cbm_iec.specs.declared.machine.Act.TheVariants.{Attention, Heard, Said}
+use Rattle.cbm_iec.specs.declared.machine.Act.{Act}
+use Rattle.cbm_iec.specs.declared.lines.Line.TheVariants.{Atn, Clock, Data}
+use Rattle.cbm_iec.specs.declared.lines.Line.{Line}
+use Rattle.cbm_iec.specs.declared.lines.Way.TheVariants.{Pull, Free}
+use Rattle.cbm_iec.specs.declared.lines.Way.{Way}
 use Rattle.cbm_iec.specs.declared.lines.Held.{Held}
 use Rattle.cbm_iec.specs.declared.lines.Lines.{Lines}
 use Rattle.cbm_iec.specs.declared.party.Party.{Party}
@@ -21,11 +22,11 @@ use Rattle.cbm_session.proofs.among.Points.{none_talk, none_listen, both_each, S
 use Rattle.cbm_session.proofs.among.Standing.{HostAt}
 use Rattle.cbm_session.proofs.frames.Phases.{Each, each}
 use Rattle.cbm_session.proofs.reading.PieceReadings.{next_seat, seat, is_commanding}
-use Rattle.cbm_session.specs.Bits.{where_held, where_free, Cell, cell_steps, cells_steps, held_after, number_of, byte_of}
+use Rattle.cbm_session.specs.Bits.{where_held, where_free, BitCell, cell_steps, cells_steps, held_after, number_of, byte_in_cells}
 use Rattle.cbm_session.specs.Buses.{OwnAt}
-use Rattle.cbm_session.specs.Following.{lines_after, in_attention}
+use Rattle.cbm_session.specs.Following.{in_attention}
 use Rattle.cbm_session.specs.Frames.{Sent, Told, wire, end_of, hearing, sending, is_last, signal_steps, first_bit, bit_steps, telling, taking}
-use Rattle.cbm_session.specs.Pieces.{silent_part, Whole, Place, Point, freed_steps, host_part, let_go, own_part, Fits, is_pull, is_none, held_by, told_place, whole_point, PullPiece, Command, Byte, ToListener, ToNobody, ToTalker, Nothing, Talk, Open, Commanding, Listening, Leading}
+use Rattle.cbm_session.specs.Pieces.{silent_part, Whole, BusPlace, Point, freed_steps, host_part, let_go, own_part, Fits, is_none, held_by, told_place, whole_point, PullPiece, Command, Byte, ToListener, ToNobody, ToTalker, Nothing, Talk, Open, Commanding, Listening, Leading}
 use Rattle.cbm_session.specs.Seats.{at_pace, lines, Seat, device, reaction, is_listener, is_talker, talker_of, listeners}
 use Rattle.cbm_session.specs.Steps.{Step, host, drive, for_one}
 
@@ -85,7 +86,7 @@ heard_makes t eoi act f x e = subst (λ (h : Held). Makes h (hearing t eoi act f
 
 byte_makes : (p : Point) (eoi : Bool) (f : Sent) (b : Party) (r : Role) (o : Held) → OwnAt Listening r o → SeatMakes p (Byte eoi f) (seat b r o)
 byte_makes p eoi f b Absent o e = sym e
-byte_makes p eoi f b Listener o e = heard_makes (wire (listeners p.seats) f) eoi (Heard (byte_of f.cells) eoi) f (seat b Listener o) e
+byte_makes p eoi f b Listener o e = heard_makes (wire (listeners p.seats) f) eoi (Heard (byte_in_cells f.cells) eoi) f (seat b Listener o) e
 byte_makes p eoi f b Talker o e = elim e [ ]
 
 go_makes : (at : ℕ) (x : Seat) → x.own ≡ lines false true → Makes x.own (let_go at x) (lines false false)
@@ -122,15 +123,15 @@ talk_makes p at f b Talker o e = subst (λ (h : Held). Makes h (telling (at_pace
 
 -- where no drive talks, none of them does; nor listens
 -- Every drive's own part of a piece that fits goes by turns.
-own_there : (p : Point) (q : Place) → p.place ≡ q → Each (λ x. StandsSo p.place x) p.seats → Each (λ x. StandsSo q x) p.seats
-own_there p q e h = subst (λ (z : Place). Each (λ x. StandsSo z x) p.seats) e h
+own_there : (p : Point) (q : BusPlace) → p.place ≡ q → Each (λ x. StandsSo p.place x) p.seats → Each (λ x. StandsSo q x) p.seats
+own_there p q e h = subst (λ (z : BusPlace). Each (λ x. StandsSo z x) p.seats) e h
 
 pub part_makes : (p : Point) (w : Whole) → Each (λ x. OwnAt p.place x.role x.own) p.seats → Fits p w → Each (λ x. SeatMakes p w x) p.seats
 part_makes p (PullPiece at) o h = each (λ x. OwnAt p.place x.role x.own) (λ x. SeatMakes p (PullPiece at) x) p.seats (λ x e. pull_makes p at x) o
 part_makes p (Command f) o h =
     let c = is_commanding h.0 in
     each (λ x. StandsSo (Commanding c.0) x) (λ x. SeatMakes p (Command f) x) p.seats
-    (λ x e. heard_makes (wire p.seats f) false (Attention (byte_of f.cells)) f x e) (own_there p (Commanding c.0) c.1 o)
+    (λ x e. heard_makes (wire p.seats f) false (Attention (byte_in_cells f.cells)) f x e) (own_there p (Commanding c.0) c.1 o)
 part_makes p (Byte eoi f) o h =
     each (λ x. StandsSo Listening x) (λ x. SeatMakes p (Byte eoi f) x) p.seats
     (λ x e. byte_makes p eoi f x.party x.role x.own e) (own_there p Listening h.0 o)
@@ -165,7 +166,7 @@ cell_lines a true false set free pull = refl
 cell_lines a false true set free pull = refl
 cell_lines a false false set free pull = refl
 
-cells_lines : (a held : Bool) (cs : List Cell) → lines_by (wires a true held) (cells_steps held cs) ≡ wires a true (held_after held cs)
+cells_lines : (a held : Bool) (cs : List BitCell) → lines_by (wires a true held) (cells_steps held cs) ≡ wires a true (held_after held cs)
 cells_lines a held [] = refl
 cells_lines a held (c ∷ cs) =
     lines_append (wires a true held) (cell_steps held c) (cells_steps (not c.bit) cs)
@@ -203,14 +204,14 @@ taking_lines b f = go f.signal ∙ ap (λ (v : Bool). wires v false true) (sym (
     go None = refl
     go (Some (pull, free)) = refl
 
-host_wires : (p : Point) (q : Place) (h : Held) → p.place ≡ q → p.host ≡ h → wires (in_attention p.place) p.host.clock_low p.host.data_low ≡ wires (in_attention q) h.clock_low h.data_low
-host_wires p q h e k = ap (λ (x : Place). wires (in_attention x) p.host.clock_low p.host.data_low) e ∙ ap (λ (x : Held). wires (in_attention q) x.clock_low x.data_low) k
+host_wires : (p : Point) (q : BusPlace) (h : Held) → p.place ≡ q → p.host ≡ h → wires (in_attention p.place) p.host.clock_low p.host.data_low ≡ wires (in_attention q) h.clock_low h.data_low
+host_wires p q h e k = ap (λ (x : BusPlace). wires (in_attention x) p.host.clock_low p.host.data_low) e ∙ ap (λ (x : Held). wires (in_attention q) x.clock_low x.data_low) k
 
 abbrev pub host_lines : Point → Lines
 host_lines p = wires (in_attention p.place) p.host.clock_low p.host.data_low
 
 commanding_wires : (p : Point) (some : Bool) → p.place ≡ Commanding some → HostAt p.place p.host → host_lines p ≡ wires true true false
-commanding_wires p some e h = host_wires p (Commanding some) (lines true false) e (subst (λ (x : Place). HostAt x p.host) e h)
+commanding_wires p some e h = host_wires p (Commanding some) (lines true false) e (subst (λ (x : BusPlace). HostAt x p.host) e h)
 
 pub whole_lines : (p : Point) (w : Whole) → HostAt p.place p.host → Fits p w → lines_by (host_lines p) (host_part p w) ≡ host_lines (whole_point p w)
 whole_lines p (PullPiece at) g h = pull_lines at p.host.clock_low p.host.data_low
@@ -218,12 +219,12 @@ whole_lines p (Command f) g h =
     let c = is_commanding h.0 in
     ap (λ (l : Lines). lines_by l (sending f)) (commanding_wires p c.0 c.1 g) ∙ sending_lines true f
 whole_lines p (Byte eoi f) g h =
-    ap (λ (l : Lines). lines_by l (sending f)) (host_wires p Listening (lines true false) h.0 (subst (λ (x : Place). HostAt x p.host) h.0 g)) ∙ sending_lines false f
+    ap (λ (l : Lines). lines_by l (sending f)) (host_wires p Listening (lines true false) h.0 (subst (λ (x : BusPlace). HostAt x p.host) h.0 g)) ∙ sending_lines false f
 whole_lines p (ToListener at) g h = ap (λ (l : Lines). lines_by l (host_part p (ToListener at))) (commanding_wires p true h.commanding g)
 whole_lines p (ToNobody at clock) g h = ap (λ (l : Lines). lines_by l (host_part p (ToNobody at clock))) (commanding_wires p true h.0.commanding g)
 whole_lines p (ToTalker at clock) g h = ap (λ (l : Lines). lines_by l (host_part p (ToTalker at clock))) (commanding_wires p true h.0.commanding g)
 whole_lines p (Nothing at clock freed) g h =
     ap (λ (l : Lines). lines_by l (host_part p (Nothing at clock freed))) (commanding_wires p true h.0.commanding g) ∙ freed_lines freed
 whole_lines p (Talk at f) g h =
-    ap (λ (l : Lines). lines_by l (taking (talker_of p.seats) f)) (host_wires p (Leading at) (lines false true) h.0 (subst (λ (x : Place). HostAt x p.host) h.0 g))
+    ap (λ (l : Lines). lines_by l (taking (talker_of p.seats) f)) (host_wires p (Leading at) (lines false true) h.0 (subst (λ (x : BusPlace). HostAt x p.host) h.0 g))
     ∙ taking_lines (talker_of p.seats) f

@@ -4,8 +4,8 @@ use Rattle.std.proofs.Math.Nat.{max-eq_left, max-eq_right}
 use Rattle.std.proofs.lemmas.Bool.Decides.{leb_tells}
 use Rattle.std.specs.Prelude.{nat_eq}
 use Rattle.cbm_iec.specs.declared.event.Who.TheVariants.{Drive}
-use Rattle.cbm_iec.specs.declared.line.Line.TheVariants.{Data}
-use Rattle.cbm_iec.specs.declared.line.Way.{Way}
+use Rattle.cbm_iec.specs.declared.lines.Line.TheVariants.{Data}
+use Rattle.cbm_iec.specs.declared.lines.Way.{Way}
 use Rattle.cbm_session.proofs.joining.Merging.{merge_here, merge_there, NoneBefore, InOrder, none_merge, order_merge}
 use Rattle.cbm_session.proofs.joining.Seating.{Apart, Sits}
 use Rattle.cbm_session.specs.Seats.{Seat, device, reaction, slowest}

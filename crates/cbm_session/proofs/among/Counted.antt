@@ -3,12 +3,13 @@ use Rattle.std.proofs.Common.{◌≡◌, ℕ, zero, suc, ◌+◌, inl, inr, Bool
 use Rattle.std.proofs.lemmas.Bool.Decides.{leb_tells}
 use Rattle.std.proofs.lemmas.Bool.{eqb-true}
 use Rattle.std.specs.Prelude.{if◌then◌else◌, nat_eq}
+use Rattle.cbm_iec.specs.Changes.{is_pull}
 use Rattle.cbm_iec.specs.declared.event.Who.TheVariants.{Host, Drive}
 use Rattle.cbm_iec.specs.declared.event.Who.{Who}
-use Rattle.cbm_iec.specs.declared.line.Line.TheVariants.{Atn, Clock, Data}
-use Rattle.cbm_iec.specs.declared.line.Line.{Line}
-use Rattle.cbm_iec.specs.declared.line.Way.TheVariants.{Pull, Free}
-use Rattle.cbm_iec.specs.declared.line.Way.{Way}
+use Rattle.cbm_iec.specs.declared.lines.Line.TheVariants.{Atn, Clock, Data}
+use Rattle.cbm_iec.specs.declared.lines.Line.{Line}
+use Rattle.cbm_iec.specs.declared.lines.Way.TheVariants.{Pull, Free}
+use Rattle.cbm_iec.specs.declared.lines.Way.{Way}
 use Rattle.cbm_iec.specs.declared.lines.Held.{Held}
 use Rattle.cbm_iec.specs.declared.lines.Lines.{Lines}
 use Rattle.cbm_iec.specs.declared.party.Party.{Party}
@@ -27,10 +28,10 @@ use Rattle.cbm_session.proofs.reading.Decoding.{IsMine, IsAnothers, Shows}
 use Rattle.cbm_session.proofs.reading.OneReading.{piece_shows}
 use Rattle.cbm_session.proofs.reading.PieceReadings.{next_seat}
 use Rattle.cbm_session.specs.Among.{Rest, counted, behind_other}
-use Rattle.cbm_session.specs.Buses.{is_held, one_if, holding, rest_at}
+use Rattle.cbm_session.specs.Buses.{is_held, one_where, holding, rest_at}
 use Rattle.cbm_session.specs.Following.{in_attention}
 use Rattle.cbm_session.specs.Frames.{is_last}
-use Rattle.cbm_session.specs.Pieces.{Whole, Piece, Point, host_part, own_part, steps_of, before, piece_steps, Fits, PieceFits, is_pull, held_by, seat_with, whole_point, point_after, PullPiece, Command, Byte, ToListener, ToNobody, ToTalker, Nothing, Talk, Full, Cut}
+use Rattle.cbm_session.specs.Pieces.{Whole, Piece, Point, host_part, own_part, steps_of, before, piece_steps, Fits, PieceFits, held_by, seat_with, whole_point, point_after, PullPiece, Command, Byte, ToListener, ToNobody, ToTalker, Nothing, Talk, Full, Cut}
 use Rattle.cbm_session.specs.Seats.{lines, Seat, device}
 use Rattle.cbm_session.specs.Steps.{Step, moment_of, merge, merge_all}
 
@@ -139,7 +140,7 @@ runs_mine d line (s ∷ ss) a = (zero, (λ n. same s.event.who n a.0), runs_mine
     same (Drive o) n h = ap (λ (v : Bool). if v then 0 + n else count_line line s.event.change.line s.event.change.way (0 + n)) h
 
 -- steps of another drive that go by turns count what it holds
-turned : (way : Way) (v : Bool) (n : ℕ) → v ≡ not (is_pull way) → counted way (one_if v + n) ≡ one_if (is_pull way) + n
+turned : (way : Way) (v : Bool) (n : ℕ) → v ≡ not (is_pull way) → counted way (one_where v + n) ≡ one_where (is_pull way) + n
 turned Pull true n e = cc
 turned Pull false n e = omega arith
 turned Free true n e =
@@ -148,7 +149,7 @@ turned Free true n e =
     ap (λ (m : ℕ). counted Free m) more ∙ none
 turned Free false n e = cc
 
-altered : (line changed : Line) (way : Way) (h : Held) (n : ℕ) → Alters h changed way → count_line line changed way (one_if (is_held line h) + n) ≡ one_if (is_held line (held_one h changed way)) + n
+altered : (line changed : Line) (way : Way) (h : Held) (n : ℕ) → Alters h changed way → count_line line changed way (one_where (is_held line h) + n) ≡ one_where (is_held line (held_one h changed way)) + n
 altered line Atn way h n a = elim a [ ]
 altered Atn Clock way h n a = refl
 altered Atn Data way h n a = refl
@@ -157,9 +158,9 @@ altered Clock Data way h n a = refl
 altered Data Clock way h n a = refl
 altered Data Data way h n a = turned way h.data_low n a
 
-pub runs_makes : (d o : ℕ) (line : Line) (ss : List Step) (h h2 : Held) → nat_eq d o ≡ false → AllOwned o ss → Makes h ss h2 → Runs d line ss (one_if (is_held line h)) (one_if (is_held line h2))
-runs_makes d o line [] h h2 e a m = ap (λ (k : Held). one_if (is_held line k)) (sym m)
-runs_makes d o line (s ∷ ss) h h2 e a m = (one_if (is_held line (held_one h l y)), (λ n. same n), runs_makes d o line ss (held_one h l y) h2 e a.2 m.1)
+pub runs_makes : (d o : ℕ) (line : Line) (ss : List Step) (h h2 : Held) → nat_eq d o ≡ false → AllOwned o ss → Makes h ss h2 → Runs d line ss (one_where (is_held line h)) (one_where (is_held line h2))
+runs_makes d o line [] h h2 e a m = ap (λ (k : Held). one_where (is_held line k)) (sym m)
+runs_makes d o line (s ∷ ss) h h2 e a m = (one_where (is_held line (held_one h l y)), (λ n. same n), runs_makes d o line ss (held_one h l y) h2 e a.2 m.1)
   where
     l : Line
     l = s.event.change.line
@@ -167,9 +168,9 @@ runs_makes d o line (s ∷ ss) h h2 e a m = (one_if (is_held line (held_one h l 
     y : Way
     y = s.event.change.way
 
-    same : (n : ℕ) → stepped d line s.event.who l y (one_if (is_held line h) + n) ≡ one_if (is_held line (held_one h l y)) + n
+    same : (n : ℕ) → stepped d line s.event.who l y (one_where (is_held line h) + n) ≡ one_where (is_held line (held_one h l y)) + n
     same n =
-        let k = one_if (is_held line h) + n in
+        let k = one_where (is_held line h) + n in
         ap (λ (w : Who). stepped d line w l y k) a.0
         ∙ ap (λ (v : Bool). if v then k else count_line line l y k) e
         ∙ altered line l y h n m.0
@@ -186,11 +187,11 @@ module _ (d : ℕ) (line : Line) (own : Seat → List Step) (next : Seat → Sea
   runs_all l a b [] h t = runs_subst d line l a b (a + 0) (b + 0) (omega arith) (omega arith) h
   runs_all l a b (x ∷ xs) h t = runs_merge d line l (merge_all (own x) (map own xs)) a b (holding line d (x ∷ xs)) (holding line d (map next (x ∷ xs))) h (go (nat_eq d (device x)) refl (λ n m k. runs_all (own x) n m xs k t.1))
     where
-      behind_it : (v : Bool) → nat_eq d (device x) ≡ v → holding line d (map next (x ∷ xs)) ≡ (if v then holding line d (map next xs) else one_if (is_held line (next x).own) + holding line d (map next xs))
-      behind_it v e = ap (λ (w : Bool). if w then holding line d (map next xs) else one_if (is_held line (next x).own) + holding line d (map next xs)) (ap (λ (o : ℕ). nat_eq d o) (keeps x) ∙ e)
+      behind_it : (v : Bool) → nat_eq d (device x) ≡ v → holding line d (map next (x ∷ xs)) ≡ (if v then holding line d (map next xs) else one_where (is_held line (next x).own) + holding line d (map next xs))
+      behind_it v e = ap (λ (w : Bool). if w then holding line d (map next xs) else one_where (is_held line (next x).own) + holding line d (map next xs)) (ap (λ (o : ℕ). nat_eq d o) (keeps x) ∙ e)
 
-      before_it : (v : Bool) → nat_eq d (device x) ≡ v → holding line d (x ∷ xs) ≡ (if v then holding line d xs else one_if (is_held line x.own) + holding line d xs)
-      before_it v e = ap (λ (w : Bool). if w then holding line d xs else one_if (is_held line x.own) + holding line d xs) e
+      before_it : (v : Bool) → nat_eq d (device x) ≡ v → holding line d (x ∷ xs) ≡ (if v then holding line d xs else one_where (is_held line x.own) + holding line d xs)
+      before_it v e = ap (λ (w : Bool). if w then holding line d xs else one_where (is_held line x.own) + holding line d xs) e
 
       go : (v : Bool) → nat_eq d (device x) ≡ v → ((n m : ℕ) → Runs d line (own x) n m → Runs d line (merge_all (own x) (map own xs)) (n + holding line d xs) (m + holding line d (map next xs)))
           → Runs d line (merge_all (own x) (map own xs)) (holding line d (x ∷ xs)) (holding line d (map next (x ∷ xs)))
@@ -200,8 +201,8 @@ module _ (d : ℕ) (line : Line) (own : Seat → List Step) (next : Seat → Sea
           runs_subst d line (merge_all (own x) (map own xs)) (0 + holding line d xs) (0 + holding line d (map next xs)) (holding line d (x ∷ xs)) (holding line d (map next (x ∷ xs))) (here ∙ sym (before_it true e)) (there ∙ sym (behind_it true e))
           (f 0 0 (runs_mine d line (own x) (owned_mine d (device x) (own x) e t.0.0)))
       go false e f =
-          runs_subst d line (merge_all (own x) (map own xs)) (one_if (is_held line x.own) + holding line d xs) (one_if (is_held line (next x).own) + holding line d (map next xs)) (holding line d (x ∷ xs)) (holding line d (map next (x ∷ xs))) (sym (before_it false e)) (sym (behind_it false e))
-          (f (one_if (is_held line x.own)) (one_if (is_held line (next x).own)) (runs_makes d (device x) line (own x) x.own (next x).own e t.0.0 t.0.1))
+          runs_subst d line (merge_all (own x) (map own xs)) (one_where (is_held line x.own) + holding line d xs) (one_where (is_held line (next x).own) + holding line d (map next xs)) (holding line d (x ∷ xs)) (holding line d (map next (x ∷ xs))) (sym (before_it false e)) (sym (behind_it false e))
+          (f (one_where (is_held line x.own)) (one_where (is_held line (next x).own)) (runs_makes d (device x) line (own x) x.own (next x).own e t.0.0 t.0.1))
 
   -- As many hold the line behind the joined steps as the seats behind them say.
   pub counts_all : (hs : List Step) (xs : List Seat) → AllMine d hs → Each (λ x. Turns own next x) xs → counted_by d line (holding line d xs) (merge_all hs (map own xs)) ≡ holding line d (map next xs)

@@ -1,8 +1,8 @@
 -- The points of a session of a bus: what stands behind a piece stands as it should, and what the others hold where the place says it.
 use Rattle.std.proofs.Common.{◌≡◌, ℕ, zero, suc, ◌+◌, ◌≤◌, inl, inr, Bool, true, false, not, List, [], ◌∷◌, length, map, ap, sym, ◌∙◌, subst, arith, refl}
 use Rattle.std.specs.Prelude.{if◌then◌else◌, nat_eq}
-use Rattle.cbm_iec.specs.declared.line.Line.TheVariants.{Atn, Clock, Data}
-use Rattle.cbm_iec.specs.declared.line.Line.{Line}
+use Rattle.cbm_iec.specs.declared.lines.Line.TheVariants.{Atn, Clock, Data}
+use Rattle.cbm_iec.specs.declared.lines.Line.{Line}
 use Rattle.cbm_iec.specs.declared.lines.Held.{Held}
 use Rattle.cbm_iec.specs.declared.party.Party.{Party}
 use Rattle.cbm_iec.specs.declared.party.Role.TheVariants.{Absent, Listener, Talker}
@@ -17,12 +17,12 @@ use Rattle.cbm_session.proofs.joining.Seating.{Apart, Sits}
 use Rattle.cbm_session.proofs.joining.Talkers.{if_false, true_false, silent_bus, OneTalker, talker_is, KeepsDrives, standing_drives}
 use Rattle.cbm_session.proofs.reading.OneReading.{IsSeated, seated, whole_seated, seat_of, AllSit, all_sit, are_seats, none_talks}
 use Rattle.cbm_session.proofs.reading.PieceReadings.{next_seat}
-use Rattle.cbm_session.specs.Bits.{byte_of}
-use Rattle.cbm_session.specs.Buses.{is_held, one_if, holding, rest_at, OwnAt}
+use Rattle.cbm_session.specs.Bits.{byte_in_cells}
+use Rattle.cbm_session.specs.Buses.{is_held, one_where, holding, rest_at, OwnAt}
 use Rattle.cbm_session.specs.Following.{in_attention}
 use Rattle.cbm_session.specs.Frames.{Told, is_last, telling, taking}
 use Rattle.cbm_session.specs.Laws.{SeatsReact}
-use Rattle.cbm_session.specs.Pieces.{Whole, Place, Point, own_part, steps_of, before, Fits, PieceFits, held_by, told_place, seat_with, obeying, standing, whole_point, point_after, PullPiece, Command, Byte, ToListener, ToNobody, ToTalker, Nothing, Talk, Cut, Open, Commanding, Listening, Leading, Cutting}
+use Rattle.cbm_session.specs.Pieces.{Whole, BusPlace, Point, own_part, steps_of, before, Fits, PieceFits, held_by, told_place, seat_with, obeying, standing, whole_point, point_after, PullPiece, Command, Byte, ToListener, ToNobody, ToTalker, Nothing, Talk, Cut, Open, Commanding, Listening, Leading, Cutting}
 use Rattle.cbm_session.specs.Seats.{at_pace, lines, Seat, device, is_listener, is_talker, has_listener, has_talker, talker_of, listeners}
 use Rattle.cbm_session.specs.Sessions.{rest, AreDrives, IsBus}
 use Rattle.cbm_session.specs.Steps.{Step, merge, merge_all}
@@ -63,7 +63,7 @@ pub both_each : (P Q : Seat → Type 0) (ss : List Seat) → Each P ss → Each 
 both_each P Q [] a b = tt
 both_each P Q (x ∷ xs) a b = ((a.0, b.0), both_each P Q xs a.1 b.1)
 
-abbrev pub StandsSo : Place → Seat → Type 0
+abbrev pub StandsSo : BusPlace → Seat → Type 0
 StandsSo place x = OwnAt place x.role x.own
 
 -- at Listening none talks, and where one leads none listens
@@ -116,15 +116,15 @@ told_host f = go (is_last f)
     go false = refl
 
 -- those who stand behind a piece, where something holds of each before it
-stand_by : (P : Seat → Type 0) (place : Place) (f : Seat → Seat) (ss : List Seat) → ((x : Seat) → P x → StandsSo place (f x)) → Each P ss → Each (StandsSo place) (map f ss)
+stand_by : (P : Seat → Type 0) (place : BusPlace) (f : Seat → Seat) (ss : List Seat) → ((x : Seat) → P x → StandsSo place (f x)) → Each P ss → Each (StandsSo place) (map f ss)
 stand_by P place f ss g h = each_map (StandsSo place) f ss (each P (λ x. StandsSo place (f x)) ss g h)
 
 whole_own : (p : Point) (w : Whole) → Each (StandsSo p.place) p.seats → Fits p w → Each (StandsSo (whole_point p w).place) (whole_point p w).seats
 whole_own p (PullPiece at) o h = each_map (StandsSo (Commanding false)) (λ x. seat_with x.role (lines false true) x) p.seats (every_seat (λ x. StandsSo (Commanding false) (seat_with x.role (lines false true) x)) p.seats (λ (x : Seat). refl))
-whole_own p (Command f) o h = each_map (StandsSo (Commanding true)) (λ x. obeying (byte_of f.cells) x) p.seats (every_seat (λ x. StandsSo (Commanding true) (obeying (byte_of f.cells) x)) p.seats (λ (x : Seat). refl))
+whole_own p (Command f) o h = each_map (StandsSo (Commanding true)) (λ x. obeying (byte_in_cells f.cells) x) p.seats (every_seat (λ x. StandsSo (Commanding true) (obeying (byte_in_cells f.cells) x)) p.seats (λ (x : Seat). refl))
 whole_own p (Byte eoi f) o h =
     stand_by (StandsSo Listening) Listening (λ x. standing (lines false false) x) p.seats (λ (x : Seat) (k : StandsSo Listening x). listening_own x (hears_own x.role x.own k))
-    (subst (λ (q : Place). Each (StandsSo q) p.seats) h.0 o)
+    (subst (λ (q : BusPlace). Each (StandsSo q) p.seats) h.0 o)
 whole_own p (ToListener at) o h = stand_by (λ x. is_talker x.role ≡ false) Listening (λ x. standing (lines false false) x) p.seats listening_own (none_talk p.seats h.talker)
 whole_own p (ToNobody at clock) o h = stand_by (λ x. is_listener x.role ≡ false) Open (λ x. standing (lines false false) x) p.seats open_own (none_listen p.seats h.0.listener)
 whole_own p (ToTalker at clock) o h =
@@ -133,7 +133,7 @@ whole_own p (ToTalker at clock) o h =
 whole_own p (Nothing at clock freed) o h = stand_by (λ x. is_listener x.role ≡ false) Open (λ x. standing (lines false false) x) p.seats open_own (none_listen p.seats h.0.listener)
 whole_own p (Talk at f) o h =
     stand_by (StandsSo (Leading at)) (told_place f) (λ x. standing (lines (not (is_last f)) false) x) p.seats (λ (x : Seat) (k : StandsSo (Leading at) x). told_own f x (leads_own at x.role x.own k))
-    (subst (λ (q : Place). Each (StandsSo q) p.seats) h.0 o)
+    (subst (λ (q : BusPlace). Each (StandsSo q) p.seats) h.0 o)
 
 -- and what the host holds
 whole_host : (p : Point) (w : Whole) → HostAt (whole_point p w).place (whole_point p w).host
@@ -157,7 +157,7 @@ react_map f (x ∷ xs) k h = (
 
 pub whole_react : (p : Point) (w : Whole) → SeatsReact p.seats → SeatsReact (whole_point p w).seats
 whole_react p (PullPiece at) h = react_map (λ x. seat_with x.role (lines false true) x) p.seats (λ (x : Seat). refl) h
-whole_react p (Command f) h = react_map (λ x. obeying (byte_of f.cells) x) p.seats (λ (x : Seat). refl) h
+whole_react p (Command f) h = react_map (λ x. obeying (byte_in_cells f.cells) x) p.seats (λ (x : Seat). refl) h
 whole_react p (Byte eoi f) h = react_map (λ x. standing (lines false false) x) p.seats (standing_drives (lines false false)) h
 whole_react p (ToListener at) h = react_map (λ x. standing (lines false false) x) p.seats (standing_drives (lines false false)) h
 whole_react p (ToNobody at clock) h = react_map (λ x. standing (lines false false) x) p.seats (standing_drives (lines false false)) h
@@ -234,18 +234,18 @@ none_hold : (line : Line) (d : ℕ) (seats : List Seat) → ForOthers d (λ x. i
 none_hold line d [] h = refl
 none_hold line d (x ∷ xs) h = go (nat_eq d (device x)) refl (none_hold line d xs h.1)
   where
-    go : (v : Bool) → nat_eq d (device x) ≡ v → holding line d xs ≡ zero → (if v then holding line d xs else one_if (is_held line x.own) + holding line d xs) ≡ zero
+    go : (v : Bool) → nat_eq d (device x) ≡ v → holding line d xs ≡ zero → (if v then holding line d xs else one_where (is_held line x.own) + holding line d xs) ≡ zero
     go true e k = k
-    go false e k = let a : one_if (is_held line x.own) ≡ zero = ap one_if (h.0 e) in omega (arith, a, k)
+    go false e k = let a : one_where (is_held line x.own) ≡ zero = ap one_where (h.0 e) in omega (arith, a, k)
 
 others_too : (P : Seat → Type 0) (d : ℕ) (seats : List Seat) → Each P seats → ForOthers d P seats
 others_too P d seats h = each P (λ x. nat_eq d (device x) ≡ false → P x) seats (λ x g k. g) h
 
-other_counts : (d : ℕ) (x : Seat) (xs : List Seat) → nat_eq d (device x) ≡ false → holding Data d (x ∷ xs) ≡ one_if x.own.data_low + holding Data d xs
-other_counts d x xs e = ap (λ (v : Bool). if v then holding Data d xs else one_if x.own.data_low + holding Data d xs) e
+other_counts : (d : ℕ) (x : Seat) (xs : List Seat) → nat_eq d (device x) ≡ false → holding Data d (x ∷ xs) ≡ one_where x.own.data_low + holding Data d xs
+other_counts d x xs e = ap (λ (v : Bool). if v then holding Data d xs else one_where x.own.data_low + holding Data d xs) e
 
 own_skips : (d : ℕ) (x : Seat) (xs : List Seat) → nat_eq d (device x) ≡ true → holding Data d (x ∷ xs) ≡ holding Data d xs
-own_skips d x xs e = ap (λ (v : Bool). if v then holding Data d xs else one_if x.own.data_low + holding Data d xs) e
+own_skips d x xs e = ap (λ (v : Bool). if v then holding Data d xs else one_where x.own.data_low + holding Data d xs) e
 
 -- those who hold DATA are these
 abbrev IsHolding : (Seat → Bool) → Seat → Type 0
@@ -253,21 +253,21 @@ IsHolding here x = x.own.data_low ≡ here x
 
 abbrev how_many : (Seat → Bool) → List Seat → ℕ
 how_many here [] = zero
-how_many here (x ∷ xs) = one_if (here x) + how_many here xs
+how_many here (x ∷ xs) = one_where (here x) + how_many here xs
 
 apart_hold : (here : Seat → Bool) (d : ℕ) (xs : List Seat) → Each (IsHolding here) xs → Apart d xs → holding Data d xs ≡ how_many here xs
 apart_hold here d [] e h = refl
-apart_hold here d (x ∷ xs) e h = other_counts d x xs h.0 ∙ ap (λ (v : Bool). one_if v + holding Data d xs) e.0 ∙ ap (λ (n : ℕ). one_if (here x) + n) (apart_hold here d xs e.1 h.1)
+apart_hold here d (x ∷ xs) e h = other_counts d x xs h.0 ∙ ap (λ (v : Bool). one_where v + holding Data d xs) e.0 ∙ ap (λ (n : ℕ). one_where (here x) + n) (apart_hold here d xs e.1 h.1)
 
 sits_hold : (here : Seat → Bool) (d : ℕ) (seats : List Seat) (s : Seat) → Each (IsHolding here) seats → Sits d seats s → here s ≡ true → suc (holding Data d seats) ≡ how_many here seats
 sits_hold here d [] s e h k = elim h [ ]
 sits_hold here d (x ∷ xs) s e (inl h) k =
     let v : here x ≡ true = ap here h.0 ∙ k in
-    let a : one_if (here x) ≡ 1 = ap one_if v in
+    let a : one_where (here x) ≡ 1 = ap one_where v in
     let b : holding Data d (x ∷ xs) ≡ how_many here xs = own_skips d x xs h.1 ∙ apart_hold here d xs e.1 h.2 in
     omega (arith, a, b)
 sits_hold here d (x ∷ xs) s e (inr h) k =
-    let a : holding Data d (x ∷ xs) ≡ one_if (here x) + holding Data d xs = other_counts d x xs h.0 ∙ ap (λ (u : Bool). one_if u + holding Data d xs) e.0 in
+    let a : holding Data d (x ∷ xs) ≡ one_where (here x) + holding Data d xs = other_counts d x xs h.0 ∙ ap (λ (u : Bool). one_where u + holding Data d xs) e.0 in
     let m = sits_hold here d xs s e.1 h.1 k in
     omega (arith, a, m)
 
@@ -279,13 +279,13 @@ listeners_here : (seats : List Seat) → how_many (λ x. is_listener x.role) sea
 listeners_here [] = refl
 listeners_here (x ∷ xs) =
     let k = listeners_here xs in
-    elim (is_listener x.role) as (λ v. one_if v + how_many (λ y. is_listener y.role) xs ≡ length (if v then x ∷ listeners xs else listeners xs)) [ true ↦ omega (arith, k) | false ↦ omega (arith, k) ]
+    elim (is_listener x.role) as (λ v. one_where v + how_many (λ y. is_listener y.role) xs ≡ length (if v then x ∷ listeners xs else listeners xs)) [ true ↦ omega (arith, k) | false ↦ omega (arith, k) ]
 
 -- What a drive's others hold, from what each holds there.
-the_rest : (d : ℕ) (p : Point) (place : Place) (host : Held) (clocks datas : ℕ) → p.place ≡ place → p.host ≡ host → holding Clock d p.seats ≡ clocks → holding Data d p.seats ≡ datas
+the_rest : (d : ℕ) (p : Point) (place : BusPlace) (host : Held) (clocks datas : ℕ) → p.place ≡ place → p.host ≡ host → holding Clock d p.seats ≡ clocks → holding Data d p.seats ≡ datas
     → rest_at d p ≡ record { host = wires (in_attention place) host.clock_low host.data_low; clocks = clocks; datas = datas }
 the_rest d p place host clocks datas a b c e =
-    ap (λ (q : Place). record { host = wires (in_attention q) p.host.clock_low p.host.data_low; clocks = holding Clock d p.seats; datas = holding Data d p.seats }) a
+    ap (λ (q : BusPlace). record { host = wires (in_attention q) p.host.clock_low p.host.data_low; clocks = holding Clock d p.seats; datas = holding Data d p.seats }) a
     ∙ ap (λ (h : Held). record { host = wires (in_attention place) h.clock_low h.data_low; clocks = holding Clock d p.seats; datas = holding Data d p.seats }) b
     ∙ ap (λ (n : ℕ). record { host = wires (in_attention place) host.clock_low host.data_low; clocks = n; datas = holding Data d p.seats }) c
     ∙ ap (λ (n : ℕ). record { host = wires (in_attention place) host.clock_low host.data_low; clocks = clocks; datas = n }) e
@@ -293,8 +293,8 @@ the_rest d p place host clocks datas a b c e =
 -- in attention all hold DATA
 pub commanding_rest : (p : Point) (s : Seat) (some : Bool) → IsSound p s → p.place ≡ Commanding some → (n : ℕ) × (suc n ≡ length p.seats) × (rest_at (device s) p ≡ in_hold true n)
 commanding_rest p s some g e =
-    let own : Each (StandsSo (Commanding some)) p.seats = subst (λ (q : Place). Each (StandsSo q) p.seats) e g.own in
-    let host : p.host ≡ lines true false = subst (λ (q : Place). HostAt q p.host) e g.host in
+    let own : Each (StandsSo (Commanding some)) p.seats = subst (λ (q : BusPlace). Each (StandsSo q) p.seats) e g.own in
+    let host : p.host ≡ lines true false = subst (λ (q : BusPlace). HostAt q p.host) e g.host in
     let held : Each (IsHolding (λ x. true)) p.seats = each (StandsSo (Commanding some)) (IsHolding (λ x. true)) p.seats (λ (x : Seat) (k : x.own ≡ lines false true). ap (λ (o : Held). o.data_low) k) own in
     let clocks : Each (λ x. is_held Clock x.own ≡ false) p.seats = each (StandsSo (Commanding some)) (λ x. is_held Clock x.own ≡ false) p.seats (λ (x : Seat) (k : x.own ≡ lines false true). ap (λ (o : Held). o.clock_low) k) own in (
       holding Data (device s) p.seats,
@@ -315,8 +315,8 @@ listens_clock Talker own h = elim h [ ]
 
 pub listening_rest : (p : Point) (s : Seat) → IsSound p s → p.place ≡ Listening → s.role ≡ Listener → (n : ℕ) × (suc n ≡ length (listeners p.seats)) × (rest_at (device s) p ≡ in_hold false n)
 listening_rest p s g e l =
-    let own : Each (StandsSo Listening) p.seats = subst (λ (q : Place). Each (StandsSo q) p.seats) e g.own in
-    let host : p.host ≡ lines true false = subst (λ (q : Place). HostAt q p.host) e g.host in
+    let own : Each (StandsSo Listening) p.seats = subst (λ (q : BusPlace). Each (StandsSo q) p.seats) e g.own in
+    let host : p.host ≡ lines true false = subst (λ (q : BusPlace). HostAt q p.host) e g.host in
     let held : Each (IsHolding (λ x. is_listener x.role)) p.seats = each (StandsSo Listening) (IsHolding (λ x. is_listener x.role)) p.seats (λ (x : Seat) (k : StandsSo Listening x). listens_data x.role x.own k) own in
     let clocks : Each (λ x. is_held Clock x.own ≡ false) p.seats = each (StandsSo Listening) (λ x. is_held Clock x.own ≡ false) p.seats (λ (x : Seat) (k : StandsSo Listening x). listens_clock x.role x.own k) own in (
       holding Data (device s) p.seats,
@@ -336,8 +336,8 @@ others_free at d (x ∷ xs) a b = (λ (e : nat_eq d (device x) ≡ false). silen
 
 pub leading_rest : (p : Point) (s : Seat) (at : ℕ) → IsSound p s → p.place ≡ Leading at → s.role ≡ Talker → rest_at (device s) p ≡ record { host = wires false false true; clocks = zero; datas = zero }
 leading_rest p s at g e l =
-    let own : Each (StandsSo (Leading at)) p.seats = subst (λ (q : Place). Each (StandsSo q) p.seats) e g.own in
-    let host : p.host ≡ lines false true = subst (λ (q : Place). HostAt q p.host) e g.host in
+    let own : Each (StandsSo (Leading at)) p.seats = subst (λ (q : BusPlace). Each (StandsSo q) p.seats) e g.own in
+    let host : p.host ≡ lines false true = subst (λ (q : BusPlace). HostAt q p.host) e g.host in
     let free = others_free at (device s) p.seats own (only_talker (device s) p.seats s g.seated.one g.seated.sits (ap is_talker l)) in
     the_rest (device s) p (Leading at) (lines false true) zero zero e host (none_hold Clock (device s) p.seats (frees Clock free)) (none_hold Data (device s) p.seats (frees Data free))
   where

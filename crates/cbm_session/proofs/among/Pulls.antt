@@ -5,13 +5,13 @@ use Rattle.std.proofs.Common.{◌≡◌, ℕ, ◌+◌, ◌≤◌, Bool, true, fa
 use Rattle.std.specs.Prelude.{nat_eq, ◌||◌}
 use Rattle.cbm_iec.specs.Hearing.{after_start}
 use Rattle.cbm_iec.specs.Ports.{side_due}
-use Rattle.cbm_iec.specs.declared.act.Act.TheVariants.{Pulled}
+use Rattle.cbm_iec.specs.declared.machine.Act.TheVariants.{Pulled}
 use Rattle.cbm_iec.specs.declared.ear.Ear.TheVariants.{Starting, Holding}
 use Rattle.cbm_iec.specs.declared.event.Who.TheVariants.{Host, Drive}
 use Rattle.cbm_iec.specs.declared.event.Who.{Who}
-use Rattle.cbm_iec.specs.declared.line.Line.TheVariants.{Atn, Clock, Data}
-use Rattle.cbm_iec.specs.declared.line.Line.{Line}
-use Rattle.cbm_iec.specs.declared.line.Way.TheVariants.{Pull, Free}
+use Rattle.cbm_iec.specs.declared.lines.Line.TheVariants.{Atn, Clock, Data}
+use Rattle.cbm_iec.specs.declared.lines.Line.{Line}
+use Rattle.cbm_iec.specs.declared.lines.Way.TheVariants.{Pull, Free}
 use Rattle.cbm_iec.specs.declared.lines.Lines.{Lines}
 use Rattle.cbm_iec.specs.declared.party.Party.{Party}
 use Rattle.cbm_iec.specs.declared.party.Role.TheVariants.{Absent, Listener, Talker}
@@ -34,12 +34,12 @@ use Rattle.cbm_session.specs.Bits.{where_held, where_free}
 use Rattle.cbm_session.specs.Buses.{rest_at, holding, SideAmong}
 use Rattle.cbm_session.specs.Following.{IsInTime}
 use Rattle.cbm_session.specs.Joins.{NotBefore}
-use Rattle.cbm_session.specs.Pieces.{Place, Point, host_part, own_part, steps_of, PullFits, PullPiece, Open, Commanding, Listening, Leading, Cutting}
+use Rattle.cbm_session.specs.Pieces.{BusPlace, Point, host_part, own_part, steps_of, PullFits, PullPiece, Open, Commanding, Listening, Leading, Cutting}
 use Rattle.cbm_session.specs.Seats.{lines, Seat, device, reaction}
 use Rattle.cbm_session.specs.Steps.{Step, host, drive, for_each, moment_of, merge_all}
 
 -- ATN's pull finds nothing overdue
-pub pull_in_time : (p : Point) (at : ℕ) (place : Place) (r : Role) (x : Side) → SideAmong place r x → PullFits p at place → IsInTime at (side_due x)
+pub pull_in_time : (p : Point) (at : ℕ) (place : BusPlace) (r : Role) (x : Side) → SideAmong place r x → PullFits p at place → IsInTime at (side_due x)
 pull_in_time p at Open r x h f = subst (λ (o : Option ℕ). IsInTime at o) (sym (done_due x h)) tt
 pull_in_time p at (Commanding some) r x h f = elim f [ ]
 pull_in_time p at Listening Absent x h f = subst (λ (y : Side). IsInTime at (side_due y)) (sym h) tt

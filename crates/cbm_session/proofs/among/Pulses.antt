@@ -5,8 +5,8 @@ use Rattle.cbm_session.proofs.joining.Seating.{Apart, Sits}
 use Rattle.cbm_iec.specs.Profile.{eoi_pulse}
 use Rattle.std.proofs.Common.{◌≡◌, ℕ, zero, suc, ◌+◌, ◌≤◌, Bool, true, false, List, [], ◌∷◌, ◌++◌, length, map, inl, inr, Option, ap, ◌∙◌, subst, arith, refl}
 use Rattle.cbm_iec.specs.declared.ear.Ear.TheVariants.{Timed, Pulsing, EoiNoted}
-use Rattle.cbm_iec.specs.declared.line.Way.TheVariants.{Pull, Free}
-use Rattle.cbm_iec.specs.declared.line.Way.{Way}
+use Rattle.cbm_iec.specs.declared.lines.Way.TheVariants.{Pull, Free}
+use Rattle.cbm_iec.specs.declared.lines.Way.{Way}
 use Rattle.cbm_iec.specs.declared.party.Party.{Party}
 use Rattle.cbm_iec.specs.declared.party.Role.{Role}
 use Rattle.cbm_iec.specs.declared.port.Port.{Port}

@@ -1,7 +1,7 @@
 -- A drive among others lets go of DATA with them: T is when the last of them has.
 use Rattle.std.proofs.Common.{ℕ, zero, suc, ◌+◌, Bool, true, false, List, [], ◌∷◌, ◌++◌, Option, refl}
 use Rattle.cbm_iec.specs.declared.ear.Ear.TheVariants.{Freeing, Ready, Timed}
-use Rattle.cbm_iec.specs.declared.line.Way.TheVariants.{Free}
+use Rattle.cbm_iec.specs.declared.lines.Way.TheVariants.{Free}
 use Rattle.cbm_iec.specs.declared.party.Party.{Party}
 use Rattle.cbm_iec.specs.declared.party.Role.{Role}
 use Rattle.cbm_iec.specs.declared.port.Port.{Port}

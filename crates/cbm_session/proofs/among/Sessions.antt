@@ -2,8 +2,8 @@
 use Rattle.std.proofs.Common.{◌≡◌, ℕ, zero, ◌+◌, inl, inr, Bool, true, false, List, [], ◌∷◌, ◌++◌, map, Option, ap, sym, ◌∙◌, subst, arith, refl}
 use Rattle.std.specs.Prelude.{if◌then◌else◌, nat_eq}
 use Rattle.cbm_iec.specs.Ports.{resting}
-use Rattle.cbm_iec.specs.declared.line.Line.TheVariants.{Atn, Clock, Data}
-use Rattle.cbm_iec.specs.declared.line.Line.{Line}
+use Rattle.cbm_iec.specs.declared.lines.Line.TheVariants.{Atn, Clock, Data}
+use Rattle.cbm_iec.specs.declared.lines.Line.{Line}
 use Rattle.cbm_iec.specs.declared.lines.Held.{Held}
 use Rattle.cbm_iec.specs.declared.party.Party.{Party}
 use Rattle.cbm_iec.specs.declared.party.Role.TheVariants.{Absent, Listener, Talker}
@@ -26,7 +26,7 @@ use Rattle.cbm_session.proofs.joining.Talkers.{silent_bus}
 use Rattle.cbm_session.proofs.reading.OneReading.{seat_of}
 use Rattle.cbm_session.proofs.reading.PieceReadings.{next_seat}
 use Rattle.cbm_session.specs.Among.{Rest, wires_of, FollowsAmong}
-use Rattle.cbm_session.specs.Buses.{OwnAt, is_held, one_if, holding, rest_at, seat_for, StandsThere, SaysAs, FollowsUpTo, FollowsAllAmong, EachFollows, FollowsBuses, SideAmong, StandsAmong}
+use Rattle.cbm_session.specs.Buses.{OwnAt, is_held, one_where, holding, rest_at, seat_for, StandsThere, SaysAs, FollowsUpTo, FollowsAllAmong, EachFollows, FollowsBuses, SideAmong, StandsAmong}
 use Rattle.cbm_session.specs.Pieces.{Whole, Piece, Point, own_part, steps_of, before, piece_steps, PieceFits, held_by, seat_with, whole_point, point_after, PullPiece, Command, Byte, ToListener, ToNobody, ToTalker, Nothing, Talk, Full, Cut, Listening, Leading}
 use Rattle.cbm_session.specs.Seats.{lines, Seat, device, is_listener, is_talker, has_listener}
 use Rattle.cbm_session.specs.Sessions.{rest, Linked, AreDrives}
@@ -166,12 +166,12 @@ none_hold : (line : Line) (d : ℕ) (bs : List Party) → holding line d (map (�
 none_hold line d [] = refl
 none_hold line d (b ∷ bs) = go (nat_eq d b.device) (none_hold line d bs)
   where
-    free : (x : Line) → one_if (is_held x (lines false false)) ≡ zero
+    free : (x : Line) → one_where (is_held x (lines false false)) ≡ zero
     free Atn = refl
     free Clock = refl
     free Data = refl
 
-    go : (v : Bool) → holding line d (map (λ b. seat_of b) bs) ≡ zero → (if v then holding line d (map (λ b. seat_of b) bs) else one_if (is_held line (lines false false)) + holding line d (map (λ b. seat_of b) bs)) ≡ zero
+    go : (v : Bool) → holding line d (map (λ b. seat_of b) bs) ≡ zero → (if v then holding line d (map (λ b. seat_of b) bs) else one_where (is_held line (lines false false)) + holding line d (map (λ b. seat_of b) bs)) ≡ zero
     go true e = e
     go false e = let k = free line in omega (arith, k, e)
 

@@ -4,9 +4,9 @@ use Rattle.cbm_iec.specs.declared.pace.Pace.{Pace}
 use Rattle.std.proofs.Common.{◌≡◌, ℕ, ◌+◌, ◌≤◌, Bool, true, false, List, [], ◌∷◌, ◌++◌, map, Option, Some, None, ap, sym, ◌∙◌, subst, arith, refl, append-nil, inr}
 use Rattle.std.specs.Prelude.{nat_eq}
 use Rattle.cbm_iec.specs.Profile.{mute}
-use Rattle.cbm_iec.specs.declared.act.Act.TheVariants.{Released, Silent}
-use Rattle.cbm_iec.specs.declared.line.Line.TheVariants.{Atn, Clock, Data}
-use Rattle.cbm_iec.specs.declared.line.Way.TheVariants.{Pull, Free}
+use Rattle.cbm_iec.specs.declared.machine.Act.TheVariants.{Released, Silent}
+use Rattle.cbm_iec.specs.declared.lines.Line.TheVariants.{Atn, Clock, Data}
+use Rattle.cbm_iec.specs.declared.lines.Way.TheVariants.{Pull, Free}
 use Rattle.cbm_iec.specs.declared.lines.Held.{Held}
 use Rattle.cbm_iec.specs.declared.mouth.Mouth.TheVariants.{Answering, Mute, Over}
 use Rattle.cbm_iec.specs.declared.party.Party.{Party}

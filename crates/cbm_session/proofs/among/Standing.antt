@@ -3,8 +3,8 @@ use Rattle.std.proofs.Common.{◌≡◌, ℕ, ◌≤◌, Bool, true, false, List
 use Rattle.std.specs.Prelude.{nat_eq, if◌then◌else◌}
 use Rattle.cbm_iec.specs.declared.event.Who.TheVariants.{Host, Drive}
 use Rattle.cbm_iec.specs.declared.event.Who.{Who}
-use Rattle.cbm_iec.specs.declared.line.Line.{Line}
-use Rattle.cbm_iec.specs.declared.line.Way.{Way}
+use Rattle.cbm_iec.specs.declared.lines.Line.{Line}
+use Rattle.cbm_iec.specs.declared.lines.Way.{Way}
 use Rattle.cbm_iec.specs.declared.lines.Held.{Held}
 use Rattle.cbm_iec.specs.declared.port.Port.{Port}
 use Rattle.cbm_session.proofs.frames.Phases.{Each}
@@ -13,12 +13,12 @@ use Rattle.cbm_session.proofs.reading.PieceReadings.{next_seat}
 use Rattle.cbm_session.specs.Among.{Rest, behind_other, behind_host, FollowsAmong}
 use Rattle.cbm_session.specs.Buses.{rest_at, SaysAs, SideAmong, OwnAt, StandsAmong}
 use Rattle.cbm_session.specs.Laws.{SeatsReact}
-use Rattle.cbm_session.specs.Pieces.{Whole, Place, Point, steps_of, Fits, whole_point, Full, Open, Commanding, Listening, Leading, Cutting}
+use Rattle.cbm_session.specs.Pieces.{Whole, BusPlace, Point, steps_of, Fits, whole_point, Full, Open, Commanding, Listening, Leading, Cutting}
 use Rattle.cbm_session.specs.Seats.{lines, Seat, device}
 use Rattle.cbm_session.specs.Steps.{Step}
 
 -- what the host holds at a place
-abbrev pub HostAt : Place → Held → Type 0
+abbrev pub HostAt : BusPlace → Held → Type 0
 HostAt Open host = Unit {0}
 HostAt (Commanding some) host = host ≡ lines true false
 HostAt Listening host = host ≡ lines true false

@@ -1,15 +1,15 @@
 -- A drive among others follows the frames: its own as the talker, those of the host as a listener and in attention, and none where it has no part in it.
 use Rattle.std.proofs.Common.{◌≡◌, ℕ, zero, suc, ◌+◌, Bool, true, false, not, List, [], ◌∷◌, map, Option, Some, None, ap, sym, ◌∙◌, subst, refl, eq-eqb, inl}
 use Rattle.std.specs.Prelude.{if◌then◌else◌, nat_eq, ◌||◌}
-use Rattle.cbm_iec.specs.declared.act.Act.TheVariants.{Heard, Said}
-use Rattle.cbm_iec.specs.declared.act.Act.{Act}
+use Rattle.cbm_iec.specs.declared.machine.Act.TheVariants.{Heard, Said}
+use Rattle.cbm_iec.specs.declared.machine.Act.{Act}
 use Rattle.cbm_iec.specs.declared.ear.Ear.TheVariants.{Idle, Holding}
 use Rattle.cbm_iec.specs.declared.event.Who.TheVariants.{Host, Drive}
 use Rattle.cbm_iec.specs.declared.event.Who.{Who}
-use Rattle.cbm_iec.specs.declared.line.Line.TheVariants.{Clock, Data}
-use Rattle.cbm_iec.specs.declared.line.Line.{Line}
-use Rattle.cbm_iec.specs.declared.line.Way.TheVariants.{Pull, Free}
-use Rattle.cbm_iec.specs.declared.line.Way.{Way}
+use Rattle.cbm_iec.specs.declared.lines.Line.TheVariants.{Clock, Data}
+use Rattle.cbm_iec.specs.declared.lines.Line.{Line}
+use Rattle.cbm_iec.specs.declared.lines.Way.TheVariants.{Pull, Free}
+use Rattle.cbm_iec.specs.declared.lines.Way.{Way}
 use Rattle.cbm_iec.specs.declared.lines.Held.{Held}
 use Rattle.cbm_iec.specs.declared.lines.Lines.{Lines}
 use Rattle.cbm_iec.specs.declared.mouth.Mouth.TheVariants.{Led}
@@ -38,11 +38,11 @@ use Rattle.cbm_session.proofs.joining.Talkers.{talker_is, other_talker}
 use Rattle.cbm_session.proofs.reading.OneReading.{is_atn, NoAtn, noatn_telling, noatn_if}
 use Rattle.cbm_session.proofs.reading.PieceReadings.{seat}
 use Rattle.cbm_session.specs.Among.{Rest, some, wires_of, FollowsAmong, CountsFor}
-use Rattle.cbm_session.specs.Bits.{where_held, Cell, cell_steps, cells_steps, held_after, number_of, byte_of}
+use Rattle.cbm_session.specs.Bits.{where_held, BitCell, cell_steps, cells_steps, held_after, number_of, byte_in_cells}
 use Rattle.cbm_session.specs.Buses.{rest_at, SideAmong, OwnAt, StandsAmong}
 use Rattle.cbm_session.specs.Following.{SideAt}
 use Rattle.cbm_session.specs.Frames.{Sent, Told, wire, end_of, hearing, sending, is_last, signal_steps, telling, taking, ToldFits}
-use Rattle.cbm_session.specs.Pieces.{Whole, Place, Point, host_part, own_part, steps_of, obeying, Command, Byte, Talk, Open, Listening, Leading}
+use Rattle.cbm_session.specs.Pieces.{Whole, BusPlace, Point, host_part, own_part, steps_of, obeying, Command, Byte, Talk, Open, Listening, Leading}
 use Rattle.cbm_session.specs.Seats.{at_pace, lines, Seat, device, is_listener, is_talker, talker_of, listeners}
 use Rattle.cbm_session.specs.Steps.{Mark, Step, host, for_one, merge, merge_all, Plain, ForEach, For}
 
@@ -60,7 +60,7 @@ command_law s g p q peek sound st f y =
     let c = is_commanding f.0 in
     let k = commanding_rest p s c.0 sound c.1 in
     let all = follows_commands peek p s k.0 g sound.react sound.seated.sits k.1 f in
-    let q2 = held_port (obeying (byte_of g.cells) s) k.0 in
+    let q2 = held_port (obeying (byte_in_cells g.cells) s) k.0 in
     let same : q ≡ held_port s k.0 = commanding_port p s q c.0 k.0 sound st c.1 k.2 ∙ ap (λ (l : Lines). stands s.party s.role (lines false true) l (Hearing Holding)) (wires_held true k.0) in
     record {
       rest = held_rest k.0;
@@ -74,11 +74,11 @@ command_law s g p q peek sound st f y =
     }
 
 -- the lines and the side of a drive at a place
-own_there : (p : Point) (s : Seat) (place : Place) → IsSound p s → p.place ≡ place → OwnAt place s.role s.own
-own_there p s place h e = subst (λ (x : Place). OwnAt x s.role s.own) e (each_sits (λ x. OwnAt p.place x.role x.own) (device s) p.seats s h.own h.seated.sits)
+own_there : (p : Point) (s : Seat) (place : BusPlace) → IsSound p s → p.place ≡ place → OwnAt place s.role s.own
+own_there p s place h e = subst (λ (x : BusPlace). OwnAt x s.role s.own) e (each_sits (λ x. OwnAt p.place x.role x.own) (device s) p.seats s h.own h.seated.sits)
 
-pub side_there : (p : Point) (s : Seat) (q : Port) (place : Place) → StandsAmong p s q → p.place ≡ place → SideAmong place s.role q.side
-side_there p s q place t e = subst (λ (x : Place). SideAmong x s.role q.side) e t.side
+pub side_there : (p : Point) (s : Seat) (q : Port) (place : BusPlace) → StandsAmong p s q → p.place ≡ place → SideAmong place s.role q.side
+side_there p s q place t e = subst (λ (x : BusPlace). SideAmong x s.role q.side) e t.side
 
 -- a listener
 pub byte_law : (b : Party) (o : Held) (eoi : Bool) (g : Sent) → SeatLaw (Byte eoi g) (seat b Listener o)
@@ -129,7 +129,7 @@ owned_others d o (s ∷ ss) h a n = (one s.event.who a.0, owned_others d o ss h 
     one w e = record { who = by s.event.who e; counts = unheard s.mark a.1; line = n.0 }
 
 -- the host's part of a frame
-sent_others : (d : ℕ) (held : Bool) (cs : List Cell) → Every (IsOthers d) (cells_steps held cs)
+sent_others : (d : ℕ) (held : Bool) (cs : List BitCell) → Every (IsOthers d) (cells_steps held cs)
 sent_others d held [] = tt
 sent_others d held (c ∷ cs) = every_append (IsOthers d) (cell_steps held c) (cells_steps (not c.bit) cs) (one held c.bit c.set c.free c.pull) (sent_others d (not c.bit) cs)
   where
@@ -168,7 +168,7 @@ absent_byte_law b o eoi g p q peek sound st f y =
     let s = seat b Absent o in
     let w = Byte eoi g in
     let all = idle_passes peek p b o w q st (own_there p s Listening sound f.0) (side_there p s q Listening st f.0)
-    (frame_others p s w sound (sending_others b.device g) (λ (x : Seat). noatn_if (is_listener x.role) (hearing (wire (listeners p.seats) g) eoi (Heard (byte_of g.cells) eoi) g x) (noatn_hearing (wire (listeners p.seats) g) eoi (Heard (byte_of g.cells) eoi) g x)) refl) in
+    (frame_others p s w sound (sending_others b.device g) (λ (x : Seat). noatn_if (is_listener x.role) (hearing (wire (listeners p.seats) g) eoi (Heard (byte_in_cells g.cells) eoi) g x) (noatn_hearing (wire (listeners p.seats) g) eoi (Heard (byte_in_cells g.cells) eoi) g x)) refl) in
     record { rest = all.0; port = stands b Absent (lines false false) (wires_of all.0) (Hearing Idle); follows = all.1; role = refl; own = refl; side = refl }
 
 -- the host's part of a frame of another

@@ -4,10 +4,10 @@ use Rattle.cbm_iec.specs.declared.pace.Pace.TheVariants.{Profile, Kernal}
 use Rattle.cbm_iec.specs.declared.pace.Pace.{Pace}
 use Rattle.std.proofs.Common.{◌≡◌, ℕ, zero, suc, ◌+◌, ◌≤◌, Bool, true, false, List, [], ◌∷◌, map, Option, Some, None, ap, sym, ◌∙◌, subst, arith, refl, inl}
 use Rattle.std.specs.Prelude.{nat_eq}
-use Rattle.cbm_iec.specs.declared.act.Act.TheVariants.{Released, Silent}
+use Rattle.cbm_iec.specs.declared.machine.Act.TheVariants.{Released, Silent}
 use Rattle.cbm_iec.specs.declared.ear.Ear.TheVariants.{Idle, Leaving, Holding}
-use Rattle.cbm_iec.specs.declared.line.Line.TheVariants.{Atn, Clock, Data}
-use Rattle.cbm_iec.specs.declared.line.Way.TheVariants.{Pull, Free}
+use Rattle.cbm_iec.specs.declared.lines.Line.TheVariants.{Atn, Clock, Data}
+use Rattle.cbm_iec.specs.declared.lines.Way.TheVariants.{Pull, Free}
 use Rattle.cbm_iec.specs.declared.lines.Held.{Held}
 use Rattle.cbm_iec.specs.declared.mouth.Mouth.TheVariants.{Turned, Answering}
 use Rattle.cbm_iec.specs.declared.party.Party.{Party}
@@ -33,7 +33,7 @@ use Rattle.cbm_session.proofs.reading.PieceReadings.{seat, turn_first}
 use Rattle.cbm_session.specs.Among.{Rest, some, wires_of, FollowsAmong, tells, reacts}
 use Rattle.cbm_session.specs.Buses.{rest_at, SaysAs, SideAmong, OwnAt, StandsAmong}
 use Rattle.cbm_session.specs.Joins.{NotBefore}
-use Rattle.cbm_session.specs.Pieces.{silent_part, Whole, Place, Point, freed_steps, host_part, let_go, own_part, steps_of, Fits, ToListener, ToNobody, ToTalker, Nothing, Commanding, Full}
+use Rattle.cbm_session.specs.Pieces.{silent_part, Whole, BusPlace, Point, freed_steps, host_part, let_go, own_part, steps_of, Fits, ToListener, ToNobody, ToTalker, Nothing, Commanding, Full}
 use Rattle.cbm_session.specs.Seats.{lines, Seat, device, reaction, is_talker, talker_of}
 use Rattle.cbm_session.specs.Steps.{Step, host, drive, for_each, moment_of, merge, merge_all}
 
@@ -48,8 +48,8 @@ with_role w s r e f = subst (λ (x : Role). SeatLaw w (seat s.party x s.own)) (s
 pub commanding_port : (p : Point) (s : Seat) (q : Port) (some : Bool) (n : ℕ) → IsSound p s → StandsAmong p s q → p.place ≡ Commanding some → rest_at (device s) p ≡ in_hold true n
     → q ≡ stands s.party s.role (lines false true) (wires_of (in_hold true n)) (Hearing Holding)
 commanding_port p s q some n h t e r =
-    let own : OwnAt (Commanding some) s.role s.own = subst (λ (x : Place). OwnAt x s.role s.own) e (each_sits (λ x. OwnAt p.place x.role x.own) (device s) p.seats s h.own h.seated.sits) in
-    let side : SideAmong (Commanding some) s.role q.side = subst (λ (x : Place). SideAmong x s.role q.side) e t.side in
+    let own : OwnAt (Commanding some) s.role s.own = subst (λ (x : BusPlace). OwnAt x s.role s.own) e (each_sits (λ x. OwnAt p.place x.role x.own) (device s) p.seats s h.own h.seated.sits) in
+    let side : SideAmong (Commanding some) s.role q.side = subst (λ (x : BusPlace). SideAmong x s.role q.side) e t.side in
     port_is q s.party s.role (lines false true) (wires_of (in_hold true n)) (Hearing Holding) t.party t.role (t.own ∙ own) (t.others ∙ ap (λ (x : Rest). wires_of x) r) side
 
 -- a part by roles

@@ -9,7 +9,7 @@ use Rattle.cbm_iec.specs.declared.party.Party.{Party}
 use Rattle.cbm_iec.specs.declared.party.Role.{Role}
 use Rattle.cbm_session.proofs.frames.OnePulse.{bounds}
 use Rattle.cbm_session.proofs.joining.Talkers.{KeepsDrives, KeepsRoles, standing_drives, standing_roles}
-use Rattle.cbm_session.specs.Bits.{byte_of}
+use Rattle.cbm_session.specs.Bits.{byte_in_cells}
 use Rattle.cbm_session.specs.Frames.{Sent, end_of, accept_of}
 use Rattle.cbm_session.specs.Laws.{SeatsReact, begin_of, AllAccepted, ListenersAccepted, DrivesAccepted}
 use Rattle.cbm_session.specs.Pieces.{Whole, Point, gap_at, gap, Fits, obeying, standing, whole_point, PullPiece, Command, Byte, ToListener, ToNobody, ToTalker, Nothing, Talk}
@@ -131,8 +131,8 @@ pub drives_accepted : DrivesAccepted
 drives_accepted p f (PullPiece at) r h k = elim k [ ]
 drives_accepted p f (Command g) r h k = at_100 p.seats f g.ready r k.2
 drives_accepted p f (Byte e g) r h k = absurd cc
-drives_accepted p f (ToListener at) r h k = release_waits f at p.seats (λ s. obeying (byte_of f.cells) s) r (λ (s : Seat). refl) k.gap
-drives_accepted p f (ToNobody at clock) r h k = release_waits f at p.seats (λ s. obeying (byte_of f.cells) s) r (λ (s : Seat). refl) k.0.gap
-drives_accepted p f (ToTalker at clock) r h k = release_waits f at p.seats (λ s. obeying (byte_of f.cells) s) r (λ (s : Seat). refl) k.0.gap
-drives_accepted p f (Nothing at clock freed) r h k = release_waits f at p.seats (λ s. obeying (byte_of f.cells) s) r (λ (s : Seat). refl) k.0.gap
+drives_accepted p f (ToListener at) r h k = release_waits f at p.seats (λ s. obeying (byte_in_cells f.cells) s) r (λ (s : Seat). refl) k.gap
+drives_accepted p f (ToNobody at clock) r h k = release_waits f at p.seats (λ s. obeying (byte_in_cells f.cells) s) r (λ (s : Seat). refl) k.0.gap
+drives_accepted p f (ToTalker at clock) r h k = release_waits f at p.seats (λ s. obeying (byte_in_cells f.cells) s) r (λ (s : Seat). refl) k.0.gap
+drives_accepted p f (Nothing at clock freed) r h k = release_waits f at p.seats (λ s. obeying (byte_in_cells f.cells) s) r (λ (s : Seat). refl) k.0.gap
 drives_accepted p f (Talk at g) r h k = absurd cc

@@ -3,7 +3,7 @@ use Rattle.cbm_session.proofs.Paces.{pulse_from}
 use Rattle.std.proofs.Common.{◌≡◌, ℕ, ◌+◌, ◌≤◌, ◌<◌, ◌⊎◌, inl, inr, max, min, List, [], ◌∷◌, arith}
 use Rattle.std.proofs.Math.Nat.{le-max_left, le-max_right, max-le, min-le_left, min-le_right, le-min, min-eq_left, min-eq_right, max-eq_left, max-eq_right}
 use Rattle.std.proofs.lemmas.Bool.Decides.{leb_tells}
-use Rattle.cbm_session.specs.Frames.{wire, lasting, longest}
+use Rattle.cbm_session.specs.Frames.{wire, lasting, longest_lasting}
 use Rattle.cbm_session.specs.Laws.{SeatsReact, IsPulsing, OnePulse, PulseEnds}
 use Rattle.cbm_session.specs.Seats.{Seat, reaction, slowest, fastest}
 
@@ -23,11 +23,11 @@ from s [] t m h (inr x) = elim x [ ]
 from s (u ∷ us) t m h (inl x) = let a = min-le_left (reaction s) (fastest (u ∷ us)) in omega (arith, a, x.0)
 from s (u ∷ us) t m h (inr x) = let a = min-le_right (reaction s) (fastest (u ∷ us)) in let k = from u us t m h.2 x in omega (arith, a, k)
 
-upto : (s : Seat) (ss : List Seat) (t m : ℕ) → SeatsReact (s ∷ ss) → IsPulsing (s ∷ ss) t m → m < t + 200 + longest (s ∷ ss)
+upto : (s : Seat) (ss : List Seat) (t m : ℕ) → SeatsReact (s ∷ ss) → IsPulsing (s ∷ ss) t m → m < t + 200 + longest_lasting (s ∷ ss)
 upto s [] t m h (inl x) = x.1
 upto s [] t m h (inr x) = elim x [ ]
-upto s (u ∷ us) t m h (inl x) = let a = le-max_left (lasting s) (longest (u ∷ us)) in let k = x.1 in omega (arith, a, k)
-upto s (u ∷ us) t m h (inr x) = let a = le-max_right (lasting s) (longest (u ∷ us)) in let k = upto u us t m h.2 x in omega (arith, a, k)
+upto s (u ∷ us) t m h (inl x) = let a = le-max_left (lasting s) (longest_lasting (u ∷ us)) in let k = x.1 in omega (arith, a, k)
+upto s (u ∷ us) t m h (inr x) = let a = le-max_right (lasting s) (longest_lasting (u ∷ us)) in let k = upto u us t m h.2 x in omega (arith, a, k)
 
 -- the least of two is one of them, and so is the greatest
 min_is : (a b : ℕ) → (min a b ≡ a) ⊎ (min a b ≡ b)
@@ -44,17 +44,17 @@ sooner t m r f h a b = elim (min_is r f) [ inl x ↦ absurd (omega (arith, x, a,
 later : (t m r l : ℕ) → m < t + 200 + max r l → t + 200 + r ≤ m → m < t + 200 + l
 later t m r l a b = elim (max_is r l) [ inl x ↦ absurd (omega (arith, x, a, b)) | inr x ↦ omega (arith, x, a, b) ]
 
-long : (u : Seat) (us : List Seat) → 60 ≤ longest (u ∷ us)
+long : (u : Seat) (us : List Seat) → 60 ≤ longest_lasting (u ∷ us)
 long u [] = omega (arith, pulse_from u.party.pace)
-long u (v ∷ vs) = let a = le-max_left (lasting u) (longest (v ∷ vs)) in omega (arith, pulse_from u.party.pace, a)
+long u (v ∷ vs) = let a = le-max_left (lasting u) (longest_lasting (v ∷ vs)) in omega (arith, pulse_from u.party.pace, a)
 
-held : (s : Seat) (ss : List Seat) (t m : ℕ) → SeatsReact (s ∷ ss) → t + 200 + fastest (s ∷ ss) ≤ m → m < t + 200 + longest (s ∷ ss) → IsPulsing (s ∷ ss) t m
+held : (s : Seat) (ss : List Seat) (t m : ℕ) → SeatsReact (s ∷ ss) → t + 200 + fastest (s ∷ ss) ≤ m → m < t + 200 + longest_lasting (s ∷ ss) → IsPulsing (s ∷ ss) t m
 held s [] t m h a b = inl (a, b)
 held s (u ∷ us) t m h a b =
     let k = bounds u us h.2 in
     elim (leb_tells (t + 200 + reaction s) m) [
       | inl x ↦ elim (leb_tells (t + 200 + lasting s) m) [
-        | inl y ↦ inr (held u us t m h.2 (omega (arith, pulse_from s.party.pace, k.1, y.1)) (later t m (lasting s) (longest (u ∷ us)) b y.1))
+        | inl y ↦ inr (held u us t m h.2 (omega (arith, pulse_from s.party.pace, k.1, y.1)) (later t m (lasting s) (longest_lasting (u ∷ us)) b y.1))
         | inr y ↦ inl (x.1, y.1)
       ]
       | inr x ↦ inr (held u us t m h.2 (sooner t m (reaction s) (fastest (u ∷ us)) h.1 a x.1) (omega (arith, k.2, h.1, x.1, long u us)))

@@ -4,16 +4,16 @@ use Rattle.std.proofs.Math.Nat.{le-max_left, le-max_right}
 use Rattle.std.proofs.lemmas.Bool.Decides.{leb_tells}
 use Rattle.std.proofs.lemmas.List.{append-nil}
 use Rattle.std.specs.Prelude.{if◌then◌else◌}
-use Rattle.cbm_iec.specs.declared.act.Act.TheVariants.{Attention, Heard}
-use Rattle.cbm_iec.specs.declared.act.Act.{Act}
-use Rattle.cbm_iec.specs.declared.line.Line.TheVariants.{Clock, Data}
-use Rattle.cbm_iec.specs.declared.line.Way.TheVariants.{Pull, Free}
+use Rattle.cbm_iec.specs.declared.machine.Act.TheVariants.{Attention, Heard}
+use Rattle.cbm_iec.specs.declared.machine.Act.{Act}
+use Rattle.cbm_iec.specs.declared.lines.Line.TheVariants.{Clock, Data}
+use Rattle.cbm_iec.specs.declared.lines.Way.TheVariants.{Pull, Free}
 use Rattle.cbm_session.proofs.frames.Accepted.{listen_react}
 use Rattle.cbm_session.proofs.joining.Merging.{merge_here, merge_there, merge_nil, NoneBefore, AllBefore, by_head, none_merge, none_sooner}
 use Rattle.cbm_session.proofs.joining.OneDrive.{AllUpTo, cells_upto, upto_append, last_after}
 use Rattle.cbm_session.proofs.joining.Orders.{sending_order}
-use Rattle.cbm_session.specs.Bits.{where_held, cells_steps, held_after, byte_of}
-use Rattle.cbm_session.specs.Frames.{Sent, wire, lasting, longest, end_of, pulse, hearing, sending, StartFits, SentFits}
+use Rattle.cbm_session.specs.Bits.{where_held, cells_steps, held_after, byte_in_cells}
+use Rattle.cbm_session.specs.Frames.{Sent, wire, lasting, longest_lasting, end_of, pulse, hearing, sending, StartFits, SentFits}
 use Rattle.cbm_session.specs.Laws.{SeatsReact, releases, pulses, from_start, accepts, frame_in_parts, CommandsGoInParts, BytesGoInParts}
 use Rattle.cbm_session.specs.Seats.{Seat, device, reaction, slowest, is_listener, listeners}
 use Rattle.cbm_session.specs.Steps.{Step, host, drive, for_one, moment_of, merge, merge_all}
@@ -82,12 +82,12 @@ react_by n (s ∷ u ∷ us) h l =
     ((h.0, h.1, omega (arith, a, l)), react_by n (u ∷ us) h.2 (omega (arith, b, l)))
 
 -- none lasts longer than the longest
-pub lasts_by : (n : ℕ) (hs : List Seat) → longest hs ≤ n → Each (λ s. lasting s ≤ n) hs
+pub lasts_by : (n : ℕ) (hs : List Seat) → longest_lasting hs ≤ n → Each (λ s. lasting s ≤ n) hs
 lasts_by n [] l = tt
 lasts_by n (s ∷ []) l = (l, tt)
 lasts_by n (s ∷ u ∷ us) l =
-    let a = le-max_left (lasting s) (longest (u ∷ us)) in
-    let b = le-max_right (lasting s) (longest (u ∷ us)) in
+    let a = le-max_left (lasting s) (longest_lasting (u ∷ us)) in
+    let b = le-max_right (lasting s) (longest_lasting (u ∷ us)) in
     (omega (arith, a, l), lasts_by n (u ∷ us) (omega (arith, b, l)))
 
 -- a drive's part behind its release, by what bounds it
@@ -109,11 +109,11 @@ freed_upto true m = (omega arith, tt)
 freed_upto false m = tt
 
 pub starts : (eoi : Bool) (hs : List Seat) (f : Sent) → StartFits hs eoi f → wire hs f + 1 ≤ f.start
-starts true hs f h = let k : wire hs f + 200 + longest hs + 1 ≤ f.start = h in omega (arith, k)
+starts true hs f h = let k : wire hs f + 200 + longest_lasting hs + 1 ≤ f.start = h in omega (arith, k)
 starts false hs f h = h.0
 
-pulses_before : (eoi : Bool) (hs : List Seat) (f : Sent) (s : Seat) → StartFits hs eoi f → lasting s ≤ longest hs → AllBefore f.start (pulse (wire hs f) eoi s)
-pulses_before true hs f s h r = let k : wire hs f + 200 + longest hs + 1 ≤ f.start = h in pulse_before f.start (wire hs f) true s (omega (arith, k, r))
+pulses_before : (eoi : Bool) (hs : List Seat) (f : Sent) (s : Seat) → StartFits hs eoi f → lasting s ≤ longest_lasting hs → AllBefore f.start (pulse (wire hs f) eoi s)
+pulses_before true hs f s h r = let k : wire hs f + 200 + longest_lasting hs + 1 ≤ f.start = h in pulse_before f.start (wire hs f) true s (omega (arith, k, r))
 pulses_before false hs f s h r = tt
 
 module _ (hs : List Seat) (eoi : Bool) (act : Act) (f : Sent) (r : SeatsReact hs) (fits : SentFits hs eoi f) where
@@ -160,7 +160,7 @@ module _ (hs : List Seat) (eoi : Bool) (act : Act) (f : Sent) (r : SeatsReact hs
       (λ s h. let x = start in let y = last in tail_none (wire hs f + 1) (wire hs f) eoi act f s (omega arith) (omega (arith, x, y))) by
 
   pulse_done : Each (λ s. AllBefore f.start (pulsing s)) hs
-  pulse_done = each (λ s. lasting s ≤ longest hs) (λ s. AllBefore f.start (pulsing s)) hs (λ s h. pulses_before eoi hs f s fits.start h) (lasts_by (longest hs) hs (omega arith))
+  pulse_done = each (λ s. lasting s ≤ longest_lasting hs) (λ s. AllBefore f.start (pulsing s)) hs (λ s h. pulses_before eoi hs f s fits.start h) (lasts_by (longest_lasting hs) hs (omega arith))
 
   accept_none : (m : ℕ) → m ≤ end_of f + 1 → Each (λ s. NoneBefore m (accept s)) hs
   accept_none m l = each (ReactsBy (slowest hs)) (λ s. NoneBefore m (accept s)) hs (λ s h. let a = h.0 in (omega (arith, a, l), tt)) by
@@ -197,7 +197,7 @@ module _ (hs : List Seat) (eoi : Bool) (act : Act) (f : Sent) (r : SeatsReact hs
       ∙ ap (λ (zs : List Step). host f.ready Clock Free ∷ zs) releases_first
 
 pub commands_go_in_parts : CommandsGoInParts
-commands_go_in_parts p f r h = frame_goes p.seats false (Attention (byte_of f.cells)) f r h.3
+commands_go_in_parts p f r h = frame_goes p.seats false (Attention (byte_in_cells f.cells)) f r h.3
 
 -- those who don't listen do nothing
 skip_none : (l : List Step) (ls : List (List Step)) → merge l (merge_all [] ls) ≡ merge_all l ls
@@ -214,5 +214,5 @@ only_listeners l own (s ∷ ss) = elim (is_listener s.role) as (λ v. merge l (m
 
 pub bytes_go_in_parts : BytesGoInParts
 bytes_go_in_parts p eoi f r h =
-    only_listeners (sending f) (λ s. hearing (wire (listeners p.seats) f) eoi (Heard (byte_of f.cells) eoi) f s) p.seats
-    ∙ frame_goes (listeners p.seats) eoi (Heard (byte_of f.cells) eoi) f (listen_react p.seats r) h.3
+    only_listeners (sending f) (λ s. hearing (wire (listeners p.seats) f) eoi (Heard (byte_in_cells f.cells) eoi) f s) p.seats
+    ∙ frame_goes (listeners p.seats) eoi (Heard (byte_in_cells f.cells) eoi) f (listen_react p.seats r) h.3

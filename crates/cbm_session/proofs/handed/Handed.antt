@@ -2,12 +2,12 @@
 use Rattle.std.proofs.Common.{◌≡◌, ℕ, Bool, List, [], ◌∷◌, ◌++◌, map, Option, ap, sym, ◌∙◌, subst, refl}
 use Rattle.std.proofs.lemmas.List.{map-append}
 use Rattle.cbm_iec.specs.Ports.{resting}
-use Rattle.cbm_iec.specs.declared.act.Act.{Act}
+use Rattle.cbm_iec.specs.declared.machine.Act.{Act}
 use Rattle.cbm_iec.specs.declared.event.Event.{Event}
 use Rattle.cbm_iec.specs.declared.party.Party.{Party}
 use Rattle.cbm_session.proofs.handed.Handing.{Under, under_map, handed, parties, party_map, party_heard}
 use Rattle.cbm_session.proofs.handed.Hearers.{Goes}
-use Rattle.cbm_session.specs.Handed.{quiet, others_of, AllReact, IsHanded, AllHanded, HandsEach}
+use Rattle.cbm_session.specs.Handed.{quiet_voice, others_of, AllReact, IsHanded, AllHanded, HandsEach}
 use Rattle.cbm_session.specs.Playing.{Station, nobody, tell, hear_all, react, shown, Plays, stays, change, reaction, at_rest}
 use Rattle.cbm_session.specs.Sessions.{AllUnlike}
 
@@ -46,9 +46,9 @@ module _ (M : Type 0) (step : M → Act → M) (peek : M → Option (ℕ × Bool
     where
       one : (pa : List Party) (b : Party) (pb : List Party) → bs ≡ pa ++ b ∷ pb → Under pa (λ s. IsHanded M step peek (map (λ x. x.device) pb) end b (ms b.device) trace s) ss
       one pa b pb e =
-          under_map pa (λ s. Goes M step peek (map (λ x. x.device) pb) end (AtRest ms b) quiet (others_of b.device trace) trace s) (λ s. IsHanded M step peek (map (λ x. x.device) pb) end b (ms b.device) trace s) ss
+          under_map pa (λ s. Goes M step peek (map (λ x. x.device) pb) end (AtRest ms b) quiet_voice (others_of b.device trace) trace s) (λ s. IsHanded M step peek (map (λ x. x.device) pb) end b (ms b.device) trace s) ss
           (λ s g. record { acts = g.acts; hands = g.hands; says = g.says; ran = g.ran })
           (handed M step peek end b pa pb (subst (λ (l : List Party). AllUnlike l) e unlike) (subst (λ (l : List Party). AllReact l) e swift) plays
-          (at_rest M step peek ms pa) (AtRest ms b) (at_rest M step peek ms pb) quiet
+          (at_rest M step peek ms pa) (AtRest ms b) (at_rest M step peek ms pb) quiet_voice
           (record { all = ap (λ (l : List Party). at_rest M step peek ms l) e ∙ map-append (AtRest ms) pa (b ∷ pb); before = rest_parties ms pa; own = refl; behind = rest_parties ms pb })
           (record { wired = refl; knows = tt }) (record { atn = refl; low = refl; bits = tt }) m z)

@@ -4,12 +4,12 @@ use Rattle.std.proofs.lemmas.Bool.{le-leb, lt-leb, ne_eqb}
 use Rattle.std.proofs.lemmas.List.{map-append}
 use Rattle.std.specs.Prelude.{if◌then◌else◌, nat_eq, nat_le, nat_lt, ◌||◌}
 use Rattle.cbm_iec.specs.Ports.{port_due, changed, next_held}
-use Rattle.cbm_iec.specs.declared.act.Act.{Act}
+use Rattle.cbm_iec.specs.declared.machine.Act.{Act}
 use Rattle.cbm_iec.specs.declared.event.Event.{Event}
 use Rattle.cbm_iec.specs.declared.event.Who.TheVariants.{Host, Drive}
-use Rattle.cbm_iec.specs.declared.line.Change.{Change}
-use Rattle.cbm_iec.specs.declared.line.Line.TheVariants.{Clock, Data}
-use Rattle.cbm_iec.specs.declared.line.Line.{Line}
+use Rattle.cbm_iec.specs.declared.lines.Change.{Change}
+use Rattle.cbm_iec.specs.declared.lines.Line.TheVariants.{Clock, Data}
+use Rattle.cbm_iec.specs.declared.lines.Line.{Line}
 use Rattle.cbm_iec.specs.declared.party.Party.{Party}
 use Rattle.cbm_iec.specs.declared.port.Side.TheVariants.{Hearing, Speaking}
 use Rattle.cbm_iec.specs.declared.port.Side.{Side}
@@ -18,7 +18,7 @@ use Rattle.cbm_session.proofs.handed.Hearers.{ear_of, IsSettled, told_settled, r
 use Rattle.cbm_session.proofs.handed.Later.{told_kept, reacted_later}
 use Rattle.cbm_session.specs.Among.{Rest, behind_host, behind_other}
 use Rattle.cbm_session.specs.Following.{IsInTime}
-use Rattle.cbm_session.specs.Handed.{Voice, over, ear_time, others_of, is_one_of, is_before, comes_next, IsQuiet, ends, AllReact}
+use Rattle.cbm_session.specs.Handed.{Voice, over, ear_time, others_of, is_one_of, is_before, comes_next, IsNothingDue, ends, AllReact}
 use Rattle.cbm_session.specs.Playing.{IsByte, AllBytes, IsLaterDue, Station, host_event, drive_events, told_lines, tell, hear, hear_all, react, shown, AllInTime, AllLater, reacting, Plays, stays, change, reaction}
 use Rattle.cbm_session.specs.Sessions.{Unlike, AllUnlike}
 
@@ -400,11 +400,11 @@ module _ (M : Type 0) (step : M → Act → M) (peek : M → Option (ℕ × Bool
         go [] = p
         go (a ∷ as_) = go as_
 
-    side_quiet : (side : Side) (es : List Event) → ((u : ℕ) → side_due side ≡ Some u → comes_next (devices pb) end u es ≡ false) → IsQuiet (devices pb) end (ear_time (ear_of side)) es
+    side_quiet : (side : Side) (es : List Event) → ((u : ℕ) → side_due side ≡ Some u → comes_next (devices pb) end u es ≡ false) → IsNothingDue (devices pb) end (ear_time (ear_of side)) es
     side_quiet (Speaking mouth) es h = tt
     side_quiet (Hearing ear) es h = go (side_due (Hearing ear)) h
       where
-        go : (o : Option ℕ) → ((u : ℕ) → o ≡ Some u → comes_next (devices pb) end u es ≡ false) → IsQuiet (devices pb) end o es
+        go : (o : Option ℕ) → ((u : ℕ) → o ≡ Some u → comes_next (devices pb) end u es ≡ false) → IsNothingDue (devices pb) end o es
         go None k = tt
         go (Some u) k = k u refl
 

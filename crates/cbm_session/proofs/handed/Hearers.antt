@@ -4,21 +4,22 @@ use Rattle.cbm_iec.specs.declared.pace.Pace.{Pace}
 use Rattle.std.proofs.Common.{◌≡◌, ℕ, ◌+◌, Bool, true, false, List, ◌∷◌, Option, Some, None, ap, sym, ◌∙◌, subst, refl, ◌<◌, ◌++◌}
 use Rattle.std.proofs.lemmas.Bool.{ne_eqb}
 use Rattle.std.specs.Prelude.{if◌then◌else◌, ◌&&◌, not, nat_le, ◌==◌, ◌%◌}
+use Rattle.cbm_iec.specs.Changes.{is_pull}
 use Rattle.cbm_iec.specs.Hearing.{is_same, heard_act, ear_row}
 use Rattle.cbm_iec.specs.Ports.{next_held, side_held, port_due, side_due, side_role, side_after, side_act, turned_side, lined_side, lined_act, freed_side, told, told_act, reaction_act}
 use Rattle.cbm_iec.specs.Roles.{role_after, role_with}
 use Rattle.cbm_iec.specs.Speaking.{taken_act, mouth_row, end_frame_row, set_bit_row, show_bit_row}
 use Rattle.cbm_iec.specs.Table.{TableRow}
-use Rattle.cbm_iec.specs.declared.act.Act.TheVariants.{Pulled, Attention, Released, Heard, Said, Silent}
-use Rattle.cbm_iec.specs.declared.act.Act.{Act}
+use Rattle.cbm_iec.specs.declared.machine.Act.TheVariants.{Pulled, Attention, Released, Heard, Said, Silent}
+use Rattle.cbm_iec.specs.declared.machine.Act.{Act}
 use Rattle.cbm_iec.specs.declared.ear.Ear.TheVariants.{Idle, Await, Starting, Leaving, Returning, Holding, Freeing, Ready, Timed, Pulsing, EoiNoted, Gathering, Accepting}
 use Rattle.cbm_iec.specs.declared.ear.Ear.{Ear}
 use Rattle.cbm_iec.specs.declared.event.Event.{Event}
 use Rattle.cbm_iec.specs.declared.event.Who.TheVariants.{Host, Drive}
 use Rattle.cbm_iec.specs.declared.event.Who.{Who}
-use Rattle.cbm_iec.specs.declared.line.Line.TheVariants.{Atn, Clock, Data}
-use Rattle.cbm_iec.specs.declared.line.Line.{Line}
-use Rattle.cbm_iec.specs.declared.line.Way.{Way}
+use Rattle.cbm_iec.specs.declared.lines.Line.TheVariants.{Atn, Clock, Data}
+use Rattle.cbm_iec.specs.declared.lines.Line.{Line}
+use Rattle.cbm_iec.specs.declared.lines.Way.{Way}
 use Rattle.cbm_iec.specs.declared.lines.Held.{Held}
 use Rattle.cbm_iec.specs.declared.lines.Lines.{Lines}
 use Rattle.cbm_iec.specs.declared.mouth.Mouth.TheVariants.{Turned, Answering, Mute, Led, Offering, EoiOffered, EoiPulsed, Sending, Waiting, Ending, Over}
@@ -32,9 +33,8 @@ use Rattle.cbm_session.proofs.handed.Spelling.{Spells, IsBound, bits_after, WasS
 use Rattle.cbm_session.proofs.handed.Voices.{reaction_passes, freed_bits}
 use Rattle.cbm_session.proofs.handed.Knowing.{SideKnows, run_with, told_knows, reacted_knows}
 use Rattle.cbm_session.specs.Among.{Rest, wires_of, behind_other}
-use Rattle.cbm_session.specs.Pieces.{is_pull}
 use Rattle.cbm_session.specs.Answers.{Run}
-use Rattle.cbm_session.specs.Handed.{Voice, voiced, cut_by, voice_by, said_of, Says, passes, says, Hearer, ear_time, ear_freed, ear_lined, ear_told, hears, moves, rest_behind, comes_next, IsQuiet, with_act, is_answer, Hands, tells, reacts, answers}
+use Rattle.cbm_session.specs.Handed.{Voice, voiced, cut_by, voice_by, said_of, HasSaid, passes, says, Hearer, ear_time, ear_freed, ear_lined, ear_told, hears, moves, rest_behind, comes_next, IsNothingDue, with_act, is_answer, Hands, tells, reacts, answers}
 use Rattle.cbm_session.specs.Playing.{Station, IsByte, drive_events, shown, told_lines, react}
 
 abbrev pub ear_of : Side → Option Ear
@@ -332,7 +332,7 @@ module _ (M : Type 0) (step : M → Act → M) (peek : M → Option (ℕ × Bool
   pub own_voiced : (t : ℕ) (s : Station M) (v : Voice) → IsSettled s → IsVoiced s v → IsByte M step peek (peek s.machine) → port_due s.port ≡ Some t → IsVoiced (react M step peek t s) (own_voice s v)
   own_voiced t s v g h b due = (own_shows t s v g h b due).1
 
-  said_next : (d : ℕ) (act : Option Act) (u : Voice) (es : List Event) (acts : List Act) → WasShown act u.bits → Says d (voice_then act u) es (said_of acts) → Says d u es (said_of (with_act act acts))
+  said_next : (d : ℕ) (act : Option Act) (u : Voice) (es : List Event) (acts : List Act) → WasShown act u.bits → HasSaid d (voice_then act u) es (said_of acts) → HasSaid d u es (said_of (with_act act acts))
   said_next d None u es acts w g = g
   said_next d (Some Pulled) u es acts w g = g
   said_next d (Some (Attention byte)) u es acts w g = g
@@ -345,7 +345,7 @@ module _ (M : Type 0) (step : M → Act → M) (peek : M → Option (ℕ × Bool
   pub record Goes (later : List ℕ) (end : ℕ) (s : Station M) (v : Voice) (es full : List Event) (s2 : Station M) : Type 0 where
     pub acts : List Act
     pub hands : Hands later end (hearer s) es acts
-    pub says : Says s.port.party.device v full (said_of acts)
+    pub says : HasSaid s.port.party.device v full (said_of acts)
     pub ran : Run M step peek s.machine acts s2.machine
 
   told_hearer : (t : ℕ) (r : Rest) (s : Station M) → IsSettled s → hearer (told_lines M step peek t r s) ≡ hears t r (hearer s)
@@ -358,7 +358,7 @@ module _ (M : Type 0) (step : M → Act → M) (peek : M → Option (ℕ × Bool
 
   -- TOLD an event of the host or of another drive
   pub goes_told : (later : List ℕ) (end : ℕ) (e : Event) (es full : List Event) (s s2 : Station M) (v : Voice) → IsSettled s → IsVoiced s v → IsOthers s.port.party.device e.who
-      → IsQuiet later end (ear_time (ear_of s.port.side)) (e ∷ es)
+      → IsNothingDue later end (ear_time (ear_of s.port.side)) (e ∷ es)
       → Goes later end (told_lines M step peek e.change.moment (rest_behind e.who e.change.line e.change.way s.rest) s) (told_voice e.who e.change.line e.change.way s v) es full s2 → Goes later end s v (e ∷ es) (e ∷ full) s2
   goes_told later end e es full s s2 v g h o q f = record {
     acts = with_act (told_act (wires_of r) s.port) f.acts;
@@ -379,7 +379,7 @@ module _ (M : Type 0) (step : M → Act → M) (peek : M → Option (ℕ × Bool
       next : Hands later end (hears e.change.moment r (hearer s)) es f.acts
       next = subst (λ (h : Hearer). Hands later end h es f.acts) (told_hearer e.change.moment r s g) f.hands
 
-      by_side : (side : Side) → Hands later end (hears e.change.moment r (At side)) es f.acts → IsQuiet later end (ear_time (ear_of side)) (e ∷ es)
+      by_side : (side : Side) → Hands later end (hears e.change.moment r (At side)) es f.acts → IsNothingDue later end (ear_time (ear_of side)) (e ∷ es)
           → Hands later end (At side) (e ∷ es) (with_act (if is_same s.rest.host.atn_low r.host.atn_low then lined_act (wires_of s.rest) (wires_of r) side else Some (if r.host.atn_low then Pulled else Released)) f.acts)
       by_side (Hearing ear) k w = tells e es f.acts refl w refl k
       by_side (Speaking mouth) k w = go (is_same s.rest.host.atn_low r.host.atn_low) (tells e es f.acts refl w refl k)

@@ -9,8 +9,8 @@ use Rattle.cbm_iec.specs.Machines.{acted}
 use Rattle.cbm_iec.specs.Ports.{side_after, side_act, lined_side, lined_act, freed_side, told, told_act, turned_side, reacted, reaction_act}
 use Rattle.cbm_iec.specs.Speaking.{after_turn, after_free, after_offer, after_taken, after_wait, talk_clock, talk_data, talk_clocked, talk_lines, taken_act, mouth_row, half_row, end_frame_row, set_bit_row, show_bit_row}
 use Rattle.cbm_iec.specs.Table.{TableRow}
-use Rattle.cbm_iec.specs.declared.act.Act.TheVariants.{Pulled, Released, Said}
-use Rattle.cbm_iec.specs.declared.act.Act.{Act}
+use Rattle.cbm_iec.specs.declared.machine.Act.TheVariants.{Pulled, Released, Said}
+use Rattle.cbm_iec.specs.declared.machine.Act.{Act}
 use Rattle.cbm_iec.specs.declared.ear.Ear.TheVariants.{Idle, Await, Starting, Leaving, Returning, Holding, Freeing, Ready, Timed, Pulsing, EoiNoted, Gathering, Accepting}
 use Rattle.cbm_iec.specs.declared.ear.Ear.{Ear}
 use Rattle.cbm_iec.specs.declared.lines.Lines.{Lines}
@@ -21,7 +21,7 @@ use Rattle.cbm_iec.specs.declared.party.Role.{Role}
 use Rattle.cbm_iec.specs.declared.port.Port.{Port}
 use Rattle.cbm_iec.specs.declared.port.Side.TheVariants.{Hearing, Speaking}
 use Rattle.cbm_iec.specs.declared.port.Side.{Side}
-use Rattle.cbm_session.specs.Answers.{Answers, Run}
+use Rattle.cbm_session.specs.Answers.{AnswersAct, Run}
 use Rattle.cbm_session.specs.Handed.{with_act}
 
 -- the byte under way is the one that there is to say
@@ -114,7 +114,7 @@ module _ (M : Type 0) (step : M → Act → M) (peek : M → Option (ℕ × Bool
   -- an act is what the machine answers
   abbrev pub AnswersAny : M → Option Act → Type 0
   AnswersAny m None = Unit {0}
-  AnswersAny m (Some act) = Answers M step peek m act
+  AnswersAny m (Some act) = AnswersAct M step peek m act
 
   pub run_with : (m m2 : M) (act : Option Act) (acts : List Act) → AnswersAny m act → Run M step peek (acted M step act m) acts m2 → Run M step peek m (with_act act acts) m2
   run_with m m2 None acts a r = r
@@ -174,7 +174,7 @@ module _ (M : Type 0) (step : M → Act → M) (peek : M → Option (ℕ × Bool
   ear_answers : (e : Pace) → (others : Lines) (ear : Ear) (m : M) → AnswersAny m ((ear_row e ear).act others)
   ear_answers e others (Accepting at_ eoi byte) m = go others.atn_low
     where
-      go : (v : Bool) → Answers M step peek m (heard_act v byte eoi)
+      go : (v : Bool) → AnswersAct M step peek m (heard_act v byte eoi)
       go true = tt
       go false = tt
   ear_answers e others Await m = tt

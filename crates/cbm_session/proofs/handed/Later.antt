@@ -4,7 +4,7 @@ use Rattle.cbm_iec.specs.declared.pace.Pace.TheVariants.{Profile, Kernal}
 use Rattle.cbm_iec.specs.declared.pace.Pace.{Pace}
 use Rattle.std.proofs.Common.{◌≡◌, ◌∙◌, subst, sym, ℕ, ◌+◌, ◌≤◌, Bool, true, false, Option, Some, None, refl, inl, inr, ◌⊎◌, arith}
 use Rattle.std.specs.Prelude.{◌==◌, nat_lt, nat_le, if◌then◌else◌, ◌%◌}
-use Rattle.cbm_iec.specs.Hearing.{with_bit, ear_due, after_hold, after_start, after_ready, after_clock, after_data, after_lines, after_release, is_same, after_clocked, ear_row}
+use Rattle.cbm_iec.specs.Hearing.{with_bit_read, ear_due, after_hold, after_start, after_ready, after_clock, after_data, after_lines, after_release, is_same, after_clocked, ear_row}
 use Rattle.cbm_iec.specs.Speaking.{set_bit_row, show_bit_row, end_frame_row, mouth_due, after_turn, after_free, after_offer, after_taken, after_wait, talk_clock, talk_data, talk_clocked, talk_lines, mouth_row, half_row}
 use Rattle.cbm_iec.specs.Ports.{port_due, side_due, told, reacted, lined_side, turned_side, freed_side, side_after}
 use Rattle.cbm_iec.specs.declared.ear.Ear.TheVariants.{Idle, Await, Starting, Leaving, Returning, Holding, Freeing, Ready, Timed, Pulsing, EoiNoted, Gathering, Accepting}
@@ -61,7 +61,7 @@ clock_kept r t true data_low (Gathering eoi count byte) h = inr (by_count (count
     by_count false = tt
 clock_kept r t false data_low (Gathering eoi count byte) h = inr (by_count (nat_lt count 8))
   where
-    by_count : (b : Bool) → IsLaterDue t (ear_due (if b then Gathering eoi (count + 1) (with_bit byte data_low) else Gathering eoi count byte))
+    by_count : (b : Bool) → IsLaterDue t (ear_due (if b then Gathering eoi (count + 1) (with_bit_read byte data_low) else Gathering eoi count byte))
     by_count true = tt
     by_count false = tt
 clock_kept r t low data_low (Accepting at_ eoi byte) h = inl refl

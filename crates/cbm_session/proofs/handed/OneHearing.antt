@@ -1,10 +1,10 @@
 -- What a drive hears is a function of the wires.
 use Rattle.std.proofs.Common.{◌≡◌, ℕ, Bool, true, false, List, ◌∷◌, Option, Some, None, ap, sym, ◌∙◌, subst}
 use Rattle.std.specs.Prelude.{if◌then◌else◌}
-use Rattle.cbm_iec.specs.declared.act.Act.{Act}
+use Rattle.cbm_iec.specs.declared.machine.Act.{Act}
 use Rattle.cbm_iec.specs.declared.event.Event.{Event}
 use Rattle.cbm_session.specs.Among.{wires_of}
-use Rattle.cbm_session.specs.Handed.{Hearer, ear_time, hears, moves, atn_act, ear_act, rest_behind, comes_next, IsQuiet, with_act, is_answer, heard_of, Hands, ends, tells, reacts, answers}
+use Rattle.cbm_session.specs.Handed.{Hearer, ear_time, hears, moves, atn_act, ear_act, rest_behind, comes_next, IsNothingDue, with_act, is_answer, heard_of, Hands, ends, tells, reacts, answers}
 
 -- an answer isn't heard
 answer_unheard : (act : Act) (rest : List Act) → is_answer act ≡ true → heard_of (act ∷ rest) ≡ heard_of rest
@@ -16,8 +16,8 @@ with_heard None xs ys e = e
 with_heard (Some act) xs ys e = ap (λ (l : List Act). if is_answer act then l else act ∷ l) e
 
 -- what is quiet doesn't come next
-quiet_not_next : (later : List ℕ) (end t : ℕ) (o : Option ℕ) (es : List Event) → o ≡ Some t → IsQuiet later end o es → comes_next later end t es ≡ true → ⊥
-quiet_not_next later end t o es e q n = cut (subst (λ (x : Option ℕ). IsQuiet later end x es) e q) n
+quiet_not_next : (later : List ℕ) (end t : ℕ) (o : Option ℕ) (es : List Event) → o ≡ Some t → IsNothingDue later end o es → comes_next later end t es ≡ true → ⊥
+quiet_not_next later end t o es e q n = cut (subst (λ (x : Option ℕ). IsNothingDue later end x es) e q) n
   where
     cut : comes_next later end t es ≡ false → comes_next later end t es ≡ true → ⊥
     cut a b = let c : false ≡ true = sym a ∙ b in absurd cc

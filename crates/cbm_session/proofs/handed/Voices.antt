@@ -3,17 +3,17 @@ use Rattle.std.proofs.Common.{◌≡◌, ℕ, ◌+◌, ◌*◌, ◌/◌, ◌%◌
 use Rattle.std.proofs.lemmas.Bool.Decides.{leb_tells, eqb_tells}
 use Rattle.std.specs.Prelude.{if◌then◌else◌, ◌==◌}
 use Rattle.cbm_iec.specs.Ports.{changes_between, changed}
-use Rattle.cbm_iec.specs.declared.act.Act.{Act}
+use Rattle.cbm_iec.specs.declared.machine.Act.{Act}
 use Rattle.cbm_iec.specs.declared.event.Event.{Event}
 use Rattle.cbm_iec.specs.declared.event.Who.TheVariants.{Drive}
-use Rattle.cbm_iec.specs.declared.line.Change.{Change}
-use Rattle.cbm_iec.specs.declared.line.Line.TheVariants.{Clock, Data}
-use Rattle.cbm_iec.specs.declared.line.Line.{Line}
-use Rattle.cbm_iec.specs.declared.line.Way.TheVariants.{Pull, Free}
-use Rattle.cbm_iec.specs.declared.line.Way.{Way}
+use Rattle.cbm_iec.specs.declared.lines.Change.{Change}
+use Rattle.cbm_iec.specs.declared.lines.Line.TheVariants.{Clock, Data}
+use Rattle.cbm_iec.specs.declared.lines.Line.{Line}
+use Rattle.cbm_iec.specs.declared.lines.Way.TheVariants.{Pull, Free}
+use Rattle.cbm_iec.specs.declared.lines.Way.{Way}
 use Rattle.cbm_iec.specs.declared.lines.Held.{Held}
 use Rattle.cbm_session.specs.Bits.{number_of}
-use Rattle.cbm_session.specs.Handed.{Voice, clocked, voiced, Says, passes}
+use Rattle.cbm_session.specs.Handed.{Voice, clocked, voiced, HasSaid, passes}
 use Rattle.cbm_session.specs.Playing.{drive_events}
 
 -- the byte that these bits spell, lowest first, with what is left of it above them
@@ -62,8 +62,8 @@ nothing_left (b0 ∷ b1 ∷ b2 ∷ b3 ∷ b4 ∷ b5 ∷ b6 ∷ b7 ∷ b8 ∷ mor
 
 -- ---- its own changes
 
-own_passes : (d : ℕ) (c : Change) (v : Voice) (es : List Event) (acts : List Act) → Says d (voiced c.line c.way v) es acts → Says d v (drive_events d (c ∷ []) ++ es) acts
-own_passes d c v es acts g = passes (record { who = Drive d; change = c }) es refl (subst (λ (b : Bool). Says d (if b then voiced c.line c.way v else v) es acts) (sym (eq-eqb d d refl)) g)
+own_passes : (d : ℕ) (c : Change) (v : Voice) (es : List Event) (acts : List Act) → HasSaid d (voiced c.line c.way v) es acts → HasSaid d v (drive_events d (c ∷ []) ++ es) acts
+own_passes d c v es acts g = passes (record { who = Drive d; change = c }) es refl (subst (λ (b : Bool). HasSaid d (if b then voiced c.line c.way v else v) es acts) (sym (eq-eqb d d refl)) g)
 
 -- its CLOCK is freed where it held it
 abbrev pub freed_bits : Bool → Bool → Bool → Option (List Bool) → Option (List Bool)
@@ -72,7 +72,7 @@ freed_bits true true low bits = bits
 freed_bits false now low bits = bits
 
 pub reaction_passes : (d t : ℕ) (was now : Held) (v : Voice) (es : List Event) (acts : List Act) → v.low ≡ was.data_low
-    → Says d (record { atn = v.atn; low = now.data_low; bits = freed_bits was.clock_low now.clock_low v.low v.bits }) es acts → Says d v (drive_events d (changes_between t was now) ++ es) acts
+    → HasSaid d (record { atn = v.atn; low = now.data_low; bits = freed_bits was.clock_low now.clock_low v.low v.bits }) es acts → HasSaid d v (drive_events d (changes_between t was now) ++ es) acts
 reaction_passes d t was now v es acts e g = go was.clock_low now.clock_low was.data_low now.data_low v.low e g
   where
     At : Bool → Option (List Bool) → Voice
@@ -81,8 +81,8 @@ reaction_passes d t was now v es acts e g = go was.clock_low now.clock_low was.d
     change : Line → Way → Change
     change line way = record { moment = t; line = line; way = way }
 
-    go : (c c2 e e2 low : Bool) → low ≡ e → Says d (At e2 (freed_bits c c2 low v.bits)) es acts
-        → Says d (At low v.bits) (drive_events d (changed t Clock c c2 ++ changed t Data e e2) ++ es) acts
+    go : (c c2 e e2 low : Bool) → low ≡ e → HasSaid d (At e2 (freed_bits c c2 low v.bits)) es acts
+        → HasSaid d (At low v.bits) (drive_events d (changed t Clock c c2 ++ changed t Data e e2) ++ es) acts
     go true true true true true h k = k
     go true true true false true h k = own_passes d (change Data Free) (At true v.bits) es acts k
     go true true false true false h k = own_passes d (change Data Pull) (At false v.bits) es acts k

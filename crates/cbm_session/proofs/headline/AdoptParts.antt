@@ -1,11 +1,11 @@
 -- From a point of any session on, a piece of it that was played or is under way: its part of an allowed session.
 use Rattle.std.proofs.Common.{◌≡◌, ℕ, ◌≤◌, ◌<◌, inl, inr, Bool, List, [], ◌∷◌, ◌++◌, Option, ap, sym, subst, arith, refl}
 use Rattle.cbm_iec.specs.Ports.{port_due, next_held}
-use Rattle.cbm_iec.specs.declared.act.Act.{Act}
+use Rattle.cbm_iec.specs.declared.machine.Act.{Act}
 use Rattle.cbm_iec.specs.declared.event.Event.{Event}
 use Rattle.cbm_iec.specs.declared.event.Who.TheVariants.{Host, Drive}
 use Rattle.cbm_iec.specs.declared.event.Who.{Who}
-use Rattle.cbm_iec.specs.declared.line.Change.{Change}
+use Rattle.cbm_iec.specs.declared.lines.Change.{Change}
 use Rattle.cbm_session.proofs.frames.Phases.{Each}
 use Rattle.cbm_session.proofs.headline.AlongBus.{devs, sitting_due}
 use Rattle.cbm_session.proofs.headline.Answering.{Answered, to_talker_answered, nothing_answered, talk_answered, talker_byte}
@@ -29,7 +29,7 @@ use Rattle.cbm_session.proofs.joining.Merging.{none_sooner}
 use Rattle.cbm_session.proofs.joining.Seating.{Sits}
 use Rattle.cbm_session.specs.Answers.{IsAnswer, RunEach, run_each}
 use Rattle.cbm_session.specs.Buses.{SideAmong}
-use Rattle.cbm_session.specs.Pieces.{Whole, Place, Point, steps_of, Fits, whole_point, PullPiece, Command, Byte, ToListener, ToNobody, ToTalker, Nothing, Talk, Cutting}
+use Rattle.cbm_session.specs.Pieces.{Whole, BusPlace, Point, steps_of, Fits, whole_point, PullPiece, Command, Byte, ToListener, ToNobody, ToTalker, Nothing, Talk, Cutting}
 use Rattle.cbm_session.specs.Playing.{Station, Plays, stays, change, reaction, IsByte, AllBytes, AllInTime, IsMachine, drive_events, shown}
 use Rattle.cbm_session.specs.Seats.{Seat, device, talker_of}
 use Rattle.cbm_session.specs.Sessions.{MayEnd}
@@ -61,7 +61,7 @@ module _ (M : Type 0) (step : M → Act → M) (peek : M → Option (ℕ × Bool
   cut_due p c e [] [] h = tt
   cut_due p c e [] (x ∷ xs) h = elim h [ ]
   cut_due p c e (s ∷ ss) [] h = elim h [ ]
-  cut_due p c e (s ∷ ss) (x ∷ xs) h = (subst (λ (v : Place). SideAmong v s.role x.port.side) e h.0.stands.side, cut_due p c e ss xs h.1)
+  cut_due p c e (s ∷ ss) (x ∷ xs) h = (subst (λ (v : BusPlace). SideAmong v s.role x.port.side) e h.0.stands.side, cut_due p c e ss xs h.1)
 
   -- so what is played first there is the host's, or not before the cut
   pub first_late : {n n2 : ℕ} {xs ss2 : List (Station M)} {es : List Event} → Plays M step peek n xs es n2 ss2 → (c : ℕ) → AllInTime M step peek c xs → AllShow M step peek mute place xs → (es ≡ [] → ⊥) → (rest : List Event) → FirstLate c (es ++ rest)

@@ -4,15 +4,15 @@ use Rattle.std.specs.Prelude.{if◌then◌else◌, nat_eq}
 use Rattle.cbm_iec.specs.Hearing.{is_same}
 use Rattle.cbm_iec.specs.Machines.{acted}
 use Rattle.cbm_iec.specs.Ports.{port_due, turned_side, lined_side, lined_act, told, told_act, next_held, next_side, reaction_act, reaction_changes}
-use Rattle.cbm_iec.specs.declared.act.Act.TheVariants.{Pulled, Released}
-use Rattle.cbm_iec.specs.declared.act.Act.{Act}
+use Rattle.cbm_iec.specs.declared.machine.Act.TheVariants.{Pulled, Released}
+use Rattle.cbm_iec.specs.declared.machine.Act.{Act}
 use Rattle.cbm_iec.specs.declared.event.Event.{Event}
 use Rattle.cbm_iec.specs.declared.event.Who.TheVariants.{Host, Drive}
 use Rattle.cbm_iec.specs.declared.event.Who.{Who}
-use Rattle.cbm_iec.specs.declared.line.Change.{Change}
-use Rattle.cbm_iec.specs.declared.line.Line.TheVariants.{Atn, Clock, Data}
-use Rattle.cbm_iec.specs.declared.line.Line.{Line}
-use Rattle.cbm_iec.specs.declared.line.Way.{Way}
+use Rattle.cbm_iec.specs.declared.lines.Change.{Change}
+use Rattle.cbm_iec.specs.declared.lines.Line.TheVariants.{Atn, Clock, Data}
+use Rattle.cbm_iec.specs.declared.lines.Line.{Line}
+use Rattle.cbm_iec.specs.declared.lines.Way.{Way}
 use Rattle.cbm_iec.specs.declared.lines.Lines.{Lines}
 use Rattle.cbm_iec.specs.declared.port.Port.{Port}
 use Rattle.cbm_iec.specs.declared.port.Side.{Side}
@@ -25,7 +25,7 @@ use Rattle.cbm_session.proofs.headline.TalkStates.{NoneSaid}
 use Rattle.cbm_session.proofs.joining.Merging.{NoneBefore, InOrder, AllBefore, none_sooner}
 use Rattle.cbm_session.proofs.reading.OneReading.{is_atn, NoAtn}
 use Rattle.cbm_session.specs.Among.{Rest, wires_of, behind_other, behind_host, CountsFor}
-use Rattle.cbm_session.specs.Answers.{run}
+use Rattle.cbm_session.specs.Answers.{run_acts}
 use Rattle.cbm_session.specs.Following.{IsInTime, own_steps, reaction_steps}
 use Rattle.cbm_session.specs.Laws.{AllAfter, GoesOn}
 use Rattle.cbm_session.specs.Playing.{IsLaterDue, Station, host_event, drive_events, tell, hear, hear_all, react, shown, AllInTime, AllLater, IsFirst, reacting, Plays, stays, change, reaction}
@@ -349,7 +349,7 @@ module _ (M : Type 0) (step : M → Act → M) (peek : M → Option (ℕ × Bool
   ran_hear ms done o cs act more [] es g n f r = tt
   ran_hear ms done o cs act more (s ∷ ss) [] g n f r = elim g [ ]
   ran_hear ms done o cs act more (s ∷ ss) (e ∷ es) g n f r = (
-    (hear_steps o cs act g.0 n.0 f).1 ∙ subst (λ (d : ℕ). s.machine ≡ run M step peek (ms d) (acts_for d (done ++ own_steps o cs act))) (sym (dev_hear cs s)) (run_other M step peek s.machine (ms (dev s)) (dev s) o done cs act n.0 r.0),
+    (hear_steps o cs act g.0 n.0 f).1 ∙ subst (λ (d : ℕ). s.machine ≡ run_acts M step peek (ms d) (acts_for d (done ++ own_steps o cs act))) (sym (dev_hear cs s)) (run_other M step peek s.machine (ms (dev s)) (dev s) o done cs act n.0 r.0),
     ran_hear ms done o cs act more ss es g.1 n.1 f r.1,
   )
 

@@ -1,11 +1,11 @@
 -- For each piece of a talking drive in any session there is the one that the drive's machine answers, which goes with it as far as it can.
 use Rattle.std.proofs.Common.{◌≡◌, ℕ, ◌+◌, ◌<◌, Bool, true, List, [], ◌∷◌, ◌++◌, Option, Some, None, ap, sym, ◌∙◌, subst, refl, arith}
 use Rattle.std.specs.Prelude.{if◌then◌else◌}
-use Rattle.cbm_iec.specs.declared.act.Act.TheVariants.{Released}
-use Rattle.cbm_iec.specs.declared.act.Act.{Act}
+use Rattle.cbm_iec.specs.declared.machine.Act.TheVariants.{Released}
+use Rattle.cbm_iec.specs.declared.machine.Act.{Act}
 use Rattle.cbm_iec.specs.declared.event.Event.{Event}
-use Rattle.cbm_iec.specs.declared.line.Line.TheVariants.{Atn, Data}
-use Rattle.cbm_iec.specs.declared.line.Way.TheVariants.{Pull, Free}
+use Rattle.cbm_iec.specs.declared.lines.Line.TheVariants.{Atn, Data}
+use Rattle.cbm_iec.specs.declared.lines.Way.TheVariants.{Pull, Free}
 use Rattle.cbm_iec.specs.declared.party.Party.{Party}
 use Rattle.cbm_iec.specs.declared.party.Role.TheVariants.{Absent, Listener, Talker}
 use Rattle.cbm_iec.specs.declared.party.Role.{Role}
@@ -21,7 +21,7 @@ use Rattle.cbm_session.proofs.headline.TalkSwap.{Twin, twin_skip, twin_same, swa
 use Rattle.cbm_session.proofs.headline.TurnTwin.{Parts, twin_parts, twin_back, parts_differ, turn_begins, leads, mutes, lead_steps, mute_steps, lead_mute}
 use Rattle.cbm_session.proofs.joining.OneDrive.{one_told}
 use Rattle.cbm_session.proofs.joining.Talkers.{talker_is}
-use Rattle.cbm_session.specs.Answers.{IsAnswer, run}
+use Rattle.cbm_session.specs.Answers.{IsAnswer, run_acts}
 use Rattle.cbm_session.specs.Bits.{number_of}
 use Rattle.cbm_session.specs.Frames.{Told, ToldFits}
 use Rattle.cbm_session.specs.Pieces.{silent_end, Whole, Point, steps_of, FreedFits, Fits, CutFits, ToTalker, Nothing, Talk}
@@ -32,7 +32,7 @@ use Rattle.cbm_session.specs.Steps.{Step, events_of, acts_for, host, for_each}
 module _ (M : Type 0) (step : M → Act → M) (peek : M → Option (ℕ × Bool)) where
   -- what the talker's machine has to say where it was reached is a byte
   pub talker_byte : (place : ℕ → ℕ) (p : Point) (ms : ℕ → M) (done : List Step) (ss : List Seat) (xs zs : List (Station M)) → Stood M step peek place p ss xs → devs M step peek mute place zs ≡ devs M step peek mute place xs
-      → AllRan M step peek ms done zs → AllBytes M step peek zs → has_talker ss ≡ true → IsByte M step peek (peek (run M step peek (ms (talker_of p.seats).device) (acts_for (talker_of p.seats).device done)))
+      → AllRan M step peek ms done zs → AllBytes M step peek zs → has_talker ss ≡ true → IsByte M step peek (peek (run_acts M step peek (ms (talker_of p.seats).device) (acts_for (talker_of p.seats).device done)))
   talker_byte place p ms done [] xs zs h v r b e = absurd cc
   talker_byte place p ms done (s ∷ ss) [] zs h v r b e = elim h [ ]
   talker_byte place p ms done (s ∷ ss) (x ∷ xs) [] h v r b e = absurd cc
@@ -43,14 +43,14 @@ module _ (M : Type 0) (step : M → Act → M) (peek : M → Option (ℕ × Bool
       first : (a b : ℕ) (l k : List ℕ) → a ∷ l ≡ b ∷ k → a ≡ b
       first a b l k e = cc
 
-      here : s.role ≡ Talker → IsByte M step peek (peek (run M step peek (ms (talker_of p.seats).device) (acts_for (talker_of p.seats).device done)))
+      here : s.role ≡ Talker → IsByte M step peek (peek (run_acts M step peek (ms (talker_of p.seats).device) (acts_for (talker_of p.seats).device done)))
       here k =
           let same : z.port.party.device ≡ x.port.party.device = first z.port.party.device x.port.party.device (devs M step peek mute place zs) (devs M step peek mute place xs) v in
           let is : z.port.party.device ≡ (talker_of p.seats).device = same ∙ ap (λ (q : Party). q.device) (h.0.stands.party ∙ (sym (talker_is (device s) p.seats s h.0.sound.seated.one h.0.sound.seated.sits (ap is_talker k)))) in
-          subst (λ (d : ℕ). IsByte M step peek (peek (run M step peek (ms d) (acts_for d done)))) is (subst (λ (m : M). IsByte M step peek (peek m)) r.0 b.0)
+          subst (λ (d : ℕ). IsByte M step peek (peek (run_acts M step peek (ms d) (acts_for d done)))) is (subst (λ (m : M). IsByte M step peek (peek m)) r.0 b.0)
 
-      go : (q : Role) → s.role ≡ q → (if is_talker s.role then true else has_talker ss) ≡ true → (has_talker ss ≡ true → IsByte M step peek (peek (run M step peek (ms (talker_of p.seats).device) (acts_for (talker_of p.seats).device done))))
-          → IsByte M step peek (peek (run M step peek (ms (talker_of p.seats).device) (acts_for (talker_of p.seats).device done)))
+      go : (q : Role) → s.role ≡ q → (if is_talker s.role then true else has_talker ss) ≡ true → (has_talker ss ≡ true → IsByte M step peek (peek (run_acts M step peek (ms (talker_of p.seats).device) (acts_for (talker_of p.seats).device done))))
+          → IsByte M step peek (peek (run_acts M step peek (ms (talker_of p.seats).device) (acts_for (talker_of p.seats).device done)))
       go Absent k e next = next (ap (λ (q : Role). if is_talker q then true else has_talker ss) (sym k) ∙ e)
       go Listener k e next = next (ap (λ (q : Role). if is_talker q then true else has_talker ss) (sym k) ∙ e)
       go Talker k e next = here k

@@ -3,10 +3,10 @@ use Rattle.std.proofs.Common.{◌≡◌, ℕ, Bool, true, false, List, [], ◌�
 use Rattle.std.proofs.lemmas.List.{append-nil}
 use Rattle.std.specs.Prelude.{if◌then◌else◌, nat_eq}
 use Rattle.cbm_iec.specs.Machines.{acted}
-use Rattle.cbm_iec.specs.declared.act.Act.{Act}
-use Rattle.cbm_iec.specs.declared.line.Change.{Change}
+use Rattle.cbm_iec.specs.declared.machine.Act.{Act}
+use Rattle.cbm_iec.specs.declared.lines.Change.{Change}
 use Rattle.cbm_session.specs.Among.{CountsFor}
-use Rattle.cbm_session.specs.Answers.{run}
+use Rattle.cbm_session.specs.Answers.{run_acts}
 use Rattle.cbm_session.specs.Following.{own_steps}
 use Rattle.cbm_session.specs.Playing.{Station}
 use Rattle.cbm_session.specs.Steps.{Mark, Step, acts_for, with_mark, Plain, ForEach, For}
@@ -34,49 +34,49 @@ other_acts d o (c ∷ e ∷ []) (Some a) n = ap (λ (v : Bool). if v then a ∷ 
 other_acts d o (c ∷ e ∷ x ∷ cs) act n = refl
 
 module _ (M : Type 0) (step : M → Act → M) (peek : M → Option (ℕ × Bool)) where
-  pub run_append : (m : M) (xs ys : List Act) → run M step peek m (xs ++ ys) ≡ run M step peek (run M step peek m xs) ys
+  pub run_append : (m : M) (xs ys : List Act) → run_acts M step peek m (xs ++ ys) ≡ run_acts M step peek (run_acts M step peek m xs) ys
   run_append m [] ys = refl
   run_append m (x ∷ xs) ys = run_append (step m x) xs ys
 
   -- what was told by a step is what it runs
-  pub mark_acted : (d : ℕ) (mark : Mark) (act : Option Act) (m : M) → CountsFor d mark act → run M step peek m (with_mark d mark []) ≡ acted M step act m
+  pub mark_acted : (d : ℕ) (mark : Mark) (act : Option Act) (m : M) → CountsFor d mark act → run_acts M step peek m (with_mark d mark []) ≡ acted M step act m
   mark_acted d Plain act m c = ap (λ (o : Option Act). acted M step o m) (sym c)
   mark_acted d (ForEach a) act m c = ap (λ (o : Option Act). acted M step o m) (sym c)
   mark_acted d (For o a) act m c = go (nat_eq d o) ∙ ap (λ (x : Option Act). acted M step x m) (sym c)
     where
-      go : (v : Bool) → run M step peek m (if v then a ∷ [] else []) ≡ acted M step (if v then Some a else None) m
+      go : (v : Bool) → run_acts M step peek m (if v then a ∷ [] else []) ≡ acted M step (if v then Some a else None) m
       go true = refl
       go false = refl
 
   -- and by a reaction of its own
-  pub own_acted : (d : ℕ) (cs : List Change) (act : Option Act) (m : M) → (own_steps d cs act ≡ [] → ⊥) → run M step peek m (acts_for d (own_steps d cs act)) ≡ acted M step act m
+  pub own_acted : (d : ℕ) (cs : List Change) (act : Option Act) (m : M) → (own_steps d cs act ≡ [] → ⊥) → run_acts M step peek m (acts_for d (own_steps d cs act)) ≡ acted M step act m
   own_acted d [] act m n = absurd (n refl)
   own_acted d (c ∷ []) None m n = refl
-  own_acted d (c ∷ []) (Some a) m n = ap (λ (v : Bool). run M step peek m (if v then a ∷ [] else [])) (eq-eqb d d refl)
+  own_acted d (c ∷ []) (Some a) m n = ap (λ (v : Bool). run_acts M step peek m (if v then a ∷ [] else [])) (eq-eqb d d refl)
   own_acted d (c ∷ e ∷ []) None m n = refl
-  own_acted d (c ∷ e ∷ []) (Some a) m n = ap (λ (v : Bool). run M step peek m (if v then a ∷ [] else [])) (eq-eqb d d refl)
+  own_acted d (c ∷ e ∷ []) (Some a) m n = ap (λ (v : Bool). run_acts M step peek m (if v then a ∷ [] else [])) (eq-eqb d d refl)
   own_acted d (c ∷ e ∷ x ∷ cs) act m n = absurd (n refl)
 
   -- the machine of a drive has run what counts for it among these steps; and those of all
   abbrev pub HasRun : (ℕ → M) → List Step → Station M → Type 0
-  HasRun ms done s = s.machine ≡ run M step peek (ms s.port.party.device) (acts_for s.port.party.device done)
+  HasRun ms done s = s.machine ≡ run_acts M step peek (ms s.port.party.device) (acts_for s.port.party.device done)
 
   abbrev pub AllRan : (ℕ → M) → List Step → List (Station M) → Type 0
   AllRan ms done [] = Unit {0}
   AllRan ms done (s ∷ ss) = HasRun ms done s × AllRan ms done ss
 
   -- a machine goes on with what counts among more steps
-  pub run_on : (m m0 : M) (d : ℕ) (done zs : List Step) (act : Option Act) → m ≡ run M step peek m0 (acts_for d done) → ((x : M) → run M step peek x (acts_for d zs) ≡ acted M step act x) → acted M step act m ≡ run M step peek m0 (acts_for d (done ++ zs))
+  pub run_on : (m m0 : M) (d : ℕ) (done zs : List Step) (act : Option Act) → m ≡ run_acts M step peek m0 (acts_for d done) → ((x : M) → run_acts M step peek x (acts_for d zs) ≡ acted M step act x) → acted M step act m ≡ run_acts M step peek m0 (acts_for d (done ++ zs))
   run_on m m0 d done zs act h k =
       ap (λ (x : M). acted M step act x) h
-      ∙ sym (k (run M step peek m0 (acts_for d done)))
+      ∙ sym (k (run_acts M step peek m0 (acts_for d done)))
       ∙ sym (run_append m0 (acts_for d done) (acts_for d zs))
-      ∙ ap (λ (v : List Act). run M step peek m0 v) (sym (acts_append d done zs))
+      ∙ ap (λ (v : List Act). run_acts M step peek m0 v) (sym (acts_append d done zs))
 
   -- and stays where another drive's reaction is heard
-  pub run_other : (m m0 : M) (d o : ℕ) (done : List Step) (cs : List Change) (act : Option Act) → nat_eq d o ≡ false → m ≡ run M step peek m0 (acts_for d done) → m ≡ run M step peek m0 (acts_for d (done ++ own_steps o cs act))
+  pub run_other : (m m0 : M) (d o : ℕ) (done : List Step) (cs : List Change) (act : Option Act) → nat_eq d o ≡ false → m ≡ run_acts M step peek m0 (acts_for d done) → m ≡ run_acts M step peek m0 (acts_for d (done ++ own_steps o cs act))
   run_other m m0 d o done cs act n h =
-      h ∙ ap (λ (v : List Act). run M step peek m0 v)
+      h ∙ ap (λ (v : List Act). run_acts M step peek m0 v)
       (sym (append-nil (acts_for d done)) ∙ ap (λ (v : List Act). acts_for d done ++ v) (sym (other_acts d o cs act n)) ∙ sym (acts_append d done (own_steps o cs act)))
 
   pub ran_before : (ms : ℕ → M) (done : List Step) (before : List (Station M)) (o : Station M) (behind : List (Station M)) → AllRan ms done (before ++ o ∷ behind) → AllRan ms done before × HasRun ms done o × AllRan ms done behind

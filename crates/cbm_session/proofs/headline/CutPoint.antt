@@ -1,12 +1,13 @@
 -- Two cuts whose events are the same leave the same point.
 use Rattle.std.proofs.Common.{◌≡◌, ℕ, Bool, true, false, List, [], ◌∷◌, ap, sym, ◌∙◌, refl}
 use Rattle.std.specs.Prelude.{if◌then◌else◌}
+use Rattle.cbm_iec.specs.Changes.{is_pull}
 use Rattle.cbm_iec.specs.declared.event.Event.{Event}
-use Rattle.cbm_iec.specs.declared.line.Line.TheVariants.{Atn, Clock, Data}
+use Rattle.cbm_iec.specs.declared.lines.Line.TheVariants.{Atn, Clock, Data}
 use Rattle.cbm_iec.specs.declared.lines.Held.{Held}
 use Rattle.cbm_session.proofs.among.Fronts.{is_own, mine_of, mine_before, steps_mine}
 use Rattle.cbm_session.proofs.joining.Seating.{Sits}
-use Rattle.cbm_session.specs.Pieces.{Whole, Point, own_part, steps_of, before, CutFits, is_pull, held_by}
+use Rattle.cbm_session.specs.Pieces.{Whole, Point, own_part, steps_of, before, CutFits, held_by}
 use Rattle.cbm_session.specs.Seats.{Seat, device}
 use Rattle.cbm_session.specs.Steps.{Step, events_of}
 

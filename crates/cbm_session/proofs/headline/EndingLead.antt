@@ -1,8 +1,8 @@
 -- Any turnaround under way: how an allowed session ends with it.
 use Rattle.std.proofs.Common.{◌≡◌, ℕ, ◌+◌, ◌≤◌, ◌<◌, inl, inr, Bool, true, false, List, [], ◌∷◌, ◌++◌, append-nil, Option, Some, ap, sym, ◌∙◌, subst, refl, arith}
-use Rattle.cbm_iec.specs.declared.act.Act.{Act}
-use Rattle.cbm_iec.specs.declared.line.Line.TheVariants.{Clock}
-use Rattle.cbm_iec.specs.declared.line.Way.TheVariants.{Free}
+use Rattle.cbm_iec.specs.declared.machine.Act.{Act}
+use Rattle.cbm_iec.specs.declared.lines.Line.TheVariants.{Clock}
+use Rattle.cbm_iec.specs.declared.lines.Way.TheVariants.{Free}
 use Rattle.cbm_iec.specs.declared.party.Party.{Party}
 use Rattle.cbm_iec.specs.declared.party.Role.TheVariants.{Talker}
 use Rattle.cbm_session.proofs.among.Points.{whole_sound}
@@ -23,7 +23,7 @@ use Rattle.cbm_session.proofs.headline.TurnTwin.{turn_begins, leads, lead_steps}
 use Rattle.cbm_session.proofs.headline.Unasked.{each_runs, runs_unasked, steps_unasked}
 use Rattle.cbm_session.proofs.joining.Talkers.{standing_drives, standing_roles}
 use Rattle.cbm_session.proofs.reading.PieceReadings.{next_seat}
-use Rattle.cbm_session.specs.Answers.{IsAnswer, run, run_each}
+use Rattle.cbm_session.specs.Answers.{IsAnswer, run_acts, run_each}
 use Rattle.cbm_session.specs.Pieces.{Point, steps_of, before, Fits, standing, whole_point, Full, ToTalker, Nothing}
 use Rattle.cbm_session.specs.Playing.{Station, IsByte, AllBytes, IsMachine}
 use Rattle.cbm_session.specs.Seats.{lines, Seat, talker_of}
@@ -64,8 +64,8 @@ module _ (M : Type 0) (step : M → Act → M) (peek : M → Option (ℕ × Bool
           sym (ap (λ (l : List Step). acts_for d l) parts ∙ acts_append d front beyond ∙ ap (λ (l : List Act). acts_for d front ++ l) (acts_plain d beyond plain) ∙ append-nil (acts_for d front)) in
           let byte = talker_byte M step peek place p ms front p.seats xs zs here.stand same ran bytes fits.0.talker in
           let one = talker_same (standing (lines true false)) p.seats (standing_roles (lines true false)) (standing_drives (lines true false)) in
-          let here_byte : peek (run M step peek (ms d) (acts_for d front)) ≡ Some lead.byte.0 =
-          ap (λ (l : List Act). peek (run M step peek (ms d) l)) acts ∙ ap (λ (b : Party). peek (run_each M step peek ms (steps_of p (ToTalker at clock)) b.device)) (sym one) ∙ lead.byte.1 in
+          let here_byte : peek (run_acts M step peek (ms d) (acts_for d front)) ≡ Some lead.byte.0 =
+          ap (λ (l : List Act). peek (run_acts M step peek (ms d) l)) acts ∙ ap (λ (b : Party). peek (run_each M step peek ms (steps_of p (ToTalker at clock)) b.device)) (sym one) ∙ lead.byte.1 in
           let small : lead.byte.0.0 < 256 = subst (λ (o : Option (ℕ × Bool)). IsByte M step peek o) here_byte byte in
           tail M step peek (whole_point p (ToTalker at clock)) (run_each M step peek ms (steps_of p (ToTalker at clock))) (next_seat (ToTalker at clock) s) (whole_sound p s (ToTalker at clock) sound fits) (standing_roles (lines true false) s ∙ talks) at2 refl lead.since lead.byte.0.0 lead.byte.0.1 lead.byte.1 small t
 

@@ -2,10 +2,10 @@
 use Rattle.cbm_session.proofs.Paces.{by_eight}
 use Rattle.std.proofs.Common.{◌≡◌, ℕ, ◌+◌, ◌≤◌, ◌<◌, ◌⊎◌, inl, inr, Bool, true, false, List, [], ◌∷◌, ◌++◌, append-nil, Option, Some, None, ap, sym, ◌∙◌, subst, arith, refl}
 use Rattle.std.specs.Prelude.{if◌then◌else◌}
-use Rattle.cbm_iec.specs.declared.act.Act.TheVariants.{Said}
-use Rattle.cbm_iec.specs.declared.act.Act.{Act}
-use Rattle.cbm_iec.specs.declared.line.Line.TheVariants.{Clock, Data}
-use Rattle.cbm_iec.specs.declared.line.Way.TheVariants.{Pull, Free}
+use Rattle.cbm_iec.specs.declared.machine.Act.TheVariants.{Said}
+use Rattle.cbm_iec.specs.declared.machine.Act.{Act}
+use Rattle.cbm_iec.specs.declared.lines.Line.TheVariants.{Clock, Data}
+use Rattle.cbm_iec.specs.declared.lines.Way.TheVariants.{Pull, Free}
 use Rattle.cbm_iec.specs.declared.party.Party.{Party}
 use Rattle.cbm_iec.specs.declared.party.Role.TheVariants.{Talker}
 use Rattle.cbm_session.proofs.among.Calm.{Every}
@@ -28,10 +28,10 @@ use Rattle.cbm_session.proofs.joining.Merging.{AllBefore, InOrder, cut_is}
 use Rattle.cbm_session.proofs.joining.OneDrive.{one_told, bits_before}
 use Rattle.cbm_session.proofs.joining.Talkers.{talker_is, standing_drives, standing_roles}
 use Rattle.cbm_session.proofs.reading.PieceReadings.{next_seat}
-use Rattle.cbm_session.specs.Answers.{IsAnswer, run, run_each}
+use Rattle.cbm_session.specs.Answers.{IsAnswer, run_acts, run_each}
 use Rattle.cbm_session.specs.Bits.{number_of}
 use Rattle.cbm_session.specs.Frames.{Told, is_last, signal_steps, first_bit, bit_steps, SignalFits, ToldFits}
-use Rattle.cbm_session.specs.Pieces.{Whole, Place, Point, steps_of, before, Fits, standing, whole_point, Full, Talk, Open, Leading}
+use Rattle.cbm_session.specs.Pieces.{Whole, BusPlace, Point, steps_of, before, Fits, standing, whole_point, Full, Talk, Open, Leading}
 use Rattle.cbm_session.specs.Playing.{Station, IsByte, AllBytes, IsMachine}
 use Rattle.cbm_session.specs.Seats.{Seat, device, is_talker, has_talker, talker_of}
 use Rattle.cbm_session.specs.Sessions.{MayEnd}
@@ -152,7 +152,7 @@ module _ (M : Type 0) (step : M → Act → M) (peek : M → Option (ℕ × Bool
           let keep = standing (Rattle.cbm_session.specs.Seats.lines (Rattle.std.specs.Prelude.not (is_last g)) false) in
           let one = talker_same keep p.seats (standing_roles (Rattle.cbm_session.specs.Seats.lines (Rattle.std.specs.Prelude.not (is_last g)) false)) (standing_drives (Rattle.cbm_session.specs.Seats.lines (Rattle.std.specs.Prelude.not (is_last g)) false)) in
           let d = (talker_of p.seats).device in
-          let here_byte : peek (run M step peek (ms d) (acts_for d front)) ≡ Some lead.byte.0 =
-          ap (λ (r : List Step). peek (run M step peek (ms d) (acts_for d r))) whole ∙ ap (λ (b : Party). peek (run_each M step peek ms (steps_of p (Talk at g)) b.device)) (sym one) ∙ lead.byte.1 in
+          let here_byte : peek (run_acts M step peek (ms d) (acts_for d front)) ≡ Some lead.byte.0 =
+          ap (λ (r : List Step). peek (run_acts M step peek (ms d) (acts_for d r))) whole ∙ ap (λ (b : Party). peek (run_each M step peek ms (steps_of p (Talk at g)) b.device)) (sym one) ∙ lead.byte.1 in
           let small : lead.byte.0.0 < 256 = subst (λ (o : Option (ℕ × Bool)). IsByte M step peek o) here_byte byte in
           tail M step peek p2 ms2 (next_seat (Talk at g) s) (whole_sound p s (Talk at g) sound fits) (standing_roles (Rattle.cbm_session.specs.Seats.lines (Rattle.std.specs.Prelude.not (is_last g)) false) s ∙ talks) (g.accept + 100) there lead.since lead.byte.0.0 lead.byte.0.1 lead.byte.1 small t

@@ -2,16 +2,16 @@
 use Rattle.std.proofs.Common.{◌≡◌, ℕ, zero, ◌⊎◌, inl, inr, Bool, true, false, not, List, [], ◌∷◌, ◌++◌, map, Option, Some, None, ap, sym, ◌∙◌, subst, refl}
 use Rattle.std.specs.Prelude.{if◌then◌else◌}
 use Rattle.cbm_iec.specs.Ports.{side_due, port_due}
-use Rattle.cbm_iec.specs.declared.act.Act.TheVariants.{Attention, Heard}
-use Rattle.cbm_iec.specs.declared.act.Act.{Act}
+use Rattle.cbm_iec.specs.declared.machine.Act.TheVariants.{Attention, Heard}
+use Rattle.cbm_iec.specs.declared.machine.Act.{Act}
 use Rattle.cbm_iec.specs.declared.ear.Ear.TheVariants.{Idle, Holding}
 use Rattle.cbm_iec.specs.declared.ear.Ear.{Ear}
 use Rattle.cbm_iec.specs.declared.event.Event.{Event}
 use Rattle.cbm_iec.specs.declared.event.Who.TheVariants.{Host, Drive}
 use Rattle.cbm_iec.specs.declared.event.Who.{Who}
-use Rattle.cbm_iec.specs.declared.line.Line.TheVariants.{Atn, Clock, Data}
-use Rattle.cbm_iec.specs.declared.line.Line.{Line}
-use Rattle.cbm_iec.specs.declared.line.Way.TheVariants.{Free}
+use Rattle.cbm_iec.specs.declared.lines.Line.TheVariants.{Atn, Clock, Data}
+use Rattle.cbm_iec.specs.declared.lines.Line.{Line}
+use Rattle.cbm_iec.specs.declared.lines.Way.TheVariants.{Free}
 use Rattle.cbm_iec.specs.declared.lines.Held.{Held}
 use Rattle.cbm_iec.specs.declared.party.Party.{Party}
 use Rattle.cbm_iec.specs.declared.party.Role.TheVariants.{Absent, Listener, Talker}
@@ -41,10 +41,10 @@ use Rattle.cbm_session.proofs.reading.OneReading.{is_atn, NoAtn}
 use Rattle.cbm_session.proofs.reading.PieceReadings.{is_commanding, next_seat}
 use Rattle.cbm_session.proofs.timing.SessionOrder.{part_host, piece_goes}
 use Rattle.cbm_session.specs.Among.{Rest, wires_of, FollowsAmong}
-use Rattle.cbm_session.specs.Bits.{where_held, Cell, cell_steps, cells_steps, held_after, byte_of}
+use Rattle.cbm_session.specs.Bits.{where_held, BitCell, cell_steps, cells_steps, held_after, byte_in_cells}
 use Rattle.cbm_session.specs.Buses.{rest_at, SaysAs, SideAmong, OwnAt, StandsAmong}
 use Rattle.cbm_session.specs.Frames.{Sent, wire, end_of, hearing, sending}
-use Rattle.cbm_session.specs.Pieces.{Whole, Place, Point, host_part, own_part, steps_of, Fits, whole_point, Command, Byte, Full, Commanding, Listening}
+use Rattle.cbm_session.specs.Pieces.{Whole, BusPlace, Point, host_part, own_part, steps_of, Fits, whole_point, Command, Byte, Full, Commanding, Listening}
 use Rattle.cbm_session.specs.Playing.{Station, Plays}
 use Rattle.cbm_session.specs.Seats.{Seat, device, listeners, is_listener}
 use Rattle.cbm_session.specs.Steps.{Step, events_of, host}
@@ -61,7 +61,7 @@ every_append : (P : Step → Type 0) (xs ys : List Step) → Every P xs → Ever
 every_append P [] ys a b = b
 every_append P (x ∷ xs) ys a b = (a.0, every_append P xs ys a.1 b)
 
-cells_frame : (held : Bool) (cs : List Cell) → Every OfFrame (cells_steps held cs)
+cells_frame : (held : Bool) (cs : List BitCell) → Every OfFrame (cells_steps held cs)
 cells_frame held [] = tt
 cells_frame held (c ∷ cs) = every_append OfFrame (cell_steps held c) (cells_steps (not c.bit) cs) (one held c.bit c.set c.free c.pull) (cells_frame (not c.bit) cs)
   where
@@ -87,13 +87,13 @@ each_seat P [] f = tt
 each_seat P (x ∷ xs) f = (f x, each_seat P xs f)
 
 pub command_frame : (p : Point) (f : Sent) → Every OfFrame (steps_of p (Command f))
-command_frame p f = every_each OfFrame (λ (x : Seat). own_part p (Command f) x) (sending f) p.seats (sending_frame f) (each_seat (λ x. Every OfFrame (own_part p (Command f) x)) p.seats (λ (x : Seat). hearing_frame (wire p.seats f) false (Attention (byte_of f.cells)) f x tt))
+command_frame p f = every_each OfFrame (λ (x : Seat). own_part p (Command f) x) (sending f) p.seats (sending_frame f) (each_seat (λ x. Every OfFrame (own_part p (Command f) x)) p.seats (λ (x : Seat). hearing_frame (wire p.seats f) false (Attention (byte_in_cells f.cells)) f x tt))
 
 pub byte_frame : (p : Point) (eoi : Bool) (f : Sent) → Every OfFrame (steps_of p (Byte eoi f))
 byte_frame p eoi f = every_each OfFrame (λ (x : Seat). own_part p (Byte eoi f) x) (sending f) p.seats (sending_frame f) (each_seat (λ x. Every OfFrame (own_part p (Byte eoi f) x)) p.seats (λ (x : Seat). go x (is_listener x.role)))
   where
-    go : (x : Seat) (v : Bool) → Every OfFrame (if v then hearing (wire (listeners p.seats) f) eoi (Heard (byte_of f.cells) eoi) f x else [])
-    go x true = hearing_frame (wire (listeners p.seats) f) eoi (Heard (byte_of f.cells) eoi) f x tt
+    go : (x : Seat) (v : Bool) → Every OfFrame (if v then hearing (wire (listeners p.seats) f) eoi (Heard (byte_in_cells f.cells) eoi) f x else [])
+    go x true = hearing_frame (wire (listeners p.seats) f) eoi (Heard (byte_in_cells f.cells) eoi) f x tt
     go x false = tt
 
 pub frame_noatn : (ss : List Step) → Every OfFrame ss → NoAtn ss
@@ -279,8 +279,8 @@ module _ (M : Type 0) (step : M → Act → M) (peek : M → Option (ℕ × Bool
       held : HeldThere p (Command f)
       held s q sound st =
           let c = is_commanding fits.0 in
-          let side : SideAmong (Commanding c.0) s.role q.side = subst (λ (x : Place). SideAmong x s.role q.side) c.1 st.side in
-          let own : OwnAt (Commanding c.0) s.role s.own = subst (λ (x : Place). OwnAt x s.role s.own) c.1 (each_sits (λ x. OwnAt p.place x.role x.own) (device s) p.seats s sound.own sound.seated.sits) in
+          let side : SideAmong (Commanding c.0) s.role q.side = subst (λ (x : BusPlace). SideAmong x s.role q.side) c.1 st.side in
+          let own : OwnAt (Commanding c.0) s.role s.own = subst (λ (x : BusPlace). OwnAt x s.role s.own) c.1 (each_sits (λ x. OwnAt p.place x.role x.own) (device s) p.seats s sound.own sound.seated.sits) in
           (subst (λ (x : Side). SideHolds x q.own) (sym side) (ap (λ (h : Held). h.data_low) (st.own ∙ own)), (Holding, side))
 
       quiet : QuietBehind p (Command f)
@@ -307,8 +307,8 @@ module _ (M : Type 0) (step : M → Act → M) (peek : M → Option (ℕ × Bool
 
       held : HeldThere p (Byte eoi f)
       held s q sound st =
-          let side : SideAmong Listening s.role q.side = subst (λ (x : Place). SideAmong x s.role q.side) fits.0 st.side in
-          let own : OwnAt Listening s.role s.own = subst (λ (x : Place). OwnAt x s.role s.own) fits.0 (each_sits (λ x. OwnAt p.place x.role x.own) (device s) p.seats s sound.own sound.seated.sits) in
+          let side : SideAmong Listening s.role q.side = subst (λ (x : BusPlace). SideAmong x s.role q.side) fits.0 st.side in
+          let own : OwnAt Listening s.role s.own = subst (λ (x : BusPlace). OwnAt x s.role s.own) fits.0 (each_sits (λ x. OwnAt p.place x.role x.own) (device s) p.seats s sound.own sound.seated.sits) in
           by_role s.role s q side own st.own
 
       idle_due : (r : Role) (side : Side) → SideAmong Listening r side → side_due side ≡ None

@@ -1,12 +1,12 @@
 -- A frame of the host under way: where one of its changes is the host's next, no reaction is due at that very moment.
 use Rattle.std.proofs.Common.{◌≡◌, ℕ, suc, ◌+◌, ◌≤◌, inl, inr, Bool, true, false, List, [], ◌∷◌, ◌++◌, append_assoc, append-nil, Option, ap, sym, ◌∙◌, subst, arith, refl}
-use Rattle.cbm_iec.specs.declared.act.Act.TheVariants.{Attention, Heard}
-use Rattle.cbm_iec.specs.declared.act.Act.{Act}
+use Rattle.cbm_iec.specs.declared.machine.Act.TheVariants.{Attention, Heard}
+use Rattle.cbm_iec.specs.declared.machine.Act.{Act}
 use Rattle.cbm_iec.specs.declared.event.Event.{Event}
 use Rattle.cbm_iec.specs.declared.event.Who.TheVariants.{Host, Drive}
-use Rattle.cbm_iec.specs.declared.line.Line.TheVariants.{Atn, Clock, Data}
-use Rattle.cbm_iec.specs.declared.line.Line.{Line}
-use Rattle.cbm_iec.specs.declared.line.Way.TheVariants.{Pull, Free}
+use Rattle.cbm_iec.specs.declared.lines.Line.TheVariants.{Atn, Clock, Data}
+use Rattle.cbm_iec.specs.declared.lines.Line.{Line}
+use Rattle.cbm_iec.specs.declared.lines.Way.TheVariants.{Pull, Free}
 use Rattle.cbm_session.proofs.among.Around.{every_drives}
 use Rattle.cbm_session.proofs.among.Calm.{Every}
 use Rattle.cbm_session.proofs.frames.Accepted.{listen_react}
@@ -25,7 +25,7 @@ use Rattle.cbm_session.proofs.reading.OneReading.{is_atn}
 use Rattle.cbm_session.proofs.reading.PieceReadings.{is_commanding}
 use Rattle.cbm_iec.specs.declared.port.Port.{Port}
 use Rattle.cbm_session.specs.Among.{Rest}
-use Rattle.cbm_session.specs.Bits.{Cell, CellsFit, where_held, cells_steps, held_after, last_pull, byte_of}
+use Rattle.cbm_session.specs.Bits.{BitCell, CellsFit, where_held, cells_steps, held_after, last_pull, byte_in_cells}
 use Rattle.cbm_session.specs.Frames.{Sent, wire, quiet, end_of, SentFits, StartFits, pulse}
 use Rattle.cbm_session.specs.Laws.{SeatsReact, releases, pulses, from_start, accepts, frame_in_parts}
 use Rattle.cbm_session.specs.Pieces.{Whole, Point, Full, Command, Byte, steps_of, Fits}
@@ -112,7 +112,7 @@ pulses_late hs t m eoi l = every_none m (pulses hs t eoi) (every_drives (λ s. m
     go x false = tt
 
 -- a change among the bits is no later than their end
-whole_upto : (held : Bool) (pull : ℕ) (cs : List Cell) (pre : List Step) (s : Step) (post : List Step) → CellsFit held pull cs → cells_whole held pull cs ≡ pre ++ s ∷ post → moment_of s ≤ last_pull pull cs
+whole_upto : (held : Bool) (pull : ℕ) (cs : List BitCell) (pre : List Step) (s : Step) (post : List Step) → CellsFit held pull cs → cells_whole held pull cs ≡ pre ++ s ∷ post → moment_of s ≤ last_pull pull cs
 whole_upto held pull cs pre s post h e = in_it pre (cells_whole held pull cs) e (both (cells_steps held cs) (cells_upto (last_pull pull cs) held pull cs h (omega arith)))
   where
     abbrev_last : (v : Bool) (m : ℕ) → AllUpTo m (where_held v (host m Data Free))
@@ -129,7 +129,7 @@ whole_upto held pull cs pre s post h e = in_it pre (cells_whole held pull cs) e 
     in_it (y ∷ pre) [] e a = absurd cc
     in_it (y ∷ pre) (x ∷ xs) e a = let tail : xs ≡ pre ++ s ∷ post = cc in in_it pre xs tail a.1
 
-abbrev pub sent_at : Sent → ℕ → List Cell → Sent
+abbrev pub sent_at : Sent → ℕ → List BitCell → Sent
 sent_at f start cells = record { ready = f.ready; start = start; cells = cells }
 
 pub too_long : (front : List Step) (y : Step) (ys : List Step) (more : List Event) → events_of front ≡ events_of (front ++ y ∷ ys) ++ more → ⊥
@@ -178,7 +178,7 @@ module _ (M : Type 0) (step : M → Act → M) (peek : M → Option (ℕ × Bool
       let g = goes_now w a fits front s others is shown in
       data_first M step peek g.says place t ss2 s others g.fin g.goes who line at late due
 
-  module _ (hs : List Seat) (r : SeatsReact hs) (eoi : Bool) (f : Sent) (sent : SentFits hs eoi f) (w : Sent → Whole) (act : Sent → Act) (hosts : (g : Sent) → IsHosts (w g)) (fits : (start : ℕ) (cells : List Cell) → SentFits hs eoi (sent_at f start cells) → Fits p (w (sent_at f start cells)))
+  module _ (hs : List Seat) (r : SeatsReact hs) (eoi : Bool) (f : Sent) (sent : SentFits hs eoi f) (w : Sent → Whole) (act : Sent → Act) (hosts : (g : Sent) → IsHosts (w g)) (fits : (start : ℕ) (cells : List BitCell) → SentFits hs eoi (sent_at f start cells) → Fits p (w (sent_at f start cells)))
       (parts : (g : Sent) → Fits p (w g) → steps_of p (w g) ≡ frame_in_parts hs eoi (act g) g) (frame : Every OfFrame (steps_of p (w f))) (ends : MayEnd p.place) where
     abbrev before_bits : List Step
     before_bits = host f.ready Clock Free ∷ (releases hs f ++ pulses hs (wire hs f) eoi)
@@ -227,7 +227,7 @@ module _ (M : Type 0) (step : M → Act → M) (peek : M → Option (ℕ × Bool
             let late = z.late.0 in
             later_never (w g) (hosts g) fit front z.first (z.others ++ accepts hs g (act g)) is shown (omega (arith, late, at))
           where
-            start_same : (v : Bool) → StartFits hs v f → (cells : List Cell) → StartFits hs v (sent_at f f.start cells)
+            start_same : (v : Bool) → StartFits hs v f → (cells : List BitCell) → StartFits hs v (sent_at f f.start cells)
             start_same true h cells = h
             start_same false h cells = h
 
@@ -258,7 +258,7 @@ module _ (M : Type 0) (step : M → Act → M) (peek : M → Option (ℕ × Bool
   -- A byte in attention.
   pub command_never : (f : Sent) → Fits p (Command f) → (front : List Step) (s : Step) (others : List Step) → steps_of p (Command f) ≡ front ++ s ∷ others → events_of front ≡ es → s.event.who ≡ Host → moment_of s ≡ t → ⊥
   command_never f fits =
-      frame_never p.seats r false f fits.3 (λ g. Command g) (λ g. Attention (byte_of g.cells)) (λ g. tt) (λ start cells sent. (fits.0, fits.1, fits.2, sent)) (λ g k. commands_go_in_parts p g r k) (command_frame p f) may at_start
+      frame_never p.seats r false f fits.3 (λ g. Command g) (λ g. Attention (byte_in_cells g.cells)) (λ g. tt) (λ start cells sent. (fits.0, fits.1, fits.2, sent)) (λ g k. commands_go_in_parts p g r k) (command_frame p f) may at_start
     where
       r : SeatsReact p.seats
       r = react_of M step peek place p p.seats xs refl here.stand
@@ -276,7 +276,7 @@ module _ (M : Type 0) (step : M → Act → M) (peek : M → Option (ℕ × Bool
   -- A byte to listeners.
   pub byte_never : (eoi : Bool) (f : Sent) → Fits p (Byte eoi f) → (front : List Step) (s : Step) (others : List Step) → steps_of p (Byte eoi f) ≡ front ++ s ∷ others → events_of front ≡ es → s.event.who ≡ Host → moment_of s ≡ t → ⊥
   byte_never eoi f fits =
-      frame_never hs r eoi f fits.3 (λ g. Byte eoi g) (λ g. Heard (byte_of g.cells) eoi) (λ g. tt) (λ start cells sent. (fits.0, fits.1, fits.2, sent)) (λ g k. bytes_go_in_parts p eoi g all k) (byte_frame p eoi f) (subst MayEnd (sym fits.0) tt) (at_start eoi fits)
+      frame_never hs r eoi f fits.3 (λ g. Byte eoi g) (λ g. Heard (byte_in_cells g.cells) eoi) (λ g. tt) (λ start cells sent. (fits.0, fits.1, fits.2, sent)) (λ g k. bytes_go_in_parts p eoi g all k) (byte_frame p eoi f) (subst MayEnd (sym fits.0) tt) (at_start eoi fits)
     where
       hs : List Seat
       hs = listeners p.seats
@@ -293,14 +293,14 @@ module _ (M : Type 0) (step : M → Act → M) (peek : M → Option (ℕ × Bool
           let g = sent_at f (f.start + 1) (fresh false 8 (f.start + 1)) in
           let begin : quiet (listeners p.seats) f + 1 ≤ f.start = k.3.start in
           let fit : Fits p (Byte true g) = (k.0, k.1, k.2, record { start = omega (arith, begin); eight = fresh_length false 8 (f.start + 1); cells = fresh_fits false 8 (f.start + 1) }) in
-          let act = Heard (byte_of g.cells) true in
+          let act = Heard (byte_in_cells g.cells) true in
           let front = host f.ready Clock Free ∷ (releases (listeners p.seats) f ++ pulses (listeners p.seats) (wire (listeners p.seats) f) true) in
           later_never (Byte true g) tt fit front (host g.start Clock Pull) (cells_whole false g.start g.cells ++ accepts (listeners p.seats) g act)
           (bytes_go_in_parts p true g all fit ∙ ap (λ (l : List Step). host f.ready Clock Free ∷ l) (sym (append_assoc (releases (listeners p.seats) f) (pulses (listeners p.seats) (wire (listeners p.seats) f) true) (from_start g ++ accepts (listeners p.seats) g act)))) shown (omega (arith, at))
       at_start false k at shown =
           let g = sent_at f (quiet (listeners p.seats) f + 1) (fresh false 8 (quiet (listeners p.seats) f + 1)) in
           let fit : Fits p (Byte true g) = (k.0, k.1, k.2, record { start = omega arith; eight = fresh_length false 8 (quiet (listeners p.seats) f + 1); cells = fresh_fits false 8 (quiet (listeners p.seats) f + 1) }) in
-          let act = Heard (byte_of g.cells) true in
+          let act = Heard (byte_in_cells g.cells) true in
           let soon = k.3.start.1 in
           let z = first_late (suc t) (pulses (listeners p.seats) (wire (listeners p.seats) f) true) (host g.start Clock Pull) (cells_whole false g.start g.cells ++ accepts (listeners p.seats) g act) (pulses_late (listeners p.seats) (wire (listeners p.seats) f) (suc t) true (omega (arith, soon, at))) (omega (arith, soon, at)) in
           let none : host f.ready Clock Free ∷ (releases (listeners p.seats) f ++ pulses (listeners p.seats) (wire (listeners p.seats) f) false) ≡ offer (listeners p.seats) f = ap (λ (l : List Step). host f.ready Clock Free ∷ (releases (listeners p.seats) f ++ l)) (none_joined [] (listeners p.seats)) ∙ append-nil (offer (listeners p.seats) f) in

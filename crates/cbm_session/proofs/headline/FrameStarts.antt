@@ -1,12 +1,12 @@
 -- Behind DATA's release by all drives, in attention, the next reaction is due 200 later at the earliest: none is due where the host may still begin its bits.
 use Rattle.std.proofs.Common.{◌≡◌, ℕ, zero, suc, ◌+◌, ◌≤◌, ◌<◌, inl, inr, Bool, true, false, List, [], ◌∷◌, ◌++◌, map, append-nil, length, Option, Some, ap, sym, ◌∙◌, subst, arith, refl}
 use Rattle.cbm_iec.specs.Ports.{port_due}
-use Rattle.cbm_iec.specs.declared.act.Act.{Act}
+use Rattle.cbm_iec.specs.declared.machine.Act.{Act}
 use Rattle.cbm_iec.specs.declared.ear.Ear.TheVariants.{Holding}
 use Rattle.cbm_iec.specs.declared.event.Event.{Event}
-use Rattle.cbm_iec.specs.declared.line.Change.{Change}
-use Rattle.cbm_iec.specs.declared.line.Line.TheVariants.{Clock, Data}
-use Rattle.cbm_iec.specs.declared.line.Way.TheVariants.{Free}
+use Rattle.cbm_iec.specs.declared.lines.Change.{Change}
+use Rattle.cbm_iec.specs.declared.lines.Line.TheVariants.{Clock, Data}
+use Rattle.cbm_iec.specs.declared.lines.Way.TheVariants.{Free}
 use Rattle.cbm_iec.specs.declared.lines.Held.{Held}
 use Rattle.cbm_iec.specs.declared.port.Port.{Port}
 use Rattle.cbm_iec.specs.declared.port.Side.TheVariants.{Hearing}
@@ -181,7 +181,7 @@ module _ (M : Type 0) (step : M → Act → M) (peek : M → Option (ℕ × Bool
     pub offer_due : SeatsReact p.seats → Rises M step peek place (map (λ s. device s) p.seats) → (xs : List (Station M)) → Stood M step peek place p p.seats xs → {n n2 : ℕ} {ss2 : List (Station M)} {es : List Event} → Plays M step peek n xs es n2 ss2 → es ≡ events_of (offer p.seats f)
         → (t : ℕ) → SomeDue M step peek t ss2 → wire p.seats f + 200 ≤ t
     offer_due r rises xs stand {n} {n2} {ss2} {es} plays e t due =
-        let rest = from_start f ++ accepts p.seats f (Rattle.cbm_iec.specs.declared.act.Act.TheVariants.Attention (Rattle.cbm_session.specs.Bits.byte_of f.cells)) in
+        let rest = from_start f ++ accepts p.seats f (Rattle.cbm_iec.specs.declared.machine.Act.TheVariants.Attention (Rattle.cbm_session.specs.Bits.byte_in_cells f.cells)) in
         let steps : steps_of p (Command f) ≡ offer p.seats f ++ rest = commands_go_in_parts p f r fits ∙ parts p.seats in
         let placed = rises_placed M step peek place p.seats rises in
         let w = Command f in
@@ -210,5 +210,5 @@ module _ (M : Type 0) (step : M → Act → M) (peek : M → Option (ℕ × Bool
               )
         ]
       where
-        parts : (hs : List Seat) → frame_in_parts hs false (Rattle.cbm_iec.specs.declared.act.Act.TheVariants.Attention (Rattle.cbm_session.specs.Bits.byte_of f.cells)) f ≡ offer hs f ++ (from_start f ++ accepts hs f (Rattle.cbm_iec.specs.declared.act.Act.TheVariants.Attention (Rattle.cbm_session.specs.Bits.byte_of f.cells)))
-        parts hs = ap (λ (zs : List Step). host f.ready Clock Free ∷ (releases hs f ++ (zs ++ (from_start f ++ accepts hs f (Rattle.cbm_iec.specs.declared.act.Act.TheVariants.Attention (Rattle.cbm_session.specs.Bits.byte_of f.cells)))))) (none_joined [] hs)
+        parts : (hs : List Seat) → frame_in_parts hs false (Rattle.cbm_iec.specs.declared.machine.Act.TheVariants.Attention (Rattle.cbm_session.specs.Bits.byte_in_cells f.cells)) f ≡ offer hs f ++ (from_start f ++ accepts hs f (Rattle.cbm_iec.specs.declared.machine.Act.TheVariants.Attention (Rattle.cbm_session.specs.Bits.byte_in_cells f.cells)))
+        parts hs = ap (λ (zs : List Step). host f.ready Clock Free ∷ (releases hs f ++ (zs ++ (from_start f ++ accepts hs f (Rattle.cbm_iec.specs.declared.machine.Act.TheVariants.Attention (Rattle.cbm_session.specs.Bits.byte_in_cells f.cells)))))) (none_joined [] hs)

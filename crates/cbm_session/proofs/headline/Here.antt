@@ -3,8 +3,8 @@ use Rattle.cbm_session.proofs.alone.Frames.{done_due}
 use Rattle.std.proofs.Common.{◌≡◌, ℕ, ◌+◌, ◌≤◌, ◌⊎◌, inl, inr, Bool, true, List, [], ◌∷◌, ◌++◌, map, Option, Some, None, ap, sym, ◌∙◌, subst, refl, arith}
 use Rattle.std.specs.Prelude.{if◌then◌else◌}
 use Rattle.cbm_iec.specs.Ports.{side_due, port_due}
-use Rattle.cbm_iec.specs.declared.act.Act.TheVariants.{Released}
-use Rattle.cbm_iec.specs.declared.act.Act.{Act}
+use Rattle.cbm_iec.specs.declared.machine.Act.TheVariants.{Released}
+use Rattle.cbm_iec.specs.declared.machine.Act.{Act}
 use Rattle.cbm_iec.specs.declared.event.Event.{Event}
 use Rattle.cbm_iec.specs.declared.party.Party.{Party}
 use Rattle.cbm_iec.specs.declared.party.Role.TheVariants.{Absent, Listener, Talker}
@@ -31,7 +31,7 @@ use Rattle.cbm_session.proofs.joining.Talkers.{talker_is}
 use Rattle.cbm_session.proofs.among.Turns.{listener_steps}
 use Rattle.cbm_session.specs.Answers.{IsAnswer, run_each}
 use Rattle.cbm_session.specs.Buses.{SideAmong}
-use Rattle.cbm_session.specs.Pieces.{Whole, Piece, Place, Point, steps_of, piece_steps, Fits, PieceFits, whole_point, point_after, Full, Cut, PullPiece, Command, Byte, ToListener, ToNobody, ToTalker, Nothing, Talk, Open, Commanding, Listening, Leading, Cutting}
+use Rattle.cbm_session.specs.Pieces.{Whole, Piece, BusPlace, Point, steps_of, piece_steps, Fits, PieceFits, whole_point, point_after, Full, Cut, PullPiece, Command, Byte, ToListener, ToNobody, ToTalker, Nothing, Talk, Open, Commanding, Listening, Leading, Cutting}
 use Rattle.cbm_session.specs.Playing.{Station, Plays}
 use Rattle.cbm_session.specs.Seats.{Seat, device, is_talker, has_talker, talker_of}
 use Rattle.cbm_session.specs.Steps.{Step, events_of}
@@ -213,9 +213,9 @@ module _ (M : Type 0) (step : M → Act → M) (peek : M → Option (ℕ × Bool
         listening Listener side h = ap (λ (v : Side). side_due v) h
         listening Talker side h = elim h [ ]
 
-        all_showing : (q : Place) → p.place ≡ q → AllShow M step peek mute place xs
-        all_showing Open e = open_show p.seats xs here.stand (λ r side h. done_due side (subst (λ (v : Place). SideAmong v r side) e h))
-        all_showing (Commanding some) e = absurd (subst (λ (v : Place). Rattle.cbm_session.specs.Pieces.PullFits p at v) e fits)
-        all_showing Listening e = open_show p.seats xs here.stand (λ r side h. listening r side (subst (λ (v : Place). SideAmong v r side) e h))
-        all_showing (Leading t) e = absurd (subst (λ (v : Place). Rattle.cbm_session.specs.Pieces.PullFits p at v) e fits)
+        all_showing : (q : BusPlace) → p.place ≡ q → AllShow M step peek mute place xs
+        all_showing Open e = open_show p.seats xs here.stand (λ r side h. done_due side (subst (λ (v : BusPlace). SideAmong v r side) e h))
+        all_showing (Commanding some) e = absurd (subst (λ (v : BusPlace). Rattle.cbm_session.specs.Pieces.PullFits p at v) e fits)
+        all_showing Listening e = open_show p.seats xs here.stand (λ r side h. listening r side (subst (λ (v : BusPlace). SideAmong v r side) e h))
+        all_showing (Leading t) e = absurd (subst (λ (v : BusPlace). Rattle.cbm_session.specs.Pieces.PullFits p at v) e fits)
         all_showing (Cutting c) e = here.show c e

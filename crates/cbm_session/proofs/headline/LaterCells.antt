@@ -1,14 +1,14 @@
 -- The bits of a frame of the host put off: from one of CLOCK's changes on all may come later; and behind a change of DATA nothing comes at its moment.
 use Rattle.std.proofs.Common.{◌≡◌, ℕ, zero, suc, ◌+◌, ◌≤◌, ◌⊎◌, inl, inr, Bool, true, false, not, List, [], ◌∷◌, ◌++◌, length, ap, sym, ◌∙◌, subst, append_assoc, arith, refl}
-use Rattle.cbm_iec.specs.declared.line.Line.TheVariants.{Clock, Data}
-use Rattle.cbm_iec.specs.declared.line.Way.TheVariants.{Pull, Free}
+use Rattle.cbm_iec.specs.declared.lines.Line.TheVariants.{Clock, Data}
+use Rattle.cbm_iec.specs.declared.lines.Way.TheVariants.{Pull, Free}
 use Rattle.cbm_session.proofs.among.Calm.{Every}
 use Rattle.cbm_session.proofs.joining.Merging.{NoneBefore}
-use Rattle.cbm_session.specs.Bits.{where_held, Cell, CellsFit, SetFits, data_for, cell_steps, cells_steps, held_after, last_pull}
+use Rattle.cbm_session.specs.Bits.{where_held, BitCell, CellsFit, SetFits, data_for, cell_steps, cells_steps, held_after, last_pull}
 use Rattle.cbm_session.specs.Steps.{Step, moment_of, host}
 
 -- so many bits behind a pull of CLOCK, DATA left as it is
-abbrev pub fresh : Bool → ℕ → ℕ → List Cell
+abbrev pub fresh : Bool → ℕ → ℕ → List BitCell
 fresh held zero pull = []
 fresh held (suc n) pull = (record { bit = not held; set = pull; free = pull + 20; pull = pull + 40 }) ∷ fresh held n (pull + 40)
 
@@ -29,7 +29,7 @@ fresh_fits held (suc n) pull = (record { set = fits held; free = omega arith; se
     again false h = h
 
 -- a list of bits with what comes behind the last one
-abbrev pub cells_whole : Bool → ℕ → List Cell → List Step
+abbrev pub cells_whole : Bool → ℕ → List BitCell → List Step
 cells_whole held pull cs = cells_steps held cs ++ where_held (held_after held cs) (host (last_pull pull cs) Data Free)
 
 last_held : (v : Bool) (m at : ℕ) → m ≤ at → NoneBefore m (where_held v (host at Data Free))
@@ -37,7 +37,7 @@ last_held true m at l = (l, tt)
 last_held false m at l = tt
 
 -- they come no sooner than the pull before them
-pub cells_from : (held : Bool) (pull m : ℕ) (cs : List Cell) → CellsFit held pull cs → m ≤ pull → NoneBefore m (cells_whole held pull cs)
+pub cells_from : (held : Bool) (pull m : ℕ) (cs : List BitCell) → CellsFit held pull cs → m ≤ pull → NoneBefore m (cells_whole held pull cs)
 cells_from held pull m [] h l = last_held held m pull l
 cells_from held pull m (c ∷ cs) h l =
     let a = h.0.free in
@@ -51,8 +51,8 @@ cells_from held pull m (c ∷ cs) h l =
     go false false s n a b = (omega (arith, s, l), (a, (b, n)))
 
 -- A change of CLOCK among them, with all from there on put off.
-pub record LaterCells (held : Bool) (pull : ℕ) (cs : List Cell) (pre : List Step) (t : ℕ) : Type 0 where
-  pub cells : List Cell
+pub record LaterCells (held : Bool) (pull : ℕ) (cs : List BitCell) (pre : List Step) (t : ℕ) : Type 0 where
+  pub cells : List BitCell
   pub fits : CellsFit held pull cells
   pub same : length cells ≡ length cs
   pub first : Step
@@ -61,13 +61,13 @@ pub record LaterCells (held : Bool) (pull : ℕ) (cs : List Cell) (pre : List St
   pub late : NoneBefore (suc t) (first ∷ others)
 
 -- the change of DATA of a bit, where there is one
-abbrev set_steps : Bool → Cell → List Step
+abbrev set_steps : Bool → BitCell → List Step
 set_steps held c = data_for (λ way. host c.set Data way) held c.bit
 
 abbrev OfData : Step → Type 0
 OfData s = s.event.change.line ≡ Data
 
-set_data : (held : Bool) (c : Cell) → Every OfData (set_steps held c)
+set_data : (held : Bool) (c : BitCell) → Every OfData (set_steps held c)
 set_data held c = go held c.bit
   where
     go : (held bit : Bool) → Every OfData (data_for (λ way. host c.set Data way) held bit)
@@ -76,7 +76,7 @@ set_data held c = go held c.bit
     go true false = tt
     go false false = (refl, tt)
 
-whole_is : (held : Bool) (pull : ℕ) (c : Cell) (cs : List Cell) → cells_whole held pull (c ∷ cs) ≡ set_steps held c ++ host c.free Clock Free ∷ host c.pull Clock Pull ∷ cells_whole (not c.bit) c.pull cs
+whole_is : (held : Bool) (pull : ℕ) (c : BitCell) (cs : List BitCell) → cells_whole held pull (c ∷ cs) ≡ set_steps held c ++ host c.free Clock Free ∷ host c.pull Clock Pull ∷ cells_whole (not c.bit) c.pull cs
 whole_is held pull c cs = go held c.bit
   where
     go : (held bit : Bool) → (((data_for (λ way. host c.set Data way) held bit ++ host c.free Clock Free ∷ host c.pull Clock Pull ∷ []) ++ cells_steps (not bit) cs) ++ where_held (held_after (not bit) cs) (host (last_pull c.pull cs) Data Free))
@@ -120,7 +120,7 @@ no_clock true pull (x ∷ y ∷ pre) s post e c = cc
 no_clock false pull [] s post e c = cc
 no_clock false pull (x ∷ pre) s post e c = cc
 
-pub later_cells : (held : Bool) (pull : ℕ) (cs : List Cell) (pre : List Step) (s : Step) (post : List Step) → CellsFit held pull cs → cells_whole held pull cs ≡ pre ++ s ∷ post → s.event.change.line ≡ Clock → LaterCells held pull cs pre (moment_of s)
+pub later_cells : (held : Bool) (pull : ℕ) (cs : List BitCell) (pre : List Step) (s : Step) (post : List Step) → CellsFit held pull cs → cells_whole held pull cs ≡ pre ++ s ∷ post → s.event.change.line ≡ Clock → LaterCells held pull cs pre (moment_of s)
 later_cells held pull [] pre s post h e c = absurd (no_clock held pull pre s post e c)
 later_cells held pull (c ∷ cs) pre s post h e k = elim (at_clock (set_steps held c) f p rest pre s post (set_data held c) k (sym (whole_is held pull c cs) ∙ e)) [
   | inl x ↦ subst (λ (v : Step). LaterCells held pull (c ∷ cs) pre (moment_of v)) (sym x.1) (subst (λ (l : List Step). LaterCells held pull (c ∷ cs) l c.free) (sym x.0) at_free)
@@ -141,7 +141,7 @@ later_cells held pull (c ∷ cs) pre s post h e k = elim (at_clock (set_steps he
 
     at_free : LaterCells held pull (c ∷ cs) (set_steps held c) c.free
     at_free =
-        let c2 : Cell = record { bit = c.bit; set = c.set; free = c.free + 1; pull = c.free + 21 } in
+        let c2 : BitCell = record { bit = c.bit; set = c.set; free = c.free + 1; pull = c.free + 21 } in
         let more = fresh (not c.bit) (length cs) (c.free + 21) in
         let a = h.0.free in
         let b = h.0.settled in
@@ -157,7 +157,7 @@ later_cells held pull (c ∷ cs) pre s post h e k = elim (at_clock (set_steps he
 
     at_pull : LaterCells held pull (c ∷ cs) (set_steps held c ++ f ∷ []) c.pull
     at_pull =
-        let c2 : Cell = record { bit = c.bit; set = c.set; free = c.free; pull = c.pull + 1 } in
+        let c2 : BitCell = record { bit = c.bit; set = c.set; free = c.free; pull = c.pull + 1 } in
         let more = fresh (not c.bit) (length cs) (c.pull + 1) in
         let b = h.0.pulled in
         record {
@@ -190,7 +190,7 @@ data_alone true pull (x ∷ y ∷ pre) s post e = absurd cc
 data_alone false pull [] s post e = absurd cc
 data_alone false pull (x ∷ pre) s post e = absurd cc
 
-pub behind_data : (held : Bool) (pull : ℕ) (cs : List Cell) (pre : List Step) (s : Step) (post : List Step) → CellsFit held pull cs → cells_whole held pull cs ≡ pre ++ s ∷ post → s.event.change.line ≡ Data → NoneBefore (suc (moment_of s)) post
+pub behind_data : (held : Bool) (pull : ℕ) (cs : List BitCell) (pre : List Step) (s : Step) (post : List Step) → CellsFit held pull cs → cells_whole held pull cs ≡ pre ++ s ∷ post → s.event.change.line ≡ Data → NoneBefore (suc (moment_of s)) post
 behind_data held pull [] pre s post h e k = data_alone held pull pre s post e
 behind_data held pull (c ∷ cs) pre s post h e k = go held c.bit h.0.settled (λ l e2. behind_data (not c.bit) c.pull cs l s post h.1 e2 k) pre (sym (whole_is held pull c cs) ∙ e)
   where

@@ -1,7 +1,7 @@
 -- Of an allowed session that begins as a play did: the machines ran what counts in it, and no drive's change comes before what is due.
 use Rattle.std.proofs.Common.{◌≡◌, ℕ, suc, ◌+◌, ◌≤◌, ◌⊎◌, inl, inr, Bool, true, false, List, [], ◌∷◌, ◌++◌, map, append_assoc, Option, ap, sym, ◌∙◌, subst, arith, refl}
 use Rattle.cbm_iec.specs.Ports.{port_due}
-use Rattle.cbm_iec.specs.declared.act.Act.{Act}
+use Rattle.cbm_iec.specs.declared.machine.Act.{Act}
 use Rattle.cbm_iec.specs.declared.event.Event.{Event}
 use Rattle.cbm_iec.specs.declared.event.Who.TheVariants.{Host, Drive}
 use Rattle.cbm_iec.specs.declared.event.Who.{Who}

@@ -1,6 +1,6 @@
 -- The laws that the main induction asks for, in its words: what comes next, what is due, what the machines ran, the order, that any session can be made an allowed one, and that the host's changes can be put off.
 use Rattle.std.proofs.Common.{◌≡◌, ℕ, suc, ◌≤◌, Bool, false, inl, inr, List, [], ◌∷◌, ◌++◌, Option, ap, sym, ◌∙◌, subst, refl}
-use Rattle.cbm_iec.specs.declared.act.Act.{Act}
+use Rattle.cbm_iec.specs.declared.machine.Act.{Act}
 use Rattle.cbm_iec.specs.declared.event.Event.{Event}
 use Rattle.cbm_iec.specs.declared.event.Who.TheVariants.{Host}
 use Rattle.cbm_iec.specs.declared.party.Party.{Party}

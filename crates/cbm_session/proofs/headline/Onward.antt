@@ -1,11 +1,11 @@
 -- Behind a piece that was played the stations stand at the next point of the session.
 use Rattle.std.proofs.Common.{◌≡◌, ℕ, ◌+◌, ◌≤◌, Bool, true, false, not, List, [], ◌∷◌, ◌++◌, map, Option, Some, ap, sym, ◌∙◌, subst, arith, refl, eq-eqb}
 use Rattle.std.specs.Prelude.{if◌then◌else◌}
-use Rattle.cbm_iec.specs.declared.act.Act.TheVariants.{Released, Said}
-use Rattle.cbm_iec.specs.declared.act.Act.{Act}
+use Rattle.cbm_iec.specs.declared.machine.Act.TheVariants.{Released, Said}
+use Rattle.cbm_iec.specs.declared.machine.Act.{Act}
 use Rattle.cbm_iec.specs.declared.event.Event.{Event}
-use Rattle.cbm_iec.specs.declared.line.Line.TheVariants.{Clock}
-use Rattle.cbm_iec.specs.declared.line.Way.TheVariants.{Pull, Free}
+use Rattle.cbm_iec.specs.declared.lines.Line.TheVariants.{Clock}
+use Rattle.cbm_iec.specs.declared.lines.Way.TheVariants.{Pull, Free}
 use Rattle.cbm_iec.specs.declared.party.Party.{Party}
 use Rattle.cbm_iec.specs.declared.party.Role.TheVariants.{Absent, Listener, Talker}
 use Rattle.cbm_iec.specs.declared.party.Role.{Role}
@@ -22,7 +22,7 @@ use Rattle.cbm_session.proofs.headline.TurnBus.{behind_below}
 use Rattle.cbm_session.proofs.headline.TurnTwin.{leads, lead_steps}
 use Rattle.cbm_session.proofs.joining.OneDrive.{one_told}
 use Rattle.cbm_session.proofs.joining.Talkers.{KeepsDrives, KeepsRoles, standing_drives, standing_roles}
-use Rattle.cbm_session.specs.Answers.{PieceAnswers, run, run_each}
+use Rattle.cbm_session.specs.Answers.{PieceAnswers, run_acts, run_each}
 use Rattle.cbm_session.specs.Bits.{number_of}
 use Rattle.cbm_session.specs.Frames.{Told, is_last}
 use Rattle.cbm_session.specs.Pieces.{Piece, Point, own_part, steps_of, piece_steps, let_go, PieceFits, standing, told_since, point_after, Full, Cut, PullPiece, Command, Byte, ToListener, ToNobody, ToTalker, Nothing, Talk, Open, Leading}
@@ -56,7 +56,7 @@ pub leads_plain : (p : Point) (at clock : ℕ) → AllPlain (leads p at clock)
 leads_plain p at clock =
     every_plain (leads p at clock) (every_each (λ s. s.mark ≡ Plain) (λ (x : Seat). own_part p (ToTalker at clock) x) (host clock Clock Free ∷ []) p.seats (refl, tt) (each_seat (λ x. Every (λ s. s.mark ≡ Plain) (own_part p (ToTalker at clock) x)) p.seats (λ (x : Seat). go x x.role)))
   where
-    go : (x : Seat) (r : Role) → Every (λ s. s.mark ≡ Plain) (elim r as (λ q. List Step) [ Absent ↦ let_go at x | Listener ↦ [] | Talker ↦ drive (device x) (clock + reaction x) Clock Pull ∷ drive (device x) (clock + reaction x) Rattle.cbm_iec.specs.declared.line.Line.TheVariants.Data Free ∷ [] ])
+    go : (x : Seat) (r : Role) → Every (λ s. s.mark ≡ Plain) (elim r as (λ q. List Step) [ Absent ↦ let_go at x | Listener ↦ [] | Talker ↦ drive (device x) (clock + reaction x) Clock Pull ∷ drive (device x) (clock + reaction x) Rattle.cbm_iec.specs.declared.lines.Line.TheVariants.Data Free ∷ [] ])
     go x Absent = (refl, tt)
     go x Listener = tt
     go x Talker = (refl, (refl, tt))
@@ -102,7 +102,7 @@ module _ (M : Type 0) (step : M → Act → M) (peek : M → Option (ℕ × Bool
         byte = (
           answer.0,
           ap (λ (b : Party). peek (run_each M step peek ms (steps_of p (ToTalker at clock)) b.device)) same
-              ∙ ap (λ (l : List Act). peek (run M step peek (ms d) l)) (lead_acts p at clock d (omega (arith, fits.1)))
+              ∙ ap (λ (l : List Act). peek (run_acts M step peek (ms d) l)) (lead_acts p at clock d (omega (arith, fits.1)))
               ∙ answer.1,
         );
       }
@@ -129,7 +129,7 @@ module _ (M : Type 0) (step : M → Act → M) (peek : M → Option (ℕ × Bool
             byte = (
               more.0,
               ap (λ (b : Party). peek (run_each M step peek ms (steps_of p (Talk at f)) b.device)) same
-                  ∙ ap (λ (l : List Act). peek (run M step peek (ms d) l)) (acts ∙ ap (λ (v : Bool). Said (number_of f.bits) v ∷ []) l)
+                  ∙ ap (λ (l : List Act). peek (run_acts M step peek (ms d) l)) (acts ∙ ap (λ (v : Bool). Said (number_of f.bits) v ∷ []) l)
                   ∙ more.1,
             );
           }

@@ -2,12 +2,12 @@
 use Rattle.std.proofs.Common.{◌≡◌, ℕ, suc, ◌+◌, ◌≤◌, ◌<◌, ◌⊎◌, inl, inr, Bool, true, false, List, [], ◌∷◌, ◌++◌, map, append_assoc, append-nil, Option, Some, None, ap, sym, ◌∙◌, subst, arith, refl}
 use Rattle.std.specs.Prelude.{if◌then◌else◌}
 use Rattle.cbm_iec.specs.Ports.{side_due, port_due}
-use Rattle.cbm_iec.specs.declared.act.Act.TheVariants.{Pulled as PulledAct}
-use Rattle.cbm_iec.specs.declared.act.Act.{Act}
+use Rattle.cbm_iec.specs.declared.machine.Act.TheVariants.{Pulled as PulledAct}
+use Rattle.cbm_iec.specs.declared.machine.Act.{Act}
 use Rattle.cbm_iec.specs.declared.event.Event.{Event}
 use Rattle.cbm_iec.specs.declared.event.Who.TheVariants.{Host}
-use Rattle.cbm_iec.specs.declared.line.Line.TheVariants.{Atn}
-use Rattle.cbm_iec.specs.declared.line.Way.TheVariants.{Pull}
+use Rattle.cbm_iec.specs.declared.lines.Line.TheVariants.{Atn}
+use Rattle.cbm_iec.specs.declared.lines.Way.TheVariants.{Pull}
 use Rattle.cbm_iec.specs.declared.port.Port.{Port}
 use Rattle.cbm_iec.specs.declared.port.Side.{Side}
 use Rattle.cbm_session.proofs.among.Calm.{Every}
@@ -33,7 +33,7 @@ use Rattle.cbm_session.proofs.joining.Merging.{cut_front}
 use Rattle.cbm_session.specs.Among.{Rest}
 use Rattle.cbm_session.specs.Answers.{Allowed, PieceAnswers, IsAnswer, RunEach, run_each}
 use Rattle.cbm_session.specs.Frames.{is_last}
-use Rattle.cbm_session.specs.Pieces.{Whole, Piece, Place, Point, host_part, own_part, steps_of, before, piece_steps, Fits, PieceFits, whole_point, point_after, Full, Cut, PullPiece, Command, Byte, ToListener, ToNobody, ToTalker, Nothing, Talk, Open, Commanding, Listening, Leading, Cutting}
+use Rattle.cbm_session.specs.Pieces.{Whole, Piece, BusPlace, Point, host_part, own_part, steps_of, before, piece_steps, Fits, PieceFits, whole_point, point_after, Full, Cut, PullPiece, Command, Byte, ToListener, ToNobody, ToTalker, Nothing, Talk, Open, Commanding, Listening, Leading, Cutting}
 use Rattle.cbm_session.specs.Playing.{Station, Plays, IsMachine}
 use Rattle.cbm_session.specs.Seats.{Seat, talker_of}
 use Rattle.cbm_session.specs.Sessions.{Linked, session_steps}
@@ -103,11 +103,11 @@ module _ (M : Type 0) (step : M → Act → M) (peek : M → Option (ℕ × Bool
     begin_never : (at : ℕ) → Fits p (PullPiece at) → NotCut p es → es ≡ [] → ⊥
     begin_never at fits cut e = by_place p.place refl
       where
-        by_place : (q : Place) → p.place ≡ q → ⊥
+        by_place : (q : BusPlace) → p.place ≡ q → ⊥
         by_place Open k = quiet_never M step peek place p ms xs here plays t due (subst Rattle.cbm_session.specs.Sessions.MayEnd (sym k) tt) e
-        by_place (Commanding some) k = subst (λ (v : Place). Rattle.cbm_session.specs.Pieces.PullFits p at v) k fits
+        by_place (Commanding some) k = subst (λ (v : BusPlace). Rattle.cbm_session.specs.Pieces.PullFits p at v) k fits
         by_place Listening k = quiet_never M step peek place p ms xs here plays t due (subst Rattle.cbm_session.specs.Sessions.MayEnd (sym k) tt) e
-        by_place (Leading u) k = subst (λ (v : Place). Rattle.cbm_session.specs.Pieces.PullFits p at v) k fits
+        by_place (Leading u) k = subst (λ (v : BusPlace). Rattle.cbm_session.specs.Pieces.PullFits p at v) k fits
         by_place (Cutting c) k = cut c k e
 
     -- of a pull under way none of the host's changes meets a reaction

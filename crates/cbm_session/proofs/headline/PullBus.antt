@@ -6,15 +6,15 @@ use Rattle.std.specs.Prelude.{nat_eq}
 use Rattle.cbm_iec.specs.Hearing.{after_start}
 use Rattle.cbm_iec.specs.Machines.{acted}
 use Rattle.cbm_iec.specs.Ports.{side_held, side_after, side_due, port_due, told, told_act, reacted, reaction_act, changes_between, reaction_changes}
-use Rattle.cbm_iec.specs.declared.act.Act.{Act}
+use Rattle.cbm_iec.specs.declared.machine.Act.{Act}
 use Rattle.cbm_iec.specs.declared.ear.Ear.TheVariants.{Starting, Holding, Freeing}
 use Rattle.cbm_iec.specs.declared.event.Event.{Event}
 use Rattle.cbm_iec.specs.declared.event.Who.TheVariants.{Host, Drive}
 use Rattle.cbm_iec.specs.declared.event.Who.{Who}
-use Rattle.cbm_iec.specs.declared.line.Change.{Change}
-use Rattle.cbm_iec.specs.declared.line.Line.TheVariants.{Atn}
-use Rattle.cbm_iec.specs.declared.line.Line.{Line}
-use Rattle.cbm_iec.specs.declared.line.Way.{Way}
+use Rattle.cbm_iec.specs.declared.lines.Change.{Change}
+use Rattle.cbm_iec.specs.declared.lines.Line.TheVariants.{Atn}
+use Rattle.cbm_iec.specs.declared.lines.Line.{Line}
+use Rattle.cbm_iec.specs.declared.lines.Way.{Way}
 use Rattle.cbm_iec.specs.declared.lines.Held.{Held}
 use Rattle.cbm_iec.specs.declared.lines.Lines.{Lines}
 use Rattle.cbm_iec.specs.declared.port.Port.{Port}
@@ -32,7 +32,7 @@ use Rattle.cbm_session.proofs.headline.Meeting.{FirstIs, first_append, first_sho
 use Rattle.cbm_session.proofs.headline.PullSettled.{starting_told, holding_told, held, told_held, start_changes, start_act, start_held, no_change, holds_data_alone, not_own, among_told, other_low, host_stays, settled}
 use Rattle.cbm_session.proofs.reading.OneReading.{is_atn}
 use Rattle.cbm_session.specs.Among.{Rest, wires_of, behind_other, behind_host, CountsFor, FollowsAmong, ends, tells, hears, reacts}
-use Rattle.cbm_session.specs.Answers.{run}
+use Rattle.cbm_session.specs.Answers.{run_acts}
 use Rattle.cbm_session.specs.Following.{IsInTime, own_steps, reaction_steps}
 use Rattle.cbm_session.specs.Playing.{IsLaterDue, Station, host_event, drive_events, tell, hear, hear_all, react, shown, AllInTime, AllLater, reacting, Plays, stays, change, reaction}
 use Rattle.cbm_session.specs.Seats.{lines}
@@ -265,7 +265,7 @@ module _ (M : Type 0) (step : M → Act → M) (peek : M → Option (ℕ × Bool
   heard_ran ms done o cs more (x ∷ xs) [] f n h r = elim h [ ]
   heard_ran ms done o cs more (x ∷ xs) (e ∷ es) f n h r = (
     (hear_steps o cs more x e f n.0 h.0).1
-        ∙ subst (λ (d : ℕ). x.machine ≡ run M step peek (ms d) (acts_for d (done ++ own_steps o cs None))) (sym (same_device cs x)) (run_other M step peek x.machine (ms (device_of x)) (device_of x) o done cs None n.0 r.0),
+        ∙ subst (λ (d : ℕ). x.machine ≡ run_acts M step peek (ms d) (acts_for d (done ++ own_steps o cs None))) (sym (same_device cs x)) (run_other M step peek x.machine (ms (device_of x)) (device_of x) o done cs None n.0 r.0),
     heard_ran ms done o cs more xs es f n.1 h.1 r.1,
   )
 

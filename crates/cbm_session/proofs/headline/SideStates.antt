@@ -2,9 +2,9 @@
 use Rattle.cbm_iec.specs.declared.pace.Pace.{Pace}
 use Rattle.std.proofs.Common.{◌≡◌, ℕ, ◌+◌, Bool, true, false, not, [], Option, Some, ap, refl}
 use Rattle.std.specs.Prelude.{if◌then◌else◌, ◌==◌, nat_lt}
-use Rattle.cbm_iec.specs.Hearing.{is_same, ear_due, after_hold, after_ready, after_clock, after_data, after_clocked, after_lines, with_bit, ear_row}
+use Rattle.cbm_iec.specs.Hearing.{is_same, ear_due, after_hold, after_ready, after_clock, after_data, after_clocked, after_lines, with_bit_read, ear_row}
 use Rattle.cbm_iec.specs.Ports.{side_due, lined_side, lined_act, side_held, side_act, side_after, changes_between}
-use Rattle.cbm_iec.specs.declared.act.Act.{Act}
+use Rattle.cbm_iec.specs.declared.machine.Act.{Act}
 use Rattle.cbm_iec.specs.declared.ear.Ear.TheVariants.{Idle, Await, Starting, Leaving, Returning, Holding, Freeing, Ready, Timed, Pulsing, EoiNoted, Gathering, Accepting}
 use Rattle.cbm_iec.specs.declared.ear.Ear.{Ear}
 use Rattle.cbm_iec.specs.declared.lines.Held.{Held}
@@ -61,7 +61,7 @@ clock_holds r m true data_low (Gathering eoi count byte) own h = go (count == 8)
     go false = h
 clock_holds r m false data_low (Gathering eoi count byte) own h = go (nat_lt count 8)
   where
-    go : (v : Bool) → EarHolds (if v then Gathering eoi (count + 1) (with_bit byte data_low) else Gathering eoi count byte) own
+    go : (v : Bool) → EarHolds (if v then Gathering eoi (count + 1) (with_bit_read byte data_low) else Gathering eoi count byte) own
     go true = h
     go false = h
 clock_holds r m low data_low (Accepting at eoi byte) own h = h

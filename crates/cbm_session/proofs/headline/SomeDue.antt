@@ -2,11 +2,11 @@
 use Rattle.std.proofs.Common.{◌≡◌, ℕ, suc, ◌≤◌, ◌<◌, ◌⊎◌, inl, inr, Bool, true, false, List, [], ◌∷◌, ◌++◌, Option, Some, None, ap, sym, ◌∙◌, subst, arith, refl}
 use Rattle.cbm_iec.specs.Hearing.{is_same}
 use Rattle.cbm_iec.specs.Ports.{side_due, port_due, told}
-use Rattle.cbm_iec.specs.declared.act.Act.{Act}
+use Rattle.cbm_iec.specs.declared.machine.Act.{Act}
 use Rattle.cbm_iec.specs.declared.event.Who.TheVariants.{Host}
-use Rattle.cbm_iec.specs.declared.line.Line.TheVariants.{Data}
-use Rattle.cbm_iec.specs.declared.line.Line.{Line}
-use Rattle.cbm_iec.specs.declared.line.Way.{Way}
+use Rattle.cbm_iec.specs.declared.lines.Line.TheVariants.{Data}
+use Rattle.cbm_iec.specs.declared.lines.Line.{Line}
+use Rattle.cbm_iec.specs.declared.lines.Way.{Way}
 use Rattle.cbm_iec.specs.declared.lines.Lines.{Lines}
 use Rattle.cbm_iec.specs.declared.port.Port.{Port}
 use Rattle.cbm_iec.specs.declared.port.Side.{Side}

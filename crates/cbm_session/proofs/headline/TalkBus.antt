@@ -5,14 +5,14 @@ use Rattle.std.proofs.Common.{◌≡◌, ℕ, suc, ◌+◌, ◌≤◌, ◌<◌, 
 use Rattle.std.proofs.lemmas.Bool.Decides.{leb_tells}
 use Rattle.std.specs.Prelude.{if◌then◌else◌}
 use Rattle.cbm_iec.specs.Ports.{side_due, port_due}
-use Rattle.cbm_iec.specs.declared.act.Act.TheVariants.{Said}
-use Rattle.cbm_iec.specs.declared.act.Act.{Act}
+use Rattle.cbm_iec.specs.declared.machine.Act.TheVariants.{Said}
+use Rattle.cbm_iec.specs.declared.machine.Act.{Act}
 use Rattle.cbm_iec.specs.declared.ear.Ear.TheVariants.{Idle}
 use Rattle.cbm_iec.specs.declared.event.Event.{Event}
 use Rattle.cbm_iec.specs.declared.event.Who.TheVariants.{Host, Drive}
 use Rattle.cbm_iec.specs.declared.event.Who.{Who}
-use Rattle.cbm_iec.specs.declared.line.Line.TheVariants.{Clock, Data}
-use Rattle.cbm_iec.specs.declared.line.Way.TheVariants.{Pull, Free}
+use Rattle.cbm_iec.specs.declared.lines.Line.TheVariants.{Clock, Data}
+use Rattle.cbm_iec.specs.declared.lines.Way.TheVariants.{Pull, Free}
 use Rattle.cbm_iec.specs.declared.lines.Held.{Held}
 use Rattle.cbm_iec.specs.declared.mouth.Mouth.TheVariants.{Led}
 use Rattle.cbm_iec.specs.declared.party.Party.{Party}
@@ -46,7 +46,7 @@ use Rattle.cbm_session.specs.Bits.{number_of}
 use Rattle.cbm_session.specs.Buses.{SaysAs, SideAmong, OwnAt, StandsAmong}
 use Rattle.cbm_session.specs.Following.{IsInTime}
 use Rattle.cbm_session.specs.Frames.{Told, is_last, signal_steps, first_bit, bit_steps, ToldFits}
-use Rattle.cbm_session.specs.Pieces.{Whole, Place, Point, steps_of, before, piece_steps, Fits, PieceFits, told_since, whole_point, point_after, Talk, Open, Leading}
+use Rattle.cbm_session.specs.Pieces.{Whole, BusPlace, Point, steps_of, before, piece_steps, Fits, PieceFits, told_since, whole_point, point_after, Talk, Open, Leading}
 use Rattle.cbm_session.specs.Playing.{Station, Plays}
 use Rattle.cbm_session.specs.Seats.{lines, Seat, device, is_talker, talker_of}
 use Rattle.cbm_session.specs.Steps.{Step, moment_of, host, drive, for_one}
@@ -132,10 +132,10 @@ module _ (M : Type 0) (step : M → Act → M) (peek : M → Option (ℕ × Bool
         seen = h.stands.others ∙ ap (λ (r : Rest). wires_of r) (sym h.rest)
 
         side_at : SideAmong (Leading at) x.role z.port.side
-        side_at = subst (λ (v : Place). SideAmong v x.role z.port.side) leading h.stands.side
+        side_at = subst (λ (v : BusPlace). SideAmong v x.role z.port.side) leading h.stands.side
 
         own_at : OwnAt (Leading at) x.role x.own
-        own_at = subst (λ (v : Place). OwnAt v x.role x.own) leading (each_sits (λ y. OwnAt p.place y.role y.own) (device x) p.seats x h.sound.own h.sound.seated.sits)
+        own_at = subst (λ (v : BusPlace). OwnAt v x.role x.own) leading (each_sits (λ y. OwnAt p.place y.role y.own) (device x) p.seats x h.sound.own h.sound.seated.sits)
 
         by : (r : Role) → x.role ≡ r → GoesSo M step peek says place z zs (r2, q2)
         by Absent k =

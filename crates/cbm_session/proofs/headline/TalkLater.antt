@@ -2,12 +2,12 @@
 use Rattle.cbm_iec.specs.Profile.{bit_time, half_bit}
 use Rattle.std.proofs.Common.{◌≡◌, ℕ, suc, ◌+◌, ◌≤◌, inl, inr, Bool, true, false, List, [], ◌∷◌, ◌++◌, append-nil, Option, Some, None, ap, sym, ◌∙◌, subst, arith, refl}
 use Rattle.std.specs.Prelude.{if◌then◌else◌}
-use Rattle.cbm_iec.specs.declared.act.Act.{Act}
-use Rattle.cbm_iec.specs.declared.act.Act.TheVariants.{Said}
+use Rattle.cbm_iec.specs.declared.machine.Act.{Act}
+use Rattle.cbm_iec.specs.declared.machine.Act.TheVariants.{Said}
 use Rattle.cbm_iec.specs.declared.event.Event.{Event}
 use Rattle.cbm_iec.specs.declared.event.Who.TheVariants.{Host}
-use Rattle.cbm_iec.specs.declared.line.Line.TheVariants.{Clock, Data}
-use Rattle.cbm_iec.specs.declared.line.Way.TheVariants.{Pull, Free}
+use Rattle.cbm_iec.specs.declared.lines.Line.TheVariants.{Clock, Data}
+use Rattle.cbm_iec.specs.declared.lines.Way.TheVariants.{Pull, Free}
 use Rattle.cbm_iec.specs.declared.party.Party.{Party}
 use Rattle.cbm_session.proofs.among.Fronts.{steps_order}
 use Rattle.cbm_session.proofs.headline.EndingTalk.{order_rest}

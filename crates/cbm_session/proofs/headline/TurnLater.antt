@@ -3,11 +3,11 @@ use Rattle.cbm_session.proofs.joining.Silents.{silent_from, silent_none}
 use Rattle.std.proofs.Common.{◌≡◌, ℕ, suc, ◌+◌, ◌≤◌, ◌<◌, ◌⊎◌, inl, inr, Bool, true, false, List, [], ◌∷◌, ◌++◌, map, Option, Some, None, ap, sym, ◌∙◌, subst, arith, refl}
 use Rattle.std.specs.Prelude.{if◌then◌else◌}
 use Rattle.std.proofs.lemmas.Bool.Decides.{leb_tells}
-use Rattle.cbm_iec.specs.declared.act.Act.TheVariants.{Released}
+use Rattle.cbm_iec.specs.declared.machine.Act.TheVariants.{Released}
 use Rattle.cbm_iec.specs.declared.event.Who.TheVariants.{Host, Drive}
 use Rattle.cbm_iec.specs.declared.event.Who.{Who}
-use Rattle.cbm_iec.specs.declared.line.Line.TheVariants.{Atn, Clock, Data}
-use Rattle.cbm_iec.specs.declared.line.Way.TheVariants.{Pull, Free}
+use Rattle.cbm_iec.specs.declared.lines.Line.TheVariants.{Atn, Clock, Data}
+use Rattle.cbm_iec.specs.declared.lines.Way.TheVariants.{Pull, Free}
 use Rattle.cbm_iec.specs.declared.party.Role.TheVariants.{Absent, Listener, Talker}
 use Rattle.cbm_iec.specs.declared.party.Role.{Role}
 use Rattle.cbm_session.proofs.among.Around.{every_each}

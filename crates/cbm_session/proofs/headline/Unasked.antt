@@ -1,10 +1,10 @@
 -- Steps that ask nothing of a machine: all but a byte said and a silence. Machines run them whatever they have to say.
 use Rattle.std.proofs.Common.{ℕ, ◌+◌, Bool, true, false, not, List, [], ◌∷◌, ◌++◌, Option, Some, refl}
 use Rattle.std.specs.Prelude.{if◌then◌else◌, nat_eq}
-use Rattle.cbm_iec.specs.declared.act.Act.TheVariants.{Pulled, Attention, Released, Heard, Said, Silent}
-use Rattle.cbm_iec.specs.declared.act.Act.{Act}
-use Rattle.cbm_iec.specs.declared.line.Line.TheVariants.{Clock, Data}
-use Rattle.cbm_iec.specs.declared.line.Way.TheVariants.{Pull, Free}
+use Rattle.cbm_iec.specs.declared.machine.Act.TheVariants.{Pulled, Attention, Released, Heard, Said, Silent}
+use Rattle.cbm_iec.specs.declared.machine.Act.{Act}
+use Rattle.cbm_iec.specs.declared.lines.Line.TheVariants.{Clock, Data}
+use Rattle.cbm_iec.specs.declared.lines.Way.TheVariants.{Pull, Free}
 use Rattle.cbm_iec.specs.declared.party.Role.TheVariants.{Absent, Listener, Talker}
 use Rattle.cbm_iec.specs.declared.party.Role.{Role}
 use Rattle.cbm_session.proofs.among.Around.{every_append, every_each}
@@ -12,8 +12,8 @@ use Rattle.cbm_session.proofs.among.Calm.{Every}
 use Rattle.cbm_session.proofs.headline.FrameBus.{each_seat}
 use Rattle.cbm_session.proofs.headline.Meeting.{SaysOpen, LastSaid}
 use Rattle.cbm_session.proofs.headline.TalkStates.{NoneSaid}
-use Rattle.cbm_session.specs.Answers.{Answers, Run, run, RunEach}
-use Rattle.cbm_session.specs.Bits.{where_held, where_free, Cell, cell_steps, cells_steps, held_after, byte_of}
+use Rattle.cbm_session.specs.Answers.{AnswersAct, Run, run_acts, RunEach}
+use Rattle.cbm_session.specs.Bits.{where_held, where_free, BitCell, cell_steps, cells_steps, held_after, byte_in_cells}
 use Rattle.cbm_session.specs.Frames.{Sent, wire, end_of, hearing, sending}
 use Rattle.cbm_session.specs.Pieces.{Whole, Point, host_part, own_part, steps_of, let_go, PullPiece, Command, Byte, ToListener, ToNobody, ToTalker, Nothing, Talk}
 use Rattle.cbm_session.specs.Seats.{Seat, device, reaction, is_listener, listeners}
@@ -73,7 +73,7 @@ free_unasked : (v : Bool) (s : Step) → IsUnasked s → Every IsUnasked (where_
 free_unasked true s u = tt
 free_unasked false s u = (u, tt)
 
-cells_unasked : (held : Bool) (cs : List Cell) → Every IsUnasked (cells_steps held cs)
+cells_unasked : (held : Bool) (cs : List BitCell) → Every IsUnasked (cells_steps held cs)
 cells_unasked held [] = tt
 cells_unasked held (c ∷ cs) = every_append IsUnasked (cell_steps held c) (cells_steps (not c.bit) cs) (one held c.bit c.set c.free c.pull) (cells_unasked (not c.bit) cs)
   where
@@ -104,11 +104,11 @@ own_unasked : (p : Point) (w : Whole) → AsksNothing w → (s : Seat) → Every
 own_unasked p (PullPiece at) n s =
     every_append IsUnasked (where_held s.own.clock_low (drive (device s) (at + reaction s) Clock Free)) (where_free s.own.data_low (drive (device s) (at + reaction s) Data Pull))
     (held_unasked s.own.clock_low (drive (device s) (at + reaction s) Clock Free) tt) (free_unasked s.own.data_low (drive (device s) (at + reaction s) Data Pull) tt)
-own_unasked p (Command f) n s = hearing_unasked (wire p.seats f) false (Attention (byte_of f.cells)) f s tt
+own_unasked p (Command f) n s = hearing_unasked (wire p.seats f) false (Attention (byte_in_cells f.cells)) f s tt
 own_unasked p (Byte eoi f) n s = go (is_listener s.role)
   where
-    go : (v : Bool) → Every IsUnasked (if v then hearing (wire (listeners p.seats) f) eoi (Heard (byte_of f.cells) eoi) f s else [])
-    go true = hearing_unasked (wire (listeners p.seats) f) eoi (Heard (byte_of f.cells) eoi) f s tt
+    go : (v : Bool) → Every IsUnasked (if v then hearing (wire (listeners p.seats) f) eoi (Heard (byte_in_cells f.cells) eoi) f s else [])
+    go true = hearing_unasked (wire (listeners p.seats) f) eoi (Heard (byte_in_cells f.cells) eoi) f s tt
     go false = tt
 own_unasked p (ToListener at) n s = go s.role
   where
@@ -130,7 +130,7 @@ pub steps_unasked : (p : Point) (w : Whole) → AsksNothing w → Every IsUnaske
 steps_unasked p w n = every_each IsUnasked (λ (x : Seat). own_part p w x) (host_part p w) p.seats (host_unasked p w n) (each_seat (λ x. Every IsUnasked (own_part p w x)) p.seats (own_unasked p w n))
 
 module _ (M : Type 0) (step : M → Act → M) (peek : M → Option (ℕ × Bool)) where
-  unasked_act : (m : M) (act : Act) → NotSpoken act → Answers M step peek m act
+  unasked_act : (m : M) (act : Act) → NotSpoken act → AnswersAct M step peek m act
   unasked_act m Pulled n = tt
   unasked_act m (Attention byte) n = tt
   unasked_act m Released n = tt
@@ -140,7 +140,7 @@ module _ (M : Type 0) (step : M → Act → M) (peek : M → Option (ℕ × Bool
 
   -- what a machine runs, in short
   abbrev pub Runs : M → List Act → Type 0
-  Runs m acts = Run M step peek m acts (run M step peek m acts)
+  Runs m acts = Run M step peek m acts (run_acts M step peek m acts)
 
   pub runs_unasked : (d : ℕ) (m : M) (ss : List Step) → Every IsUnasked ss → Runs m (acts_for d ss)
   runs_unasked d m [] a = refl
@@ -156,7 +156,7 @@ module _ (M : Type 0) (step : M → Act → M) (peek : M → Option (ℕ × Bool
       go (For o act) n more = one act n more (nat_eq d o)
 
   -- one list behind another, and the front of one
-  pub runs_then : (m : M) (xs ys : List Act) → Runs m xs → Runs (run M step peek m xs) ys → Runs m (xs ++ ys)
+  pub runs_then : (m : M) (xs ys : List Act) → Runs m xs → Runs (run_acts M step peek m xs) ys → Runs m (xs ++ ys)
   runs_then m [] ys a b = b
   runs_then m (x ∷ xs) ys a b = (a.0, runs_then (step m x) xs ys a.1 b)
 

@@ -2,7 +2,7 @@
 use Rattle.cbm_session.proofs.alone.Frames.{done_due}
 use Rattle.std.proofs.Common.{◌≡◌, ℕ, ◌+◌, ◌⊎◌, inl, inr, Bool, List, [], ◌∷◌, ◌++◌, map, append_assoc, Option, Some, None, ap, sym, ◌∙◌, subst, arith, refl}
 use Rattle.cbm_iec.specs.Ports.{side_due}
-use Rattle.cbm_iec.specs.declared.act.Act.{Act}
+use Rattle.cbm_iec.specs.declared.machine.Act.{Act}
 use Rattle.cbm_iec.specs.declared.event.Event.{Event}
 use Rattle.cbm_iec.specs.declared.party.Role.TheVariants.{Absent, Listener, Talker}
 use Rattle.cbm_iec.specs.declared.party.Role.{Role}
@@ -21,10 +21,10 @@ use Rattle.cbm_session.proofs.headline.Premises.{mute, Stood}
 use Rattle.cbm_session.proofs.headline.PullBus.{NextHost}
 use Rattle.cbm_session.proofs.headline.ReleaseBus.{AllQuiet, quiet_first}
 use Rattle.cbm_session.proofs.headline.TalkSwap.{twin_compat}
-use Rattle.cbm_session.specs.Answers.{Allowed, run, run_each}
+use Rattle.cbm_session.specs.Answers.{Allowed, run_acts, run_each}
 use Rattle.cbm_session.specs.Buses.{SideAmong}
 use Rattle.cbm_session.specs.Laws.{SeatsReact}
-use Rattle.cbm_session.specs.Pieces.{Whole, Piece, Place, Point, steps_of, piece_steps, Fits, CutFits, whole_point, point_after, Full, Cut, PullPiece, Command, Byte, ToListener, ToNobody, ToTalker, Nothing, Talk, Open, Commanding, Listening, Leading, Cutting}
+use Rattle.cbm_session.specs.Pieces.{Whole, Piece, BusPlace, Point, steps_of, piece_steps, Fits, CutFits, whole_point, point_after, Full, Cut, PullPiece, Command, Byte, ToListener, ToNobody, ToTalker, Nothing, Talk, Open, Commanding, Listening, Leading, Cutting}
 use Rattle.cbm_session.specs.Playing.{Station, Plays, stays, change, reaction}
 use Rattle.cbm_session.specs.Seats.{Seat, device}
 use Rattle.cbm_session.specs.Sessions.{MayEnd, Linked, session_steps}
@@ -103,7 +103,7 @@ module _ (M : Type 0) (step : M → Act → M) (peek : M → Option (ℕ × Bool
   listening_due Talker side h = elim h [ ]
 
   -- where a session may end nothing is due
-  end_due : (q : Place) → MayEnd q → (r : Role) (side : Side) → SideAmong q r side → side_due side ≡ None
+  end_due : (q : BusPlace) → MayEnd q → (r : Role) (side : Side) → SideAmong q r side → side_due side ≡ None
   end_due Open m r side h = done_due side h
   end_due (Commanding some) m r side h = ap (λ (v : Side). side_due v) h
   end_due Listening m r side h = listening_due r side h
@@ -121,7 +121,7 @@ module _ (M : Type 0) (step : M → Act → M) (peek : M → Option (ℕ × Bool
   ran_from ms ys zs [] h = tt
   ran_from ms ys zs (s ∷ ss) h =
       let d = s.port.party.device in
-      (h.0 ∙ sym (run_append M step peek (ms d) (acts_for d ys) (acts_for d zs)) ∙ ap (λ l. run M step peek (ms d) l) (sym (acts_append d ys zs)), ran_from ms ys zs ss h.1)
+      (h.0 ∙ sym (run_append M step peek (ms d) (acts_for d ys) (acts_for d zs)) ∙ ap (λ l. run_acts M step peek (ms d) l) (sym (acts_append d ys zs)), ran_from ms ys zs ss h.1)
 
   -- the drives of a point react in time
   pub react_of : (p : Point) (ss : List Seat) (xs : List (Station M)) → p.seats ≡ ss → Stood M step peek place p ss xs → SeatsReact p.seats

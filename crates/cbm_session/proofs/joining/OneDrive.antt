@@ -4,16 +4,16 @@ use Rattle.cbm_session.proofs.Paces.{pulse_upto, by_eight}
 use Rattle.cbm_iec.specs.Profile.{eoi_pulse, bit_time}
 use Rattle.std.proofs.Common.{◌≡◌, ℕ, ◌+◌, ◌*◌, ◌≤◌, ◌<◌, Bool, true, false, not, List, [], ◌∷◌, ◌++◌, length, Option, Some, None, ap, ◌∙◌, arith, refl}
 use Rattle.std.specs.Prelude.{if◌then◌else◌, nat_le}
-use Rattle.cbm_iec.specs.declared.act.Act.TheVariants.{Released, Said}
-use Rattle.cbm_iec.specs.declared.act.Act.{Act}
-use Rattle.cbm_iec.specs.declared.line.Line.TheVariants.{Atn, Clock, Data}
-use Rattle.cbm_iec.specs.declared.line.Way.TheVariants.{Pull, Free}
+use Rattle.cbm_iec.specs.declared.machine.Act.TheVariants.{Released, Said}
+use Rattle.cbm_iec.specs.declared.machine.Act.{Act}
+use Rattle.cbm_iec.specs.declared.lines.Line.TheVariants.{Atn, Clock, Data}
+use Rattle.cbm_iec.specs.declared.lines.Way.TheVariants.{Pull, Free}
 use Rattle.cbm_iec.specs.declared.party.Party.{Party}
 use Rattle.cbm_iec.specs.declared.party.Role.TheVariants.{Absent, Listener, Talker}
 use Rattle.cbm_iec.specs.declared.party.Role.{Role}
 use Rattle.cbm_session.proofs.joining.Merging.{merge_here, merge_there, AllBefore}
-use Rattle.cbm_session.specs.Bits.{where_held, where_free, Cell, cell_steps, cells_steps, held_after, last_pull, CellsFit, number_of}
-use Rattle.cbm_session.specs.Frames.{Sent, Told, wire, lasting, longest, end_of, pulse_from, pulse_to, pulse, hearing, sending, is_last, signal_steps, first_bit, bit_steps, telling, taking, SentFits, SignalFits, ToldFits}
+use Rattle.cbm_session.specs.Bits.{where_held, where_free, BitCell, cell_steps, cells_steps, held_after, last_pull, CellsFit, number_of}
+use Rattle.cbm_session.specs.Frames.{Sent, Told, wire, lasting, longest_lasting, end_of, pulse_from, pulse_to, pulse, hearing, sending, is_last, signal_steps, first_bit, bit_steps, telling, taking, SentFits, SignalFits, ToldFits}
 use Rattle.cbm_session.specs.Joins.{NotBefore}
 use Rattle.cbm_session.specs.Pieces.{Point, host_part, let_go, own_part, PullPiece, ToListener, ToNobody}
 use Rattle.cbm_session.specs.Seats.{Seat, device, reaction}
@@ -33,19 +33,19 @@ merge_last : (xs : List Step) (y : Step) → AllUpTo (moment_of y) xs → merge 
 merge_last [] y a = refl
 merge_last (x ∷ xs) y a = merge_here x xs y [] a.0 ∙ ap (λ (zs : List Step). x ∷ zs) (merge_last xs y a.1)
 
-pub last_after : (held : Bool) (pull : ℕ) (cs : List Cell) → CellsFit held pull cs → pull ≤ last_pull pull cs
+pub last_after : (held : Bool) (pull : ℕ) (cs : List BitCell) → CellsFit held pull cs → pull ≤ last_pull pull cs
 last_after held pull [] h = omega arith
 last_after held pull (c ∷ cs) h = let k = last_after (not c.bit) c.pull cs h.1 in let m = h.0 in omega (arith, k, m.free, m.pulled)
 
 -- each bit of the host lasts 40 at least, so whatever a drive's pace is its pulse ends before the last bit
-cells_last : (held : Bool) (pull : ℕ) (cs : List Cell) → CellsFit held pull cs → pull + 40 * length cs ≤ last_pull pull cs
+cells_last : (held : Bool) (pull : ℕ) (cs : List BitCell) → CellsFit held pull cs → pull + 40 * length cs ≤ last_pull pull cs
 cells_last held pull [] h = omega arith
 cells_last held pull (c ∷ cs) h = let k = cells_last (not c.bit) c.pull cs h.1 in let m = h.0 in omega (arith, k, m.free, m.pulled)
 
 pub pulse_within : (hs : List Seat) (f : Sent) → SentFits hs true f → (e : Pace) → wire hs f + 200 + eoi_pulse e ≤ end_of f
 pulse_within hs f h e =
     let k = cells_last false f.start f.cells h.cells in
-    let g : wire hs f + 200 + longest hs + 1 ≤ f.start = h.start in
+    let g : wire hs f + 200 + longest_lasting hs + 1 ≤ f.start = h.start in
     omega (arith, k, g, h.eight, pulse_upto e)
 
 cell_upto : (m : ℕ) (held bit : Bool) (set free pull : ℕ) → set ≤ m → free ≤ m → pull ≤ m → AllUpTo m (cell_steps held (record { bit = bit; set = set; free = free; pull = pull }))
@@ -54,7 +54,7 @@ cell_upto m false false set free pull a b c = (a, (b, (c, tt)))
 cell_upto m true false set free pull a b c = (b, (c, tt))
 cell_upto m false true set free pull a b c = (b, (c, tt))
 
-pub cells_upto : (m : ℕ) (held : Bool) (pull : ℕ) (cs : List Cell) → CellsFit held pull cs → last_pull pull cs ≤ m → AllUpTo m (cells_steps held cs)
+pub cells_upto : (m : ℕ) (held : Bool) (pull : ℕ) (cs : List BitCell) → CellsFit held pull cs → last_pull pull cs ≤ m → AllUpTo m (cells_steps held cs)
 cells_upto m held pull [] h l = tt
 cells_upto m held pull (c ∷ cs) h l =
     let k = last_after (not c.bit) c.pull cs h.1 in

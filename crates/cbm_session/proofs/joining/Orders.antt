@@ -3,22 +3,22 @@ use Rattle.cbm_iec.specs.declared.party.Party.{Party}
 use Rattle.cbm_session.specs.Pieces.{silent_end}
 use Rattle.cbm_session.proofs.joining.Silents.{silent_from}
 use Rattle.std.proofs.Common.{append_assoc, not, ℕ, ◌+◌, ◌≤◌, Bool, true, false, List, [], ◌∷◌, ◌++◌, Option, Some, None, sym, subst, arith}
-use Rattle.cbm_iec.specs.declared.act.Act.TheVariants.{Pulled, Released}
-use Rattle.cbm_iec.specs.declared.line.Line.TheVariants.{Atn, Clock, Data}
-use Rattle.cbm_iec.specs.declared.line.Way.TheVariants.{Pull, Free}
+use Rattle.cbm_iec.specs.declared.machine.Act.TheVariants.{Pulled, Released}
+use Rattle.cbm_iec.specs.declared.lines.Line.TheVariants.{Atn, Clock, Data}
+use Rattle.cbm_iec.specs.declared.lines.Way.TheVariants.{Pull, Free}
 use Rattle.cbm_session.proofs.joining.Merging.{NoneBefore, InOrder}
 use Rattle.cbm_session.proofs.joining.OneDrive.{last_after}
 use Rattle.cbm_session.proofs.joining.Owning.{none_append}
 use Rattle.cbm_session.proofs.reading.Decoding.{next}
 use Rattle.cbm_session.proofs.reading.OneReading.{freed_order, taking_order}
-use Rattle.cbm_session.specs.Bits.{where_held, where_free, Cell, cell_steps, cells_steps, held_after, last_pull, SetFits, CellsFit}
+use Rattle.cbm_session.specs.Bits.{where_held, where_free, BitCell, cell_steps, cells_steps, held_after, last_pull, SetFits, CellsFit}
 use Rattle.cbm_session.specs.Frames.{Sent, end_of, sending, StartFits, SentFits}
 use Rattle.cbm_session.specs.Pieces.{Whole, Point, freed_steps, host_part, FreedFits, Fits, PullPiece, Command, Byte, ToListener, ToNobody, ToTalker, Nothing, Talk}
 use Rattle.cbm_session.specs.Seats.{Seat, talker_of, listeners}
 use Rattle.cbm_session.specs.Steps.{Step, host, for_each}
 
 -- the host's part of a piece is in order
-cells_none : (m : ℕ) (held : Bool) (pull : ℕ) (cs : List Cell) → CellsFit held pull cs → m ≤ pull → NoneBefore m (cells_steps held cs)
+cells_none : (m : ℕ) (held : Bool) (pull : ℕ) (cs : List BitCell) → CellsFit held pull cs → m ≤ pull → NoneBefore m (cells_steps held cs)
 cells_none m held pull [] h l = tt
 cells_none m held pull (c ∷ cs) h l = go held c.bit c.set c.free c.pull h.0.set h.0.free h.0.pulled (cells_none m (not c.bit) c.pull cs h.1 (far h.0.free h.0.pulled))
   where
@@ -32,7 +32,7 @@ cells_none m held pull (c ∷ cs) h l = go held c.bit c.set c.free c.pull h.0.se
     go true false set free next s a b n = (omega (arith, l, a), (omega (arith, l, a, b), n))
     go false true set free next s a b n = (omega (arith, l, a), (omega (arith, l, a, b), n))
 
-cells_order : (held : Bool) (pull : ℕ) (cs : List Cell) (tail : List Step) → CellsFit held pull cs → InOrder tail → ((m : ℕ) → m ≤ last_pull pull cs → NoneBefore m tail) → InOrder (cells_steps held cs ++ tail)
+cells_order : (held : Bool) (pull : ℕ) (cs : List BitCell) (tail : List Step) → CellsFit held pull cs → InOrder tail → ((m : ℕ) → m ≤ last_pull pull cs → NoneBefore m tail) → InOrder (cells_steps held cs ++ tail)
 cells_order held pull [] tail h o n = o
 cells_order held pull (c ∷ cs) tail h o n =
     let rest = cells_order (not c.bit) c.pull cs tail h.1 o n in

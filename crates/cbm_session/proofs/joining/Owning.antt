@@ -6,13 +6,13 @@ use Rattle.cbm_session.proofs.Paces.{by_eight}
 use Rattle.cbm_iec.specs.Profile.{bit_time, first_accept, half_bit}
 use Rattle.std.proofs.Common.{◌≡◌, ℕ, ◌+◌, ◌*◌, ◌≤◌, Bool, true, false, not, List, [], ◌∷◌, ◌++◌, length, Option, Some, None, ap, sym, ◌∙◌, subst, arith, refl}
 use Rattle.std.specs.Prelude.{if◌then◌else◌, nat_eq}
-use Rattle.cbm_iec.specs.declared.act.Act.TheVariants.{Attention, Heard, Said}
-use Rattle.cbm_iec.specs.declared.act.Act.{Act}
+use Rattle.cbm_iec.specs.declared.machine.Act.TheVariants.{Attention, Heard, Said}
+use Rattle.cbm_iec.specs.declared.machine.Act.{Act}
 use Rattle.cbm_iec.specs.declared.event.Who.TheVariants.{Drive}
-use Rattle.cbm_iec.specs.declared.line.Line.TheVariants.{Clock, Data}
-use Rattle.cbm_iec.specs.declared.line.Line.{Line}
-use Rattle.cbm_iec.specs.declared.line.Way.TheVariants.{Pull, Free}
-use Rattle.cbm_iec.specs.declared.line.Way.{Way}
+use Rattle.cbm_iec.specs.declared.lines.Line.TheVariants.{Clock, Data}
+use Rattle.cbm_iec.specs.declared.lines.Line.{Line}
+use Rattle.cbm_iec.specs.declared.lines.Way.TheVariants.{Pull, Free}
+use Rattle.cbm_iec.specs.declared.lines.Way.{Way}
 use Rattle.cbm_iec.specs.declared.party.Party.{Party}
 use Rattle.cbm_iec.specs.declared.party.Role.TheVariants.{Absent, Listener, Talker}
 use Rattle.cbm_iec.specs.declared.party.Role.{Role}
@@ -20,7 +20,7 @@ use Rattle.cbm_session.proofs.joining.Merging.{NoneBefore, InOrder}
 use Rattle.cbm_session.proofs.joining.OneDrive.{last_after, pulse_within}
 use Rattle.cbm_session.proofs.joining.Showing.{AllForeign, AllMine}
 use Rattle.cbm_session.proofs.reading.Decoding.{when_mine, mark_act, IsMine, IsAnothers}
-use Rattle.cbm_session.specs.Bits.{where_held, where_free, Cell, cell_steps, cells_steps, held_after, number_of, byte_of}
+use Rattle.cbm_session.specs.Bits.{where_held, where_free, BitCell, cell_steps, cells_steps, held_after, number_of, byte_in_cells}
 use Rattle.cbm_session.specs.Frames.{lasting, Sent, Told, wire, end_of, pulse, hearing, sending, SentFits, is_last, signal_steps, first_bit, bit_steps, telling, SignalFits}
 use Rattle.cbm_session.specs.Pieces.{silent_part, Whole, Point, freed_steps, host_part, let_go, own_part, Fits, PullPiece, Command, Byte, ToListener, ToNobody, ToTalker, Nothing, Talk}
 use Rattle.cbm_session.specs.Seats.{at_pace, Seat, device, reaction, is_listener, is_talker, talker_of, listeners}
@@ -88,8 +88,8 @@ pub part_owned : (p : Point) (w : Whole) (s : Seat) → AllOwned (device s) (own
 part_owned p (PullPiece at) s =
     owned_append (device s) (where_held s.own.clock_low (drive (device s) (at + reaction s) Clock Free)) (where_free s.own.data_low (drive (device s) (at + reaction s) Data Pull))
     (owned_held (device s) (at + reaction s) Clock Free s.own.clock_low) (owned_free (device s) (at + reaction s) Data Pull s.own.data_low)
-part_owned p (Command f) s = owned_hearing (wire p.seats f) false (Attention (byte_of f.cells)) f s
-part_owned p (Byte eoi f) s = owned_if (device s) (is_listener s.role) (hearing (wire (listeners p.seats) f) eoi (Heard (byte_of f.cells) eoi) f s) (owned_hearing (wire (listeners p.seats) f) eoi (Heard (byte_of f.cells) eoi) f s)
+part_owned p (Command f) s = owned_hearing (wire p.seats f) false (Attention (byte_in_cells f.cells)) f s
+part_owned p (Byte eoi f) s = owned_if (device s) (is_listener s.role) (hearing (wire (listeners p.seats) f) eoi (Heard (byte_in_cells f.cells) eoi) f s) (owned_hearing (wire (listeners p.seats) f) eoi (Heard (byte_in_cells f.cells) eoi) f s)
 part_owned p (ToListener at) s = owned_by_role (device s) s.role (let_go at s) [] (refl, tt, tt) tt
 part_owned p (ToNobody at clock) s = (refl, tt, tt)
 part_owned p (ToTalker at clock) s = owned_by_role (device s) s.role (let_go at s) (drive (device s) (clock + reaction s) Clock Pull ∷ drive (device s) (clock + reaction s) Data Free ∷ []) (refl, tt, tt) (refl, tt, (refl, tt, tt))
@@ -129,7 +129,7 @@ mine_cell d false true set free pull = (tt, (tt, tt))
 mine_cell d true false set free pull = (tt, (tt, tt))
 mine_cell d false false set free pull = (tt, (tt, (tt, tt)))
 
-mine_cells : (d : ℕ) (held : Bool) (cs : List Cell) → AllMine d (cells_steps held cs)
+mine_cells : (d : ℕ) (held : Bool) (cs : List BitCell) → AllMine d (cells_steps held cs)
 mine_cells d held [] = tt
 mine_cells d held (c ∷ cs) = mine_append d (cell_steps held c) (cells_steps (not c.bit) cs) (mine_cell d held c.bit c.set c.free c.pull) (mine_cells d (not c.bit) cs)
 
@@ -256,8 +256,8 @@ heard_order hs false act f s h = let k = last_after false f.start f.cells h.cell
 -- each drive's part of a piece that fits is in order
 pub part_order : (p : Point) (w : Whole) → Fits p w → (s : Seat) → InOrder (own_part p w s)
 part_order p (PullPiece at) h s = order_pull (at + reaction s) s.own.clock_low s.own.data_low (device s)
-part_order p (Command f) h s = heard_order p.seats false (Attention (byte_of f.cells)) f s h.3
-part_order p (Byte eoi f) h s = order_if (is_listener s.role) (hearing (wire (listeners p.seats) f) eoi (Heard (byte_of f.cells) eoi) f s) (heard_order (listeners p.seats) eoi (Heard (byte_of f.cells) eoi) f s h.3)
+part_order p (Command f) h s = heard_order p.seats false (Attention (byte_in_cells f.cells)) f s h.3
+part_order p (Byte eoi f) h s = order_if (is_listener s.role) (hearing (wire (listeners p.seats) f) eoi (Heard (byte_in_cells f.cells) eoi) f s) (heard_order (listeners p.seats) eoi (Heard (byte_in_cells f.cells) eoi) f s h.3)
 part_order p (ToListener at) h s = order_by_role s.role (let_go at s) [] (tt, tt) tt
 part_order p (ToNobody at clock) h s = (tt, tt)
 part_order p (ToTalker at clock) h s = order_by_role s.role (let_go at s) (drive (device s) (clock + reaction s) Clock Pull ∷ drive (device s) (clock + reaction s) Data Free ∷ []) (tt, tt) ((omega arith, tt), (tt, tt))

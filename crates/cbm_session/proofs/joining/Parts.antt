@@ -2,11 +2,11 @@
 use Rattle.std.proofs.Common.{◌≡◌, ℕ, suc, ◌≤◌, ◌<◌, inl, inr, List, [], ◌∷◌, ap, sym, ◌∙◌, subst, arith, refl}
 use Rattle.std.proofs.lemmas.Bool.Decides.{leb_tells}
 use Rattle.cbm_session.proofs.joining.Merging.{merge_here, merge_there}
-use Rattle.cbm_session.specs.Joins.{NotBefore, Sooner, Clear, AllEmpty, Takes, Joins, JoinsItsParts, IsOnlyJoin}
+use Rattle.cbm_session.specs.Joins.{NotBefore, Sooner, Clear, AllEmpty, TakesPieces, Joins, JoinsItsParts, IsOnlyJoin}
 use Rattle.cbm_session.specs.Steps.{Step, moment_of, merge, merge_all}
 
 -- the first step of a join is the first of all
-takes_least : (ls : List (List Step)) (s : Step) (ls2 : List (List Step)) → Takes ls s ls2 → Clear (moment_of s) ls
+takes_least : (ls : List (List Step)) (s : Step) (ls2 : List (List Step)) → TakesPieces ls s ls2 → Clear (moment_of s) ls
 takes_least [] s ls2 t = elim t [ ]
 takes_least (l ∷ ls) s [] t = elim t [ ]
 takes_least (l ∷ ls) s (l2 ∷ ls2) (inl t) = (subst (NotBefore (moment_of s)) (sym t.0) (omega arith), t.2)
@@ -29,7 +29,7 @@ empty_clear m (l ∷ ls) e = (subst (NotBefore m) (sym e.0) tt, empty_clear m ls
 
 -- a join of a list with others, seen as lists of drives
 as_drives : (l : List Step) (ls : List (List Step)) (s : Step) (ss : List Step) → Joins l ls (s ∷ ss)
-    → (l2 : List Step) × ((ls2 : List (List Step)) × Takes (l ∷ ls) s (l2 ∷ ls2) × Joins l2 ls2 ss)
+    → (l2 : List Step) × ((ls2 : List (List Step)) × TakesPieces (l ∷ ls) s (l2 ∷ ls2) × Joins l2 ls2 ss)
 as_drives l ls s ss (inl j) = (j.0, (ls, inl (j.1, refl, j.2), j.3))
 as_drives l ls s ss (inr j) = (l, (j.0, inr (j.2, refl, j.1), j.3))
 
@@ -55,14 +55,14 @@ pub joins : JoinsItsParts
 joins hs [] = joins_alone hs
 joins hs (l ∷ ls) = joins_more hs (merge_all l ls) l ls (joins l ls)
 
-takes_late : (m : ℕ) (fs : List (List Step)) (s : Step) (fs2 : List (List Step)) → Takes fs s fs2 → Clear m fs → m ≤ moment_of s
+takes_late : (m : ℕ) (fs : List (List Step)) (s : Step) (fs2 : List (List Step)) → TakesPieces fs s fs2 → Clear m fs → m ≤ moment_of s
 takes_late m [] s fs2 t c = elim t [ ]
 takes_late m (f ∷ fs) s [] t c = elim t [ ]
 takes_late m (f ∷ fs) s (f2 ∷ fs2) (inl t) c = subst (NotBefore m) t.0 c.0
 takes_late m (f ∷ fs) s (f2 ∷ fs2) (inr t) c = takes_late m fs s fs2 t.2 c.1
 
 -- there is one join
-takes_same : (ls : List (List Step)) (s t : Step) (ls2 ls3 : List (List Step)) → Takes ls s ls2 → Takes ls t ls3 → (s ≡ t) × (ls2 ≡ ls3)
+takes_same : (ls : List (List Step)) (s t : Step) (ls2 ls3 : List (List Step)) → TakesPieces ls s ls2 → TakesPieces ls t ls3 → (s ≡ t) × (ls2 ≡ ls3)
 takes_same [] s t ls2 ls3 a b = elim a [ ]
 takes_same (l ∷ ls) s t [] ls3 a b = elim a [ ]
 takes_same (l ∷ ls) s t (l2 ∷ ls2) [] a b = elim b [ ]

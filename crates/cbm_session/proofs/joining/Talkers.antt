@@ -1,5 +1,5 @@
 -- The seats of a bus: a drive keeps its seat, and at most one drive talks.
-use Rattle.cbm_session.specs.Frames.{lasting, longest}
+use Rattle.cbm_session.specs.Frames.{lasting, longest_lasting}
 use Rattle.std.proofs.Common.{eq-eqb}
 use Rattle.std.proofs.Common.{◌≡◌, ℕ, ◌+◌, ◌≤◌, inl, inr, Bool, true, false, List, [], ◌∷◌, map, ap, sym, ◌∙◌, subst, arith, refl}
 use Rattle.std.proofs.Math.Nat.{le-max_left, le-max_right}
@@ -64,12 +64,12 @@ most d (x ∷ y ∷ ys) s (inl h) = subst (λ (q : Seat). reaction q ≤ slowest
 most d (x ∷ y ∷ ys) s (inr h) = let a = le-max_right (reaction x) (slowest (y ∷ ys)) in let k = most d (y ∷ ys) s h.1 in omega (arith, a, k)
 
 -- and none lasts longer than the longest
-pub most_lasting : (d : ℕ) (ss : List Seat) (s : Seat) → Sits d ss s → lasting s ≤ longest ss
+pub most_lasting : (d : ℕ) (ss : List Seat) (s : Seat) → Sits d ss s → lasting s ≤ longest_lasting ss
 most_lasting d [] s h = elim h [ ]
 most_lasting d (x ∷ []) s (inl h) = subst (λ (q : Seat). lasting q ≤ lasting x) h.0 (omega arith)
 most_lasting d (x ∷ []) s (inr h) = absurd h.1
-most_lasting d (x ∷ y ∷ ys) s (inl h) = subst (λ (q : Seat). lasting q ≤ longest (x ∷ y ∷ ys)) h.0 (le-max_left (lasting x) (longest (y ∷ ys)))
-most_lasting d (x ∷ y ∷ ys) s (inr h) = let a = le-max_right (lasting x) (longest (y ∷ ys)) in let k = most_lasting d (y ∷ ys) s h.1 in omega (arith, a, k)
+most_lasting d (x ∷ y ∷ ys) s (inl h) = subst (λ (q : Seat). lasting q ≤ longest_lasting (x ∷ y ∷ ys)) h.0 (le-max_left (lasting x) (longest_lasting (y ∷ ys)))
+most_lasting d (x ∷ y ∷ ys) s (inr h) = let a = le-max_right (lasting x) (longest_lasting (y ∷ ys)) in let k = most_lasting d (y ∷ ys) s h.1 in omega (arith, a, k)
 
 apart_listeners : (d : ℕ) (xs : List Seat) → Apart d xs → Apart d (listeners xs)
 apart_listeners d [] h = tt

@@ -1,19 +1,20 @@
 -- A change of CLOCK or DATA that one of the two hosts makes alone: the drive ignores it.
 use Rattle.std.proofs.Common.{◌≡◌, ℕ, Bool, true, false, Option, Some, None, ap, sym, ◌∙◌, subst, refl}
 use Rattle.std.specs.Prelude.{◌||◌, ◌&&◌, not, if◌then◌else◌}
+use Rattle.cbm_iec.specs.Changes.{lines_after}
 use Rattle.cbm_iec.specs.Hearing.{is_same, after_clock, after_data, after_lines}
 use Rattle.cbm_iec.specs.Machines.{acted}
 use Rattle.cbm_iec.specs.Ports.{lined_side, lined_act, told, told_act}
 use Rattle.cbm_iec.specs.Speaking.{talk_clock, talk_data, talk_lines, taken_act}
-use Rattle.cbm_iec.specs.declared.act.Act.TheVariants.{Said}
-use Rattle.cbm_iec.specs.declared.act.Act.{Act}
+use Rattle.cbm_iec.specs.declared.machine.Act.TheVariants.{Said}
+use Rattle.cbm_iec.specs.declared.machine.Act.{Act}
 use Rattle.cbm_iec.specs.declared.ear.Ear.TheVariants.{Idle, Await, Starting, Leaving, Returning, Holding, Freeing, Ready, Timed, Pulsing, EoiNoted, Gathering, Accepting}
 use Rattle.cbm_iec.specs.declared.ear.Ear.{Ear}
-use Rattle.cbm_iec.specs.declared.line.Change.{Change}
-use Rattle.cbm_iec.specs.declared.line.Line.TheVariants.{Atn, Clock, Data}
-use Rattle.cbm_iec.specs.declared.line.Line.{Line}
-use Rattle.cbm_iec.specs.declared.line.Way.TheVariants.{Pull, Free}
-use Rattle.cbm_iec.specs.declared.line.Way.{Way}
+use Rattle.cbm_iec.specs.declared.lines.Change.{Change}
+use Rattle.cbm_iec.specs.declared.lines.Line.TheVariants.{Atn, Clock, Data}
+use Rattle.cbm_iec.specs.declared.lines.Line.{Line}
+use Rattle.cbm_iec.specs.declared.lines.Way.TheVariants.{Pull, Free}
+use Rattle.cbm_iec.specs.declared.lines.Way.{Way}
 use Rattle.cbm_iec.specs.declared.lines.Lines.{Lines}
 use Rattle.cbm_iec.specs.declared.mouth.Mouth.TheVariants.{Turned, Answering, Mute, Led, Offering, EoiOffered, EoiPulsed, Sending, Waiting, Ending, Over}
 use Rattle.cbm_iec.specs.declared.mouth.Mouth.{Mouth}
@@ -23,7 +24,6 @@ use Rattle.cbm_session.proofs.loose.Sides.{Sees, either, ear_calm, by_data, calm
 use Rattle.cbm_session.proofs.loose.Stations.{Alike, same_self, told_lined}
 use Rattle.cbm_session.proofs.loose.Wires.{on_wires, or_true}
 use Rattle.cbm_session.specs.Among.{Rest, some, wires_of, behind_host}
-use Rattle.cbm_session.specs.Following.{lines_after}
 use Rattle.cbm_session.specs.Loosely.{Ignores, MayStray}
 use Rattle.cbm_session.specs.Playing.{Station, told_lines, tell}
 

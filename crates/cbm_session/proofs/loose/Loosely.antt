@@ -1,7 +1,7 @@
 -- Where the host keeps the timing loosely, a bus that plays from rest keeps to a session.
 use Rattle.std.proofs.Common.{◌≡◌, ℕ, zero, suc, ◌≤◌, Bool, List, [], ◌∷◌, Option, Some, None, sym, subst, refl, arith}
 use Rattle.std.specs.List.{AllZip}
-use Rattle.cbm_iec.specs.declared.act.Act.{Act}
+use Rattle.cbm_iec.specs.declared.machine.Act.{Act}
 use Rattle.cbm_iec.specs.declared.party.Party.{Party}
 use Rattle.cbm_session.proofs.handed.Handing.{parties}
 use Rattle.cbm_session.proofs.headline.LawsMet.{keeps}

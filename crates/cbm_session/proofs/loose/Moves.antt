@@ -1,17 +1,18 @@
 -- A change that both hosts make, and a reaction of a drive under both.
 use Rattle.std.proofs.Common.{◌≡◌, ℕ, ◌+◌, Bool, true, false, List, Option, Some, None, ap, sym, ◌∙◌, subst, refl}
 use Rattle.std.specs.Prelude.{◌||◌, if◌then◌else◌}
+use Rattle.cbm_iec.specs.Changes.{is_pull, lines_after}
 use Rattle.cbm_iec.specs.Hearing.{is_same}
 use Rattle.cbm_iec.specs.Machines.{acted}
 use Rattle.cbm_iec.specs.Ports.{port_due, side_due, freed_side, lined_side, lined_act, side_role, side_after, side_act, side_held, reaction_changes, changes_between, told, told_act, reacted, reaction_act}
-use Rattle.cbm_iec.specs.declared.act.Act.TheVariants.{Pulled, Released}
-use Rattle.cbm_iec.specs.declared.act.Act.{Act}
+use Rattle.cbm_iec.specs.declared.machine.Act.TheVariants.{Pulled, Released}
+use Rattle.cbm_iec.specs.declared.machine.Act.{Act}
 use Rattle.cbm_iec.specs.declared.ear.Ear.TheVariants.{Await, Starting, Holding}
-use Rattle.cbm_iec.specs.declared.line.Change.{Change}
-use Rattle.cbm_iec.specs.declared.line.Line.TheVariants.{Atn, Clock, Data}
-use Rattle.cbm_iec.specs.declared.line.Line.{Line}
-use Rattle.cbm_iec.specs.declared.line.Way.TheVariants.{Pull, Free}
-use Rattle.cbm_iec.specs.declared.line.Way.{Way}
+use Rattle.cbm_iec.specs.declared.lines.Change.{Change}
+use Rattle.cbm_iec.specs.declared.lines.Line.TheVariants.{Atn, Clock, Data}
+use Rattle.cbm_iec.specs.declared.lines.Line.{Line}
+use Rattle.cbm_iec.specs.declared.lines.Way.TheVariants.{Pull, Free}
+use Rattle.cbm_iec.specs.declared.lines.Way.{Way}
 use Rattle.cbm_iec.specs.declared.lines.Held.{Held}
 use Rattle.cbm_iec.specs.declared.lines.Lines.{Lines}
 use Rattle.cbm_iec.specs.declared.party.Party.{Party}
@@ -23,9 +24,7 @@ use Rattle.cbm_session.proofs.loose.Sides.{Sees, freed_sees, after_sees, WaitAli
 use Rattle.cbm_session.proofs.loose.Stations.{Alike, told_atn, heeding, lined_both, both_told}
 use Rattle.cbm_session.proofs.loose.Wires.{on_wires}
 use Rattle.cbm_session.specs.Among.{Rest, some, wires_of, behind_host}
-use Rattle.cbm_session.specs.Following.{lines_after}
 use Rattle.cbm_session.specs.Loosely.{HeedsAlike, Heeds, HeedsAfter, MayMake}
-use Rattle.cbm_session.specs.Pieces.{is_pull}
 use Rattle.cbm_session.specs.Playing.{Station, told_lines, tell, react, shown}
 
 module _ (M : Type 0) (step : M → Act → M) (peek : M → Option (ℕ × Bool)) where

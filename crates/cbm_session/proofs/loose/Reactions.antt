@@ -6,8 +6,8 @@ use Rattle.cbm_iec.specs.Ports.{side_role, side_after, side_act}
 use Rattle.cbm_iec.specs.Roles.{role_after}
 use Rattle.cbm_iec.specs.Speaking.{end_frame_row, set_bit_row, show_bit_row, after_lead, after_wait}
 use Rattle.cbm_iec.specs.Table.{TableRow}
-use Rattle.cbm_iec.specs.declared.act.Act.TheVariants.{Said}
-use Rattle.cbm_iec.specs.declared.act.Act.{Act}
+use Rattle.cbm_iec.specs.declared.machine.Act.TheVariants.{Said}
+use Rattle.cbm_iec.specs.declared.machine.Act.{Act}
 use Rattle.cbm_iec.specs.declared.ear.Ear.TheVariants.{Idle, Await, Starting, Leaving, Returning, Holding, Freeing, Ready, Timed, Pulsing, EoiNoted, Gathering, Accepting}
 use Rattle.cbm_iec.specs.declared.ear.Ear.{Ear}
 use Rattle.cbm_iec.specs.declared.lines.Lines.{Lines}

@@ -1,13 +1,13 @@
 -- One drive under two hosts whose lines are alike where it heeds them: it goes on in the same way.
 use Rattle.std.proofs.Common.{◌≡◌, ℕ, zero, suc, ◌+◌, Bool, true, false, Option, Some, None, ap, sym, ◌∙◌, subst, refl, ◌⊎◌, inl, inr}
 use Rattle.std.specs.Prelude.{if◌then◌else◌, not, ◌||◌, ◌&&◌, ◌==◌, ◌%◌, nat_lt, nat_le}
-use Rattle.cbm_iec.specs.Hearing.{is_same, after_hold, after_start, after_ready, gathering, with_bit, after_clock, after_data, after_clocked, after_lines, ear_row, heard_act}
+use Rattle.cbm_iec.specs.Hearing.{is_same, after_hold, after_start, after_ready, gathering, with_bit_read, after_clock, after_data, after_clocked, after_lines, ear_row, heard_act}
 use Rattle.cbm_iec.specs.Ports.{side_due, lined_side, lined_act, freed_side, side_role, side_after, side_act}
 use Rattle.cbm_iec.specs.Roles.{role_after}
 use Rattle.cbm_iec.specs.Speaking.{talk_clock, talk_clocked, talk_data, talk_lines, taken_act, after_turn, mouth_row, half_row, end_frame_row, set_bit_row, show_bit_row, after_lead, after_wait}
 use Rattle.cbm_iec.specs.Table.{TableRow}
-use Rattle.cbm_iec.specs.declared.act.Act.TheVariants.{Said}
-use Rattle.cbm_iec.specs.declared.act.Act.{Act}
+use Rattle.cbm_iec.specs.declared.machine.Act.TheVariants.{Said}
+use Rattle.cbm_iec.specs.declared.machine.Act.{Act}
 use Rattle.cbm_iec.specs.declared.ear.Ear.TheVariants.{Idle, Await, Starting, Leaving, Returning, Holding, Freeing, Ready, Timed, Pulsing, EoiNoted, Gathering, Accepting}
 use Rattle.cbm_iec.specs.declared.ear.Ear.{Ear}
 use Rattle.cbm_iec.specs.declared.lines.Lines.{Lines}
@@ -52,7 +52,7 @@ clock_sees r m true held (Gathering eoi count byte) = go (count == 8)
     go false = tt
 clock_sees r m false held (Gathering eoi count byte) = go (nat_lt count 8)
   where
-    go : (v : Bool) → EarSees (if v then Gathering eoi (count + 1) (with_bit byte held) else Gathering eoi count byte) false
+    go : (v : Bool) → EarSees (if v then Gathering eoi (count + 1) (with_bit_read byte held) else Gathering eoi count byte) false
     go true = tt
     go false = tt
 clock_sees r m low held Idle = tt
@@ -196,7 +196,7 @@ ready_free r m true true held ear s k = elim k [ ]
 ready_free r m true false held Ready s k = absurd cc
 ready_free r m true false held (Gathering eoi count byte) s k = go (nat_lt count 8) k
   where
-    go : (v : Bool) → IsReady (if v then Gathering eoi (count + 1) (with_bit byte held) else Gathering eoi count byte) → (true ≡ false) × (false ≡ false)
+    go : (v : Bool) → IsReady (if v then Gathering eoi (count + 1) (with_bit_read byte held) else Gathering eoi count byte) → (true ≡ false) × (false ≡ false)
     go true e = elim e [ ]
     go false e = elim e [ ]
 ready_free r m true false held ear s k = elim k [ ]

@@ -1,19 +1,20 @@
 -- A drive under the host and the same drive under the tidy one: what a change and a reaction make of both.
 use Rattle.std.proofs.Common.{◌≡◌, ℕ, zero, suc, ◌+◌, Bool, true, false, List, [], ◌∷◌, Option, Some, None, ap, sym, ◌∙◌, subst, refl, ◌⊎◌, inl, inr}
 use Rattle.std.specs.Prelude.{◌||◌, ◌&&◌, not, if◌then◌else◌}
+use Rattle.cbm_iec.specs.Changes.{is_pull, lines_after}
 use Rattle.cbm_iec.specs.Hearing.{is_same, after_clock, after_data, after_lines}
 use Rattle.cbm_iec.specs.Machines.{acted}
 use Rattle.cbm_iec.specs.Ports.{port_due, side_due, turned_side, lined_side, lined_act, freed_side, side_role, side_after, side_act, side_held, next_held, reaction_changes, changes_between, told, told_act, reacted, reaction_act}
 use Rattle.cbm_iec.specs.Speaking.{talk_clock, talk_data, talk_lines, taken_act}
-use Rattle.cbm_iec.specs.declared.act.Act.TheVariants.{Pulled, Released, Said}
-use Rattle.cbm_iec.specs.declared.act.Act.{Act}
+use Rattle.cbm_iec.specs.declared.machine.Act.TheVariants.{Pulled, Released, Said}
+use Rattle.cbm_iec.specs.declared.machine.Act.{Act}
 use Rattle.cbm_iec.specs.declared.ear.Ear.TheVariants.{Idle, Await, Starting, Leaving, Returning, Holding, Freeing, Ready, Timed, Pulsing, EoiNoted, Gathering, Accepting}
 use Rattle.cbm_iec.specs.declared.ear.Ear.{Ear}
-use Rattle.cbm_iec.specs.declared.line.Change.{Change}
-use Rattle.cbm_iec.specs.declared.line.Line.TheVariants.{Atn, Clock, Data}
-use Rattle.cbm_iec.specs.declared.line.Line.{Line}
-use Rattle.cbm_iec.specs.declared.line.Way.TheVariants.{Pull, Free}
-use Rattle.cbm_iec.specs.declared.line.Way.{Way}
+use Rattle.cbm_iec.specs.declared.lines.Change.{Change}
+use Rattle.cbm_iec.specs.declared.lines.Line.TheVariants.{Atn, Clock, Data}
+use Rattle.cbm_iec.specs.declared.lines.Line.{Line}
+use Rattle.cbm_iec.specs.declared.lines.Way.TheVariants.{Pull, Free}
+use Rattle.cbm_iec.specs.declared.lines.Way.{Way}
 use Rattle.cbm_iec.specs.declared.lines.Held.{Held}
 use Rattle.cbm_iec.specs.declared.lines.Lines.{Lines}
 use Rattle.cbm_iec.specs.declared.mouth.Mouth.TheVariants.{Turned, Answering, Mute, Led, Offering, EoiOffered, EoiPulsed, Sending, Waiting, Ending, Over}
@@ -28,9 +29,7 @@ use Rattle.cbm_session.proofs.loose.Reactions.{after_alike, act_alike, role_alik
 use Rattle.cbm_session.proofs.loose.Sides.{Sees, Heard, lined_alike, lined_act_alike, lined_sees, freed_sees, after_sees, WaitAlike, same, early}
 use Rattle.cbm_session.proofs.loose.Wires.{on_wires, or_true, or_right, is_heard, await_lines, holding_lines}
 use Rattle.cbm_session.specs.Among.{Rest, some, wires_of, counted, behind_other, behind_host}
-use Rattle.cbm_session.specs.Following.{lines_after}
 use Rattle.cbm_session.specs.Loosely.{HeedsAlike, Ignores, MayStray, Heeds, HeedsAfter, MayMake, HeedsAll}
-use Rattle.cbm_session.specs.Pieces.{is_pull}
 use Rattle.cbm_session.specs.Playing.{Station, told_lines, tell, hear, hear_all, react, shown}
 
 -- ---- a change of a line, as a port is told it

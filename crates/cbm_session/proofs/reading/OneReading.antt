@@ -7,15 +7,15 @@ use Rattle.std.proofs.Common.{◌≡◌, ℕ, ◌+◌, ◌≤◌, inl, inr, Bool
 use Rattle.std.proofs.lemmas.Bool.Decides.{leb_tells}
 use Rattle.std.proofs.lemmas.Bool.{ne_eqb}
 use Rattle.std.specs.Prelude.{if◌then◌else◌, nat_eq}
-use Rattle.cbm_iec.specs.declared.act.Act.TheVariants.{Released, Said}
-use Rattle.cbm_iec.specs.declared.act.Act.{Act}
+use Rattle.cbm_iec.specs.declared.machine.Act.TheVariants.{Released, Said}
+use Rattle.cbm_iec.specs.declared.machine.Act.{Act}
 use Rattle.cbm_iec.specs.declared.event.Event.{Event}
 use Rattle.cbm_iec.specs.declared.event.Who.TheVariants.{Host, Drive}
 use Rattle.cbm_iec.specs.declared.event.Who.{Who}
-use Rattle.cbm_iec.specs.declared.line.Line.TheVariants.{Atn, Clock, Data}
-use Rattle.cbm_iec.specs.declared.line.Line.{Line}
-use Rattle.cbm_iec.specs.declared.line.Way.TheVariants.{Pull, Free}
-use Rattle.cbm_iec.specs.declared.line.Way.{Way}
+use Rattle.cbm_iec.specs.declared.lines.Line.TheVariants.{Atn, Clock, Data}
+use Rattle.cbm_iec.specs.declared.lines.Line.{Line}
+use Rattle.cbm_iec.specs.declared.lines.Way.TheVariants.{Pull, Free}
+use Rattle.cbm_iec.specs.declared.lines.Way.{Way}
 use Rattle.cbm_iec.specs.declared.party.Party.{Party}
 use Rattle.cbm_iec.specs.declared.party.Role.TheVariants.{Absent, Listener, Talker}
 use Rattle.cbm_iec.specs.declared.party.Role.{Role}
@@ -27,11 +27,11 @@ use Rattle.cbm_session.proofs.joining.Talkers.{OneTalker, KeepsDrives, KeepsRole
 use Rattle.cbm_session.proofs.reading.Decoding.{Under, Known, known, freed_under, own_pulled, step_by, step_next, acts_in, Reads, reads_acts, reads_append, reads_split, ReadsOwn, Shows, shown_reads, Off, Readied, Counting, Turning, Asking, Answered, Muted, Leads, Saying}
 use Rattle.cbm_session.proofs.reading.PieceReadings.{AtPlace, turn_first, calm_said, next_seat, piece_goes}
 use Rattle.cbm_session.proofs.reading.Readings.{Calm}
-use Rattle.cbm_session.specs.Bits.{number_of, byte_of}
+use Rattle.cbm_session.specs.Bits.{number_of, byte_in_cells}
 use Rattle.cbm_session.specs.Frames.{Told, is_last, signal_steps, first_bit, bit_steps, telling, taking, SignalFits, ToldFits}
 use Rattle.cbm_session.specs.Joins.{NotBefore}
 use Rattle.cbm_session.specs.Laws.{OneReading}
-use Rattle.cbm_session.specs.Pieces.{silent_part, silent_end, Whole, Piece, Place, Point, freed_steps, host_part, let_go, own_part, steps_of, before, FreedFits, Fits, CutFits, held_by, seat_with, obeying, standing, whole_point, point_after, PullPiece, Command, Byte, ToListener, ToNobody, ToTalker, Nothing, Talk, Full, Cut, Leading}
+use Rattle.cbm_session.specs.Pieces.{silent_part, silent_end, Whole, Piece, BusPlace, Point, freed_steps, host_part, let_go, own_part, steps_of, before, FreedFits, Fits, CutFits, held_by, seat_with, obeying, standing, whole_point, point_after, PullPiece, Command, Byte, ToListener, ToNobody, ToTalker, Nothing, Talk, Full, Cut, Leading}
 use Rattle.cbm_session.specs.Seats.{at_pace, lines, Seat, device, reaction, is_talker, talker_of}
 use Rattle.cbm_session.specs.Sessions.{rest, Linked, session_steps, Splits, AreDrives, Unlike, AllUnlike, IsBus}
 use Rattle.cbm_session.specs.Steps.{Step, host, drive, for_each, for_one, moment_of, events_of, acts_for, merge}
@@ -194,7 +194,7 @@ cut_goes d c p (ToListener at) s atn u l t o q h k = elim k [ ]
 cut_goes d c p (ToNobody at clock) s atn u l t o q h k = elim k [ ]
 cut_goes d c p (ToTalker at clock) s atn u l t o q h k =
     let b = h.1 in
-    let calm : (atn ≡ true) × Calm u = subst (λ (x : Place). AtPlace x s.role atn u) h.0.commanding q in
+    let calm : (atn ≡ true) × Calm u = subst (λ (x : BusPlace). AtPlace x s.role atn u) h.0.commanding q in
     let all = piece_goes d p (ToTalker at clock) s atn u l t o q h in
     let own = own_part p (ToTalker at clock) s in
     let late : NotBefore at own = late_by_role at s.role (let_go at s) (drive (device s) (clock + reaction s) Clock Pull ∷ drive (device s) (clock + reaction s) Data Free ∷ []) (omega arith) (omega (arith, b)) in
@@ -203,7 +203,7 @@ cut_goes d c p (ToTalker at clock) s atn u l t o q h k =
     (turn_rest d at s.role atn u (host clock Clock Free ∷ []) own (known (next_seat (ToTalker at clock) s).role all.0 all.1.0) late all.1.1.0)
 cut_goes d c p (Nothing at clock freed) s atn u l t o q h k =
     let b = h.1 in
-    let calm : (atn ≡ true) × Calm u = subst (λ (x : Place). AtPlace x s.role atn u) h.0.commanding q in
+    let calm : (atn ≡ true) × Calm u = subst (λ (x : BusPlace). AtPlace x s.role atn u) h.0.commanding q in
     let all = piece_goes d p (Nothing at clock freed) s atn u l t o q h in
     let own = own_part p (Nothing at clock freed) s in
     let late : NotBefore at own = late_by_role at s.role (let_go at s) (silent_part s.party.pace (device s) (clock + reaction s)) (omega arith) (silent_head s.party.pace (device s) at (clock + reaction s) (omega (arith, b))) in
@@ -211,7 +211,7 @@ cut_goes d c p (Nothing at clock freed) s atn u l t o q h k =
     (noatn_role s.role (let_go at s) (silent_part s.party.pace (device s) (clock + reaction s)) (refl, tt) (noatn_silent s.party.pace (device s) (clock + reaction s)))
     (turn_rest d at s.role atn u (host clock Clock Free ∷ freed_steps freed) own (known (next_seat (Nothing at clock freed) s).role all.0 all.1.0) late all.1.1.0)
 cut_goes d c p (Talk at f) s atn u l t o q h k =
-    let lead : AtPlace (Leading at) s.role atn u = subst (λ (x : Place). AtPlace x s.role atn u) h.0 q in
+    let lead : AtPlace (Leading at) s.role atn u = subst (λ (x : BusPlace). AtPlace x s.role atn u) h.0 q in
     let all = piece_goes d p (Talk at f) s atn u l t o q h in
     let own = own_part p (Talk at f) s in
     cut_reads d c (known s.role atn u) (merge (taking (talker_of p.seats) f) own) (known (next_seat (Talk at f) s).role all.0 all.1.0) (out_of_attention s.role lead)
@@ -245,9 +245,9 @@ seated d f ss s k r t o a = (sits_map d f ss s k t, one_map f ss r o, seats_map 
 pub whole_seated : (d : ℕ) (p : Point) (w : Whole) (s : Seat) → IsSeated d p s → IsSeated d (whole_point p w) (next_seat w s)
 whole_seated d p (PullPiece at) s h = let k = seated d (λ x. seat_with x.role (lines false true) x) p.seats s (λ (x : Seat). refl) (λ (x : Seat). refl) h.sits h.one h.apart in record { sits = k.0; one = k.1; apart = k.2 }
 whole_seated d p (Command f) s h = record {
-  sits = sits_map d (λ x. obeying (byte_of f.cells) x) p.seats s (λ (x : Seat). refl) h.sits;
-  one = one_obeys (byte_of f.cells) p.seats h.apart h.one;
-  apart = seats_map (λ x. obeying (byte_of f.cells) x) p.seats (λ (x : Seat). refl) h.apart;
+  sits = sits_map d (λ x. obeying (byte_in_cells f.cells) x) p.seats s (λ (x : Seat). refl) h.sits;
+  one = one_obeys (byte_in_cells f.cells) p.seats h.apart h.one;
+  apart = seats_map (λ x. obeying (byte_in_cells f.cells) x) p.seats (λ (x : Seat). refl) h.apart;
 }
 whole_seated d p (Byte eoi f) s h = let k = seated d (λ x. standing (lines false false) x) p.seats s (standing_drives (lines false false)) (standing_roles (lines false false)) h.sits h.one h.apart in record { sits = k.0; one = k.1; apart = k.2 }
 whole_seated d p (ToListener at) s h = let k = seated d (λ x. standing (lines false false) x) p.seats s (standing_drives (lines false false)) (standing_roles (lines false false)) h.sits h.one h.apart in record { sits = k.0; one = k.1; apart = k.2 }

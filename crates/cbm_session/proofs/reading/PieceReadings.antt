@@ -7,9 +7,9 @@ use Rattle.std.proofs.lemmas.Bool.Decides.{leb_tells}
 use Rattle.std.proofs.lemmas.Bool.{eqb-true}
 use Rattle.std.specs.Prelude.{if◌then◌else◌, nat_eq}
 use Rattle.cbm_iec.specs.Roles.{role_after}
-use Rattle.cbm_iec.specs.declared.act.Act.TheVariants.{Released, Heard, Silent}
-use Rattle.cbm_iec.specs.declared.line.Line.TheVariants.{Atn, Clock, Data}
-use Rattle.cbm_iec.specs.declared.line.Way.TheVariants.{Pull, Free}
+use Rattle.cbm_iec.specs.declared.machine.Act.TheVariants.{Released, Heard, Silent}
+use Rattle.cbm_iec.specs.declared.lines.Line.TheVariants.{Atn, Clock, Data}
+use Rattle.cbm_iec.specs.declared.lines.Way.TheVariants.{Pull, Free}
 use Rattle.cbm_iec.specs.declared.lines.Held.{Held}
 use Rattle.cbm_iec.specs.declared.party.Party.{Party}
 use Rattle.cbm_iec.specs.declared.party.Role.TheVariants.{Absent, Listener, Talker}
@@ -21,15 +21,15 @@ use Rattle.cbm_session.proofs.joining.Showing.{merge_first}
 use Rattle.cbm_session.proofs.joining.Talkers.{silent_bus, OneTalker, talker_is, other_talker, most, most_lasting, sits_listeners, standing_roles}
 use Rattle.cbm_session.proofs.reading.Decoding.{Under, Known, known, freed_under, said_act, ReadsOwn, Off, Readied, Counting, Turning, Asking, Answered, Muted, Leads, Saying}
 use Rattle.cbm_session.proofs.reading.Readings.{Calm, frame_act, frame_role, mark_mine, frame_reads, sending_reads, pull_reads, told_under, told_reads, other_reads}
-use Rattle.cbm_session.specs.Bits.{bits_of, byte_of}
-use Rattle.cbm_session.specs.Frames.{lasting, longest, Sent, Told, wire, hearing, sending, StartFits, SentFits, is_last, telling, taking, ToldFits}
+use Rattle.cbm_session.specs.Bits.{bits_in_cells, byte_in_cells}
+use Rattle.cbm_session.specs.Frames.{lasting, longest_lasting, Sent, Told, wire, hearing, sending, StartFits, SentFits, is_last, telling, taking, ToldFits}
 use Rattle.cbm_session.specs.Joins.{NotBefore}
-use Rattle.cbm_session.specs.Pieces.{silent_at, silent_part, silent_end, Whole, Place, Point, freed_steps, host_part, own_part, FreedFits, IsCommanding, Fits, told_place, seat_with, obeying, standing, whole_point, PullPiece, Command, Byte, ToListener, ToNobody, ToTalker, Nothing, Talk, Open, Commanding, Listening, Leading, Cutting, commanding}
+use Rattle.cbm_session.specs.Pieces.{silent_at, silent_part, silent_end, Whole, BusPlace, Point, freed_steps, host_part, own_part, FreedFits, IsCommanding, Fits, told_place, seat_with, obeying, standing, whole_point, PullPiece, Command, Byte, ToListener, ToNobody, ToTalker, Nothing, Talk, Open, Commanding, Listening, Leading, Cutting, commanding}
 use Rattle.cbm_session.specs.Seats.{at_pace, lines, Seat, device, reaction, is_listener, is_talker, talker_of, listeners, slowest}
 use Rattle.cbm_session.specs.Steps.{Step, host, drive, for_each, for_one, merge}
 
 -- what the decoder knows at a point: in attention, whether a byte may begin, and whether the drive leads
-abbrev pub AtPlace : Place → Role → Bool → Under → Type 0
+abbrev pub AtPlace : BusPlace → Role → Bool → Under → Type 0
 AtPlace Open role atn u = Unit {0}
 AtPlace (Commanding some) role atn u = (atn ≡ true) × Calm u
 AtPlace Listening role atn u = (atn ≡ false) × Calm u
@@ -38,31 +38,31 @@ AtPlace (Leading at) Absent atn u = (atn ≡ false) × (u ≡ Readied false)
 AtPlace (Leading at) Listener atn u = (atn ≡ false) × (u ≡ Readied false)
 AtPlace (Cutting at) role atn u = Unit {0}
 
-abbrev pub Goes : ℕ → Known → List Step → Place → Role → Type 0
+abbrev pub Goes : ℕ → Known → List Step → BusPlace → Role → Type 0
 Goes d k ss place role = (atn : Bool) × ((u : Under) × (ReadsOwn d k ss (known role atn u) × AtPlace place role atn u))
 
 abbrev pub seat : Party → Role → Held → Seat
 seat b r o = record { party = b; role = r; own = o }
 
-pub is_commanding : {q : Place} → IsCommanding q → (some : Bool) × (q ≡ Commanding some)
+pub is_commanding : {q : BusPlace} → IsCommanding q → (some : Bool) × (q ≡ Commanding some)
 is_commanding (commanding {some}) = (some, refl)
 
-starts_behind : (hs : List Seat) (s : Seat) (f : Sent) (eoi : Bool) → (reaction s ≤ slowest hs) × (lasting s ≤ longest hs) → StartFits hs eoi f → StartsBehind (wire hs f) s eoi f
+starts_behind : (hs : List Seat) (s : Seat) (f : Sent) (eoi : Bool) → (reaction s ≤ slowest hs) × (lasting s ≤ longest_lasting hs) → StartFits hs eoi f → StartsBehind (wire hs f) s eoi f
 starts_behind hs s f true l h = (omega (arith, l.0), omega (arith, l.1, h))
 starts_behind hs s f false l h = let k = h.0 in omega (arith, l.0, k)
 
 -- a frame that this drive hears, and one that it doesn't
-heard_goes : (d : ℕ) (hs : List Seat) (s : Seat) (atn eoi : Bool) (u : Under) (f : Sent) → nat_eq d (device s) ≡ true → (reaction s ≤ slowest hs) × (lasting s ≤ longest hs) → Calm u → SentFits hs eoi f
-    → ReadsOwn d (known s.role atn u) (merge (sending f) (hearing (wire hs f) eoi (frame_act atn eoi f) f s)) (known (frame_role d atn s.role f) atn (Counting eoi false zero (bits_of f.cells)))
+heard_goes : (d : ℕ) (hs : List Seat) (s : Seat) (atn eoi : Bool) (u : Under) (f : Sent) → nat_eq d (device s) ≡ true → (reaction s ≤ slowest hs) × (lasting s ≤ longest_lasting hs) → Calm u → SentFits hs eoi f
+    → ReadsOwn d (known s.role atn u) (merge (sending f) (hearing (wire hs f) eoi (frame_act atn eoi f) f s)) (known (frame_role d atn s.role f) atn (Counting eoi false zero (bits_in_cells f.cells)))
 heard_goes d hs s atn eoi u f e l c h =
-    subst (λ (ss : List Step). ReadsOwn d (known s.role atn u) ss (known (frame_role d atn s.role f) atn (Counting eoi false zero (bits_of f.cells))))
+    subst (λ (ss : List Step). ReadsOwn d (known s.role atn u) ss (known (frame_role d atn s.role f) atn (Counting eoi false zero (bits_in_cells f.cells))))
     (sym (frame_is (wire hs f) s (frame_act atn eoi f) f eoi (starts_behind hs s f eoi l h.start) h.cells)) (frame_reads d s atn eoi u (wire hs f) f e c h.eight)
 
-byte_goes : (d : ℕ) (hs : List Seat) (s : Seat) (eoi : Bool) (u : Under) (f : Sent) (v : Bool) → nat_eq d (device s) ≡ true → (v ≡ true → (reaction s ≤ slowest hs) × (lasting s ≤ longest hs)) → Calm u → SentFits hs eoi f
-    → Goes d (known s.role false u) (merge (sending f) (if v then hearing (wire hs f) eoi (Heard (byte_of f.cells) eoi) f s else [])) Listening s.role
-byte_goes d hs s eoi u f true e l c h = (false, (Counting eoi false zero (bits_of f.cells), (heard_goes d hs s false eoi u f e (l refl) c h, (refl, tt))))
+byte_goes : (d : ℕ) (hs : List Seat) (s : Seat) (eoi : Bool) (u : Under) (f : Sent) (v : Bool) → nat_eq d (device s) ≡ true → (v ≡ true → (reaction s ≤ slowest hs) × (lasting s ≤ longest_lasting hs)) → Calm u → SentFits hs eoi f
+    → Goes d (known s.role false u) (merge (sending f) (if v then hearing (wire hs f) eoi (Heard (byte_in_cells f.cells) eoi) f s else [])) Listening s.role
+byte_goes d hs s eoi u f true e l c h = (false, (Counting eoi false zero (bits_in_cells f.cells), (heard_goes d hs s false eoi u f e (l refl) c h, (refl, tt))))
 byte_goes d hs s eoi u f false e l c h =
-    (false, (Counting false false zero (bits_of f.cells), (subst (λ (ss : List Step). ReadsOwn d (known s.role false u) ss (known s.role false (Counting false false zero (bits_of f.cells)))) (sym (merge_nil (sending f))) (sending_reads d s.role false u f c h.eight), (refl, tt))))
+    (false, (Counting false false zero (bits_in_cells f.cells), (subst (λ (ss : List Step). ReadsOwn d (known s.role false u) ss (known s.role false (Counting false false zero (bits_in_cells f.cells)))) (sym (merge_nil (sending f))) (sending_reads d s.role false u f c h.eight), (refl, tt))))
 
 -- ATN's release to a listener, beside drives without a role
 listener_goes : (d : ℕ) (p : Point) (b : Party) (r : Role) (o : Held) (atn : Bool) (u : Under) (at : ℕ) → is_talker r ≡ false
@@ -247,7 +247,7 @@ talk_goes d t s atn u at f false n e same other h q =
 -- the seat of a drive behind a piece
 abbrev pub next_seat : Whole → Seat → Seat
 next_seat (PullPiece at) s = seat_with s.role (lines false true) s
-next_seat (Command f) s = obeying (byte_of f.cells) s
+next_seat (Command f) s = obeying (byte_in_cells f.cells) s
 next_seat (Byte eoi f) s = standing (lines false false) s
 next_seat (ToListener at) s = standing (lines false false) s
 next_seat (ToNobody at clock) s = standing (lines false false) s
@@ -261,7 +261,7 @@ sits_self d (x ∷ xs) s (inl h) = subst (λ (q : Seat). nat_eq d (device q) ≡
 sits_self d (x ∷ xs) s (inr h) = sits_self d xs s h.1
 
 -- at a role that stays
-stays : (d : ℕ) (k : Known) (ss : List Step) (place : Place) (r q : Role) → q ≡ r → Goes d k ss place r → Goes d k ss place q
+stays : (d : ℕ) (k : Known) (ss : List Step) (place : BusPlace) (r q : Role) → q ≡ r → Goes d k ss place r → Goes d k ss place q
 stays d k ss place r q e g = subst (λ (x : Role). Goes d k ss place x) (sym e) g
 
 pub piece_goes : (d : ℕ) (p : Point) (w : Whole) (s : Seat) (atn : Bool) (u : Under) → 1 ≤ d → Sits d p.seats s → OneTalker p.seats → AtPlace p.place s.role atn u → Fits p w
@@ -269,14 +269,14 @@ pub piece_goes : (d : ℕ) (p : Point) (w : Whole) (s : Seat) (atn : Bool) (u : 
 piece_goes d p (PullPiece at) s atn u l t o q h = (true, (Off, (pull_reads d p s atn u at, (refl, tt))))
 piece_goes d p (Command f) s atn u l t o q h =
     let c = is_commanding h.0 in
-    let k : (atn ≡ true) × Calm u = subst (λ (x : Place). AtPlace x s.role atn u) c.1 q in
+    let k : (atn ≡ true) × Calm u = subst (λ (x : BusPlace). AtPlace x s.role atn u) c.1 q in
     let e = sits_self d p.seats s t in
     let same : d ≡ device s = eqb-true d (device s) e in
     let all = heard_goes d p.seats s true false u f e (most d p.seats s t, most_lasting d p.seats s t) k.1 h.3 in
-    subst (λ (a : Bool). Goes d (known s.role a u) (merge (host_part p (Command f)) (own_part p (Command f) s)) (Commanding true) (role_after (device s) (byte_of f.cells) s.role)) (sym k.0)
-    (true, (Counting false false zero (bits_of f.cells), (subst (λ (n : ℕ). ReadsOwn d (known s.role true u) (merge (host_part p (Command f)) (own_part p (Command f) s)) (known (role_after n (byte_of f.cells) s.role) true (Counting false false zero (bits_of f.cells)))) same all, (refl, tt))))
+    subst (λ (a : Bool). Goes d (known s.role a u) (merge (host_part p (Command f)) (own_part p (Command f) s)) (Commanding true) (role_after (device s) (byte_in_cells f.cells) s.role)) (sym k.0)
+    (true, (Counting false false zero (bits_in_cells f.cells), (subst (λ (n : ℕ). ReadsOwn d (known s.role true u) (merge (host_part p (Command f)) (own_part p (Command f) s)) (known (role_after n (byte_in_cells f.cells) s.role) true (Counting false false zero (bits_in_cells f.cells)))) same all, (refl, tt))))
 piece_goes d p (Byte eoi f) s atn u l t o q h =
-    let k : (atn ≡ false) × Calm u = subst (λ (x : Place). AtPlace x s.role atn u) h.0 q in
+    let k : (atn ≡ false) × Calm u = subst (λ (x : BusPlace). AtPlace x s.role atn u) h.0 q in
     let e = sits_self d p.seats s t in
     let all = byte_goes d (listeners p.seats) s eoi u f (is_listener s.role) e (λ (v : is_listener s.role ≡ true). (let sits = sits_listeners d p.seats s t v in (most d (listeners p.seats) s sits, most_lasting d (listeners p.seats) s sits))) k.1 h.3 in
     stays d (known s.role atn u) (merge (host_part p (Byte eoi f)) (own_part p (Byte eoi f) s)) Listening s.role (next_seat (Byte eoi f) s).role (standing_roles (lines false false) s)
@@ -288,16 +288,16 @@ piece_goes d p (ToNobody at clock) s atn u l t o q h =
     stays d (known s.role atn u) (merge (host_part p (ToNobody at clock)) (own_part p (ToNobody at clock) s)) Open s.role (next_seat (ToNobody at clock) s).role (standing_roles (lines false false) s)
     (nobody_goes d p s.party s.role s.own atn u at clock (silent_bus d p.seats s t h.0.talker))
 piece_goes d p (ToTalker at clock) s atn u l t o q h =
-    let k : (atn ≡ true) × Calm u = subst (λ (x : Place). AtPlace x s.role atn u) h.0.commanding q in
+    let k : (atn ≡ true) × Calm u = subst (λ (x : BusPlace). AtPlace x s.role atn u) h.0.commanding q in
     let place = (whole_point p (ToTalker at clock)).place in
     stays d (known s.role atn u) (merge (host_part p (ToTalker at clock)) (own_part p (ToTalker at clock) s)) place s.role (next_seat (ToTalker at clock) s).role (standing_roles (lines true false) s)
     (talker_goes d p s.party s.role s.own atn u at clock (clock + (talker_of p.seats).reaction + 80) k.1 (omega (arith, h.1)))
 piece_goes d p (Nothing at clock freed) s atn u l t o q h =
-    let k : (atn ≡ true) × Calm u = subst (λ (x : Place). AtPlace x s.role atn u) h.0.commanding q in
+    let k : (atn ≡ true) × Calm u = subst (λ (x : BusPlace). AtPlace x s.role atn u) h.0.commanding q in
     let mine : s.role ≡ Talker → FreedFits (silent_end s.party clock) freed = λ (r : s.role ≡ Talker). subst (λ (b : Party). FreedFits (silent_end b clock) freed) (talker_is d p.seats s o t (ap is_talker r)) h.2 in
     stays d (known s.role atn u) (merge (host_part p (Nothing at clock freed)) (own_part p (Nothing at clock freed) s)) Open s.role (next_seat (Nothing at clock freed) s).role (standing_roles (lines false false) s)
     (nothing_goes d p s.party s.role s.own atn u at clock freed (sits_self d p.seats s t) k.1 (omega (arith, h.1)) mine)
 piece_goes d p (Talk at f) s atn u l t o q h =
-    let at_lead : AtPlace (Leading at) s.role atn u = subst (λ (x : Place). AtPlace x s.role atn u) h.0 q in
+    let at_lead : AtPlace (Leading at) s.role atn u = subst (λ (x : BusPlace). AtPlace x s.role atn u) h.0 q in
     stays d (known s.role atn u) (merge (host_part p (Talk at f)) (own_part p (Talk at f) s)) (told_place f) s.role (next_seat (Talk at f) s).role (standing_roles (lines (not (is_last f)) false) s)
     (talk_goes d (talker_of p.seats) s atn u at f (is_talker s.role) refl (sits_self d p.seats s t) (λ (v : is_talker s.role ≡ true). talker_is d p.seats s o t v) (λ (v : is_talker s.role ≡ false). other_talker d p.seats s l t v) h.1 at_lead)

@@ -3,15 +3,15 @@ use Rattle.cbm_iec.specs.Profile.{bit_time}
 use Rattle.std.proofs.Common.{◌≡◌, ℕ, zero, suc, ◌+◌, Bool, true, false, not, List, [], ◌∷◌, ◌++◌, length, Option, Some, None, ap, sym, subst, refl, append_assoc, append-nil}
 use Rattle.std.specs.Prelude.{if◌then◌else◌, nat_eq}
 use Rattle.cbm_iec.specs.Roles.{role_after}
-use Rattle.cbm_iec.specs.declared.act.Act.TheVariants.{Attention, Heard, Said}
-use Rattle.cbm_iec.specs.declared.act.Act.{Act}
-use Rattle.cbm_iec.specs.declared.line.Line.TheVariants.{Clock, Data}
-use Rattle.cbm_iec.specs.declared.line.Way.TheVariants.{Pull, Free}
+use Rattle.cbm_iec.specs.declared.machine.Act.TheVariants.{Attention, Heard, Said}
+use Rattle.cbm_iec.specs.declared.machine.Act.{Act}
+use Rattle.cbm_iec.specs.declared.lines.Line.TheVariants.{Clock, Data}
+use Rattle.cbm_iec.specs.declared.lines.Way.TheVariants.{Pull, Free}
 use Rattle.cbm_iec.specs.declared.party.Party.{Party}
 use Rattle.cbm_iec.specs.declared.party.Role.{Role}
 use Rattle.cbm_session.proofs.joining.OneDrive.{one_frame, pull_is, one_told}
 use Rattle.cbm_session.proofs.reading.Decoding.{Under, known, clock_freed, when_mine, mark_act, ReadsOwn, own_append, Off, Readied, Counting, Turning, Asking, Answered, Muted, Leads, Saying}
-use Rattle.cbm_session.specs.Bits.{where_held, where_free, Cell, cell_steps, cells_steps, held_after, number_of, bits_of, byte_of}
+use Rattle.cbm_session.specs.Bits.{where_held, where_free, BitCell, cell_steps, cells_steps, held_after, number_of, bits_in_cells, byte_in_cells}
 use Rattle.cbm_session.specs.Frames.{Sent, Told, end_of, pulse, sending, is_last, signal_steps, first_bit, bit_steps, taking}
 use Rattle.cbm_session.specs.Pieces.{Point, host_part, own_part, PullPiece}
 use Rattle.cbm_session.specs.Seats.{Seat, device, reaction}
@@ -50,14 +50,14 @@ cell_reads d role atn eoi false true left set free pull bits = (refl, (refl, ref
 cell_reads d role atn eoi true false left set free pull bits = (refl, (refl, refl))
 cell_reads d role atn eoi false false left set free pull bits = (refl, (refl, (refl, refl)))
 
-cells_reads : (d : ℕ) (role : Role) (atn eoi held : Bool) (cs : List Cell) (bits : List Bool)
-    → ReadsOwn d (known role atn (Counting eoi held (length cs) bits)) (cells_steps held cs) (known role atn (Counting eoi (held_after held cs) zero (bits ++ bits_of cs)))
+cells_reads : (d : ℕ) (role : Role) (atn eoi held : Bool) (cs : List BitCell) (bits : List Bool)
+    → ReadsOwn d (known role atn (Counting eoi held (length cs) bits)) (cells_steps held cs) (known role atn (Counting eoi (held_after held cs) zero (bits ++ bits_in_cells cs)))
 cells_reads d role atn eoi held [] bits = ap (λ (l : List Bool). known role atn (Counting eoi held zero l)) (append-nil bits)
 cells_reads d role atn eoi held (c ∷ cs) bits =
-    own_append d (known role atn (Counting eoi held (suc (length cs)) bits)) (cell_steps held c) (cells_steps (not c.bit) cs) (known role atn (Counting eoi (not c.bit) (length cs) (bits ++ c.bit ∷ []))) (known role atn (Counting eoi (held_after held (c ∷ cs)) zero (bits ++ bits_of (c ∷ cs))))
+    own_append d (known role atn (Counting eoi held (suc (length cs)) bits)) (cell_steps held c) (cells_steps (not c.bit) cs) (known role atn (Counting eoi (not c.bit) (length cs) (bits ++ c.bit ∷ []))) (known role atn (Counting eoi (held_after held (c ∷ cs)) zero (bits ++ bits_in_cells (c ∷ cs))))
     (cell_reads d role atn eoi held c.bit (length cs) c.set c.free c.pull bits)
     (subst (λ (l : List Bool). ReadsOwn d (known role atn (Counting eoi (not c.bit) (length cs) (bits ++ c.bit ∷ []))) (cells_steps (not c.bit) cs) (known role atn (Counting eoi (held_after (not c.bit) cs) zero l)))
-    (append_assoc bits (c.bit ∷ []) (bits_of cs)) (cells_reads d role atn eoi (not c.bit) cs (bits ++ c.bit ∷ [])))
+    (append_assoc bits (c.bit ∷ []) (bits_in_cells cs)) (cells_reads d role atn eoi (not c.bit) cs (bits ++ c.bit ∷ [])))
 
 -- DATA is freed behind the last bit
 freed_reads : (d : ℕ) (role : Role) (atn eoi held : Bool) (at : ℕ) (bits : List Bool)
@@ -67,20 +67,20 @@ freed_reads d role atn eoi false at bits = refl
 
 -- from the start to the last pull
 body_reads : (d : ℕ) (role : Role) (atn eoi : Bool) (f : Sent) → length f.cells ≡ 8
-    → ReadsOwn d (known role atn (Readied eoi)) (host f.start Clock Pull ∷ (cells_steps false f.cells ++ where_held (held_after false f.cells) (host (end_of f) Data Free))) (known role atn (Counting eoi false zero (bits_of f.cells)))
+    → ReadsOwn d (known role atn (Readied eoi)) (host f.start Clock Pull ∷ (cells_steps false f.cells ++ where_held (held_after false f.cells) (host (end_of f) Data Free))) (known role atn (Counting eoi false zero (bits_in_cells f.cells)))
 body_reads d role atn eoi f e = (
   refl,
-  subst (λ (n : ℕ). ReadsOwn d (known role atn (Counting eoi false n [])) (cells_steps false f.cells ++ where_held (held_after false f.cells) (host (end_of f) Data Free)) (known role atn (Counting eoi false zero (bits_of f.cells)))) e
-      (own_append d (known role atn (Counting eoi false (length f.cells) [])) (cells_steps false f.cells) (where_held (held_after false f.cells) (host (end_of f) Data Free)) (known role atn (Counting eoi (held_after false f.cells) zero (bits_of f.cells))) (known role atn (Counting eoi false zero (bits_of f.cells)))
-      (cells_reads d role atn eoi false f.cells []) (freed_reads d role atn eoi (held_after false f.cells) (end_of f) (bits_of f.cells))),
+  subst (λ (n : ℕ). ReadsOwn d (known role atn (Counting eoi false n [])) (cells_steps false f.cells ++ where_held (held_after false f.cells) (host (end_of f) Data Free)) (known role atn (Counting eoi false zero (bits_in_cells f.cells)))) e
+      (own_append d (known role atn (Counting eoi false (length f.cells) [])) (cells_steps false f.cells) (where_held (held_after false f.cells) (host (end_of f) Data Free)) (known role atn (Counting eoi (held_after false f.cells) zero (bits_in_cells f.cells))) (known role atn (Counting eoi false zero (bits_in_cells f.cells)))
+      (cells_reads d role atn eoi false f.cells []) (freed_reads d role atn eoi (held_after false f.cells) (end_of f) (bits_in_cells f.cells))),
 )
 
 -- what the drive is told by a frame, and its role then
 abbrev pub frame_act : Bool → Bool → Sent → Act
-frame_act atn eoi f = if atn then Attention (byte_of f.cells) else Heard (byte_of f.cells) eoi
+frame_act atn eoi f = if atn then Attention (byte_in_cells f.cells) else Heard (byte_in_cells f.cells) eoi
 
 abbrev pub frame_role : ℕ → Bool → Role → Sent → Role
-frame_role d atn role f = if atn then role_after d (byte_of f.cells) role else role
+frame_role d atn role f = if atn then role_after d (byte_in_cells f.cells) role else role
 
 pub mark_mine : (d o : ℕ) (act : Act) → nat_eq d o ≡ true → mark_act d (For o act) ≡ Some act
 mark_mine d o act e = ap (λ (v : Bool). when_mine v (Some act) None) e
@@ -94,21 +94,21 @@ pulse_reads d role atn false t s = refl
 
 -- a frame that this drive hears
 pub frame_reads : (d : ℕ) (s : Seat) (atn eoi : Bool) (u : Under) (t : ℕ) (f : Sent) → nat_eq d (device s) ≡ true → Calm u → length f.cells ≡ 8
-    → ReadsOwn d (known s.role atn u) (one_frame t s eoi (frame_act atn eoi f) f) (known (frame_role d atn s.role f) atn (Counting eoi false zero (bits_of f.cells)))
+    → ReadsOwn d (known s.role atn u) (one_frame t s eoi (frame_act atn eoi f) f) (known (frame_role d atn s.role f) atn (Counting eoi false zero (bits_in_cells f.cells)))
 frame_reads d s atn eoi u t f e c l =
-    let end = known (frame_role d atn s.role f) atn (Counting eoi false zero (bits_of f.cells)) in
+    let end = known (frame_role d atn s.role f) atn (Counting eoi false zero (bits_in_cells f.cells)) in
     let accept = for_one (device s) (frame_act atn eoi f) (drive (device s) (end_of f + reaction s) Data Pull) in
     let body = host f.start Clock Pull ∷ (cells_steps false f.cells ++ where_held (held_after false f.cells) (host (end_of f) Data Free)) in
-    let last : ReadsOwn d (known s.role atn (Counting eoi false zero (bits_of f.cells))) (accept ∷ []) end = (mark_mine d (device s) (frame_act atn eoi f) e, refl) in
+    let last : ReadsOwn d (known s.role atn (Counting eoi false zero (bits_in_cells f.cells))) (accept ∷ []) end = (mark_mine d (device s) (frame_act atn eoi f) e, refl) in
     let rest : ReadsOwn d (known s.role atn (Readied false)) (pulse t eoi s ++ (body ++ accept ∷ [])) end =
     own_append d (known s.role atn (Readied false)) (pulse t eoi s) (body ++ accept ∷ []) (known s.role atn (Readied eoi)) end (pulse_reads d s.role atn eoi t s)
-    (own_append d (known s.role atn (Readied eoi)) body (accept ∷ []) (known s.role atn (Counting eoi false zero (bits_of f.cells))) end (body_reads d s.role atn eoi f l) last) in
+    (own_append d (known s.role atn (Readied eoi)) body (accept ∷ []) (known s.role atn (Counting eoi false zero (bits_in_cells f.cells))) end (body_reads d s.role atn eoi f l) last) in
     (refl, subst (λ (v : Under). ReadsOwn d (known s.role atn v) (drive (device s) (f.ready + reaction s) Data Free ∷ (pulse t eoi s ++ (body ++ accept ∷ []))) end) (sym (calm_freed u c)) (refl, rest))
 
 -- a frame that it doesn't hear
-pub sending_reads : (d : ℕ) (role : Role) (atn : Bool) (u : Under) (f : Sent) → Calm u → length f.cells ≡ 8 → ReadsOwn d (known role atn u) (sending f) (known role atn (Counting false false zero (bits_of f.cells)))
+pub sending_reads : (d : ℕ) (role : Role) (atn : Bool) (u : Under) (f : Sent) → Calm u → length f.cells ≡ 8 → ReadsOwn d (known role atn u) (sending f) (known role atn (Counting false false zero (bits_in_cells f.cells)))
 sending_reads d role atn u f c l =
-    (refl, subst (λ (v : Under). ReadsOwn d (known role atn v) (host f.start Clock Pull ∷ (cells_steps false f.cells ++ where_held (held_after false f.cells) (host (end_of f) Data Free))) (known role atn (Counting false false zero (bits_of f.cells)))) (sym (calm_freed u c)) (body_reads d role atn false f l))
+    (refl, subst (λ (v : Under). ReadsOwn d (known role atn v) (host f.start Clock Pull ∷ (cells_steps false f.cells ++ where_held (held_after false f.cells) (host (end_of f) Data Free))) (known role atn (Counting false false zero (bits_in_cells f.cells)))) (sym (calm_freed u c)) (body_reads d role atn false f l))
 
 -- a pull of ATN
 off_free : (d : ℕ) (role : Role) (atn : Bool) (at : ℕ) (held : Bool) → ReadsOwn d (known role atn Off) (where_free held (host at Clock Pull)) (known role atn Off)

@@ -6,12 +6,12 @@ use Rattle.std.proofs.Common.{◌≡◌, ℕ, ◌+◌, ◌*◌, ◌≤◌, ◌<�
 use Rattle.std.proofs.Math.Nat.{le-max_left, le-max_right, max-le}
 use Rattle.std.proofs.lemmas.Bool.Decides.{leb_tells}
 use Rattle.std.specs.Prelude.{if◌then◌else◌}
-use Rattle.cbm_iec.specs.declared.act.Act.TheVariants.{Attention, Heard, Said}
-use Rattle.cbm_iec.specs.declared.act.Act.{Act}
+use Rattle.cbm_iec.specs.declared.machine.Act.TheVariants.{Attention, Heard, Said}
+use Rattle.cbm_iec.specs.declared.machine.Act.{Act}
 use Rattle.cbm_iec.specs.declared.event.Who.TheVariants.{Host, Drive}
 use Rattle.cbm_iec.specs.declared.event.Who.{Who}
-use Rattle.cbm_iec.specs.declared.line.Line.TheVariants.{Clock, Data}
-use Rattle.cbm_iec.specs.declared.line.Way.TheVariants.{Pull, Free}
+use Rattle.cbm_iec.specs.declared.lines.Line.TheVariants.{Clock, Data}
+use Rattle.cbm_iec.specs.declared.lines.Way.TheVariants.{Pull, Free}
 use Rattle.cbm_iec.specs.declared.pace.Pace.TheVariants.{Profile, Kernal}
 use Rattle.cbm_iec.specs.declared.pace.Pace.{Pace}
 use Rattle.cbm_iec.specs.declared.party.Party.{Party}
@@ -33,11 +33,11 @@ use Rattle.cbm_session.proofs.joining.Owning.{AllOwned, part_owned, part_order, 
 use Rattle.cbm_session.proofs.joining.Talkers.{true_false, OneTalker}
 use Rattle.cbm_session.proofs.reading.OneReading.{late_by_role, seat_of}
 use Rattle.cbm_session.proofs.reading.PieceReadings.{next_seat}
-use Rattle.cbm_session.specs.Bits.{where_held, where_free, cells_steps, held_after, CellsFit, byte_of, number_of}
+use Rattle.cbm_session.specs.Bits.{where_held, where_free, cells_steps, held_after, CellsFit, byte_in_cells, number_of}
 use Rattle.cbm_session.specs.Frames.{Sent, Told, wire, end_of, accept_of, hearing, sending, SentFits, is_last, signal_steps, first_bit, bit_steps, telling, taking, SignalFits, ToldFits}
 use Rattle.cbm_session.specs.Joins.{NotBefore}
 use Rattle.cbm_session.specs.Laws.{SeatsReact, AllAccepted, NotSooner, AllAfter, GoesOn, SessionsGoOn}
-use Rattle.cbm_session.specs.Pieces.{silent_part, silent_end, Whole, Piece, Place, Point, freed_steps, host_part, let_go, own_part, steps_of, before, AtLeast, gap_at, gap, MayRelease, PullFits, FreedFits, IsCommanding, Fits, CutFits, held_by, told_place, told_since, behind, behind_all, seat_with, obeying, standing, whole_point, point_after, PullPiece, Command, Byte, ToListener, ToNobody, ToTalker, Nothing, Talk, Full, Cut, Open, Commanding, Listening, Leading, Cutting}
+use Rattle.cbm_session.specs.Pieces.{silent_part, silent_end, Whole, Piece, BusPlace, Point, freed_steps, host_part, let_go, own_part, steps_of, before, AtLeast, gap_at, gap, MayRelease, PullFits, FreedFits, IsCommanding, Fits, CutFits, held_by, told_place, told_since, behind, behind_all, seat_with, obeying, standing, whole_point, point_after, PullPiece, Command, Byte, ToListener, ToNobody, ToTalker, Nothing, Talk, Full, Cut, Open, Commanding, Listening, Leading, Cutting}
 use Rattle.cbm_session.specs.Seats.{at_pace, lines, Seat, device, reaction, slowest, is_listener, is_talker, talker_of, listeners, spread, bus_pace}
 use Rattle.cbm_session.specs.Sessions.{rest, Linked, session_steps}
 use Rattle.cbm_session.specs.Steps.{Step, host, drive, for_one, moment_of, merge, merge_all}
@@ -203,7 +203,7 @@ pull_head m t o false false h = h
 own_head : (p : Point) (w : Whole) → Fits p w → (x : Seat) → NotBefore (first_of w) (own_part p w x)
 own_head p (PullPiece at) h x = pull_head at (at + reaction x) (device x) x.own.clock_low x.own.data_low (omega arith)
 own_head p (Command f) h x = omega arith
-own_head p (Byte eoi f) h x = head_if f.ready (is_listener x.role) (hearing (wire (listeners p.seats) f) eoi (Heard (byte_of f.cells) eoi) f x) (omega arith)
+own_head p (Byte eoi f) h x = head_if f.ready (is_listener x.role) (hearing (wire (listeners p.seats) f) eoi (Heard (byte_in_cells f.cells) eoi) f x) (omega arith)
 own_head p (ToListener at) h x = late_by_role at x.role (let_go at x) [] (omega arith) tt
 own_head p (ToNobody at clock) h x = omega arith
 own_head p (ToTalker at clock) h x =
@@ -450,13 +450,13 @@ parts_before p w r o = go w
 
     go : (w : Whole) → Fits p w → Each (λ x. AllBefore (end_by p w) (own_part p w x)) p.seats
     go (PullPiece at) h = each (Known b) (λ x. AllBefore (at + 61) (own_part p (PullPiece at) x)) p.seats (λ x k. let l = k.prompt in pull_before (at + 61) (at + reaction x) (device x) x.own.clock_low x.own.data_low (omega (arith, l))) known
-    go (Command f) h = frame_before p.seats p.seats false (Attention (byte_of f.cells)) f r (omega arith) h.3
+    go (Command f) h = frame_before p.seats p.seats false (Attention (byte_in_cells f.cells)) f r (omega arith) h.3
     go (Byte eoi f) h =
         let hs = listeners p.seats in
         let m = accept_of hs f + gap hs p.seats in
-        let heard = λ (x : Seat). hearing (wire hs f) eoi (Heard (byte_of f.cells) eoi) f x in
+        let heard = λ (x : Seat). hearing (wire hs f) eoi (Heard (byte_in_cells f.cells) eoi) f x in
         each (λ x. is_listener x.role ≡ true → AllBefore m (heard x)) (λ x. AllBefore m (own_part p (Byte eoi f) x)) p.seats (λ x k. before_if m (is_listener x.role) (heard x) k)
-        (listen_each (λ x. AllBefore m (heard x)) p.seats (frame_before hs p.seats eoi (Heard (byte_of f.cells) eoi) f (listen_react p.seats r) (listen_few p.seats) h.3))
+        (listen_each (λ x. AllBefore m (heard x)) p.seats (frame_before hs p.seats eoi (Heard (byte_in_cells f.cells) eoi) f (listen_react p.seats r) (listen_few p.seats) h.3))
     go (ToListener at) h = each (Known b) (λ x. AllBefore (at + 61) (own_part p (ToListener at) x)) p.seats (λ x k. let l = k.prompt in before_role (at + 61) x.role (let_go at x) [] (λ (e : x.role ≡ Absent). (omega (arith, l), tt)) (λ (e : x.role ≡ Talker). tt)) known
     go (ToNobody at clock) h =
         let m = max (at + 61) clock in
@@ -490,7 +490,7 @@ steps_done p s w g f =
     (each (λ x. AllBefore (end_by p w) (own_part p w x)) (λ x. Every (DoneBy (end_by p w)) (own_part p w x)) p.seats (λ x k. before_done (end_by p w) (own_part p w x) k) (parts_before p w g.react g.seated.one f))
 
 -- No piece that may follow at a place begins before m, and no cut there is before m.
-abbrev Waits : Place → Point → ℕ → Type 0
+abbrev Waits : BusPlace → Point → ℕ → Type 0
 Waits Open q m = (n : ℕ) → AtLeast (pull_pause (bus_pace q.seats)) q.released n → q.since ≤ n → m ≤ n
 Waits (Commanding some) q m = ((n : ℕ) → q.pulled + 100 ≤ n → q.accepted + 100 ≤ n → m ≤ n) × (some ≡ true → (n : ℕ) → q.accepted + gap q.seats q.seats ≤ n → m ≤ n)
 Waits Listening q m = ((n : ℕ) → AtLeast 100 q.released n → q.accepted + 100 ≤ n → m ≤ n) × ((n : ℕ) → AtLeast (pull_pause (bus_pace q.seats)) q.released n → q.accepted + gap (listeners q.seats) q.seats ≤ n → m ≤ n)
@@ -498,12 +498,12 @@ Waits (Leading at) q m = (m ≤ at) × (m ≤ q.since)
 Waits (Cutting c) q m = m ≤ c
 
 waits_release : (q : Point) (m : ℕ) (l t : Bool) (at : ℕ) → Waits q.place q m → MayRelease q l t at → m ≤ at
-waits_release q m l t at w f = let k : Waits (Commanding true) q m = subst (λ (x : Place). Waits x q m) f.commanding w in k.1 refl at f.gap
+waits_release q m l t at w f = let k : Waits (Commanding true) q m = subst (λ (x : BusPlace). Waits x q m) f.commanding w in k.1 refl at f.gap
 
 waits_first : (q : Point) (m : ℕ) (w : Whole) → Waits q.place q m → Fits q w → m ≤ first_of w
 waits_first q m (PullPiece at) h f = go q.place h f
   where
-    go : (x : Place) → Waits x q m → PullFits q at x → m ≤ at
+    go : (x : BusPlace) → Waits x q m → PullFits q at x → m ≤ at
     go Open k g = k at g.0 g.1
     go (Commanding some) k g = elim g [ ]
     go Listening k g = k.1 at g.0 g.1
@@ -511,23 +511,23 @@ waits_first q m (PullPiece at) h f = go q.place h f
     go (Cutting c) k g = omega (arith, k, g)
 waits_first q m (Command f) h k = go q.place h k.0
   where
-    go : (x : Place) → Waits x q m → IsCommanding x → m ≤ f.ready
+    go : (x : BusPlace) → Waits x q m → IsCommanding x → m ≤ f.ready
     go (Commanding some) a c = a.0 f.ready k.1 k.2
     go Open a c = elim c [ ]
     go Listening a c = elim c [ ]
     go (Leading t) a c = elim c [ ]
     go (Cutting t) a c = elim c [ ]
-waits_first q m (Byte eoi f) h k = let a : Waits Listening q m = subst (λ (x : Place). Waits x q m) k.0 h in a.0 f.ready k.1 k.2
+waits_first q m (Byte eoi f) h k = let a : Waits Listening q m = subst (λ (x : BusPlace). Waits x q m) k.0 h in a.0 f.ready k.1 k.2
 waits_first q m (ToListener at) h f = waits_release q m true false at h f
 waits_first q m (ToNobody at clock) h f = waits_release q m false false at h f.0
 waits_first q m (ToTalker at clock) h f = waits_release q m false true at h f.0
 waits_first q m (Nothing at clock freed) h f = waits_release q m false true at h f.0
-waits_first q m (Talk at f) h k = let a : Waits (Leading at) q m = subst (λ (x : Place). Waits x q m) k.0 h in a.0
+waits_first q m (Talk at f) h k = let a : Waits (Leading at) q m = subst (λ (x : BusPlace). Waits x q m) k.0 h in a.0
 
 waits_cut : (q : Point) (m : ℕ) (w : Whole) (c : ℕ) → Waits q.place q m → Fits q w → CutFits q w c → m ≤ c
 waits_cut q m (ToTalker at clock) c h f k = let a = waits_first q m (ToTalker at clock) h f in omega (arith, a, k)
 waits_cut q m (Nothing at clock freed) c h f k = let a = waits_first q m (Nothing at clock freed) h f in omega (arith, a, k)
-waits_cut q m (Talk at f) c h g k = let a : Waits (Leading at) q m = subst (λ (x : Place). Waits x q m) g.0 h in let b = a.1 in omega (arith, b, k)
+waits_cut q m (Talk at f) c h g k = let a : Waits (Leading at) q m = subst (λ (x : BusPlace). Waits x q m) g.0 h in let b = a.1 in omega (arith, b, k)
 waits_cut q m (PullPiece at) c h f k = elim k [ ]
 waits_cut q m (Command g) c h f k = elim k [ ]
 waits_cut q m (Byte eoi g) c h f k = elim k [ ]
@@ -555,7 +555,7 @@ told_waits f n q = go (is_last f)
 whole_waits : (p : Point) (w : Whole) → SeatsReact p.seats → Fits p w → Waits (whole_point p w).place (whole_point p w) (end_by p w)
 whole_waits p (PullPiece at) r f = (λ (n : ℕ) (a : at + 100 ≤ n) (b : p.accepted + 100 ≤ n). omega (arith, a), λ (e : false ≡ true). cc)
 whole_waits p (Command f) r h =
-    let obeys = λ (x : Seat). obeying (byte_of f.cells) x in
+    let obeys = λ (x : Seat). obeying (byte_in_cells f.cells) x in
     let k = gap_100 (bus_pace p.seats) p.seats p.seats r in
     let same = gap_same obeys p.seats p.seats (λ (x : Seat). refl) in (
       λ (n : ℕ) (a : p.pulled + 100 ≤ n) (b : accept_of p.seats f + 100 ≤ n). omega (arith, b, k),

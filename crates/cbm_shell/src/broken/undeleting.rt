@@ -5,8 +5,8 @@ ghost use Rattle.cbm_bam.specs.Map.{geometry_of};
 ghost use Rattle.cbm_directory.specs.Entries.{EntersLed};
 ghost use Rattle.cbm_directory.specs.Slots.{directory_of};
 ghost use Rattle.cbm_image.specs.Images.{kind_of, image_fault, tracks_of, content_of};
-ghost use Rattle.cbm_shell.specs.Mapping.{chain_of, entries_in, is_among};
-ghost use Rattle.cbm_shell.specs.Undeleting.{restored_entry, all_free, held_with, HasNoDeleted, IsDeleted, IsMapAnew, IsClear, IsInTheWay, IsNotGiven, IsGivenAgain, IsUndeleted};
+ghost use Rattle.cbm_shell.specs.Mapping.{chain_of, entries_shown, is_among};
+ghost use Rattle.cbm_shell.specs.Undeleting.{restored_entry, all_blocks_free, held_with, HasNoDeleted, IsDeleted, IsMapAnew, IsClear, IsInTheWay, IsNotGiven, IsGivenAgain, IsUndeleted};
 ghost use Rattle.cbm_shell.specs.Images.{IsSaved, IsSoundDisk, IsSoundImage};
 
 use crate::broken::flaws::lost_of;
@@ -54,7 +54,7 @@ fn deleted_entry<M: Medium>(volume: &Volume<M>, slot: u8) -> Result<Option<Entry
 /// Whether the BAM has each block of a chain as free, up to its end or to what cuts it off.
 fn is_free_chain<M: Medium>(medium: &M, geometry: Geometry, from: Link) -> bool
     requires { geometry ≤ (M.seen medium.now).tracks }
-    ensures { let content = (M.seen medium.now).content in result ≡ all_free content (chain_of geometry content from) }
+    ensures { let content = (M.seen medium.now).content in result ≡ all_blocks_free content (chain_of geometry content from) }
 {
     let mut link = from;
     let count = geometry.sectors();

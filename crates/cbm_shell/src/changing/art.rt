@@ -8,7 +8,7 @@ ghost use Rattle.cbm_image.specs.Images.{kind_of, image_fault, tracks_of, conten
 ghost use Rattle.cbm_directory.specs.Slots.{Answers, directory_of};
 ghost use Rattle.cbm_shell.specs.Images.{IsSoundImage};
 ghost use Rattle.cbm_shell.specs.Editing.{CanBeEdited, HasNoSlot, HasNoSlotIn, IsUnedited, IsUneditedIn};
-ghost use Rattle.cbm_shell.specs.Art.{art_entry, dressed_entry, HasEntered, IsDressed, IsFull};
+ghost use Rattle.cbm_shell.specs.Art.{art_entry, dressed_entry, HasEntered, IsDressed, IsDirectoryFull};
 
 use crate::changing::locking::{entry_of, locked_entry};
 use crate::changing::require_sound;
@@ -50,7 +50,7 @@ fn art_entry(looks: Looks<'_>) -> Entry
 fn entered<M: Steady + Drop>(volume: Volume<M>, entry: &Entry) -> Result<Option<M>, ShellFault>
     ensures tracks { IfOk result (λ o. MatchOption o (Unit {0}) (λ after. (M.seen after).tracks ≡ (M.seen volume).tracks)) }
     ensures enters { let old = M.seen volume in let tracks = geometry_of old.tracks old.content in
-        IfOk result (λ o. MatchOption o (IsFull tracks old.content)
+        IfOk result (λ o. MatchOption o (IsDirectoryFull tracks old.content)
         (λ after. HasEntered tracks old.content (M.seen after).content entry.now)) }
     ensures never { let old = M.seen volume in CanBeEdited (geometry_of old.tracks old.content) old → IsOk result }
 {
@@ -73,7 +73,7 @@ fn add_art_in<I: DiskImage + Drop>(
     requires short { length looks.name.now ≤ 16 }
     ensures enters { let kind = kind_of image.now in
         let tracks = geometry_of (tracks_of kind image.now) (content_of kind image.now) in
-        IfOk result (λ o. MatchOption o (IsFull tracks (content_of kind image.now))
+        IfOk result (λ o. MatchOption o (IsDirectoryFull tracks (content_of kind image.now))
         (λ v. HasEntered tracks (content_of kind image.now) (content_of kind v.items)
         (art_entry looks.entry.name.now looks.entry.blocks looks.entry.is_locked))) }
     ensures sound { OnOk result (IsSoundImage (kind_of image.now) image.now) }
@@ -97,7 +97,7 @@ pub fn add_art(alloc: Global, image: &[u8], looks: Looks<'_>) -> Result<Option<V
     // where no slot was empty.
     ensures enters { let kind = kind_of image.now in
         let tracks = geometry_of (tracks_of kind image.now) (content_of kind image.now) in
-        IfOk result (λ o. MatchOption o (IsFull tracks (content_of kind image.now))
+        IfOk result (λ o. MatchOption o (IsDirectoryFull tracks (content_of kind image.now))
         (λ v. HasEntered tracks (content_of kind image.now) (content_of kind v.items)
         (art_entry looks.entry.name.now looks.entry.blocks looks.entry.is_locked))) }
     // An image that isn't sound gives no new one.

@@ -1,15 +1,15 @@
 //! Relative files, made as the drive makes them.
 ghost use Rattle.std.specs.Prelude.{◌≡◌, ◌≤◌, ℕ, None, map, take, false, MatchResult, IfErr, IfOk, IsOk, OnOk};
-ghost use Rattle.cbm_channel.specs.Codes.{code_number};
-ghost use Rattle.cbm_channel.specs.Machines.{Machine, start};
+ghost use Rattle.cbm_machine.specs.Codes.{code_number};
+ghost use Rattle.cbm_machine.specs.Machines.{Machine, start};
 ghost use Rattle.cbm_channel.specs.Standing.{Stands, Leads};
 ghost use Rattle.cbm_channel.specs.Going.{KeepsMedium};
 ghost use Rattle.cbm_file.specs.Files.{Disk};
 ghost use Rattle.cbm_volume.specs.Holding.{HoldsDisk};
 ghost use Rattle.cbm_image.specs.Images.{kind_of, image_fault, tracks_of, ImageHolds};
 ghost use Rattle.cbm_shell.specs.Images.{IsSoundDisk, IsSoundImage};
-ghost use Rattle.cbm_shell.specs.Changing.{IsFine, IsRefusal};
-ghost use Rattle.cbm_shell.specs.Recording.{hear_all, after_records, IsUnmade, IsUnmadeIn, IsStoppedAt};
+ghost use Rattle.cbm_shell.specs.Changing.{IsFine, IsStatusRefusal};
+ghost use Rattle.cbm_shell.specs.Recording.{hear_records, after_records, AreRecordsUnmade, IsUnmadeIn, IsStoppedAt};
 
 use crate::changing::{require_sound, told};
 use crate::fault::ShellFault;
@@ -38,10 +38,10 @@ pub struct Records<'a> {
 /// Sends the records to a channel, one after another. Errors: `Refused`, with the status after the first that was refused.
 fn hear_each<M: Steady>(dos: &mut Dos<M>, channel: u8, records: &[&[u8]]) -> Result<(), ShellFault>
     requires { channel ≤ 15 }
-    ensures leads { OnOk result (Leads M.seen dos.old dos.new (hear_all channel (map (λ r. r.now) records.now))) }
+    ensures leads { OnOk result (Leads M.seen dos.old dos.new (hear_records channel (map (λ r. r.now) records.now))) }
     ensures stopped { (m : Machine) → Stands M.seen dos.old m →
         IfErr result (IsStoppedAt channel (map (λ r. r.now) records.now) m) }
-    ensures refused { IfErr result IsRefusal }
+    ensures refused { IfErr result IsStatusRefusal }
     ensures medium { KeepsMedium (M.seen dos.old.medium) (M.seen dos.new.medium) }
 {
     for record in records {
@@ -56,8 +56,8 @@ fn record_on<M: Steady>(dos: &mut Dos<M>, file: Records<'_>) -> Result<(), Shell
     ensures made { (m : Machine) → Stands M.seen dos.old m → MatchResult result
         (λ _. IsFine (after_records file.entry.text.now (map (λ r. r.now) file.entry.records.now) m).status
         × Stands M.seen dos.new (after_records file.entry.text.now (map (λ r. r.now) file.entry.records.now) m))
-        (IsUnmade file.entry.text.now (map (λ r. r.now) file.entry.records.now) m) }
-    ensures refused { IfErr result IsRefusal }
+        (AreRecordsUnmade file.entry.text.now (map (λ r. r.now) file.entry.records.now) m) }
+    ensures refused { IfErr result IsStatusRefusal }
     ensures medium { KeepsMedium (M.seen dos.old.medium) (M.seen dos.new.medium) }
 {
     dos.open(WRITING, file.text);
@@ -74,7 +74,7 @@ fn recorded<M: Steady + Drop>(medium: M, file: Records<'_>) -> Result<M, ShellFa
         (λ after. IsFine (after_records file.entry.text.now (map (λ r. r.now) file.entry.records.now) m).status
         × HoldsDisk (M.seen after).tracks (M.seen after).content
         (after_records file.entry.text.now (map (λ r. r.now) file.entry.records.now) m).disk)
-        (IsUnmade file.entry.text.now (map (λ r. r.now) file.entry.records.now) m) }
+        (AreRecordsUnmade file.entry.text.now (map (λ r. r.now) file.entry.records.now) m) }
     ensures sound { let old = M.seen medium in
         OnOk result (IsSoundDisk old.tracks old.content) }
     ensures same_tracks { IfOk result (λ after. (M.seen after).tracks ≡ (M.seen medium).tracks) }

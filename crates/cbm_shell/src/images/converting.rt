@@ -3,12 +3,12 @@ ghost use Rattle.std.specs.Prelude.{IsTrue, ◌↔◌, ◌≡◌, ◌∷◌, ◌
 ghost use Rattle.cbm_medium.specs.Place.{Place, Has, sectors_on};
 ghost use Rattle.cbm_medium.specs.Content.{written};
 ghost use Rattle.cbm_track.specs.Circle.{each_below};
-ghost use Rattle.cbm_d64.specs.Image.{content_of, tracks_in};
-ghost use Rattle.cbm_g64.specs.File.{tracks_in as circles_in};
+ghost use Rattle.cbm_d64.specs.Image.{d64_content, d64_tracks};
+ghost use Rattle.cbm_g64.specs.File.{g64_circles as circles_in};
 ghost use Rattle.cbm_g64.specs.Tracks.{or_zeros, id_for, HasTrack};
 ghost use Rattle.cbm_image.specs.Images.{kind_of};
 ghost use Rattle.cbm_image.specs.declared.kind.Kind.TheVariants.{D64, G64};
-ghost use Rattle.cbm_shell.specs.Converting.{told_id, held_by, is_plain, has_more_tracks, has_error_bytes, IsConverted, AreLosses, IsConvertFault};
+ghost use Rattle.cbm_shell.specs.Converting.{told_id, content_held, is_plain_table, has_more_tracks, has_error_bytes, IsConverted, AreLosses, IsConvertFault};
 ghost use Rattle.cbm_shell.specs.Images.{IsOpenFault};
 
 use crate::fault::ShellFault;
@@ -111,9 +111,9 @@ fn byte(file: &[u8], at: usize) -> u8
 }
 
 /// Whether an entry of a G64's table is that of one of the tracks 1 to 35, or has no track.
-#[tactic(auto, unfolding(crate::specs::Converting::is_plain))]
+#[tactic(auto, unfolding(crate::specs::Converting::is_plain_table))]
 fn is_plain(file: &[u8], entry: u8) -> bool
-    ensures { result ≡ is_plain file.now entry }
+    ensures { result ≡ is_plain_table file.now entry }
 {
     let at = 12 + 4 * entry as usize;
     entry % 2 == 0 && entry < 70
@@ -160,8 +160,8 @@ fn has_error_bytes(image: &[u8]) -> bool
 
 /// The tracks 1 to 35 of a D64.
 fn inner_tracks(image: &[u8]) -> &[u8]
-    ensures tracks { tracks_in (length result.now) ≡ 35 }
-    ensures kept { (p : Place) → Has 35 p → content_of result.now p ≡ content_of image.now p }
+    ensures tracks { d64_tracks (length result.now) ≡ 35 }
+    ensures kept { (p : Place) → Has 35 p → d64_content result.now p ≡ d64_content image.now p }
 {
     if image.len() == OF_40_TRACKS {
         &image[..OF_35_TRACKS]
@@ -174,8 +174,8 @@ fn inner_tracks(image: &[u8]) -> &[u8]
 fn put_sector(disk: &mut D64Disk, at: Address, bytes: &[u8; 256])
     requires track { at.track ≤ 35 }
     requires free { disk.old.protected ≡ false }
-    requires blank { content_of disk.old.bytes at ≡ Ok (replicate 256 0) }
-    ensures content { content_of disk.new.bytes ≡ written (content_of disk.old.bytes) at bytes.now }
+    requires blank { d64_content disk.old.bytes at ≡ Ok (replicate 256 0) }
+    ensures content { d64_content disk.new.bytes ≡ written (d64_content disk.old.bytes) at bytes.now }
     ensures free { disk.new.protected ≡ false }
     ensures size { length disk.new.bytes ≡ length disk.old.bytes }
 {
@@ -190,9 +190,9 @@ fn copy_sector<M: Medium>(medium: &M, disk: &mut D64Disk, at: Address)
     requires here { at.track ≤ (M.seen medium.now).tracks }
     requires track { at.track ≤ 35 }
     requires free { disk.old.protected ≡ false }
-    requires blank { content_of disk.old.bytes at ≡ Ok (replicate 256 0) }
-    ensures here { content_of disk.new.bytes at ≡ or_zeros ((M.seen medium.now).content at) }
-    ensures others { (p : Place) → at ≢ p → content_of disk.new.bytes p ≡ content_of disk.old.bytes p }
+    requires blank { d64_content disk.old.bytes at ≡ Ok (replicate 256 0) }
+    ensures here { d64_content disk.new.bytes at ≡ or_zeros ((M.seen medium.now).content at) }
+    ensures others { (p : Place) → at ≢ p → d64_content disk.new.bytes p ≡ d64_content disk.old.bytes p }
     ensures free { disk.new.protected ≡ false }
     ensures size { length disk.new.bytes ≡ length disk.old.bytes }
 {
@@ -207,10 +207,10 @@ fn copy_track<M: Medium>(medium: &M, disk: &mut D64Disk, track: u8)
     requires here { track ≤ (M.seen medium.now).tracks }
     requires track { track ≤ 35 }
     requires free { disk.old.protected ≡ false }
-    requires blank { (p : Place) → p.track ≡ track → content_of disk.old.bytes p ≡ Ok (replicate 256 0) }
+    requires blank { (p : Place) → p.track ≡ track → d64_content disk.old.bytes p ≡ Ok (replicate 256 0) }
     ensures here { (p : Place) → p.track ≡ track → p.sector < sectors_on track →
-        content_of disk.new.bytes p ≡ or_zeros ((M.seen medium.now).content p) }
-    ensures others { (p : Place) → p.track ≢ track → content_of disk.new.bytes p ≡ content_of disk.old.bytes p }
+        d64_content disk.new.bytes p ≡ or_zeros ((M.seen medium.now).content p) }
+    ensures others { (p : Place) → p.track ≢ track → d64_content disk.new.bytes p ≡ d64_content disk.old.bytes p }
     ensures free { disk.new.protected ≡ false }
     ensures size { length disk.new.bytes ≡ length disk.old.bytes }
 {
@@ -226,8 +226,8 @@ fn copy_track<M: Medium>(medium: &M, disk: &mut D64Disk, track: u8)
 fn copy_tracks<M: Medium>(medium: &M, disk: &mut D64Disk)
     requires here { (M.seen medium.now).tracks ≡ 35 }
     requires free { disk.old.protected ≡ false }
-    requires blank { (p : Place) → content_of disk.old.bytes p ≡ Ok (replicate 256 0) }
-    ensures shown { (p : Place) → Has 35 p → content_of disk.new.bytes p ≡ or_zeros ((M.seen medium.now).content p) }
+    requires blank { (p : Place) → d64_content disk.old.bytes p ≡ Ok (replicate 256 0) }
+    ensures shown { (p : Place) → Has 35 p → d64_content disk.new.bytes p ≡ or_zeros ((M.seen medium.now).content p) }
     ensures size { length disk.new.bytes ≡ length disk.old.bytes }
 {
     for track in 1..TRACKS + 1 {
@@ -239,7 +239,7 @@ fn copy_tracks<M: Medium>(medium: &M, disk: &mut D64Disk)
 fn copied<M: Medium>(alloc: Global, medium: &M) -> Result<D64Disk, ShellFault>
     requires { (M.seen medium.now).tracks ≡ 35 }
     ensures ok { IfOk result (λ disk. (p : Place) → Has 35 p →
-        content_of disk.bytes p ≡ or_zeros ((M.seen medium.now).content p)) }
+        d64_content disk.bytes p ≡ or_zeros ((M.seen medium.now).content p)) }
     ensures err { IfErr result (λ fault. fault ≡ ShellFault.Memory) }
 {
     let blank = zeros(alloc, OF_35_TRACKS)?;
@@ -318,7 +318,7 @@ pub fn convert(alloc: Global, image: &[u8]) -> Result<Converted, ShellFault>
         c.lost.error_bytes c.lost.header_id) }
     // Where all sectors read, the new image holds what the old one does.
     ensures whole { IfOk result (λ c. c.lost.unreadable.items ≡ [] →
-        (p : Place) → Has 35 p → held_by c.image.items p ≡ held_by image.now p) }
+        (p : Place) → Has 35 p → content_held c.image.items p ≡ content_held image.now p) }
     ensures cause { IfErr result (IsConvertFault image.now) }
 {
     match kind_of(image) {

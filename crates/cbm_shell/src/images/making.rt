@@ -3,7 +3,7 @@ ghost use Rattle.std.specs.Prelude.{◌≡◌, ◌≤◌, false, length, replica
 ghost use Rattle.cbm_medium.specs.Place.{Place, Has};
 ghost use Rattle.cbm_image.specs.Images.{image_fault, IsOf};
 ghost use Rattle.cbm_image.specs.declared.kind.Kind.TheVariants.{D64, G64};
-ghost use Rattle.cbm_shell.specs.Making.{kind_in, tracks_on, IsBlank, IsEmpty, IsNew};
+ghost use Rattle.cbm_shell.specs.Making.{kind_in, tracks_of_form, IsBlankImage, IsEmpty, IsNew};
 
 use cbm_d64::D64Disk;
 use cbm_g64::G64Disk;
@@ -38,7 +38,7 @@ pub(crate) fn zeros(alloc: Global, count: usize) -> Result<Vec<u8>, AllocError>
 
 /// A G64 whose sectors are all zeros.
 fn blank_g64(alloc: Global, id: [u8; 2]) -> Result<Vec<u8>, AllocError>
-    ensures { IfOk result (λ v. IsBlank Form.G64 v.items) }
+    ensures { IfOk result (λ v. IsBlankImage Form.G64 v.items) }
 {
     let sectors = zeros(alloc, OF_35_TRACKS)?;
     let Ok(disk) = D64Disk::from_bytes(alloc, sectors.as_slice(), false) else {
@@ -52,7 +52,7 @@ fn blank_g64(alloc: Global, id: [u8; 2]) -> Result<Vec<u8>, AllocError>
 
 /// An image whose sectors are all zeros.
 fn blank(alloc: Global, form: Form, id: [u8; 2]) -> Result<Vec<u8>, AllocError>
-    ensures { IfOk result (λ v. IsBlank form v.items) }
+    ensures { IfOk result (λ v. IsBlankImage form v.items) }
 {
     match form {
         Form::D64 => zeros(alloc, OF_35_TRACKS),
@@ -99,7 +99,7 @@ fn made<I: DiskImage + Drop>(
 ) -> Result<I, AllocError>
     requires short { length title.now ≤ 16 }
     requires form { kind_in form ≡ I.kind }
-    ensures { IfOk result (λ disk. IsEmpty (tracks_on form) title.now id (I.seen disk)) }
+    ensures { IfOk result (λ disk. IsEmpty (tracks_of_form form) title.now id (I.seen disk)) }
 {
     let image = blank(alloc, form, id)?;
     let disk = opened(alloc, image.as_slice())?;

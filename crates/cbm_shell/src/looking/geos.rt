@@ -5,7 +5,7 @@ ghost use Rattle.cbm_bam.specs.Marks.{is_marked};
 ghost use Rattle.cbm_directory.specs.Entries.{first_block};
 ghost use Rattle.cbm_shell.specs.Mapping.{chain_of, is_among};
 ghost use Rattle.cbm_shell.specs.Marking.{with_places};
-ghost use Rattle.cbm_shell.specs.Geos.{is_one_chain, is_geos, has_records, geos_of, chains_in, records_of, geos_blocks, in_geos, is_geos_mark, is_geos_map, border_in, geos_places};
+ghost use Rattle.cbm_shell.specs.Geos.{is_one_chain, is_geos, has_geos_records, geos_of, chains_in, records_of, geos_blocks, in_geos, is_geos_mark, is_geos_map, border_in, geos_places};
 
 use crate::looking::mapping::use_chain;
 use cbm_bam::SectorSet;
@@ -58,7 +58,7 @@ fn is_geos(entry: &Entry) -> bool
 
 /// Whether the first block of a file of GEOS lists its records.
 fn has_records(entry: &Entry) -> bool
-    ensures { result ≡ has_records entry.now }
+    ensures { result ≡ has_geos_records entry.now }
 {
     entry.record_length() == LISTED
 }

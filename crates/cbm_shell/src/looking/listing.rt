@@ -1,8 +1,8 @@
 //! The directory, as the drive sends it.
 ghost use Rattle.std.specs.Prelude.{◌≡◌, ◌≤◌, ◌++◌, IfOk, OnOk, MatchResult};
-ghost use Rattle.cbm_channel.specs.Machines.{Machine};
+ghost use Rattle.cbm_machine.specs.Machines.{Machine};
 ghost use Rattle.cbm_channel.specs.Standing.{Stands};
-ghost use Rattle.cbm_shell.specs.Listing.{list_text, IsSent, IsListed, IsUnlisted};
+ghost use Rattle.cbm_shell.specs.Listing.{list_text, IsSent, IsListing, IsUnlisted};
 
 use crate::fault::ShellFault;
 use crate::texts::petscii::Charset;
@@ -59,7 +59,7 @@ pub fn list<M: Steady>(
     pattern: &[u8],
 ) -> Result<Vec<u8>, ShellFault>
     ensures { (m : Machine) → Stands M.seen dos.old m →
-        MatchResult result (λ v. IsListed charset pattern.now m v.items) (IsUnlisted pattern.now m) }
+        MatchResult result (λ v. IsListing charset pattern.now m v.items) (IsUnlisted pattern.now m) }
 {
     let bytes = raw_list(alloc, dos, pattern)?;
     let lines = readable_listing(alloc, charset, bytes.as_slice())?;

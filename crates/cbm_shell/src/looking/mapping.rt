@@ -4,7 +4,7 @@ ghost use Rattle.cbm_medium.specs.Place.{directory_head, sectors_on};
 ghost use Rattle.cbm_bam.specs.Map.{geometry_of};
 ghost use Rattle.cbm_directory.specs.Slots.{directory_of};
 ghost use Rattle.cbm_bam.specs.Marks.{is_marked};
-ghost use Rattle.cbm_shell.specs.Mapping.{mark_by, mark_of, sign_of, chain_of, sectors_of, in_files, used_in, is_among, entries_in, free_by, sign_at, signs_on, row_of, rows_of, picture_of};
+ghost use Rattle.cbm_shell.specs.Mapping.{mark_by, mark_of, sign_of, chain_of, sectors_of, in_files, used_in, is_among, entries_shown, free_by, sign_at, signs_on, row_of, rows_of, picture_of};
 ghost use Rattle.cbm_shell.specs.Marking.{with_places};
 
 use crate::fault::ShellFault;
@@ -230,7 +230,7 @@ pub(crate) fn entries_or_none<M: Medium>(
     volume: &Volume<M>,
 ) -> Result<Vec<Entry>, ShellFault>
     ensures ok { let now = M.seen volume.now in IfOk result (λ v.
-        v.items ≡ entries_in (directory_of (geometry_of now.tracks now.content) now.content)) }
+        v.items ≡ entries_shown (directory_of (geometry_of now.tracks now.content) now.content)) }
     ensures err { IfErr result (λ fault. fault ≡ ShellFault.Memory) }
 {
     match entries_of(alloc, volume) {

@@ -6,10 +6,10 @@ ghost use Rattle.cbm_directory.specs.Entries.{first_block};
 ghost use Rattle.cbm_volume.specs.Reading.{held_from};
 ghost use Rattle.cbm_directory.specs.Slots.{directory_of};
 ghost use Rattle.cbm_bam.specs.Map.{geometry_of};
-ghost use Rattle.cbm_volume.specs.Holding.{HasBytes, HoldsDisk, StandsAt};
+ghost use Rattle.cbm_volume.specs.Holding.{HasBytes, HoldsDisk, EntryStandsAt};
 ghost use Rattle.cbm_image.specs.Images.{image_fault, kind_of};
-ghost use Rattle.cbm_shell.specs.Images.{IsOpened, IsOpenFault};
-ghost use Rattle.cbm_shell.specs.OpenDisk.{shown_by};
+ghost use Rattle.cbm_shell.specs.Images.{IsImageOpened, IsOpenFault};
+ghost use Rattle.cbm_shell.specs.OpenDisk.{open_disk_seen};
 ghost use Rattle.cbm_shell.specs.Reading.{IsReadFault};
 
 use crate::fault::ShellFault;
@@ -35,7 +35,7 @@ pub enum OpenDisk {
 impl OpenDisk {
     /// The disk of an image. Errors: `Image`, `Memory`.
     pub fn open(alloc: Global, image: &[u8]) -> Result<OpenDisk, ShellFault>
-        ensures ok { IfOk result (λ disk. IsOpened image.now (shown_by disk)) }
+        ensures ok { IfOk result (λ disk. IsImageOpened image.now (open_disk_seen disk)) }
         ensures err { IfErr result (IsOpenFault image.now) }
         // An image without fault is always opened, if there is memory.
         ensures accepted { image_fault (kind_of image.now) image.now ≡ None →
@@ -50,10 +50,10 @@ impl OpenDisk {
     /// The entries of its directory in order, those of empty slots too. Errors: `Trouble` where the directory can't be
     /// followed to its end; `Memory`.
     pub fn entries(&self, alloc: Global) -> Result<Vec<Entry>, ShellFault>
-        ensures ok { let now = shown_by self.now in
+        ensures ok { let now = open_disk_seen self.now in
             IfOk result (λ v. directory_of (geometry_of now.tracks now.content) now.content
             ≡ (record { entries = v.items; trouble = None })) }
-        ensures err { let now = shown_by self.now in
+        ensures err { let now = open_disk_seen self.now in
             IfErr result (IsReadFault (directory_of (geometry_of now.tracks now.content) now.content).trouble) }
     {
         match self {
@@ -66,8 +66,8 @@ impl OpenDisk {
     /// where its chain can't be followed to its end; `Memory`.
     pub fn file_of(&self, alloc: Global, entry: &Entry) -> Result<Vec<u8>, ShellFault>
         // A closed file without records on a sound disk is got byte for byte.
-        ensures { let now = shown_by self.now in (d : Disk) (n : ℕ) (bytes : List ℕ) →
-            HoldsDisk now.tracks now.content d → StandsAt now.tracks now.content n entry.now → HasBytes d n bytes →
+        ensures { let now = open_disk_seen self.now in (d : Disk) (n : ℕ) (bytes : List ℕ) →
+            HoldsDisk now.tracks now.content d → EntryStandsAt now.tracks now.content n entry.now → HasBytes d n bytes →
             MatchResult result (λ v. v.items ≡ bytes) (λ fault. fault ≡ ShellFault.Memory) }
     {
         match self {
@@ -79,7 +79,7 @@ impl OpenDisk {
     /// What can be read of the file of an entry, closed or not: the bytes of its chain up to where it breaks off, and why it
     /// does. The one error is want of memory.
     pub fn salvage(&self, alloc: Global, entry: &Entry) -> Result<Salvaged, AllocError>
-        ensures { let now = shown_by self.now in let tracks = geometry_of now.tracks now.content in
+        ensures { let now = open_disk_seen self.now in let tracks = geometry_of now.tracks now.content in
             IfOk result (λ s. held_from tracks now.content (sector_count tracks) (first_block entry.now)
             ≡ (record { bytes = s.bytes.items; trouble = s.trouble })) }
     {

@@ -5,7 +5,7 @@ ghost use Rattle.cbm_medium.specs.Place.{sector_count};
 ghost use Rattle.cbm_volume.specs.Reading.{held_from};
 ghost use Rattle.cbm_directory.specs.Entries.{first_block};
 ghost use Rattle.cbm_bam.specs.Map.{geometry_of};
-ghost use Rattle.cbm_volume.specs.Holding.{HoldsDisk, StandsAt, HasBytes};
+ghost use Rattle.cbm_volume.specs.Holding.{HoldsDisk, EntryStandsAt, HasBytes};
 ghost use Rattle.cbm_shell.specs.Reading.{IsReadFault, Gets, IsGetFault};
 
 use crate::fault::ShellFault;
@@ -44,7 +44,7 @@ pub fn read_file<M: Medium>(
     ensures err { let now = M.seen volume.now in let tracks = geometry_of now.tracks now.content in
         IfErr result (IsReadFault (held_from tracks now.content (sector_count tracks) (first_block entry.now)).trouble) }
     ensures means { let now = M.seen volume.now in (d : Disk) (n : ℕ) (bytes : List ℕ) →
-        HoldsDisk now.tracks now.content d → StandsAt now.tracks now.content n entry.now → HasBytes d n bytes →
+        HoldsDisk now.tracks now.content d → EntryStandsAt now.tracks now.content n entry.now → HasBytes d n bytes →
         MatchResult result (λ v. v.items ≡ bytes) (λ fault. fault ≡ ShellFault.Memory) }
 {
     let mut reader = volume.begin_read(entry)?;

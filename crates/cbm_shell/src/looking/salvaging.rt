@@ -1,11 +1,11 @@
 //! What can be read of a file whose chain breaks off.
 ghost use Rattle.std.specs.Prelude.{◌≡◌, ◌≤◌, ◌++◌, Some, IfOk, OnOk};
-ghost use Rattle.cbm_file.specs.Waiting.{shown};
+ghost use Rattle.cbm_file.specs.Waiting.{next_shown};
 ghost use Rattle.cbm_medium.specs.Place.{sector_count};
 ghost use Rattle.cbm_bam.specs.Map.{geometry_of};
 ghost use Rattle.cbm_directory.specs.Entries.{first_block};
 ghost use Rattle.cbm_volume.specs.Reading.{held_from, rest_of, IsSettled};
-ghost use Rattle.cbm_shell.specs.Salvaging.{waiting};
+ghost use Rattle.cbm_shell.specs.Salvaging.{waiting_bytes};
 
 use cbm_medium::Medium;
 use cbm_volume::{ChainReader, Entry, Trouble, Volume};
@@ -22,7 +22,7 @@ pub struct Salvaged {
 
 /// Adds the pending byte, if there is one.
 fn push_waiting(bytes: &mut Vec<u8>, reader: &ChainReader) -> Result<(), AllocError>
-    ensures { OnOk result (bytes.new.items ≡ bytes.old.items ++ waiting (shown reader.now.bytes)) }
+    ensures { OnOk result (bytes.new.items ≡ bytes.old.items ++ waiting_bytes (next_shown reader.now.bytes)) }
 {
     if let Some((byte, _)) = reader.peek() {
         bytes.push(byte).map_err(AllocError::from)?;

@@ -1,7 +1,7 @@
 //! Sectors that don't read.
 ghost use Rattle.std.specs.Prelude.{◌≡◌, ◌≤◌, ◌++◌, IfOk, OnOk};
 ghost use Rattle.cbm_medium.specs.Place.{sectors_on};
-ghost use Rattle.cbm_shell.specs.Sectors.{fault_of, faults_on, faults_in};
+ghost use Rattle.cbm_shell.specs.Sectors.{sector_fault, faults_on, faults_in};
 
 use cbm_medium::{Address, Fault, Medium, sectors_of};
 use std::alloc::{AllocError, Global};
@@ -9,7 +9,7 @@ use std::alloc::{AllocError, Global};
 /// Adds the fault of a sector that doesn't read.
 fn add_fault<M: Medium>(medium: &M, at: Address, faults: &mut Vec<Fault>) -> Result<(), AllocError>
     requires { at.track ≤ (M.seen medium.now).tracks }
-    ensures { OnOk result (faults.new.items ≡ faults.old.items ++ fault_of at ((M.seen medium.now).content at)) }
+    ensures { OnOk result (faults.new.items ≡ faults.old.items ++ sector_fault at ((M.seen medium.now).content at)) }
 {
     match medium.read(at) {
         Ok(_) => Ok(()),

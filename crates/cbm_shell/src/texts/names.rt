@@ -3,7 +3,7 @@ ghost use Rattle.std.specs.Prelude.{◌≡◌, ◌≤◌, ◌<◌, ◌∷◌, �
 ghost use Rattle.std.specs.Char.{digit_char};
 ghost use Rattle.std.specs.Str.{chars, encode_utf8_all};
 ghost use Rattle.cbm_shell.specs.declared.texts.petscii.Charset.{Charset};
-ghost use Rattle.cbm_shell.specs.Names.{numbered, shown_as, text_of, byte_of, with_code, codes_of, number_in};
+ghost use Rattle.cbm_shell.specs.Names.{numbered, shown_as, name_text, byte_of_digits, with_code, codes_of, number_in};
 
 use crate::texts::petscii::{BY_NUMBER, Charset, code_of, key_of};
 use std::alloc::{AllocError, Global};
@@ -44,7 +44,7 @@ pub(crate) fn add_code(text: &mut String, charset: Charset, code: u8) -> Result<
 /// A name as text, in a character set of a C64: each code as the character of its key, and as its number, as in `{c1}`, where
 /// no key has a character of its own for it. The one error is want of memory.
 pub fn name_text(alloc: Global, charset: Charset, name: &[u8]) -> Result<String, AllocError>
-    ensures shown { IfOk result (λ text. string_bytes text ≡ text_of charset name.now) }
+    ensures shown { IfOk result (λ text. string_bytes text ≡ name_text charset name.now) }
     // What is shown is read as the same bytes.
     ensures read_back { IfOk result (λ text. codes_of charset (chars (string_bytes text)) ≡ Some name.now) }
 {
@@ -59,7 +59,7 @@ pub fn name_text(alloc: Global, charset: Charset, name: &[u8]) -> Result<String,
 
 /// The byte of two digits to the base 16; None where one is no digit.
 fn byte_of(high: char, low: char) -> Option<u8>
-    ensures { result ≡ byte_of high low }
+    ensures { result ≡ byte_of_digits high low }
 {
     let high = high.to_digit(16)?;
     let low = low.to_digit(16)?;

@@ -1,6 +1,6 @@
 //! A directory as the drive sends it, made readable.
 ghost use Rattle.std.specs.Prelude.{◌≡◌, ◌≤◌, ◌<◌, ◌++◌, [], length, codes, decimal, string_bytes, IfOk, IfSome, MatchOption, OnOk};
-ghost use Rattle.cbm_shell.specs.Readable.{opened_as, ends, lines, opening, text, readable};
+ghost use Rattle.cbm_shell.specs.Readable.{opened_as, ends, readable_lines, opening, text, readable};
 
 use crate::texts::names::add_code;
 use crate::texts::petscii::Charset;
@@ -41,7 +41,7 @@ fn end_line<'a>(out: &mut String, behind: &'a [u8]) -> Result<&'a [u8], AllocErr
 /// Adds the text of a line from after its first code up to its 0, and a new line. Returns what follows the 0.
 fn add_text<'a>(out: &mut String, charset: Charset, bytes: &'a [u8]) -> Result<&'a [u8], AllocError>
     ensures text { IfOk result (λ rest.
-        string_bytes out.new ++ lines charset rest.now ≡ string_bytes out.old ++ text charset 24 bytes.now) }
+        string_bytes out.new ++ readable_lines charset rest.now ≡ string_bytes out.old ++ text charset 24 bytes.now) }
     ensures shorter { IfOk result (λ rest. length rest.now ≤ length bytes.now) }
 {
     let mut rest = bytes;
@@ -60,7 +60,7 @@ fn add_text<'a>(out: &mut String, charset: Charset, bytes: &'a [u8]) -> Result<&
 /// Adds the text of a line, and a new line. Returns what follows its 0.
 fn add_line<'a>(out: &mut String, charset: Charset, bytes: &'a [u8]) -> Result<&'a [u8], AllocError>
     ensures text { IfOk result (λ rest.
-        string_bytes out.new ++ lines charset rest.now ≡ string_bytes out.old ++ opening charset bytes.now) }
+        string_bytes out.new ++ readable_lines charset rest.now ≡ string_bytes out.old ++ opening charset bytes.now) }
     ensures shorter { IfOk result (λ rest. length rest.now ≤ length bytes.now) }
 {
     let Some((code, behind)) = bytes.split_first() else {
@@ -71,10 +71,10 @@ fn add_line<'a>(out: &mut String, charset: Charset, bytes: &'a [u8]) -> Result<&
 }
 
 /// The number of the next line, and what follows it; None where the lines end.
-#[tactic(auto, unfolding(crate::specs::Readable::lines))]
+#[tactic(auto, unfolding(crate::specs::Readable::readable_lines))]
 fn next_line(charset: Charset, bytes: &[u8]) -> Option<(u16, &[u8])>
-    ensures line { MatchOption result (lines charset bytes.now ≡ [])
-        (λ p. lines charset bytes.now ≡ decimal p.0 ++ codes " " ++ opening charset p.1.now) }
+    ensures line { MatchOption result (readable_lines charset bytes.now ≡ [])
+        (λ p. readable_lines charset bytes.now ≡ decimal p.0 ++ codes " " ++ opening charset p.1.now) }
     ensures shorter { IfSome result (λ p. length p.1.now < length bytes.now) }
 {
     let (_, rest) = bytes.split_first()?;

@@ -15,11 +15,11 @@ use Rattle.cbm_bam.specs.Map.{geometry_of}
 use Rattle.cbm_bam.specs.Causes.{HasCause}
 use Rattle.cbm_chain.specs.Data.{chain_bytes}
 use Rattle.cbm_relfile.specs.SideSectors.{sides_listed, Numbered}
-use Rattle.cbm_directory.specs.Entries.{Enters, EntersLed, first_directory, type_byte, bit_of, kind_of, is_closed, is_relative, first_block, first_side, width_of, entry_at, sector_of}
+use Rattle.cbm_directory.specs.Entries.{Enters, EntersLed, first_directory, type_byte, bit_of, type_of_number, is_closed, is_relative, first_block, first_side, width_of, entry_at, sector_of}
 use Rattle.cbm_directory.specs.EntryChanges.{IsRenamedAs}
 use Rattle.cbm_volume.specs.Blocks.{Blocks, Lies, LiesAs, slices, body_as, file_of, slot_with, slot_of}
-use Rattle.cbm_volume.specs.Holding.{StandsAt}
-use Rattle.cbm_volume.specs.Layouts.{Owner, Directory, DataOf, Writer, Layout, slot_count, Sound, Stands, Untouched}
+use Rattle.cbm_volume.specs.Holding.{EntryStandsAt}
+use Rattle.cbm_volume.specs.Layouts.{Owner, Directory, DataOf, Writer, Layout, slot_count, Sound, HasLayout, Untouched}
 use Rattle.cbm_volume.specs.Writers.{Use, Idle, Reads, Relates, Writes, IsReading, IsUsed, writes_slot, HoldsAt, Holds, HoldsNow}
 use Rattle.cbm_volume.specs.Opens.{IsUnwritten, IsHindered}
 use Rattle.cbm_volume.proofs.layouts.Frames.{Keeps}
@@ -73,7 +73,7 @@ named_file bytes old new name b f says s =
     let t : type_byte new ≡ type_byte old = says.before 0 (omega arith) in
     let width : width_of new ≡ width_of old = says.behind 21 (omega arith) in
     let some : (type_byte new == 0) ≡ false = ap (λ (n : ℕ). n == 0) t ∙ was.0 in
-    let k : kind_of (type_byte new % 16) ≡ f.kind = ap (λ (n : ℕ). kind_of (n % 16)) t ∙ ap (λ (x : File). x.kind) was.1 in
+    let k : type_of_number (type_byte new % 16) ≡ f.kind = ap (λ (n : ℕ). type_of_number (n % 16)) t ∙ ap (λ (x : File). x.kind) was.1 in
     let c : is_closed new ≡ f.closed = ap (λ (n : ℕ). bit_of n 7) t ∙ ap (λ (x : File). x.closed) was.1 in
     let lo : bit_of (type_byte new) 6 ≡ f.locked = ap (λ (n : ℕ). bit_of n 6) t ∙ ap (λ (x : File). x.locked) was.1 in
     let sh : slice_index new 28 + 256 * slice_index new 29 ≡ f.shown = omega (arith, says.behind 28 (omega arith), says.behind 29 (omega arith), ap (λ (x : File). x.shown) was.1) in
@@ -124,7 +124,7 @@ named_over tracks c c2 l d uses n body name f h at unwritten k enters says =
     let file : slot_of c body b ≡ Some f2 = named_file (chain_bytes c b.data_blocks) old body name b f says (sym (h.stands.describes.slots n k) ∙ at) in
     let lies : Lies tracks c body b = subst (λ (x : ℕ). LiesAs (bit_of x 7) (x % 16 == 4) tracks c body b) (sym t) (lies_named (is_closed old) (is_relative old) tracks c old body name b says (sound.lies n k)) in
     let kind : type_byte body % 16 < 5 = subst (λ (x : ℕ). x % 16 < 5) (sym t) (sound.kinds n k) in
-    let stands : Stands tracks c2 (with_file l n b l.owner) (with_slot d n (Some f2)) = subst (λ (x : Option File). Stands tracks c2 (with_file l n b l.owner) (with_slot d n x)) file
+    let stands : HasLayout tracks c2 (with_file l n b l.owner) (with_slot d n (Some f2)) = subst (λ (x : Option File). HasLayout tracks c2 (with_file l n b l.owner) (with_slot d n x)) file
     (stands_entry tracks c c2 l d n (sector_of l.directory n) body b l.owner h.stands k refl enters kind lies (extends_itself l n sound.owned) (sound.owned.blocks n k) (sound.owned.sides n k) sound.free) in
     let keeps : (o : Owner) → Directory ≢ o → Keeps c c2 l.owner o = λ o ne. written_keeps c c2 (sector_of l.directory n) enters.sector l.owner o enters.written (λ y. ne (sym (sector_owned l sound.owned n k) ∙ y)) in
     record {
@@ -136,7 +136,7 @@ named_over tracks c c2 l d uses n body name f h at unwritten k enters says =
 -- ---- the clauses of the call, over plain values
 
 -- THE FILE HAS THE NAME, and all channels go on
-pub named : (medium : ℕ) (c c2 : Content) (n : ℕ) (entry body name : List ℕ) (r : Result (Unit {0}) Trouble) → IsRenamedAs entry body name → StandsAt medium c n entry → EntryPut (geometry_of medium c) c c2 n body r
+pub named : (medium : ℕ) (c c2 : Content) (n : ℕ) (entry body name : List ℕ) (r : Result (Unit {0}) Trouble) → IsRenamedAs entry body name → EntryStandsAt medium c n entry → EntryPut (geometry_of medium c) c c2 n body r
     → (d : Disk) (uses : ℕ → Use) (f : File) → HoldsNow medium c d uses → file_at d n ≡ Some f → IsUnwritten uses n → OnOk r (HoldsNow medium c2 (with_slot d n (Some (record f { name = before_filler name }))) uses)
 named medium c c2 n entry body name r says stands put d uses f h at unwritten = by_result r (put h.layout.directory sound.directory found.0)
   where
@@ -165,7 +165,7 @@ named medium c c2 n entry body name r says stands put d uses f h at unwritten = 
     by_result (Err t) e = tt
 
 -- the sector of the entry reads, so only the medium as a whole refuses it
-pub named_hindered : (medium : ℕ) (old new : Seen) (n : ℕ) (entry : List ℕ) (r : Result (Unit {0}) Trouble) → StandsAt medium old.content n entry
+pub named_hindered : (medium : ℕ) (old new : Seen) (n : ℕ) (entry : List ℕ) (r : Result (Unit {0}) Trouble) → EntryStandsAt medium old.content n entry
     → ((directory : List Place) → Chain (geometry_of medium old.content) old.content first_directory directory → n < 8 * length directory → IfErr r (λ t. HasCause old new (sector_of directory n) t.code))
     → (d : Disk) (uses : ℕ → Use) → HoldsNow medium old.content d uses → IfErr r (IsHindered old new)
 named_hindered medium old new n entry r stands cause d uses h = by_result r (cause h.layout.directory h.so.stands.sound.directory there)

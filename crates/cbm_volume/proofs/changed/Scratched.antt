@@ -8,7 +8,7 @@ use Rattle.cbm_medium.specs.Links.{or_nothing, Chain}
 use Rattle.cbm_medium.specs.Seen.{Seen, write_refusal, HasFailed}
 use Rattle.cbm_medium.specs.declared.fault.Trouble.{Trouble}
 use Rattle.cbm_medium.proofs.Places.{written_elsewhere}
-use Rattle.cbm_file.specs.Files.{File, Disk, held_by, file_at, with_slot}
+use Rattle.cbm_file.specs.Files.{File, Disk, blocks_held, file_at, with_slot}
 use Rattle.cbm_file.specs.Changes.{scratched_in, scratched}
 use Rattle.cbm_bam.specs.Map.{geometry_of, is_free_in, with_freed, map_of, IsMapped, Remaps, Frees}
 use Rattle.cbm_bam.specs.Causes.{HasCause}
@@ -18,7 +18,7 @@ use Rattle.cbm_directory.specs.Entries.{Enters, first_directory, is_closed, is_r
 use Rattle.cbm_directory.specs.EntryChanges.{cleared_entry, Clears}
 use Rattle.cbm_directory.specs.Slots.{Answers, directory_of}
 use Rattle.cbm_volume.specs.Blocks.{Blocks, LiesAs, no_blocks, file_of}
-use Rattle.cbm_volume.specs.Layouts.{TheMap, Directory, DataOf, OwnedBy, Layout, slot_count, Sound, Stands, Untouched}
+use Rattle.cbm_volume.specs.Layouts.{TheMap, Directory, DataOf, OwnedBy, Layout, slot_count, Sound, HasLayout, Untouched}
 use Rattle.cbm_volume.specs.Opens.{IsUnused, IsHindered}
 use Rattle.cbm_volume.specs.Writers.{Use, HoldsAt, Holds, HoldsNow, known, Stopped}
 use Rattle.cbm_volume.proofs.written.Closing.{some_file}
@@ -110,7 +110,7 @@ record IsThere (tracks : ℕ) (c : Content) (l : Layout) (n : ℕ) (f : File) : 
   lies : LiesAs true (is_relative (entry_at c l.directory n)) tracks c (entry_at c l.directory n) (l.files n)
   held : f.held ≡ length (all_blocks (l.files n))
 
-file_there : (tracks : ℕ) (c : Content) (l : Layout) (d : Disk) (n : ℕ) (f : File) → Stands tracks c l d → n < slot_count l → file_at d n ≡ Some f → f.closed ≡ true → IsThere tracks c l n f
+file_there : (tracks : ℕ) (c : Content) (l : Layout) (d : Disk) (n : ℕ) (f : File) → HasLayout tracks c l d → n < slot_count l → file_at d n ≡ Some f → f.closed ≡ true → IsThere tracks c l n f
 unfolding file_of
 file_there tracks c l d n f st k some closed =
     let entry : List ℕ = entry_at c l.directory n in
@@ -167,8 +167,8 @@ pub open_scratched : (medium : ℕ) (c c1 : Content) (n : ℕ) (entry : List ℕ
 open_scratched medium c c1 n entry (Err t) found open_ put = λ d uses f h some unused. tt
 open_scratched medium c c1 n entry (Ok x) found open_ put = λ d uses f h some unused.
     let k : IsCleared medium c c1 h.layout d uses n = is_cleared medium c c1 d uses n f h some unused put in
-    let none : held_by (Some f) ≡ 0 = ap (λ (b : Bool). if b then f.held else 0) (found_closed medium c d uses n f entry h some found ∙ open_) in
-    let free : d.free + held_by (Some f) ≡ d.free = omega (arith, none) in
+    let none : blocks_held (Some f) ≡ 0 = ap (λ (b : Bool). if b then f.held else 0) (found_closed medium c d uses n f entry h some found ∙ open_) in
+    let free : d.free + blocks_held (Some f) ≡ d.free = omega (arith, none) in
     let disk : scratched d n ≡ with_slot d n None = ap (λ (x : Option File). scratched_in x d n) some ∙ ap (λ (m : ℕ). record (with_slot d n None) { free = m }) free in
     subst (λ (x : Disk). HoldsNow medium c1 x uses) (sym disk) (subst (λ (m : ℕ). Holds m c1 (with_slot d n None) uses) (sym k.same) (record { layout = _; so = k.holds }))
 

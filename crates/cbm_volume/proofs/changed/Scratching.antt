@@ -10,7 +10,7 @@ use Rattle.cbm_bam.proofs.Counts.{AreTaken}
 use Rattle.cbm_directory.specs.Entries.{Enters, type_byte, sector_of}
 use Rattle.cbm_volume.specs.Blocks.{no_blocks}
 use Rattle.cbm_volume.specs.Layouts.{Owner, TheMap, Directory, DataOf, Writer, OwnedBy, Layout, slot_count}
-use Rattle.cbm_volume.specs.Writers.{Use, has_slot, HoldsAt}
+use Rattle.cbm_volume.specs.Writers.{Use, uses_slot, HoldsAt}
 use Rattle.cbm_volume.specs.Opens.{IsUnused}
 use Rattle.cbm_volume.proofs.layouts.Frames.{Keeps}
 use Rattle.cbm_volume.proofs.layouts.Loose.{sector_owned}
@@ -22,8 +22,8 @@ use Rattle.cbm_volume.proofs.written.Closing.{other_slot}
 use Rattle.cbm_volume.proofs.written.Replaced.{holds_all}
 use Rattle.cbm_volume.proofs.relative.Scratched.{gathered, gathered_keeps, stands_cleared}
 
-spared_by : (uses : ℕ → Use) (n : ℕ) → IsUnused uses n → (m i : ℕ) → has_slot i (uses m) ≡ true → (i == n) ≡ false
-spared_by uses n unused m i h = ne_eqb i n (λ e. (let z = sym (unused m) ∙ ap (λ (k : ℕ). has_slot k (uses m)) (sym e) ∙ h in (cc)))
+spared_by : (uses : ℕ → Use) (n : ℕ) → IsUnused uses n → (m i : ℕ) → uses_slot i (uses m) ≡ true → (i == n) ≡ false
+spared_by uses n unused m i h = ne_eqb i n (λ e. (let z = sym (unused m) ∙ ap (λ (k : ℕ). uses_slot k (uses m)) (sym e) ∙ h in (cc)))
 
 -- the entry is cleared
 pub cleared_over : (tracks : ℕ) (c c' : Content) (l : Layout) (d : Disk) (uses : ℕ → Use) (n : ℕ) (body : List ℕ) → HoldsAt tracks c l d uses → n < slot_count l → IsUnused uses n

@@ -8,7 +8,7 @@ use Rattle.cbm_bam.specs.Map.{with_bit, geometry_of}
 use Rattle.cbm_directory.specs.Entries.{is_closed, is_relative, first_block, first_side, first_directory}
 use Rattle.cbm_directory.specs.Slots.{entries_from, all_entries}
 use Rattle.cbm_volume.specs.Blocks.{Blocks, no_blocks, HasRecords}
-use Rattle.cbm_volume.specs.Layouts.{Layout, Sound, IsWritable}
+use Rattle.cbm_volume.specs.Layouts.{Layout, Sound, IsCellWritable}
 use Rattle.cbm_volume.specs.check.SlotWalk as checked
 use Rattle.cbm_volume.specs.check.Claims.{reads, wrong_at, ClaimsChain, MeetsFault}
 use Rattle.cbm_volume.specs.check.SideLists.{ClaimsEach, MeetsAmong, sides_from, are_records, SidesFault}
@@ -227,7 +227,7 @@ checked_once tracks c k =
 pub checked_sound : (tracks : ℕ) (c : Content) → ClaimsDisk tracks c → (l : Layout) × Sound tracks c l
 checked_sound tracks c k = claimed_sound tracks c (checked_once tracks c k).0
 
-good_header : (cell : Cell) → IsWritable cell → is_bad_header cell ≡ true → ⊥
+good_header : (cell : Cell) → IsCellWritable cell → is_bad_header cell ≡ true → ⊥
 good_header (Ok bytes) h g = absurd (cc)
 good_header (Err code) h g = let bad = sym h ∙ g in absurd (cc)
 
@@ -256,11 +256,11 @@ sound_clean tracks c l u wide s f = by_fault (sound_claimed tracks c l s wide) f
 -- ---- what the check answers
 
 -- each step's success is the whole's
-pub claims_into : (tracks g : ℕ) (c : Content) (first : Place) (head met between after : Place → Bool) → g ≡ tracks → first ≡ first_directory → head ≡ only_head → met ≡ only_head → ((p : Place) → Has g p → IsWritable (c p)) → IsMapRight g c
+pub claims_into : (tracks g : ℕ) (c : Content) (first : Place) (head met between after : Place → Bool) → g ≡ tracks → first ≡ first_directory → head ≡ only_head → met ≡ only_head → ((p : Place) → Has g p → IsCellWritable (c p)) → IsMapRight g c
     → ((xs : List Place) × ClaimsChain OfDirectory g c head first xs between) → ((xs : List Place) × checked.ClaimsSlots g c met between first xs after) → ClaimsInto tracks c after
 claims_into tracks g c first head met between after same at h m writable map chain slots = (
   record {
-    writable = subst (λ (n : ℕ). (p : Place) → Has n p → IsWritable (c p)) same writable;
+    writable = subst (λ (n : ℕ). (p : Place) → Has n p → IsCellWritable (c p)) same writable;
     map = subst (λ (n : ℕ). IsMapRight n c) same map;
     sectors = chain.0;
     between = between;

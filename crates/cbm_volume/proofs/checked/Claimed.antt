@@ -6,7 +6,7 @@ use Rattle.cbm_bam.specs.Map.{with_bit}
 use Rattle.cbm_directory.specs.Entries.{type_byte, is_closed, is_relative, first_block, first_directory}
 use Rattle.cbm_directory.specs.Slots.{all_entries}
 use Rattle.cbm_volume.specs.Blocks.{Blocks, no_blocks, HasRecords}
-use Rattle.cbm_volume.specs.Layouts.{IsWritable}
+use Rattle.cbm_volume.specs.Layouts.{IsCellWritable}
 use Rattle.cbm_volume.specs.check.Claims.{ClaimsChain}
 use Rattle.cbm_volume.specs.check.SideLists.{ClaimsEach}
 use Rattle.cbm_volume.specs.check.MapCounts.{IsMapRight}
@@ -36,7 +36,7 @@ ClaimsSlots tracks c claimed (e ∷ es) [] after = ⊥
 
 -- No header has a fault, the map is right, and each sector of the directory and of the files is claimed once.
 pub record IsClaimedOnce (tracks : ℕ) (c : Content) : Type 0 where
-  pub writable : (p : Place) → Has tracks p → IsWritable (c p)
+  pub writable : (p : Place) → Has tracks p → IsCellWritable (c p)
   pub map : IsMapRight tracks c
   pub directory : List Place
   pub files : List Blocks

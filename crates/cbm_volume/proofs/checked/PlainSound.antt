@@ -16,7 +16,7 @@ use Rattle.cbm_volume.specs.Layouts.{Owner, Nobody, TheMap, Directory, DataOf, S
 use Rattle.cbm_volume.specs.check.Claims.{is_inside, ClaimsChain}
 use Rattle.cbm_volume.specs.check.SideLists.{ClaimsEach}
 use Rattle.cbm_volume.proofs.checked.Claimed.{head_claimed, ClaimsAs, ClaimsSlots, IsClaimedOnce}
-use Rattle.cbm_volume.specs.Plain.{blocks_in, IsDistinct, AreTaken, AreOn18, AreOff18, FilesLie, IsPlainlySound}
+use Rattle.cbm_volume.specs.Plain.{blocks_in, IsDistinct, AreReadAndTaken, AreOn18, AreOff18, FilesLie, IsPlainlySound}
 use Rattle.cbm_volume.specs.declared.check.unsound.Part.{Part}
 use Rattle.cbm_volume.specs.declared.check.unsound.Part.TheVariants.{OfDirectory, OfFile}
 use Rattle.cbm_volume.proofs.layouts.Listing.{entries_length, nth_entry}
@@ -38,7 +38,7 @@ pub distinct_join : (owner : Place → Owner) (o : Owner) (xs ys : List Place) �
 distinct_join owner o [] ys own apart h g = g
 distinct_join owner o (x ∷ xs) ys own apart h g = (apart_join x xs ys h.0 (apart x own.0), distinct_join owner o xs ys own.1 apart h.1 g)
 
-taken_join : (c : Content) (xs ys : List Place) → AreTaken c xs → AreTaken c ys → AreTaken c (xs ++ ys)
+taken_join : (c : Content) (xs ys : List Place) → AreReadAndTaken c xs → AreReadAndTaken c ys → AreReadAndTaken c (xs ++ ys)
 taken_join c [] ys h g = g
 taken_join c (x ∷ xs) ys h g = (h.0, h.1, taken_join c xs ys h.2 g)
 
@@ -46,11 +46,11 @@ off_join : (xs ys : List Place) → AreOff18 xs → AreOff18 ys → AreOff18 (xs
 off_join [] ys h g = g
 off_join (x ∷ xs) ys h g = (h.0, off_join xs ys h.1 g)
 
-taken_front : (c : Content) (xs ys : List Place) → AreTaken c (xs ++ ys) → AreTaken c xs
+taken_front : (c : Content) (xs ys : List Place) → AreReadAndTaken c (xs ++ ys) → AreReadAndTaken c xs
 taken_front c [] ys h = tt
 taken_front c (x ∷ xs) ys h = (h.0, h.1, taken_front c xs ys h.2)
 
-taken_back : (c : Content) (xs ys : List Place) → AreTaken c (xs ++ ys) → AreTaken c ys
+taken_back : (c : Content) (xs ys : List Place) → AreReadAndTaken c (xs ++ ys) → AreReadAndTaken c ys
 taken_back c [] ys h = h
 taken_back c (x ∷ xs) ys h = taken_back c xs ys h.2
 
@@ -65,11 +65,11 @@ off_back (x ∷ xs) ys h = off_back xs ys h.1
 -- ---- from owners to the list
 
 module _ (tracks : ℕ) (c : Content) (l : Layout) (s : Sound tracks c l) where
-  chain_taken : (o : Owner) (a : Place) (xs : List Place) → o ≢ Nobody → Chain tracks c a xs → OwnedBy l.owner o xs → AreTaken c xs
+  chain_taken : (o : Owner) (a : Place) (xs : List Place) → o ≢ Nobody → Chain tracks c a xs → OwnedBy l.owner o xs → AreReadAndTaken c xs
   chain_taken o a [] some h own = tt
   chain_taken o a (x ∷ xs) some h own = (h.2, taken_of tracks c l s x o h.1 own.0 some, chain_taken o (link (bytes_at c x)) xs some h.3 own.1)
 
-  sides_taken : (o : Owner) (width n : ℕ) (xs : List Place) → o ≢ Nobody → Numbered tracks c width n xs → OwnedBy l.owner o xs → AreTaken c xs
+  sides_taken : (o : Owner) (width n : ℕ) (xs : List Place) → o ≢ Nobody → Numbered tracks c width n xs → OwnedBy l.owner o xs → AreReadAndTaken c xs
   sides_taken o width n [] some h own = tt
   sides_taken o width n (x ∷ xs) some h own = (h.1, taken_of tracks c l s x o h.0 own.0 some, sides_taken o width (n + 1) xs some h.4 own.1)
 
@@ -109,17 +109,17 @@ module _ (tracks : ℕ) (c : Content) (l : Layout) (s : Sound tracks c l) where
   -- what is known of the files from n on
   pub record AreFiles (xs : List Place) : Type 0 where
     pub distinct : IsDistinct xs
-    pub taken : AreTaken c xs
+    pub taken : AreReadAndTaken c xs
     pub off : AreOff18 xs
 
-  data_right : (closed relative : Bool) (n : ℕ) (e : List ℕ) (b : Blocks) → LiesAs closed relative tracks c e b → OwnedBy l.owner (DataOf n) b.data_blocks → IsDistinct b.data_blocks × AreTaken c b.data_blocks
-  data_right false r n e b h own = subst (λ (x : Blocks). IsDistinct x.data_blocks × AreTaken c x.data_blocks) (sym h) (tt, tt)
+  data_right : (closed relative : Bool) (n : ℕ) (e : List ℕ) (b : Blocks) → LiesAs closed relative tracks c e b → OwnedBy l.owner (DataOf n) b.data_blocks → IsDistinct b.data_blocks × AreReadAndTaken c b.data_blocks
+  data_right false r n e b h own = subst (λ (x : Blocks). IsDistinct x.data_blocks × AreReadAndTaken c x.data_blocks) (sym h) (tt, tt)
   data_right true false n e b h own = (chain_is_distinct tracks c (first_block e) b.data_blocks h.0, chain_taken (DataOf n) (first_block e) b.data_blocks (λ z. absurd (cc)) h.0 own)
   data_right true true n e b h own = (chain_is_distinct tracks c (first_block e) b.data_blocks h.0, chain_taken (DataOf n) (first_block e) b.data_blocks (λ z. absurd (cc)) h.0 own)
 
-  sides_right : (closed relative : Bool) (n : ℕ) (e : List ℕ) (b : Blocks) → LiesAs closed relative tracks c e b → OwnedBy l.owner (SideOf n) b.sides → IsDistinct b.sides × AreTaken c b.sides
-  sides_right false r n e b h own = subst (λ (x : Blocks). IsDistinct x.sides × AreTaken c x.sides) (sym h) (tt, tt)
-  sides_right true false n e b h own = subst (λ (x : List Place). IsDistinct x × AreTaken c x) (sym h.1) (tt, tt)
+  sides_right : (closed relative : Bool) (n : ℕ) (e : List ℕ) (b : Blocks) → LiesAs closed relative tracks c e b → OwnedBy l.owner (SideOf n) b.sides → IsDistinct b.sides × AreReadAndTaken c b.sides
+  sides_right false r n e b h own = subst (λ (x : Blocks). IsDistinct x.sides × AreReadAndTaken c x.sides) (sym h) (tt, tt)
+  sides_right true false n e b h own = subst (λ (x : List Place). IsDistinct x × AreReadAndTaken c x) (sym h.1) (tt, tt)
   sides_right true true n e b h own = (sides_distinct tracks c (width_of e) 0 b.sides h.1.numbered, sides_taken (SideOf n) (width_of e) 0 b.sides (λ z. absurd (cc)) h.1.numbered own)
 
   files_right : (n k : ℕ) → n + k ≤ slot_count l → AreFiles (blocks_in (blocks_from tracks c l s n k))
@@ -216,7 +216,7 @@ off_inside : (tracks : ℕ) (c : Content) (a : Place) (xs : List Place) → Chai
 off_inside tracks c a [] h off = tt
 off_inside tracks c a (x ∷ xs) h off = (in_file tracks x h.1 off.0, off_inside tracks c (link (bytes_at c x)) xs h.3 off.1)
 
-walk : (part : Part) (tracks : ℕ) (c : Content) (claimed : Place → Bool) (a : Place) (xs ys : List Place) → Chain tracks c a xs → AreInside part tracks xs → AreTaken c (xs ++ ys)
+walk : (part : Part) (tracks : ℕ) (c : Content) (claimed : Place → Bool) (a : Place) (xs ys : List Place) → Chain tracks c a xs → AreInside part tracks xs → AreReadAndTaken c (xs ++ ys)
     → AllUnclaimed claimed (xs ++ ys) → IsDistinct (xs ++ ys) → Walked part tracks c claimed a xs ys
 walk part tracks c claimed a [] ys h inside taken fresh distinct = (claimed, (h, refl), fresh, distinct)
 walk part tracks c claimed a (b ∷ xs) ys h inside taken fresh distinct =
@@ -227,7 +227,7 @@ walk part tracks c claimed a (b ∷ xs) ys h inside taken fresh distinct =
 abbrev Listed : ℕ → Content → (Place → Bool) → List Place → List Place → Type 0
 Listed tracks c claimed xs ys = (after : Place → Bool) × ClaimsEach OfFile tracks c claimed xs after × AllUnclaimed after ys × IsDistinct ys
 
-walk_sides : (tracks : ℕ) (c : Content) (claimed : Place → Bool) (width n : ℕ) (xs ys : List Place) → Numbered tracks c width n xs → AreOff18 xs → AreTaken c (xs ++ ys)
+walk_sides : (tracks : ℕ) (c : Content) (claimed : Place → Bool) (width n : ℕ) (xs ys : List Place) → Numbered tracks c width n xs → AreOff18 xs → AreReadAndTaken c (xs ++ ys)
     → AllUnclaimed claimed (xs ++ ys) → IsDistinct (xs ++ ys) → Listed tracks c claimed xs ys
 walk_sides tracks c claimed width n [] ys h off taken fresh distinct = (claimed, refl, fresh, distinct)
 walk_sides tracks c claimed width n (b ∷ xs) ys h off taken fresh distinct =
@@ -239,7 +239,7 @@ abbrev SlotWalked : Bool → Bool → ℕ → Content → (Place → Bool) → L
 SlotWalked closed relative tracks c claimed e b ys = (after : Place → Bool) × ClaimsAs closed relative tracks c claimed e b after × AllUnclaimed after ys × IsDistinct ys
 
 slot_walk : (closed relative : Bool) (tracks : ℕ) (c : Content) (claimed : Place → Bool) (e : List ℕ) (b : Blocks) (ys : List Place) → LiesAs closed relative tracks c e b
-    → AreTaken c (b.data_blocks ++ (b.sides ++ ys)) → AreOff18 (b.data_blocks ++ (b.sides ++ ys)) → AllUnclaimed claimed (b.data_blocks ++ (b.sides ++ ys)) → IsDistinct (b.data_blocks ++ (b.sides ++ ys))
+    → AreReadAndTaken c (b.data_blocks ++ (b.sides ++ ys)) → AreOff18 (b.data_blocks ++ (b.sides ++ ys)) → AllUnclaimed claimed (b.data_blocks ++ (b.sides ++ ys)) → IsDistinct (b.data_blocks ++ (b.sides ++ ys))
     → SlotWalked closed relative tracks c claimed e b ys
 slot_walk false r tracks c claimed e b ys h taken off fresh distinct = (
   claimed,
@@ -255,7 +255,7 @@ slot_walk true true tracks c claimed e b ys h taken off fresh distinct =
     let t = walk_sides tracks c d.0 (width_of e) 0 b.sides ys h.1.numbered (off_front b.sides ys (off_back b.data_blocks (b.sides ++ ys) off)) (taken_back c b.data_blocks (b.sides ++ ys) taken) d.2 d.3 in
     (t.0, (d.0, d.1, t.1, h.1), t.2, t.3)
 
-slots_walk : (tracks : ℕ) (c : Content) (claimed : Place → Bool) (es : List (List ℕ)) (bs : List Blocks) → FilesLie tracks c es bs → AreTaken c (blocks_in bs) → AreOff18 (blocks_in bs)
+slots_walk : (tracks : ℕ) (c : Content) (claimed : Place → Bool) (es : List (List ℕ)) (bs : List Blocks) → FilesLie tracks c es bs → AreReadAndTaken c (blocks_in bs) → AreOff18 (blocks_in bs)
     → AllUnclaimed claimed (blocks_in bs) → IsDistinct (blocks_in bs) → (after : Place → Bool) × ClaimsSlots tracks c claimed es bs after
 slots_walk tracks c claimed [] [] h taken off fresh distinct = (claimed, refl)
 slots_walk tracks c claimed [] (b ∷ bs) h taken off fresh distinct = absurd h

@@ -13,7 +13,7 @@ use Rattle.cbm_relfile.specs.SideSectors.{named_in, sides_listed, blocks_listed,
 use Rattle.cbm_directory.specs.Entries.{first_block, first_side, width_of}
 use Rattle.cbm_volume.specs.Blocks.{Blocks, HasRecords}
 use Rattle.cbm_volume.specs.check.Claims.{reads}
-use Rattle.cbm_volume.specs.check.SideLists.{ClaimsEach, behind_first, sides_from, step_along, along, listed_at, listed_blocks, side_along, side_at, sides_along, all_along, are_records}
+use Rattle.cbm_volume.specs.check.SideLists.{ClaimsEach, behind_first, sides_from, step_along, along, listed_at, listed_blocks, side_along, side_found, sides_along, all_along, are_records}
 use Rattle.cbm_volume.specs.declared.check.unsound.Part.TheVariants.{OfFile}
 use Rattle.cbm_volume.proofs.checked.ClaimedSound.{is_right, inside_has}
 use Rattle.cbm_volume.proofs.checked.SidesListed.{named_some}
@@ -114,13 +114,13 @@ all_sided tracks c claimed after width n [] xs a b k h e = record { numbered = t
 all_sided tracks c claimed after width n (s ∷ ss) xs a b k h e =
     let r = is_right OfFile tracks c claimed s k.0 in
     let has_s = inside_has OfFile tracks s r.inside in
-    by_side (side_at tracks c width n s a) refl e has_s (ok_of (c s) r.reads) (λ q z g t. all_sided tracks c (with_bit claimed s true) after width (n + 1) ss z q b k.1 g t)
+    by_side (side_found tracks c width n s a) refl e has_s (ok_of (c s) r.reads) (λ q z g t. all_sided tracks c (with_bit claimed s true) after width (n + 1) ss z q b k.1 g t)
   where
     ok_of : (cell : Cell) → reads cell ≡ true → IsOk cell
     ok_of (Ok bytes) g = refl
     ok_of (Err code) g = absurd (cc)
 
-    by_side : (r : Option Place) → side_at tracks c width n s a ≡ r → (elim r [ Some q ↦ sides_along tracks c width (n + 1) ss q | None ↦ None ]) ≡ Some b → Has tracks s → IsOk (c s)
+    by_side : (r : Option Place) → side_found tracks c width n s a ≡ r → (elim r [ Some q ↦ sides_along tracks c width (n + 1) ss q | None ↦ None ]) ≡ Some b → Has tracks s → IsOk (c s)
         → ((q : Place) (z : List Place) → Chain tracks c q z → sides_along tracks c width (n + 1) ss q ≡ Some b → Sided tracks c width (n + 1) ss z) → Sided tracks c width n (s ∷ ss) xs
     by_side None r g has_s ok more = absurd (cc)
     by_side (Some q) r g has_s ok more =
@@ -133,7 +133,7 @@ sides_all tracks c width n (s ∷ ss) rest a h k =
     let front = begins_along tracks c (named_in 120 (drop 16 (bytes_at c s))) (blocks_listed c ss ++ rest) a
     (subst (Chain tracks c a) (append_assoc (named_in 120 (drop 16 (bytes_at c s))) (blocks_listed c ss) rest) k) in
     let more = sides_all tracks c width (n + 1) ss rest front.0 h.4 front.2 in
-    let here : side_at tracks c width n s a ≡ Some front.0 =
+    let here : side_found tracks c width n s a ≡ Some front.0 =
     ap (λ t. if t then side_along tracks c width n (bytes_at c s) a else None) (has_true tracks s h.0) ∙ sides_on tracks c width n (bytes_at c s) a h.2 h.3
     ∙ ap (λ ps. along tracks c ps a) (listed_same (bytes_at c s)) ∙ front.1 in
     (more.0, ap (λ (o : Option Place). elim o [ Some q ↦ sides_along tracks c width (n + 1) ss q | None ↦ None ]) here ∙ more.1)

@@ -9,7 +9,7 @@ use Rattle.cbm_medium.specs.Links.{bytes_at, or_nothing, place_in}
 use Rattle.cbm_relfile.specs.SideSectors.{named_in}
 use Rattle.cbm_bam.specs.Map.{with_bit}
 use Rattle.cbm_volume.specs.check.Claims.{wrong_at, fault_at}
-use Rattle.cbm_volume.specs.check.SideLists.{ClaimsEach, MeetsAmong, step_along, along, listed_at, listed_blocks, side_along, side_at, sides_along}
+use Rattle.cbm_volume.specs.check.SideLists.{ClaimsEach, MeetsAmong, step_along, along, listed_at, listed_blocks, side_along, side_found, sides_along}
 use Rattle.cbm_volume.specs.declared.check.unsound.Part.{Part}
 use Rattle.cbm_volume.specs.declared.check.unsound.Unsound.{Unsound}
 use Rattle.cbm_relfile.proofs.Listed.{at_drop, list_none}
@@ -85,7 +85,7 @@ along_none tracks content p a whole rest e h = ap (λ (xs : List Place). along t
     ∙ ap (λ (o : Option Place). elim o [ Some q ↦ along tracks content rest q | None ↦ None ]) h
 
 -- a side sector that doesn't read has not the records' length
-pub side_unread : (tracks : ℕ) (content : Content) (width n : ℕ) (s a : Place) (code : ℕ) → 0 < width → content s ≡ Err code → side_at tracks content width n s a ≡ None
+pub side_unread : (tracks : ℕ) (content : Content) (width n : ℕ) (s a : Place) (code : ℕ) → 0 < width → content s ≡ Err code → side_found tracks content width n s a ≡ None
 side_unread tracks content width n s a code l h =
     let none : bytes_at content s ≡ [] = ap or_nothing h in
     ap (λ (bytes : List ℕ). if has tracks s then side_along tracks content width n bytes a else None) none
@@ -97,11 +97,11 @@ side_unread tracks content width n s a code l h =
     empty true false x = refl
     empty false e x = refl
 
-pub sides_one : (tracks : ℕ) (content : Content) (width n : ℕ) (p a b : Place) (whole rest : List Place) → whole ≡ p ∷ rest → side_at tracks content width n p a ≡ Some b
+pub sides_one : (tracks : ℕ) (content : Content) (width n : ℕ) (p a b : Place) (whole rest : List Place) → whole ≡ p ∷ rest → side_found tracks content width n p a ≡ Some b
     → sides_along tracks content width n whole a ≡ sides_along tracks content width (n + 1) rest b
 sides_one tracks content width n p a b whole rest e h = ap (λ (xs : List Place). sides_along tracks content width n xs a) e
     ∙ ap (λ (o : Option Place). elim o [ Some q ↦ sides_along tracks content width (n + 1) rest q | None ↦ None ]) h
 
-pub sides_stop : (tracks : ℕ) (content : Content) (width n : ℕ) (p a : Place) (whole rest : List Place) → whole ≡ p ∷ rest → side_at tracks content width n p a ≡ None → sides_along tracks content width n whole a ≡ None
+pub sides_stop : (tracks : ℕ) (content : Content) (width n : ℕ) (p a : Place) (whole rest : List Place) → whole ≡ p ∷ rest → side_found tracks content width n p a ≡ None → sides_along tracks content width n whole a ≡ None
 sides_stop tracks content width n p a whole rest e h = ap (λ (xs : List Place). sides_along tracks content width n xs a) e
     ∙ ap (λ (o : Option Place). elim o [ Some q ↦ sides_along tracks content width (n + 1) rest q | None ↦ None ]) h

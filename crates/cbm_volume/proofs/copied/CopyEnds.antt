@@ -14,11 +14,11 @@ use Rattle.cbm_file.specs.Files.{Bytes, Disk, empty_from, blocks_of}
 use Rattle.cbm_file.specs.Changes.{grown, has_slot, with_file, closed_file}
 use Rattle.cbm_bam.specs.Map.{map_of, geometry_of, IsFull, Claims}
 use Rattle.cbm_bam.specs.Causes.{HasCause}
-use Rattle.cbm_chain.specs.Writing.{State, IsForFiles, Ends, begun_at, place_or_none}
+use Rattle.cbm_chain.specs.Writing.{State, IsForFiles, EndsChain, begun_at, place_or_none}
 use Rattle.cbm_directory.specs.Empties.{TakesSlot, SlotStopped, IsSlotRefused}
 use Rattle.cbm_directory.specs.Entries.{IsClosedAs, Enters, first_directory, sector_of}
 use Rattle.cbm_directory.specs.EntryChanges.{IsFreshAs}
-use Rattle.cbm_volume.specs.Copies.{Making, IsCutShort}
+use Rattle.cbm_volume.specs.Copies.{Making, IsCopyCut}
 use Rattle.cbm_volume.specs.Layouts.{Layout, Sound}
 use Rattle.cbm_volume.specs.Opens.{IsHindered}
 use Rattle.cbm_volume.specs.Reaches.{Reached, SlotLost}
@@ -35,7 +35,7 @@ use Rattle.cbm_volume.proofs.layouts.Vacant.{free_of_disk}
 -- ---- the slot
 
 pub begin_cut : (old new : Seen) (geometry : ℕ) (t : Trouble) (d : Disk) (uses : ℕ → Use) (h : HoldsNow old.tracks old.content d uses) → geometry ≡ geometry_of old.tracks old.content → SlotStopped geometry old.content new.content t → IsSlotRefused geometry old new t
-    → IsCutShort old new old.content h.layout d uses t
+    → IsCopyCut old new old.content h.layout d uses t
 begin_cut old new geometry t d uses h e stopped refused =
     (slot_lost old.tracks old.content new.content t d uses h (subst (λ (k : ℕ). SlotStopped k old.content new.content t) e stopped), slot_hinders old new t d uses h (subst (λ (k : ℕ). IsSlotRefused k old new t) e refused))
 
@@ -50,7 +50,7 @@ pub begin_ready : (old new : Seen) (geometry n : ℕ) (o : Option ℕ) (d : Disk
 begin_ready old new geometry n o d uses h e some taken = slot_ready old.tracks old.content new.content n d uses h (taken_at geometry (geometry_of old.tracks old.content) old.content new.content o (Some n) e some taken)
 
 pub claim_cut : (old mid new : Seen) (n : ℕ) (t : Trouble) (d : Disk) (uses : ℕ → Use) (h : HoldsNow old.tracks old.content d uses) → SlotReady old.tracks old.content h.layout mid.content d uses n → mid.protected ≡ old.protected → old.failures ≤ mid.failures → new.content ≡ mid.content
-    → HasCause mid new directory_head t.code → IsCutShort old new old.content h.layout d uses t
+    → HasCause mid new directory_head t.code → IsCopyCut old new old.content h.layout d uses t
 claim_cut old mid new n t d uses h ready protected counted same cause = (
   record { disk = grown d; reached = reached_same old.tracks old.content h.layout mid.content new.content (grown d) uses same ready.reached; slots = same_files_grown d },
   hindered_since old mid new t protected counted (sector_hindered mid new directory_head t ready.reached.so.stands.sound.map_reads cause),
@@ -75,7 +75,7 @@ claim_made old mid new geometry n o s d uses ch h idle ready e some begun =
 -- ---- the entry
 
 pub last_cut : (old new : Seen) (s : State) (t : Trouble) (c : Content) (l : Layout) (d : Disk) (uses : ℕ → Use) (ch : ℕ) (bytes : List ℕ) (u : Use) → new.content ≡ old.content → MatchOption s.current ⊥ (λ p. (write_refusal old p ≡ Some t.code) ⊎ HasFailed old new)
-    → Making old.tracks c l d uses ch old.content s bytes u → IsCutShort old new c l d uses t
+    → Making old.tracks c l d uses ch old.content s bytes u → IsCopyCut old new c l d uses t
 last_cut old new s t c l d uses ch bytes u same cause k =
     (making_stopped old.tracks c l d uses ch old.content new.content s bytes u k (inl same), by_current s.current (subst (λ (n : ℕ). IsForFiles n s.current) (k.same_tracks ∙ sym k.reached.same) (copy_for_files old.tracks c l d uses ch old.content s bytes u k)) cause)
   where
@@ -87,12 +87,12 @@ last_cut old new s t c l d uses ch bytes u same cause k =
     by_current (Some p) f e = write_hindered (geometry_of old.tracks old.content) old new k.reached.layout p t sound f.0 e
 
 -- THE COPY'S ENTRY IS WRITTEN, or refused
-pub entry_made : (old mid new : Seen) (geometry : ℕ) (s : State) (kind : FileType) (name : List ℕ) (n : ℕ) (at : Place) (entry body : List ℕ) (r : Result (Unit {0}) Trouble) → Ends old.content mid.content s.current s.waiting → mid.tracks ≡ old.tracks → mid.protected ≡ old.protected → old.failures ≤ mid.failures
+pub entry_made : (old mid new : Seen) (geometry : ℕ) (s : State) (kind : FileType) (name : List ℕ) (n : ℕ) (at : Place) (entry body : List ℕ) (r : Result (Unit {0}) Trouble) → EndsChain old.content mid.content s.current s.waiting → mid.tracks ≡ old.tracks → mid.protected ≡ old.protected → old.failures ≤ mid.failures
     → geometry ≡ s.tracks → IsFreshAs entry kind name at → IsClosedAs entry body (place_or_none s.first) s.count
     → ((directory : List Place) → Chain geometry mid.content first_directory directory → n < 8 * length directory → OnOk r (Enters mid.content new.content (sector_of directory n) (n % 8) body)) → OnErr r (new.content ≡ mid.content)
     → ((directory : List Place) → Chain geometry mid.content first_directory directory → n < 8 * length directory → IfErr r (λ t. HasCause mid new (sector_of directory n) t.code))
     → (c : Content) (l : Layout) (d : Disk) (uses : ℕ → Use) (ch : ℕ) (bytes : List ℕ) → Making old.tracks c l d uses ch old.content s bytes Idle → uses ch ≡ Idle → empty_from 0 (grown d).slots ≡ Some n → kind ≢ Del → is_same_type Rel kind ≡ false
-    → MatchResult r (λ x. Reached old.tracks c l new.content (with_file d (closed_file kind (before_filler name) (blocks_of (length bytes)) (Bytes bytes)) (blocks_of (length bytes))) uses) (IsCutShort old new c l d uses)
+    → MatchResult r (λ x. Reached old.tracks c l new.content (with_file d (closed_file kind (before_filler name) (blocks_of (length bytes)) (Bytes bytes)) (blocks_of (length bytes))) uses) (IsCopyCut old new c l d uses)
 entry_made old mid new geometry s kind name n at entry body r ends tracks protected counted size says closes entered same cause c l d uses ch bytes k idle empty ne plain = by_result r entered same cause
   where
     last : IsLastOf old.tracks c l d uses ch mid.content s bytes
@@ -115,7 +115,7 @@ entry_made old mid new geometry s kind name n at entry body r ends tracks protec
 
     by_result : (r : Result (Unit {0}) Trouble) → ((directory : List Place) → Chain geometry mid.content first_directory directory → n < 8 * length directory → OnOk r (Enters mid.content new.content (sector_of directory n) (n % 8) body)) → OnErr r (new.content ≡ mid.content)
         → ((directory : List Place) → Chain geometry mid.content first_directory directory → n < 8 * length directory → IfErr r (λ t. HasCause mid new (sector_of directory n) t.code))
-        → MatchResult r (λ x. Reached old.tracks c l new.content (with_file d (closed_file kind (before_filler name) (blocks_of (length bytes)) (Bytes bytes)) (blocks_of (length bytes))) uses) (IsCutShort old new c l d uses)
+        → MatchResult r (λ x. Reached old.tracks c l new.content (with_file d (closed_file kind (before_filler name) (blocks_of (length bytes)) (Bytes bytes)) (blocks_of (length bytes))) uses) (IsCopyCut old new c l d uses)
     by_result (Ok x) entered same cause = made_over old.tracks c l d uses ch mid.content new.content s bytes n kind name at entry body idle last empty ne plain says closes (entered dir here there)
     by_result (Err t) entered same cause = (
       subst (λ (x : Content). SlotLost old.tracks c l x d uses) (sym same) (made_refused old.tracks c l d uses ch mid.content s bytes last),
@@ -124,7 +124,7 @@ entry_made old mid new geometry s kind name n at entry body r ends tracks protec
 
 -- what a later call leaves is what the whole leaves
 pub since_begun : {A : Type 0} (old mid new : Seen) (c : Content) (l : Layout) (d after : Disk) (uses : ℕ → Use) (r : Result A Trouble) → mid.tracks ≡ old.tracks → mid.protected ≡ old.protected → old.failures ≤ mid.failures
-    → MatchResult r (λ x. Reached mid.tracks c l new.content after uses) (IsCutShort mid new c l d uses) → MatchResult r (λ x. Reached old.tracks c l new.content after uses) (IsCutShort old new c l d uses)
+    → MatchResult r (λ x. Reached mid.tracks c l new.content after uses) (IsCopyCut mid new c l d uses) → MatchResult r (λ x. Reached old.tracks c l new.content after uses) (IsCopyCut old new c l d uses)
 since_begun {A} old mid new c l d after uses (Ok x) same protected counted h = subst (λ (n : ℕ). Reached n c l new.content after uses) same h
 since_begun {A} old mid new c l d after uses (Err t) same protected counted h = cut_since old mid new c l d uses t same protected counted h
 

@@ -10,7 +10,7 @@ use Rattle.cbm_file.specs.Padding.{before_filler}
 use Rattle.cbm_file.specs.Types.{is_same_type}
 use Rattle.cbm_file.specs.Files.{Disk, blocks_of, parts}
 use Rattle.cbm_file.specs.Changes.{joined, copy_blocks, has_slot, with_copy}
-use Rattle.cbm_volume.specs.Copies.{AreCopied, HasNoRoomFor, IsCutShort}
+use Rattle.cbm_volume.specs.Copies.{AreCopied, HasNoRoomFor, IsCopyCut}
 use Rattle.cbm_volume.specs.Reaches.{Reached}
 use Rattle.cbm_volume.specs.Writers.{Use, Idle, HoldsNow}
 use Rattle.cbm_volume.proofs.copied.CopySteps.{fewer}
@@ -21,7 +21,7 @@ Totals now sources r = (d : Disk) (uses : ℕ → Use) → HoldsNow now.tracks n
 
 abbrev pub Makes : Seen → Seen → FileType → List ℕ → List ℕ → Result (Unit {0}) Trouble → Type 0
 Makes old new kind name sources r = (d : Disk) (uses : ℕ → Use) (ch : ℕ) (h : HoldsNow old.tracks old.content d uses) → uses ch ≡ Idle → kind ≢ Del → is_same_type Rel kind ≡ false → AreCopied d sources → has_slot d ≡ true → copy_blocks d sources ≤ d.free
-    → MatchResult r (λ x. Reached old.tracks old.content h.layout new.content (with_copy d kind (before_filler name) sources) uses) (IsCutShort old new old.content h.layout d uses)
+    → MatchResult r (λ x. Reached old.tracks old.content h.layout new.content (with_copy d kind (before_filler name) sources) uses) (IsCopyCut old new old.content h.layout d uses)
 
 -- ---- the room
 

@@ -9,18 +9,18 @@ use Rattle.cbm_medium.specs.Links.{Followed}
 use Rattle.cbm_medium.specs.declared.fault.Trouble.{Trouble}
 use Rattle.cbm_medium.proofs.Walks.{follow_end}
 use Rattle.cbm_file.specs.Files.{File, Disk, Bytes, file_at, parts, blocks_of}
-use Rattle.cbm_file.specs.Changes.{bytes_at, joined}
-use Rattle.cbm_file.specs.Waiting.{shown}
+use Rattle.cbm_file.specs.Changes.{slot_bytes, joined}
+use Rattle.cbm_file.specs.Waiting.{next_shown}
 use Rattle.cbm_bam.specs.Map.{map_of, geometry_of, IsFull}
 use Rattle.cbm_chain.specs.Data.{chain_bytes}
-use Rattle.cbm_chain.specs.Reading.{Reading, Rest, rest_of, held_from, one_less, IsSettled, BeginsAt, GoesAlong}
-use Rattle.cbm_chain.specs.Writing.{State, Wrote, IsForFiles, Puts, IsFullFor, IsStopped, IsRefusedFor}
+use Rattle.cbm_chain.specs.Reading.{Reading, RestOfFile, rest_of, held_from, one_less, IsSettled, BeginsAt, GoesAlong}
+use Rattle.cbm_chain.specs.Writing.{State, Wrote, IsForFiles, Puts, IsFullFor, IsWriteStopped, IsRefusedFor}
 use Rattle.cbm_directory.specs.Entries.{entry_at, first_block}
 use Rattle.cbm_directory.specs.Slots.{Answers, directory_of}
 use Rattle.cbm_relfile.specs.Records.{AllWhole}
-use Rattle.cbm_volume.specs.Copies.{less, Making, CanBeCopied, AreCopied, IsCutShort}
-use Rattle.cbm_volume.specs.Holding.{HasBytes, SlotSays, Says}
-use Rattle.cbm_volume.specs.Layouts.{Layout, Sound, Stands}
+use Rattle.cbm_volume.specs.Copies.{less, Making, CanBeCopied, AreCopied, IsCopyCut}
+use Rattle.cbm_volume.specs.Holding.{HasBytes, SlotSays, EntrySays}
+use Rattle.cbm_volume.specs.Layouts.{Layout, Sound, HasLayout}
 use Rattle.cbm_volume.specs.Opens.{IsHindered}
 use Rattle.cbm_volume.specs.Reaches.{SlotLost}
 use Rattle.cbm_volume.specs.Writers.{Use, Idle, Reads, IsReading, HoldsNow}
@@ -39,7 +39,7 @@ pub handed : {A : Type 0} (r : Result A Trouble) (t : Trouble) (P : A → Type 0
 handed {A} (Ok a) t P Q is h = absurd is
 handed {A} (Err e) t P Q is h = subst Q (sym is) h
 
-pub cut_since : (old mid new : Seen) (c : Content) (l : Layout) (d : Disk) (uses : ℕ → Use) (t : Trouble) → mid.tracks ≡ old.tracks → mid.protected ≡ old.protected → old.failures ≤ mid.failures → IsCutShort mid new c l d uses t → IsCutShort old new c l d uses t
+pub cut_since : (old mid new : Seen) (c : Content) (l : Layout) (d : Disk) (uses : ℕ → Use) (t : Trouble) → mid.tracks ≡ old.tracks → mid.protected ≡ old.protected → old.failures ≤ mid.failures → IsCopyCut mid new c l d uses t → IsCopyCut old new c l d uses t
 cut_since old mid new c l d uses t same protected counted k =
     (subst (λ (n : ℕ). SlotLost n c l new.content d uses) same k.0, hindered_since old mid new t protected counted k.1)
 
@@ -54,8 +54,8 @@ fewer m n l = let p : parts m 254 ≤ parts n 254 = omega arith in omega (arith,
 pub copy_for_files : (medium : ℕ) (c : Content) (l : Layout) (d : Disk) (uses : ℕ → Use) (ch : ℕ) (now : Content) (s : State) (bytes : List ℕ) (u : Use) → Making medium c l d uses ch now s bytes u → IsForFiles s.tracks s.current
 copy_for_files medium c l d uses ch now s bytes u k = for_files now s k.places bytes k.wrote
 
-pub byte_cut : (old new : Seen) (s : State) (t : Trouble) (c : Content) (l : Layout) (d : Disk) (uses : ℕ → Use) (ch : ℕ) (bytes : List ℕ) (u : Use) → (IsForFiles s.tracks s.current → IsStopped s.tracks old.content new.content)
-    → (IsForFiles s.tracks s.current → IsRefusedFor old new s.current t.code) → Making old.tracks c l d uses ch old.content s bytes u → IsCutShort old new c l d uses t
+pub byte_cut : (old new : Seen) (s : State) (t : Trouble) (c : Content) (l : Layout) (d : Disk) (uses : ℕ → Use) (ch : ℕ) (bytes : List ℕ) (u : Use) → (IsForFiles s.tracks s.current → IsWriteStopped s.tracks old.content new.content)
+    → (IsForFiles s.tracks s.current → IsRefusedFor old new s.current t.code) → Making old.tracks c l d uses ch old.content s bytes u → IsCopyCut old new c l d uses t
 byte_cut old new s t c l d uses ch bytes u stopped cause k =
     let files : IsForFiles s.tracks s.current = copy_for_files old.tracks c l d uses ch old.content s bytes u k in
     (making_stopped old.tracks c l d uses ch old.content new.content s bytes u k (stopped files), by_current s.current (subst (λ (n : ℕ). IsForFiles n s.current) (k.same_tracks ∙ sym k.reached.same) files) (cause files))
@@ -105,20 +105,20 @@ front None = 0
 front (Some p) = p.0
 
 -- the byte that waits is the first that is left
-pub waits_first : (xs ys left : List ℕ) (byte b : ℕ) (last : Bool) → shown xs ≡ Some (b, last) → byte ∷ left ≡ xs ++ ys → b ≡ byte
+pub waits_first : (xs ys left : List ℕ) (byte b : ℕ) (last : Bool) → next_shown xs ≡ Some (b, last) → byte ∷ left ≡ xs ++ ys → b ≡ byte
 unfolding front
 waits_first [] ys left byte b last e h = absurd (cc)
 waits_first (x ∷ []) ys left byte b last e h = let y : b ≡ x = sym (ap front e) in let z : byte ≡ x = cc in y ∙ sym z
 waits_first (x ∷ x' ∷ xs) ys left byte b last e h = let y : b ≡ x = sym (ap front e) in let z : byte ≡ x = cc in y ∙ sym z
 
-pub some_waits : (tracks : ℕ) (c : Content) (l : Layout) (d : Disk) (n byte : ℕ) (r : Reading) (left : List ℕ) → IsReading tracks c l d n r (byte ∷ left) → IsSettled r → shown r.bytes ≡ None → ⊥
+pub some_waits : (tracks : ℕ) (c : Content) (l : Layout) (d : Disk) (n byte : ℕ) (r : Reading) (left : List ℕ) → IsReading tracks c l d n r (byte ∷ left) → IsSettled r → next_shown r.bytes ≡ None → ⊥
 some_waits tracks c l d n byte r left k settled e =
     let none : r.bytes ≡ [] = nothing r.bytes e in
     let end : r.next.track ≡ 0 = settled (omega (arith, ap length none)) in
     let blocks : k.blocks ≡ [] = ap (λ (f : Followed). f.blocks) (sym k.followed ∙ follow_end r.tracks c r.left r.next end) in
     let all : byte ∷ left ≡ [] = k.all ∙ (λ i. none i ++ chain_bytes c (blocks i)) in (cc)
   where
-    nothing : (xs : List ℕ) → shown xs ≡ None → xs ≡ []
+    nothing : (xs : List ℕ) → next_shown xs ≡ None → xs ≡ []
     nothing [] e = refl
     nothing (x ∷ []) e = absurd (cc)
     nothing (x ∷ y ∷ xs) e = absurd (cc)
@@ -139,9 +139,9 @@ read_behind medium c l d uses ch n byte now s bytes left old new same goes less_
 
 pub reader_goes : (old new : Seen) (c : Content) (l : Layout) (d : Disk) (uses : ℕ → Use) (ch n byte : ℕ) (s : State) (bytes left : List ℕ) (r r' : Reading) (res : Result (Unit {0}) Trouble) → r'.tracks ≡ r.tracks → OnOk res (GoesAlong new.content r r') → OnOk res (rest_of new.content r' ≡ one_less (rest_of new.content r))
     → IfErr res (λ t. ((rest_of new.content r).trouble ≡ Some t) × (r'.bytes ≡ drop 1 (rest_of new.content r).bytes)) → Making old.tracks c l d uses ch new.content s bytes (Reads n r (byte ∷ left))
-    → MatchResult res (λ x. Making old.tracks c l d uses ch new.content s bytes (Reads n r' left)) (IsCutShort old new c l d uses)
+    → MatchResult res (λ x. Making old.tracks c l d uses ch new.content s bytes (Reads n r' left)) (IsCopyCut old new c l d uses)
 reader_goes old new c l d uses ch n byte s bytes left r r' (Ok x) same goes less_one bad k = read_behind old.tracks c l d uses ch n byte new.content s bytes left r r' same goes less_one k
-reader_goes old new c l d uses ch n byte s bytes left r r' (Err t) same goes less_one bad k = absurd (let z = sym bad.0 ∙ ap (λ (x : Rest). x.trouble) (rest_is new.content r k.reads.blocks k.reads.followed) in (cc))
+reader_goes old new c l d uses ch n byte s bytes left r r' (Err t) same goes less_one bad k = absurd (let z = sym bad.0 ∙ ap (λ (x : RestOfFile). x.trouble) (rest_is new.content r k.reads.blocks k.reads.followed) in (cc))
 
 -- ---- the bytes of a reader
 
@@ -171,7 +171,7 @@ read_first old s r count = λ c l d uses ch number bytes left k settled e room. 
 -- what the call for one byte says
 abbrev pub PutsNext : Seen → Seen → State → State → Reading → Reading → Result (Unit {0}) Trouble → Type 0
 PutsNext old new s s' r r' res = (c : Content) (l : Layout) (d : Disk) (uses : ℕ → Use) (ch number byte : ℕ) (bytes left : List ℕ) → Making old.tracks c l d uses ch old.content s bytes (Reads number r (byte ∷ left)) → IsSettled r → blocks_of (length (bytes ++ byte ∷ [])) ≤ d.free
-    → MatchResult res (λ x. Making old.tracks c l d uses ch new.content s' (bytes ++ byte ∷ []) (Reads number r' left)) (IsCutShort old new c l d uses)
+    → MatchResult res (λ x. Making old.tracks c l d uses ch new.content s' (bytes ++ byte ∷ []) (Reads number r' left)) (IsCopyCut old new c l d uses)
 
 pub read_step : (old mid new : Seen) (s0 s s' : State) (r0 r r' : Reading) (count passed : ℕ) (x : Unit {0}) → passed < count → mid.tracks ≡ old.tracks → (IsSettled r → IsSettled r') → PutsNext mid new s s' r r' (Ok x) → IsReadOn old mid s0 s r0 r count passed → IsReadOn old new s0 s' r0 r' count (passed + 1)
 read_step old mid new s0 s s' r0 r r' count passed x more same settles puts h = λ c l d uses ch number bytes left k settled e room. by_rest c l d uses ch number bytes left e room (h c l d uses ch number bytes left k settled e room)
@@ -194,13 +194,13 @@ read_step old mid new s0 s s' r0 r r' count passed x more same settles puts h = 
             }
 
 pub read_cut : (old mid new : Seen) (s0 s s' : State) (r0 r r' : Reading) (count passed : ℕ) (t : Trouble) → passed < count → mid.tracks ≡ old.tracks → mid.protected ≡ old.protected → old.failures ≤ mid.failures → PutsNext mid new s s' r r' (Err t) → IsReadOn old mid s0 s r0 r count passed
-    → (c : Content) (l : Layout) (d : Disk) (uses : ℕ → Use) (ch number : ℕ) (bytes left : List ℕ) → Making old.tracks c l d uses ch old.content s0 bytes (Reads number r0 left) → IsSettled r0 → count ≡ length left → blocks_of (length (bytes ++ left)) ≤ d.free → IsCutShort old new c l d uses t
+    → (c : Content) (l : Layout) (d : Disk) (uses : ℕ → Use) (ch number : ℕ) (bytes left : List ℕ) → Making old.tracks c l d uses ch old.content s0 bytes (Reads number r0 left) → IsSettled r0 → count ≡ length left → blocks_of (length (bytes ++ left)) ≤ d.free → IsCopyCut old new c l d uses t
 read_cut old mid new s0 s s' r0 r r' count passed t more same protected counted puts h c l d uses ch number bytes left k settled e room = go p.rest p.all p.making
   where
     p : IsPassed old.tracks c l d uses ch number mid.content s r bytes left passed
     p = h c l d uses ch number bytes left k settled e room
 
-    go : (rest : List ℕ) → p.gone ++ rest ≡ left → Making old.tracks c l d uses ch mid.content s (bytes ++ p.gone) (Reads number r rest) → IsCutShort old new c l d uses t
+    go : (rest : List ℕ) → p.gone ++ rest ≡ left → Making old.tracks c l d uses ch mid.content s (bytes ++ p.gone) (Reads number r rest) → IsCopyCut old new c l d uses t
     go [] all making = absurd (omega (arith, more, e, ap length all, length-append p.gone [], p.many))
     go (byte ∷ rest) all making =
         let f : length (bytes ++ p.gone ++ byte ∷ []) ≤ length (bytes ++ left) = omega (arith, length-append (bytes ++ p.gone) (byte ∷ []), length-append bytes p.gone, length-append bytes left, ap length all, length-append p.gone (byte ∷ rest)) in
@@ -225,8 +225,8 @@ all_read old now s0 s r0 r count passed over h c l d uses ch number bytes left k
 -- ---- the files
 
 abbrev pub PutsFile : Seen → Seen → State → State → ℕ → Result (Unit {0}) Trouble → Type 0
-PutsFile old new s s' number res = (c : Content) (l : Layout) (d : Disk) (uses : ℕ → Use) (ch : ℕ) (bytes : List ℕ) → Making old.tracks c l d uses ch old.content s bytes Idle → CanBeCopied d number → blocks_of (length (bytes ++ bytes_at (file_at d number))) ≤ d.free
-    → MatchResult res (λ x. Making old.tracks c l d uses ch new.content s' (bytes ++ bytes_at (file_at d number)) Idle) (IsCutShort old new c l d uses)
+PutsFile old new s s' number res = (c : Content) (l : Layout) (d : Disk) (uses : ℕ → Use) (ch : ℕ) (bytes : List ℕ) → Making old.tracks c l d uses ch old.content s bytes Idle → CanBeCopied d number → blocks_of (length (bytes ++ slot_bytes (file_at d number))) ≤ d.free
+    → MatchResult res (λ x. Making old.tracks c l d uses ch new.content s' (bytes ++ slot_bytes (file_at d number)) Idle) (IsCopyCut old new c l d uses)
 
 -- so many files are put, and the others are left
 pub record IsPut (medium : ℕ) (c : Content) (l : Layout) (d : Disk) (uses : ℕ → Use) (ch : ℕ) (now : Content) (s : State) (bytes sources rest : List ℕ) : Type 0 where
@@ -243,9 +243,9 @@ pub copied_first : (old : Seen) (s : State) (sources : List ℕ) → IsCopiedOn 
 copied_first old s sources = λ c l d uses ch bytes k are room. record { gone = []; all = refl; making = subst (λ (x : List ℕ). Making old.tracks c l d uses ch old.content s x Idle) (sym (append-nil bytes)) k; copied = are }
 
 -- the next file has room
-next_fits : (d : Disk) (bytes gone sources rest : List ℕ) (n : ℕ) → gone ++ joined d (n ∷ rest) ≡ joined d sources → blocks_of (length (bytes ++ joined d sources)) ≤ d.free → blocks_of (length (bytes ++ gone ++ bytes_at (file_at d n))) ≤ d.free
+next_fits : (d : Disk) (bytes gone sources rest : List ℕ) (n : ℕ) → gone ++ joined d (n ∷ rest) ≡ joined d sources → blocks_of (length (bytes ++ joined d sources)) ≤ d.free → blocks_of (length (bytes ++ gone ++ slot_bytes (file_at d n))) ≤ d.free
 next_fits d bytes gone sources rest n all room =
-    let x : List ℕ = bytes_at (file_at d n) in
+    let x : List ℕ = slot_bytes (file_at d n) in
     let f : length (bytes ++ gone ++ x) ≤ length (bytes ++ joined d sources) = omega (arith, length-append (bytes ++ gone) x, length-append bytes gone, length-append bytes (joined d sources), ap length all, length-append gone (joined d (n ∷ rest)), length-append x (joined d rest)) in
     omega (arith, fewer (length (bytes ++ gone ++ x)) (length (bytes ++ joined d sources)) f, room)
 
@@ -256,14 +256,14 @@ copied_step old mid new s0 s s' sources i x more same puts h = λ c l d uses ch 
     let p : IsPut old.tracks c l d uses ch mid.content s bytes sources (n ∷ rest) = subst (λ (xs : List ℕ). IsPut old.tracks c l d uses ch mid.content s bytes sources xs) (at_drop_more (λ (xs : List ℕ). xs) sources i 0 more) (h c l d uses ch bytes k are room) in
     let k' = puts c l d uses ch (bytes ++ p.gone) (subst (λ (m : ℕ). Making m c l d uses ch mid.content s (bytes ++ p.gone) Idle) (sym same) p.making) p.copied.0 (next_fits d bytes p.gone sources rest n p.all room) in
     record {
-      gone = p.gone ++ bytes_at (file_at d n);
-      all = append_assoc p.gone (bytes_at (file_at d n)) (joined d rest) ∙ p.all;
-      making = subst (λ (y : List ℕ). Making old.tracks c l d uses ch new.content s' y Idle) (append_assoc bytes p.gone (bytes_at (file_at d n))) (subst (λ (m : ℕ). Making m c l d uses ch new.content s' (bytes ++ p.gone ++ bytes_at (file_at d n)) Idle) same k');
+      gone = p.gone ++ slot_bytes (file_at d n);
+      all = append_assoc p.gone (slot_bytes (file_at d n)) (joined d rest) ∙ p.all;
+      making = subst (λ (y : List ℕ). Making old.tracks c l d uses ch new.content s' y Idle) (append_assoc bytes p.gone (slot_bytes (file_at d n))) (subst (λ (m : ℕ). Making m c l d uses ch new.content s' (bytes ++ p.gone ++ slot_bytes (file_at d n)) Idle) same k');
       copied = p.copied.1;
     }
 
 pub copied_cut : (old mid new : Seen) (s0 s s' : State) (sources : List ℕ) (i : ℕ) (t : Trouble) → i < length sources → mid.tracks ≡ old.tracks → mid.protected ≡ old.protected → old.failures ≤ mid.failures → PutsFile mid new s s' (slice_index_or sources i 0) (Err t) → IsCopiedOn old mid s0 s sources i
-    → (c : Content) (l : Layout) (d : Disk) (uses : ℕ → Use) (ch : ℕ) (bytes : List ℕ) → Making old.tracks c l d uses ch old.content s0 bytes Idle → AreCopied d sources → blocks_of (length (bytes ++ joined d sources)) ≤ d.free → IsCutShort old new c l d uses t
+    → (c : Content) (l : Layout) (d : Disk) (uses : ℕ → Use) (ch : ℕ) (bytes : List ℕ) → Making old.tracks c l d uses ch old.content s0 bytes Idle → AreCopied d sources → blocks_of (length (bytes ++ joined d sources)) ≤ d.free → IsCopyCut old new c l d uses t
 copied_cut old mid new s0 s s' sources i t more same protected counted puts h c l d uses ch bytes k are room =
     let n : ℕ = slice_index_or sources i 0 in
     let rest : List ℕ = drop (i + 1) sources in
@@ -294,13 +294,13 @@ pub counted_first : (now : Seen) (sources : List ℕ) → IsCounted now sources 
 counted_first now sources = λ d uses h are. record { before = 0; all = omega arith; is = omega arith; copied = are }
 
 pub counted_step : (now : Seen) (sources : List ℕ) (i total bytes more : ℕ) → i < length sources → more ≡ min (total + bytes) 4294967295
-    → ((d : Disk) (uses : ℕ → Use) → HoldsNow now.tracks now.content d uses → CanBeCopied d (slice_index_or sources i 0) → bytes ≡ length (bytes_at (file_at d (slice_index_or sources i 0)))) → IsCounted now sources i total → IsCounted now sources (i + 1) more
+    → ((d : Disk) (uses : ℕ → Use) → HoldsNow now.tracks now.content d uses → CanBeCopied d (slice_index_or sources i 0) → bytes ≡ length (slot_bytes (file_at d (slice_index_or sources i 0)))) → IsCounted now sources i total → IsCounted now sources (i + 1) more
 counted_step now sources i total bytes more below e counts h = λ d uses holds are.
     let n : ℕ = slice_index_or sources i 0 in
     let p : IsCountedTo d sources (n ∷ drop (i + 1) sources) total = subst (λ (xs : List ℕ). IsCountedTo d sources xs total) (at_drop_more (λ (xs : List ℕ). xs) sources i 0 below) (h d uses holds are) in
     record {
       before = p.before + bytes;
-      all = omega (arith, p.all, counts d uses holds p.copied.0, length-append (bytes_at (file_at d n)) (joined d (drop (i + 1) sources)));
+      all = omega (arith, p.all, counts d uses holds p.copied.0, length-append (slot_bytes (file_at d n)) (joined d (drop (i + 1) sources)));
       is = omega (arith, e, p.is);
       copied = p.copied.1;
     }
@@ -320,35 +320,35 @@ all_counted now sources i total over h d uses holds are =
 past_none : (d : Disk) (n : ℕ) (f : File) → length d.slots ≤ n → file_at d n ≡ Some f → ⊥
 past_none d n f l e = let z = sym (get_or_past d.slots n None l) ∙ e in (cc)
 
-pub source_there : (tracks : ℕ) (c : Content) (l : Layout) (d : Disk) (n : ℕ) → Stands tracks c l d → CanBeCopied d n → Answers (directory_of tracks c) n (Ok None) → ⊥
+pub source_there : (tracks : ℕ) (c : Content) (l : Layout) (d : Disk) (n : ℕ) → HasLayout tracks c l d → CanBeCopied d n → Answers (directory_of tracks c) n (Ok None) → ⊥
 source_there tracks c l d n st can a = past_none d n can.file (slot_shown tracks c l d n (Ok None) st a) can.in_slot
 
-pub source_reads : (tracks : ℕ) (c : Content) (l : Layout) (d : Disk) (n : ℕ) (t : Trouble) → Stands tracks c l d → Answers (directory_of tracks c) n (Err t) → ⊥
+pub source_reads : (tracks : ℕ) (c : Content) (l : Layout) (d : Disk) (n : ℕ) (t : Trouble) → HasLayout tracks c l d → Answers (directory_of tracks c) n (Err t) → ⊥
 source_reads tracks c l d n t st a = slot_shown tracks c l d n (Err t) st a
 
-pub source_bytes : (tracks : ℕ) (c : Content) (l : Layout) (d : Disk) (n : ℕ) (entry : List ℕ) → Stands tracks c l d → CanBeCopied d n → Answers (directory_of tracks c) n (Ok (Some entry)) → HasBytes d n (bytes_at (file_at d n))
+pub source_bytes : (tracks : ℕ) (c : Content) (l : Layout) (d : Disk) (n : ℕ) (entry : List ℕ) → HasLayout tracks c l d → CanBeCopied d n → Answers (directory_of tracks c) n (Ok (Some entry)) → HasBytes d n (slot_bytes (file_at d n))
 source_bytes tracks c l d n entry st can a =
     let found = entry_found tracks c l n entry st.sound a in
     let e : List ℕ = entry_at c l.directory n in
-    let says : Says can.file e = subst (λ (o : Option File). SlotSays o e) (sym (st.describes.slots n found.0) ∙ can.in_slot) (slot_says (chain_bytes c (l.files n).data_blocks) e (l.files n) (st.sound.kinds n found.0)) in
-    record { file = can.file; in_slot = can.in_slot; closed = can.closed; body = says.body can.plain ∙ ap (λ (o : Option File). Bytes (bytes_at o)) (sym can.in_slot) }
+    let says : EntrySays can.file e = subst (λ (o : Option File). SlotSays o e) (sym (st.describes.slots n found.0) ∙ can.in_slot) (slot_says (chain_bytes c (l.files n).data_blocks) e (l.files n) (st.sound.kinds n found.0)) in
+    record { file = can.file; in_slot = can.in_slot; closed = can.closed; body = says.body can.plain ∙ ap (λ (o : Option File). Bytes (slot_bytes o)) (sym can.in_slot) }
 
 -- ---- the same, by what the calls answer
 
-pub no_trouble : (tracks geometry : ℕ) (c : Content) (l : Layout) (d : Disk) (n : ℕ) (t : Trouble) → Stands tracks c l d → geometry ≡ tracks → Answers (directory_of geometry c) n (Err t) → ⊥
+pub no_trouble : (tracks geometry : ℕ) (c : Content) (l : Layout) (d : Disk) (n : ℕ) (t : Trouble) → HasLayout tracks c l d → geometry ≡ tracks → Answers (directory_of geometry c) n (Err t) → ⊥
 no_trouble tracks geometry c l d n t st e a = source_reads tracks c l d n t st (subst (λ (x : ℕ). Answers (directory_of x c) n (Err t)) e a)
 
-pub no_end : (tracks geometry : ℕ) (c : Content) (l : Layout) (d : Disk) (n : ℕ) (o : Option (List ℕ)) → Stands tracks c l d → geometry ≡ tracks → CanBeCopied d n → o ≡ None → Answers (directory_of geometry c) n (Ok o) → ⊥
+pub no_end : (tracks geometry : ℕ) (c : Content) (l : Layout) (d : Disk) (n : ℕ) (o : Option (List ℕ)) → HasLayout tracks c l d → geometry ≡ tracks → CanBeCopied d n → o ≡ None → Answers (directory_of geometry c) n (Ok o) → ⊥
 no_end tracks geometry c l d n o st e can none a = source_there tracks c l d n st can (subst (λ (x : ℕ). Answers (directory_of x c) n (Ok None)) e (subst (λ (x : Option (List ℕ)). Answers (directory_of geometry c) n (Ok x)) none a))
 
 found_entry : (tracks geometry : ℕ) (c : Content) (n : ℕ) (o : Option (List ℕ)) (entry : List ℕ) → geometry ≡ tracks → o ≡ Some entry → Answers (directory_of geometry c) n (Ok o) → Answers (directory_of tracks c) n (Ok (Some entry))
 found_entry tracks geometry c n o entry e some a = subst (λ (x : ℕ). Answers (directory_of x c) n (Ok (Some entry))) e (subst (λ (x : Option (List ℕ)). Answers (directory_of geometry c) n (Ok x)) some a)
 
-pub source_held : (tracks geometry : ℕ) (c : Content) (l : Layout) (d : Disk) (n : ℕ) (o : Option (List ℕ)) (entry : List ℕ) (at : Place) → (tracks ≡ 35) ⊎ (tracks ≡ 40) → Stands tracks c l d → geometry ≡ tracks → CanBeCopied d n → o ≡ Some entry → Answers (directory_of geometry c) n (Ok o)
-    → at ≡ first_block entry → held_from geometry c (sector_count geometry) at ≡ (record { bytes = bytes_at (file_at d n); trouble = None })
+pub source_held : (tracks geometry : ℕ) (c : Content) (l : Layout) (d : Disk) (n : ℕ) (o : Option (List ℕ)) (entry : List ℕ) (at : Place) → (tracks ≡ 35) ⊎ (tracks ≡ 40) → HasLayout tracks c l d → geometry ≡ tracks → CanBeCopied d n → o ≡ Some entry → Answers (directory_of geometry c) n (Ok o)
+    → at ≡ first_block entry → held_from geometry c (sector_count geometry) at ≡ (record { bytes = slot_bytes (file_at d n); trouble = None })
 source_held tracks geometry c l d n o entry at size st e can some a first =
     let found = found_entry tracks geometry c n o entry e some a in
-    (λ i. held_from (e i) c (sector_count (e i)) (first i)) ∙ file_read tracks c l d n entry (bytes_at (file_at d n)) size st found (source_bytes tracks c l d n entry st can found)
+    (λ i. held_from (e i) c (sector_count (e i)) (first i)) ∙ file_read tracks c l d n entry (slot_bytes (file_at d n)) size st found (source_bytes tracks c l d n entry st can found)
 
 -- the source is the same while the copy is made
 pub can_less : (d : Disk) (n m : ℕ) → CanBeCopied d m → CanBeCopied (less n d) m
@@ -359,15 +359,15 @@ pub making_size : (medium geometry : ℕ) (c : Content) (l : Layout) (d : Disk) 
 making_size medium geometry c l d uses ch now s bytes u k e = e ∙ k.reached.same
 
 pub making_held : (medium geometry : ℕ) (c : Content) (l : Layout) (d : Disk) (uses : ℕ → Use) (ch : ℕ) (now : Content) (s : State) (bytes : List ℕ) (u : Use) (n : ℕ) (o : Option (List ℕ)) (entry : List ℕ) (at : Place) → Making medium c l d uses ch now s bytes u → geometry ≡ geometry_of medium now → CanBeCopied d n
-    → o ≡ Some entry → Answers (directory_of geometry now) n (Ok o) → at ≡ first_block entry → held_from geometry now (sector_count geometry) at ≡ (record { bytes = bytes_at (file_at d n); trouble = None })
+    → o ≡ Some entry → Answers (directory_of geometry now) n (Ok o) → at ≡ first_block entry → held_from geometry now (sector_count geometry) at ≡ (record { bytes = slot_bytes (file_at d n); trouble = None })
 making_held medium geometry c l d uses ch now s bytes u n o entry at k e can some a first =
     source_held (geometry_of medium c) geometry now k.reached.layout (less (length k.places) d) n o entry at (geometry_size medium c) k.reached.so.stands (e ∙ k.reached.same) (can_less d (length k.places) n can) some a first
-    ∙ (λ i. record { bytes = bytes_at (same_files_less d (length k.places) n i); trouble = None })
+    ∙ (λ i. record { bytes = slot_bytes (same_files_less d (length k.places) n i); trouble = None })
 
 -- the source is begun to be read
 pub making_reads : (medium geometry : ℕ) (c : Content) (l : Layout) (d : Disk) (uses : ℕ → Use) (ch : ℕ) (now : Content) (s : State) (bytes : List ℕ) (u : Use) (n : ℕ) (o : Option (List ℕ)) (entry : List ℕ) (at : Place) (r : Reading) → Making medium c l d uses ch now s bytes u → geometry ≡ geometry_of medium now
     → CanBeCopied d n → o ≡ Some entry → Answers (directory_of geometry now) n (Ok o) → at ≡ first_block entry → r.tracks ≡ geometry → BeginsAt now geometry at r → rest_of now r ≡ held_from geometry now (sector_count geometry) at
-    → Making medium c l d uses ch now s bytes (Reads n r (bytes_at (file_at d n)))
+    → Making medium c l d uses ch now s bytes (Reads n r (slot_bytes (file_at d n)))
 making_reads medium geometry c l d uses ch now s bytes u n o entry at r k e can some a first same begins rest = record {
   idle = k.idle;
   places = k.places;
@@ -376,8 +376,8 @@ making_reads medium geometry c l d uses ch now s bytes u n o entry at r k e can 
   wrote = k.wrote;
   same_tracks = k.same_tracks;
   count = k.count;
-  reads = reading_begun tracks now k.reached.layout d1 n entry (bytes_at (file_at d n)) r (geometry_size medium c) k.reached.so.stands found
-      (subst (λ (xs : List ℕ). HasBytes d1 n xs) (ap bytes_at (same_files_less d (length k.places) n)) (source_bytes tracks now k.reached.layout d1 n entry k.reached.so.stands (can_less d (length k.places) n can) found))
+  reads = reading_begun tracks now k.reached.layout d1 n entry (slot_bytes (file_at d n)) r (geometry_size medium c) k.reached.so.stands found
+      (subst (λ (xs : List ℕ). HasBytes d1 n xs) (ap slot_bytes (same_files_less d (length k.places) n)) (source_bytes tracks now k.reached.layout d1 n entry k.reached.so.stands (can_less d (length k.places) n can) found))
       (same ∙ size) (subst (λ (x : ℕ). BeginsAt now x (first_block entry) r) size (subst (λ (p : Place). BeginsAt now geometry p r) first begins)) (rest ∙ making_held medium geometry c l d uses ch now s bytes u n o entry at k e can some a first);
 }
   where
@@ -394,12 +394,12 @@ making_reads medium geometry c l d uses ch now s bytes u n o entry at r k e can 
     found = found_entry tracks geometry now n o entry size some a
 
 -- how much is counted
-pub held_length : (count : ℕ) (rest : Rest) (bytes : List ℕ) → count ≡ length rest.bytes → rest ≡ (record { bytes = bytes; trouble = None }) → count ≡ length bytes
-held_length count rest bytes e h = e ∙ ap (λ (r : Rest). length r.bytes) h
+pub held_length : (count : ℕ) (rest : RestOfFile) (bytes : List ℕ) → count ≡ length rest.bytes → rest ≡ (record { bytes = bytes; trouble = None }) → count ≡ length bytes
+held_length count rest bytes e h = e ∙ ap (λ (r : RestOfFile). length r.bytes) h
 
-pub held_whole : (t : Trouble) (rest : Rest) (bytes : List ℕ) → rest.trouble ≡ Some t → rest ≡ (record { bytes = bytes; trouble = None }) → ⊥
-held_whole t rest bytes e h = let z = sym e ∙ ap (λ (r : Rest). r.trouble) h in (cc)
+pub held_whole : (t : Trouble) (rest : RestOfFile) (bytes : List ℕ) → rest.trouble ≡ Some t → rest ≡ (record { bytes = bytes; trouble = None }) → ⊥
+held_whole t rest bytes e h = let z = sym e ∙ ap (λ (r : RestOfFile). r.trouble) h in (cc)
 
-pub counted_ok : (r : Result ℕ Trouble) (rest : Rest) (bytes : List ℕ) → IfOk r (λ n. n ≡ length rest.bytes) → IfErr r (λ t. rest.trouble ≡ Some t) → rest ≡ (record { bytes = bytes; trouble = None }) → IsOkAnd r (λ n. n ≡ length bytes)
+pub counted_ok : (r : Result ℕ Trouble) (rest : RestOfFile) (bytes : List ℕ) → IfOk r (λ n. n ≡ length rest.bytes) → IfErr r (λ t. rest.trouble ≡ Some t) → rest ≡ (record { bytes = bytes; trouble = None }) → IsOkAnd r (λ n. n ≡ length bytes)
 counted_ok (Ok n) rest bytes ok err h = held_length n rest bytes ok h
 counted_ok (Err t) rest bytes ok err h = absurd (held_whole t rest bytes err h)

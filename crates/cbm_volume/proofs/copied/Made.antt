@@ -13,16 +13,16 @@ use Rattle.cbm_file.specs.Files.{Bytes, File, Disk, file_at, empty_from, with_sl
 use Rattle.cbm_file.specs.Changes.{grown, with_file, closed_file, unclosed, finished}
 use Rattle.cbm_bam.specs.Map.{geometry_of}
 use Rattle.cbm_chain.specs.Data.{chain_bytes}
-use Rattle.cbm_chain.specs.Writing.{State, Part, last_of, place_or_none, Wrote, Ends}
+use Rattle.cbm_chain.specs.Writing.{State, Part, last_of, place_or_none, Wrote, EndsChain}
 use Rattle.cbm_chain.proofs.Ending.{EndsAt, ends_at}
 use Rattle.cbm_directory.specs.Entries.{IsClosedAs, Enters, type_byte, is_closed, is_relative, bit_of, sector_of}
 use Rattle.cbm_directory.specs.EntryChanges.{IsFreshAs}
 use Rattle.cbm_volume.specs.Blocks.{Blocks, no_blocks, slot_of}
 use Rattle.cbm_volume.specs.Copies.{less, Making}
-use Rattle.cbm_volume.specs.Layouts.{Owner, Directory, DataOf, Writer, is_loose, OwnedBy, Layout, Sound, slot_count, Stands}
+use Rattle.cbm_volume.specs.Layouts.{Owner, Directory, DataOf, Writer, is_loose, OwnedBy, Layout, Sound, slot_count, HasLayout}
 use Rattle.cbm_volume.specs.Opens.{IsUnused}
 use Rattle.cbm_volume.specs.Reaches.{is_file, KeepsFiles, Reached, SlotLost}
-use Rattle.cbm_volume.specs.Writers.{Use, Idle, has_slot, HoldsAt}
+use Rattle.cbm_volume.specs.Writers.{Use, Idle, uses_slot, HoldsAt}
 use Rattle.cbm_volume.proofs.opened.Beginning.{empty_unused}
 use Rattle.cbm_volume.proofs.written.Closing as closing
 use Rattle.cbm_volume.proofs.written.Closing.{is_ch, other_slot, plain_entry, some_file, IsEnded}
@@ -51,7 +51,7 @@ pub record IsLastOf (medium : ℕ) (c : Content) (l : Layout) (d : Disk) (uses :
   pub first : place_or_none s.first ≡ b
   pub counted : s.count ≡ length (b ∷ rest)
 
-pub made_last : (medium : ℕ) (c : Content) (l : Layout) (d : Disk) (uses : ℕ → Use) (ch : ℕ) (now now' : Content) (s : State) (bytes : List ℕ) (u : Use) → (k : Making medium c l d uses ch now s bytes u) → Ends now now' s.current s.waiting
+pub made_last : (medium : ℕ) (c : Content) (l : Layout) (d : Disk) (uses : ℕ → Use) (ch : ℕ) (now now' : Content) (s : State) (bytes : List ℕ) (u : Use) → (k : Making medium c l d uses ch now s bytes u) → EndsChain now now' s.current s.waiting
     → IsLastOf medium c l d uses ch now' s bytes
 made_last medium c l d uses ch now now' s bytes u k ends = by_places k.places k.reached k.owned k.wrote k.count
   where
@@ -66,7 +66,7 @@ made_last medium c l d uses ch now now' s bytes u k ends = by_places k.places k.
         let p : Place = last_of b rest in
         let mine : owner p ≡ Writer ch = last_owned owner (Writer ch) b rest held in
         let e : EndsAt tracks now now' b rest bytes = subst (λ (n : ℕ). EndsAt n now now' b rest bytes) k.same_tracks (ends_at now now' s b rest bytes wrote ends) in
-        let stands : Stands tracks now' r.layout d1 = stands_loose tracks now now' r.layout d1 p e.sector r.so.stands (ap is_loose mine) e.written in
+        let stands : HasLayout tracks now' r.layout d1 = stands_loose tracks now now' r.layout d1 p e.sector r.so.stands (ap is_loose mine) e.written in
         let head : now' directory_head ≡ now directory_head = ap (λ (x : Content). x directory_head) e.written ∙ written_elsewhere now p directory_head e.sector (λ z. (let y = sym mine ∙ ap owner z ∙ r.so.stands.sound.owned.map in (cc))) in
         let files : KeepsFiles r.layout now now' = files_written r.layout now now' p e.sector (Writer ch) mine refl e.written in
         let part : Part (geometry_of medium now) now (b ∷ rest) = subst (λ (n : ℕ). Part n now (b ∷ rest)) (k.same_tracks ∙ sym r.same) wrote.part in
@@ -138,13 +138,13 @@ made_over medium c l d uses ch now now' s bytes n kind name at entry body idle k
     let low : type_byte body % 16 ≡ type_byte entry % 16 = omega (arith, closes'.type) in
     let closed : is_closed body ≡ true = ap (λ (t : ℕ). bit_of t 7) closes'.type ∙ ap (λ (t : ℕ). t == 1) (let seven : (type_byte entry % 128 + 128) / 128 % 2 ≡ 1 = omega arith in seven) in
     let flat : is_relative body ≡ false = ap (λ (t : ℕ). t == 4) low ∙ plain_entry (chain_bytes now []) entry no_blocks small (ap (λ (x : File). is_same_type Rel x.kind) (some_file (chain_bytes now []) entry no_blocks was fresh).1 ∙ plain) in
-    let stands : Stands tracks now' l2 (with_slot d1 n (slot_of now body blocks_new)) =
+    let stands : HasLayout tracks now' l2 (with_slot d1 n (slot_of now body blocks_new)) =
     stands_finish tracks now now' l1 d1 n ch (sector_of l1.directory n) k.b k.rest body k.ended.stands there refl k.held k.ended.part k.ended.reads k.ended.ends enters (omega (arith, low, small)) closed flat (λ i. record { track = closes'.track i; sector = closes'.sector i }) in
     let mine : owner (sector_of l1.directory n) ≡ Directory = sector_owned l1 r.so.stands.sound.owned n there in
     let keeps : (o : Owner) → Directory ≢ o → Keeps now now' owner o = λ o z. written_keeps now now' (sector_of l1.directory n) enters.sector owner o enters.written (λ y. z (sym mine ∙ y)) in
     let head : now' directory_head ≡ now directory_head = ap (λ (x : Content). x directory_head) enters.written ∙ written_elsewhere now (sector_of l1.directory n) directory_head enters.sector (λ z. (let y = sym mine ∙ ap owner z ∙ r.so.stands.sound.owned.map in (cc))) in
     let files : KeepsFiles l1 now now' = files_written l1 now now' (sector_of l1.directory n) enters.sector Directory mine refl enters.written in
-    let so : HoldsAt tracks now' l2 d2 uses = holds_on tracks now now' l1 l2 d1 d2 uses ch (λ m. m == n) idle r.so (subst (λ (x : Option File). Stands tracks now' l2 (with_slot d1 n x)) file stands)
+    let so : HoldsAt tracks now' l2 d2 uses = holds_on tracks now now' l1 l2 d1 d2 uses ch (λ m. m == n) idle r.so (subst (λ (x : Option File). HasLayout tracks now' l2 (with_slot d1 n x)) file stands)
     (record {
       writers = λ x out. keeps (Writer x) (λ z. (cc));
       writers_own = λ x q out z. own_all_keeps owner (Writer ch) (DataOf n) (Writer x) xs q k.held (λ y. (let g : x ≡ ch = cc in let t = sym (eq-eqb x ch g) ∙ out in (cc))) z;
@@ -152,7 +152,7 @@ made_over medium c l d uses ch now now' s bytes n kind name at entry body idle k
       files_own = λ m q no z. own_all_keeps owner (Writer ch) (DataOf n) (DataOf m) xs q k.held (λ y. (cc)) z;
       more = omega arith;
       slots = λ m no. other_slot d1 n m (Some f) no;
-    }) (λ m i h. ne_eqb i n (λ z. (let y = sym (unused m) ∙ ap (λ (j : ℕ). has_slot j (uses m)) (sym z) ∙ h in (cc)))) in
+    }) (λ m i h. ne_eqb i n (λ z. (let y = sym (unused m) ∙ ap (λ (j : ℕ). uses_slot j (uses m)) (sym z) ∙ h in (cc)))) in
     let disk : d2 ≡ with_file d f blocks = λ i. record (grown d) { slots = slice_set (grown d).slots (slot_is d n empty i) (Some f); free = d.free - blocks } in
     record {
       layout = l2;

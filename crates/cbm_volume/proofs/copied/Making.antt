@@ -9,13 +9,13 @@ use Rattle.cbm_medium.proofs.Places.{place_decide, written_elsewhere}
 use Rattle.cbm_file.specs.Files.{Disk, file_at, parts, blocks_of}
 use Rattle.cbm_file.specs.Changes.{grown}
 use Rattle.cbm_bam.specs.Map.{Claims, geometry_of}
-use Rattle.cbm_chain.specs.Writing.{State, last_of, Wrote, Fills, with_byte, begun_at, gone_on, IsStopped, GoesOn, Puts}
+use Rattle.cbm_chain.specs.Writing.{State, last_of, Wrote, Fills, with_byte, begun_at, gone_on, IsWriteStopped, GoesOnWriting, Puts}
 use Rattle.cbm_chain.proofs.Putting.{wrote_more, wrote_on}
 use Rattle.cbm_relfile.specs.Records.{AllWhole}
 use Rattle.cbm_volume.specs.Copies.{less, Making}
-use Rattle.cbm_volume.specs.Layouts.{Owner, TheMap, DataOf, Writer, Nobody, is_loose, OwnedBy, Layout, Sound, Stands, own}
+use Rattle.cbm_volume.specs.Layouts.{Owner, TheMap, DataOf, Writer, Nobody, is_loose, OwnedBy, Layout, Sound, HasLayout, own}
 use Rattle.cbm_volume.specs.Reaches.{is_file, KeepsFiles, Reached, SlotLost}
-use Rattle.cbm_volume.specs.Writers.{Use, Idle, IsUsed, has_slot, HoldsAt}
+use Rattle.cbm_volume.specs.Writers.{Use, Idle, IsUsed, uses_slot, HoldsAt}
 use Rattle.cbm_volume.proofs.written.Closing.{is_ch}
 use Rattle.cbm_volume.proofs.written.Finishes.{last_owned}
 use Rattle.cbm_volume.proofs.layouts.Frames.{Keeps}
@@ -32,8 +32,8 @@ use Rattle.cbm_volume.proofs.layouts.Writers.{owned_kept, Spares, used_kept, sta
 -- ---- the other channels
 
 -- THE DISK STEPS, and no channel notices: the writer of the number that none has goes on
-pub holds_on : (tracks : ℕ) (c c' : Content) (l l' : Layout) (d d' : Disk) (uses : ℕ → Use) (ch : ℕ) (changes : ℕ → Bool) → uses ch ≡ Idle → HoldsAt tracks c l d uses → Stands tracks c' l' d' → Spares c c' l l' d d' (is_ch ch) changes
-    → ((m n : ℕ) → has_slot n (uses m) ≡ true → changes n ≡ false) → HoldsAt tracks c' l' d' uses
+pub holds_on : (tracks : ℕ) (c c' : Content) (l l' : Layout) (d d' : Disk) (uses : ℕ → Use) (ch : ℕ) (changes : ℕ → Bool) → uses ch ≡ Idle → HoldsAt tracks c l d uses → HasLayout tracks c' l' d' → Spares c c' l l' d d' (is_ch ch) changes
+    → ((m n : ℕ) → uses_slot n (uses m) ≡ true → changes n ≡ false) → HoldsAt tracks c' l' d' uses
 holds_on tracks c c' l l' d d' uses ch changes idle h st s spared = record {
   stands = st;
   each = λ m. elim (cases_eq m ch) [
@@ -136,7 +136,7 @@ making_filled medium c l d uses ch now now' s bytes byte u p q whole k some full
         let l' : Layout = with_owner r.layout (own owner q (Writer ch)) in
         let at : p ≡ last_of b rest = (let z = sym some ∙ wrote.current in (cc)) in
         let claimed : Claimed tracks now f.middle r.layout d1 q = stands_claim tracks now f.middle r.layout d1 q r.so.stands (few medium c) f.claims in
-        let owned : Stands tracks f.middle l' (one_less d1) = stands_owned tracks f.middle r.layout (one_less d1) q ch claimed.stands claimed.taken in
+        let owned : HasLayout tracks f.middle l' (one_less d1) = stands_owned tracks f.middle r.layout (one_less d1) q ch claimed.stands claimed.taken in
         let mine : owner p ≡ Writer ch = ap owner at ∙ last_owned owner (Writer ch) b rest held in
         let loose : is_loose (l'.owner p) ≡ true = ap is_loose (own_elsewhere owner q p (Writer ch) (λ z. (let y = sym claimed.taken.nobody ∙ ap owner z ∙ mine in (cc))) ∙ mine) in
         let before : Spares now f.middle r.layout l' d1 (one_less d1) (λ x. false) (λ n. false) = spares_owned tracks now f.middle r.layout d1 q ch r.so.stands f.claims claimed.taken.nobody in
@@ -149,7 +149,7 @@ making_filled medium c l d uses ch now now' s bytes byte u p q whole k some full
           more = omega arith;
           slots = λ m no. refl;
         } in
-        let stands : Stands tracks now' l' d2 = subst (λ (x : Disk). Stands tracks now' l' x) (less_one d n (length more) number) (stands_loose tracks f.middle now' l' (one_less d1) p f.sector owned loose f.written) in
+        let stands : HasLayout tracks now' l' d2 = subst (λ (x : Disk). HasLayout tracks now' l' x) (less_one d n (length more) number) (stands_loose tracks f.middle now' l' (one_less d1) p f.sector owned loose f.written) in
         let head : now' directory_head ≡ f.middle directory_head = ap (λ (x : Content). x directory_head) f.written ∙ written_elsewhere f.middle p directory_head f.sector (λ z. (let y = sym mine ∙ ap owner z ∙ r.so.stands.sound.owned.map in (cc))) in
         let files : KeepsFiles r.layout now now' = files_then r.layout now f.middle now' (files_written r.layout now f.middle directory_head f.claims.remaps.map TheMap r.so.stands.sound.owned.map refl f.claims.remaps.written)
         (files_written r.layout f.middle now' p f.sector (Writer ch) mine refl f.written) in
@@ -194,7 +194,7 @@ making_puts medium c l d uses ch now now' s t bytes byte u whole k (inr goes) = 
     some : s.current ≢ None
     some = has_block medium c l d uses ch now s bytes u k
 
-    by_current : (x : Option Place) → s.current ≡ x → GoesOn now now' x s goes.0 → Making medium c l d uses ch now' t (bytes ++ byte ∷ []) u
+    by_current : (x : Option Place) → s.current ≡ x → GoesOnWriting now now' x s goes.0 → Making medium c l d uses ch now' t (bytes ++ byte ∷ []) u
     by_current None z g = absurd (some z)
     by_current (Some p) z g =
         subst (λ (x : State). Making medium c l d uses ch now' x (bytes ++ byte ∷ []) u) (sym (goes.2 ∙ ap (with_byte byte) g.2))
@@ -203,7 +203,7 @@ making_puts medium c l d uses ch now now' s t bytes byte u whole k (inr goes) = 
 -- ---- a stop
 
 -- nothing has changed, or a block was claimed that is nobody's
-pub making_stopped : (medium : ℕ) (c : Content) (l : Layout) (d : Disk) (uses : ℕ → Use) (ch : ℕ) (now now' : Content) (s : State) (bytes : List ℕ) (u : Use) → Making medium c l d uses ch now s bytes u → IsStopped s.tracks now now' → SlotLost medium c l now' d uses
+pub making_stopped : (medium : ℕ) (c : Content) (l : Layout) (d : Disk) (uses : ℕ → Use) (ch : ℕ) (now now' : Content) (s : State) (bytes : List ℕ) (u : Use) → Making medium c l d uses ch now s bytes u → IsWriteStopped s.tracks now now' → SlotLost medium c l now' d uses
 making_stopped medium c l d uses ch now now' s bytes u k (inl same) = record {
   disk = less (length k.places) d;
   reached = reached_same medium c l now now' (less (length k.places) d) uses same k.reached;

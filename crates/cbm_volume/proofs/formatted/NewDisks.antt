@@ -18,7 +18,7 @@ use Rattle.cbm_directory.specs.Growth.{new_sector}
 use Rattle.cbm_volume.specs.Blocks.{no_blocks, LiesAs, file_of}
 use Rattle.cbm_chain.specs.Data.{chain_bytes}
 use Rattle.cbm_volume.specs.Holding.{HoldsDisk}
-use Rattle.cbm_volume.specs.Layouts.{Owner, Nobody, TheMap, Directory, DataOf, SideOf, Layout, IsWritable, Stands, Means, own}
+use Rattle.cbm_volume.specs.Layouts.{Owner, Nobody, TheMap, Directory, DataOf, SideOf, Layout, IsCellWritable, HasLayout, Means, own}
 use Rattle.cbm_volume.specs.NewDisks.{used_by_new, IsEmptied, OnlyNew, id_behind, content_under}
 use Rattle.cbm_volume.specs.Writers.{Use, Idle, IsUsed, HoldsNow, writes_slot}
 use Rattle.cbm_medium.proofs.Places.{place_decide}
@@ -81,7 +81,7 @@ all_blocks : (tracks : ℕ) → (tracks ≡ 35) ⊎ (tracks ≡ 40) → number t
 all_blocks tracks (inl e) = subst (λ (n : ℕ). number n free_in_new ≡ blocks_on n) (sym e) refl
 all_blocks tracks (inr e) = subst (λ (n : ℕ). number n free_in_new ≡ blocks_on n) (sym e) refl
 
-stands_new : (tracks : ℕ) (title id : List ℕ) (c c' : Content) (d : Disk) → (tracks ≡ 35) ⊎ (tracks ≡ 40) → ((p : Place) → Has tracks p → IsWritable (c p)) → IsEmptied tracks title id c c' → Stands tracks c' new_layout (new_disk tracks title (Some id) d)
+stands_new : (tracks : ℕ) (title id : List ℕ) (c c' : Content) (d : Disk) → (tracks ≡ 35) ⊎ (tracks ≡ 40) → ((p : Place) → Has tracks p → IsCellWritable (c p)) → IsEmptied tracks title id c c' → HasLayout tracks c' new_layout (new_disk tracks title (Some id) d)
 stands_new tracks title id c c' d either writable e = record {
   sound = record {
     owned = record {
@@ -92,7 +92,7 @@ stands_new tracks title id c c' d either writable e = record {
       on_18 = on_track_18;
       off_18 = λ p t n. no_file p n;
     };
-    writable = subst (λ (x : Content). (p : Place) → Has tracks p → IsWritable (x p)) (sym e.written)
+    writable = subst (λ (x : Content). (p : Place) → Has tracks p → IsCellWritable (x p)) (sym e.written)
         (writable_written tracks (written c directory_head e.head) first_directory new_sector (writable_written tracks c directory_head e.head writable));
     map_reads = subst (λ (x : Cell). IsOk x) (sym at_head) refl;
     directory = (refl, (omega arith, omega (arith, some_tracks tracks either), omega arith), subst (λ (x : Cell). IsOk x) (sym at_first) refl, ap (λ (x : Cell). (link (or_nothing x)).track) at_first);
@@ -138,7 +138,7 @@ all_used medium title id c c' (inr e) h = subst (λ (n : ℕ). geometry_of n c' 
     (ap (geometry_in 40) (ap (λ (x : Content). x directory_head) h.written) ∙ ap tracks_if (wide h.head (subst (λ (n : ℕ). IsCounted n h.head) e h.is_head.counted)))
 
 -- THE MEDIUM HOLDS THE EMPTY DISK
-new_holds : (medium : ℕ) (title id : List ℕ) (c c' : Content) (d : Disk) → (medium ≡ 35) ⊎ (medium ≡ 40) → ((p : Place) → Has medium p → IsWritable (c p)) → IsEmptied medium title id c c' → HoldsDisk medium c' (new_disk medium title (Some id) d)
+new_holds : (medium : ℕ) (title id : List ℕ) (c c' : Content) (d : Disk) → (medium ≡ 35) ⊎ (medium ≡ 40) → ((p : Place) → Has medium p → IsCellWritable (c p)) → IsEmptied medium title id c c' → HoldsDisk medium c' (new_disk medium title (Some id) d)
 new_holds medium title id c c' d either writable e =
     subst (λ (n : ℕ). Means n c' (new_disk medium title (Some id) d)) (sym (all_used medium title id c c' either e))
     (record { layout = new_layout; stands = stands_new medium title id c c' d either writable e })
@@ -156,7 +156,7 @@ idle_holds medium c d uses m idle = record {
 
 -- ---- without an id
 
-no_fault : (x : Cell) → header_fault x ≡ None → IsWritable x
+no_fault : (x : Cell) → header_fault x ≡ None → IsCellWritable x
 no_fault (Ok bytes) h = tt
 no_fault (Err code) h = go (is_header_fault code) refl h
   where
@@ -168,7 +168,7 @@ no_fault (Err code) h = go (is_header_fault code) refl h
 abbrev pub OuterGood : ℕ → Content → Type 0
 OuterGood medium c = (p : Place) → medium ≡ 40 → 35 < p.track → header_fault (c p) ≡ None
 
-all_writable : (medium tracks : ℕ) (c : Content) → (medium ≡ 35) ⊎ (medium ≡ 40) → 35 ≤ tracks → OuterGood medium c → ((p : Place) → Has tracks p → IsWritable (c p)) → (p : Place) → Has medium p → IsWritable (c p)
+all_writable : (medium tracks : ℕ) (c : Content) → (medium ≡ 35) ⊎ (medium ≡ 40) → 35 ≤ tracks → OuterGood medium c → ((p : Place) → Has tracks p → IsCellWritable (c p)) → (p : Place) → Has medium p → IsCellWritable (c p)
 all_writable medium tracks c either enough outer writable p h = elim (cases_lt 35 p.track) [
   | inl far ↦ elim either [ inl e ↦ absurd (omega (arith, h.1)) | inr e ↦ no_fault (c p) (outer p e far) ]
   | inr near ↦ writable p (h.0, omega arith, h.2)
@@ -178,10 +178,10 @@ enough_tracks : (medium : ℕ) (c : Content) → 35 ≤ geometry_of medium c
 enough_tracks medium c = elim (geometry_size medium c) [ inl e ↦ omega (arith, e) | inr e ↦ omega (arith, e) ]
 
 -- 18/0 and 18/1 take a write on a disk that is sound
-pub head_writable : (medium : ℕ) (c : Content) (d : Disk) (uses : ℕ → Use) → HoldsNow medium c d uses → IsWritable (c directory_head)
+pub head_writable : (medium : ℕ) (c : Content) (d : Disk) (uses : ℕ → Use) → HoldsNow medium c d uses → IsCellWritable (c directory_head)
 head_writable medium c d uses h = h.so.stands.sound.writable directory_head (omega arith, omega (arith, enough_tracks medium c), omega arith)
 
-pub first_writable : (medium : ℕ) (c : Content) (d : Disk) (uses : ℕ → Use) → HoldsNow medium c d uses → IsWritable (c first_directory)
+pub first_writable : (medium : ℕ) (c : Content) (d : Disk) (uses : ℕ → Use) → HoldsNow medium c d uses → IsCellWritable (c first_directory)
 first_writable medium c d uses h = h.so.stands.sound.writable first_directory (omega arith, omega (arith, enough_tracks medium c), omega arith)
 
 two_of_five : (xs : List ℕ) → take 2 (take 5 xs) ≡ take 2 xs
@@ -201,13 +201,13 @@ pub made_short : (r : Result (Unit {0}) Trouble) (medium : ℕ) (title id : List
     → OnOk r (IsEmptied medium title id c c') → (d : Disk) (uses : ℕ → Use) → HoldsNow medium c d uses → ((ch : ℕ) → uses ch ≡ Idle) → OnOk r (HoldsNow medium c' (new_disk medium title o d) uses)
 made_short (Err t) medium title id o c c' either outer none is e d uses h idle = tt
 made_short (Ok x) medium title id o c c' either outer none is e d uses h idle =
-    let writable : (p : Place) → Has medium p → IsWritable (c p) = all_writable medium (geometry_of medium c) c either (enough_tracks medium c) outer h.so.stands.sound.writable in
+    let writable : (p : Place) → Has medium p → IsCellWritable (c p) = all_writable medium (geometry_of medium c) c either (enough_tracks medium c) outer h.so.stands.sound.writable in
     let same : new_disk medium title (Some id) d ≡ new_disk medium title o d = with_mark_of medium title id d (same_id medium c d uses id h is) ∙ ap (λ (y : Option (List ℕ)). new_disk medium title y d) (sym none) in
     subst (λ (y : Disk). HoldsNow medium c' y uses) same (idle_holds medium c' (new_disk medium title (Some id) d) uses (new_holds medium title id c c' d either writable e) idle)
 
 -- ---- with an id
 
-blank_writable : (medium : ℕ) (p : Place) → Has medium p → IsWritable (blank p)
+blank_writable : (medium : ℕ) (p : Place) → Has medium p → IsCellWritable (blank p)
 blank_writable medium p h = tt
 
 -- NEW WITH AN ID, on any content

@@ -4,7 +4,7 @@ use Rattle.std.specs.Prelude.{not, replicate, slice_range, slice_index}
 use Rattle.std.proofs.lemmas.List.{length-replicate}
 use Rattle.cbm_medium.specs.Place.{Place, Has}
 use Rattle.cbm_file.specs.Padding.{padded}
-use Rattle.cbm_bam.specs.Map.{is_free_in, IsCounted, IsOutside, IsSpare}
+use Rattle.cbm_bam.specs.Map.{is_free_in, IsCounted, IsOutsideMap, IsSpare}
 use Rattle.cbm_directory.proofs.Written.{range_same}
 use Rattle.cbm_volume.specs.NewDisks.{used_by_new, new_label, around_map, IsNewHead}
 
@@ -53,14 +53,14 @@ mark_around title id h l =
     ∙ mark_in id (replicate 85 0) l
 
 -- a part of the sector that the map leaves alone
-outside_same : (tracks : ℕ) (old new : List ℕ) (from end : ℕ) → length new ≡ 256 → length old ≡ 256 → ((i : ℕ) → IsOutside tracks i → slice_index new i ≡ slice_index old i) → 144 ≤ from → end ≤ 192
+outside_same : (tracks : ℕ) (old new : List ℕ) (from end : ℕ) → length new ≡ 256 → length old ≡ 256 → ((i : ℕ) → IsOutsideMap tracks i → slice_index new i ≡ slice_index old i) → 144 ≤ from → end ≤ 192
     → slice_range new from end ≡ slice_range old from end
 outside_same tracks old new from end n o h a b = range_same new old from end (n ∙ sym o) (λ i p q. h i (inr (omega arith, inr (inl (omega arith)))))
 
 -- THE MAP IS WRITTEN INTO A SECTOR THAT HAS THE LABEL
 pub is_new_head : (tracks : ℕ) (title id around new : List ℕ) (used : Place → Bool) → length title ≤ 16 → length id ≡ 2 → used ≡ used_by_new → around ≡ around_map title id → length new ≡ 256 → length around ≡ 256
     → ((p : Place) → Has tracks p → is_free_in new p ≡ not (used p)) → IsCounted tracks new → ((p : Place) → IsSpare tracks p → is_free_in new p ≡ false)
-    → ((i : ℕ) → IsOutside tracks i → slice_index new i ≡ slice_index around i) → IsNewHead tracks title id new
+    → ((i : ℕ) → IsOutsideMap tracks i → slice_index new i ≡ slice_index around i) → IsNewHead tracks title id new
 is_new_head tracks title id around new used short two u is n o free counted spare outside = record {
   free = λ p h. free p h ∙ ap (λ (f : Place → Bool). not (f p)) u;
   counted = counted;

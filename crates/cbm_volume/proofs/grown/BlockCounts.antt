@@ -17,13 +17,13 @@ use Rattle.cbm_file.specs.Records.{with_sized_body}
 use Rattle.cbm_bam.specs.Map.{geometry_of}
 use Rattle.cbm_bam.specs.Causes.{HasCause}
 use Rattle.cbm_chain.specs.Data.{chain_bytes}
-use Rattle.cbm_directory.specs.Entries.{Enters, first_directory, type_byte, bit_of, kind_of, is_closed, is_relative, name_in, entry_at, sector_of}
+use Rattle.cbm_directory.specs.Entries.{Enters, first_directory, type_byte, bit_of, type_of_number, is_closed, is_relative, name_in, entry_at, sector_of}
 use Rattle.cbm_directory.specs.EntryChanges.{IsCountedAs}
 use Rattle.cbm_directory.specs.Slots.{Answers, directory_of}
 use Rattle.cbm_volume.specs.Blocks.{Blocks, Lies, LiesAs, body_as, file_of, slot_with, slot_of}
-use Rattle.cbm_volume.specs.Holding.{StandsAt}
-use Rattle.cbm_volume.specs.Layouts.{Owner, Directory, Layout, slot_count, Sound, Stands}
-use Rattle.cbm_volume.specs.Writers.{Use, Relates, IsRelating, IsUsed, has_slot, writes_slot, HoldsAt, Holds, HoldsNow}
+use Rattle.cbm_volume.specs.Holding.{EntryStandsAt}
+use Rattle.cbm_volume.specs.Layouts.{Owner, Directory, Layout, slot_count, Sound, HasLayout}
+use Rattle.cbm_volume.specs.Writers.{Use, Relates, IsRelating, IsUsed, uses_slot, writes_slot, HoldsAt, Holds, HoldsNow}
 use Rattle.cbm_volume.specs.RecordWrites.{HasRecordsOpen}
 use Rattle.cbm_volume.specs.Growing.{disk_with}
 use Rattle.cbm_volume.specs.Opens.{IsHindered}
@@ -46,7 +46,7 @@ counted_file bytes old new blocks b f says s =
     let was = some_file bytes old b f s in
     let t : type_byte new ≡ type_byte old = says.typed in
     let some : (type_byte new == 0) ≡ false = ap (λ (n : ℕ). n == 0) t ∙ was.0 in
-    let k : kind_of (type_byte new % 16) ≡ f.kind = ap (λ (n : ℕ). kind_of (n % 16)) t ∙ ap (λ (x : File). x.kind) was.1 in
+    let k : type_of_number (type_byte new % 16) ≡ f.kind = ap (λ (n : ℕ). type_of_number (n % 16)) t ∙ ap (λ (x : File). x.kind) was.1 in
     let c : is_closed new ≡ f.closed = ap (λ (n : ℕ). bit_of n 7) t ∙ ap (λ (x : File). x.closed) was.1 in
     let lo : bit_of (type_byte new) 6 ≡ f.locked = ap (λ (n : ℕ). bit_of n 6) t ∙ ap (λ (x : File). x.locked) was.1 in
     let na : name_in new ≡ f.name = ap before_filler says.named ∙ ap (λ (x : File). x.name) was.1 in
@@ -69,7 +69,7 @@ told_over tracks c c2 l d uses n ch blocks body f h relates at k enters says =
     let file : slot_of c body b ≡ Some f2 = counted_file (chain_bytes c b.data_blocks) old body blocks b f says (sym (h.stands.describes.slots n k) ∙ at) in
     let lies : Lies tracks c body b = subst (λ (x : ℕ). LiesAs (bit_of x 7) (x % 16 == 4) tracks c body b) (sym t) (lies_alike (is_closed old) (is_relative old) tracks c old body b (sym says.begins) (sym says.lists) (sym says.long) (sound.lies n k)) in
     let kind : type_byte body % 16 < 5 = subst (λ (x : ℕ). x % 16 < 5) (sym t) (sound.kinds n k) in
-    let stands : Stands tracks c2 l2 (with_slot d n (Some f2)) = subst (λ (x : Option File). Stands tracks c2 l2 (with_slot d n x)) file
+    let stands : HasLayout tracks c2 l2 (with_slot d n (Some f2)) = subst (λ (x : Option File). HasLayout tracks c2 l2 (with_slot d n x)) file
     (stands_entry tracks c c2 l d n (sector_of l.directory n) body b l.owner h.stands k refl enters kind lies (extends_itself l n sound.owned) (sound.owned.blocks n k) (sound.owned.sides n k) sound.free) in
     let keeps : (o : Owner) → Directory ≢ o → Keeps c c2 l.owner o = λ o ne. written_keeps c c2 (sector_of l.directory n) enters.sector l.owner o enters.written (λ y. ne (sym (sector_owned l sound.owned n k) ∙ y)) in
     record {
@@ -106,7 +106,7 @@ told_over tracks c c2 l d uses n ch blocks body f h relates at k enters says =
     }
 
     unwritten : (m : ℕ) → m ≢ ch → (x : Bool) → writes_slot n (uses m) ≡ x → writes_slot n (uses m) ≡ false
-    unwritten m ne true e = absurd (ne (h.alone m ch n e (ap (has_slot n) relates ∙ eq-eqb n n refl)))
+    unwritten m ne true e = absurd (ne (h.alone m ch n e (ap (uses_slot n) relates ∙ eq-eqb n n refl)))
     unwritten m ne false e = e
 
 -- ---- the clauses of the call, over plain values
@@ -115,7 +115,7 @@ told_over tracks c c2 l d uses n ch blocks body f h relates at k enters says =
 abbrev pub recounted : Disk → ℕ → File → ℕ → Disk
 recounted d n f blocks = with_slot d n (Some (record f { shown = blocks }))
 
-pub told : (medium : ℕ) (old new : Seen) (n blocks : ℕ) (entry body : List ℕ) (r : Result (Unit {0}) Trouble) → IsCountedAs entry body blocks → StandsAt medium old.content n entry → EntryPut (geometry_of medium old.content) old.content new.content n body r
+pub told : (medium : ℕ) (old new : Seen) (n blocks : ℕ) (entry body : List ℕ) (r : Result (Unit {0}) Trouble) → IsCountedAs entry body blocks → EntryStandsAt medium old.content n entry → EntryPut (geometry_of medium old.content) old.content new.content n body r
     → OnErr r (new.content ≡ old.content)
     → ((directory : List Place) → Chain (geometry_of medium old.content) old.content first_directory directory → n < 8 * length directory → IfErr r (λ t. HasCause old new (sector_of directory n) t.code))
     → (d : Disk) (uses : ℕ → Use) (ch : ℕ) (f : File) → HoldsNow medium old.content d uses → uses ch ≡ Relates n → file_at d n ≡ Some f
@@ -145,7 +145,7 @@ told medium old new n blocks entry body r says stands put err cause d uses ch f 
     by_result (Err x) e s t = (s, t)
 
 -- only the directory is written
-pub told_elsewhere : (medium : ℕ) (c c2 : Content) (n : ℕ) (entry body : List ℕ) (r : Result (Unit {0}) Trouble) → StandsAt medium c n entry → EntryPut (geometry_of medium c) c c2 n body r → OnErr r (c2 ≡ c) → (d : Disk) (uses : ℕ → Use) (h : HoldsNow medium c d uses)
+pub told_elsewhere : (medium : ℕ) (c c2 : Content) (n : ℕ) (entry body : List ℕ) (r : Result (Unit {0}) Trouble) → EntryStandsAt medium c n entry → EntryPut (geometry_of medium c) c c2 n body r → OnErr r (c2 ≡ c) → (d : Disk) (uses : ℕ → Use) (h : HoldsNow medium c d uses)
     → (p : Place) → h.layout.owner p ≢ Directory → c2 p ≡ c p
 told_elsewhere medium c c2 n entry body r stands put err d uses h p ne = by_result r (put h.layout.directory h.so.stands.sound.directory found.0) err
   where
@@ -162,7 +162,7 @@ told_there medium geometry c d uses n f found h at same none answers =
     no_slot d n f at (slot_shown (geometry_of medium c) c h.layout d n (Ok None) h.so.stands
     (subst (λ (x : Option (List ℕ)). Answers (directory_of (geometry_of medium c) c) n (Ok x)) (sym none) (subst (λ (t : ℕ). Answers (directory_of t c) n (Ok found)) same answers)))
 
-pub told_at : (medium geometry : ℕ) (c : Content) (n : ℕ) (entry : List ℕ) (found : Option (List ℕ)) → geometry ≡ geometry_of medium c → Some entry ≡ found → Answers (directory_of geometry c) n (Ok found) → StandsAt medium c n entry
+pub told_at : (medium geometry : ℕ) (c : Content) (n : ℕ) (entry : List ℕ) (found : Option (List ℕ)) → geometry ≡ geometry_of medium c → Some entry ≡ found → Answers (directory_of geometry c) n (Ok found) → EntryStandsAt medium c n entry
 told_at medium geometry c n entry found same is answers =
     subst (λ (x : Option (List ℕ)). Answers (directory_of (geometry_of medium c) c) n (Ok x)) (sym is) (subst (λ (t : ℕ). Answers (directory_of t c) n (Ok found)) same answers)
 

@@ -14,8 +14,8 @@ use Rattle.cbm_file.specs.Types.{is_same_type}
 use Rattle.cbm_file.specs.Files.{Disk, File, Records, file_at}
 use Rattle.cbm_file.specs.Records.{fresh_record}
 use Rattle.cbm_bam.specs.Map.{geometry_of, is_free_in, Claims}
-use Rattle.cbm_volume.specs.Layouts.{Owner, Nobody, Directory, DataOf, SideOf, Writer, is_loose, Layout, slot_count, Sound, Stands}
-use Rattle.cbm_volume.specs.Writers.{Use, Relates, IsRelating, IsUsed, has_slot, writes_slot, HoldsAt, HoldsNow}
+use Rattle.cbm_volume.specs.Layouts.{Owner, Nobody, Directory, DataOf, SideOf, Writer, is_loose, Layout, slot_count, Sound, HasLayout}
+use Rattle.cbm_volume.specs.Writers.{Use, Relates, IsRelating, IsUsed, uses_slot, writes_slot, HoldsAt, HoldsNow}
 use Rattle.cbm_volume.specs.RecordWrites.{HasRecordsOpen}
 use Rattle.cbm_volume.specs.Growth.{IsGrowthCut}
 use Rattle.cbm_volume.specs.Growing.{disk_with, IsAside, LeavesAside, IsGrowthStopped}
@@ -55,7 +55,7 @@ apart_from a b e z = let y = sym (eq-eqb a b z) ∙ e in cc
 
 -- ---- all channels go on
 
-pub holds_aside : (tracks : ℕ) (c c' : Content) (l l' : Layout) (d d' : Disk) (n : ℕ) (f : File) (uses : ℕ → Use) (ch : ℕ) → HoldsAt tracks c l d uses → uses ch ≡ Relates n → Stands tracks c' l' d' → file_at d' n ≡ Some f → f.closed ≡ true → is_same_type Rel f.kind ≡ true
+pub holds_aside : (tracks : ℕ) (c c' : Content) (l l' : Layout) (d d' : Disk) (n : ℕ) (f : File) (uses : ℕ → Use) (ch : ℕ) → HoldsAt tracks c l d uses → uses ch ≡ Relates n → HasLayout tracks c' l' d' → file_at d' n ≡ Some f → f.closed ≡ true → is_same_type Rel f.kind ≡ true
     → slot_count l' ≡ slot_count l → LeavesAside n c l c' l' → ((m : ℕ) → (m == n) ≡ false → file_at d' m ≡ file_at d m) → HoldsAt tracks c' l' d' uses
 holds_aside tracks c c' l l' d d' n f uses ch h relates st at closed kind count aside slots = record {
   stands = st;
@@ -72,9 +72,9 @@ holds_aside tracks c c' l l' d d' n f uses ch h relates st at closed kind count 
     here : IsRelating l' d' n
     here = record { there = omega (arith, was.there, count); file = f; in_slot = at; closed = closed; relative = kind }
 
-    other : (m : ℕ) → m ≢ ch → (k : ℕ) → has_slot k (uses m) ≡ true → (k == n) ≡ false
+    other : (m : ℕ) → m ≢ ch → (k : ℕ) → uses_slot k (uses m) ≡ true → (k == n) ≡ false
     other m ne k g = elim (cases_eq k n) [
-      | inl e ↦ absurd (ne (sym (h.alone ch m n (ap (writes_slot n) relates ∙ eq-eqb n n refl) (ap (λ (i : ℕ). has_slot i (uses m)) (sym e) ∙ g))))
+      | inl e ↦ absurd (ne (sym (h.alone ch m n (ap (writes_slot n) relates ∙ eq-eqb n n refl) (ap (λ (i : ℕ). uses_slot i (uses m)) (sym e) ∙ g))))
       | inr apart ↦ ne_eqb k n apart
     ]
 
@@ -131,7 +131,7 @@ module _ (medium : ℕ) (c0 : Content) (d : Disk) (uses : ℕ → Use) (n w b s 
   file_there rs1 b1 s1 free = get_or-set_same d.slots n (Some (record o.file { held = b1 + s1; body = Records w rs1 b1 s1 })) None slot_there
 
   -- A WRITE GOES ON FROM ONE STAGE TO ANOTHER
-  pub go_on : (c c' : Content) (l l' : Layout) (rs1 rs2 : List (List ℕ)) (b1 s1 free b2 s2 free2 : ℕ) → At c l rs1 b1 s1 free → Stands tracks c' l' (disk_with d n o.file w rs2 b2 s2 free2) → slot_count l' ≡ slot_count l → LeavesAside n c l c' l' → geometry_of medium c' ≡ geometry_of medium c
+  pub go_on : (c c' : Content) (l l' : Layout) (rs1 rs2 : List (List ℕ)) (b1 s1 free b2 s2 free2 : ℕ) → At c l rs1 b1 s1 free → HasLayout tracks c' l' (disk_with d n o.file w rs2 b2 s2 free2) → slot_count l' ≡ slot_count l → LeavesAside n c l c' l' → geometry_of medium c' ≡ geometry_of medium c
       → At c' l' rs2 b2 s2 free2
   go_on c c' l l' rs1 rs2 b1 s1 free b2 s2 free2 h st count aside same = record {
     holds = holds_aside tracks c c' l l' (disk_with d n o.file w rs1 b1 s1 free) (disk_with d n o.file w rs2 b2 s2 free2) n (record o.file { held = b2 + s2; body = Records w rs2 b2 s2 }) uses o.channel h.holds o.relates st

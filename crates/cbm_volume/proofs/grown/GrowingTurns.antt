@@ -19,7 +19,7 @@ use Rattle.cbm_relfile.proofs.Positions.{whole_bytes}
 use Rattle.cbm_volume.specs.Blocks.{Blocks, HasRecords, slot_of, slices}
 use Rattle.cbm_volume.specs.Growth.{filled_up}
 use Rattle.cbm_volume.specs.Growing.{disk_with, IsListed, LeavesAside, HasGrown, HasLonger}
-use Rattle.cbm_volume.specs.Layouts.{Owner, Nobody, TheMap, Directory, DataOf, SideOf, OwnedBy, Layout, slot_count, Stands, own}
+use Rattle.cbm_volume.specs.Layouts.{Owner, Nobody, TheMap, Directory, DataOf, SideOf, OwnedBy, Layout, slot_count, HasLayout, own}
 use Rattle.cbm_volume.specs.RecordWrites.{HasRecordsOpen}
 use Rattle.cbm_volume.specs.Writers.{Use}
 use Rattle.cbm_volume.proofs.written.Closing.{some_file}
@@ -51,7 +51,7 @@ pub record FileLies (tracks : ℕ) (c : Content) (l : Layout) (n w : ℕ) (rs : 
   pub blocks : b ≡ length (l.files n).data_blocks
   pub sides : s ≡ length (l.files n).sides
 
-pub file_lies : (tracks : ℕ) (c : Content) (l : Layout) (d : Disk) (n : ℕ) (f : File) (w b s : ℕ) (rs : List (List ℕ)) → Stands tracks c l d → n < slot_count l → file_at d n ≡ Some f → f.body ≡ Records w rs b s → FileLies tracks c l n w rs b s
+pub file_lies : (tracks : ℕ) (c : Content) (l : Layout) (d : Disk) (n : ℕ) (f : File) (w b s : ℕ) (rs : List (List ℕ)) → HasLayout tracks c l d → n < slot_count l → file_at d n ≡ Some f → f.body ≡ Records w rs b s → FileLies tracks c l n w rs b s
 file_lies tracks c l d n f w b s rs st there at is =
     let e : List ℕ = entry_at c l.directory n in
     let x : Blocks = l.files n in
@@ -225,7 +225,7 @@ module _ (medium : ℕ) (c0 : Content) (d : Disk) (uses : ℕ → Use) (n w b s 
         own_elsewhere l.owner q z (DataOf n) (λ e. a.not_nobody (sym h ∙ ap l.owner (sym e) ∙ one.taken.nobody)) ∙ h,
       ) in
       let at3 : At c' l3 rs2 (b1 + 1) s1 (d.free - (b1 + 1 + s1 - (b + s))) = go_on medium c0 d uses n w b s rs o c2 c' l l3 rs1 rs2 b1 s1 (free - 1) (b1 + 1) s1 (d.free - (b1 + 1 + s1 - (b + s))) two.stage
-      (subst (λ (y : Disk). Stands tracks c' l3 y) disk3 st) refl aside3 (geometry_elsewhere medium c2 c' head) in
+      (subst (λ (y : Disk). HasLayout tracks c' l3 y) disk3 st) refl aside3 (geometry_elsewhere medium c2 c' head) in
       let here : l3.files n ≡ longer x q = blocks_here l.files n (longer x q) in
       let entry : entry_at c' l.directory n ≡ entry_at c l.directory n = dir_kept c c' l l3 at0 (aside_then n c c2 c' l l l3 (aside_then n c k.one c2 l l l (step_claim c l q k.one at0 k.claims) (aside_written n k.one c2 l q k.fresh refl (λ y a z. a.not_nobody (sym z ∙ one.taken.nobody)))) aside3) there in
       let side1 : Keeps c k.one l.owner (SideOf n) = written_keeps c k.one directory_head k.claims.remaps.map l.owner (SideOf n) k.claims.remaps.written (is_not (l.owner directory_head) TheMap (SideOf n) at0.holds.stands.sound.owned.map (map_side n)) in

@@ -13,7 +13,7 @@ use Rattle.cbm_relfile.specs.Growing.{ListsSide, IsSideLinked, side_at}
 use Rattle.cbm_relfile.specs.SideSectors.{named_in, sides_listed}
 use Rattle.cbm_volume.specs.Blocks.{Blocks, slot_of, slices}
 use Rattle.cbm_volume.specs.Growing.{disk_with, IsListed, LeavesAside}
-use Rattle.cbm_volume.specs.Layouts.{Nobody, TheMap, Directory, DataOf, SideOf, OwnedBy, Layout, slot_count, Stands, own}
+use Rattle.cbm_volume.specs.Layouts.{Nobody, TheMap, Directory, DataOf, SideOf, OwnedBy, Layout, slot_count, HasLayout, own}
 use Rattle.cbm_volume.specs.RecordWrites.{HasRecordsOpen}
 use Rattle.cbm_volume.specs.Writers.{Use}
 use Rattle.cbm_volume.proofs.layouts.Frames.{Keeps, bytes_kept, owned_nth}
@@ -194,7 +194,7 @@ module _ (medium : ℕ) (c0 : Content) (d : Disk) (uses : ℕ → Use) (n w b s 
 
   -- and the file has it
   pub side_joined : (c c' : Content) (l : Layout) (rs1 : List (List ℕ)) (b1 s1 free : ℕ) (t : Place) → At c l rs1 b1 s1 free → l.owner t ≡ Nobody → (k : FirstLinked c c' l n t)
-      → Stands tracks c' (with_file l n (sided (l.files n) t) (own l.owner t (SideOf n))) (with_slot (disk_with d n o.file w rs1 b1 s1 free) n (slot_of c' (entry_at c l.directory n) (sided (l.files n) t)))
+      → HasLayout tracks c' (with_file l n (sided (l.files n) t) (own l.owner t (SideOf n))) (with_slot (disk_with d n o.file w rs1 b1 s1 free) n (slot_of c' (entry_at c l.directory n) (sided (l.files n) t)))
       → SideJoined medium c0 o.holds.layout d uses n o.file w c c' l (with_file l n (sided (l.files n) t) (own l.owner t (SideOf n))) rs1 b1 (s1 + 1) free
   side_joined c c' l rs1 b1 s1 free t at0 nobody k add =
       let x : Blocks = l.files n in
@@ -219,7 +219,7 @@ module _ (medium : ℕ) (c0 : Content) (d : Disk) (uses : ℕ → Use) (n w b s 
         own_elsewhere l.owner t z (SideOf n) (λ u. a.not_nobody (sym h ∙ ap l.owner (sym u) ∙ nobody)) ∙ h,
       ) in
       record {
-        stage = go_on medium c0 d uses n w b s rs o c c' l l3 rs1 rs1 b1 s1 free b1 (s1 + 1) free at0 (subst (λ (y : Disk). Stands tracks c' l3 y) disk3 add) refl aside (geometry_elsewhere medium c c' head_kept);
+        stage = go_on medium c0 d uses n w b s rs o c c' l l3 rs1 rs1 b1 s1 free b1 (s1 + 1) free at0 (subst (λ (y : Disk). HasLayout tracks c' l3 y) disk3 add) refl aside (geometry_elsewhere medium c c' head_kept);
         entry = entry_kept c c' l at0.holds.stands.sound.owned (λ y z. (aside Directory (aside_directory n) y z).0) n there;
         bytes = same_bytes;
       }

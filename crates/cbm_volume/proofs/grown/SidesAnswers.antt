@@ -13,7 +13,7 @@ use Rattle.cbm_relfile.specs.Growing.{IsSideLinked, IsLengthenStopped, IsListSto
 use Rattle.cbm_relfile.specs.Records.{Relative}
 use Rattle.cbm_volume.specs.AddingSides.{HasSides, HasEmptySide}
 use Rattle.cbm_volume.specs.Growing.{disk_with, IsGrowthStopped}
-pub use Rattle.cbm_volume.specs.GrowthSteps.{State, OfSides, OfRoom, OfRoomFor, OfEmpty}
+pub use Rattle.cbm_volume.specs.GrowthSteps.{GrowthState, OfSides, OfRoom, OfRoomFor, OfEmpty}
 use Rattle.cbm_volume.specs.Layouts.{Nobody, TheMap, SideOf, OwnedBy}
 use Rattle.cbm_volume.specs.RecordWrites.{HasRecordsOpen}
 use Rattle.cbm_volume.specs.Writers.{Use}
@@ -134,19 +134,19 @@ module _ (old new : Seen) (c0 : Content) (d : Disk) (uses : ℕ → Use) (n w b 
 -- ---- one call after another
 
 -- a call goes from one state to another, or stops; `says` picks the one of its exit, or both by its result
-abbrev pub GoesBy : ℕ → Seen → Seen → ℕ → State → State → (Type 0 → (Trouble → Type 0) → Type 0) → Type 0
+abbrev pub GoesBy : ℕ → Seen → Seen → ℕ → GrowthState → GrowthState → (Type 0 → (Trouble → Type 0) → Type 0) → Type 0
 GoesBy m old new geometry From To says = (c0 : Content) (d : Disk) (uses : ℕ → Use) (n w b s : ℕ) (rs : List (List ℕ)) (o : HasRecordsOpen m c0 d uses n w b s rs) → geometry ≡ geometry_of m c0
     → From m c0 d uses n w b s rs o old.content → says (To m c0 d uses n w b s rs o new.content) (IsGrowthStopped old new c0 o.holds.layout d uses n w rs)
 
-pub ok_then : (old mid new : Seen) (geometry : ℕ) (A B C : State) → mid.tracks ≡ old.tracks → GoesBy old.tracks old mid geometry A B (λ p q. p) → GoesBy mid.tracks mid new geometry B C (λ p q. p) → GoesBy old.tracks old new geometry A C (λ p q. p)
+pub ok_then : (old mid new : Seen) (geometry : ℕ) (A B C : GrowthState) → mid.tracks ≡ old.tracks → GoesBy old.tracks old mid geometry A B (λ p q. p) → GoesBy mid.tracks mid new geometry B C (λ p q. p) → GoesBy old.tracks old new geometry A C (λ p q. p)
 ok_then old mid new geometry A B C same f k c0 d uses n w b s rs o e h = subst (λ (m : ℕ). GoesBy m mid new geometry B C (λ p q. p)) same k c0 d uses n w b s rs o e (f c0 d uses n w b s rs o e h)
 
-pub stop_then : (old mid new : Seen) (geometry : ℕ) (u : Trouble) (A B C : State) → mid.tracks ≡ old.tracks → mid.protected ≡ old.protected → old.failures ≤ mid.failures → GoesBy old.tracks old mid geometry A B (λ p q. p)
+pub stop_then : (old mid new : Seen) (geometry : ℕ) (u : Trouble) (A B C : GrowthState) → mid.tracks ≡ old.tracks → mid.protected ≡ old.protected → old.failures ≤ mid.failures → GoesBy old.tracks old mid geometry A B (λ p q. p)
     → GoesBy mid.tracks mid new geometry B C (λ p q. q u) → GoesBy old.tracks old new geometry A C (λ p q. q u)
 stop_then old mid new geometry u A B C same protected counted f k c0 d uses n w b s rs o e h =
     stop_later old mid new c0 o.holds.layout d uses n w rs u same protected counted (subst (λ (m : ℕ). GoesBy m mid new geometry B C (λ p q. q u)) same k c0 d uses n w b s rs o e (f c0 d uses n w b s rs o e h))
 
-pub both_then : {X : Type 0} (res : Result X Trouble) (old mid new : Seen) (geometry : ℕ) (A B C : State) → mid.tracks ≡ old.tracks → mid.protected ≡ old.protected → old.failures ≤ mid.failures → GoesBy old.tracks old mid geometry A B (λ p q. p)
+pub both_then : {X : Type 0} (res : Result X Trouble) (old mid new : Seen) (geometry : ℕ) (A B C : GrowthState) → mid.tracks ≡ old.tracks → mid.protected ≡ old.protected → old.failures ≤ mid.failures → GoesBy old.tracks old mid geometry A B (λ p q. p)
     → GoesBy mid.tracks mid new geometry B C (λ p q. MatchResult res (λ x. p) q) → GoesBy old.tracks old new geometry A C (λ p q. MatchResult res (λ x. p) q)
 both_then (Ok x) old mid new geometry A B C same protected counted f k = ok_then old mid new geometry A B C same f k
 both_then (Err u) old mid new geometry A B C same protected counted f k = stop_then old mid new geometry u A B C same protected counted f k

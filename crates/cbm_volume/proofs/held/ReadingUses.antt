@@ -10,12 +10,12 @@ use Rattle.cbm_medium.proofs.Walks.{follow_end, chain_followed}
 use Rattle.cbm_file.specs.Files.{File, Disk}
 use Rattle.cbm_bam.specs.Map.{geometry_of}
 use Rattle.cbm_chain.specs.Data.{chain_bytes}
-use Rattle.cbm_chain.specs.Reading.{Reading, Rest, rest_of, held_from, held_in, with_front, one_less, BeginsAt, GoesAlong}
+use Rattle.cbm_chain.specs.Reading.{Reading, RestOfFile, rest_of, held_from, held_in, with_front, one_less, BeginsAt, GoesAlong}
 use Rattle.cbm_directory.specs.Entries.{is_closed, is_relative, first_block, entry_at}
-use Rattle.cbm_volume.specs.Holding.{StandsAt, HasBytes}
+use Rattle.cbm_volume.specs.Holding.{EntryStandsAt, HasBytes}
 use Rattle.cbm_directory.specs.Slots.{Answers, directory_of}
-use Rattle.cbm_volume.specs.Layouts.{Owner, DataOf, OwnedBy, Layout, slot_count, Stands}
-use Rattle.cbm_volume.specs.Writers.{Use, Reads, IsReading, IsUsed, has_slot, writes_slot, IsAlone, HoldsAt, HoldsNow, with_use}
+use Rattle.cbm_volume.specs.Layouts.{Owner, DataOf, OwnedBy, Layout, slot_count, HasLayout}
+use Rattle.cbm_volume.specs.Writers.{Use, Reads, IsReading, IsUsed, uses_slot, writes_slot, IsAlone, HoldsAt, HoldsNow, with_use}
 use Rattle.cbm_volume.proofs.layouts.Lengths.{file_length}
 use Rattle.cbm_volume.proofs.layouts.Listing.{entry_found, closed_chain, closed_of, geometry_size}
 use Rattle.cbm_volume.proofs.written.Closing.{some_file}
@@ -44,9 +44,9 @@ holds_reading tracks c l d uses ch n r left h unwritten k = record {
     | inl ea ↦ absurd (let z = ap (writes_slot i) (sym (use_here uses ch (Reads n r left))) ∙ ap (λ (x : ℕ). writes_slot i (with_use uses ch (Reads n r left) x)) (sym ea) ∙ wa in (cc))
     | inr na ↦ (let wa' : writes_slot i (uses a) ≡ true = ap (writes_slot i) (sym (use_other uses ch a (Reads n r left) na)) ∙ wa in
         elim (cases_eq b ch) [
-          | inl eb ↦ absurd (let mine : (n == i) ≡ true = ap (has_slot i) (sym (use_here uses ch (Reads n r left))) ∙ ap (λ (x : ℕ). has_slot i (with_use uses ch (Reads n r left) x)) (sym eb) ∙ hb in
+          | inl eb ↦ absurd (let mine : (n == i) ≡ true = ap (uses_slot i) (sym (use_here uses ch (Reads n r left))) ∙ ap (λ (x : ℕ). uses_slot i (with_use uses ch (Reads n r left) x)) (sym eb) ∙ hb in
               let z = sym (unwritten a) ∙ ap (λ (x : ℕ). writes_slot x (uses a)) (same_slot n i mine) ∙ wa' in (cc))
-          | inr nb ↦ h.alone a b i wa' (ap (has_slot i) (sym (use_other uses ch b (Reads n r left) nb)) ∙ hb)
+          | inr nb ↦ h.alone a b i wa' (ap (uses_slot i) (sym (use_other uses ch b (Reads n r left) nb)) ∙ hb)
         ])
   ];
 }
@@ -60,7 +60,7 @@ read_unwritten uses ch n r left alone e m = by_test (writes_slot n (uses m)) ref
   where
     by_test : (b : Bool) → writes_slot n (uses m) ≡ b → b ≡ false
     by_test false k = refl
-    by_test true k = absurd (let same : m ≡ ch = alone m ch n k (ap (has_slot n) e ∙ eq-eqb n n refl) in
+    by_test true k = absurd (let same : m ≡ ch = alone m ch n k (ap (uses_slot n) e ∙ eq-eqb n n refl) in
         let z = sym k ∙ ap (λ (x : ℕ). writes_slot n (uses x)) same ∙ ap (writes_slot n) e in (cc))
 
 -- what a reader still gives, whose chain ends well
@@ -69,7 +69,7 @@ unfolding rest_of held_from
 rest_is c r blocks e = ap (λ (f : Followed). with_front r.bytes (held_in c f)) e
 
 all_of : (c : Content) (r : Reading) (blocks : List Place) (left : List ℕ) → follow r.tracks c r.left r.next ≡ ended blocks → (rest_of c r).bytes ≡ left → left ≡ r.bytes ++ chain_bytes c blocks
-all_of c r blocks left e f = sym f ∙ ap (λ (x : Rest). x.bytes) (rest_is c r blocks e)
+all_of c r blocks left e f = sym f ∙ ap (λ (x : RestOfFile). x.bytes) (rest_is c r blocks e)
 
 -- the reader goes along
 pub reading_along : (tracks : ℕ) (c : Content) (l : Layout) (d : Disk) (n : ℕ) (left : List ℕ) (old new : Reading) → IsReading tracks c l d n old left → new.tracks ≡ old.tracks → GoesAlong c old new
@@ -77,7 +77,7 @@ pub reading_along : (tracks : ℕ) (c : Content) (l : Layout) (d : Disk) (n : �
 reading_along tracks c l d n left old new k same goes less = by_goes goes
   where
     less_left : (rest_of c new).bytes ≡ drop 1 left
-    less_left = ap (λ (x : Rest). x.bytes) (less ∙ ap one_less (rest_is c old k.blocks k.followed)) ∙ ap (drop 1) (sym k.all)
+    less_left = ap (λ (x : RestOfFile). x.bytes) (less ∙ ap one_less (rest_is c old k.blocks k.followed)) ∙ ap (drop 1) (sym k.all)
 
     by_goes : GoesAlong c old new → IsReading tracks c l d n new (drop 1 left)
     by_goes (inl stays) =
@@ -117,7 +117,7 @@ read_whole medium c d uses ch n left r h e =
     rest_is c r k.blocks k.followed ∙ (λ i. record { bytes = sym k.all i; trouble = None })
 
 -- A closed file with bytes is begun to be read.
-pub reading_begun : (tracks : ℕ) (c : Content) (l : Layout) (d : Disk) (n : ℕ) (entry bytes : List ℕ) (r : Reading) → (tracks ≡ 35) ⊎ (tracks ≡ 40) → Stands tracks c l d → Answers (directory_of tracks c) n (Ok (Some entry)) → HasBytes d n bytes
+pub reading_begun : (tracks : ℕ) (c : Content) (l : Layout) (d : Disk) (n : ℕ) (entry bytes : List ℕ) (r : Reading) → (tracks ≡ 35) ⊎ (tracks ≡ 40) → HasLayout tracks c l d → Answers (directory_of tracks c) n (Ok (Some entry)) → HasBytes d n bytes
     → r.tracks ≡ tracks → BeginsAt c tracks (first_block entry) r → rest_of c r ≡ (record { bytes = bytes; trouble = None }) → IsReading tracks c l d n r bytes
 reading_begun tracks c l d n entry bytes r size st stands has same begins rest = by_begins begins
   where
@@ -140,7 +140,7 @@ reading_begun tracks c l d n entry bytes r size st stands has same begins rest =
     whole = chain_followed tracks c xs (sector_count tracks) (first_block entry) chain (file_length tracks c l n (first_block entry) xs size st.sound chain held)
 
     left : (rest_of c r).bytes ≡ bytes
-    left = ap (λ (x : Rest). x.bytes) rest
+    left = ap (λ (x : RestOfFile). x.bytes) rest
 
     by_begins : BeginsAt c tracks (first_block entry) r → IsReading tracks c l d n r bytes
     by_begins (inl end) =
@@ -159,7 +159,7 @@ reading_begun tracks c l d n entry bytes r size st stands has same begins rest =
           in_slot = has.in_slot;
         }
 
-pub read_begun : (medium : ℕ) (c : Content) (d : Disk) (uses : ℕ → Use) (ch n : ℕ) (entry bytes : List ℕ) (r : Reading) → HoldsNow medium c d uses → StandsAt medium c n entry → HasBytes d n bytes → IsUnwritten uses n
+pub read_begun : (medium : ℕ) (c : Content) (d : Disk) (uses : ℕ → Use) (ch n : ℕ) (entry bytes : List ℕ) (r : Reading) → HoldsNow medium c d uses → EntryStandsAt medium c n entry → HasBytes d n bytes → IsUnwritten uses n
     → r.tracks ≡ geometry_of medium c → BeginsAt c (geometry_of medium c) (first_block entry) r → rest_of c r ≡ (record { bytes = bytes; trouble = None }) → HoldsNow medium c d (with_use uses ch (Reads n r bytes))
 read_begun medium c d uses ch n entry bytes r h stands has unwritten same begins rest = record {
   layout = h.layout;
@@ -168,7 +168,7 @@ read_begun medium c d uses ch n entry bytes r h stands has unwritten same begins
 
 -- the clauses of the calls
 pub begun_ok : (medium : ℕ) (c : Content) (entry : List ℕ) (r : Result Reading Trouble) → IfOk r (λ x. x.tracks ≡ geometry_of medium c) → IfOk r (λ x. BeginsAt c (geometry_of medium c) (first_block entry) x)
-    → (d : Disk) (uses : ℕ → Use) (ch n : ℕ) (bytes : List ℕ) → HoldsNow medium c d uses → StandsAt medium c n entry → HasBytes d n bytes → IsUnwritten uses n → IsOkAnd r (λ x. rest_of c x ≡ (record { bytes = bytes; trouble = None }))
+    → (d : Disk) (uses : ℕ → Use) (ch n : ℕ) (bytes : List ℕ) → HoldsNow medium c d uses → EntryStandsAt medium c n entry → HasBytes d n bytes → IsUnwritten uses n → IsOkAnd r (λ x. rest_of c x ≡ (record { bytes = bytes; trouble = None }))
     → IfOk r (λ x. HoldsNow medium c d (with_use uses ch (Reads n x bytes)))
 begun_ok medium c entry (Ok x) same begins d uses ch n bytes h stands has unwritten rest = read_begun medium c d uses ch n entry bytes x h stands has unwritten same begins rest
 begun_ok medium c entry (Err t) same begins d uses ch n bytes h stands has unwritten rest = tt
@@ -177,4 +177,4 @@ pub along_ok : (medium : ℕ) (c : Content) (old new : Reading) (r : Result (Uni
     → IfErr r (λ t. (rest_of c old).trouble ≡ Some t)
     → (d : Disk) (uses : ℕ → Use) (ch n : ℕ) (left : List ℕ) → HoldsNow medium c d uses → uses ch ≡ Reads n old left → IsOk r × HoldsNow medium c d (with_use uses ch (Reads n new (drop 1 left)))
 along_ok medium c old new (Ok x) same goes less bad d uses ch n left h e = (refl, read_along medium c d uses ch n left old new h e same goes less)
-along_ok medium c old new (Err t) same goes less bad d uses ch n left h e = absurd (let z = sym bad ∙ ap (λ (x : Rest). x.trouble) (read_whole medium c d uses ch n left old h e) in (cc))
+along_ok medium c old new (Err t) same goes less bad d uses ch n left h e = absurd (let z = sym bad ∙ ap (λ (x : RestOfFile). x.trouble) (read_whole medium c d uses ch n left old h e) in (cc))

@@ -9,12 +9,12 @@ use Rattle.cbm_file.specs.Types.{is_same_type}
 use Rattle.cbm_file.specs.Files.{File, Disk, Records, file_at}
 use Rattle.cbm_bam.specs.Map.{geometry_of}
 use Rattle.cbm_chain.specs.Data.{chain_bytes}
-use Rattle.cbm_directory.specs.Entries.{type_byte, is_closed, is_relative, kind_of, width_of, entry_at}
+use Rattle.cbm_directory.specs.Entries.{type_byte, is_closed, is_relative, type_of_number, width_of, entry_at}
 use Rattle.cbm_volume.specs.Blocks.{Blocks, file_of, body_as, slices}
 use Rattle.cbm_volume.specs.Holding.{HoldsDisk}
-use Rattle.cbm_volume.specs.Layouts.{Layout, slot_count, Stands}
+use Rattle.cbm_volume.specs.Layouts.{Layout, slot_count, HasLayout}
 use Rattle.cbm_volume.specs.Opens.{IsUnused}
-use Rattle.cbm_volume.specs.Writers.{Use, Idle, Reads, Relates, Writes, IsRelating, IsUsed, has_slot, writes_slot, HoldsAt, HoldsNow, with_use}
+use Rattle.cbm_volume.specs.Writers.{Use, Idle, Reads, Relates, Writes, IsRelating, IsUsed, uses_slot, writes_slot, HoldsAt, HoldsNow, with_use}
 use Rattle.cbm_volume.proofs.written.Closing.{some_file}
 use Rattle.cbm_volume.proofs.layouts.Listing.{closed_of, body_of}
 use Rattle.cbm_volume.proofs.held.RecordsRead.{IsBody, is_body, both, lies_so}
@@ -42,7 +42,7 @@ slices_width (suc n) w bytes k r h = by_test (nat_lt (length bytes) w) k h (λ j
     by_test false zero g more = (let e : take w bytes ≡ r = cc in omega (arith, ap length e, length-take w bytes))
     by_test false (suc j) g more = more j g
 
-rel_type : (n : ℕ) → n < 5 → is_same_type Rel (kind_of n) ≡ true → (n == 4) ≡ true
+rel_type : (n : ℕ) → n < 5 → is_same_type Rel (type_of_number n) ≡ true → (n == 4) ≡ true
 rel_type zero small h = absurd (cc)
 rel_type (suc zero) small h = absurd (cc)
 rel_type (suc (suc zero)) small h = absurd (cc)
@@ -55,7 +55,7 @@ unfolding file_of
 rel_entry bytes e b small h = rel_type (type_byte e % 16) small h
 
 -- a slot that has a file is one of the layout's
-slot_there : (tracks : ℕ) (c : Content) (l : Layout) (d : Disk) (n : ℕ) (f : File) → Stands tracks c l d → file_at d n ≡ Some f → n < slot_count l
+slot_there : (tracks : ℕ) (c : Content) (l : Layout) (d : Disk) (n : ℕ) (f : File) → HasLayout tracks c l d → file_at d n ≡ Some f → n < slot_count l
 slot_there tracks c l d n f st at = elim (cases_lt n (length d.slots)) [
   | inl h ↦ subst (λ (m : ℕ). n < m) st.describes.size h
   | inr past ↦ absurd (let z = sym at ∙ get_or_past d.slots n None past in (cc))
@@ -66,13 +66,13 @@ record IsEntered (tracks : ℕ) (c : Content) (l : Layout) (n : ℕ) (f : File) 
   pub there : n < slot_count l
   pub is : file_of (chain_bytes c (l.files n).data_blocks) (entry_at c l.directory n) (l.files n) ≡ f
 
-entered : (tracks : ℕ) (c : Content) (l : Layout) (d : Disk) (n : ℕ) (f : File) → Stands tracks c l d → file_at d n ≡ Some f → IsEntered tracks c l n f
+entered : (tracks : ℕ) (c : Content) (l : Layout) (d : Disk) (n : ℕ) (f : File) → HasLayout tracks c l d → file_at d n ≡ Some f → IsEntered tracks c l n f
 entered tracks c l d n f st at =
     let k : n < slot_count l = slot_there tracks c l d n f st at in
     record { there = k; is = (some_file (chain_bytes c (l.files n).data_blocks) (entry_at c l.directory n) (l.files n) f (sym (st.describes.slots n k) ∙ at)).1 }
 
 -- the records of a closed relative entry
-of_entry : (tracks : ℕ) (c : Content) (l : Layout) (d : Disk) (n : ℕ) (f : File) → Stands tracks c l d → IsEntered tracks c l n f → is_closed (entry_at c l.directory n) ≡ true → is_relative (entry_at c l.directory n) ≡ true → IsOfRecords f
+of_entry : (tracks : ℕ) (c : Content) (l : Layout) (d : Disk) (n : ℕ) (f : File) → HasLayout tracks c l d → IsEntered tracks c l n f → is_closed (entry_at c l.directory n) ≡ true → is_relative (entry_at c l.directory n) ≡ true → IsOfRecords f
 of_entry tracks c l d n f st k shut rel =
     let e : List ℕ = entry_at c l.directory n in
     let x : Blocks = l.files n in
@@ -125,7 +125,7 @@ records_most t c d n f w b s rs h at is =
 same_slot : (x y : ℕ) → (x == y) ≡ true → x ≡ y
 same_slot x y t = elim (cases_eq x y) [ inl e ↦ e | inr ne ↦ absurd (let z = sym (ne_eqb x y ne) ∙ t in (cc)) ]
 
-writes_has : (u : Use) (i : ℕ) → writes_slot i u ≡ true → has_slot i u ≡ true
+writes_has : (u : Use) (i : ℕ) → writes_slot i u ≡ true → uses_slot i u ≡ true
 writes_has Idle i h = absurd (cc)
 writes_has (Reads s r left) i h = absurd (cc)
 writes_has (Relates s) i h = h
@@ -143,13 +143,13 @@ holds_relating tracks c l d uses ch n h unused k = record {
     | inl ea ↦ elim (cases_eq b ch) [
       | inl eb ↦ ea ∙ sym eb
       | inr nb ↦ absurd (let mine : (n == i) ≡ true = ap (writes_slot i) (sym (use_here uses ch (Relates n))) ∙ ap (λ (x : ℕ). writes_slot i (with_use uses ch (Relates n) x)) (sym ea) ∙ wa in
-          let z = sym (unused b) ∙ ap (λ (x : ℕ). has_slot x (uses b)) (same_slot n i mine) ∙ ap (has_slot i) (sym (use_other uses ch b (Relates n) nb)) ∙ hb in (cc))
+          let z = sym (unused b) ∙ ap (λ (x : ℕ). uses_slot x (uses b)) (same_slot n i mine) ∙ ap (uses_slot i) (sym (use_other uses ch b (Relates n) nb)) ∙ hb in (cc))
     ]
     | inr na ↦ (let wa' : writes_slot i (uses a) ≡ true = ap (writes_slot i) (sym (use_other uses ch a (Relates n) na)) ∙ wa in
         elim (cases_eq b ch) [
-          | inl eb ↦ absurd (let mine : (n == i) ≡ true = ap (has_slot i) (sym (use_here uses ch (Relates n))) ∙ ap (λ (x : ℕ). has_slot i (with_use uses ch (Relates n) x)) (sym eb) ∙ hb in
-              let z = sym (unused a) ∙ ap (λ (x : ℕ). has_slot x (uses a)) (same_slot n i mine) ∙ writes_has (uses a) i wa' in (cc))
-          | inr nb ↦ h.alone a b i wa' (ap (has_slot i) (sym (use_other uses ch b (Relates n) nb)) ∙ hb)
+          | inl eb ↦ absurd (let mine : (n == i) ≡ true = ap (uses_slot i) (sym (use_here uses ch (Relates n))) ∙ ap (λ (x : ℕ). uses_slot i (with_use uses ch (Relates n) x)) (sym eb) ∙ hb in
+              let z = sym (unused a) ∙ ap (λ (x : ℕ). uses_slot x (uses a)) (same_slot n i mine) ∙ writes_has (uses a) i wa' in (cc))
+          | inr nb ↦ h.alone a b i wa' (ap (uses_slot i) (sym (use_other uses ch b (Relates n) nb)) ∙ hb)
         ])
   ];
 }

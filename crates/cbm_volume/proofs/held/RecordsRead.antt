@@ -12,7 +12,7 @@ use Rattle.cbm_relfile.specs.Records.{AllWhole, IsLaid, Relative, record_in}
 use Rattle.cbm_directory.specs.Entries.{entry_at, first_block, first_side, is_closed, is_relative, type_byte, width_of}
 use Rattle.cbm_directory.specs.Slots.{Answers, directory_of}
 use Rattle.cbm_volume.specs.Blocks.{Blocks, LiesAs, HasRecords, file_of, body_as, slices}
-use Rattle.cbm_volume.specs.Layouts.{Layout, slot_count, Stands}
+use Rattle.cbm_volume.specs.Layouts.{Layout, slot_count, HasLayout}
 use Rattle.cbm_volume.specs.check.SideLists.{are_records}
 use Rattle.cbm_relfile.specs.SideSectors.{Numbered}
 use Rattle.cbm_volume.proofs.checked.RecordsChecked.{records_pass}
@@ -63,7 +63,7 @@ pub record LiesWithRecords (tracks : ℕ) (c : Content) (l : Layout) (n : ℕ) (
   pub chain : Chain tracks c (first_block (entry_at c l.directory n)) (l.files n).data_blocks
   pub records : HasRecords tracks c (entry_at c l.directory n) (l.files n)
 
-pub records_lie : (tracks : ℕ) (c : Content) (l : Layout) (d : Disk) (n : ℕ) (entry : List ℕ) (f : File) (w b s : ℕ) (rs : List (List ℕ)) → Stands tracks c l d
+pub records_lie : (tracks : ℕ) (c : Content) (l : Layout) (d : Disk) (n : ℕ) (entry : List ℕ) (f : File) (w b s : ℕ) (rs : List (List ℕ)) → HasLayout tracks c l d
     → Answers (directory_of tracks c) n (Ok (Some entry)) → file_at d n ≡ Some f → f.body ≡ Records w rs b s → LiesWithRecords tracks c l n entry w rs
 records_lie tracks c l d n entry f w b s rs st a at is =
     let found = entry_found tracks c l n entry st.sound a in
@@ -80,7 +80,7 @@ records_lie tracks c l d n entry f w b s rs st a at is =
     not_empty true y z h = absurd (cc)
     not_empty false y z h = cc
 
-pub records_at : (tracks : ℕ) (c : Content) (l : Layout) (d : Disk) (n : ℕ) (entry : List ℕ) (f : File) (w b s : ℕ) (rs : List (List ℕ)) → (tracks ≡ 35) ⊎ (tracks ≡ 40) → Stands tracks c l d
+pub records_at : (tracks : ℕ) (c : Content) (l : Layout) (d : Disk) (n : ℕ) (entry : List ℕ) (f : File) (w b s : ℕ) (rs : List (List ℕ)) → (tracks ≡ 35) ⊎ (tracks ≡ 40) → HasLayout tracks c l d
     → Answers (directory_of tracks c) n (Ok (Some entry)) → file_at d n ≡ Some f → f.body ≡ Records w rs b s → RecordsAt tracks c entry w rs
 records_at tracks c l d n entry f w b s rs size st a at is =
     let so = records_lie tracks c l d n entry f w b s rs st a at is in
@@ -114,7 +114,7 @@ pub record OpensRecords (tracks : ℕ) (c : Content) (e : List ℕ) : Type 0 whe
   pub reads : IsOk (c (first_side e))
   pub right : are_records tracks c e ≡ true
 
-pub records_open : (tracks : ℕ) (c : Content) (l : Layout) (d : Disk) (n : ℕ) (entry : List ℕ) (f : File) (w b s : ℕ) (rs : List (List ℕ)) → Stands tracks c l d
+pub records_open : (tracks : ℕ) (c : Content) (l : Layout) (d : Disk) (n : ℕ) (entry : List ℕ) (f : File) (w b s : ℕ) (rs : List (List ℕ)) → HasLayout tracks c l d
     → Answers (directory_of tracks c) n (Ok (Some entry)) → file_at d n ≡ Some f → f.body ≡ Records w rs b s → OpensRecords tracks c entry
 records_open tracks c l d n entry f w b s rs st a at is =
     let so = records_lie tracks c l d n entry f w b s rs st a at is in

@@ -8,7 +8,7 @@ use Rattle.cbm_bam.specs.Map.{is_free_in, map_of, tally, with_bit, with_freed}
 use Rattle.cbm_bam.proofs.Counts.{bit_elsewhere, tally_more, tally_most}
 use Rattle.cbm_directory.specs.Entries.{first_directory}
 use Rattle.cbm_directory.specs.Growth.{IsFullDirectory}
-use Rattle.cbm_volume.specs.Layouts.{Layout, Owner, Nobody, TheMap, Directory, OwnedBy, Sound, Stands}
+use Rattle.cbm_volume.specs.Layouts.{Layout, Owner, Nobody, TheMap, Directory, OwnedBy, Sound, HasLayout}
 use Rattle.cbm_volume.proofs.layouts.Chained.{chain_distinct, chain_settled}
 
 -- each of these is on track 18, is not free, and stands nowhere behind itself
@@ -60,7 +60,7 @@ module _ (tracks : ℕ) (c : Content) (l : Layout) (s : Sound tracks c l) where
   elsewhere (p ∷ xs) o (suc j) k e = elsewhere xs o.1 j (omega (arith, k)) e
 
 -- WITH EIGHTEEN SECTORS AND THE MAP'S all nineteen of the track are taken.
-pub full_directory : (tracks : ℕ) (c : Content) (l : Layout) (d : Disk) → Stands tracks c l d → 18 ≤ tracks → IsFullDirectory tracks c → d.room ≡ 0
+pub full_directory : (tracks : ℕ) (c : Content) (l : Layout) (d : Disk) → HasLayout tracks c l d → 18 ≤ tracks → IsFullDirectory tracks c → d.room ≡ 0
 full_directory tracks c l d st few (sectors, (chain, count)) =
     let s = st.sound in
     let same : l.directory ≡ sectors = chain_settled tracks c first_directory l.directory sectors s.directory chain in

@@ -11,7 +11,7 @@ use Rattle.cbm_bam.specs.Map.{is_free_in, IsCounted, map_of}
 use Rattle.cbm_directory.specs.Entries.{entry_of, type_byte, bit_of, is_relative, sector_of, entry_at, first_directory, HasLink, IsBlank}
 use Rattle.cbm_chain.specs.Data.{chain_bytes}
 use Rattle.cbm_volume.specs.Blocks.{Blocks, no_blocks, Lies, LiesAs, slot_of, file_of}
-use Rattle.cbm_volume.specs.Layouts.{Owner, Nobody, TheMap, Directory, DataOf, SideOf, OwnedBy, Layout, IsWritable, slot_count, Stands, own, grown}
+use Rattle.cbm_volume.specs.Layouts.{Owner, Nobody, TheMap, Directory, DataOf, SideOf, OwnedBy, Layout, IsCellWritable, slot_count, HasLayout, own, layout_grown}
 use Rattle.cbm_chain.specs.Writing.{last_of}
 use Rattle.cbm_medium.proofs.Places.{place_decide, written_there, written_elsewhere}
 use Rattle.cbm_volume.proofs.layouts.Frames.{Keeps, owned_nth, owned_same, sector_kept, lies_kept, slot_kept, write_keeps}
@@ -61,7 +61,7 @@ pub record CanGrow (tracks : ℕ) (c c' : Content) (l : Layout) (b : Place) (res
 abbrev pub more_slots : Disk → Disk
 more_slots d = record d { slots = d.slots ++ replicate 8 None }
 
-pub stands_grow : (tracks : ℕ) (c c' : Content) (l : Layout) (d : Disk) (b : Place) (rest : List Place) (q : Place) (new blank : List ℕ) → Stands tracks c l d → CanGrow tracks c c' l b rest q new blank → Stands tracks c' (grown l q) (more_slots d)
+pub stands_grow : (tracks : ℕ) (c c' : Content) (l : Layout) (d : Disk) (b : Place) (rest : List Place) (q : Place) (new blank : List ℕ) → HasLayout tracks c l d → CanGrow tracks c c' l b rest q new blank → HasLayout tracks c' (layout_grown l q) (more_slots d)
 stands_grow tracks c c' l d b rest q new blank st g = record {
   sound = record {
     owned = record {
@@ -84,7 +84,7 @@ stands_grow tracks c c' l d b rest q new blank st g = record {
         | inr ne ↦ (λ e. (st.sound.owned.off_18 p t n).0 (sym (own_elsewhere l.owner q p Directory ne) ∙ e), λ e. (st.sound.owned.off_18 p t n).1 (sym (own_elsewhere l.owner q p Directory ne) ∙ e))
       ];
     };
-    writable = subst (λ (x : Content). (p : Place) → Has tracks p → IsWritable (x p)) (sym g.written) (writable_written tracks c last new st.sound.writable);
+    writable = subst (λ (x : Content). (p : Place) → Has tracks p → IsCellWritable (x p)) (sym g.written) (writable_written tracks c last new st.sound.writable);
     map_reads = subst (λ (x : Cell). IsOk x) (sym (others TheMap (λ z. (cc)) directory_head st.sound.owned.map)) st.sound.map_reads;
     directory = subst (λ (x : List Place). Chain tracks c' first_directory (x ++ q ∷ [])) (sym g.directory)
         (chain_push tracks c c' first_directory b q rest (subst (λ (x : List Place). Chain tracks c first_directory x) g.directory st.sound.directory)
@@ -96,11 +96,11 @@ stands_grow tracks c c' l d b rest q new blank st g = record {
       | inr fresh ↦ subst (λ (x : ℕ). x % 16 < 5) (sym (type_new n fresh k)) (omega arith)
     ];
     lies = λ n k. elim (cases_lt n (slot_count l)) [
-      | inl old ↦ subst (λ (x : List ℕ). Lies tracks c' x ((grown l q).files n)) (sym (entry_old n old))
+      | inl old ↦ subst (λ (x : List ℕ). Lies tracks c' x ((layout_grown l q).files n)) (sym (entry_old n old))
           (subst (λ (x : Blocks). Lies tracks c' (entry_at c l.directory n) x) (sym (files_old n old))
           (lies_kept tracks c c' l.owner (DataOf n) (SideOf n) (entry_at c l.directory n) (l.files n) (others (DataOf n) (λ z. (cc))) (others (SideOf n) (λ z. (cc))) (st.sound.owned.blocks n old) (st.sound.owned.sides n old) (st.sound.lies n old)))
-      | inr fresh ↦ subst (λ (x : Blocks). Lies tracks c' (entry_at c' (grown l q).directory n) x) (sym (files_new n fresh))
-          (subst (λ (x : Bool). LiesAs x (is_relative (entry_at c' (grown l q).directory n)) tracks c' (entry_at c' (grown l q).directory n) no_blocks) (sym (ap (λ (x : ℕ). bit_of x 7) (type_new n fresh k))) refl)
+      | inr fresh ↦ subst (λ (x : Blocks). Lies tracks c' (entry_at c' (layout_grown l q).directory n) x) (sym (files_new n fresh))
+          (subst (λ (x : Bool). LiesAs x (is_relative (entry_at c' (layout_grown l q).directory n)) tracks c' (entry_at c' (layout_grown l q).directory n) no_blocks) (sym (ap (λ (x : ℕ). bit_of x 7) (type_new n fresh k))) refl)
     ];
     free = λ p h e. elim (place_decide q p) [
       | inl s ↦ absurd (let z = sym g.taken ∙ ap (is_free_in (map_of c)) s ∙ ap (λ (x : List ℕ). is_free_in x p) (sym same_map) ∙ e in (cc))
@@ -115,10 +115,10 @@ stands_grow tracks c c' l d b rest q new blank st g = record {
     slots = λ n k. elim (cases_lt n (slot_count l)) [
       | inl old ↦ slots_front d.slots (replicate 8 None) n (omega (arith, st.describes.size)) ∙ st.describes.slots n old
           ∙ sym (slot_kept c c' l.owner (DataOf n) (entry_at c l.directory n) (l.files n) (others (DataOf n) (λ z. (cc))) (st.sound.owned.blocks n old))
-          ∙ ap (λ (x : List ℕ). slot_of c' x (l.files n)) (sym (entry_old n old)) ∙ ap (λ (x : Blocks). slot_of c' (entry_at c' (grown l q).directory n) x) (sym (files_old n old))
+          ∙ ap (λ (x : List ℕ). slot_of c' x (l.files n)) (sym (entry_old n old)) ∙ ap (λ (x : Blocks). slot_of c' (entry_at c' (layout_grown l q).directory n) x) (sym (files_old n old))
       | inr fresh ↦ get_or-append_right d.slots (replicate 8 None) (length d.slots) n None refl (omega (arith, st.describes.size))
           ∙ get_or-replicate 8 (n - length d.slots) None None (omega (arith, k, st.describes.size, length-append l.directory (q ∷ [])))
-          ∙ sym (ap (λ (x : Bool). if x then None else Some (file_of (chain_bytes c' ((grown l q).files n).data_blocks) (entry_at c' (grown l q).directory n) ((grown l q).files n))) (eq-eqb (type_byte (entry_at c' (grown l q).directory n)) 0 (type_new n fresh k)))
+          ∙ sym (ap (λ (x : Bool). if x then None else Some (file_of (chain_bytes c' ((layout_grown l q).files n).data_blocks) (entry_at c' (layout_grown l q).directory n) ((layout_grown l q).files n))) (eq-eqb (type_byte (entry_at c' (layout_grown l q).directory n)) 0 (type_new n fresh k)))
     ];
     total = st.describes.total;
     room = rw same_map st.describes.room;
@@ -153,16 +153,16 @@ stands_grow tracks c c' l d b rest q new blank st g = record {
     same_map : map_of c' ≡ map_of c
     same_map = sector_kept c c' l.owner TheMap (others TheMap (λ z. (cc))) directory_head st.sound.owned.map
 
-    files_old : (n : ℕ) → n < slot_count l → (grown l q).files n ≡ l.files n
+    files_old : (n : ℕ) → n < slot_count l → (layout_grown l q).files n ≡ l.files n
     files_old n h = rw (lt-ltb n (slot_count l) h) refl
 
-    files_new : (n : ℕ) → slot_count l ≤ n → (grown l q).files n ≡ no_blocks
+    files_new : (n : ℕ) → slot_count l ≤ n → (layout_grown l q).files n ≡ no_blocks
     files_new n h = rw (le-ltb n (slot_count l) h) refl
 
     sector_old : (n : ℕ) → n < slot_count l → sector_of (l.directory ++ q ∷ []) n ≡ sector_of l.directory n
     sector_old n h = front l.directory q directory_head (n / 8) (omega arith)
 
-    sector_new : (n : ℕ) → slot_count l ≤ n → n < slot_count (grown l q) → sector_of (l.directory ++ q ∷ []) n ≡ q
+    sector_new : (n : ℕ) → slot_count l ≤ n → n < slot_count (layout_grown l q) → sector_of (l.directory ++ q ∷ []) n ≡ q
     sector_new n h k =
         let e : n / 8 - length l.directory ≡ 0 = omega (arith, k, length-append l.directory (q ∷ [])) in
         get_or-append_right l.directory (q ∷ []) (length l.directory) (n / 8) directory_head refl (omega arith) ∙ ap (λ (i : ℕ). get_or (q ∷ []) i directory_head) e
@@ -173,5 +173,5 @@ stands_grow tracks c c' l d b rest q new blank st g = record {
       | inr ne ↦ ap (λ (x : Cell). entry_of (or_nothing x) (n % 8)) (ap (λ (x : Content). x (sector_of l.directory n)) g.written ∙ written_elsewhere c (last_of b rest) (sector_of l.directory n) new ne)
     ])
 
-    type_new : (n : ℕ) → slot_count l ≤ n → n < slot_count (grown l q) → type_byte (entry_at c' (l.directory ++ q ∷ []) n) ≡ 0
+    type_new : (n : ℕ) → slot_count l ≤ n → n < slot_count (layout_grown l q) → type_byte (entry_at c' (l.directory ++ q ∷ []) n) ≡ 0
     type_new n h k = ap (λ (p : Place). type_byte (entry_of (bytes_at c' p) (n % 8))) (sector_new n h k) ∙ ap (λ (x : Cell). type_byte (entry_of (or_nothing x) (n % 8))) at_q ∙ g.is_blank.empty (n % 8) (omega arith)

@@ -9,7 +9,7 @@ use Rattle.cbm_medium.specs.declared.fault.Trouble.{Trouble}
 use Rattle.cbm_file.specs.Files.{Disk}
 use Rattle.cbm_bam.specs.Map.{geometry_of}
 use Rattle.cbm_bam.specs.Causes.{HasCause}
-use Rattle.cbm_chain.specs.Writing.{IsForFiles, IsRefusedFor, Ends}
+use Rattle.cbm_chain.specs.Writing.{IsForFiles, IsRefusedFor, EndsChain}
 use Rattle.cbm_directory.specs.Entries.{first_directory, first_block, sector_of}
 use Rattle.cbm_directory.specs.Slots.{Answers, directory_of}
 use Rattle.cbm_volume.specs.Layouts.{Layout, Sound}
@@ -88,7 +88,7 @@ abbrev pub EntryRefused : ℕ → Seen → Seen → ℕ → ℕ → Type 0
 EntryRefused tracks mid new n code = (directory : List Place) → Chain tracks mid.content first_directory directory → n < 8 * length directory → HasCause mid new (sector_of directory n) code
 
 -- the entry is written behind the last block
-pub closing_hindered : (old mid new : Seen) (w : Filling) (tracks : ℕ) (t : Trouble) (r : Result (Unit {0}) Trouble) → IsErrAnd r (λ x. x ≡ t) → IsSized tracks old.tracks old.content mid.content → Ends old.content mid.content w.chain.current w.chain.waiting
+pub closing_hindered : (old mid new : Seen) (w : Filling) (tracks : ℕ) (t : Trouble) (r : Result (Unit {0}) Trouble) → IsErrAnd r (λ x. x ≡ t) → IsSized tracks old.tracks old.content mid.content → EndsChain old.content mid.content w.chain.current w.chain.waiting
     → mid.protected ≡ old.protected → old.failures ≤ mid.failures → EntryRefused tracks mid new w.slot t.code → Hinders (Unit {0}) old new w r
 closing_hindered old mid new w tracks t r is size ends protected counted cause = λ d uses ch bytes blocks h e.
     let here : ℕ = geometry_of old.tracks old.content in
@@ -99,7 +99,7 @@ closing_hindered old mid new w tracks t r is size ends protected counted cause =
     handed_on r t (IsHindered old new) is (hindered_since old mid new t protected counted (entry_hindered here mid new h.layout w.slot t sound was.there (cause h.layout.directory chain was.there)))
 
 -- the same of a call that ends with it
-pub put_hindered : (old mid new : Seen) (w : Filling) (tracks : ℕ) (r : Result (Unit {0}) Trouble) → IsSized tracks old.tracks old.content mid.content → Ends old.content mid.content w.chain.current w.chain.waiting
+pub put_hindered : (old mid new : Seen) (w : Filling) (tracks : ℕ) (r : Result (Unit {0}) Trouble) → IsSized tracks old.tracks old.content mid.content → EndsChain old.content mid.content w.chain.current w.chain.waiting
     → mid.protected ≡ old.protected → old.failures ≤ mid.failures
     → ((directory : List Place) → Chain tracks mid.content first_directory directory → w.slot < 8 * length directory → IfErr r (λ t. HasCause mid new (sector_of directory w.slot) t.code)) → Hinders (Unit {0}) old new w r
 put_hindered old mid new w tracks (Ok x) size ends protected counted cause = λ d uses ch bytes blocks h e. tt

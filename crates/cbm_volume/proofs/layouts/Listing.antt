@@ -11,11 +11,11 @@ use Rattle.cbm_medium.proofs.Walks.{chain_followed}
 use Rattle.cbm_file.specs.Files.{Disk, File, Bytes}
 use Rattle.cbm_bam.specs.Map.{geometry_of, geometry_in, is_wide, tracks_if}
 use Rattle.cbm_chain.specs.Data.{chain_bytes}
-use Rattle.cbm_chain.specs.Reading.{Rest, Reading, rest_of, held_in, held_from}
+use Rattle.cbm_chain.specs.Reading.{RestOfFile, Reading, rest_of, held_in, held_from}
 use Rattle.cbm_directory.specs.Entries.{entry_of, entry_at, first_directory, first_block, is_closed, is_relative, type_byte}
 use Rattle.cbm_directory.specs.Slots.{entries_from, all_entries, Listed, listed_in, listed_from, directory_of, Answers}
 use Rattle.cbm_volume.specs.Blocks.{Blocks, LiesAs, file_of, slot_of, body_as}
-use Rattle.cbm_volume.specs.Layouts.{DataOf, OwnedBy, Layout, slot_count, Sound, Stands}
+use Rattle.cbm_volume.specs.Layouts.{DataOf, OwnedBy, Layout, slot_count, Sound, HasLayout}
 use Rattle.cbm_volume.specs.Holding.{ShowsSlot, HasBytes}
 use Rattle.cbm_volume.proofs.layouts.Lengths.{directory_length, file_length}
 
@@ -79,7 +79,7 @@ entry_found tracks c l n entry s a =
     same_some : {x y : List ℕ} → Some x ≡ Some y → x ≡ y
     same_some e = cc
 
-pub slot_shown : (tracks : ℕ) (c : Content) (l : Layout) (d : Disk) (n : ℕ) (r : Result (Option (List ℕ)) Trouble) → Stands tracks c l d → Answers (directory_of tracks c) n r → ShowsSlot d n r
+pub slot_shown : (tracks : ℕ) (c : Content) (l : Layout) (d : Disk) (n : ℕ) (r : Result (Option (List ℕ)) Trouble) → HasLayout tracks c l d → Answers (directory_of tracks c) n r → ShowsSlot d n r
 slot_shown tracks c l d n (Ok (Some entry)) st a =
     let found = entry_found tracks c l n entry st.sound a in (
       omega (arith, found.0, st.describes.size),
@@ -129,7 +129,7 @@ unfolding file_of
 body_of bytes e b = refl
 
 -- THE CHAIN OF A CLOSED FILE GIVES ITS BYTES
-pub file_read : (tracks : ℕ) (c : Content) (l : Layout) (d : Disk) (n : ℕ) (entry bytes : List ℕ) → (tracks ≡ 35) ⊎ (tracks ≡ 40) → Stands tracks c l d
+pub file_read : (tracks : ℕ) (c : Content) (l : Layout) (d : Disk) (n : ℕ) (entry bytes : List ℕ) → (tracks ≡ 35) ⊎ (tracks ≡ 40) → HasLayout tracks c l d
     → Answers (directory_of tracks c) n (Ok (Some entry)) → HasBytes d n bytes
     → held_from tracks c (sector_count tracks) (first_block entry) ≡ record { bytes = bytes; trouble = None }
 file_read tracks c l d n entry bytes size st a has =
@@ -150,8 +150,8 @@ file_read tracks c l d n entry bytes size st a has =
     not_empty false f g h = cc
 
 -- a chain that gives these bytes is opened
-pub opened : (content : Content) (r : Result Reading Trouble) (held : Rest) (bytes : List ℕ)
+pub opened : (content : Content) (r : Result Reading Trouble) (held : RestOfFile) (bytes : List ℕ)
     → IfOk r (λ x. rest_of content x ≡ held) → IfErr r (λ t. held ≡ record { bytes = []; trouble = Some t }) → held ≡ record { bytes = bytes; trouble = None }
     → IsOkAnd r (λ x. rest_of content x ≡ record { bytes = bytes; trouble = None })
 opened content (Ok x) held bytes ok err e = ok ∙ e
-opened content (Err t) held bytes ok err e = let z = ap (λ (x : Rest). x.trouble) (sym err ∙ e) in absurd (cc)
+opened content (Err t) held bytes ok err e = let z = ap (λ (x : RestOfFile). x.trouble) (sym err ∙ e) in absurd (cc)

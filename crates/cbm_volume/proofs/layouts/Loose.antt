@@ -6,7 +6,7 @@ use Rattle.cbm_file.specs.Files.{Disk}
 use Rattle.cbm_bam.specs.Map.{is_free_in, IsCounted, map_of}
 use Rattle.cbm_directory.specs.Entries.{entry_of, type_byte, sector_of, entry_at, first_directory}
 use Rattle.cbm_volume.specs.Blocks.{Lies, slot_of}
-use Rattle.cbm_volume.specs.Layouts.{Owner, TheMap, Directory, DataOf, SideOf, is_loose, Layout, IsOwned, IsWritable, slot_count, Sound, Describes}
+use Rattle.cbm_volume.specs.Layouts.{Owner, TheMap, Directory, DataOf, SideOf, is_loose, Layout, IsOwned, IsCellWritable, slot_count, Sound, Describes}
 use Rattle.cbm_medium.proofs.Places.{written_each}
 use Rattle.cbm_volume.proofs.layouts.Frames.{Keeps, owned_nth, sector_kept, chain_kept, lies_kept, slot_kept, write_keeps}
 
@@ -20,8 +20,8 @@ sector_owned l w n h = owned_nth l.owner Directory l.directory (n / 8) directory
 pub entry_kept : (c c' : Content) (l : Layout) → IsOwned l → Keeps c c' l.owner Directory → (n : ℕ) → n < slot_count l → entry_at c' l.directory n ≡ entry_at c l.directory n
 entry_kept c c' l w k n h = ap (λ (x : List ℕ). entry_of x (n % 8)) (sector_kept c c' l.owner Directory k (sector_of l.directory n) (sector_owned l w n h))
 
-pub writable_written : (tracks : ℕ) (c : Content) (p : Place) (bytes : List ℕ) → ((q : Place) → Has tracks q → IsWritable (c q)) → (q : Place) → Has tracks q → IsWritable (written c p bytes q)
-writable_written tracks c p bytes h q k = written_each IsWritable c p bytes q tt (h q k)
+pub writable_written : (tracks : ℕ) (c : Content) (p : Place) (bytes : List ℕ) → ((q : Place) → Has tracks q → IsCellWritable (c q)) → (q : Place) → Has tracks q → IsCellWritable (written c p bytes q)
+writable_written tracks c p bytes h q k = written_each IsCellWritable c p bytes q tt (h q k)
 
 -- (a) SOUND SURVIVES A WRITE TO A SECTOR THAT IS NO PART OF THE DISK
 pub sound_loose : (tracks : ℕ) (c : Content) (l : Layout) (p : Place) (bytes : List ℕ) → Sound tracks c l → is_loose (l.owner p) ≡ true → Sound tracks (written c p bytes) l

@@ -6,7 +6,7 @@ use Rattle.cbm_file.specs.Files.{Disk, File, blocks_on}
 use Rattle.cbm_bam.specs.Map.{map_of, is_free_in, free_in, tally}
 use Rattle.cbm_directory.specs.Entries.{entry_at}
 use Rattle.cbm_volume.specs.Blocks.{slot_of}
-use Rattle.cbm_volume.specs.Layouts.{Layout, slot_count, Sound, Stands, Means}
+use Rattle.cbm_volume.specs.Layouts.{Layout, slot_count, Sound, HasLayout, Means}
 
 -- n slots, counted from k
 slots_from : (ℕ → Option File) → ℕ → ℕ → List (Option File)
@@ -25,7 +25,7 @@ slots_at f k (suc n) zero h = let e : k ≡ k + 0 = omega arith in ap f e
 slots_at f k (suc n) (suc i) h = slots_at f (k + 1) n i (omega arith) ∙ (let e : k + 1 + i ≡ k + suc i = omega arith in ap f e)
 
 -- where it lies as it lies
-pub sound_stands : (tracks : ℕ) (c : Content) (l : Layout) → Sound tracks c l → (d : Disk) × Stands tracks c l d
+pub sound_stands : (tracks : ℕ) (c : Content) (l : Layout) → Sound tracks c l → (d : Disk) × HasLayout tracks c l d
 sound_stands tracks c l s =
     let f : ℕ → Option File = λ n. slot_of c (entry_at c l.directory n) (l.files n) in
     let d : Disk = record {

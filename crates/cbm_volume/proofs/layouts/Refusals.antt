@@ -8,17 +8,17 @@ use Rattle.cbm_medium.specs.Seen.{Seen, write_refusal, HasFailed}
 use Rattle.cbm_medium.specs.declared.fault.Trouble.{Trouble}
 use Rattle.cbm_bam.specs.Causes.{HasCause}
 use Rattle.cbm_directory.specs.Entries.{first_directory, sector_of}
-use Rattle.cbm_volume.specs.Layouts.{IsWritable, Layout, Sound}
+use Rattle.cbm_volume.specs.Layouts.{IsCellWritable, Layout, Sound}
 use Rattle.cbm_volume.specs.Opens.{IsHindered}
 use Rattle.cbm_volume.proofs.layouts.Chained.{chain_reads}
 
 -- a sector without a fault of its header is refused by protection alone
-pub by_protection : (b : Bool) (x : Cell) (code : ℕ) → IsWritable x → refusal b x ≡ Some code → (b ≡ true) × (code ≡ 26)
+pub by_protection : (b : Bool) (x : Cell) (code : ℕ) → IsCellWritable x → refusal b x ≡ Some code → (b ≡ true) × (code ≡ 26)
 by_protection true x code w e = (refl, let z : code ≡ 26 = cc in z)
 by_protection false (Ok bytes) code w e = absurd (cc)
 by_protection false (Err fault) code w e = absurd (let z = sym (ap (λ (h : Bool). if h then Some fault else None) w) ∙ e in (cc))
 
-reads_writable : (x : Cell) → IsOk x → IsWritable x
+reads_writable : (x : Cell) → IsOk x → IsCellWritable x
 reads_writable (Ok bytes) h = tt
 reads_writable (Err code) h = absurd (cc)
 

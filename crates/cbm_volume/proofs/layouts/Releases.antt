@@ -9,7 +9,7 @@ use Rattle.cbm_file.specs.Files.{Disk, File, with_slot}
 use Rattle.cbm_bam.specs.Map.{Frees, is_free_in, free_in, tally, IsMapped, with_bit, with_freed, map_of, Remaps}
 use Rattle.cbm_directory.specs.Entries.{type_byte, bit_of, is_relative, sector_of, Enters}
 use Rattle.cbm_volume.specs.Blocks.{Blocks, no_blocks, Lies, LiesAs, file_of}
-use Rattle.cbm_volume.specs.Layouts.{Owner, Nobody, TheMap, Directory, DataOf, SideOf, OwnedBy, Layout, IsOwned, slot_count, Sound, Describes, Stands, own}
+use Rattle.cbm_volume.specs.Layouts.{Owner, Nobody, TheMap, Directory, DataOf, SideOf, OwnedBy, Layout, IsOwned, slot_count, Sound, Describes, HasLayout, own}
 use Rattle.cbm_medium.proofs.Places.{place_decide}
 use Rattle.cbm_volume.proofs.layouts.Frames.{owned_same}
 use Rattle.cbm_volume.proofs.layouts.Chained.{chain_distinct}
@@ -20,12 +20,12 @@ use Rattle.cbm_volume.proofs.layouts.Steps.{stands_entry, extends_itself, own_th
 
 -- ---- an entry is cleared: its type byte is 0
 
-pub stands_clear : (tracks : ℕ) (c c' : Content) (l : Layout) (d : Disk) (n : ℕ) (p : Place) (body : List ℕ) → Stands tracks c l d → n < slot_count l → p ≡ sector_of l.directory n
-    → Enters c c' p (n % 8) body → type_byte body ≡ 0 → Stands tracks c' (with_file l n no_blocks l.owner) (with_slot d n None)
+pub stands_clear : (tracks : ℕ) (c c' : Content) (l : Layout) (d : Disk) (n : ℕ) (p : Place) (body : List ℕ) → HasLayout tracks c l d → n < slot_count l → p ≡ sector_of l.directory n
+    → Enters c c' p (n % 8) body → type_byte body ≡ 0 → HasLayout tracks c' (with_file l n no_blocks l.owner) (with_slot d n None)
 stands_clear tracks c c' l d n p body st k at e z =
     let entry : List ℕ = body in
     let lies : Lies tracks c entry no_blocks = subst (λ (x : Bool). LiesAs x (is_relative entry) tracks c entry no_blocks) (sym (ap (λ (x : ℕ). bit_of x 7) z)) refl in
-    subst (λ (x : Option File). Stands tracks c' (with_file l n no_blocks l.owner) (with_slot d n x))
+    subst (λ (x : Option File). HasLayout tracks c' (with_file l n no_blocks l.owner) (with_slot d n x))
     (ap (λ (x : Bool). if x then None else Some (file_of [] entry no_blocks)) (eq-eqb (type_byte entry) 0 z))
     (stands_entry tracks c c' l d n p body no_blocks l.owner st k at e (subst (λ (x : ℕ). x % 16 < 5) (sym z) (omega arith)) lies (extends_itself l n st.sound.owned) tt tt st.sound.free)
 
@@ -84,8 +84,8 @@ chain_taken tracks c c0 l o s ne off a (x ∷ xs) h w =
     )
 
 -- (d) THE BLOCKS OF A FILE THAT WAS CLEARED ARE FREE AGAIN
-pub stands_release : (tracks : ℕ) (c c' : Content) (l : Layout) (d : Disk) (n : ℕ) (xs : List Place) → Stands tracks c l d → 18 ≤ tracks → l.files n ≡ no_blocks → OwnedBy l.owner (DataOf n) xs → AreTaken tracks (is_free_in (map_of c)) xs
-    → Remaps tracks c c' (with_freed (is_free_in (map_of c)) xs) → Stands tracks c' (with_owner l (disowned l.owner xs)) (record d { free = d.free + length xs })
+pub stands_release : (tracks : ℕ) (c c' : Content) (l : Layout) (d : Disk) (n : ℕ) (xs : List Place) → HasLayout tracks c l d → 18 ≤ tracks → l.files n ≡ no_blocks → OwnedBy l.owner (DataOf n) xs → AreTaken tracks (is_free_in (map_of c)) xs
+    → Remaps tracks c c' (with_freed (is_free_in (map_of c)) xs) → HasLayout tracks c' (with_owner l (disowned l.owner xs)) (record d { free = d.free + length xs })
 stands_release tracks c c' l d n xs st few none own_xs t r =
     let owner : Place → Owner = disowned l.owner xs in
     let free : Place → Bool = with_freed (is_free_in (map_of c)) xs in

@@ -5,7 +5,7 @@ use Rattle.cbm_medium.specs.Place.{Place, sectors_on, Has}
 use Rattle.cbm_medium.specs.Content.{Content}
 use Rattle.cbm_file.specs.Files.{Disk}
 use Rattle.cbm_bam.specs.Map.{is_free_in, free_in, tally, unless_18, summed, with_bit, map_of, Remaps}
-use Rattle.cbm_volume.specs.Layouts.{Layout, Sound, Describes, Stands}
+use Rattle.cbm_volume.specs.Layouts.{Layout, Sound, Describes, HasLayout}
 use Rattle.cbm_bam.proofs.Counts.{tally_less, tally_other, tally_same, free_is_number, number_same}
 use Rattle.cbm_volume.proofs.layouts.Remaps.{with_map, with_counts, sound_remap, describes_remap}
 use Rattle.cbm_volume.proofs.layouts.Steps.{bit_implies}
@@ -21,7 +21,7 @@ summed_but_18 f g (suc n) h = elim (cases_eq (suc n) 18) [
 abbrev pub less_room : Disk → Disk
 less_room d = record d { room = d.room - 1 }
 
-pub stands_claim_18 : (tracks : ℕ) (c c' : Content) (l : Layout) (d : Disk) (p : Place) → Stands tracks c l d → 18 ≤ tracks → Has tracks p → p.track ≡ 18 → is_free_in (map_of c) p ≡ true → Remaps tracks c c' (with_bit (is_free_in (map_of c)) p false) → Stands tracks c' l (less_room d)
+pub stands_claim_18 : (tracks : ℕ) (c c' : Content) (l : Layout) (d : Disk) (p : Place) → HasLayout tracks c l d → 18 ≤ tracks → Has tracks p → p.track ≡ 18 → is_free_in (map_of c) p ≡ true → Remaps tracks c c' (with_bit (is_free_in (map_of c)) p false) → HasLayout tracks c' l (less_room d)
 stands_claim_18 tracks c c' l d p s few has on was r =
     let f : Place → Bool = is_free_in (map_of c) in
     let free : Place → Bool = with_bit f p false in

@@ -7,7 +7,7 @@ use Rattle.cbm_medium.specs.Links.{AllSame}
 use Rattle.cbm_file.specs.Files.{Disk, File}
 use Rattle.cbm_directory.specs.Entries.{first_block, is_closed, is_relative, entry_at, first_directory}
 use Rattle.cbm_volume.specs.Blocks.{Blocks, LiesAs, slot_of}
-use Rattle.cbm_volume.specs.Layouts.{Layout, slot_count, Sound, Stands, Untouched, DataOf, SideOf}
+use Rattle.cbm_volume.specs.Layouts.{Layout, slot_count, Sound, HasLayout, Untouched, DataOf, SideOf}
 use Rattle.cbm_volume.proofs.layouts.Chained.{chain_settled}
 use Rattle.cbm_volume.proofs.layouts.Untouched.{KeepsFiles, all_same}
 
@@ -38,7 +38,7 @@ untouched_in tracks c c' k but t keeps l s m h b =
     (all_same c c' k (DataOf m) (k.files m).data_blocks keeps refl (t.owned.blocks m h'), all_same c c' k (SideOf m) (k.files m).sides keeps refl (t.owned.sides m h'))
 
 -- ONE CONTENT MEANS ONE DISK
-pub disk_settled : (tracks : ℕ) (c : Content) (l k : Layout) (d d' : Disk) → Stands tracks c l d → Stands tracks c k d' → d ≡ d'
+pub disk_settled : (tracks : ℕ) (c : Content) (l k : Layout) (d d' : Disk) → HasLayout tracks c l d → HasLayout tracks c k d' → d ≡ d'
 disk_settled tracks c l k d d' s t =
     let n : length d.slots ≡ length d'.slots = s.describes.size ∙ ap (λ (x : List Place). 8 * length x) (same_directory tracks c l k s.sound t.sound) ∙ sym t.describes.size in
     let slots : d.slots ≡ d'.slots = same_lists d.slots d'.slots n (λ i x h. at_default i x h n) in

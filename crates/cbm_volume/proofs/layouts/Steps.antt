@@ -8,7 +8,7 @@ use Rattle.cbm_file.specs.Files.{Disk, with_slot}
 use Rattle.cbm_bam.specs.Map.{is_free_in, free_in, tally, IsMapped, with_bit, map_of, Claims}
 use Rattle.cbm_directory.specs.Entries.{HasEntry, type_byte, sector_of, Enters}
 use Rattle.cbm_volume.specs.Blocks.{Blocks, Lies, slot_of}
-use Rattle.cbm_volume.specs.Layouts.{Owner, Nobody, TheMap, Directory, DataOf, SideOf, is_loose, OwnedBy, Layout, IsOwned, with_blocks, slot_count, Sound, Describes, Stands, Extends, IsElse, own}
+use Rattle.cbm_volume.specs.Layouts.{Owner, Nobody, TheMap, Directory, DataOf, SideOf, is_loose, OwnedBy, Layout, IsOwned, with_blocks, slot_count, Sound, Describes, HasLayout, Extends, IsElse, own}
 use Rattle.cbm_medium.proofs.Places.{place_decide, place_is_itself, places_apart}
 use Rattle.cbm_volume.proofs.layouts.Frames.{owned_same}
 use Rattle.cbm_volume.proofs.layouts.Loose.{sound_loose, describes_loose}
@@ -18,8 +18,8 @@ use Rattle.cbm_volume.proofs.layouts.OneSlot.{with_file, with_sector, blocks_her
 
 -- ---- a sector that is no part of the disk
 
-pub stands_loose : (tracks : ℕ) (c c' : Content) (l : Layout) (d : Disk) (p : Place) (bytes : List ℕ) → Stands tracks c l d → is_loose (l.owner p) ≡ true → c' ≡ written c p bytes → Stands tracks c' l d
-stands_loose tracks c c' l d p bytes s h e = subst (λ (x : Content). Stands tracks x l d) (sym e)
+pub stands_loose : (tracks : ℕ) (c c' : Content) (l : Layout) (d : Disk) (p : Place) (bytes : List ℕ) → HasLayout tracks c l d → is_loose (l.owner p) ≡ true → c' ≡ written c p bytes → HasLayout tracks c' l d
+stands_loose tracks c c' l d p bytes s h e = subst (λ (x : Content). HasLayout tracks x l d) (sym e)
     (record { sound = sound_loose tracks c l p bytes s.sound h; describes = describes_loose tracks c l d p bytes s.sound s.describes h })
 
 -- ---- a claim
@@ -41,11 +41,11 @@ bit_implies f p q h = elim (place_decide p q) [
 ]
 
 pub record Claimed (tracks : ℕ) (c c' : Content) (l : Layout) (d : Disk) (p : Place) : Type 0 where
-  pub stands : Stands tracks c' l (one_less d)
+  pub stands : HasLayout tracks c' l (one_less d)
   pub taken : IsTaken tracks c' l p
   pub some_free : 0 < d.free
 
-pub stands_claim : (tracks : ℕ) (c c' : Content) (l : Layout) (d : Disk) (p : Place) → Stands tracks c l d → 18 ≤ tracks → Claims tracks c c' p → Claimed tracks c c' l d p
+pub stands_claim : (tracks : ℕ) (c c' : Content) (l : Layout) (d : Disk) (p : Place) → HasLayout tracks c l d → 18 ≤ tracks → Claims tracks c c' p → Claimed tracks c c' l d p
 stands_claim tracks c c' l d p s few k =
     let map : List ℕ = k.remaps.map in
     let free : Place → Bool = with_bit (is_free_in (map_of c)) p false in
@@ -125,15 +125,15 @@ extends_own l p n w h off = record {
   ];
 }
 
-pub stands_entry : (tracks : ℕ) (c c' : Content) (l : Layout) (d : Disk) (n : ℕ) (p : Place) (body : List ℕ) (b : Blocks) (owner : Place → Owner) → Stands tracks c l d → n < slot_count l → p ≡ sector_of l.directory n
+pub stands_entry : (tracks : ℕ) (c c' : Content) (l : Layout) (d : Disk) (n : ℕ) (p : Place) (body : List ℕ) (b : Blocks) (owner : Place → Owner) → HasLayout tracks c l d → n < slot_count l → p ≡ sector_of l.directory n
     → Enters c c' p (n % 8) body → type_byte body % 16 < 5 → Lies tracks c body b
     → Extends l n owner → OwnedBy owner (DataOf n) b.data_blocks → OwnedBy owner (SideOf n) b.sides → ((q : Place) → Has tracks q → is_free_in (map_of c) q ≡ true → owner q ≡ Nobody)
-    → Stands tracks c' (with_file l n b owner) (with_slot d n (slot_of c body b))
+    → HasLayout tracks c' (with_file l n b owner) (with_slot d n (slot_of c body b))
 stands_entry tracks c c' l d n p body b owner s k at e t lie x blocks sides f =
     let w : IsOwned (with_file l n b owner) = extend_owned l n b owner s.sound.owned x blocks sides in
     let h : HasEntry (bytes_at c (sector_of l.directory n)) e.sector (n % 8) body = subst (λ (y : Place). HasEntry (bytes_at c y) e.sector (n % 8) body) at e.has in
     let new : c' ≡ with_sector c l n e.sector = e.written ∙ ap (λ (y : Place). written c y e.sector) at in
-    subst (λ (y : Content). Stands tracks y (with_file l n b owner) (with_slot d n (slot_of c body b))) (sym new)
+    subst (λ (y : Content). HasLayout tracks y (with_file l n b owner) (with_slot d n (slot_of c body b))) (sym new)
     (record {
       sound = sound_entry tracks c l n e.sector body b owner s.sound k h t lie w f;
       describes = describes_entry tracks c l d n e.sector body b owner s.sound s.describes k h w;

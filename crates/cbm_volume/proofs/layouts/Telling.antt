@@ -7,15 +7,15 @@ use Rattle.cbm_file.specs.declared.file_type.FileType.TheVariants.{Rel}
 use Rattle.cbm_file.specs.Types.{type_with, is_same_type}
 use Rattle.cbm_file.specs.Files.{Disk, File, Bytes, bytes_in, record_length_in, file_at}
 use Rattle.cbm_chain.specs.Data.{chain_bytes}
-use Rattle.cbm_directory.specs.Entries.{entry_at, type_byte, kind_of, is_closed, width_of}
+use Rattle.cbm_directory.specs.Entries.{entry_at, type_byte, type_of_number, is_closed, width_of}
 use Rattle.cbm_directory.specs.Slots.{all_entries, directory_of}
 use Rattle.cbm_volume.specs.Blocks.{Blocks, file_of, slot_with, body_as}
-use Rattle.cbm_volume.specs.Layouts.{Layout, Stands}
-use Rattle.cbm_volume.specs.Holding.{Says, SlotSays, TellsOf}
+use Rattle.cbm_volume.specs.Layouts.{Layout, HasLayout}
+use Rattle.cbm_volume.specs.Holding.{EntrySays, SlotSays, TellsOf}
 use Rattle.cbm_volume.proofs.layouts.Listing.{entries_length, nth_entry, directory_listed}
 
 -- a number below 5 is a type's
-kind_told : (n : ℕ) → n < 5 → type_with n ≡ Some (kind_of n)
+kind_told : (n : ℕ) → n < 5 → type_with n ≡ Some (type_of_number n)
 kind_told zero h = refl
 kind_told (suc zero) h = refl
 kind_told (suc (suc zero)) h = refl
@@ -23,7 +23,7 @@ kind_told (suc (suc (suc zero))) h = refl
 kind_told (suc (suc (suc (suc zero)))) h = refl
 kind_told (suc (suc (suc (suc (suc n))))) h = absurd (omega arith)
 
-bytes_told : (closed : Bool) (n : ℕ) (bytes e : List ℕ) (b : Blocks) → n < 5 → is_same_type Rel (kind_of n) ≡ false
+bytes_told : (closed : Bool) (n : ℕ) (bytes e : List ℕ) (b : Blocks) → n < 5 → is_same_type Rel (type_of_number n) ≡ false
     → body_as (closed && (n == 4)) bytes e b ≡ Bytes (bytes_in (body_as (closed && (n == 4)) bytes e b))
 bytes_told false n bytes e b h k = refl
 bytes_told true zero bytes e b h k = refl
@@ -33,7 +33,7 @@ bytes_told true (suc (suc (suc zero))) bytes e b h k = refl
 bytes_told true (suc (suc (suc (suc zero)))) bytes e b h k = absurd (cc)
 bytes_told true (suc (suc (suc (suc (suc n))))) bytes e b h k = absurd (omega arith)
 
-length_told : (closed : Bool) (n : ℕ) (bytes e : List ℕ) (b : Blocks) → n < 5 → closed ≡ true → is_same_type Rel (kind_of n) ≡ true
+length_told : (closed : Bool) (n : ℕ) (bytes e : List ℕ) (b : Blocks) → n < 5 → closed ≡ true → is_same_type Rel (type_of_number n) ≡ true
     → record_length_in (body_as (closed && (n == 4)) bytes e b) ≡ width_of e
 length_told false n bytes e b h shut k = absurd (cc)
 length_told true zero bytes e b h shut k = absurd (cc)
@@ -43,7 +43,7 @@ length_told true (suc (suc (suc zero))) bytes e b h shut k = absurd (cc)
 length_told true (suc (suc (suc (suc zero)))) bytes e b h shut k = refl
 length_told true (suc (suc (suc (suc (suc n))))) bytes e b h shut k = absurd (omega arith)
 
-file_says : (bytes e : List ℕ) (b : Blocks) → (type_byte e == 0) ≡ false → type_byte e % 16 < 5 → Says (file_of bytes e b) e
+file_says : (bytes e : List ℕ) (b : Blocks) → (type_byte e == 0) ≡ false → type_byte e % 16 < 5 → EntrySays (file_of bytes e b) e
 unfolding file_of
 file_says bytes e b used small = record {
   used = used;
@@ -75,7 +75,7 @@ same_some : {x z : List ℕ} → Some x ≡ Some z → x ≡ z
 same_some e = cc
 
 -- A SOUND DISK'S DIRECTORY TELLS OF ITS SLOTS
-pub told : (tracks : ℕ) (c : Content) (l : Layout) (d : Disk) → Stands tracks c l d → TellsOf d (directory_of tracks c)
+pub told : (tracks : ℕ) (c : Content) (l : Layout) (d : Disk) → HasLayout tracks c l d → TellsOf d (directory_of tracks c)
 told tracks c l d st =
     subst (TellsOf d) (sym (directory_listed tracks c l st.sound)) (record {
       whole = refl;

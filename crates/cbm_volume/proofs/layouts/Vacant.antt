@@ -14,7 +14,7 @@ use Rattle.cbm_bam.proofs.Rooms.{room_found}
 use Rattle.cbm_directory.specs.Slots.{directory_of}
 use Rattle.cbm_directory.specs.Empties.{empty_in}
 use Rattle.cbm_volume.specs.declared.disk.room.Room.{Room}
-use Rattle.cbm_volume.specs.Layouts.{Layout, Sound, Stands}
+use Rattle.cbm_volume.specs.Layouts.{Layout, Sound, HasLayout}
 use Rattle.cbm_volume.specs.Holding.{HoldsDisk, SlotSays}
 use Rattle.cbm_volume.proofs.layouts.Telling.{told}
 use Rattle.cbm_volume.proofs.written.Storing.{few}
@@ -27,7 +27,7 @@ empty_told k (s ∷ ss) [] h = absurd h
 empty_told k (None ∷ ss) (e ∷ es) h = ap (λ (b : Bool). if b then Some k else empty_in (k + 1) es) h.0
 empty_told k (Some f ∷ ss) (e ∷ es) h = ap (λ (b : Bool). if b then Some k else empty_in (k + 1) es) h.0.used ∙ empty_told (k + 1) ss es h.1
 
-pub empty_of : (tracks : ℕ) (c : Content) (l : Layout) (d : Disk) → Stands tracks c l d → empty_in 0 (directory_of tracks c).entries ≡ empty_from 0 d.slots
+pub empty_of : (tracks : ℕ) (c : Content) (l : Layout) (d : Disk) → HasLayout tracks c l d → empty_in 0 (directory_of tracks c).entries ≡ empty_from 0 d.slots
 empty_of tracks c l d st = empty_told 0 d.slots (directory_of tracks c).entries (told tracks c l d st).each
 
 -- the map's own sector isn't free
@@ -38,16 +38,16 @@ head_taken tracks c l few s = by_bit (is_free_in (map_of c) directory_head) refl
     by_bit false e = e
     by_bit true e = absurd (let z = sym s.owned.map ∙ s.free directory_head (omega arith, few, omega arith) e in (cc))
 
-pub room_of : (tracks : ℕ) (c : Content) (l : Layout) (d : Disk) → 18 ≤ tracks → Stands tracks c l d → is_some (find (is_free_in (map_of c)) directory_order) ≡ nat_lt 0 d.room
+pub room_of : (tracks : ℕ) (c : Content) (l : Layout) (d : Disk) → 18 ≤ tracks → HasLayout tracks c l d → is_some (find (is_free_in (map_of c)) directory_order) ≡ nat_lt 0 d.room
 room_of tracks c l d few st = room_found (is_free_in (map_of c)) (head_taken tracks c l few st.sound) ∙ ap (nat_lt 0) (sym st.describes.room)
 
-pub slot_of_disk : (tracks : ℕ) (c : Content) (l : Layout) (d : Disk) → 18 ≤ tracks → Stands tracks c l d
+pub slot_of_disk : (tracks : ℕ) (c : Content) (l : Layout) (d : Disk) → 18 ≤ tracks → HasLayout tracks c l d
     → (is_some (empty_in 0 (directory_of tracks c).entries) || is_some (find (is_free_in (map_of c)) directory_order)) ≡ has_slot d
 slot_of_disk tracks c l d few st =
     ap (λ (o : Option ℕ). is_some o || is_some (find (is_free_in (map_of c)) directory_order)) (empty_of tracks c l d st)
     ∙ ap (λ (b : Bool). is_some (empty_from 0 d.slots) || b) (room_of tracks c l d few st)
 
-pub free_of_disk : (tracks : ℕ) (c : Content) (l : Layout) (d : Disk) → Stands tracks c l d → number tracks (is_free_in (map_of c)) ≡ d.free
+pub free_of_disk : (tracks : ℕ) (c : Content) (l : Layout) (d : Disk) → HasLayout tracks c l d → number tracks (is_free_in (map_of c)) ≡ d.free
 free_of_disk tracks c l d st = sym (st.describes.free ∙ free_is_number tracks (map_of c) st.sound.counted)
 
 -- the map of a sound disk reads
@@ -55,7 +55,7 @@ pub map_reads : (tracks : ℕ) (c : Content) (l : Layout) (code : ℕ) → Sound
 map_reads tracks c l code s e = let z = subst (λ (y : Cell). IsOk y) e s.map_reads in (cc)
 
 -- nothing breaks a sound disk's directory off
-pub never_broken : (tracks : ℕ) (c : Content) (l : Layout) (d : Disk) (t : Trouble) → Stands tracks c l d → (directory_of tracks c).trouble ≡ Some t → ⊥
+pub never_broken : (tracks : ℕ) (c : Content) (l : Layout) (d : Disk) (t : Trouble) → HasLayout tracks c l d → (directory_of tracks c).trouble ≡ Some t → ⊥
 never_broken tracks c l d t st e = let z = sym (told tracks c l d st).whole ∙ e in (cc)
 
 -- WHAT A SOUND DISK HAS ROOM FOR

@@ -6,13 +6,13 @@ use Rattle.cbm_medium.specs.Place.{Place}
 use Rattle.cbm_medium.specs.Content.{Content, written}
 use Rattle.cbm_file.specs.Files.{Disk}
 use Rattle.cbm_bam.specs.Map.{is_free_in, map_of}
-use Rattle.cbm_volume.specs.Layouts.{Owner, TheMap, Directory, DataOf, SideOf, Writer, is_loose, OwnedBy, Layout, Stands, own}
+use Rattle.cbm_volume.specs.Layouts.{Owner, TheMap, Directory, DataOf, SideOf, Writer, is_loose, OwnedBy, Layout, HasLayout, own}
 use Rattle.cbm_medium.proofs.Walks.{followed_chain, chain_followed}
 use Rattle.cbm_file.specs.Files.{file_at}
 use Rattle.cbm_chain.specs.Reading.{Reading}
 use Rattle.cbm_chain.proofs.Parts.{AreKept, part_kept, part_bytes_kept}
 use Rattle.cbm_volume.specs.Layouts.{slot_count}
-use Rattle.cbm_volume.specs.Writers.{Filling, Use, Idle, Reads, Relates, Writes, IsReading, IsWriting, IsUsed, has_slot, writes_slot, IsAlone, HoldsAt, with_use}
+use Rattle.cbm_volume.specs.Writers.{Filling, Use, Idle, Reads, Relates, Writes, IsReading, IsWriting, IsUsed, uses_slot, writes_slot, IsAlone, HoldsAt, with_use}
 use Rattle.cbm_medium.proofs.Places.{place_decide}
 use Rattle.cbm_volume.proofs.layouts.Frames.{bytes_kept, chain_kept, Keeps, owned_same, write_keeps}
 use Rattle.cbm_volume.proofs.layouts.Remaps.{with_owner}
@@ -72,7 +72,7 @@ pub record Spares (c c' : Content) (l l' : Layout) (d d' : Disk) (out changes : 
   pub more : slot_count l ≤ slot_count l'
   pub slots : (n : ℕ) → changes n ≡ false → file_at d' n ≡ file_at d n
 
-pub used_kept : (tracks : ℕ) (c c' : Content) (l l' : Layout) (d d' : Disk) (out changes : ℕ → Bool) (ch : ℕ) (u : Use) → Spares c c' l l' d d' out changes → out ch ≡ false → ((n : ℕ) → has_slot n u ≡ true → changes n ≡ false)
+pub used_kept : (tracks : ℕ) (c c' : Content) (l l' : Layout) (d d' : Disk) (out changes : ℕ → Bool) (ch : ℕ) (u : Use) → Spares c c' l l' d d' out changes → out ch ≡ false → ((n : ℕ) → uses_slot n u ≡ true → changes n ≡ false)
     → IsUsed tracks c l d ch u → IsUsed tracks c' l' d' ch u
 used_kept tracks c c' l l' d d' out changes ch Idle s o spared h = tt
 used_kept tracks c c' l l' d d' out changes ch (Reads slot r left) s o spared h =
@@ -90,7 +90,7 @@ used_kept tracks c c' l l' d d' out changes ch (Writes w bytes blocks) s o spare
 
 -- ---- a claimed block goes to a writer: nothing is written
 
-pub stands_owned : (tracks : ℕ) (c : Content) (l : Layout) (d : Disk) (p : Place) (ch : ℕ) → Stands tracks c l d → IsTaken tracks c l p → Stands tracks c (with_owner l (own l.owner p (Writer ch))) d
+pub stands_owned : (tracks : ℕ) (c : Content) (l : Layout) (d : Disk) (p : Place) (ch : ℕ) → HasLayout tracks c l d → IsTaken tracks c l p → HasLayout tracks c (with_owner l (own l.owner p (Writer ch))) d
 stands_owned tracks c l d p ch st t =
     let owner : Place → Owner = own l.owner p (Writer ch) in
     let keeps : (q : Place) (o : Owner) → is_loose o ≡ false → l.owner q ≡ o → owner q ≡ o = λ q o k e. own_elsewhere l.owner p q (Writer ch) (λ z. (let y = sym (ap is_loose t.nobody) ∙ ap (λ (x : Place). is_loose (l.owner x)) z ∙ ap is_loose e ∙ k in (cc))) ∙ e in
@@ -137,13 +137,13 @@ use_other uses ch m u ne = rw (ne_eqb m ch ne) refl
 
 -- a channel whose use has at most the slots of the one before
 pub record IsLike (old new : Use) : Type 0 where
-  pub has : (n : ℕ) → has_slot n new ≡ true → has_slot n old ≡ true
+  pub has : (n : ℕ) → uses_slot n new ≡ true → uses_slot n old ≡ true
   pub writes : (n : ℕ) → writes_slot n new ≡ true → writes_slot n old ≡ true
 
-back_has : (uses : ℕ → Use) (ch : ℕ) (u : Use) → IsLike (uses ch) u → (a n : ℕ) → has_slot n (with_use uses ch u a) ≡ true → has_slot n (uses a) ≡ true
+back_has : (uses : ℕ → Use) (ch : ℕ) (u : Use) → IsLike (uses ch) u → (a n : ℕ) → uses_slot n (with_use uses ch u a) ≡ true → uses_slot n (uses a) ≡ true
 back_has uses ch u k a n h = elim (cases_eq a ch) [
-  | inl e ↦ subst (λ (i : ℕ). has_slot n (uses i) ≡ true) (sym e) (k.has n (ap (has_slot n) (sym (use_here uses ch u)) ∙ ap (λ (i : ℕ). has_slot n (with_use uses ch u i)) (sym e) ∙ h))
-  | inr ne ↦ ap (has_slot n) (sym (use_other uses ch a u ne)) ∙ h
+  | inl e ↦ subst (λ (i : ℕ). uses_slot n (uses i) ≡ true) (sym e) (k.has n (ap (uses_slot n) (sym (use_here uses ch u)) ∙ ap (λ (i : ℕ). uses_slot n (with_use uses ch u i)) (sym e) ∙ h))
+  | inr ne ↦ ap (uses_slot n) (sym (use_other uses ch a u ne)) ∙ h
 ]
 
 back_writes : (uses : ℕ → Use) (ch : ℕ) (u : Use) → IsLike (uses ch) u → (a n : ℕ) → writes_slot n (with_use uses ch u a) ≡ true → writes_slot n (uses a) ≡ true
@@ -153,7 +153,7 @@ back_writes uses ch u k a n h = elim (cases_eq a ch) [
 ]
 
 -- one channel goes on with its slot, or lets go of it
-pub holds_with : (tracks : ℕ) (c : Content) (l : Layout) (d : Disk) (uses : ℕ → Use) (ch : ℕ) (u : Use) → Stands tracks c l d → ((m : ℕ) → m ≢ ch → IsUsed tracks c l d m (uses m)) → IsAlone uses
+pub holds_with : (tracks : ℕ) (c : Content) (l : Layout) (d : Disk) (uses : ℕ → Use) (ch : ℕ) (u : Use) → HasLayout tracks c l d → ((m : ℕ) → m ≢ ch → IsUsed tracks c l d m (uses m)) → IsAlone uses
     → IsLike (uses ch) u → IsUsed tracks c l d ch u → HoldsAt tracks c l d (with_use uses ch u)
 holds_with tracks c l d uses ch u st each alone k h = record {
   stands = st;
@@ -165,8 +165,8 @@ holds_with tracks c l d uses ch u st each alone k h = record {
 }
 
 -- THE DISK STEPS: one channel goes on, and no other notices
-pub holds_step : (tracks : ℕ) (c c' : Content) (l l' : Layout) (d d' : Disk) (uses : ℕ → Use) (ch : ℕ) (u : Use) (out changes : ℕ → Bool) → HoldsAt tracks c l d uses → Stands tracks c' l' d' → Spares c c' l l' d d' out changes
-    → ((m : ℕ) → m ≢ ch → out m ≡ false) → ((m n : ℕ) → m ≢ ch → has_slot n (uses m) ≡ true → changes n ≡ false) → IsLike (uses ch) u → IsUsed tracks c' l' d' ch u → HoldsAt tracks c' l' d' (with_use uses ch u)
+pub holds_step : (tracks : ℕ) (c c' : Content) (l l' : Layout) (d d' : Disk) (uses : ℕ → Use) (ch : ℕ) (u : Use) (out changes : ℕ → Bool) → HoldsAt tracks c l d uses → HasLayout tracks c' l' d' → Spares c c' l l' d d' out changes
+    → ((m : ℕ) → m ≢ ch → out m ≡ false) → ((m n : ℕ) → m ≢ ch → uses_slot n (uses m) ≡ true → changes n ≡ false) → IsLike (uses ch) u → IsUsed tracks c' l' d' ch u → HoldsAt tracks c' l' d' (with_use uses ch u)
 holds_step tracks c c' l l' d d' uses ch u out changes h st s others spared k new =
     holds_with tracks c' l' d' uses ch u st (λ m ne. used_kept tracks c c' l l' d d' out changes m (uses m) s (others m ne) (λ n. spared m n ne) (h.each m)) h.alone k new
 

@@ -9,22 +9,22 @@ use Rattle.cbm_medium.specs.Links.{or_nothing}
 use Rattle.cbm_medium.specs.Seen.{Seen, write_refusal, HasFailed}
 use Rattle.cbm_medium.specs.declared.fault.Trouble.{Trouble}
 use Rattle.cbm_medium.proofs.Places.{written_there, written_elsewhere}
-use Rattle.cbm_file.specs.Files.{File, Disk, held_by, held_on, blocks_on}
+use Rattle.cbm_file.specs.Files.{File, Disk, blocks_held, held_on, blocks_on}
 use Rattle.cbm_file.specs.Changes.{only_closed, validated}
-use Rattle.cbm_bam.specs.Map.{is_free_in, IsCounted, IsOutside, map_of, geometry_of, tally, number, at}
+use Rattle.cbm_bam.specs.Map.{is_free_in, IsCounted, IsOutsideMap, map_of, geometry_of, tally, number, at}
 use Rattle.cbm_bam.proofs.Counts.{free_is_number, number_same, tally_same}
 use Rattle.cbm_directory.specs.Entries.{type_byte, is_closed, entry_at}
 use Rattle.cbm_directory.specs.Slots.{all_entries}
 use Rattle.cbm_directory.proofs.Written.{range_same}
 use Rattle.cbm_chain.specs.Data.{chain_bytes}
 use Rattle.cbm_volume.specs.Blocks.{Blocks, no_blocks, slot_of}
-use Rattle.cbm_volume.specs.Layouts.{Owner, DataOf, OwnedBy, IsWritable, Layout, slot_count, Sound, Stands}
+use Rattle.cbm_volume.specs.Layouts.{Owner, DataOf, OwnedBy, IsCellWritable, Layout, slot_count, Sound, HasLayout}
 use Rattle.cbm_volume.specs.Opens.{IsHindered}
 use Rattle.cbm_volume.specs.Writers.{Use, Idle, IsUsed, HoldsNow, known, Stopped, writes_slot}
 use Rattle.cbm_volume.specs.Holding.{HoldsDisk}
 use Rattle.cbm_volume.specs.Unmendable.{IsUnmendable}
 use Rattle.cbm_volume.specs.Views.{view_of}
-use Rattle.cbm_volume.specs.Sweeps.{IsSweptAs, IsDirectory, IsSwept, IsPutInOrder, IsPartlyInOrder}
+use Rattle.cbm_volume.specs.Sweeps.{IsSweptAs, IsDirectoryChain, IsSwept, IsPutInOrder, IsPartlyInOrder}
 use Rattle.cbm_volume.specs.check.WholeDisk.{ClaimsInto}
 use Rattle.cbm_volume.proofs.checked.Claimed.{IsClaimedOnce}
 use Rattle.cbm_volume.proofs.checked.ClaimedSound.{layout_of, IsLaidOut, laid_out}
@@ -62,7 +62,7 @@ closed_or_empty e e2 w = by_test (is_closed e) refl
 -- what is settled by its counts
 as_validated : (e d : Disk) → e.title ≡ d.title → e.mark ≡ d.mark → e.total ≡ d.total → e.slots ≡ map only_closed d.slots → e.free ≡ e.total - held_on e → e.room ≡ 18 - length e.slots / 8 → e ≡ validated d
 as_validated e d title mark total slots free room =
-    let held : held_on e ≡ held_on d = ap (λ (xs : List (Option File)). sum_by held_by xs) slots ∙ held_same d.slots in
+    let held : held_on e ≡ held_on d = ap (λ (xs : List (Option File)). sum_by blocks_held xs) slots ∙ held_same d.slots in
     let long : length e.slots ≡ length d.slots = ap length slots ∙ length-map d.slots only_closed in
     let f : e.free ≡ d.total - held_on d = free ∙ ap (λ (n : ℕ). n - held_on e) total ∙ ap (λ (n : ℕ). d.total - n) held in
     let r : e.room ≡ 18 - length d.slots / 8 = room ∙ ap (λ (n : ℕ). 18 - n / 8) long in
@@ -78,14 +78,14 @@ mended_laid medium c c1 c2 old new k whole reads swept anew is =
     let w : IsLaid tracks c c2 k laid.owner = laid_anew medium c c1 c2 old new k laid whole swept anew is in
     let m = sound_stands tracks c2 l w.sound in
     let e : Disk = m.0 in
-    let st : Stands tracks c2 l e = m.1 in
+    let st : HasLayout tracks c2 l e = m.1 in
     let head : c2 directory_head ≡ Ok new = ap (λ (x : Content). x directory_head) is ∙ written_there c1 directory_head new in
     let same : geometry_of medium c2 ≡ tracks = recounted_geometry medium c c2 old new reads head anew.recounted in
     let all : number tracks (left k.after) + sum_by size k.files ≡ blocks_on tracks = files_counted tracks v k (geometry_size medium c) in
     let long : length e.slots ≡ 8 * length k.directory = st.describes.size in
     let files : length e.slots ≡ length k.files = long ∙ sym (entries_length v k.directory) ∙ slots_length tracks v k.middle (all_entries v k.directory) k.files k.after k.files_claimed in
-    let held : held_on e ≡ sum_by size k.files = sums_same held_by size e.slots k.files None no_blocks files (λ i h.
-    ap held_by (st.describes.slots i (omega (arith, h, long))) ∙ held_slot tracks c2 (chain_bytes c2 (l.files i).data_blocks) (entry_at c2 k.directory i) (l.files i) (w.sound.lies i (omega (arith, h, long)))) in
+    let held : held_on e ≡ sum_by size k.files = sums_same blocks_held size e.slots k.files None no_blocks files (λ i h.
+    ap blocks_held (st.describes.slots i (omega (arith, h, long))) ∙ held_slot tracks c2 (chain_bytes c2 (l.files i).data_blocks) (entry_at c2 k.directory i) (l.files i) (w.sound.lies i (omega (arith, h, long)))) in
     let free : e.free ≡ number tracks (left k.after) = st.describes.free ∙ free_is_number tracks (map_of c2) w.sound.counted ∙ number_same tracks (is_free_in (map_of c2)) (left k.after) w.map in
     let counted : e.free ≡ e.total - held_on e = omega (arith, free, all, held, st.describes.total) in
     let room : e.room ≡ 18 - length e.slots / 8 =
@@ -94,7 +94,7 @@ mended_laid medium c c1 c2 old new k whole reads swept anew is =
     record {
       disk = e;
       layout = l;
-      stands = subst (λ (n : ℕ). Stands n c2 l e) (sym same) st;
+      stands = subst (λ (n : ℕ). HasLayout n c2 l e) (sym same) st;
       mended = as_validated e e refl refl refl
           (slots_as e.slots e.slots refl (λ i h. let at : i < slot_count l = omega (arith, h, long) in
           st.describes.slots i at ∙ sym (settled_slot (chain_bytes c2 (l.files i).data_blocks) (entry_at c2 k.directory i) (l.files i) (closed_or_empty (entry_at c k.directory i) (entry_at c2 k.directory i) (w.entries i at)))
@@ -144,7 +144,7 @@ put_in_order medium c c1 c2 old new used whole claims reads swept anew is =
     let laid : IsLaidOut tracks v k = laid_out tracks v k in
     let l : Layout = layout_of k.directory k.files laid.owner in
     let w : IsLaid tracks c c2 k laid.owner = laid_anew medium c c1 c2 old new k laid whole swept (subst (λ (f : Place → Bool). IsWhollyAnew tracks old new f) (sym (once.1 ∙ claims.1)) anew) is in
-    let was : IsDirectory tracks c k.directory = directory_was medium c k laid in
+    let was : IsDirectoryChain tracks c k.directory = directory_was medium c k laid in
     let all : IsSwept c c1 k.directory 144 = swept k.directory was in
     record {
       directory = k.directory;
@@ -162,7 +162,7 @@ mended_sound medium c c2 m = (m.disk, record { layout = m.layout; stands = m.sta
 abbrev pub AreIdle : (ℕ → Use) → Type 0
 AreIdle uses = (ch : ℕ) → uses ch ≡ Idle
 
-idle_holds : (medium : ℕ) (c : Content) (l : Layout) (d : Disk) (uses : ℕ → Use) → AreIdle uses → Stands (geometry_of medium c) c l d → HoldsNow medium c d uses
+idle_holds : (medium : ℕ) (c : Content) (l : Layout) (d : Disk) (uses : ℕ → Use) → AreIdle uses → HasLayout (geometry_of medium c) c l d → HoldsNow medium c d uses
 idle_holds medium c l d uses idle st = record {
   layout = l;
   so = record {
@@ -221,7 +221,7 @@ swept_stopped medium c c1 d uses k h idle w =
     let same : geometry_of medium c1 ≡ tracks = geometry_elsewhere medium c c1 (head_stays tracks c c1 l k s w) in
     record {
       disk = m.0;
-      holds = idle_holds medium c1 l m.0 uses idle (subst (λ (n : ℕ). Stands n c1 l m.0) (sym same) m.1);
+      holds = idle_holds medium c1 l m.0 uses idle (subst (λ (n : ℕ). HasLayout n c1 l m.0) (sym same) m.1);
       either = λ n. inl (elim (cases_lt n (slot_count l)) [
         | inl at ↦ ap known (m.1.describes.slots n at)
             ∙ slot_known c c1 l.owner n (entry_at c l.directory n) (entry_at c1 l.directory n) (l.files n) (sweeps.entries n at) (sweeps.blocks n) (s.owned.blocks n at)
@@ -231,17 +231,17 @@ swept_stopped medium c c1 d uses k h idle w =
       total = m.1.describes.total ∙ sym h.so.stands.describes.total;
     }
 
-pub of_directory : (tracks : ℕ) (c : Content) (l : Layout) → Sound tracks c l → IsDirectory tracks c l.directory
+pub of_directory : (tracks : ℕ) (c : Content) (l : Layout) → Sound tracks c l → IsDirectoryChain tracks c l.directory
 of_directory tracks c l s = (s.directory, directory_length tracks c l s)
 
-pub stopped_at : (medium : ℕ) (c c1 : Content) (d : Disk) (uses : ℕ → Use) → HoldsNow medium c d uses → AreIdle uses → ((xs : List Place) → IsDirectory (geometry_of medium c) c xs → (k : ℕ) × IsSwept c c1 xs k) → Stopped medium c1 d (validated d) uses
+pub stopped_at : (medium : ℕ) (c c1 : Content) (d : Disk) (uses : ℕ → Use) → HoldsNow medium c d uses → AreIdle uses → ((xs : List Place) → IsDirectoryChain (geometry_of medium c) c xs → (k : ℕ) × IsSwept c c1 xs k) → Stopped medium c1 d (validated d) uses
 stopped_at medium c c1 d uses h idle swept =
     let w = swept h.layout.directory (of_directory (geometry_of medium c) c h.layout h.so.stands.sound) in
     swept_stopped medium c c1 d uses w.0 h idle w.1
 
 -- ---- why it is refused
 
-pub walk_hindered : (old new : Seen) (t : Trouble) (d : Disk) (uses : ℕ → Use) → HoldsNow old.tracks old.content d uses → ((xs : List Place) → IsDirectory (geometry_of old.tracks old.content) old.content xs → IsHindered old new t) → IsHindered old new t
+pub walk_hindered : (old new : Seen) (t : Trouble) (d : Disk) (uses : ℕ → Use) → HoldsNow old.tracks old.content d uses → ((xs : List Place) → IsDirectoryChain (geometry_of old.tracks old.content) old.content xs → IsHindered old new t) → IsHindered old new t
 walk_hindered old new t d uses h cause = cause h.layout.directory (of_directory (geometry_of old.tracks old.content) old.content h.layout h.so.stands.sound)
 
 -- nothing is wrong with a sound disk, and its map reads
@@ -270,7 +270,7 @@ whole_long : (c : Content) (map : List ℕ) → ((p : Place) → IsWhole (c p)) 
 whole_long c map whole e = subst (λ (x : Cell). IsWhole x) e (whole directory_head)
 
 pub wholly_anew : (tracks k : ℕ) (c : Content) (old new : List ℕ) (used : Place → Bool) → k ≡ tracks → ((p : Place) → IsWhole (c p)) → c directory_head ≡ Ok old → ((p : Place) → Has k p → is_free_in new p ≡ not (used p)) → IsCounted k new
-    → ((i : ℕ) → IsOutside k i → slice_index new i ≡ slice_index old i) → length new ≡ 256 → IsWhollyAnew tracks old new used
+    → ((i : ℕ) → IsOutsideMap k i → slice_index new i ≡ slice_index old i) → length new ≡ 256 → IsWhollyAnew tracks old new used
 wholly_anew tracks k c old new used same whole reads free counted outside long =
     subst (λ (n : ℕ). IsWhollyAnew n old new used) same (record { free = free; recounted = record { counted = counted; outside = outside }; long = long ∙ sym (whole_long c old whole reads) })
 
@@ -297,7 +297,7 @@ ends_partly medium c c1 c2 used (Err t) same claims swept =
 
 -- a slot is refused
 pub stops_partly : (medium : ℕ) (c c2 : Content) (used : Place → Bool) → ClaimsInto (geometry_of medium c) (view_of (geometry_of medium c) c) used
-    → ((xs : List Place) → IsDirectory (geometry_of medium c) c xs → (k : ℕ) × IsSwept c c2 xs k) → IsPartlyInOrder (geometry_of medium c) c c2
+    → ((xs : List Place) → IsDirectoryChain (geometry_of medium c) c xs → (k : ℕ) × IsSwept c c2 xs k) → IsPartlyInOrder (geometry_of medium c) c c2
 stops_partly medium c c2 used claims swept = let d = claimed_directory medium c used claims in let w = swept d.0 d.1 in inr (d.0, d.1, w.0, w.1)
 
 pub ends_validated : (medium : ℕ) (c c2 : Content) (r : Result (Unit {0}) Trouble) (d : Disk) (uses : ℕ → Use) → OnOk r (IsMended medium c c2) → HoldsNow medium c d uses → AreIdle uses → OnOk r (HoldsNow medium c2 (validated d) uses)
@@ -330,7 +330,7 @@ map_read medium c used code claims e = let z = subst (λ (x : Cell). IsOk x) e (
 
 -- a slot is refused
 pub slot_refused : (old new : Seen) (t : Trouble) (used : Place → Bool) → ClaimsInto (geometry_of old.tracks old.content) (view_of (geometry_of old.tracks old.content) old.content) used
-    → ((xs : List Place) → IsDirectory (geometry_of old.tracks old.content) old.content xs → IsHindered old new t) → IsRefusal old new t
+    → ((xs : List Place) → IsDirectoryChain (geometry_of old.tracks old.content) old.content xs → IsHindered old new t) → IsRefusal old new t
 slot_refused old new t used claims cause = let d = claimed_directory old.tracks old.content used claims in inr (cause d.0 d.1)
 
 -- the map is refused
@@ -341,8 +341,8 @@ map_refused old mid new map used (Ok x) cause reads claims swept protected count
 map_refused old mid new map used (Err t) cause reads claims swept protected counted =
     let d = claimed_directory old.tracks old.content used claims in
     let w : IsSwept old.content mid.content d.0 144 = swept d.0 d.1 in
-    inr (hindered_since old mid new t protected counted (by_cause (w.writable directory_head (subst (λ (x : Cell). IsWritable x) (sym reads) tt)) cause))
+    inr (hindered_since old mid new t protected counted (by_cause (w.writable directory_head (subst (λ (x : Cell). IsCellWritable x) (sym reads) tt)) cause))
   where
-    by_cause : IsWritable (mid.content directory_head) → (write_refusal mid directory_head ≡ Some t.code) ⊎ HasFailed mid new → IsHindered mid new t
+    by_cause : IsCellWritable (mid.content directory_head) → (write_refusal mid directory_head ≡ Some t.code) ⊎ HasFailed mid new → IsHindered mid new t
     by_cause ok (inl e) = inl (by_protection mid.protected (mid.content directory_head) t.code ok e)
     by_cause ok (inr f) = inr f

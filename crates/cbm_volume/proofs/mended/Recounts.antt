@@ -5,13 +5,13 @@ use Rattle.std.specs.Int.{bit_at}
 use Rattle.std.proofs.lemmas.Bool.{le-ltb}
 use Rattle.cbm_medium.specs.Place.{Place, directory_head}
 use Rattle.cbm_medium.specs.Content.{Content}
-use Rattle.cbm_bam.specs.Map.{count_index, is_free_in, count_in, tally, IsCounted, IsOutside, is_wide, tracks_if, geometry, geometry_in, geometry_of, at}
+use Rattle.cbm_bam.specs.Map.{count_index, is_free_in, count_in, tally, IsCounted, IsOutsideMap, is_wide, tracks_if, geometry, geometry_in, geometry_of, at}
 use Rattle.cbm_bam.proofs.Counts.{tally_same}
 use Rattle.cbm_bam.proofs.Geometries.{wide}
 
 pub record IsRecounted (tracks : ℕ) (old new : List ℕ) : Type 0 where
   pub counted : IsCounted tracks new
-  pub outside : (i : ℕ) → IsOutside tracks i → slice_index new i ≡ slice_index old i
+  pub outside : (i : ℕ) → IsOutsideMap tracks i → slice_index new i ≡ slice_index old i
 
 high : (t : ℕ) → 36 ≤ t → count_index t ≡ 4 * t + 48
 unfolding count_index

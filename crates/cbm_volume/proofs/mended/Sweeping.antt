@@ -7,7 +7,7 @@ use Rattle.cbm_medium.specs.Content.{Content}
 use Rattle.cbm_bam.specs.Map.{is_free_in, IsCounted, map_of}
 use Rattle.cbm_directory.specs.Entries.{type_byte, bit_of, is_closed, is_relative, entry_at, first_directory}
 use Rattle.cbm_volume.specs.Blocks.{Blocks, no_blocks, Lies, LiesAs, slot_with, file_of}
-use Rattle.cbm_volume.specs.Layouts.{Nobody, Directory, DataOf, SideOf, Layout, IsWritable, slot_count, Sound}
+use Rattle.cbm_volume.specs.Layouts.{Nobody, Directory, DataOf, SideOf, Layout, IsCellWritable, slot_count, Sound}
 use Rattle.cbm_volume.specs.Writers.{known}
 use Rattle.cbm_file.specs.Changes.{only_closed}
 use Rattle.cbm_volume.proofs.layouts.Frames.{Keeps, KeepsLinks, chain_links, lies_kept}
@@ -70,7 +70,7 @@ lies_swept tracks a b l n s w k = by_test (is_closed (entry_at a l.directory n))
     by_test false z = lies_open tracks a b (entry_at a l.directory n) (entry_at b l.directory n) (l.files n) z (stays_open (entry_at a l.directory n) (entry_at b l.directory n) (w.entries n k) z) (s.lies n k)
 
 -- A SOUND DISK STAYS SOUND, where the map that it has then is right
-pub sound_swept : (tracks : ℕ) (a b : Content) (l : Layout) → Sound tracks a l → Sweeps a b l → ((p : Place) → Has tracks p → IsWritable (b p)) → IsOk (b directory_head)
+pub sound_swept : (tracks : ℕ) (a b : Content) (l : Layout) → Sound tracks a l → Sweeps a b l → ((p : Place) → Has tracks p → IsCellWritable (b p)) → IsOk (b directory_head)
     → ((p : Place) → Has tracks p → is_free_in (map_of b) p ≡ true → l.owner p ≡ Nobody) → IsCounted tracks (map_of b) → Sound tracks b l
 sound_swept tracks a b l s w writable reads free counted = record {
   owned = s.owned;

@@ -7,7 +7,7 @@ use Rattle.cbm_medium.specs.declared.fault.Trouble.{Trouble}
 use Rattle.cbm_file.specs.Files.{Disk}
 use Rattle.cbm_bam.specs.Map.{geometry_of}
 use Rattle.cbm_volume.specs.Layouts.{Layout, TheMap, Directory, Untouched}
-use Rattle.cbm_volume.specs.Sweeps.{IsDirectory, IsSwept}
+use Rattle.cbm_volume.specs.Sweeps.{IsDirectoryChain, IsSwept}
 use Rattle.cbm_volume.specs.Writers.{Use, HoldsNow}
 use Rattle.cbm_volume.proofs.mended.Mended.{of_directory}
 use Rattle.cbm_volume.proofs.opened.OpenedFiles.{untouched_by}
@@ -15,12 +15,12 @@ use Rattle.cbm_volume.proofs.layouts.Untouched.{is_file, KeepsFiles, files_same,
 use Rattle.cbm_volume.proofs.mended.Validates.{apart_from, SweptAll}
 
 -- some slots were swept
-swept_files : (medium : ℕ) (c c1 : Content) (d : Disk) (uses : ℕ → Use) (h : HoldsNow medium c d uses) → ((xs : List Place) → IsDirectory (geometry_of medium c) c xs → (k : ℕ) × IsSwept c c1 xs k) → KeepsFiles h.layout c c1
+swept_files : (medium : ℕ) (c c1 : Content) (d : Disk) (uses : ℕ → Use) (h : HoldsNow medium c d uses) → ((xs : List Place) → IsDirectoryChain (geometry_of medium c) c xs → (k : ℕ) × IsSwept c c1 xs k) → KeepsFiles h.layout c c1
 swept_files medium c c1 d uses h swept p f =
     let w = swept h.layout.directory (of_directory (geometry_of medium c) c h.layout h.so.stands.sound) in
     w.1.elsewhere p (apart_from h.layout.owner p h.layout.directory (λ e. (let z = sym f ∙ ap is_file e in cc)) h.so.stands.sound.owned.directory)
 
-pub swept_spared : (medium : ℕ) (c c1 : Content) (d : Disk) (uses : ℕ → Use) → HoldsNow medium c d uses → ((xs : List Place) → IsDirectory (geometry_of medium c) c xs → (k : ℕ) × IsSwept c c1 xs k) → Untouched (geometry_of medium c) c c1 (λ m. false)
+pub swept_spared : (medium : ℕ) (c c1 : Content) (d : Disk) (uses : ℕ → Use) → HoldsNow medium c d uses → ((xs : List Place) → IsDirectoryChain (geometry_of medium c) c xs → (k : ℕ) × IsSwept c c1 xs k) → Untouched (geometry_of medium c) c c1 (λ m. false)
 swept_spared medium c c1 d uses h swept = untouched_by medium c c1 d uses h (swept_files medium c c1 d uses h swept)
 
 -- nothing was written

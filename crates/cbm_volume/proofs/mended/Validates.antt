@@ -7,16 +7,16 @@ use Rattle.cbm_medium.specs.Place.{Place, Has, directory_head}
 use Rattle.cbm_medium.specs.Content.{Cell, Content, IsWhole, written}
 use Rattle.cbm_medium.specs.Links.{link, or_nothing, IsApart, Chain}
 use Rattle.cbm_medium.proofs.Places.{written_there, written_elsewhere, written_each}
-use Rattle.cbm_file.specs.Files.{File, Disk, held_by}
+use Rattle.cbm_file.specs.Files.{File, Disk, blocks_held}
 use Rattle.cbm_file.specs.Changes.{only_closed, validated}
 use Rattle.cbm_bam.specs.Map.{is_free_in, map_of, geometry_of, IsCounted}
 use Rattle.cbm_directory.specs.Entries.{entry_of, type_byte, is_closed, is_relative, entry_at, sector_of, first_directory}
 use Rattle.cbm_volume.specs.Blocks.{Blocks, Lies, LiesAs, slot_with, file_of}
-use Rattle.cbm_volume.specs.Layouts.{Owner, Directory, DataOf, SideOf, OwnedBy, IsWritable, Layout, slot_count, Sound, Stands}
+use Rattle.cbm_volume.specs.Layouts.{Owner, Directory, DataOf, SideOf, OwnedBy, IsCellWritable, Layout, slot_count, Sound, HasLayout}
 use Rattle.cbm_volume.specs.Unmendable.{flaw_code, IsUnmendable}
-use Rattle.cbm_volume.specs.Views.{view_of, taken_map, on_cell, shown_at}
+use Rattle.cbm_volume.specs.Views.{view_of, taken_map, on_cell, view_at}
 use Rattle.cbm_volume.proofs.layouts.Refusals.{sector_reads}
-use Rattle.cbm_volume.specs.Sweeps.{IsSweptAs, IsDirectory, IsSwept}
+use Rattle.cbm_volume.specs.Sweeps.{IsSweptAs, IsDirectoryChain, IsSwept}
 use Rattle.cbm_volume.specs.check.WholeDisk.{ClaimsInto, DiskFault}
 use Rattle.cbm_volume.specs.declared.check.unsound.Unsound.{Unsound}
 use Rattle.cbm_volume.proofs.written.Storing.{few}
@@ -65,19 +65,19 @@ view_sweeps tracks c l whole s = record {
       (view_entries tracks c (sector_of l.directory n) (n % 8) (on_18 tracks c l n s k).0 (on_18 tracks c l n s k).1 (whole (sector_of l.directory n)) (sector_reads tracks c l.directory n s.directory k) (omega arith));
 }
 
-view_writable : (tracks : ℕ) (c : Content) (p : Place) → IsWritable (c p) → IsWritable (view_of tracks c p)
+view_writable : (tracks : ℕ) (c : Content) (p : Place) → IsCellWritable (c p) → IsCellWritable (view_of tracks c p)
 unfolding view_of
 view_writable tracks c p h = by_cell (c p) h
   where
-    by_cell : (cell : Cell) → IsWritable cell → IsWritable (on_cell (shown_at tracks p) cell)
+    by_cell : (cell : Cell) → IsCellWritable cell → IsCellWritable (on_cell (view_at tracks p) cell)
     by_cell (Ok bytes) w = tt
     by_cell (Err code) w = w
 
-pub viewed_writable : (tracks : ℕ) (c : Content) (p : Place) → IsWritable (view_of tracks c p) → IsWritable (c p)
+pub viewed_writable : (tracks : ℕ) (c : Content) (p : Place) → IsCellWritable (view_of tracks c p) → IsCellWritable (c p)
 unfolding view_of
 viewed_writable tracks c p h = by_cell (c p) h
   where
-    by_cell : (cell : Cell) → IsWritable (on_cell (shown_at tracks p) cell) → IsWritable cell
+    by_cell : (cell : Cell) → IsCellWritable (on_cell (view_at tracks p) cell) → IsCellWritable cell
     by_cell (Ok bytes) w = tt
     by_cell (Err code) w = w
 
@@ -124,7 +124,7 @@ flaw_there medium c g code u whole e says f = (
 )
 
 -- the directory of what is claimed is the disk's
-pub directory_was : (medium : ℕ) (c : Content) (k : IsClaimedOnce (geometry_of medium c) (view_of (geometry_of medium c) c)) (laid : IsLaidOut (geometry_of medium c) (view_of (geometry_of medium c) c) k) → IsDirectory (geometry_of medium c) c k.directory
+pub directory_was : (medium : ℕ) (c : Content) (k : IsClaimedOnce (geometry_of medium c) (view_of (geometry_of medium c) c)) (laid : IsLaidOut (geometry_of medium c) (view_of (geometry_of medium c) c) k) → IsDirectoryChain (geometry_of medium c) c k.directory
 directory_was medium c k laid =
     let tracks : ℕ = geometry_of medium c in
     let v : Content = view_of tracks c in
@@ -134,7 +134,7 @@ directory_was medium c k laid =
       directory_length tracks v l s,
     )
 
-pub claimed_directory : (medium : ℕ) (c : Content) (used : Place → Bool) → ClaimsInto (geometry_of medium c) (view_of (geometry_of medium c) c) used → (xs : List Place) × IsDirectory (geometry_of medium c) c xs
+pub claimed_directory : (medium : ℕ) (c : Content) (used : Place → Bool) → ClaimsInto (geometry_of medium c) (view_of (geometry_of medium c) c) used → (xs : List Place) × IsDirectoryChain (geometry_of medium c) c xs
 claimed_directory medium c used claims =
     let k = (checked_once (geometry_of medium c) (view_of (geometry_of medium c) c) claims.0).0 in
     (k.directory, directory_was medium c k (laid_out (geometry_of medium c) (view_of (geometry_of medium c) c) k))
@@ -163,28 +163,28 @@ held_of : (bytes e : List ℕ) (b : Blocks) → (file_of bytes e b).held ≡ siz
 unfolding file_of
 held_of bytes e b = refl
 
-pub held_slot : (tracks : ℕ) (c : Content) (bytes e : List ℕ) (b : Blocks) → Lies tracks c e b → held_by (slot_with bytes e b) ≡ size b
+pub held_slot : (tracks : ℕ) (c : Content) (bytes e : List ℕ) (b : Blocks) → Lies tracks c e b → blocks_held (slot_with bytes e b) ≡ size b
 held_slot tracks c bytes e b h = by_test (type_byte e == 0) refl (is_closed e) refl
   where
     none : is_closed e ≡ false → 0 ≡ size b
     none z = sym (ap size (subst (λ (x : Bool). LiesAs x (is_relative e) tracks c e b) z h))
 
-    by_test : (x : Bool) → (type_byte e == 0) ≡ x → (y : Bool) → is_closed e ≡ y → held_by (if x then None else Some (file_of bytes e b)) ≡ size b
+    by_test : (x : Bool) → (type_byte e == 0) ≡ x → (y : Bool) → is_closed e ≡ y → blocks_held (if x then None else Some (file_of bytes e b)) ≡ size b
     by_test true z y w = none (empty_open e (eqb-true (type_byte e) 0 z))
     by_test false z true w = ap (λ (v : Bool). if v then (file_of bytes e b).held else 0) (closed_of bytes e b ∙ w) ∙ held_of bytes e b
     by_test false z false w = ap (λ (v : Bool). if v then (file_of bytes e b).held else 0) (closed_of bytes e b ∙ w) ∙ none w
 
-held_closed : (x : Option File) → held_by (only_closed x) ≡ held_by x
+held_closed : (x : Option File) → blocks_held (only_closed x) ≡ blocks_held x
 held_closed None = refl
 held_closed (Some f) = by_test f.closed refl
   where
-    by_test : (b : Bool) → f.closed ≡ b → held_by (if b then Some f else None) ≡ held_by (Some f)
+    by_test : (b : Bool) → f.closed ≡ b → blocks_held (if b then Some f else None) ≡ blocks_held (Some f)
     by_test true e = refl
     by_test false e = sym (ap (λ (v : Bool). if v then f.held else 0) e)
 
-pub held_same : (xs : List (Option File)) → sum_by held_by (map only_closed xs) ≡ sum_by held_by xs
-held_same xs = sums_same held_by held_by (map only_closed xs) xs None None (length-map xs only_closed) (λ i k.
-    ap held_by (get_or-map only_closed xs i None None (omega (arith, k, length-map xs only_closed))) ∙ held_closed (get_or xs i None))
+pub held_same : (xs : List (Option File)) → sum_by blocks_held (map only_closed xs) ≡ sum_by blocks_held xs
+held_same xs = sums_same blocks_held blocks_held (map only_closed xs) xs None None (length-map xs only_closed) (λ i k.
+    ap blocks_held (get_or-map only_closed xs i None None (omega (arith, k, length-map xs only_closed))) ∙ held_closed (get_or xs i None))
 
 -- slots that are those of a list, but for what isn't closed
 pub slots_as : (xs ys : List (Option File)) → length xs ≡ length ys → ((i : ℕ) → i < length xs → get_or xs i None ≡ only_closed (get_or ys i None)) → xs ≡ map only_closed ys
@@ -197,9 +197,9 @@ slots_as xs ys l h = same_lists xs (map only_closed ys) (l ∙ sym (length-map y
 pub record IsMended (medium : ℕ) (c c2 : Content) : Type 0 where
   pub disk : Disk
   pub layout : Layout
-  pub stands : Stands (geometry_of medium c2) c2 layout disk
+  pub stands : HasLayout (geometry_of medium c2) c2 layout disk
   pub mended : disk ≡ validated disk
-  pub as_before : (l : Layout) (d : Disk) → Stands (geometry_of medium c) c l d → disk ≡ validated d
+  pub as_before : (l : Layout) (d : Disk) → HasLayout (geometry_of medium c) c l d → disk ≡ validated d
 
 -- the same, of the layout
 pub record IsLaid (tracks : ℕ) (c c2 : Content) (k : IsClaimedOnce tracks (view_of tracks c)) (owner : Place → Owner) : Type 0 where
@@ -209,7 +209,7 @@ pub record IsLaid (tracks : ℕ) (c c2 : Content) (k : IsClaimedOnce tracks (vie
   pub map : (p : Place) → Has tracks p → is_free_in (map_of c2) p ≡ left k.after p
 
 abbrev pub SweptAll : ℕ → Content → Content → Type 0
-SweptAll tracks c c1 = (xs : List Place) → IsDirectory tracks c xs → IsSwept c c1 xs 144
+SweptAll tracks c c1 = (xs : List Place) → IsDirectoryChain tracks c xs → IsSwept c c1 xs 144
 
 pub laid_anew : (medium : ℕ) (c c1 c2 : Content) (old new : List ℕ) (k : IsClaimedOnce (geometry_of medium c) (view_of (geometry_of medium c) c)) (laid : IsLaidOut (geometry_of medium c) (view_of (geometry_of medium c) c) k) → ((p : Place) → IsWhole (c p))
     → SweptAll (geometry_of medium c) c c1 → IsWhollyAnew (geometry_of medium c) old new k.after → c2 ≡ written c1 directory_head new → IsLaid (geometry_of medium c) c c2 k laid.owner
@@ -218,7 +218,7 @@ laid_anew medium c c1 c2 old new k laid whole swept anew is =
     let v : Content = view_of tracks c in
     let l : Layout = layout_of k.directory k.files laid.owner in
     let s : Sound tracks v l = laid.sound in
-    let was : IsDirectory tracks c k.directory = directory_was medium c k laid in
+    let was : IsDirectoryChain tracks c k.directory = directory_was medium c k laid in
     let chain : Chain tracks c first_directory k.directory = was.0 in
     let few_sectors : length k.directory ≤ 18 = was.1 in
     let w : IsSwept c c1 k.directory 144 = swept k.directory was in
@@ -247,7 +247,7 @@ laid_anew medium c c1 c2 old new k laid whole swept anew is =
     let free : (p : Place) → Has tracks p → is_free_in (map_of c2) p ≡ left k.after p = λ p h. ap (λ (x : List ℕ). is_free_in x p) of_map ∙ anew.free p h in
     record {
       sound = sound_swept tracks v c2 l s sweeps
-          (λ p h. subst (λ (x : Content). IsWritable (x p)) (sym is) (written_each IsWritable c1 directory_head new p tt (w.writable p (viewed_writable tracks c p (s.writable p h)))))
+          (λ p h. subst (λ (x : Content). IsCellWritable (x p)) (sym is) (written_each IsCellWritable c1 directory_head new p tt (w.writable p (viewed_writable tracks c p (s.writable p h)))))
           (subst (λ (x : Cell). IsOk x) (sym head) refl)
           (λ p h f. laid.fresh p (not_of (k.after p) (sym (free p h) ∙ f)))
           (subst (λ (x : List ℕ). IsCounted tracks x) (sym of_map) anew.recounted.counted);

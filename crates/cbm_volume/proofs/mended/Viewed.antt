@@ -11,13 +11,13 @@ use Rattle.std.specs.Prelude.{◌&&◌}
 use Rattle.std.proofs.lemmas.Bool.{eq-eqb, ne_eqb, cases_eq, cases_lt}
 use Rattle.std.proofs.lemmas.List.{get_or-set_other, get_or-set_same, get_or-take, get_or-drop}
 use Rattle.cbm_bam.specs.Map.{geometry_of, geometry_in, IsCounted, is_free_in}
-use Rattle.cbm_bam.specs.WrittenAnew.{IsAnew, is_before}
+use Rattle.cbm_bam.specs.WrittenAnew.{IsAnew, is_place_before}
 use Rattle.cbm_bam.proofs.WholeMaps.{IsZero, IsRest, begun_35, begun_40}
 use Rattle.cbm_chain.proofs.Filling.{zeros_at}
 use Rattle.cbm_directory.proofs.Written.{range_same, mid_below, mid_above, mid_inside}
 use Rattle.cbm_volume.proofs.mended.Recounts.{IsRecounted, recounted_geometry}
 use Rattle.cbm_volume.specs.Sweeps.{IsSweptAs}
-use Rattle.cbm_volume.specs.Views.{zeroed, taken_map, clear_open, swept, on_cell, shown_at, view_of}
+use Rattle.cbm_volume.specs.Views.{zeroed, taken_map, clear_open, swept, on_cell, view_at, view_of}
 
 -- ---- lengths
 
@@ -48,7 +48,7 @@ unfolding swept
 swept_length zero xs = refl
 swept_length (suc n) xs = clear_length n (swept n xs) ∙ swept_length n xs
 
-shown_length : (tracks : ℕ) (p : Place) (xs : List ℕ) → length xs ≡ 256 → length (shown_at tracks p xs) ≡ 256
+shown_length : (tracks : ℕ) (p : Place) (xs : List ℕ) → length xs ≡ 256 → length (view_at tracks p xs) ≡ 256
 shown_length tracks p xs h = by_test (p.track == 18) (p.sector == 0)
   where
     by_test : (a b : Bool) → length (if a then (if b then taken_map tracks xs else swept 8 xs) else xs) ≡ 256
@@ -61,7 +61,7 @@ pub view_whole : (tracks : ℕ) (c : Content) (p : Place) → IsWhole (c p) → 
 unfolding view_of
 view_whole tracks c p h = by_cell (c p) h
   where
-    by_cell : (cell : Cell) → IsWhole cell → IsWhole (on_cell (shown_at tracks p) cell)
+    by_cell : (cell : Cell) → IsWhole cell → IsWhole (on_cell (view_at tracks p) cell)
     by_cell (Ok bytes) l = shown_length tracks p bytes l
     by_cell (Err code) l = tt
 
@@ -80,19 +80,19 @@ swept_none xs ys e = e
 
 -- ---- what a sector shows, by what it is
 
-pub view_reads : (tracks : ℕ) (c : Content) (p : Place) (bytes : List ℕ) → c p ≡ Ok bytes → view_of tracks c p ≡ Ok (shown_at tracks p bytes)
+pub view_reads : (tracks : ℕ) (c : Content) (p : Place) (bytes : List ℕ) → c p ≡ Ok bytes → view_of tracks c p ≡ Ok (view_at tracks p bytes)
 unfolding view_of
-view_reads tracks c p bytes e = ap (on_cell (shown_at tracks p)) e
+view_reads tracks c p bytes e = ap (on_cell (view_at tracks p)) e
 
 pub view_faults : (tracks : ℕ) (c : Content) (p : Place) (code : ℕ) → c p ≡ Err code → view_of tracks c p ≡ Err code
 unfolding view_of
-view_faults tracks c p code e = ap (on_cell (shown_at tracks p)) e
+view_faults tracks c p code e = ap (on_cell (view_at tracks p)) e
 
 pub view_reads_too : (tracks : ℕ) (c : Content) (p : Place) → IsOk (view_of tracks c p) → IsOk (c p)
 unfolding view_of
 view_reads_too tracks c p h = by_cell (c p) h
   where
-    by_cell : (cell : Cell) → IsOk (on_cell (shown_at tracks p) cell) → IsOk cell
+    by_cell : (cell : Cell) → IsOk (on_cell (view_at tracks p) cell) → IsOk cell
     by_cell (Ok bytes) k = refl
     by_cell (Err code) k = k
 
@@ -100,7 +100,7 @@ pub view_reads_so : (tracks : ℕ) (c : Content) (p : Place) → IsOk (c p) → 
 unfolding view_of
 view_reads_so tracks c p h = by_cell (c p) h
   where
-    by_cell : (cell : Cell) → IsOk cell → IsOk (on_cell (shown_at tracks p) cell)
+    by_cell : (cell : Cell) → IsOk cell → IsOk (on_cell (view_at tracks p) cell)
     by_cell (Ok bytes) k = refl
     by_cell (Err code) k = k
 
@@ -149,7 +149,7 @@ shows_map tracks c map either whole e =
     record {
       shown = view_reads tracks c directory_head map e;
       counted = a.counted;
-      taken = λ p h. a.bits p h ∙ and_false (is_before 1 0 p);
+      taken = λ p h. a.bits p h ∙ and_false (is_place_before 1 0 p);
       recounted = record { counted = a.counted; outside = a.outside };
     }
 
@@ -226,11 +226,11 @@ pub view_links : (tracks : ℕ) (c : Content) (p : Place) → p.track ≡ 18 →
 unfolding view_of
 view_links tracks c p on ne = by_cell (c p)
   where
-    inner : (q : Place) (xs : List ℕ) → q.track ≡ 18 → q.sector ≢ 0 → link (shown_at tracks q xs) ≡ link xs
+    inner : (q : Place) (xs : List ℕ) → q.track ≡ 18 → q.sector ≢ 0 → link (view_at tracks q xs) ≡ link xs
     inner q xs a b = ap (λ (x : Bool). link (if x then (if q.sector == 0 then taken_map tracks xs else swept 8 xs) else xs)) (eq-eqb q.track 18 a)
         ∙ ap (λ (x : Bool). link (if x then taken_map tracks xs else swept 8 xs)) (ne_eqb q.sector 0 b) ∙ swept_link 8 xs
 
-    by_cell : (cell : Cell) → link (or_nothing (on_cell (shown_at tracks p) cell)) ≡ link (or_nothing cell)
+    by_cell : (cell : Cell) → link (or_nothing (on_cell (view_at tracks p) cell)) ≡ link (or_nothing cell)
     by_cell (Ok bytes) = inner p bytes on (λ z. ne (λ i. record { track = on i; sector = z i }))
     by_cell (Err code) = refl
 
@@ -238,10 +238,10 @@ pub view_entries : (tracks : ℕ) (c : Content) (p : Place) (k : ℕ) → p.trac
 unfolding view_of
 view_entries tracks c p k on ne whole ok h = by_cell (c p) whole ok
   where
-    shown : (xs : List ℕ) → shown_at tracks p xs ≡ swept 8 xs
+    shown : (xs : List ℕ) → view_at tracks p xs ≡ swept 8 xs
     shown xs = ap (λ (x : Bool). if x then (if p.sector == 0 then taken_map tracks xs else swept 8 xs) else xs) (eq-eqb p.track 18 on)
         ∙ ap (λ (x : Bool). if x then taken_map tracks xs else swept 8 xs) (ne_eqb p.sector 0 (λ z. ne (λ i. record { track = on i; sector = z i })))
 
-    by_cell : (cell : Cell) → IsWhole cell → IsOk cell → IsSweptAs (entry_of (or_nothing cell) k) (entry_of (or_nothing (on_cell (shown_at tracks p) cell)) k)
+    by_cell : (cell : Cell) → IsWhole cell → IsOk cell → IsSweptAs (entry_of (or_nothing cell) k) (entry_of (or_nothing (on_cell (view_at tracks p) cell)) k)
     by_cell (Ok bytes) l o = subst (λ (x : List ℕ). IsSweptAs (entry_of bytes k) (entry_of x k)) (sym (shown bytes)) (swept_before 8 k bytes l (omega arith) h)
     by_cell (Err code) l o = absurd (let z = o in cc)

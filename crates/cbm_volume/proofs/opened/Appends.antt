@@ -19,15 +19,15 @@ use Rattle.cbm_bam.specs.Map.{geometry_of}
 use Rattle.cbm_bam.specs.Causes.{HasCause}
 use Rattle.cbm_chain.specs.Data.{chain_bytes}
 use Rattle.cbm_chain.specs.Writing.{State, Part, Wrote, StandsAfter}
-use Rattle.cbm_directory.specs.Entries.{Enters, EntersLed, led_to, first_directory, type_byte, is_closed, is_relative, bit_of, kind_of, name_in, first_block, entry_at, sector_of}
+use Rattle.cbm_directory.specs.Entries.{Enters, EntersLed, led_to, first_directory, type_byte, is_closed, is_relative, bit_of, type_of_number, name_in, first_block, entry_at, sector_of}
 use Rattle.cbm_directory.specs.EntryChanges.{reopened_entry, IsTypedAs}
 use Rattle.cbm_directory.proofs.Placing.{led_on, led_nowhere}
 use Rattle.cbm_relfile.specs.Records.{AllWhole}
 use Rattle.cbm_volume.specs.Blocks.{Blocks, no_blocks, file_of, slot_of, slot_with, body_as}
-use Rattle.cbm_volume.specs.Holding.{StandsAt}
-use Rattle.cbm_volume.specs.Layouts.{Owner, Directory, DataOf, Writer, OwnedBy, Layout, slot_count, Sound, Stands, Untouched}
-use Rattle.cbm_volume.specs.Writers.{Filling, Use, Idle, Writes, IsWriting, IsUsed, has_slot, HoldsAt, Holds, HoldsNow, with_use}
-use Rattle.cbm_volume.specs.Opens.{CanBeWritten, Begins, IsHindered}
+use Rattle.cbm_volume.specs.Holding.{EntryStandsAt}
+use Rattle.cbm_volume.specs.Layouts.{Owner, Directory, DataOf, Writer, OwnedBy, Layout, slot_count, Sound, HasLayout, Untouched}
+use Rattle.cbm_volume.specs.Writers.{Filling, Use, Idle, Writes, IsWriting, IsUsed, uses_slot, HoldsAt, Holds, HoldsNow, with_use}
+use Rattle.cbm_volume.specs.Opens.{CanBeWritten, BeginsFile, IsHindered}
 use Rattle.cbm_volume.proofs.layouts.Frames.{Keeps}
 use Rattle.cbm_volume.proofs.layouts.Loose.{sector_owned}
 use Rattle.cbm_volume.proofs.layouts.OneSlot.{with_file}
@@ -70,8 +70,8 @@ unfolding file_of name_in
 reopened_file old new bytes b f is says s plain used =
     let was = some_file bytes old b f s in
     let low : type_byte new % 16 ≡ type_byte old % 16 = omega (arith, says.typed) in
-    let k : kind_of (type_byte new % 16) ≡ f.kind = ap kind_of low ∙ ap (λ (x : File). x.kind) was.1 in
-    let some : (type_byte new == 0) ≡ false = ne_eqb (type_byte new) 0 (λ z. (let none : type_byte new % 16 ≡ 0 = omega (arith, z) in let del : is_same_type Del f.kind ≡ true = ap (is_same_type Del) (sym k ∙ ap kind_of none) in let y = sym del ∙ used in (cc))) in
+    let k : type_of_number (type_byte new % 16) ≡ f.kind = ap type_of_number low ∙ ap (λ (x : File). x.kind) was.1 in
+    let some : (type_byte new == 0) ≡ false = ne_eqb (type_byte new) 0 (λ z. (let none : type_byte new % 16 ≡ 0 = omega (arith, z) in let del : is_same_type Del f.kind ≡ true = ap (is_same_type Del) (sym k ∙ ap type_of_number none) in let y = sym del ∙ used in (cc))) in
     let seven : type_byte old % 128 / 128 % 2 ≡ 0 = omega arith in
     let six : type_byte old % 128 / 64 % 2 ≡ type_byte old / 64 % 2 = omega arith in
     let c : is_closed new ≡ false = ap (λ (n : ℕ). bit_of n 7) says.typed ∙ ap (λ (n : ℕ). n == 1) seven in
@@ -112,7 +112,7 @@ appended_over tracks c c2 l d uses ch n s body bytes f h idle can k enters kind 
     let d2 : Disk = with_slot d n (Some (reopened f)) in
     let w : Filling = record { slot = n; replaces = false; chain = s } in
     let old_owned : OwnedBy l.owner (DataOf n) xs = h.stands.sound.owned.blocks n k in
-    let stands : Stands tracks c2 l2 d2 = subst (λ (x : Option File). Stands tracks c2 l2 (with_slot d n x)) file
+    let stands : HasLayout tracks c2 l2 d2 = subst (λ (x : Option File). HasLayout tracks c2 l2 (with_slot d n x)) file
     (stands_reopen tracks c c2 l d n ch (sector_of l.directory n) body h.stands k refl enters kind unclosed) in
     let keeps : (o : Owner) → Directory ≢ o → Keeps c c2 l.owner o = λ o ne. written_keeps c c2 (sector_of l.directory n) enters.sector l.owner o enters.written (λ y. ne (sym (sector_owned l h.stands.sound.owned n k) ∙ y)) in
     let mine_keeps : Keeps c c2 l.owner (DataOf n) = keeps (DataOf n) (λ z. (cc)) in
@@ -150,7 +150,7 @@ appended_over tracks c c2 l d uses ch n s body bytes f h idle can k enters kind 
       each = λ m. elim (cases_eq m ch) [
         | inl e ↦ subst (λ (i : ℕ). IsUsed tracks c2 l2 d2 i (with_use uses ch (Writes w bytes f.held) i)) (sym e) (subst (λ (x : Use). IsUsed tracks c2 l2 d2 ch x) (sym (use_here uses ch (Writes w bytes f.held))) mine)
         | inr ne ↦ subst (λ (x : Use). IsUsed tracks c2 l2 d2 m x) (sym (use_other uses ch m (Writes w bytes f.held) ne))
-            (used_kept tracks c c2 l l2 d d2 (λ x. false) (λ i. i == n) m (uses m) spares refl (λ i g. ne_eqb i n (λ z. (let y = sym (can.unused m) ∙ ap (λ (j : ℕ). has_slot j (uses m)) (sym z) ∙ g in (cc)))) (h.each m))
+            (used_kept tracks c c2 l l2 d d2 (λ x. false) (λ i. i == n) m (uses m) spares refl (λ i g. ne_eqb i n (λ z. (let y = sym (can.unused m) ∙ ap (λ (j : ℕ). uses_slot j (uses m)) (sym z) ∙ g in (cc)))) (h.each m))
       ];
       alone = alone_more uses ch n w bytes f.held h.alone can.unused refl idle;
     }
@@ -165,7 +165,7 @@ record IsChained (medium : ℕ) (c : Content) (l : Layout) (n : ℕ) (entry : Li
   followed : follow (geometry_of medium c) c (sector_count (geometry_of medium c)) (first_block entry) ≡ ended (l.files n).data_blocks
   held : f.held ≡ length (l.files n).data_blocks
 
-is_chained : (medium : ℕ) (c : Content) (d : Disk) (uses : ℕ → Use) (n : ℕ) (entry : List ℕ) (f : File) → (h : HoldsNow medium c d uses) → CanBeWritten d uses n f → StandsAt medium c n entry → IsChained medium c h.layout n entry f
+is_chained : (medium : ℕ) (c : Content) (d : Disk) (uses : ℕ → Use) (n : ℕ) (entry : List ℕ) (f : File) → (h : HoldsNow medium c d uses) → CanBeWritten d uses n f → EntryStandsAt medium c n entry → IsChained medium c h.layout n entry f
 is_chained medium c d uses n entry f h can stands =
     let tracks : ℕ = geometry_of medium c in
     let l : Layout = h.layout in
@@ -184,8 +184,8 @@ is_chained medium c d uses n entry f h can stands =
 pub appended : (medium : ℕ) (c c2 : Content) (n : ℕ) (entry body : List ℕ) (s : State) → AllWhole c → StandsAfter (geometry_of medium c) c (follow (geometry_of medium c) c (sector_count (geometry_of medium c)) (first_block entry)).blocks s
     → body ≡ reopened_entry entry → IsTypedAs entry body (type_byte entry % 128)
     → ((directory : List Place) → Chain (geometry_of medium c) c first_directory directory → n < 8 * length directory → Enters c c2 (sector_of directory n) (n % 8) body)
-    → (d : Disk) (uses : ℕ → Use) (ch : ℕ) (f : File) → HoldsNow medium c d uses → uses ch ≡ Idle → CanBeWritten d uses n f → is_same_type Del f.kind ≡ false → StandsAt medium c n entry
-    → Begins medium c2 (with_slot d n (Some (reopened f))) uses ch n false (bytes_in f.body) f.held (record { slot = n; replaces = false; chain = s })
+    → (d : Disk) (uses : ℕ → Use) (ch : ℕ) (f : File) → HoldsNow medium c d uses → uses ch ≡ Idle → CanBeWritten d uses n f → is_same_type Del f.kind ≡ false → EntryStandsAt medium c n entry
+    → BeginsFile medium c2 (with_slot d n (Some (reopened f))) uses ch n false (bytes_in f.body) f.held (record { slot = n; replaces = false; chain = s })
 appended medium c c2 n entry body s whole after is says put d uses ch f h idle can used stands =
     let tracks : ℕ = geometry_of medium c in
     let l : Layout = h.layout in
@@ -212,14 +212,14 @@ appended medium c c2 n entry body s whole after is says put d uses ch f h idle c
     }
 
 -- nothing breaks the file's chain off
-pub not_broken : (medium : ℕ) (c : Content) (d : Disk) (uses : ℕ → Use) (n : ℕ) (entry : List ℕ) (f : File) (t : Trouble) → HoldsNow medium c d uses → CanBeWritten d uses n f → StandsAt medium c n entry
+pub not_broken : (medium : ℕ) (c : Content) (d : Disk) (uses : ℕ → Use) (n : ℕ) (entry : List ℕ) (f : File) (t : Trouble) → HoldsNow medium c d uses → CanBeWritten d uses n f → EntryStandsAt medium c n entry
     → (follow (geometry_of medium c) c (sector_count (geometry_of medium c)) (first_block entry)).trouble ≡ Some t → ⊥
 not_broken medium c d uses n entry f t h can stands cut =
     let old : IsChained medium c h.layout n entry f = is_chained medium c d uses n entry f h can stands in
     (let z = sym (ap (λ (x : Followed). x.trouble) old.followed) ∙ cut in (cc))
 
 -- the sector of the entry reads, so only the medium as a whole refuses it
-pub entry_hindered : (medium : ℕ) (old new : Seen) (d : Disk) (uses : ℕ → Use) (n : ℕ) (entry : List ℕ) (f : File) (t : Trouble) → HoldsNow medium old.content d uses → CanBeWritten d uses n f → StandsAt medium old.content n entry
+pub entry_hindered : (medium : ℕ) (old new : Seen) (d : Disk) (uses : ℕ → Use) (n : ℕ) (entry : List ℕ) (f : File) (t : Trouble) → HoldsNow medium old.content d uses → CanBeWritten d uses n f → EntryStandsAt medium old.content n entry
     → ((directory : List Place) → Chain (geometry_of medium old.content) old.content first_directory directory → n < 8 * length directory → HasCause old new (sector_of directory n) t.code) → IsHindered old new t
 entry_hindered medium old new d uses n entry f t h can stands cause =
     let tracks : ℕ = geometry_of medium old.content in

@@ -7,7 +7,7 @@ use Rattle.cbm_medium.specs.Content.{Content, written}
 use Rattle.cbm_file.specs.Files.{File, Disk, file_at}
 use Rattle.cbm_bam.specs.Map.{ClaimsOn18}
 use Rattle.cbm_chain.specs.Writing.{last_of}
-use Rattle.cbm_volume.specs.Layouts.{Owner, Nobody, TheMap, Directory, DataOf, Writer, OwnedBy, is_loose, Layout, own, grown}
+use Rattle.cbm_volume.specs.Layouts.{Owner, Nobody, TheMap, Directory, DataOf, Writer, OwnedBy, is_loose, Layout, own, layout_grown}
 use Rattle.cbm_volume.specs.Writers.{Use, HoldsAt}
 use Rattle.cbm_volume.proofs.layouts.Steps.{stands_loose, own_elsewhere}
 use Rattle.cbm_volume.proofs.layouts.Rooms.{less_room, stands_claim_18}
@@ -51,11 +51,11 @@ same_slots (x ∷ xs) zero = refl
 same_slots (x ∷ xs) (suc n) = same_slots xs n
 
 -- THE LAST SECTOR LINKS TO IT, and there are eight empty slots more
-pub grown_over : (tracks : ℕ) (c c' : Content) (l : Layout) (d : Disk) (uses : ℕ → Use) (b : Place) (rest : List Place) (q : Place) (new blank : List ℕ) → HoldsAt tracks c l d uses → CanGrow tracks c c' l b rest q new blank → HoldsAt tracks c' (grown l q) (more_slots d) uses
+pub grown_over : (tracks : ℕ) (c c' : Content) (l : Layout) (d : Disk) (uses : ℕ → Use) (b : Place) (rest : List Place) (q : Place) (new blank : List ℕ) → HoldsAt tracks c l d uses → CanGrow tracks c c' l b rest q new blank → HoldsAt tracks c' (layout_grown l q) (more_slots d) uses
 grown_over tracks c c' l d uses b rest q new blank h g =
     let mine : l.owner (last_of b rest) ≡ Directory = last_owned l.owner Directory b rest (subst (λ (xs : List Place). OwnedBy l.owner Directory xs) g.directory h.stands.sound.owned.directory) in
     let owned : (o : Owner) (p : Place) → Nobody ≢ o → l.owner p ≡ o → own l.owner q Directory p ≡ o = λ o p ne e. own_elsewhere l.owner q p Directory (λ z. ne (sym g.nobody ∙ ap l.owner z ∙ e)) ∙ e in
-    holds_all tracks c c' l (grown l q) d (more_slots d) uses (λ n. false) h (stands_grow tracks c c' l d b rest q new blank h.stands g)
+    holds_all tracks c c' l (layout_grown l q) d (more_slots d) uses (λ n. false) h (stands_grow tracks c c' l d b rest q new blank h.stands g)
     (record {
       writers = λ x f. written_keeps c c' (last_of b rest) new l.owner (Writer x) g.written (λ e. (let z = sym mine ∙ e in (cc)));
       writers_own = λ x p f. owned (Writer x) p (λ z. (cc));

@@ -13,12 +13,12 @@ use Rattle.cbm_file.specs.Files.{File, Disk, file_at, empty_from, with_slot}
 use Rattle.cbm_file.specs.Changes.{grown, new_slot, with_file, unclosed}
 use Rattle.cbm_bam.specs.Map.{map_of, is_free_in, number, geometry_of, Claims, IsFull}
 use Rattle.cbm_chain.specs.Writing.{State, begun_at}
-use Rattle.cbm_directory.specs.Entries.{Enters, first_directory, sector_of, type_byte, bit_of, kind_of, is_closed, name_in}
+use Rattle.cbm_directory.specs.Entries.{Enters, first_directory, sector_of, type_byte, bit_of, type_of_number, is_closed, name_in}
 use Rattle.cbm_directory.specs.EntryChanges.{IsFreshAs}
 use Rattle.cbm_volume.specs.Blocks.{no_blocks, body_as, slot_of, file_of}
 use Rattle.cbm_volume.specs.Layouts.{Directory, Layout, slot_count, Untouched}
 use Rattle.cbm_volume.specs.Writers.{Filling, Use, Idle, Writes, Holds, HoldsNow, with_use, known, Stopped}
-use Rattle.cbm_volume.specs.Opens.{Begins}
+use Rattle.cbm_volume.specs.Opens.{BeginsFile}
 use Rattle.cbm_volume.proofs.opened.Beginning.{begun_over}
 use Rattle.cbm_volume.proofs.layouts.Loose.{sector_owned}
 use Rattle.cbm_volume.proofs.opened.OpenedSlots.{Reached, reached_now, claimed_too, SlotReady, grown_is, grown_none}
@@ -34,7 +34,7 @@ use Rattle.cbm_volume.proofs.layouts.Vacant.{free_of_disk}
 made : List ℕ → ℕ → List ℕ → ℕ → Option File
 made e t name shown =
     if t == 0 then None
-    else Some (record { kind = kind_of (t % 16); closed = bit_of t 7; locked = bit_of t 6; name = name; shown = shown; held = 0; body = body_as (bit_of t 7 && (t % 16 == 4)) [] e no_blocks })
+    else Some (record { kind = type_of_number (t % 16); closed = bit_of t 7; locked = bit_of t 6; name = name; shown = shown; held = 0; body = body_as (bit_of t 7 && (t % 16 == 4)) [] e no_blocks })
 
 entry_made : (c : Content) (e : List ℕ) → slot_of c e no_blocks ≡ made e (type_byte e) (name_in e) (slice_index e 28 + 256 * slice_index e 29)
 unfolding file_of made
@@ -140,7 +140,7 @@ files_set medium c l c1 c2 c3 d uses n q body s put =
 -- A CHANNEL WRITES THE FILE
 pub begins : (medium : ℕ) (c : Content) (l : Layout) (c1 c2 c3 : Content) (d : Disk) (uses : ℕ → Use) (ch n : ℕ) (q : Place) (kind : FileType) (name body : List ℕ) (first : Place) (chain : State)
     → IsSet medium c l c1 c2 d uses n q → uses ch ≡ Idle → kind ≢ Del → is_same_type Rel kind ≡ false → chain ≡ begun_at (geometry_of medium c) q → IsFreshAs body kind name first → EntersSlot (geometry_of medium c) c2 c3 n body
-    → Begins medium c3 (with_file d (unclosed kind (before_filler name)) 1) uses ch (new_slot d) false [] 1 (record { slot = n; replaces = false; chain = chain })
+    → BeginsFile medium c3 (with_file d (unclosed kind (before_filler name)) 1) uses ch (new_slot d) false [] 1 (record { slot = n; replaces = false; chain = chain })
 begins medium c l c1 c2 c3 d uses ch n q kind name body first chain s idle ne plain is_begun says put = record {
   holds = subst (λ (w : State). HoldsNow medium c3 (with_file d f 1) (with_use uses ch (Writes (record { slot = n; replaces = false; chain = w }) [] 1))) (sym is_begun)
       (subst (λ (k : ℕ). Holds k c3 (with_file d f 1) (with_use uses ch (Writes w0 [] 1))) (sym same)

@@ -15,7 +15,7 @@ use Rattle.cbm_directory.specs.Entries.{first_directory, HasLink, entry_of, type
 use Rattle.cbm_directory.specs.Slots.{directory_of}
 use Rattle.cbm_directory.specs.Growth.{new_sector, CannotGrow, Grows}
 use Rattle.cbm_directory.specs.Empties.{FindsEmpty, TakesSlot, SlotStopped}
-use Rattle.cbm_volume.specs.Layouts.{Nobody, TheMap, Directory, OwnedBy, Layout, Stands, own}
+use Rattle.cbm_volume.specs.Layouts.{Nobody, TheMap, Directory, OwnedBy, Layout, HasLayout, own}
 use Rattle.cbm_volume.specs.Layouts as layouts
 use Rattle.cbm_volume.specs.Writers.{Use, HoldsAt, Holds, HoldsNow}
 pub use Rattle.cbm_volume.specs.Reaches.{Reached, SlotLost}
@@ -102,7 +102,7 @@ grown_none d n some = ap (λ (o : Option ℕ). if is_none o then record d { slot
 -- THE DIRECTORY HAS GROWN
 pub has_more : (medium : ℕ) (c c1 : Content) (d : Disk) (uses : ℕ → Use) (h : HoldsNow medium c d uses) → Grows (geometry_of medium c) c c1 → Reached medium c h.layout c1 (more_slots (less_room d)) uses
 has_more medium c c1 d uses h g = record {
-  layout = layouts.grown l g.more;
+  layout = layouts.layout_grown l g.more;
   so = grown_over tracks c2 c1 l (less_room d) uses e.first e.rest g.more g.sector new_sector two can;
   same = geometry_elsewhere medium g.claimed c1 head ∙ geometry_remapped medium c g.claimed l (with_bit (is_free_in (map_of c)) g.more false) h.so.stands.sound g.claims.remaps;
   files = files_then l c g.claimed c1 (files_written l c g.claimed directory_head g.claims.remaps.map TheMap h.so.stands.sound.owned.map refl g.claims.remaps.written)

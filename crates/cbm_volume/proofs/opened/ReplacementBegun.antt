@@ -10,7 +10,7 @@ use Rattle.cbm_file.specs.Files.{File, Disk, file_at}
 use Rattle.cbm_bam.specs.Map.{geometry_of, map_of, Claims, IsFull}
 use Rattle.cbm_chain.specs.Writing.{State, begun_at}
 use Rattle.cbm_volume.specs.Layouts.{Writer, Layout, own}
-use Rattle.cbm_volume.specs.Opens.{CanBeWritten, Begins}
+use Rattle.cbm_volume.specs.Opens.{CanBeWritten, BeginsFile}
 use Rattle.cbm_volume.specs.Writers.{Filling, Use, Idle, Writes, IsWriting, IsUsed, HoldsAt, Holds, HoldsNow, with_use}
 use Rattle.cbm_volume.proofs.opened.Beginning.{alone_more}
 use Rattle.cbm_volume.proofs.written.Puts.{spares_owned}
@@ -71,7 +71,7 @@ pub replacement_refused : (medium : ℕ) (c c' : Content) (d : Disk) (uses : ℕ
 replacement_refused medium c c' d uses h none = (none_free (geometry_of medium c) c h.layout d h.so.stands none.0, none.1)
 
 pub replacement : (medium : ℕ) (c c' : Content) (slot : ℕ) (s : State) (d : Disk) (uses : ℕ → Use) (ch : ℕ) (f : File) → HoldsNow medium c d uses → uses ch ≡ Idle → CanBeWritten d uses slot f → ChainBegins (geometry_of medium c) c c' (Some s)
-    → Begins medium c' (one_less d) uses ch slot true [] 1 (record { slot = slot; replaces = true; chain = s })
+    → BeginsFile medium c' (one_less d) uses ch slot true [] 1 (record { slot = slot; replaces = true; chain = s })
 replacement medium c c' slot s d uses ch f h idle can begun = record {
   holds = subst (λ (x : State). HoldsNow medium c' (one_less d) (with_use uses ch (Writes (record { slot = slot; replaces = true; chain = x }) [] 1))) (sym begun.2)
       (subst (λ (n : ℕ). Holds n c' (one_less d) (with_use uses ch (Writes (record { slot = slot; replaces = true; chain = begun_at (geometry_of medium c) begun.0 }) [] 1))) (sym (geometry_claimed medium c c' h.layout begun.0 h.so.stands.sound begun.1))

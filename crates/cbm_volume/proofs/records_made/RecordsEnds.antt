@@ -16,7 +16,7 @@ use Rattle.cbm_bam.specs.Map.{geometry_of}
 use Rattle.cbm_bam.specs.Causes.{HasCause}
 use Rattle.cbm_directory.specs.Entries.{IsClosedAs, Enters, first_directory, sector_of}
 use Rattle.cbm_directory.specs.EntryChanges.{IsFreshAs, IsRelativeAs}
-use Rattle.cbm_volume.specs.Copies.{less, IsCutShort}
+use Rattle.cbm_volume.specs.Copies.{less, IsCopyCut}
 use Rattle.cbm_volume.specs.Layouts.{Layout}
 use Rattle.cbm_volume.specs.NewRecords.{HasNoRoomForRecords, HasTwo, HoldsNew}
 use Rattle.cbm_volume.specs.Reaches.{Reached}
@@ -30,7 +30,7 @@ use Rattle.cbm_volume.proofs.layouts.Refusals.{sector_hindered, sector_reads}
 -- the clause of the part that makes the file, over what the medium shows
 abbrev pub MakesRecords : Seen → Seen → List ℕ → ℕ → Result ℕ Trouble → Type 0
 MakesRecords old new name w r = (d : Disk) (uses : ℕ → Use) (ch : ℕ) (h : HoldsNow old.tracks old.content d uses) → uses ch ≡ Idle → has_slot d ≡ true → 2 ≤ d.free
-    → MatchResult r (λ slot. (empty_from 0 (grown d).slots ≡ Some slot) × Reached old.tracks old.content h.layout new.content (with_new_records d (before_filler name) w) uses) (IsCutShort old new old.content h.layout d uses)
+    → MatchResult r (λ slot. (empty_from 0 (grown d).slots ≡ Some slot) × Reached old.tracks old.content h.layout new.content (with_new_records d (before_filler name) w) uses) (IsCopyCut old new old.content h.layout d uses)
 
 -- ---- the room
 
@@ -57,7 +57,7 @@ pub new_entry_made : (old new : Seen) (geometry : ℕ) (p q : Place) (w n : ℕ)
     → ((directory : List Place) → Chain geometry old.content first_directory directory → n < 8 * length directory → OnOk r (Enters old.content new.content (sector_of directory n) (n % 8) body)) → OnErr r (new.content ≡ old.content)
     → ((directory : List Place) → Chain geometry old.content first_directory directory → n < 8 * length directory → IfErr r (λ t. HasCause old new (sector_of directory n) t.code))
     → (c : Content) (l : Layout) (d : Disk) (uses : ℕ → Use) (ch : ℕ) → HasTwo old.tracks c l d uses ch old.content p q → HoldsNew old.content p q w → empty_from 0 (grown d).slots ≡ Some n → geometry ≡ geometry_of old.tracks c
-    → MatchResult r (λ x. Reached old.tracks c l new.content (with_new_records d (before_filler name) w) uses) (IsCutShort old new c l d uses)
+    → MatchResult r (λ x. Reached old.tracks c l new.content (with_new_records d (before_filler name) w) uses) (IsCopyCut old new c l d uses)
 new_entry_made old new geometry p q w n name at e0 e1 body r some most fresh_is closes says entered same cause c l d uses ch k holds empty size = by_result r entered same cause
   where
     dir : List Place
@@ -74,7 +74,7 @@ new_entry_made old new geometry p q w n name at e0 e1 body r some most fresh_is 
 
     by_result : (r : Result (Unit {0}) Trouble) → ((directory : List Place) → Chain geometry old.content first_directory directory → n < 8 * length directory → OnOk r (Enters old.content new.content (sector_of directory n) (n % 8) body)) → OnErr r (new.content ≡ old.content)
         → ((directory : List Place) → Chain geometry old.content first_directory directory → n < 8 * length directory → IfErr r (λ t. HasCause old new (sector_of directory n) t.code))
-        → MatchResult r (λ x. Reached old.tracks c l new.content (with_new_records d (before_filler name) w) uses) (IsCutShort old new c l d uses)
+        → MatchResult r (λ x. Reached old.tracks c l new.content (with_new_records d (before_filler name) w) uses) (IsCopyCut old new c l d uses)
     by_result (Ok x) entered same cause = records_over old.tracks c l d uses ch old.content new.content p q w n name at e0 e1 body k holds some most empty fresh_is closes says (entered dir here there)
     by_result (Err t) entered same cause = (
       record { disk = less 2 d; reached = reached_same old.tracks c l old.content new.content (less 2 d) uses same k.reached; slots = same_files_less d 2 },

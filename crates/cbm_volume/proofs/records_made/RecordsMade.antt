@@ -17,17 +17,17 @@ use Rattle.cbm_file.specs.Changes.{grown, closed_file}
 use Rattle.cbm_file.specs.Records.{fresh_record, record_count, new_records, with_new_records}
 use Rattle.cbm_bam.specs.Map.{geometry_of}
 use Rattle.cbm_chain.specs.Data.{data_of, data_end, chain_bytes}
-use Rattle.cbm_directory.specs.Entries.{IsClosedAs, Enters, type_byte, is_closed, is_relative, kind_of, bit_of, name_in, first_block, first_side, width_of, sector_of}
+use Rattle.cbm_directory.specs.Entries.{IsClosedAs, Enters, type_byte, is_closed, is_relative, type_of_number, bit_of, name_in, first_block, first_side, width_of, sector_of}
 use Rattle.cbm_directory.specs.EntryChanges.{IsFreshAs, IsRelativeAs}
 use Rattle.cbm_relfile.specs.Making.{one_listed, IsFreshBlock}
 use Rattle.cbm_relfile.specs.SideSectors.{sides_listed, named_in}
 use Rattle.cbm_volume.specs.Blocks.{Blocks, Lies, slices, body_as, file_of, slot_of}
 use Rattle.cbm_volume.specs.Copies.{less}
-use Rattle.cbm_volume.specs.Layouts.{Owner, Nobody, Directory, DataOf, SideOf, Writer, is_loose, Layout, IsOwned, slot_count, Stands, Extends}
+use Rattle.cbm_volume.specs.Layouts.{Owner, Nobody, Directory, DataOf, SideOf, Writer, is_loose, Layout, IsOwned, slot_count, HasLayout, Extends}
 use Rattle.cbm_volume.specs.NewRecords.{HasTwo, HoldsNew}
 use Rattle.cbm_volume.specs.Opens.{IsUnused}
 use Rattle.cbm_volume.specs.Reaches.{is_file, KeepsFiles, Reached}
-use Rattle.cbm_volume.specs.Writers.{Use, has_slot, HoldsAt}
+use Rattle.cbm_volume.specs.Writers.{Use, uses_slot, HoldsAt}
 use Rattle.cbm_volume.proofs.opened.Beginning.{empty_unused}
 use Rattle.cbm_volume.proofs.written.Closing.{other_slot}
 use Rattle.cbm_volume.proofs.written.Finishes.{own_all, own_all_was, own_all_keeps, all_off_18}
@@ -140,7 +140,7 @@ new_file c e0 e1 e name at p q w fresh_is closes says some k =
     let bytes : List ℕ = chain_bytes c (p ∷ []) in
     let t : type_byte e ≡ 132 = new_type e0 e1 e name at p q w fresh_is closes says in
     let used : (type_byte e == 0) ≡ false = ap (λ (n : ℕ). n == 0) t in
-    let kind : kind_of (type_byte e % 16) ≡ Rel = ap (λ (n : ℕ). kind_of (n % 16)) t in
+    let kind : type_of_number (type_byte e % 16) ≡ Rel = ap (λ (n : ℕ). type_of_number (n % 16)) t in
     let closed : is_closed e ≡ true = ap (λ (n : ℕ). bit_of n 7) t in
     let locked : bit_of (type_byte e) 6 ≡ false = ap (λ (n : ℕ). bit_of n 6) t in
     let named : name_in e ≡ before_filler name = ap before_filler (says.named ∙ closes.name) ∙ fresh_is.named in
@@ -212,7 +212,7 @@ records_over medium c l d uses ch now now' p q w n name at e0 e1 body k holds so
     let lies : Lies tracks now body b = lies_so (is_closed body) (is_relative body) tracks now body b (ap (λ (m : ℕ). bit_of m 7) t) (ap (λ (m : ℕ). m % 16 == 4) t)
     (new_lies tracks now body p q w k.has_block k.has_side some most holds begins says.lists says.long) in
     let keep_other : (o : Owner) (x : Place) → Writer ch ≢ o → owner x ≡ o → owner2 x ≡ o = λ o x ne e. given_keeps owner p q n ch o x k.block k.side k.apart ne e in
-    let stands : Stands tracks now' l2 (with_slot d1 n (slot_of now body b)) =
+    let stands : HasLayout tracks now' l2 (with_slot d1 n (slot_of now body b)) =
     stands_entry tracks now now' l1 d1 n (sector_of l1.directory n) body b owner2 r.so.stands there refl enters small lies
     (given_extends l1 p q n ch r.so.stands.sound.owned k.block k.side k.apart k.block_off k.side_off)
     (own_elsewhere (own_all owner (p ∷ []) (DataOf n)) q p (SideOf n) (λ z. k.apart (sym z)) ∙ own_there owner p (DataOf n), tt)
@@ -222,7 +222,7 @@ records_over medium c l d uses ch now now' p q w n name at e0 e1 body k holds so
     let keeps : (o : Owner) → Directory ≢ o → Keeps now now' owner o = λ o z. written_keeps now now' (sector_of l1.directory n) enters.sector owner o enters.written (λ y. z (sym mine ∙ y)) in
     let head : now' directory_head ≡ now directory_head = ap (λ (x : Content). x directory_head) enters.written ∙ written_elsewhere now (sector_of l1.directory n) directory_head enters.sector (λ z. (let y = sym mine ∙ ap owner z ∙ r.so.stands.sound.owned.map in (cc))) in
     let files : KeepsFiles l1 now now' = files_written l1 now now' (sector_of l1.directory n) enters.sector Directory mine refl enters.written in
-    let so : HoldsAt tracks now' l2 d2 uses = holds_on tracks now now' l1 l2 d1 d2 uses ch (λ m. m == n) k.idle r.so (subst (λ (x : Option File). Stands tracks now' l2 (with_slot d1 n x)) file stands)
+    let so : HoldsAt tracks now' l2 d2 uses = holds_on tracks now now' l1 l2 d1 d2 uses ch (λ m. m == n) k.idle r.so (subst (λ (x : Option File). HasLayout tracks now' l2 (with_slot d1 n x)) file stands)
     (record {
       writers = λ x out. keeps (Writer x) (λ z. (cc));
       writers_own = λ x y out z. keep_other (Writer x) y (λ v. (let g : x ≡ ch = cc in let s = sym (eq-eqb x ch g) ∙ out in (cc))) z;
@@ -230,7 +230,7 @@ records_over medium c l d uses ch now now' p q w n name at e0 e1 body k holds so
       files_own = λ m y no z. keep_other (DataOf m) y (λ v. (cc)) z;
       more = omega arith;
       slots = λ m no. other_slot d1 n m (Some f) no;
-    }) (λ m i h. ne_eqb i n (λ z. (let y = sym (unused m) ∙ ap (λ (j : ℕ). has_slot j (uses m)) (sym z) ∙ h in (cc)))) in
+    }) (λ m i h. ne_eqb i n (λ z. (let y = sym (unused m) ∙ ap (λ (j : ℕ). uses_slot j (uses m)) (sym z) ∙ h in (cc)))) in
     let disk : d2 ≡ with_new_records d (before_filler name) w = λ i. record (grown d) { slots = slice_set (grown d).slots (slot_is d n empty i) (Some f); free = d.free - 2 } in
     record {
       layout = l2;

@@ -10,9 +10,9 @@ use Rattle.cbm_medium.proofs.Places.{written_there, written_elsewhere}
 use Rattle.cbm_file.specs.Files.{Disk, file_at, empty_from}
 use Rattle.cbm_file.specs.Changes.{grown}
 use Rattle.cbm_bam.specs.Map.{map_of, geometry_of, IsFull, Claims}
-use Rattle.cbm_relfile.specs.Making.{one_listed, AreClaimed, LacksBlocks, IsClaimStopped, IsNew, IsNewStopped}
-use Rattle.cbm_volume.specs.Copies.{less, IsCutShort}
-use Rattle.cbm_volume.specs.Layouts.{Owner, Nobody, TheMap, DataOf, Writer, is_loose, Layout, Stands, own}
+use Rattle.cbm_relfile.specs.Making.{one_listed, AreClaimed, LacksBlocks, IsClaimStopped, IsNewRelfile, IsNewStopped}
+use Rattle.cbm_volume.specs.Copies.{less, IsCopyCut}
+use Rattle.cbm_volume.specs.Layouts.{Owner, Nobody, TheMap, DataOf, Writer, is_loose, Layout, HasLayout, own}
 use Rattle.cbm_volume.specs.NewRecords.{HasTwo, HoldsNew}
 use Rattle.cbm_volume.specs.Reaches.{KeepsFiles, Reached}
 use Rattle.cbm_volume.specs.Writers.{Use, Idle, HoldsAt, HoldsNow}
@@ -69,7 +69,7 @@ pub own_written : (medium : ℕ) (c : Content) (l : Layout) (c1 c2 : Content) (d
 own_written medium c l c1 c2 d1 uses ch p sector idle r mine e =
     let tracks : ℕ = geometry_of medium c in
     let owner : Place → Owner = r.layout.owner in
-    let stands : Stands tracks c2 r.layout d1 = stands_loose tracks c1 c2 r.layout d1 p sector r.so.stands (ap is_loose mine) e in
+    let stands : HasLayout tracks c2 r.layout d1 = stands_loose tracks c1 c2 r.layout d1 p sector r.so.stands (ap is_loose mine) e in
     let head : c2 directory_head ≡ c1 directory_head = ap (λ (x : Content). x directory_head) e ∙ written_elsewhere c1 p directory_head sector (λ z. (let y = sym mine ∙ ap owner z ∙ r.so.stands.sound.owned.map in (cc))) in
     let files : KeepsFiles r.layout c1 c2 = files_written r.layout c1 c2 p sector (Writer ch) mine refl e in
     let keeps : (o : Owner) → Writer ch ≢ o → Keeps c1 c2 owner o = λ o ne. written_keeps c1 c2 p sector owner o e (λ z. ne (sym mine ∙ z)) in
@@ -113,7 +113,7 @@ two_claimed medium c l c1 c2 d uses ch p q idle r k =
       side_off = k.second.off_18;
     }
 
-pub two_written : (medium : ℕ) (c : Content) (l : Layout) (c1 c2 : Content) (d : Disk) (uses : ℕ → Use) (ch : ℕ) (p q : Place) (w : ℕ) → HasTwo medium c l d uses ch c1 p q → IsNew c1 c2 p q w → HasTwo medium c l d uses ch c2 p q × HoldsNew c2 p q w
+pub two_written : (medium : ℕ) (c : Content) (l : Layout) (c1 c2 : Content) (d : Disk) (uses : ℕ → Use) (ch : ℕ) (p q : Place) (w : ℕ) → HasTwo medium c l d uses ch c1 p q → IsNewRelfile c1 c2 p q w → HasTwo medium c l d uses ch c2 p q × HoldsNew c2 p q w
 two_written medium c l c1 c2 d uses ch p q w h k =
     let mid : Content = written c1 p k.block in
     let one : WritesOwn medium c l c1 mid (less 2 d) uses h.reached = own_written medium c l c1 mid (less 2 d) uses ch p k.block h.idle h.reached h.block refl in
@@ -140,16 +140,16 @@ two_written medium c l c1 c2 d uses ch p q w h k =
 -- ---- a claim is refused, or finds no block
 
 pub claims_cut : (old mid new : Seen) (geometry n : ℕ) (t : Trouble) (d : Disk) (uses : ℕ → Use) (h : HoldsNow old.tracks old.content d uses) → SlotReady old.tracks old.content h.layout mid.content d uses n → mid.protected ≡ old.protected → old.failures ≤ mid.failures
-    → geometry ≡ geometry_of old.tracks old.content → IsClaimStopped geometry mid new t.code → IsCutShort old new old.content h.layout d uses t
+    → geometry ≡ geometry_of old.tracks old.content → IsClaimStopped geometry mid new t.code → IsCopyCut old new old.content h.layout d uses t
 claims_cut old mid new geometry n t d uses h ready protected counted e k = by_before k.before
   where
-    hindered : (disk : Disk) → (r : Reached old.tracks old.content h.layout k.mid.content disk uses) → ((m : ℕ) → file_at disk m ≡ file_at d m) → IsCutShort old new old.content h.layout d uses t
+    hindered : (disk : Disk) → (r : Reached old.tracks old.content h.layout k.mid.content disk uses) → ((m : ℕ) → file_at disk m ≡ file_at d m) → IsCopyCut old new old.content h.layout d uses t
     hindered disk r slots = (
       record { disk = disk; reached = reached_same old.tracks old.content h.layout k.mid.content new.content disk uses k.same r; slots = slots },
       hindered_since old k.mid new t (k.protected ∙ protected) (omega (arith, k.counted, counted)) (sector_hindered k.mid new directory_head t r.so.stands.sound.map_reads k.cause),
     )
 
-    by_before : (k.mid.content ≡ mid.content) ⊎ ((p : Place) × Claims geometry mid.content k.mid.content p) → IsCutShort old new old.content h.layout d uses t
+    by_before : (k.mid.content ≡ mid.content) ⊎ ((p : Place) × Claims geometry mid.content k.mid.content p) → IsCopyCut old new old.content h.layout d uses t
     by_before (inl same) = hindered (grown d) (reached_same old.tracks old.content h.layout mid.content k.mid.content (grown d) uses same ready.reached) (same_files_grown d)
     by_before (inr c) = hindered (one_less (grown d)) (claimed_too old.tracks old.content h.layout mid.content k.mid.content (grown d) uses c.0 ready.reached (subst (λ (i : ℕ). Claims i mid.content k.mid.content c.0) e c.1)) (same_files_grown d)
 
@@ -164,7 +164,7 @@ two_there old mid new geometry n d uses h ready e room (inr k) =
 
 -- ---- a write is refused
 
-pub new_cut : (old new : Seen) (c : Content) (l : Layout) (d : Disk) (uses : ℕ → Use) (ch : ℕ) (p q : Place) (t : Trouble) → HasTwo old.tracks c l d uses ch old.content p q → IsNewStopped old new p q t.code → IsCutShort old new c l d uses t
+pub new_cut : (old new : Seen) (c : Content) (l : Layout) (d : Disk) (uses : ℕ → Use) (ch : ℕ) (p q : Place) (t : Trouble) → HasTwo old.tracks c l d uses ch old.content p q → IsNewStopped old new p q t.code → IsCopyCut old new c l d uses t
 new_cut old new c l d uses ch p q t h (inl k) = (
   record { disk = less 2 d; reached = reached_same old.tracks c l old.content new.content (less 2 d) uses k.0 h.reached; slots = same_files_less d 2 },
   write_hindered (geometry_of old.tracks c) old new h.reached.layout p t h.reached.so.stands.sound h.has_block k.1,

@@ -15,8 +15,8 @@ use Rattle.cbm_file.specs.Records.{with_body}
 use Rattle.cbm_bam.specs.Map.{geometry_of}
 use Rattle.cbm_directory.specs.Entries.{is_closed, is_relative, width_of}
 use Rattle.cbm_volume.specs.Blocks.{Blocks, body_as, file_of, slot_with}
-use Rattle.cbm_volume.specs.Layouts.{Owner, TheMap, DataOf, SideOf, Writer, OwnedBy, Layout, slot_count, Sound, Stands, Untouched}
-use Rattle.cbm_volume.specs.Writers.{Use, Relates, IsRelating, IsUsed, has_slot, writes_slot, HoldsAt, Holds, HoldsNow}
+use Rattle.cbm_volume.specs.Layouts.{Owner, TheMap, DataOf, SideOf, Writer, OwnedBy, Layout, slot_count, Sound, HasLayout, Untouched}
+use Rattle.cbm_volume.specs.Writers.{Use, Relates, IsRelating, IsUsed, uses_slot, writes_slot, HoldsAt, Holds, HoldsNow}
 use Rattle.cbm_volume.specs.RecordWrites.{HasRecordsOpen, OfRecords, new_record, with_record, IsRecordPut, IsRecordCut}
 use Rattle.cbm_volume.specs.Holding.{HoldsDisk}
 use Rattle.cbm_volume.specs.Opens.{IsHindered}
@@ -33,7 +33,7 @@ use Rattle.std.proofs.lemmas.Option.{slice_get-get_or, slice_get_past}
 use Rattle.cbm_medium.specs.Links.{Chain, link, bytes_at, or_nothing}
 use Rattle.cbm_file.specs.Records.{record_at, with_bytes}
 use Rattle.cbm_chain.specs.Data.{data_of, chain_bytes}
-use Rattle.cbm_relfile.specs.Records.{AllWhole, IsLaid, Relative, record_in, put, front_written, IsRewritten}
+use Rattle.cbm_relfile.specs.Records.{AllWhole, IsLaid, Relative, record_in, put_into, front_written, IsRewritten}
 use Rattle.cbm_relfile.specs.Changing.{record_bytes, LiesFrom, IsChangedIfThere, IsHalfRewritten, IsWriteRefused, IsChangeStopped}
 use Rattle.cbm_relfile.proofs.Changed.{with_bytes_length}
 use Rattle.cbm_relfile.proofs.Positions.{record_there, whole_bytes, full_length}
@@ -77,7 +77,7 @@ same_disk d n f x w b s rs at h =
 -- ---- the channels
 
 -- ALL CHANNELS GO ON where data blocks of a slot with open records are written
-pub holds_inside : (tracks : ℕ) (c c' : Content) (l l' : Layout) (d : Disk) (n : ℕ) (f : File) (uses : ℕ → Use) (ch : ℕ) → HoldsAt tracks c l d uses → uses ch ≡ Relates n → n < length d.slots → Stands tracks c' l' (with_slot d n (Some f)) → f.closed ≡ true
+pub holds_inside : (tracks : ℕ) (c c' : Content) (l l' : Layout) (d : Disk) (n : ℕ) (f : File) (uses : ℕ → Use) (ch : ℕ) → HoldsAt tracks c l d uses → uses ch ≡ Relates n → n < length d.slots → HasLayout tracks c' l' (with_slot d n (Some f)) → f.closed ≡ true
     → is_same_type Rel f.kind ≡ true → slot_count l ≤ slot_count l' → ((o : Owner) → o ≢ DataOf n → Keeps c c' l.owner o) → ((o : Owner) (q : Place) → o ≢ DataOf n → l.owner q ≡ o → l'.owner q ≡ o)
     → HoldsAt tracks c' l' (with_slot d n (Some f)) uses
 holds_inside tracks c c' l l' d n f uses ch h relates room st closed kind more keeps own = record {
@@ -95,9 +95,9 @@ holds_inside tracks c c' l l' d n f uses ch h relates room st closed kind more k
     here : IsRelating l' (with_slot d n (Some f)) n
     here = record { there = omega (arith, was.there, more); file = f; in_slot = get_or-set_same d.slots n (Some f) None room; closed = closed; relative = kind }
 
-    other : (m : ℕ) → m ≢ ch → (k : ℕ) → has_slot k (uses m) ≡ true → (k == n) ≡ false
+    other : (m : ℕ) → m ≢ ch → (k : ℕ) → uses_slot k (uses m) ≡ true → (k == n) ≡ false
     other m ne k g = elim (cases_eq k n) [
-      | inl e ↦ absurd (ne (sym (h.alone ch m n (ap (writes_slot n) relates ∙ eq-eqb n n refl) (ap (λ (i : ℕ). has_slot i (uses m)) (sym e) ∙ g))))
+      | inl e ↦ absurd (ne (sym (h.alone ch m n (ap (writes_slot n) relates ∙ eq-eqb n n refl) (ap (λ (i : ℕ). uses_slot i (uses m)) (sym e) ∙ g))))
       | inr apart ↦ ne_eqb k n apart
     ]
 
@@ -136,7 +136,7 @@ same_size medium c c' l n map keeps = geometry_elsewhere medium c c' (keeps TheM
 
 -- what is known where a record of an open file is written
 pub record IsWrittenAt (tracks : ℕ) (c : Content) (l : Layout) (d : Disk) (n : ℕ) (f : File) (w b s : ℕ) (rs : List (List ℕ)) (entry : List ℕ) : Type 0 where
-  pub stands : Stands tracks c l d
+  pub stands : HasLayout tracks c l d
   pub whole : AllWhole c
   pub there : n < slot_count l
   pub entry_is : entry ≡ entry_at c l.directory n
@@ -152,7 +152,7 @@ pub record IsWrittenAt (tracks : ℕ) (c : Content) (l : Layout) (d : Disk) (n :
   pub laid : IsLaid tracks c (relative_of entry) (l.files n).data_blocks (l.files n).sides
   pub short : length (l.files n).data_blocks ≤ sector_count tracks
 
-pub written_at : (tracks : ℕ) (c : Content) (l : Layout) (d : Disk) (n : ℕ) (entry : List ℕ) (f : File) (w b s : ℕ) (rs : List (List ℕ)) → (tracks ≡ 35) ⊎ (tracks ≡ 40) → AllWhole c → Stands tracks c l d → Answers (directory_of tracks c) n (Ok (Some entry))
+pub written_at : (tracks : ℕ) (c : Content) (l : Layout) (d : Disk) (n : ℕ) (entry : List ℕ) (f : File) (w b s : ℕ) (rs : List (List ℕ)) → (tracks ≡ 35) ⊎ (tracks ≡ 40) → AllWhole c → HasLayout tracks c l d → Answers (directory_of tracks c) n (Ok (Some entry))
     → file_at d n ≡ Some f → f.body ≡ Records w rs b s → IsWrittenAt tracks c l d n f w b s rs entry
 written_at tracks c l d n entry f w b s rs size whole st a at is =
     let so = records_lie tracks c l d n entry f w b s rs st a at is in
@@ -223,10 +223,10 @@ pub record Over (tracks : ℕ) (c' : Content) (l : Layout) (d : Disk) (n : ℕ) 
   pub layout : Layout
   pub owner : layout.owner ≡ l.owner
   pub count : slot_count layout ≡ slot_count l
-  pub stands : Stands tracks c' layout (with_slot d n (Some (with_records f w (set rs (k - 1) rec) (l.files n))))
+  pub stands : HasLayout tracks c' layout (with_slot d n (Some (with_records f w (set rs (k - 1) rec) (l.files n))))
 
 pub in_one_block : (tracks : ℕ) (c c' : Content) (l : Layout) (d : Disk) (n : ℕ) (f : File) (w b s k : ℕ) (rs : List (List ℕ)) (entry : List ℕ) (at : Place) (sector rec : List ℕ) (place : ℕ) → IsWrittenAt tracks c l d n f w b s rs entry → 1 ≤ k
-    → LiesFrom c (l.files n).data_blocks w k at sector place → length rec ≡ w → place + length rec ≤ length (data_of sector) → c' ≡ written c at (put sector (2 + place) rec) → Over tracks c' l d n f w k rs rec
+    → LiesFrom c (l.files n).data_blocks w k at sector place → length rec ≡ w → place + length rec ≤ length (data_of sector) → c' ≡ written c at (put_into sector (2 + place) rec) → Over tracks c' l d n f w k rs rec
 in_one_block tracks c c' l d n f w b s k rs entry at sector rec place g some lies size fits e =
     let x : ℕ = width_of (entry_at c l.directory n) in
     let i : ℕ = (k - 1) * w / 254 in
@@ -244,7 +244,7 @@ in_one_block tracks c c' l d n f w b s k rs entry at sector rec place g some lie
       block = lies.block;
       holds = ap c (sym lies.at_is) ∙ lies.holds;
       fits = fits;
-      written = e ∙ ap (λ (p : Place). written c p (put sector (2 + place) rec)) lies.at_is;
+      written = e ∙ ap (λ (p : Place). written c p (put_into sector (2 + place) rec)) lies.at_is;
     }) in
     record { layout = with_file l n (l.files n) l.owner; owner = refl; count = refl; stands = done.stands }
 
@@ -284,7 +284,7 @@ whole_written c p bytes whole size q = elim (place_decide p q) [
 
 pub over_two_blocks : (tracks : ℕ) (c c' : Content) (l : Layout) (d : Disk) (n : ℕ) (f : File) (w b s k : ℕ) (rs : List (List ℕ)) (entry : List ℕ) (at : Place) (sector more rec : List ℕ) (place : ℕ) → IsWrittenAt tracks c l d n f w b s rs entry → 1 ≤ k
     → LiesFrom c (l.files n).data_blocks w k at sector place → length rec ≡ w → length (data_of sector) < place + length rec → c (link sector) ≡ Ok more → place + length rec ≤ 254 + length (data_of more)
-    → c' ≡ written (front_written c at sector place rec) (link sector) (put more 2 (drop (254 - place) rec))
+    → c' ≡ written (front_written c at sector place rec) (link sector) (put_into more 2 (drop (254 - place) rec))
     → Crossed tracks c (front_written c at sector place rec) c' l d n ((k - 1) * w / 254) (k - 1) sector place (take (254 - place) rec) (drop (254 - place) rec) f w rs
 over_two_blocks tracks c c' l d n f w b s k rs entry at sector more rec place g some lies size short holds fits e =
     let x : ℕ = width_of (entry_at c l.directory n) in
@@ -302,7 +302,7 @@ over_two_blocks tracks c c' l d n f w b s k rs entry at sector more rec place g 
     let sector_size : length sector ≡ 256 = sym (ap length (ap or_nothing lies.holds)) ∙ whole_bytes c at g.whole (subst (λ (y : Cell). IsOk y) (sym lies.holds) refl) in
     stands_crossed tracks c (front_written c at sector place rec) c' l d n i place (k - 1) sector more ys zs f w b s rs g.stands g.there g.records (record {
       whole = g.whole;
-      whole_between = whole_written c at (put sector (2 + place) ys) g.whole (put_length sector (2 + place) ys (omega (arith, sector_size, front)) ∙ sector_size);
+      whole_between = whole_written c at (put_into sector (2 + place) ys) g.whole (put_length sector (2 + place) ys (omega (arith, sector_size, front)) ∙ sector_size);
       in_slot = g.in_slot;
       body = g.body;
       closed = g.closed;
@@ -317,8 +317,8 @@ over_two_blocks tracks c c' l d n f w b s k rs entry at sector more rec place g 
       seam = omega (arith, front, here);
       full = next.full;
       fits = omega (arith, back, fits, here);
-      first = ap (λ (p : Place). written c p (put sector (2 + place) ys)) lies.at_is;
-      second = e ∙ ap (λ (p : Place). written (front_written c at sector place rec) p (put more 2 zs)) (sym next.is);
+      first = ap (λ (p : Place). written c p (put_into sector (2 + place) ys)) lies.at_is;
+      second = e ∙ ap (λ (p : Place). written (front_written c at sector place rec) p (put_into more 2 zs)) (sym next.is);
     })
 
 -- THE RECORD IS WRITTEN, in one block or over two
@@ -332,7 +332,7 @@ record_over tracks c c' l d n f w b s k rs entry at sector rec place g some lies
       layout = x.layout;
       owner = x.same_owner;
       count = x.same_count;
-      stands = subst (λ (ys : List ℕ). Stands tracks c' x.layout (with_slot d n (Some (with_records f w (set rs (k - 1) ys) (l.files n))))) (take-append-drop (254 - place) rec) x.stands;
+      stands = subst (λ (ys : List ℕ). HasLayout tracks c' x.layout (with_slot d n (Some (with_records f w (set rs (k - 1) ys) (l.files n))))) (take-append-drop (254 - place) rec) x.stands;
     }
 
 -- the sectors of all else are as they were
@@ -342,7 +342,7 @@ inside_only c c' owner n at bytes own e o ne = written_keeps c c' at bytes owner
 -- ---- a stop between the two writes
 
 -- a part of a stretch that is put, and behind it what was there
-part_put : (xs : List ℕ) (a w : ℕ) (ys : List ℕ) → a + w ≤ length xs → length ys ≤ w → put xs a ys ≡ put xs a (ys ++ drop (length ys) (take w (drop a xs)))
+part_put : (xs : List ℕ) (a w : ℕ) (ys : List ℕ) → a + w ≤ length xs → length ys ≤ w → put_into xs a ys ≡ put_into xs a (ys ++ drop (length ys) (take w (drop a xs)))
 part_put xs a w ys room few =
     let zs : List ℕ = drop (length ys) (take w (drop a xs)) in
     let long : length (take w (drop a xs)) ≡ w = length-take-le w (drop a xs) (omega (arith, room, length-drop a xs)) in
@@ -367,7 +367,7 @@ half_over tracks c m l d n f w b s k rs entry at sector rec place g some lies si
     let i : ℕ = (k - 1) * w / 254 in
     let old : List ℕ = get_or rs (k - 1) [] in
     let half : Content = front_written c at sector place rec in
-    let crossed = over_two_blocks tracks c (written half (link sector) (put more 2 (drop (254 - place) rec))) l d n f w b s k rs entry at sector more rec place g some lies size short holds fits refl in
+    let crossed = over_two_blocks tracks c (written half (link sector) (put_into more 2 (drop (254 - place) rec))) l d n f w b s k rs entry at sector more rec place g some lies size short holds fits refl in
     let kk : suc (k - 1) * w ≡ k * w = (let z : suc (k - 1) ≡ k = omega (arith, some) in ap (λ (u : ℕ). u * w) z) in
     let pos : (k - 1) * w ≡ 254 * i + place = omega (arith, lies.place_is) in
     let room : (k - 1) * w + w ≤ length bytes = omega (arith, lies.whole, sym kk, suc-mul (k - 1) w) in
@@ -376,14 +376,14 @@ half_over tracks c m l d n f w b s k rs entry at sector rec place g some lies si
     let few : length ys ≤ w = omega (arith, front, short, full, size) in
     let was : take w (drop ((k - 1) * w) bytes) ≡ old = (bytes_there tracks c l d n f w b s k rs entry g some lies.whole).1 in
     let part : List ℕ = ys ++ drop (254 - place) old in
-    let put_part : put bytes ((k - 1) * w) ys ≡ put bytes ((k - 1) * w) part = part_put bytes ((k - 1) * w) w ys room few ∙ (λ j. put bytes ((k - 1) * w) (ys ++ drop (front j) (was j))) in
+    let put_part : put_into bytes ((k - 1) * w) ys ≡ put_into bytes ((k - 1) * w) part = part_put bytes ((k - 1) * w) w ys room few ∙ (λ j. put_into bytes ((k - 1) * w) (ys ++ drop (front j) (was j))) in
     let old_size : length old ≡ w = sym (ap length was) ∙ length-take-le w (drop ((k - 1) * w) bytes) (omega (arith, room, length-drop ((k - 1) * w) bytes)) in
     let part_size : length part ≡ w = omega (arith, length-append ys (drop (254 - place) old), front, length-drop (254 - place) old, old_size, few) in
-    let chain : chain_bytes half x.data_blocks ≡ put bytes ((k - 1) * w) part = crossed.bytes_between ∙ ap (λ (o : ℕ). put bytes o ys) (sym pos) ∙ put_part in
-    let same_length : length (put bytes ((k - 1) * w) part) ≡ length bytes = put_length bytes ((k - 1) * w) part (omega (arith, room, part_size)) in
+    let chain : chain_bytes half x.data_blocks ≡ put_into bytes ((k - 1) * w) part = crossed.bytes_between ∙ ap (λ (o : ℕ). put_into bytes o ys) (sym pos) ∙ put_part in
+    let same_length : length (put_into bytes ((k - 1) * w) part) ≡ length bytes = put_length bytes ((k - 1) * w) part (omega (arith, room, part_size)) in
     let records : slices (length (chain_bytes half x.data_blocks)) we (chain_bytes half x.data_blocks) ≡ set rs (k - 1) part =
     (λ j. slices (length (chain j)) we (chain j))
-    ∙ (λ j. slices (same_length j) we (put bytes ((k - 1) * g.width j) part))
+    ∙ (λ j. slices (same_length j) we (put_into bytes ((k - 1) * g.width j) part))
     ∙ slices_put (length bytes) we bytes (k - 1) part (omega (arith, g.some)) (part_size ∙ g.width) (subst (λ (u : ℕ). suc (k - 1) * u ≤ length bytes) g.width (omega (arith, room, suc-mul (k - 1) w))) (omega arith)
     ∙ ap (λ (us : List (List ℕ)). set us (k - 1) part) g.records in
     let file = slot_grown c half en x x f w b s rs (set rs (k - 1) part) (sym g.in_slot ∙ g.stands.describes.slots n g.there) g.body records in
@@ -391,7 +391,7 @@ half_over tracks c m l d n f w b s k rs entry at sector rec place g some lies si
       layout = with_file l n x l.owner;
       owner = refl;
       count = refl;
-      stands = subst (λ (o : Option File). Stands tracks half (with_file l n x l.owner) (with_slot d n o)) file crossed.between;
+      stands = subst (λ (o : Option File). HasLayout tracks half (with_file l n x l.owner) (with_slot d n o)) file crossed.between;
     })
 
 -- ---- the clauses of the call, over plain values
@@ -423,20 +423,20 @@ block_owner tracks c l d n f w b s k rs entry at sector place g lies =
     ap l.owner lies.at_is ∙ owned_nth l.owner (DataOf n) (l.files n).data_blocks ((k - 1) * w / 254) directory_head (g.stands.sound.owned.blocks n g.there) lies.block
 
 half_keeps : (c m : Content) (owner : Place → Owner) (n : ℕ) (at : Place) (sector rec : List ℕ) (place : ℕ) → owner at ≡ DataOf n → IsHalfRewritten c m at sector place rec → (o : Owner) → o ≢ DataOf n → Keeps c m owner o
-half_keeps c m owner n at sector rec place own (more, short, holds, fits, e) = inside_only c m owner n at (put sector (2 + place) (take (254 - place) rec)) own e
+half_keeps c m owner n at sector rec place own (more, short, holds, fits, e) = inside_only c m owner n at (put_into sector (2 + place) (take (254 - place) rec)) own e
 
 rewritten_keeps : (tracks : ℕ) (c c' : Content) (l : Layout) (d : Disk) (n : ℕ) (f : File) (w b s k : ℕ) (rs : List (List ℕ)) (entry : List ℕ) (at : Place) (sector rec : List ℕ) (place : ℕ) → IsWrittenAt tracks c l d n f w b s rs entry → 1 ≤ k
     → LiesFrom c (l.files n).data_blocks w k at sector place → length rec ≡ w → IsRewritten c c' at sector place rec → (o : Owner) → o ≢ DataOf n → Keeps c c' l.owner o
 rewritten_keeps tracks c c' l d n f w b s k rs entry at sector rec place g some lies size (inl (fits, e)) o ne =
-    inside_only c c' l.owner n at (put sector (2 + place) rec) (block_owner tracks c l d n f w b s k rs entry at sector place g lies) e o ne
+    inside_only c c' l.owner n at (put_into sector (2 + place) rec) (block_owner tracks c l d n f w b s k rs entry at sector place g lies) e o ne
 rewritten_keeps tracks c c' l d n f w b s k rs entry at sector rec place g some lies size (inr (more, short, holds, fits, e)) o ne =
     let half : Content = front_written c at sector place rec in
     let pos : (k - 1) * w ≡ 254 * ((k - 1) * w / 254) + place = omega (arith, lies.place_is) in
     let kk : suc (k - 1) * w ≡ k * w = (let z : suc (k - 1) ≡ k = omega (arith, some) in ap (λ (u : ℕ). u * w) z) in
     let next = next_block tracks c (first_block (entry_at c l.directory n)) (l.files n).data_blocks ((k - 1) * w / 254) at sector g.whole g.chain lies.block lies.at_is lies.holds (omega (arith, short, pos, lies.whole, size, sym kk, suc-mul (k - 1) w)) in
     let own_next : l.owner (link sector) ≡ DataOf n = ap l.owner (sym next.is) ∙ owned_nth l.owner (DataOf n) (l.files n).data_blocks (suc ((k - 1) * w / 254)) directory_head (g.stands.sound.owned.blocks n g.there) next.there in
-    keeps_then c half c' l.owner o (inside_only c half l.owner n at (put sector (2 + place) (take (254 - place) rec)) (block_owner tracks c l d n f w b s k rs entry at sector place g lies) refl o ne)
-    (inside_only half c' l.owner n (link sector) (put more 2 (drop (254 - place) rec)) own_next e o ne)
+    keeps_then c half c' l.owner o (inside_only c half l.owner n at (put_into sector (2 + place) (take (254 - place) rec)) (block_owner tracks c l d n f w b s k rs entry at sector place g lies) refl o ne)
+    (inside_only half c' l.owner n (link sector) (put_into more 2 (drop (254 - place) rec)) own_next e o ne)
 
 -- the same bytes are no change
 no_change : (medium : ℕ) (c c' : Content) (d : Disk) (uses : ℕ → Use) (n w b s k : ℕ) (rs : List (List ℕ)) (o : HasRecordsOpen medium c d uses n w b s rs) → c' ≡ c → k - 1 < length rs → HoldsNow medium c' (with_record d n w rs b s k (get_or rs (k - 1) [])) uses
@@ -583,10 +583,10 @@ module _ (old new : Seen) (d : Disk) (uses : ℕ → Use) (n w b s k p : ℕ) (r
     where
       by_answer : (q : Result (Option A) Trouble) → MatchResult q (λ x. IsRecordPut old.tracks old.content new.content d uses n w b s rs k p bytes (option_map cut x)) (IsRecordCut old new d uses n w b s rs k p bytes)
           → IfOk q (λ x. IfSome x (λ y. Q y (record_in file.width (chain_bytes old.content blocks) (k + 1)))) → IfOk q (λ x. IfSome x (λ y. OfRecords new n (λ found. Q y (slice_get found k))))
-      by_answer (Err t) put h = tt
-      by_answer (Ok None) put h = tt
-      by_answer (Ok (Some y)) put h = λ e f w2 b2 s2 rs2 holds at body.
-          subst (Q y) (ap (λ (m : ℕ). record_in m (chain_bytes old.content blocks) (k + 1)) (width_there file is) ∙ next_stays (cut y) e f w2 b2 s2 rs2 tracks_same put holds at body) h
+      by_answer (Err t) put_into h = tt
+      by_answer (Ok None) put_into h = tt
+      by_answer (Ok (Some y)) put_into h = λ e f w2 b2 s2 rs2 holds at body.
+          subst (Q y) (ap (λ (m : ℕ). record_in m (chain_bytes old.content blocks) (k + 1)) (width_there file is) ∙ next_stays (cut y) e f w2 b2 s2 rs2 tracks_same put_into holds at body) h
 
 -- where the records are that a channel has open
 pub open_at : (medium geometry : ℕ) (c : Content) (d : Disk) (uses : ℕ → Use) (n w b s : ℕ) (rs : List (List ℕ)) (o : HasRecordsOpen medium c d uses n w b s rs) (found : Option (List ℕ)) (entry : List ℕ) → AllWhole c → geometry ≡ geometry_of medium c → found ≡ Some entry

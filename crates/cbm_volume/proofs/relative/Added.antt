@@ -10,7 +10,7 @@ use Rattle.cbm_bam.specs.Map.{is_free_in, map_of}
 use Rattle.cbm_relfile.specs.SideSectors.{named_in, sides_listed, blocks_listed, Numbered}
 use Rattle.cbm_directory.specs.Entries.{entry_at, first_block, first_side, is_closed, is_relative, width_of}
 use Rattle.cbm_volume.specs.Blocks.{Blocks, Lies, HasRecords, slot_of}
-use Rattle.cbm_volume.specs.Layouts.{Owner, Nobody, DataOf, SideOf, is_loose, OwnedBy, Layout, IsOwned, slot_count, Stands, Extends, own}
+use Rattle.cbm_volume.specs.Layouts.{Owner, Nobody, DataOf, SideOf, is_loose, OwnedBy, Layout, IsOwned, slot_count, HasLayout, Extends, own}
 use Rattle.cbm_volume.proofs.layouts.Frames.{Keeps, owned_same, write_keeps, chain_kept}
 use Rattle.cbm_volume.proofs.layouts.Grows.{owned_push}
 use Rattle.cbm_volume.proofs.layouts.OneSlot.{with_file}
@@ -95,11 +95,11 @@ pub record CanAdd (tracks : ℕ) (c c' : Content) (l : Layout) (n : ℕ) (xs : L
   pub written : c' ≡ written c (first_side (entry_at c l.directory n)) new
 
 pub record Added (tracks : ℕ) (c' : Content) (l : Layout) (d : Disk) (n : ℕ) (e : List ℕ) (t : Place) : Type 0 where
-  pub stands : Stands tracks c' (with_file l n (sided (l.files n) t) (own l.owner t (SideOf n))) (with_slot d n (slot_of c' e (sided (l.files n) t)))
+  pub stands : HasLayout tracks c' (with_file l n (sided (l.files n) t) (own l.owner t (SideOf n))) (with_slot d n (slot_of c' e (sided (l.files n) t)))
   pub listed : IsListed c' ((l.files n).sides ++ t ∷ []) (l.files n).data_blocks
 
 -- THE FILE HAS ONE SIDE SECTOR MORE, and all its blocks are listed
-pub stands_added : (tracks : ℕ) (c c' : Content) (l : Layout) (d : Disk) (n : ℕ) (xs : List Place) (q t : Place) (side new : List ℕ) → Stands tracks c l d → n < slot_count l → CanAdd tracks c c' l n xs q t side new
+pub stands_added : (tracks : ℕ) (c c' : Content) (l : Layout) (d : Disk) (n : ℕ) (xs : List Place) (q t : Place) (side new : List ℕ) → HasLayout tracks c l d → n < slot_count l → CanAdd tracks c c' l n xs q t side new
     → Added tracks c' l d n (entry_at c l.directory n) t
 stands_added tracks c c' l d n xs q t side new s k g =
     let e : List ℕ = entry_at c l.directory n in

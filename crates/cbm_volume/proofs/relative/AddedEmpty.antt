@@ -9,7 +9,7 @@ use Rattle.cbm_bam.specs.Map.{is_free_in, map_of}
 use Rattle.cbm_relfile.specs.SideSectors.{named_in, sides_listed, blocks_listed}
 use Rattle.cbm_directory.specs.Entries.{entry_at, first_block, first_side, is_closed, is_relative, width_of}
 use Rattle.cbm_volume.specs.Blocks.{Blocks, Lies, HasRecords, slot_of}
-use Rattle.cbm_volume.specs.Layouts.{Owner, Nobody, DataOf, SideOf, is_loose, OwnedBy, Layout, slot_count, Stands, own}
+use Rattle.cbm_volume.specs.Layouts.{Owner, Nobody, DataOf, SideOf, is_loose, OwnedBy, Layout, slot_count, HasLayout, own}
 use Rattle.cbm_volume.proofs.layouts.Frames.{Keeps, owned_same, write_keeps, chain_kept}
 use Rattle.cbm_volume.proofs.layouts.Grows.{owned_push}
 use Rattle.cbm_volume.proofs.layouts.OneSlot.{with_file}
@@ -40,8 +40,8 @@ pub record CanAddEmpty (tracks : ℕ) (c c' : Content) (l : Layout) (n : ℕ) (t
   pub written : c' ≡ written c (first_side (entry_at c l.directory n)) new
 
 -- THE FILE HAS ONE SIDE SECTOR MORE, and its side sectors list what they listed
-pub stands_added_empty : (tracks : ℕ) (c c' : Content) (l : Layout) (d : Disk) (n : ℕ) (t : Place) (side new : List ℕ) → Stands tracks c l d → n < slot_count l → CanAddEmpty tracks c c' l n t side new
-    → Stands tracks c' (with_file l n (sided (l.files n) t) (own l.owner t (SideOf n))) (with_slot d n (slot_of c' (entry_at c l.directory n) (sided (l.files n) t)))
+pub stands_added_empty : (tracks : ℕ) (c c' : Content) (l : Layout) (d : Disk) (n : ℕ) (t : Place) (side new : List ℕ) → HasLayout tracks c l d → n < slot_count l → CanAddEmpty tracks c c' l n t side new
+    → HasLayout tracks c' (with_file l n (sided (l.files n) t) (own l.owner t (SideOf n))) (with_slot d n (slot_of c' (entry_at c l.directory n) (sided (l.files n) t)))
 stands_added_empty tracks c c' l d n t side new s k g =
     let e : List ℕ = entry_at c l.directory n in
     let b : Blocks = l.files n in

@@ -9,7 +9,7 @@ use Rattle.cbm_file.specs.Files.{Disk, with_slot}
 use Rattle.cbm_relfile.specs.SideSectors.{named_in, sides_listed}
 use Rattle.cbm_directory.specs.Entries.{entry_at, first_block, first_side, is_closed, is_relative, width_of}
 use Rattle.cbm_volume.specs.Blocks.{Blocks, Lies, HasRecords, slot_of}
-use Rattle.cbm_volume.specs.Layouts.{DataOf, SideOf, Layout, slot_count, Stands}
+use Rattle.cbm_volume.specs.Layouts.{DataOf, SideOf, Layout, slot_count, HasLayout}
 use Rattle.cbm_volume.proofs.layouts.Frames.{Keeps, write_keeps, chain_kept, slot_kept}
 use Rattle.cbm_volume.proofs.layouts.OneSlot.{with_file}
 use Rattle.cbm_volume.proofs.layouts.Steps.{extends_itself}
@@ -29,10 +29,10 @@ pub record CanCopy (tracks : ℕ) (c c' : Content) (l : Layout) (n : ℕ) (t : P
   pub written : c' ≡ written c t new
 
 pub record Copied (tracks : ℕ) (c c' : Content) (l : Layout) (d : Disk) (n : ℕ) : Type 0 where
-  pub stands : Stands tracks c' (with_file l n (l.files n) l.owner) d
+  pub stands : HasLayout tracks c' (with_file l n (l.files n) l.owner) d
   pub listed : (xs : List Place) → IsListed c (l.files n).sides xs → IsListed c' (l.files n).sides xs
 
-pub stands_copied : (tracks : ℕ) (c c' : Content) (l : Layout) (d : Disk) (n : ℕ) (t : Place) (new : List ℕ) → Stands tracks c l d → n < slot_count l → CanCopy tracks c c' l n t new → Copied tracks c c' l d n
+pub stands_copied : (tracks : ℕ) (c c' : Content) (l : Layout) (d : Disk) (n : ℕ) (t : Place) (new : List ℕ) → HasLayout tracks c l d → n < slot_count l → CanCopy tracks c c' l n t new → Copied tracks c c' l d n
 stands_copied tracks c c' l d n t new s k g =
     let e : List ℕ = entry_at c l.directory n in
     let b : Blocks = l.files n in
@@ -54,7 +54,7 @@ stands_copied tracks c c' l d n t new s k g =
     ap (with_slot d n) (slot_kept c c' l.owner (DataOf n) e b keep (s.sound.owned.blocks n k) ∙ sym (s.describes.slots n k))
     ∙ (λ i. record d { slots = set-get_or d.slots n None i }) in
     record {
-      stands = subst (λ (x : Disk). Stands tracks c' (with_file l n b l.owner) x) same
+      stands = subst (λ (x : Disk). HasLayout tracks c' (with_file l n b l.owner) x) same
           (stands_inside tracks c c' l d n t new b l.owner s k (inr g.owned) g.written lies (extends_itself l n s.sound.owned) (s.sound.owned.blocks n k) (s.sound.owned.sides n k) s.sound.free);
       listed = λ xs h. listed_written c c' t new b.sides xs only there g.blocks_kept h;
     }

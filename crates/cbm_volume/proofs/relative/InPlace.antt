@@ -11,7 +11,7 @@ use Rattle.cbm_relfile.specs.Records.{AllWhole}
 use Rattle.cbm_relfile.proofs.Positions.{whole_bytes, full_length}
 use Rattle.cbm_directory.specs.Entries.{entry_at, first_block, is_closed, is_relative}
 use Rattle.cbm_volume.specs.Blocks.{Blocks, Lies, slot_of}
-use Rattle.cbm_volume.specs.Layouts.{DataOf, SideOf, Layout, slot_count, Stands}
+use Rattle.cbm_volume.specs.Layouts.{DataOf, SideOf, Layout, slot_count, HasLayout}
 use Rattle.cbm_volume.proofs.layouts.Chained.{chain_distinct}
 use Rattle.cbm_volume.proofs.layouts.Frames.{Keeps, owned_nth, write_keeps, records_kept}
 use Rattle.cbm_volume.proofs.layouts.OneSlot.{with_file}
@@ -95,10 +95,10 @@ pub record CanWrite (tracks : ℕ) (c c' : Content) (l : Layout) (n i : ℕ) (ne
 
 pub record WrittenIn (tracks : ℕ) (c c' : Content) (l : Layout) (d : Disk) (n i : ℕ) (new : List ℕ) : Type 0 where
   pub kept : Kept tracks c c' (first_block (entry_at c l.directory n)) (l.files n).data_blocks i new
-  pub stands : Stands tracks c' (with_file l n (l.files n) l.owner) (with_slot d n (slot_of c' (entry_at c l.directory n) (l.files n)))
+  pub stands : HasLayout tracks c' (with_file l n (l.files n) l.owner) (with_slot d n (slot_of c' (entry_at c l.directory n) (l.files n)))
 
 -- A DATA BLOCK OF A RELATIVE FILE IS WRITTEN: its slot has the bytes that lie there then, and all else is as it was
-pub stands_written : (tracks : ℕ) (c c' : Content) (l : Layout) (d : Disk) (n i : ℕ) (new : List ℕ) → Stands tracks c l d → n < slot_count l → CanWrite tracks c c' l n i new → WrittenIn tracks c c' l d n i new
+pub stands_written : (tracks : ℕ) (c c' : Content) (l : Layout) (d : Disk) (n i : ℕ) (new : List ℕ) → HasLayout tracks c l d → n < slot_count l → CanWrite tracks c c' l n i new → WrittenIn tracks c c' l d n i new
 stands_written tracks c c' l d n i new s k g =
     let e : List ℕ = entry_at c l.directory n in
     let b : Blocks = l.files n in

@@ -20,7 +20,7 @@ use Rattle.cbm_relfile.proofs.Filled.{begins_late}
 use Rattle.cbm_relfile.proofs.Positions.{chain_least, chain_most}
 use Rattle.cbm_directory.specs.Entries.{entry_at, first_block, first_side, is_closed, is_relative, type_byte, width_of}
 use Rattle.cbm_volume.specs.Blocks.{Blocks, Lies, HasRecords, file_of, slot_of, slices}
-use Rattle.cbm_volume.specs.Layouts.{Owner, TheMap, Directory, DataOf, SideOf, Layout, slot_count, with_blocks, Stands}
+use Rattle.cbm_volume.specs.Layouts.{Owner, TheMap, Directory, DataOf, SideOf, Layout, slot_count, with_blocks, HasLayout}
 use Rattle.cbm_volume.specs.Writers.{Use, HoldsAt}
 use Rattle.cbm_volume.specs.RecordWrites.{HasRecordsOpen}
 use Rattle.cbm_volume.specs.Growth.{filled_up, IsGrowthCut}
@@ -57,7 +57,7 @@ pub record LiesInSlot (tracks : ℕ) (c : Content) (l : Layout) (n : ℕ) (f : F
   pub has : HasRecords tracks c (entry_at c l.directory n) (l.files n)
   pub blocks : HasBlocks f (l.files n) b s
 
-pub lies_in_slot : (tracks : ℕ) (c : Content) (l : Layout) (d : Disk) (n : ℕ) (f : File) (w b s : ℕ) (rs : List (List ℕ)) → Stands tracks c l d → n < slot_count l → file_at d n ≡ Some f → f.body ≡ Records w rs b s → LiesInSlot tracks c l n f w b s rs
+pub lies_in_slot : (tracks : ℕ) (c : Content) (l : Layout) (d : Disk) (n : ℕ) (f : File) (w b s : ℕ) (rs : List (List ℕ)) → HasLayout tracks c l d → n < slot_count l → file_at d n ≡ Some f → f.body ≡ Records w rs b s → LiesInSlot tracks c l n f w b s rs
 lies_in_slot tracks c l d n f w b s rs st there at is =
     let e : List ℕ = entry_at c l.directory n in
     let x : Blocks = l.files n in
@@ -91,9 +91,9 @@ same_layout l n = (λ i. record l { files = fun_ext by_slot i })
     ]
 
 -- A DATA BLOCK OF A FILE IS WRITTEN, and its blocks are still a chain
-stands_chained : (tracks : ℕ) (c c' : Content) (l : Layout) (d : Disk) (n i : ℕ) (new : List ℕ) → Stands tracks c l d → n < slot_count l → is_closed (entry_at c l.directory n) ≡ true → is_relative (entry_at c l.directory n) ≡ true
+stands_chained : (tracks : ℕ) (c c' : Content) (l : Layout) (d : Disk) (n i : ℕ) (new : List ℕ) → HasLayout tracks c l d → n < slot_count l → is_closed (entry_at c l.directory n) ≡ true → is_relative (entry_at c l.directory n) ≡ true
     → i < length (l.files n).data_blocks → c' ≡ written c (nth (l.files n).data_blocks i) new → Chain tracks c' (first_block (entry_at c l.directory n)) (l.files n).data_blocks
-    → Stands tracks c' l (with_slot d n (slot_of c' (entry_at c l.directory n) (l.files n)))
+    → HasLayout tracks c' l (with_slot d n (slot_of c' (entry_at c l.directory n) (l.files n)))
 stands_chained tracks c c' l d n i new s k closed relative there e chain =
     let entry : List ℕ = entry_at c l.directory n in
     let b : Blocks = l.files n in
@@ -103,7 +103,7 @@ stands_chained tracks c c' l d n i new s k closed relative there e chain =
     let keep : Keeps c c' l.owner (SideOf n) = inside_only c c' l.owner n p new owned e (SideOf n) (λ z. (cc)) in
     let lies : Lies tracks c' entry b = longer.lies_so (is_closed entry) (is_relative entry) tracks c' entry b closed relative
     (record { chain = chain; records = records_kept tracks c c' l.owner (SideOf n) entry b keep (s.sound.owned.sides n k) was.records }) in
-    subst (λ (m : Layout). Stands tracks c' m (with_slot d n (slot_of c' entry b))) (same_layout l n)
+    subst (λ (m : Layout). HasLayout tracks c' m (with_slot d n (slot_of c' entry b))) (same_layout l n)
     (stands_inside tracks c c' l d n p new b l.owner s k (inl owned) e lies (extends_itself l n s.sound.owned) (s.sound.owned.blocks n k) (s.sound.owned.sides n k) s.sound.free)
 
 -- ---- the steps
@@ -161,7 +161,7 @@ module _ (medium : ℕ) (c0 : Content) (d : Disk) (uses : ℕ → Use) (n w b s 
   refill c c' rs1 rs2 i new h there e chain sl =
       let d1 : Disk = disk_with d n o.file w rs1 b s d.free in
       let f1 : File = record o.file { held = b + s; body = Records w rs1 b s } in
-      let st : Stands tracks c l0 d1 = h.stage.holds.stands in
+      let st : HasLayout tracks c l0 d1 = h.stage.holds.stands in
       let entry : List ℕ = entry_at c l0.directory n in
       let same : entry ≡ entry_at c0 l0.directory n = entry_stays c rs1 h.stage in
       let at = file_there medium c0 d uses n w b s rs o rs1 b s d.free in
@@ -178,7 +178,7 @@ module _ (medium : ℕ) (c0 : Content) (d : Disk) (uses : ℕ → Use) (n w b s 
       let only : (x : Owner) → x ≢ DataOf n → Keeps c c' l0.owner x = inside_only c c' l0.owner n p new owned e in
       let head : c' directory_head ≡ c directory_head = only TheMap (λ z. (cc)) directory_head st.sound.owned.map in
       record {
-        stage = go_on medium c0 d uses n w b s rs o c c' l0 l0 rs1 rs2 b s d.free b s d.free h.stage (subst (λ (x : Disk). Stands tracks c' l0 x) disk now) refl
+        stage = go_on medium c0 d uses n w b s rs o c c' l0 l0 rs1 rs2 b s d.free b s d.free h.stage (subst (λ (x : Disk). HasLayout tracks c' l0 x) disk now) refl
             (aside_written n c c' l0 p new e (λ x a z. a.not_data (sym z ∙ owned))) (geometry_elsewhere medium c c' head);
         keeps = λ x ne. keeps_then c0 c c' l0.owner x (h.keeps x ne) (only x ne);
       }

@@ -9,7 +9,7 @@ use Rattle.cbm_bam.specs.Map.{is_free_in, map_of}
 use Rattle.cbm_relfile.specs.SideSectors.{blocks_listed}
 use Rattle.cbm_directory.specs.Entries.{entry_at, first_block, is_closed, is_relative}
 use Rattle.cbm_volume.specs.Blocks.{Blocks, Lies, LiesAs, HasRecords, slot_of}
-use Rattle.cbm_volume.specs.Layouts.{Owner, Nobody, DataOf, SideOf, is_loose, OwnedBy, Layout, slot_count, Stands, own}
+use Rattle.cbm_volume.specs.Layouts.{Owner, Nobody, DataOf, SideOf, is_loose, OwnedBy, Layout, slot_count, HasLayout, own}
 use Rattle.cbm_chain.specs.Writing.{last_of}
 use Rattle.cbm_medium.proofs.Places.{written_there, written_elsewhere}
 use Rattle.cbm_volume.proofs.layouts.Frames.{Keeps, owned_same, write_keeps, records_kept}
@@ -59,7 +59,7 @@ pub record CanLengthen (tracks : ℕ) (c c' : Content) (l : Layout) (n : ℕ) (b
   pub linked : link new ≡ q
   pub written : c' ≡ written c (last_of b rest) new
 
-longer_lies : (tracks : ℕ) (c c' : Content) (l : Layout) (d : Disk) (n : ℕ) (b : Place) (rest : List Place) (q : Place) (new tail : List ℕ) → Stands tracks c l d → n < slot_count l → CanLengthen tracks c c' l n b rest q new tail
+longer_lies : (tracks : ℕ) (c c' : Content) (l : Layout) (d : Disk) (n : ℕ) (b : Place) (rest : List Place) (q : Place) (new tail : List ℕ) → HasLayout tracks c l d → n < slot_count l → CanLengthen tracks c c' l n b rest q new tail
     → Lies tracks c' (entry_at c l.directory n) (longer (l.files n) q)
 longer_lies tracks c c' l d n b rest q new tail s k g =
     let e : List ℕ = entry_at c l.directory n in
@@ -82,8 +82,8 @@ longer_lies tracks c c' l d n b rest q new tail s k g =
     })
 
 -- THE FILE IS ONE BLOCK LONGER, and all else is as it was
-pub stands_longer : (tracks : ℕ) (c c' : Content) (l : Layout) (d : Disk) (n : ℕ) (b : Place) (rest : List Place) (q : Place) (new tail : List ℕ) → Stands tracks c l d → n < slot_count l → CanLengthen tracks c c' l n b rest q new tail
-    → Stands tracks c' (with_file l n (longer (l.files n) q) (own l.owner q (DataOf n))) (with_slot d n (slot_of c' (entry_at c l.directory n) (longer (l.files n) q)))
+pub stands_longer : (tracks : ℕ) (c c' : Content) (l : Layout) (d : Disk) (n : ℕ) (b : Place) (rest : List Place) (q : Place) (new tail : List ℕ) → HasLayout tracks c l d → n < slot_count l → CanLengthen tracks c c' l n b rest q new tail
+    → HasLayout tracks c' (with_file l n (longer (l.files n) q) (own l.owner q (DataOf n))) (with_slot d n (slot_of c' (entry_at c l.directory n) (longer (l.files n) q)))
 stands_longer tracks c c' l d n b rest q new tail s k g =
     let owner : Place → Owner = own l.owner q (DataOf n) in
     let own_b : OwnedBy l.owner (DataOf n) (b ∷ rest) = subst (λ (xs : List Place). OwnedBy l.owner (DataOf n) xs) g.blocks (s.sound.owned.blocks n k) in

@@ -9,7 +9,7 @@ use Rattle.cbm_bam.specs.Map.{is_free_in, map_of, Claims}
 use Rattle.cbm_relfile.specs.SideSectors.{named_in, sides_listed}
 use Rattle.cbm_directory.specs.Entries.{entry_at, is_closed, is_relative}
 use Rattle.cbm_volume.specs.Blocks.{Blocks, slot_of}
-use Rattle.cbm_volume.specs.Layouts.{Owner, TheMap, Directory, DataOf, SideOf, is_loose, OwnedBy, Layout, slot_count, Stands, own}
+use Rattle.cbm_volume.specs.Layouts.{Owner, TheMap, Directory, DataOf, SideOf, is_loose, OwnedBy, Layout, slot_count, HasLayout, own}
 use Rattle.cbm_chain.specs.Writing.{last_of}
 use Rattle.cbm_volume.proofs.layouts.Frames.{Keeps, sector_kept}
 use Rattle.cbm_volume.proofs.layouts.Loose.{entry_kept}
@@ -47,17 +47,17 @@ pub record IsOneMore (tracks : ℕ) (c0 c1 c2 c3 c4 : Content) (l : Layout) (n :
 
 -- what stands behind each of them
 pub record OneMore (tracks : ℕ) (c0 c1 c2 c3 c4 : Content) (l : Layout) (d : Disk) (n : ℕ) (q : Place) : Type 0 where
-  pub claimed : Stands tracks c1 l (one_less d)
-  pub written_first : Stands tracks c2 l (one_less d)
+  pub claimed : HasLayout tracks c1 l (one_less d)
+  pub written_first : HasLayout tracks c2 l (one_less d)
   pub entry : entry_at c2 l.directory n ≡ entry_at c0 l.directory n
-  pub linked : Stands tracks c3 (with_file l n (longer (l.files n) q) (own l.owner q (DataOf n))) (with_slot (one_less d) n (slot_of c3 (entry_at c2 l.directory n) (longer (l.files n) q)))
+  pub linked : HasLayout tracks c3 (with_file l n (longer (l.files n) q) (own l.owner q (DataOf n))) (with_slot (one_less d) n (slot_of c3 (entry_at c2 l.directory n) (longer (l.files n) q)))
   pub pushed : Pushed tracks c4 (with_file l n (longer (l.files n) q) (own l.owner q (DataOf n))) (with_slot (one_less d) n (slot_of c3 (entry_at c2 l.directory n) (longer (l.files n) q))) n
 
-pub one_more : (tracks : ℕ) (c0 c1 c2 c3 c4 : Content) (l : Layout) (d : Disk) (n : ℕ) (b : Place) (rest : List Place) (q t : Place) (tail new side : List ℕ) → Stands tracks c0 l d → n < slot_count l
+pub one_more : (tracks : ℕ) (c0 c1 c2 c3 c4 : Content) (l : Layout) (d : Disk) (n : ℕ) (b : Place) (rest : List Place) (q t : Place) (tail new side : List ℕ) → HasLayout tracks c0 l d → n < slot_count l
     → IsOneMore tracks c0 c1 c2 c3 c4 l n b rest q t tail new side → OneMore tracks c0 c1 c2 c3 c4 l d n q
 one_more tracks c0 c1 c2 c3 c4 l d n b rest q t tail new side s k g =
     let claim = stands_claim tracks c0 c1 l d q s g.few g.claims in
-    let s2 : Stands tracks c2 l (one_less d) = stands_loose tracks c1 c2 l (one_less d) q tail claim.stands (ap is_loose claim.taken.nobody) g.new_block in
+    let s2 : HasLayout tracks c2 l (one_less d) = stands_loose tracks c1 c2 l (one_less d) q tail claim.stands (ap is_loose claim.taken.nobody) g.new_block in
     let apart_q : (o : Owner) → is_loose o ≡ false → l.owner q ≢ o = λ o h z. (let y = sym (ap is_loose claim.taken.nobody) ∙ ap is_loose z ∙ h in (cc)) in
     let dir1 : Keeps c0 c1 l.owner Directory = written_keeps c0 c1 directory_head g.claims.remaps.map l.owner Directory g.claims.remaps.written (λ z. (let y = sym s.sound.owned.map ∙ z in (cc))) in
     let dir2 : Keeps c1 c2 l.owner Directory = written_keeps c1 c2 q tail l.owner Directory g.new_block (apart_q Directory refl) in

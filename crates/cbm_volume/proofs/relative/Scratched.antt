@@ -11,7 +11,7 @@ use Rattle.cbm_bam.proofs.Counts.{AreTaken}
 use Rattle.cbm_relfile.specs.SideSectors.{AllHave, Numbered}
 use Rattle.cbm_directory.specs.Entries.{type_byte, bit_of, is_relative, width_of, first_block, sector_of, Enters}
 use Rattle.cbm_volume.specs.Blocks.{Blocks, no_blocks, Lies, LiesAs, file_of}
-use Rattle.cbm_volume.specs.Layouts.{Owner, Nobody, DataOf, SideOf, OwnedBy, Layout, slot_count, Sound, Stands, Extends}
+use Rattle.cbm_volume.specs.Layouts.{Owner, Nobody, DataOf, SideOf, OwnedBy, Layout, slot_count, Sound, HasLayout, Extends}
 use Rattle.cbm_volume.specs.Plain.{IsDistinct}
 use Rattle.cbm_volume.proofs.written.Finishes.{own_all, own_all_was, own_all_keeps, own_all_there, AllOff, all_off_18}
 use Rattle.cbm_volume.proofs.layouts.Frames.{owned_same}
@@ -76,11 +76,11 @@ all_blocks b = b.data_blocks ++ b.sides
 pub gathered_keeps : (tracks : ℕ) (c : Content) (l : Layout) (n : ℕ) (o : Owner) (q : Place) → Sound tracks c l → n < slot_count l → SideOf n ≢ o → l.owner q ≡ o → gathered l n q ≡ o
 gathered_keeps tracks c l n o q s k ne e = own_all_keeps l.owner (SideOf n) (DataOf n) o (l.files n).sides q (s.owned.sides n k) ne e
 
-pub stands_cleared : (tracks : ℕ) (c c1 : Content) (l : Layout) (d : Disk) (n : ℕ) (p : Place) (body : List ℕ) → Stands tracks c l d → n < slot_count l → p ≡ sector_of l.directory n → Enters c c1 p (n % 8) body → type_byte body ≡ 0
-    → Stands tracks c1 (with_file l n no_blocks (gathered l n)) (with_slot d n None)
+pub stands_cleared : (tracks : ℕ) (c c1 : Content) (l : Layout) (d : Disk) (n : ℕ) (p : Place) (body : List ℕ) → HasLayout tracks c l d → n < slot_count l → p ≡ sector_of l.directory n → Enters c c1 p (n % 8) body → type_byte body ≡ 0
+    → HasLayout tracks c1 (with_file l n no_blocks (gathered l n)) (with_slot d n None)
 stands_cleared tracks c c1 l d n p body st k at e z =
     let lies : Lies tracks c body no_blocks = subst (λ (x : Bool). LiesAs x (is_relative body) tracks c body no_blocks) (sym (ap (λ (x : ℕ). bit_of x 7) z)) refl in
-    subst (λ (x : Option File). Stands tracks c1 (with_file l n no_blocks (gathered l n)) (with_slot d n x))
+    subst (λ (x : Option File). HasLayout tracks c1 (with_file l n no_blocks (gathered l n)) (with_slot d n x))
     (ap (λ (x : Bool). if x then None else Some (file_of [] body no_blocks)) (eq-eqb (type_byte body) 0 z))
     (stands_entry tracks c c1 l d n p body no_blocks (gathered l n) st k at e (subst (λ (x : ℕ). x % 16 < 5) (sym z) (omega arith)) lies (extends_sides tracks c l n (l.files n).sides st.sound (st.sound.owned.sides n k)) tt tt
     (λ q h f. gathered_keeps tracks c l n Nobody q st.sound k (λ y. (cc)) (st.sound.free q h f)))
@@ -111,7 +111,7 @@ gathered_owned tracks c l n s k =
     owned_join (gathered l n) (DataOf n) b.data_blocks b.sides
     (owned_same l.owner (gathered l n) (DataOf n) b.data_blocks (λ q h. all_kept l.owner b.sides (DataOf n) q h) (s.owned.blocks n k)) (own_all_there l.owner b.sides (DataOf n))
 
-pub gathered_taken : (tracks : ℕ) (c c1 : Content) (l : Layout) (d1 : Disk) (n : ℕ) (e : List ℕ) → Sound tracks c l → n < slot_count l → LiesClosed tracks c e (l.files n) → Stands tracks c1 (with_file l n no_blocks (gathered l n)) d1
+pub gathered_taken : (tracks : ℕ) (c c1 : Content) (l : Layout) (d1 : Disk) (n : ℕ) (e : List ℕ) → Sound tracks c l → n < slot_count l → LiesClosed tracks c e (l.files n) → HasLayout tracks c1 (with_file l n no_blocks (gathered l n)) d1
     → AreTaken tracks (is_free_in (map_of c1)) (all_blocks (l.files n))
 gathered_taken tracks c c1 l d1 n e s k lies st =
     let b : Blocks = l.files n in

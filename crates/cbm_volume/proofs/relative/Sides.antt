@@ -10,7 +10,7 @@ use Rattle.cbm_file.specs.Files.{Disk, with_slot}
 use Rattle.cbm_relfile.specs.SideSectors.{named_in, sides_listed, blocks_listed, Numbered}
 use Rattle.cbm_directory.specs.Entries.{entry_at, first_block, first_side, is_closed, is_relative, width_of}
 use Rattle.cbm_volume.specs.Blocks.{Blocks, Lies, HasRecords, slot_of}
-use Rattle.cbm_volume.specs.Layouts.{DataOf, SideOf, Layout, slot_count, Stands}
+use Rattle.cbm_volume.specs.Layouts.{DataOf, SideOf, Layout, slot_count, HasLayout}
 pub use Rattle.cbm_volume.specs.Growing.{listed_by, IsListed}
 use Rattle.cbm_volume.specs.Plain.{IsDistinct}
 use Rattle.cbm_volume.proofs.layouts.Frames.{Keeps, owned_nth, write_keeps, chain_kept, slot_kept}
@@ -106,11 +106,11 @@ pub record CanPush (tracks : ℕ) (c c' : Content) (l : Layout) (n : ℕ) (xs : 
   pub written : c' ≡ written c t new
 
 pub record Pushed (tracks : ℕ) (c' : Content) (l : Layout) (d : Disk) (n : ℕ) : Type 0 where
-  pub stands : Stands tracks c' (with_file l n (l.files n) l.owner) d
+  pub stands : HasLayout tracks c' (with_file l n (l.files n) l.owner) d
   pub listed : IsListed c' (l.files n).sides (l.files n).data_blocks
 
 -- THE DISK IS THE SAME, and all blocks of the file are listed
-pub stands_pushed : (tracks : ℕ) (c c' : Content) (l : Layout) (d : Disk) (n : ℕ) (xs : List Place) (q t : Place) (new : List ℕ) → Stands tracks c l d → n < slot_count l → CanPush tracks c c' l n xs q t new → Pushed tracks c' l d n
+pub stands_pushed : (tracks : ℕ) (c c' : Content) (l : Layout) (d : Disk) (n : ℕ) (xs : List Place) (q t : Place) (new : List ℕ) → HasLayout tracks c l d → n < slot_count l → CanPush tracks c c' l n xs q t new → Pushed tracks c' l d n
 stands_pushed tracks c c' l d n xs q t new s k g =
     let e : List ℕ = entry_at c l.directory n in
     let b : Blocks = l.files n in
@@ -135,7 +135,7 @@ stands_pushed tracks c c' l d n xs q t new s k g =
     ap (with_slot d n) (slot_kept c c' l.owner (DataOf n) e b keep (s.sound.owned.blocks n k) ∙ sym (s.describes.slots n k))
     ∙ (λ i. record d { slots = set-get_or d.slots n None i }) in
     record {
-      stands = subst (λ (x : Disk). Stands tracks c' (with_file l n b l.owner) x) same
+      stands = subst (λ (x : Disk). HasLayout tracks c' (with_file l n b l.owner) x) same
           (stands_inside tracks c c' l d n t new b l.owner s k (inr owned) g.written lies (extends_itself l n s.sound.owned) (s.sound.owned.blocks n k) (s.sound.owned.sides n k) s.sound.free);
       listed = subst (λ (ys : List Place). IsListed c' b.sides ys) (sym g.blocks) listed;
     }

@@ -17,7 +17,7 @@ use Rattle.cbm_relfile.specs.Relisting.{IsSideRefused, AreListed, AreInForm, Are
 use Rattle.cbm_relfile.specs.SideSectors.{Numbered}
 use Rattle.cbm_relfile.proofs.Relisted.{nth, numbered_nth}
 use Rattle.cbm_volume.specs.Blocks.{Lies, slot_of}
-use Rattle.cbm_volume.specs.Layouts.{Owner, TheMap, Directory, DataOf, SideOf, OwnedBy, IsWritable, Layout, slot_count, Sound, Describes}
+use Rattle.cbm_volume.specs.Layouts.{Owner, TheMap, Directory, DataOf, SideOf, OwnedBy, IsCellWritable, Layout, slot_count, Sound, Describes}
 use Rattle.cbm_volume.specs.Writers.{Use}
 use Rattle.cbm_volume.specs.RecordWrites.{HasRecordsOpen}
 use Rattle.cbm_volume.specs.Growing.{IsListed, LeavesAside}
@@ -59,7 +59,7 @@ number_of tracks c width n i [] h l = absurd (omega (arith, l))
 number_of tracks c width n zero (s ∷ ss) h l = omega (arith, h.2)
 number_of tracks c width n (suc i) (s ∷ ss) h l = omega (arith, number_of tracks c width (n + 1) i ss h.4 (omega (arith, l)))
 
-writable_cell : (x : Cell) → IsOk x → IsWritable x
+writable_cell : (x : Cell) → IsOk x → IsCellWritable x
 writable_cell (Ok bytes) h = tt
 writable_cell (Err code) h = absurd (cc)
 
@@ -81,7 +81,7 @@ listed_of c (s ∷ ss) xs h l = (
 -- what is known of a content in which only the side sectors of a slot's file are others
 record SidesOnly (tracks : ℕ) (c c' : Content) (l : Layout) (n : ℕ) : Type 0 where
   keeps : (x : Owner) → x ≢ SideOf n → Keeps c c' l.owner x
-  writable : (q : Place) → Has tracks q → IsWritable (c' q)
+  writable : (q : Place) → Has tracks q → IsCellWritable (c' q)
   lies : Lies tracks c' (entry_at c l.directory n) (l.files n)
 
 sound_sides : (tracks : ℕ) (c c' : Content) (l : Layout) (n : ℕ) → Sound tracks c l → SidesOnly tracks c c' l n → Sound tracks c' l
@@ -175,8 +175,8 @@ module _ (old new : Seen) (d : Disk) (uses : ℕ → Use) (n w b s : ℕ) (rs : 
     });
   }
     where
-      by_place : (q : Place) → Has geometry q → IsApart q ss ⊎ ((i : ℕ) × (i < length ss) × (nth ss i ≡ q)) → IsWritable (new.content q)
-      by_place q h (inl a) = subst (λ (x : Cell). IsWritable x) (sym (r.others q a)) (sound.writable q h)
+      by_place : (q : Place) → Has geometry q → IsApart q ss ⊎ ((i : ℕ) × (i < length ss) × (nth ss i ≡ q)) → IsCellWritable (new.content q)
+      by_place q h (inl a) = subst (λ (x : Cell). IsCellWritable x) (sym (r.others q a)) (sound.writable q h)
       by_place q h (inr (i, k, e)) = writable_cell (new.content q) (subst (λ (p : Place). IsOk (new.content p)) e (numbered_nth geometry new.content w 0 i ss r.laid.numbered k).1)
 
   pub same_disk : IsRelisted geometry old.content new.content file_is xs ss → IsSameDisk old.tracks old.content new.content l d uses n

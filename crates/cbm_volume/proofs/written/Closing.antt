@@ -11,15 +11,15 @@ use Rattle.cbm_file.specs.declared.file_type.FileType.TheVariants.{Rel}
 use Rattle.cbm_file.specs.Types.{is_same_type}
 use Rattle.cbm_file.specs.Files.{Bytes, File, Disk, file_at, with_slot}
 use Rattle.cbm_chain.specs.Data.{chain_bytes}
-use Rattle.cbm_chain.specs.Writing.{State, Part, last_of, Wrote, Ends}
-use Rattle.cbm_directory.specs.Entries.{IsClosedAs, Enters, type_byte, is_closed, is_relative, kind_of, bit_of, name_in, entry_at, sector_of}
+use Rattle.cbm_chain.specs.Writing.{State, Part, last_of, Wrote, EndsChain}
+use Rattle.cbm_directory.specs.Entries.{IsClosedAs, Enters, type_byte, is_closed, is_relative, type_of_number, bit_of, name_in, entry_at, sector_of}
 use Rattle.cbm_volume.specs.Blocks.{Blocks, file_of, body_as, slot_of, slot_with}
-use Rattle.cbm_volume.specs.Layouts.{Owner, Directory, DataOf, Writer, is_loose, OwnedBy, Layout, Stands}
+use Rattle.cbm_volume.specs.Layouts.{Owner, Directory, DataOf, Writer, is_loose, OwnedBy, Layout, HasLayout}
 use Rattle.cbm_volume.proofs.layouts.Steps.{stands_loose}
 use Rattle.cbm_volume.proofs.written.Finishes.{stands_finish, own_all, own_all_keeps, last_owned}
 use Rattle.cbm_chain.proofs.Ending.{EndsAt, ends_at}
 use Rattle.cbm_file.specs.Changes.{finished}
-use Rattle.cbm_volume.specs.Writers.{Filling, Use, Idle, Writes, IsWriting, has_slot, writes_slot, IsAlone, HoldsAt, with_use}
+use Rattle.cbm_volume.specs.Writers.{Filling, Use, Idle, Writes, IsWriting, uses_slot, writes_slot, IsAlone, HoldsAt, with_use}
 use Rattle.cbm_volume.proofs.layouts.OneSlot.{with_file}
 use Rattle.cbm_volume.proofs.layouts.Frames.{Keeps}
 use Rattle.cbm_volume.proofs.layouts.Loose.{sector_owned}
@@ -36,7 +36,7 @@ some_file bytes e b f h = by_test (type_byte e == 0) refl h
 
 pub plain_entry : (bytes e : List ℕ) (b : Blocks) → type_byte e % 16 < 5 → is_same_type Rel (file_of bytes e b).kind ≡ false → (type_byte e % 16 == 4) ≡ false
 unfolding file_of
-plain_entry bytes e b l h = ne_eqb (type_byte e % 16) 4 (λ z. (let y : is_same_type Rel (kind_of (type_byte e % 16)) ≡ true = ap (λ (n : ℕ). is_same_type Rel (kind_of n)) z in let x = sym y ∙ h in (cc)))
+plain_entry bytes e b l h = ne_eqb (type_byte e % 16) 4 (λ z. (let y : is_same_type Rel (type_of_number (type_byte e % 16)) ≡ true = ap (λ (n : ℕ). is_same_type Rel (type_of_number n)) z in let x = sym y ∙ h in (cc)))
 
 pub closed_file : (old new bytes bytes' : List ℕ) (first : Place) (blocks : ℕ) (b b' : Blocks) (f : File) → IsClosedAs old new first blocks → slot_with bytes old b ≡ Some f → is_same_type Rel f.kind ≡ false → type_byte old % 16 < 5
     → length b'.data_blocks + length b'.sides ≡ blocks → slot_with bytes' new b' ≡ Some (finished f bytes' blocks)
@@ -45,7 +45,7 @@ closed_file old new bytes bytes' first blocks b b' f h s plain kind held =
     let was = some_file bytes old b f s in
     let some : (type_byte new == 0) ≡ false = ne_eqb (type_byte new) 0 (λ z. (omega (arith, h.type, z))) in
     let low : type_byte new % 16 ≡ type_byte old % 16 = omega (arith, h.type) in
-    let k : kind_of (type_byte new % 16) ≡ f.kind = ap kind_of low ∙ ap (λ (x : File). x.kind) was.1 in
+    let k : type_of_number (type_byte new % 16) ≡ f.kind = ap type_of_number low ∙ ap (λ (x : File). x.kind) was.1 in
     let seven : (type_byte old % 128 + 128) / 128 % 2 ≡ 1 = omega arith in
     let six : (type_byte old % 128 + 128) / 64 % 2 ≡ type_byte old / 64 % 2 = omega arith in
     let c : is_closed new ≡ true = ap (λ (n : ℕ). bit_of n 7) h.type ∙ ap (λ (n : ℕ). n == 1) seven in
@@ -60,14 +60,14 @@ closed_file old new bytes bytes' first blocks b b' f h s plain kind held =
 
 -- what stands when the last block is written: a whole chain of the bytes, which is the channel's
 pub record IsEnded (tracks : ℕ) (c : Content) (l : Layout) (d : Disk) (ch : ℕ) (b : Place) (rest : List Place) (bytes : List ℕ) : Type 0 where
-  pub stands : Stands tracks c l d
+  pub stands : HasLayout tracks c l d
   pub part : Part tracks c (b ∷ rest)
   pub reads : IsOk (c (last_of b rest))
   pub ends : (link (bytes_at c (last_of b rest))).track ≡ 0
   pub bytes_are : chain_bytes c (b ∷ rest) ≡ bytes
 
-pub ended : (tracks : ℕ) (c c' : Content) (l : Layout) (d : Disk) (ch : ℕ) (s : State) (b : Place) (rest : List Place) (bytes : List ℕ) → Stands tracks c l d → OwnedBy l.owner (Writer ch) (b ∷ rest) → Wrote c s (b ∷ rest) bytes → s.tracks ≡ tracks
-    → Ends c c' s.current s.waiting → IsEnded tracks c' l d ch b rest bytes
+pub ended : (tracks : ℕ) (c c' : Content) (l : Layout) (d : Disk) (ch : ℕ) (s : State) (b : Place) (rest : List Place) (bytes : List ℕ) → HasLayout tracks c l d → OwnedBy l.owner (Writer ch) (b ∷ rest) → Wrote c s (b ∷ rest) bytes → s.tracks ≡ tracks
+    → EndsChain c c' s.current s.waiting → IsEnded tracks c' l d ch b rest bytes
 ended tracks c c' l d ch s b rest bytes st held h same e =
     let k : EndsAt tracks c c' b rest bytes = subst (λ (n : ℕ). EndsAt n c c' b rest bytes) same (ends_at c c' s b rest bytes h e) in
     record {
@@ -88,8 +88,8 @@ pub other_slot : (d : Disk) (n m : ℕ) (f : Option File) → (m == n) ≡ false
 other_slot d n m f h = get_or-set_other d.slots n m f None (λ e. (let z = sym (eq-eqb m n e) ∙ h in (cc)))
 
 -- another channel has other slots
-pub others_spared : (uses : ℕ → Use) (ch n : ℕ) (w : Filling) (bytes : List ℕ) (blocks : ℕ) → IsAlone uses → uses ch ≡ Writes w bytes blocks → w.slot ≡ n → (m i : ℕ) → m ≢ ch → has_slot i (uses m) ≡ true → (i == n) ≡ false
-others_spared uses ch n w bytes blocks alone e same m i ne h = ne_eqb i n (λ k. ne (sym (alone ch m n (ap (writes_slot n) e ∙ eq-eqb w.slot n same) (ap (λ (j : ℕ). has_slot j (uses m)) (sym k) ∙ h))))
+pub others_spared : (uses : ℕ → Use) (ch n : ℕ) (w : Filling) (bytes : List ℕ) (blocks : ℕ) → IsAlone uses → uses ch ≡ Writes w bytes blocks → w.slot ≡ n → (m i : ℕ) → m ≢ ch → uses_slot i (uses m) ≡ true → (i == n) ≡ false
+others_spared uses ch n w bytes blocks alone e same m i ne h = ne_eqb i n (λ k. ne (sym (alone ch m n (ap (writes_slot n) e ∙ eq-eqb w.slot n same) (ap (λ (j : ℕ). uses_slot j (uses m)) (sym k) ∙ h))))
 
 -- THE FILE IS CLOSED over the blocks of its channel, which is idle then
 pub closed_over : (tracks : ℕ) (c c1 c2 : Content) (l : Layout) (d : Disk) (uses : ℕ → Use) (ch : ℕ) (w : Filling) (bytes : List ℕ) (blocks : ℕ) (b : Place) (rest : List Place) (p : Place) (sector body : List ℕ) → HoldsAt tracks c l d uses → uses ch ≡ Writes w bytes blocks
@@ -109,12 +109,12 @@ closed_over tracks c c1 c2 l d uses ch w bytes blocks b rest p sector body h e w
     let closed : is_closed body ≡ true = ap (λ (n : ℕ). bit_of n 7) says.type ∙ ap (λ (n : ℕ). n == 1) (let seven : (type_byte entry % 128 + 128) / 128 % 2 ≡ 1 = omega arith in seven) in
     let plain : is_relative body ≡ false = ap (λ (n : ℕ). n == 4) low
     ∙ (let f = some_file (chain_bytes c (l.files n).data_blocks) entry (l.files n) was.file (sym (h.stands.describes.slots n was.there) ∙ was.in_slot) in plain_entry (chain_bytes c (l.files n).data_blocks) entry (l.files n) kind (ap (λ (x : File). is_same_type Rel x.kind) f.1 ∙ was.plain)) in
-    let stands : Stands tracks c2 (with_file l n blocks_new owner) (with_slot d n (slot_of c1 body blocks_new)) =
+    let stands : HasLayout tracks c2 (with_file l n blocks_new owner) (with_slot d n (slot_of c1 body blocks_new)) =
     stands_finish tracks c1 c2 l d n ch (sector_of l.directory n) b rest body e1.stands was.there refl held e1.part e1.reads e1.ends enters (omega (arith, low, kind)) closed plain (λ i. record { track = says.track i; sector = says.sector i }) in
     let keeps : (o : Owner) → Writer ch ≢ o → Directory ≢ o → Keeps c c2 l.owner o = λ o a z. keeps_then c c1 c2 l.owner o (written_keeps c c1 p sector l.owner o first_write (λ y. a (sym mine ∙ y)))
     (written_keeps c1 c2 (sector_of l.directory n) enters.sector l.owner o enters.written (λ y. z (sym (sector_owned l h.stands.sound.owned n was.there) ∙ y))) in
     holds_step tracks c c2 l (with_file l n blocks_new owner) d (with_slot d n (Some (finished was.file bytes blocks))) uses ch Idle (is_ch ch) (λ m. m == n) h
-    (subst (λ (x : Option File). Stands tracks c2 (with_file l n blocks_new owner) (with_slot d n x)) file stands)
+    (subst (λ (x : Option File). HasLayout tracks c2 (with_file l n blocks_new owner) (with_slot d n x)) file stands)
     (record {
       writers = λ x out. keeps (Writer x) (λ z. (let g : x ≡ ch = cc in let t = sym (eq-eqb x ch g) ∙ out in (cc))) (λ z. (cc));
       writers_own = λ x q out z. own_all_keeps l.owner (Writer ch) (DataOf n) (Writer x) (b ∷ rest) q held (λ y. (let g : x ≡ ch = cc in let t = sym (eq-eqb x ch g) ∙ out in (cc))) z;

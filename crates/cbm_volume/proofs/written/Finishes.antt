@@ -6,7 +6,7 @@ use Rattle.cbm_medium.specs.Links.{bytes_at, link, Chain}
 use Rattle.cbm_file.specs.Files.{Disk, with_slot}
 use Rattle.cbm_directory.specs.Entries.{type_byte, first_block, is_closed, is_relative, sector_of, Enters}
 use Rattle.cbm_volume.specs.Blocks.{Blocks, no_blocks, Lies, LiesAs, slot_of}
-use Rattle.cbm_volume.specs.Layouts.{Owner, Nobody, DataOf, SideOf, Writer, is_loose, OwnedBy, Layout, IsOwned, slot_count, Stands, Extends, own}
+use Rattle.cbm_volume.specs.Layouts.{Owner, Nobody, DataOf, SideOf, Writer, is_loose, OwnedBy, Layout, IsOwned, slot_count, HasLayout, Extends, own}
 use Rattle.cbm_chain.specs.Writing.{Part, last_of}
 use Rattle.cbm_chain.proofs.Parts.{part_chain}
 use Rattle.cbm_medium.proofs.Places.{place_decide}
@@ -59,10 +59,10 @@ extends_all l ch n xs w h off = record {
 }
 
 -- THE ENTRY IS CLOSED over the blocks of a writer, however many
-pub stands_finish : (tracks : ℕ) (c c' : Content) (l : Layout) (d : Disk) (n ch : ℕ) (s first : Place) (more : List Place) (body : List ℕ) → Stands tracks c l d → n < slot_count l → s ≡ sector_of l.directory n
+pub stands_finish : (tracks : ℕ) (c c' : Content) (l : Layout) (d : Disk) (n ch : ℕ) (s first : Place) (more : List Place) (body : List ℕ) → HasLayout tracks c l d → n < slot_count l → s ≡ sector_of l.directory n
     → OwnedBy l.owner (Writer ch) (first ∷ more) → Part tracks c (first ∷ more) → IsOk (c (last_of first more)) → (link (bytes_at c (last_of first more))).track ≡ 0
     → Enters c c' s (n % 8) body → type_byte body % 16 < 5 → is_closed body ≡ true → is_relative body ≡ false → first_block body ≡ first
-    → Stands tracks c' (with_file l n (record { data_blocks = first ∷ more; sides = [] }) (own_all l.owner (first ∷ more) (DataOf n)))
+    → HasLayout tracks c' (with_file l n (record { data_blocks = first ∷ more; sides = [] }) (own_all l.owner (first ∷ more) (DataOf n)))
     (with_slot d n (slot_of c body (record { data_blocks = first ∷ more; sides = [] })))
 stands_finish tracks c c' l d n ch s first more body st k at w part ok z e t cl rel fb =
     let entry : List ℕ = body in
@@ -85,9 +85,9 @@ extends_back l ch n xs w h = record {
   ];
 }
 
-pub stands_reopen : (tracks : ℕ) (c c' : Content) (l : Layout) (d : Disk) (n ch : ℕ) (s : Place) (body : List ℕ) → Stands tracks c l d → n < slot_count l → s ≡ sector_of l.directory n
+pub stands_reopen : (tracks : ℕ) (c c' : Content) (l : Layout) (d : Disk) (n ch : ℕ) (s : Place) (body : List ℕ) → HasLayout tracks c l d → n < slot_count l → s ≡ sector_of l.directory n
     → Enters c c' s (n % 8) body → type_byte body % 16 < 5 → is_closed body ≡ false
-    → Stands tracks c' (with_file l n no_blocks (own_all l.owner (l.files n).data_blocks (Writer ch))) (with_slot d n (slot_of c body no_blocks))
+    → HasLayout tracks c' (with_file l n no_blocks (own_all l.owner (l.files n).data_blocks (Writer ch))) (with_slot d n (slot_of c body no_blocks))
 stands_reopen tracks c c' l d n ch s body st k at e t cl =
     let xs : List Place = (l.files n).data_blocks in
     stands_entry tracks c c' l d n s body no_blocks (own_all l.owner xs (Writer ch)) st k at e t

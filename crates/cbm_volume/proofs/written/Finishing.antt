@@ -9,7 +9,7 @@ use Rattle.cbm_medium.specs.declared.fault.Trouble.{Trouble}
 use Rattle.cbm_file.specs.Files.{File, Disk, with_slot}
 use Rattle.cbm_bam.specs.Map.{is_free_in, map_of, number, summed, geometry_of}
 use Rattle.cbm_bam.proofs.Counts.{blocks_on_35, blocks_on_40}
-use Rattle.cbm_chain.specs.Writing.{Part, end_of, last_of, place_or_none, Wrote, Ends}
+use Rattle.cbm_chain.specs.Writing.{Part, last_block_of, last_of, place_or_none, Wrote, EndsChain}
 use Rattle.cbm_directory.specs.Entries.{IsClosedAs, Enters, first_directory, entry_at, sector_of}
 use Rattle.cbm_directory.specs.Slots.{Answers, directory_of}
 use Rattle.cbm_medium.proofs.Places.{written_elsewhere}
@@ -23,7 +23,7 @@ use Rattle.cbm_volume.proofs.layouts.OneSlot.{with_file}
 use Rattle.cbm_volume.proofs.layouts.Frames.{Keeps}
 use Rattle.cbm_volume.proofs.layouts.Loose.{sector_owned}
 use Rattle.cbm_volume.proofs.layouts.Steps.{stands_entry, extends_itself}
-use Rattle.cbm_volume.specs.Layouts.{Owner, Directory, Writer, DataOf, is_loose, OwnedBy, Layout, Sound, Stands}
+use Rattle.cbm_volume.specs.Layouts.{Owner, Directory, Writer, DataOf, is_loose, OwnedBy, Layout, Sound, HasLayout}
 use Rattle.cbm_volume.proofs.layouts.Steps.{stands_loose}
 use Rattle.cbm_volume.proofs.layouts.Writers.{holds_step, idle_like, written_keeps}
 use Rattle.cbm_volume.proofs.written.Closing.{is_ch, other_slot, others_spared, some_file, plain_entry, closed_file, ended, IsEnded, closed_over}
@@ -95,17 +95,17 @@ pub record IsLast (medium : ℕ) (c c' : Content) (l : Layout) (d : Disk) (uses 
   pub same : geometry_of medium c' ≡ geometry_of medium c
 
 pub last_written : (medium : ℕ) (c c' : Content) (l : Layout) (d : Disk) (uses : ℕ → Use) (ch : ℕ) (w : Filling) (bytes : List ℕ) (blocks : ℕ) → HoldsAt (geometry_of medium c) c l d uses → IsWriting (geometry_of medium c) c l d ch w bytes blocks
-    → Ends c c' w.chain.current w.chain.waiting → IsLast medium c c' l d uses ch
+    → EndsChain c c' w.chain.current w.chain.waiting → IsLast medium c c' l d uses ch
 last_written medium c c' l d uses ch w bytes blocks h was ends = by_current w.chain.current refl ends
   where
     tracks : ℕ
     tracks = geometry_of medium c
 
-    by_places : (places : List Place) (p : Place) → OwnedBy l.owner (Writer ch) places → Some p ≡ end_of places → l.owner p ≡ Writer ch
+    by_places : (places : List Place) (p : Place) → OwnedBy l.owner (Writer ch) places → Some p ≡ last_block_of places → l.owner p ≡ Writer ch
     by_places [] p held z = absurd (cc)
     by_places (b ∷ rest) p held z = (let at : p ≡ last_of b rest = cc in ap l.owner at ∙ last_owned l.owner (Writer ch) b rest held)
 
-    by_current : (x : Option Place) → w.chain.current ≡ x → Ends c c' x w.chain.waiting → IsLast medium c c' l d uses ch
+    by_current : (x : Option Place) → w.chain.current ≡ x → EndsChain c c' x w.chain.waiting → IsLast medium c c' l d uses ch
     by_current None z e = record { holds = subst (λ (y : Content). HoldsAt tracks y l d (with_use uses ch Idle)) (sym e) (let_go tracks c l d uses ch h); same = ap (geometry_of medium) e }
     by_current (Some p) z e =
         let mine : l.owner p ≡ Writer ch = by_places was.places p was.owned (sym z ∙ was.wrote.current) in
@@ -124,7 +124,7 @@ last_written medium c c' l d uses ch w bytes blocks h was ends = by_current w.ch
           same = geometry_elsewhere medium c c' (ap (λ (x : Content). x directory_head) new ∙ written_elsewhere c p directory_head e.0 (λ k. off (ap (λ (y : Place). y.track) k)));
         }
 
-pub entry_refused : (medium : ℕ) (c c1 c' : Content) (w : Filling) (r : Result (Unit {0}) Trouble) → Ends c c1 w.chain.current w.chain.waiting → OnErr r (c' ≡ c1) → Stops medium c c' w r
+pub entry_refused : (medium : ℕ) (c c1 c' : Content) (w : Filling) (r : Result (Unit {0}) Trouble) → EndsChain c c1 w.chain.current w.chain.waiting → OnErr r (c' ≡ c1) → Stops medium c c' w r
 entry_refused medium c c1 c' w (Ok x) ends same = λ d uses ch bytes blocks h e. tt
 entry_refused medium c c1 c' w (Err t) ends same = λ d uses ch bytes blocks h e.
     let was : IsWriting (geometry_of medium c) c h.layout d ch w bytes blocks = subst (λ (x : Use). IsUsed (geometry_of medium c) c h.layout d ch x) e (h.so.each ch) in
@@ -154,11 +154,11 @@ closed_empty tracks c c2 l d uses ch w bytes blocks body h e was none nought ent
     let plain : is_relative body ≡ false = ap (λ (n : ℕ). n == 4) low
     ∙ (let f = some_file (chain_bytes c (l.files n).data_blocks) entry (l.files n) was.file in_slot in plain_entry (chain_bytes c (l.files n).data_blocks) entry (l.files n) kind (ap (λ (x : File). is_same_type Rel x.kind) f.1 ∙ was.plain)) in
     let lies : Lies tracks c body no_blocks = subst (λ (x : Bool). LiesAs x (is_relative body) tracks c body no_blocks) (sym closed) (subst (λ (x : Bool). LiesAs true x tracks c body no_blocks) (sym plain) (says.track, refl)) in
-    let stands : Stands tracks c2 (with_file l n no_blocks l.owner) (with_slot d n (slot_of c body no_blocks)) =
+    let stands : HasLayout tracks c2 (with_file l n no_blocks l.owner) (with_slot d n (slot_of c body no_blocks)) =
     stands_entry tracks c c2 l d n (sector_of l.directory n) body no_blocks l.owner h.stands was.there refl enters (omega (arith, low, kind)) lies (extends_itself l n h.stands.sound.owned) tt tt h.stands.sound.free in
     let keeps : (o : Owner) → Directory ≢ o → Keeps c c2 l.owner o = λ o z. written_keeps c c2 (sector_of l.directory n) enters.sector l.owner o enters.written (λ y. z (sym (sector_owned l h.stands.sound.owned n was.there) ∙ y)) in
     holds_step tracks c c2 l (with_file l n no_blocks l.owner) d (with_slot d n (Some (finished was.file bytes blocks))) uses ch Idle (λ x. false) (λ m. m == n) h
-    (subst (λ (x : Option File). Stands tracks c2 (with_file l n no_blocks l.owner) (with_slot d n x)) file stands)
+    (subst (λ (x : Option File). HasLayout tracks c2 (with_file l n no_blocks l.owner) (with_slot d n x)) file stands)
     (record {
       writers = λ x out. keeps (Writer x) (λ z. (cc));
       writers_own = λ x q out z. z;
@@ -169,7 +169,7 @@ closed_empty tracks c c2 l d uses ch w bytes blocks body h e was none nought ent
     }) (λ m ne. refl) (others_spared uses ch n w bytes blocks h.alone e refl) (idle_like (uses ch)) tt
 
 -- THE FILE IS CLOSED, of whatever blocks
-pub all_closed : (medium : ℕ) (c c1 c2 : Content) (w : Filling) (r : Result (Unit {0}) Trouble) (entry body : List ℕ) → Answers (directory_of (geometry_of medium c) c) w.slot (Ok (Some entry)) → Ends c c1 w.chain.current w.chain.waiting
+pub all_closed : (medium : ℕ) (c c1 c2 : Content) (w : Filling) (r : Result (Unit {0}) Trouble) (entry body : List ℕ) → Answers (directory_of (geometry_of medium c) c) w.slot (Ok (Some entry)) → EndsChain c c1 w.chain.current w.chain.waiting
     → IsClosedAs entry body (place_or_none w.chain.first) w.chain.count
     → ((directory : List Place) → Chain (geometry_of medium c) c1 first_directory directory → w.slot < 8 * length directory → OnOk r (Enters c1 c2 (sector_of directory w.slot) (w.slot % 8) body))
     → Finishes medium c c2 w r
@@ -199,7 +199,7 @@ all_closed medium c c1 c2 w (Ok x) entry body found ends says put = λ d uses ch
             → Enters c1 c2 (sector_of h.layout.directory w.slot) (w.slot % 8) body → IsClosedAs (entry_at c h.layout.directory w.slot) body (place_or_none w.chain.first) blocks
             → Holds (geometry_of medium c) c2 (with_slot d w.slot (Some (finished was.file bytes blocks))) (with_use uses ch Idle)
         by_places [] held wrote number was enters says =
-            let same : c1 ≡ c = subst (λ (x : Option Place). Ends c c1 x w.chain.waiting) wrote.current ends in
+            let same : c1 ≡ c = subst (λ (x : Option Place). EndsChain c c1 x w.chain.waiting) wrote.current ends in
             record {
               layout = _;
               so = closed_empty (geometry_of medium c) c c2 h.layout d uses ch w bytes blocks body h.so e was (wrote.all ∙ wrote.none wrote.current) number
@@ -208,7 +208,7 @@ all_closed medium c c1 c2 w (Ok x) entry body found ends says put = λ d uses ch
             }
         by_places (b ∷ rest) held wrote number was enters says =
             let e1 : IsEnded (geometry_of medium c) c1 h.layout d ch b rest bytes = ended (geometry_of medium c) c c1 h.layout d ch w.chain b rest bytes h.so.stands held wrote was.same_tracks ends in
-            let some : Ends c c1 (Some (last_of b rest)) w.chain.waiting = subst (λ (x : Option Place). Ends c c1 x w.chain.waiting) wrote.current ends in
+            let some : EndsChain c c1 (Some (last_of b rest)) w.chain.waiting = subst (λ (x : Option Place). EndsChain c c1 x w.chain.waiting) wrote.current ends in
             record {
               layout = _;
               so = closed_over (geometry_of medium c) c c1 c2 h.layout d uses ch w bytes blocks b rest (last_of b rest) some.0 body h.so e was held number some.3 (last_owned h.layout.owner (Writer ch) b rest held) e1 enters

@@ -7,7 +7,7 @@ use Rattle.cbm_file.specs.Files.{Disk}
 use Rattle.cbm_bam.specs.Map.{is_free_in, free_in, tally, with_freed, map_of, Remaps}
 use Rattle.cbm_bam.proofs.Counts.{AreTaken, tally_same, free_released}
 use Rattle.cbm_chain.specs.Writing.{Part}
-use Rattle.cbm_volume.specs.Layouts.{Owner, TheMap, Directory, DataOf, SideOf, Writer, is_loose, OwnedBy, Layout, IsOwned, Sound, Describes, Stands}
+use Rattle.cbm_volume.specs.Layouts.{Owner, TheMap, Directory, DataOf, SideOf, Writer, is_loose, OwnedBy, Layout, IsOwned, Sound, Describes, HasLayout}
 use Rattle.cbm_volume.proofs.layouts.Frames.{owned_same}
 use Rattle.cbm_volume.proofs.layouts.Remaps.{with_map, with_counts, with_owner, sound_remap, describes_remap}
 use Rattle.cbm_volume.proofs.layouts.Releases.{disowned, disowned_keeps, disowned_was, freed_nobody, freed_other, owned_taken}
@@ -19,8 +19,8 @@ part_taken tracks c c0 l ch (b ∷ []) s h w = (h.0, h.1, owned_taken tracks c l
 part_taken tracks c c0 l ch (b ∷ b' ∷ rest) s h w = (h.0, h.1, freed_other (is_free_in (map_of c)) b (b' ∷ rest) h.2 ∙ owned_taken tracks c l b s h.0 (λ e. (let z = sym w.0 ∙ e in (cc))), part_taken tracks c c0 l ch (b' ∷ rest) s h.5 w.1)
 
 -- BLOCKS THAT ARE NO PART OF THE DISK ARE GIVEN BACK
-pub stands_given_back : (tracks : ℕ) (c c' : Content) (l : Layout) (d : Disk) (o : Owner) (xs : List Place) → Stands tracks c l d → 18 ≤ tracks → is_loose o ≡ true → OwnedBy l.owner o xs → AreTaken tracks (is_free_in (map_of c)) xs
-    → Remaps tracks c c' (with_freed (is_free_in (map_of c)) xs) → Stands tracks c' (with_owner l (disowned l.owner xs)) (record d { free = d.free + length xs })
+pub stands_given_back : (tracks : ℕ) (c c' : Content) (l : Layout) (d : Disk) (o : Owner) (xs : List Place) → HasLayout tracks c l d → 18 ≤ tracks → is_loose o ≡ true → OwnedBy l.owner o xs → AreTaken tracks (is_free_in (map_of c)) xs
+    → Remaps tracks c c' (with_freed (is_free_in (map_of c)) xs) → HasLayout tracks c' (with_owner l (disowned l.owner xs)) (record d { free = d.free + length xs })
 stands_given_back tracks c c' l d o xs st few loose own_xs t r =
     let owner : Place → Owner = disowned l.owner xs in
     let free : Place → Bool = with_freed (is_free_in (map_of c)) xs in

@@ -12,7 +12,7 @@ use Rattle.cbm_bam.specs.Causes.{HasCause}
 use Rattle.cbm_bam.proofs.Counts.{AreTaken}
 use Rattle.cbm_chain.specs.Writing.{State, Part, Wrote}
 use Rattle.cbm_chain.specs.GivenUp.{IsGivenBack}
-use Rattle.cbm_volume.specs.Layouts.{Owner, TheMap, DataOf, Writer, OwnedBy, Layout, Stands, Untouched}
+use Rattle.cbm_volume.specs.Layouts.{Owner, TheMap, DataOf, Writer, OwnedBy, Layout, HasLayout, Untouched}
 use Rattle.cbm_volume.specs.Writers.{Filling, Use, Idle, Writes, IsWriting, IsUsed, HoldsAt, Holds, HoldsNow, with_use, Stopped}
 use Rattle.cbm_volume.specs.Opens.{IsHindered}
 use Rattle.cbm_volume.proofs.layouts.Frames.{Keeps}
@@ -43,7 +43,7 @@ all_back medium c c' l d uses ch (b ∷ rest) h part held back =
     let d' : Disk = record d { free = d.free + length xs } in
     let r : Remaps tracks c c' free = record { map = back.0; mapped = frees_mapped tracks (map_of c) back.0 xs back.1; written = back.2 } in
     let taken : AreTaken tracks (is_free_in (map_of c)) xs = part_taken tracks c c l ch xs h.stands.sound part held in
-    let stands : Stands tracks c' (with_owner l (disowned l.owner xs)) d' = stands_given_back tracks c c' l d (Writer ch) xs h.stands (few medium c) refl held taken r in
+    let stands : HasLayout tracks c' (with_owner l (disowned l.owner xs)) d' = stands_given_back tracks c c' l d (Writer ch) xs h.stands (few medium c) refl held taken r in
     let keeps : (o : Owner) → TheMap ≢ o → Keeps c c' l.owner o = λ o ne. written_keeps c c' directory_head r.map l.owner o r.written (λ e. ne (sym h.stands.sound.owned.map ∙ e)) in
     let so : HoldsAt tracks c' (with_owner l (disowned l.owner xs)) d' (with_use uses ch Idle) =
     holds_step tracks c c' l (with_owner l (disowned l.owner xs)) d d' uses ch Idle (is_ch ch) (λ n. false) h stands

@@ -10,11 +10,11 @@ use Rattle.cbm_medium.proofs.Places.{place_decide}
 use Rattle.cbm_file.specs.Files.{Disk, file_at}
 use Rattle.cbm_bam.specs.Map.{Claims}
 use Rattle.cbm_chain.specs.Data.{data_of}
-use Rattle.cbm_chain.specs.Writing.{State, Part, part_bytes, end_of, last_of, Wrote, Fills, with_byte, begun_at, gone_on, has_no_byte}
+use Rattle.cbm_chain.specs.Writing.{State, Part, part_bytes, last_block_of, last_of, Wrote, Fills, with_byte, begun_at, gone_on, has_no_byte}
 use Rattle.cbm_chain.proofs.Putting.{wrote_more, wrote_first, wrote_on}
 use Rattle.cbm_relfile.specs.Records.{AllWhole}
 use Rattle.cbm_relfile.proofs.Positions.{whole_bytes}
-use Rattle.cbm_volume.specs.Layouts.{Owner, TheMap, DataOf, Writer, Nobody, is_loose, OwnedBy, Layout, slot_count, Stands, own}
+use Rattle.cbm_volume.specs.Layouts.{Owner, TheMap, DataOf, Writer, Nobody, is_loose, OwnedBy, Layout, slot_count, HasLayout, own}
 use Rattle.cbm_volume.specs.Writers.{Filling, Use, Writes, IsWriting, IsUsed, HoldsAt, with_use, needs_block}
 use Rattle.cbm_volume.proofs.layouts.Frames.{Keeps}
 use Rattle.cbm_volume.proofs.layouts.Remaps.{with_owner}
@@ -102,7 +102,7 @@ put_stays tracks c l d uses ch w bytes blocks byte h e some room =
 -- ---- a block is claimed
 
 -- a claimed block goes to the channel: no other notices
-pub spares_owned : (tracks : ℕ) (c c' : Content) (l : Layout) (d : Disk) (q : Place) (ch : ℕ) → Stands tracks c l d → Claims tracks c c' q → l.owner q ≡ Nobody
+pub spares_owned : (tracks : ℕ) (c c' : Content) (l : Layout) (d : Disk) (q : Place) (ch : ℕ) → HasLayout tracks c l d → Claims tracks c c' q → l.owner q ≡ Nobody
     → Spares c c' l (with_owner l (own l.owner q (Writer ch))) d (one_less d) (λ x. false) (λ n. false)
 spares_owned tracks c c' l d q ch st k nobody =
     let apart : (o : Owner) → TheMap ≢ o → l.owner directory_head ≢ o = λ o ne e. ne (sym st.sound.owned.map ∙ e) in
@@ -134,7 +134,7 @@ put_begun tracks c c' l d uses ch w bytes blocks byte q few h e none k =
     (wrote_first tracks c' q bytes byte k.has k.off_18 empty)
     refl refl (omega arith) refl (λ z. omega arith))
   where
-    no_bytes : (c : Content) (places : List Place) → None ≡ end_of places → part_bytes c places ++ [] ≡ []
+    no_bytes : (c : Content) (places : List Place) → None ≡ last_block_of places → part_bytes c places ++ [] ≡ []
     no_bytes c [] z = refl
     no_bytes c (b ∷ rest) z = absurd (cc)
 
@@ -163,7 +163,7 @@ put_filled tracks c c' l d uses ch w bytes blocks byte p q few h e some f =
         let l' : Layout = with_owner l (own l.owner q (Writer ch)) in
         let at : p ≡ last_of b rest = (let z = sym some ∙ wrote.current in (cc)) in
         let claimed : Claimed tracks c f.middle l d q = stands_claim tracks c f.middle l d q h.stands few f.claims in
-        let owned : Stands tracks f.middle l' (one_less d) = stands_owned tracks f.middle l (one_less d) q ch claimed.stands claimed.taken in
+        let owned : HasLayout tracks f.middle l' (one_less d) = stands_owned tracks f.middle l (one_less d) q ch claimed.stands claimed.taken in
         let mine : l.owner p ≡ Writer ch = ap l.owner at ∙ last_owned l.owner (Writer ch) b rest held in
         let loose : is_loose (l'.owner p) ≡ true = ap is_loose (own_elsewhere l.owner q p (Writer ch) (λ z. (let y = sym claimed.taken.nobody ∙ ap l.owner z ∙ mine in (cc))) ∙ mine) in
         let before : Spares c f.middle l l' d (one_less d) (λ x. false) (λ n. false) = spares_owned tracks c f.middle l d q ch h.stands f.claims claimed.taken.nobody in

@@ -13,9 +13,9 @@ use Rattle.cbm_bam.proofs.Counts.{AreTaken}
 use Rattle.cbm_chain.specs.Data.{chain_bytes}
 use Rattle.cbm_directory.specs.Entries.{IsClosedAs, Enters, type_byte, is_closed, is_relative, first_block, bit_of, entry_at, sector_of}
 use Rattle.cbm_volume.specs.Blocks.{Blocks, Lies, LiesAs, slot_of, slot_with}
-use Rattle.cbm_volume.specs.Layouts.{Owner, Nobody, TheMap, Directory, DataOf, SideOf, Writer, is_loose, OwnedBy, Layout, IsOwned, Stands, Extends}
+use Rattle.cbm_volume.specs.Layouts.{Owner, Nobody, TheMap, Directory, DataOf, SideOf, Writer, is_loose, OwnedBy, Layout, IsOwned, HasLayout, Extends}
 use Rattle.cbm_file.specs.Changes.{finished}
-use Rattle.cbm_volume.specs.Writers.{Filling, Use, Idle, Writes, IsWriting, has_slot, HoldsAt, with_use}
+use Rattle.cbm_volume.specs.Writers.{Filling, Use, Idle, Writes, IsWriting, uses_slot, HoldsAt, with_use}
 use Rattle.cbm_volume.proofs.layouts.Frames.{Keeps, owned_same}
 use Rattle.cbm_volume.proofs.layouts.Loose.{sector_owned}
 use Rattle.cbm_volume.proofs.layouts.OneSlot.{with_file}
@@ -30,8 +30,8 @@ use Rattle.cbm_volume.proofs.written.GivenBack.{stands_given_back}
 
 -- ---- a step that no channel notices
 
-pub holds_all : (tracks : ℕ) (c c' : Content) (l l' : Layout) (d d' : Disk) (uses : ℕ → Use) (changes : ℕ → Bool) → HoldsAt tracks c l d uses → Stands tracks c' l' d' → Spares c c' l l' d d' (λ x. false) changes
-    → ((m n : ℕ) → has_slot n (uses m) ≡ true → changes n ≡ false) → HoldsAt tracks c' l' d' uses
+pub holds_all : (tracks : ℕ) (c c' : Content) (l l' : Layout) (d d' : Disk) (uses : ℕ → Use) (changes : ℕ → Bool) → HoldsAt tracks c l d uses → HasLayout tracks c' l' d' → Spares c c' l l' d d' (λ x. false) changes
+    → ((m n : ℕ) → uses_slot n (uses m) ≡ true → changes n ≡ false) → HoldsAt tracks c' l' d' uses
 holds_all tracks c c' l l' d d' uses changes h st s spared =
     record { stands = st; each = λ m. used_kept tracks c c' l l' d d' (λ x. false) changes m (uses m) s refl (spared m) (h.each m); alone = h.alone }
 
@@ -101,14 +101,14 @@ replaced_over tracks c c1 c2 l d uses ch w bytes blocks b rest p sector body h e
     let chain : Chain tracks c1 (first_block body) (b ∷ rest) = subst (λ (x : Place). Chain tracks c1 x (b ∷ rest)) (sym first) (part_chain tracks c1 b rest e1.part e1.reads e1.ends) in
     let lies : Lies tracks c1 body blocks_new = subst (λ (x : Bool). LiesAs x (is_relative body) tracks c1 body blocks_new) (sym closed) (subst (λ (x : Bool). LiesAs true x tracks c1 body blocks_new) (sym plain) (chain, refl)) in
     let held0 : OwnedBy (own_all l.owner old Nobody) (Writer ch) (b ∷ rest) = owned_same l.owner (own_all l.owner old Nobody) (Writer ch) (b ∷ rest) (λ q k. own_all_keeps l.owner (DataOf n) Nobody (Writer ch) old q held_old (λ z. (cc)) k) held in
-    let stands : Stands tracks c2 (with_file l n blocks_new owner) (with_slot d n (slot_of c1 body blocks_new)) =
+    let stands : HasLayout tracks c2 (with_file l n blocks_new owner) (with_slot d n (slot_of c1 body blocks_new)) =
     stands_entry tracks c1 c2 l d n (sector_of l.directory n) body blocks_new owner e1.stands was.there refl enters (omega (arith, low, kind)) lies
     (extends_replaced l ch n old (b ∷ rest) h.stands.sound.owned held_old held (part_off tracks c1 (b ∷ rest) e1.part)) (own_all_there (own_all l.owner old Nobody) (b ∷ rest) (DataOf n)) tt
     (λ q k f. replaced_keeps l.owner old (b ∷ rest) ch n Nobody q held_old held (λ z. (cc)) (λ z. (cc)) (e1.stands.sound.free q k f)) in
     let keeps : (o : Owner) → Writer ch ≢ o → Directory ≢ o → Keeps c c2 l.owner o = λ o a z. keeps_then c c1 c2 l.owner o (written_keeps c c1 p sector l.owner o first_write (λ y. a (sym mine ∙ y)))
     (written_keeps c1 c2 (sector_of l.directory n) enters.sector l.owner o enters.written (λ y. z (sym (sector_owned l h.stands.sound.owned n was.there) ∙ y))) in
     holds_step tracks c c2 l (with_file l n blocks_new owner) d (with_slot d n (Some (finished was.file bytes blocks))) uses ch Idle (is_ch ch) (λ m. m == n) h
-    (subst (λ (x : Option File). Stands tracks c2 (with_file l n blocks_new owner) (with_slot d n x)) file stands)
+    (subst (λ (x : Option File). HasLayout tracks c2 (with_file l n blocks_new owner) (with_slot d n x)) file stands)
     (record {
       writers = λ x out. keeps (Writer x) (λ z. (let g : x ≡ ch = cc in let t = sym (eq-eqb x ch g) ∙ out in (cc))) (λ z. (cc));
       writers_own = λ x q out z. replaced_keeps l.owner old (b ∷ rest) ch n (Writer x) q held_old held (λ y. (cc)) (λ y. (let g : x ≡ ch = cc in let t = sym (eq-eqb x ch g) ∙ out in (cc))) z;

@@ -14,11 +14,11 @@ use Rattle.cbm_bam.specs.Map.{geometry, geometry_in, geometry_of, is_free_in, wi
 use Rattle.cbm_bam.proofs.Geometries.{geometry_stays}
 use Rattle.cbm_bam.proofs.Counts.{AreTaken}
 use Rattle.cbm_chain.specs.Data.{chain_bytes}
-use Rattle.cbm_chain.specs.Writing.{Wrote, Ends, IsForFiles, last_of, place_or_none}
+use Rattle.cbm_chain.specs.Writing.{Wrote, EndsChain, IsForFiles, last_of, place_or_none}
 use Rattle.cbm_directory.specs.Entries.{IsClosedAs, Enters, first_directory, is_closed, is_relative, first_block, entry_at, sector_of}
 use Rattle.cbm_directory.specs.Slots.{Answers, directory_of}
 use Rattle.cbm_volume.specs.Blocks.{LiesAs, file_of}
-use Rattle.cbm_volume.specs.Layouts.{DataOf, Writer, OwnedBy, Layout, slot_count, Sound, Stands}
+use Rattle.cbm_volume.specs.Layouts.{DataOf, Writer, OwnedBy, Layout, slot_count, Sound, HasLayout}
 use Rattle.cbm_file.specs.Changes.{finished, replaced_in, with_replaced}
 use Rattle.cbm_volume.specs.Writers.{Filling, Use, Idle, Writes, IsWriting, IsUsed, HoldsAt, Holds, HoldsNow, with_use, known, Stopped}
 use Rattle.cbm_volume.proofs.layouts.Lengths.{file_length}
@@ -51,7 +51,7 @@ pub record IsOld (tracks : ℕ) (c : Content) (l : Layout) (n : ℕ) (f : File) 
   pub chain : Chain tracks c (first_block (entry_at c l.directory n)) (l.files n).data_blocks
   pub held : f.held ≡ length (l.files n).data_blocks
 
-pub old_file : (tracks : ℕ) (c : Content) (l : Layout) (d : Disk) (n : ℕ) (f : File) → Stands tracks c l d → n < slot_count l → file_at d n ≡ Some f → f.closed ≡ true → is_same_type Rel f.kind ≡ false → IsOld tracks c l n f
+pub old_file : (tracks : ℕ) (c : Content) (l : Layout) (d : Disk) (n : ℕ) (f : File) → HasLayout tracks c l d → n < slot_count l → file_at d n ≡ Some f → f.closed ≡ true → is_same_type Rel f.kind ≡ false → IsOld tracks c l n f
 unfolding file_of
 old_file tracks c l d n f st k in_slot closed plain =
     let entry : List ℕ = entry_at c l.directory n in
@@ -72,7 +72,7 @@ pub record IsReplaced (medium : ℕ) (c2 : Content) (d : Disk) (n : ℕ) (bytes 
 
 pub is_replaced : (medium : ℕ) (c c1 c2 : Content) (w : Filling) (entry body map freed : List ℕ) → Answers (directory_of (geometry_of medium c) c) w.slot (Ok (Some entry)) → c directory_head ≡ Ok map
     → Frees (geometry_of medium c) map (follow (geometry_of medium c) c (sector_count (geometry_of medium c)) (first_block entry)).blocks freed
-    → Ends c c1 w.chain.current w.chain.waiting → IsClosedAs entry body (place_or_none w.chain.first) w.chain.count
+    → EndsChain c c1 w.chain.current w.chain.waiting → IsClosedAs entry body (place_or_none w.chain.first) w.chain.count
     → ((directory : List Place) → Chain (geometry_of medium c) c1 first_directory directory → w.slot < 8 * length directory → Enters c1 c2 (sector_of directory w.slot) (w.slot % 8) body)
     → (d : Disk) (uses : ℕ → Use) (ch : ℕ) (bytes : List ℕ) (blocks : ℕ) → HoldsNow medium c d uses → uses ch ≡ Writes w bytes blocks → w.replaces ≡ true
     → IsReplaced medium c2 d w.slot bytes blocks (with_use uses ch Idle) freed
@@ -131,7 +131,7 @@ is_replaced medium c c1 c2 w entry body map freed found head given ends says put
         let l2 : Layout = with_file l n (record { data_blocks = b ∷ rest; sides = [] }) (replaced l.owner old (b ∷ rest) n) in
         let d2 : Disk = with_slot d n (Some (finished was.file bytes blocks)) in
         let e1 : IsEnded tracks c1 l d ch b rest bytes = ended tracks c c1 l d ch w.chain b rest bytes h.so.stands held wrote was.same_tracks ends in
-        let block : Ends c c1 (Some (last_of b rest)) w.chain.waiting = subst (λ (x : Option Place). Ends c c1 x w.chain.waiting) wrote.current ends in
+        let block : EndsChain c c1 (Some (last_of b rest)) w.chain.waiting = subst (λ (x : Option Place). EndsChain c c1 x w.chain.waiting) wrote.current ends in
         let off : (last_of b rest).track ≢ 18 = (subst (λ (x : Option Place). IsForFiles w.chain.tracks x) wrote.current (for_files c w.chain (b ∷ rest) bytes wrote)).1 in
         let so : HoldsAt tracks c2 l2 d2 (with_use uses ch Idle) = replaced_over tracks c c1 c2 l d uses ch w bytes blocks b rest (last_of b rest) block.0 body h.so e was held number block.3 (last_owned l.owner (Writer ch) b rest held) e1 enters
         (subst (λ (x : Option Place). IsClosedAs (entry_at c l.directory n) body (place_or_none x) blocks) wrote.first says') in
@@ -203,7 +203,7 @@ last_refused medium c c' w r same = λ d uses ch bytes blocks h e k. on_err r (r
   total = refl;
 })
 
-pub entry_refused : (medium : ℕ) (c c1 c' : Content) (w : Filling) (r : Result (Unit {0}) Trouble) → Ends c c1 w.chain.current w.chain.waiting → c' ≡ c1 → Stops medium c c' w r
+pub entry_refused : (medium : ℕ) (c c1 c' : Content) (w : Filling) (r : Result (Unit {0}) Trouble) → EndsChain c c1 w.chain.current w.chain.waiting → c' ≡ c1 → Stops medium c c' w r
 entry_refused medium c c1 c' w r ends same = λ d uses ch bytes blocks h e k.
     let was : IsWriting (geometry_of medium c) c h.layout d ch w bytes blocks = subst (λ (x : Use). IsUsed (geometry_of medium c) c h.layout d ch x) e (h.so.each ch) in
     let last : IsLast medium c c1 h.layout d uses ch = last_written medium c c1 h.layout d uses ch w bytes blocks h.so was ends in

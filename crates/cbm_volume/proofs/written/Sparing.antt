@@ -7,7 +7,7 @@ use Rattle.cbm_medium.specs.Links.{Chain}
 use Rattle.cbm_medium.specs.declared.fault.Trouble.{Trouble}
 use Rattle.cbm_file.specs.Files.{Disk}
 use Rattle.cbm_bam.specs.Map.{geometry_of, Claims}
-use Rattle.cbm_chain.specs.Writing.{State, IsForFiles, Puts, GoesOn, Fills, IsFullFor, IsStopped, Ends, end_of, last_of}
+use Rattle.cbm_chain.specs.Writing.{State, IsForFiles, Puts, GoesOnWriting, Fills, IsFullFor, IsWriteStopped, EndsChain, last_block_of, last_of}
 use Rattle.cbm_directory.specs.Entries.{Enters, first_directory, sector_of}
 use Rattle.cbm_volume.specs.Layouts.{TheMap, Directory, Writer, OwnedBy, Layout, Sound, Untouched}
 use Rattle.cbm_volume.specs.Writers.{Filling, Use, Writes, IsWriting, IsUsed, HoldsAt, HoldsNow}
@@ -31,7 +31,7 @@ claim_untouched tracks c c' l q but s k = untouched_in tracks c c' l but s (file
 pub its_own : (tracks : ℕ) (c : Content) (l : Layout) (d : Disk) (ch : ℕ) (w : Filling) (bytes : List ℕ) (blocks : ℕ) (p : Place) → IsWriting tracks c l d ch w bytes blocks → w.chain.current ≡ Some p → l.owner p ≡ Writer ch
 its_own tracks c l d ch w bytes blocks p was z = by_places was.places was.owned (sym z ∙ was.wrote.current)
   where
-    by_places : (places : List Place) → OwnedBy l.owner (Writer ch) places → Some p ≡ end_of places → l.owner p ≡ Writer ch
+    by_places : (places : List Place) → OwnedBy l.owner (Writer ch) places → Some p ≡ last_block_of places → l.owner p ≡ Writer ch
     by_places [] held e = absurd (cc)
     by_places (b ∷ rest) held e = (let at : p ≡ last_of b rest = cc in ap l.owner at ∙ last_owned l.owner (Writer ch) b rest held)
 
@@ -45,24 +45,24 @@ pub nothing_written : (medium : ℕ) (c c' : Content) (w : Filling) (but : ℕ �
 nothing_written medium c c' w but e = λ d uses ch bytes blocks h k. same_untouched (geometry_of medium c) c c' h.layout but h.so.stands.sound e
 
 -- what the writer's step leaves alone
-goes_spared : (tracks : ℕ) (c c' : Content) (l : Layout) (d : Disk) (ch : ℕ) (w : Filling) (bytes : List ℕ) (blocks : ℕ) (s : State) → Sound tracks c l → IsWriting tracks c l d ch w bytes blocks → GoesOn c c' w.chain.current w.chain s → KeepsFiles l c c'
+goes_spared : (tracks : ℕ) (c c' : Content) (l : Layout) (d : Disk) (ch : ℕ) (w : Filling) (bytes : List ℕ) (blocks : ℕ) (s : State) → Sound tracks c l → IsWriting tracks c l d ch w bytes blocks → GoesOnWriting c c' w.chain.current w.chain s → KeepsFiles l c c'
 goes_spared tracks c c' l d ch w bytes blocks s sound was goes = by_current w.chain.current refl goes
   where
-    by_current : (x : Option Place) → w.chain.current ≡ x → GoesOn c c' x w.chain s → KeepsFiles l c c'
+    by_current : (x : Option Place) → w.chain.current ≡ x → GoesOnWriting c c' x w.chain s → KeepsFiles l c c'
     by_current None z g = files_claimed tracks l c c' g.0 sound (subst (λ (n : ℕ). Claims n c c' g.0) was.same_tracks g.1)
     by_current (Some p) z g =
         let f : Fills tracks c c' p w.chain.waiting g.0 = subst (λ (n : ℕ). Fills n c c' p w.chain.waiting g.0) was.same_tracks g.1 in
         files_then l c f.middle c' (files_claimed tracks l c f.middle g.0 sound f.claims) (files_written l f.middle c' p f.sector (Writer ch) (its_own tracks c l d ch w bytes blocks p was z) refl f.written)
 
 pub byte_spared : (medium : ℕ) (c c' : Content) (w : Filling) (byte : ℕ) (s : State) (r : Result Bool Trouble) → (IsForFiles w.chain.tracks w.chain.current → IfOk r (λ done. MatchBool done (Puts c c' w.chain byte s) (IsFullFor c c' w.chain s)))
-    → (IsForFiles w.chain.tracks w.chain.current → OnErr r (IsStopped w.chain.tracks c c')) → Spared medium c c' w (λ m. false)
+    → (IsForFiles w.chain.tracks w.chain.current → OnErr r (IsWriteStopped w.chain.tracks c c')) → Spared medium c c' w (λ m. false)
 byte_spared medium c c' w byte s r put stop = λ d uses ch bytes blocks h e.
     let was : IsWriting (geometry_of medium c) c h.layout d ch w bytes blocks = subst (λ (x : Use). IsUsed (geometry_of medium c) c h.layout d ch x) e (h.so.each ch) in
     let files : IsForFiles w.chain.tracks w.chain.current = for_files c w.chain was.places bytes was.wrote in
     untouched_in (geometry_of medium c) c c' h.layout (λ m. false) h.so.stands.sound (by_result r d ch bytes blocks h.layout h.so.stands.sound was (put files) (stop files))
   where
     by_result : (r : Result Bool Trouble) (d : Disk) (ch : ℕ) (bytes : List ℕ) (blocks : ℕ) (l : Layout) → Sound (geometry_of medium c) c l → IsWriting (geometry_of medium c) c l d ch w bytes blocks
-        → IfOk r (λ done. MatchBool done (Puts c c' w.chain byte s) (IsFullFor c c' w.chain s)) → OnErr r (IsStopped w.chain.tracks c c') → KeepsFiles l c c'
+        → IfOk r (λ done. MatchBool done (Puts c c' w.chain byte s) (IsFullFor c c' w.chain s)) → OnErr r (IsWriteStopped w.chain.tracks c c') → KeepsFiles l c c'
     by_result (Ok true) d ch bytes blocks l sound was (inl stays) stop = files_same l c c' stays.0
     by_result (Ok true) d ch bytes blocks l sound was (inr goes) stop = goes_spared (geometry_of medium c) c c' l d ch w bytes blocks goes.0 sound was goes.1
     by_result (Ok false) d ch bytes blocks l sound was full stop = files_same l c c' full.same
@@ -75,7 +75,7 @@ EntryPut tracks c1 c2 n body r = (directory : List Place) → Chain tracks c1 fi
 
 -- the last block, and the entry behind it
 pub closing_keeps : (medium tracks : ℕ) (c c1 c2 : Content) (l : Layout) (d : Disk) (uses : ℕ → Use) (ch : ℕ) (w : Filling) (bytes : List ℕ) (blocks : ℕ) (body : List ℕ) (r : Result (Unit {0}) Trouble) → HoldsAt (geometry_of medium c) c l d uses → uses ch ≡ Writes w bytes blocks
-    → IsSized tracks medium c c1 → Ends c c1 w.chain.current w.chain.waiting → EntryPut tracks c1 c2 w.slot body r → OnErr r (c2 ≡ c1) → KeepsFiles l c c2
+    → IsSized tracks medium c c1 → EndsChain c c1 w.chain.current w.chain.waiting → EntryPut tracks c1 c2 w.slot body r → OnErr r (c2 ≡ c1) → KeepsFiles l c c2
 closing_keeps medium tracks c c1 c2 l d uses ch w bytes blocks body r h e size ends put err =
     files_then l c c1 c2 (by_current w.chain.current refl ends) (by_result r put err)
   where
@@ -88,7 +88,7 @@ closing_keeps medium tracks c c1 c2 l d uses ch w bytes blocks body r h e size e
     chain : Chain tracks c1 first_directory l.directory
     chain = subst (λ (n : ℕ). Chain n c1 first_directory l.directory) (one_size tracks medium c c1 size last.same) last.holds.stands.sound.directory
 
-    by_current : (x : Option Place) → w.chain.current ≡ x → Ends c c1 x w.chain.waiting → KeepsFiles l c c1
+    by_current : (x : Option Place) → w.chain.current ≡ x → EndsChain c c1 x w.chain.waiting → KeepsFiles l c c1
     by_current None z k = files_same l c c1 k
     by_current (Some p) z k = files_written l c c1 p k.0 (Writer ch) (its_own (geometry_of medium c) c l d ch w bytes blocks p was z) refl k.3
 
@@ -98,7 +98,7 @@ closing_keeps medium tracks c c1 c2 l d uses ch w bytes blocks body r h e size e
         files_written l c1 c2 (sector_of l.directory w.slot) enters.sector Directory (sector_owned l h.stands.sound.owned w.slot was.there) refl enters.written
     by_result (Err t) put err = files_same l c1 c2 err
 
-pub closing_spared : (medium tracks : ℕ) (c c1 c2 : Content) (w : Filling) (but : ℕ → Bool) (body : List ℕ) (r : Result (Unit {0}) Trouble) → IsSized tracks medium c c1 → Ends c c1 w.chain.current w.chain.waiting → EntryPut tracks c1 c2 w.slot body r → OnErr r (c2 ≡ c1)
+pub closing_spared : (medium tracks : ℕ) (c c1 c2 : Content) (w : Filling) (but : ℕ → Bool) (body : List ℕ) (r : Result (Unit {0}) Trouble) → IsSized tracks medium c c1 → EndsChain c c1 w.chain.current w.chain.waiting → EntryPut tracks c1 c2 w.slot body r → OnErr r (c2 ≡ c1)
     → Spared medium c c2 w but
 closing_spared medium tracks c c1 c2 w but body r size ends put err = λ d uses ch bytes blocks h e.
     untouched_in (geometry_of medium c) c c2 h.layout but h.so.stands.sound (closing_keeps medium tracks c c1 c2 h.layout d uses ch w bytes blocks body r h.so e size ends put err)
@@ -114,7 +114,7 @@ pub also_spared : (medium : ℕ) (c c' : Content) (w : Filling) → Spared mediu
 also_spared medium c c' w spared = λ d uses ch bytes blocks h e k. spared d uses ch bytes blocks h e
 
 -- the map is written behind the entry
-pub release_spared : (medium tracks : ℕ) (c c1 c2 c3 : Content) (w : Filling) (body freed : List ℕ) (r : Result (Unit {0}) Trouble) → IsSized tracks medium c c1 → Ends c c1 w.chain.current w.chain.waiting → EntryPut tracks c1 c2 w.slot body (Ok tt)
+pub release_spared : (medium tracks : ℕ) (c c1 c2 c3 : Content) (w : Filling) (body freed : List ℕ) (r : Result (Unit {0}) Trouble) → IsSized tracks medium c c1 → EndsChain c c1 w.chain.current w.chain.waiting → EntryPut tracks c1 c2 w.slot body (Ok tt)
     → OnOk r (c3 ≡ written c2 directory_head freed) → OnErr r (c3 ≡ c2) → SparedReplacing medium c c3 w
 release_spared medium tracks c c1 c2 c3 w body freed r size ends put ok err = λ d uses ch bytes blocks h e k.
     untouched_in (geometry_of medium c) c c3 h.layout (λ m. m == w.slot) h.so.stands.sound

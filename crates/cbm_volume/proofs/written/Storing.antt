@@ -10,9 +10,9 @@ use Rattle.cbm_file.specs.Files.{Disk}
 use Rattle.cbm_bam.specs.Map.{map_of, geometry, geometry_in, geometry_of, IsCounted, IsMapped, IsFull, Claims, is_free_in, with_bit}
 use Rattle.cbm_bam.proofs.Geometries.{geometry_stays}
 use Rattle.cbm_bam.proofs.Counts.{free_none}
-use Rattle.cbm_chain.specs.Writing.{State, Part, Wrote, IsForFiles, Puts, GoesOn, Fills, IsFullFor, IsStopped, with_byte, begun_at, gone_on, end_of, has_no_byte}
+use Rattle.cbm_chain.specs.Writing.{State, Part, Wrote, IsForFiles, Puts, GoesOnWriting, Fills, IsFullFor, IsWriteStopped, with_byte, begun_at, gone_on, last_block_of, has_no_byte}
 use Rattle.cbm_relfile.specs.Records.{AllWhole}
-use Rattle.cbm_volume.specs.Layouts.{Owner, TheMap, DataOf, Writer, Layout, Stands, Sound}
+use Rattle.cbm_volume.specs.Layouts.{Owner, TheMap, DataOf, Writer, Layout, HasLayout, Sound}
 use Rattle.cbm_volume.specs.Writers.{Filling, Use, Idle, Writes, IsWriting, IsUsed, HoldsAt, Holds, HoldsNow, with_use, needs_block, one_block_less, one_block_more, IsStored, IsFullDisk, Stopped}
 use Rattle.cbm_volume.proofs.layouts.Frames.{Keeps}
 use Rattle.cbm_volume.proofs.layouts.Steps.{one_less, Claimed, stands_claim}
@@ -46,13 +46,13 @@ geometry_claimed medium c c' l q s k = by_cell (c directory_head) refl
 pub for_files : (c : Content) (s : State) (places : List Place) (bytes : List ℕ) → Wrote c s places bytes → IsForFiles s.tracks s.current
 for_files c s places bytes h = subst (IsForFiles s.tracks) (sym h.current) (last_for s.tracks c places h.part)
   where
-    last_for : (tracks : ℕ) (c : Content) (places : List Place) → Part tracks c places → IsForFiles tracks (end_of places)
+    last_for : (tracks : ℕ) (c : Content) (places : List Place) → Part tracks c places → IsForFiles tracks (last_block_of places)
     last_for tracks c [] h = tt
     last_for tracks c (b ∷ []) h = h
     last_for tracks c (b ∷ b' ∷ rest) h = last_for tracks c (b' ∷ rest) h.5
 
 -- no block is free where the map has none
-pub none_free : (tracks : ℕ) (c : Content) (l : Layout) (d : Disk) → Stands tracks c l d → IsFull tracks (map_of c) → d.free ≡ 0
+pub none_free : (tracks : ℕ) (c : Content) (l : Layout) (d : Disk) → HasLayout tracks c l d → IsFull tracks (map_of c) → d.free ≡ 0
 none_free tracks c l d s f = s.describes.free ∙ free_none tracks (map_of c) s.sound.counted f
 
 -- ---- stored
@@ -102,11 +102,11 @@ byte_stored medium c c' d uses ch w s' bytes blocks byte whole h e (inr goes) = 
     no_blocks : w.chain.current ≡ None → blocks ≡ 0
     no_blocks z = was.number ∙ none_of was.places (sym z ∙ was.wrote.current)
       where
-        none_of : (places : List Place) → None ≡ end_of places → length places ≡ 0
+        none_of : (places : List Place) → None ≡ last_block_of places → length places ≡ 0
         none_of [] k = refl
         none_of (b ∷ rest) k = absurd (cc)
 
-    by_current : (x : Option Place) → w.chain.current ≡ x → GoesOn c c' x w.chain goes.0 → IsStored medium c' d uses ch (record w { chain = s' }) bytes blocks byte
+    by_current : (x : Option Place) → w.chain.current ≡ x → GoesOnWriting c c' x w.chain goes.0 → IsStored medium c' d uses ch (record w { chain = s' }) bytes blocks byte
     by_current None z g =
         let k : Claims tracks c c' g.0 = subst (λ (n : ℕ). Claims n c c' g.0) was.same_tracks g.1 in
         let claimed : Claimed tracks c c' h.layout d g.0 = stands_claim tracks c c' h.layout d g.0 h.so.stands (few medium c) k in
@@ -169,14 +169,14 @@ claimed_lost tracks c c' l d uses ch q few h k =
     (record { writers = λ x f. keeps (Writer x) (λ z. (cc)); writers_own = λ x q f e. e; files = λ n f. keeps (DataOf n) (λ z. (cc)); files_own = λ n q f e. e; more = omega arith; slots = λ n f. refl })
     (λ m ne. refl) (λ m n ne f. refl) (idle_like (uses ch)) tt
 
-pub put_stopped : (medium : ℕ) (c c' : Content) (w : Filling) (r : Result Bool Trouble) → (IsForFiles w.chain.tracks w.chain.current → OnErr r (IsStopped w.chain.tracks c c'))
+pub put_stopped : (medium : ℕ) (c c' : Content) (w : Filling) (r : Result Bool Trouble) → (IsForFiles w.chain.tracks w.chain.current → OnErr r (IsWriteStopped w.chain.tracks c c'))
     → (d : Disk) (uses : ℕ → Use) (ch : ℕ) (bytes : List ℕ) (blocks : ℕ) → HoldsNow medium c d uses → uses ch ≡ Writes w bytes blocks → OnErr r (Stopped medium c' d d (with_use uses ch Idle))
 put_stopped medium c c' w (Ok done) err d uses ch bytes blocks h e = tt
 put_stopped medium c c' w (Err t) err d uses ch bytes blocks h e =
     let was : IsWriting (geometry_of medium c) c h.layout d ch w bytes blocks = subst (λ (x : Use). IsUsed (geometry_of medium c) c h.layout d ch x) e (h.so.each ch) in
-    by_stop (subst (λ (n : ℕ). IsStopped n c c') was.same_tracks (err (for_files c w.chain was.places bytes was.wrote)))
+    by_stop (subst (λ (n : ℕ). IsWriteStopped n c c') was.same_tracks (err (for_files c w.chain was.places bytes was.wrote)))
   where
-    by_stop : IsStopped (geometry_of medium c) c c' → Stopped medium c' d d (with_use uses ch Idle)
+    by_stop : IsWriteStopped (geometry_of medium c) c c' → Stopped medium c' d d (with_use uses ch Idle)
     by_stop (inl same) = record {
       disk = d;
       holds = subst (λ (x : Content). HoldsNow medium x d (with_use uses ch Idle)) (sym same) (now medium (geometry_of medium c) c h.layout d _ refl (let_go (geometry_of medium c) c h.layout d uses ch h.so));

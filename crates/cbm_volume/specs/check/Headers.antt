@@ -2,7 +2,7 @@
 use Rattle.std.specs.Prelude.{ℕ, ◌≡◌, ◌==◌, ◌&&◌, ◌||◌, nat_lt, Bool, true, false, Ok, Err}
 use Rattle.cbm_medium.specs.Place.{Place, Has}
 use Rattle.cbm_medium.specs.Content.{Cell, Content, is_header_fault}
-use Rattle.cbm_volume.specs.Layouts.{IsWritable}
+use Rattle.cbm_volume.specs.Layouts.{IsCellWritable}
 
 abbrev pub is_bad_header : Cell → Bool
 is_bad_header (Ok bytes) = false
@@ -16,4 +16,4 @@ comes_before q p = nat_lt q.track p.track || ((q.track == p.track) && nat_lt q.s
 pub record IsFirstBad (tracks : ℕ) (content : Content) (p : Place) : Type 0 where
   pub has : Has tracks p
   pub bad : is_bad_header (content p) ≡ true
-  pub first : (q : Place) → Has tracks q → comes_before q p ≡ true → IsWritable (content q)
+  pub first : (q : Place) → Has tracks q → comes_before q p ≡ true → IsCellWritable (content q)

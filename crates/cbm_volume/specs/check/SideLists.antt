@@ -53,13 +53,13 @@ side_along tracks content width n side a =
     if (slice_index side 2 == n) && (slice_index side 3 == width) then along tracks content (listed_blocks side) a else None
 
 -- the same of the side sector at a place of the disk
-abbrev pub side_at : ℕ → Content → ℕ → ℕ → Place → Place → Option Place
-side_at tracks content width n s a = if has tracks s then side_along tracks content width n (bytes_at content s) a else None
+abbrev pub side_found : ℕ → Content → ℕ → ℕ → Place → Place → Option Place
+side_found tracks content width n s a = if has tracks s then side_along tracks content width n (bytes_at content s) a else None
 
 -- the same of side sectors in order, counted from n
 abbrev pub sides_along : ℕ → Content → ℕ → ℕ → List Place → Place → Option Place
 sides_along tracks content width n [] a = Some a
-sides_along tracks content width n (s ∷ rest) a = elim (side_at tracks content width n s a) [ Some b ↦ sides_along tracks content width (n + 1) rest b | None ↦ None ]
+sides_along tracks content width n (s ∷ rest) a = elim (side_found tracks content width n s a) [ Some b ↦ sides_along tracks content width (n + 1) rest b | None ↦ None ]
 
 -- the same of the first one with these bytes, and those that it lists after itself
 abbrev pub all_along : ℕ → Content → ℕ → List ℕ → Place → Option Place

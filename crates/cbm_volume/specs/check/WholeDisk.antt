@@ -5,7 +5,7 @@ use Rattle.cbm_medium.specs.Content.{Content}
 use Rattle.cbm_bam.specs.Map.{with_bit}
 use Rattle.cbm_bam.specs.Marks.{nothing}
 use Rattle.cbm_directory.specs.Entries.{first_directory}
-use Rattle.cbm_volume.specs.Layouts.{IsWritable}
+use Rattle.cbm_volume.specs.Layouts.{IsCellWritable}
 use Rattle.cbm_volume.specs.declared.check.unsound.Part.TheVariants.{OfDirectory}
 use Rattle.cbm_volume.specs.declared.check.unsound.Unsound.{Unsound}
 use Rattle.cbm_volume.specs.check.Claims.{ClaimsChain, fault_at, MeetsFault}
@@ -19,7 +19,7 @@ only_head = with_bit nothing directory_head true
 
 -- EACH PART OF THE DISK IS CLAIMED, AND NOTHING IS WRONG WITH IT: the headers, the map, the directory, and the files of its slots in order
 pub record ClaimsDisk (tracks : ℕ) (content : Content) : Type 0 where
-  pub writable : (p : Place) → Has tracks p → IsWritable (content p)
+  pub writable : (p : Place) → Has tracks p → IsCellWritable (content p)
   pub map : IsMapRight tracks content
   pub sectors : List Place
   pub between : Place → Bool
@@ -50,7 +50,7 @@ pub record SlotFault (tracks : ℕ) (content : Content) (u : Unsound) : Type 0 w
 
 -- no sector of the disk has a fault of its header
 abbrev pub AllWritable : ℕ → Content → Type 0
-AllWritable tracks content = (p : Place) → Has tracks p → IsWritable (content p)
+AllWritable tracks content = (p : Place) → Has tracks p → IsCellWritable (content p)
 
 -- THE DISK HAS THIS FAULT, and what the check looks at before has none: the headers, then the map, the directory, the slots
 abbrev pub DiskFault : ℕ → Content → Unsound → Type 0

@@ -1,6 +1,6 @@
 ghost use Rattle.std.specs.Prelude.{◌≡◌, ◌≤◌, ◌<◌, ℕ, List, Option, IsOk, Ok};
 ghost use Rattle.cbm_medium.specs.Links.{link, bytes_at};
-ghost use Rattle.cbm_volume.specs.check.SideLists.{step_along, along, listed_blocks, side_along, side_at, all_along};
+ghost use Rattle.cbm_volume.specs.check.SideLists.{step_along, along, listed_blocks, side_along, side_found, all_along};
 
 use cbm_medium::{Geometry, Link, Medium};
 use cbm_relfile::side::{BLOCKS, NUMBER, RECORD_LENGTH, SIDES};
@@ -72,7 +72,7 @@ fn walk_side_at<M: Medium>(
 ) -> Option<Link>
     requires tracks { geometry ≤ (M.seen medium.now).tracks }
     requires length { 0 < length }
-    ensures { result ≡ side_at geometry (M.seen medium.now).content length number at from }
+    ensures { result ≡ side_found geometry (M.seen medium.now).content length number at from }
 {
     let address = at.address(geometry)?;
     match medium.read(address) {

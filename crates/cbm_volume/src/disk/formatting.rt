@@ -10,7 +10,7 @@ ghost use Rattle.cbm_bam.specs.Marks.{is_marked};
 ghost use Rattle.cbm_directory.specs.Entries.{first_directory};
 ghost use Rattle.cbm_directory.specs.Growth.{new_sector};
 ghost use Rattle.cbm_volume.specs.Holding.{HoldsDisk};
-ghost use Rattle.cbm_volume.specs.Layouts.{IsWritable};
+ghost use Rattle.cbm_volume.specs.Layouts.{IsCellWritable};
 ghost use Rattle.cbm_volume.specs.NewDisks.{used_by_new, new_label, around_map, IsNewHead, IsEmptied, OnlyNew, id_behind, content_under};
 ghost use Rattle.cbm_volume.specs.Opens.{IsHindered};
 ghost use Rattle.cbm_volume.specs.Writers.{Use, Idle, HoldsNow};
@@ -123,8 +123,8 @@ fn write_new<M: Medium>(medium: &mut M, title: &[u8], id: [u8; 2]) -> Result<(),
     ensures either { let tracks = (M.seen medium.old).tracks in (tracks ≡ 35) ⊎ (tracks ≡ 40) }
     ensures emptied { let old = M.seen medium.old in
         OnOk result (IsEmptied old.tracks title.now id old.content (M.seen medium.new).content) }
-    ensures cause { let old = M.seen medium.old in IsWritable (old.content directory_head) →
-        IsWritable (old.content first_directory) → IfErr result (IsHindered old (M.seen medium.new)) }
+    ensures cause { let old = M.seen medium.old in IsCellWritable (old.content directory_head) →
+        IsCellWritable (old.content first_directory) → IfErr result (IsHindered old (M.seen medium.new)) }
     ensures protected { let old = M.seen medium.old in old.protected ≡ true →
         (M.seen medium.new).content ≡ old.content }
     ensures only { OnlyContent 18 result (M.seen medium.old) (M.seen medium.new) }

@@ -1,7 +1,7 @@
 // The disk as VALIDATE looks at it.
 
 ghost use Rattle.std.specs.Prelude.{◌≡◌, ◌<◌, ◌≤◌, ◌+◌};
-ghost use Rattle.cbm_volume.specs.Views.{zeroed, taken_map, clear_open, swept, shown_at};
+ghost use Rattle.cbm_volume.specs.Views.{zeroed, taken_map, clear_open, swept, view_at};
 
 use cbm_directory::Entry;
 use cbm_medium::codes::WRITE_PROTECT_ON;
@@ -54,7 +54,7 @@ fn closed_alone(sector: &[u8; 256]) -> [u8; 256]
 
 /// What a sector shows, of its bytes.
 fn shown(sector: &[u8; 256], at: Address, geometry: Geometry) -> [u8; 256]
-    ensures { result ≡ shown_at geometry at sector.now }
+    ensures { result ≡ view_at geometry at sector.now }
 {
     if at.track() != 18 {
         return *sector;

@@ -5,9 +5,9 @@ ghost use Rattle.cbm_file.specs.declared.file_type.FileType.TheVariants.{Del};
 ghost use Rattle.cbm_file.specs.Types.{is_same_type};
 ghost use Rattle.cbm_file.specs.Files.{File, with_slot, bytes_in};
 ghost use Rattle.cbm_file.specs.Changes.{reopened};
-ghost use Rattle.cbm_volume.specs.Holding.{StandsAt};
+ghost use Rattle.cbm_volume.specs.Holding.{EntryStandsAt};
 ghost use Rattle.cbm_volume.specs.Writers.{Idle};
-ghost use Rattle.cbm_volume.specs.Opens.{CanBeWritten, Begins, IsHindered};
+ghost use Rattle.cbm_volume.specs.Opens.{CanBeWritten, BeginsFile, IsHindered};
 ghost use Rattle.cbm_volume.specs.Calls.{OnlyOnDisk, OfDisk, LeavesFiles};
 
 use crate::files::filling::FileWriter;
@@ -23,8 +23,8 @@ impl<M: Medium> Volume<M> {
         // A file of type DEL has no such entry: with bit 7 cleared, its type byte is that of an empty slot.
         ensures begun { let old = M.seen self.old in let new = M.seen self.new in
             OfDisk old (λ d uses. (f : File) → CanBeWritten d uses slot f →
-            StandsAt old.tracks old.content slot entry.now → MatchResult result
-            (λ w. (ch : ℕ) → uses ch ≡ Idle → is_same_type Del f.kind ≡ false → Begins old.tracks new.content
+            EntryStandsAt old.tracks old.content slot entry.now → MatchResult result
+            (λ w. (ch : ℕ) → uses ch ≡ Idle → is_same_type Del f.kind ≡ false → BeginsFile old.tracks new.content
             (with_slot d slot (Some (reopened f))) uses ch slot false (bytes_in f.body) f.held w)
             (IsHindered old new)) }
         ensures err { OnErr result ((M.seen self.new).content ≡ (M.seen self.old).content) }

@@ -7,10 +7,10 @@ ghost use Rattle.cbm_file.specs.declared.file_type.FileType.TheVariants.{Del, Re
 ghost use Rattle.cbm_file.specs.Types.{is_same_type};
 ghost use Rattle.cbm_file.specs.Padding.{before_filler};
 ghost use Rattle.cbm_file.specs.Files.{Disk, Bytes, file_at, empty_from, blocks_of};
-ghost use Rattle.cbm_file.specs.Changes.{bytes_at, joined, copy_blocks, with_copy, with_file, closed_file, grown, has_slot};
+ghost use Rattle.cbm_file.specs.Changes.{slot_bytes, joined, copy_blocks, with_copy, with_file, closed_file, grown, has_slot};
 ghost use Rattle.cbm_bam.specs.Map.{geometry_of};
 ghost use Rattle.cbm_chain.specs.Reading.{IsSettled};
-ghost use Rattle.cbm_volume.specs.Copies.{AreCopied, CanBeCopied, HasNoRoomFor, IsCutShort, Making, Makes, OfMaking, OfVacant};
+ghost use Rattle.cbm_volume.specs.Copies.{AreCopied, CanBeCopied, HasNoRoomFor, IsCopyCut, Making, Makes, OfMaking, OfVacant};
 ghost use Rattle.cbm_volume.specs.Layouts.{Layout};
 ghost use Rattle.cbm_volume.specs.Reaches.{Reached};
 ghost use Rattle.cbm_volume.specs.Writers.{Use, Idle, Reads, HoldsNow, Stopped};
@@ -75,7 +75,7 @@ fn has_room(room: Room, bytes: u32) -> bool
 fn bytes_of<M: Medium>(medium: &M, number: u8) -> Result<u32, Trouble>
     ensures count { let now = M.seen medium.now in (d : Disk) (uses : ℕ → Use) →
         HoldsNow now.tracks now.content d uses → CanBeCopied d number →
-        IsOkAnd result (λ n. n ≡ length (bytes_at (file_at d number))) }
+        IsOkAnd result (λ n. n ≡ length (slot_bytes (file_at d number))) }
     ensures never_26 { IfErr result (λ t. t.code ≢ 26) }
 {
     let geometry = cbm_bam::geometry(medium);
@@ -125,7 +125,7 @@ fn make<M: Medium>(
         copy_blocks d sources.now ≤ d.free →
         MatchResult result (λ x. Reached old.tracks old.content h.layout new.content
         (with_copy d kind (before_filler name.now) sources.now) uses)
-        (IsCutShort old new old.content h.layout d uses) }
+        (IsCopyCut old new old.content h.layout d uses) }
     ensures only { OnlyOnDisk result (M.seen medium.old) (M.seen medium.new) }
 {
     let (number, mut chain) = begin(medium)?;
@@ -138,7 +138,7 @@ fn begin<M: Medium>(medium: &mut M) -> Result<(u8, ChainWriter), Trouble>
     ensures begun { let old = M.seen medium.old in let new = M.seen medium.new in
         OfVacant old (λ d uses ch h. 1 ≤ d.free → MatchResult result (λ r. (empty_from 0 (grown d).slots ≡ Some r.0) ×
         Making old.tracks old.content h.layout d uses ch new.content r.1 [] Idle)
-        (IsCutShort old new old.content h.layout d uses)) }
+        (IsCopyCut old new old.content h.layout d uses)) }
     ensures tracks { let old = M.seen medium.old in
         IfOk result (λ r. (r.1.tracks ≡ geometry_of old.tracks old.content) × (r.1.tracks ≤ old.tracks)) }
     ensures only { OnlyOnDisk result (M.seen medium.old) (M.seen medium.new) }
@@ -224,7 +224,7 @@ fn put_read<M: Medium>(
 fn put_file<M: Medium>(medium: &mut M, chain: &mut ChainWriter, number: u8) -> Result<(), Trouble>
     requires { chain.old.tracks ≤ (M.seen medium.old).tracks }
     ensures put { let old = M.seen medium.old in let new = M.seen medium.new in
-        OfMaking old chain.old (λ c l d uses ch bytes. let all = bytes ++ bytes_at (file_at d number) in
+        OfMaking old chain.old (λ c l d uses ch bytes. let all = bytes ++ slot_bytes (file_at d number) in
         CanBeCopied d number → blocks_of (length all) ≤ d.free → Makes result old new c l d uses ch chain.new all Idle) }
     ensures tracks { chain.new.tracks ≡ chain.old.tracks }
     ensures only { OnlyContent chain.old.tracks result (M.seen medium.old) (M.seen medium.new) }
@@ -272,7 +272,7 @@ fn enter<M: Medium>(
         empty_from 0 (grown d).slots ≡ Some number → kind ≢ Del → is_same_type Rel kind ≡ false →
         MatchResult result (λ x. Reached old.tracks c l new.content (with_file d (closed_file kind
         (before_filler name.now) (blocks_of (length bytes)) (Bytes bytes)) (blocks_of (length bytes))) uses)
-        (IsCutShort old new c l d uses)) }
+        (IsCopyCut old new c l d uses)) }
     ensures only { OnlyContent chain.now.tracks result (M.seen medium.old) (M.seen medium.new) }
 {
     chain.finish(medium)?;

@@ -6,7 +6,7 @@ ghost use Rattle.cbm_file.specs.Types.{is_same_type};
 ghost use Rattle.cbm_file.specs.Padding.{before_filler};
 ghost use Rattle.cbm_file.specs.Changes.{with_file, unclosed, new_slot};
 ghost use Rattle.cbm_volume.specs.Writers.{Idle, Stopped};
-ghost use Rattle.cbm_volume.specs.Opens.{Begins, HasNoPlace};
+ghost use Rattle.cbm_volume.specs.Opens.{BeginsFile, HasNoPlace};
 ghost use Rattle.cbm_volume.specs.Calls.{OnlyOnDisk, OfDisk, IsCall};
 
 use crate::files::filling::FileWriter;
@@ -32,7 +32,7 @@ impl<M: Medium> Volume<M> {
             OfDisk old (λ d uses. let after = with_file d (unclosed kind (before_filler name.now)) 1 in IsCall result old new
             (λ o. (ch : ℕ) → uses ch ≡ Idle → kind ≢ Del → is_same_type Rel kind ≡ false →
             MatchOption o (HasNoPlace d × (new.content ≡ old.content))
-            (λ w. Begins old.tracks new.content after uses ch (new_slot d) false [] 1 w))
+            (λ w. BeginsFile old.tracks new.content after uses ch (new_slot d) false [] 1 w))
             (kind ≢ Del → is_same_type Rel kind ≡ false → Stopped old.tracks new.content d after uses) (λ m. false)) }
         ensures tracks { IfOk result (λ o. IfSome o (λ w. w.chain.tracks ≤ (M.seen self.old).tracks)) }
         // None says that nothing has changed, whatever the medium holds.

@@ -2,7 +2,7 @@
 
 ghost use Rattle.std.specs.Prelude.{◌≡◌, ◌≤◌, ◌-◌, [], true, OnErr, IfOk, IfSome, MatchOption, ℕ};
 ghost use Rattle.cbm_file.specs.Files.{File};
-ghost use Rattle.cbm_volume.specs.Opens.{Begins, CanBeWritten};
+ghost use Rattle.cbm_volume.specs.Opens.{BeginsFile, CanBeWritten};
 ghost use Rattle.cbm_volume.specs.Writers.{Idle};
 ghost use Rattle.cbm_volume.specs.Calls.{OnlyOnDisk, OfDisk, IsOneWrite};
 
@@ -20,7 +20,7 @@ impl<M: Medium> Volume<M> {
             OfDisk old (λ d uses. IsOneWrite result old new
             (λ o. (ch : ℕ) (f : File) → uses ch ≡ Idle → CanBeWritten d uses slot f →
             MatchOption o ((d.free ≡ 0) × (new.content ≡ old.content))
-            (λ w. Begins old.tracks new.content (record d { free = d.free - 1 }) uses ch slot true [] 1 w))) }
+            (λ w. BeginsFile old.tracks new.content (record d { free = d.free - 1 }) uses ch slot true [] 1 w))) }
         ensures err { OnErr result ((M.seen self.new).content ≡ (M.seen self.old).content) }
         ensures tracks { IfOk result (λ o. IfSome o (λ w. w.chain.tracks ≤ (M.seen self.old).tracks)) }
         // None says that nothing has changed, whatever the medium holds.

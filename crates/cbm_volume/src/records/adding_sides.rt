@@ -3,7 +3,7 @@
 ghost use Rattle.std.specs.Prelude.{◌≡◌, ◌≤◌, ◌<◌, ◌+◌, ◌*◌, Ok, IfOk};
 ghost use Rattle.cbm_medium.specs.Seen.{OnlyContent};
 ghost use Rattle.cbm_file.specs.Records.{sides_for};
-ghost use Rattle.cbm_volume.specs.GrowthSteps.{Goes, OfSides, OfRoom, OfRoomFor, OfEmpty, OfAllSides};
+ghost use Rattle.cbm_volume.specs.GrowthSteps.{GrowthGoes, OfSides, OfRoom, OfRoomFor, OfEmpty, OfAllSides};
 
 use crate::records::growing_blocks::{copy_side, copy_sides};
 use crate::records::making::miscounted;
@@ -20,7 +20,7 @@ fn open_empty<M: Medium>(
 ) -> Result<Address, Trouble>
     requires tracks { geometry ≤ (M.seen medium.old).tracks }
     requires sides { sides < 6 }
-    ensures opened { Goes result (M.seen medium.old) (M.seen medium.new) geometry
+    ensures opened { GrowthGoes result (M.seen medium.old) (M.seen medium.new) geometry
         (OfRoom file sides) (λ t. OfEmpty file sides t) }
     ensures only { OnlyContent geometry result (M.seen medium.old) (M.seen medium.new) }
 {
@@ -39,7 +39,7 @@ fn add_empty<M: Medium>(
 ) -> Result<(), Trouble>
     requires tracks { geometry ≤ (M.seen medium.old).tracks }
     requires sides { (1 ≤ sides) × (sides < 6) }
-    ensures added { Goes result (M.seen medium.old) (M.seen medium.new) geometry
+    ensures added { GrowthGoes result (M.seen medium.old) (M.seen medium.new) geometry
         (OfRoom file sides) (λ x. OfSides file (sides + 1)) }
     ensures only { OnlyContent geometry result (M.seen medium.old) (M.seen medium.new) }
 {
@@ -61,7 +61,7 @@ pub(crate) fn add_sides<M: Medium>(
     requires blocks { blocks ≤ 720 }
     requires sides { sides ≤ 6 }
     ensures added { let all = sides_for sides blocks in
-        Goes result (M.seen medium.old) (M.seen medium.new) geometry (OfRoomFor file sides all) (OfAllSides file all) }
+        GrowthGoes result (M.seen medium.old) (M.seen medium.new) geometry (OfRoomFor file sides all) (OfAllSides file all) }
     ensures enough { 1 ≤ sides → blocks ≤ 120 * sides →
         (result ≡ Ok sides) × ((M.seen medium.new).content ≡ (M.seen medium.old).content) }
     ensures bound { IfOk result (λ k. (sides ≤ k) × (k ≤ 6)) }

@@ -4,7 +4,7 @@ ghost use Rattle.std.specs.Prelude.{◌≡◌, ◌≤◌, ◌<◌, ◌+◌, ◌-
 ghost use Rattle.cbm_medium.specs.Place.{Place};
 ghost use Rattle.cbm_medium.specs.Seen.{OnlyContent};
 ghost use Rattle.cbm_file.specs.Records.{sides_for};
-ghost use Rattle.cbm_volume.specs.GrowthSteps.{Goes, NamesSide, NameSides, OfEmpty, OfSides, OfLonger, OfGrown, OfSide, OfGrowable, OfGoal, OfReached, OfSideable};
+ghost use Rattle.cbm_volume.specs.GrowthSteps.{GrowthGoes, NamesSide, NameSides, OfEmpty, OfSides, OfLonger, OfGrown, OfSide, OfGrowable, OfGoal, OfReached, OfSideable};
 
 use crate::records::making::miscounted;
 use cbm_medium::{Address, Geometry, Medium, Trouble};
@@ -23,7 +23,7 @@ pub fn lengthen_file<M: Medium>(
     requires last { last.track ≤ geometry }
     requires length { (1 ≤ file.width) × (file.width ≤ 254) }
     requires blocks { (1 ≤ blocks) × (blocks < 720) }
-    ensures longer { (s1 : ℕ) → Goes result (M.seen medium.old) (M.seen medium.new) geometry
+    ensures longer { (s1 : ℕ) → GrowthGoes result (M.seen medium.old) (M.seen medium.new) geometry
         (OfGrowable file blocks s1 last) (λ q. OfLonger file blocks s1 q) }
     ensures bound { IfOk result (λ q. q.track ≤ geometry) }
     ensures only { OnlyContent geometry result (M.seen medium.old) (M.seen medium.new) }
@@ -45,7 +45,7 @@ pub fn list_last<M: Medium>(
 ) -> Result<(), Trouble>
     requires tracks { geometry ≤ (M.seen medium.old).tracks }
     requires blocks { blocks < 720 }
-    ensures listed { (s1 : ℕ) → blocks < 120 * s1 → Goes result (M.seen medium.old) (M.seen medium.new) geometry
+    ensures listed { (s1 : ℕ) → blocks < 120 * s1 → GrowthGoes result (M.seen medium.old) (M.seen medium.new) geometry
         (OfLonger file blocks s1 block) (λ x. OfGrown file (blocks + 1) s1 block) }
     ensures only { OnlyContent geometry result (M.seen medium.old) (M.seen medium.new) }
 {
@@ -64,7 +64,7 @@ pub fn open_side<M: Medium>(
     requires tracks { geometry ≤ (M.seen medium.old).tracks }
     requires sides { sides < 6 }
     requires block { block.track ≤ geometry }
-    ensures begun { (b1 : ℕ) → Goes result (M.seen medium.old) (M.seen medium.new) geometry
+    ensures begun { (b1 : ℕ) → GrowthGoes result (M.seen medium.old) (M.seen medium.new) geometry
         (OfSideable file b1 sides block) (λ t. OfSide file b1 sides block t) }
     ensures bound { IfOk result (λ t. t.track ≤ geometry) }
     ensures only { OnlyContent geometry result (M.seen medium.old) (M.seen medium.new) }
@@ -87,14 +87,14 @@ pub fn copy_side<M: Medium>(
 ) -> Result<(), Trouble>
     requires tracks { geometry ≤ (M.seen medium.old).tracks }
     requires number { (number < sides) × (sides < 6) }
-    ensures copied { (b1 : ℕ) (q : Place) → 0 < number → Goes result (M.seen medium.old) (M.seen medium.new) geometry
+    ensures copied { (b1 : ℕ) (q : Place) → 0 < number → GrowthGoes result (M.seen medium.old) (M.seen medium.new) geometry
         (OfSide file b1 sides q side) (λ x. OfSide file b1 sides q side) }
-    ensures added { (b1 : ℕ) (q : Place) → number ≡ 0 → b1 ≡ 120 * sides → Goes result (M.seen medium.old) (M.seen medium.new) geometry
+    ensures added { (b1 : ℕ) (q : Place) → number ≡ 0 → b1 ≡ 120 * sides → GrowthGoes result (M.seen medium.old) (M.seen medium.new) geometry
         (OfSide file b1 sides q side) (λ x. OfGrown file (b1 + 1) (sides + 1) q) }
     // So it is where the new side sector lists no block.
-    ensures copied_empty { 0 < number → Goes result (M.seen medium.old) (M.seen medium.new) geometry
+    ensures copied_empty { 0 < number → GrowthGoes result (M.seen medium.old) (M.seen medium.new) geometry
         (OfEmpty file sides side) (λ x. OfEmpty file sides side) }
-    ensures added_empty { number ≡ 0 → Goes result (M.seen medium.old) (M.seen medium.new) geometry
+    ensures added_empty { number ≡ 0 → GrowthGoes result (M.seen medium.old) (M.seen medium.new) geometry
         (OfEmpty file sides side) (λ x. OfSides file (sides + 1)) }
     // The side sector of that number names the new one, and all else in it stays.
     ensures linked { NamesSide result (M.seen medium.old) (M.seen medium.new) geometry file number sides side }
@@ -113,9 +113,9 @@ pub fn copy_sides<M: Medium>(
 ) -> Result<(), Trouble>
     requires tracks { geometry ≤ (M.seen medium.old).tracks }
     requires sides { sides < 6 }
-    ensures copied { (b1 : ℕ) (q : Place) → Goes result (M.seen medium.old) (M.seen medium.new) geometry
+    ensures copied { (b1 : ℕ) (q : Place) → GrowthGoes result (M.seen medium.old) (M.seen medium.new) geometry
         (OfSide file b1 sides q side) (λ x. OfSide file b1 sides q side) }
-    ensures copied_empty { Goes result (M.seen medium.old) (M.seen medium.new) geometry
+    ensures copied_empty { GrowthGoes result (M.seen medium.old) (M.seen medium.new) geometry
         (OfEmpty file sides side) (λ x. OfEmpty file sides side) }
     // Each of them names the new one then, after those that it named.
     ensures linked { NameSides result (M.seen medium.old) (M.seen medium.new) geometry file sides side }
@@ -138,7 +138,7 @@ pub fn add_side<M: Medium>(
     requires tracks { geometry ≤ (M.seen medium.old).tracks }
     requires sides { (1 ≤ sides) × (sides < 6) }
     requires block { block.track ≤ geometry }
-    ensures added { (b1 : ℕ) → b1 ≡ 120 * sides → Goes result (M.seen medium.old) (M.seen medium.new) geometry
+    ensures added { (b1 : ℕ) → b1 ≡ 120 * sides → GrowthGoes result (M.seen medium.old) (M.seen medium.new) geometry
         (OfSideable file b1 sides block) (λ x. OfGrown file (b1 + 1) (sides + 1) block) }
     ensures only { OnlyContent geometry result (M.seen medium.old) (M.seen medium.new) }
 {
@@ -168,7 +168,7 @@ pub fn grow_once<M: Medium>(
     requires blocks { (1 ≤ reach.blocks) × (reach.blocks < 720) }
     requires sides { reach.sides ≤ 6 }
     ensures grown { let goal = reach.blocks + 1 in
-        Goes result (M.seen medium.old) (M.seen medium.new) geometry (OfGoal file reach.blocks reach.sides reach.last goal)
+        GrowthGoes result (M.seen medium.old) (M.seen medium.new) geometry (OfGoal file reach.blocks reach.sides reach.last goal)
         (λ x. OfReached file goal (sides_for reach.sides goal) x.sides x.last) }
     ensures bound { IfOk result
         (λ x. (x.blocks ≡ reach.blocks + 1) × (x.last.track ≤ geometry) × (x.sides ≤ 6)) }
@@ -206,7 +206,7 @@ pub fn grow_blocks<M: Medium>(
     requires blocks { (1 ≤ from.blocks) × (from.blocks + count ≤ 720) }
     requires sides { from.sides ≤ 6 }
     ensures grown { let goal = from.blocks + count in
-        Goes result (M.seen medium.old) (M.seen medium.new) geometry (OfGoal file from.blocks from.sides from.last goal)
+        GrowthGoes result (M.seen medium.old) (M.seen medium.new) geometry (OfGoal file from.blocks from.sides from.last goal)
         (λ x. OfReached file goal (sides_for from.sides goal) x.sides x.last) }
     ensures bound { IfOk result (λ x. (x.blocks ≡ from.blocks + count) × (x.sides ≤ 6)) }
     ensures only { OnlyContent geometry result (M.seen medium.old) (M.seen medium.new) }

@@ -8,7 +8,7 @@ ghost use Rattle.cbm_file.specs.Padding.{before_filler};
 ghost use Rattle.cbm_file.specs.Files.{Disk, empty_from};
 ghost use Rattle.cbm_file.specs.Changes.{grown};
 ghost use Rattle.cbm_file.specs.Records.{with_new_records};
-ghost use Rattle.cbm_volume.specs.Copies.{IsCutShort, OfVacant};
+ghost use Rattle.cbm_volume.specs.Copies.{IsCopyCut, OfVacant};
 ghost use Rattle.cbm_volume.specs.Layouts.{Layout};
 ghost use Rattle.cbm_volume.specs.NewRecords.{HasNoRoomForRecords, HasTwo, HoldsNew};
 ghost use Rattle.cbm_volume.specs.Reaches.{Reached};
@@ -88,7 +88,7 @@ fn make<M: Medium>(medium: &mut M, name: &[u8], record_length: u8) -> Result<u8,
         OfVacant old (λ d uses ch h. 2 ≤ d.free → let after = with_new_records d (before_filler name.now) record_length in
         MatchResult result (λ slot. (empty_from 0 (grown d).slots ≡ Some slot) ×
         Reached old.tracks old.content h.layout new.content after uses)
-        (IsCutShort old new old.content h.layout d uses)) }
+        (IsCopyCut old new old.content h.layout d uses)) }
     ensures only { OnlyOnDisk result (M.seen medium.old) (M.seen medium.new) }
 {
     let geometry = cbm_bam::geometry(medium);
@@ -105,7 +105,7 @@ fn begin<M: Medium>(medium: &mut M, geometry: Geometry) -> Result<(u8, (Address,
         OfVacant old (λ d uses ch h. 2 ≤ d.free → geometry ≡ geometry_of old.tracks old.content →
         MatchResult result (λ r. (empty_from 0 (grown d).slots ≡ Some r.0) ×
         HasTwo old.tracks old.content h.layout d uses ch new.content r.1.0 r.1.1)
-        (IsCutShort old new old.content h.layout d uses)) }
+        (IsCopyCut old new old.content h.layout d uses)) }
     ensures tracks { IfOk result (λ r. (r.1.0.track ≤ geometry) × (r.1.1.track ≤ geometry)) }
     ensures only { OnlyContent geometry result (M.seen medium.old) (M.seen medium.new) }
 {
@@ -136,7 +136,7 @@ fn enter<M: Medium>(
         HasTwo old.tracks c l d uses ch old.content block side → HoldsNew old.content block side record_length →
         empty_from 0 (grown d).slots ≡ Some number → geometry ≡ geometry_of old.tracks c →
         MatchResult result (λ x. Reached old.tracks c l new.content
-        (with_new_records d (before_filler name.now) record_length) uses) (IsCutShort old new c l d uses) }
+        (with_new_records d (before_filler name.now) record_length) uses) (IsCopyCut old new c l d uses) }
     ensures only { OnlyContent geometry result (M.seen medium.old) (M.seen medium.new) }
 {
     let first = Link::from(block);

@@ -4,7 +4,7 @@ ghost use Rattle.std.specs.Prelude.{◌≡◌, ◌⊎◌, ℕ, List, true, IsOk,
 ghost use Rattle.cbm_medium.specs.Met.{IsMet};
 ghost use Rattle.cbm_file.specs.Files.{Disk, File, Records, file_at};
 ghost use Rattle.cbm_bam.specs.Map.{geometry_of};
-ghost use Rattle.cbm_volume.specs.Holding.{HoldsDisk, StandsAt};
+ghost use Rattle.cbm_volume.specs.Holding.{HoldsDisk, EntryStandsAt};
 ghost use Rattle.cbm_volume.specs.RecordFaults.{IsMislisted};
 ghost use Rattle.cbm_volume.specs.check.SideLists.{are_records};
 
@@ -19,7 +19,7 @@ impl<M: Medium> Volume<M> {
     /// is 71 at the first side sector where they aren't, and 66 or the medium's fault where that doesn't read.
     pub fn open_records(&self, entry: &Entry) -> Result<(), Trouble>
         ensures means { let now = M.seen self.now in (d : Disk) (n : ℕ) (f : File) (w b s : ℕ) (rs : List (List ℕ)) →
-            HoldsDisk now.tracks now.content d → StandsAt now.tracks now.content n entry.now →
+            HoldsDisk now.tracks now.content d → EntryStandsAt now.tracks now.content n entry.now →
             file_at d n ≡ Some f → f.body ≡ Records w rs b s → IsOk result }
         ensures right { let now = M.seen self.now in
             OnOk result (are_records (geometry_of now.tracks now.content) now.content entry.now ≡ true) }

@@ -1,5 +1,5 @@
 use Rattle.std.proofs.Common.{◌≡◌, Bool, true, false, not, refl, sym, subst, ◌∙◌}
-use Rattle.bus_judge.specs.Judging.{Rests}
+use Rattle.bus_judge.specs.Judging.{JudgeRests}
 use Rattle.bus_judge.specs.Views.{whole_of, told_of}
 use Rattle.bus_judge.specs.declared.whole.Whole.{Whole as OwnWhole}
 use Rattle.cbm_session.specs.Frames.{is_last}
@@ -13,4 +13,4 @@ not-false false h = absurd cc
 pub returns-in-Talk : goal.returns-in-Talk
 returns-in-Talk c = λ h.
     let t : is_last (told_of c.in-Talk.frame) ≡ true = sym c.is_last.ensures ∙ not-false c.is_last.result h in
-    subst (λ (w : OwnWhole). Rests (whole_of w)) (sym c.in-Talk.is) t
+    subst (λ (w : OwnWhole). JudgeRests (whole_of w)) (sym c.in-Talk.is) t

@@ -1,8 +1,8 @@
-use Rattle.bus_traces.specs.Lines.{bytes_left}
+use Rattle.bus_traces.specs.Lines.{source_bytes_left}
 use Rattle.bus_traces.proofs.ReadingLemmas.{SaysSame}
 use Rattle.bus_traces.proofs.lines.next_event.Given as goal
 
 abbrev pub invariant-lines : goal.invariant-lines
 invariant-lines g l = record {
-  same : SaysSame l.from (bytes_left g.R.Read.remaining l.initial.source) (bytes_left g.R.Read.remaining l.source);
+  same : SaysSame l.from (source_bytes_left g.R.Read.remaining l.initial.source) (source_bytes_left g.R.Read.remaining l.source);
 }

@@ -1,9 +1,9 @@
 use Rattle.std.proofs.Common.{false, subst, sym}
-use Rattle.cbm_channel.specs.Machines.{start}
+use Rattle.cbm_machine.specs.Machines.{start}
 use Rattle.cbm_volume.specs.Holding.{HoldsDisk}
 use Rattle.cbm_image.specs.Images.{kind_of, tracks_of}
-use Rattle.cbm_shell.specs.Changing.{begun, after_change, IsFaultOf, IsFine, IsUndone}
-use Rattle.cbm_device.specs.ImageDisks.{seen_of}
+use Rattle.cbm_shell.specs.Changing.{begun, disk_after_change, IsFaultOf, IsFine, IsUndone}
+use Rattle.cbm_device.specs.ImageDisks.{counted_seen}
 use Rattle.cbm_device.specs.Making.{IsUnmade, IsUnchanged}
 use Rattle.cbm_device.proofs.Giving.{changed_from}
 use Rattle.cbm_device.proofs.Opening.{holds_of, of_disk, same_start}
@@ -16,10 +16,10 @@ returns-in-Ok-clause-made c = λ d h.
     let change = c.args.change.now in
     let is = c.in_ok-disk.ensures.ok in
     let m = start d false (tracks_of (kind_of image) image) in
-    let now = seen_of c.in-Ok.disk in
-    let made = subst (λ m. IsFine (after_change change m).status × HoldsDisk now.tracks now.content (after_change change m).disk) (same_start image false c.in_ok-disk.disk d is)
+    let now = counted_seen c.in-Ok.disk in
+    let made = subst (λ m. IsFine (disk_after_change change m).status × HoldsDisk now.tracks now.content (disk_after_change change m).disk) (same_start image false c.in_ok-disk.disk d is)
     (c.in-Ok.ensures.made d (holds_of image false c.in_ok-disk.disk d is h)) in
-    changed_from (λ v. v.items) c.save.result image c.kind_of.result c.in-Ok.disk (IsFine (after_change change m).status) (after_change change m).disk (begun change m) (after_change change m)
+    changed_from (λ v. v.items) c.save.result image c.kind_of.result c.in-Ok.disk (IsFine (disk_after_change change m).status) (disk_after_change change m).disk (begun change m) (disk_after_change change m)
     c.kind_of.ensures made c.save.ensures.ok c.save.ensures.err
 
 pub returns-in-Err-clause-made : goal.returns-in-Err-clause-made
@@ -28,7 +28,7 @@ returns-in-Err-clause-made c = λ d h.
     let change = c.args.change.now in
     let is = c.in_ok-disk.ensures.ok in
     let m = start d false (tracks_of (kind_of image) image) in
-    subst (λ r. IsUnmade image (begun change m) (after_change change m) r) (sym c.from.ensures) (unmade image change m c.in-Err.fault
+    subst (λ r. IsUnmade image (begun change m) (disk_after_change change m) r) (sym c.from.ensures) (unmade image change m c.in-Err.fault
     (subst (λ m. IsUndone change m c.in-Err.fault) (same_start image false c.in_ok-disk.disk d is) (c.in-Err.ensures.made d (holds_of image false c.in_ok-disk.disk d is h))))
 
 pub returns-in-Err-clause-sound : goal.returns-in-Err-clause-sound

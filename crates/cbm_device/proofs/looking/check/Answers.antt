@@ -3,13 +3,13 @@ use Rattle.cbm_volume.specs.Layouts.{Sound}
 use Rattle.cbm_volume.specs.Map.{geometry_of}
 use Rattle.cbm_shell.specs.Images.{IsChecked}
 use Rattle.cbm_shell.proofs.ImageLemmas.{as_checked}
-use Rattle.cbm_device.specs.ImageDisks.{seen_of}
+use Rattle.cbm_device.specs.ImageDisks.{counted_seen}
 use Rattle.cbm_device.proofs.Opening.{of_disk, to_disk}
 use Rattle.cbm_device.proofs.looking.check.Goals as goal
 
 pub returns-clause-ok : goal.returns-clause-ok
 returns-clause-ok c =
-    let now = seen_of c.in_ok-volume.volume in
+    let now = counted_seen c.in_ok-volume.volume in
     of_disk (λ n content. IsChecked n content c.check.result) c.args.image.now true c.in_ok-volume.volume c.in_ok-volume.ensures.ok
     (as_checked now.tracks now.content c.check.result c.check.ensures.sound c.check.ensures.err)
 

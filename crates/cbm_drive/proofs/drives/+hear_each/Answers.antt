@@ -1,10 +1,10 @@
 use Rattle.std.proofs.Common.{◌≡◌, ◌∷◌, List, [], sym, subst, arith}
 use Rattle.std.specs.List.{AllZip}
-use Rattle.cbm_iec.specs.declared.line.Change.{Change}
+use Rattle.cbm_iec.specs.declared.lines.Change.{Change}
 use Rattle.cbm_iec.specs.declared.lines.Held.{Held}
 use Rattle.cbm_session.specs.Playing.{Station}
 use Rattle.cbm_drive.specs.declared.wires.Wires.{Wires}
-use Rattle.cbm_drive.specs.Reactions.{AreAt, Toggles, IsAllOf, HaveHeard, behind_change, behind_all, held_behind}
+use Rattle.cbm_drive.specs.Reactions.{AreAtMoment, Toggles, IsAllOf, HaveHeard, behind_change, wires_after_all, held_behind}
 use Rattle.cbm_drive.specs.Seats.{IsSeat}
 use Rattle.cbm_drive.proofs.Heard.{no_items, heard_none, heard_next, Told}
 use Rattle.cbm_drive.proofs.Nearer.{kept_same, kept_then}
@@ -13,7 +13,7 @@ use Rattle.cbm_drive.proofs.drives.+hear_each.Goals as goal
 pub returns-in_default-clause-heard : goal.returns-in_default-clause-heard
 returns-in_default-clause-heard g t c = λ u v own bs hs when toggles counts b h.
     (let none : c.args.changes.now ≡ [] = no_items c.args.changes.now c.in_default.ensures.cases in
-    subst (λ (cs : List Change). HaveHeard _ g.D.Machine.State g.D.Machine.stands g.D.Machine.step g.D.Machine.says (behind_all cs c.args.wires) (held_behind cs own) cs c.args.front.now c.args.back.now bs hs) (sym none)
+    subst (λ (cs : List Change). HaveHeard _ g.D.Machine.State g.D.Machine.stands g.D.Machine.step g.D.Machine.says (wires_after_all cs c.args.wires) (held_behind cs own) cs c.args.front.now c.args.back.now bs hs) (sym none)
     (heard_none _ g.D.Machine.State g.D.Machine.stands g.D.Machine.step g.D.Machine.says c.args.wires own c.args.front.now c.args.back.now bs hs counts b h))
 
 pub returns-clause-heard : goal.returns-clause-heard
@@ -24,14 +24,14 @@ returns-clause-heard g t c = λ u v.
     let is : c.after-wires.result ≡ now = c.after-wires.ensures.value in
     let changes : c.args.changes.now ≡ first ∷ rest = c.in-Some.ensures.cases.0 in
     λ own bs hs when toggles counts b h.
-    subst (λ (cs : List Change). HaveHeard _ g.D.Machine.State g.D.Machine.stands g.D.Machine.step g.D.Machine.says (behind_all cs c.args.wires) (held_behind cs own) cs c.hear_each.new.front c.hear_each.new.back bs hs) (sym changes)
+    subst (λ (cs : List Change). HaveHeard _ g.D.Machine.State g.D.Machine.stands g.D.Machine.step g.D.Machine.says (wires_after_all cs c.args.wires) (held_behind cs own) cs c.hear_each.new.front c.hear_each.new.back bs hs) (sym changes)
     (heard_next _ g.D.Machine.State g.D.Machine.stands g.D.Machine.step g.D.Machine.says c.args.moment first rest c.args.wires own c.args.front.now c.args.back.now c.tell_others.new.drives c.tell_others-2.new.drives c.hear_each.new.front c.hear_each.new.back bs hs
     (subst (λ (w : Wires). Told _ g.D.Machine.State g.D.Machine.stands g.D.Machine.step g.D.Machine.says c.args.moment w c.args.front.now c.tell_others.new.drives) is (c.tell_others.ensures.told (omega (arith, u, c.hear_each.ensures.front_counted)))) c.tell_others.ensures.own
     (subst (λ (w : Wires). Told _ g.D.Machine.State g.D.Machine.stands g.D.Machine.step g.D.Machine.says c.args.moment w c.args.back.now c.tell_others-2.new.drives) is (c.tell_others-2.ensures.told (omega (arith, v, c.hear_each.ensures.back_counted)))) c.tell_others-2.ensures.own
-    (subst (λ (w : Wires). (o : Held) (us es : List (Station g.D.Machine.State)) → AreAt c.args.moment rest → Toggles o rest → IsAllOf w o c.tell_others.new.drives c.tell_others-2.new.drives
+    (subst (λ (w : Wires). (o : Held) (us es : List (Station g.D.Machine.State)) → AreAtMoment c.args.moment rest → Toggles o rest → IsAllOf w o c.tell_others.new.drives c.tell_others-2.new.drives
     → AllZip (IsSeat _ g.D.Machine.State g.D.Machine.stands w) c.tell_others.new.drives us → AllZip (IsSeat _ g.D.Machine.State g.D.Machine.stands w) c.tell_others-2.new.drives es
-    → HaveHeard _ g.D.Machine.State g.D.Machine.stands g.D.Machine.step g.D.Machine.says (behind_all rest w) (held_behind rest o) rest c.hear_each.new.front c.hear_each.new.back us es) is (c.hear_each.ensures.heard (omega (arith, u, c.tell_others.ensures.counted)) (omega (arith, v, c.tell_others-2.ensures.counted))))
-    (subst (AreAt c.args.moment) changes when) (subst (Toggles own) changes toggles) counts b h)
+    → HaveHeard _ g.D.Machine.State g.D.Machine.stands g.D.Machine.step g.D.Machine.says (wires_after_all rest w) (held_behind rest o) rest c.hear_each.new.front c.hear_each.new.back us es) is (c.hear_each.ensures.heard (omega (arith, u, c.tell_others.ensures.counted)) (omega (arith, v, c.tell_others-2.ensures.counted))))
+    (subst (AreAtMoment c.args.moment) changes when) (subst (Toggles own) changes toggles) counts b h)
 
 pub returns-in_default-clause-front : goal.returns-in_default-clause-front
 returns-in_default-clause-front g t c = kept_same c.args.moment c.args.front.now

@@ -1,6 +1,6 @@
 use Rattle.std.proofs.Common.{ℕ, sym, ◌≡◌, ◌∷◌, ◌++◌, List, ap, subst, ◌∙◌}
 use Rattle.cbm_drive.specs.declared.wires.Wires.{Wires}
-use Rattle.cbm_drive.specs.Seats.{Seated, IsBusAt, IsFirstDue, Unfailed, held_by}
+use Rattle.cbm_drive.specs.Seats.{Seated, IsBusAt, IsFirstDue, Unfailed, wires_held_by}
 use Rattle.cbm_drive.specs.Reactions.{HasReacted, Hear}
 use Rattle.cbm_drive.proofs.Alone.{reacts_alone}
 use Rattle.cbm_drive.proofs.Reacted.{reacts}
@@ -21,9 +21,9 @@ returns-clause-reacted g c = λ u.
     subst (λ (device : ℕ). HasReacted _ g.D.Machine.State g.D.Machine.stands g.D.Machine.step g.D.Machine.says c.args.host c.args.moment device (c.hear_others.new.front ++ c.due-changes.new.self ∷ c.hear_others.new.back) c.due-changes.result.items ss) (sym c.device-device.ensures)
     (reacts _ g.D.Machine.State g.D.Machine.stands g.D.Machine.stands g.D.Machine.step g.D.Machine.says c.args.host c.args.moment c.args.place front x c.due-changes.new.self back c.hear_others.new.front c.hear_others.new.back c.due-changes.result.items ss
     c.split_at_mut-front.ensures.front_len c.due-changes.ensures.port c.due-changes.ensures.changes (c.due-changes.ensures.machine each.1)
-    (subst (Hear _ g.D.Machine.State g.D.Machine.stands g.D.Machine.stands g.D.Machine.step g.D.Machine.says c.args.moment front back c.hear_others.new.front c.hear_others.new.back (held_by c.args.host (front ++ x ∷ back))) c.deref.ensures.0
+    (subst (Hear _ g.D.Machine.State g.D.Machine.stands g.D.Machine.stands g.D.Machine.step g.D.Machine.says c.args.moment front back c.hear_others.new.front c.hear_others.new.back (wires_held_by c.args.host (front ++ x ∷ back))) c.deref.ensures.0
     (subst (λ (w : Wires). Hear _ g.D.Machine.State g.D.Machine.stands g.D.Machine.stands g.D.Machine.step g.D.Machine.says c.args.moment front back c.hear_others.new.front c.hear_others.new.back w c.deref.result.now)
-    (c.of-wires.ensures.value ∙ ap (held_by c.args.host) old) (c.hear_others.ensures.heard each.0 each.2)))
+    (c.of-wires.ensures.value ∙ ap (wires_held_by c.args.host) old) (c.hear_others.ensures.heard each.0 each.2)))
     (subst (λ (xs : List (Seated _)). IsBusAt _ g.D.Machine.State g.D.Machine.stands c.args.host xs ss) old bus)
     (subst (λ (xs : List (Seated _)). IsFirstDue xs (c.args.place, c.args.moment)) old first))
 

@@ -1,6 +1,6 @@
 use Rattle.std.proofs.Common.{◌++◌, List, refl, ap, subst, ◌∙◌, arith}
 use Rattle.cbm_iec.specs.declared.event.Event.{Event}
-use Rattle.cbm_iec.specs.declared.line.Change.{Change}
+use Rattle.cbm_iec.specs.declared.lines.Change.{Change}
 use Rattle.cbm_session.specs.Playing.{drive_events}
 use Rattle.cbm_drive.proofs.Firsts.{first_in_time, idle_in_time}
 use Rattle.cbm_drive.proofs.Left.{less_left}

@@ -1,5 +1,5 @@
 use Rattle.std.proofs.Common.{◌≡◌, ℕ, get_or, ◌-◌, refl, arith, ap, subst}
-use Rattle.cbm_g64.specs.Tracks.{IsChanged}
+use Rattle.cbm_g64.specs.Tracks.{IsCircleChanged}
 use Rattle.cbm_g64.proofs.Contents.{has_of, answer_is, put_is, write_is, change_is, on_a_track}
 use Rattle.cbm_g64.proofs.circles.write_on.Goals as goal
 
@@ -17,7 +17,7 @@ pub returns-clause-changed : goal.returns-clause-changed
 returns-clause-changed c =
     let b = on_a_track c.args.at (has_of c.args.at c.track.ensures.on_disk c.requires.track) in
     let t : c.track.result - 1 ≡ c.args.at.track - 1 = ap (λ (n : ℕ). n - 1) c.track.ensures.value in
-    subst (IsChanged c.args.tracks.now _) t (
+    subst (IsCircleChanged c.args.tracks.now _) t (
     change_is c.write_sector.result c.args.tracks.now (get_or c.args.tracks.now (c.track.result - 1) c.index-tracks-track.result) c.index-tracks-track.result c.write_sector.new.self (c.track.result - 1)
     (omega (arith, b.0, b.1)) refl c.write_sector.ensures.length c.write_sector.ensures.long c.write_sector.ensures.err c.write_sector.ensures.id)
 

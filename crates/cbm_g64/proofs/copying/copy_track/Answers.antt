@@ -1,8 +1,8 @@
 use Rattle.std.proofs.Common.{rules, ◌≡◌, ◌≢◌, ℕ, ◌<◌, ◌≤◌, List, Ok, None, IfErr, IfOk, length, replicate, true, ◌+◌, ◌-◌, ◌*◌, ◌/◌, ◌%◌, Bool, false, nat_eq, nat_lt, [], ◌∷◌, ◌++◌, slice_index_or, slice_set, bit_and, bit_or, Fits, w8, w32, w64, Bor, MutBor}
 use Rattle.cbm_medium.specs.Place.{Has, Place, sectors_on}
-use Rattle.cbm_g64.specs.File.{fault_of, tracks_in}
+use Rattle.cbm_g64.specs.File.{g64_fault, g64_circles}
 use Rattle.cbm_g64.specs.NewFile.{new_file}
-use Rattle.cbm_g64.specs.Tracks.{content_of, id_for, or_zeros, AreFilled, AreFresh, AreLaid}
+use Rattle.cbm_g64.specs.Tracks.{g64_content, id_for, or_zeros, AreFilled, AreFresh, AreLaid}
 use Rattle.cbm_g64.specs.Image.{IsHeld, IsImageOf}
 use Rattle.cbm_g64.proofs.copying.copy_track.Goals as goal
 

@@ -1,6 +1,6 @@
 use Rattle.std.proofs.Common.{◌≡◌, ◌∙◌, ℕ, List, [], Bool, length, take, drop, ◌+◌, ◌-◌, ◌/◌, sym, subst, arith, true, false}
 use Rattle.std.proofs.lemmas.List.{get_or_read, length-take-le, length-drop}
-use Rattle.cbm_g64.specs.File.{tracks_in}
+use Rattle.cbm_g64.specs.File.{g64_circles}
 use Rattle.cbm_g64.specs.NewFile.{base_of}
 use Rattle.cbm_g64.proofs.Imaging.{IsPut, put_none, put_all, put_skip, put_at, track_ends}
 use Rattle.cbm_g64.specs.Image.{IsHeld, IsImageOf}
@@ -42,7 +42,7 @@ returns-clause-image c = made c
 pub returns-clause-again : goal.returns-clause-again
 returns-clause-again c = read_again (base_of c.args.formatted c.args.file.now) c.args.tracks.now c.loop-i.out c.requires.held (made c)
 
-same_file : (file image : List ℕ) (tracks : List (List Bool)) (b : Bool) → IsHeld (base_of b file) tracks → IsBytes file → IsBytes image → IsImageOf (base_of b file) tracks image → b ≡ false → tracks ≡ tracks_in file 35 → image ≡ file
+same_file : (file image : List ℕ) (tracks : List (List Bool)) (b : Bool) → IsHeld (base_of b file) tracks → IsBytes file → IsBytes image → IsImageOf (base_of b file) tracks image → b ≡ false → tracks ≡ g64_circles file 35 → image ≡ file
 same_file file image tracks true h f g m e t = cc
 same_file file image tracks false h f g m e t = unwritten file image (subst (IsHeld file) t h) f g (subst (λ (u : List (List Bool)). IsImageOf file u image) t m)
 

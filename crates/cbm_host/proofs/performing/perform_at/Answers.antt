@@ -8,7 +8,7 @@ use Rattle.cbm_host.specs.CarriedOut.{IsShort}
 use Rattle.cbm_host.proofs.EndsAt.{over_then}
 use Rattle.cbm_host.specs.Engines.{engine_at, engine_due}
 use Rattle.cbm_host.specs.Performed.{over_at, HasPerformed}
-use Rattle.cbm_host.specs.Performers.{Stops}
+use Rattle.cbm_host.specs.Performers.{StopsPerforming}
 use Rattle.cbm_host.specs.Requests.{longest}
 use Rattle.cbm_drive.specs.Playback.{Playback, played_says, played_step, IsPlayedBack}
 use Rattle.cbm_drive.specs.PlayedBack.{played_byte}
@@ -41,7 +41,7 @@ returns-in-Ok-clause-moments g c = λ u ss bus.
     let h = c.in-Ok.ensures.performed u engine limit c.args.events.now.items ss
     (performing_none _ g.D.Machine.State g.D.Machine.stands g.D.Machine.step g.D.Machine.says g.met.D.Machine.byte engine limit c.with_pace-performer.result c.args.bus.now c.args.events.now.items c.new.result.items false ss bus c.with_pace-performer.ensures.player c.with_pace-performer.ensures.engine
     c.with_pace-performer.ensures.limit c.new.ensures.items refl) in
-    let stops = subst (λ (l : ℕ). Stops g.D.Machine.State g.D.Machine.step g.D.Machine.says c.run.new.performer.player l 0 ss h.made (engine_due c.run.new.performer.engine)) (sym h.until) h.stops in
+    let stops = subst (λ (l : ℕ). StopsPerforming g.D.Machine.State g.D.Machine.step g.D.Machine.says c.run.new.performer.player l 0 ss h.made (engine_due c.run.new.performer.engine)) (sym h.until) h.stops in
     record {
       made = h.made;
       added = h.added;

@@ -3,8 +3,8 @@ use Rattle.std.proofs.lemmas.Result.{IfOk-weaker, err_from_is_err_and}
 use Rattle.cbm_host.specs.Hosted.{party_of}
 use Rattle.cbm_image.specs.Images.{kind_of, image_fault, tracks_of, content_of, ImageHolds}
 use Rattle.cbm_program.specs.Checking.{checked_text}
-use Rattle.cbm_program.specs.Outcome.{IsServed, IsTraced}
-use Rattle.cbm_program.specs.Starts.{Begins, StartsFrom, KeptBy}
+use Rattle.cbm_program.specs.Outcome.{IsScriptServed, IsTraced}
+use Rattle.cbm_program.specs.Starts.{BeginsOn, StartsFrom, KeptBy}
 use Rattle.cbm_program.specs.Timetables.{of_requests, of_changes}
 use Rattle.cbm_program.proofs.LinePrints.{if_err}
 use Rattle.cbm_program.proofs.GuardedRuns.{by_protection, kept-behind, kept-trace}
@@ -18,7 +18,7 @@ pub returns-in_err-disk : goal.returns-in_err-disk
 returns-in_err-disk g c =
     let p = err_from_is_err_and c.from_residual.result c.from_residual.ensures.1 in
     record {
-      run = run-refused c.from_residual.result _ _ (g.R.Read.remaining c.args.reader) (Begins c.args.image.now c.args.options.now.protected) (λ saved m. ImageHolds (kind_of c.args.image.now) saved.items m.disk) c.args.pace c.args.options.now.device c.args.options.now.check (p.1 ∙ ap Err p.2)
+      run = run-refused c.from_residual.result _ _ (g.R.Read.remaining c.args.reader) (BeginsOn c.args.image.now c.args.options.now.protected) (λ saved m. ImageHolds (kind_of c.args.image.now) saved.items m.disk) c.args.pace c.args.options.now.device c.args.options.now.check (p.1 ∙ ap Err p.2)
           (λ P. refused-ends c.from_residual.result _ _ P (p.1 ∙ ap Err p.2) c.in_err-disk.ensures.cause);
       checked = λ e. refused-ends c.from_residual.result _ _ _ (p.1 ∙ ap Err p.2) c.in_err-disk.ensures.cause;
       guarded = (search rules);
@@ -39,7 +39,7 @@ returns-in_err-disk-2 g c =
     let among = starts-as g.I.DiskImage.kind (kind_of image) image (seen disk).tracks (seen disk).content c.args.options.now.protected (seen disk).protected c.requires.kind first.0 first.1 in
     let p = err_from_is_err_and c.from_residual-in_err-disk-2.result c.from_residual-in_err-disk-2.ensures.1 in
     record {
-      run = run-again c.from_residual-in_err-disk-2.result _ _ _ (g.R.Read.remaining c.args.reader) (Begins image c.args.options.now.protected) (StartsFrom (seen disk)) (λ saved m. ImageHolds (kind_of image) saved.items m.disk) (λ after. KeptBy (seen after)) c.args.pace c.args.options.now.device
+      run = run-again c.from_residual-in_err-disk-2.result _ _ _ (g.R.Read.remaining c.args.reader) (BeginsOn image c.args.options.now.protected) (StartsFrom (seen disk)) (λ saved m. ImageHolds (kind_of image) saved.items m.disk) (λ after. KeptBy (seen after)) c.args.pace c.args.options.now.device
           c.args.options.now.check among (p.1 ∙ ap Err p.2) c.in_err-disk-2.ensures.run;
       checked = λ e. ends-again _ _ _ _ (c.in_err-disk-2.ensures.checked e) (p.1 ∙ ap Err p.2) (λ bad. checked-as g.I.DiskImage.kind (kind_of image) image (seen disk).tracks (seen disk).content _ _ c.requires.kind first.0);
       guarded = (search rules);
@@ -66,7 +66,7 @@ returns g c =
     let asked = of_requests (g.R.Read.remaining c.args.reader) in
     let timed = of_changes (g.R.Read.remaining c.args.reader) in
     let first = c.in_ok-disk.ensures.ok in
-    let starts = Begins image guarded in
+    let starts = BeginsOn image guarded in
     let all = StartsFrom (seen disk) in
     let kept = KeptBy (seen after) in
     let run = c.in_ok-disk-2.ensures.run in
@@ -77,7 +77,7 @@ returns g c =
           ended = ends-saved c.image_after.result _ c.image_after.ensures.err (ended-among pace checks before behind starts all (λ m. Unit {0}) (λ m. Unit {0}) among (λ m s. s) asked _ run.served.ended);
           disk = by_protection guarded (λ free. IfOk-weaker c.image_after.result _ _ (λ saved is. served-among pace checks before behind starts all kept (λ m. ImageHolds (kind_of image) saved.items m.disk) among
               (holds-as g.I.DiskImage.kind (kind_of image) saved.items (seen after).tracks (seen after).content c.requires.kind is) asked run.served.disk) (c.image_after.ensures.written free))
-              (λ kept_so. IfOk-weaker c.image_after.result _ _ (λ saved same. subst (λ (l : List ℕ). IsServed pace checks asked before behind starts (λ m. ImageHolds (kind_of image) l m.disk)) (sym same)
+              (λ kept_so. IfOk-weaker c.image_after.result _ _ (λ saved same. subst (λ (l : List ℕ). IsScriptServed pace checks asked before behind starts (λ m. ImageHolds (kind_of image) l m.disk)) (sym same)
               (kept-behind (tracks_of (kind_of image) image) (content_of (kind_of image) image) guarded kept_so pace checks before behind asked (λ m. Unit {0})
               (served-among pace checks before behind starts all kept (λ m. Unit {0}) among (λ m s. tt) asked run.served.disk)))
               (c.image_after.ensures.given kept_so));

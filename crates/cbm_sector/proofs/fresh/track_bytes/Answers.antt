@@ -2,7 +2,7 @@ use Rattle.std.proofs.Common.{rules, ◌≡◌, ℕ, ◌<◌, ◌≤◌, ◌+◌
 use Rattle.arrayvec.specs.ArrayVec.{array_vec_len}
 use Rattle.cbm_gcr.specs.Code.{code, bits_of}
 use Rattle.cbm_medium.specs.Place.{sectors_on}
-use Rattle.cbm_sector.specs.Answer.{block_of, shown, id_shown, data_block}
+use Rattle.cbm_sector.specs.Answer.{block_of, sector_shown, id_shown, data_block}
 use Rattle.cbm_sector.specs.Fresh.{block_place, bytes_on, fresh, fresh_sector, fresh_sectors, header_block, laid}
 use Rattle.cbm_sector.proofs.fresh.track_bytes.Goals as goal
 

@@ -1,7 +1,7 @@
 use Rattle.std.proofs.Common.{◌≡◌, ◌∙◌, sym, ap, arith, List, ℕ, Bool, Option, Some, ◌+◌, ◌*◌, ◌↔◌, ◌<◌, ◌++◌, length, refl, take, drop, rules}
 use Rattle.std.proofs.lemmas.List.{places}
 use Rattle.std.specs.Prelude.{IfSome}
-use Rattle.cbm_gcr.specs.Code.{code, bits_of, IsBlock}
+use Rattle.cbm_gcr.specs.Code.{code, bits_of, IsFourBytes}
 use Rattle.cbm_track.specs.Circle.{stretch}
 use Rattle.cbm_sector.specs.Decoding.{coded_at}
 use Rattle.cbm_sector.proofs.Stands.{coded_is}
@@ -9,7 +9,7 @@ use Rattle.cbm_sector.proofs.Reading.{coded_no_front, coded_no_rest, coded_join,
 use Rattle.cbm_sector.proofs.group.block_bytes.Goals as goal
 
 part : (t : List Bool) (p i : ℕ) (xs : List ℕ) (o : Option (List ℕ)) → i < 65 → bits_of xs ≡ stretch t p 2600
-    → ((v : List ℕ) → IsBlock v → ((o ≡ Some v) ↔ (code v ≡ take 40 (drop (8 * (5 * i)) (bits_of xs))))) → IfSome o IsBlock → o ≡ coded_at t (p + 10 * (4 * i)) 4
+    → ((v : List ℕ) → IsFourBytes v → ((o ≡ Some v) ↔ (code v ≡ take 40 (drop (8 * (5 * i)) (bits_of xs))))) → IfSome o IsFourBytes → o ≡ coded_at t (p + 10 * (4 * i)) 4
 part t p i xs o h e value block = group_there t p xs (5 * i) 2600 o e (omega arith) value block ∙ (let q : p + 8 * (5 * i) ≡ p + 10 * (4 * i) = omega arith in ap (λ (r : ℕ). coded_at t r 4) q)
 
 pub loop-i-init : goal.loop-i-init

@@ -1,6 +1,6 @@
 use Rattle.std.proofs.Common.{◌≡◌, ◌∙◌, sym, ap, arith, ℕ, List, Bool, Option, Some, ◌↔◌, ◌+◌, ◌*◌, take, drop}
 use Rattle.std.specs.Prelude.{IfSome}
-use Rattle.cbm_gcr.specs.Code.{code, bits_of, IsBlock}
+use Rattle.cbm_gcr.specs.Code.{code, bits_of, IsFourBytes}
 use Rattle.cbm_track.specs.Circle.{stretch}
 use Rattle.cbm_sector.specs.Decoding.{coded_at}
 use Rattle.cbm_sector.proofs.Reading.{coded_no_front, coded_no_rest, header_joined, group_there}
@@ -8,7 +8,7 @@ use Rattle.cbm_sector.proofs.group.header_bytes.Goals as goal
 
 -- the first four bytes
 front : (t : List Bool) (p : ℕ) (xs : List ℕ) (o : Option (List ℕ)) → bits_of xs ≡ stretch t p 80
-    → ((v : List ℕ) → IsBlock v → ((o ≡ Some v) ↔ (code v ≡ take 40 (drop (8 * 0) (bits_of xs))))) → IfSome o IsBlock → o ≡ coded_at t p 4
+    → ((v : List ℕ) → IsFourBytes v → ((o ≡ Some v) ↔ (code v ≡ take 40 (drop (8 * 0) (bits_of xs))))) → IfSome o IsFourBytes → o ≡ coded_at t p 4
 front t p xs o e value block = group_there t p xs 0 80 o e (omega arith) value block ∙ (let q : p + 8 * 0 ≡ p = omega arith in ap (λ (r : ℕ). coded_at t r 4) q)
 
 pub returns-in_err-a : goal.returns-in_err-a

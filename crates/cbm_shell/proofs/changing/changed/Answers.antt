@@ -2,10 +2,10 @@ use Rattle.std.proofs.Common.{rules, subst, sym, ◌∙◌, ap, Err}
 use Rattle.std.proofs.lemmas.Result.{err_from_is_err_and}
 use Rattle.cbm_file.specs.Files.{Disk}
 use Rattle.cbm_volume.specs.Holding.{HoldsDisk}
-use Rattle.cbm_channel.specs.Machines.{start}
+use Rattle.cbm_machine.specs.Machines.{start}
 use Rattle.cbm_channel.specs.Standing.{Stands}
 use Rattle.cbm_channel.proofs.Stands.{means_of}
-use Rattle.cbm_shell.specs.Changing.{after_change}
+use Rattle.cbm_shell.specs.Changing.{disk_after_change}
 use Rattle.cbm_shell.specs.Editing.{IsUnedited}
 use Rattle.cbm_shell.proofs.ChangeLemmas.{unsound_of}
 use Rattle.cbm_shell.proofs.changing.changed.Goals as goal
@@ -38,7 +38,7 @@ returns-clause-made g c = λ d h.
     let begins = subst (λ k. (d : Disk) → HoldsDisk (seen k).tracks (seen k).content d → Stands seen c.new-dos.result (start d (seen k).protected (seen k).tracks)) same
     c.new-dos.ensures.stands in
     let made = c.in_ok-apply.ensures.made _ (begins d h) in
-    (made.0, subst (λ k. HoldsDisk (seen k).tracks (seen k).content (after_change c.args.change.now (start d (seen c.args.medium).protected (seen c.args.medium).tracks)).disk) (sym c.into_medium-2.ensures) (means_of _ _ _ _ _ _ _ made.1))
+    (made.0, subst (λ k. HoldsDisk (seen k).tracks (seen k).content (disk_after_change c.args.change.now (start d (seen c.args.medium).protected (seen c.args.medium).tracks)).disk) (sym c.into_medium-2.ensures) (means_of _ _ _ _ _ _ _ made.1))
 
 pub returns-clause-sound : goal.returns-clause-sound
 returns-clause-sound g c = search rules

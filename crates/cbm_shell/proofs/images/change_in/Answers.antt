@@ -1,10 +1,10 @@
 use Rattle.std.proofs.Common.{ap, subst, ◌∙◌, Err, false}
 use Rattle.std.proofs.lemmas.Result.{err_from_is_err_and}
-use Rattle.cbm_channel.specs.Machines.{start}
+use Rattle.cbm_machine.specs.Machines.{start}
 use Rattle.cbm_volume.specs.Holding.{HoldsDisk}
 use Rattle.cbm_image.specs.Images.{kind_of, tracks_of}
 use Rattle.cbm_shell.specs.Images.{IsFailed}
-use Rattle.cbm_shell.specs.Changing.{after_change, IsFine, IsUndone}
+use Rattle.cbm_shell.specs.Changing.{disk_after_change, IsFine, IsUndone}
 use Rattle.cbm_shell.proofs.ImageLemmas.{opened_holds, same_start, as_open_fault, as_other_fault, saved_image, sound_image, ok_any}
 use Rattle.cbm_shell.proofs.images.change_in.Goals as goal
 
@@ -27,7 +27,7 @@ returns-clause-made g c = λ d h.
     let seen = g.I.Medium.seen c.in_ok-disk.disk in
     let opened = c.in_ok-disk.ensures.ok in
     let after = g.I.Medium.seen c.in_ok-disk-2.disk in
-    let made = subst (λ m. IsFine (after_change c.args.change.now m).status × HoldsDisk after.tracks after.content (after_change c.args.change.now m).disk)
+    let made = subst (λ m. IsFine (disk_after_change c.args.change.now m).status × HoldsDisk after.tracks after.content (disk_after_change c.args.change.now m).disk)
     (same_start c.args.image.now seen d opened) (c.in_ok-disk-2.ensures.made d (opened_holds c.args.image.now seen d opened h)) in
     saved_image c.args.image.now (λ v. v.items) g.I.DiskImage.kind (kind_of c.args.image.now) after _ _
     (IsUndone c.args.change.now (start d false (tracks_of (kind_of c.args.image.now) c.args.image.now))) c.saved.result c.requires c.saved.ensures.ok c.saved.ensures.err made.0 made.1

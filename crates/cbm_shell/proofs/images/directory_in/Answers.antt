@@ -1,7 +1,7 @@
 use Rattle.std.proofs.Common.{subst}
 use Rattle.std.specs.Prelude.{MatchResult}
-use Rattle.cbm_channel.specs.Machines.{start}
-use Rattle.cbm_shell.specs.Listing.{IsListed, IsUnlisted}
+use Rattle.cbm_machine.specs.Machines.{start}
+use Rattle.cbm_shell.specs.Listing.{IsListing, IsUnlisted}
 use Rattle.cbm_shell.specs.Images.{IsHidden}
 use Rattle.cbm_shell.proofs.ImageLemmas.{opened_holds, same_start, or_open_fault}
 use Rattle.cbm_shell.proofs.images.directory_in.Goals as goal
@@ -12,5 +12,5 @@ returns g c = λ d h.
     let opened = c.in_ok-opened.ensures.ok in
     let m = start d seen.protected seen.tracks in
     let stands = c.new-dos.ensures.stands d (opened_holds c.args.image.now seen d opened h) in
-    subst (λ m. MatchResult c.list.result (λ v. IsListed c.args.charset c.args.pattern.now m v.items) (IsHidden c.args.image.now c.args.pattern.now m)) (same_start c.args.image.now seen d opened)
-    (or_open_fault c.args.image.now c.list.result (λ v. IsListed c.args.charset c.args.pattern.now m v.items) (IsUnlisted c.args.pattern.now m) (λ n h. h) (c.list.ensures m stands))
+    subst (λ m. MatchResult c.list.result (λ v. IsListing c.args.charset c.args.pattern.now m v.items) (IsHidden c.args.image.now c.args.pattern.now m)) (same_start c.args.image.now seen d opened)
+    (or_open_fault c.args.image.now c.list.result (λ v. IsListing c.args.charset c.args.pattern.now m v.items) (IsUnlisted c.args.pattern.now m) (λ n h. h) (c.list.ensures m stands))

@@ -1,6 +1,6 @@
 use Rattle.std.proofs.Common.{subst}
 use Rattle.std.specs.Prelude.{MatchResult}
-use Rattle.cbm_channel.specs.Machines.{start}
+use Rattle.cbm_machine.specs.Machines.{start}
 use Rattle.cbm_shell.specs.Listing.{IsSent, IsUnlisted}
 use Rattle.cbm_shell.specs.Images.{IsHidden}
 use Rattle.cbm_shell.proofs.ImageLemmas.{opened_holds, same_start, or_open_fault}

@@ -2,7 +2,7 @@ use Rattle.std.proofs.Common.{ℕ, subst, sym, ◌≡◌, ◌∙◌, ap}
 use Rattle.cbm_medium.specs.Content.{Content}
 use Rattle.cbm_bam.specs.Map.{geometry_of}
 use Rattle.cbm_volume.specs.Sweeps.{IsPutInOrder}
-use Rattle.cbm_shell.specs.Images.{IsOrderly}
+use Rattle.cbm_shell.specs.Images.{IsOrderlyDisk}
 use Rattle.cbm_shell.proofs.ImageLemmas.{of_image}
 use Rattle.cbm_shell.proofs.images.validated.Goals as goal
 
@@ -14,8 +14,8 @@ returns-clause-tracks g c =
 pub returns-clause-order : goal.returns-clause-order
 returns-clause-order g c =
     let seen = g.I.Medium.seen in
-    let after = subst (λ n. IsOrderly n (seen c.validate.new.self).content) (sym c.validate.ensures.only.tracks) c.in_ok-validate.ensures.sound in
-    subst (λ k. IsOrderly (seen k).tracks (seen k).content) (sym c.into_medium.ensures) after
+    let after = subst (λ n. IsOrderlyDisk n (seen c.validate.new.self).content) (sym c.validate.ensures.only.tracks) c.in_ok-validate.ensures.sound in
+    subst (λ k. IsOrderlyDisk (seen k).tracks (seen k).content) (sym c.into_medium.ensures) after
 
 pub returns-clause-changes : goal.returns-clause-changes
 returns-clause-changes g c =

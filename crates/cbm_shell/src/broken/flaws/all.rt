@@ -2,7 +2,7 @@
 ghost use Rattle.std.specs.Prelude.{◌≡◌, ◌≤◌, ◌++◌, IfOk, OnOk};
 ghost use Rattle.cbm_bam.specs.Map.{geometry_of};
 ghost use Rattle.cbm_shell.specs.Images.{IsChecked};
-ghost use Rattle.cbm_shell.specs.Flaws.{chain_flaws, first_of, flaws_of};
+ghost use Rattle.cbm_shell.specs.Flaws.{chain_flaws, first_flaw, flaws_of};
 
 use super::chains::walk;
 use super::files::walk_slots;
@@ -68,7 +68,7 @@ pub fn flaws_of<M: Medium>(alloc: Global, volume: &Volume<M>) -> Result<Vec<Disk
     ensures all { let now = M.seen volume.now in
         IfOk result (λ v. v.items ≡ flaws_of (geometry_of now.tracks now.content) now.content) }
     ensures first { let now = M.seen volume.now in
-        IfOk result (λ v. IsChecked now.tracks now.content (first_of v.items)) }
+        IfOk result (λ v. IsChecked now.tracks now.content (first_flaw v.items)) }
 {
     match volume.check() {
         Ok(()) => Ok(Vec::new(alloc)),

@@ -2,7 +2,7 @@
 ghost use Rattle.std.specs.Prelude.{◌≡◌, ◌≤◌, ◌++◌, IfOk, OnOk};
 ghost use Rattle.cbm_bam.specs.Map.{geometry_of};
 ghost use Rattle.cbm_directory.specs.Slots.{directory_of};
-ghost use Rattle.cbm_shell.specs.Mapping.{entries_in};
+ghost use Rattle.cbm_shell.specs.Mapping.{entries_shown};
 ghost use Rattle.cbm_shell.specs.Users.{slot_if, is_user, users_among, users_of};
 
 use crate::fault::ShellFault;

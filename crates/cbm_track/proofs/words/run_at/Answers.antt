@@ -1,5 +1,5 @@
 use Rattle.std.proofs.Common.{◌≡◌, ◌∙◌, ap, sym, arith, ◌+◌, ◌*◌, ◌-◌, ◌%◌, length}
-use Rattle.cbm_track.specs.Circle.{bits_of, bit}
+use Rattle.cbm_track.specs.Circle.{circle_bits_of, circle_bit}
 use Rattle.cbm_track.proofs.Steps.{step_round}
 use Rattle.cbm_track.proofs.Tens.{ones_more, bit_walked}
 use Rattle.cbm_track.proofs.words.run_at.Goals as goal
@@ -9,7 +9,7 @@ returns-then-ones-whole-clause-ones c = λ j l. ones_more c.args.track.now c.arg
 
 pub returns-then-ones-whole-clause-zero : goal.returns-then-ones-whole-clause-zero
 returns-then-ones-whole-clause-zero c = λ l.
-    (let q : c.args.place + c.min.result ≡ c.args.place + c.loop-run.run + c.ones_at-ones.result = omega arith in ap (bit (bits_of c.args.track.now)) q)
+    (let q : c.args.place + c.min.result ≡ c.args.place + c.loop-run.run + c.ones_at-ones.result = omega arith in ap (circle_bit (circle_bits_of c.args.track.now)) q)
     ∙ sym (bit_walked c.args.track.now (c.args.place + c.loop-run.run) c.loop-run.at c.ones_at-ones.result c.loop-run.invariant.at (omega arith))
     ∙ c.ones_at-ones.ensures.zero c.if-ones-whole.true
 

@@ -1,14 +1,14 @@
 use Rattle.std.proofs.Common.{◌≡◌, ◌∙◌, ap, arith, ℕ, ◌*◌, ◌^◌, ◌%◌, ◌/◌, ◌-◌}
 use Rattle.std.specs.Prelude.{◌==◌}
 use Rattle.std.specs.Int.{bit_at}
-use Rattle.cbm_track.specs.Words.{number, eight}
+use Rattle.cbm_track.specs.Words.{number_from, eight}
 use Rattle.cbm_track.proofs.Windows.{window_bit}
 use Rattle.cbm_track.proofs.words.window.Goals as goal
 use Rattle.cbm_track.proofs.words.window.Goals.{then-i-track, else-i-track}
 
 pub returns : goal.returns
 returns c =
-    let word : c.if-i-track.word ≡ number 0 (eight c.args.track.now (c.args.place / 8)) = elim c.if-i-track.branch [
+    let word : c.if-i-track.word ≡ number_from 0 (eight c.args.track.now (c.args.place / 8)) = elim c.if-i-track.branch [
       | then-i-track w ↦ w.word-is ∙ w.word_inside-word.ensures
       | else-i-track w ↦ w.word-is ∙ w.word_around-word.ensures
     ] in

@@ -1,8 +1,8 @@
 use Rattle.std.proofs.Common.{◌≡◌, false, rules, subst, sym, to_z, of_z, w32}
-use Rattle.cbm_channel.specs.Machines.{start}
+use Rattle.cbm_machine.specs.Machines.{start}
 use Rattle.cbm_image.specs.Images.{kind_of, tracks_of, ImageHolds}
 use Rattle.cbm_shell.specs.Changing.{IsFine}
-use Rattle.cbm_device.specs.Answers.{Gives}
+use Rattle.cbm_device.specs.Answers.{GivesBytes}
 use Rattle.cbm_device.specs.Making.{after_command, IsUnmade}
 use Rattle.yellowadze1541.proofs.changes.y1541_image_command.Goals as goal
 
@@ -11,5 +11,5 @@ returns-clause-made c = λ d h.
     let same : to_z w32 (of_z w32 c.changed.result) ≡ c.changed.result = search rules in
     let image = c.args.image.now in
     let after = after_command c.args.text.now (start d false (tracks_of (kind_of image) image)) in
-    subst (λ n. Gives n c.args.out.now c.changed.new.out c.args.needed.now c.changed.new.needed (λ bytes. IsFine after.status × ImageHolds (kind_of image) bytes after.disk) (IsUnmade image after after))
+    subst (λ n. GivesBytes n c.args.out.now c.changed.new.out c.args.needed.now c.changed.new.needed (λ bytes. IsFine after.status × ImageHolds (kind_of image) bytes after.disk) (IsUnmade image after after))
     (sym same) (c.changed.ensures.made d h)

@@ -1,7 +1,7 @@
 use Rattle.std.proofs.Common.{◌≡◌, rules, to_z, of_z, w32}
 use Rattle.cbm_shell.specs.Reading.{Gets}
 use Rattle.cbm_device.specs.Answers.{answer}
-use Rattle.cbm_device.specs.Looking.{IsAccepted, IsRefused, IsUngot}
+use Rattle.cbm_device.specs.Looking.{IsAccepted, IsLookRefused, IsUngot}
 use Rattle.cbm_device.proofs.Giving.{gives}
 use Rattle.yellowadze1541.proofs.images.y1541_image_file.Goals as goal
 
@@ -16,5 +16,5 @@ pub returns-clause-refused : goal.returns-clause-refused
 returns-clause-refused c =
     let n = to_z w32 (of_z w32 c.number.result) in
     let same : n ≡ answer c.given.result = search rules in
-    gives (λ v. v.items) (λ _. IsAccepted c.args.image.now) (IsRefused c.args.image.now) c.file.result c.given.result n c.args.out.now c.given.new.out c.args.needed.now
+    gives (λ v. v.items) (λ _. IsAccepted c.args.image.now) (IsLookRefused c.args.image.now) c.file.result c.given.result n c.args.out.now c.given.new.out c.args.needed.now
     c.given.new.needed c.file.ensures.refused c.given.ensures same

@@ -1,7 +1,7 @@
 use Rattle.std.proofs.Common.{Some, false, ap, subst, sym, ◌∙◌}
-use Rattle.cbm_channel.specs.Machines.{start}
+use Rattle.cbm_machine.specs.Machines.{start}
 use Rattle.cbm_image.specs.Images.{kind_of, tracks_of}
-use Rattle.cbm_device.specs.ImageDisks.{seen_of}
+use Rattle.cbm_device.specs.ImageDisks.{counted_seen}
 use Rattle.cbm_device.specs.Plays.{HasPlayedAll}
 use Rattle.cbm_device.proofs.Opening.{holds_of, same_start}
 use Rattle.yellowadze1541.proofs.Handing.{has_played, not_asked, not_opened}
@@ -13,7 +13,7 @@ returns c =
     let image = c.args.image.now in
     let disk = c.in_ok-disk.disk in
     let is = c.in_ok-disk.ensures.ok in
-    let now = seen_of disk in
+    let now = counted_seen disk in
     let changes = c.as_slice.result.now in
     let before = c.args.events.now.items in
     let after = c.play.new.events.items in

@@ -1,5 +1,5 @@
 use Rattle.std.proofs.Common.{◌≡◌, None, sym, ap, subst, ◌∙◌}
-use Rattle.bus_beside.specs.Courses.{Course, Sides, Ends}
+use Rattle.bus_beside.specs.Courses.{Course, Sides, EndsBeside}
 use Rattle.bus_beside.proofs.Seen.{not_some, seen_out}
 use Rattle.bus_beside.proofs.beside.Beside.end.Goals as goal
 
@@ -9,4 +9,4 @@ returns g c =
     let course = ap (λ (b : Sides _). b.course) c.self.view_is in
     let none : c.args.self.now.second ≡ None = sym (ap (λ (b : Sides _). b.second) c.self.view_is) ∙ still in
     seen_out _ g.D.Machine.State g.D.Machine.stands g.D.Machine.step g.D.Machine.says g.D.Machine.failures c.args.self.now c.end.new.self c.self.inside.second c.args.moment none
-    (subst (λ (b : Course _). Ends _ g.D.Machine.State g.D.Machine.stands g.D.Machine.step g.D.Machine.says g.D.Machine.failures b c.end.new.self c.args.moment) course (c.end.ensures c.if-not-end.false))
+    (subst (λ (b : Course _). EndsBeside _ g.D.Machine.State g.D.Machine.stands g.D.Machine.step g.D.Machine.says g.D.Machine.failures b c.end.new.self c.args.moment) course (c.end.ensures c.if-not-end.false))

@@ -1,6 +1,6 @@
 use Rattle.std.proofs.Common.{◌≡◌, List, [], ◌∷◌, ◌++◌, sym, subst, ◌∙◌}
 use Rattle.cbm_iec.specs.declared.event.Event.{Event}
-use Rattle.cbm_iec.specs.declared.line.Change.{Change}
+use Rattle.cbm_iec.specs.declared.lines.Change.{Change}
 use Rattle.cbm_session.specs.Playing.{host_event}
 use Rattle.bus_beside.specs.Courses.{HaveSeen, host_events}
 use Rattle.bus_beside.specs.Courts.{HasJudged}

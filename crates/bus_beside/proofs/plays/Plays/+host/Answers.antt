@@ -1,17 +1,17 @@
 use Rattle.std.proofs.Common.{◌≡◌, Bool, List, [], ◌∷◌, sym, ap, subst, ◌∙◌}
 use Rattle.std.specs.Prelude.{if◌then◌else◌}
 use Rattle.cbm_iec.specs.declared.event.Event.{Event}
-use Rattle.cbm_iec.specs.declared.line.Change.{Change}
+use Rattle.cbm_iec.specs.declared.lines.Change.{Change}
 use Rattle.cbm_session.specs.Playing.{host_event}
-use Rattle.bus_beside.specs.Courses.{GoesOn, host_events}
+use Rattle.bus_beside.specs.Courses.{GoOnBeside, host_events}
 use Rattle.bus_beside.proofs.Courses.{both_then, tidy_then}
 use Rattle.bus_beside.proofs.Sitting.{no_items}
 use Rattle.bus_beside.proofs.plays.Plays.+host.Goals as goal
 
 pub returns-else-is_made : goal.returns-else-is_made
 returns-else-is_made g t c = λ so.
-    subst (λ (made : List Event). GoesOn _ g.D.Machine.State g.D.Machine.stands g.D.Machine.step g.D.Machine.says g.D.Machine.failures c.args.self.now c.late.new.self made (host_events c.args.tidied.now)) (ap (λ (b : Bool). if b then [] else (host_event c.args.change ∷ [])) (sym c.if-is_made.false))
-    (subst (λ (xs : List Change). GoesOn _ g.D.Machine.State g.D.Machine.stands g.D.Machine.step g.D.Machine.says g.D.Machine.failures c.args.self.now c.late.new.self (host_event c.args.change ∷ []) (host_events xs)) (sym (no_items c.args.tidied.now c.in_default.ensures.cases)) (c.late.ensures so))
+    subst (λ (made : List Event). GoOnBeside _ g.D.Machine.State g.D.Machine.stands g.D.Machine.step g.D.Machine.says g.D.Machine.failures c.args.self.now c.late.new.self made (host_events c.args.tidied.now)) (ap (λ (b : Bool). if b then [] else (host_event c.args.change ∷ [])) (sym c.if-is_made.false))
+    (subst (λ (xs : List Change). GoOnBeside _ g.D.Machine.State g.D.Machine.stands g.D.Machine.step g.D.Machine.says g.D.Machine.failures c.args.self.now c.late.new.self (host_event c.args.change ∷ []) (host_events xs)) (sym (no_items c.args.tidied.now c.in_default.ensures.cases)) (c.late.ensures so))
 
 pub returns-then-same_change : goal.returns-then-same_change
 returns-then-same_change g t c = λ so.

@@ -2,7 +2,7 @@ use Rattle.std.proofs.Common.{◌≡◌, sym, ◌∙◌, ap, subst}
 use Rattle.cbm_iec.specs.Machines.{acted}
 use Rattle.cbm_iec.specs.Ports.{reaction_changes}
 use Rattle.bus_beside.specs.declared.wired.Wired.{Wired}
-use Rattle.bus_beside.specs.Seats.{Seated, GoesAlone}
+use Rattle.bus_beside.specs.Seats.{SeatedTwice, GoesAlone}
 use Rattle.bus_beside.proofs.Reacted.{Reacts, reacts_alike}
 use Rattle.bus_beside.proofs.seat.Seat.react.Goals as goal
 
@@ -12,9 +12,9 @@ returns g c =
     let is = c.if-not-is_alike.false in
     let t = c.args.moment in
     let said = c.peek-said.result in
-    let real : c.self.inside.real ≡ c.args.self.now.real = ap (λ (x : Seated _). x.real) c.self.view_is in
-    let tidy : c.self.inside.tidy ≡ c.args.self.now.tidy = ap (λ (x : Seated _). x.tidy) c.self.view_is in
-    let machine = ap (λ (x : Seated _). x.machine) c.self.view_is in
+    let real : c.self.inside.real ≡ c.args.self.now.real = ap (λ (x : SeatedTwice _). x.real) c.self.view_is in
+    let tidy : c.self.inside.tidy ≡ c.args.self.now.tidy = ap (λ (x : SeatedTwice _). x.tidy) c.self.view_is in
+    let machine = ap (λ (x : SeatedTwice _). x.machine) c.self.view_is in
     let failed = subst (λ d. GoesAlone g.D.Machine.failures (record { real = c.self.inside.real; tidy = c.self.inside.tidy; machine = d }) c.act.new.self ((m : g.D.Machine.State) → g.D.Machine.stands d m
     → g.D.Machine.stands c.act.new.self.machine (acted g.D.Machine.State g.D.Machine.step c.due-reaction.result.act m))) machine (c.act.ensures.counted, c.act.ensures.machine) in (
       failed.0,

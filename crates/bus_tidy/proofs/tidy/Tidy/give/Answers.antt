@@ -1,5 +1,5 @@
 use Rattle.std.proofs.Common.{rules, ◌≡◌, List, ◌∷◌, [], ◌++◌, ap, sym, ◌∙◌}
-use Rattle.cbm_iec.specs.declared.line.Change.{Change}
+use Rattle.cbm_iec.specs.declared.lines.Change.{Change}
 use Rattle.cbm_iec.specs.declared.lines.Lines.{Lines as TheseLines}
 use Rattle.bus_tidy.proofs.Adding.{after_more}
 use Rattle.bus_tidy.proofs.tidy.Tidy.give.Goals as goal

@@ -1,7 +1,7 @@
 use Rattle.std.proofs.Common.{ℕ, Option, sym, subst, ap, ◌∙◌}
 use Rattle.std.specs.Prelude.{is_some}
 use Rattle.bus_wires.proofs.Standing.{stands_alike, stands_with, all_given}
-use Rattle.bus_wires.specs.Looks.{Stands}
+use Rattle.bus_wires.specs.Looks.{WiresStand}
 use Rattle.bus_wires.specs.declared.wires.Wires.{Wires}
 use Rattle.bus_wires.proofs.wires.Wires.next.Goals as goal
 
@@ -15,7 +15,7 @@ returns-in-Some-clause-given c = λ bs cs es s.
 pub returns-then-not-turn-clause-shown : goal.returns-then-not-turn-clause-shown
 returns-then-not-turn-clause-shown c = λ bs cs es s.
     let still = stands_alike bs c.event.new.self c.moments.self cs es (c.moments.invariant.stands bs cs es s) c.in_default.ensures.kept c.in_default.ensures.alike in
-    subst (λ (w : Wires). Stands bs w cs es) (sym (c.turn.ensures.same c.if-not-turn.true)) still
+    subst (λ (w : Wires). WiresStand bs w cs es) (sym (c.turn.ensures.same c.if-not-turn.true)) still
 
 pub returns-then-not-turn-clause-exact : goal.returns-then-not-turn-clause-exact
 returns-then-not-turn-clause-exact c = λ bs cs es s e.

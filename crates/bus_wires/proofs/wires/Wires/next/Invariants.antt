@@ -1,14 +1,14 @@
 use Rattle.std.proofs.Common.{◌≡◌, List, length, ◌+◌, ◌-◌, ◌^◌}
-use Rattle.bus_wires.specs.Looks.{Stands}
+use Rattle.bus_wires.specs.Looks.{WiresStand}
 use Rattle.cbm_iec.specs.declared.event.Event.{Event}
-use Rattle.cbm_iec.specs.declared.line.Change.{Change}
+use Rattle.cbm_iec.specs.declared.lines.Change.{Change}
 use Rattle.cbm_iec.specs.declared.party.Party.{Party}
 use Rattle.bus_wires.proofs.wires.Wires.next.Given as goal
 
 -- what was read and given stands
 abbrev pub invariant-moments : goal.invariant-moments
 invariant-moments l = record {
-  stands : (bs : List Party) (cs : List Change) (es : List Event) → Stands bs l.initial.self cs es → Stands bs l.self cs es;
+  stands : (bs : List Party) (cs : List Change) (es : List Event) → WiresStand bs l.initial.self cs es → WiresStand bs l.self cs es;
   end : l.self.end ≡ l.initial.self.end;
 }
 

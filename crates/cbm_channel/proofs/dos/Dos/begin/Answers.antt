@@ -1,5 +1,5 @@
 use Rattle.std.proofs.Common.{sym, inl, ap}
-use Rattle.cbm_machine.specs.Machines.{say, tell}
+use Rattle.cbm_machine.specs.Machines.{say, with_status}
 use Rattle.cbm_machine.specs.Plans.{act}
 use Rattle.cbm_machine.specs.declared.code.Code.TheVariants.{Fine}
 use Rattle.cbm_channel.specs.Planned.{begun_by}
@@ -17,7 +17,7 @@ returns-in-Ok-clause-goes g c = λ m text shut s.
 pub returns-in-Err-clause-goes : goal.returns-in-Err-clause-goes
 returns-in-Err-clause-goes g c = λ m text shut s.
     let x = begun_err _ _ m _ c.in-Err.status (c.in-Err.ensures.planned m text s) in
-    (tell c.in-Err.status m, inl (sym (begun_refuses c.args.channel c.args.opening m x.0 c.in-Err.status x.1 x.2)), c.set.ensures.leads m s)
+    (with_status c.in-Err.status m, inl (sym (begun_refuses c.args.channel c.args.opening m x.0 c.in-Err.status x.1 x.2)), c.set.ensures.leads m s)
 
 -- what is refused
 pub returns-in-Ok-clause-spared : goal.returns-in-Ok-clause-spared

@@ -1,12 +1,12 @@
 use Rattle.std.proofs.Common.{sym, ap, ◌∙◌, inl}
-use Rattle.cbm_machine.specs.Machines.{answered, tell}
+use Rattle.cbm_machine.specs.Machines.{answered, with_status}
 use Rattle.cbm_channel.proofs.Outside.{outside_itself}
 use Rattle.cbm_channel.proofs.dos.Dos.copy.Goals as goal
 
 pub returns-in-Err-clause-goes : goal.returns-in-Err-clause-goes
 returns-in-Err-clause-goes g c = λ cut m s.
     let x = c.in-Err.ensures.refused m s in
-    (tell c.in-Err.status m, inl (sym (ap (answered m) x.1 ∙ ap (λ t. tell t m) (sym x.2))), c.set.ensures.leads m s)
+    (with_status c.in-Err.status m, inl (sym (ap (answered m) x.1 ∙ ap (λ t. with_status t m) (sym x.2))), c.set.ensures.leads m s)
 
 -- ---- what lies outside the disk
 

@@ -6,7 +6,7 @@ use Rattle.cbm_file.specs.Changes.{has_slot, copy_blocks, with_copy}
 use Rattle.cbm_volume.specs.Copies.{HasNoRoomFor}
 use Rattle.cbm_volume.specs.Writers.{HoldsNow, Stopped}
 use Rattle.cbm_machine.specs.declared.code.Code.TheVariants.{Fine, DiskFull}
-use Rattle.cbm_machine.specs.Machines.{answered, say, tell, with_disk}
+use Rattle.cbm_machine.specs.Machines.{answered, say, with_status, with_disk}
 use Rattle.cbm_machine.specs.Running.{copy}
 use Rattle.cbm_machine.specs.Codes.{code_number}
 use Rattle.cbm_channel.specs.Grounds.{is_fault_number}
@@ -88,9 +88,9 @@ returns-in-Err-clause-goes g c = λ m olds cut is s.
     elim (true_or_false m.protected) [
       | inl guarded ↦ (
           let same = subst (λ x. StandsBy x (g.M.Medium.seen here.volume).tracks (g.M.Medium.seen here.volume).protected here.channels here.telling here.text m) (sym (c.in-Err.ensures.guarded (sym st.same_protection ∙ guarded))) st in (
-            tell c.from.result m,
+            with_status c.from.result m,
             elim cause [
-              | inl x ↦ inl (ap (λ y. tell y m) (protected_status c.in-Err.trouble c.from.result c.from.ensures x.1) ∙ sym (copy_guarded m c.args.name.now olds c.args.kind c.args.slots.now is room guarded))
+              | inl x ↦ inl (ap (λ y. with_status y m) (protected_status c.in-Err.trouble c.from.result c.from.ensures x.1) ∙ sym (copy_guarded m c.args.name.now olds c.args.kind c.args.slots.now is room guarded))
               | inr f ↦ inr (moved f, stopped_at_once _ _ new.content _ here.channels here.telling here.text m st (answered m (copy c.args.name.now olds m)) c.in-Err.trouble c.from.result c.self.invariant.count c.from.ensures)
             ],
             c.set.ensures.leads m (renamed _ _ _ _ _ _ _ _ _ c.copy.ensures.only.tracks c.copy.ensures.only.protected same),
@@ -99,7 +99,7 @@ returns-in-Err-clause-goes g c = λ m olds cut is s.
           let failed = failed_by old new c.in-Err.trouble m.protected st.same_protection unprotected cause in
           let stop = subst (λ (x : List ℕ). Stopped old.tracks new.content m.disk (with_copy m.disk c.args.kind x c.args.slots.now) uses) name (c.in-Err.ensures.call m.disk uses 15 st.holds idle kept plain can).stopped in
           let next = copy_cut m c.args.name.now olds c.args.kind c.args.slots.now is _ _ new.content _ here.channels here.telling here.text st room unprotected stop in (
-            tell c.from.result next.0,
+            with_status c.from.result next.0,
             inr (moved failed, next.1 c.in-Err.trouble c.from.result c.self.invariant.count c.from.ensures),
             c.set.ensures.leads next.0 (renamed _ _ _ _ _ _ _ _ _ c.copy.ensures.only.tracks c.copy.ensures.only.protected next.2),
           ))

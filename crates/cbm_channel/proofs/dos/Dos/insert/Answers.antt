@@ -1,7 +1,7 @@
 use Rattle.std.proofs.Common.{sym, ap, subst}
 use Rattle.std.specs.Prelude.{None}
 use Rattle.cbm_machine.specs.Machines.{start}
-use Rattle.cbm_machine.specs.Told.{Told}
+use Rattle.cbm_machine.specs.Told.{ToldStatus}
 use Rattle.cbm_channel.specs.Standing.{StandsBy}
 use Rattle.cbm_channel.specs.Exchanged.{still_telling}
 use Rattle.cbm_channel.proofs.Stands.{stands_telling}
@@ -12,7 +12,7 @@ pub returns-clause-stands : goal.returns-clause-stands
 returns-clause-stands g c = λ d h.
     let seen = g.M.Medium.seen in
     let new = seen c.args.medium in
-    let told : Told = c.self.inside.telling in
+    let told : ToldStatus = c.self.inside.telling in
     let stands = stands_telling new.content new.tracks new.protected d c.all_closed-self-inside.result told c.all_closed-self-inside.ensures h in
-    subst (λ (t : Told). StandsBy (seen c.open.result).content (seen c.open.result).tracks (seen c.open.result).protected c.all_closed-self-inside.result told None (still_telling t (start d new.protected new.tracks))) (ap (λ k. k.told) c.self.view_is)
+    subst (λ (t : ToldStatus). StandsBy (seen c.open.result).content (seen c.open.result).tracks (seen c.open.result).protected c.all_closed-self-inside.result told None (still_telling t (start d new.protected new.tracks))) (ap (λ k. k.told) c.self.view_is)
     (subst (λ x. StandsBy (seen x).content (seen x).tracks (seen x).protected c.all_closed-self-inside.result told None (still_telling told (start d new.protected new.tracks))) (sym c.open.ensures) stands)

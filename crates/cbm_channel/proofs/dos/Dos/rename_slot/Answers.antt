@@ -4,7 +4,7 @@ use Rattle.cbm_file.specs.Padding.{before_filler}
 use Rattle.cbm_file.specs.Files.{with_slot}
 use Rattle.cbm_volume.specs.Opens.{IsUnwritten}
 use Rattle.cbm_volume.specs.Writers.{HoldsNow}
-use Rattle.cbm_machine.specs.Machines.{answered, say, tell, with_disk, writes}
+use Rattle.cbm_machine.specs.Machines.{answered, say, with_status, with_disk, writes}
 use Rattle.cbm_machine.specs.Running.{rename}
 use Rattle.cbm_machine.specs.declared.code.Code.TheVariants.{Fine}
 use Rattle.cbm_channel.specs.Standing.{StandsBy, uses_of}
@@ -40,7 +40,7 @@ returns-in-Err-clause-goes g c = λ m old cut is s.
     let st : StandsBy (g.M.Medium.seen here.volume).content (g.M.Medium.seen here.volume).tracks (g.M.Medium.seen here.volume).protected here.channels here.telling here.text m = stood g.M.Medium.seen c.args.self.now _ m c.self.view_is s in
     let failed = failed_by (g.M.Medium.seen here.volume) new c.in-Err.trouble m.protected st.same_protection is.unprotected (c.in-Err.ensures.call m.disk (uses_of here.channels m.channels) st.holds).cause in
     let same = subst (λ x. StandsBy x (g.M.Medium.seen here.volume).tracks (g.M.Medium.seen here.volume).protected here.channels here.telling here.text m) (sym c.in-Err.ensures.err) st in (
-      tell c.from.result m,
+      with_status c.from.result m,
       inr (subst (λ v. HasFailed (g.M.Medium.seen v) (g.M.Medium.seen c.set.new.self.medium)) (ap (λ k. k.medium) c.self.view_is) (subst (λ v. HasFailed (g.M.Medium.seen here.volume) (g.M.Medium.seen v)) (sym c.set.ensures.medium) failed), stopped_at_once _ _ new.content _ here.channels here.telling here.text m st (answered m (rename c.args.name.now old m)) c.in-Err.trouble c.from.result c.self.invariant.count c.from.ensures),
       c.set.ensures.leads m (renamed _ _ _ _ _ _ _ _ _ c.rename.ensures.only.tracks c.rename.ensures.only.protected same),
     )

@@ -1,7 +1,7 @@
 use Rattle.std.proofs.Common.{length, sym, ap, subst, ◌∙◌, inl, inr, refl}
 use Rattle.cbm_medium.specs.Seen.{HasFailed}
 use Rattle.cbm_machine.specs.declared.code.Code.TheVariants.{FilesScratched}
-use Rattle.cbm_machine.specs.Machines.{tell, with_disk}
+use Rattle.cbm_machine.specs.Machines.{with_status, with_disk}
 use Rattle.cbm_channel.specs.Commanded.{all_scratched}
 use Rattle.cbm_channel.specs.Standing.{StandsBy, uses_of}
 use Rattle.cbm_channel.proofs.Commanding.{scratch_stands, scratch_cut}
@@ -19,7 +19,7 @@ returns-in-Ok-clause-goes g c = λ m ps going s.
     let whole = c.clear.ensures.rest in
     let can = all_can_go m ps (uses_of old.channels m.channels) (λ n u. unused_at n old.channels m s.each u) c.args.slots.now going.all in
     let next = scratch_stands _ _ (g.M.Medium.seen c.clear.new.self.medium).content _ old.channels old.told old.text m s ps c.args.slots.now going (c.in-Ok.ensures.scratched m s can) in (
-      tell (record { code = FilesScratched; first = length c.args.slots.now; second = 0 }) (with_disk (all_scratched m.disk c.args.slots.now) m),
+      with_status (record { code = FilesScratched; first = length c.args.slots.now; second = 0 }) (with_disk (all_scratched m.disk c.args.slots.now) m),
       inl (sym (scratch_done m ps c.args.slots.now going)),
       c.set.ensures.leads _ (subst (λ k. StandsBy (g.M.Medium.seen k.medium).content (g.M.Medium.seen k.medium).tracks (g.M.Medium.seen k.medium).protected k.channels k.told k.text (with_disk (all_scratched m.disk c.args.slots.now) m)) (sym whole)
           (renamed _ _ _ _ _ _ _ _ _ c.clear.ensures.medium.tracks c.clear.ensures.medium.protected next)),

@@ -2,7 +2,7 @@ use Rattle.std.proofs.Common.{◌≡◌, ℕ, false, sym, ap, subst, ◌∙◌, 
 use Rattle.cbm_medium.specs.Seen.{HasFailed}
 use Rattle.cbm_file.specs.Changes.{validated}
 use Rattle.cbm_volume.specs.Writers.{Idle}
-use Rattle.cbm_machine.specs.Machines.{any_open, say, tell, with_disk}
+use Rattle.cbm_machine.specs.Machines.{any_open, say, with_status, with_disk}
 use Rattle.cbm_machine.specs.declared.code.Code.TheVariants.{Fine, WriteFileOpen}
 use Rattle.cbm_channel.specs.Standing.{StandsBy, uses_of}
 use Rattle.cbm_channel.proofs.Commanding.{validate_open, validate_done, validate_guarded, validate_stands, validate_cut, protected_status, all_idle, true_or_false}
@@ -47,14 +47,14 @@ returns-in-Err-clause-goes g c = λ m s.
       | inl guarded ↦ (
           let kept = subst (λ x. StandsBy x (g.M.Medium.seen here.volume).tracks (g.M.Medium.seen here.volume).protected here.channels here.telling here.text m) (sym (c.in-Err.ensures.kept (sym st.same_protection ∙ guarded))) st in
           let told = protected_status c.in-Err.trouble c.from.result c.from.ensures (c.in-Err.ensures.guarded m.disk (uses_of here.channels m.channels) st.holds (sym st.same_protection ∙ guarded)) in (
-            tell c.from.result m,
-            inl (ap (λ x. tell x m) told ∙ sym (validate_guarded _ _ new.content _ here.channels here.telling here.text m st shut guarded)),
+            with_status c.from.result m,
+            inl (ap (λ x. with_status x m) told ∙ sym (validate_guarded _ _ new.content _ here.channels here.telling here.text m st shut guarded)),
             c.set.ensures.leads m (renamed _ _ _ _ _ _ _ _ _ c.validate.ensures.only.tracks c.validate.ensures.only.protected kept),
           ))
       | inr unprotected ↦ (
           let failed = failed_by (g.M.Medium.seen here.volume) new c.in-Err.trouble m.protected st.same_protection unprotected (c.in-Err.ensures.call m.disk (uses_of here.channels m.channels) st.holds idle).cause in
           let next = validate_cut _ _ new.content _ here.channels here.telling here.text m st shut unprotected (c.in-Err.ensures.call m.disk (uses_of here.channels m.channels) st.holds idle).stopped in (
-            tell c.from.result next.0,
+            with_status c.from.result next.0,
             inr (
               subst (λ v. HasFailed (g.M.Medium.seen v) (g.M.Medium.seen c.set.new.self.medium)) (ap (λ k. k.medium) c.self.view_is) (subst (λ v. HasFailed (g.M.Medium.seen here.volume) (g.M.Medium.seen v)) (sym c.set.ensures.medium) failed),
               next.1 c.in-Err.trouble c.from.result c.self.invariant.count c.from.ensures,

@@ -1,6 +1,6 @@
 use Rattle.std.proofs.Common.{◌≡◌, IfSome, refl, sym, ap, subst, ◌∙◌, inl, inr, Option, Bool, Ok, Some, true, false, slice_index_or, take}
 use Rattle.cbm_medium.specs.Seen.{Seen, HasFailed}
-use Rattle.cbm_machine.specs.Machines.{tell}
+use Rattle.cbm_machine.specs.Machines.{with_status}
 use Rattle.cbm_channel.specs.declared.channel.Channel as kept
 use Rattle.cbm_channel.proofs.RecordEnds.{PutsRecord, records_or_not, put_done, put_large, put_stopped, none_done, put_outside}
 use Rattle.cbm_channel.specs.Shown.{has_records}
@@ -61,7 +61,7 @@ returns-in-Err-clause-goes g c = λ m text s first.
     elim (records_or_not x) [
       | inl none ↦ absurd (let z = (c.in-Err.ensures.quiet none).0 in (cc))
       | inr k ↦ (let next = put_stopped old new c.self.inside.channels c.self.inside.telling c.self.inside.text m c.args.channel c.requires c.self.invariant st x c.write_record.new.self c.index-self-channel.result refl c.args.bytes.now text first c.write_record.ensures.medium.tracks c.in-Err.trouble c.from.result k.0 k.1 c.from.ensures c.write_record.ensures.guarded c.in-Err.ensures.put in
-          (tell c.from.result next.now, elim next.either [ inl e ↦ inl e | inr f ↦ inr (subst (λ v. HasFailed (g.M.Medium.seen v.medium) (g.M.Medium.seen c.set.new.self.medium)) c.self.view_is (subst (λ v. HasFailed old (g.M.Medium.seen v)) (sym c.set.ensures.medium) f.0), f.1) ], c.set.ensures.leads next.now (renamed _ _ _ _ _ _ _ _ _ c.write_record.ensures.medium.tracks c.write_record.ensures.medium.protected next.stands)))
+          (with_status c.from.result next.now, elim next.either [ inl e ↦ inl e | inr f ↦ inr (subst (λ v. HasFailed (g.M.Medium.seen v.medium) (g.M.Medium.seen c.set.new.self.medium)) c.self.view_is (subst (λ v. HasFailed old (g.M.Medium.seen v)) (sym c.set.ensures.medium) f.0), f.1) ], c.set.ensures.leads next.now (renamed _ _ _ _ _ _ _ _ _ c.write_record.ensures.medium.tracks c.write_record.ensures.medium.protected next.stands)))
     ]
 
 -- ---- what it makes of the medium, on any disk

@@ -1,5 +1,5 @@
 use Rattle.std.proofs.Common.{◌≡◌, ◌+◌, true, sym, ap, subst, ◌∙◌}
-use Rattle.cbm_channel.specs.Placed.{Placed, IsPlacedAt, is_last, record_of}
+use Rattle.cbm_channel.specs.Placed.{Placed, IsPlacedAt, is_last_filled, record_of}
 use Rattle.cbm_channel.proofs.OnRecords.{next_record}
 use Rattle.cbm_channel.proofs.on_record.OnRecord.taken.Goals as goal
 
@@ -10,7 +10,7 @@ returns-then-is_last-clause-well g c = λ d h on.
     let waits = ap (λ (r : Placed). record_of r.waiting) (sym c.self.view_is) ∙ ap record_of c.in-Record.is in
     let bytes = sym c.as_slice.ensures.value in
     let position = ap (λ (r : Placed). r.position) (sym c.self.view_is) in
-    let last : is_last c.in-Record.record.items c.args.self.now.position ≡ true = (λ i. is_last (bytes i) (position i)) ∙ sym c.is_last.ensures.value ∙ c.if-is_last.true in (
+    let last : is_last_filled c.in-Record.record.items c.args.self.now.position ≡ true = (λ i. is_last_filled (bytes i) (position i)) ∙ sym c.is_last.ensures.value ∙ c.if-is_last.true in (
       next.0,
       (
         next.1,

@@ -1,6 +1,6 @@
 use Rattle.std.proofs.Common.{Some, ap, refl, subst, sym}
 use Rattle.cbm_drive.specs.Desks.{DeskStands, at_first, with_pace}
-use Rattle.cbm_device.specs.ImageDisks.{seen_of, IsDiskOf}
+use Rattle.cbm_device.specs.ImageDisks.{counted_seen, IsDiskOf}
 use Rattle.cbm_device.proofs.Opening.{holds_of, same_start}
 use Rattle.cbm_device.proofs.device.Device.open.Goals as goal
 
@@ -18,6 +18,6 @@ returns-clause-ok c =
       addressed = on.addressed;
       first = refl;
       stands = λ d h.
-          subst (λ m. DeskStands seen_of c.powered.result.machine (with_pace b.pace (at_first b.device m))) (same_start image c.args.protected disk d opened)
+          subst (λ m. DeskStands counted_seen c.powered.result.machine (with_pace b.pace (at_first b.device m))) (same_start image c.args.protected disk d opened)
           (on.stands d (holds_of image c.args.protected disk d opened h));
     }

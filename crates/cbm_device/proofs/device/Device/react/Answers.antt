@@ -1,14 +1,14 @@
 use Rattle.std.proofs.Common.{subst, arith}
 use Rattle.cbm_iec.specs.Machines.{acted}
 use Rattle.cbm_iec.specs.Ports.{reaction_act}
-use Rattle.cbm_channel.specs.Machines.{Machine}
+use Rattle.cbm_machine.specs.Machines.{Machine}
 use Rattle.cbm_drive.specs.Desks.{Desk, DeskStands, desk_step, desk_says}
 use Rattle.cbm_device.specs.Devices.{OnLines}
-use Rattle.cbm_device.specs.ImageDisks.{seen_of, never_fails}
+use Rattle.cbm_device.specs.ImageDisks.{counted_seen, never_fails}
 use Rattle.cbm_device.proofs.device.Device.react.Goals as goal
 
 -- its disk never fails by itself
 pub returns-clause-machine : goal.returns-clause-machine
 returns-clause-machine c =
-    subst (λ (o : OnLines). (m : Desk Machine) → DeskStands seen_of o.seat.machine m → DeskStands seen_of c.due-changes.new.self.machine (acted (Desk Machine) desk_step (reaction_act (desk_says m) o.seat.port) m)) c.self.view_is
+    subst (λ (o : OnLines). (m : Desk Machine) → DeskStands counted_seen o.seat.machine m → DeskStands counted_seen c.due-changes.new.self.machine (acted (Desk Machine) desk_step (reaction_act (desk_says m) o.seat.port) m)) c.self.view_is
     (c.due-changes.ensures.machine (omega (arith, never_fails c.self.inside.drive.machine.dos.medium, never_fails c.due-changes.new.self.machine.dos.medium)))

@@ -1,4 +1,4 @@
-use Rattle.cbm_channel.specs.Machines.{start}
+use Rattle.cbm_machine.specs.Machines.{start}
 use Rattle.cbm_drive.proofs.desk.Desk.at_power_up.Goals as goal
 
 -- the DOS stands for a machine at power up, and so does its desk

@@ -2,7 +2,7 @@ use Rattle.std.proofs.Common.{Option, ℕ, Bool, ◌<◌, refl, subst}
 use Rattle.std.specs.Prelude.{IfSome}
 use Rattle.cbm_channel.specs.Exchanged.{still_telling}
 use Rattle.cbm_file.specs.Files.{Disk}
-use Rattle.cbm_channel.specs.Machines.{Machine, start}
+use Rattle.cbm_machine.specs.Machines.{Machine, start}
 use Rattle.cbm_channel.specs.Standing.{Kept}
 use Rattle.cbm_volume.specs.Holding.{HoldsDisk}
 use Rattle.cbm_drive.specs.Desks.{Desk, DeskStands, IsAlike}

@@ -2,7 +2,7 @@ use Rattle.std.proofs.Common.{◌≡◌, Option, None, ap, sym, ◌∙◌, subst
 use Rattle.cbm_drive.proofs.drive.Drive.due.Goals as goal
 use Rattle.cbm_iec.specs.Machines.{acted}
 use Rattle.cbm_iec.specs.Ports.{reaction_act}
-use Rattle.cbm_iec.specs.declared.act.Act.{Act}
+use Rattle.cbm_iec.specs.declared.machine.Act.{Act}
 use Rattle.cbm_drive.specs.Seats.{Seated}
 
 -- where the reaction has no act the machine stays as it is

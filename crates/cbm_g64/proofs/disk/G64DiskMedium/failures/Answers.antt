@@ -2,12 +2,12 @@ use Rattle.std.proofs.Common.{rules, refl, ◌≡◌, ◌≤◌, ◌-◌, ◌⊎
 use Rattle.cbm_medium.specs.Place.{Has, Place, directory_head}
 use Rattle.cbm_medium.specs.Content.{blank, format_refusal, refusal, written}
 use Rattle.cbm_medium.specs.Seen.{with_content, write_refusal, IsRefused}
-use Rattle.cbm_g64.specs.File.{fault_of, tracks_in}
+use Rattle.cbm_g64.specs.File.{g64_fault, g64_circles}
 use Rattle.cbm_g64.specs.NewFile.{base_of, new_file}
-use Rattle.cbm_g64.specs.Tracks.{bits_at, content_of, id_for, or_zeros, seen_of, AreFilled, AreFresh, AreLaid, HasTrack, IsChanged, IsPut}
+use Rattle.cbm_g64.specs.Tracks.{bits_at, g64_content, id_for, or_zeros, g64_seen, AreFilled, AreFresh, AreLaid, HasTrack, IsCircleChanged, IsPut}
 use Rattle.cbm_g64.specs.Image.{IsImageOf}
 use Rattle.cbm_g64.specs.Outer.{no_outer}
-use Rattle.cbm_g64.specs.Faults.{has_codes}
+use Rattle.cbm_g64.specs.Faults.{g64_has_codes}
 use Rattle.cbm_g64.proofs.disk.G64DiskMedium.failures.Goals as goal
 
 pub returns : goal.returns

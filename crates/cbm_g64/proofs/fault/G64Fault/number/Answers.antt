@@ -1,5 +1,5 @@
 use Rattle.std.proofs.Common.{rules, ◌≡◌, ℕ, ◌+◌, ◌-◌, ◌*◌, ◌<◌, ◌≤◌, length, ◌/◌, ◌%◌, Bool, true, false, nat_eq, nat_lt, List, [], ◌∷◌, ◌++◌, slice_index_or, slice_set, bit_and, bit_or, Fits, w8, w32, w64, Bor, MutBor}
-use Rattle.cbm_g64.specs.Numbers.{number_of}
+use Rattle.cbm_g64.specs.Numbers.{g64_fault_number}
 use Rattle.cbm_g64.proofs.fault.G64Fault.number.Goals as goal
 
 pub returns-in-Signature : goal.returns-in-Signature

@@ -1,8 +1,8 @@
 use Rattle.std.proofs.Common.{◌≡◌, ◌+◌, ℕ, Bool, List, ◌≤◌}
-use Rattle.cbm_channel.specs.Machines.{Machine}
+use Rattle.cbm_machine.specs.Machines.{Machine}
 use Rattle.cbm_drive.specs.Desks.{desk_shows}
 use Rattle.cbm_host.specs.AnyDisk.{RestsAnyway, IsUnderWayAnyway}
-use Rattle.cbm_host.specs.Hosted.{Rests, IsUnderWay, tracks_on, HasNotFailed, failures_on}
+use Rattle.cbm_host.specs.Hosted.{Rests, IsUnderWay, tracks_on, HasNotFailed, hosted_failures}
 use Rattle.cbm_host.specs.Progress.{left_of}
 use Rattle.cbm_host.specs.Requests.{longest}
 use Rattle.cbm_host.specs.Served.{IsModest}
@@ -12,7 +12,7 @@ use Rattle.cbm_host.proofs.hosted.Hosted.carry_out.Given as goal
 abbrev pub invariant-bytes : goal.invariant-bytes
 invariant-bytes g l = record {
   under_way : HasNotFailed g.M.Medium.seen l.fn.self l.self → (m : Machine) → IsModest l.fn.request → Rests g.M.Medium.seen l.fn.self m → (bytes : List ℕ) × (last : Bool) × IsUnderWay g.M.Medium.seen l.self l.performer m l.fn.request bytes last;
-  counted : failures_on g.M.Medium.seen l.fn.self ≤ failures_on g.M.Medium.seen l.self;
+  counted : hosted_failures g.M.Medium.seen l.fn.self ≤ hosted_failures g.M.Medium.seen l.self;
   limit : l.performer.limit ≡ l.fn.self.moment + longest l.fn.self.pace;
   tracks : tracks_on g.M.Medium.seen l.self ≡ tracks_on g.M.Medium.seen l.fn.self;
   device : l.self.device ≡ l.fn.self.device;

@@ -1,5 +1,5 @@
 use Rattle.std.proofs.Common.{◌≡◌, ◌∷◌, [], subst}
-use Rattle.cbm_channel.specs.Machines.{Machine}
+use Rattle.cbm_machine.specs.Machines.{Machine}
 use Rattle.cbm_volume.specs.Holding.{HoldsDisk}
 use Rattle.cbm_host.proofs.Hosting.{disk_of, tracks_of}
 use Rattle.cbm_host.proofs.hosted.Hosted.into_medium.Goals as goal

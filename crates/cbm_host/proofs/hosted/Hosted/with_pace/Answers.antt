@@ -1,6 +1,6 @@
 use Rattle.std.proofs.Common.{◌<◌, refl, sym, subst}
 use Rattle.std.specs.Prelude.{IfSome}
-use Rattle.cbm_channel.specs.Machines.{start}
+use Rattle.cbm_machine.specs.Machines.{start}
 use Rattle.cbm_drive.specs.Addressing.{Addressed, channel_said}
 use Rattle.cbm_drive.specs.Desks.{Desk, DeskStands, at_first, desk_shows, shown_from}
 use Rattle.cbm_host.proofs.HostedAnyway.{rests_first_anyway}

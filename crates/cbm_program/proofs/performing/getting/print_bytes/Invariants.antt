@@ -1,7 +1,7 @@
 use Rattle.std.proofs.Common.{◌≡◌}
 use Rattle.cbm_host.specs.Hosted.{tracks_on}
 use Rattle.cbm_host.specs.Progress.{left_of}
-use Rattle.cbm_program.specs.Output.{Grows}
+use Rattle.cbm_program.specs.Output.{AppendsMore}
 use Rattle.cbm_program.proofs.BytesPrinted.{Goes}
 use Rattle.cbm_program.proofs.performing.getting.print_bytes.Given as goal
 
@@ -12,7 +12,7 @@ invariant-bytes g l = record {
   moment : l.drive.moment ≡ l.fn.drive.moment;
   paced : l.drive.pace ≡ l.fn.drive.pace;
   tracks : tracks_on g.M.Medium.seen l.drive ≡ tracks_on g.M.Medium.seen l.fn.drive;
-  grown : Grows (g.W.Write.contents l.fn.writer) (g.W.Write.contents l.writer);
+  grown : AppendsMore (g.W.Write.contents l.fn.writer) (g.W.Write.contents l.writer);
 }
 
 abbrev pub decreases-bytes : goal.decreases-bytes

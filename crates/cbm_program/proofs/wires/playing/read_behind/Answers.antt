@@ -1,6 +1,6 @@
 use Rattle.std.proofs.Common.{◌∙◌, ◌≤◌, length, ap, subst, Err, None, arith, sym}
 use Rattle.std.proofs.lemmas.Result.{err_from_is_err_and}
-use Rattle.bus_traces.specs.Lines.{bytes_left}
+use Rattle.bus_traces.specs.Lines.{source_bytes_left}
 use Rattle.cbm_program.specs.Timed.{timed_of, timed_behind, is_skipped}
 use Rattle.cbm_program.proofs.TimedLines.{stands, behind_skipped, behind_other, behind_none, behind_faulted}
 use Rattle.cbm_program.proofs.wires.playing.read_behind.Goals as goal
@@ -8,12 +8,12 @@ use Rattle.cbm_program.proofs.wires.playing.read_behind.Goals as goal
 pub returns-in_err-next_line : goal.returns-in_err-next_line
 returns-in_err-next_line g c =
     let p = err_from_is_err_and c.from_residual.result c.from_residual.ensures.1 in
-    let left = bytes_left g.R.Read.remaining in
+    let left = source_bytes_left g.R.Read.remaining in
     behind_faulted (left c.lines.lines) (left c.next_line.new.lines) (left c.args.lines.now) c.lines.number c.args.first c.next_line.new.bytes.items c.from_residual.result _ c.lines.invariant.0 c.in_err-next_line.ensures (p.1 ∙ ap Err p.2)
 
 pub lines-preserved : goal.lines-preserved
 lines-preserved g c =
-    let left = bytes_left g.R.Read.remaining in
+    let left = source_bytes_left g.R.Read.remaining in
     let read = rw c.if-branch.true at c.in_ok-next_line.ensures in
     let few = read.1 in
     let may = stands c.lines.number c.next_line.new.bytes.items (omega (arith, few)) (subst (λ l. length l ≤ 1000) c.as_slice.ensures.value c.as_slice.ensures.fits) in (
@@ -22,11 +22,11 @@ lines-preserved g c =
     )
 
 pub returns : goal.returns
-returns g c = c.lines.invariant.0 None (behind_none (bytes_left g.R.Read.remaining c.lines.lines) c.lines.number (rw c.if-branch.false at c.in_ok-next_line.ensures))
+returns g c = c.lines.invariant.0 None (behind_none (source_bytes_left g.R.Read.remaining c.lines.lines) c.lines.number (rw c.if-branch.false at c.in_ok-next_line.ensures))
 
 pub returns-then-not-is_skipped : goal.returns-then-not-is_skipped
 returns-then-not-is_skipped g c =
-    let left = bytes_left g.R.Read.remaining in
+    let left = source_bytes_left g.R.Read.remaining in
     let read = rw c.if-branch.true at c.in_ok-next_line.ensures in
     let few = read.1 in
     let may = stands c.lines.number c.next_line.new.bytes.items (omega (arith, few)) (subst (λ l. length l ≤ 1000) c.as_slice.ensures.value c.as_slice.ensures.fits) in

@@ -2,7 +2,7 @@ use Rattle.std.proofs.Common.{rules, ◌∙◌, [], Err, ap, length}
 use Rattle.std.proofs.lemmas.Result.{err_from_is_err_and}
 use Rattle.cbm_host.specs.Hosted.{party_of}
 use Rattle.cbm_program.specs.Starts.{StartsFrom, KeptBy}
-use Rattle.cbm_program.specs.Staging.{IsSwitchedOn, IsBorne}
+use Rattle.cbm_program.specs.Staging.{IsDriveSwitchedOn, IsBorne}
 use Rattle.cbm_program.proofs.LinePrints.{if_err}
 use Rattle.cbm_program.proofs.Playing.{sole_tracks}
 use Rattle.cbm_program.proofs.StartLemmas.{among-stands, ends-again}
@@ -14,7 +14,7 @@ returns-in_err-play_on-clause-played g c = λ shows input stands t.
     let p = err_from_is_err_and c.from_residual.result c.from_residual.ensures.1 in
     let seen = g.M.Medium.seen in
     let drive = party_of c.args.pace c.args.device in
-    let among = among-stands shows (IsSwitchedOn seen drive c.args.stage.player c.args.stage.bus) stands in
+    let among = among-stands shows (IsDriveSwitchedOn seen drive c.args.stage.player c.args.stage.bus) stands in
     record {
       ended = ends-again _ _ _ _ (c.in_err-play_on.ensures.ended input t) (p.1 ∙ ap Err p.2) (λ bad h. traced-among [] _ _ input (StartsFrom shows) _ (IsBorne seen c.play_on.new.stage.bus) (λ m. Unit {0}) drive bad among (λ m s. tt) h);
       disk = (search rules);
@@ -31,7 +31,7 @@ pub returns-clause-played : goal.returns-clause-played
 returns-clause-played g c = λ shows input stands t.
     let seen = g.M.Medium.seen in
     let drive = party_of c.args.pace c.args.device in
-    let among = among-stands shows (IsSwitchedOn seen drive c.args.stage.player c.args.stage.bus) stands in
+    let among = among-stands shows (IsDriveSwitchedOn seen drive c.args.stage.player c.args.stage.bus) stands in
     record {
       ended = traced-among [] _ _ input (StartsFrom shows) _ (IsBorne seen c.play_on.new.stage.bus) (λ m. Unit {0}) drive _ among (λ m s. tt) (c.in_ok-play_on.ensures.ended input t);
       disk = left-traced [] _ _ input (StartsFrom shows) _ (IsBorne seen c.play_on.new.stage.bus) (KeptBy (seen c.into_medium.result)) drive _ among c.into_medium.ensures.disk (c.in_ok-play_on.ensures.ended input t);

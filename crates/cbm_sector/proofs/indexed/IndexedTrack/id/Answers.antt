@@ -4,7 +4,7 @@ use Rattle.cbm_medium.specs.Place.{Place}
 use Rattle.cbm_medium.specs.Content.{header_fault}
 use Rattle.cbm_track.specs.Circle.{or_then, some_if}
 use Rattle.cbm_sector.specs.Decoding.{coded_at}
-use Rattle.cbm_sector.specs.Answer.{shown, header_of, names, passes, block_of, id_shown, data_block, IsOverwritten}
+use Rattle.cbm_sector.specs.Answer.{sector_shown, header_of, names, passes, block_of, id_shown, data_block, IsOverwritten}
 use Rattle.cbm_sector.specs.Fresh.{block_place}
 use Rattle.cbm_sector.specs.Index.{IsIndex, is_of}
 use Rattle.cbm_sector.proofs.indexed.IndexedTrack.id.Goals as goal

@@ -2,7 +2,7 @@ use Rattle.std.proofs.Common.{◌≡◌, ◌+◌, ◌-◌, sym, ap, subst, ◌�
 use Rattle.cbm_medium.specs.Place.{directory_head}
 use Rattle.cbm_medium.specs.Links.{follow}
 use Rattle.cbm_shell.specs.Mapping.{chain_of, free_by}
-use Rattle.cbm_shell.specs.Undeleting.{all_free}
+use Rattle.cbm_shell.specs.Undeleting.{all_blocks_free}
 use Rattle.cbm_shell.proofs.MapLemmas.{stops_off, stops_unread, stops_full}
 use Rattle.cbm_shell.proofs.UndeleteLemmas.{free_begins, free_over, free_not, free_more}
 use Rattle.cbm_shell.proofs.broken.undeleting.is_free_chain.Goals as goal
@@ -15,8 +15,8 @@ loop-done-preserved g c =
     let content = (g.M.Medium.seen c.args.medium.now).content in
     let m = c.sectors-count.result - c.loop-done.done in
     let n = c.sectors-count.result - (c.loop-done.done + 1) in
-    let whole = all_free content (chain_of c.args.geometry content c.args.from) in
-    subst (λ q. all_free content (follow c.args.geometry content n q).blocks ≡ whole) (sym c.of-link.ensures)
+    let whole = all_blocks_free content (chain_of c.args.geometry content c.args.from) in
+    subst (λ q. all_blocks_free content (follow c.args.geometry content n q).blocks ≡ whole) (sym c.of-link.ensures)
     (free_more c.args.geometry content m n c.loop-done.link c.in-Ok.bytes whole c.loop-done.invariant c.in-Some.ensures.0
     (subst (λ q. content q ≡ Ok c.in-Ok.bytes) c.in-Some.ensures.1 c.in-Ok.ensures.ok) (omega (arith, c.loop-done-test.true))
     (ap (free_by (content directory_head)) (sym c.in-Some.ensures.1) ∙ sym c.if-not-is_free_at.ensures))
@@ -37,7 +37,7 @@ returns-then-not-is_free_at g c =
     let content = (g.M.Medium.seen c.args.medium.now).content in
     let m = c.sectors-count.result - c.loop-done.done in
     let n = c.sectors-count.result - (c.loop-done.done + 1) in
-    let whole = all_free content (chain_of c.args.geometry content c.args.from) in
+    let whole = all_blocks_free content (chain_of c.args.geometry content c.args.from) in
     free_not c.args.geometry content m n c.loop-done.link c.in-Ok.bytes whole c.loop-done.invariant c.in-Some.ensures.0
     (subst (λ q. content q ≡ Ok c.in-Ok.bytes) c.in-Some.ensures.1 c.in-Ok.ensures.ok) (omega (arith, c.loop-done-test.true))
     (ap (free_by (content directory_head)) (sym c.in-Some.ensures.1) ∙ sym c.if-not-is_free_at.ensures)

@@ -3,7 +3,7 @@ use Rattle.std.proofs.lemmas.Result.{err_from_is_err_and}
 use Rattle.std.specs.Prelude.{MatchOption}
 use Rattle.cbm_bam.specs.Map.{geometry_of}
 use Rattle.cbm_image.specs.Images.{kind_of}
-use Rattle.cbm_shell.specs.Art.{art_entry, HasEntered, IsFull}
+use Rattle.cbm_shell.specs.Art.{art_entry, HasEntered, IsDirectoryFull}
 use Rattle.cbm_shell.specs.Editing.{IsUnedited}
 use Rattle.cbm_shell.specs.Images.{IsSoundDisk}
 use Rattle.cbm_shell.proofs.ArtLemmas.{art_sound}
@@ -25,8 +25,8 @@ returns-clause-stays g c =
     let looks = c.args.looks in
     let entry = art_entry looks.name.now looks.blocks looks.is_locked in
     let tracks = geometry_of old.tracks old.content in
-    let enters = subst (λ o. MatchOption o (IsFull tracks old.content) (λ after. HasEntered tracks old.content (seen after).content entry)) c.in-Some.is
-    (subst (λ e. MatchOption c.in_ok-disk.field-0 (IsFull tracks old.content) (λ after. HasEntered tracks old.content (seen after).content e)) {y = entry} c.art_entry.ensures c.in_ok-disk.ensures.enters) in
+    let enters = subst (λ o. MatchOption o (IsDirectoryFull tracks old.content) (λ after. HasEntered tracks old.content (seen after).content entry)) c.in-Some.is
+    (subst (λ e. MatchOption c.in_ok-disk.field-0 (IsDirectoryFull tracks old.content) (λ after. HasEntered tracks old.content (seen after).content e)) {y = entry} c.art_entry.ensures c.in_ok-disk.ensures.enters) in
     let same = subst (λ o. MatchOption o (Unit {0}) (λ after. (seen after).tracks ≡ old.tracks)) c.in-Some.is c.in_ok-disk.ensures.tracks in
     saved_sound g.I.DiskImage.kind (kind_of c.args.image.now) c.in_ok-saved.field-0.items new c.requires.kind c.in_ok-saved.ensures.ok
     (subst (λ n. IsSoundDisk n new.content) (sym same) (art_sound old.tracks old.content new.content looks.name.now looks.blocks looks.is_locked c.in_ok-require_sound.ensures.sound enters))

@@ -1,9 +1,9 @@
 use Rattle.std.proofs.Common.{◌≡◌, sym, ◌∙◌, ap, subst}
 use Rattle.cbm_channel.specs.Standing.{Stands}
-use Rattle.cbm_channel.specs.Calls.{after_open}
-use Rattle.cbm_channel.specs.Codes.{code_number}
+use Rattle.cbm_machine.specs.Calls.{after_open}
+use Rattle.cbm_machine.specs.Codes.{code_number}
 use Rattle.cbm_channel.proofs.Steady.{steady_open}
-use Rattle.cbm_shell.specs.Listing.{list_text, sent}
+use Rattle.cbm_shell.specs.Listing.{list_text, listing_sent}
 use Rattle.cbm_shell.proofs.looking.listing.raw_list.Goals as goal
 
 pub returns-then-status_code-ne0 : goal.returns-then-status_code-ne0
@@ -15,7 +15,7 @@ returns-then-status_code-ne0 g c = λ m s.
     (c.status.ensures.status _ stands, (λ e. c.if-status_code-ne0.true (c.status_code.ensures.value ∙ ap code_number (ap (λ x. x.code) (sym c.status.ensures.value)) ∙ e)))
 
 pub returns : goal.returns
-unfolding sent
+unfolding listing_sent
 returns g c = λ m s.
     let seen = g.M.Medium.seen in
     let asked : c.as_slice.result.now ≡ list_text c.args.pattern.now = c.as_slice.ensures.value ∙ c.in_ok-text.ensures in

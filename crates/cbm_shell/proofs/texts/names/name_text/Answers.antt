@@ -1,11 +1,11 @@
 use Rattle.std.proofs.Common.{◌++◌, ap, ◌∙◌, string_bytes, arith}
 use Rattle.std.specs.Str.{chars}
-use Rattle.cbm_shell.specs.Names.{text_of, codes_of}
+use Rattle.cbm_shell.specs.Names.{name_text, codes_of}
 use Rattle.cbm_shell.proofs.NameLemmas.{text-none, text-next, read_back}
 use Rattle.cbm_shell.proofs.texts.names.name_text.Goals as goal
 
 pub codes-init : goal.codes-init
-codes-init c = ap (λ t. t ++ text_of c.args.charset c.args.name.now) c.new-text.ensures.bytes
+codes-init c = ap (λ t. t ++ name_text c.args.charset c.args.name.now) c.new-text.ensures.bytes
 
 pub codes-preserved : goal.codes-preserved
 codes-preserved c =

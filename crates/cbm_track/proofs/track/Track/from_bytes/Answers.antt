@@ -1,5 +1,5 @@
 use Rattle.std.proofs.Common.{rules, ◌≡◌, ℕ, ◌<◌, ◌≤◌, ◌+◌, ◌*◌, ◌%◌, ◌↔◌, false, length, slice_index_or, IfSome, IsSome, ◌-◌, ◌/◌, Bool, true, nat_eq, nat_lt, List, [], ◌∷◌, ◌++◌, slice_set, bit_and, bit_or, Fits, w8, w32, w64, Bor, MutBor}
-use Rattle.cbm_track.specs.Circle.{bits_of, bit, is_clear, next_block, stretch}
+use Rattle.cbm_track.specs.Circle.{circle_bits_of, circle_bit, is_clear, next_block, stretch}
 use Rattle.cbm_track.proofs.track.Track.from_bytes.Goals as goal
 
 pub returns-then-is_empty-clause-some : goal.returns-then-is_empty-clause-some

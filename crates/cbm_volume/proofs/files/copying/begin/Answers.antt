@@ -1,5 +1,5 @@
 use Rattle.cbm_medium.specs.Seen.{Seen}
-use Rattle.cbm_volume.specs.Copies.{IsCutShort}
+use Rattle.cbm_volume.specs.Copies.{IsCopyCut}
 use Rattle.cbm_volume.proofs.copied.CopySteps.{handed}
 use Rattle.cbm_volume.proofs.copied.CopyEnds.{begin_cut, begin_place, begin_ready, claim_cut, claim_place, claim_made}
 use Rattle.cbm_volume.proofs.files.copying.begin.Goals as goal
@@ -8,7 +8,7 @@ pub returns-in_err-number-clause-begun : goal.returns-in_err-number-clause-begun
 returns-in_err-number-clause-begun g c = λ d uses ch h idle some room.
     let old : Seen = g.M.Medium.seen c.args.medium.now in
     let new : Seen = g.M.Medium.seen c.empty_slot.new.medium in
-    handed c.from_residual.result c.in_err-number.field-0.0 _ (IsCutShort old new old.content h.layout d uses) c.from_residual.ensures.1
+    handed c.from_residual.result c.in_err-number.field-0.0 _ (IsCopyCut old new old.content h.layout d uses) c.from_residual.ensures.1
     (begin_cut old new c.geometry-geometry.result c.in_err-number.field-0.0 d uses h c.geometry-geometry.ensures.value c.in_err-number.ensures.stopped c.in_err-number.ensures.cause)
 
 pub returns-in_default-clause-begun : goal.returns-in_default-clause-begun
@@ -20,7 +20,7 @@ returns-in_err-chain-clause-begun g c = λ d uses ch h idle some room.
     let old : Seen = g.M.Medium.seen c.args.medium.now in
     let mid : Seen = g.M.Medium.seen c.empty_slot.new.medium in
     let new : Seen = g.M.Medium.seen c.begin.new.medium in
-    handed c.from_residual-in_err-chain.result c.in_err-chain.field-0.0 _ (IsCutShort old new old.content h.layout d uses) c.from_residual-in_err-chain.ensures.1
+    handed c.from_residual-in_err-chain.result c.in_err-chain.field-0.0 _ (IsCopyCut old new old.content h.layout d uses) c.from_residual-in_err-chain.ensures.1
     (claim_cut old mid new c.in-Some.number c.in_err-chain.field-0.0 d uses h (begin_ready old mid c.geometry-geometry.result c.in-Some.number c.in_ok-number.field-0 d uses h c.geometry-geometry.ensures.value c.in-Some.is c.in_ok-number.ensures.taken)
     c.empty_slot.ensures.only.protected c.empty_slot.ensures.only.counted c.in_err-chain.ensures.err c.in_err-chain.ensures.cause)
 

@@ -2,7 +2,7 @@ use Rattle.std.proofs.lemmas.Result.{err_from_is_err_and}
 use Rattle.cbm_medium.specs.Place.{sector_count}
 use Rattle.cbm_medium.specs.Seen.{Seen}
 use Rattle.cbm_file.specs.Files.{file_at}
-use Rattle.cbm_file.specs.Changes.{bytes_at}
+use Rattle.cbm_file.specs.Changes.{slot_bytes}
 use Rattle.cbm_bam.specs.Map.{geometry_of}
 use Rattle.cbm_chain.specs.Reading.{held_from}
 use Rattle.cbm_directory.proofs.Codes.{directory_never_26}
@@ -30,5 +30,5 @@ pub returns-clause-count : goal.returns-clause-count
 returns-clause-count g c = λ d uses h can.
     let now : Seen = g.M.Medium.seen c.args.medium.now in
     let geometry = c.geometry-geometry.result in
-    counted_ok c.byte_count.result (held_from geometry now.content (sector_count geometry) c.first_block.result) (bytes_at (file_at d c.args.number)) c.byte_count.ensures.counted c.byte_count.ensures.err
+    counted_ok c.byte_count.result (held_from geometry now.content (sector_count geometry) c.first_block.result) (slot_bytes (file_at d c.args.number)) c.byte_count.ensures.counted c.byte_count.ensures.err
     (source_held (geometry_of now.tracks now.content) geometry now.content h.layout d c.args.number c.in_ok-entry.field-0 c.in-Some.entry c.first_block.result (geometry_size now.tracks now.content) h.so.stands c.geometry-geometry.ensures.value can c.in-Some.is c.in_ok-entry.ensures c.first_block.ensures)

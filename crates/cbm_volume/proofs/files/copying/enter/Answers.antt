@@ -3,7 +3,7 @@ use Rattle.cbm_medium.specs.Place.{Place}
 use Rattle.cbm_medium.specs.Seen.{Seen}
 use Rattle.cbm_chain.specs.Writing.{State, place_or_none}
 use Rattle.cbm_directory.specs.Entries.{IsClosedAs}
-use Rattle.cbm_volume.specs.Copies.{IsCutShort}
+use Rattle.cbm_volume.specs.Copies.{IsCopyCut}
 use Rattle.cbm_volume.specs.Writers.{Idle}
 use Rattle.cbm_volume.proofs.copied.CopySteps.{handed}
 use Rattle.cbm_volume.proofs.copied.CopyEnds.{last_cut, entry_made}
@@ -13,7 +13,7 @@ pub returns-in_err-finish-clause-entered : goal.returns-in_err-finish-clause-ent
 returns-in_err-finish-clause-entered g c = λ c' l d uses ch bytes k idle empty ne plain.
     let old : Seen = g.M.Medium.seen c.args.medium.now in
     let new : Seen = g.M.Medium.seen c.finish.new.medium in
-    handed c.from_residual.result c.in_err-finish.field-0.0 _ (IsCutShort old new c' l d uses) c.from_residual.ensures.1
+    handed c.from_residual.result c.in_err-finish.field-0.0 _ (IsCopyCut old new c' l d uses) c.from_residual.ensures.1
     (last_cut old new c.args.chain.now c.in_err-finish.field-0.0 c' l d uses ch bytes Idle c.in_err-finish.ensures.err c.in_err-finish.ensures.cause k)
 
 pub returns-clause-entered : goal.returns-clause-entered

@@ -2,7 +2,7 @@ use Rattle.std.proofs.Common.{ℕ, [], length, sym, subst}
 use Rattle.cbm_medium.specs.Seen.{Seen}
 use Rattle.cbm_file.specs.Changes.{joined, with_copy}
 use Rattle.cbm_file.specs.Padding.{before_filler}
-use Rattle.cbm_volume.specs.Copies.{IsCutShort, Making}
+use Rattle.cbm_volume.specs.Copies.{IsCopyCut, Making}
 use Rattle.cbm_volume.specs.Writers.{Idle}
 use Rattle.cbm_volume.proofs.copied.CopySteps.{handed, cut_since}
 use Rattle.cbm_volume.proofs.copied.CopyEnds.{since_begun, one_block}
@@ -12,7 +12,7 @@ pub returns-in_err-number-clause-made : goal.returns-in_err-number-clause-made
 returns-in_err-number-clause-made g c = λ d uses ch h idle ne plain are some room.
     let old : Seen = g.M.Medium.seen c.args.medium.now in
     let new : Seen = g.M.Medium.seen c.begin.new.medium in
-    handed c.from_residual.result c.in_err-number.field-0.0 _ (IsCutShort old new old.content h.layout d uses) c.from_residual.ensures.1
+    handed c.from_residual.result c.in_err-number.field-0.0 _ (IsCopyCut old new old.content h.layout d uses) c.from_residual.ensures.1
     (c.in_err-number.ensures.begun d uses ch h idle some (one_block (length (joined d c.args.sources.now)) d.free room))
 
 pub returns-in_err-put_files-clause-made : goal.returns-in_err-put_files-clause-made
@@ -22,7 +22,7 @@ returns-in_err-put_files-clause-made g c = λ d uses ch h idle ne plain are some
     let new : Seen = g.M.Medium.seen c.put_files.new.medium in
     let begun = c.in_ok-number.ensures.begun d uses ch h idle some (one_block (length (joined d c.args.sources.now)) d.free room) in
     let only = c.in_ok-number.ensures.only in
-    handed c.from_residual-in_err-put_files.result c.in_err-put_files.field-0.0 _ (IsCutShort old new old.content h.layout d uses) c.from_residual-in_err-put_files.ensures.1
+    handed c.from_residual-in_err-put_files.result c.in_err-put_files.field-0.0 _ (IsCopyCut old new old.content h.layout d uses) c.from_residual-in_err-put_files.ensures.1
     (cut_since old mid new old.content h.layout d uses c.in_err-put_files.field-0.0 only.tracks only.protected only.counted
     (c.in_err-put_files.ensures.put old.content h.layout d uses ch [] (subst (λ (n : ℕ). Making n old.content h.layout d uses ch mid.content c.in_ok-number.chain [] Idle) (sym only.tracks) begun.1) are room))
 

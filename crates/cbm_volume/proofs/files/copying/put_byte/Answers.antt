@@ -1,5 +1,5 @@
 use Rattle.cbm_medium.specs.Seen.{Seen}
-use Rattle.cbm_volume.specs.Copies.{IsCutShort}
+use Rattle.cbm_volume.specs.Copies.{IsCopyCut}
 use Rattle.cbm_volume.proofs.copied.CopySteps.{handed, byte_cut, byte_put, byte_refused}
 use Rattle.cbm_volume.proofs.files.copying.put_byte.Goals as goal
 
@@ -7,7 +7,7 @@ pub returns-in_err-done-clause-put : goal.returns-in_err-done-clause-put
 returns-in_err-done-clause-put g c = λ c' l d uses ch bytes source k room.
     let old : Seen = g.M.Medium.seen c.args.medium.now in
     let new : Seen = g.M.Medium.seen c.put.new.medium in
-    handed c.from_residual.result c.in_err-done.field-0.0 _ (IsCutShort old new c' l d uses) c.from_residual.ensures.1
+    handed c.from_residual.result c.in_err-done.field-0.0 _ (IsCopyCut old new c' l d uses) c.from_residual.ensures.1
     (byte_cut old new c.args.chain.now c.in_err-done.field-0.0 c' l d uses ch bytes source c.in_err-done.ensures.err c.in_err-done.ensures.cause k)
 
 -- a block is free, so the byte is put

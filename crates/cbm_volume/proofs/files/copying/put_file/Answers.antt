@@ -4,7 +4,7 @@ use Rattle.cbm_medium.proofs.Sequences.{only_nothing}
 use Rattle.cbm_medium.specs.Place.{sector_count}
 use Rattle.cbm_medium.specs.Seen.{Seen}
 use Rattle.cbm_file.specs.Files.{file_at}
-use Rattle.cbm_file.specs.Changes.{bytes_at}
+use Rattle.cbm_file.specs.Changes.{slot_bytes}
 use Rattle.cbm_bam.specs.Map.{geometry_of}
 use Rattle.cbm_chain.specs.Reading.{held_from}
 use Rattle.cbm_directory.proofs.Codes.{directory_never_26}
@@ -34,7 +34,7 @@ pub returns-in_err-count-clause-put : goal.returns-in_err-count-clause-put
 returns-in_err-count-clause-put g c = λ c' l d uses ch bytes k can room.
     let old : Seen = g.M.Medium.seen c.args.medium.now in
     let geometry = c.geometry-geometry.result in
-    absurd (held_whole c.in_err-count.field-0.0 (held_from geometry old.content (sector_count geometry) c.first_block.result) (bytes_at (file_at d c.args.number)) c.in_err-count.ensures.err
+    absurd (held_whole c.in_err-count.field-0.0 (held_from geometry old.content (sector_count geometry) c.first_block.result) (slot_bytes (file_at d c.args.number)) c.in_err-count.ensures.err
     (making_held old.tracks geometry c' l d uses ch old.content c.args.chain.now bytes _ c.args.number c.in_ok-entry.field-0 c.in-Some.entry c.first_block.result k c.geometry-geometry.ensures.value can c.in-Some.is c.in_ok-entry.ensures c.first_block.ensures))
 
 pub returns-clause-put : goal.returns-clause-put
@@ -42,7 +42,7 @@ returns-clause-put g c = λ c' l d uses ch bytes k can room.
     let old : Seen = g.M.Medium.seen c.args.medium.now in
     let geometry = c.geometry-geometry.result in
     let held = making_held old.tracks geometry c' l d uses ch old.content c.args.chain.now bytes _ c.args.number c.in_ok-entry.field-0 c.in-Some.entry c.first_block.result k c.geometry-geometry.ensures.value can c.in-Some.is c.in_ok-entry.ensures c.first_block.ensures in
-    c.put_read.ensures.put c' l d uses ch c.args.number bytes (bytes_at (file_at d c.args.number))
+    c.put_read.ensures.put c' l d uses ch c.args.number bytes (slot_bytes (file_at d c.args.number))
     (making_reads old.tracks geometry c' l d uses ch old.content c.args.chain.now bytes _ c.args.number c.in_ok-entry.field-0 c.in-Some.entry c.first_block-2.result c.in_ok-reader.reader k c.geometry-geometry.ensures.value can c.in-Some.is c.in_ok-entry.ensures c.first_block-2.ensures
     c.in_ok-reader.ensures.tracks c.in_ok-reader.ensures.begins c.in_ok-reader.ensures.ok)
-    c.in_ok-reader.ensures.settled (held_length c.in_ok-count.count (held_from geometry old.content (sector_count geometry) c.first_block.result) (bytes_at (file_at d c.args.number)) c.in_ok-count.ensures.counted held) room
+    c.in_ok-reader.ensures.settled (held_length c.in_ok-count.count (held_from geometry old.content (sector_count geometry) c.first_block.result) (slot_bytes (file_at d c.args.number)) c.in_ok-count.ensures.counted held) room

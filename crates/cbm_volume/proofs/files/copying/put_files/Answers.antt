@@ -1,7 +1,7 @@
 use Rattle.std.proofs.Common.{ℕ, Ok, refl, subst, ◌∙◌}
 use Rattle.cbm_medium.proofs.Sequences.{nothing_yet, only_more}
 use Rattle.cbm_medium.specs.Seen.{Seen, OnlyContent}
-use Rattle.cbm_volume.specs.Copies.{IsCutShort}
+use Rattle.cbm_volume.specs.Copies.{IsCopyCut}
 use Rattle.cbm_volume.proofs.copied.CopySteps.{handed, copied_first, copied_step, copied_cut, all_copied}
 use Rattle.cbm_volume.proofs.files.copying.put_files.Goals as goal
 
@@ -13,7 +13,7 @@ returns-in_err-put_file-clause-put g c = λ c' l d uses ch bytes k are room.
     let old : Seen = g.M.Medium.seen c.args.medium.now in
     let mid : Seen = g.M.Medium.seen c.sources.medium in
     let new : Seen = g.M.Medium.seen c.put_file.new.medium in
-    handed c.from_residual.result c.in_err-put_file.field-0.0 _ (IsCutShort old new c' l d uses) c.from_residual.ensures.1
+    handed c.from_residual.result c.in_err-put_file.field-0.0 _ (IsCopyCut old new c' l d uses) c.from_residual.ensures.1
     (copied_cut old mid new c.args.chain.now c.sources.chain c.put_file.new.chain c.args.sources.now c.sources.number-index c.in_err-put_file.field-0.0 c.sources-test.true
     c.sources.invariant.1.tracks c.sources.invariant.1.protected c.sources.invariant.1.counted c.in_err-put_file.ensures.put c.sources.invariant.0 c' l d uses ch bytes k are room)
 

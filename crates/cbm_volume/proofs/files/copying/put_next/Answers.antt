@@ -3,7 +3,7 @@ use Rattle.cbm_medium.specs.Seen.{Seen}
 use Rattle.cbm_file.specs.Files.{blocks_of}
 use Rattle.cbm_chain.specs.Data.{chain_bytes}
 use Rattle.cbm_bam.specs.Map.{geometry_of}
-use Rattle.cbm_volume.specs.Copies.{IsCutShort, Making}
+use Rattle.cbm_volume.specs.Copies.{IsCopyCut, Making}
 use Rattle.cbm_volume.specs.Writers.{Reads}
 use Rattle.cbm_volume.proofs.copied.CopySteps.{handed, waits_first, some_waits, reader_goes}
 use Rattle.cbm_volume.proofs.files.copying.put_next.Goals as goal
@@ -17,7 +17,7 @@ returns-in_err-put_byte-clause-put g c = λ c' l d uses ch number byte bytes lef
     let old : Seen = g.M.Medium.seen c.args.medium.now in
     let new : Seen = g.M.Medium.seen c.put_byte.new.medium in
     let same : c.in-Some.byte ≡ byte = waits_first c.args.reader.now.bytes (chain_bytes old.content k.reads.blocks) left byte c.in-Some.byte c.in-Some.field-0-1 (sym c.peek.ensures ∙ c.in-Some.is) k.reads.all in
-    handed c.from_residual.result c.in_err-put_byte.field-0.0 _ (IsCutShort old new c' l d uses) c.from_residual.ensures.1
+    handed c.from_residual.result c.in_err-put_byte.field-0.0 _ (IsCopyCut old new c' l d uses) c.from_residual.ensures.1
     (c.in_err-put_byte.ensures.put c' l d uses ch bytes (Reads number c.args.reader.now (byte ∷ left)) k (subst (λ (b : ℕ). blocks_of (length (bytes ++ b ∷ [])) ≤ d.free) (sym same) room))
 
 pub returns-clause-put : goal.returns-clause-put

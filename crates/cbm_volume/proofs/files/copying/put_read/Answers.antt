@@ -1,7 +1,7 @@
 use Rattle.std.proofs.Common.{ℕ, Ok, refl, subst, ◌∙◌}
 use Rattle.cbm_medium.proofs.Sequences.{nothing_yet, only_more}
 use Rattle.cbm_medium.specs.Seen.{Seen, OnlyContent}
-use Rattle.cbm_volume.specs.Copies.{IsCutShort}
+use Rattle.cbm_volume.specs.Copies.{IsCopyCut}
 use Rattle.cbm_volume.proofs.copied.CopySteps.{handed, read_first, read_step, read_cut, all_read}
 use Rattle.cbm_volume.proofs.files.copying.put_read.Goals as goal
 
@@ -13,7 +13,7 @@ returns-in_err-put_next-clause-put g c = λ c' l d uses ch number bytes left k s
     let old : Seen = g.M.Medium.seen c.args.medium.now in
     let mid : Seen = g.M.Medium.seen c.loop-passed.medium in
     let new : Seen = g.M.Medium.seen c.put_next.new.medium in
-    handed c.from_residual.result c.in_err-put_next.field-0.0 _ (IsCutShort old new c' l d uses) c.from_residual.ensures.1
+    handed c.from_residual.result c.in_err-put_next.field-0.0 _ (IsCopyCut old new c' l d uses) c.from_residual.ensures.1
     (read_cut old mid new c.args.chain.now c.loop-passed.chain c.put_next.new.chain c.args.reader.now c.loop-passed.reader c.put_next.new.reader c.args.count c.loop-passed.passed c.in_err-put_next.field-0.0 c.loop-passed-test.true
     c.loop-passed.invariant.1.tracks c.loop-passed.invariant.1.protected c.loop-passed.invariant.1.counted c.in_err-put_next.ensures.put c.loop-passed.invariant.0 c' l d uses ch number bytes left k settled e room)
 

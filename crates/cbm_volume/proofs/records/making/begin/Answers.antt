@@ -1,5 +1,5 @@
 use Rattle.cbm_medium.specs.Seen.{Seen}
-use Rattle.cbm_volume.specs.Copies.{IsCutShort}
+use Rattle.cbm_volume.specs.Copies.{IsCopyCut}
 use Rattle.cbm_volume.proofs.copied.CopySteps.{handed}
 use Rattle.cbm_volume.proofs.copied.CopyEnds.{begin_cut, begin_place, begin_ready}
 use Rattle.cbm_volume.proofs.records_made.RecordsPlaced.{claims_cut, lacks_none, has_two}
@@ -9,7 +9,7 @@ pub returns-in_err-number-clause-begun : goal.returns-in_err-number-clause-begun
 returns-in_err-number-clause-begun g c = λ d uses ch h idle some room size.
     let old : Seen = g.M.Medium.seen c.args.medium.now in
     let new : Seen = g.M.Medium.seen c.empty_slot.new.medium in
-    handed c.from_residual.result c.in_err-number.field-0.0 _ (IsCutShort old new old.content h.layout d uses) c.from_residual.ensures.1
+    handed c.from_residual.result c.in_err-number.field-0.0 _ (IsCopyCut old new old.content h.layout d uses) c.from_residual.ensures.1
     (begin_cut old new c.args.geometry c.in_err-number.field-0.0 d uses h size c.in_err-number.ensures.stopped c.in_err-number.ensures.cause)
 
 pub returns-in_default-clause-begun : goal.returns-in_default-clause-begun
@@ -21,7 +21,7 @@ returns-in_err-sectors-clause-begun g c = λ d uses ch h idle some room size.
     let old : Seen = g.M.Medium.seen c.args.medium.now in
     let mid : Seen = g.M.Medium.seen c.empty_slot.new.medium in
     let new : Seen = g.M.Medium.seen c.claim_two.new.medium in
-    handed c.from_residual-in_err-sectors.result c.in_err-sectors.field-0.0 _ (IsCutShort old new old.content h.layout d uses) c.from_residual-in_err-sectors.ensures.1
+    handed c.from_residual-in_err-sectors.result c.in_err-sectors.field-0.0 _ (IsCopyCut old new old.content h.layout d uses) c.from_residual-in_err-sectors.ensures.1
     (claims_cut old mid new c.args.geometry c.in-Some.number c.in_err-sectors.field-0.0 d uses h (begin_ready old mid c.args.geometry c.in-Some.number c.in_ok-number.field-0 d uses h size c.in-Some.is c.in_ok-number.ensures.taken)
     c.empty_slot.ensures.only.protected c.empty_slot.ensures.only.counted size c.in_err-sectors.ensures.stopped)
 

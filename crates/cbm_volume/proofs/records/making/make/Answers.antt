@@ -4,7 +4,7 @@ use Rattle.cbm_medium.specs.Seen.{Seen}
 use Rattle.cbm_bam.specs.Map.{geometry_of}
 use Rattle.cbm_file.specs.Records.{with_new_records}
 use Rattle.cbm_file.specs.Padding.{before_filler}
-use Rattle.cbm_volume.specs.Copies.{IsCutShort}
+use Rattle.cbm_volume.specs.Copies.{IsCopyCut}
 use Rattle.cbm_volume.specs.NewRecords.{HasTwo}
 use Rattle.cbm_volume.proofs.copied.CopySteps.{handed, cut_since}
 use Rattle.cbm_volume.proofs.copied.CopyEnds.{since_begun}
@@ -15,7 +15,7 @@ pub returns-in_err-number-clause-made : goal.returns-in_err-number-clause-made
 returns-in_err-number-clause-made g c = λ d uses ch h idle some room.
     let old : Seen = g.M.Medium.seen c.args.medium.now in
     let new : Seen = g.M.Medium.seen c.begin.new.medium in
-    handed c.from_residual.result c.in_err-number.field-0.0 _ (IsCutShort old new old.content h.layout d uses) c.from_residual.ensures.1 (c.in_err-number.ensures.begun d uses ch h idle some room c.geometry-geometry.ensures.value)
+    handed c.from_residual.result c.in_err-number.field-0.0 _ (IsCopyCut old new old.content h.layout d uses) c.from_residual.ensures.1 (c.in_err-number.ensures.begun d uses ch h idle some room c.geometry-geometry.ensures.value)
 
 pub returns-in_err-write_new-clause-made : goal.returns-in_err-write_new-clause-made
 returns-in_err-write_new-clause-made g c = λ d uses ch h idle some room.
@@ -26,7 +26,7 @@ returns-in_err-write_new-clause-made g c = λ d uses ch h idle some room.
     let q : Place = c.in_ok-number.side in
     let only = c.in_ok-number.ensures.only in
     let two = subst (λ (n : ℕ). HasTwo n old.content h.layout d uses ch mid.content p q) (sym only.tracks) (c.in_ok-number.ensures.begun d uses ch h idle some room c.geometry-geometry.ensures.value).1 in
-    handed c.from_residual-in_err-write_new.result c.in_err-write_new.field-0.0 _ (IsCutShort old new old.content h.layout d uses) c.from_residual-in_err-write_new.ensures.1
+    handed c.from_residual-in_err-write_new.result c.in_err-write_new.field-0.0 _ (IsCopyCut old new old.content h.layout d uses) c.from_residual-in_err-write_new.ensures.1
     (cut_since old mid new old.content h.layout d uses c.in_err-write_new.field-0.0 only.tracks only.protected only.counted (new_cut mid new old.content h.layout d uses ch p q c.in_err-write_new.field-0.0 two c.in_err-write_new.ensures.stopped))
 
 pub returns-in_err-enter-clause-made : goal.returns-in_err-enter-clause-made
@@ -44,7 +44,7 @@ returns-in_err-enter-clause-made g c = λ d uses ch h idle some room.
     let claimed = subst (λ (n : ℕ). HasTwo n old.content h.layout d uses ch mid.content p q) (sym only.tracks) begun.1 in
     let placed = two_written mid.tracks old.content h.layout mid.content two.content d uses ch p q w claimed c.in_ok-write_new.ensures.written in
     let after = with_new_records d (before_filler c.args.name.now) w in
-    handed c.from_residual-in_err-enter.result c.in_err-enter.field-0.0 _ (IsCutShort old new old.content h.layout d uses) c.from_residual-in_err-enter.ensures.1
+    handed c.from_residual-in_err-enter.result c.in_err-enter.field-0.0 _ (IsCopyCut old new old.content h.layout d uses) c.from_residual-in_err-enter.ensures.1
     (since_begun {A = Unit {0}} old mid new old.content h.layout d after uses (Err c.in_err-enter.field-0.0) only.tracks only.protected only.counted
     (since_begun {A = Unit {0}} mid two new old.content h.layout d after uses (Err c.in_err-enter.field-0.0) on.tracks on.protected on.counted
     (c.in_err-enter.ensures.entered old.content h.layout d uses ch (subst (λ (n : ℕ). HasTwo n old.content h.layout d uses ch two.content p q) (sym on.tracks) placed.0) placed.1 begun.0 (c.geometry-geometry.ensures.value ∙ ap (λ (n : ℕ). geometry_of n old.content) (sym (on.tracks ∙ only.tracks))))))

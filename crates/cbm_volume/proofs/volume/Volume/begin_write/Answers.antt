@@ -13,7 +13,7 @@ use Rattle.cbm_chain.specs.Writing.{State, begun_at}
 use Rattle.cbm_directory.specs.Entries.{Enters, first_directory, sector_of}
 use Rattle.cbm_directory.specs.Empties.{TakesSlot, SlotStopped, IsSlotRefused}
 use Rattle.cbm_medium.proofs.Sequences.{only_then, only_after, only_refused}
-use Rattle.cbm_volume.specs.Opens.{Begins}
+use Rattle.cbm_volume.specs.Opens.{BeginsFile}
 use Rattle.cbm_volume.specs.Writers.{Filling, Use, HoldsNow}
 use Rattle.cbm_volume.proofs.layouts.OnDisks.{of_tracks}
 use Rattle.cbm_volume.proofs.written.Finishing.{on_err}
@@ -181,7 +181,7 @@ pub returns-clause-call : goal.returns-clause-call
 returns-clause-call g c = λ d uses h.
     record {
       done =
-          λ ch idle ne plain. subst (λ (w : Filling). Begins (g.M.Medium.seen c.args.self.now).tracks (g.M.Medium.seen c.put_slot.new.medium).content (with_file d (unclosed c.args.kind (before_filler c.args.name.now)) 1) uses ch (new_slot d) false [] 1 w) (sym c.of_new.ensures)
+          λ ch idle ne plain. subst (λ (w : Filling). BeginsFile (g.M.Medium.seen c.args.self.now).tracks (g.M.Medium.seen c.put_slot.new.medium).content (with_file d (unclosed c.args.kind (before_filler c.args.name.now)) 1) uses ch (new_slot d) false [] 1 w) (sym c.of_new.ensures)
           (begins (g.M.Medium.seen c.args.self.now).tracks (g.M.Medium.seen c.args.self.now).content h.layout (g.M.Medium.seen c.empty_slot.new.medium).content (g.M.Medium.seen c.begin.new.medium).content (g.M.Medium.seen c.put_slot.new.medium).content d uses ch c.in-Some.slot (block_entered g c).0 c.args.kind c.args.name.now c.fresh-entry.result c.first_block.result c.in-Some-2.chain (set_entered g c d uses h) idle ne plain (block_entered g c).2 c.fresh-entry.ensures.says (entered g c));
       stopped = (search rules);
       cause = (search rules);

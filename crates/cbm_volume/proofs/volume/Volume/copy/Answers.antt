@@ -11,7 +11,7 @@ use Rattle.cbm_file.specs.Files.{Disk}
 use Rattle.cbm_file.specs.Changes.{with_copy}
 use Rattle.cbm_bam.specs.Map.{geometry_of}
 use Rattle.cbm_directory.proofs.Codes.{directory_never_26}
-use Rattle.cbm_volume.specs.Copies.{AreCopied, IsCutShort}
+use Rattle.cbm_volume.specs.Copies.{AreCopied, IsCopyCut}
 use Rattle.cbm_volume.specs.Opens.{IsHindered}
 use Rattle.cbm_volume.specs.Reaches.{Reached}
 use Rattle.cbm_volume.specs.Writers.{Use, Idle, HoldsNow}
@@ -85,7 +85,7 @@ returns-then-protected-clause-call g c = λ d uses ch h idle ne plain are.
 -- ---- the copy was begun, as there is room
 
 cut : (g : Over) (c : goal.After-from_residual-in_err-make g) (d : Disk) (uses : ℕ → Use) (ch : ℕ) (h : HoldsNow (g.M.Medium.seen c.args.self.now).tracks (g.M.Medium.seen c.args.self.now).content d uses) → uses ch ≡ Idle → c.args.kind ≢ Del → is_same_type Rel c.args.kind ≡ false → AreCopied d c.args.sources.now
-    → IsCutShort (g.M.Medium.seen c.args.self.now) (g.M.Medium.seen c.make.new.medium) (g.M.Medium.seen c.args.self.now).content h.layout d uses c.in_err-make.field-0.0
+    → IsCopyCut (g.M.Medium.seen c.args.self.now) (g.M.Medium.seen c.make.new.medium) (g.M.Medium.seen c.args.self.now).content h.layout d uses c.in_err-make.field-0.0
 cut g c d uses ch h idle ne plain are =
     let old : Seen = g.M.Medium.seen c.args.self.now in
     let seen = ap (λ m. g.M.Medium.seen m) c.self.view_is in

@@ -6,10 +6,10 @@ use Rattle.cbm_file.specs.Files.{Disk, File, Records, file_at}
 use Rattle.cbm_bam.specs.Map.{map_of, free_in, geometry_of}
 use Rattle.cbm_chain.specs.Reading.{rest_of, one_less, held_from, IsSettled}
 use Rattle.cbm_directory.specs.Entries.{first_block}
-use Rattle.cbm_directory.specs.Slots.{Answers, Finds, Gives, IfGiven, directory_of, left_of, most_left}
+use Rattle.cbm_directory.specs.Slots.{Answers, Finds, Gives, IfGiven, directory_of, listed_left, most_left}
 use Rattle.cbm_volume.specs.Layouts.{Layout, Sound}
 use Rattle.cbm_volume.specs.check.WholeDisk.{ClaimsDisk, DiskFault}
-use Rattle.cbm_volume.specs.Holding.{HoldsDisk, ShowsSlot, StandsAt, HasBytes, TellsOf}
+use Rattle.cbm_volume.specs.Holding.{HoldsDisk, ShowsSlot, EntryStandsAt, HasBytes, TellsOf}
 use Rattle.cbm_volume.specs.Writers.{Use, Reads, HoldsNow, with_use, writes_slot}
 use Rattle.cbm_volume.proofs.volume.Volume.geometry.Goals as goal
 

@@ -10,7 +10,7 @@ use Rattle.cbm_file.specs.Changes.{grown}
 use Rattle.cbm_file.specs.Records.{with_new_records}
 use Rattle.cbm_bam.specs.Map.{geometry_of}
 use Rattle.cbm_directory.proofs.Codes.{directory_never_26}
-use Rattle.cbm_volume.specs.Copies.{IsCutShort}
+use Rattle.cbm_volume.specs.Copies.{IsCopyCut}
 use Rattle.cbm_volume.specs.Opens.{IsHindered}
 use Rattle.cbm_volume.specs.Reaches.{Reached}
 use Rattle.cbm_volume.specs.Writers.{Use, Idle, HoldsNow}
@@ -72,7 +72,7 @@ returns-then-protected-clause-call g c = λ d uses ch h idle.
 -- ---- the file was begun, as there is room
 
 cut : (g : Over) (c : goal.After-from_residual-in_err-slot g) (d : Disk) (uses : ℕ → Use) (ch : ℕ) (h : HoldsNow (g.M.Medium.seen c.args.self.now).tracks (g.M.Medium.seen c.args.self.now).content d uses) → uses ch ≡ Idle
-    → IsCutShort (g.M.Medium.seen c.args.self.now) (g.M.Medium.seen c.make.new.medium) (g.M.Medium.seen c.args.self.now).content h.layout d uses c.in_err-slot.field-0.0
+    → IsCopyCut (g.M.Medium.seen c.args.self.now) (g.M.Medium.seen c.make.new.medium) (g.M.Medium.seen c.args.self.now).content h.layout d uses c.in_err-slot.field-0.0
 cut g c d uses ch h idle =
     let seen = ap (λ m. g.M.Medium.seen m) c.self.view_is in
     let room = records_room d c.in_ok-room.room.blocks c.in_ok-room.room.slot (c.in_ok-room.ensures.means d (record { layout = h.layout; stands = h.so.stands })) (c.has_room.ensures.enough c.if-not-has_room.false) in

@@ -6,7 +6,7 @@ use Rattle.cbm_bam.specs.Map.{geometry_of}
 use Rattle.cbm_bam.specs.Marks.{is_marked}
 use Rattle.cbm_volume.specs.Opens.{IsHindered}
 use Rattle.cbm_volume.specs.Views.{view_of}
-use Rattle.cbm_volume.specs.Sweeps.{IsDirectory, IsSwept, IsPutInOrder, IsPartlyInOrder}
+use Rattle.cbm_volume.specs.Sweeps.{IsDirectoryChain, IsSwept, IsPutInOrder, IsPartlyInOrder}
 use Rattle.cbm_volume.specs.check.WholeDisk.{ClaimsInto}
 use Rattle.cbm_volume.proofs.layouts.OnDisks.{of_tracks}
 use Rattle.cbm_volume.proofs.layouts.Calls.{if_ok, match_on}
@@ -62,7 +62,7 @@ returns-in_err-sweep-clause-refused g c =
     handed_on c.from_residual-in_err-sweep.result c.in_err-sweep.field-0.0 (IsRefusal old new) c.from_residual-in_err-sweep.ensures.1
     (slot_refused old new c.in_err-sweep.field-0.0 (is_marked c.in_ok-used.used)
     (subst (λ (s : Seen). ClaimsInto (geometry_of s.tracks s.content) (view_of (geometry_of s.tracks s.content) s.content) (is_marked c.in_ok-used.used)) (ap g.M.Medium.seen c.self.view_is) c.in_ok-used.ensures.ok)
-    (here (λ m s. (xs : List Place) → IsDirectory m s.content xs → IsHindered s new c.in_err-sweep.field-0.0) (g.M.Medium.seen c.self.inside.medium) old c.geometry-geometry.result (ap g.M.Medium.seen c.self.view_is) c.geometry-geometry.ensures.value c.in_err-sweep.ensures.cause))
+    (here (λ m s. (xs : List Place) → IsDirectoryChain m s.content xs → IsHindered s new c.in_err-sweep.field-0.0) (g.M.Medium.seen c.self.inside.medium) old c.geometry-geometry.result (ap g.M.Medium.seen c.self.view_is) c.geometry-geometry.ensures.value c.in_err-sweep.ensures.cause))
 
 pub returns-in_err-sweep-clause-call : goal.returns-in_err-sweep-clause-call
 returns-in_err-sweep-clause-call g c = λ d uses h idle.
@@ -72,24 +72,24 @@ returns-in_err-sweep-clause-call g c = λ d uses h idle.
           let old : Seen = g.M.Medium.seen c.args.self.now in
           let new : Seen = g.M.Medium.seen c.sweep.new.medium in
           on_err c.from_residual-in_err-sweep.result (stopped_at old.tracks old.content new.content d uses h idle
-          (here (λ m s. (xs : List Place) → IsDirectory m s.content xs → (k : ℕ) × IsSwept s.content new.content xs k) (g.M.Medium.seen c.self.inside.medium) old c.geometry-geometry.result (ap g.M.Medium.seen c.self.view_is) c.geometry-geometry.ensures.value c.in_err-sweep.ensures.stopped));
+          (here (λ m s. (xs : List Place) → IsDirectoryChain m s.content xs → (k : ℕ) × IsSwept s.content new.content xs k) (g.M.Medium.seen c.self.inside.medium) old c.geometry-geometry.result (ap g.M.Medium.seen c.self.view_is) c.geometry-geometry.ensures.value c.in_err-sweep.ensures.stopped));
       cause =
           let old : Seen = g.M.Medium.seen c.args.self.now in
           let new : Seen = g.M.Medium.seen c.sweep.new.medium in
           handed_on c.from_residual-in_err-sweep.result c.in_err-sweep.field-0.0 (IsHindered old new) c.from_residual-in_err-sweep.ensures.1
           (walk_hindered old new c.in_err-sweep.field-0.0 d uses h
-          (here (λ m s. (xs : List Place) → IsDirectory m s.content xs → IsHindered s new c.in_err-sweep.field-0.0) (g.M.Medium.seen c.self.inside.medium) old c.geometry-geometry.result (ap g.M.Medium.seen c.self.view_is) c.geometry-geometry.ensures.value c.in_err-sweep.ensures.cause));
+          (here (λ m s. (xs : List Place) → IsDirectoryChain m s.content xs → IsHindered s new c.in_err-sweep.field-0.0) (g.M.Medium.seen c.self.inside.medium) old c.geometry-geometry.result (ap g.M.Medium.seen c.self.view_is) c.geometry-geometry.ensures.value c.in_err-sweep.ensures.cause));
       untouched =
           let old : Seen = g.M.Medium.seen c.args.self.now in
           let new : Seen = g.M.Medium.seen c.sweep.new.medium in
           swept_spared old.tracks old.content new.content d uses h
-          (here (λ m s. (xs : List Place) → IsDirectory m s.content xs → (k : ℕ) × IsSwept s.content new.content xs k) (g.M.Medium.seen c.self.inside.medium) old c.geometry-geometry.result (ap g.M.Medium.seen c.self.view_is) c.geometry-geometry.ensures.value c.in_err-sweep.ensures.stopped);
+          (here (λ m s. (xs : List Place) → IsDirectoryChain m s.content xs → (k : ℕ) × IsSwept s.content new.content xs k) (g.M.Medium.seen c.self.inside.medium) old c.geometry-geometry.result (ap g.M.Medium.seen c.self.view_is) c.geometry-geometry.ensures.value c.in_err-sweep.ensures.stopped);
     }
 
 -- ---- all slots are swept, and the map is written or refused
 
 all_swept : (g : Over) (c : goal.After-write_map g) → SweptAll (geometry_of (g.M.Medium.seen c.args.self.now).tracks (g.M.Medium.seen c.args.self.now).content) (g.M.Medium.seen c.args.self.now).content (g.M.Medium.seen c.sweep.new.medium).content
-all_swept g c = here (λ m s. (xs : List Place) → IsDirectory m s.content xs → IsSwept s.content (g.M.Medium.seen c.sweep.new.medium).content xs 144)
+all_swept g c = here (λ m s. (xs : List Place) → IsDirectoryChain m s.content xs → IsSwept s.content (g.M.Medium.seen c.sweep.new.medium).content xs 144)
     (g.M.Medium.seen c.self.inside.medium) (g.M.Medium.seen c.args.self.now) c.geometry-geometry.result (ap g.M.Medium.seen c.self.view_is) c.geometry-geometry.ensures.value c.in_ok-sweep.ensures.swept
 
 map_reads : (g : Over) (c : goal.After-write_map g) → (g.M.Medium.seen c.args.self.now).content directory_head ≡ Ok c.in_ok-map.map
@@ -130,7 +130,7 @@ returns-in_err-sweep-clause-in_order g c =
     match_on c.from_residual-in_err-sweep.result (IsPutInOrder (geometry_of old.tracks old.content) old.content new.content) (IsPartlyInOrder (geometry_of old.tracks old.content) old.content new.content) (search rules)
     (on_err c.from_residual-in_err-sweep.result (stops_partly old.tracks old.content new.content (is_marked c.in_ok-used.used)
     (subst (λ (s : Seen). ClaimsInto (geometry_of s.tracks s.content) (view_of (geometry_of s.tracks s.content) s.content) (is_marked c.in_ok-used.used)) (ap g.M.Medium.seen c.self.view_is) c.in_ok-used.ensures.ok)
-    (here (λ m s. (xs : List Place) → IsDirectory m s.content xs → (k : ℕ) × IsSwept s.content new.content xs k) (g.M.Medium.seen c.self.inside.medium) old c.geometry-geometry.result (ap g.M.Medium.seen c.self.view_is) c.geometry-geometry.ensures.value c.in_err-sweep.ensures.stopped)))
+    (here (λ m s. (xs : List Place) → IsDirectoryChain m s.content xs → (k : ℕ) × IsSwept s.content new.content xs k) (g.M.Medium.seen c.self.inside.medium) old c.geometry-geometry.result (ap g.M.Medium.seen c.self.view_is) c.geometry-geometry.ensures.value c.in_err-sweep.ensures.stopped)))
 
 pub returns-clause-call : goal.returns-clause-call
 returns-clause-call g c = λ d uses h idle.

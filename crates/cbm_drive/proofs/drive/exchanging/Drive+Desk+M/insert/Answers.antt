@@ -1,7 +1,7 @@
 use Rattle.std.proofs.Common.{subst}
 use Rattle.cbm_channel.specs.Exchanged.{still_telling}
 use Rattle.cbm_file.specs.Files.{Disk}
-use Rattle.cbm_channel.specs.Machines.{start}
+use Rattle.cbm_machine.specs.Machines.{start}
 use Rattle.cbm_channel.specs.Standing.{Kept}
 use Rattle.cbm_volume.specs.Holding.{HoldsDisk}
 use Rattle.cbm_drive.specs.Desks.{Desk, DeskStands}

@@ -1,8 +1,8 @@
 use Rattle.std.proofs.Common.{◌≡◌, ◌+◌, [], Some}
 use Rattle.cbm_drive.specs.Players.{at_most, IsGivenBefore}
 use Rattle.cbm_drive.specs.Desks.{desk_shows}
-use Rattle.cbm_program.specs.Output.{Grows}
-use Rattle.cbm_program.specs.Staging.{PlaysOn, ReplaysOn, tracks_in}
+use Rattle.cbm_program.specs.Output.{AppendsMore}
+use Rattle.cbm_program.specs.Staging.{PlaysOn, ReplaysOn, tracks_of_drives}
 use Rattle.cbm_program.proofs.wires.staging.Stage.change.Given as goal
 
 -- what came before the change was written
@@ -12,8 +12,8 @@ invariant-events g l = record {
   wrote : ReplaysOn desk_shows (g.W.Write.contents l.fn.writer) (g.W.Write.contents l.writer) [] l.fn.self.player l.fn.self.bus l.self.player l.self.bus;
   waiting : l.self.player.waiting ≡ Some l.change;
   second : IsGivenBefore (l.change.moment + 1) l.self.player.second;
-  tracks : tracks_in g.M.Medium.seen l.self.bus ≡ tracks_in g.M.Medium.seen l.fn.self.bus;
-  grown : Grows (g.W.Write.contents l.fn.writer) (g.W.Write.contents l.writer);
+  tracks : tracks_of_drives g.M.Medium.seen l.self.bus ≡ tracks_of_drives g.M.Medium.seen l.fn.self.bus;
+  grown : AppendsMore (g.W.Write.contents l.fn.writer) (g.W.Write.contents l.writer);
 }
 
 abbrev pub decreases-events : goal.decreases-events

@@ -1,8 +1,8 @@
 use Rattle.std.proofs.Common.{◌≡◌, ◌≤◌, ◌+◌, [], None}
 use Rattle.cbm_drive.specs.Players.{at_most, IsGivenBefore}
 use Rattle.cbm_drive.specs.Desks.{desk_shows}
-use Rattle.cbm_program.specs.Output.{Grows}
-use Rattle.cbm_program.specs.Staging.{PlaysOn, ReplaysOn, tracks_in}
+use Rattle.cbm_program.specs.Output.{AppendsMore}
+use Rattle.cbm_program.specs.Staging.{PlaysOn, ReplaysOn, tracks_of_drives}
 use Rattle.cbm_program.proofs.wires.staging.Stage.end.Given as goal
 
 -- what came so far was written
@@ -13,8 +13,8 @@ invariant-events g l = record {
   waiting : l.self.player.waiting ≡ None;
   second : IsGivenBefore (l.end + 1) l.self.player.second;
   from : l.self.player.from ≤ l.end + 1;
-  tracks : tracks_in g.M.Medium.seen l.self.bus ≡ tracks_in g.M.Medium.seen l.fn.self.bus;
-  grown : Grows (g.W.Write.contents l.fn.writer) (g.W.Write.contents l.writer);
+  tracks : tracks_of_drives g.M.Medium.seen l.self.bus ≡ tracks_of_drives g.M.Medium.seen l.fn.self.bus;
+  grown : AppendsMore (g.W.Write.contents l.fn.writer) (g.W.Write.contents l.writer);
 }
 
 abbrev pub decreases-events : goal.decreases-events

@@ -2,7 +2,7 @@ use Rattle.std.proofs.Common.{rules, ◌≡◌, ℕ, ◌+◌, ◌-◌, ◌∷◌
 use Rattle.cbm_medium.specs.Content.{Content}
 use Rattle.cbm_bam.specs.Marks.{is_marked}
 use Rattle.cbm_volume.specs.check.Claims.{wrong_at}
-use Rattle.cbm_shell.specs.Flaws.{along, part_of, flawed, told, cut_off}
+use Rattle.cbm_shell.specs.Flaws.{flaws_along, part_of, flawed, flaws_for, cut_off}
 use Rattle.cbm_shell.specs.FlawSteps.{IsStep}
 use Rattle.cbm_shell.proofs.FlawLemmas.{over, one_more, no_blocks, more_blocks, along-end, along-none, along-on, along-off, stopped, went}
 use Rattle.cbm_shell.proofs.broken.flaws.chains.walk.Given.{Over}
@@ -28,8 +28,8 @@ module _ (g : Over) (c : goal.In_default g) where
   abbrev pub wrong : Option ℕ
   wrong = wrong_at (part_of c.args.whose) c.args.geometry content (is_marked c.loop-before.claimed) c.loop-before.at
 
-  pub stops : along c.args.whose c.args.geometry content (768 - c.loop-before.before) c.loop-before.before (is_marked c.loop-before.claimed) c.loop-before.at
-      ≡ cut_off (is_marked c.step.new.claimed) (told wrong (flawed c.args.whose c.loop-before.before c.loop-before.at))
+  pub stops : flaws_along c.args.whose c.args.geometry content (768 - c.loop-before.before) c.loop-before.before (is_marked c.loop-before.claimed) c.loop-before.at
+      ≡ cut_off (is_marked c.step.new.claimed) (flaws_for wrong (flawed c.args.whose c.loop-before.before c.loop-before.at))
   stops =
       let s = stopped wrong (flawed c.args.whose c.loop-before.before c.loop-before.at) content c.loop-before.at (is_marked c.loop-before.claimed) (is_marked c.step.new.claimed) c.loop-before.out.items c.step.new.out.items
       (subst (λ o. IsStep wrong (flawed c.args.whose c.loop-before.before c.loop-before.at) content c.loop-before.at (is_marked c.loop-before.claimed) (is_marked c.step.new.claimed) c.loop-before.out.items c.step.new.out.items o) c.in_default.is c.in_ok-bytes.ensures) in
@@ -38,12 +38,12 @@ module _ (g : Over) (c : goal.In_default g) where
 
 pub returns-in_default-clause-walked : goal.returns-in_default-clause-walked
 returns-in_default-clause-walked g c =
-    over _ _ c.args.out.now.items c.loop-before.out.items c.step.new.out.items (told (wrong g c) (flawed c.args.whose c.loop-before.before c.loop-before.at)) (is_marked c.step.new.claimed) false
+    over _ _ c.args.out.now.items c.loop-before.out.items c.step.new.out.items (flaws_for (wrong g c) (flawed c.args.whose c.loop-before.before c.loop-before.at)) (is_marked c.step.new.claimed) false
     c.loop-before.invariant.0 (stops g c) c.in_ok-bytes.ensures.adds
 
 pub returns-in_default-clause-blocks : goal.returns-in_default-clause-blocks
 returns-in_default-clause-blocks g c =
-    no_blocks c.loop-before.blocks.items _ _ (is_marked c.step.new.claimed) (told (wrong g c) (flawed c.args.whose c.loop-before.before c.loop-before.at)) false c.loop-before.invariant.1 (stops g c)
+    no_blocks c.loop-before.blocks.items _ _ (is_marked c.step.new.claimed) (flaws_for (wrong g c) (flawed c.args.whose c.loop-before.before c.loop-before.at)) false c.loop-before.invariant.1 (stops g c)
 
 pub loop-before-preserved : goal.loop-before-preserved
 loop-before-preserved g c =
@@ -55,8 +55,8 @@ loop-before-preserved g c =
     let on = along-on c.args.whose c.args.geometry content (768 - c.loop-before.before) (768 - (c.loop-before.before + 1)) c.loop-before.before (is_marked c.loop-before.claimed) (is_marked c.step.new.claimed)
     c.loop-before.at c.of-at.result c.in-Some.bytes (omega (arith, c.loop-before-test.true)) (λ z. let f = c.if-is_end.ensures.1 z in cc) w.0 w.1 w.2 c.of-at.ensures in
     let pushed : c.push.new.self.items ≡ c.loop-before.blocks.items ++ c.loop-before.at ∷ [] = search rules in (
-      one_more _ _ _ c.args.out.now.items c.loop-before.out.items c.step.new.out.items (told wrong flaw) c.loop-before.at c.loop-before.invariant.0 on c.in_ok-bytes.ensures.adds,
-      more_blocks c.loop-before.blocks.items c.push.new.self.items _ _ _ (told wrong flaw) c.loop-before.at c.loop-before.invariant.1 on pushed,
+      one_more _ _ _ c.args.out.now.items c.loop-before.out.items c.step.new.out.items (flaws_for wrong flaw) c.loop-before.at c.loop-before.invariant.0 on c.in_ok-bytes.ensures.adds,
+      more_blocks c.loop-before.blocks.items c.push.new.self.items _ _ _ (flaws_for wrong flaw) c.loop-before.at c.loop-before.invariant.1 on pushed,
       search rules,
     )
 

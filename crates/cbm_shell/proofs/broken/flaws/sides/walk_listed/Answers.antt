@@ -5,7 +5,7 @@ use Rattle.cbm_bam.specs.Marks.{is_marked}
 use Rattle.cbm_volume.specs.check.SideLists.{behind_first}
 use Rattle.cbm_volume.proofs.checked.SidesListed.{sides_none, sides_some}
 use Rattle.cbm_volume.specs.check.Claims.{wrong_at}
-use Rattle.cbm_shell.specs.Flaws.{among, part_of, flawed, told}
+use Rattle.cbm_shell.specs.Flaws.{among, part_of, flawed, flaws_for}
 use Rattle.cbm_shell.proofs.FlawLemmas.{only, over, one_more, among-none, among-on, among-off, stopped_by, went_by}
 use Rattle.cbm_shell.proofs.broken.flaws.sides.walk_listed.Goals as goal
 
@@ -43,7 +43,7 @@ returns-then-is_none g c =
     let s = stopped_by wrong flaw content c.new-at.result (is_marked c.loop-number.claimed) (is_marked c.step.new.claimed) c.loop-number.out.items c.step.new.out.items c.in_ok-step.field-0 c.in_ok-step.ensures c.if-is_none.ensures in
     let left : List Place = named_in (6 - c.loop-number.number) (drop (4 + 2 * c.loop-number.number) c.args.first.now) in
     let rest : List Place = named_in (6 - (c.loop-number.number + 1)) (drop (4 + 2 * (c.loop-number.number + 1)) c.args.first.now) in
-    over (among c.args.whose c.args.geometry content (is_marked c.loop-number.claimed) left) _ c.args.out.now.items c.loop-number.out.items c.step.new.out.items (told wrong flaw)
+    over (among c.args.whose c.args.geometry content (is_marked c.loop-number.claimed) left) _ c.args.out.now.items c.loop-number.out.items c.step.new.out.items (flaws_for wrong flaw)
     (is_marked c.step.new.claimed) false c.loop-number.invariant
     (among-off c.args.whose c.args.geometry content (is_marked c.loop-number.claimed) (is_marked c.step.new.claimed) c.new-at.result left rest named s.0 s.1) c.in_ok-step.ensures.adds
 
@@ -57,5 +57,5 @@ loop-number-preserved g c =
     let left : List Place = named_in (6 - c.loop-number.number) (drop (4 + 2 * c.loop-number.number) c.args.first.now) in
     let rest : List Place = named_in (6 - (c.loop-number.number + 1)) (drop (4 + 2 * (c.loop-number.number + 1)) c.args.first.now) in
     one_more (among c.args.whose c.args.geometry content (is_marked c.loop-number.claimed) left) (among c.args.whose c.args.geometry content (is_marked c.step.new.claimed) rest) _
-    c.args.out.now.items c.loop-number.out.items c.step.new.out.items (told wrong flaw) c.new-at.result c.loop-number.invariant
+    c.args.out.now.items c.loop-number.out.items c.step.new.out.items (flaws_for wrong flaw) c.new-at.result c.loop-number.invariant
     (among-on c.args.whose c.args.geometry content (is_marked c.loop-number.claimed) (is_marked c.step.new.claimed) c.new-at.result left rest named w.0 w.1) c.in_ok-step.ensures.adds
