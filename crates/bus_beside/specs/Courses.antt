@@ -44,7 +44,7 @@ module _ (D M : Type 0) (stands : D → M → Type 0) (step : M → Act → M) (
   abbrev pub HaveCome : Move → Change → List (SeatedTwice D) → List (SeatedTwice D) → Type 0
   HaveCome move c xs ys = HaveNothingBefore D M stands step says c.moment xs × HaveGone D M stands step says move c xs ys
 
-  -- From rest, with these events before them: whatever comes after them up to any end, the two plays from rest are so.
+  -- Whatever comes after these stations and lies side by side up to an end, lies so from rest with these events before it.
   abbrev pub Reaches : List Party → (ℕ → M) → ℕ → ℕ → List (Station M) → List (Station M) → List Event → List Event → Type 0
   Reaches bs ms n m ss ts es fs = (end : ℕ) (more tidied : List Event) → Beside M step says end n m ss ts more tidied → IsBeside M step says bs ms end (es ++ more) (fs ++ tidied)
 
@@ -55,7 +55,7 @@ module _ (D M : Type 0) (stands : D → M → Type 0) (step : M → Act → M) (
     pub reaches : Reaches bs ms b.from b.tidy_from stations tidied es fs
     pub sit : Sit D M stands b.seats stations tidied
 
-  -- So it is where no machine has failed since they had failed so often.
+  -- The same, as long as the machines have failed no more often than this number, as often as they had failed at rest.
   pub record Lie (failures : D → ℕ) (least : ℕ) (bs : List Party) (ms : ℕ → M) (b : Course D) (es fs : List Event) : Type 0 where
     pub counted : least ≤ failed_in_all failures b.seats
     pub lies : failed_in_all failures b.seats ≤ least → LieBeside bs ms b es fs
@@ -64,7 +64,7 @@ module _ (D M : Type 0) (stands : D → M → Type 0) (step : M → Act → M) (
   abbrev pub GoOnBeside : (D → ℕ) → Course D → Course D → List Event → List Event → Type 0
   GoOnBeside failures b c more tidied = (least : ℕ) (bs : List Party) (ms : ℕ → M) (es fs : List Event) → Lie failures least bs ms b es fs → Lie failures least bs ms c (es ++ more) (fs ++ tidied)
 
-  -- ALL IS OVER up to an end: so the one trace from rest lies beside the other, where no machine failed.
+  -- ALL IS OVER up to an end: so the one trace from rest lies beside the other, if no machine failed.
   abbrev pub EndsBeside : (D → ℕ) → Course D → Course D → ℕ → Type 0
   EndsBeside failures b c end = (least : ℕ) (bs : List Party) (ms : ℕ → M) (es fs : List Event) → Lie failures least bs ms b es fs → failed_in_all failures c.seats ≤ least → IsBeside M step says bs ms end es fs
 
@@ -72,15 +72,15 @@ module _ (D M : Type 0) (stands : D → M → Type 0) (step : M → Act → M) (
   abbrev pub AreSwitchedOn : List (SeatedTwice D) → List Party → (ℕ → M) → Type 0
   AreSwitchedOn xs bs ms = AllZip (λ x b. IsPortAtRest x.real b × IsPortAtRest x.tidy b × stands x.machine (ms b.device)) xs bs
 
-  -- TWO PLAYS FROM REST have these events, where no machine has failed since they had failed so often: the one those of a trace, the other those of the
-  -- tidy one.
+  -- TWO PLAYS FROM REST have these events, the one those of a trace, the other those of the tidy one, as long as the machines have failed no more often than
+  -- this number.
   abbrev pub HaveSeen : (D → ℕ) → ℕ → List Party → (ℕ → M) → Sides D → List Event → List Event → Type 0
   HaveSeen failures least bs ms b es fs = Lie failures least bs ms b.course (es ++ pending_event b.second) (fs ++ pending_event b.second)
 
-  -- these events more of both
+  -- The two plays go on, each with these events more.
   abbrev pub SeesOn : (D → ℕ) → Sides D → Sides D → List Event → List Event → Type 0
   SeesOn failures b c more tidied = (least : ℕ) (bs : List Party) (ms : ℕ → M) (es fs : List Event) → HaveSeen failures least bs ms b es fs → HaveSeen failures least bs ms c (es ++ more) (fs ++ tidied)
 
-  -- THE TRACE LIES BESIDE THE TIDY ONE up to an end, where no machine failed.
+  -- THE TRACE LIES BESIDE THE TIDY ONE up to an end, if no machine failed.
   abbrev pub LiesBeside : (D → ℕ) → Sides D → Sides D → ℕ → Type 0
   LiesBeside failures b c end = (least : ℕ) (bs : List Party) (ms : ℕ → M) (es fs : List Event) → HaveSeen failures least bs ms b es fs → failed_in_all failures c.course.seats ≤ least → IsBeside M step says bs ms end es fs

@@ -27,7 +27,7 @@ module _ (D M : Type 0) (stands : D → M → Type 0) (step : M → Act → M) (
   abbrev pub HaveNothingBefore : ℕ → List (SeatedTwice D) → Type 0
   HaveNothingBefore t xs = (ss ts : List (Station M)) → Sit D M stands xs ss ts → AllInTime M step says t ss
 
-  -- or at it
+  -- nothing is due to these drives at a moment or before it
   abbrev pub HaveNothingUpto : ℕ → List (SeatedTwice D) → Type 0
   HaveNothingUpto t xs = (ss ts : List (Station M)) → Sit D M stands xs ss ts → AllLater M step says t ss
 

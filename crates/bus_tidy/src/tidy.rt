@@ -65,7 +65,7 @@ impl Tidy {
         changes
     }
 
-    /// ATN is pulled: with it the tidy host pulls CLOCK and frees DATA.
+    /// ATN is pulled: with it the tidy host pulls CLOCK and frees DATA; where it waits for the host's pull, with that.
     fn call(&mut self, moment: u64, changes: &mut Changes)
         requires { length changes.old.items + 3 ≤ 4 }
         ensures host { self.new.host ≡ self.old.host }
@@ -75,9 +75,8 @@ impl Tidy {
         self.phase = Phase::Called;
         self.give(moment, Line::Atn, true, changes);
         if self.host.clock_low || self.cable.waits_for_clock() {
-            self.give(moment, Line::Clock, true, changes);
+            self.pull_clock(moment, changes);
         }
-        self.give(moment, Line::Data, false, changes);
     }
 
     /// ATN is freed: with it the tidy host pulls DATA, where a drive talks; where none listens or talks it frees CLOCK.
@@ -116,16 +115,41 @@ impl Tidy {
         ) {
             return;
         }
-        if !low {
-            self.give(self.data_since, Line::Data, self.host.data_low, changes);
+        if low {
+            self.pull_clock(change.moment, changes);
+        } else {
+            self.free_clock(change.moment, changes);
         }
-        self.give(change.moment, Line::Clock, low, changes);
         if let Some(byte) = self.phase.byte(low)
             && self.host.atn_low
         {
             self.cable.obey(byte);
         }
         self.phase = self.phase.clocked(low, self.host.data_low);
+    }
+
+    /// CLOCK is pulled; where that comes with ATN's pull DATA is freed.
+    fn pull_clock(&mut self, moment: u64, changes: &mut Changes)
+        requires { length changes.old.items + 2 ≤ 4 }
+        ensures host { self.new.host ≡ self.old.host }
+        ensures room { length changes.new.items ≤ length changes.old.items + 2 }
+        ensures tidy { (l : TheseLines) → self.old.tidy ≡ after_all changes.old.items l → self.new.tidy ≡ after_all changes.new.items l }
+    {
+        self.give(moment, Line::Clock, true, changes);
+        if self.phase == Phase::Called {
+            self.give(moment, Line::Data, false, changes);
+        }
+    }
+
+    /// CLOCK is freed, after what became of DATA while it was pulled.
+    fn free_clock(&mut self, moment: u64, changes: &mut Changes)
+        requires { length changes.old.items + 2 ≤ 4 }
+        ensures host { self.new.host ≡ self.old.host }
+        ensures room { length changes.new.items ≤ length changes.old.items + 2 }
+        ensures tidy { (l : TheseLines) → self.old.tidy ≡ after_all changes.old.items l → self.new.tidy ≡ after_all changes.new.items l }
+    {
+        self.give(self.data_since, Line::Data, self.host.data_low, changes);
+        self.give(moment, Line::Clock, false, changes);
     }
 
     /// DATA: left out where no drive heeds it. While CLOCK is pulled it is put off until that is freed, but for its release after

@@ -8,6 +8,7 @@ mod disks;
 mod failures;
 mod host;
 mod jobs;
+mod plain;
 mod sending;
 mod sessions;
 mod taking;

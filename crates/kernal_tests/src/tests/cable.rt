@@ -1,18 +1,18 @@
-//! The cable: one or two drives, the host's lines, and what both come to on the wires. Beside it a tidy host's trace is judged.
+//! The cable: one or two drives, the host's lines, and what both come to on the wires. What happens is looked at beside a tidy
+//! host's trace.
 
-use bus_judge::{Breach, Judge};
-use bus_tidy::Tidy;
+use bus_beside::{Loosely, Unkept};
 use cbm_d64::D64Disk;
 use cbm_drive::Line::*;
-use cbm_drive::{Bus, Change, Desk, Event, Held, Line, Lines, Party, Way, Who};
+use cbm_drive::{Bus, Change, Desk, Event, Held, Line, Lines, Way, Who};
 
-/// The drives on the cable.
+/// The drives on the cable, and the same drives, with disks of their own, for who looks whether the host keeps the timing loosely.
 #[derive(Drop)]
 pub enum Drives {
     /// Drive 8.
-    One(Bus<Desk<D64Disk>, 1>, Party),
+    One(Bus<Desk<D64Disk>, 1>, Loosely<Desk<D64Disk>, 1>),
     /// Drives 8 and 9.
-    Two(Bus<Desk<D64Disk>, 2>, [Party; 2]),
+    Two(Bus<Desk<D64Disk>, 2>, Loosely<Desk<D64Disk>, 2>),
 }
 
 /// The device number of the first drive.
@@ -27,56 +27,6 @@ const ALL_FREE: Held = Held {
     data_low: false,
 };
 
-/// The trace so far, as a tidy host has it, before a judge; or before none.
-#[derive(Drop)]
-struct Court {
-    tidy: Tidy,
-    judge: Option<Judge>,
-}
-
-impl Court {
-    /// Before a trace of these drives, which is judged or isn't.
-    fn new(parties: &[Party], judged: bool) -> Court {
-        Court {
-            tidy: Tidy::new(parties),
-            judge: Judge::new(parties).ok().filter(|_| judged),
-        }
-    }
-
-    /// A drive changes a line. What a judge finds against it is kept by the judge.
-    fn drive(&mut self, device: u8, change: Change) {
-        if self.judge.is_some() {
-            self.tidy.drive(device, change);
-            self.see(Who::Drive(device), change);
-        }
-    }
-
-    /// The host changes a line: the tidy one makes other changes, or none.
-    fn host(&mut self, change: Change) {
-        if self.judge.is_none() {
-            return;
-        }
-        let changes = self.tidy.host(change);
-        for change in &changes {
-            self.see(Who::Host, *change);
-        }
-    }
-
-    fn see(&mut self, who: Who, change: Change) {
-        if let Some(judge) = &mut self.judge {
-            judge.see(Event { who, change }).ok();
-        }
-    }
-
-    /// Whether the trace up to a moment is a session that the host keeps; else what broke it.
-    fn ends(&mut self, moment: u64) -> Result<bool, Breach> {
-        match &mut self.judge {
-            Some(judge) => judge.end(moment).map(|_| true),
-            None => Ok(false),
-        }
-    }
-}
-
 /// The cable, with what each drive and the host holds.
 #[derive(Drop)]
 pub struct Cable {
@@ -84,7 +34,8 @@ pub struct Cable {
     host: Lines,
     first: Held,
     second: Held,
-    court: Court,
+    /// Why it isn't known that the host keeps the timing loosely.
+    unkept: Option<Unkept>,
     /// The last moment that was looked at.
     last: u64,
 }
@@ -108,30 +59,43 @@ fn after(lines: Lines, line: Line, low: bool) -> Lines {
 }
 
 impl Cable {
-    /// Drives that are switched on, and all lines free. What happens is judged, or isn't.
-    pub fn new(drives: Drives, judged: bool) -> Cable {
-        let court = match &drives {
-            Drives::One(_, party) => Court::new(&[*party], judged),
-            Drives::Two(_, parties) => Court::new(parties, judged),
-        };
-        let host = Lines {
-            atn_low: false,
-            clock_low: false,
-            data_low: false,
-        };
+    /// Drives that are switched on, and all lines free.
+    pub fn new(drives: Drives) -> Cable {
         Cable {
             drives,
-            host,
+            host: Lines {
+                atn_low: false,
+                clock_low: false,
+                data_low: false,
+            },
             first: ALL_FREE,
             second: ALL_FREE,
-            court,
+            unkept: None,
             last: 0,
         }
     }
 
-    /// Whether the host keeps the timing loosely, up to its last change: a tidy host's trace is a session. Else what broke that.
-    pub fn keeps_loosely(&mut self) -> Result<bool, Breach> {
-        self.court.ends(self.last)
+    /// Looks at the next event of the trace, as long as the host keeps the timing loosely.
+    fn see(&mut self, event: Event) {
+        if self.unkept.is_some() {
+            return;
+        }
+        let seen = match &mut self.drives {
+            Drives::One(_, looked) => looked.see(event),
+            Drives::Two(_, looked) => looked.see(event),
+        };
+        self.unkept = seen.err();
+    }
+
+    /// Whether the host keeps the timing loosely, up to its last change. Else why that isn't known.
+    pub fn keeps_loosely(&mut self) -> Result<(), Unkept> {
+        if let Some(unkept) = self.unkept {
+            return Err(unkept);
+        }
+        match &mut self.drives {
+            Drives::One(_, looked) => looked.end(self.last),
+            Drives::Two(_, looked) => looked.end(self.last),
+        }
     }
 
     /// When a drive reacts next.
@@ -160,7 +124,8 @@ impl Cable {
 
     /// A drive changed a line.
     fn note(&mut self, device: u8, change: Change) {
-        self.court.drive(device, change);
+        let who = Who::Drive(device);
+        self.see(Event { who, change });
         let low = change.way == Way::Pull;
         match (change.line, device == FIRST) {
             (Atn, _) => {}
@@ -190,7 +155,8 @@ impl Cable {
         }
         self.host = host;
         self.last = change.moment;
-        self.court.host(change);
+        let who = Who::Host;
+        self.see(Event { who, change });
         match &mut self.drives {
             Drives::One(bus, _) => bus.line(change),
             Drives::Two(bus, _) => bus.line(change),

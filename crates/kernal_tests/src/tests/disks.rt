@@ -1,6 +1,7 @@
 //! The disk, byte by byte, and drives with it.
 
 use crate::tests::cable::{Drives, FIRST};
+use bus_beside::{Loosely, Seat};
 use cbm_channel::Dos;
 use cbm_d64::D64Disk;
 use cbm_drive::{Bus, Desk, Drive, Pace, Party};
@@ -41,15 +42,24 @@ pub fn image_with_hello(rt: &impl Abort, alloc: Global) -> Vec<u8> {
     image
 }
 
-/// A drive with that disk, switched on.
-fn drive(rt: &impl Abort, alloc: Global, image: &[u8], party: Party) -> Drive<Desk<D64Disk>> {
+/// What a drive with that disk has above its port.
+fn desk(rt: &impl Abort, alloc: Global, image: &[u8], party: Party) -> Desk<D64Disk> {
     let disk = D64Disk::from_bytes(alloc, image, false)
         .ok()
         .expect(rt, "a disk");
-    let device = party.device;
-    assert!(rt; device < 31 && party.reaction > 0);
-    let desk = Desk::new(Dos::new(disk), device).with_pace(party.pace);
-    Drive::new(desk, party)
+    assert!(rt; party.device < 31);
+    Desk::new(Dos::new(disk), party.device).with_pace(party.pace)
+}
+
+/// A drive with that disk, switched on.
+fn drive(rt: &impl Abort, alloc: Global, image: &[u8], party: Party) -> Drive<Desk<D64Disk>> {
+    assert!(rt; party.device < 31 && party.reaction > 0);
+    Drive::new(desk(rt, alloc, image, party), party)
+}
+
+/// The same for who looks at the trace.
+pub fn seat(rt: &impl Abort, alloc: Global, image: &[u8], party: Party) -> Seat<Desk<D64Disk>> {
+    Seat::new(desk(rt, alloc, image, party), party)
 }
 
 /// Drive 8 alone.
@@ -59,7 +69,9 @@ pub fn one(rt: &impl Abort, alloc: Global, image: &[u8], pace: Pace, reaction: u
         reaction,
         pace,
     };
-    Drives::One(Bus::new([drive(rt, alloc, image, party)]), party)
+    let bus = Bus::new([drive(rt, alloc, image, party)]);
+    let looked = Loosely::new([seat(rt, alloc, image, party)], &[party]);
+    Drives::One(bus, looked.ok().expect(rt, "a bus"))
 }
 
 /// Drives 8 and 9, the slower the one the faster the other.
@@ -74,9 +86,14 @@ pub fn two(rt: &impl Abort, alloc: Global, image: &[u8], pace: Pace, reaction: u
         reaction: 61u8.saturating_sub(reaction),
         pace,
     };
-    let drives = [
+    let bus = Bus::new([
         drive(rt, alloc, image, first),
         drive(rt, alloc, image, second),
+    ]);
+    let seats = [
+        seat(rt, alloc, image, first),
+        seat(rt, alloc, image, second),
     ];
-    Drives::Two(Bus::new(drives), [first, second])
+    let looked = Loosely::new(seats, &[first, second]);
+    Drives::Two(bus, looked.ok().expect(rt, "a bus"))
 }

@@ -3,7 +3,7 @@
 
 use crate::tests::cable::{Cable, Drives};
 use crate::tests::cycles::{Computer, Cycles};
-use bus_judge::Breach;
+use bus_beside::Unkept;
 use cbm_drive::Line::*;
 use cbm_drive::Way::*;
 use cbm_drive::{Change, Line, Lines, Way};
@@ -48,9 +48,6 @@ const COMPARED: u64 = 4;
 
 /// From CMP, where it saw something else than LDA, to LDA again.
 const UNLIKE: u64 = 7;
-
-/// One session in so many is judged, by its seed.
-pub const JUDGED: u32 = 4;
 
 /// So many looks in vain, about a fifth of a second, and the host waits for ever.
 const LOOKS: u32 = 8_000;
@@ -110,7 +107,7 @@ impl Host {
     /// As it is switched on: IOINIT pulls CLOCK, and leaves it so.
     pub fn new(drives: Drives, computer: Computer, seed: u32) -> Host {
         let mut host = Host {
-            cable: Cable::new(drives, seed % JUDGED == 0),
+            cable: Cable::new(drives),
             cycles: Cycles::new(computer, seed),
             timer_low: if seed / 2 % 2 == 1 { 0xff } else { 0 },
             status: 0,
@@ -199,8 +196,8 @@ impl Host {
         }
     }
 
-    /// Whether it kept the bus's timing loosely so far, where that is judged; else what broke that.
-    pub fn keeps_loosely(&mut self) -> Result<bool, Breach> {
+    /// Whether it kept the bus's timing loosely so far; else why that isn't known.
+    pub fn keeps_loosely(&mut self) -> Result<(), Unkept> {
         self.cable.keeps_loosely()
     }
 
