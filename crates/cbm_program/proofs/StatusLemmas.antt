@@ -9,7 +9,7 @@ use Rattle.cbm_machine.specs.Talking.{peek, taken, after_talk}
 use Rattle.cbm_host.proofs.Statuses.{says_from, line_short}
 use Rattle.cbm_host.specs.Hosted.{AreFirst}
 use Rattle.cbm_program.specs.Output.{AppendsPart}
-use Rattle.cbm_program.specs.Scripts.{Said, says, status_said, status_text}
+use Rattle.cbm_program.specs.Scripts.{TalkSaid, says, status_said, status_text}
 
 -- a channel says no more than it is asked for
 from_short : (p : Option (ℕ × Bool)) (n ch : ℕ) (so_far : List ℕ) (m : Machine) → ((front : List ℕ) (k : Machine) → length (says n ch front k).bytes ≤ length front + n)
@@ -32,10 +32,10 @@ room m bytes b l f =
     omega (arith, whole, one, most, line)
 
 -- the line as it is printed
-pub status_all : (a b : Option (List ℕ)) (s : Said) (items line : List ℕ) → s.bytes ≡ items → line ≡ codes "status " ++ without_return items ++ codes "\n" → Appends a b line → Appends a b (status_text s)
+pub status_all : (a b : Option (List ℕ)) (s : TalkSaid) (items line : List ℕ) → s.bytes ≡ items → line ≡ codes "status " ++ without_return items ++ codes "\n" → Appends a b line → Appends a b (status_text s)
 status_all a b s items line said is whole = subst (λ t. Appends a b t) (is ∙ ap (λ l. codes "status " ++ without_return l ++ codes "\n") (sym said)) whole
 
-pub status_part : (a b : Option (List ℕ)) (s : Said) (items line : List ℕ) → s.bytes ≡ items → line ≡ codes "status " ++ without_return items ++ codes "\n" → AppendsPart a b line → AppendsPart a b (status_text s)
+pub status_part : (a b : Option (List ℕ)) (s : TalkSaid) (items line : List ℕ) → s.bytes ≡ items → line ≡ codes "status " ++ without_return items ++ codes "\n" → AppendsPart a b line → AppendsPart a b (status_text s)
 status_part a b s items line said is part = subst (λ t. AppendsPart a b t) (is ∙ ap (λ l. codes "status " ++ without_return l ++ codes "\n") (sym said)) part
 
 -- ---- the line without its return

@@ -2,7 +2,7 @@
 use Rattle.std.specs.Prelude.{ℕ, ◌≡◌, List, [], ◌++◌, codes, decimal, flat_map, Bool, true, false, Option, Some, None}
 use Rattle.std.specs.Io.KnownBytes.{Appends}
 use Rattle.cbm_program.specs.Output.{AppendsPart}
-use Rattle.cbm_program.specs.Scripts.{Said, hex, eoi_mark}
+use Rattle.cbm_program.specs.Scripts.{TalkSaid, hex, eoi_mark}
 
 -- what is printed of a byte
 abbrev pub unit_text : Option (ℕ × Bool) → List ℕ
@@ -19,13 +19,13 @@ abbrev pub get_head : ℕ → List ℕ → List ℕ
 get_head ch tail = codes "get " ++ decimal ch ++ tail
 
 -- After these bytes all others of what was said were written,
-pub record PrintsRest (a b : Option (List ℕ)) (bytes : List ℕ) (last : Bool) (said : Said) : Type 0 where
+pub record PrintsRest (a b : Option (List ℕ)) (bytes : List ℕ) (last : Bool) (said : TalkSaid) : Type 0 where
   pub rest : List ℕ
   pub whole : said_text said.bytes said.marked ≡ said_text bytes last ++ rest
   pub written : Appends a b rest
 
 -- or a beginning of them.
-pub record PrintsRestPart (a b : Option (List ℕ)) (bytes : List ℕ) (last : Bool) (said : Said) : Type 0 where
+pub record PrintsRestPart (a b : Option (List ℕ)) (bytes : List ℕ) (last : Bool) (said : TalkSaid) : Type 0 where
   pub rest : List ℕ
   pub whole : said_text said.bytes said.marked ≡ said_text bytes last ++ rest
   pub written : AppendsPart a b rest
