@@ -1,7 +1,6 @@
 //! What all others hold, as a drive counts it.
 
 ghost use Rattle.std.specs.Prelude.{◌≡◌, IfSome};
-ghost use Rattle.cbm_iec.specs.Changes.{lines_after};
 ghost use Rattle.cbm_session.specs.Among.{wires_of, behind_host, behind_other, counted};
 ghost use Rattle.cbm_session.specs.Playing.{nobody};
 ghost use Rattle.bus_beside.specs.Rests.{rest_by};
@@ -14,27 +13,6 @@ pub(crate) struct Others {
     pub(crate) host: Lines,
     pub(crate) clocks: u64,
     pub(crate) datas: u64,
-}
-
-/// The host's lines after its change.
-fn with_change(lines: Lines, change: Change) -> Lines
-    ensures { result ≡ lines_after lines change.line change.way }
-{
-    let low = change.way == Way::Pull;
-    match change.line {
-        Line::Atn => Lines {
-            atn_low: low,
-            ..lines
-        },
-        Line::Clock => Lines {
-            clock_low: low,
-            ..lines
-        },
-        Line::Data => Lines {
-            data_low: low,
-            ..lines
-        },
-    }
 }
 
 /// One more holds a line after its pull, one less after its release. None where the count is too great.
@@ -79,7 +57,7 @@ impl Others {
         ensures { rest_by result ≡ behind_host change.line change.way (rest_by self) }
     {
         Others {
-            host: with_change(self.host, change),
+            host: self.host.after(change),
             ..self
         }
     }
