@@ -15,7 +15,7 @@ pub mod LinePrints
 pub mod RunLemmas
 pub mod Staging
 pub mod Playing
-pub mod LooseTraces
+pub mod TracesKept
 pub mod TimedLines
 pub mod TraceLemmas
 pub mod StartLemmas

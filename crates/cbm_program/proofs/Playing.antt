@@ -307,7 +307,6 @@ module _ {M : Type 0} (seen : M → Seen) where
             hosts = all.hosts ∙ sym (append-nil done);
             within = (let u : latest 0 (done ++ []) ≡ from = ap (latest 0) (append-nil done) ∙ last in let before = now.before in let opened = is_open.from in omega (arith, u, before, opened));
             settled = tt;
-            kept = tt;
           },
           all.written,
           (own.drive, own.alone, own.stands),
@@ -340,8 +339,6 @@ module _ {M : Type 0} (seen : M → Seen) where
             hosts = hosts_on first.made all.made ∙ (λ i. first.hosts i ++ all.hosts i);
             within = (let before = now.before in let from = over.from in omega (arith, before, from));
             settled = subst (λ (o : Port). IsLaterDue end (port_due o)) own.port (subst (λ (us : List (Seated (Desk (Kept M)))). AreLater end us) own.alone later).0;
-            kept = λ timing. subst (λ (ss : List (Station (Desk Machine))). IsKept (Desk Machine) desk_step desk_says (drive ∷ []) (machines_of drive m) trace end ss) own.only
-                (kept_after (Desk (Kept M)) (Desk Machine) (DeskStands seen) desk_step desk_says more_said r z (drive ∷ []) (machines_of drive m) trace end (is_bus drive sits) over.second now later timing);
           },
           subst (λ t. Appends a c t) (sym (text_on first.made all.made)) (appends-more a b c (trace_text first.made) (trace_text all.made) first.written all.written),
           (own.drive, own.alone, own.stands),
@@ -424,7 +421,6 @@ module _ {D : Type 0} (shows : D → Shown) (drive : Party) where
             hosts = all.hosts ∙ sym (append-nil done);
             within = (let u : latest 0 (done ++ []) ≡ from = ap (latest 0) (append-nil done) ∙ last in let before = now.before in let opened = is_open.from in omega (arith, u, before, opened));
             settled = tt;
-            kept = tt;
           };
           written = all.written;
         }),
@@ -456,8 +452,6 @@ module _ {D : Type 0} (shows : D → Shown) (drive : Party) where
             hosts = hosts_on first.made all.made ∙ (λ i. first.hosts i ++ all.hosts i);
             within = (let before = now.before in let from = over.from in omega (arith, before, from));
             settled = subst (λ (o : Port). IsLaterDue end (port_due o)) own.port (subst (λ (us : List (Seated D)). AreLater end us) own.sole later).0;
-            kept = λ timing. subst (λ (ss : List (Station Playback)). IsKept Playback played_step played_says (drive ∷ []) (λ d. start.0) trace end ss) own.only
-                (kept_after D Playback (IsPlayedBack shows []) played_step played_says played_more r z (drive ∷ []) (λ d. start.0) trace end (is_bus drive sits) over.second now later timing);
           };
           written = subst (λ t. Appends a c t) (sym (text_on first.made all.made)) (appends-more a b c (trace_text first.made) (trace_text all.made) first.written all.written);
         }),

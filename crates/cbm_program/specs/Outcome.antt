@@ -74,26 +74,40 @@ pub record IsRun {A : Type 0} (result : Result A RunFault) (stood : Machine → 
   -- All that is printed is added to what was written.
   pub grows : AppendsMore old new
 
--- ---- an image
+-- ---- an image: `items` are the bytes of the image that a run gives back, `input` is what the reader still had to give, and `old` and `new` are what the
+-- writer held before the run and after it, as far as they are known
 
--- WHAT A RUN PROMISES of a drive of this pace on an image of these bytes: `items` are the bytes of the image that it gives back, `input` is what the
--- reader still had to give, and `old` and `new` are what the writer held before the run and after it, as far as they are known.
-pub record IsOutcome {A : Type 0} (result : Result A RunFault) (items : A → List ℕ) (pace : Pace) (image : List ℕ) (protected checks : Bool) (device : ℕ)
-    (input old new : Option (List ℕ)) : Type 0 where
-  -- The script was run on the image's disk, and the image that is given back holds the disk after it.
-  pub run : IsRun result (BeginsOn image protected) (λ saved m. ImageHolds (kind_of image) (items saved) m.disk) pace device checks input old new
-  -- Of any image the line of the check is printed first, where one is asked for.
-  pub checked : checks ≡ true → EndsAs result (λ bad. IsCheckedFirst (tracks_of (kind_of image) image) (content_of (kind_of image) image) old new)
-  -- The image of a protected disk, sound or not, is given back byte for byte.
-  pub guarded : protected ≡ true → IfOk result (λ saved. items saved ≡ image)
-  -- Whatever the script writes, and on any image: the one that is given back has as many tracks.
-  pub same_tracks : IfOk result (λ saved. tracks_of (kind_of image) (items saved) ≡ tracks_of (kind_of image) image)
-  -- It has no fault of its format: it opens again.
-  pub opens : IfOk result (λ saved. image_fault (kind_of image) (items saved) ≡ None)
-  -- The image is refused by its own fault, before anything is read or written,
-  pub refused : IfSome (image_fault (kind_of image) image) (λ n. (result ≡ Err (Image n)) × Keeps old new)
-  -- and by no other.
-  pub cause : (n : ℕ) → result ≡ Err (Image n) → image_fault (kind_of image) image ≡ Some n
-  -- Memory is lacking for the disk, before anything is read or written, or for the new image, after the whole script; and at no other time.
-  pub memory : result ≡ Err Memory → Keeps old new ⊎ (IsServedTo pace checks (of_requests input) old new (BeginsOn image protected) (λ _. Unit {0}) None
-      × IsTracedTo (party_of pace device) checks (of_changes input) old new (BeginsOn image protected) (λ _. Unit {0}) None)
+module _ {A : Type 0} (result : Result A RunFault) (items : A → List ℕ) (image : List ℕ) (protected checks : Bool) (input old new : Option (List ℕ)) where
+  -- A SCRIPT OF REQUESTS WAS RUN on the image's disk, with a drive of this pace.
+  pub record RunsRequests (pace : Pace) : Type 0 where
+    -- It was carried out, and the image that is given back holds the disk after it.
+    pub script : ServesScript result (BeginsOn image protected) (λ saved m. ImageHolds (kind_of image) (items saved) m.disk) pace checks (of_requests input) old new
+    -- Memory is lacking for the disk, before anything is read or written, or for the new image, after the whole script; and at no other time.
+    pub memory : result ≡ Err Memory → Keeps old new ⊎ IsServedTo pace checks (of_requests input) old new (BeginsOn image protected) (λ _. Unit {0}) None
+
+  -- A SCRIPT OF LINE CHANGES WAS RUN on the image's disk, with this drive.
+  pub record RunsChanges (drive : Party) : Type 0 where
+    -- It was played, and the image that is given back holds the disk after it.
+    pub script : PlaysScript result (BeginsOn image protected) (λ saved m. ImageHolds (kind_of image) (items saved) m.disk) drive checks (of_changes input) old new
+    -- On any disk, sound or not, a drive's trace was written after the line of the check, up to the script's end or its first bad line: of a drive above which
+    -- a machine plays back what the DOS showed.
+    pub wrote : EndsAs result (λ bad. WritesBehind drive checks (of_changes input) old new bad)
+    -- Memory is lacking for the disk, or for the new image, after the whole script; and at no other time.
+    pub memory : result ≡ Err Memory → Keeps old new ⊎ IsTracedTo drive checks (of_changes input) old new (BeginsOn image protected) (λ _. Unit {0}) None
+
+  -- WHATEVER THE SCRIPT AND THE IMAGE ARE, this comes of a run.
+  pub record IsOutcome : Type 0 where
+    -- All that is printed is added to what was written.
+    pub grows : AppendsMore old new
+    -- The line of the check is printed first, where one is asked for.
+    pub checked : checks ≡ true → EndsAs result (λ bad. IsCheckedFirst (tracks_of (kind_of image) image) (content_of (kind_of image) image) old new)
+    -- The image of a protected disk, sound or not, is given back byte for byte.
+    pub guarded : protected ≡ true → IfOk result (λ saved. items saved ≡ image)
+    -- The image that is given back has as many tracks.
+    pub same_tracks : IfOk result (λ saved. tracks_of (kind_of image) (items saved) ≡ tracks_of (kind_of image) image)
+    -- It has no fault of its format: it opens again.
+    pub opens : IfOk result (λ saved. image_fault (kind_of image) (items saved) ≡ None)
+    -- The image is refused by its own fault, before anything is read or written,
+    pub refused : IfSome (image_fault (kind_of image) image) (λ n. (result ≡ Err (Image n)) × Keeps old new)
+    -- and by no other.
+    pub cause : (n : ℕ) → result ≡ Err (Image n) → image_fault (kind_of image) image ≡ Some n

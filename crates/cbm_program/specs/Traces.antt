@@ -49,24 +49,28 @@ pub record IsTraceOf (S : Type 0) (step : S → Act → S) (says : S → Option 
   pub within : from ≤ until t
   -- nothing is due at the end or before it
   pub settled : IfSome t.end (λ end. IsLaterDue end (port_due s.port))
-  -- Where the host keeps the bus's timing this is a beginning of a session: each byte talked is the machine's answer to the bytes sent, and no reaction is late.
-  pub kept : IfSome t.end (λ end. HostKeeps (drive ∷ []) trace end → IsKept S step says (drive ∷ []) above trace end (s ∷ []))
 
 -- the same of the machine of named files
 abbrev pub IsTrace : Party → Machine → Timetable → List Event → Station (Desk Machine) → Type 0
 IsTrace drive m t trace s = IsTraceOf (Desk Machine) desk_step desk_says (machines_of drive m) drive t trace s
 
--- Where the host of a script keeps the timing loosely, as a computer's KERNAL does, what is kept is a trace beside the script's, with the same events of the drive.
-abbrev pub KeepsTraceLoosely : (S : Type 0) → (S → Act → S) → (S → Option (ℕ × Bool)) → (ℕ → S) → Party → Timetable → List Event → Station S → Type 0
-KeepsTraceLoosely S step says above drive t trace s =
-    IfSome t.end (λ end. HostKeepsLoosely S step says (drive ∷ []) above trace end → IsKeptLoosely S step says (drive ∷ []) above trace end (s ∷ []))
-
--- SO IT IS OF EACH TRACE OF A SCRIPT: above the drive is a machine of named files, or one that plays back.
-abbrev pub KeepTracesLoosely : Party → Type 0
-KeepTracesLoosely drive = ((m : Machine) (t : Timetable) (trace : List Event) (s : Station (Desk Machine)) → IsTrace drive m t trace s
-    → KeepsTraceLoosely (Desk Machine) desk_step desk_says (machines_of drive m) drive t trace s)
+-- WHATEVER IS ABOVE THE DRIVE, a machine of named files or one that plays back: this is so of each trace of a script.
+abbrev pub OfEachTrace : Party → ((S : Type 0) → (S → Act → S) → (S → Option (ℕ × Bool)) → (ℕ → S) → Timetable → List Event → Station S → Type 0) → Type 0
+OfEachTrace drive P = ((m : Machine) (t : Timetable) (trace : List Event) (s : Station (Desk Machine)) → IsTrace drive m t trace s
+    → P (Desk Machine) desk_step desk_says (machines_of drive m) t trace s)
     × ((p : Playback) (t : Timetable) (trace : List Event) (s : Station Playback) → IsTraceOf Playback played_step played_says (λ d. p) drive t trace s
-    → KeepsTraceLoosely Playback played_step played_says (λ d. p) drive t trace s)
+    → P Playback played_step played_says (λ d. p) t trace s)
+
+-- Where the host of a script keeps the bus's timing, its trace is a beginning of a session: each byte talked is the machine's answer to the bytes sent, and
+-- no reaction is late.
+abbrev pub KeepTraces : Party → Type 0
+KeepTraces drive = OfEachTrace drive (λ S step says above t trace s.
+    IfSome t.end (λ end. HostKeeps (drive ∷ []) trace end → IsKept S step says (drive ∷ []) above trace end (s ∷ [])))
+
+-- Where it keeps the timing loosely, as a computer's KERNAL does, a trace beside the script's, with the same events of the drive, is such a beginning.
+abbrev pub KeepTracesLoosely : Party → Type 0
+KeepTracesLoosely drive = OfEachTrace drive (λ S step says above t trace s.
+    IfSome t.end (λ end. HostKeepsLoosely S step says (drive ∷ []) above trace end → IsKeptLoosely S step says (drive ∷ []) above trace end (s ∷ [])))
 
 -- the events of the drive under some of these changes, the first ones
 pub record IsTraceBegun (drive : Party) (m : Machine) (t : Timetable) (trace : List Event) : Type 0 where

@@ -4,10 +4,10 @@ ghost use Rattle.cbm_iec.specs.declared.pace.Pace.TheVariants.{Profile};
 ghost use Rattle.cbm_host.specs.Hosted.{party_of};
 ghost use Rattle.cbm_image.specs.Images.{kind_of, image_fault, IsOf};
 ghost use Rattle.cbm_program.specs.Checking.{IsCheckedFirst};
-ghost use Rattle.cbm_program.specs.Outcome.{IsRun, IsOutcome};
+ghost use Rattle.cbm_program.specs.Outcome.{IsRun, RunsRequests, RunsChanges, IsOutcome};
 ghost use Rattle.cbm_program.specs.Running.{EndsAs, IsOfScript};
 ghost use Rattle.cbm_program.specs.Starts.{IsDevice, StartsFrom, KeptBy, IsRunRefusal};
-ghost use Rattle.cbm_program.specs.Traces.{KeepTracesLoosely};
+ghost use Rattle.cbm_program.specs.Traces.{KeepTraces, KeepTracesLoosely};
 
 use crate::fault::RunFault;
 use crate::numbered::{Beginning, read_first};
@@ -129,7 +129,11 @@ fn run_image<I: RunsScripts + Drop, R: Read + Drop, W: Write>(
 ) -> Result<Vec<u8>, RunFault>
     requires kind { kind_of image.now ≡ I.kind }
     requires device { IsDevice options.now.device }
-    ensures { IsOutcome result (λ v. v.items) pace image.now options.now.protected options.now.check options.now.device
+    ensures requests { RunsRequests result (λ v. v.items) image.now options.now.protected options.now.check
+        (R.remaining reader) (W.contents writer.old) (W.contents writer.new) pace }
+    ensures changes { RunsChanges result (λ v. v.items) image.now options.now.protected options.now.check
+        (R.remaining reader) (W.contents writer.old) (W.contents writer.new) (party_of pace options.now.device) }
+    ensures outcome { IsOutcome result (λ v. v.items) image.now options.now.protected options.now.check
         (R.remaining reader) (W.contents writer.old) (W.contents writer.new) }
 {
     let disk = opened::<I>(alloc, image, options.protected)?;
@@ -154,9 +158,15 @@ pub fn run<R: Read + Drop, W: Write>(
     options: &Options,
 ) -> Result<Vec<u8>, RunFault>
     requires device { IsDevice options.now.device }
-    ensures outcome { IsOutcome result (λ v. v.items) Profile image.now options.now.protected options.now.check options.now.device
+    ensures requests { RunsRequests result (λ v. v.items) image.now options.now.protected options.now.check
+        (R.remaining reader) (W.contents writer.old) (W.contents writer.new) Profile }
+    ensures changes { RunsChanges result (λ v. v.items) image.now options.now.protected options.now.check
+        (R.remaining reader) (W.contents writer.old) (W.contents writer.new) (party_of Profile options.now.device) }
+    ensures outcome { IsOutcome result (λ v. v.items) image.now options.now.protected options.now.check
         (R.remaining reader) (W.contents writer.old) (W.contents writer.new) }
-    // Of a script of line changes, under a host that keeps the timing loosely, as a computer's KERNAL does:
+    // Of a script of line changes, under a host that keeps the bus's timing:
+    ensures kept { KeepTraces (party_of Profile options.now.device) }
+    // And under one that keeps it loosely, as a computer's KERNAL does:
     ensures loosely { KeepTracesLoosely (party_of Profile options.now.device) }
 {
     run_at(alloc, Pace::Profile, reader, writer, image, options)
@@ -172,9 +182,15 @@ pub fn run_at<R: Read + Drop, W: Write>(
     options: &Options,
 ) -> Result<Vec<u8>, RunFault>
     requires device { IsDevice options.now.device }
-    ensures outcome { IsOutcome result (λ v. v.items) pace image.now options.now.protected options.now.check options.now.device
+    ensures requests { RunsRequests result (λ v. v.items) image.now options.now.protected options.now.check
+        (R.remaining reader) (W.contents writer.old) (W.contents writer.new) pace }
+    ensures changes { RunsChanges result (λ v. v.items) image.now options.now.protected options.now.check
+        (R.remaining reader) (W.contents writer.old) (W.contents writer.new) (party_of pace options.now.device) }
+    ensures outcome { IsOutcome result (λ v. v.items) image.now options.now.protected options.now.check
         (R.remaining reader) (W.contents writer.old) (W.contents writer.new) }
-    // Of a script of line changes, under a host that keeps the timing loosely, as a computer's KERNAL does:
+    // Of a script of line changes, under a host that keeps the bus's timing:
+    ensures kept { KeepTraces (party_of pace options.now.device) }
+    // And under one that keeps it loosely, as a computer's KERNAL does:
     ensures loosely { KeepTracesLoosely (party_of pace options.now.device) }
 {
     match kind_of(image) {
