@@ -68,6 +68,10 @@ pub record WiresStandAt (bs : List Party) (p : Parties) (moment : ℕ) (wires : 
 abbrev pub WiresStand : List Party → Wires → List Change → List Event → Type 0
 WiresStand bs w cs es = WiresStandAt bs (parties_of w.hands) w.moment w.wires w.ahead.items cs es
 
+-- this holds of whatever parties' events it tells, from changes that were read
+abbrev pub OfWires : Wires → (List Party → List Change → List Event → Type 0) → Type 0
+OfWires w P = (bs : List Party) (cs : List Change) (es : List Event) → WiresStand bs w cs es → P bs cs es
+
 -- one more change, and one more event
 abbrev pub and_read : List Change → Change → List Change
 and_read cs c = cs ++ c ∷ []

@@ -1,12 +1,9 @@
 //! Reads the changes of the wires, and gives the events of the parties that have exactly these wires.
 
-ghost use Rattle.std.specs.Prelude.{is_some, ◌≡◌, ◌<◌, ◌≤◌, ◌+◌, ◌-◌, ◌^◌, List, [], ◌++◌, ◌∷◌, None, true, false, length, IfSome, IfNone, OnOk, OnErr};
+ghost use Rattle.std.specs.Prelude.{is_some, ◌≡◌, ◌<◌, ◌≤◌, ◌+◌, ◌-◌, ◌^◌, [], ◌++◌, ◌∷◌, None, true, false, length, IfSome, IfNone, OnOk, OnErr};
 ghost use Rattle.cbm_iec.specs.Changes.{lines_changed};
 ghost use Rattle.bus_wires.specs.Cable.{parties_of, parties_after, wire_low, low, Shows};
-ghost use Rattle.bus_wires.specs.Looks.{WiresStand, HaveWires, AreWiresSettled, IsLookWhole, IsSameLook, NoneBefore, and_read, and_given, last_look, present};
-ghost use Rattle.cbm_iec.specs.declared.event.Event.{Event as ThisEvent};
-ghost use Rattle.cbm_iec.specs.declared.lines.Change.{Change as ThisChange};
-ghost use Rattle.cbm_iec.specs.declared.party.Party.{Party as ThisParty};
+ghost use Rattle.bus_wires.specs.Looks.{WiresStand, HaveWires, AreWiresSettled, IsLookWhole, IsSameLook, NoneBefore, and_read, and_given, last_look, present, OfWires};
 
 use crate::drive::{LIMIT, Now};
 use crate::hands::{FREE, Hands, low};
@@ -73,8 +70,7 @@ impl Wires {
 
     /// Reads the next change of a wire. Errors, and then nothing has changed: `Full`, `Early`, `Far`, `Ended`.
     pub fn read(&mut self, change: Change) -> Result<(), Unread>
-        ensures stands { (bs : List ThisParty) → (cs : List ThisChange) → (es : List ThisEvent) → WiresStand bs self.old cs es
-            → OnOk result (WiresStand bs self.new (and_read cs change) es) }
+        ensures stands { OfWires self.old (λ bs cs es. OnOk result (WiresStand bs self.new (and_read cs change) es)) }
         ensures same { OnErr result (self.new ≡ self.old) }
     {
         if self.end.is_some() {
@@ -88,7 +84,7 @@ impl Wires {
 
     /// The trace ends at a moment: no more will be read.
     pub fn finish(&mut self, moment: u64)
-        ensures { (bs : List ThisParty) → (cs : List ThisChange) → (es : List ThisEvent) → WiresStand bs self.old cs es → WiresStand bs self.new cs es }
+        ensures { OfWires self.old (λ bs cs es. WiresStand bs self.new cs es) }
     {
         self.end = Some(moment);
     }
@@ -96,14 +92,10 @@ impl Wires {
     /// The next event. None where more has to be read before one is known; or, where the trace has ended, where all events
     /// up to its end were given.
     pub fn next(&mut self) -> Option<Event>
-        ensures given { (bs : List ThisParty) → (cs : List ThisChange) → (es : List ThisEvent) → WiresStand bs self.old cs es
-            → IfSome result (λ e. WiresStand bs self.new cs (and_given es e)) }
-        ensures shown { (bs : List ThisParty) → (cs : List ThisChange) → (es : List ThisEvent) → WiresStand bs self.old cs es
-            → IfNone result (WiresStand bs self.new cs es) }
-        ensures exact { (bs : List ThisParty) → (cs : List ThisChange) → (es : List ThisEvent) → WiresStand bs self.old cs es
-            → IfNone result (self.new.ahead.items ≡ [] → HaveWires bs es cs) }
-        ensures over { (bs : List ThisParty) → (cs : List ThisChange) → (es : List ThisEvent) → WiresStand bs self.old cs es → is_some self.old.end ≡ true
-            → IfNone result (self.new.ahead.items ≡ []) }
+        ensures given { OfWires self.old (λ bs cs es. IfSome result (λ e. WiresStand bs self.new cs (and_given es e))) }
+        ensures shown { OfWires self.old (λ bs cs es. IfNone result (WiresStand bs self.new cs es)) }
+        ensures exact { OfWires self.old (λ bs cs es. IfNone result (self.new.ahead.items ≡ [] → HaveWires bs es cs)) }
+        ensures over { OfWires self.old (λ bs cs es. is_some self.old.end ≡ true → IfNone result (self.new.ahead.items ≡ [])) }
     {
         'moments: loop {
             if let Some(event) = self.event() {
@@ -235,8 +227,7 @@ impl Wires {
     fn react(&mut self, limit: u64) -> bool
         requires { NoneBefore limit self.old.ahead.items }
         ensures end { self.new.end ≡ self.old.end }
-        ensures stands { (bs : List ThisParty) → (cs : List ThisChange) → (es : List ThisEvent) → WiresStand bs self.old cs es → AreWiresSettled self.old
-            → result ≡ true → WiresStand bs self.new cs es }
+        ensures stands { OfWires self.old (λ bs cs es. AreWiresSettled self.old → result ≡ true → WiresStand bs self.new cs es) }
         ensures less { result ≡ true → (2 ^ 50 - self.new.moment) + length self.new.ahead.items < (2 ^ 50 - self.old.moment) + length self.old.ahead.items }
         ensures same { result ≡ false → self.new ≡ self.old }
     {
@@ -251,9 +242,8 @@ impl Wires {
     /// Goes on to the first moment that is ahead.
     fn take(&mut self) -> bool
         ensures end { self.new.end ≡ self.old.end }
-        ensures left { (bs : List ThisParty) → (cs : List ThisChange) → (es : List ThisEvent) → WiresStand bs self.old cs es → result ≡ false → self.old.ahead.items ≡ [] }
-        ensures stands { (bs : List ThisParty) → (cs : List ThisChange) → (es : List ThisEvent) → WiresStand bs self.old cs es → AreWiresSettled self.old
-            → result ≡ true → WiresStand bs self.new cs es }
+        ensures left { OfWires self.old (λ bs cs es. result ≡ false → self.old.ahead.items ≡ []) }
+        ensures stands { OfWires self.old (λ bs cs es. AreWiresSettled self.old → result ≡ true → WiresStand bs self.new cs es) }
         ensures less { result ≡ true → (2 ^ 50 - self.new.moment) + length self.new.ahead.items < (2 ^ 50 - self.old.moment) + length self.old.ahead.items }
         ensures same { result ≡ false → self.new ≡ self.old }
     {
@@ -275,10 +265,8 @@ impl Wires {
     /// ended; then nothing has changed.
     fn turn(&mut self) -> bool
         ensures end { self.new.end ≡ self.old.end }
-        ensures left { (bs : List ThisParty) → (cs : List ThisChange) → (es : List ThisEvent) → WiresStand bs self.old cs es → is_some self.old.end ≡ true
-            → result ≡ false → self.old.ahead.items ≡ [] }
-        ensures stands { (bs : List ThisParty) → (cs : List ThisChange) → (es : List ThisEvent) → WiresStand bs self.old cs es → AreWiresSettled self.old
-            → result ≡ true → WiresStand bs self.new cs es }
+        ensures left { OfWires self.old (λ bs cs es. is_some self.old.end ≡ true → result ≡ false → self.old.ahead.items ≡ []) }
+        ensures stands { OfWires self.old (λ bs cs es. AreWiresSettled self.old → result ≡ true → WiresStand bs self.new cs es) }
         ensures less { result ≡ true → (2 ^ 50 - self.new.moment) + length self.new.ahead.items < (2 ^ 50 - self.old.moment) + length self.old.ahead.items }
         ensures same { result ≡ false → self.new ≡ self.old }
     {

@@ -1,8 +1,9 @@
 // How many bytes a chain holds.
 
-ghost use Rattle.std.specs.Prelude.{◌≡◌, ◌≢◌, ◌≤◌, ◌<◌, ◌+◌, ◌-◌, [], length, OnOk, IfOk, IfErr, None, Some};
+ghost use Rattle.std.specs.Prelude.{◌≡◌, ◌≢◌, ◌≤◌, ◌<◌, ◌+◌, ◌-◌, [], length, OnOk, IfOk, IfErr, Some};
 ghost use Rattle.cbm_medium.specs.Place.{sector_count};
 ghost use Rattle.cbm_chain.specs.Reading.{held_from};
+ghost use Rattle.cbm_medium.specs.Met.{Walks};
 
 use crate::loaded::{Loaded, load};
 use cbm_medium::{Geometry, Link, Medium, Trouble};
@@ -13,11 +14,7 @@ pub fn byte_count<M: Medium>(medium: &M, geometry: Geometry, first: Link) -> Res
     requires { geometry ≤ (M.seen medium.now).tracks }
     ensures counted { let content = (M.seen medium.now).content in IfOk result
         (λ n. n ≡ length (held_from geometry content (sector_count geometry) first).bytes) }
-    ensures whole { OnOk result
-        ((held_from geometry (M.seen medium.now).content (sector_count geometry) first).trouble ≡ None) }
-    ensures err { IfErr result
-        (λ t. (held_from geometry (M.seen medium.now).content (sector_count geometry) first).trouble ≡ Some t) }
-    ensures never_26 { IfErr result (λ t. t.code ≢ 26) }
+    ensures walk { Walks (held_from geometry (M.seen medium.now).content (sector_count geometry) first).trouble result }
 {
     let mut at = first;
     let mut left = geometry.sectors();

@@ -1,10 +1,11 @@
 // The blocks of a chain whose last one was never written are given back.
 
-ghost use Rattle.std.specs.Prelude.{◌≡◌, ◌≢◌, ◌≤◌, ℕ, suc, false, [], OnOk, IfOk, IfErr, None, Some};
+ghost use Rattle.std.specs.Prelude.{◌≡◌, ◌≢◌, ◌≤◌, ℕ, suc, false, [], OnOk, IfOk, IfErr, Some};
 ghost use Rattle.cbm_medium.specs.Place.{Has, has};
 ghost use Rattle.cbm_medium.specs.Links.{with_block};
 ghost use Rattle.cbm_bam.specs.Map.{Frees, IsGiven};
 ghost use Rattle.cbm_chain.specs.GivenUp.{linked_blocks};
+ghost use Rattle.cbm_medium.specs.Met.{Walks};
 
 use cbm_bam::Release;
 use cbm_medium::codes::ILLEGAL_LINK;
@@ -22,10 +23,7 @@ pub(crate) fn give_linked<M: Medium>(
     requires { geometry ≤ (M.seen medium.now).tracks }
     ensures freed { OnOk result (Frees geometry release.old
         (linked_blocks geometry (M.seen medium.now).content more first).blocks release.new) }
-    ensures whole { OnOk result ((linked_blocks geometry (M.seen medium.now).content more first).trouble ≡ None) }
-    ensures err { IfErr result (λ t.
-        (linked_blocks geometry (M.seen medium.now).content more first).trouble ≡ Some t) }
-    ensures never_26 { IfErr result (λ t. t.code ≢ 26) }
+    ensures walk { Walks (linked_blocks geometry (M.seen medium.now).content more first).trouble result }
 {
     let mut at = first;
     for passed in 0..more {

@@ -2,6 +2,8 @@
 use Rattle.std.specs.Prelude.{ℕ, ◌+◌, ◌*◌, ◌<◌, ◌≤◌, ◌≡◌, ◌≢◌, ◌⊎◌, List, [], ◌∷◌, Bool, false, is_some, length, take, drop, slice_index, slice_index_or}
 use Rattle.cbm_track.specs.Circle.{circle_bits_of}
 use Rattle.cbm_g64.specs.File.{offset, size, g64_fault}
+use Rattle.cbm_g64.specs.NewFile.{new_file}
+use Rattle.cbm_g64.specs.Tracks.{id_for, AreFilled, AreLaid}
 
 -- a byte of a file that belongs to none of its tracks
 abbrev pub IsOutsideTracks : List ℕ → ℕ → Type 0
@@ -23,3 +25,10 @@ pub record IsHeld (file : List ℕ) (tracks : List (List Bool)) : Type 0 where
   pub right : is_some (g64_fault file) ≡ false
   pub lengths : (i : ℕ) → i < 35 → offset file i ≢ 0 → length (slice_index_or tracks i []) ≡ 8 * size file i
   pub absent : (i : ℕ) → i < 35 → offset file i ≡ 0 → slice_index_or tracks i [] ≡ circle_bits_of (0 ∷ [])
+
+-- THE TRACKS OF A NEW DISK of this id, whatever was written to its sectors since it was formatted.
+pub record AreOfNewDisk (id : List ℕ) (tracks : List (List Bool)) : Type 0 where
+  pub held : IsHeld new_file tracks
+  pub laid : AreLaid tracks
+  pub filled : AreFilled id tracks
+  pub named : id_for tracks ≡ id

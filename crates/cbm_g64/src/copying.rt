@@ -1,9 +1,9 @@
-ghost use Rattle.std.specs.Prelude.{◌≡◌, ◌≢◌, ℕ, ◌<◌, ◌≤◌, List, Ok, None, IfErr, IfOk, length, replicate, true};
+ghost use Rattle.std.specs.Prelude.{◌≡◌, ◌≢◌, ◌<◌, ◌≤◌, Ok, None, IfErr, IfOk, length, replicate, true};
 ghost use Rattle.cbm_medium.specs.Place.{Has, Place, sectors_on};
 ghost use Rattle.cbm_g64.specs.File.{g64_fault, g64_circles};
 ghost use Rattle.cbm_g64.specs.NewFile.{new_file};
 ghost use Rattle.cbm_g64.specs.Tracks.{g64_content, id_for, or_zeros, AreFilled, AreFresh, AreLaid};
-ghost use Rattle.cbm_g64.specs.Image.{IsHeld, IsImageOf};
+ghost use Rattle.cbm_g64.specs.Image.{IsImageOf, AreOfNewDisk};
 
 use crate::circles::fill_on;
 use crate::fault::G64Fault;
@@ -15,12 +15,8 @@ use std::alloc::{AllocError, Global};
 /// The tracks of a formatted disk.
 fn fresh_tracks(alloc: Global, id: &[u8; 2]) -> Result<Vec<IndexedTrack>, AllocError>
     ensures fresh { IfOk result (λ v. AreFresh id.now v.items) }
-    ensures count { IfOk result (λ v. length v.items ≡ 35) }
-    ensures held { IfOk result (λ v. IsHeld new_file v.items) }
     ensures blank { IfOk result (λ v. (p : Place) → g64_content v.items p ≡ Ok (replicate 256 0)) }
-    ensures id { IfOk result (λ v. id_for v.items ≡ id.now) }
-    ensures laid { IfOk result (λ v. AreLaid v.items) }
-    ensures filled { IfOk result (λ v. AreFilled id.now v.items) }
+    ensures disk { IfOk result (λ v. AreOfNewDisk id.now v.items) }
 {
     let mut tracks = Vec::with_capacity(alloc, 35)?;
     for track in 1..36u8 {
@@ -32,18 +28,12 @@ fn fresh_tracks(alloc: Global, id: &[u8; 2]) -> Result<Vec<IndexedTrack>, AllocE
 /// Copies a sector of a medium to a track where it still holds zeros; one with a fault stays zeros.
 fn copy_sector<M: Medium>(medium: &M, tracks: &mut [IndexedTrack], at: Address, id: &[u8; 2])
     requires tracks { (M.seen medium.now).tracks ≡ 35 }
-    requires held { IsHeld new_file tracks.old }
-    requires laid { AreLaid tracks.old }
-    requires filled { AreFilled id.now tracks.old }
-    requires id { id_for tracks.old ≡ id.now }
+    requires disk { AreOfNewDisk id.now tracks.old }
     requires track { at.track ≤ 35 }
     requires blank { g64_content tracks.old at ≡ Ok (replicate 256 0) }
     ensures here { g64_content tracks.new at ≡ or_zeros ((M.seen medium.now).content at) }
     ensures others { (p : Place) → at ≢ p → g64_content tracks.new p ≡ g64_content tracks.old p }
-    ensures held { IsHeld new_file tracks.new }
-    ensures id { id_for tracks.new ≡ id_for tracks.old }
-    ensures laid { AreLaid tracks.new }
-    ensures filled { AreFilled id.now tracks.new }
+    ensures disk { AreOfNewDisk id.now tracks.new }
 {
     match medium.read(at) {
         Ok(bytes) => fill_on(tracks, at, id, &bytes),
@@ -54,19 +44,13 @@ fn copy_sector<M: Medium>(medium: &M, tracks: &mut [IndexedTrack], at: Address, 
 /// Copies the sectors of a track.
 fn copy_track<M: Medium>(medium: &M, tracks: &mut [IndexedTrack], track: u8, id: &[u8; 2])
     requires tracks { (M.seen medium.now).tracks ≡ 35 }
-    requires held { IsHeld new_file tracks.old }
-    requires laid { AreLaid tracks.old }
-    requires filled { AreFilled id.now tracks.old }
-    requires id { id_for tracks.old ≡ id.now }
+    requires disk { AreOfNewDisk id.now tracks.old }
     requires track { track ≤ 35 }
     requires blank { (p : Place) → p.track ≡ track → g64_content tracks.old p ≡ Ok (replicate 256 0) }
     ensures here { (p : Place) → p.track ≡ track → p.sector < sectors_on track →
         g64_content tracks.new p ≡ or_zeros ((M.seen medium.now).content p) }
     ensures others { (p : Place) → p.track ≢ track → g64_content tracks.new p ≡ g64_content tracks.old p }
-    ensures held { IsHeld new_file tracks.new }
-    ensures id { id_for tracks.new ≡ id_for tracks.old }
-    ensures laid { AreLaid tracks.new }
-    ensures filled { AreFilled id.now tracks.new }
+    ensures disk { AreOfNewDisk id.now tracks.new }
 {
     for sector in 0..sectors_of(track) {
         match Address::new(track, sector) {
@@ -79,16 +63,10 @@ fn copy_track<M: Medium>(medium: &M, tracks: &mut [IndexedTrack], track: u8, id:
 /// Copies the sectors of a medium to the tracks of a formatted disk.
 fn copy_tracks<M: Medium>(medium: &M, tracks: &mut [IndexedTrack], id: &[u8; 2])
     requires tracks { (M.seen medium.now).tracks ≡ 35 }
-    requires held { IsHeld new_file tracks.old }
-    requires laid { AreLaid tracks.old }
-    requires filled { AreFilled id.now tracks.old }
-    requires id { id_for tracks.old ≡ id.now }
+    requires disk { AreOfNewDisk id.now tracks.old }
     requires blank { (p : Place) → g64_content tracks.old p ≡ Ok (replicate 256 0) }
     ensures shown { (p : Place) → Has 35 p → g64_content tracks.new p ≡ or_zeros ((M.seen medium.now).content p) }
-    ensures held { IsHeld new_file tracks.new }
-    ensures id { id_for tracks.new ≡ id_for tracks.old }
-    ensures laid { AreLaid tracks.new }
-    ensures filled { AreFilled id.now tracks.new }
+    ensures disk { AreOfNewDisk id.now tracks.new }
 {
     for track in 1..36 {
         copy_track(medium, tracks, track, id);

@@ -1,8 +1,9 @@
-ghost use Rattle.std.specs.Prelude.{◌≡◌, ◌≢◌, ℕ, ◌-◌, ◌<◌, ◌≤◌, ◌↔◌, List, [], length, Some, None, IsSome, IfOk, IfErr, OnOk, SomeIff, IsTrue};
+ghost use Rattle.std.specs.Prelude.{◌≡◌, ◌≢◌, ℕ, ◌-◌, ◌<◌, ◌≤◌, ◌↔◌, List, length, Some, None, IfOk, OnOk, SomeIff, IsTrue};
 ghost use Rattle.cbm_medium.specs.Place.{Place, Has};
 ghost use Rattle.cbm_medium.specs.Content.{Content, written};
-ghost use Rattle.cbm_medium.specs.Links.{link, Chain, IsCut, follow, with_block, ended, cut_at, IsApart};
+ghost use Rattle.cbm_medium.specs.Links.{link, Chain, IsCut, follow, ended, IsApart};
 ghost use Rattle.cbm_medium.specs.declared.fault.Trouble.{Trouble};
+ghost use Rattle.cbm_medium.specs.Met.{WalksOn};
 
 use crate::address::Address;
 use crate::codes::{ENDLESS_CHAIN, ILLEGAL_LINK};
@@ -110,13 +111,7 @@ pub fn read_linked<M: Medium>(
     requires going { at.track ≢ 0 }
     ensures ok { IfOk result (λ bytes. (M.seen medium.now).content at ≡ Ok bytes) }
     ensures has { OnOk result (Has geometry at) }
-    ensures left { OnOk result (0 < left) }
-    ensures followed { let content = (M.seen medium.now).content in
-        IfOk result (λ bytes. follow geometry content left at ≡ with_block at
-        (follow geometry content (left - 1) (link bytes))) }
-    ensures never_26 { IfErr result (λ t. t.code ≢ 26) }
-    ensures err { IfErr result (λ t.
-        follow geometry (M.seen medium.now).content left at ≡ (record { blocks = []; trouble = Some t })) }
+    ensures step { WalksOn geometry (M.seen medium.now).content left at result link }
 {
     let Some(address) = at.address(geometry) else {
         return Err(at.trouble(ILLEGAL_LINK));

@@ -56,6 +56,10 @@ pub record ListsMore (old : List ℕ) (k : ℕ) (q : Place) (new : List ℕ) : T
 abbrev pub side_at : List ℕ → ℕ → Place
 side_at head i = record { track = slice_index head (4 + 2 * i); sector = slice_index head (5 + 2 * i) }
 
+-- this holds of the side sector of this number that a first one lists, if it is on the disk and reads
+abbrev pub OfSideAt : ℕ → Content → List ℕ → ℕ → (Place → Type 0) → Type 0
+OfSideAt tracks c head i P = Has tracks (side_at head i) → IsOk (c (side_at head i)) → P (side_at head i)
+
 -- the side sector at this place lists one block more after this many
 pub record IsBlockListed (old new : Content) (at : Place) (k : ℕ) (q : Place) : Type 0 where
   pub side : List ℕ

@@ -1,11 +1,10 @@
 // A record is written in place.
 
-ghost use Rattle.std.specs.Prelude.{◌≡◌, ◌≤◌, ◌<◌, ◌+◌, ◌^◌, List, None, length, option_map, IfOk, IfSome, IsOkAnd, MatchResult};
-ghost use Rattle.cbm_medium.specs.Place.{Place, sector_count};
+ghost use Rattle.std.specs.Prelude.{◌≡◌, ◌≤◌, ◌<◌, ◌+◌, ◌^◌, None, length, option_map, IfOk, IfSome, IsOkAnd, MatchResult};
 ghost use Rattle.cbm_medium.specs.Seen.{OnlyContent};
 ghost use Rattle.cbm_file.specs.Records.{with_bytes};
 ghost use Rattle.cbm_chain.specs.Data.{chain_bytes};
-ghost use Rattle.cbm_relfile.specs.Records.{AllWhole, IsLaid, record_in};
+ghost use Rattle.cbm_relfile.specs.Records.{OfRelative, record_in};
 ghost use Rattle.cbm_relfile.specs.Changing.{IsChangedIfThere, IsChangeStopped};
 ghost use Rattle.cbm_relfile.specs.Written.{IsRecordWrite};
 
@@ -55,16 +54,14 @@ pub fn write_record<M: Medium>(
     requires number { (1 ≤ number) × (number < 2 ^ 24) }
     requires length { (1 ≤ file.width) × (file.width ≤ 254) }
     requires position { (1 ≤ position) × (position ≤ file.width) }
-    ensures laid { let old = M.seen medium.old in let new = M.seen medium.new in (blocks sides : List Place) →
-        AllWhole old.content → IsLaid geometry old.content file blocks sides → length blocks ≤ sector_count geometry →
-        MatchResult result
+    ensures laid { let old = M.seen medium.old in let new = M.seen medium.new in
+        OfRelative geometry old.content file (λ blocks sides. MatchResult result
         (λ o. IsChangedIfThere old.content new.content blocks file.width number position bytes.now
         (option_map (λ r. r.cut) o))
-        (λ t. IsChangeStopped geometry old new blocks file.width number position bytes.now t.code) }
-    ensures next { let old = M.seen medium.old in (blocks sides : List Place) →
-        AllWhole old.content → IsLaid geometry old.content file blocks sides → length blocks ≤ sector_count geometry →
+        (λ t. IsChangeStopped geometry old new blocks file.width number position bytes.now t.code)) }
+    ensures next { let content = (M.seen medium.old).content in OfRelative geometry content file (λ blocks sides.
         IfOk result (λ o. IfSome o (λ r. IsOkAnd r.next (λ x. option_map (λ y. y.items) x
-        ≡ record_in file.width (chain_bytes old.content blocks) (number + 1)))) }
+        ≡ record_in file.width (chain_bytes content blocks) (number + 1))))) }
     ensures write { IsRecordWrite result (M.seen medium.old) (M.seen medium.new) number }
     ensures only { OnlyContent geometry result (M.seen medium.old) (M.seen medium.new) }
 {

@@ -1,7 +1,7 @@
-use Rattle.std.specs.Prelude.{ℕ, zero, suc, ◌+◌, ◌*◌, ◌-◌, List, [], ◌∷◌, ◌++◌, Bool, nat_lt, if◌then◌else◌, replicate, slice_index}
+use Rattle.std.specs.Prelude.{ℕ, zero, suc, ◌+◌, ◌*◌, ◌-◌, ◌≡◌, ◌<◌, List, [], ◌∷◌, ◌++◌, Bool, nat_lt, if◌then◌else◌, length, replicate, slice_index, Ok, Some}
 use Rattle.cbm_gcr.specs.Code.{code, bits_of}
 use Rattle.cbm_medium.specs.Place.{sectors_on}
-use Rattle.cbm_sector.specs.Answer.{xor_of, data_block}
+use Rattle.cbm_sector.specs.Answer.{xor_of, data_block, block_of, sector_shown, id_shown}
 
 -- a sync mark as formatting writes it: five bytes $FF
 unfoldable pub mark : List Bool
@@ -43,3 +43,10 @@ block_place sector = 2896 * sector + 232
 -- a track as formatting writes it: its sectors, and a gap up to its length
 unfoldable pub fresh : ℕ → List ℕ → List Bool
 fresh track id = fresh_sectors track id (sectors_on track) ++ gap_bits (bytes_on track - 362 * sectors_on track)
+
+-- WHAT A TRACK SHOWS as formatting writes it: each sector holds zeros, with its data block in its place, and track 18 has the disk's id.
+pub record IsBlankTrack (track : ℕ) (id : List ℕ) (bits : List Bool) : Type 0 where
+  pub size : length bits ≡ 8 * bytes_on track
+  pub shown : (s : ℕ) → s < sectors_on track → sector_shown bits id (record { track = track; sector = s }) ≡ Ok (replicate 256 0)
+  pub named : track ≡ 18 → id_shown bits ≡ Some id
+  pub blocks : (s : ℕ) → s < sectors_on track → block_of bits id (record { track = track; sector = s }) ≡ Ok (block_place s)

@@ -1,9 +1,8 @@
-ghost use Rattle.std.specs.Prelude.{◌≡◌, ℕ, ◌<◌, ◌≤◌, ◌+◌, ◌*◌, ◌++◌, Ok, Some, length, replicate};
+ghost use Rattle.std.specs.Prelude.{◌≡◌, ◌<◌, ◌≤◌, ◌+◌, ◌++◌, length};
 ghost use Rattle.arrayvec.specs.ArrayVec.{array_vec_len};
 ghost use Rattle.cbm_gcr.specs.Code.{code, bits_of};
-ghost use Rattle.cbm_medium.specs.Place.{sectors_on};
-ghost use Rattle.cbm_sector.specs.Answer.{block_of, sector_shown, id_shown, data_block};
-ghost use Rattle.cbm_sector.specs.Fresh.{block_place, bytes_on, fresh, fresh_sector, fresh_sectors, header_block, laid};
+ghost use Rattle.cbm_sector.specs.Answer.{data_block};
+ghost use Rattle.cbm_sector.specs.Fresh.{bytes_on, fresh, header_block, laid, IsBlankTrack};
 
 use crate::block::{coded_block, data_block, xor};
 use crate::layout::HEADER_MARK;
@@ -75,12 +74,7 @@ pub fn track_bytes(track: u8) -> u16
 fn laid_track(track: u8, id: &[u8; 2]) -> Track
     requires { (0 < track) × (track < 36) }
     ensures value { result ≡ fresh track id.now }
-    ensures length { length result ≡ 8 * bytes_on track }
-    ensures shown { (s : ℕ) → s < sectors_on track →
-        sector_shown result id.now (record { track = track; sector = s }) ≡ Ok (replicate 256 0) }
-    ensures id { track ≡ 18 → id_shown result ≡ Some id.now }
-    ensures blocks { (s : ℕ) → s < sectors_on track →
-        block_of result id.now (record { track = track; sector = s }) ≡ Ok (block_place s) }
+    ensures blank { IsBlankTrack track id.now result }
 {
     let block = coded_block(&data_block(&[0; 256]));
     let mut bytes = ArrayVec::new();
@@ -101,12 +95,7 @@ fn laid_track(track: u8, id: &[u8; 2]) -> Track
 pub fn fresh_track(track: u8, id: [u8; 2]) -> Track
     requires { (0 < track) × (track < 36) }
     ensures value { result ≡ fresh track id }
-    ensures length { length result ≡ 8 * bytes_on track }
-    ensures shown { (s : ℕ) → s < sectors_on track →
-        sector_shown result id (record { track = track; sector = s }) ≡ Ok (replicate 256 0) }
-    ensures id { track ≡ 18 → id_shown result ≡ Some id }
-    ensures blocks { (s : ℕ) → s < sectors_on track →
-        block_of result id (record { track = track; sector = s }) ≡ Ok (block_place s) }
+    ensures blank { IsBlankTrack track id result }
 {
     laid_track(track, &id)
 }

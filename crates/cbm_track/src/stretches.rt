@@ -1,6 +1,6 @@
 ghost use Rattle.std.specs.Prelude.{◌≡◌, ℕ, ◌<◌, ◌≤◌, ◌+◌, ◌-◌, ◌*◌, [], ◌∷◌};
 ghost use Rattle.std.specs.Prelude.{drop, false, length, slice_index_or, take};
-ghost use Rattle.cbm_track.specs.Circle.{circle_bits, circle_bits_of, circle_bit, stretch};
+ghost use Rattle.cbm_track.specs.Circle.{circle_bits, circle_bits_of, circle_bit, stretch, PutsBytes};
 
 use crate::bits::wrapped;
 
@@ -98,10 +98,7 @@ fn write_around(track: &mut [u8], place: usize, bytes: &[u8])
     requires place { place < 8 * length track.old }
     requires size { length track.old ≤ 7928 }
     requires fits { length bytes.now ≤ length track.old }
-    ensures written { (k : ℕ) → k < 8 * length bytes.now →
-        circle_bit (circle_bits_of track.new) (place + k) ≡ slice_index_or (circle_bits_of bytes.now) k false }
-    ensures others { (k : ℕ) → 8 * length bytes.now ≤ k → k < 8 * length track.old →
-        circle_bit (circle_bits_of track.new) (place + k) ≡ circle_bit (circle_bits_of track.old) (place + k) }
+    ensures { PutsBytes (circle_bits_of track.old) (circle_bits_of track.new) (8 * length track.old) place bytes.now }
 {
     let bits = 8 * track.len();
     let mut to = place;
@@ -116,10 +113,7 @@ pub(crate) fn write_bytes(track: &mut [u8], place: usize, bytes: &[u8])
     requires place { place < 8 * length track.old }
     requires size { length track.old ≤ 7928 }
     requires fits { length bytes.now ≤ length track.old }
-    ensures written { (k : ℕ) → k < 8 * length bytes.now →
-        circle_bit (circle_bits_of track.new) (place + k) ≡ slice_index_or (circle_bits_of bytes.now) k false }
-    ensures others { (k : ℕ) → 8 * length bytes.now ≤ k → k < 8 * length track.old →
-        circle_bit (circle_bits_of track.new) (place + k) ≡ circle_bit (circle_bits_of track.old) (place + k) }
+    ensures { PutsBytes (circle_bits_of track.old) (circle_bits_of track.new) (8 * length track.old) place bytes.now }
 {
     let first = place / 8;
     let end = first + bytes.len();

@@ -1,5 +1,5 @@
-ghost use Rattle.std.specs.Prelude.{◌≡◌, ℕ, ◌<◌, ◌≤◌, ◌+◌, ◌*◌, ◌%◌, ◌↔◌, false, length, slice_index_or, IfSome, IsSome};
-ghost use Rattle.cbm_track.specs.Circle.{circle_bits_of, circle_bit, is_clear, next_block, stretch};
+ghost use Rattle.std.specs.Prelude.{◌≡◌, ◌<◌, ◌≤◌, ◌*◌, ◌%◌, ◌↔◌, length, IfSome, IsSome};
+ghost use Rattle.cbm_track.specs.Circle.{circle_bits_of, is_clear, next_block, stretch, PutsBytes};
 
 use crate::marks::{is_clear, next_place};
 use crate::stretches::{read_bytes, write_bytes};
@@ -13,7 +13,7 @@ pub struct Track {
 }
 
 impl Model for Track {
-    ghost use Rattle.std.specs.Prelude.{List, Bool, length, ◌<◌, ◌≤◌, ℕ};
+    ghost use Rattle.std.specs.Prelude.{List, Bool, length, ◌<◌, ◌≤◌};
     ghost use Rattle.cbm_track.specs.Circle.{circle_bits_of};
 
     ghost Value = { List Bool };
@@ -84,10 +84,7 @@ impl Track {
         requires place { place < length self.old }
         requires fits { 8 * length bytes.now ≤ length self.old }
         ensures length { length self.new ≡ length self.old }
-        ensures written { (k : ℕ) → k < 8 * length bytes.now →
-            circle_bit self.new (place + k) ≡ slice_index_or (circle_bits_of bytes.now) k false }
-        ensures others { (k : ℕ) → 8 * length bytes.now ≤ k → k < length self.old →
-            circle_bit self.new (place + k) ≡ circle_bit self.old (place + k) }
+        ensures bytes { PutsBytes self.old self.new (length self.old) place bytes.now }
     {
         write_bytes(self.bytes.as_mut_slice(), place as usize, bytes);
     }

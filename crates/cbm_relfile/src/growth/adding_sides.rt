@@ -1,12 +1,12 @@
 // A side sector more for a file whose side sectors can't list all its blocks.
 
-ghost use Rattle.std.specs.Prelude.{◌≡◌, ◌≢◌, ◌≤◌, ◌<◌, ℕ, List, true, find, Some, Ok, IfOk, IfErr, IfSome, MatchOption, MatchResult};
-ghost use Rattle.cbm_medium.specs.Place.{Has};
+ghost use Rattle.std.specs.Prelude.{◌≡◌, ◌≢◌, ◌≤◌, ◌<◌, find, Some, Ok, IfOk, IfSome, MatchOption, MatchResult};
 ghost use Rattle.cbm_medium.specs.Seen.{OnlyContent};
 ghost use Rattle.cbm_bam.specs.Map.{IsFull, is_free_in, map_of};
 ghost use Rattle.cbm_bam.specs.Orders.{next_order};
 ghost use Rattle.cbm_relfile.specs.AddingSides.{IsEmptySide, IsEmptyBegun};
 ghost use Rattle.cbm_relfile.specs.Growing.{IsLengthenStopped};
+ghost use Rattle.cbm_relfile.specs.Records.{OfSector};
 
 use crate::growth::growing::{cut_at, with_side};
 use crate::relative::Relative;
@@ -41,11 +41,10 @@ pub fn begin_empty_side<M: Medium>(
     requires tracks { geometry ≤ (M.seen medium.old).tracks }
     requires sides { sides < 6 }
     ensures begun { let old = M.seen medium.old in let new = M.seen medium.new in
-        (head : List ℕ) → Has geometry file.side → old.content file.side ≡ Ok head → file.side.track ≢ 18 →
-        MatchResult result
+        OfSector geometry old.content file.side (λ head. file.side.track ≢ 18 → MatchResult result
         (λ o. MatchOption o (IsFull geometry (map_of old.content) × (new.content ≡ old.content))
         (λ t. IsEmptyBegun geometry old.content new.content head sides file.width t))
-        (λ t. IsLengthenStopped geometry old new file.side t.code) }
+        (λ t. IsLengthenStopped geometry old new file.side t.code)) }
     ensures next { IfOk result (λ o. IfSome o (λ t. find (is_free_in (map_of (M.seen medium.old).content))
         (next_order geometry file.side) ≡ Some t)) }
     ensures bound { IfOk result (λ o. IfSome o (λ t. t.track ≤ geometry)) }

@@ -1,10 +1,11 @@
 // The side sectors of a relative file are given back.
 
-ghost use Rattle.std.specs.Prelude.{◌≡◌, ◌≢◌, ◌≤◌, ℕ, false, List, OnOk, IfErr, Ok, IsOk};
+ghost use Rattle.std.specs.Prelude.{◌≡◌, ◌≤◌, false, OnOk, IfErr, Ok, IsOk};
 ghost use Rattle.cbm_medium.specs.Place.{Has, has};
 ghost use Rattle.cbm_medium.specs.Links.{bytes_at};
-ghost use Rattle.cbm_medium.specs.Met.{IsMet, place_of};
+ghost use Rattle.cbm_medium.specs.Met.{Meets, place_of};
 ghost use Rattle.cbm_bam.specs.Map.{Frees, IsGiven};
+ghost use Rattle.cbm_relfile.specs.Records.{OfSector};
 ghost use Rattle.cbm_relfile.specs.SideSectors.{AllHave, sides_listed};
 
 use crate::sectors::read_at;
@@ -24,10 +25,9 @@ pub fn free_sides<M: Medium>(
     requires { geometry ≤ (M.seen medium.now).tracks }
     ensures freed { OnOk result (Frees geometry release.old (sides_listed (bytes_at (M.seen medium.now).content first))
         release.new) }
-    ensures goes { (head : List ℕ) → Has geometry first → (M.seen medium.now).content first ≡ Ok head →
-        AllHave geometry (sides_listed head) → IsOk result }
-    ensures err { IfErr result (IsMet geometry (M.seen medium.now).content) }
-    ensures never_26 { IfErr result (λ t. t.code ≢ 26) }
+    ensures goes { OfSector geometry (M.seen medium.now).content first (λ head.
+        AllHave geometry (sides_listed head) → IsOk result) }
+    ensures err { Meets geometry (M.seen medium.now).content result }
 {
     let head = read_at(medium, geometry, first)?;
     for n in 0..6usize {

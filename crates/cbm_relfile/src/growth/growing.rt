@@ -1,10 +1,11 @@
 // A relative file grows by a block: it is claimed, written and linked to, and then a side sector lists it.
 
-ghost use Rattle.std.specs.Prelude.{◌≡◌, ◌≢◌, ◌≤◌, ◌<◌, ◌/◌, ◌%◌, ◌+◌, ◌-◌, ◌*◌, ℕ, List, true, length, slice_index, Ok, IsOk, IfErr, IfOk, IfSome, MatchOption, MatchResult};
+ghost use Rattle.std.specs.Prelude.{◌≡◌, ◌≢◌, ◌≤◌, ◌<◌, ◌/◌, ◌%◌, ◌+◌, ◌-◌, ◌*◌, ℕ, length, slice_index, Ok, IfOk, IfSome, MatchOption, MatchResult};
 ghost use Rattle.cbm_medium.specs.Place.{Has};
 ghost use Rattle.cbm_medium.specs.Seen.{OnlyContent};
 ghost use Rattle.cbm_bam.specs.Map.{IsFull, map_of};
-ghost use Rattle.cbm_relfile.specs.Growing.{fresh_place, IsLengthened, IsLengthenStopped, ListsMore, IsBlockListed, IsListStopped, side_at, ListsSide, IsSideLinked, IsNewSide, IsSideBegun};
+ghost use Rattle.cbm_relfile.specs.Growing.{fresh_place, IsLengthened, IsLengthenStopped, ListsMore, IsBlockListed, IsListStopped, ListsSide, IsSideLinked, IsNewSide, IsSideBegun, OfSideAt};
+ghost use Rattle.cbm_relfile.specs.Records.{OfSector};
 
 use crate::growth::fresh::{fresh_from, full_end};
 use crate::relative::Relative;
@@ -103,10 +104,9 @@ pub fn list_block<M: Medium>(
     requires tracks { geometry ≤ (M.seen medium.old).tracks }
     requires number { number < 720 }
     ensures listed { let old = M.seen medium.old in let new = M.seen medium.new in
-        (head : List ℕ) → Has geometry first → old.content first ≡ Ok head →
-        let at = side_at head (number / 120) in Has geometry at → IsOk (old.content at) →
+        OfSector geometry old.content first (λ head. OfSideAt geometry old.content head (number / 120) (λ at.
         MatchResult result (λ x. IsBlockListed old.content new.content at (number % 120) block)
-        (λ t. IsListStopped geometry old new t.code) }
+        (λ t. IsListStopped geometry old new t.code))) }
     ensures only { OnlyContent geometry result (M.seen medium.old) (M.seen medium.new) }
 {
     let head = read_at(medium, geometry, first)?;
@@ -170,12 +170,10 @@ pub fn begin_side<M: Medium>(
     requires sides { sides < 6 }
     requires block { block.track ≤ geometry }
     ensures begun { let old = M.seen medium.old in let new = M.seen medium.new in
-        (head : List ℕ) → Has geometry file.side → old.content file.side ≡ Ok head →
-        Has geometry block → block.track ≢ 18 →
-        MatchResult result
+        OfSector geometry old.content file.side (λ head. Has geometry block → block.track ≢ 18 → MatchResult result
         (λ o. MatchOption o (IsFull geometry (map_of old.content) × (new.content ≡ old.content))
         (λ t. IsSideBegun geometry old.content new.content head sides file.width block t))
-        (λ t. IsLengthenStopped geometry old new file.side t.code) }
+        (λ t. IsLengthenStopped geometry old new file.side t.code)) }
     ensures bound { IfOk result (λ o. IfSome o (λ t. t.track ≤ geometry)) }
     ensures only { OnlyContent geometry result (M.seen medium.old) (M.seen medium.new) }
 {
@@ -200,10 +198,9 @@ pub fn link_side<M: Medium>(
     requires tracks { geometry ≤ (M.seen medium.old).tracks }
     requires number { (number < sides) × (sides < 6) }
     ensures linked { let old = M.seen medium.old in let new = M.seen medium.new in
-        (head : List ℕ) → Has geometry first → old.content first ≡ Ok head →
-        let at = side_at head number in Has geometry at → IsOk (old.content at) →
+        OfSector geometry old.content first (λ head. OfSideAt geometry old.content head number (λ at.
         MatchResult result (λ x. IsSideLinked old.content new.content at number sides side)
-        (λ t. IsListStopped geometry old new t.code) }
+        (λ t. IsListStopped geometry old new t.code))) }
     ensures only { OnlyContent geometry result (M.seen medium.old) (M.seen medium.new) }
 {
     let head = read_at(medium, geometry, first)?;

@@ -7,6 +7,10 @@ pub returns-clause-counted : goal.returns-clause-counted
 returns-clause-counted g c = all_counted c.args.geometry (g.M.Medium.seen c.args.medium.now).content c.loop-geometry.left c.loop-geometry.count c.loop-geometry.at (held_from c.args.geometry (g.M.Medium.seen c.args.medium.now).content (sector_count c.args.geometry) c.args.first)
     (c.is_end.ensures.0 c.loop-geometry-test.false) c.loop-geometry.invariant.bytes
 
-pub returns-clause-whole : goal.returns-clause-whole
-returns-clause-whole g c = none_broken c.args.geometry (g.M.Medium.seen c.args.medium.now).content c.loop-geometry.left c.loop-geometry.at (held_from c.args.geometry (g.M.Medium.seen c.args.medium.now).content (sector_count c.args.geometry) c.args.first)
-    (c.is_end.ensures.0 c.loop-geometry-test.false) c.loop-geometry.invariant.trouble
+pub returns-clause-walk : goal.returns-clause-walk
+returns-clause-walk g c = record {
+  whole = none_broken c.args.geometry (g.M.Medium.seen c.args.medium.now).content c.loop-geometry.left c.loop-geometry.at (held_from c.args.geometry (g.M.Medium.seen c.args.medium.now).content (sector_count c.args.geometry) c.args.first)
+      (c.is_end.ensures.0 c.loop-geometry-test.false) c.loop-geometry.invariant.trouble;
+  cut = tt;
+  never_26 = tt;
+}

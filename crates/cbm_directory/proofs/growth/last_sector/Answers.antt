@@ -18,9 +18,9 @@ loop-bytes-preserved g c =
         (
           (λ xs h. subst (λ (ys : List Place). Chain c.args.geometry content first_directory ys) (sym (append_assoc passed (c.loop-bytes.at ∷ []) xs))
               (c.loop-bytes.invariant.before.1.0 (c.loop-bytes.at ∷ xs) (chained_on c.args.geometry content c.loop-bytes.at c.of-next.result c.in_ok-bytes.bytes xs c.in_ok-bytes.ensures.has c.in_ok-bytes.ensures.ok c.of-next.ensures h))),
-          omega (arith, length-append passed (c.loop-bytes.at ∷ []), c.loop-bytes.invariant.before.1.1, c.in_ok-bytes.ensures.left),
+          omega (arith, length-append passed (c.loop-bytes.at ∷ []), c.loop-bytes.invariant.before.1.1, c.in_ok-bytes.ensures.step.some),
         ),
       );
       trouble = ap (λ (p : Place). (follow c.args.geometry content (c.loop-bytes.left - 1) p).trouble) c.of-next.ensures
-          ∙ sym (ap (λ (y : Followed). y.trouble) c.in_ok-bytes.ensures.followed) ∙ c.loop-bytes.invariant.trouble;
+          ∙ sym (ap (λ (y : Followed). y.trouble) c.in_ok-bytes.ensures.step.followed) ∙ c.loop-bytes.invariant.trouble;
     }

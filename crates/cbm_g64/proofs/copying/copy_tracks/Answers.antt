@@ -10,8 +10,5 @@ loop-track-preserved g c = record {
     | inr ne ↦ c.copy_track.ensures.others p ne ∙ c.loop-track.invariant.here p h (omega arith)
   ];
   later = λ p l. c.copy_track.ensures.others p (λ e. omega arith) ∙ c.loop-track.invariant.later p (omega arith);
-  held = search rules;
-  laid = search rules;
-  filled = search rules;
-  id = search rules;
+  disk = search rules;
 }

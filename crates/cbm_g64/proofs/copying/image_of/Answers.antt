@@ -29,11 +29,11 @@ returns-clause-laid g c =
     subst AreLaid
     (sym (ap (λ (v : List ℕ). g64_circles v 35) (take_at c.put_tracks.new.out _ c.in-Ok-base.out.len (omega (arith, ap length c.as_mut_slice-2.ensures.value)))
     ∙ c.put_tracks.ensures.again.1 ∙ c.as_slice.ensures.value ∙ take_at c.copy_tracks.new.tracks _ c.in-Ok.tracks.len (omega (arith, ap length c.as_mut_slice.ensures.value))))
-    c.copy_tracks.ensures.laid
+    c.copy_tracks.ensures.disk.laid
 
 pub returns-clause-filled : goal.returns-clause-filled
 returns-clause-filled g c =
     subst (AreFilled c.args.id)
     (sym (ap (λ (v : List ℕ). g64_circles v 35) (take_at c.put_tracks.new.out _ c.in-Ok-base.out.len (omega (arith, ap length c.as_mut_slice-2.ensures.value)))
     ∙ c.put_tracks.ensures.again.1 ∙ c.as_slice.ensures.value ∙ take_at c.copy_tracks.new.tracks _ c.in-Ok.tracks.len (omega (arith, ap length c.as_mut_slice.ensures.value))))
-    c.copy_tracks.ensures.filled
+    c.copy_tracks.ensures.disk.filled

@@ -32,14 +32,10 @@ made c =
 pub returns-clause-value : goal.returns-clause-value
 returns-clause-value c = made c
 
-pub returns-clause-length : goal.returns-clause-length
-returns-clause-length c = ap length (made c) ∙ length-fresh c.args.track c.args.id.now (c.requires.0) (c.requires.1)
-
-pub returns-clause-shown : goal.returns-clause-shown
-returns-clause-shown c = λ s h. rw (made c) (zeros_shown (fresh c.args.track c.args.id.now) c.args.id.now _ (fresh_shown c.args.track c.args.id.now s (c.requires.0) (c.requires.1) c.fits-id h))
-
-pub returns-clause-id : goal.returns-clause-id
-returns-clause-id c = λ e. ap id_shown (made c ∙ ap (λ (t : ℕ). fresh t c.args.id.now) e) ∙ fresh_id c.args.id.now c.fits-id c.told-id
-
-pub returns-clause-blocks : goal.returns-clause-blocks
-returns-clause-blocks c = λ s h. rw (made c) (fresh_block c.args.track c.args.id.now s (c.requires.0) (c.requires.1) c.fits-id h)
+pub returns-clause-blank : goal.returns-clause-blank
+returns-clause-blank c = record {
+  size = ap length (made c) ∙ length-fresh c.args.track c.args.id.now (c.requires.0) (c.requires.1);
+  shown = λ s h. rw (made c) (zeros_shown (fresh c.args.track c.args.id.now) c.args.id.now _ (fresh_shown c.args.track c.args.id.now s (c.requires.0) (c.requires.1) c.fits-id h));
+  named = λ e. ap id_shown (made c ∙ ap (λ (t : ℕ). fresh t c.args.id.now) e) ∙ fresh_id c.args.id.now c.fits-id c.told-id;
+  blocks = λ s h. rw (made c) (fresh_block c.args.track c.args.id.now s (c.requires.0) (c.requires.1) c.fits-id h);
+}

@@ -39,9 +39,9 @@ done c =
     let size = code_size c.coded_block.result c.data_block.result c.args.bytes.now c.told-bytes c.data_block.ensures c.coded_block.ensures in
     written c.args.track.now c.overwrite.new.self c.args.id.now c.args.at (2896 * c.sector.result + 232) c.args.bytes.now
     (below c.args.track.now c.args.id.now c.args.at c.sector.result c.bits-bits.result c.bits-bits.ensures.value c.bits-bits.ensures.some c.sector.ensures.value c.requires.laid) f c.overwrite.ensures.length c.told-bytes c.fits-bytes
-    (λ k l. c.overwrite.ensures.written k (omega (arith, size))
+    (λ k l. c.overwrite.ensures.bytes.written k (omega (arith, size))
     ∙ ap (λ (bs : List Bool). get_or bs k false) (c.coded_block.ensures ∙ ap code c.data_block.ensures))
-    (λ k g l. c.overwrite.ensures.others k (omega (arith, size)) l)
+    (λ k g l. c.overwrite.ensures.bytes.others k (omega (arith, size)) l)
 
 pub returns-clause-ok : goal.returns-clause-ok
 returns-clause-ok c = own_shown c.args.track.now c.overwrite.new.self (2896 * c.sector.result + 232) c.args.bytes.now (done c) c.told-bytes c.args.id.now c.args.at (at_number c.args.track.now c.args.id.now c.args.at c.sector.result c.sector.ensures.value c.requires.laid)

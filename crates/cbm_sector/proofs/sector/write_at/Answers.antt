@@ -26,9 +26,9 @@ done c =
     let size = code_size c.coded_block.result c.data_block.result c.args.bytes.now c.told-bytes c.data_block.ensures c.coded_block.ensures in
     written c.args.track.now c.overwrite.new.self c.args.id c.args.at c.in-Ok.place c.args.bytes.now
     c.in-Ok.ensures.below (sym c.block_of.ensures.value ∙ c.in-Ok.is) c.overwrite.ensures.length c.told-bytes c.fits-bytes
-    (λ k l. c.overwrite.ensures.written k (omega (arith, size))
+    (λ k l. c.overwrite.ensures.bytes.written k (omega (arith, size))
     ∙ ap (λ (bs : List Bool). get_or bs k false) (c.coded_block.ensures ∙ ap code c.data_block.ensures))
-    (λ k g l. c.overwrite.ensures.others k (omega (arith, size)) l)
+    (λ k g l. c.overwrite.ensures.bytes.others k (omega (arith, size)) l)
 
 pub returns-in-Ok-clause-ok : goal.returns-in-Ok-clause-ok
 returns-in-Ok-clause-ok c = own_shown c.args.track.now c.overwrite.new.self c.in-Ok.place c.args.bytes.now (done c) c.told-bytes c.args.id c.args.at (sym c.block_of.ensures.value ∙ c.in-Ok.is)

@@ -3,13 +3,11 @@ use Rattle.cbm_track.specs.Circle.{circle_bits_of}
 use Rattle.cbm_track.proofs.Whole.{put_here, put_others}
 use Rattle.cbm_track.proofs.stretches.write_bytes.Goals as goal
 
-pub returns-then-end-track-clause-written : goal.returns-then-end-track-clause-written
-returns-then-end-track-clause-written c = λ k l.
+pub returns-then-end-track : goal.returns-then-end-track
+returns-then-end-track c =
     let size : length c.copy_from_slice.new.self ≡ c.args.place / 8 + length c.args.bytes.now - c.args.place / 8 = ap length c.copy_from_slice.ensures.after ∙ omega arith in
-    put_here c.args.track.now c.copy_from_slice.new.self c.args.place (c.args.place / 8) _ k c.if-place-eq0.true refl size (omega arith) (omega arith)
-    ∙ ap (λ (ys : List ℕ). get_or (circle_bits_of ys) k false) c.copy_from_slice.ensures.after
-
-pub returns-then-end-track-clause-others : goal.returns-then-end-track-clause-others
-returns-then-end-track-clause-others c = λ k l b.
-    let size : length c.copy_from_slice.new.self ≡ c.args.place / 8 + length c.args.bytes.now - c.args.place / 8 = ap length c.copy_from_slice.ensures.after ∙ omega arith in
-    put_others c.args.track.now c.copy_from_slice.new.self c.args.place (c.args.place / 8) _ k c.if-place-eq0.true refl size (omega arith) (omega arith) b
+    record {
+      written = λ k l. put_here c.args.track.now c.copy_from_slice.new.self c.args.place (c.args.place / 8) _ k c.if-place-eq0.true refl size (omega arith) (omega arith)
+          ∙ ap (λ (ys : List ℕ). get_or (circle_bits_of ys) k false) c.copy_from_slice.ensures.after;
+      others = λ k l b. put_others c.args.track.now c.copy_from_slice.new.self c.args.place (c.args.place / 8) _ k c.if-place-eq0.true refl size (omega arith) (omega arith) b;
+    }

@@ -10,7 +10,7 @@ pub loop-at-preserved : goal.loop-at-preserved
 loop-at-preserved g c =
     let content : Content = (g.M.Medium.seen c.args.medium.now).content in
     let on : follow c.args.geometry content c.loop-at.left c.loop-at.at ≡ with_block c.loop-at.at (follow c.args.geometry content (c.loop-at.left - 1) c.in_ok-at.at)
-    = subst (λ (n : ℕ). follow n content c.loop-at.left c.loop-at.at ≡ with_block c.loop-at.at (follow n content (c.loop-at.left - 1) c.in_ok-at.at)) c.loop-at.invariant.tracks c.in_ok-at.ensures.followed in
+    = subst (λ (n : ℕ). follow n content c.loop-at.left c.loop-at.at ≡ with_block c.loop-at.at (follow n content (c.loop-at.left - 1) c.in_ok-at.at)) c.loop-at.invariant.tracks c.in_ok-at.ensures.step.followed in
     record {
       tracks = ap (λ (s : State). s.tracks) c.in_ok-at.ensures.taken ∙ c.loop-at.invariant.tracks;
       so_far = (
@@ -30,8 +30,12 @@ returns-clause-stands g c =
     (c.is_end.ensures.0 c.loop-at-test.false) c.loop-at.invariant.so_far.1.0 in
     subst (λ (blocks : List Place). StandsAfter c.args.geometry content blocks c.loop-at.writer) (sym all.0) c.loop-at.invariant.so_far.1.1
 
-pub returns-clause-whole : goal.returns-clause-whole
-returns-clause-whole g c =
+pub returns-clause-walk : goal.returns-clause-walk
+returns-clause-walk g c =
     let content : Content = (g.M.Medium.seen c.args.medium.now).content in
-    (all_taken c.args.geometry c.loop-at.left content c.loop-at.at (follow c.args.geometry content (sector_count c.args.geometry) c.args.first) c.loop-at.invariant.so_far.0
-    (c.is_end.ensures.0 c.loop-at-test.false) c.loop-at.invariant.so_far.1.0).1
+    record {
+      whole = (all_taken c.args.geometry c.loop-at.left content c.loop-at.at (follow c.args.geometry content (sector_count c.args.geometry) c.args.first) c.loop-at.invariant.so_far.0
+          (c.is_end.ensures.0 c.loop-at-test.false) c.loop-at.invariant.so_far.1.0).1;
+      cut = tt;
+      never_26 = tt;
+    }

@@ -19,5 +19,5 @@ unfolding listed_left
 returns-clause-left g c =
     ap (λ (q : Place). listed_after (entries_from 8 c.in_ok-sector.sector 0) (listed_from c.self.inside.geometry (g.M.Medium.seen c.args.medium.now).content (c.self.inside.left - 1) q)) c.of-self-inside.ensures
     ∙ sym (filled c.self.inside.geometry (g.M.Medium.seen c.args.medium.now).content c.self.inside.left (c.self.inside.left - 1) c.self.inside.number c.self.inside.sector c.in_ok-sector.sector
-    c.self.inside.next (omega arith) c.in_ok-sector.ensures.ok c.in_ok-sector.ensures.followed)
+    c.self.inside.next (omega arith) c.in_ok-sector.ensures.ok c.in_ok-sector.ensures.step.followed)
     ∙ ap (λ (r : Cursor). listed_left (g.M.Medium.seen c.args.medium.now).content r) c.self.view_is
