@@ -12,7 +12,7 @@ returns-in_err-sector-clause-err g c =
     rw (p.1, p.2)
     (ap (λ (r : Cursor). listed_left (g.M.Medium.seen c.args.medium.now).content r) (sym c.self.view_is)
     ∙ broken c.self.inside.geometry (g.M.Medium.seen c.args.medium.now).content c.self.inside.left c.self.inside.number c.self.inside.sector c.self.inside.next
-    c.in_err-sector.field-0.0 (omega arith) c.in_err-sector.ensures.err)
+    c.in_err-sector.field-0.0 (omega arith) c.in_err-sector.ensures.step.cut)
 
 pub returns-clause-left : goal.returns-clause-left
 unfolding listed_left
