@@ -14,7 +14,7 @@ abbrev pub IsMet : ℕ → Content → Trouble → Type 0
 IsMet tracks content t = ((t.code ≡ 66) × (has tracks (place_of t) ≡ false)) ⊎ (Has tracks (place_of t) × (content (place_of t) ≡ Err t.code))
 
 -- A REFUSAL TO READ: the content shows the trouble, and it isn't 26.
-pub record Meets {A : Type 0} (tracks : ℕ) (content : Content) (result : Result A Trouble) : Type 0 where
+pub record MeetsTrouble {A : Type 0} (tracks : ℕ) (content : Content) (result : Result A Trouble) : Type 0 where
   pub shown : IfErr result (IsMet tracks content)
   pub never_26 : IfErr result (λ t. t.code ≢ 26)
 

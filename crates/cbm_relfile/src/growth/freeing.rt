@@ -3,7 +3,7 @@
 ghost use Rattle.std.specs.Prelude.{◌≡◌, ◌≤◌, false, OnOk, IfErr, Ok, IsOk};
 ghost use Rattle.cbm_medium.specs.Place.{Has, has};
 ghost use Rattle.cbm_medium.specs.Links.{bytes_at};
-ghost use Rattle.cbm_medium.specs.Met.{Meets, place_of};
+ghost use Rattle.cbm_medium.specs.Met.{MeetsTrouble, place_of};
 ghost use Rattle.cbm_bam.specs.Map.{Frees, IsGiven};
 ghost use Rattle.cbm_relfile.specs.Records.{OfSector};
 ghost use Rattle.cbm_relfile.specs.SideSectors.{AllHave, sides_listed};
@@ -27,7 +27,7 @@ pub fn free_sides<M: Medium>(
         release.new) }
     ensures goes { OfSector geometry (M.seen medium.now).content first (λ head.
         AllHave geometry (sides_listed head) → IsOk result) }
-    ensures err { Meets geometry (M.seen medium.now).content result }
+    ensures err { MeetsTrouble geometry (M.seen medium.now).content result }
 {
     let head = read_at(medium, geometry, first)?;
     for n in 0..6usize {
