@@ -123,19 +123,19 @@ cut_followed tracks content n a blocks t h =
 
 -- ---- what is followed is a chain, or cut
 
-abbrev MeetsTrouble : ℕ → Content → ℕ → Place → List Place → Option Trouble → Type 0
-MeetsTrouble tracks content n a blocks None = Chain tracks content a blocks × (length blocks ≤ n)
-MeetsTrouble tracks content n a blocks (Some t) = IsCut tracks content n a blocks t
+abbrev Meets : ℕ → Content → ℕ → Place → List Place → Option Trouble → Type 0
+Meets tracks content n a blocks None = Chain tracks content a blocks × (length blocks ≤ n)
+Meets tracks content n a blocks (Some t) = IsCut tracks content n a blocks t
 
 abbrev MeetsIn : ℕ → Content → ℕ → Place → Followed → Type 0
-MeetsIn tracks content n a f = MeetsTrouble tracks content n a f.blocks f.trouble
+MeetsIn tracks content n a f = Meets tracks content n a f.blocks f.trouble
 
 met_at : (tracks : ℕ) (content : Content) (n : ℕ) (a : Place) (code : ℕ) → a.track ≢ 0 → Stops tracks content n 0 a code → MeetsIn tracks content n a (cut_at code a)
 met_at tracks content n a code nz s = record { at = a; leads = refl; number = omega arith; going = nz; named = refl; cause = s }
 
 met_on : (tracks : ℕ) (content : Content) (n : ℕ) (a : Place) (bytes : List ℕ) (blocks : List Place) (t : Option Trouble)
     → a.track ≢ 0 → Has tracks a → content a ≡ Ok bytes
-    → MeetsTrouble tracks content n (link bytes) blocks t → MeetsTrouble tracks content (suc n) a (a ∷ blocks) t
+    → Meets tracks content n (link bytes) blocks t → Meets tracks content (suc n) a (a ∷ blocks) t
 met_on tracks content n a bytes blocks None nz h c m =
     ((refl, h, subst (λ (cell : Cell). IsOk cell) (sym c) refl, subst (λ (cell : Cell). Chain tracks content (link (or_nothing cell)) blocks) (sym c) m.0), omega (arith, m.1))
 met_on tracks content n a bytes blocks (Some t) nz h c m = record {
