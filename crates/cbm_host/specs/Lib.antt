@@ -15,6 +15,7 @@ pub mod Served
 pub mod Progress
 pub mod Begun
 pub mod Hosted
+pub mod KeptHostings
 pub mod Recorded
 pub mod AnyDisk
 pub mod Requested

@@ -4,11 +4,10 @@ use Rattle.std.specs.Prelude.{decimal, flat_map}
 use Rattle.std.specs.Io.KnownBytes.{Appends}
 use Rattle.std.proofs.lemmas.Grind.{flat_map-append}
 use Rattle.cbm_machine.specs.Machines.{Machine}
-use Rattle.cbm_drive.specs.Standing.{Kept}
 use Rattle.cbm_iec.specs.declared.pace.Pace.{Pace}
 use Rattle.cbm_medium.specs.Seen.{Seen}
 use Rattle.cbm_host.specs.Engines.{channel_of}
-use Rattle.cbm_host.specs.Hosted.{Hosting, AreFirst, Rests, IsUnderWay, IsGoingOn, IsOver}
+use Rattle.cbm_host.specs.Hosted.{AreFirst, Rests, IsUnderWay, IsGoingOn, IsOver}
 use Rattle.cbm_host.specs.Performers.{Performing}
 use Rattle.cbm_host.specs.Served.{TalkSaid, served, talked_at, IsModest}
 use Rattle.cbm_host.specs.declared.request.Request as asks
@@ -17,6 +16,7 @@ use Rattle.cbm_program.specs.Scripts.{hex, eoi_mark, bytes_text, get_line}
 use Rattle.cbm_program.specs.Units.{unit_text, said_text, get_head, PrintsRest, PrintsRestPart}
 use Rattle.bus_traces.proofs.Appending.{appends-nothing, appends-more}
 use Rattle.cbm_program.proofs.OutputLemmas.{part_behind, part_before}
+use Rattle.cbm_host.specs.KeptHostings.{KeptHosting}
 
 -- ---- texts
 
@@ -57,7 +57,7 @@ not_last bytes true b l whole marked f g =
 
 module _ {M : Type 0} (seen : M → Seen) where
   -- these bytes came, and all that is printed of them behind the first ones was written
-  pub record Gone (a b : Option (List ℕ)) (h : Hosting (Kept M)) (p : Performing) (m : Machine) (request : asks.Request) (bytes : List ℕ) (last : Bool) : Type 0 where
+  pub record Gone (a b : Option (List ℕ)) (h : KeptHosting M) (p : Performing) (m : Machine) (request : asks.Request) (bytes : List ℕ) (last : Bool) : Type 0 where
     pub now : List ℕ
     pub mark : Bool
     pub going : IsGoingOn seen h p m request now mark
@@ -66,31 +66,31 @@ module _ {M : Type 0} (seen : M → Seen) where
     pub written : Appends a b rest
 
   -- the same from each machine
-  abbrev pub Goes : Option (List ℕ) → Option (List ℕ) → Hosting (Kept M) → Performing → Hosting (Kept M) → Performing → Type 0
+  abbrev pub Goes : Option (List ℕ) → Option (List ℕ) → KeptHosting M → Performing → KeptHosting M → Performing → Type 0
   Goes a b h p k q = (m : Machine) (request : asks.Request) (bytes : List ℕ) (last : Bool) → channel_of request ≤ 15 → IsModest request → IsGoingOn seen h p m request bytes last → Gone a b k q m request bytes last
 
-  abbrev pub OnByte : Hosting (Kept M) → Performing → Hosting (Kept M) → Performing → ℕ × Bool → Type 0
+  abbrev pub OnByte : KeptHosting M → Performing → KeptHosting M → Performing → ℕ × Bool → Type 0
   OnByte h p k q said = (m : Machine) (request : asks.Request) (bytes : List ℕ) (last : Bool) → channel_of request ≤ 15 → IsModest request → IsUnderWay seen h p m request bytes last → IsGoingOn seen k q m request (bytes ++ said.0 ∷ []) said.1
 
-  abbrev pub OnEnd : Hosting (Kept M) → Performing → Hosting (Kept M) → Type 0
+  abbrev pub OnEnd : KeptHosting M → Performing → KeptHosting M → Type 0
   OnEnd h p k = (m : Machine) (request : asks.Request) (bytes : List ℕ) (last : Bool) → channel_of request ≤ 15 → IsModest request → IsUnderWay seen h p m request bytes last → IsOver seen k m request bytes last
 
-  pub goes_none : (a : Option (List ℕ)) (h : Hosting (Kept M)) (p : Performing) → Goes a a h p h p
+  pub goes_none : (a : Option (List ℕ)) (h : KeptHosting M) (p : Performing) → Goes a a h p h p
   goes_none a h p m request bytes last channel modest g = record { now = bytes; mark = last; going = g; rest = []; text = sym (append-nil (said_text bytes last)); written = appends-nothing a }
 
   -- what was said, at a pace that the drive keeps
-  pub first_at : (e : Pace) (h : Hosting (Kept M)) (p : Performing) (m : Machine) (request : asks.Request) (bytes : List ℕ) (last : Bool) → h.pace ≡ e → IsGoingOn seen h p m request bytes last → AreFirst bytes last (served e request m).bytes (served e request m).marked
+  pub first_at : (e : Pace) (h : KeptHosting M) (p : Performing) (m : Machine) (request : asks.Request) (bytes : List ℕ) (last : Bool) → h.pace ≡ e → IsGoingOn seen h p m request bytes last → AreFirst bytes last (served e request m).bytes (served e request m).marked
   first_at e h p m request bytes last same g = subst (λ (x : Pace). AreFirst bytes last (served x request m).bytes (served x request m).marked) same g.first
 
-  pub record IsOverAt (e : Pace) (h : Hosting (Kept M)) (m : Machine) (request : asks.Request) (bytes : List ℕ) (last : Bool) : Type 0 where
+  pub record IsOverAt (e : Pace) (h : KeptHosting M) (m : Machine) (request : asks.Request) (bytes : List ℕ) (last : Bool) : Type 0 where
     pub rests : Rests seen h (served e request m).machine
     pub said : bytes ≡ (served e request m).bytes
     pub marked : last ≡ (served e request m).marked
 
-  pub over_at : (e : Pace) (h : Hosting (Kept M)) (m : Machine) (request : asks.Request) (bytes : List ℕ) (last : Bool) → h.pace ≡ e → IsOver seen h m request bytes last → IsOverAt e h m request bytes last
+  pub over_at : (e : Pace) (h : KeptHosting M) (m : Machine) (request : asks.Request) (bytes : List ℕ) (last : Bool) → h.pace ≡ e → IsOver seen h m request bytes last → IsOverAt e h m request bytes last
   over_at e h m request bytes last same o = subst (λ (x : Pace). IsOverAt x h m request bytes last) same (record { rests = o.rests; said = o.said; marked = o.marked })
 
-  pub goes_on : (a b c : Option (List ℕ)) (h k i : Hosting (Kept M)) (p q r : Performing) (byte : ℕ) (l : Bool) → i.pace ≡ k.pace → Goes a b h p k q → OnByte k q i r (byte, l) → Appends b c (unit_text (Some (byte, l))) → Goes a c h p i r
+  pub goes_on : (a b c : Option (List ℕ)) (h k i : KeptHosting M) (p q r : Performing) (byte : ℕ) (l : Bool) → i.pace ≡ k.pace → Goes a b h p k q → OnByte k q i r (byte, l) → Appends b c (unit_text (Some (byte, l))) → Goes a c h p i r
   goes_on a b c h k i p q r byte l same goes next more m request bytes last channel modest g =
       let o = goes m request bytes last channel modest g in
       let n = next m request o.now o.mark channel modest o.going.under_way in
@@ -106,7 +106,7 @@ module _ {M : Type 0} (seen : M → Seen) where
       }
 
   -- a byte broke off
-  pub goes_part : (a b c : Option (List ℕ)) (h k i : Hosting (Kept M)) (p q r : Performing) (byte : ℕ) (l : Bool) → i.pace ≡ k.pace → k.pace ≡ h.pace → Goes a b h p k q → OnByte k q i r (byte, l) → AppendsPart b c (unit_text (Some (byte, l)))
+  pub goes_part : (a b c : Option (List ℕ)) (h k i : KeptHosting M) (p q r : Performing) (byte : ℕ) (l : Bool) → i.pace ≡ k.pace → k.pace ≡ h.pace → Goes a b h p k q → OnByte k q i r (byte, l) → AppendsPart b c (unit_text (Some (byte, l)))
       → (m : Machine) (request : asks.Request) (bytes : List ℕ) (last : Bool) → channel_of request ≤ 15 → IsModest request → IsGoingOn seen h p m request bytes last → PrintsRestPart a c bytes last (served h.pace request m)
   goes_part a b c h k i p q r byte l same paced goes next part m request bytes last channel modest g =
       let o = goes m request bytes last channel modest g in
@@ -123,7 +123,7 @@ module _ {M : Type 0} (seen : M → Seen) where
       }
 
   -- all bytes came
-  pub goes_over : (a b : Option (List ℕ)) (h k i : Hosting (Kept M)) (p q : Performing) → i.pace ≡ h.pace → Goes a b h p k q → OnEnd k q i
+  pub goes_over : (a b : Option (List ℕ)) (h k i : KeptHosting M) (p q : Performing) → i.pace ≡ h.pace → Goes a b h p k q → OnEnd k q i
       → (m : Machine) (request : asks.Request) (bytes : List ℕ) (last : Bool) → channel_of request ≤ 15 → IsModest request → IsGoingOn seen h p m request bytes last → Rests seen i (served h.pace request m).machine × PrintsRest a b bytes last (served h.pace request m)
   goes_over a b h k i p q same goes over m request bytes last channel modest g =
       let o = goes m request bytes last channel modest g in

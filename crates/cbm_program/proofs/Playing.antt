@@ -9,19 +9,15 @@ use Rattle.cbm_iec.specs.declared.lines.Change.{Change}
 use Rattle.cbm_iec.specs.declared.port.Port.{Port}
 use Rattle.cbm_medium.specs.Seen.{Seen}
 use Rattle.cbm_session.specs.Following.{IsInTime}
-use Rattle.cbm_session.specs.Playing.{Station, Plays, IsKept, IsLaterDue}
+use Rattle.cbm_session.specs.Playing.{Station, Plays, IsLaterDue}
 use Rattle.cbm_session.specs.Sessions.{IsBus, IsDrive}
 use Rattle.cbm_machine.specs.Machines.{Machine}
-use Rattle.cbm_drive.specs.Standing.{Kept, Stands}
 use Rattle.cbm_drive.specs.Cables.{Cabled}
 use Rattle.cbm_drive.specs.Desks.{Desk, DeskStands, desk_step, desk_says, desk_shows}
 use Rattle.cbm_drive.specs.Playback.{Shown, Playback, IsPlayedBack, played_says, played_step}
-use Rattle.cbm_drive.specs.PlayedBack.{played_more}
-use Rattle.cbm_drive.specs.NextSaid.{more_said}
 use Rattle.cbm_drive.specs.Ordered.{host_changes, latest}
 use Rattle.cbm_drive.specs.Players.{Turns, pending}
 use Rattle.cbm_drive.specs.Seats.{Seated, IsBusAt, AreInTime, AreLater, numbers}
-use Rattle.cbm_drive.proofs.Kept.{kept_after}
 use Rattle.bus_traces.specs.Lines.{lines_of, TakesLine}
 use Rattle.cbm_program.specs.Output.{AppendsPart, AppendsMore}
 use Rattle.cbm_program.specs.Running.{EndsAs}
@@ -29,7 +25,7 @@ use Rattle.cbm_program.specs.Staging.{IsOpen, IsAt, IsBorne, IsFresh, PlaysOn, P
 use Rattle.cbm_program.specs.TimedReading.{ReadsTimed, LacksTimed, TimedRead, IsBadBehind, BehindRead}
 use Rattle.cbm_program.specs.Timetables.{Timetable, timetable_of, timetable_from, timed_meaning, with_timed, stopped_at, ended_at, latest_if, bad_behind}
 use Rattle.bus_traces.specs.Events.{trace_text}
-use Rattle.cbm_program.specs.Traces.{PrintsTrace, PrintsTracePart, trace_powered, replaying, machines_of, HasWritten, WritesTrace}
+use Rattle.cbm_program.specs.Traces.{PrintsTrace, PrintsTracePart, trace_powered, replaying, HasWritten, WritesTrace}
 use Rattle.cbm_program.specs.declared.fault.RunFault.{RunFault}
 use Rattle.cbm_program.specs.declared.fault.RunFault.TheVariants.{Script, Image, Memory, Reading, Writing}
 use Rattle.cbm_program.specs.declared.wires.timed.Timed.{Timed}
@@ -37,6 +33,7 @@ use Rattle.cbm_program.specs.declared.wires.timed.Timed.TheVariants.{Skipped, Ch
 use Rattle.bus_traces.proofs.Appending.{appends-more, appends-kept, text_on}
 use Rattle.cbm_program.proofs.OutputLemmas.{part_behind, whole_part}
 use Rattle.cbm_program.proofs.Staging.{hosts_on, made_then, made_kept, replays_none, replays_then, replays_kept}
+use Rattle.cbm_drive.specs.KeptDesks.{KeptDesk, DosStands}
 
 -- ---- the lines of a timetable
 
@@ -137,7 +134,7 @@ later_all end (x ∷ xs) h = (one (port_due x.port) h.0, later_all end xs h.1)
 
 module _ {M : Type 0} (seen : M → Seen) where
   -- The lines so far were played, and what is left follows them.
-  pub record Timing (a b input left : Option (List ℕ)) (n from : ℕ) (p : Turns) (x : Cabled (Desk (Kept M))) (q : Turns) (y : Cabled (Desk (Kept M))) : Type 0 where
+  pub record Timing (a b input left : Option (List ℕ)) (n from : ℕ) (p : Turns) (x : Cabled (KeptDesk M)) (q : Turns) (y : Cabled (KeptDesk M)) : Type 0 where
     pub done : List Change
     pub follows : Follows input left n from done
     pub last : latest 0 done ≡ from
@@ -145,7 +142,7 @@ module _ {M : Type 0} (seen : M → Seen) where
     pub wrote : ReplaysOn desk_shows a b done p x q y
 
   -- before each line
-  pub record Loops (p : Turns) (x : Cabled (Desk (Kept M))) (a b first left : Option (List ℕ)) (n from : ℕ) (q : Turns) (y : Cabled (Desk (Kept M))) : Type 0 where
+  pub record Loops (p : Turns) (x : Cabled (KeptDesk M)) (a b first left : Option (List ℕ)) (n from : ℕ) (q : Turns) (y : Cabled (KeptDesk M)) : Type 0 where
     pub timing : (input : Option (List ℕ)) → TakesLine input first (codes "lines") → Timing a b input left n from p x q y
     pub opened : IsOpen q from
     pub small : from ≤ 1000000000000000
@@ -153,21 +150,21 @@ module _ {M : Type 0} (seen : M → Seen) where
     pub tracks : tracks_of_drives seen y ≡ tracks_of_drives seen x
     pub grown : AppendsMore a b
 
-  pub timing_start : (a input left : Option (List ℕ)) (p : Turns) (x : Cabled (Desk (Kept M))) → PlaysOn seen a a [] p x p x → TakesLine input left (codes "lines") → Timing a a input left 2 0 p x p x
+  pub timing_start : (a input left : Option (List ℕ)) (p : Turns) (x : Cabled (KeptDesk M)) → PlaysOn seen a a [] p x p x → TakesLine input left (codes "lines") → Timing a a input left 2 0 p x p x
   timing_start a input left p x none t = record { done = []; follows = follows_start input left t; last = refl; played = none; wrote = replays_none desk_shows a p p x x refl refl refl }
 
-  pub timing_skipped : (a b input l k : Option (List ℕ)) (n from : ℕ) (p : Turns) (x : Cabled (Desk (Kept M))) (q : Turns) (y : Cabled (Desk (Kept M))) → Timing a b input l n from p x q y → ReadsTimed l k n from Skipped → Timing a b input k (n + 1) from p x q y
+  pub timing_skipped : (a b input l k : Option (List ℕ)) (n from : ℕ) (p : Turns) (x : Cabled (KeptDesk M)) (q : Turns) (y : Cabled (KeptDesk M)) → Timing a b input l n from p x q y → ReadsTimed l k n from Skipped → Timing a b input k (n + 1) from p x q y
   timing_skipped a b input l k n from p x q y t r = record { done = t.done; follows = follows_skipped input l k n from t.done t.follows r; last = t.last; played = t.played; wrote = t.wrote }
 
-  then_on : (a b c : Option (List ℕ)) (cs ds : List Change) (p q r : Turns) (x y z : Cabled (Desk (Kept M))) → PlaysOn seen a b cs p x q y → PlaysOn seen b c ds q y r z → PlaysOn seen a c (cs ++ ds) p x r z
+  then_on : (a b c : Option (List ℕ)) (cs ds : List Change) (p q r : Turns) (x y z : Cabled (KeptDesk M)) → PlaysOn seen a b cs p x q y → PlaysOn seen b c ds q y r z → PlaysOn seen a c (cs ++ ds) p x r z
   then_on a b c cs ds p q r x y z f g ss es h =
       let first = f ss es h in
-      made_then (Desk (Kept M)) (Desk Machine) desk_step desk_says (DeskStands seen) (DeskStands seen) a b c cs ds q r y z ss es first (g ss (es ++ first.made) first.now)
+      made_then (KeptDesk M) (Desk Machine) desk_step desk_says (DeskStands seen) (DeskStands seen) a b c cs ds q r y z ss es first (g ss (es ++ first.made) first.now)
 
-  on_kept : (a b c : Option (List ℕ)) (cs : List Change) (p q : Turns) (x y : Cabled (Desk (Kept M))) → PlaysOn seen a b cs p x q y → Keeps b c → PlaysOn seen a c cs p x q y
-  on_kept a b c cs p q x y f k ss es h = made_kept (Desk (Kept M)) (Desk Machine) desk_step desk_says (DeskStands seen) a b c cs q y ss es (f ss es h) k
+  on_kept : (a b c : Option (List ℕ)) (cs : List Change) (p q : Turns) (x y : Cabled (KeptDesk M)) → PlaysOn seen a b cs p x q y → Keeps b c → PlaysOn seen a c cs p x q y
+  on_kept a b c cs p q x y f k ss es h = made_kept (KeptDesk M) (Desk Machine) desk_step desk_says (DeskStands seen) a b c cs q y ss es (f ss es h) k
 
-  pub timing_change : (a b c d input l k : Option (List ℕ)) (n from : ℕ) (change : Change) (p q r : Turns) (x y z : Cabled (Desk (Kept M))) → Timing a b input l n from p x q y → ReadsTimed l k n from (Changes change) → PlaysOn seen b c (change ∷ []) q y r z → ReplaysOn desk_shows b c (change ∷ []) q y r z → Keeps c d
+  pub timing_change : (a b c d input l k : Option (List ℕ)) (n from : ℕ) (change : Change) (p q r : Turns) (x y z : Cabled (KeptDesk M)) → Timing a b input l n from p x q y → ReadsTimed l k n from (Changes change) → PlaysOn seen b c (change ∷ []) q y r z → ReplaysOn desk_shows b c (change ∷ []) q y r z → Keeps c d
       → Timing a d input k (n + 1) change.moment p x r z
   timing_change a b c d input l k n from change p q r x y z t reads on wrote kept = record {
     done = t.done ++ change ∷ [];
@@ -179,11 +176,11 @@ module _ {M : Type 0} (seen : M → Seen) where
 
   -- ---- a beginning of what the input asks
 
-  abbrev pub Begun : Option (List ℕ) → Option (List ℕ) → Option (List ℕ) → Party → Turns → Cabled (Desk (Kept M)) → Type 0
+  abbrev pub Begun : Option (List ℕ) → Option (List ℕ) → Option (List ℕ) → Party → Turns → Cabled (KeptDesk M) → Type 0
   Begun a b input drive p x = IfSome input (λ bytes. PrintsTracePart a b (λ m. IsAt seen p x (trace_powered drive m) []) drive [] (timetable_of bytes))
 
   -- of the first changes
-  begun : (a b : Option (List ℕ)) (xs : List ℕ) (drive : Party) (p : Turns) (x : Cabled (Desk (Kept M))) (done : List Change) (t : Timetable) → timetable_of xs ≡ behind done t → PlaysPart seen a b done p x → Begun a b (Some xs) drive p x
+  begun : (a b : Option (List ℕ)) (xs : List ℕ) (drive : Party) (p : Turns) (x : Cabled (KeptDesk M)) (done : List Change) (t : Timetable) → timetable_of xs ≡ behind done t → PlaysPart seen a b done p x → Begun a b (Some xs) drive p x
   begun a b xs drive p x done t e part m at_ =
       let h = part (trace_powered drive m) [] at_ in (
         h.made,
@@ -198,7 +195,7 @@ module _ {M : Type 0} (seen : M → Seen) where
       )
 
   -- all of the first changes, where nothing is still to be given
-  part_of : (a b : Option (List ℕ)) (cs : List Change) (p q : Turns) (x y : Cabled (Desk (Kept M))) → q.second ≡ None → PlaysOn seen a b cs p x q y → PlaysPart seen a b cs p x
+  part_of : (a b : Option (List ℕ)) (cs : List Change) (p q : Turns) (x y : Cabled (KeptDesk M)) → q.second ≡ None → PlaysOn seen a b cs p x q y → PlaysPart seen a b cs p x
   part_of a b cs p q x y none on ss es h =
       let all = on ss es h in
       let now = all.now in
@@ -212,7 +209,7 @@ module _ {M : Type 0} (seen : M → Seen) where
         written = whole_part a b (trace_text all.made) all.written;
       }
 
-  then_part : (a b c : Option (List ℕ)) (cs ds : List Change) (p q : Turns) (x y : Cabled (Desk (Kept M))) → PlaysOn seen a b cs p x q y → PlaysPart seen b c ds q y → PlaysPart seen a c (cs ++ ds) p x
+  then_part : (a b c : Option (List ℕ)) (cs ds : List Change) (p q : Turns) (x y : Cabled (KeptDesk M)) → PlaysOn seen a b cs p x q y → PlaysPart seen b c ds q y → PlaysPart seen a c (cs ++ ds) p x
   then_part a b c cs ds p q x y f g ss es h =
       let first = f ss es h in
       let second = g ss (es ++ first.made) first.now in
@@ -227,13 +224,13 @@ module _ {M : Type 0} (seen : M → Seen) where
       }
 
   -- where the lines so far were played
-  pub timing_begun : (a b input left : Option (List ℕ)) (n from : ℕ) (drive : Party) (p q : Turns) (x y : Cabled (Desk (Kept M))) → Timing a b input left n from p x q y → q.second ≡ None → Begun a b input drive p x
+  pub timing_begun : (a b input left : Option (List ℕ)) (n from : ℕ) (drive : Party) (p q : Turns) (x y : Cabled (KeptDesk M)) → Timing a b input left n from p x q y → q.second ≡ None → Begun a b input drive p x
   timing_begun a b None left n from drive p q x y t none = tt
   timing_begun a b (Some xs) None n from drive p q x y t none = absurd t.follows
   timing_begun a b (Some xs) (Some ys) n from drive p q x y t none = begun a b xs drive p x t.done (timetable_from n from (lines_of ys)) t.follows (part_of a b t.done p q x y none t.played)
 
   -- where a change broke off, and where the end did
-  pub change_begun : (a b c input l k : Option (List ℕ)) (n from : ℕ) (drive : Party) (change : Change) (p q : Turns) (x y : Cabled (Desk (Kept M))) → Timing a b input l n from p x q y → ReadsTimed l k n from (Changes change) → PlaysPart seen b c (change ∷ []) q y → Begun a c input drive p x
+  pub change_begun : (a b c input l k : Option (List ℕ)) (n from : ℕ) (drive : Party) (change : Change) (p q : Turns) (x y : Cabled (KeptDesk M)) → Timing a b input l n from p x q y → ReadsTimed l k n from (Changes change) → PlaysPart seen b c (change ∷ []) q y → Begun a c input drive p x
   change_begun a b c None l k n from drive change p q x y t reads part = tt
   change_begun a b c (Some xs) None k n from drive change p q x y t reads part = absurd t.follows
   change_begun a b c (Some xs) (Some ys) None n from drive change p q x y t reads part = absurd reads
@@ -241,14 +238,14 @@ module _ {M : Type 0} (seen : M → Seen) where
       begun a c xs drive p x (t.done ++ change ∷ []) (timetable_from (n + 1) change.moment (lines_of zs)) (follows_change (Some xs) (Some ys) (Some zs) n from t.done change t.follows reads)
       (then_part a b c t.done (change ∷ []) p q x y t.played part)
 
-  pub end_begun : (a b c input l : Option (List ℕ)) (n from : ℕ) (drive : Party) (p q : Turns) (x y : Cabled (Desk (Kept M))) → Timing a b input l n from p x q y → PlaysPart seen b c [] q y → Begun a c input drive p x
+  pub end_begun : (a b c input l : Option (List ℕ)) (n from : ℕ) (drive : Party) (p q : Turns) (x y : Cabled (KeptDesk M)) → Timing a b input l n from p x q y → PlaysPart seen b c [] q y → Begun a c input drive p x
   end_begun a b c None l n from drive p q x y t part = tt
   end_begun a b c (Some xs) None n from drive p q x y t part = absurd t.follows
   end_begun a b c (Some xs) (Some ys) n from drive p q x y t part =
       begun a c xs drive p x t.done (timetable_from n from (lines_of ys)) t.follows (subst (λ cs. PlaysPart seen a c cs p x) (append-nil t.done) (then_part a b c t.done [] p q x y t.played part))
 
   -- what was played to an end is so too
-  pub ended_part : (b c : Option (List ℕ)) (end : ℕ) (q r : Turns) (y z : Cabled (Desk (Kept M))) → Ends seen b c end q y r z → PlaysPart seen b c [] q y
+  pub ended_part : (b c : Option (List ℕ)) (end : ℕ) (q r : Turns) (y z : Cabled (KeptDesk M)) → Ends seen b c end q y r z → PlaysPart seen b c [] q y
   ended_part b c end q r y z ends ss es h =
       let all = ends ss es h in
       let now = all.now.after in
@@ -262,35 +259,35 @@ module _ {M : Type 0} (seen : M → Seen) where
         written = whole_part b c (trace_text all.made) all.written;
       }
 
-  pub ends_kept : (b c d : Option (List ℕ)) (end : ℕ) (q r : Turns) (y z : Cabled (Desk (Kept M))) → Ends seen b c end q y r z → Keeps c d → Ends seen b d end q y r z
+  pub ends_kept : (b c d : Option (List ℕ)) (end : ℕ) (q r : Turns) (y z : Cabled (KeptDesk M)) → Ends seen b c end q y r z → Keeps c d → Ends seen b d end q y r z
   ends_kept b c d end q r y z ends k ss es h = (let all = ends ss es h in record { made = all.made; now = all.now; hosts = all.hosts; written = appends-kept b c d (trace_text all.made) all.written k })
 
   -- ---- the trace of what the input asks
 
   -- what it stands for
-  pub record Borne (b : Cabled (Desk (Kept M))) (ss : List (Station (Desk Machine))) : Type 0 where
-    pub drive : Seated (Desk (Kept M))
+  pub record Borne (b : Cabled (KeptDesk M)) (ss : List (Station (Desk Machine))) : Type 0 where
+    pub drive : Seated (KeptDesk M)
     pub station : Station (Desk Machine)
     pub alone : b.drives ≡ drive ∷ []
     pub only : ss ≡ station ∷ []
     pub port : drive.port ≡ station.port
-    pub stands : Stands seen drive.machine.dos station.machine.dos
+    pub stands : DosStands seen drive.machine station.machine.dos
 
-  borne : (f : Desk (Kept M) → ℕ) (b : Cabled (Desk (Kept M))) (ss : List (Station (Desk Machine))) → length (numbers f b.drives) ≡ 1 → IsBusAt (Desk (Kept M)) (Desk Machine) (DeskStands seen) b.host b.drives ss → Borne b ss
+  borne : (f : KeptDesk M → ℕ) (b : Cabled (KeptDesk M)) (ss : List (Station (Desk Machine))) → length (numbers f b.drives) ≡ 1 → IsBusAt (KeptDesk M) (Desk Machine) (DeskStands seen) b.host b.drives ss → Borne b ss
   borne f b ss e now =
       let one = one_drive f b.drives e in
-      seated one.0 one.1 ss (subst (λ (xs : List (Seated (Desk (Kept M)))). IsBusAt (Desk (Kept M)) (Desk Machine) (DeskStands seen) b.host xs ss) one.1 now)
+      seated one.0 one.1 ss (subst (λ (xs : List (Seated (KeptDesk M))). IsBusAt (KeptDesk M) (Desk Machine) (DeskStands seen) b.host xs ss) one.1 now)
     where
-      seated : (x : Seated (Desk (Kept M))) → b.drives ≡ x ∷ [] → (us : List (Station (Desk Machine))) → IsBusAt (Desk (Kept M)) (Desk Machine) (DeskStands seen) b.host (x ∷ []) us → Borne b us
+      seated : (x : Seated (KeptDesk M)) → b.drives ≡ x ∷ [] → (us : List (Station (Desk Machine))) → IsBusAt (KeptDesk M) (Desk Machine) (DeskStands seen) b.host (x ∷ []) us → Borne b us
       seated x alone [] h = absurd h
       seated x alone (s ∷ []) h = record { drive = x; station = s; alone = alone; only = refl; port = h.0.port; stands = h.0.machine.0.0 }
       seated x alone (s ∷ t ∷ us) h = absurd h.1
 
-  abbrev pub Ended : Option (List ℕ) → Option (List ℕ) → Option (List ℕ) → Party → Turns → Cabled (Desk (Kept M)) → Cabled (Desk (Kept M)) → Option ℕ → Type 0
+  abbrev pub Ended : Option (List ℕ) → Option (List ℕ) → Option (List ℕ) → Party → Turns → Cabled (KeptDesk M) → Cabled (KeptDesk M) → Option ℕ → Type 0
   Ended a b input drive p x y bad = IfSome input (λ bytes. ((timetable_of bytes).bad ≡ bad) × PrintsTrace a b (λ m. IsAt seen p x (trace_powered drive m) []) (IsBorne seen y) drive [] (timetable_of bytes))
 
   -- the input, up to its bad line
-  stopped : (a b : Option (List ℕ)) (xs : List ℕ) (n from : ℕ) (drive : Party) (done : List Change) (f : Desk (Kept M) → ℕ) (p q : Turns) (x y : Cabled (Desk (Kept M))) → length (numbers f y.drives) ≡ 1 → timetable_of xs ≡ behind done (stopped_at n) → latest 0 done ≡ from
+  stopped : (a b : Option (List ℕ)) (xs : List ℕ) (n from : ℕ) (drive : Party) (done : List Change) (f : KeptDesk M → ℕ) (p q : Turns) (x y : Cabled (KeptDesk M)) → length (numbers f y.drives) ≡ 1 → timetable_of xs ≡ behind done (stopped_at n) → latest 0 done ≡ from
       → PlaysOn seen a b done p x q y → IsOpen q from → Ended a b (Some xs) drive p x y (Some n)
   stopped a b xs n from drive done f p q x y one e last on is_open = (
     ap (λ (o : Timetable). o.bad) e,
@@ -313,12 +310,12 @@ module _ {M : Type 0} (seen : M → Seen) where
         ))),
   )
 
-  pub timing_stopped : (a b input left : Option (List ℕ)) (n from : ℕ) (drive : Party) (f : Desk (Kept M) → ℕ) (p q : Turns) (x y : Cabled (Desk (Kept M))) → length (numbers f y.drives) ≡ 1 → Timing a b input left n from p x q y → LacksTimed left n from → IsOpen q from → Ended a b input drive p x y (Some n)
+  pub timing_stopped : (a b input left : Option (List ℕ)) (n from : ℕ) (drive : Party) (f : KeptDesk M → ℕ) (p q : Turns) (x y : Cabled (KeptDesk M)) → length (numbers f y.drives) ≡ 1 → Timing a b input left n from p x q y → LacksTimed left n from → IsOpen q from → Ended a b input drive p x y (Some n)
   timing_stopped a b None left n from drive f p q x y one t lacks is_open = tt
   timing_stopped a b (Some xs) left n from drive f p q x y one t lacks is_open = stopped a b xs n from drive t.done f p q x y one (stops_at (Some xs) left n from t.done t.follows lacks) t.last t.played is_open
 
   -- the input, whose end was read
-  finished : (a b c : Option (List ℕ)) (xs : List ℕ) (end : ℕ) (drive : Party) (done : List Change) (f : Desk (Kept M) → ℕ) (p q r : Turns) (x y z : Cabled (Desk (Kept M))) → IsDrive drive → length (numbers f z.drives) ≡ 1
+  finished : (a b c : Option (List ℕ)) (xs : List ℕ) (end : ℕ) (drive : Party) (done : List Change) (f : KeptDesk M → ℕ) (p q r : Turns) (x y z : Cabled (KeptDesk M)) → IsDrive drive → length (numbers f z.drives) ≡ 1
       → timetable_of xs ≡ behind done (ended_at end None) → PlaysOn seen a b done p x q y → Ends seen b c end q y r z → Ended a c (Some xs) drive p x z None
   finished a b c xs end drive done f p q r x y z sits one e on ends = (
     ap (λ (o : Timetable). o.bad) e,
@@ -338,7 +335,7 @@ module _ {M : Type 0} (seen : M → Seen) where
             plays = subst (λ (ss : List (Station (Desk Machine))). Plays (Desk Machine) desk_step desk_says 0 (trace_powered drive m) trace now.from ss) own.only (subst (λ (v : List Event). Plays (Desk Machine) desk_step desk_says 0 (trace_powered drive m) v now.from now.stations) whole now.plays);
             hosts = hosts_on first.made all.made ∙ (λ i. first.hosts i ++ all.hosts i);
             within = (let before = now.before in let from = over.from in omega (arith, before, from));
-            settled = subst (λ (o : Port). IsLaterDue end (port_due o)) own.port (subst (λ (us : List (Seated (Desk (Kept M)))). AreLater end us) own.alone later).0;
+            settled = subst (λ (o : Port). IsLaterDue end (port_due o)) own.port (subst (λ (us : List (Seated (KeptDesk M))). AreLater end us) own.alone later).0;
           },
           subst (λ t. Appends a c t) (sym (text_on first.made all.made)) (appends-more a b c (trace_text first.made) (trace_text all.made) first.written all.written),
           (own.drive, own.alone, own.stands),
@@ -346,7 +343,7 @@ module _ {M : Type 0} (seen : M → Seen) where
   )
 
   -- and the lines after it are all skipped
-  pub timing_ended : (a b c input l k : Option (List ℕ)) (n from end : ℕ) (drive : Party) (f : Desk (Kept M) → ℕ) (p q r : Turns) (x y z : Cabled (Desk (Kept M))) → IsDrive drive → length (numbers f z.drives) ≡ 1
+  pub timing_ended : (a b c input l k : Option (List ℕ)) (n from end : ℕ) (drive : Party) (f : KeptDesk M → ℕ) (p q r : Turns) (x y z : Cabled (KeptDesk M)) → IsDrive drive → length (numbers f z.drives) ≡ 1
       → Timing a b input l n from p x q y → ReadsTimed l k n from (EndsAt end) → Ends seen b c end q y r z → IsBadBehind k (n + 1) None → Ended a c input drive p x z None
   timing_ended a b c input l k n from end drive f p q r x y z sits one t reads ends read = over input (ends_behind input l k n from end None t.done t.follows reads read)
     where
@@ -355,7 +352,7 @@ module _ {M : Type 0} (seen : M → Seen) where
       over (Some xs) h = finished a b c xs end drive t.done f p q r x y z sits one h t.played ends
 
   -- a line after it can't be had, or is refused: what was played are the changes
-  pub behind_faulted : {A : Type 0} (a b input l k : Option (List ℕ)) (n from end : ℕ) (drive : Party) (result : Result A RunFault) (fault : RunFault) (f : Desk (Kept M) → ℕ) (p q : Turns) (x y : Cabled (Desk (Kept M))) → length (numbers f y.drives) ≡ 1
+  pub behind_faulted : {A : Type 0} (a b input l k : Option (List ℕ)) (n from end : ℕ) (drive : Party) (result : Result A RunFault) (fault : RunFault) (f : KeptDesk M → ℕ) (p q : Turns) (x y : Cabled (KeptDesk M)) → length (numbers f y.drives) ≡ 1
       → Timing a b input l n from p x q y → IsOpen q from → ReadsTimed l k n from (EndsAt end) → BehindRead k (n + 1) (Err fault) → result ≡ Err fault → EndsAs result (λ bad. Ended a b input drive p x y bad)
   behind_faulted a b input l k n from end drive result (Script bad) f p q x y one t is_open reads h e =
       subst (λ v. EndsAs v (λ o. Ended a b input drive p x y o)) (sym e) (over input (ends_behind input l k n from end (Some bad) t.done t.follows reads h))
@@ -369,7 +366,7 @@ module _ {M : Type 0} (seen : M → Seen) where
   behind_faulted a b input l k n from end drive result Writing f p q x y one t is_open reads h e = absurd h
 
   -- a line that can't be had, or is refused
-  pub read_faulted : {A : Type 0} (a b input l k : Option (List ℕ)) (n from : ℕ) (drive : Party) (result : Result A RunFault) (fault : RunFault) (f : Desk (Kept M) → ℕ) (p q : Turns) (x y : Cabled (Desk (Kept M))) → length (numbers f y.drives) ≡ 1 → Timing a b input l n from p x q y → IsOpen q from
+  pub read_faulted : {A : Type 0} (a b input l k : Option (List ℕ)) (n from : ℕ) (drive : Party) (result : Result A RunFault) (fault : RunFault) (f : KeptDesk M → ℕ) (p q : Turns) (x y : Cabled (KeptDesk M)) → length (numbers f y.drives) ≡ 1 → Timing a b input l n from p x q y → IsOpen q from
       → TimedRead l k n from (Err fault) → result ≡ Err fault → EndsAs result (λ bad. Ended a b input drive p x y bad)
   read_faulted a b input l k n from drive result (Script bad) f p q x y one t is_open h e =
       subst (λ v. EndsAs v (λ o. Ended a b input drive p x y o)) (sym e) (subst (λ i. Ended a b input drive p x y (Some i)) (sym h.0) (timing_stopped a b input l n from drive f p q x y one t h.1 is_open))
@@ -458,11 +455,11 @@ module _ {D : Type 0} (shows : D → Shown) (drive : Party) where
   )
 
 module _ {M : Type 0} (seen : M → Seen) (drive : Party) where
-  wrote_lacking : (a b input left : Option (List ℕ)) (n from : ℕ) (f : Desk (Kept M) → ℕ) (p q : Turns) (x y : Cabled (Desk (Kept M))) → length (numbers f y.drives) ≡ 1 → IsFresh desk_shows drive p x → Timing seen a b input left n from p x q y → IsOpen q from → LacksTimed left n from → WritesTrace drive input a b (Some n)
+  wrote_lacking : (a b input left : Option (List ℕ)) (n from : ℕ) (f : KeptDesk M → ℕ) (p q : Turns) (x y : Cabled (KeptDesk M)) → length (numbers f y.drives) ≡ 1 → IsFresh desk_shows drive p x → Timing seen a b input left n from p x q y → IsOpen q from → LacksTimed left n from → WritesTrace drive input a b (Some n)
   wrote_lacking a b None left n from f p q x y one fresh t is_open lacks = tt
   wrote_lacking a b (Some xs) left n from f p q x y one fresh t is_open lacks = wrote_stopped desk_shows drive a b xs n from t.done f p q x y one fresh (stops_at (Some xs) left n from t.done t.follows lacks) t.last t.wrote is_open
 
-  pub wrote_read : {A : Type 0} (a b input l k : Option (List ℕ)) (n from : ℕ) (result : Result A RunFault) (fault : RunFault) (f : Desk (Kept M) → ℕ) (p q : Turns) (x y : Cabled (Desk (Kept M))) → length (numbers f y.drives) ≡ 1 → IsFresh desk_shows drive p x → Timing seen a b input l n from p x q y → IsOpen q from
+  pub wrote_read : {A : Type 0} (a b input l k : Option (List ℕ)) (n from : ℕ) (result : Result A RunFault) (fault : RunFault) (f : KeptDesk M → ℕ) (p q : Turns) (x y : Cabled (KeptDesk M)) → length (numbers f y.drives) ≡ 1 → IsFresh desk_shows drive p x → Timing seen a b input l n from p x q y → IsOpen q from
       → TimedRead l k n from (Err fault) → result ≡ Err fault → EndsAs result (λ bad. WritesTrace drive input a b bad)
   wrote_read a b input l k n from result (Script bad) f p q x y one fresh t is_open h e =
       subst (λ v. EndsAs v (λ o. WritesTrace drive input a b o)) (sym e) (subst (λ i. WritesTrace drive input a b (Some i)) (sym h.0) (wrote_lacking a b input l n from f p q x y one fresh t is_open h.1))
@@ -472,7 +469,7 @@ module _ {M : Type 0} (seen : M → Seen) (drive : Party) where
   wrote_read a b input l k n from result Writing f p q x y one fresh t is_open h e = absurd h
 
   -- a line after the end can't be had, or is refused
-  pub wrote_behind : {A : Type 0} (a b input l k : Option (List ℕ)) (n from end : ℕ) (result : Result A RunFault) (fault : RunFault) (f : Desk (Kept M) → ℕ) (p q : Turns) (x y : Cabled (Desk (Kept M))) → length (numbers f y.drives) ≡ 1 → IsFresh desk_shows drive p x → Timing seen a b input l n from p x q y → IsOpen q from
+  pub wrote_behind : {A : Type 0} (a b input l k : Option (List ℕ)) (n from end : ℕ) (result : Result A RunFault) (fault : RunFault) (f : KeptDesk M → ℕ) (p q : Turns) (x y : Cabled (KeptDesk M)) → length (numbers f y.drives) ≡ 1 → IsFresh desk_shows drive p x → Timing seen a b input l n from p x q y → IsOpen q from
       → ReadsTimed l k n from (EndsAt end) → BehindRead k (n + 1) (Err fault) → result ≡ Err fault → EndsAs result (λ bad. WritesTrace drive input a b bad)
   wrote_behind a b input l k n from end result (Script bad) f p q x y one fresh t is_open reads h e =
       subst (λ v. EndsAs v (λ o. WritesTrace drive input a b o)) (sym e) (over input (ends_behind input l k n from end (Some bad) t.done t.follows reads h))
@@ -486,7 +483,7 @@ module _ {M : Type 0} (seen : M → Seen) (drive : Party) where
   wrote_behind a b input l k n from end result Writing f p q x y one fresh t is_open reads h e = absurd h
 
   -- all was read, and the end written
-  pub wrote_ended : (a b c d input l k : Option (List ℕ)) (n from end : ℕ) (f : Desk (Kept M) → ℕ) (p q r : Turns) (x y z : Cabled (Desk (Kept M))) → IsDrive drive → length (numbers f z.drives) ≡ 1 → IsFresh desk_shows drive p x → Timing seen a b input l n from p x q y → ReadsTimed l k n from (EndsAt end)
+  pub wrote_ended : (a b c d input l k : Option (List ℕ)) (n from end : ℕ) (f : KeptDesk M → ℕ) (p q r : Turns) (x y z : Cabled (KeptDesk M)) → IsDrive drive → length (numbers f z.drives) ≡ 1 → IsFresh desk_shows drive p x → Timing seen a b input l n from p x q y → ReadsTimed l k n from (EndsAt end)
       → ReplaysTo desk_shows b c end q y r z → Keeps c d → IsBadBehind k (n + 1) None → WritesTrace drive input a d None
   wrote_ended a b c d input l k n from end f p q r x y z sits one fresh t reads ended kept read = over input (ends_behind input l k n from end None t.done t.follows reads read)
     where
@@ -498,10 +495,10 @@ module _ {M : Type 0} (seen : M → Seen) (drive : Party) where
       over (Some xs) g = wrote_whole desk_shows drive a b d xs end t.done f p q r x y z sits one fresh g t.wrote kept_end
 
 -- the one disk has as many tracks
-pub sole_tracks : {M : Type 0} (seen : M → Seen) (b : Cabled (Desk (Kept M))) (k : M) → length (tracks_of_drives seen b) ≡ 1 → ((x : Seated (Desk (Kept M))) → b.drives ≡ x ∷ [] → k ≡ x.machine.dos.medium) → (seen k).tracks ∷ [] ≡ tracks_of_drives seen b
+pub sole_tracks : {M : Type 0} (seen : M → Seen) (b : Cabled (KeptDesk M)) (k : M) → length (tracks_of_drives seen b) ≡ 1 → ((x : Seated (KeptDesk M)) → b.drives ≡ x ∷ [] → k ≡ x.machine.dos.medium) → (seen k).tracks ∷ [] ≡ tracks_of_drives seen b
 sole_tracks {M = M} seen b k one is = by b.drives refl one
   where
-    by : (xs : List (Seated (Desk (Kept M)))) → b.drives ≡ xs → length (numbers (λ y. (seen y.dos.medium).tracks) xs) ≡ 1 → (seen k).tracks ∷ [] ≡ numbers (λ y. (seen y.dos.medium).tracks) xs
+    by : (xs : List (Seated (KeptDesk M))) → b.drives ≡ xs → length (numbers (λ y. (seen y.dos.medium).tracks) xs) ≡ 1 → (seen k).tracks ∷ [] ≡ numbers (λ y. (seen y.dos.medium).tracks) xs
     by [] e h = absurd (omega (arith, h))
     by (x ∷ []) e h = ap (λ z. (seen z).tracks ∷ []) (is x e)
     by (x ∷ y ∷ xs) e h = absurd (omega (arith, h))

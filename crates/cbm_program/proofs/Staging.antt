@@ -16,7 +16,6 @@ use Rattle.cbm_iec.specs.declared.port.Port.{Port}
 use Rattle.cbm_medium.specs.Seen.{Seen}
 use Rattle.cbm_session.specs.Playing.{Station, nobody, stays, Plays, IsByte}
 use Rattle.cbm_machine.specs.Machines.{Machine}
-use Rattle.cbm_drive.specs.Standing.{Kept}
 use Rattle.cbm_drive.specs.Cables.{Cabled, all_free}
 use Rattle.cbm_drive.specs.Desks.{Desk, DeskStands, desk_step, desk_says}
 use Rattle.cbm_host.specs.Served.{at_power_up}
@@ -34,6 +33,7 @@ use Rattle.bus_traces.specs.Events.{trace_text, event_text}
 use Rattle.cbm_program.specs.Traces.{trace_powered, replaying}
 use Rattle.bus_traces.proofs.Appending.{appends-nothing, appends-more, appends-kept, text_on, text_one}
 use Rattle.cbm_program.proofs.OutputLemmas.{part_behind, part_before}
+use Rattle.cbm_drive.specs.KeptDesks.{KeptDesk}
 
 -- ---- the host's changes
 
@@ -196,36 +196,36 @@ module _ {D : Type 0} (shows : D → Shown) where
 
 module _ {M : Type 0} (seen : M → Seen) where
   -- a drive at power up
-  pub starts_at : (drive : Party) (m : Machine) (p : Turns) (b : Cabled (Desk (Kept M))) (x : Seated (Desk (Kept M))) → p ≡ at_start → b.host ≡ all_free → b.drives ≡ x ∷ [] → x.port ≡ resting drive → DeskStands seen x.machine (at_power_up drive.pace drive.device m)
+  pub starts_at : (drive : Party) (m : Machine) (p : Turns) (b : Cabled (KeptDesk M)) (x : Seated (KeptDesk M)) → p ≡ at_start → b.host ≡ all_free → b.drives ≡ x ∷ [] → x.port ≡ resting drive → DeskStands seen x.machine (at_power_up drive.pace drive.device m)
       → IsAt seen p b (trace_powered drive m) []
   starts_at drive m p b x start free one port stands = record {
     from = 0;
     stations = trace_powered drive m;
     before = omega arith;
     plays = stays (tt, tt) (ap (λ (q : Turns). pending q.second) start) refl refl;
-    now = subst (λ (h : Lines). IsBusAt (Desk (Kept M)) (Desk Machine) (DeskStands seen) h b.drives (trace_powered drive m)) (sym free)
-        (subst (λ (xs : List (Seated (Desk (Kept M)))). IsBusAt (Desk (Kept M)) (Desk Machine) (DeskStands seen) all_free xs (trace_powered drive m)) (sym one) seat);
+    now = subst (λ (h : Lines). IsBusAt (KeptDesk M) (Desk Machine) (DeskStands seen) h b.drives (trace_powered drive m)) (sym free)
+        (subst (λ (xs : List (Seated (KeptDesk M))). IsBusAt (KeptDesk M) (Desk Machine) (DeskStands seen) all_free xs (trace_powered drive m)) (sym one) seat);
     second = subst (λ (q : Turns). IsSecond q.from q.second) (sym start) tt;
   }
     where
       rest : IsWithout (wires_held_by all_free (x ∷ [])) x.port.own nobody
       rest = subst (λ (q : Port). IsWithout (wires_held_by all_free ((record { port = q; machine = x.machine }) ∷ [])) q.own nobody) (sym port) (record { host = refl; clocks = refl; datas = refl })
 
-      seat : IsBusAt (Desk (Kept M)) (Desk Machine) (DeskStands seen) all_free (x ∷ []) (trace_powered drive m)
+      seat : IsBusAt (KeptDesk M) (Desk Machine) (DeskStands seen) all_free (x ∷ []) (trace_powered drive m)
       seat = (record { port = port; machine = stands; rest = rest }, tt)
 
   -- ---- what was played
 
-  pub none_played : (a : Option (List ℕ)) (p q : Turns) (b c : Cabled (Desk (Kept M))) → p.second ≡ q.second → p.from ≡ q.from → c ≡ b → PlaysOn seen a a [] p b q c
-  none_played a p q b c second from bus ss es h = made_none (Desk (Kept M)) (Desk Machine) desk_step desk_says (DeskStands seen) a p q b c ss es second from bus h
+  pub none_played : (a : Option (List ℕ)) (p q : Turns) (b c : Cabled (KeptDesk M)) → p.second ≡ q.second → p.from ≡ q.from → c ≡ b → PlaysOn seen a a [] p b q c
+  none_played a p q b c second from bus ss es h = made_none (KeptDesk M) (Desk Machine) desk_step desk_says (DeskStands seen) a p q b c ss es second from bus h
 
   -- one event more was written
-  pub played_event : (a b c : Option (List ℕ)) (cs ds : List Change) (q r : Turns) (x y : Cabled (Desk (Kept M))) (ss : List (Station (Desk Machine))) (es : List Event) (e : Event) → HasPlayedOn seen a b cs q x ss es
+  pub played_event : (a b c : Option (List ℕ)) (cs ds : List Change) (q r : Turns) (x y : Cabled (KeptDesk M)) (ss : List (Station (Desk Machine))) (es : List Event) (e : Event) → HasPlayedOn seen a b cs q x ss es
       → ((fs : List Event) → IsAt seen q x ss fs → IsAt seen r y ss (fs ++ e ∷ [])) → host_changes (e ∷ []) ≡ ds → Appends b c (event_text e) → HasPlayedOn seen a c (cs ++ ds) r y ss es
-  played_event a b c cs ds q r x y ss es e h next hosts w = made_event (Desk (Kept M)) (Desk Machine) desk_step desk_says (DeskStands seen) (DeskStands seen) a b c cs ds q r x y ss es e h next hosts w
+  played_event a b c cs ds q r x y ss es e h next hosts w = made_event (KeptDesk M) (Desk Machine) desk_step desk_says (DeskStands seen) (DeskStands seen) a b c cs ds q r x y ss es e h next hosts w
 
   -- the text of one event more broke off
-  pub part_event : (a b c : Option (List ℕ)) (cs ds rest : List Change) (limit : ℕ) (q r : Turns) (x y : Cabled (Desk (Kept M))) (ss : List (Station (Desk Machine))) (es : List Event) (e : Event) → HasPlayedOn seen a b cs q x ss es
+  pub part_event : (a b c : Option (List ℕ)) (cs ds rest : List Change) (limit : ℕ) (q r : Turns) (x y : Cabled (KeptDesk M)) (ss : List (Station (Desk Machine))) (es : List Event) (e : Event) → HasPlayedOn seen a b cs q x ss es
       → ((fs : List Event) → IsAt seen q x ss fs → IsAt seen r y ss (fs ++ e ∷ [])) → host_changes (e ∷ []) ++ rest ≡ ds → IsGivenBefore limit r.second → AppendsPart b c (event_text e) → HasPlayedPart seen a c (cs ++ ds) ss es
   part_event a b c cs ds rest limit q r x y ss es e h next hosts given w =
       let after = next (es ++ h.made) h.now in
@@ -243,6 +243,6 @@ module _ {M : Type 0} (seen : M → Seen) where
       }
 
   -- nothing more comes: all is over
-  pub ended_on : (a b : Option (List ℕ)) (end : ℕ) (p q r : Turns) (x y z : Cabled (Desk (Kept M))) → PlaysOn seen a b [] p x q y
-      → ((ss : List (Station (Desk Machine))) (fs : List Event) → IsAt seen q y ss fs → IsFinished (Desk (Kept M)) (Desk Machine) (DeskStands seen) desk_step desk_says r z end 0 ss fs) → Ends seen a b end p x r z
+  pub ended_on : (a b : Option (List ℕ)) (end : ℕ) (p q r : Turns) (x y z : Cabled (KeptDesk M)) → PlaysOn seen a b [] p x q y
+      → ((ss : List (Station (Desk Machine))) (fs : List Event) → IsAt seen q y ss fs → IsFinished (KeptDesk M) (Desk Machine) (DeskStands seen) desk_step desk_says r z end 0 ss fs) → Ends seen a b end p x r z
   ended_on a b end p q r x y z on over ss es h = (let first = on ss es h in record { made = first.made; now = over ss (es ++ first.made) first.now; hosts = first.hosts; written = first.written })

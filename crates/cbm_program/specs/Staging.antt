@@ -9,7 +9,6 @@ use Rattle.cbm_medium.specs.Seen.{Seen}
 use Rattle.cbm_session.specs.Playing.{Station, Plays}
 use Rattle.cbm_file.specs.Files.{Disk}
 use Rattle.cbm_machine.specs.Machines.{Machine, start}
-use Rattle.cbm_drive.specs.Standing.{Kept, Stands}
 use Rattle.cbm_drive.specs.Cables.{Cabled}
 use Rattle.cbm_drive.specs.Desks.{Desk, DeskStands, desk_step, desk_says}
 use Rattle.cbm_drive.specs.Playback.{Shown, Playback, IsPlayedBack, played_says, played_step}
@@ -22,6 +21,7 @@ use Rattle.cbm_program.specs.Output.{AppendsPart, AppendsMore}
 use Rattle.cbm_program.specs.Running.{IsOfWriting}
 use Rattle.bus_traces.specs.Events.{trace_text}
 use Rattle.cbm_program.specs.Traces.{trace_powered, replaying}
+use Rattle.cbm_drive.specs.KeptDesks.{KeptDesk, DosStands}
 
 -- No change is pending, none is still to be given, and the host's next one may come from this moment on.
 pub record IsOpen (p : Turns) (moment : ℕ) : Type 0 where
@@ -46,28 +46,28 @@ module _ (D S : Type 0) (stands : D → S → Type 0) (step : S → Act → S) (
 
 module _ {M : Type 0} (seen : M → Seen) where
   -- how many tracks the disks of these drives have
-  abbrev pub tracks_of_drives : Cabled (Desk (Kept M)) → List ℕ
+  abbrev pub tracks_of_drives : Cabled (KeptDesk M) → List ℕ
   tracks_of_drives b = numbers (λ x. (seen x.dos.medium).tracks) b.drives
 
   -- the one drive of this bus represents a machine
-  abbrev pub IsBorne : Cabled (Desk (Kept M)) → Machine → Type 0
-  IsBorne b m = (x : Seated (Desk (Kept M))) × (b.drives ≡ x ∷ []) × Stands seen x.machine.dos m
+  abbrev pub IsBorne : Cabled (KeptDesk M) → Machine → Type 0
+  IsBorne b m = (x : Seated (KeptDesk M)) × (b.drives ≡ x ∷ []) × DosStands seen x.machine m
 
   -- from these stations these events were given
-  abbrev pub IsAt : Turns → Cabled (Desk (Kept M)) → List (Station (Desk Machine)) → List Event → Type 0
-  IsAt p b ss es = IsAfter (Desk (Kept M)) (Desk Machine) (DeskStands seen) desk_step desk_says p b 0 ss es
+  abbrev pub IsAt : Turns → Cabled (KeptDesk M) → List (Station (Desk Machine)) → List Event → Type 0
+  IsAt p b ss es = IsAfter (KeptDesk M) (Desk Machine) (DeskStands seen) desk_step desk_says p b 0 ss es
 
   -- the drive is at power up, for a machine
-  abbrev pub IsDriveSwitchedOn : Party → Turns → Cabled (Desk (Kept M)) → Machine → Type 0
+  abbrev pub IsDriveSwitchedOn : Party → Turns → Cabled (KeptDesk M) → Machine → Type 0
   IsDriveSwitchedOn drive p b m = IsAt p b (trace_powered drive m) []
 
   -- the same with each disk that a medium which shows this holds
-  abbrev pub StandsOn : Seen → Party → Turns → Cabled (Desk (Kept M)) → Type 0
+  abbrev pub StandsOn : Seen → Party → Turns → Cabled (KeptDesk M) → Type 0
   StandsOn shows drive p b = (d : Disk) → HoldsDisk shows.tracks shows.content d → IsDriveSwitchedOn drive p b (start d shows.protected shows.tracks)
 
   -- what was played of a drive that represents a machine of named files
-  abbrev pub HasPlayedOn : Option (List ℕ) → Option (List ℕ) → List Change → Turns → Cabled (Desk (Kept M)) → List (Station (Desk Machine)) → List Event → Type 0
-  HasPlayedOn a b cs p c ss es = HasMade (Desk (Kept M)) (Desk Machine) (DeskStands seen) desk_step desk_says a b cs p c ss es
+  abbrev pub HasPlayedOn : Option (List ℕ) → Option (List ℕ) → List Change → Turns → Cabled (KeptDesk M) → List (Station (Desk Machine)) → List Event → Type 0
+  HasPlayedOn a b cs p c ss es = HasMade (KeptDesk M) (Desk Machine) (DeskStands seen) desk_step desk_says a b cs p c ss es
 
   -- A beginning of these changes was made, and what came of them; a beginning of the events was written.
   pub record HasPlayedPart (a b : Option (List ℕ)) (cs : List Change) (ss : List (Station (Desk Machine))) (es : List Event) : Type 0 where
@@ -80,23 +80,23 @@ module _ {M : Type 0} (seen : M → Seen) where
     pub written : AppendsPart a b (trace_text made)
 
   -- the same to an end
-  abbrev pub HasEnded : Option (List ℕ) → Option (List ℕ) → ℕ → Turns → Cabled (Desk (Kept M)) → List (Station (Desk Machine)) → List Event → Type 0
-  HasEnded a b end p c ss es = HasMadeTo (Desk (Kept M)) (Desk Machine) (DeskStands seen) desk_step desk_says a b end p c ss es
+  abbrev pub HasEnded : Option (List ℕ) → Option (List ℕ) → ℕ → Turns → Cabled (KeptDesk M) → List (Station (Desk Machine)) → List Event → Type 0
+  HasEnded a b end p c ss es = HasMadeTo (KeptDesk M) (Desk Machine) (DeskStands seen) desk_step desk_says a b end p c ss es
 
   -- the drive was played on, wherever it was before
-  abbrev pub PlaysOn : Option (List ℕ) → Option (List ℕ) → List Change → Turns → Cabled (Desk (Kept M)) → Turns → Cabled (Desk (Kept M)) → Type 0
+  abbrev pub PlaysOn : Option (List ℕ) → Option (List ℕ) → List Change → Turns → Cabled (KeptDesk M) → Turns → Cabled (KeptDesk M) → Type 0
   PlaysOn a b cs p x q y = (ss : List (Station (Desk Machine))) (es : List Event) → IsAt p x ss es → HasPlayedOn a b cs q y ss es
 
   -- the drive was played on for a part of the changes, wherever it was before
-  abbrev pub PlaysPart : Option (List ℕ) → Option (List ℕ) → List Change → Turns → Cabled (Desk (Kept M)) → Type 0
+  abbrev pub PlaysPart : Option (List ℕ) → Option (List ℕ) → List Change → Turns → Cabled (KeptDesk M) → Type 0
   PlaysPart a b cs p x = (ss : List (Station (Desk Machine))) (es : List Event) → IsAt p x ss es → HasPlayedPart a b cs ss es
 
   -- the drive was played to an end, wherever it was before
-  abbrev pub Ends : Option (List ℕ) → Option (List ℕ) → ℕ → Turns → Cabled (Desk (Kept M)) → Turns → Cabled (Desk (Kept M)) → Type 0
+  abbrev pub Ends : Option (List ℕ) → Option (List ℕ) → ℕ → Turns → Cabled (KeptDesk M) → Turns → Cabled (KeptDesk M) → Type 0
   Ends a b end p x q y = (ss : List (Station (Desk Machine))) (es : List Event) → IsAt p x ss es → HasEnded a b end q y ss es
 
   -- WHAT WAS PLAYED was written; at a fault, which is one of writing, a beginning of what comes of these changes. The disk has as many tracks as before.
-  pub record HasStaged {A : Type 0} (result : Result A RunFault) (a b : Option (List ℕ)) (cs : List Change) (p : Turns) (x y : Cabled (Desk (Kept M))) : Type 0 where
+  pub record HasStaged {A : Type 0} (result : Result A RunFault) (a b : Option (List ℕ)) (cs : List Change) (p : Turns) (x y : Cabled (KeptDesk M)) : Type 0 where
     pub err : OnErr result (PlaysPart a b cs p x)
     pub fault : IfErr result IsOfWriting
     pub grows : AppendsMore a b

@@ -1,14 +1,14 @@
 //! A drive under a host whose changes are made one at a time, and printed with what comes of them.
-ghost use Rattle.std.specs.Prelude.{◌≡◌, ◌-◌, ◌^◌, ◌<◌, ◌≤◌, ◌∷◌, [], OnOk};
+ghost use Rattle.std.specs.Prelude.{◌≡◌, ◌-◌, ◌^◌, ◌<◌, ◌∷◌, [], OnOk};
 ghost use Rattle.bus_traces.specs.Events.{event_text};
 ghost use Rattle.cbm_machine.specs.Machines.{Machine};
-ghost use Rattle.cbm_drive.specs.Standing.{Kept};
 ghost use Rattle.cbm_drive.specs.Desks as desks;
 ghost use Rattle.cbm_drive.specs.Seats.{Seated};
 ghost use Rattle.cbm_host.specs.Hosted.{party_of};
 ghost use Rattle.cbm_program.specs.Output.{Writes};
 ghost use Rattle.cbm_program.specs.Staging.{IsOpen, IsBorne, IsFresh, StandsOn, PlaysOn, Ends, ReplaysOn, ReplaysTo, HasStaged, tracks_of_drives};
 ghost use Rattle.cbm_program.specs.Starts.{KeptBy};
+ghost use Rattle.cbm_drive.specs.KeptDesks.{KeptDesk};
 
 use crate::fault::RunFault;
 use crate::output::print;
@@ -103,7 +103,7 @@ impl<M: Steady> Stage<M> {
 
     /// The medium, with all that was written to it.
     pub(crate) fn into_medium(self) -> M
-        ensures medium { (x : Seated (desks.Desk (Kept M))) → self.bus.drives ≡ x ∷ [] → result ≡ x.machine.dos.medium }
+        ensures medium { (x : Seated (KeptDesk M)) → self.bus.drives ≡ x ∷ [] → result ≡ x.machine.dos.medium }
         ensures disk { (m : Machine) → IsBorne M.seen self.bus m → KeptBy (M.seen result) m }
     {
         let Stage { bus, .. } = self;
