@@ -86,7 +86,11 @@ PARTS = {
         ("bytes to a channel and from it, by calls", "cbm_talk", "hear said"),
     ],
     "Scripts": [
-        ("what a script prints on a disk, of requests or of line changes, and the image given back", "cbm_program", "run"),
+        ("a script of requests: what it prints on a disk, and the image given back", "cbm_program", "run:requests"),
+        ("a script of line changes: its trace, and the image given back", "cbm_program", "run:changes"),
+        ("that trace under a host that keeps the timing", "cbm_program", "run:kept"),
+        ("and under one that keeps it loosely", "cbm_program", "run:loosely"),
+        ("what comes of a run, whatever the script and the image are", "cbm_program", "run:outcome"),
         ("the program's exit status", "drive1541", "exit_status of_run"),
     ],
     "The tool": [
