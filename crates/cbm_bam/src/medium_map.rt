@@ -1,8 +1,9 @@
-ghost use Rattle.std.specs.Prelude.{◌≡◌, ◌≢◌, ◌==◌, ◌≤◌, Ok, Err, IsOk, IfOk, IfErr, OnOk, find, is_some};
+ghost use Rattle.std.specs.Prelude.{◌≡◌, ◌≢◌, ◌==◌, ◌≤◌, Ok, IsOk, IfOk, IfErr, OnOk, find, is_some};
 ghost use Rattle.cbm_medium.specs.Place.{Place, directory_head, sectors_on};
 ghost use Rattle.cbm_medium.specs.Content.{IsWhole};
 ghost use Rattle.cbm_bam.specs.Orders.{directory_order};
 ghost use Rattle.cbm_bam.specs.Map.{map_of, is_free_in, count_in, tally, free_in, number, geometry_of};
+ghost use Rattle.cbm_bam.specs.Causes.{IsHeadFault};
 
 use crate::map;
 use crate::order::in_directory;
@@ -34,8 +35,7 @@ pub fn geometry<M: Medium>(medium: &M) -> Geometry
 pub fn read_map<M: Medium>(medium: &M, geometry: Geometry) -> Result<[u8; 256], Trouble>
     requires { geometry ≤ (M.seen medium.now).tracks }
     ensures ok { IfOk result (λ map. (M.seen medium.now).content directory_head ≡ Ok map) }
-    ensures err { IfErr result (λ t. ((M.seen medium.now).content directory_head ≡ Err t.code) × (t.track ≡ 18) ×
-        (t.sector ≡ 0)) }
+    ensures err { IfErr result (IsHeadFault (M.seen medium.now).content) }
     ensures never_26 { IfErr result (λ t. t.code ≢ 26) }
 {
     prove!(geometry.tracks() >= 35);
@@ -48,8 +48,7 @@ pub fn is_free<M: Medium>(medium: &M, geometry: Geometry, at: Address) -> Result
     requires { geometry ≤ (M.seen medium.now).tracks }
     ensures ok { IfOk result (λ free. free ≡ is_free_in (map_of (M.seen medium.now).content) at) }
     ensures read { OnOk result (IsOk ((M.seen medium.now).content directory_head)) }
-    ensures err { IfErr result (λ t. ((M.seen medium.now).content directory_head ≡ Err t.code) × (t.track ≡ 18) ×
-        (t.sector ≡ 0)) }
+    ensures err { IfErr result (IsHeadFault (M.seen medium.now).content) }
 {
     let map = read_map(medium, geometry)?;
     Ok(map::has(&map, at))
@@ -60,8 +59,7 @@ pub fn free_blocks<M: Medium>(medium: &M, geometry: Geometry) -> Result<u16, Tro
     requires { geometry ≤ (M.seen medium.now).tracks }
     ensures ok { IfOk result (λ free. free ≡ free_in geometry (map_of (M.seen medium.now).content)) }
     ensures read { OnOk result (IsOk ((M.seen medium.now).content directory_head)) }
-    ensures err { IfErr result (λ t. ((M.seen medium.now).content directory_head ≡ Err t.code) × (t.track ≡ 18) ×
-        (t.sector ≡ 0)) }
+    ensures err { IfErr result (IsHeadFault (M.seen medium.now).content) }
 {
     let map = read_map(medium, geometry)?;
     Ok(map::free_blocks(&map, geometry.tracks()))
@@ -72,8 +70,7 @@ pub fn free_bits<M: Medium>(medium: &M, geometry: Geometry) -> Result<u16, Troub
     requires { geometry ≤ (M.seen medium.now).tracks }
     ensures ok { IfOk result (λ free. free ≡ number geometry (is_free_in (map_of (M.seen medium.now).content))) }
     ensures read { OnOk result (IsOk ((M.seen medium.now).content directory_head)) }
-    ensures err { IfErr result (λ t. ((M.seen medium.now).content directory_head ≡ Err t.code) × (t.track ≡ 18) ×
-        (t.sector ≡ 0)) }
+    ensures err { IfErr result (IsHeadFault (M.seen medium.now).content) }
     ensures never_26 { IfErr result (λ t. t.code ≢ 26) }
 {
     let map = read_map(medium, geometry)?;
@@ -86,8 +83,7 @@ pub fn has_directory_room<M: Medium>(medium: &M, geometry: Geometry) -> Result<b
     ensures ok { IfOk result (λ room. room ≡ is_some (find (is_free_in (map_of (M.seen medium.now).content))
         directory_order)) }
     ensures read { OnOk result (IsOk ((M.seen medium.now).content directory_head)) }
-    ensures err { IfErr result (λ t. ((M.seen medium.now).content directory_head ≡ Err t.code) × (t.track ≡ 18) ×
-        (t.sector ≡ 0)) }
+    ensures err { IfErr result (IsHeadFault (M.seen medium.now).content) }
 {
     let map = read_map(medium, geometry)?;
     Ok(in_directory(&map).is_some())
@@ -100,8 +96,7 @@ pub fn is_counted<M: Medium>(medium: &M, geometry: Geometry, track: u8) -> Resul
     ensures ok { let map = map_of (M.seen medium.now).content in
         IfOk result (λ counted. counted ≡ (count_in map track == tally (is_free_in map) track (sectors_on track))) }
     ensures read { OnOk result (IsOk ((M.seen medium.now).content directory_head)) }
-    ensures err { IfErr result (λ t. ((M.seen medium.now).content directory_head ≡ Err t.code) × (t.track ≡ 18) ×
-        (t.sector ≡ 0)) }
+    ensures err { IfErr result (IsHeadFault (M.seen medium.now).content) }
 {
     let map = read_map(medium, geometry)?;
     Ok(map::is_counted(&map, track))

@@ -1,7 +1,7 @@
 -- A writer that needs a block: what becomes of it, and why it is refused.
-use Rattle.std.specs.Prelude.{ℕ, ◌≡◌, Bool, true, Option, Result, IfOk, IfErr, OnErr, MatchBool}
+use Rattle.std.specs.Prelude.{ℕ, ◌≡◌, ◌⊎◌, Bool, true, Option, Some, Result, IfOk, IfErr, OnErr, MatchBool, MatchOption}
 use Rattle.cbm_medium.specs.Place.{Place}
-use Rattle.cbm_medium.specs.Seen.{Seen}
+use Rattle.cbm_medium.specs.Seen.{Seen, write_refusal, HasFailed}
 use Rattle.cbm_medium.specs.declared.fault.Trouble.{Trouble}
 use Rattle.cbm_bam.specs.Map.{map_of}
 use Rattle.cbm_chain.specs.Writing.{State, IsForFiles, GoesOnWriting, IsFullFor, IsWriteStopped, IsRefusedFor, free_after}
@@ -22,3 +22,7 @@ StopsFor result old new tracks current = IsForFiles tracks current → OnErr res
 -- where it is refused a block, the map refuses it, or the block that is full
 abbrev pub IsHeldUp : Result Bool Trouble → Seen → Seen → ℕ → Option Place → Type 0
 IsHeldUp result old new tracks current = IsForFiles tracks current → IfErr result (λ t. IsRefusedFor old new current t.code)
+
+-- where a writer's last block is refused, it refuses a write, or the medium failed; without a block nothing is refused
+abbrev pub IsEndRefused : Seen → Seen → Option Place → ℕ → Type 0
+IsEndRefused old new current code = MatchOption current ⊥ (λ p. (write_refusal old p ≡ Some code) ⊎ HasFailed old new)

@@ -1,5 +1,5 @@
 -- The directory grows by a sector of track 18.
-use Rattle.std.specs.Prelude.{ℕ, ◌<◌, ◌≡◌, ◌⊎◌, List, [], ◌∷◌, ◌++◌, length, replicate, find, Some, None}
+use Rattle.std.specs.Prelude.{ℕ, ◌<◌, ◌≡◌, ◌⊎◌, List, [], ◌∷◌, ◌++◌, length, replicate, find, Bool, Some, None, MatchBool}
 use Rattle.cbm_medium.specs.Place.{Place, Has, directory_head}
 use Rattle.cbm_medium.specs.Content.{Content, written}
 use Rattle.cbm_medium.specs.Links.{Chain, bytes_at, follow}
@@ -42,6 +42,10 @@ pub record Grows (tracks : ℕ) (old new : Content) : Type 0 where
   pub sector : List ℕ
   pub links : HasLink (bytes_at old last) sector more
   pub written : new ≡ written (written claimed more new_sector) last sector
+
+-- it grows, or it can't, and nothing has changed
+abbrev pub GrowsIfRoom : ℕ → Content → Content → Bool → Type 0
+GrowsIfRoom tracks old new done = MatchBool done (Grows tracks old new) (CannotGrow tracks old × (new ≡ old))
 
 -- what a refused write leaves: nothing has changed; or a sector of track 18 is claimed, and may be written as a new one
 abbrev pub GrowthStopped : ℕ → Content → Content → Type 0

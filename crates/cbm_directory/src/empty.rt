@@ -39,10 +39,8 @@ pub fn first_empty<M: Medium>(medium: &M, geometry: Geometry) -> Result<Option<u
 /// directory as it was, with at most a sector of track 18 claimed, or grown where it breaks off only then.
 pub fn empty_slot<M: Medium>(medium: &mut M, geometry: Geometry) -> Result<Option<u8>, Trouble>
     requires { geometry ≤ (M.seen medium.old).tracks }
-    ensures taken { let old = M.seen medium.old in let new = M.seen medium.new in
-        IfOk result (TakesSlot geometry old.content new.content) }
-    ensures stopped { let old = M.seen medium.old in let new = M.seen medium.new in
-        IfErr result (SlotStopped geometry old.content new.content) }
+    ensures taken { IfOk result (TakesSlot geometry (M.seen medium.old).content (M.seen medium.new).content) }
+    ensures stopped { IfErr result (SlotStopped geometry (M.seen medium.old).content (M.seen medium.new).content) }
     ensures cause { IfErr result (IsSlotRefused geometry (M.seen medium.old) (M.seen medium.new)) }
     ensures only { OnlyContent geometry result (M.seen medium.old) (M.seen medium.new) }
 {

@@ -1,10 +1,10 @@
 // The directory grows.
 
-ghost use Rattle.std.specs.Prelude.{◌≡◌, ◌≢◌, ℕ, ◌≤◌, true, ◌⊎◌, Some, Ok, IfOk, IfErr, OnErr, MatchBool};
+ghost use Rattle.std.specs.Prelude.{◌≡◌, ◌≢◌, ◌≤◌, true, Some, Ok, IfOk, IfErr, OnErr};
 ghost use Rattle.cbm_medium.specs.Links.{follow};
 ghost use Rattle.cbm_medium.specs.Seen.{OnlyContent};
 ghost use Rattle.cbm_directory.specs.Entries.{HasLink, first_directory};
-ghost use Rattle.cbm_directory.specs.Growth.{IsLastSector, new_sector, CannotGrow, Grows, GrowthStopped, IsGrowthRefused};
+ghost use Rattle.cbm_directory.specs.Growth.{IsLastSector, new_sector, GrowthStopped, IsGrowthRefused, GrowsIfRoom};
 
 use crate::slots::MOST;
 use cbm_bam::claim_directory;
@@ -70,11 +70,8 @@ fn blank() -> [u8; 256]
 /// eighteen, whatever the map says. An `Err` leaves the directory as it was, with at most that sector claimed.
 pub fn grow<M: Medium>(medium: &mut M, geometry: Geometry) -> Result<bool, Trouble>
     requires { geometry ≤ (M.seen medium.old).tracks }
-    ensures grown { let old = M.seen medium.old in let new = M.seen medium.new in
-        IfOk result (λ done. MatchBool done (Grows geometry old.content new.content)
-        (CannotGrow geometry old.content × (new.content ≡ old.content))) }
-    ensures stopped { OnErr result
-        (GrowthStopped geometry (M.seen medium.old).content (M.seen medium.new).content) }
+    ensures grown { IfOk result (GrowsIfRoom geometry (M.seen medium.old).content (M.seen medium.new).content) }
+    ensures stopped { OnErr result (GrowthStopped geometry (M.seen medium.old).content (M.seen medium.new).content) }
     ensures cause { IfErr result (IsGrowthRefused geometry (M.seen medium.old) (M.seen medium.new)) }
     ensures only { OnlyContent geometry result (M.seen medium.old) (M.seen medium.new) }
 {

@@ -1,9 +1,10 @@
 -- A relative file grows by a block: it is claimed, written and linked to, and then a side sector lists it.
-use Rattle.std.specs.Prelude.{ℕ, ◌+◌, ◌-◌, ◌*◌, ◌%◌, ◌<◌, ◌≤◌, ◌≡◌, ◌≢◌, ◌⊎◌, ◌==◌, Bool, if◌then◌else◌, List, [], length, slice_index, find, Some, Ok, Err, IsOk}
+use Rattle.std.specs.Prelude.{ℕ, ◌+◌, ◌-◌, ◌*◌, ◌%◌, ◌<◌, ◌≤◌, ◌≡◌, ◌≢◌, ◌⊎◌, ◌==◌, Bool, if◌then◌else◌, List, [], length, slice_index, find, Some, Result, Ok, Err, IsOk, MatchResult}
 use Rattle.cbm_medium.specs.Place.{Place, Has, directory_head}
 use Rattle.cbm_medium.specs.Content.{Content, written}
 use Rattle.cbm_medium.specs.Links.{bytes_at, link}
 use Rattle.cbm_medium.specs.Seen.{Seen}
+use Rattle.cbm_medium.specs.declared.fault.Trouble.{Trouble}
 use Rattle.cbm_bam.specs.Map.{map_of, is_free_in, Claims}
 use Rattle.cbm_bam.specs.Orders.{next_order}
 use Rattle.cbm_bam.specs.Causes.{HasCause}
@@ -92,6 +93,13 @@ pub record IsSideLinked (old new : Content) (at : Place) (i k : ℕ) (t : Place)
   pub more : List ℕ
   pub lists : ListsSide side k t (i + 1 == k) more
   pub written : new ≡ written old at more
+
+-- a block is listed, or that is refused; and a side sector is named by another one, or that is refused
+abbrev pub ListsBlock : {A : Type 0} → Result A Trouble → ℕ → Seen → Seen → Place → ℕ → Place → Type 0
+ListsBlock result tracks old new at k q = MatchResult result (λ x. IsBlockListed old.content new.content at k q) (λ t. IsListStopped tracks old new t.code)
+
+abbrev pub LinksSide : {A : Type 0} → Result A Trouble → ℕ → Seen → Seen → Place → ℕ → ℕ → Place → Type 0
+LinksSide result tracks old new at i k side = MatchResult result (λ x. IsSideLinked old.content new.content at i k side) (λ t. IsListStopped tracks old new t.code)
 
 -- A new side sector t, the one after this many others: it is the last, and lists one block.
 pub record IsNewSide (head : List ℕ) (k w : ℕ) (q t : Place) (new : List ℕ) : Type 0 where

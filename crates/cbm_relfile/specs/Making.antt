@@ -1,5 +1,5 @@
 -- A new relative file: one block of fresh records, and one side sector that lists it.
-use Rattle.std.specs.Prelude.{ℕ, ◌+◌, ◌*◌, ◌/◌, ◌%◌, ◌<◌, ◌≤◌, ◌≡◌, ◌==◌, ◌⊎◌, nat_lt, List, ◌∷◌, ◌++◌, length, replicate, slice_index, find, if◌then◌else◌, Some}
+use Rattle.std.specs.Prelude.{ℕ, ◌+◌, ◌*◌, ◌/◌, ◌%◌, ◌<◌, ◌≤◌, ◌≡◌, ◌==◌, ◌⊎◌, nat_lt, List, ◌∷◌, ◌++◌, length, replicate, slice_index, find, if◌then◌else◌, Some, Option, MatchOption}
 use Rattle.cbm_medium.specs.Place.{Place, directory_head}
 use Rattle.cbm_medium.specs.Content.{Content, written}
 use Rattle.cbm_medium.specs.Seen.{Seen, write_refusal, HasFailed}
@@ -33,6 +33,10 @@ pub record AreClaimed (tracks : ℕ) (old new : Content) (p q : Place) : Type 0 
 -- No block is free, or no second one.
 abbrev pub LacksBlocks : ℕ → Content → Content → Type 0
 LacksBlocks tracks old new = (IsFull tracks (map_of old) × (new ≡ old)) ⊎ ((p : Place) × Claims tracks old new p × IsFull tracks (map_of new))
+
+-- two blocks were claimed; or there weren't two, and one of them may be claimed
+abbrev pub ClaimsTwo : ℕ → Content → Content → Option (Place × Place) → Type 0
+ClaimsTwo tracks old new o = MatchOption o (LacksBlocks tracks old new) (λ r. AreClaimed tracks old new r.0 r.1)
 
 -- A claim was refused, the first or the second, for what stands in 18/0 then, or by a failure of the medium's own.
 pub record IsClaimStopped (tracks : ℕ) (old new : Seen) (code : ℕ) : Type 0 where

@@ -1,11 +1,13 @@
 -- What the volume's calls that write leave of a sound disk.
-use Rattle.std.specs.Prelude.{ℕ, max, ◌≡◌, Bool, true, false, List, Result, IfOk, IfErr, OnErr}
+use Rattle.std.specs.Prelude.{ℕ, max, ◌≡◌, Bool, true, false, List, Some, Result, IfOk, IfErr, OnErr}
+use Rattle.cbm_medium.specs.Content.{Content}
 use Rattle.cbm_medium.specs.Seen.{Seen, OnlyContent}
 use Rattle.cbm_medium.specs.declared.fault.Trouble.{Trouble}
-use Rattle.cbm_file.specs.Files.{Disk}
+use Rattle.cbm_file.specs.Padding.{before_filler}
+use Rattle.cbm_file.specs.Files.{Disk, File, file_at, with_slot}
 use Rattle.cbm_bam.specs.Map.{geometry_of}
 use Rattle.cbm_volume.specs.Layouts.{Untouched}
-use Rattle.cbm_volume.specs.Opens.{IsHindered}
+use Rattle.cbm_volume.specs.Opens.{IsHindered, IsUnwritten}
 use Rattle.cbm_volume.specs.Writers.{Filling, Use, Idle, Writes, HoldsNow, Stopped}
 
 -- this holds of each disk that the medium holds, however the channels use it
@@ -42,6 +44,11 @@ pub record IsOneWrite {A : Type 0} (result : Result A Trouble) (old new : Seen) 
   pub done : IfOk result Done
   pub cause : IfErr result (IsHindered old new)
   pub untouched : LeavesFiles old new (λ m. false)
+
+-- WHAT RENAME MAKES of a file that no channel writes: it has another name, and all else of it stays.
+abbrev pub IsRenamed : ℕ → Content → Disk → (ℕ → Use) → ℕ → List ℕ → Type 0
+IsRenamed medium new d uses slot name = (f : File) → file_at d slot ≡ Some f → IsUnwritten uses slot
+    → HoldsNow medium new (with_slot d slot (Some (record f { name = before_filler name }))) uses
 
 -- ---- on any content
 

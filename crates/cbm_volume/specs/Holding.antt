@@ -2,6 +2,7 @@
 use Rattle.std.specs.Prelude.{ℕ, ◌+◌, ◌*◌, ◌%◌, ◌<◌, ◌≤◌, ◌≡◌, ◌==◌, true, false, List, length, slice_index, Option, Some, None, Result, Ok, Err}
 use Rattle.std.specs.List.{AllZip}
 use Rattle.cbm_medium.specs.Content.{Content}
+use Rattle.cbm_medium.specs.Seen.{Seen}
 use Rattle.cbm_medium.specs.declared.fault.Trouble.{Trouble}
 use Rattle.cbm_file.specs.declared.file_type.FileType.TheVariants.{Rel}
 use Rattle.cbm_file.specs.Types.{type_with, is_same_type}
@@ -10,11 +11,19 @@ use Rattle.cbm_bam.specs.Map.{geometry_of}
 use Rattle.cbm_directory.specs.Entries.{type_byte, bit_of, is_closed, width_of, name_in}
 use Rattle.cbm_directory.specs.Slots.{Listed, Answers, directory_of}
 use Rattle.cbm_volume.specs.Blocks.{Blocks, slot_with}
-use Rattle.cbm_volume.specs.Layouts.{Means}
+use Rattle.cbm_volume.specs.Layouts.{Layout, Sound, Means}
 
 -- A medium of this many tracks with this content holds this disk: the content is sound, and means it.
 abbrev pub HoldsDisk : ℕ → Content → Disk → Type 0
 HoldsDisk medium content d = Means (geometry_of medium content) content d
+
+-- it is sound, with some layout
+abbrev pub HasSoundLayout : Seen → Type 0
+HasSoundLayout now = (l : Layout) × Sound (geometry_of now.tracks now.content) now.content l
+
+-- this holds of each layout with which it is sound
+abbrev pub OfSound : Seen → (Layout → Type 0) → Type 0
+OfSound now P = (l : Layout) → Sound (geometry_of now.tracks now.content) now.content l → P l
 
 -- The entry is that of a slot: what it says of its file is true of the file in the slot.
 pub record IsSlot (file : Option File) (entry : List ℕ) : Type 0 where

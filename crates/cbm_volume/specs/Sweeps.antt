@@ -1,12 +1,15 @@
 -- Slots that were never closed become empty, one after another.
-use Rattle.std.specs.Prelude.{ℕ, ◌*◌, ◌%◌, ◌<◌, ◌≤◌, ◌⊎◌, ◌≡◌, ◌≢◌, List, true, false, length, slice_index, IsOk}
+use Rattle.std.specs.Prelude.{ℕ, ◌*◌, ◌%◌, ◌<◌, ◌≤◌, ◌⊎◌, ◌≡◌, ◌≢◌, List, true, false, length, slice_index, Result, IsOk, IfErr}
 use Rattle.cbm_medium.specs.Place.{Place, directory_head}
 use Rattle.cbm_medium.specs.Content.{Content}
 use Rattle.cbm_medium.specs.Links.{Chain, IsApart, bytes_at, link}
+use Rattle.cbm_medium.specs.Seen.{Seen}
+use Rattle.cbm_medium.specs.declared.fault.Trouble.{Trouble}
 use Rattle.cbm_bam.specs.Map.{IsOutsideMap, map_of}
 use Rattle.cbm_directory.specs.Entries.{type_byte, is_closed, entry_at, sector_of, first_directory}
 use Rattle.cbm_directory.specs.EntryChanges.{Clears}
 use Rattle.cbm_volume.specs.Layouts.{IsCellWritable}
+use Rattle.cbm_volume.specs.Opens.{IsHindered}
 
 -- A closed entry stays, and one that isn't closed is an empty slot then.
 pub record IsSweptAs (old new : List ℕ) : Type 0 where
@@ -20,6 +23,10 @@ IsDirectoryChain tracks c directory = Chain tracks c first_directory directory �
 -- this holds of the directory, wherever it lies
 abbrev pub OfDirectory : ℕ → Content → (List Place → Type 0) → Type 0
 OfDirectory tracks c P = (directory : List Place) → IsDirectoryChain tracks c directory → P directory
+
+-- where the directory is whole, a refusal has its cause in what refuses a write, or the medium failed
+abbrev pub StopsSweep : {A : Type 0} → ℕ → Seen → Seen → Result A Trouble → Type 0
+StopsSweep tracks old new result = OfDirectory tracks old.content (λ directory. IfErr result (IsHindered old new))
 
 -- The slots before k are swept, those from k on are as they were, and so are the directory's links and all other sectors.
 pub record IsSwept (old new : Content) (directory : List Place) (k : ℕ) : Type 0 where

@@ -4,7 +4,7 @@ ghost use Rattle.std.specs.Prelude.{◌≡◌, ◌≢◌, ◌≤◌, ◌<◌, �
 ghost use Rattle.cbm_medium.specs.Place.{Has};
 ghost use Rattle.cbm_medium.specs.Seen.{OnlyContent};
 ghost use Rattle.cbm_bam.specs.Map.{IsFull, map_of};
-ghost use Rattle.cbm_relfile.specs.Growing.{fresh_place, IsLengthened, IsLengthenStopped, ListsMore, IsBlockListed, IsListStopped, ListsSide, IsSideLinked, IsNewSide, IsSideBegun, OfSideAt};
+ghost use Rattle.cbm_relfile.specs.Growing.{fresh_place, IsLengthened, IsLengthenStopped, ListsMore, ListsSide, IsNewSide, IsSideBegun, OfSideAt, ListsBlock, LinksSide};
 ghost use Rattle.cbm_relfile.specs.Records.{OfSector};
 
 use crate::growth::fresh::{fresh_from, full_end};
@@ -103,10 +103,9 @@ pub fn list_block<M: Medium>(
 ) -> Result<(), Trouble>
     requires tracks { geometry ≤ (M.seen medium.old).tracks }
     requires number { number < 720 }
-    ensures listed { let old = M.seen medium.old in let new = M.seen medium.new in
-        OfSector geometry old.content first (λ head. OfSideAt geometry old.content head (number / 120) (λ at.
-        MatchResult result (λ x. IsBlockListed old.content new.content at (number % 120) block)
-        (λ t. IsListStopped geometry old new t.code))) }
+    ensures listed { let old = M.seen medium.old in OfSector geometry old.content first (λ head.
+        OfSideAt geometry old.content head (number / 120) (λ at.
+        ListsBlock result geometry old (M.seen medium.new) at (number % 120) block)) }
     ensures only { OnlyContent geometry result (M.seen medium.old) (M.seen medium.new) }
 {
     let head = read_at(medium, geometry, first)?;
@@ -197,10 +196,9 @@ pub fn link_side<M: Medium>(
 ) -> Result<(), Trouble>
     requires tracks { geometry ≤ (M.seen medium.old).tracks }
     requires number { (number < sides) × (sides < 6) }
-    ensures linked { let old = M.seen medium.old in let new = M.seen medium.new in
-        OfSector geometry old.content first (λ head. OfSideAt geometry old.content head number (λ at.
-        MatchResult result (λ x. IsSideLinked old.content new.content at number sides side)
-        (λ t. IsListStopped geometry old new t.code))) }
+    ensures linked { let old = M.seen medium.old in OfSector geometry old.content first (λ head.
+        OfSideAt geometry old.content head number (λ at.
+        LinksSide result geometry old (M.seen medium.new) at number sides side)) }
     ensures only { OnlyContent geometry result (M.seen medium.old) (M.seen medium.new) }
 {
     let head = read_at(medium, geometry, first)?;

@@ -1,8 +1,8 @@
 // A new relative file: one block of fresh records, and one side sector that lists it.
 
-ghost use Rattle.std.specs.Prelude.{◌≡◌, ◌≤◌, true, IfOk, IfErr, IfSome, OnOk, MatchOption};
+ghost use Rattle.std.specs.Prelude.{◌≡◌, ◌≤◌, IfOk, IfErr, IfSome, OnOk};
 ghost use Rattle.cbm_medium.specs.Seen.{OnlyContent};
-ghost use Rattle.cbm_relfile.specs.Making.{one_listed, IsFreshBlock, AreClaimed, LacksBlocks, IsClaimStopped, IsNewRelfile, IsNewStopped};
+ghost use Rattle.cbm_relfile.specs.Making.{one_listed, IsFreshBlock, IsClaimStopped, IsNewRelfile, IsNewStopped, ClaimsTwo};
 
 use crate::growth::fresh::{fresh_from, full_end};
 use crate::side::{BLOCKS, RECORD_LENGTH, SIDES};
@@ -38,9 +38,7 @@ pub fn claim_two<M: Medium>(
     geometry: Geometry,
 ) -> Result<Option<(Address, Address)>, Trouble>
     requires { geometry ≤ (M.seen medium.old).tracks }
-    ensures claimed { let old = M.seen medium.old in let new = M.seen medium.new in
-        IfOk result (λ o. MatchOption o (LacksBlocks geometry old.content new.content)
-        (λ r. AreClaimed geometry old.content new.content r.0 r.1)) }
+    ensures claimed { IfOk result (ClaimsTwo geometry (M.seen medium.old).content (M.seen medium.new).content) }
     ensures bound { IfOk result (λ o. IfSome o (λ r. (r.0.track ≤ geometry) × (r.1.track ≤ geometry))) }
     ensures stopped { IfErr result (λ t. IsClaimStopped geometry (M.seen medium.old) (M.seen medium.new) t.code) }
     ensures only { OnlyContent geometry result (M.seen medium.old) (M.seen medium.new) }
@@ -65,12 +63,10 @@ pub fn write_new<M: Medium>(
     length: u8,
 ) -> Result<(), Trouble>
     requires tracks { geometry ≤ (M.seen medium.old).tracks }
-    requires block { block.track ≤ geometry }
-    requires side { side.track ≤ geometry }
+    requires places { (block.track ≤ geometry) × (side.track ≤ geometry) }
     requires length { 1 ≤ length }
     ensures written { OnOk result (IsNewRelfile (M.seen medium.old).content (M.seen medium.new).content block side length) }
-    ensures stopped { IfErr result
-        (λ t. IsNewStopped (M.seen medium.old) (M.seen medium.new) block side t.code) }
+    ensures stopped { IfErr result (λ t. IsNewStopped (M.seen medium.old) (M.seen medium.new) block side t.code) }
     ensures only { OnlyContent geometry result (M.seen medium.old) (M.seen medium.new) }
 {
     medium.write(block, &fresh_block(length))?;

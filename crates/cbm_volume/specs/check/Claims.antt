@@ -1,13 +1,20 @@
 -- The walk along the sectors of a part of the disk, each of which is claimed once, and what is wrong with one of them.
-use Rattle.std.specs.Prelude.{ℕ, ◌≡◌, ◌≢◌, ◌==◌, ◌&&◌, not, List, [], ◌∷◌, Bool, true, false, if◌then◌else◌, Option, Some, None, Ok, Err}
-use Rattle.cbm_medium.specs.Place.{Place, has, sectors_on}
+use Rattle.std.specs.Prelude.{ℕ, ◌≤◌, ◌≡◌, ◌≢◌, ◌==◌, ◌&&◌, not, List, [], ◌∷◌, Bool, true, false, if◌then◌else◌, Option, Some, None, Ok, Err, IsOk}
+use Rattle.cbm_medium.specs.Place.{Place, directory_head, has, sectors_on}
 use Rattle.cbm_medium.specs.Content.{Cell, Content}
 use Rattle.cbm_medium.specs.Links.{bytes_at, link}
+use Rattle.cbm_medium.specs.Seen.{Seen}
 use Rattle.cbm_bam.specs.Map.{map_of, is_free_in, with_bit, tally, number}
 use Rattle.cbm_volume.specs.declared.check.unsound.Part.{Part}
 use Rattle.cbm_volume.specs.declared.check.unsound.Part.TheVariants.{OfDirectory, OfFile}
 use Rattle.cbm_volume.specs.declared.check.unsound.Unsound.{Unsound}
 
+-- what is asked of a medium on which a disk is looked at: it has as many tracks, and the disk's map reads
+pub record HasMap (tracks : ℕ) (now : Seen) : Type 0 where
+  pub within : tracks ≤ now.tracks
+  pub head : IsOk (now.content directory_head)
+
+-- a cell that holds bytes
 abbrev pub reads : Cell → Bool
 reads (Ok bytes) = true
 reads (Err code) = false

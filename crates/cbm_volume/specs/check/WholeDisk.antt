@@ -2,7 +2,8 @@
 use Rattle.std.specs.Prelude.{ℕ, ◌⊎◌, ◌≡◌, List, Bool, true}
 use Rattle.cbm_medium.specs.Place.{Place, Has, directory_head}
 use Rattle.cbm_medium.specs.Content.{Content}
-use Rattle.cbm_bam.specs.Map.{with_bit}
+use Rattle.cbm_medium.specs.Seen.{Seen}
+use Rattle.cbm_bam.specs.Map.{geometry_of, with_bit}
 use Rattle.cbm_bam.specs.Marks.{nothing}
 use Rattle.cbm_directory.specs.Entries.{first_directory}
 use Rattle.cbm_volume.specs.Layouts.{IsCellWritable}
@@ -59,3 +60,10 @@ DiskFault tracks content u =
     ⊎ ((AllWritable tracks content × IsMapFault tracks content u)
     ⊎ ((AllWritable tracks content × IsMapRight tracks content × DirectoryFault tracks content u)
     ⊎ (AllWritable tracks content × IsMapRight tracks content × SlotFault tracks content u)))
+
+-- the same of what a medium shows, with as many tracks as its map says
+abbrev pub ClaimsSeen : Seen → Type 0
+ClaimsSeen now = ClaimsDisk (geometry_of now.tracks now.content) now.content
+
+abbrev pub SeenFault : Seen → Unsound → Type 0
+SeenFault now u = DiskFault (geometry_of now.tracks now.content) now.content u

@@ -1,8 +1,8 @@
-ghost use Rattle.std.specs.Prelude.{◌≡◌, ◌≢◌, ◌≤◌, ℕ, List, true, Bool, None, Some, OnOk, IfOk, IfErr, IsOk, Ok};
-ghost use Rattle.cbm_medium.specs.Place.{Place, directory_head};
+ghost use Rattle.std.specs.Prelude.{◌≡◌, List, true, None, Some, OnOk, IfOk, IfErr, Ok};
+ghost use Rattle.cbm_medium.specs.Place.{Place};
 ghost use Rattle.cbm_bam.specs.Map.{with_bit};
 ghost use Rattle.cbm_bam.specs.Marks.{is_marked};
-ghost use Rattle.cbm_volume.specs.check.Claims.{wrong_at, fault_at, ClaimsChain, MeetsFault};
+ghost use Rattle.cbm_volume.specs.check.Claims.{wrong_at, fault_at, ClaimsChain, MeetsFault, HasMap};
 
 use crate::check::unsound::{Flaw, Part, Unsound};
 use cbm_bam::{SectorSet, is_free};
@@ -16,8 +16,7 @@ pub fn claim<M: Medium>(
     at: Link,
     claimed: &mut SectorSet,
 ) -> Result<[u8; 256], Unsound>
-    requires tracks { geometry ≤ (M.seen medium.now).tracks }
-    requires map { IsOk ((M.seen medium.now).content directory_head) }
+    requires map { HasMap geometry (M.seen medium.now) }
     ensures none { OnOk result (wrong_at part geometry (M.seen medium.now).content (is_marked claimed.old) at ≡ None) }
     ensures claimed { OnOk result (is_marked claimed.new ≡ with_bit (is_marked claimed.old) at true) }
     ensures read { IfOk result (λ bytes. (M.seen medium.now).content at ≡ Ok bytes) }
@@ -56,8 +55,7 @@ pub fn claim_chain<M: Medium>(
     first: Link,
     claimed: &mut SectorSet,
 ) -> Result<(), Unsound>
-    requires tracks { geometry ≤ (M.seen medium.now).tracks }
-    requires map { IsOk ((M.seen medium.now).content directory_head) }
+    requires map { HasMap geometry (M.seen medium.now) }
     ensures ok { OnOk result ((blocks : List Place) × ClaimsChain part geometry (M.seen medium.now).content
         (is_marked claimed.old) first blocks (is_marked claimed.new)) }
     ensures err { IfErr result (λ u. (blocks : List Place) × MeetsFault part geometry (M.seen medium.now).content

@@ -1,9 +1,9 @@
-ghost use Rattle.std.specs.Prelude.{◌≡◌, ◌≤◌, ◌<◌, ◌%◌, ℕ, true, false, OnOk, IfErr, IsOk, Ok};
-ghost use Rattle.cbm_medium.specs.Place.{directory_head};
+ghost use Rattle.std.specs.Prelude.{◌≡◌, ◌≤◌, ◌<◌, true, false, OnOk, IfErr, Ok};
 ghost use Rattle.cbm_directory.specs.Entries.{is_closed, is_relative, first_side};
 ghost use Rattle.cbm_bam.specs.Marks.{is_marked};
 ghost use Rattle.cbm_volume.specs.check.SideLists.{are_records_in, ClaimsSides, SidesFault};
 ghost use Rattle.cbm_volume.specs.check.SlotWalk.{ClaimsFile, FileFault, ClaimsEntry, EntryFault};
+ghost use Rattle.cbm_volume.specs.check.Claims.{HasMap};
 
 use crate::check::claims::claim_chain;
 use crate::check::records::walk_sides;
@@ -41,8 +41,7 @@ fn check_sides<M: Medium>(
     entry: &Entry,
     claimed: &mut SectorSet,
 ) -> Result<(), Unsound>
-    requires tracks { geometry ≤ (M.seen medium.now).tracks }
-    requires map { IsOk ((M.seen medium.now).content directory_head) }
+    requires map { HasMap geometry (M.seen medium.now) }
     ensures ok { OnOk result (ClaimsSides geometry (M.seen medium.now).content (is_marked claimed.old) entry.now
         (is_marked claimed.new)) }
     ensures err { IfErr result
@@ -63,8 +62,7 @@ fn check_relative<M: Medium>(
     entry: &Entry,
     claimed: &mut SectorSet,
 ) -> Result<(), Unsound>
-    requires tracks { geometry ≤ (M.seen medium.now).tracks }
-    requires map { IsOk ((M.seen medium.now).content directory_head) }
+    requires map { HasMap geometry (M.seen medium.now) }
     ensures ok { OnOk result (ClaimsFile true true geometry (M.seen medium.now).content
         (is_marked claimed.old) entry.now (is_marked claimed.new)) }
     ensures err { IfErr result (λ u. FileFault true true geometry (M.seen medium.now).content
@@ -85,8 +83,7 @@ fn check_file<M: Medium>(
     entry: &Entry,
     claimed: &mut SectorSet,
 ) -> Result<(), Unsound>
-    requires tracks { geometry ≤ (M.seen medium.now).tracks }
-    requires map { IsOk ((M.seen medium.now).content directory_head) }
+    requires map { HasMap geometry (M.seen medium.now) }
     ensures ok { OnOk result (ClaimsFile (is_closed entry.now) (is_relative entry.now) geometry
         (M.seen medium.now).content (is_marked claimed.old) entry.now (is_marked claimed.new)) }
     ensures err { IfErr result (λ u. FileFault (is_closed entry.now) (is_relative entry.now) geometry
@@ -109,8 +106,7 @@ pub fn check_entry<M: Medium>(
     entry: &Entry,
     claimed: &mut SectorSet,
 ) -> Result<(), Unsound>
-    requires tracks { geometry ≤ (M.seen medium.now).tracks }
-    requires map { IsOk ((M.seen medium.now).content directory_head) }
+    requires map { HasMap geometry (M.seen medium.now) }
     ensures ok { OnOk result (ClaimsEntry geometry (M.seen medium.now).content (is_marked claimed.old) entry.now
         (is_marked claimed.new)) }
     ensures err { IfErr result (λ u. EntryFault geometry (M.seen medium.now).content

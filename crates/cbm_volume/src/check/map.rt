@@ -1,7 +1,7 @@
-ghost use Rattle.std.specs.Prelude.{◌≡◌, ◌<◌, ◌≤◌, ℕ, true, false, OnOk, IfErr, IsOk};
+ghost use Rattle.std.specs.Prelude.{◌≡◌, ◌<◌, ◌≤◌, true, false, OnOk, IfErr, IsOk};
 ghost use Rattle.cbm_medium.specs.Place.{directory_head};
 ghost use Rattle.cbm_bam.specs.Map.{map_of, is_free_in, at};
-ghost use Rattle.cbm_volume.specs.check.Claims.{fault_at};
+ghost use Rattle.cbm_volume.specs.check.Claims.{fault_at, HasMap};
 ghost use Rattle.cbm_volume.specs.check.MapCounts.{is_counted_on, IsMapRight, IsMapFault};
 
 use crate::check::unsound::{Flaw, Unsound};
@@ -37,8 +37,7 @@ fn check_reads<M: Medium>(medium: &M, geometry: Geometry) -> Result<(), Unsound>
 
 /// Looks at 18/0's own bit: 2 where it is free.
 fn check_own_bit<M: Medium>(medium: &M, geometry: Geometry) -> Result<(), Unsound>
-    requires room { geometry ≤ (M.seen medium.now).tracks }
-    requires map { IsOk ((M.seen medium.now).content directory_head) }
+    requires map { HasMap geometry (M.seen medium.now) }
     ensures taken { OnOk result (is_free_in (map_of (M.seen medium.now).content) directory_head ≡ false) }
     ensures err { IfErr result (IsMapFault geometry (M.seen medium.now).content) }
 {

@@ -1,8 +1,8 @@
-ghost use Rattle.std.specs.Prelude.{◌≡◌, ◌≤◌, ℕ, List, OnOk, IfErr, IfOk, IsOk, Ok};
-ghost use Rattle.cbm_medium.specs.Place.{directory_head};
+ghost use Rattle.std.specs.Prelude.{◌≡◌, OnOk, IfErr, IfOk, Ok};
 ghost use Rattle.cbm_volume.specs.declared.check.unsound.Part.TheVariants.{OfFile};
 ghost use Rattle.cbm_bam.specs.Marks.{is_marked};
 ghost use Rattle.cbm_volume.specs.check.SideLists.{ClaimsEach, MeetsAmong, behind_first, sides_from};
+ghost use Rattle.cbm_volume.specs.check.Claims.{HasMap};
 
 use crate::check::claims::claim;
 use crate::check::unsound::{Part, Unsound};
@@ -17,8 +17,7 @@ fn claim_listed<M: Medium>(
     first: &[u8; 256],
     claimed: &mut SectorSet,
 ) -> Result<(), Unsound>
-    requires tracks { geometry ≤ (M.seen medium.now).tracks }
-    requires map { IsOk ((M.seen medium.now).content directory_head) }
+    requires map { HasMap geometry (M.seen medium.now) }
     ensures ok { OnOk result (ClaimsEach OfFile geometry (M.seen medium.now).content (is_marked claimed.old)
         (behind_first first.now) (is_marked claimed.new)) }
     ensures err { IfErr result (λ u. MeetsAmong OfFile geometry (M.seen medium.now).content (is_marked claimed.old)
@@ -44,8 +43,7 @@ pub fn claim_sides<M: Medium>(
     first: Link,
     claimed: &mut SectorSet,
 ) -> Result<[u8; 256], Unsound>
-    requires tracks { geometry ≤ (M.seen medium.now).tracks }
-    requires map { IsOk ((M.seen medium.now).content directory_head) }
+    requires map { HasMap geometry (M.seen medium.now) }
     ensures ok { OnOk result (ClaimsEach OfFile geometry (M.seen medium.now).content (is_marked claimed.old)
         (sides_from (M.seen medium.now).content first) (is_marked claimed.new)) }
     ensures read { IfOk result (λ bytes. (M.seen medium.now).content first ≡ Ok bytes) }

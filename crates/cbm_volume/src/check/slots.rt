@@ -1,7 +1,8 @@
-ghost use Rattle.std.specs.Prelude.{◌≡◌, ◌≤◌, ℕ, List, OnOk, IfErr, IsOk};
-ghost use Rattle.cbm_medium.specs.Place.{Place, directory_head};
+ghost use Rattle.std.specs.Prelude.{List, OnOk, IfErr};
+ghost use Rattle.cbm_medium.specs.Place.{Place};
 ghost use Rattle.cbm_bam.specs.Marks.{is_marked};
 ghost use Rattle.cbm_volume.specs.check.SlotWalk.{entries_in, ClaimsEntries, EntriesFault, ClaimsSlots, SlotsFault};
+ghost use Rattle.cbm_volume.specs.check.Claims.{HasMap};
 
 use crate::check::claims::claim;
 use crate::check::entries::check_entry;
@@ -18,8 +19,7 @@ fn check_entries<M: Medium>(
     sector: &[u8; 256],
     claimed: &mut SectorSet,
 ) -> Result<(), Unsound>
-    requires tracks { geometry ≤ (M.seen medium.now).tracks }
-    requires map { IsOk ((M.seen medium.now).content directory_head) }
+    requires map { HasMap geometry (M.seen medium.now) }
     ensures ok { OnOk result (ClaimsEntries geometry (M.seen medium.now).content (is_marked claimed.old)
         (entries_in sector.now) (is_marked claimed.new)) }
     ensures err { IfErr result (λ u. EntriesFault geometry (M.seen medium.now).content (is_marked claimed.old) at
@@ -40,8 +40,7 @@ pub fn check_slots<M: Medium>(
     met: &mut SectorSet,
     claimed: &mut SectorSet,
 ) -> Result<(), Unsound>
-    requires tracks { geometry ≤ (M.seen medium.now).tracks }
-    requires map { IsOk ((M.seen medium.now).content directory_head) }
+    requires map { HasMap geometry (M.seen medium.now) }
     ensures ok { OnOk result ((blocks : List Place) ×
         ClaimsSlots geometry (M.seen medium.now).content (is_marked met.old) (is_marked claimed.old) first blocks
         (is_marked claimed.new)) }

@@ -1,7 +1,6 @@
 // What a disk has room for.
 
 ghost use Rattle.std.specs.Prelude.{◌≡◌, ◌⊎◌, ◌||◌, Some, Err, IfOk, IfErr, IsOkAnd, find, is_some};
-ghost use Rattle.cbm_medium.specs.Place.{directory_head};
 ghost use Rattle.cbm_file.specs.Files.{Disk};
 ghost use Rattle.cbm_file.specs.Changes.{has_slot};
 ghost use Rattle.cbm_bam.specs.Map.{map_of, is_free_in, number, geometry_of};
@@ -9,6 +8,7 @@ ghost use Rattle.cbm_bam.specs.Orders.{directory_order};
 ghost use Rattle.cbm_directory.specs.Slots.{directory_of};
 ghost use Rattle.cbm_directory.specs.Empties.{empty_in};
 ghost use Rattle.cbm_volume.specs.Holding.{HoldsDisk};
+ghost use Rattle.cbm_bam.specs.Causes.{IsHeadFault};
 
 use crate::volume::Volume;
 use cbm_bam::{free_bits, has_directory_room};
@@ -37,8 +37,7 @@ impl<M: Medium> Volume<M> {
     pub fn blocks_free(&self) -> Result<u16, Trouble>
         ensures blocks { let now = M.seen self.now in IfOk result
             (λ n. n ≡ number (geometry_of now.tracks now.content) (is_free_in (map_of now.content))) }
-        ensures err { IfErr result (λ t. ((M.seen self.now).content directory_head ≡ Err t.code) × (t.track ≡ 18) ×
-            (t.sector ≡ 0)) }
+        ensures err { IfErr result (IsHeadFault (M.seen self.now).content) }
         ensures means { (d : Disk) → HoldsDisk (M.seen self.now).tracks (M.seen self.now).content d →
             IsOkAnd result (λ n. n ≡ d.free) }
     {
@@ -53,7 +52,7 @@ impl<M: Medium> Volume<M> {
             (is_some (empty_in 0 (directory_of (geometry_of now.tracks now.content) now.content).entries)
             || is_some (find (is_free_in (map_of now.content)) directory_order))) }
         ensures err { let now = M.seen self.now in IfErr result (λ t.
-            ((now.content directory_head ≡ Err t.code) × (t.track ≡ 18) × (t.sector ≡ 0))
+            IsHeadFault now.content t
             ⊎ ((directory_of (geometry_of now.tracks now.content) now.content).trouble ≡ Some t)) }
         ensures means { (d : Disk) → HoldsDisk (M.seen self.now).tracks (M.seen self.now).content d →
             IsOkAnd result (λ r. (r.blocks ≡ d.free) × (r.slot ≡ has_slot d)) }
@@ -69,7 +68,7 @@ impl<M: Medium> Volume<M> {
             (is_some (empty_in 0 (directory_of (geometry_of now.tracks now.content) now.content).entries)
             || is_some (find (is_free_in (map_of now.content)) directory_order))) }
         ensures err { let now = M.seen self.now in IfErr result (λ t.
-            ((now.content directory_head ≡ Err t.code) × (t.track ≡ 18) × (t.sector ≡ 0))
+            IsHeadFault now.content t
             ⊎ ((directory_of (geometry_of now.tracks now.content) now.content).trouble ≡ Some t)) }
     {
         let geometry = self.geometry();

@@ -2,21 +2,21 @@
 
 ghost use Rattle.std.specs.Prelude.{◌≡◌, ◌≢◌, ◌≤◌, ◌⊎◌, Some, true, false, IfOk, IfErr, IsOk, IsErrAnd, OnOk, OnErr, MatchResult, ℕ};
 ghost use Rattle.cbm_medium.specs.Place.{directory_head};
-ghost use Rattle.cbm_medium.specs.Seen.{OnlyContent, HasFailed, write_refusal};
+ghost use Rattle.cbm_medium.specs.Seen.{OnlyContent};
 ghost use Rattle.cbm_medium.specs.Content.{written};
 ghost use Rattle.cbm_file.specs.Files.{Disk};
 ghost use Rattle.cbm_file.specs.Changes.{validated};
 ghost use Rattle.cbm_bam.specs.Map.{geometry_of};
 ghost use Rattle.cbm_bam.specs.Marks.{is_marked};
-ghost use Rattle.cbm_volume.specs.Layouts.{Layout, Sound};
-ghost use Rattle.cbm_volume.specs.Holding.{HoldsDisk};
+ghost use Rattle.cbm_volume.specs.Holding.{HoldsDisk, OfSound};
 ghost use Rattle.cbm_volume.specs.Opens.{IsHindered};
 ghost use Rattle.cbm_volume.specs.Views.{view_of};
 ghost use Rattle.cbm_volume.specs.Unmendable.{code_at, flaw_code, IsUnmendable};
-ghost use Rattle.cbm_volume.specs.Sweeps.{OfDirectory, IsSwept, SlotSwept, IsPutInOrder, IsPartlyInOrder};
+ghost use Rattle.cbm_volume.specs.Sweeps.{OfDirectory, IsSwept, SlotSwept, IsPutInOrder, IsPartlyInOrder, StopsSweep};
 ghost use Rattle.cbm_volume.specs.Writers.{Idle};
 ghost use Rattle.cbm_volume.specs.check.WholeDisk.{ClaimsInto};
 ghost use Rattle.cbm_volume.specs.Calls.{OnlyOnDisk, OfDisk, IsChange, KeepsProtected};
+ghost use Rattle.cbm_bam.specs.Causes.{IsHeadRefused};
 
 use crate::check::{Flaw, Unsound, check_disk};
 use crate::disk::view::ClosedView;
@@ -65,8 +65,7 @@ fn flaw_code<M: Medium>(medium: &M, geometry: Geometry, flaw: Unsound) -> u8
 fn closed_sectors<M: Medium>(medium: &M) -> Result<SectorSet, Trouble>
     ensures ok { let now = M.seen medium.now in let tracks = geometry_of now.tracks now.content in
         IfOk result (λ set. ClaimsInto tracks (view_of tracks now.content) (is_marked set)) }
-    ensures exact { let now = M.seen medium.now in (l : Layout) →
-        Sound (geometry_of now.tracks now.content) now.content l → IsOk result }
+    ensures exact { OfSound (M.seen medium.now) (λ l. IsOk result) }
     ensures err { let now = M.seen medium.now in
         IfErr result (IsUnmendable (geometry_of now.tracks now.content) now.content) }
     ensures never_26 { IfErr result (λ t. t.code ≢ 26) }
@@ -89,8 +88,7 @@ fn sweep_slot<M: Medium>(medium: &mut M, geometry: Geometry, number: u8) -> Resu
     ensures swept { let old = M.seen medium.old in OfDirectory geometry old.content (λ directory.
         OnOk result (SlotSwept old.content (M.seen medium.new).content directory number)) }
     ensures err { OnErr result ((M.seen medium.new).content ≡ (M.seen medium.old).content) }
-    ensures cause { let old = M.seen medium.old in
-        OfDirectory geometry old.content (λ directory. IfErr result (IsHindered old (M.seen medium.new))) }
+    ensures cause { StopsSweep geometry (M.seen medium.old) (M.seen medium.new) result }
     ensures only { OnlyContent geometry result (M.seen medium.old) (M.seen medium.new) }
 {
     let Some(entry) = slot(medium, geometry, number)? else {
@@ -109,8 +107,7 @@ fn sweep<M: Medium>(medium: &mut M, geometry: Geometry) -> Result<(), Trouble>
         OnOk result (IsSwept old.content (M.seen medium.new).content directory 144)) }
     ensures stopped { let old = M.seen medium.old in OfDirectory geometry old.content (λ directory.
         OnErr result ((k : ℕ) × IsSwept old.content (M.seen medium.new).content directory k)) }
-    ensures cause { let old = M.seen medium.old in
-        OfDirectory geometry old.content (λ directory. IfErr result (IsHindered old (M.seen medium.new))) }
+    ensures cause { StopsSweep geometry (M.seen medium.old) (M.seen medium.new) result }
     ensures only { OnlyContent geometry result (M.seen medium.old) (M.seen medium.new) }
 {
     for number in 0..SLOTS {
@@ -125,8 +122,7 @@ fn write_map<M: Medium>(medium: &mut M, geometry: Geometry, map: &[u8; 256]) -> 
     ensures ok { OnOk result ((M.seen medium.new).content ≡ written (M.seen medium.old).content directory_head
         map.now) }
     ensures err { OnErr result ((M.seen medium.new).content ≡ (M.seen medium.old).content) }
-    ensures cause { IfErr result (λ t. (write_refusal (M.seen medium.old) directory_head ≡ Some t.code) ⊎
-        HasFailed (M.seen medium.old) (M.seen medium.new)) }
+    ensures cause { IfErr result (λ t. IsHeadRefused (M.seen medium.old) (M.seen medium.new) t.code) }
     ensures only { OnlyContent geometry result (M.seen medium.old) (M.seen medium.new) }
 {
     prove!(geometry.tracks() >= 35);

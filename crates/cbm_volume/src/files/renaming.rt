@@ -1,11 +1,7 @@
 // RENAME: a slot's entry gets another name.
 
 ghost use Rattle.std.specs.Prelude.{◌≡◌, ◌≤◌, Some, length, OnErr};
-ghost use Rattle.cbm_file.specs.Padding.{before_filler};
-ghost use Rattle.cbm_file.specs.Files.{File, file_at, with_slot};
-ghost use Rattle.cbm_volume.specs.Opens.{IsUnwritten};
-ghost use Rattle.cbm_volume.specs.Writers.{HoldsNow};
-ghost use Rattle.cbm_volume.specs.Calls.{OnlyOnDisk, OfDisk, IsOneWrite};
+ghost use Rattle.cbm_volume.specs.Calls.{OnlyOnDisk, OfDisk, IsOneWrite, IsRenamed};
 
 use crate::volume::Volume;
 use cbm_directory::put_slot;
@@ -18,9 +14,7 @@ impl<M: Medium> Volume<M> {
     pub fn rename(&mut self, slot: u8, name: &[u8]) -> Result<(), Trouble>
         requires { length name.now ≤ 16 }
         ensures call { let old = M.seen self.old in let new = M.seen self.new in
-            OfDisk old (λ d uses. IsOneWrite result old new
-            (λ x. (f : File) → file_at d slot ≡ Some f → IsUnwritten uses slot → HoldsNow old.tracks new.content
-            (with_slot d slot (Some (record f { name = before_filler name.now }))) uses)) }
+            OfDisk old (λ d uses. IsOneWrite result old new (λ x. IsRenamed old.tracks new.content d uses slot name.now)) }
         ensures err { OnErr result ((M.seen self.new).content ≡ (M.seen self.old).content) }
         ensures only { OnlyOnDisk result (M.seen self.old) (M.seen self.new) }
     {

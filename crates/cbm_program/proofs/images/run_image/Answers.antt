@@ -19,14 +19,14 @@ pub returns-in_err-disk-clause-requests : goal.returns-in_err-disk-clause-reques
 returns-in_err-disk-clause-requests g c =
     let p = err_from_is_err_and c.from_residual.result c.from_residual.ensures.1 in
     let run = run-refused c.from_residual.result _ _ (g.R.Read.remaining c.args.reader) (BeginsOn c.args.image.now c.args.options.now.protected) (λ saved m. ImageHolds (kind_of c.args.image.now) saved.items m.disk) c.args.pace c.args.options.now.device c.args.options.now.check (p.1 ∙ ap Err p.2)
-        (λ P. refused-ends c.from_residual.result _ _ P (p.1 ∙ ap Err p.2) c.in_err-disk.ensures.cause) in
+    (λ P. refused-ends c.from_residual.result _ _ P (p.1 ∙ ap Err p.2) c.in_err-disk.ensures.cause) in
     record { script = run.served; memory = λ e. inl (keeps-same _) }
 
 pub returns-in_err-disk-clause-changes : goal.returns-in_err-disk-clause-changes
 returns-in_err-disk-clause-changes g c =
     let p = err_from_is_err_and c.from_residual.result c.from_residual.ensures.1 in
     let run = run-refused c.from_residual.result _ _ (g.R.Read.remaining c.args.reader) (BeginsOn c.args.image.now c.args.options.now.protected) (λ saved m. ImageHolds (kind_of c.args.image.now) saved.items m.disk) c.args.pace c.args.options.now.device c.args.options.now.check (p.1 ∙ ap Err p.2)
-        (λ P. refused-ends c.from_residual.result _ _ P (p.1 ∙ ap Err p.2) c.in_err-disk.ensures.cause) in
+    (λ P. refused-ends c.from_residual.result _ _ P (p.1 ∙ ap Err p.2) c.in_err-disk.ensures.cause) in
     record { script = run.played; wrote = run.wrote; memory = λ e. inl (keeps-same _) }
 
 pub returns-in_err-disk-clause-outcome : goal.returns-in_err-disk-clause-outcome
@@ -52,7 +52,7 @@ returns-in_err-disk-2-clause-requests g c =
     let among = starts-as g.I.DiskImage.kind (kind_of image) image (seen disk).tracks (seen disk).content c.args.options.now.protected (seen disk).protected c.requires.kind first.0 first.1 in
     let p = err_from_is_err_and c.from_residual-in_err-disk-2.result c.from_residual-in_err-disk-2.ensures.1 in
     let run = run-again c.from_residual-in_err-disk-2.result _ _ _ (g.R.Read.remaining c.args.reader) (BeginsOn image c.args.options.now.protected) (StartsFrom (seen disk)) (λ saved m. ImageHolds (kind_of image) saved.items m.disk) (λ after. KeptBy (seen after)) c.args.pace c.args.options.now.device
-        c.args.options.now.check among (p.1 ∙ ap Err p.2) c.in_err-disk-2.ensures.run in
+    c.args.options.now.check among (p.1 ∙ ap Err p.2) c.in_err-disk-2.ensures.run in
     record { script = run.served; memory = not-lacking c.from_residual-in_err-disk-2.result _ _ (p.1 ∙ ap Err p.2) c.in_err-disk-2.ensures.cause }
 
 pub returns-in_err-disk-2-clause-changes : goal.returns-in_err-disk-2-clause-changes
@@ -64,7 +64,7 @@ returns-in_err-disk-2-clause-changes g c =
     let among = starts-as g.I.DiskImage.kind (kind_of image) image (seen disk).tracks (seen disk).content c.args.options.now.protected (seen disk).protected c.requires.kind first.0 first.1 in
     let p = err_from_is_err_and c.from_residual-in_err-disk-2.result c.from_residual-in_err-disk-2.ensures.1 in
     let run = run-again c.from_residual-in_err-disk-2.result _ _ _ (g.R.Read.remaining c.args.reader) (BeginsOn image c.args.options.now.protected) (StartsFrom (seen disk)) (λ saved m. ImageHolds (kind_of image) saved.items m.disk) (λ after. KeptBy (seen after)) c.args.pace c.args.options.now.device
-        c.args.options.now.check among (p.1 ∙ ap Err p.2) c.in_err-disk-2.ensures.run in
+    c.args.options.now.check among (p.1 ∙ ap Err p.2) c.in_err-disk-2.ensures.run in
     record { script = run.played; wrote = run.wrote; memory = not-lacking c.from_residual-in_err-disk-2.result _ _ (p.1 ∙ ap Err p.2) c.in_err-disk-2.ensures.cause }
 
 pub returns-in_err-disk-2-clause-outcome : goal.returns-in_err-disk-2-clause-outcome

@@ -14,7 +14,7 @@ returns-in_err-give_linked-clause-cause g c =
     let content : Content = (g.M.Medium.seen c.args.medium.now).content in
     let p = err_from_is_err_and c.from_residual-in_err-give_linked.result c.from_residual-in_err-give_linked.ensures.1 in
     rw (p.1, p.2) (inl (subst (λ (n : ℕ). IsMet n content c.in_err-give_linked.field-0.0) (ap (λ (s : State). s.tracks) c.self.view_is)
-    (linked_met c.self.inside.geometry content c.saturating_sub-more.result c.from.result c.in_err-give_linked.field-0.0 c.in_err-give_linked.ensures.err)))
+    (linked_met c.self.inside.geometry content c.saturating_sub-more.result c.from.result c.in_err-give_linked.field-0.0 c.in_err-give_linked.ensures.walk.cut)))
 
 -- the blocks that were written are linked
 pub returns-in_err-give_linked-clause-linked : goal.returns-in_err-give_linked-clause-linked
@@ -23,7 +23,7 @@ returns-in_err-give_linked-clause-linked g c = λ blocks bytes w few.
     let first : c.args.self.now.first ≡ Some c.from.result = sym (ap (λ (s : State). s.first) c.self.view_is) ∙ c.in-Some.is ∙ ap (λ (p : Place). Some p) (sym c.from.ensures) in
     let more : c.saturating_sub-more.result ≡ c.args.self.now.count - 1 = c.saturating_sub-more.ensures ∙ ap (λ (s : State). s.count - 1) c.self.view_is in
     let cut : (linked_blocks c.args.self.now.tracks content c.saturating_sub-more.result c.from.result).trouble ≡ Some c.in_err-give_linked.field-0.0 =
-    subst (λ (n : ℕ). (linked_blocks n content c.saturating_sub-more.result c.from.result).trouble ≡ Some c.in_err-give_linked.field-0.0) (ap (λ (s : State). s.tracks) c.self.view_is) c.in_err-give_linked.ensures.err in
+    subst (λ (n : ℕ). (linked_blocks n content c.saturating_sub-more.result c.from.result).trouble ≡ Some c.in_err-give_linked.field-0.0) (ap (λ (s : State). s.tracks) c.self.view_is) c.in_err-give_linked.ensures.walk.cut in
     absurd (not_cut content c.args.self.now c.from.result c.saturating_sub-more.result c.in_err-give_linked.field-0.0 first more cut blocks bytes w few)
 
 pub returns-clause-given : goal.returns-clause-given
