@@ -3,6 +3,7 @@ use Rattle.std.specs.Prelude.{ℕ, ℤ, ◌≡◌, ◌≤◌, ◌<◌, ◌^◌, 
 use Rattle.cbm_iec.specs.Machines.{acted}
 use Rattle.cbm_iec.specs.Ports.{port_due, resting, told, told_act, reacted, reaction_act}
 use Rattle.cbm_iec.specs.declared.lines.Lines.{Lines}
+use Rattle.cbm_iec.specs.declared.machine.Act.{Act}
 use Rattle.cbm_iec.specs.declared.party.Party.{Party}
 use Rattle.cbm_iec.specs.declared.port.Port.{Port}
 use Rattle.cbm_session.specs.Following.{IsInTime}
@@ -33,6 +34,15 @@ pub record OnLines : Type 0 where
 -- a drive has the number 8 to 11, and reacts after 1 to 60 microseconds
 abbrev pub IsUnfitParty : Party → Type 0
 IsUnfitParty b = ((b.device < 8) ⊎ (11 < b.device)) ⊎ ((b.reaction < 1) ⊎ (60 < b.reaction))
+
+-- an act of the bus, or none, leads the desk from each machine that it represents to that machine's next state
+abbrev pub LeadsDesk : Option Act → Desk (Kept Counted) → Desk (Kept Counted) → Type 0
+LeadsDesk act old new = (m : Desk Machine) → DeskStands counted_seen old m → DeskStands counted_seen new (acted (Desk Machine) desk_step act m)
+
+-- switched on with this disk, the desk represents the machine of its files, if it is sound
+abbrev pub StandsPowered : Counted → Party → Desk (Kept Counted) → Type 0
+StandsPowered disk b desk = (d : Disk) → HoldsDisk (counted_seen disk).tracks (counted_seen disk).content d
+    → DeskStands counted_seen desk (with_pace b.pace (at_first b.device (start d (counted_seen disk).protected (counted_seen disk).tracks)))
 
 -- A DRIVE THAT IS SWITCHED ON with the disk of an image; where that is sound, it represents the machine of its files.
 pub record IsSwitchedOn (image : List ℕ) (protected : Bool) (b : Party) (d : OnLines) : Type 0 where

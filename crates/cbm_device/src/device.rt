@@ -1,8 +1,7 @@
 //! A drive on lines, with the disk of an image.
 ghost use Rattle.std.specs.Prelude.{◌≡◌, ◌≤◌, ◌<◌, ◌^◌, ◌⊎◌, None, Err, OnOk, OnErr, IfOk, IfErr, MatchBool};
-ghost use Rattle.cbm_file.specs.Files.{Disk};
 ghost use Rattle.cbm_machine.specs.Codes.{code_number};
-ghost use Rattle.cbm_machine.specs.Machines.{Machine, start};
+ghost use Rattle.cbm_machine.specs.Machines.{Machine};
 ghost use Rattle.cbm_iec.specs.Machines.{acted};
 ghost use Rattle.cbm_iec.specs.Ports.{port_due, resting, told, told_act, reacted, reaction_act};
 ghost use Rattle.cbm_session.specs.Following.{IsInTime};
@@ -11,10 +10,9 @@ ghost use Rattle.cbm_drive.specs.Desks as desks;
 ghost use Rattle.cbm_drive.specs.Desks.{desk_says, desk_shows, desk_step, DeskStands};
 ghost use Rattle.cbm_drive.specs.Playback.{IsActed};
 ghost use Rattle.cbm_drive.specs.Seats.{Seated};
-ghost use Rattle.cbm_volume.specs.Holding.{HoldsDisk};
 ghost use Rattle.cbm_device.specs.Answers.{answer};
 ghost use Rattle.cbm_device.specs.ImageDisks.{no_disk, counted_seen, IsOpenRefusal};
-ghost use Rattle.cbm_device.specs.Devices.{tell_in_turn, react_at, IsUnfitParty, IsSwitchedOn, IsOnTime, IsOutOfTime, IsDueBefore, HasHeard, DeviceHasReacted, HasNothingDue, IsRestarted, IsExchanged, HasAnotherDisk, GivesImage, StandsFor};
+ghost use Rattle.cbm_device.specs.Devices.{tell_in_turn, react_at, IsUnfitParty, IsSwitchedOn, IsOnTime, IsOutOfTime, IsDueBefore, HasHeard, DeviceHasReacted, HasNothingDue, IsRestarted, IsExchanged, HasAnotherDisk, GivesImage, StandsFor, LeadsDesk, StandsPowered};
 
 use crate::image_disk::ImageDisk;
 use crate::refusal::DeviceRefusal;
@@ -79,9 +77,7 @@ fn powered(disk: ImageDisk, party: Party) -> Drive<Desk<ImageDisk>>
     ensures port { result.port ≡ resting party }
     ensures disk { result.machine.dos.medium ≡ disk }
     ensures addressed { result.machine.addressed ≡ paced party.pace (unaddressed party.device) }
-    ensures stands { let now = counted_seen disk in (d : Disk) → HoldsDisk now.tracks now.content d →
-        DeskStands counted_seen result.machine (desks.with_pace party.pace
-        (desks.at_first party.device (start d now.protected now.tracks))) }
+    ensures stands { StandsPowered disk party result.machine }
 {
     let desk = Desk::at_power_up(disk, party.device).with_pace(party.pace);
     Drive::new(desk, party)
@@ -121,9 +117,7 @@ impl Device {
     fn hear(&mut self, moment: u64, others: Lines)
         requires { moment < 2 ^ 60 }
         ensures port { self.new.seat.port ≡ told moment others self.old.seat.port }
-        ensures machine { (m : desks.Desk Machine) → DeskStands counted_seen self.old.seat.machine m →
-            DeskStands counted_seen self.new.seat.machine
-            (acted (desks.Desk Machine) desk_step (told_act others self.old.seat.port) m) }
+        ensures machine { LeadsDesk (told_act others self.old.seat.port) self.old.seat.machine self.new.seat.machine }
         ensures acted { IsActed desk_shows (told_act others self.old.seat.port) self.old.seat.machine self.new.seat.machine }
         ensures latest { self.new.latest ≡ self.old.latest }
         ensures kind { self.new.kind ≡ self.old.kind }

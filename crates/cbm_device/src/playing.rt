@@ -21,8 +21,7 @@ pub fn play(
     end: u64,
     events: &mut Vec<Event>,
 ) -> Result<ImageDisk, DeviceRefusal>
-    requires device { party.device < 31 }
-    requires reaction { 1 ≤ party.reaction }
+    requires party { (party.device < 31) × (1 ≤ party.reaction) }
     requires end { end < 2 ^ 59 }
     ensures refused { IfSome (fault_of 0 0 end changes.now) (λ _. (result ≡ Err DeviceRefusal.Invalid) × (events.new ≡ events.old)) }
     ensures cause { IfErr result (λ r. ((r ≡ DeviceRefusal.Invalid) × IsSome (fault_of 0 0 end changes.now)) ⊎ (r ≡ DeviceRefusal.Memory)) }
