@@ -48,8 +48,8 @@ pub record IsGrowthCut (old new : Seen) (d : Disk) (uses : ℕ → Use) (n w : �
   pub cause : IsHindered old new t
 
 -- WHAT A GROWTH TO RECORD k LEAVES of the disk where a channel has the slot's records open: the record is there, or would make the file
--- too large, and nothing has changed, which is reported first, also on a protected medium; or it was refused. No sector of another closed
--- file changes.
+-- too large, and nothing has changed, which is reported first, also on a protected medium; or it was refused. Each other closed file
+-- stays in place, its sectors as they were.
 pub record IsGrowth (result : Result Bool Trouble) (old new : Seen) (d : Disk) (uses : ℕ → Use) (n w b s : ℕ) (rs : List (List ℕ)) (k : ℕ) : Type 0 where
   pub grown : IfOk result (λ done. MatchBool done (HoldsNow old.tracks new.content (with_growth d n w b s rs k) uses) (IsTooLarge d w b s k × (new.content ≡ old.content)))
   pub full : IsTooLarge d w b s k → IsOkAnd result (λ done. done ≡ false)

@@ -53,7 +53,7 @@ abbrev pub OfOpen : (now : Seen) (n : ℕ) → ((d : Disk) (uses : ℕ → Use) 
 OfOpen now n P = (d : Disk) (uses : ℕ → Use) (w b s : ℕ) (rs : List (List ℕ)) (o : HasRecordsOpen now.tracks now.content d uses n w b s rs) → P d uses w b s rs o
 
 -- WHAT THE WRITE OF A RECORD LEAVES of the disk where a channel has the slot's records open: the record is written, not there, or cut
--- off; the next record is what reading it would answer now; and no sector of another closed file changes.
+-- off; the next record is what reading it would answer now; and each other closed file stays in place, its sectors as they were.
 pub record IsRecordCall (result : Result (Option WrittenRecord) Trouble) (old new : Seen) (d : Disk) (uses : ℕ → Use) (n w b s : ℕ) (rs : List (List ℕ)) (k p : ℕ) (bytes : List ℕ) : Type 0 where
   pub put : MatchResult result (λ o. IsRecordPut old.tracks old.content new.content d uses n w b s rs k p bytes (option_map (λ r. r.cut) o)) (IsRecordCut old new d uses n w b s rs k p bytes)
   pub next : IfOk result (λ o. IfSome o (λ r. OfRecords new n (λ found. IsOkAnd r.next (λ x. option_map (λ y. y.items) x ≡ slice_get found k))))
