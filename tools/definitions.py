@@ -43,6 +43,7 @@ PARTS = {
             "cbm_volume",
             "sound_contents_mean_disks contents_mean_one_disk blocks_bound_bytes is_sound_by_its_sectors",
         ),
+        ("closed files that stay in place over each of two calls stay in place over both", "cbm_volume", "files_stay_over_two_calls"),
         (
             "OPEN of a new file and for appending, a byte put, and CLOSE of a replacement, with a stop at any sector write",
             "cbm_volume",

@@ -13,6 +13,7 @@ pub mod Remaps
 pub mod Rooms
 pub mod Vacant
 pub mod Settled
+pub mod Staying
 pub mod Meaning
 pub mod OneSlot
 pub mod Steps

@@ -1,12 +1,12 @@
 -- What the volume's calls that write leave of a sound disk.
-use Rattle.std.specs.Prelude.{ℕ, max, ◌≡◌, Bool, true, false, List, Some, Result, IfOk, IfErr, OnErr}
+use Rattle.std.specs.Prelude.{ℕ, max, ◌≡◌, ◌==◌, Bool, true, false, List, Some, Result, IfOk, IfErr, OnErr}
 use Rattle.cbm_medium.specs.Content.{Content}
 use Rattle.cbm_medium.specs.Seen.{Seen, OnlyContent}
 use Rattle.cbm_medium.specs.declared.fault.Trouble.{Trouble}
 use Rattle.cbm_file.specs.Padding.{before_filler}
 use Rattle.cbm_file.specs.Files.{Disk, File, file_at, with_slot}
 use Rattle.cbm_bam.specs.Map.{geometry_of}
-use Rattle.cbm_volume.specs.Layouts.{Untouched}
+use Rattle.cbm_volume.specs.Staying.{LeavesClosed}
 use Rattle.cbm_volume.specs.Opens.{IsHindered, IsUnwritten}
 use Rattle.cbm_volume.specs.Writers.{Filling, Use, Idle, Writes, HoldsNow, Stopped}
 
@@ -22,12 +22,16 @@ OfIdle now P = (d : Disk) (uses : ℕ → Use) (ch : ℕ) → HoldsNow now.track
 abbrev pub OfWriter : Seen → Filling → (Disk → (ℕ → Use) → ℕ → List ℕ → ℕ → Type 0) → Type 0
 OfWriter now w P = (d : Disk) (uses : ℕ → Use) (ch : ℕ) (bytes : List ℕ) (blocks : ℕ) → HoldsNow now.tracks now.content d uses → uses ch ≡ Writes w bytes blocks → P d uses ch bytes blocks
 
--- the sectors of each closed file are as they were, but for the files in slots that pass the test
+-- the sectors of each closed file are as they were, and each stays in place but for those in slots that pass the test
 abbrev pub LeavesFiles : Seen → Seen → (ℕ → Bool) → Type 0
-LeavesFiles old new but = Untouched (geometry_of old.tracks old.content) old.content new.content but
+LeavesFiles old new but = LeavesClosed (geometry_of old.tracks old.content) old.content new.content (λ m. false) but
 
--- WHAT A CALL THAT WRITES LEAVES of a sound disk: what holds where it is done, and where it was stopped; a stop has its cause, and the
--- sectors of the other closed files are as they were.
+-- each closed file but that of this slot stays in place, and its sectors are as they were
+abbrev pub LeavesOthers : Seen → Seen → ℕ → Type 0
+LeavesOthers old new n = LeavesClosed (geometry_of old.tracks old.content) old.content new.content (λ m. m == n) (λ m. m == n)
+
+-- WHAT A CALL THAT WRITES LEAVES of a sound disk: what holds where it is done, and where it was stopped; a stop has its cause, the
+-- closed files' sectors are as they were, and each of these files stays in place but for those in slots that pass the test.
 pub record IsCall {A : Type 0} (result : Result A Trouble) (old new : Seen) (Done : A → Type 0) (Stop : Type 0) (but : ℕ → Bool) : Type 0 where
   pub done : IfOk result Done
   pub stopped : OnErr result Stop
@@ -38,8 +42,8 @@ pub record IsCall {A : Type 0} (result : Result A Trouble) (old new : Seen) (Don
 abbrev pub IsChange : {A : Type 0} → Result A Trouble → Seen → Seen → Disk → Disk → (ℕ → Use) → (ℕ → Bool) → Type 0
 IsChange result old new before after uses but = IsCall result old new (λ x. HoldsNow old.tracks new.content after uses) (Stopped old.tracks new.content before after uses) but
 
--- WHAT A CALL OF ONE WRITE LEAVES of a sound disk: what holds where it is done, why it is refused, and the closed files' sectors. That
--- nothing has changed where it is refused is said of any content apart.
+-- WHAT A CALL OF ONE WRITE LEAVES of a sound disk: what holds where it is done, why it is refused, and the closed files, which stay in
+-- place. That nothing has changed where it is refused is said of any content apart.
 pub record IsOneWrite {A : Type 0} (result : Result A Trouble) (old new : Seen) (Done : A → Type 0) : Type 0 where
   pub done : IfOk result Done
   pub cause : IfErr result (IsHindered old new)

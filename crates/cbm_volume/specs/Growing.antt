@@ -1,5 +1,5 @@
 -- A relative file that grows block by block, between two blocks: what has been reached since the call began.
-use Rattle.std.specs.Prelude.{ℕ, ◌+◌, ◌-◌, ◌*◌, ◌≤◌, ◌≡◌, ◌≢◌, ◌⊎◌, ◌||◌, nat_lt, Bool, List, [], ◌∷◌, ◌++◌, length, take, drop, slice_index, slice_index_or, false, Some, Ok}
+use Rattle.std.specs.Prelude.{ℕ, ◌+◌, ◌-◌, ◌*◌, ◌≤◌, ◌≡◌, ◌≢◌, ◌⊎◌, ◌==◌, ◌||◌, nat_lt, Bool, List, [], ◌∷◌, ◌++◌, length, take, drop, slice_index, slice_index_or, false, Some, Ok}
 use Rattle.cbm_medium.specs.Place.{Place, Has, directory_head}
 use Rattle.cbm_medium.specs.Content.{Content}
 use Rattle.cbm_medium.specs.Links.{bytes_at}
@@ -14,6 +14,7 @@ use Rattle.cbm_relfile.specs.Relisting.{AreInForm}
 use Rattle.cbm_relfile.specs.SideSectors.{named_in}
 use Rattle.cbm_directory.specs.Entries.{entry_at, first_block, first_side}
 use Rattle.cbm_volume.specs.Layouts.{Owner, Nobody, TheMap, DataOf, SideOf, Layout, slot_count}
+use Rattle.cbm_volume.specs.Reaches.{KeepsEntries}
 use Rattle.cbm_volume.specs.Writers.{Use, HoldsAt, HoldsNow}
 use Rattle.cbm_volume.specs.RecordWrites.{HasRecordsOpen}
 use Rattle.cbm_volume.specs.Growth.{filled_up, more_blocks, IsGrowthCut}
@@ -118,10 +119,11 @@ IsGrowthStopped old new c0 l0 d uses n w rs t =
     IsGrowthCut old new d uses n w rs t × ((x : Owner) → IsAside n x → (p : Place) → l0.owner p ≡ x → new.content p ≡ c0 p)
 
 -- A RELATIVE FILE OF b DATA BLOCKS AND s SIDE SECTORS HAS GROWN to b1 data blocks and as many side sectors as list them, and its entry
--- says how many blocks it has; the sectors of all other files are as they were.
+-- says how many blocks it has; the sectors of all other files are as they were, and so are the entries of the closed ones.
 pub record IsGrownTo (medium : ℕ) (c0 c : Content) (l0 : Layout) (d : Disk) (uses : ℕ → Use) (n w : ℕ) (rs : List (List ℕ)) (b s b1 : ℕ) : Type 0 where
   pub holds : HoldsNow medium c (record (with_sized_body d n (b1 + sides_for s b1) (Records w (filled_up w b1 rs) b1 (sides_for s b1))) { free = d.free - (b1 + sides_for s b1 - (b + s)) }) uses
   pub aside : (m : ℕ) → m ≢ n → (p : Place) → (l0.owner p ≡ DataOf m) ⊎ (l0.owner p ≡ SideOf m) → c p ≡ c0 p
+  pub entries : KeepsEntries l0 c0 c (λ m. m == n)
 
 -- the same test as IsTooLarge, where this many blocks are free
 abbrev pub is_too_large : ℕ → ℕ → ℕ → ℕ → ℕ → Bool

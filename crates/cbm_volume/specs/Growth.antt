@@ -1,10 +1,10 @@
 -- A relative file grows until a record is there: blocks of fresh records, and side sectors that list them.
-use Rattle.std.specs.Prelude.{ℕ, ◌+◌, ◌-◌, ◌≡◌, ◌==◌, nat_lt, ◌||◌, Bool, true, false, List, ◌++◌, length, replicate, Some, Result, IfOk, IfErr, IsOkAnd, MatchBool}
+use Rattle.std.specs.Prelude.{ℕ, ◌+◌, ◌-◌, ◌≡◌, nat_lt, ◌||◌, Bool, true, false, List, ◌++◌, length, replicate, Some, Result, IfOk, IfErr, IsOkAnd, MatchBool}
 use Rattle.cbm_medium.specs.Seen.{Seen}
 use Rattle.cbm_medium.specs.declared.fault.Trouble.{Trouble}
 use Rattle.cbm_file.specs.Files.{Disk, File, Records, file_at, with_slot}
 use Rattle.cbm_file.specs.Records.{fresh_record, record_count, blocks_for, sides_for, with_sized_body}
-use Rattle.cbm_volume.specs.Calls.{LeavesFiles}
+use Rattle.cbm_volume.specs.Calls.{LeavesOthers}
 use Rattle.cbm_volume.specs.Writers.{Use, HoldsNow}
 use Rattle.cbm_volume.specs.Opens.{IsHindered}
 
@@ -48,10 +48,10 @@ pub record IsGrowthCut (old new : Seen) (d : Disk) (uses : ℕ → Use) (n w : �
   pub cause : IsHindered old new t
 
 -- WHAT A GROWTH TO RECORD k LEAVES of the disk where a channel has the slot's records open: the record is there, or would make the file
--- too large, and nothing has changed, which is reported first, also on a protected medium; or it was refused. No sector of another closed
--- file changes.
+-- too large, and nothing has changed, which is reported first, also on a protected medium; or it was refused. Each other closed file
+-- stays in place, its sectors as they were.
 pub record IsGrowth (result : Result Bool Trouble) (old new : Seen) (d : Disk) (uses : ℕ → Use) (n w b s : ℕ) (rs : List (List ℕ)) (k : ℕ) : Type 0 where
   pub grown : IfOk result (λ done. MatchBool done (HoldsNow old.tracks new.content (with_growth d n w b s rs k) uses) (IsTooLarge d w b s k × (new.content ≡ old.content)))
   pub full : IsTooLarge d w b s k → IsOkAnd result (λ done. done ≡ false)
   pub stopped : IfErr result (IsGrowthCut old new d uses n w rs)
-  pub untouched : LeavesFiles old new (λ m. m == n)
+  pub untouched : LeavesOthers old new n

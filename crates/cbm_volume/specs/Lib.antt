@@ -1,5 +1,6 @@
 pub mod Blocks
 pub mod Layouts
+pub mod Staying
 pub mod Writers
 pub mod Holding
 pub mod Opens

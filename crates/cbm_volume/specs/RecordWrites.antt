@@ -1,12 +1,12 @@
 -- A record of a relative file is written.
-use Rattle.std.specs.Prelude.{ℕ, ◌+◌, ◌-◌, ◌≡◌, ◌≤◌, ◌==◌, nat_lt, Bool, true, List, [], ◌++◌, length, take, drop, slice_index_or, slice_set, slice_get, Option, Some, None, is_some, option_map, Result, MatchResult, IfOk, IfSome, IsOkAnd}
+use Rattle.std.specs.Prelude.{ℕ, ◌+◌, ◌-◌, ◌≡◌, ◌≤◌, nat_lt, Bool, true, List, [], ◌++◌, length, take, drop, slice_index_or, slice_set, slice_get, Option, Some, None, is_some, option_map, Result, MatchResult, IfOk, IfSome, IsOkAnd}
 use Rattle.cbm_medium.specs.Content.{Content}
 use Rattle.cbm_medium.specs.Seen.{Seen}
 use Rattle.cbm_medium.specs.declared.fault.Trouble.{Trouble}
 use Rattle.cbm_file.specs.Files.{Disk, File, Records, file_at}
 use Rattle.cbm_file.specs.Records.{with_bytes, with_body, record_at}
 use Rattle.cbm_relfile.specs.declared.changing.WrittenRecord.{WrittenRecord}
-use Rattle.cbm_volume.specs.Calls.{LeavesFiles}
+use Rattle.cbm_volume.specs.Calls.{LeavesOthers}
 use Rattle.cbm_volume.specs.Writers.{Use, Relates, HoldsNow}
 use Rattle.cbm_volume.specs.Holding.{HoldsDisk}
 use Rattle.cbm_volume.specs.Opens.{IsHindered}
@@ -53,11 +53,11 @@ abbrev pub OfOpen : (now : Seen) (n : ℕ) → ((d : Disk) (uses : ℕ → Use) 
 OfOpen now n P = (d : Disk) (uses : ℕ → Use) (w b s : ℕ) (rs : List (List ℕ)) (o : HasRecordsOpen now.tracks now.content d uses n w b s rs) → P d uses w b s rs o
 
 -- WHAT THE WRITE OF A RECORD LEAVES of the disk where a channel has the slot's records open: the record is written, not there, or cut
--- off; the next record is what reading it would answer now; and no sector of another closed file changes.
+-- off; the next record is what reading it would answer now; and each other closed file stays in place, its sectors as they were.
 pub record IsRecordCall (result : Result (Option WrittenRecord) Trouble) (old new : Seen) (d : Disk) (uses : ℕ → Use) (n w b s : ℕ) (rs : List (List ℕ)) (k p : ℕ) (bytes : List ℕ) : Type 0 where
   pub put : MatchResult result (λ o. IsRecordPut old.tracks old.content new.content d uses n w b s rs k p bytes (option_map (λ r. r.cut) o)) (IsRecordCut old new d uses n w b s rs k p bytes)
   pub next : IfOk result (λ o. IfSome o (λ r. OfRecords new n (λ found. IsOkAnd r.next (λ x. option_map (λ y. y.items) x ≡ slice_get found k))))
-  pub untouched : LeavesFiles old new (λ m. m == n)
+  pub untouched : LeavesOthers old new n
 
 -- so of each disk, from each position in the record
 abbrev pub PutsRecord : Result (Option WrittenRecord) Trouble → Seen → Seen → ℕ → ℕ → ℕ → List ℕ → Type 0

@@ -1,6 +1,6 @@
 //! Laws of the definitions, each the contract of a function with nothing to do.
 
-ghost use Rattle.std.specs.Prelude.{◌↔◌, ◌≤◌, ◌≡◌, ◌*◌, ◌-◌, ℕ, List, length};
+ghost use Rattle.std.specs.Prelude.{◌↔◌, ◌≤◌, ◌≡◌, ◌*◌, ◌-◌, ◌||◌, ℕ, Bool, List, length};
 ghost use Rattle.cbm_medium.specs.Place.{Place};
 ghost use Rattle.cbm_medium.specs.Content.{Content};
 ghost use Rattle.cbm_medium.specs.Links.{Chain};
@@ -9,6 +9,7 @@ ghost use Rattle.cbm_chain.specs.Data.{chain_bytes};
 ghost use Rattle.cbm_relfile.specs.Records.{AllWhole};
 ghost use Rattle.cbm_volume.specs.Layouts.{Layout, Sound, Means};
 ghost use Rattle.cbm_volume.specs.Plain.{IsPlainlySound};
+ghost use Rattle.cbm_volume.specs.Staying.{StaysInPlace};
 
 /// A disk is sound with an owner for each sector exactly where the list of the sectors that it uses is distinct,
 /// readable and not free, its counts are right, its directory lies on track 18 and its files off it.
@@ -31,4 +32,12 @@ pub fn blocks_bound_bytes()
     ensures { (tracks : ℕ) (c : Content) (a : Place) (blocks : List Place) → AllWhole c → Chain tracks c a blocks →
         (254 * (length blocks - 1) ≤ length (chain_bytes c blocks)) ×
         (length (chain_bytes c blocks) ≤ 254 * length blocks) }
+{}
+
+/// Closed files that stay in place over each of two calls stay in place over both, where the disk between is sound:
+/// all but those that either call exempts.
+pub fn files_stay_over_two_calls()
+    ensures { (tracks between : ℕ) (c mid new : Content) (l : Layout) (first second : ℕ → Bool) →
+        StaysInPlace tracks c mid first → Sound between mid l → StaysInPlace between mid new second →
+        StaysInPlace tracks c new (λ m. first m || second m) }
 {}

@@ -1,12 +1,12 @@
 -- RENAME: an entry gets another name, and its file stays where it lies.
-use Rattle.std.proofs.Common.{◌≡◌, ◌≢◌, ℕ, ◌+◌, ◌*◌, ◌%◌, ◌<◌, ◌≤◌, length, arith, List, ◌∷◌, Bool, true, false, IsOk, refl, sym, ap, subst, ◌∙◌, inl, inr, Option, Some, None, Result, Ok, Err}
+use Rattle.std.proofs.Common.{◌≡◌, ◌≢◌, ℕ, ◌+◌, ◌*◌, ◌%◌, ◌<◌, length, arith, List, Bool, true, false, IsOk, refl, sym, ap, subst, ◌∙◌, inl, inr, Option, Some, None, Result, Ok, Err}
 use Rattle.std.specs.Prelude.{◌==◌, ◌&&◌, OnOk, OnErr, IfErr, slice_index}
 use Rattle.std.proofs.lemmas.Bool.{cases_eq, ne_eqb}
 use Rattle.std.proofs.lemmas.List.{get_or-set_same}
 use Rattle.cbm_medium.specs.Place.{Place, directory_head}
 use Rattle.cbm_medium.specs.Content.{Content}
 use Rattle.cbm_medium.specs.Seen.{Seen}
-use Rattle.cbm_medium.specs.Links.{bytes_at, Chain}
+use Rattle.cbm_medium.specs.Links.{Chain}
 use Rattle.cbm_medium.specs.declared.fault.Trouble.{Trouble}
 use Rattle.cbm_medium.proofs.Places.{written_elsewhere}
 use Rattle.cbm_file.specs.Padding.{before_filler}
@@ -14,15 +14,15 @@ use Rattle.cbm_file.specs.Files.{Records, File, Disk, file_at, with_slot}
 use Rattle.cbm_bam.specs.Map.{geometry_of}
 use Rattle.cbm_bam.specs.Causes.{HasCause}
 use Rattle.cbm_chain.specs.Data.{chain_bytes}
-use Rattle.cbm_relfile.specs.SideSectors.{sides_listed, Numbered}
-use Rattle.cbm_directory.specs.Entries.{Enters, EntersLed, first_directory, type_byte, bit_of, type_of_number, is_closed, is_relative, first_block, first_side, width_of, entry_at, sector_of}
+use Rattle.cbm_directory.specs.Entries.{Enters, first_directory, type_byte, bit_of, type_of_number, is_closed, is_relative, width_of, entry_at, sector_of}
 use Rattle.cbm_directory.specs.EntryChanges.{IsRenamedAs}
 use Rattle.cbm_volume.specs.Blocks.{Blocks, Lies, LiesAs, slices, body_as, file_of, slot_with, slot_of}
 use Rattle.cbm_volume.specs.Holding.{EntryStandsAt}
-use Rattle.cbm_volume.specs.Layouts.{Owner, Directory, DataOf, Writer, Layout, slot_count, Sound, HasLayout, Untouched}
+use Rattle.cbm_volume.specs.Layouts.{Owner, Directory, DataOf, Writer, Layout, slot_count, Sound, HasLayout}
+use Rattle.cbm_volume.specs.Staying.{LeavesClosed}
 use Rattle.cbm_volume.specs.Writers.{Use, Idle, Reads, Relates, Writes, IsReading, IsUsed, writes_slot, HoldsAt, Holds, HoldsNow}
 use Rattle.cbm_volume.specs.Opens.{IsUnwritten, IsHindered}
-use Rattle.cbm_volume.proofs.layouts.Frames.{Keeps}
+use Rattle.cbm_volume.proofs.layouts.Frames.{Keeps, lies_alike}
 use Rattle.cbm_volume.proofs.layouts.Loose.{sector_owned}
 use Rattle.cbm_volume.proofs.layouts.OneSlot.{with_file}
 use Rattle.cbm_volume.proofs.layouts.Steps.{stands_entry, extends_itself}
@@ -32,34 +32,28 @@ use Rattle.cbm_volume.proofs.written.Storing.{geometry_elsewhere}
 use Rattle.cbm_volume.proofs.written.Closing.{other_slot, some_file}
 use Rattle.cbm_volume.proofs.layouts.Refusals.{sector_hindered, sector_reads}
 use Rattle.cbm_volume.proofs.written.Sparing.{EntryPut, same_untouched}
-use Rattle.cbm_volume.proofs.opened.Appends.{entry_untouched}
+use Rattle.cbm_volume.proofs.layouts.Staying.{LeadsAlike, kept_entered, leaves_in}
 
 -- ---- the entry under another name
 
--- an entry that names the same first block, first side sector and width has its file where it lay
-pub lies_alike : (x y : Bool) (tracks : ℕ) (c : Content) (old new : List ℕ) (b : Blocks) → first_block old ≡ first_block new → first_side old ≡ first_side new → width_of old ≡ width_of new → LiesAs x y tracks c old b → LiesAs x y tracks c new b
-lies_alike false y tracks c old new b first side width h = h
-lies_alike true false tracks c old new b first side width k = (subst (λ (p : Place). Chain tracks c p b.data_blocks) first k.0, k.1)
-lies_alike true true tracks c old new b first side width k = (
-  subst (λ (p : Place). Chain tracks c p b.data_blocks) first k.0,
-  record {
-    some_block = k.1.some_block;
-    some_width = subst (λ (n : ℕ). 1 ≤ n) width k.1.some_width;
-    width = subst (λ (n : ℕ). n ≤ 254) width k.1.width;
-    first = subst (λ (p : Place). (rest : List Place) × (b.sides ≡ p ∷ rest)) side k.1.first;
-    listed = k.1.listed ∙ ap (λ (p : Place). sides_listed (bytes_at c p)) side;
-    numbered = subst (λ (n : ℕ). Numbered tracks c n 0 b.sides) width k.1.numbered;
-    joined = k.1.joined;
-  },
-)
-
-lies_named : (x y : Bool) (tracks : ℕ) (c : Content) (old new name : List ℕ) (b : Blocks) → IsRenamedAs old new name → LiesAs x y tracks c old b → LiesAs x y tracks c new b
-lies_named x y tracks c old new name b says h =
+renamed_alike : (old new name : List ℕ) → IsRenamedAs old new name → LeadsAlike old new
+renamed_alike old new name says =
     let t : slice_index old 1 ≡ slice_index new 1 = sym (says.before 1 (omega arith)) in
     let s : slice_index old 2 ≡ slice_index new 2 = sym (says.before 2 (omega arith)) in
     let u : slice_index old 19 ≡ slice_index new 19 = sym (says.behind 19 (omega arith)) in
     let v : slice_index old 20 ≡ slice_index new 20 = sym (says.behind 20 (omega arith)) in
-    lies_alike x y tracks c old new b (λ i. record { track = t i; sector = s i }) (λ i. record { track = u i; sector = v i }) (sym (says.behind 21 (omega arith))) h
+    record {
+      closed = ap (λ (n : ℕ). bit_of n 7) (says.before 0 (omega arith));
+      relative = ap (λ (n : ℕ). n % 16 == 4) (says.before 0 (omega arith));
+      first = λ i. record { track = t i; sector = s i };
+      side = λ i. record { track = u i; sector = v i };
+      width = sym (says.behind 21 (omega arith));
+    }
+
+lies_named : (x y : Bool) (tracks : ℕ) (c : Content) (old new name : List ℕ) (b : Blocks) → IsRenamedAs old new name → LiesAs x y tracks c old b → LiesAs x y tracks c new b
+lies_named x y tracks c old new name b says h =
+    let a : LeadsAlike old new = renamed_alike old new name says in
+    lies_alike x y tracks c old new b a.first a.side a.width h
 
 pub same_body : (x : Bool) (bytes old new : List ℕ) (b : Blocks) → width_of new ≡ width_of old → body_as x bytes new b ≡ body_as x bytes old b
 same_body true bytes old new b w = ap (λ (n : ℕ). Records n (slices (length bytes) n bytes) (length b.data_blocks) (length b.sides)) w
@@ -180,7 +174,13 @@ named_hindered medium old new n entry r stands cause d uses h = by_result r (cau
     by_result (Ok x) k = tt
     by_result (Err t) k = sector_hindered old new (sector_of h.layout.directory n) t reads k
 
-pub named_untouched : (medium : ℕ) (c c2 : Content) (n : ℕ) (body : List ℕ) (r : Result (Unit {0}) Trouble) → OnOk r (EntersLed (geometry_of medium c) c c2 n body) → OnErr r (c2 ≡ c)
-    → (d : Disk) (uses : ℕ → Use) → HoldsNow medium c d uses → Untouched (geometry_of medium c) c c2 (λ m. false)
-named_untouched medium c c2 n body (Ok x) led same d uses h = entry_untouched medium c c2 n body d uses h led
-named_untouched medium c c2 n body (Err t) led same d uses h = same_untouched (geometry_of medium c) c c2 h.layout (λ m. false) h.so.stands.sound same
+-- all closed files stay in place, the one of another name too
+pub named_untouched : (medium : ℕ) (c c2 : Content) (n : ℕ) (entry body name : List ℕ) (r : Result (Unit {0}) Trouble) → IsRenamedAs entry body name → EntryStandsAt medium c n entry → EntryPut (geometry_of medium c) c c2 n body r → OnErr r (c2 ≡ c)
+    → (d : Disk) (uses : ℕ → Use) → HoldsNow medium c d uses → LeavesClosed (geometry_of medium c) c c2 (λ m. false) (λ m. false)
+named_untouched medium c c2 n entry body name (Ok x) says stands put same d uses h =
+    let sound : Sound (geometry_of medium c) c h.layout = h.so.stands.sound in
+    let found = entry_found (geometry_of medium c) c h.layout n entry sound stands in
+    leaves_in (geometry_of medium c) c c2 h.layout (λ m. false) sound
+    (kept_entered (geometry_of medium c) h.layout c c c2 n body (λ m. false) sound found.0 (put h.layout.directory sound.directory found.0)
+    (λ e z. renamed_alike (entry_at c h.layout.directory n) body name (subst (λ (x : List ℕ). IsRenamedAs x body name) found.1 says)))
+named_untouched medium c c2 n entry body name (Err t) says stands put same d uses h = same_untouched (geometry_of medium c) c c2 h.layout (λ m. false) h.so.stands.sound same

@@ -18,7 +18,8 @@ use Rattle.cbm_directory.specs.Entries.{Enters, first_directory, is_closed, is_r
 use Rattle.cbm_directory.specs.EntryChanges.{cleared_entry, Clears}
 use Rattle.cbm_directory.specs.Slots.{Answers, directory_of}
 use Rattle.cbm_volume.specs.Blocks.{Blocks, LiesAs, no_blocks, file_of}
-use Rattle.cbm_volume.specs.Layouts.{TheMap, Directory, DataOf, OwnedBy, Layout, slot_count, Sound, HasLayout, Untouched}
+use Rattle.cbm_volume.specs.Layouts.{DataOf, OwnedBy, Layout, slot_count, Sound, HasLayout}
+use Rattle.cbm_volume.specs.Staying.{LeavesClosed}
 use Rattle.cbm_volume.specs.Opens.{IsUnused, IsHindered}
 use Rattle.cbm_volume.specs.Writers.{Use, HoldsAt, Holds, HoldsNow, known, Stopped}
 use Rattle.cbm_volume.proofs.written.Closing.{some_file}
@@ -33,10 +34,9 @@ use Rattle.cbm_volume.proofs.relative.Scratched.{all_blocks, gathered, gathered_
 use Rattle.cbm_volume.proofs.opened.ReplacementBegun.{slot_within}
 use Rattle.cbm_volume.proofs.written.Replacements.{geometry_remapped}
 use Rattle.cbm_volume.proofs.changed.Scratching.{cleared_over, scratched_over}
-use Rattle.cbm_volume.proofs.layouts.Settled.{untouched_in}
+use Rattle.cbm_volume.proofs.layouts.Staying.{KeepsClosed, kept_same, kept_then, kept_mapped, kept_exempt, leaves_in}
 use Rattle.cbm_volume.proofs.written.Sparing.{same_untouched}
 use Rattle.cbm_volume.proofs.written.Storing.{few, geometry_elsewhere}
-use Rattle.cbm_volume.proofs.layouts.Untouched.{KeepsFiles, files_same, files_then, files_written}
 
 -- ---- the entry
 
@@ -92,7 +92,7 @@ abbrev pub Hinders : Seen → Seen → ℕ → Result (Unit {0}) Trouble → Typ
 Hinders old new n r = (d : Disk) (uses : ℕ → Use) (f : File) → HoldsNow old.tracks old.content d uses → file_at d n ≡ Some f → IsUnused uses n → IfErr r (IsHindered old new)
 
 abbrev pub Spares : ℕ → Content → Content → ℕ → Type 0
-Spares medium c c' n = (d : Disk) (uses : ℕ → Use) (f : File) → HoldsNow medium c d uses → file_at d n ≡ Some f → IsUnused uses n → Untouched (geometry_of medium c) c c' (λ m. m == n)
+Spares medium c c' n = (d : Disk) (uses : ℕ → Use) (f : File) → HoldsNow medium c d uses → file_at d n ≡ Some f → IsUnused uses n → LeavesClosed (geometry_of medium c) c c' (λ m. false) (λ m. m == n)
 
 -- ---- what can't be on a sound disk
 
@@ -261,22 +261,22 @@ release_hindered old mid new n freed (Err t) protected counted done cause = λ d
 pub nothing_written : (medium : ℕ) (c c' : Content) (n : ℕ) → c' ≡ c → Spares medium c c' n
 nothing_written medium c c' n e = λ d uses f h some unused. same_untouched (geometry_of medium c) c c' h.layout (λ m. m == n) h.so.stands.sound e
 
-clearing_keeps : (medium : ℕ) (c c1 : Content) (d : Disk) (uses : ℕ → Use) (n : ℕ) (f : File) (r : Result (Unit {0}) Trouble) (h : HoldsNow medium c d uses) → file_at d n ≡ Some f → EntryCleared (geometry_of medium c) c c1 n r → OnErr r (c1 ≡ c) → KeepsFiles h.layout c c1
-clearing_keeps medium c c1 d uses n f (Err t) h some put err = files_same h.layout c c1 err
+clearing_keeps : (medium : ℕ) (c c1 : Content) (d : Disk) (uses : ℕ → Use) (n : ℕ) (f : File) (r : Result (Unit {0}) Trouble) (h : HoldsNow medium c d uses) → file_at d n ≡ Some f → EntryCleared (geometry_of medium c) c c1 n r → OnErr r (c1 ≡ c) → KeepsClosed h.layout c c1 (λ m. m == n)
+clearing_keeps medium c c1 d uses n f (Err t) h some put err = kept_same h.layout c c1 (λ m. m == n) err
 clearing_keeps medium c c1 d uses n f (Ok x) h some put err =
     let there : n < slot_count h.layout = slot_there medium c d uses n f h some in
     let enters : Enters c c1 (sector_of h.layout.directory n) (n % 8) (cleared_entry (entry_at c h.layout.directory n)) = put h.layout.directory h.so.stands.sound.directory there in
-    files_written h.layout c c1 (sector_of h.layout.directory n) enters.sector Directory (sector_owned h.layout h.so.stands.sound.owned n there) refl enters.written
+    kept_exempt (geometry_of medium c) h.layout c c c1 n (cleared_entry (entry_at c h.layout.directory n)) h.so.stands.sound there enters
 
 pub clearing_spared : (medium : ℕ) (c c1 : Content) (n : ℕ) (r : Result (Unit {0}) Trouble) → EntryCleared (geometry_of medium c) c c1 n r → OnErr r (c1 ≡ c) → Spares medium c c1 n
 clearing_spared medium c c1 n r put err = λ d uses f h some unused.
-    untouched_in (geometry_of medium c) c c1 h.layout (λ m. m == n) h.so.stands.sound (clearing_keeps medium c c1 d uses n f r h some put err)
+    leaves_in (geometry_of medium c) c c1 h.layout (λ m. m == n) h.so.stands.sound (clearing_keeps medium c c1 d uses n f r h some put err)
 
 pub release_spared : (medium : ℕ) (c c1 c2 : Content) (n : ℕ) (freed : List ℕ) (r : Result (Unit {0}) Trouble) → EntryCleared (geometry_of medium c) c c1 n (Ok tt) → OnOk r (c2 ≡ written c1 directory_head freed) → OnErr r (c2 ≡ c1) → Spares medium c c2 n
 release_spared medium c c1 c2 n freed r put ok err = λ d uses f h some unused.
-    untouched_in (geometry_of medium c) c c2 h.layout (λ m. m == n) h.so.stands.sound
-    (files_then h.layout c c1 c2 (clearing_keeps medium c c1 d uses n f (Ok tt) h some put tt) (by_result h.layout h.so.stands.sound r ok err))
+    leaves_in (geometry_of medium c) c c2 h.layout (λ m. m == n) h.so.stands.sound
+    (kept_then h.layout c c1 c2 (λ m. m == n) (clearing_keeps medium c c1 d uses n f (Ok tt) h some put tt) (by_result h.layout h.so.stands.sound r ok err))
   where
-    by_result : (l : Layout) → Sound (geometry_of medium c) c l → (r : Result (Unit {0}) Trouble) → OnOk r (c2 ≡ written c1 directory_head freed) → OnErr r (c2 ≡ c1) → KeepsFiles l c1 c2
-    by_result l sound (Ok x) ok err = files_written l c1 c2 directory_head freed TheMap sound.owned.map refl ok
-    by_result l sound (Err t) ok err = files_same l c1 c2 err
+    by_result : (l : Layout) → Sound (geometry_of medium c) c l → (r : Result (Unit {0}) Trouble) → OnOk r (c2 ≡ written c1 directory_head freed) → OnErr r (c2 ≡ c1) → KeepsClosed l c1 c2 (λ m. m == n)
+    by_result l sound (Ok x) ok err = kept_mapped l c1 c2 freed (λ m. m == n) sound.owned ok
+    by_result l sound (Err t) ok err = kept_same l c1 c2 (λ m. m == n) err

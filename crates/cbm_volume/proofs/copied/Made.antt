@@ -21,7 +21,7 @@ use Rattle.cbm_volume.specs.Blocks.{Blocks, no_blocks, slot_of}
 use Rattle.cbm_volume.specs.Copies.{less, Making}
 use Rattle.cbm_volume.specs.Layouts.{Owner, Directory, DataOf, Writer, is_loose, OwnedBy, Layout, Sound, slot_count, HasLayout}
 use Rattle.cbm_volume.specs.Opens.{IsUnused}
-use Rattle.cbm_volume.specs.Reaches.{is_file, KeepsFiles, Reached, SlotLost}
+use Rattle.cbm_volume.specs.Reaches.{is_file, Reached, SlotLost}
 use Rattle.cbm_volume.specs.Writers.{Use, Idle, uses_slot, HoldsAt}
 use Rattle.cbm_volume.proofs.opened.Beginning.{empty_unused}
 use Rattle.cbm_volume.proofs.written.Closing as closing
@@ -35,7 +35,7 @@ use Rattle.cbm_volume.proofs.layouts.OneSlot as one_slot
 use Rattle.cbm_volume.proofs.opened.OpenedFiles.{fresh_file, fresh_kind, empty_at, slot_is}
 use Rattle.cbm_volume.proofs.layouts.Steps.{stands_loose}
 use Rattle.cbm_volume.proofs.written.Storing.{geometry_elsewhere}
-use Rattle.cbm_volume.proofs.layouts.Untouched.{files_written}
+use Rattle.cbm_volume.proofs.layouts.Staying.{KeepsClosed, kept_written, kept_opened, kept_later, empty_open}
 use Rattle.cbm_volume.proofs.layouts.Writers.{written_keeps}
 
 -- ---- the last block is written
@@ -68,7 +68,7 @@ made_last medium c l d uses ch now now' s bytes u k ends = by_places k.places k.
         let e : EndsAt tracks now now' b rest bytes = subst (λ (n : ℕ). EndsAt n now now' b rest bytes) k.same_tracks (ends_at now now' s b rest bytes wrote ends) in
         let stands : HasLayout tracks now' r.layout d1 = stands_loose tracks now now' r.layout d1 p e.sector r.so.stands (ap is_loose mine) e.written in
         let head : now' directory_head ≡ now directory_head = ap (λ (x : Content). x directory_head) e.written ∙ written_elsewhere now p directory_head e.sector (λ z. (let y = sym mine ∙ ap owner z ∙ r.so.stands.sound.owned.map in (cc))) in
-        let files : KeepsFiles r.layout now now' = files_written r.layout now now' p e.sector (Writer ch) mine refl e.written in
+        let kept : KeepsClosed r.layout now now' (λ m. false) = kept_written r.layout now now' p e.sector (Writer ch) (λ m. false) r.so.stands.sound.owned mine refl (λ z. (cc)) e.written in
         let part : Part (geometry_of medium now) now (b ∷ rest) = subst (λ (n : ℕ). Part n now (b ∷ rest)) (k.same_tracks ∙ sym r.same) wrote.part in
         let few : length (b ∷ rest) ≤ 749 = few_blocks medium now r.layout ch (b ∷ rest) (subst (λ (n : ℕ). Sound n now r.layout) (sym r.same) r.so.stands.sound) part held in
         let keeps : (o : Owner) → Writer ch ≢ o → Keeps now now' owner o = λ o ne. written_keeps now now' p e.sector owner o e.written (λ z. ne (sym mine ∙ z)) in
@@ -87,7 +87,8 @@ made_last medium c l d uses ch now now' s bytes u k ends = by_places k.places k.
                   slots = λ n no. refl;
                 }) (λ m n h. refl);
             same = geometry_elsewhere medium now now' head ∙ r.same;
-            files = λ x g. files x (r.later x g) ∙ r.files x g;
+            front = r.front;
+            kept = kept_later l r.layout c now now' (λ m. false) r.front r.later r.kept kept;
             later = r.later;
           };
           held = held;
@@ -143,7 +144,7 @@ made_over medium c l d uses ch now now' s bytes n kind name at entry body idle k
     let mine : owner (sector_of l1.directory n) ≡ Directory = sector_owned l1 r.so.stands.sound.owned n there in
     let keeps : (o : Owner) → Directory ≢ o → Keeps now now' owner o = λ o z. written_keeps now now' (sector_of l1.directory n) enters.sector owner o enters.written (λ y. z (sym mine ∙ y)) in
     let head : now' directory_head ≡ now directory_head = ap (λ (x : Content). x directory_head) enters.written ∙ written_elsewhere now (sector_of l1.directory n) directory_head enters.sector (λ z. (let y = sym mine ∙ ap owner z ∙ r.so.stands.sound.owned.map in (cc))) in
-    let files : KeepsFiles l1 now now' = files_written l1 now now' (sector_of l1.directory n) enters.sector Directory mine refl enters.written in
+    let kept : KeepsClosed l1 now now' (λ m. false) = kept_opened tracks l1 now now now' n body (λ m. false) r.so.stands.sound there enters (empty_open tracks now l1 d1 n r.so.stands there none) in
     let so : HoldsAt tracks now' l2 d2 uses = holds_on tracks now now' l1 l2 d1 d2 uses ch (λ m. m == n) idle r.so (subst (λ (x : Option File). HasLayout tracks now' l2 (with_slot d1 n x)) file stands)
     (record {
       writers = λ x out. keeps (Writer x) (λ z. (cc));
@@ -158,6 +159,7 @@ made_over medium c l d uses ch now now' s bytes n kind name at entry body idle k
       layout = l2;
       so = subst (λ (x : Disk). HoldsAt tracks now' l2 x uses) (disk ∙ ap (λ (x : ℕ). with_file d (closed_file kind (before_filler name) x (Bytes bytes)) x) k.count) so;
       same = geometry_elsewhere medium now now' head ∙ r.same;
-      files = λ x g. files x (r.later x g) ∙ r.files x g;
+      front = r.front;
+      kept = kept_later l l1 c now now' (λ m. false) r.front r.later r.kept kept;
       later = λ x g. elim (own_all_was owner xs (DataOf n) x) [ inl a ↦ ap is_file a | inr b ↦ ap is_file b ∙ r.later x g ];
     }

@@ -13,8 +13,8 @@ use Rattle.cbm_chain.specs.Writing.{State, last_of, Wrote, Fills, with_byte, beg
 use Rattle.cbm_chain.proofs.Putting.{wrote_more, wrote_on}
 use Rattle.cbm_relfile.specs.Records.{AllWhole}
 use Rattle.cbm_volume.specs.Copies.{less, Making}
-use Rattle.cbm_volume.specs.Layouts.{Owner, TheMap, DataOf, Writer, Nobody, is_loose, OwnedBy, Layout, Sound, HasLayout, own}
-use Rattle.cbm_volume.specs.Reaches.{is_file, KeepsFiles, Reached, SlotLost}
+use Rattle.cbm_volume.specs.Layouts.{Owner, DataOf, Writer, Nobody, is_loose, OwnedBy, Layout, Sound, HasLayout, own}
+use Rattle.cbm_volume.specs.Reaches.{is_file, Reached, SlotLost}
 use Rattle.cbm_volume.specs.Writers.{Use, Idle, IsUsed, uses_slot, HoldsAt}
 use Rattle.cbm_volume.proofs.written.Closing.{is_ch}
 use Rattle.cbm_volume.proofs.written.Finishes.{last_owned}
@@ -26,7 +26,7 @@ use Rattle.cbm_volume.proofs.written.Puts.{wrote_length, spares_owned, owned_own
 use Rattle.cbm_volume.proofs.layouts.Remaps.{with_owner}
 use Rattle.cbm_volume.proofs.layouts.Steps.{one_less, Claimed, stands_claim, stands_loose, own_there, own_elsewhere}
 use Rattle.cbm_volume.proofs.written.Storing.{few, geometry_claimed, geometry_elsewhere}
-use Rattle.cbm_volume.proofs.layouts.Untouched.{files_then, files_written}
+use Rattle.cbm_volume.proofs.layouts.Staying.{KeepsClosed, kept_then, kept_written, kept_claimed, kept_later}
 use Rattle.cbm_volume.proofs.layouts.Writers.{owned_kept, Spares, used_kept, stands_owned, written_keeps, keeps_then}
 
 -- ---- the other channels
@@ -97,7 +97,7 @@ making_begun medium c l c1 c2 d uses ch q idle r k =
     let spares : Spares c1 c2 r.layout l' (grown d) (one_less (grown d)) (λ x. false) (λ n. false) = spares_owned tracks c1 c2 r.layout (grown d) q ch r.so.stands k claimed.taken.nobody in
     let so : HoldsAt tracks c2 l' (one_less (grown d)) uses = holds_on tracks c1 c2 r.layout l' (grown d) (one_less (grown d)) uses ch (λ n. false) idle r.so (stands_owned tracks c2 r.layout (one_less (grown d)) q ch claimed.stands claimed.taken)
     (record { writers = λ x o. spares.writers x refl; writers_own = λ x p o. spares.writers_own x p refl; files = λ n o. spares.files n refl; files_own = λ n p o. spares.files_own n p refl; more = omega arith; slots = λ n o. refl }) (λ m n h. refl) in
-    let files : KeepsFiles r.layout c1 c2 = files_written r.layout c1 c2 directory_head k.remaps.map TheMap r.so.stands.sound.owned.map refl k.remaps.written in
+    let kept : KeepsClosed r.layout c1 c2 (λ m. false) = kept_claimed tracks r.layout c1 c2 q (λ m. false) r.so.stands.sound.owned k in
     record {
       idle = idle;
       places = q ∷ [];
@@ -105,7 +105,8 @@ making_begun medium c l c1 c2 d uses ch q idle r k =
         layout = l';
         so = subst (λ (x : Disk). HoldsAt tracks c2 l' x uses) e so;
         same = geometry_claimed medium c1 c2 r.layout q (subst (λ (n : ℕ). Sound n c1 r.layout) (sym r.same) r.so.stands.sound) (subst (λ (n : ℕ). Claims n c1 c2 q) (sym r.same) k) ∙ r.same;
-        files = λ p f. files p (r.later p f) ∙ r.files p f;
+        front = r.front;
+        kept = kept_later l r.layout c c1 c2 (λ m. false) r.front r.later r.kept kept;
         later = λ p f. later_own r.layout.owner q ch claimed.taken.nobody p (r.later p f);
       };
       owned = (own_there r.layout.owner q (Writer ch), tt);
@@ -151,8 +152,8 @@ making_filled medium c l d uses ch now now' s bytes byte u p q whole k some full
         } in
         let stands : HasLayout tracks now' l' d2 = subst (λ (x : Disk). HasLayout tracks now' l' x) (less_one d n (length more) number) (stands_loose tracks f.middle now' l' (one_less d1) p f.sector owned loose f.written) in
         let head : now' directory_head ≡ f.middle directory_head = ap (λ (x : Content). x directory_head) f.written ∙ written_elsewhere f.middle p directory_head f.sector (λ z. (let y = sym mine ∙ ap owner z ∙ r.so.stands.sound.owned.map in (cc))) in
-        let files : KeepsFiles r.layout now now' = files_then r.layout now f.middle now' (files_written r.layout now f.middle directory_head f.claims.remaps.map TheMap r.so.stands.sound.owned.map refl f.claims.remaps.written)
-        (files_written r.layout f.middle now' p f.sector (Writer ch) mine refl f.written) in
+        let kept : KeepsClosed r.layout now now' (λ m. false) = kept_then r.layout now f.middle now' (λ m. false) (kept_claimed tracks r.layout now f.middle q (λ m. false) r.so.stands.sound.owned f.claims)
+        (kept_written r.layout f.middle now' p f.sector (Writer ch) (λ m. false) r.so.stands.sound.owned mine refl (λ z. (cc)) f.written) in
         record {
           idle = k.idle;
           places = more;
@@ -160,7 +161,8 @@ making_filled medium c l d uses ch now now' s bytes byte u p q whole k some full
             layout = l';
             so = holds_on tracks now now' r.layout l' d1 d2 uses ch (λ n. false) k.idle r.so stands spares (λ m n h. refl);
             same = geometry_elsewhere medium f.middle now' head ∙ geometry_claimed medium now f.middle r.layout q (subst (λ (n : ℕ). Sound n now r.layout) (sym r.same) r.so.stands.sound) (subst (λ (n : ℕ). Claims n now f.middle q) (sym r.same) f.claims) ∙ r.same;
-            files = λ x g. files x (r.later x g) ∙ r.files x g;
+            front = r.front;
+            kept = kept_later l r.layout c now now' (λ m. false) r.front r.later r.kept kept;
             later = λ x g. later_own owner q ch claimed.taken.nobody x (r.later x g);
           };
           owned = owned_push l'.owner (Writer ch) (b ∷ rest) q (owned_own owner q ch (b ∷ rest) held) (own_there owner q (Writer ch));

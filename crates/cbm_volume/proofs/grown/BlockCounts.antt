@@ -27,7 +27,7 @@ use Rattle.cbm_volume.specs.Writers.{Use, Relates, IsRelating, IsUsed, uses_slot
 use Rattle.cbm_volume.specs.RecordWrites.{HasRecordsOpen}
 use Rattle.cbm_volume.specs.Growing.{disk_with}
 use Rattle.cbm_volume.specs.Opens.{IsHindered}
-use Rattle.cbm_volume.proofs.layouts.Frames.{Keeps}
+use Rattle.cbm_volume.proofs.layouts.Frames.{Keeps, lies_alike}
 use Rattle.cbm_volume.proofs.layouts.Loose.{sector_owned}
 use Rattle.cbm_volume.proofs.layouts.OneSlot.{with_file}
 use Rattle.cbm_volume.proofs.layouts.Steps.{stands_entry, extends_itself}
@@ -37,7 +37,8 @@ use Rattle.cbm_volume.proofs.written.Storing.{geometry_elsewhere}
 use Rattle.cbm_volume.proofs.written.Closing.{some_file}
 use Rattle.cbm_volume.proofs.held.RecordsRead.{no_slot}
 use Rattle.cbm_volume.proofs.written.Sparing.{EntryPut}
-use Rattle.cbm_volume.proofs.changed.Renames.{lies_alike, same_body, used_on, named_hindered}
+use Rattle.cbm_volume.proofs.layouts.Staying.{KeepsEntries, entries_same, kept_exempt}
+use Rattle.cbm_volume.proofs.changed.Renames.{same_body, used_on, named_hindered}
 
 -- it is the same file but for the number of blocks that is shown
 counted_file : (bytes old new : List ℕ) (blocks : ℕ) (b : Blocks) (f : File) → IsCountedAs old new blocks → slot_with bytes old b ≡ Some f → slot_with bytes new b ≡ Some (record f { shown = blocks })
@@ -155,6 +156,18 @@ told_elsewhere medium c c2 n entry body r stands put err d uses h p ne = by_resu
     by_result : (r : Result (Unit {0}) Trouble) → OnOk r (Enters c c2 (sector_of h.layout.directory n) (n % 8) body) → OnErr r (c2 ≡ c) → c2 p ≡ c p
     by_result (Ok x) e s = written_keeps c c2 (sector_of h.layout.directory n) e.sector h.layout.owner (h.layout.owner p) e.written (λ y. ne (sym y ∙ sector_owned h.layout h.so.stands.sound.owned n found.0)) p refl
     by_result (Err x) e s = ap (λ (y : Content). y p) s
+
+-- and of that the slot's entry
+pub told_entries : (medium : ℕ) (c c2 : Content) (n : ℕ) (entry body : List ℕ) (r : Result (Unit {0}) Trouble) → EntryStandsAt medium c n entry → EntryPut (geometry_of medium c) c c2 n body r → OnErr r (c2 ≡ c) → (d : Disk) (uses : ℕ → Use) (h : HoldsNow medium c d uses)
+    → KeepsEntries h.layout c c2 (λ m. m == n)
+told_entries medium c c2 n entry body r stands put err d uses h = by_result r (put h.layout.directory h.so.stands.sound.directory found.0) err
+  where
+    found : (n < slot_count h.layout) × (entry ≡ entry_at c h.layout.directory n)
+    found = entry_found (geometry_of medium c) c h.layout n entry h.so.stands.sound stands
+
+    by_result : (r : Result (Unit {0}) Trouble) → OnOk r (Enters c c2 (sector_of h.layout.directory n) (n % 8) body) → OnErr r (c2 ≡ c) → KeepsEntries h.layout c c2 (λ m. m == n)
+    by_result (Ok x) e s = (kept_exempt (geometry_of medium c) h.layout c c c2 n body h.so.stands.sound found.0 e).entries
+    by_result (Err x) e s = entries_same h.layout c c2 (λ m. m == n) s
 
 -- the slot is there
 pub told_there : (medium geometry : ℕ) (c : Content) (d : Disk) (uses : ℕ → Use) (n : ℕ) (f : File) (found : Option (List ℕ)) → HoldsNow medium c d uses → file_at d n ≡ Some f → geometry ≡ geometry_of medium c → None ≡ found → Answers (directory_of geometry c) n (Ok found) → ⊥

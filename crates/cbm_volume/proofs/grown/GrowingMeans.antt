@@ -1,6 +1,6 @@
 -- What the call that grows a relative file means: the machine's disk, or what a refused write left.
 use Rattle.std.proofs.Common.{◌≡◌, ℕ, ◌+◌, ◌-◌, ◌≤◌, List, Bool, true, false, Option, Some, None, Result, refl, sym, ap, subst, ◌∙◌, arith, inl, inr}
-use Rattle.std.specs.Prelude.{IfErr, IfOk, IsOkAnd, MatchBool, MatchOption, nat_lt, ◌||◌, ◌==◌}
+use Rattle.std.specs.Prelude.{MatchOption, nat_lt, ◌||◌, ◌==◌}
 use Rattle.std.proofs.lemmas.Bool.{cases_lt, lt-ltb}
 use Rattle.std.proofs.lemmas.List.{append-nil}
 use Rattle.cbm_medium.specs.Content.{Content}
@@ -13,11 +13,12 @@ use Rattle.cbm_directory.specs.Entries.{entry_at, first_block, first_side}
 use Rattle.cbm_relfile.specs.Records.{Relative}
 use Rattle.cbm_volume.specs.Growth.{filled_up, more_blocks, with_growth, IsTooLarge, IsGrowthCut, IsGrowth}
 use Rattle.cbm_volume.specs.Growing.{IsGrowthStopped, IsGrownTo, IsPlanned, is_too_large}
-use Rattle.cbm_volume.specs.Layouts.{Untouched}
+use Rattle.cbm_volume.specs.Staying.{LeavesClosed}
 use Rattle.cbm_volume.specs.Opens.{IsHindered}
 use Rattle.cbm_volume.specs.RecordWrites.{HasRecordsOpen, OfOpen}
 use Rattle.cbm_volume.specs.Writers.{Use, HoldsNow}
-use Rattle.cbm_volume.proofs.grown.GrowingEnds.{untouched_files, stopped_untouched, grown_untouched}
+use Rattle.cbm_volume.proofs.grown.GrowingEnds.{stopped_untouched, grown_untouched}
+use Rattle.cbm_volume.proofs.layouts.Staying.{entries_same, leaves_others}
 use Rattle.cbm_volume.proofs.grown.GrowingSteps.{Stage, cut_of}
 use Rattle.cbm_volume.proofs.relative.LastGrown.{begins}
 
@@ -58,16 +59,16 @@ GrowsBy old new n file b s goal says = (d : Disk) (uses : ℕ → Use) (w : ℕ)
 
 module _ (old new : Seen) (d : Disk) (uses : ℕ → Use) (n w b s : ℕ) (rs : List (List ℕ)) (o : HasRecordsOpen old.tracks old.content d uses n w b s rs) where
   -- nothing has changed
-  pub same_untouched : new.content ≡ old.content → Untouched (geometry_of old.tracks old.content) old.content new.content (λ m. m == n)
-  same_untouched e = untouched_files (geometry_of old.tracks old.content) old.content new.content o.holds.layout n o.holds.so.stands.sound
-      (λ m ne. (λ p h. ap (λ (x : Content). x p) e, λ p h. ap (λ (x : Content). x p) e))
+  pub same_untouched : new.content ≡ old.content → LeavesClosed (geometry_of old.tracks old.content) old.content new.content (λ m. m == n) (λ m. m == n)
+  same_untouched e = leaves_others (geometry_of old.tracks old.content) old.content new.content o.holds.layout n o.holds.so.stands.sound
+      (λ m ne. (λ p h. ap (λ (x : Content). x p) e, λ p h. ap (λ (x : Content). x p) e)) (entries_same o.holds.layout old.content new.content (λ m. m == n) e)
 
   pub nothing_cut : (t : Trouble) → new.content ≡ old.content → IsHindered old new t → IsGrowthCut old new d uses n w rs t
   nothing_cut t e cause =
       cut_of old new old.content d uses n w o.file rs o.holds.layout old.content o.holds.layout 0 b s d.free t o.in_slot
       (subst (λ (ys : List (List ℕ)). Stage old.tracks old.content o.holds.layout d uses n o.file w old.content o.holds.layout ys b s d.free) (sym (append-nil rs)) (begins old.tracks old.content d uses n w b s rs o)) e cause
 
-  pub stopped_files : (t : Trouble) → IsGrowthStopped old new old.content o.holds.layout d uses n w rs t → Untouched (geometry_of old.tracks old.content) old.content new.content (λ m. m == n)
+  pub stopped_files : (t : Trouble) → IsGrowthStopped old new old.content o.holds.layout d uses n w rs t → LeavesClosed (geometry_of old.tracks old.content) old.content new.content (λ m. m == n) (λ m. m == n)
   stopped_files t k = stopped_untouched old new o.holds.layout d uses n w rs t o.holds.so.stands.sound k
 
   -- the plan is carried out
@@ -80,7 +81,7 @@ module _ (old new : Seen) (d : Disk) (uses : ℕ → Use) (n w b s : ℕ) (rs : 
       → HoldsNow old.tracks new.content (with_growth d n w b s rs k) uses
   grown_means k file blocks sides goal p g = subst (λ (x : Disk). HoldsNow old.tracks new.content x uses) (same_growth d n w b s rs k goal p.goal_is) g.holds
 
-  pub grown_files : (goal : ℕ) → IsGrownTo old.tracks old.content new.content o.holds.layout d uses n w rs b s goal → Untouched (geometry_of old.tracks old.content) old.content new.content (λ m. m == n)
+  pub grown_files : (goal : ℕ) → IsGrownTo old.tracks old.content new.content o.holds.layout d uses n w rs b s goal → LeavesClosed (geometry_of old.tracks old.content) old.content new.content (λ m. m == n) (λ m. m == n)
   grown_files goal g = grown_untouched old new o.holds.layout d uses n w rs b s goal o.holds.so.stands.sound g
 
   -- it isn't too large

@@ -1,22 +1,37 @@
 -- A chain is settled by where it begins, so no sector stands in it twice.
-use Rattle.std.proofs.Common.{◌≡◌, ◌≢◌, ℕ, zero, suc, ◌+◌, ◌<◌, List, [], ◌∷◌, length, get_or, drop, IsOk, refl, sym, ap, subst, ◌∙◌, arith}
+use Rattle.std.proofs.Common.{◌≡◌, ◌≢◌, ℕ, zero, suc, ◌+◌, ◌<◌, List, [], ◌∷◌, ◌++◌, length, get_or, drop, IsOk, refl, sym, ap, subst, ◌∙◌, arith}
 use Rattle.std.proofs.lemmas.List.{length-drop}
-use Rattle.cbm_medium.specs.Place.{Place, Has}
+use Rattle.cbm_medium.specs.Place.{Place, Has, directory_head}
 use Rattle.cbm_medium.specs.Content.{Content}
 use Rattle.cbm_medium.specs.Links.{bytes_at, link, Chain}
 
 off_track_0 : (tracks : ℕ) (a b : Place) → a.track ≡ 0 → a ≡ b → Has tracks b → ⊥
 off_track_0 tracks a b z e h = let t = ap (λ (p : Place). p.track) e in omega arith
 
--- two chains from one place are one
-pub chain_settled : (tracks : ℕ) (c : Content) (a : Place) (xs ys : List Place) → Chain tracks c a xs → Chain tracks c a ys → xs ≡ ys
-chain_settled tracks c a [] [] h k = refl
-chain_settled tracks c a [] (y ∷ ys) h k = absurd (off_track_0 tracks a y h k.0 k.1)
-chain_settled tracks c a (x ∷ xs) [] h k = absurd (off_track_0 tracks a x k h.0 h.1)
-chain_settled tracks c a (x ∷ xs) (y ∷ ys) h k =
+-- two chains from one place are one, on disks of however many tracks
+pub chains_one : (tracks tracks' : ℕ) (c : Content) (a : Place) (xs ys : List Place) → Chain tracks c a xs → Chain tracks' c a ys → xs ≡ ys
+chains_one tracks tracks' c a [] [] h k = refl
+chains_one tracks tracks' c a [] (y ∷ ys) h k = absurd (off_track_0 tracks' a y h k.0 k.1)
+chains_one tracks tracks' c a (x ∷ xs) [] h k = absurd (off_track_0 tracks a x k h.0 h.1)
+chains_one tracks tracks' c a (x ∷ xs) (y ∷ ys) h k =
     let e : x ≡ y = sym h.0 ∙ k.0 in
-    let t : xs ≡ ys = chain_settled tracks c (link (bytes_at c x)) xs ys h.3 (subst (λ (p : Place). Chain tracks c (link (bytes_at c p)) ys) (sym e) k.3) in
+    let t : xs ≡ ys = chains_one tracks tracks' c (link (bytes_at c x)) xs ys h.3 (subst (λ (p : Place). Chain tracks' c (link (bytes_at c p)) ys) (sym e) k.3) in
     λ i. e i ∷ t i
+
+pub chain_settled : (tracks : ℕ) (c : Content) (a : Place) (xs ys : List Place) → Chain tracks c a xs → Chain tracks c a ys → xs ≡ ys
+chain_settled tracks = chains_one tracks tracks
+
+-- where each sector of a chain but its last one still links to the next, a chain from the same place begins with it
+pub chain_front : (tracks tracks' : ℕ) (c c' : Content) (a : Place) (xs ys : List Place) → Chain tracks c a xs → Chain tracks' c' a ys
+    → ((i : ℕ) → i + 1 < length xs → link (bytes_at c' (get_or xs i directory_head)) ≡ link (bytes_at c (get_or xs i directory_head))) → (rest : List Place) × (ys ≡ xs ++ rest)
+chain_front tracks tracks' c c' a [] ys h k same = (ys, refl)
+chain_front tracks tracks' c c' a (x ∷ xs) [] h k same = absurd (off_track_0 tracks a x k h.0 h.1)
+chain_front tracks tracks' c c' a (x ∷ []) (y ∷ ys) h k same = (ys, (let e : y ≡ x = sym k.0 ∙ h.0 in λ i. e i ∷ ys))
+chain_front tracks tracks' c c' a (x ∷ z ∷ zs) (y ∷ ys) h k same =
+    let e : y ≡ x = sym k.0 ∙ h.0 in
+    let to : link (bytes_at c' y) ≡ link (bytes_at c x) = ap (λ (p : Place). link (bytes_at c' p)) e ∙ same 0 (omega arith) in
+    let r = chain_front tracks tracks' c c' (link (bytes_at c x)) (z ∷ zs) ys h.3 (subst (λ (p : Place). Chain tracks' c' p ys) to k.3) (λ i l. same (suc i) (omega arith)) in
+    (r.0, λ i. e i ∷ r.1 i)
 
 -- the rest of a chain begins at its own first sector
 pub chain_from : (tracks : ℕ) (c : Content) (a : Place) (xs : List Place) (i : ℕ) (d : Place) → Chain tracks c a xs → i < length xs → Chain tracks c (get_or xs i d) (drop i xs)

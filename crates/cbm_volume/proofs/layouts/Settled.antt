@@ -8,16 +8,17 @@ use Rattle.cbm_file.specs.Files.{Disk, File}
 use Rattle.cbm_directory.specs.Entries.{first_block, is_closed, is_relative, entry_at, first_directory}
 use Rattle.cbm_volume.specs.Blocks.{Blocks, LiesAs, slot_of}
 use Rattle.cbm_volume.specs.Layouts.{Layout, slot_count, Sound, HasLayout, Untouched, DataOf, SideOf}
-use Rattle.cbm_volume.proofs.layouts.Chained.{chain_settled}
+use Rattle.cbm_volume.proofs.layouts.Chained.{chains_one, chain_settled}
 use Rattle.cbm_volume.proofs.layouts.Untouched.{KeepsFiles, all_same}
 
 same_blocks : (a b : Blocks) → a.data_blocks ≡ b.data_blocks → a.sides ≡ b.sides → a ≡ b
 same_blocks a b e f = λ i. record { data_blocks = e i; sides = f i }
 
-lies_settled : (cl r : Bool) (tracks : ℕ) (c : Content) (e : List ℕ) (a b : Blocks) → LiesAs cl r tracks c e a → LiesAs cl r tracks c e b → a ≡ b
-lies_settled false r tracks c e a b h k = h ∙ sym k
-lies_settled true false tracks c e a b h k = same_blocks a b (chain_settled tracks c (first_block e) a.data_blocks b.data_blocks h.0 k.0) (h.1 ∙ sym k.1)
-lies_settled true true tracks c e a b h k = same_blocks a b (chain_settled tracks c (first_block e) a.data_blocks b.data_blocks h.0 k.0) (h.1.listed ∙ sym k.1.listed)
+-- a file of one entry lies in the same blocks, on disks of however many tracks
+pub lies_settled : (cl r : Bool) (tracks tracks' : ℕ) (c : Content) (e : List ℕ) (a b : Blocks) → LiesAs cl r tracks c e a → LiesAs cl r tracks' c e b → a ≡ b
+lies_settled false r tracks tracks' c e a b h k = h ∙ sym k
+lies_settled true false tracks tracks' c e a b h k = same_blocks a b (chains_one tracks tracks' c (first_block e) a.data_blocks b.data_blocks h.0 k.0) (h.1 ∙ sym k.1)
+lies_settled true true tracks tracks' c e a b h k = same_blocks a b (chains_one tracks tracks' c (first_block e) a.data_blocks b.data_blocks h.0 k.0) (h.1.listed ∙ sym k.1.listed)
 
 pub same_directory : (tracks : ℕ) (c : Content) (l k : Layout) → Sound tracks c l → Sound tracks c k → l.directory ≡ k.directory
 same_directory tracks c l k s t = chain_settled tracks c first_directory l.directory k.directory s.directory t.directory
@@ -27,7 +28,7 @@ pub same_files : (tracks : ℕ) (c : Content) (l k : Layout) (n : ℕ) → Sound
 same_files tracks c l k n s t h =
     let e : entry_at c l.directory n ≡ entry_at c k.directory n = ap (λ (x : List Place). entry_at c x n) (same_directory tracks c l k s t) in
     let h' : n < slot_count k = omega (arith, h, ap length (same_directory tracks c l k s t)) in
-    lies_settled (is_closed (entry_at c l.directory n)) (is_relative (entry_at c l.directory n)) tracks c (entry_at c l.directory n) (l.files n) (k.files n) (s.lies n h)
+    lies_settled (is_closed (entry_at c l.directory n)) (is_relative (entry_at c l.directory n)) tracks tracks c (entry_at c l.directory n) (l.files n) (k.files n) (s.lies n h)
     (subst (λ (x : List ℕ). LiesAs (is_closed x) (is_relative x) tracks c x (k.files n)) (sym e) (t.lies n h'))
 
 -- UNTOUCHED, from one layout for all: what a writer writes to is nobody's in the layout that knows the writer

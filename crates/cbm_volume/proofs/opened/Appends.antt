@@ -1,5 +1,5 @@
 -- OPEN for appending: the blocks of a closed file go to a channel, and its entry is opened.
-use Rattle.std.proofs.Common.{◌≡◌, ◌≢◌, ℕ, zero, suc, ◌+◌, ◌*◌, ◌/◌, ◌%◌, ◌<◌, length, arith, List, [], ◌∷◌, ◌++◌, Bool, true, false, IsOk, refl, sym, ap, subst, ◌∙◌, inl, inr, Option, Some, None, Ok, Err}
+use Rattle.std.proofs.Common.{◌≡◌, ◌≢◌, ℕ, zero, suc, ◌+◌, ◌*◌, ◌/◌, ◌%◌, ◌<◌, length, get_or, arith, List, [], ◌∷◌, ◌++◌, Bool, true, false, IsOk, refl, sym, ap, subst, ◌∙◌, inl, inr, Option, Some, None, Ok, Err}
 use Rattle.std.specs.Prelude.{◌==◌, ◌&&◌, MatchOption, slice_index, slice_range, slice_set}
 use Rattle.std.proofs.lemmas.Bool.{cases_eq, eq-eqb, ne_eqb}
 use Rattle.std.proofs.lemmas.List.{get_or-set_same}
@@ -25,7 +25,8 @@ use Rattle.cbm_directory.proofs.Placing.{led_on, led_nowhere}
 use Rattle.cbm_relfile.specs.Records.{AllWhole}
 use Rattle.cbm_volume.specs.Blocks.{Blocks, no_blocks, file_of, slot_of, slot_with, body_as}
 use Rattle.cbm_volume.specs.Holding.{EntryStandsAt}
-use Rattle.cbm_volume.specs.Layouts.{Owner, Directory, DataOf, Writer, OwnedBy, Layout, slot_count, Sound, HasLayout, Untouched}
+use Rattle.cbm_volume.specs.Layouts.{Owner, Directory, DataOf, Writer, OwnedBy, Layout, slot_count, Sound, HasLayout}
+use Rattle.cbm_volume.specs.Staying.{LeavesClosed}
 use Rattle.cbm_volume.specs.Writers.{Filling, Use, Idle, Writes, IsWriting, IsUsed, uses_slot, HoldsAt, Holds, HoldsNow, with_use}
 use Rattle.cbm_volume.specs.Opens.{CanBeWritten, BeginsFile, IsHindered}
 use Rattle.cbm_volume.proofs.layouts.Frames.{Keeps}
@@ -43,8 +44,7 @@ use Rattle.cbm_volume.proofs.written.Storing.{geometry_elsewhere}
 use Rattle.cbm_volume.proofs.written.Closing.{other_slot, some_file, plain_entry}
 use Rattle.cbm_volume.proofs.opened.Beginning.{alone_more}
 use Rattle.cbm_volume.proofs.written.Replacements.{IsOld, old_file}
-use Rattle.cbm_volume.proofs.layouts.Settled.{untouched_in}
-use Rattle.cbm_volume.proofs.layouts.Untouched.{KeepsFiles, files_same, files_written}
+use Rattle.cbm_volume.proofs.layouts.Staying.{KeepsClosed, kept_same, kept_exempt, leaves_in}
 use Rattle.cbm_volume.proofs.layouts.Refusals.{sector_hindered, sector_reads}
 
 -- ---- a chain that is there, as the blocks of a writer
@@ -238,21 +238,24 @@ led_further : (tracks : ℕ) (c : Content) (n : ℕ) (a : Place) (cell : Cell) �
 led_further tracks c n a (Ok bytes) h e ok = led_on tracks (suc n) n c a bytes h e refl ∙ ap (λ (x : Cell). led_to tracks c n (link (or_nothing x))) (sym e)
 led_further tracks c n a (Err code) h e ok = absurd (cc)
 
--- where links lead in a chain, a sector of it stands
-led_owned : (tracks : ℕ) (c : Content) (owner : Place → Owner) (o : Owner) (n : ℕ) (a p : Place) (xs : List Place) → Chain tracks c a xs → OwnedBy owner o xs → led_to tracks c n a ≡ Some p → owner p ≡ o
-led_owned tracks c owner o n a p [] h w e = absurd (let z = sym (led_nowhere tracks n c a (λ k. (omega (arith, k.0)))) ∙ e in (cc))
-led_owned tracks c owner o zero a p (x ∷ xs) h w e = ap owner (sym (led_first tracks c a p (subst (λ (q : Place). Has tracks q) (sym h.0) h.1) e) ∙ h.0) ∙ w.0
-led_owned tracks c owner o (suc n) a p (x ∷ xs) h w e =
-    led_owned tracks c owner o n (link (bytes_at c x)) p xs h.3 w.1 (sym (led_further tracks c n x (c x) h.1 refl h.2) ∙ ap (led_to tracks c (suc n)) (sym h.0) ∙ e)
+-- where links lead in a chain, the sector of that number stands
+led_nth : (tracks : ℕ) (c : Content) (n : ℕ) (a p d : Place) (xs : List Place) → Chain tracks c a xs → led_to tracks c n a ≡ Some p → (n < length xs) × (p ≡ get_or xs n d)
+led_nth tracks c n a p d [] h e = absurd (let z = sym (led_nowhere tracks n c a (λ k. (omega (arith, k.0)))) ∙ e in (cc))
+led_nth tracks c zero a p d (x ∷ xs) h e = (omega arith, sym (led_first tracks c a p (subst (λ (q : Place). Has tracks q) (sym h.0) h.1) e) ∙ h.0)
+led_nth tracks c (suc n) a p d (x ∷ xs) h e =
+    let r = led_nth tracks c n (link (bytes_at c x)) p d xs h.3 (sym (led_further tracks c n x (c x) h.1 refl h.2) ∙ ap (led_to tracks c (suc n)) (sym h.0) ∙ e) in
+    (omega (arith, r.0), r.1)
 
-pub entry_untouched : (medium : ℕ) (c c2 : Content) (n : ℕ) (body : List ℕ) (d : Disk) (uses : ℕ → Use) → HoldsNow medium c d uses → EntersLed (geometry_of medium c) c c2 n body → Untouched (geometry_of medium c) c c2 (λ m. false)
+-- the entry of this number is written: all other closed files stay in place, and the sectors of its file are as they were too
+pub entry_untouched : (medium : ℕ) (c c2 : Content) (n : ℕ) (body : List ℕ) (d : Disk) (uses : ℕ → Use) → HoldsNow medium c d uses → EntersLed (geometry_of medium c) c c2 n body → LeavesClosed (geometry_of medium c) c c2 (λ m. false) (λ m. m == n)
 entry_untouched medium c c2 n body d uses h led =
-    untouched_in tracks c c2 h.layout (λ m. false) h.so.stands.sound (by_place (led_to tracks c (n / 8) first_directory) refl led)
+    leaves_in tracks c c2 h.layout (λ m. m == n) h.so.stands.sound (by_place (led_to tracks c (n / 8) first_directory) refl led)
   where
     tracks : ℕ
     tracks = geometry_of medium c
 
-    by_place : (o : Option Place) → led_to tracks c (n / 8) first_directory ≡ o → MatchOption o (c2 ≡ c) (λ p. Enters c c2 p (n % 8) body) → KeepsFiles h.layout c c2
-    by_place None e same = files_same h.layout c c2 same
-    by_place (Some p) e enters = files_written h.layout c c2 p enters.sector Directory
-        (led_owned tracks c h.layout.owner Directory (n / 8) first_directory p h.layout.directory h.so.stands.sound.directory h.so.stands.sound.owned.directory e) refl enters.written
+    by_place : (o : Option Place) → led_to tracks c (n / 8) first_directory ≡ o → MatchOption o (c2 ≡ c) (λ p. Enters c c2 p (n % 8) body) → KeepsClosed h.layout c c2 (λ m. m == n)
+    by_place None e same = kept_same h.layout c c2 (λ m. m == n) same
+    by_place (Some p) e enters =
+        let at = led_nth tracks c (n / 8) first_directory p directory_head h.layout.directory h.so.stands.sound.directory e in
+        kept_exempt tracks h.layout c c c2 n body h.so.stands.sound (omega (arith, at.0)) (subst (λ (q : Place). Enters c c2 q (n % 8) body) at.1 enters)

@@ -16,16 +16,16 @@ use Rattle.cbm_chain.specs.Writing.{State, begun_at}
 use Rattle.cbm_directory.specs.Entries.{Enters, first_directory, sector_of, type_byte, bit_of, type_of_number, is_closed, name_in}
 use Rattle.cbm_directory.specs.EntryChanges.{IsFreshAs}
 use Rattle.cbm_volume.specs.Blocks.{no_blocks, body_as, slot_of, file_of}
-use Rattle.cbm_volume.specs.Layouts.{Directory, Layout, slot_count, Untouched}
+use Rattle.cbm_volume.specs.Layouts.{Layout, slot_count}
+use Rattle.cbm_volume.specs.Staying.{LeavesClosed}
 use Rattle.cbm_volume.specs.Writers.{Filling, Use, Idle, Writes, Holds, HoldsNow, with_use, known, Stopped}
 use Rattle.cbm_volume.specs.Opens.{BeginsFile}
 use Rattle.cbm_volume.proofs.opened.Beginning.{begun_over}
 use Rattle.cbm_volume.proofs.layouts.Loose.{sector_owned}
 use Rattle.cbm_volume.proofs.opened.OpenedSlots.{Reached, reached_now, claimed_too, SlotReady, grown_is, grown_none}
-use Rattle.cbm_volume.proofs.layouts.Settled.{untouched_in}
+use Rattle.cbm_volume.proofs.layouts.Staying.{KeepsClosed, kept_opened, kept_later, empty_open, leaves_in}
 use Rattle.cbm_volume.proofs.layouts.Steps.{one_less, Claimed, stands_claim}
 use Rattle.cbm_volume.proofs.written.Storing.{few, geometry_elsewhere, none_free}
-use Rattle.cbm_volume.proofs.layouts.Untouched.{KeepsFiles, files_written}
 use Rattle.cbm_volume.proofs.layouts.Vacant.{free_of_disk}
 
 -- ---- the new entry's file
@@ -129,13 +129,17 @@ entry_apart : (medium : ℕ) (c : Content) (l : Layout) (c1 : Content) (d : Disk
 entry_apart medium c l c1 d uses n s k =
     let z = sym (sector_owned s.reached.layout s.reached.so.stands.sound.owned n (slot_there medium c l c1 d uses n s)) ∙ ap s.reached.layout.owner k ∙ s.reached.so.stands.sound.owned.map in (cc)
 
-pub files_set : (medium : ℕ) (c : Content) (l : Layout) (c1 c2 c3 : Content) (d : Disk) (uses : ℕ → Use) (n : ℕ) (q : Place) (body : List ℕ) → IsSet medium c l c1 c2 d uses n q → EntersSlot (geometry_of medium c) c2 c3 n body → KeepsFiles l c c3
-files_set medium c l c1 c2 c3 d uses n q body s put =
+pub kept_set : (medium : ℕ) (c : Content) (l : Layout) (c1 c2 c3 : Content) (d : Disk) (uses : ℕ → Use) (n : ℕ) (q : Place) (body : List ℕ) → IsSet medium c l c1 c2 d uses n q → EntersSlot (geometry_of medium c) c2 c3 n body → KeepsClosed l c c3 (λ m. false)
+kept_set medium c l c1 c2 c3 d uses n q body s put =
+    let tracks : ℕ = geometry_of medium c in
     let r = s.ready.reached in
-    let e = enters_at medium c l c1 c2 c3 d uses n q body s put in
-    let mine = sector_owned r.layout r.so.stands.sound.owned n (slot_there medium c l c1 d uses n s.ready) in
-    let entered : KeepsFiles r.layout c2 c3 = files_written r.layout c2 c3 (sector_of r.layout.directory n) e.sector Directory mine refl e.written in
-    λ p f. entered p (r.later p f) ∙ (reached_set medium c l c1 c2 d uses n q s).files p f
+    let there = slot_there medium c l c1 d uses n s.ready in
+    let claimed : Claimed tracks c1 c2 r.layout (grown d) q = stands_claim tracks c1 c2 r.layout (grown d) q r.so.stands (few medium c) s.claims in
+    let same_n : n - 0 ≡ n = omega arith in
+    let none : file_at (grown d) n ≡ None = ap (λ (i : ℕ). file_at (grown d) i) (sym same_n) ∙ (empty_at 0 n (grown d).slots s.ready.slot).1.1 in
+    kept_later l r.layout c c2 c3 (λ m. false) r.front r.later (reached_set medium c l c1 c2 d uses n q s).kept
+    (kept_opened tracks r.layout c1 c2 c3 n body (λ m. false) r.so.stands.sound there (enters_at medium c l c1 c2 c3 d uses n q body s put)
+    (empty_open tracks c2 r.layout (one_less (grown d)) n claimed.stands there none))
 
 -- A CHANNEL WRITES THE FILE
 pub begins : (medium : ℕ) (c : Content) (l : Layout) (c1 c2 c3 : Content) (d : Disk) (uses : ℕ → Use) (ch n : ℕ) (q : Place) (kind : FileType) (name body : List ℕ) (first : Place) (chain : State)
@@ -189,9 +193,9 @@ not_full medium c c1 d uses n h s some full =
 pub stopped_at : (medium : ℕ) (c : Content) (l : Layout) (c' : Content) (d disk after : Disk) (uses : ℕ → Use) → HoldsNow medium c d uses → Reached medium c l c' disk uses → ((m : ℕ) → file_at disk m ≡ file_at d m) → Stopped medium c' d after uses
 stopped_at medium c l c' d disk after uses h r slots = record { disk = disk; holds = reached_now medium c l c' disk uses r; either = λ m. inl (ap known (slots m)); total = r.so.stands.describes.total ∙ sym h.so.stands.describes.total }
 
--- the sectors of files are the same
-pub untouched_by : (medium : ℕ) (c c' : Content) (d : Disk) (uses : ℕ → Use) (h : HoldsNow medium c d uses) → KeepsFiles h.layout c c' → Untouched (geometry_of medium c) c c' (λ m. false)
-untouched_by medium c c' d uses h keeps = untouched_in (geometry_of medium c) c c' h.layout (λ m. false) h.so.stands.sound keeps
+-- the closed files are kept
+pub untouched_by : (medium : ℕ) (c c' : Content) (d : Disk) (uses : ℕ → Use) (h : HoldsNow medium c d uses) → KeepsClosed h.layout c c' (λ m. false) → LeavesClosed (geometry_of medium c) c c' (λ m. false) (λ m. false)
+untouched_by medium c c' d uses h keeps = leaves_in (geometry_of medium c) c c' h.layout (λ m. false) h.so.stands.sound keeps
 
 -- the directory is there when the entry is to be written
 pub chain_set : (medium : ℕ) (c : Content) (l : Layout) (c1 c2 : Content) (d : Disk) (uses : ℕ → Use) (n : ℕ) (q : Place) (s : IsSet medium c l c1 c2 d uses n q)

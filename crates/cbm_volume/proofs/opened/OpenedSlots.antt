@@ -1,5 +1,5 @@
 -- OPEN for writing finds an empty slot, for which the directory may have grown: what the medium holds then.
-use Rattle.std.proofs.Common.{◌≡◌, ◌≢◌, ◌⊎◌, ℕ, zero, suc, ◌-◌, ◌<◌, arith, List, [], ◌∷◌, ◌++◌, false, refl, sym, ap, subst, ◌∙◌, inl, inr, Option, Some, None, Ok}
+use Rattle.std.proofs.Common.{◌≡◌, ◌≢◌, ◌⊎◌, ℕ, zero, suc, ◌-◌, ◌<◌, arith, List, [], ◌∷◌, ◌++◌, false, refl, sym, ap, subst, ◌∙◌, append-nil, inl, inr, Option, Some, None, Ok}
 use Rattle.std.specs.Prelude.{if◌then◌else◌, replicate, is_none, is_some, nat_lt, ◌||◌}
 use Rattle.cbm_medium.specs.Place.{Place, directory_head}
 use Rattle.cbm_medium.specs.Content.{Content, written}
@@ -28,7 +28,8 @@ use Rattle.cbm_volume.proofs.written.Replaced.{holds_all}
 use Rattle.cbm_volume.proofs.layouts.Rooms.{less_room}
 use Rattle.cbm_volume.proofs.layouts.Steps.{one_less, own_elsewhere, Claimed, stands_claim}
 use Rattle.cbm_volume.proofs.written.Storing.{few, geometry_claimed, geometry_elsewhere}
-use Rattle.cbm_volume.proofs.layouts.Untouched.{is_file, KeepsFiles, files_same, files_then, files_written}
+use Rattle.cbm_volume.proofs.layouts.Untouched.{is_file}
+use Rattle.cbm_volume.proofs.layouts.Staying.{KeepsClosed, kept_same, kept_then, kept_written, kept_mapped, kept_claimed, kept_linked, kept_later}
 use Rattle.cbm_volume.proofs.layouts.FullDirectory.{full_directory}
 use Rattle.cbm_volume.proofs.layouts.Vacant.{empty_of, room_of, never_broken}
 
@@ -41,7 +42,8 @@ stays medium c c1 d uses h e = record {
   layout = h.layout;
   so = subst (λ (x : Content). HoldsAt (geometry_of medium c) x h.layout d uses) (sym e) h.so;
   same = ap (geometry_of medium) e;
-  files = files_same h.layout c c1 e;
+  front = ([], sym (append-nil h.layout.directory));
+  kept = kept_same h.layout c c1 (λ m. false) e;
   later = λ p f. f;
 }
 
@@ -54,13 +56,14 @@ pub claimed_too : (medium : ℕ) (c : Content) (l : Layout) (c1 c2 : Content) (d
 claimed_too medium c l c1 c2 d1 uses q r k =
     let tracks : ℕ = geometry_of medium c in
     let claimed : Claimed tracks c1 c2 r.layout d1 q = stands_claim tracks c1 c2 r.layout d1 q r.so.stands (few medium c) k in
-    let files : KeepsFiles r.layout c1 c2 = files_written r.layout c1 c2 directory_head k.remaps.map TheMap r.so.stands.sound.owned.map refl k.remaps.written in
+    let kept : KeepsClosed r.layout c1 c2 (λ m. false) = kept_claimed tracks r.layout c1 c2 q (λ m. false) r.so.stands.sound.owned k in
     record {
       layout = r.layout;
       so = holds_all tracks c1 c2 r.layout r.layout d1 (one_less d1) uses (λ n. false) r.so claimed.stands
           (spares_write c1 c2 r.layout d1 (one_less d1) directory_head k.remaps.map TheMap k.remaps.written r.so.stands.sound.owned.map (λ x e. (cc)) (λ n e. (cc)) (λ n. refl)) (λ m n f. refl);
       same = geometry_claimed medium c1 c2 r.layout q (subst (λ (n : ℕ). layouts.Sound n c1 r.layout) (sym r.same) r.so.stands.sound) (subst (λ (n : ℕ). Claims n c1 c2 q) (sym r.same) k) ∙ r.same;
-      files = λ p f. files p (r.later p f) ∙ r.files p f;
+      front = r.front;
+      kept = kept_later l r.layout c c1 c2 (λ m. false) r.front r.later r.kept kept;
       later = r.later;
     }
 
@@ -105,8 +108,10 @@ has_more medium c c1 d uses h g = record {
   layout = layouts.layout_grown l g.more;
   so = grown_over tracks c2 c1 l (less_room d) uses e.first e.rest g.more g.sector new_sector two can;
   same = geometry_elsewhere medium g.claimed c1 head ∙ geometry_remapped medium c g.claimed l (with_bit (is_free_in (map_of c)) g.more false) h.so.stands.sound g.claims.remaps;
-  files = files_then l c g.claimed c1 (files_written l c g.claimed directory_head g.claims.remaps.map TheMap h.so.stands.sound.owned.map refl g.claims.remaps.written)
-      (files_then l g.claimed c2 c1 (files_written l g.claimed c2 g.more new_sector Nobody nobody refl refl) (files_written l c2 c1 g.last g.sector Directory mine refl g.written));
+  front = (g.more ∷ [], refl);
+  kept = kept_then l c g.claimed c1 (λ m. false) (kept_mapped l c g.claimed g.claims.remaps.map (λ m. false) h.so.stands.sound.owned g.claims.remaps.written)
+      (kept_then l g.claimed c2 c1 (λ m. false) (kept_written l g.claimed c2 g.more new_sector Nobody (λ m. false) h.so.stands.sound.owned nobody refl (λ z. (cc)) refl)
+      (kept_linked tracks l c c2 c1 e.first e.rest g.more g.sector (λ m. false) h.so.stands.sound directory can.linked can.written));
   later = λ p f. elim (place_decide g.more p) [
     | inl s ↦ absurd (let z = sym (ap is_file nobody) ∙ ap (λ (x : Place). is_file (l.owner x)) s ∙ f in (cc))
     | inr ne ↦ ap is_file (own_elsewhere l.owner g.more p Directory ne) ∙ f
@@ -236,7 +241,8 @@ slot_lost medium c c1 t d uses h (inr (n, inl (inr k))) = record { disk = less_r
       layout = l;
       so = claimed_on_18 tracks c k.1.0 l d uses q (few medium c) h.so claims;
       same = geometry_remapped medium c k.1.0 l (with_bit (is_free_in (map_of c)) q false) h.so.stands.sound claims.remaps;
-      files = files_written l c k.1.0 directory_head claims.remaps.map TheMap h.so.stands.sound.owned.map refl claims.remaps.written;
+      front = ([], sym (append-nil l.directory));
+      kept = kept_mapped l c k.1.0 claims.remaps.map (λ m. false) h.so.stands.sound.owned claims.remaps.written;
       later = λ p f. f;
     }
 
@@ -246,7 +252,8 @@ slot_lost medium c c1 t d uses h (inr (n, inl (inr k))) = record { disk = less_r
       layout = l;
       so = written_loose tracks k.1.0 c1 l (less_room d) uses q new_sector claimed.so nobody e;
       same = geometry_elsewhere medium k.1.0 c1 (ap (λ (x : Content). x directory_head) e ∙ written_elsewhere k.1.0 q directory_head new_sector (λ z. (let y = sym nobody ∙ ap l.owner z ∙ h.so.stands.sound.owned.map in (cc)))) ∙ claimed.same;
-      files = files_then l c k.1.0 c1 claimed.files (files_written l k.1.0 c1 q new_sector Nobody nobody refl e);
+      front = ([], sym (append-nil l.directory));
+      kept = kept_then l c k.1.0 c1 (λ m. false) claimed.kept (kept_written l k.1.0 c1 q new_sector Nobody (λ m. false) h.so.stands.sound.owned nobody refl (λ z. (cc)) e);
       later = λ p f. f;
     }
 slot_lost medium c c1 t d uses h (inr (n, inr k)) =

@@ -26,7 +26,7 @@ use Rattle.cbm_volume.specs.Copies.{less}
 use Rattle.cbm_volume.specs.Layouts.{Owner, Nobody, Directory, DataOf, SideOf, Writer, is_loose, Layout, IsOwned, slot_count, HasLayout, Extends}
 use Rattle.cbm_volume.specs.NewRecords.{HasTwo, HoldsNew}
 use Rattle.cbm_volume.specs.Opens.{IsUnused}
-use Rattle.cbm_volume.specs.Reaches.{is_file, KeepsFiles, Reached}
+use Rattle.cbm_volume.specs.Reaches.{is_file, Reached}
 use Rattle.cbm_volume.specs.Writers.{Use, uses_slot, HoldsAt}
 use Rattle.cbm_volume.proofs.opened.Beginning.{empty_unused}
 use Rattle.cbm_volume.proofs.written.Closing.{other_slot}
@@ -39,7 +39,7 @@ use Rattle.cbm_volume.proofs.opened.OpenedFiles.{empty_at, slot_is}
 use Rattle.cbm_volume.proofs.held.Slices.{joined, slices_joined}
 use Rattle.cbm_volume.proofs.layouts.Steps.{stands_entry, own_there, own_elsewhere}
 use Rattle.cbm_volume.proofs.written.Storing.{geometry_elsewhere}
-use Rattle.cbm_volume.proofs.layouts.Untouched.{files_written}
+use Rattle.cbm_volume.proofs.layouts.Staying.{KeepsClosed, kept_opened, kept_later, empty_open}
 use Rattle.cbm_volume.proofs.layouts.Writers.{written_keeps}
 use Rattle.cbm_volume.proofs.relative.Fresh.{fresh_at}
 use Rattle.cbm_volume.proofs.relative.Grown.{fresh, all_fresh, joined_length}
@@ -221,7 +221,7 @@ records_over medium c l d uses ch now now' p q w n name at e0 e1 body k holds so
     let mine : owner (sector_of l1.directory n) ≡ Directory = sector_owned l1 r.so.stands.sound.owned n there in
     let keeps : (o : Owner) → Directory ≢ o → Keeps now now' owner o = λ o z. written_keeps now now' (sector_of l1.directory n) enters.sector owner o enters.written (λ y. z (sym mine ∙ y)) in
     let head : now' directory_head ≡ now directory_head = ap (λ (x : Content). x directory_head) enters.written ∙ written_elsewhere now (sector_of l1.directory n) directory_head enters.sector (λ z. (let y = sym mine ∙ ap owner z ∙ r.so.stands.sound.owned.map in (cc))) in
-    let files : KeepsFiles l1 now now' = files_written l1 now now' (sector_of l1.directory n) enters.sector Directory mine refl enters.written in
+    let kept : KeepsClosed l1 now now' (λ m. false) = kept_opened tracks l1 now now now' n body (λ m. false) r.so.stands.sound there enters (empty_open tracks now l1 d1 n r.so.stands there none) in
     let so : HoldsAt tracks now' l2 d2 uses = holds_on tracks now now' l1 l2 d1 d2 uses ch (λ m. m == n) k.idle r.so (subst (λ (x : Option File). HasLayout tracks now' l2 (with_slot d1 n x)) file stands)
     (record {
       writers = λ x out. keeps (Writer x) (λ z. (cc));
@@ -236,6 +236,7 @@ records_over medium c l d uses ch now now' p q w n name at e0 e1 body k holds so
       layout = l2;
       so = subst (λ (x : Disk). HoldsAt tracks now' l2 x uses) disk so;
       same = geometry_elsewhere medium now now' head ∙ r.same;
-      files = λ x g. files x (r.later x g) ∙ r.files x g;
+      front = r.front;
+      kept = kept_later l l1 c now now' (λ m. false) r.front r.later r.kept kept;
       later = λ x g. given_file owner p q n x (r.later x g);
     }

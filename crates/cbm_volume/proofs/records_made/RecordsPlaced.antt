@@ -14,7 +14,7 @@ use Rattle.cbm_relfile.specs.Making.{one_listed, AreClaimed, LacksBlocks, IsClai
 use Rattle.cbm_volume.specs.Copies.{less, IsCopyCut}
 use Rattle.cbm_volume.specs.Layouts.{Owner, Nobody, TheMap, DataOf, Writer, is_loose, Layout, HasLayout, own}
 use Rattle.cbm_volume.specs.NewRecords.{HasTwo, HoldsNew}
-use Rattle.cbm_volume.specs.Reaches.{KeepsFiles, Reached}
+use Rattle.cbm_volume.specs.Reaches.{Reached}
 use Rattle.cbm_volume.specs.Writers.{Use, Idle, HoldsAt, HoldsNow}
 use Rattle.cbm_volume.proofs.layouts.Frames.{Keeps}
 use Rattle.cbm_volume.proofs.copied.Making.{holds_on, less_one, less_none, later_own, same_files_less}
@@ -25,7 +25,7 @@ use Rattle.cbm_volume.proofs.layouts.Refusals.{write_hindered, sector_hindered, 
 use Rattle.cbm_volume.proofs.layouts.Remaps.{with_owner}
 use Rattle.cbm_volume.proofs.layouts.Steps.{one_less, Claimed, stands_claim, stands_loose, own_there, own_elsewhere}
 use Rattle.cbm_volume.proofs.written.Storing.{few, geometry_claimed, geometry_elsewhere, none_free}
-use Rattle.cbm_volume.proofs.layouts.Untouched.{files_written}
+use Rattle.cbm_volume.proofs.layouts.Staying.{KeepsClosed, kept_written, kept_claimed, kept_later}
 use Rattle.cbm_volume.proofs.layouts.Writers.{Spares, stands_owned, written_keeps}
 use Rattle.cbm_volume.specs.Layouts as layouts
 
@@ -46,13 +46,14 @@ own_claimed medium c l c1 c2 d n uses ch q idle r k =
     let spares : Spares c1 c2 r.layout l' d1 (one_less d1) (λ x. false) (λ m. false) = spares_owned tracks c1 c2 r.layout d1 q ch r.so.stands k claimed.taken.nobody in
     let so : HoldsAt tracks c2 l' (one_less d1) uses = holds_on tracks c1 c2 r.layout l' d1 (one_less d1) uses ch (λ m. false) idle r.so (stands_owned tracks c2 r.layout (one_less d1) q ch claimed.stands claimed.taken)
     (record { writers = λ x o. spares.writers x refl; writers_own = λ x p o. spares.writers_own x p refl; files = λ m o. spares.files m refl; files_own = λ m p o. spares.files_own m p refl; more = omega arith; slots = λ m o. refl }) (λ m i h. refl) in
-    let files : KeepsFiles r.layout c1 c2 = files_written r.layout c1 c2 directory_head k.remaps.map TheMap r.so.stands.sound.owned.map refl k.remaps.written in
+    let kept : KeepsClosed r.layout c1 c2 (λ m. false) = kept_claimed tracks r.layout c1 c2 q (λ m. false) r.so.stands.sound.owned k in
     record {
       reached = record {
         layout = l';
         so = subst (λ (x : Disk). HoldsAt tracks c2 l' x uses) e so;
         same = geometry_claimed medium c1 c2 r.layout q (subst (λ (m : ℕ). layouts.Sound m c1 r.layout) (sym r.same) r.so.stands.sound) (subst (λ (m : ℕ). Claims m c1 c2 q) (sym r.same) k) ∙ r.same;
-        files = λ p f. files p (r.later p f) ∙ r.files p f;
+        front = r.front;
+        kept = kept_later l r.layout c c1 c2 (λ m. false) r.front r.later r.kept kept;
         later = λ p f. later_own r.layout.owner q ch claimed.taken.nobody p (r.later p f);
       };
       owner = refl;
@@ -71,7 +72,7 @@ own_written medium c l c1 c2 d1 uses ch p sector idle r mine e =
     let owner : Place → Owner = r.layout.owner in
     let stands : HasLayout tracks c2 r.layout d1 = stands_loose tracks c1 c2 r.layout d1 p sector r.so.stands (ap is_loose mine) e in
     let head : c2 directory_head ≡ c1 directory_head = ap (λ (x : Content). x directory_head) e ∙ written_elsewhere c1 p directory_head sector (λ z. (let y = sym mine ∙ ap owner z ∙ r.so.stands.sound.owned.map in (cc))) in
-    let files : KeepsFiles r.layout c1 c2 = files_written r.layout c1 c2 p sector (Writer ch) mine refl e in
+    let kept : KeepsClosed r.layout c1 c2 (λ m. false) = kept_written r.layout c1 c2 p sector (Writer ch) (λ m. false) r.so.stands.sound.owned mine refl (λ z. (cc)) e in
     let keeps : (o : Owner) → Writer ch ≢ o → Keeps c1 c2 owner o = λ o ne. written_keeps c1 c2 p sector owner o e (λ z. ne (sym mine ∙ z)) in
     record {
       reached = record {
@@ -86,7 +87,8 @@ own_written medium c l c1 c2 d1 uses ch p sector idle r mine e =
               slots = λ n no. refl;
             }) (λ m n h. refl);
         same = geometry_elsewhere medium c1 c2 head ∙ r.same;
-        files = λ x g. files x (r.later x g) ∙ r.files x g;
+        front = r.front;
+        kept = kept_later l r.layout c c1 c2 (λ m. false) r.front r.later r.kept kept;
         later = r.later;
       };
       owner = refl;

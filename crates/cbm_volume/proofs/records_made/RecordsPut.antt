@@ -7,7 +7,6 @@ use Rattle.std.proofs.Math.Nat.{suc-mul}
 use Rattle.cbm_medium.specs.Place.{Place, directory_head, sector_count}
 use Rattle.cbm_medium.specs.Content.{Cell, Content, IsWhole, written}
 use Rattle.cbm_medium.proofs.Places.{place_decide, written_there, written_elsewhere}
-use Rattle.cbm_medium.specs.Links.{AllSame}
 use Rattle.cbm_file.specs.declared.file_type.FileType.TheVariants.{Rel}
 use Rattle.cbm_file.specs.Types.{is_same_type}
 use Rattle.cbm_file.specs.Files.{Body, Disk, File, Records, file_at, with_slot}
@@ -15,7 +14,8 @@ use Rattle.cbm_file.specs.Records.{with_body}
 use Rattle.cbm_bam.specs.Map.{geometry_of}
 use Rattle.cbm_directory.specs.Entries.{is_closed, is_relative, width_of}
 use Rattle.cbm_volume.specs.Blocks.{Blocks, body_as, file_of, slot_with}
-use Rattle.cbm_volume.specs.Layouts.{Owner, TheMap, DataOf, SideOf, Writer, OwnedBy, Layout, slot_count, Sound, HasLayout, Untouched}
+use Rattle.cbm_volume.specs.Layouts.{Owner, TheMap, Directory, DataOf, SideOf, Writer, Layout, slot_count, Sound, HasLayout}
+use Rattle.cbm_volume.specs.Staying.{LeavesClosed}
 use Rattle.cbm_volume.specs.Writers.{Use, Relates, IsRelating, IsUsed, uses_slot, writes_slot, HoldsAt, Holds, HoldsNow}
 use Rattle.cbm_volume.specs.RecordWrites.{HasRecordsOpen, OfRecords, new_record, with_record, IsRecordPut, IsRecordCut}
 use Rattle.cbm_volume.specs.Holding.{HoldsDisk}
@@ -23,7 +23,8 @@ use Rattle.cbm_volume.specs.Opens.{IsHindered}
 use Rattle.cbm_volume.proofs.layouts.Refusals.{write_hindered}
 use Rattle.cbm_volume.proofs.written.Closing.{some_file, other_slot}
 use Rattle.cbm_volume.proofs.layouts.Frames.{Keeps, owned_nth}
-use Rattle.cbm_volume.proofs.layouts.Settled.{disk_settled, same_directory, same_files}
+use Rattle.cbm_volume.proofs.layouts.Settled.{disk_settled}
+use Rattle.cbm_volume.proofs.layouts.Staying.{entries_kept, leaves_others}
 use Rattle.cbm_volume.proofs.written.Storing.{geometry_elsewhere}
 use Rattle.cbm_volume.proofs.layouts.Writers.{Spares, used_kept, written_keeps, keeps_then}
 use Rattle.std.specs.Prelude.{is_some, option_map, slice_get, IfOk, IfSome, MatchResult}
@@ -115,18 +116,9 @@ holds_inside tracks c c' l l' d n f uses ch h relates room st closed kind more k
     }
 
 -- the sectors of all other closed files are as they were
-all_kept : (c c' : Content) (owner : Place → Owner) (o : Owner) → Keeps c c' owner o → (xs : List Place) → OwnedBy owner o xs → AllSame c c' xs
-all_kept c c' owner o k [] w = tt
-all_kept c c' owner o k (x ∷ xs) w = (k x w.0, all_kept c c' owner o k xs w.1)
-
-pub untouched_but : (tracks : ℕ) (c c' : Content) (k : Layout) (n : ℕ) → Sound tracks c k → ((o : Owner) → o ≢ DataOf n → Keeps c c' k.owner o) → (but : ℕ → Bool) → but ≡ (λ m. m == n) → Untouched tracks c c' but
-untouched_but tracks c c' k n t keeps but is l s m h b =
-    let h' : m < slot_count k = omega (arith, h, ap length (same_directory tracks c l k s t)) in
-    let apart : m ≢ n = λ e. (let z = sym (eq-eqb m n e) ∙ sym (ap (λ (g : ℕ → Bool). g m) is) ∙ b in (cc)) in
-    subst (λ (x : Blocks). AllSame c c' x.data_blocks × AllSame c c' x.sides) (sym (same_files tracks c l k m s t h)) (
-      all_kept c c' k.owner (DataOf m) (keeps (DataOf m) (λ z. (let y : m ≡ n = cc in apart y))) (k.files m).data_blocks (t.owned.blocks m h'),
-      all_kept c c' k.owner (SideOf m) (keeps (SideOf m) (λ z. (cc))) (k.files m).sides (t.owned.sides m h'),
-    )
+pub untouched_but : (tracks : ℕ) (c c' : Content) (k : Layout) (n : ℕ) → Sound tracks c k → ((o : Owner) → o ≢ DataOf n → Keeps c c' k.owner o) → LeavesClosed tracks c c' (λ m. m == n) (λ m. m == n)
+untouched_but tracks c c' k n t keeps =
+    leaves_others tracks c c' k n t (λ m ne. (keeps (DataOf m) (λ z. (let y : m ≡ n = cc in ne y)), keeps (SideOf m) (λ z. (cc)))) (entries_kept k c c' (λ m. m == n) t.owned (keeps Directory (λ z. (cc))))
 
 -- the map isn't written
 pub same_size : (medium : ℕ) (c c' : Content) (l : Layout) (n : ℕ) → l.owner directory_head ≡ TheMap → ((o : Owner) → o ≢ DataOf n → Keeps c c' l.owner o) → geometry_of medium c' ≡ geometry_of medium c
@@ -529,9 +521,9 @@ module _ (old new : Seen) (d : Disk) (uses : ℕ → Use) (n w b s k p : ℕ) (r
   put_means cut (Ok q) h = put_ok (option_map cut q) h
   put_means cut (Err t) h = put_stopped t h
 
-  pub put_untouched : {A : Type 0} (cut : A → Bool) (r : Result (Option A) Trouble) → MatchResult r (λ q. IsChangedIfThere old.content new.content blocks w k p bytes (option_map cut q)) (λ t. IsChangeStopped tracks old new blocks w k p bytes t.code) → Untouched tracks old.content new.content (λ m. m == n)
-  put_untouched cut (Ok q) h = untouched_but tracks old.content new.content o.holds.layout n g.stands.sound (keeps_ok (option_map cut q) h) (λ m. m == n) refl
-  put_untouched cut (Err t) h = untouched_but tracks old.content new.content o.holds.layout n g.stands.sound (keeps_stopped t.code h) (λ m. m == n) refl
+  pub put_untouched : {A : Type 0} (cut : A → Bool) (r : Result (Option A) Trouble) → MatchResult r (λ q. IsChangedIfThere old.content new.content blocks w k p bytes (option_map cut q)) (λ t. IsChangeStopped tracks old new blocks w k p bytes t.code) → LeavesClosed tracks old.content new.content (λ m. m == n) (λ m. m == n)
+  put_untouched cut (Ok q) h = untouched_but tracks old.content new.content o.holds.layout n g.stands.sound (keeps_ok (option_map cut q) h)
+  put_untouched cut (Err t) h = untouched_but tracks old.content new.content o.holds.layout n g.stands.sound (keeps_stopped t.code h)
 
   -- where the file lies, as the call is told it
   lies_there : (geometry : ℕ) (file : Relative) → geometry ≡ tracks → file ≡ relative_of entry → IsLaid geometry old.content file blocks (o.holds.layout.files n).sides

@@ -12,7 +12,8 @@ use Rattle.cbm_bam.specs.Causes.{HasCause}
 use Rattle.cbm_bam.proofs.Counts.{AreTaken}
 use Rattle.cbm_chain.specs.Writing.{State, Part, Wrote}
 use Rattle.cbm_chain.specs.GivenUp.{IsGivenBack}
-use Rattle.cbm_volume.specs.Layouts.{Owner, TheMap, DataOf, Writer, OwnedBy, Layout, HasLayout, Untouched}
+use Rattle.cbm_volume.specs.Layouts.{Owner, TheMap, DataOf, Writer, OwnedBy, Layout, HasLayout}
+use Rattle.cbm_volume.specs.Staying.{LeavesClosed}
 use Rattle.cbm_volume.specs.Writers.{Filling, Use, Idle, Writes, IsWriting, IsUsed, HoldsAt, Holds, HoldsNow, with_use, Stopped}
 use Rattle.cbm_volume.specs.Opens.{IsHindered}
 use Rattle.cbm_volume.proofs.layouts.Frames.{Keeps}
@@ -25,8 +26,7 @@ use Rattle.cbm_volume.proofs.written.GivenBack.{part_taken, stands_given_back}
 use Rattle.cbm_volume.proofs.written.Finishing.{few_blocks}
 use Rattle.cbm_volume.proofs.written.Replacements.{geometry_remapped}
 use Rattle.cbm_volume.proofs.layouts.Refusals.{sector_hindered}
-use Rattle.cbm_volume.proofs.layouts.Settled.{untouched_in}
-use Rattle.cbm_volume.proofs.layouts.Untouched.{KeepsFiles, files_same, files_written}
+use Rattle.cbm_volume.proofs.layouts.Staying.{KeepsClosed, kept_same, kept_mapped, leaves_in}
 
 -- ---- the blocks are free again
 
@@ -101,14 +101,14 @@ given_up_hindered medium old new w (Err t) cause d uses ch bytes blocks h e =
     sector_hindered old new directory_head t h.so.stands.sound.map_reads (cause was.places bytes was.wrote (few_places medium old.content h.layout d uses ch w bytes blocks h.so was).1)
 
 pub given_up_untouched : (medium : ℕ) (c c' : Content) (w : Filling) (r : Result (Unit {0}) Trouble) → Back c c' w.chain r → OnErr r (c' ≡ c)
-    → (d : Disk) (uses : ℕ → Use) (ch : ℕ) (bytes : List ℕ) (blocks : ℕ) → HoldsNow medium c d uses → uses ch ≡ Writes w bytes blocks → Untouched (geometry_of medium c) c c' (λ m. false)
+    → (d : Disk) (uses : ℕ → Use) (ch : ℕ) (bytes : List ℕ) (blocks : ℕ) → HoldsNow medium c d uses → uses ch ≡ Writes w bytes blocks → LeavesClosed (geometry_of medium c) c c' (λ m. false) (λ m. false)
 given_up_untouched medium c c' w (Err t) back same d uses ch bytes blocks h e =
-    untouched_in (geometry_of medium c) c c' h.layout (λ m. false) h.so.stands.sound (files_same h.layout c c' same)
+    leaves_in (geometry_of medium c) c c' h.layout (λ m. false) h.so.stands.sound (kept_same h.layout c c' (λ m. false) same)
 given_up_untouched medium c c' w (Ok x) back same d uses ch bytes blocks h e =
     let was : IsWriting (geometry_of medium c) c h.layout d ch w bytes blocks = subst (λ (u : Use). IsUsed (geometry_of medium c) c h.layout d ch u) e (h.so.each ch) in
-    untouched_in (geometry_of medium c) c c' h.layout (λ m. false) h.so.stands.sound
+    leaves_in (geometry_of medium c) c c' h.layout (λ m. false) h.so.stands.sound
     (by_places was.places (back was.places bytes was.wrote (few_places medium c h.layout d uses ch w bytes blocks h.so was).1))
   where
-    by_places : (places : List Place) → IsGivenBack w.chain.tracks c c' places → KeepsFiles h.layout c c'
-    by_places [] z = files_same h.layout c c' z
-    by_places (b ∷ rest) z = files_written h.layout c c' directory_head z.0 TheMap h.so.stands.sound.owned.map refl z.2
+    by_places : (places : List Place) → IsGivenBack w.chain.tracks c c' places → KeepsClosed h.layout c c' (λ m. false)
+    by_places [] z = kept_same h.layout c c' (λ m. false) z
+    by_places (b ∷ rest) z = kept_mapped h.layout c c' z.0 (λ m. false) h.so.stands.sound.owned z.2

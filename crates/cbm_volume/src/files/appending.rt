@@ -1,6 +1,6 @@
 // OPEN for appending.
 
-ghost use Rattle.std.specs.Prelude.{◌≡◌, ◌≤◌, Some, false, OnErr, IfOk, MatchResult, ℕ};
+ghost use Rattle.std.specs.Prelude.{◌≡◌, ◌≤◌, ◌==◌, Some, false, OnErr, IfOk, MatchResult, ℕ};
 ghost use Rattle.cbm_file.specs.declared.file_type.FileType.TheVariants.{Del};
 ghost use Rattle.cbm_file.specs.Types.{is_same_type};
 ghost use Rattle.cbm_file.specs.Files.{File, with_slot, bytes_in};
@@ -28,7 +28,7 @@ impl<M: Medium> Volume<M> {
             (with_slot d slot (Some (reopened f))) uses ch slot false (bytes_in f.body) f.held w)
             (IsHindered old new)) }
         ensures err { OnErr result ((M.seen self.new).content ≡ (M.seen self.old).content) }
-        ensures untouched { OfDisk (M.seen self.old) (λ d uses. LeavesFiles (M.seen self.old) (M.seen self.new) (λ m. false)) }
+        ensures untouched { OfDisk (M.seen self.old) (λ d uses. LeavesFiles (M.seen self.old) (M.seen self.new) (λ m. m == slot)) }
         ensures tracks { IfOk result (λ w. w.chain.tracks ≤ (M.seen self.old).tracks) }
         ensures only { OnlyOnDisk result (M.seen self.old) (M.seen self.new) }
     {

@@ -50,7 +50,7 @@ impl<M: Medium> Volume<M> {
         requires { writer.now.chain.tracks ≤ (M.seen self.old).tracks }
         ensures call { OfWriter (M.seen self.old) writer.now (λ d uses ch bytes blocks.
             IsChange result (M.seen self.old) (M.seen self.new) d (with_finished d writer.now.slot bytes blocks)
-            (with_use uses ch Idle) (λ m. false)) }
+            (with_use uses ch Idle) (λ m. m == writer.now.slot)) }
         ensures only { OnlyOfWriter writer.now result (M.seen self.old) (M.seen self.new) }
     {
         let geometry = self.geometry();

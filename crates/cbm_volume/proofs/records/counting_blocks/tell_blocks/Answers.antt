@@ -1,6 +1,6 @@
-use Rattle.std.proofs.Common.{◌<◌, ◌*◌, ℕ, List, length, subst, sym}
+use Rattle.std.proofs.Common.{◌<◌, ◌*◌, ℕ, List, length, refl, subst, sym}
 use Rattle.std.proofs.lemmas.Result.{err_from_is_err_and}
-use Rattle.std.specs.Prelude.{IfErr}
+use Rattle.std.specs.Prelude.{◌==◌, IfErr}
 use Rattle.cbm_medium.proofs.Sequences.{only_nothing}
 use Rattle.cbm_medium.specs.Place.{Place}
 use Rattle.cbm_medium.specs.Links.{Chain}
@@ -9,8 +9,9 @@ use Rattle.cbm_bam.specs.Causes.{HasCause}
 use Rattle.cbm_bam.specs.Map.{geometry_of}
 use Rattle.cbm_directory.specs.Entries.{first_directory, sector_of}
 use Rattle.cbm_directory.proofs.Codes.{directory_never_26}
-use Rattle.cbm_volume.proofs.grown.BlockCounts.{told, told_at, told_elsewhere, told_there}
+use Rattle.cbm_volume.proofs.grown.BlockCounts.{told, told_at, told_elsewhere, told_entries, told_there}
 use Rattle.cbm_volume.proofs.copied.CopySteps.{no_trouble}
+use Rattle.cbm_volume.proofs.layouts.Staying.{entries_same}
 use Rattle.cbm_volume.proofs.written.Sparing.{EntryPut}
 use Rattle.cbm_volume.proofs.records.counting_blocks.tell_blocks.Goals as goal
 
@@ -38,6 +39,24 @@ returns-clause-elsewhere g c = λ size.
     let old : Seen = g.M.Medium.seen c.args.medium.now in
     let new : Seen = g.M.Medium.seen c.put_slot.new.medium in
     told_elsewhere old.tracks old.content new.content c.args.slot c.in-Some.entry c.counted-counted.result c.put_slot.result
+    (told_at old.tracks c.args.geometry old.content c.args.slot c.in-Some.entry c.in_ok-entry.field-0 size (sym c.in-Some.is) c.in_ok-entry.ensures)
+    (subst (λ (t : ℕ). EntryPut t old.content new.content c.args.slot c.counted-counted.result c.put_slot.result) size c.put_slot.ensures.entered) c.put_slot.ensures.err
+
+pub returns-in_err-entry-clause-entries : goal.returns-in_err-entry-clause-entries
+returns-in_err-entry-clause-entries g c = λ size d uses h.
+    let old : Seen = g.M.Medium.seen c.args.medium.now in
+    entries_same h.layout old.content old.content (λ m. m == c.args.slot) refl
+
+pub returns-in_default-clause-entries : goal.returns-in_default-clause-entries
+returns-in_default-clause-entries g c = λ size d uses h.
+    let old : Seen = g.M.Medium.seen c.args.medium.now in
+    entries_same h.layout old.content old.content (λ m. m == c.args.slot) refl
+
+pub returns-clause-entries : goal.returns-clause-entries
+returns-clause-entries g c = λ size.
+    let old : Seen = g.M.Medium.seen c.args.medium.now in
+    let new : Seen = g.M.Medium.seen c.put_slot.new.medium in
+    told_entries old.tracks old.content new.content c.args.slot c.in-Some.entry c.counted-counted.result c.put_slot.result
     (told_at old.tracks c.args.geometry old.content c.args.slot c.in-Some.entry c.in_ok-entry.field-0 size (sym c.in-Some.is) c.in_ok-entry.ensures)
     (subst (λ (t : ℕ). EntryPut t old.content new.content c.args.slot c.counted-counted.result c.put_slot.result) size c.put_slot.ensures.entered) c.put_slot.ensures.err
 

@@ -54,4 +54,4 @@ returns-clause-grown g c = λ d uses w rs o is free.
     let sides : c.in_ok-reach.reach.sides ≡ sides_for s c.args.blocks = grown.0 ∙ ap (sides_for c.in_ok-from.from.sides) (sym all) ∙ twice in
     let sized : c.geometry-geometry.result ≡ geometry_of mid.tracks mid.content = same ∙ sym here.same ∙ ap (λ (m : ℕ). geometry_of m mid.content) (sym (then.tracks ∙ first.tracks)) in
     told_ends old mid new d uses c.args.slot w b s rs o c.args.file c.args.blocks c.in_ok-reach.reach.sides c.in_ok-reach.reach.last here (then.tracks ∙ first.tracks) (then.protected ∙ first.protected) (omega (arith, first.counted, then.counted))
-    c.tell_blocks.result (c.in_ok-reach.reach.blocks + c.in_ok-reach.reach.sides) (omega (arith, all, c.in_ok-reach.ensures.bound.0)) sides (c.tell_blocks.ensures.told sized) (c.tell_blocks.ensures.elsewhere sized)
+    c.tell_blocks.result (c.in_ok-reach.reach.blocks + c.in_ok-reach.reach.sides) (omega (arith, all, c.in_ok-reach.ensures.bound.0)) sides (c.tell_blocks.ensures.told sized) (c.tell_blocks.ensures.elsewhere sized) (c.tell_blocks.ensures.entries sized)

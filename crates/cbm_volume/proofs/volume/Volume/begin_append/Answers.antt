@@ -1,5 +1,6 @@
-use Rattle.std.proofs.Common.{◌≡◌, ◌<◌, ◌*◌, ◌%◌, ℕ, List, length, Some, refl, ap, subst, ◌∙◌, false}
+use Rattle.std.proofs.Common.{◌≡◌, ◌<◌, ◌*◌, ◌%◌, ℕ, List, length, Some, refl, ap, subst, ◌∙◌}
 use Rattle.std.proofs.lemmas.Result.{err_from_is_err_and}
+use Rattle.std.specs.Prelude.{◌==◌}
 use Rattle.cbm_medium.specs.Place.{Place, sector_count}
 use Rattle.cbm_medium.specs.Content.{Content}
 use Rattle.cbm_medium.specs.Seen.{Seen}
@@ -28,7 +29,7 @@ returns-in_err-chain-clause-begun g c = λ d uses h f can stands.
 pub returns-in_err-chain-clause-untouched : goal.returns-in_err-chain-clause-untouched
 returns-in_err-chain-clause-untouched g c = λ d uses h.
     let old : Seen = g.M.Medium.seen c.args.self.now in
-    same_untouched (geometry_of old.tracks old.content) old.content old.content h.layout (λ m. false) h.so.stands.sound refl
+    same_untouched (geometry_of old.tracks old.content) old.content old.content h.layout (λ m. m == c.args.slot) h.so.stands.sound refl
 
 pub returns-in_err-put_slot-clause-begun : goal.returns-in_err-put_slot-clause-begun
 returns-in_err-put_slot-clause-begun g c = λ d uses h f can stands.
@@ -45,7 +46,7 @@ returns-in_err-put_slot-clause-begun g c = λ d uses h f can stands.
 pub returns-in_err-put_slot-clause-untouched : goal.returns-in_err-put_slot-clause-untouched
 returns-in_err-put_slot-clause-untouched g c = λ d uses h.
     let old : Seen = g.M.Medium.seen c.args.self.now in
-    same_untouched (geometry_of old.tracks old.content) old.content (g.M.Medium.seen c.put_slot.new.medium).content h.layout (λ m. false) h.so.stands.sound
+    same_untouched (geometry_of old.tracks old.content) old.content (g.M.Medium.seen c.put_slot.new.medium).content h.layout (λ m. m == c.args.slot) h.so.stands.sound
     (c.in_err-put_slot.ensures.err ∙ ap (λ m. (g.M.Medium.seen m).content) c.self.view_is)
 
 pub returns-clause-begun : goal.returns-clause-begun

@@ -20,10 +20,10 @@ use Rattle.cbm_volume.proofs.written.Finishing.{on_err}
 use Rattle.cbm_volume.proofs.layouts.Refusals.{sector_hindered, hindered_since, sector_reads}
 use Rattle.cbm_volume.proofs.opened.HinderedOpens.{slot_hinders}
 use Rattle.cbm_volume.proofs.opened.KeptOpens.{nothing_claimed}
-use Rattle.cbm_volume.proofs.opened.OpenedFiles.{EntersSlot, IsSet, reached_set, files_set, begins, not_full, stopped_at, untouched_by, chain_set, moved}
+use Rattle.cbm_volume.proofs.opened.OpenedFiles.{EntersSlot, IsSet, reached_set, kept_set, begins, not_full, stopped_at, untouched_by, chain_set, moved}
 use Rattle.cbm_volume.proofs.opened.OpenedSlots.{Reached, reached_same, SlotReady, slot_ready, no_slot, same_files_grown, SlotLost, slot_lost}
 use Rattle.cbm_volume.proofs.layouts.Steps.{one_less}
-use Rattle.cbm_volume.proofs.layouts.Untouched.{files_same}
+use Rattle.cbm_volume.proofs.layouts.Staying.{kept_same}
 use Rattle.cbm_volume.proofs.layouts.Vacant.{free_of_disk}
 use Rattle.cbm_volume.proofs.volume.Volume.begin_write.Goals as goal
 use Rattle.cbm_volume.proofs.volume.Volume.begin_write.Given.{Over}
@@ -40,7 +40,7 @@ returns-then-branch-eq0-clause-call g c = λ d uses h.
       done = λ ch idle ne plain. (inl (free g c d uses h), refl);
       stopped = (search rules);
       cause = (search rules);
-      untouched = untouched_by (g.M.Medium.seen c.args.self.now).tracks (g.M.Medium.seen c.args.self.now).content (g.M.Medium.seen c.args.self.now).content d uses h (files_same h.layout (g.M.Medium.seen c.args.self.now).content (g.M.Medium.seen c.args.self.now).content refl);
+      untouched = untouched_by (g.M.Medium.seen c.args.self.now).tracks (g.M.Medium.seen c.args.self.now).content (g.M.Medium.seen c.args.self.now).content d uses h (kept_same h.layout (g.M.Medium.seen c.args.self.now).content (g.M.Medium.seen c.args.self.now).content (λ m. false) refl);
     }
 
 -- ---- the search for a slot was refused
@@ -60,7 +60,7 @@ returns-in_err-slot-clause-call g c = λ d uses h.
           let refused : IsSlotRefused (geometry_of old.tracks old.content) old new c.in_err-slot.field-0.0 = subst (λ (k : ℕ). IsSlotRefused k old new c.in_err-slot.field-0.0) c.geometry-geometry.ensures.value
           (subst (λ (x : Seen). IsSlotRefused c.geometry-geometry.result x new c.in_err-slot.field-0.0) (ap (λ m. g.M.Medium.seen m) c.self.view_is) c.in_err-slot.ensures.cause) in
           rw (p.1, p.2) (slot_hinders old new c.in_err-slot.field-0.0 d uses h refused);
-      untouched = untouched_by (g.M.Medium.seen c.args.self.now).tracks (g.M.Medium.seen c.args.self.now).content (g.M.Medium.seen c.empty_slot.new.medium).content d uses h (lost g c d uses h).reached.files;
+      untouched = untouched_by (g.M.Medium.seen c.args.self.now).tracks (g.M.Medium.seen c.args.self.now).content (g.M.Medium.seen c.empty_slot.new.medium).content d uses h (lost g c d uses h).reached.kept;
     }
 
 -- ---- no slot is empty, and there is no room
@@ -74,7 +74,7 @@ returns-in_default-clause-call g c = λ d uses h.
       done = λ ch idle ne plain. let k = no_slot (g.M.Medium.seen c.args.self.now).tracks (g.M.Medium.seen c.args.self.now).content (g.M.Medium.seen c.empty_slot.new.medium).content d uses h (none g c) in (inr k.0, k.1);
       stopped = (search rules);
       cause = (search rules);
-      untouched = untouched_by (g.M.Medium.seen c.args.self.now).tracks (g.M.Medium.seen c.args.self.now).content (g.M.Medium.seen c.empty_slot.new.medium).content d uses h (files_same h.layout (g.M.Medium.seen c.args.self.now).content (g.M.Medium.seen c.empty_slot.new.medium).content (no_slot (g.M.Medium.seen c.args.self.now).tracks (g.M.Medium.seen c.args.self.now).content (g.M.Medium.seen c.empty_slot.new.medium).content d uses h (none g c)).1);
+      untouched = untouched_by (g.M.Medium.seen c.args.self.now).tracks (g.M.Medium.seen c.args.self.now).content (g.M.Medium.seen c.empty_slot.new.medium).content d uses h (kept_same h.layout (g.M.Medium.seen c.args.self.now).content (g.M.Medium.seen c.empty_slot.new.medium).content (λ m. false) (no_slot (g.M.Medium.seen c.args.self.now).tracks (g.M.Medium.seen c.args.self.now).content (g.M.Medium.seen c.empty_slot.new.medium).content d uses h (none g c)).1);
     }
 
 -- ---- the claim of a first block was refused
@@ -99,7 +99,7 @@ returns-in_err-chain-clause-call g c = λ d uses h.
           rw (p.1, p.2) (hindered_since old mid new c.in_err-chain.field-0.0 (c.empty_slot.ensures.only.protected ∙ ap (λ (x : Seen). x.protected) seen)
           (subst (λ (x : Seen). x.failures ≤ mid.failures) seen c.empty_slot.ensures.only.counted)
           (sector_hindered mid new directory_head c.in_err-chain.field-0.0 (ready g c d uses h).reached.so.stands.sound.map_reads c.in_err-chain.ensures.cause));
-      untouched = untouched_by (g.M.Medium.seen c.args.self.now).tracks (g.M.Medium.seen c.args.self.now).content (g.M.Medium.seen c.begin.new.medium).content d uses h (unclaimed g c d uses h).files;
+      untouched = untouched_by (g.M.Medium.seen c.args.self.now).tracks (g.M.Medium.seen c.args.self.now).content (g.M.Medium.seen c.begin.new.medium).content d uses h (unclaimed g c d uses h).kept;
     }
 
 -- ---- a block is free, so one is claimed
@@ -159,7 +159,7 @@ returns-in_err-put_slot-clause-call g c = λ d uses h.
           (subst (λ (x : Seen). x.failures ≤ mid.failures) seen c.empty_slot.ensures.only.counted)
           (hindered_since mid two new c.in_err-put_slot.field-0.0 c.begin.ensures.only.protected c.begin.ensures.only.counted
           (sector_hindered two new (sector_of dir c.in-Some.slot) c.in_err-put_slot.field-0.0 (sector_reads (geometry_of (g.M.Medium.seen c.args.self.now).tracks (g.M.Medium.seen c.args.self.now).content) (g.M.Medium.seen c.begin.new.medium).content dir c.in-Some.slot there.0 there.1) cause)));
-      untouched = untouched_by (g.M.Medium.seen c.args.self.now).tracks (g.M.Medium.seen c.args.self.now).content (g.M.Medium.seen c.put_slot.new.medium).content d uses h (unentered g c d uses h).files;
+      untouched = untouched_by (g.M.Medium.seen c.args.self.now).tracks (g.M.Medium.seen c.args.self.now).content (g.M.Medium.seen c.put_slot.new.medium).content d uses h (unentered g c d uses h).kept;
     }
 
 -- ---- the name is in its slot
@@ -185,7 +185,7 @@ returns-clause-call g c = λ d uses h.
           (begins (g.M.Medium.seen c.args.self.now).tracks (g.M.Medium.seen c.args.self.now).content h.layout (g.M.Medium.seen c.empty_slot.new.medium).content (g.M.Medium.seen c.begin.new.medium).content (g.M.Medium.seen c.put_slot.new.medium).content d uses ch c.in-Some.slot (block_entered g c).0 c.args.kind c.args.name.now c.fresh-entry.result c.first_block.result c.in-Some-2.chain (set_entered g c d uses h) idle ne plain (block_entered g c).2 c.fresh-entry.ensures.says (entered g c));
       stopped = (search rules);
       cause = (search rules);
-      untouched = untouched_by (g.M.Medium.seen c.args.self.now).tracks (g.M.Medium.seen c.args.self.now).content (g.M.Medium.seen c.put_slot.new.medium).content d uses h (files_set (g.M.Medium.seen c.args.self.now).tracks (g.M.Medium.seen c.args.self.now).content h.layout (g.M.Medium.seen c.empty_slot.new.medium).content (g.M.Medium.seen c.begin.new.medium).content (g.M.Medium.seen c.put_slot.new.medium).content d uses c.in-Some.slot (block_entered g c).0 c.fresh-entry.result (set_entered g c d uses h) (entered g c));
+      untouched = untouched_by (g.M.Medium.seen c.args.self.now).tracks (g.M.Medium.seen c.args.self.now).content (g.M.Medium.seen c.put_slot.new.medium).content d uses h (kept_set (g.M.Medium.seen c.args.self.now).tracks (g.M.Medium.seen c.args.self.now).content h.layout (g.M.Medium.seen c.empty_slot.new.medium).content (g.M.Medium.seen c.begin.new.medium).content (g.M.Medium.seen c.put_slot.new.medium).content d uses c.in-Some.slot (block_entered g c).0 c.fresh-entry.result (set_entered g c d uses h) (entered g c));
     }
 
 -- ---- only the content changes

@@ -20,7 +20,7 @@ use Rattle.cbm_volume.proofs.written.Finishing.{on_err}
 use Rattle.cbm_volume.proofs.layouts.Hindered.{handed_on}
 use Rattle.cbm_volume.proofs.opened.OpenedFiles.{stopped_at, untouched_by}
 use Rattle.cbm_volume.proofs.opened.OpenedSlots.{reached_now}
-use Rattle.cbm_volume.proofs.layouts.Untouched.{files_same}
+use Rattle.cbm_volume.proofs.layouts.Staying.{kept_same}
 use Rattle.cbm_volume.proofs.volume.Volume.copy.Goals as goal
 use Rattle.cbm_volume.proofs.volume.Volume.copy.Given.{Over}
 
@@ -32,7 +32,7 @@ returns-in_err-bytes-clause-call g c = λ d uses ch h idle ne plain are.
       cause = absurd (subst (λ (s : Seen). Totals s c.args.sources.now (Err c.in_err-bytes.field-0.0)) (ap (λ m. g.M.Medium.seen m) c.self.view_is) c.in_err-bytes.ensures.total d uses h are);
       untouched =
           let old : Seen = g.M.Medium.seen c.args.self.now in
-          untouched_by old.tracks old.content old.content d uses h (files_same h.layout old.content old.content refl);
+          untouched_by old.tracks old.content old.content d uses h (kept_same h.layout old.content old.content (λ m. false) refl);
     }
 
 pub returns-in_err-room-clause-call : goal.returns-in_err-room-clause-call
@@ -43,7 +43,7 @@ returns-in_err-room-clause-call g c = λ d uses ch h idle ne plain are.
       cause = absurd (c.in_err-room.ensures.means d (record { layout = h.layout; stands = h.so.stands }));
       untouched =
           let old : Seen = g.M.Medium.seen c.args.self.now in
-          untouched_by old.tracks old.content old.content d uses h (files_same h.layout old.content old.content refl);
+          untouched_by old.tracks old.content old.content d uses h (kept_same h.layout old.content old.content (λ m. false) refl);
     }
 
 -- neither the map's fault nor what breaks the directory off is told as protection
@@ -68,7 +68,7 @@ returns-then-not-has_room-clause-call g c = λ d uses ch h idle ne plain are.
       cause = (search rules);
       untouched =
           let old : Seen = g.M.Medium.seen c.args.self.now in
-          untouched_by old.tracks old.content old.content d uses h (files_same h.layout old.content old.content refl);
+          untouched_by old.tracks old.content old.content d uses h (kept_same h.layout old.content old.content (λ m. false) refl);
     }
 
 pub returns-then-protected-clause-call : goal.returns-then-protected-clause-call
@@ -79,7 +79,7 @@ returns-then-protected-clause-call g c = λ d uses ch h idle ne plain are.
       cause = (search rules);
       untouched =
           let old : Seen = g.M.Medium.seen c.args.self.now in
-          untouched_by old.tracks old.content old.content d uses h (files_same h.layout old.content old.content refl);
+          untouched_by old.tracks old.content old.content d uses h (kept_same h.layout old.content old.content (λ m. false) refl);
     }
 
 -- ---- the copy was begun, as there is room
@@ -104,7 +104,7 @@ returns-in_err-make-clause-call g c = λ d uses ch h idle ne plain are.
       cause = handed_on c.from_residual-in_err-make.result c.in_err-make.field-0.0 (IsHindered (g.M.Medium.seen c.args.self.now) (g.M.Medium.seen c.make.new.medium)) c.from_residual-in_err-make.ensures.1 (cut g c d uses ch h idle ne plain are).1;
       untouched =
           let old : Seen = g.M.Medium.seen c.args.self.now in
-          untouched_by old.tracks old.content (g.M.Medium.seen c.make.new.medium).content d uses h (cut g c d uses ch h idle ne plain are).0.reached.files;
+          untouched_by old.tracks old.content (g.M.Medium.seen c.make.new.medium).content d uses h (cut g c d uses ch h idle ne plain are).0.reached.kept;
     }
 
 made : (g : Over) (c : goal.In_ok-make g) (d : Disk) (uses : ℕ → Use) (ch : ℕ) (h : HoldsNow (g.M.Medium.seen c.args.self.now).tracks (g.M.Medium.seen c.args.self.now).content d uses) → uses ch ≡ Idle → c.args.kind ≢ Del → is_same_type Rel c.args.kind ≡ false → AreCopied d c.args.sources.now
@@ -126,7 +126,7 @@ returns-clause-call g c = λ d uses ch h idle ne plain are.
       cause = (search rules);
       untouched =
           let old : Seen = g.M.Medium.seen c.args.self.now in
-          untouched_by old.tracks old.content (g.M.Medium.seen c.make.new.medium).content d uses h (made g c d uses ch h idle ne plain are).files;
+          untouched_by old.tracks old.content (g.M.Medium.seen c.make.new.medium).content d uses h (made g c d uses ch h idle ne plain are).kept;
     }
 
 -- ---- too little room is told first

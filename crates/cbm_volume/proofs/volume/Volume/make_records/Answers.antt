@@ -1,4 +1,4 @@
-use Rattle.std.proofs.Common.{rules, ◌≡◌, ℕ, Ok, Err, Some, refl, ap, subst, inl, inr}
+use Rattle.std.proofs.Common.{rules, ◌≡◌, ℕ, Ok, Err, Some, refl, ap, subst, inl, inr, false}
 use Rattle.std.proofs.lemmas.Result.{err_from_is_err_and}
 use Rattle.cbm_medium.proofs.Sequences.{only_nothing}
 use Rattle.cbm_medium.specs.Place.{directory_head}
@@ -19,7 +19,7 @@ use Rattle.cbm_volume.proofs.layouts.Hindered.{handed_on}
 use Rattle.cbm_volume.proofs.opened.OpenedFiles.{stopped_at, untouched_by}
 use Rattle.cbm_volume.proofs.opened.OpenedSlots.{reached_now}
 use Rattle.cbm_volume.proofs.records_made.RecordsEnds.{MakesRecords, none_counted, records_room, room_or_none}
-use Rattle.cbm_volume.proofs.layouts.Untouched.{files_same}
+use Rattle.cbm_volume.proofs.layouts.Staying.{kept_same}
 use Rattle.cbm_volume.proofs.volume.Volume.make_records.Goals as goal
 use Rattle.cbm_volume.proofs.volume.Volume.make_records.Given.{Over}
 
@@ -31,7 +31,7 @@ returns-in_err-room-clause-call g c = λ d uses ch h idle.
       cause = absurd (c.in_err-room.ensures.means d (record { layout = h.layout; stands = h.so.stands }));
       untouched =
           let old : Seen = g.M.Medium.seen c.args.self.now in
-          untouched_by old.tracks old.content old.content d uses h (files_same h.layout old.content old.content refl);
+          untouched_by old.tracks old.content old.content d uses h (kept_same h.layout old.content old.content (λ m. false) refl);
     }
 
 -- neither the map's fault nor what breaks the directory off is told as protection
@@ -55,7 +55,7 @@ returns-then-not-has_room-clause-call g c = λ d uses ch h idle.
       cause = (search rules);
       untouched =
           let old : Seen = g.M.Medium.seen c.args.self.now in
-          untouched_by old.tracks old.content old.content d uses h (files_same h.layout old.content old.content refl);
+          untouched_by old.tracks old.content old.content d uses h (kept_same h.layout old.content old.content (λ m. false) refl);
     }
 
 pub returns-then-protected-clause-call : goal.returns-then-protected-clause-call
@@ -66,7 +66,7 @@ returns-then-protected-clause-call g c = λ d uses ch h idle.
       cause = (search rules);
       untouched =
           let old : Seen = g.M.Medium.seen c.args.self.now in
-          untouched_by old.tracks old.content old.content d uses h (files_same h.layout old.content old.content refl);
+          untouched_by old.tracks old.content old.content d uses h (kept_same h.layout old.content old.content (λ m. false) refl);
     }
 
 -- ---- the file was begun, as there is room
@@ -89,7 +89,7 @@ returns-in_err-slot-clause-call g c = λ d uses ch h idle.
       cause = handed_on c.from_residual-in_err-slot.result c.in_err-slot.field-0.0 (IsHindered (g.M.Medium.seen c.args.self.now) (g.M.Medium.seen c.make.new.medium)) c.from_residual-in_err-slot.ensures.1 (cut g c d uses ch h idle).1;
       untouched =
           let old : Seen = g.M.Medium.seen c.args.self.now in
-          untouched_by old.tracks old.content (g.M.Medium.seen c.make.new.medium).content d uses h (cut g c d uses ch h idle).0.reached.files;
+          untouched_by old.tracks old.content (g.M.Medium.seen c.make.new.medium).content d uses h (cut g c d uses ch h idle).0.reached.kept;
     }
 
 made : (g : Over) (c : goal.In_ok-slot g) (d : Disk) (uses : ℕ → Use) (ch : ℕ) (h : HoldsNow (g.M.Medium.seen c.args.self.now).tracks (g.M.Medium.seen c.args.self.now).content d uses) → uses ch ≡ Idle
@@ -110,7 +110,7 @@ returns-clause-call g c = λ d uses ch h idle.
       cause = (search rules);
       untouched =
           let old : Seen = g.M.Medium.seen c.args.self.now in
-          untouched_by old.tracks old.content (g.M.Medium.seen c.make.new.medium).content d uses h (made g c d uses ch h idle).1.files;
+          untouched_by old.tracks old.content (g.M.Medium.seen c.make.new.medium).content d uses h (made g c d uses ch h idle).1.kept;
     }
 
 -- ---- too little room is told first

@@ -1,6 +1,6 @@
 use Rattle.std.proofs.Common.{rules, ◌≡◌, ◌<◌, ◌*◌, ℕ, List, length, Some, refl, ap, subst, false}
 use Rattle.std.proofs.lemmas.Result.{err_from_is_err_and}
-use Rattle.std.specs.Prelude.{OnOk, OnErr, IfErr}
+use Rattle.std.specs.Prelude.{OnErr, IfErr}
 use Rattle.cbm_medium.proofs.Sequences.{only_nothing}
 use Rattle.cbm_medium.specs.Place.{Place}
 use Rattle.cbm_medium.specs.Content.{Content}
@@ -8,7 +8,7 @@ use Rattle.cbm_medium.specs.Seen.{Seen}
 use Rattle.cbm_medium.specs.Links.{Chain}
 use Rattle.cbm_bam.specs.Map.{geometry_of}
 use Rattle.cbm_bam.specs.Causes.{HasCause}
-use Rattle.cbm_directory.specs.Entries.{EntersLed, first_directory, sector_of}
+use Rattle.cbm_directory.specs.Entries.{first_directory, sector_of}
 use Rattle.cbm_directory.proofs.Codes.{directory_never_26}
 use Rattle.cbm_file.specs.Files.{File, file_at, with_slot}
 use Rattle.cbm_file.specs.Padding.{before_filler}
@@ -70,9 +70,9 @@ returns-clause-call g c = λ d uses h.
           let old : Content = (g.M.Medium.seen c.args.self.now).content in
           let inner : Content = (g.M.Medium.seen c.self.inside.medium).content in
           let new : Content = (g.M.Medium.seen c.put_slot.new.medium).content in
-          named_untouched medium old new c.args.slot c.renamed-renamed.result c.put_slot.result
-          (moved (λ k x. OnOk c.put_slot.result (EntersLed k x new c.args.slot c.renamed-renamed.result)) c.geometry-geometry.result (geometry_of medium old) inner old
-          c.geometry-geometry.ensures.value (ap (λ m. (g.M.Medium.seen m).content) c.self.view_is) c.put_slot.ensures.exact)
+          named_untouched medium old new c.args.slot c.in-Some.entry c.renamed-renamed.result c.args.name.now c.put_slot.result c.renamed-renamed.ensures.says (rw c.in-Some.is at c.in_ok-entry.ensures.answers)
+          (moved (λ k x. EntryPut k x new c.args.slot c.renamed-renamed.result c.put_slot.result) c.geometry-geometry.result (geometry_of medium old) inner old
+          c.geometry-geometry.ensures.value (ap (λ m. (g.M.Medium.seen m).content) c.self.view_is) c.put_slot.ensures.entered)
           (subst (λ (x : Content). OnErr c.put_slot.result (new ≡ x)) (ap (λ m. (g.M.Medium.seen m).content) c.self.view_is) c.put_slot.ensures.err) d uses h;
     }
 
