@@ -1,10 +1,11 @@
 -- One channel of the code's list is changed.
-use Rattle.std.proofs.Common.{◌≡◌, ℕ, ◌+◌, ◌<◌, List, length, sym, ap, ◌∙◌, subst, arith, inl, inr}
+use Rattle.std.proofs.Common.{◌≡◌, ℕ, Option, None, Some, ◌+◌, ◌<◌, List, length, sym, ap, ◌∙◌, subst, arith, inl, inr}
 use Rattle.std.specs.Prelude.{slice_index_or, slice_set}
 use Rattle.std.proofs.lemmas.List.{get_or-set_same, get_or-set_other, length-set}
 use Rattle.std.proofs.lemmas.Bool.Decides.{eqb_tells}
 use Rattle.cbm_channel.specs.declared.channel.Channel.{Channel}
 use Rattle.cbm_channel.specs.declared.channel.Channel.TheVariants.{Closed}
+use Rattle.cbm_channel.specs.Commanded.{AreSameBut}
 use Rattle.cbm_channel.specs.Standing.{SameBut, FitsTracks, AreFit, IsSameFile, HaveSameFiles}
 use Rattle.cbm_channel.proofs.Stands.{any_default}
 
@@ -19,6 +20,15 @@ closed_next old new ch k closed others below before = elim (eqb_tells k ch) [
 -- a channel that is set
 pub set_now : (old new : List Channel) (ch : ℕ) (x : Channel) → new ≡ slice_set old ch x → ch < length old → slice_index_or new ch Closed ≡ x
 set_now old new ch x e lt = ap (λ xs. slice_index_or xs ch Closed) e ∙ get_or-set_same old ch x Closed lt
+
+-- the others stay
+pub others_set : (old new : List Channel) (ch : ℕ) (x : Channel) → new ≡ slice_set old ch x → SameBut ch old new
+others_set old new ch x e k other = ap (λ xs. slice_index_or xs k Closed) e ∙ get_or-set_other old ch k x Closed other
+
+-- so do all, if none is changed
+pub same_all : (o : Option ℕ) (old new : List Channel) → new ≡ old → AreSameBut o old new
+same_all None old new e = e
+same_all (Some ch) old new e = λ k other. ap (λ xs. slice_index_or xs k Closed) e
 
 -- one that has the same file open
 pub have_same : (old new : List Channel) (ch : ℕ) (x d : Channel) → new ≡ slice_set old ch x → ch < length old → IsSameFile (slice_index_or old ch d) x → HaveSameFiles old new

@@ -1,5 +1,5 @@
 -- What the parts of a call make of the medium: how often it refused a write by itself, and whether the status says so.
-use Rattle.std.proofs.Common.{◌≡◌, ℕ, suc, ◌+◌, ◌<◌, ◌≤◌, List, Option, None, ap, sym, subst, ◌∙◌, inl, inr, arith, Result, Ok, Err, Some}
+use Rattle.std.proofs.Common.{◌≡◌, ℕ, suc, ◌+◌, ◌≤◌, List, Option, None, ap, sym, subst, ◌∙◌, inl, inr, arith, Result, Err, Some}
 use Rattle.std.specs.Prelude.{IfErr, OnOk}
 use Rattle.std.proofs.lemmas.Bool.{cases_eq}
 use Rattle.cbm_medium.specs.declared.fault.Trouble.{Trouble}

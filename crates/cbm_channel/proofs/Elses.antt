@@ -1,7 +1,7 @@
 -- Calls on the medium one after another, of which all but the last have succeeded, whatever sectors they change.
 use Rattle.std.proofs.Common.{◌≡◌, ℕ, Result, Ok, Err}
 use Rattle.cbm_medium.specs.declared.fault.Trouble.{Trouble}
-use Rattle.cbm_medium.specs.Content.{Content, blank}
+use Rattle.cbm_medium.specs.Content.{blank}
 use Rattle.cbm_medium.specs.Seen.{Seen, OnlyContent, with_content}
 use Rattle.cbm_medium.proofs.Sequences.{IsGuarded, only_nothing, only_after, only_then, only_more, only_refused}
 use Rattle.cbm_channel.specs.ChannelCalls.{KeepsElse}

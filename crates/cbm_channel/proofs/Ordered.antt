@@ -1,6 +1,6 @@
 -- What V changes, on any disk.
 use Rattle.std.proofs.Common.{◌≡◌, ◌≢◌, ◌⊎◌, ℕ, Bool, true, false, sym, ap, subst, ◌∙◌, inl, inr}
-use Rattle.std.specs.Prelude.{if◌then◌else◌, ◌==◌, ◌&&◌, List, Option, Some, None, IfSome}
+use Rattle.std.specs.Prelude.{if◌then◌else◌, ◌==◌, List, Option, Some, None, IfSome}
 use Rattle.std.proofs.lemmas.Bool.{and_parts, eqb-true}
 use Rattle.cbm_medium.specs.Seen.{Seen}
 use Rattle.cbm_medium.specs.declared.fault.Trouble.{Trouble}

@@ -1,6 +1,6 @@
 -- A text for records, beside the machine's write of a record.
 use Rattle.std.proofs.Common.{◌≡◌, ◌≢◌, ℕ, zero, suc, ◌+◌, ◌-◌, ◌<◌, ◌≤◌, Bool, true, false, List, [], ◌∷◌, ◌++◌, length, take, drop, refl, sym, ap, ◌∙◌, subst, arith, inl, inr, ◌⊎◌, Option, Some, None, Result, Ok, Err}
-use Rattle.std.specs.Prelude.{◌==◌, ◌||◌, nat_lt, replicate, if◌then◌else◌, slice_index_or, slice_set, is_some, MatchResult}
+use Rattle.std.specs.Prelude.{◌==◌, ◌||◌, nat_lt, replicate, if◌then◌else◌, slice_index_or, slice_set, is_some}
 use Rattle.std.proofs.lemmas.Bool.{cases_lt, eq-eqb}
 use Rattle.std.proofs.lemmas.Bool.Decides.{nat_tests}
 use Rattle.cbm_file.specs.Files.{Body, Bytes, Records, File, Disk, file_at, with_slot, record_length_in}
@@ -27,7 +27,7 @@ use Rattle.cbm_channel.specs.Going.{HasBegun, HasBegunToGrow, IsRecordStopped}
 use Rattle.cbm_channel.specs.declared.channel.Channel as kept
 use Rattle.cbm_channel.specs.declared.channel.Channel.TheVariants as code
 use Rattle.cbm_channel.specs.Placed.{Placed, IsOnRecord, IsPlacedAt}
-use Rattle.cbm_channel.specs.Recorded.{CanPut, disk_grown, blocks_grown, sides_grown, records_grown, IsReadAnew, IsTextStored, IsTextCut, IsTextEnded, IsTextStopped}
+use Rattle.cbm_channel.specs.Recorded.{CanPut, disk_grown, blocks_grown, sides_grown, records_grown, IsReadAnew, IsTextStored, IsTextCut, IsTextStopped}
 use Rattle.cbm_channel.specs.Shown.{has_records}
 use Rattle.cbm_channel.proofs.Asked.{record_of_none, relative_of}
 use Rattle.cbm_channel.proofs.Commanding.{protected_status}
@@ -41,6 +41,7 @@ use Rattle.cbm_channel.proofs.Stores.{same_machine, set_same}
 use Rattle.cbm_volume.proofs.held.RecordUses.{records_most}
 use Rattle.cbm_channel.proofs.Uses.{with_same}
 use Rattle.cbm_channel.specs.ChannelCalls.{KeepsOutside, OfPlaced}
+use Rattle.cbm_channel.specs.PlaceCalls.{PutsText}
 use Rattle.cbm_channel.proofs.Outside.{outside_itself}
 
 -- ---- the first 256 bytes of a text
@@ -395,11 +396,6 @@ records_or_not (code.Writing w full) = inl refl
 records_or_not (code.Stopped slot) = inl refl
 records_or_not (code.Records r) = inr (r, refl)
 
--- the clause of the channel's call
-abbrev pub PutsRecord : Seen → Seen → kept.Channel → kept.Channel → List ℕ → Result (Option Bool) Trouble → Type 0
-PutsRecord old new x x' bytes result = (r : Placed) → x ≡ code.Records r → (d : Disk) (uses : ℕ → Use) (b s : ℕ) (rs : List (List ℕ)) → CanPut old.tracks old.content d uses r b s rs
-    → (q : Placed) × (x' ≡ code.Records q) × MatchResult result (IsTextEnded old new d uses r q b s rs bytes) (IsTextStopped old new d uses r q b s rs bytes)
-
 -- the drive stands for a machine with a status that is told anew
 pub record EndsAs (old new : Seen) (chs : List kept.Channel) (told : ToldStatus) (text : Option (ℕ × List ℕ)) (whole : List ℕ) (m : Machine) (ch : ℕ) (x' : kept.Channel) (s : Status) : Type 0 where
   pub now : Machine
@@ -420,7 +416,7 @@ module _ (old new : Seen) (chs : List kept.Channel) (told : ToldStatus) (text : 
   on_it r e = subst (WaitsFor m.disk) (here r e) (st.waits ch)
 
   -- THE TEXT WAS STORED
-  pub put_done : (cut : Bool) (r : Placed) → x ≡ code.Records r → old.protected ≡ false → PutsRecord old new x x' bytes (Ok (Some cut))
+  pub put_done : (cut : Bool) (r : Placed) → x ≡ code.Records r → old.protected ≡ false → PutsText old new x x' bytes (Ok (Some cut))
       → (now : Machine) × (told_cut cut now ≡ write_record ch (channel m ch) whole m) × StandsBy new.content old.tracks old.protected (slice_set chs ch x') told text now
   put_done cut r e free puts =
       let at = here r e in
@@ -430,7 +426,7 @@ module _ (old new : Seen) (chs : List kept.Channel) (told : ToldStatus) (text : 
       (next.0, next.1, subst (λ (y : kept.Channel). StandsBy new.content old.tracks old.protected (slice_set chs ch y) told text next.0) (sym q.1) next.2)
 
   -- the file would be too large
-  pub put_large : (r : Placed) → x ≡ code.Records r → PutsRecord old new x x' bytes (Ok None)
+  pub put_large : (r : Placed) → x ≡ code.Records r → PutsText old new x x' bytes (Ok None)
       → (say FileTooLarge m ≡ write_record ch (channel m ch) whole m) × StandsBy new.content old.tracks old.protected (slice_set chs ch x') told text m
   put_large r e puts =
       let at = here r e in
@@ -451,7 +447,7 @@ module _ (old new : Seen) (chs : List kept.Channel) (told : ToldStatus) (text : 
   ]
 
   -- THE WRITE WAS REFUSED
-  pub put_stopped : (tr : Trouble) (s : Status) (r : Placed) → x ≡ code.Records r → s ≡ trouble_status tr → (old.protected ≡ true → new.content ≡ old.content) → PutsRecord old new x x' bytes (Err tr)
+  pub put_stopped : (tr : Trouble) (s : Status) (r : Placed) → x ≡ code.Records r → s ≡ trouble_status tr → (old.protected ≡ true → new.content ≡ old.content) → PutsText old new x x' bytes (Err tr)
       → EndsAs old new chs told text whole m ch x' s
   put_stopped tr s r e is guarded puts = by_cause (cause_of old new m.disk (uses_of chs m.channels) r on.blocks on.sides on.records bytes tr q.2.0)
     where

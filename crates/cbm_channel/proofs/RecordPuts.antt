@@ -16,9 +16,10 @@ use Rattle.cbm_volume.specs.Holding.{HoldsDisk}
 use Rattle.cbm_volume.specs.Opens.{IsHindered}
 use Rattle.cbm_volume.specs.RecordWrites.{OfRecords, new_record, with_record, IsRecordPut, IsRecordCut}
 use Rattle.cbm_volume.specs.Writers.{Use, HoldsNow}
-use Rattle.cbm_channel.specs.Placed.{Placed, IsOnRecord, IsPlacedAt}
+use Rattle.cbm_channel.specs.Placed.{Placed, IsPlacedAt}
 use Rattle.cbm_channel.specs.Recorded.{CanPut, CanGrow, disk_grown, blocks_grown, sides_grown, records_grown, IsReadAnew, IsTextStored, IsTextCut}
 use Rattle.cbm_channel.specs.ChannelCalls.{KeepsOutside, OfPlaced}
+use Rattle.cbm_channel.specs.PlaceCalls.{GrowsToPlace, ReachesRecord}
 use Rattle.cbm_channel.proofs.Outside.{outside_then}
 
 -- ---- the disk, where one slot's file has other records
@@ -127,12 +128,6 @@ abbrev pub ReadsOn : {A : Type 0} → (A → Option (List ℕ) → Type 0) → S
 ReadsOn Q old new r result = (d : Disk) (uses : ℕ → Use) (b s : ℕ) (rs : List (List ℕ)) → CanPut old.tracks old.content d uses r b s rs
     → IfOk result (λ o. IfSome o (λ x. OfRecords new r.slot (λ found. Q x (slice_get found r.number))))
 
--- the clause of the growth, by the place
-abbrev pub Grows : Seen → Seen → Placed → Result Bool Trouble → Type 0
-Grows old new r result = (d : Disk) (uses : ℕ → Use) (b s : ℕ) (rs : List (List ℕ)) → CanPut old.tracks old.content d uses r b s rs → record_at (Records r.width rs b s) r.number ≡ None
-    → MatchResult result (λ done. MatchBool done (HoldsNow old.tracks new.content (disk_grown d r b s rs) uses × CanGrow d r b s rs) (IsTooLarge d r.width b s r.number × (new.content ≡ old.content)))
-    (λ t. IsGrowthCut old new d uses r.slot r.width rs t × CanGrow d r b s rs)
-
 -- the numbers of a place count from 1
 pub no_place : (medium : ℕ) (c : Content) (d : Disk) (uses : ℕ → Use) (r r' : Placed) (b s : ℕ) (rs : List (List ℕ)) → r ≡ r' → CanPut medium c d uses r' b s rs → (r.number ≡ 0) ⊎ (r.position ≡ 0) → ⊥
 no_place medium c d uses r r' b s rs e can (inl z) = omega (arith, can.number, z, ap (λ (x : Placed). x.number) e)
@@ -200,12 +195,8 @@ growth_since old mid new d uses n w rs t tracks protected counted h = record {
 
 -- ---- the place that is reached
 
--- its clause
-abbrev pub Reaches : Seen → Placed → Placed → Result (Unit {0}) Trouble → Type 0
-Reaches now r r' result = (d : Disk) (f : File) (b s : ℕ) (rs : List (List ℕ)) → HoldsDisk now.tracks now.content d → file_at d r.slot ≡ Some f → f.closed ≡ true → f.body ≡ Records r.width rs b s → IsOk result × IsOnRecord d r'
-
 -- it reads on a sound disk
-pub read_there : (old new : Seen) (d : Disk) (uses : ℕ → Use) (r q : Placed) (b s : ℕ) (rs : List (List ℕ)) (bytes : List ℕ) (cut : Bool) (result : Result (Unit {0}) Trouble) → CanPut old.tracks old.content d uses r b s rs → new.tracks ≡ old.tracks → Reaches new r q result
+pub read_there : (old new : Seen) (d : Disk) (uses : ℕ → Use) (r q : Placed) (b s : ℕ) (rs : List (List ℕ)) (bytes : List ℕ) (cut : Bool) (result : Result (Unit {0}) Trouble) → CanPut old.tracks old.content d uses r b s rs → new.tracks ≡ old.tracks → ReachesRecord new r q result
     → IsTextStored old.tracks old.content new.content d uses r b s rs bytes (Some cut) → IsOk result
 read_there old new d uses r q b s rs bytes cut result can tracks reaches stored = by_way stored
   where
@@ -222,7 +213,7 @@ read_there old new d uses r q b s rs bytes cut result can tracks reaches stored 
         (but_then d d1 (with_record d1 r.slot r.width (records_grown r b rs) (blocks_grown r b) (sides_grown r b s) r.number bytes1) r.slot r.width but (but_record d1 r.slot r.width (blocks_grown r b) (sides_grown r b s) r.number (records_grown r b rs) bytes1 but.file but.in_slot but.closed)) x.1.2
 
 -- and shows what the file has there
-pub read_anew : (now : Seen) (r q : Placed) (k p : ℕ) (result : Result (Unit {0}) Trouble) → Reaches now r q result → IsPlacedAt r q k p → IsReadAnew now q
+pub read_anew : (now : Seen) (r q : Placed) (k p : ℕ) (result : Result (Unit {0}) Trouble) → ReachesRecord now r q result → IsPlacedAt r q k p → IsReadAnew now q
 read_anew now r q k p result reaches at d f b s rs h there shut is =
     (reaches d f b s rs h (ap (file_at d) (sym at.same_slot) ∙ there) shut (is ∙ ap (λ (w : ℕ). Records w rs b s) at.same_width)).1
 
@@ -234,14 +225,14 @@ module _ (old mid : Seen) (d : Disk) (uses : ℕ → Use) (r : Placed) (b s : �
   can_grow = can_still old mid d uses r b s rs can tracks missing.1
 
   -- the file would be too large
-  pub store_full : (new : Seen) → Grows mid new r (Ok false) → IsTextStored old.tracks old.content new.content d uses r b s rs bytes None
+  pub store_full : (new : Seen) → GrowsToPlace mid new r (Ok false) → IsTextStored old.tracks old.content new.content d uses r b s rs bytes None
   store_full new grows = let g = grows d uses b s rs can_grow missing.0 in (missing.0, g.0, g.1 ∙ missing.1)
 
   -- the growth was refused
-  pub store_cut : (new : Seen) (t : Trouble) → Grows mid new r (Err t) → IsTextCut old new d uses r b s rs bytes t
+  pub store_cut : (new : Seen) (t : Trouble) → GrowsToPlace mid new r (Err t) → IsTextCut old new d uses r b s rs bytes t
   store_cut new t grows = let g = grows d uses b s rs can_grow missing.0 in inr (g.1, inl (growth_since old mid new d uses r.slot r.width rs t tracks protected counted g.0))
 
-  module _ (more : Seen) (grows : Grows mid more r (Ok true)) (tracks2 : more.tracks ≡ mid.tracks) (protected2 : more.protected ≡ mid.protected) (counted2 : mid.failures ≤ more.failures) where
+  module _ (more : Seen) (grows : GrowsToPlace mid more r (Ok true)) (tracks2 : more.tracks ≡ mid.tracks) (protected2 : more.protected ≡ mid.protected) (counted2 : mid.failures ≤ more.failures) where
     grown : HoldsNow mid.tracks more.content (disk_grown d r b s rs) uses × CanGrow d r b s rs
     grown = grows d uses b s rs can_grow missing.0
 

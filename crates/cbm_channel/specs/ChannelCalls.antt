@@ -1,17 +1,21 @@
 -- What a call leaves that writes for one channel.
-use Rattle.std.specs.Prelude.{ℕ, ◌≡◌, ◌+◌, ◌≤◌, true, Some, List, Result, IfOk, IfErr, OnOk, OnErr}
+use Rattle.std.specs.Prelude.{ℕ, ◌≡◌, ◌+◌, ◌≤◌, true, not, Bool, Some, List, Result, Ok, IfOk, IfErr, IsOk, IsOkAnd, OnOk, OnErr}
 use Rattle.cbm_medium.specs.Seen.{Seen, HasFailed, KeepsBeyond}
 use Rattle.cbm_medium.specs.declared.fault.Trouble.{Trouble}
 use Rattle.cbm_file.specs.Files.{Disk}
 use Rattle.cbm_volume.specs.Map.{geometry_of}
 use Rattle.cbm_volume.specs.Opens.{IsHindered}
-use Rattle.cbm_volume.specs.Writers.{Use, HoldsNow}
+use Rattle.cbm_volume.specs.Writers.{Use, Idle, HoldsNow, Stopped, with_use}
+use Rattle.cbm_machine.specs.declared.code.Code.{Code}
 use Rattle.cbm_machine.specs.Machines as machine
 use Rattle.cbm_machine.specs.Machines.{Machine}
+use Rattle.cbm_machine.specs.Talking.{taken_on}
 use Rattle.cbm_channel.specs.declared.channel.Channel.{Channel}
 use Rattle.cbm_channel.specs.Placed.{Placed}
 use Rattle.cbm_channel.specs.Recorded.{CanPut}
-use Rattle.cbm_channel.specs.Standing.{ChannelStands, Kept, Stands, use_of}
+use Rattle.cbm_channel.specs.Moved.{code_placed, placed_on}
+use Rattle.cbm_channel.specs.Standing.{ChannelStands, FitsTracks, IsSameFile, Kept, Stands, WaitsFor, use_of}
+use Rattle.cbm_channel.specs.Written.{is_lost, channel_put, disk_put, disk_closed, IsCutOff}
 
 -- A call of several on the medium, whatever sectors they changed: tracks, protection and id stay. It makes no write after one that the
 -- medium refused by itself: failures go up by one at most, only where it answers Err, and then that is what the medium refused last. It
@@ -51,3 +55,37 @@ pub record IsChannelCall {A : Type 0} (result : Result A Trouble) (old new : See
 -- this holds of each disk that the medium holds, where a text can be put to the records of a place
 abbrev pub OfPlaced : Seen → Placed → (Disk → (ℕ → Use) → ℕ → ℕ → List (List ℕ) → Type 0) → Type 0
 OfPlaced now r P = (d : Disk) (uses : ℕ → Use) (b s : ℕ) (rs : List (List ℕ)) → CanPut now.tracks now.content d uses r b s rs → P d uses b s rs
+
+-- ---- what each call does
+
+-- A BYTE IS TAKEN: where what waits is there, the channel goes on as the machine's does
+abbrev pub TakesOnChannel : Seen → Channel → Channel → Result (Unit {0}) Trouble → Type 0
+TakesOnChannel now old new result = OfChannel now old (λ d uses ch x. WaitsFor d old → IsOk result × ChannelStands new (taken_on d x) × WaitsFor d new
+    × HoldsNow now.tracks now.content d (with_use uses ch (use_of new (taken_on d x))))
+
+-- A CHANNEL GOES TO A PLACE: where what waits is there, it answers what the machine reports, and goes where the machine's goes
+abbrev pub PlacesOn : ℕ → ℕ → Seen → Channel → Channel → Result Code Trouble → Type 0
+PlacesOn k p now old new result =
+    OfChannel now old (λ d uses ch x. WaitsFor d old → IsOkAnd result (λ code. code ≡ code_placed k p d x) × ChannelStands new (placed_on k p d x) × WaitsFor d new
+    × HoldsNow now.tracks now.content d (with_use uses ch (use_of new (placed_on k p d x))))
+
+-- A BYTE IS PUT: it is stored or the first that is lost, as the machine has it; or the channel takes no more bytes
+abbrev pub PutsByte : ℕ → Seen → Seen → Channel → Channel → Result Bool Trouble → Type 0
+PutsByte byte old new k k' result = OfChannel old k (λ d uses ch x. IsChannelCall result old new
+    (λ done. (done ≡ not (is_lost d x)) × ChannelStands k' (channel_put byte d x) × HoldsNow old.tracks new.content (disk_put d x) (with_use uses ch (use_of k' (channel_put byte d x))))
+    (IsCutOff k' x × Stopped old.tracks new.content d d (with_use uses ch Idle)))
+
+-- THE FILE THAT IS WRITTEN IS FINISHED, and the channel uses nothing of the disk; or each slot is as before or as after
+abbrev pub FinishesFile : Seen → Seen → Channel → Result (Unit {0}) Trouble → Type 0
+FinishesFile old new k result = OfChannel old k (λ d uses ch x. IsChannelCall result old new
+    (λ done. HoldsNow old.tracks new.content (disk_closed d x) (with_use uses ch Idle))
+    (Stopped old.tracks new.content d (disk_closed d x) (with_use uses ch Idle)))
+
+-- nothing is done: the answer is this one, and the channel and the volume stay
+abbrev pub DoesNothing : {A V : Type 0} → Result A Trouble → A → Channel → Channel → V → V → Type 0
+DoesNothing result answer k k' v v' = (result ≡ Ok answer) × (k' ≡ k) × (v' ≡ v)
+
+-- A CHANNEL KEEPS ITS FILE, though the place in its records may be another; and it fits the medium's tracks.
+pub record KeepsFile (tracks : ℕ) (old new : Channel) : Type 0 where
+  pub fits : FitsTracks tracks new
+  pub same : IsSameFile old new

@@ -58,17 +58,18 @@ IsToldFor seen old new =
     ⊎ (HasTold seen old new
     ⊎ ((t : Trouble) × (new.told.status ≡ trouble_status t) × HasFailed (seen old.medium) (seen new.medium)))
 
+-- the entry is one of the directory's
+abbrev pub IsInDirectory : {M : Type 0} → (M → Seen) → M → List ℕ → Type 0
+IsInDirectory seen medium entry = Contains (directory_of (geometry_of (seen medium).tracks (seen medium).content) (seen medium).content).entries entry
+
 -- the file that a plan reads, appends to or opens was found in the directory
 abbrev pub IsFromDirectory : {M : Type 0} → (M → Seen) → M → Plan → Type 0
 IsFromDirectory seen medium (planned.ReadListing pattern) = Unit {0}
-IsFromDirectory seen medium (planned.ReadFile found) =
-    Contains (directory_of (geometry_of (seen medium).tracks (seen medium).content) (seen medium).content).entries found.entry
+IsFromDirectory seen medium (planned.ReadFile found) = IsInDirectory seen medium found.entry
 IsFromDirectory seen medium (planned.WriteFile kind name) = Unit {0}
-IsFromDirectory seen medium (planned.AppendFile found) =
-    Contains (directory_of (geometry_of (seen medium).tracks (seen medium).content) (seen medium).content).entries found.entry
+IsFromDirectory seen medium (planned.AppendFile found) = IsInDirectory seen medium found.entry
 IsFromDirectory seen medium (planned.ReplaceFile slot) = Unit {0}
-IsFromDirectory seen medium (planned.OpenRecords found) =
-    Contains (directory_of (geometry_of (seen medium).tracks (seen medium).content) (seen medium).content).entries found.entry
+IsFromDirectory seen medium (planned.OpenRecords found) = IsInDirectory seen medium found.entry
 IsFromDirectory seen medium (planned.MakeRecords name length) = Unit {0}
 
 -- A request is refused with this code: for protection (26), its text (30 to 34), a record (50, 52), the files and the channels (60 to 64, 70),

@@ -8,6 +8,8 @@ pub mod Taken
 pub mod Moved
 pub mod Recorded
 pub mod ChannelCalls
+pub mod PlaceCalls
+pub mod Parts
 pub mod Commanded
 pub mod Joined
 pub mod Planned

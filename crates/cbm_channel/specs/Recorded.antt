@@ -53,9 +53,13 @@ IsTextCut old new d uses r b s rs bytes t =
     ⊎ (CanGrow d r b s rs × (IsGrowthCut old new d uses r.slot r.width rs t
     ⊎ IsRecordCut old new (disk_grown d r b s rs) uses r.slot r.width (blocks_grown r b) (sides_grown r b s) (records_grown r b rs) r.number r.position bytes t))
 
+-- this holds of each disk that the medium holds, where the slot has a closed file of records of this length
+abbrev pub OfClosedRecords : Seen → ℕ → ℕ → (Disk → Type 0) → Type 0
+OfClosedRecords now slot width P = (d : Disk) (f : File) (b s : ℕ) (rs : List (List ℕ)) → HoldsDisk now.tracks now.content d → file_at d slot ≡ Some f → f.closed ≡ true → f.body ≡ Records width rs b s → P d
+
 -- what waits at the place is what its file has there, on each disk that the medium holds
 abbrev pub IsReadAnew : Seen → Placed → Type 0
-IsReadAnew now q = (d : Disk) (f : File) (b s : ℕ) (rs : List (List ℕ)) → HoldsDisk now.tracks now.content d → file_at d q.slot ≡ Some f → f.closed ≡ true → f.body ≡ Records q.width rs b s → IsOnRecord d q
+IsReadAnew now q = OfClosedRecords now q.slot q.width (λ d. IsOnRecord d q)
 
 -- what became of a text: after one that was stored the place is the next record's first byte
 abbrev pub IsTextEnded : Seen → Seen → Disk → (ℕ → Use) → Placed → Placed → ℕ → ℕ → List (List ℕ) → List ℕ → Option Bool → Type 0

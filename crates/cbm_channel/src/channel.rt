@@ -82,25 +82,16 @@ pub(crate) fn any_open(channels: &[Channel]) -> bool
 }
 
 impl Channel {
-    ghost use Rattle.std.specs.Prelude.{◌≡◌, ◌≤◌, ◌<◌, ◌^◌, ◌⊎◌, ℕ, List, true, false, not, Some, None, Ok, IsOk, IsOkAnd, IfOk, IfErr, IfSome, OnOk, OnErr, MatchResult, replicate};
-    ghost use Rattle.cbm_volume.specs.Writers.{Use, Idle, HoldsNow, with_use, Stopped};
-    ghost use Rattle.cbm_volume.specs.Calls.{KeepsProtected, IsSameOn};
-    ghost use Rattle.cbm_channel.specs.ChannelCalls.{KeepsElse, KeepsOutside, OfChannel, OfPlaced, IsChannelCall};
-    ghost use Rattle.cbm_file.specs.Waiting.{next_shown};
-    ghost use Rattle.cbm_file.specs.Files.{Disk};
+    ghost use Rattle.std.specs.Prelude.{◌≡◌, ◌≤◌, ◌<◌, ◌^◌, true, false, Some, None, IsOk, IfOk, IfErr, OnErr, replicate};
+    ghost use Rattle.cbm_channel.specs.ChannelCalls.{KeepsElse, OfChannel, TakesOnChannel, PlacesOn, PutsByte, FinishesFile, DoesNothing, KeepsFile};
     ghost use Rattle.cbm_machine.specs.Machines as machine;
-    ghost use Rattle.cbm_machine.specs.Talking.{taken_on};
     ghost use Rattle.cbm_machine.specs.Codes.{code_number};
     ghost use Rattle.cbm_channel.specs.Grounds.{HidesRecords, is_fault_number};
-    ghost use Rattle.cbm_channel.specs.Moved.{code_placed, placed_on};
-    ghost use Rattle.cbm_channel.specs.Standing.{FitsTracks, ChannelStands, WaitsFor, IsSameFile, use_of};
+    ghost use Rattle.cbm_channel.specs.Standing.{FitsTracks, ChannelStands};
     ghost use Rattle.cbm_channel.specs.Shown.{is_channel_closed, talk_refused, is_written, is_writing, has_records, writes_on, uses_on, cost_on, shown_on};
-    ghost use Rattle.cbm_channel.specs.Written.{is_lost, channel_put, disk_put, IsCutOff, is_unbegun, disk_closed, IsBeingWritten};
+    ghost use Rattle.cbm_channel.specs.Written.{is_unbegun, IsBeingWritten};
     ghost use Rattle.cbm_channel.specs.Taken.{IsTakenBy};
-    ghost use Rattle.cbm_channel.specs.declared.channel.Channel.TheVariants.{Records};
-    ghost use Rattle.cbm_channel.specs.Going.{KeepsMedium};
-    ghost use Rattle.cbm_channel.specs.Placed.{Placed};
-    ghost use Rattle.cbm_channel.specs.Recorded.{CanPut, IsTextEnded, IsTextStopped};
+    ghost use Rattle.cbm_channel.specs.PlaceCalls.{StoresUnprotected, IsRecordsCall, PutsText, KeepsOutsideRecords};
 
     /// Fifteen channels that are closed.
     pub(crate) fn all_closed() -> [Channel; 15]
@@ -211,11 +202,7 @@ impl Channel {
         ensures fits { FitsTracks (M.seen volume.now).tracks self.new }
         ensures taken { IsTakenBy (M.seen volume.now).content self.old self.new result }
         ensures cause { has_records self.old ≡ true → IfErr result (HidesRecords (M.seen volume.now)) }
-        ensures well { let now = M.seen volume.now in (d : Disk) (uses : ℕ → Use) (ch : ℕ) (x : machine.Channel) →
-            HoldsNow now.tracks now.content d uses → uses ch ≡ use_of self.old x → ChannelStands self.old x →
-            WaitsFor d self.old →
-            IsOk result × ChannelStands self.new (taken_on d x) × WaitsFor d self.new ×
-            HoldsNow now.tracks now.content d (with_use uses ch (use_of self.new (taken_on d x))) }
+        ensures well { TakesOnChannel (M.seen volume.now) self.old self.new result }
     {
         match self {
             Channel::Listing(listing) => {
@@ -238,15 +225,9 @@ impl Channel {
     ) -> Result<Code, Trouble>
         requires fits { FitsTracks (M.seen volume.now).tracks self.old }
         requires number { number < 2 ^ 24 }
-        ensures fits { FitsTracks (M.seen volume.now).tracks self.new }
-        ensures same { IsSameFile self.old self.new }
+        ensures file { KeepsFile (M.seen volume.now).tracks self.old self.new }
         ensures own { IfOk result (λ code. is_fault_number (code_number code) ≡ false) }
-        ensures well { let now = M.seen volume.now in (d : Disk) (uses : ℕ → Use) (ch : ℕ) (x : machine.Channel) →
-            HoldsNow now.tracks now.content d uses → uses ch ≡ use_of self.old x → ChannelStands self.old x →
-            WaitsFor d self.old →
-            IsOkAnd result (λ code. code ≡ code_placed number position d x) ×
-            ChannelStands self.new (placed_on number position d x) × WaitsFor d self.new ×
-            HoldsNow now.tracks now.content d (with_use uses ch (use_of self.new (placed_on number position d x))) }
+        ensures well { PlacesOn number position (M.seen volume.now) self.old self.new result }
         ensures cause { IfErr result (HidesRecords (M.seen volume.now)) }
     {
         match self {
@@ -276,14 +257,8 @@ impl Channel {
     ) -> Result<bool, Trouble>
         requires { FitsTracks (M.seen volume.old).tracks self.old }
         ensures fits { FitsTracks (M.seen volume.new).tracks self.new }
-        ensures call { let old = M.seen volume.old in let new = M.seen volume.new in
-            OfChannel old self.old (λ d uses ch x. IsChannelCall result old new
-            (λ done. (done ≡ not (is_lost d x)) × ChannelStands self.new (channel_put byte d x) ×
-            HoldsNow old.tracks new.content (disk_put d x)
-            (with_use uses ch (use_of self.new (channel_put byte d x))))
-            (IsCutOff self.new x × Stopped old.tracks new.content d d (with_use uses ch Idle))) }
-        ensures quiet { is_writing self.old ≡ false →
-            (result ≡ Ok true) × (self.new ≡ self.old) × (volume.new ≡ volume.old) }
+        ensures call { PutsByte byte (M.seen volume.old) (M.seen volume.new) self.old self.new result }
+        ensures quiet { is_writing self.old ≡ false → DoesNothing result true self.old self.new volume.old volume.new }
         ensures cut { OnErr result (is_writing self.new ≡ false) }
         ensures only { KeepsElse result (M.seen volume.old) (M.seen volume.new) }
     {
@@ -314,21 +289,13 @@ impl Channel {
         bytes: &[u8],
     ) -> Result<Option<bool>, Trouble>
         requires { FitsTracks (M.seen volume.old).tracks self.old }
-        ensures fits { FitsTracks (M.seen volume.new).tracks self.new }
-        ensures same { IsSameFile self.old self.new }
-        ensures put { let old = M.seen volume.old in let new = M.seen volume.new in
-            (r : Placed) → self.old ≡ Records r → OfPlaced old r (λ d uses b s rs. (q : Placed) × (self.new ≡ Records q) ×
-            MatchResult result (IsTextEnded old new d uses r q b s rs bytes.now)
-            (IsTextStopped old new d uses r q b s rs bytes.now)) }
+        ensures file { KeepsFile (M.seen volume.new).tracks self.old self.new }
+        ensures put { PutsText (M.seen volume.old) (M.seen volume.new) self.old self.new bytes.now result }
         ensures quiet { has_records self.old ≡ false →
-            (result ≡ Ok (Some false)) × (self.new ≡ self.old) × (volume.new ≡ volume.old) }
-        ensures allowed { has_records self.old ≡ true →
-            IfOk result (λ o. IfSome o (λ cut. (M.seen volume.old).protected ≡ false)) }
-        ensures kept { IsSameOn result None (M.seen volume.old) (M.seen volume.new) }
-        ensures guarded { KeepsProtected (M.seen volume.old) (M.seen volume.new) }
-        ensures medium { KeepsElse result (M.seen volume.old) (M.seen volume.new) }
-        ensures outside { (r : Placed) → self.old ≡ Records r → OfPlaced (M.seen volume.old) r
-            (λ d uses b s rs. KeepsOutside (M.seen volume.old) (M.seen volume.new)) }
+            DoesNothing result (Some false) self.old self.new volume.old volume.new }
+        ensures allowed { has_records self.old ≡ true → StoresUnprotected result (M.seen volume.old) }
+        ensures call { IsRecordsCall result None (M.seen volume.old) (M.seen volume.new) }
+        ensures outside { KeepsOutsideRecords (M.seen volume.old) (M.seen volume.new) self.old }
     {
         match self {
             Channel::Records(on) => on.write_record(volume, bytes),
@@ -351,10 +318,7 @@ impl Channel {
     /// refused; the slot has the file from before or the one from after.
     fn finish_file<M: Medium>(&self, volume: &mut Volume<M>) -> Result<(), Trouble>
         requires { FitsTracks (M.seen volume.old).tracks self.now }
-        ensures call { let old = M.seen volume.old in let new = M.seen volume.new in
-            OfChannel old self.now (λ d uses ch x. let rest = with_use uses ch Idle in IsChannelCall result old new
-            (λ done. HoldsNow old.tracks new.content (disk_closed d x) rest)
-            (Stopped old.tracks new.content d (disk_closed d x) rest)) }
+        ensures call { FinishesFile (M.seen volume.old) (M.seen volume.new) self.now result }
         ensures wrote { (x : machine.Channel) → ChannelStands self.now x → OnErr result (IsBeingWritten x) }
         ensures quiet { is_writing self.now ≡ false → IsOk result × (volume.new ≡ volume.old) }
         ensures only { KeepsElse result (M.seen volume.old) (M.seen volume.new) }
@@ -376,10 +340,7 @@ impl Channel {
     pub(crate) fn finish<M: Medium>(&mut self, volume: &mut Volume<M>) -> Result<(), Trouble>
         requires { FitsTracks (M.seen volume.old).tracks self.old }
         ensures is_closed { self.new ≡ Closed }
-        ensures call { let old = M.seen volume.old in let new = M.seen volume.new in
-            OfChannel old self.old (λ d uses ch x. let rest = with_use uses ch Idle in IsChannelCall result old new
-            (λ done. HoldsNow old.tracks new.content (disk_closed d x) rest)
-            (Stopped old.tracks new.content d (disk_closed d x) rest)) }
+        ensures call { FinishesFile (M.seen volume.old) (M.seen volume.new) self.old result }
         ensures wrote { (x : machine.Channel) → ChannelStands self.old x → OnErr result (IsBeingWritten x) }
         ensures quiet { is_writing self.old ≡ false → IsOk result × (volume.new ≡ volume.old) }
         ensures only { KeepsElse result (M.seen volume.old) (M.seen volume.new) }

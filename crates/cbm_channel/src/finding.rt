@@ -1,5 +1,3 @@
-ghost use Rattle.std.specs.Prelude.{◌≡◌};
-
 use crate::dos::Dos;
 use crate::sought::Sought;
 use cbm_command::Name;
@@ -15,11 +13,8 @@ pub struct Found {
 }
 
 impl<M: Medium> Dos<M> {
-    ghost use Rattle.std.specs.Prelude.{◌≡◌, IfOk, IfErr};
-    ghost use Rattle.std.specs.List.{Contains};
-    ghost use Rattle.cbm_volume.specs.Map.{geometry_of};
-    ghost use Rattle.cbm_volume.specs.Slots.{directory_of};
-    ghost use Rattle.cbm_channel.specs.Grounds.{HasGround};
+    ghost use Rattle.std.specs.Prelude.{IfOk, IfErr};
+    ghost use Rattle.cbm_channel.specs.Grounds.{HasGround, IsInDirectory};
     ghost use Rattle.cbm_machine.specs.Machines.{Machine};
     ghost use Rattle.cbm_machine.specs.Finding.{found};
     ghost use Rattle.cbm_channel.specs.Standing.{Stands};
@@ -29,9 +24,7 @@ impl<M: Medium> Dos<M> {
     /// the name is there, with other types alone; or the fault of the directory.
     pub(crate) fn found(&self, pattern: &Name, kind: Option<FileType>) -> Result<Found, Status>
         ensures ground { IfErr result (HasGround M.seen self.now.medium) }
-        ensures from { let now = M.seen self.now.medium in
-            IfOk result
-            (λ f. Contains (directory_of (geometry_of now.tracks now.content) now.content).entries f.entry) }
+        ensures from { IfOk result (λ f. IsInDirectory M.seen self.now.medium f.entry) }
         ensures found { (m : Machine) → Stands M.seen self.now m →
             FoundAs (M.seen self.now.medium).tracks (M.seen self.now.medium).content m.disk
             (found m.disk pattern.now kind) result }

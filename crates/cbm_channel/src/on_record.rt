@@ -1,13 +1,8 @@
-ghost use Rattle.std.specs.Prelude.{◌≡◌, ◌≢◌, ◌≤◌, ◌<◌, ◌-◌, ◌^◌, ◌⊎◌, ◌==◌, ℕ, true, false, None, List, length, drop, is_some, option_map, slice_index_or, IfOk, IfErr, IsOkAnd, MatchBool};
+ghost use Rattle.std.specs.Prelude.{◌≡◌, ◌≢◌, ◌≤◌, ◌<◌, ◌-◌, ◌^◌, ◌==◌, true, false, None, length, is_some, option_map, slice_index_or, IfOk, IfErr, IsOkAnd};
 ghost use Rattle.std.specs.List.{list_all};
-ghost use Rattle.cbm_file.specs.Files.{Disk, File, Records, file_at};
-ghost use Rattle.cbm_machine.specs.Records.{record_at};
-ghost use Rattle.cbm_volume.specs.Holding.{HoldsDisk};
 ghost use Rattle.cbm_channel.specs.Grounds.{HidesRecords};
-ghost use Rattle.cbm_volume.specs.Growth.{with_growth, IsTooLarge, IsGrowthCut};
-ghost use Rattle.cbm_volume.specs.RecordWrites.{HasRecordsOpen};
-ghost use Rattle.cbm_volume.specs.Writers.{Use, HoldsNow};
-ghost use Rattle.cbm_channel.specs.Placed.{Waits, is_last_filled, is_broken, record_of};
+ghost use Rattle.cbm_channel.specs.Placed.{is_last_filled, is_broken, record_of};
+ghost use Rattle.cbm_channel.specs.PlaceCalls.{ReadsRecord};
 
 use cbm_medium::codes::ENDLESS_CHAIN;
 use cbm_volume::{Medium, Record, Trouble, Volume, WrittenRecord};
@@ -87,9 +82,7 @@ fn waiting_of(read: Option<Record>) -> Waiting
 /// What waits at a record of the file in a slot. Errors: why it can't be read.
 fn waiting_at<M: Medium>(volume: &Volume<M>, slot: u8, number: u32) -> Result<Waiting, Trouble>
     requires { number < 2 ^ 24 }
-    ensures means { let now = M.seen volume.now in (d : Disk) (f : File) (w b s : ℕ) (rs : List (List ℕ)) →
-        HoldsDisk now.tracks now.content d → file_at d slot ≡ Some f → f.body ≡ Records w rs b s →
-        IsOkAnd result (Waits (record_at (Records w rs b s) number)) }
+    ensures means { ReadsRecord (M.seen volume.now) slot number result }
     ensures whole { IfOk result (λ x. is_broken x ≡ false) }
     ensures few { IfOk result (λ x. is_some (record_of x) ≡ true → number ≤ 195072) }
     ensures cause { IfErr result (HidesRecords (M.seen volume.now)) }
@@ -113,19 +106,15 @@ fn lost_again() -> Trouble
 }
 
 impl OnRecord {
-    ghost use Rattle.std.specs.Prelude.{◌≡◌, ◌≢◌, ◌≤◌, ◌<◌, ◌+◌, ◌^◌, ◌⊎◌, ℕ, true, false, List, Some, None, option_map, slice_get, IfOk, IfErr, IfSome, OnOk, OnErr, IsOk, IsOkAnd, MatchBool, MatchResult};
+    ghost use Rattle.std.specs.Prelude.{◌≡◌, ◌≢◌, ◌≤◌, ◌<◌, ◌+◌, ◌^◌, false, None, IfOk, IfErr, OnOk, OnErr, IsOkAnd};
     ghost use Rattle.cbm_medium.specs.Seen.{Seen};
-    ghost use Rattle.cbm_volume.specs.RecordWrites.{OfRecords, IsRecordCall};
-    ghost use Rattle.cbm_volume.specs.Calls.{KeepsProtected, IsSameOn};
+    ghost use Rattle.cbm_volume.specs.RecordWrites.{IsRecordCall};
     ghost use Rattle.cbm_volume.specs.Written.{IsRecordWrite};
-    ghost use Rattle.cbm_volume.specs.Writers.{Use};
-    ghost use Rattle.cbm_channel.specs.Going.{KeepsMedium};
-    ghost use Rattle.cbm_channel.specs.ChannelCalls.{KeepsElse, KeepsOutside, OfPlaced};
-    ghost use Rattle.cbm_channel.specs.Recorded.{CanGrow, disk_grown, IsTextStored, IsTextCut, IsTextEnded, IsTextStopped};
-    ghost use Rattle.cbm_machine.specs.Machines.{Relative};
-    ghost use Rattle.cbm_machine.specs.Talking.{taken_on};
+    ghost use Rattle.cbm_channel.specs.ChannelCalls.{KeepsElse, OfPlaced};
     ghost use Rattle.cbm_channel.specs.declared.on_record.Waiting.TheVariants.{Broken};
     ghost use Rattle.cbm_channel.specs.Placed.{IsOnRecord, IsPlacedAt, IsMoved, shown_at, is_absent, is_broken};
+    ghost use Rattle.cbm_channel.specs.PlaceCalls.{ReachesRecord, WasRead, TakesRecordByte, GrowsToPlace, StoresText, ReadsBehind, EndsText, KeepsOutsidePlaced, StoresUnprotected, IsRecordsCall};
+    ghost use Rattle.cbm_channel.specs.Recorded.{OfClosedRecords};
 
     /// The first byte of the first record of the file in a slot, whose records have this length. Errors: why that
     /// record can't be read.
@@ -136,9 +125,7 @@ impl OnRecord {
     ) -> Result<OnRecord, Trouble>
         ensures place { IfOk result
             (λ r. (r.slot ≡ slot) × ((r.width ≡ length) × ((r.number ≡ 1) × (r.position ≡ 1)))) }
-        ensures means { let now = M.seen volume.now in (d : Disk) (f : File) (b s : ℕ) (rs : List (List ℕ)) →
-            HoldsDisk now.tracks now.content d → file_at d slot ≡ Some f → f.closed ≡ true →
-            f.body ≡ Records length rs b s → IsOkAnd result (IsOnRecord d) }
+        ensures means { OfClosedRecords (M.seen volume.now) slot length (λ d. IsOkAnd result (IsOnRecord d)) }
         ensures cause { IfErr result (HidesRecords (M.seen volume.now)) }
         ensures never_26 { IfErr result (λ t. t.code ≢ 26) }
     {
@@ -197,9 +184,7 @@ impl OnRecord {
     ) -> Result<(), Trouble>
         requires { number < 2 ^ 24 }
         ensures place { IsPlacedAt self.old self.new number position }
-        ensures well { let now = M.seen volume.now in (d : Disk) (f : File) (b s : ℕ) (rs : List (List ℕ)) →
-            HoldsDisk now.tracks now.content d → file_at d self.old.slot ≡ Some f → f.closed ≡ true →
-            f.body ≡ Records self.old.width rs b s → IsOk result × IsOnRecord d self.new }
+        ensures well { ReachesRecord (M.seen volume.now) self.old self.new result }
         ensures whole { OnOk result (is_broken self.new.waiting ≡ false) }
         ensures broken { OnErr result (self.new.waiting ≡ Broken) }
         ensures cause { IfErr result (HidesRecords (M.seen volume.now)) }
@@ -218,11 +203,8 @@ impl OnRecord {
         requires number { self.old.number ≤ 195072 }
         requires never_26 { IfErr next (λ t. t.code ≢ 26) }
         ensures place { IsPlacedAt self.old self.new (self.old.number + 1) 1 }
-        ensures well { (now : Seen) → OfRecords now self.old.slot (λ found.
-            IsOkAnd next (λ x. option_map (λ y. y.items) x ≡ slice_get found self.old.number)) →
-            (d : Disk) (f : File) (b s : ℕ) (rs : List (List ℕ)) → HoldsDisk now.tracks now.content d →
-            file_at d self.old.slot ≡ Some f → f.closed ≡ true → f.body ≡ Records self.old.width rs b s →
-            IsOk result × IsOnRecord d self.new }
+        ensures well { (now : Seen) → WasRead now self.old.slot self.old.number next →
+            ReachesRecord now self.old self.new result }
         ensures never_26 { IfErr result (λ t. t.code ≢ 26) }
     {
         self.number += 1;
@@ -238,10 +220,7 @@ impl OnRecord {
         ensures moved { IsMoved self.old.waiting self.old self.new result }
         ensures cause { IfErr result (HidesRecords (M.seen volume.now)) }
         ensures slot { self.new.slot ≡ self.old.slot }
-        ensures well { let now = M.seen volume.now in (d : Disk) → HoldsDisk now.tracks now.content d →
-            IsOnRecord d self.old → IsOk result × (IsOnRecord d self.new ×
-            (Relative self.new.slot self.new.number self.new.position ≡
-            taken_on d (Relative self.old.slot self.old.number self.old.position))) }
+        ensures well { TakesRecordByte (M.seen volume.now) self.old self.new result }
     {
         let Waiting::Record(record) = &self.waiting else {
             return Ok(());
@@ -265,8 +244,7 @@ impl OnRecord {
             IsRecordCall result old new d uses r.slot r.width b s rs r.number r.position bytes.now) }
         ensures write { IsRecordWrite result (M.seen volume.old) (M.seen volume.new) self.now.number }
         ensures only { KeepsElse result (M.seen volume.old) (M.seen volume.new) }
-        ensures outside { OfPlaced (M.seen volume.old) self.now
-            (λ d uses b s rs. KeepsOutside (M.seen volume.old) (M.seen volume.new)) }
+        ensures outside { KeepsOutsidePlaced (M.seen volume.old) (M.seen volume.new) self.now }
     {
         // No record has the number 0, and no byte of one.
         if self.number == 0 || self.position == 0 {
@@ -278,16 +256,9 @@ impl OnRecord {
     /// The file grows until the record of the place is there. False where it would be too large: nothing has changed
     /// then. Errors: why a write was refused.
     fn grow<M: Medium>(&self, volume: &mut Volume<M>) -> Result<bool, Trouble>
-        ensures grown { let old = M.seen volume.old in let new = M.seen volume.new in let r = self.now in
-            OfPlaced old r (λ d uses b s rs. record_at (Records r.width rs b s) r.number ≡ None → MatchResult result
-            (λ done. MatchBool done (HoldsNow old.tracks new.content (disk_grown d r b s rs) uses × CanGrow d r b s rs)
-            (IsTooLarge d r.width b s r.number × (new.content ≡ old.content)))
-            (λ t. IsGrowthCut old new d uses r.slot r.width rs t × CanGrow d r b s rs)) }
-        ensures kept { IsSameOn result false (M.seen volume.old) (M.seen volume.new) }
-        ensures guarded { KeepsProtected (M.seen volume.old) (M.seen volume.new) }
-        ensures only { KeepsElse result (M.seen volume.old) (M.seen volume.new) }
-        ensures outside { OfPlaced (M.seen volume.old) self.now
-            (λ d uses b s rs. KeepsOutside (M.seen volume.old) (M.seen volume.new)) }
+        ensures grown { GrowsToPlace (M.seen volume.old) (M.seen volume.new) self.now result }
+        ensures call { IsRecordsCall result false (M.seen volume.old) (M.seen volume.new) }
+        ensures outside { KeepsOutsidePlaced (M.seen volume.old) (M.seen volume.new) self.now }
     {
         if self.number == 0 {
             return Ok(false);
@@ -302,17 +273,11 @@ impl OnRecord {
         volume: &mut Volume<M>,
         bytes: &[u8],
     ) -> Result<Option<WrittenRecord>, Trouble>
-        ensures put { let old = M.seen volume.old in let new = M.seen volume.new in
-            OfPlaced old self.now (λ d uses b s rs. MatchResult result
-            (λ o. IsTextStored old.tracks old.content new.content d uses self.now b s rs bytes.now (option_map (λ x. x.cut) o))
-            (IsTextCut old new d uses self.now b s rs bytes.now)) }
-        ensures next { let old = M.seen volume.old in let new = M.seen volume.new in let r = self.now in
-            OfPlaced old r (λ d uses b s rs. IfOk result (λ o. IfSome o (λ x. OfRecords new r.slot (λ found.
-            IsOkAnd x.next (λ y. option_map (λ z. z.items) y ≡ slice_get found r.number))))) }
+        ensures put { StoresText result (λ x. x.cut) (M.seen volume.old) (M.seen volume.new) self.now bytes.now }
+        ensures next { ReadsBehind result (λ x. x.next) (M.seen volume.old) (M.seen volume.new) self.now }
         ensures write { IsRecordWrite result (M.seen volume.old) (M.seen volume.new) self.now.number }
         ensures medium { KeepsElse result (M.seen volume.old) (M.seen volume.new) }
-        ensures outside { OfPlaced (M.seen volume.old) self.now
-            (λ d uses b s rs. KeepsOutside (M.seen volume.old) (M.seen volume.new)) }
+        ensures outside { KeepsOutsidePlaced (M.seen volume.old) (M.seen volume.new) self.now }
     {
         if let Some(written) = self.write(volume, bytes)? {
             return Ok(Some(written));
@@ -335,17 +300,11 @@ impl OnRecord {
         volume: &mut Volume<M>,
         bytes: &[u8],
     ) -> Result<Option<bool>, Trouble>
-        ensures put { let old = M.seen volume.old in let new = M.seen volume.new in
-            OfPlaced old self.old (λ d uses b s rs. MatchResult result
-            (IsTextEnded old new d uses self.old self.new b s rs bytes.now)
-            (IsTextStopped old new d uses self.old self.new b s rs bytes.now)) }
+        ensures put { EndsText result (M.seen volume.old) (M.seen volume.new) self.old self.new bytes.now }
         ensures file { (self.new.slot ≡ self.old.slot) × (self.new.width ≡ self.old.width) }
-        ensures allowed { IfOk result (λ o. IfSome o (λ cut. (M.seen volume.old).protected ≡ false)) }
-        ensures kept { IsSameOn result None (M.seen volume.old) (M.seen volume.new) }
-        ensures guarded { KeepsProtected (M.seen volume.old) (M.seen volume.new) }
-        ensures medium { KeepsElse result (M.seen volume.old) (M.seen volume.new) }
-        ensures outside { OfPlaced (M.seen volume.old) self.old
-            (λ d uses b s rs. KeepsOutside (M.seen volume.old) (M.seen volume.new)) }
+        ensures allowed { StoresUnprotected result (M.seen volume.old) }
+        ensures call { IsRecordsCall result None (M.seen volume.old) (M.seen volume.new) }
+        ensures outside { KeepsOutsidePlaced (M.seen volume.old) (M.seen volume.new) self.old }
     {
         match self.store(volume, bytes) {
             Ok(Some(written)) => {

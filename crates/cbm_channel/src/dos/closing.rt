@@ -5,8 +5,7 @@ use cbm_machine::Status;
 use cbm_volume::Medium;
 
 impl<M: Medium> Dos<M> {
-    ghost use Rattle.std.specs.Prelude.{◌≡◌, ◌≤◌, ◌<◌, ◌⊎◌, ℕ, [], ◌∷◌, false, length, slice_index_or, slice_set};
-    ghost use Rattle.cbm_medium.specs.Seen.{HasFailed};
+    ghost use Rattle.std.specs.Prelude.{◌≡◌, ◌≤◌, ◌<◌, ℕ, false, length, slice_index_or, slice_set};
     ghost use Rattle.cbm_channel.specs.declared.channel.Channel.TheVariants.{Closed};
     ghost use Rattle.cbm_machine.specs.Closing.{close_one, finish_channel, without_text};
     ghost use Rattle.cbm_channel.specs.Standing.{Stands, SameBut, Leads};
@@ -14,23 +13,17 @@ impl<M: Medium> Dos<M> {
     ghost use Rattle.cbm_channel.specs.ChannelCalls.{LeavesOutside};
     ghost use Rattle.cbm_channel.specs.Shown.{is_writing_on, KeepsMediumAndStatus};
     ghost use Rattle.cbm_machine.specs.Machines.{Machine, channel as channel_of};
-    ghost use Rattle.cbm_channel.specs.Going.{IsFailureCounted, AreCounted, Goes, Went, some_byte_put, closing, closings, KeepsMedium};
+    ghost use Rattle.cbm_channel.specs.Going.{AreCounted, Goes, Went, some_byte_put, closing, closings, KeepsMedium};
+    ghost use Rattle.cbm_channel.specs.Parts.{LeavesDisk, OnlyText, CutsOff, ClosesOne, ClosesChannels, ClosesQuietly, LeavesByClose};
 
     /// CLOSE: the file that is written on the channel is finished, and the channel is closed; on 15 the channels 0 to
     /// 14 are, in order. Where the medium refuses a write, its fault becomes the status.
     pub fn close(&mut self, channel: u8)
         requires { channel ≤ 15 }
         ensures goes { Goes M.seen self.old self.new (closing channel) }
-        // On any disk:
-        ensures others { channel < 15 → SameBut channel self.old.channels self.new.channels }
-        ensures closed { (k : ℕ) → (k ≡ channel) ⊎ (channel ≡ 15) → slice_index_or self.new.channels k Closed ≡ Closed }
-        // Where no file is written, nothing is reported and the medium stays as it is.
-        ensures quiet { channel < 15 → is_writing_on channel self.old ≡ false → KeepsMediumAndStatus self.old self.new }
-        ensures all_quiet { ((k : ℕ) → is_writing_on k self.old ≡ false) → KeepsMediumAndStatus self.old self.new }
-        ensures medium { KeepsMedium (M.seen self.old.medium) (M.seen self.new.medium) }
-        ensures outside { LeavesOutside M.seen self.old self.new }
-        ensures counted { channel < 15 → IsFailureCounted M.seen self.old self.new }
-        ensures all_counted { channel ≡ 15 → AreCounted M.seen 15 self.old self.new }
+        ensures channels { ClosesChannels channel self.old.channels self.new.channels }
+        ensures quiet { ClosesQuietly channel self.old self.new }
+        ensures leaves { LeavesByClose M.seen channel self.old self.new }
     {
         if channel < 15 {
             self.close_one(channel);
@@ -44,13 +37,9 @@ impl<M: Medium> Dos<M> {
     pub(super) fn close_one(&mut self, channel: u8)
         requires { channel < 15 }
         ensures goes { Went M.seen self.old self.new channel (close_one channel) }
-        ensures others { SameBut channel self.old.channels self.new.channels }
-        ensures closed { slice_index_or self.new.channels channel Closed ≡ Closed }
-        ensures count { length self.new.channels ≡ 15 }
+        ensures closes { ClosesOne channel self.old.channels self.new.channels }
         ensures quiet { is_writing_on channel self.old ≡ false → KeepsMediumAndStatus self.old self.new }
-        ensures medium { KeepsMedium (M.seen self.old.medium) (M.seen self.new.medium) }
-        ensures outside { LeavesOutside M.seen self.old self.new }
-        ensures counted { IsFailureCounted M.seen self.old self.new }
+        ensures leaves { LeavesDisk M.seen self.old self.new }
     {
         self.fill(channel);
         self.finish(channel);
@@ -63,11 +52,8 @@ impl<M: Medium> Dos<M> {
         ensures goes { Went M.seen self.old self.new channel (some_byte_put channel) }
         ensures others { SameBut channel self.old.channels self.new.channels }
         ensures quiet { is_writing_on channel self.old ≡ false → self.new ≡ self.old }
-        ensures medium { KeepsMedium (M.seen self.old.medium) (M.seen self.new.medium) }
-        ensures outside { LeavesOutside M.seen self.old self.new }
-        ensures cut { HasFailed (M.seen self.old.medium) (M.seen self.new.medium) →
-            is_writing_on channel self.new ≡ false }
-        ensures counted { IsFailureCounted M.seen self.old self.new }
+        ensures cut { CutsOff M.seen channel self.old self.new }
+        ensures leaves { LeavesDisk M.seen self.old self.new }
     {
         if self.is_empty(channel) {
             self.store(channel, b'\r');
@@ -90,9 +76,7 @@ impl<M: Medium> Dos<M> {
         ensures channels { self.new.channels ≡ slice_set self.old.channels channel Closed }
         ensures count { length self.new.channels ≡ 15 }
         ensures quiet { is_writing_on channel self.old ≡ false → KeepsMediumAndStatus self.old self.new }
-        ensures medium { KeepsMedium (M.seen self.old.medium) (M.seen self.new.medium) }
-        ensures outside { LeavesOutside M.seen self.old self.new }
-        ensures counted { IsFailureCounted M.seen self.old self.new }
+        ensures leaves { LeavesDisk M.seen self.old self.new }
     {
         if let Err(trouble) = self.channels[channel as usize].finish(&mut self.volume) {
             self.set(Status::from(trouble));
@@ -116,9 +100,7 @@ impl<M: Medium> Dos<M> {
     /// Drops the text that is gathered for this channel.
     fn forget_text(&mut self, channel: u8)
         ensures leads { Leads M.seen self.old self.new (without_text channel) }
-        ensures channels { self.new.channels ≡ self.old.channels }
-        ensures told { self.new.told ≡ self.old.told }
-        ensures medium { self.new.medium ≡ self.old.medium }
+        ensures only { OnlyText self.old self.new }
     {
         self.take_text(channel);
     }

@@ -32,31 +32,24 @@ fn is_wrong(kind: FileType) -> bool
 }
 
 impl<M: Medium> Dos<M> {
-    ghost use Rattle.std.specs.Prelude.{◌≡◌, ◌≤◌, ◌⊎◌, ◌+◌, ℕ, false, IfOk, IfErr, length};
+    ghost use Rattle.std.specs.Prelude.{◌≡◌, ◌≤◌, ◌+◌, IfOk, IfErr, length};
     ghost use Rattle.cbm_file.specs.Padding.{before_filler};
-    ghost use Rattle.cbm_machine.specs.declared.code.Code.TheVariants.{Fine};
-    ghost use Rattle.cbm_machine.specs.Codes.{code_number};
     ghost use Rattle.cbm_machine.specs.Machines.{Machine, answered};
     ghost use Rattle.cbm_machine.specs.Running.{copy, source, sources};
-    ghost use Rattle.cbm_channel.specs.Grounds.{HasGround, is_fault_number, KeepsIfRefused};
-    ghost use Rattle.cbm_channel.specs.ChannelCalls.{KeepsOutside, LeavesOutside};
+    ghost use Rattle.cbm_channel.specs.Grounds.{HasGround};
+    ghost use Rattle.cbm_channel.specs.ChannelCalls.{LeavesOutside};
     ghost use Rattle.cbm_channel.specs.Standing.{Stands};
-    ghost use Rattle.cbm_channel.specs.Going.{IsFailureCounted, Went, WentFrom, KeepsMedium};
+    ghost use Rattle.cbm_channel.specs.Going.{Went};
     ghost use Rattle.cbm_channel.specs.Joined.{SourceAs, AddsSources, IsCopying, RefusesCopy};
+    ghost use Rattle.cbm_channel.specs.Parts.{OfMachine, WentWhere, KeepsOutsideWhere, LeavesChannels, IsFineOrSameUnlessFault};
 
     /// C: the bytes of the old names' files, one after another, are a new closed file of the first one's type.
     pub(super) fn copy(&mut self, new: &Name, olds: &Names)
         ensures goes { before_filler new.now ≡ new.now →
             Went M.seen self.old self.new 15 (λ m. answered m (copy new.now olds.now m)) }
-        // On any disk, if no fault is reported:
-        ensures refused { is_fault_number (code_number self.new.told.status.code) ≡ false →
-            (self.new.told.status.code ≡ Fine) ⊎
-            ((M.seen self.new.medium).content ≡ (M.seen self.old.medium).content) }
-        ensures channels { self.new.channels ≡ self.old.channels }
-        ensures spared { KeepsIfRefused M.seen self.old self.new }
-        ensures medium { KeepsMedium (M.seen self.old.medium) (M.seen self.new.medium) }
+        ensures refused { IsFineOrSameUnlessFault M.seen self.old self.new }
+        ensures leaves { LeavesChannels M.seen self.old self.new }
         ensures outside { LeavesOutside M.seen self.old self.new }
-        ensures counted { IsFailureCounted M.seen self.old self.new }
     {
         match self.plan_copy(new, olds) {
             Ok((kind, slots)) => self.copy_slots(new, kind, slots.as_slice()),
@@ -69,10 +62,8 @@ impl<M: Medium> Dos<M> {
     /// no old name is given; or the fault of the directory.
     fn plan_copy(&self, new: &Name, olds: &Names) -> Result<(FileType, Sources), Status>
         ensures ground { IfErr result (HasGround M.seen self.now.medium) }
-        ensures planned { (m : Machine) → Stands M.seen self.now m →
-            IfOk result (λ v. IsCopying m new.now olds.now v.0 v.1.items) }
-        ensures refused { (m : Machine) → Stands M.seen self.now m →
-            IfErr result (RefusesCopy m new.now olds.now) }
+        ensures planned { OfMachine M.seen self.now (λ m. IfOk result (λ v. IsCopying m new.now olds.now v.0 v.1.items)) }
+        ensures refused { OfMachine M.seen self.now (λ m. IfErr result (RefusesCopy m new.now olds.now)) }
     {
         if self.is_there(new)? {
             return Err(Status::plain(Code::FileExists));
@@ -126,19 +117,12 @@ impl<M: Medium> Dos<M> {
 
     /// The files in these slots are joined into a new one of a type and a name.
     fn copy_slots(&mut self, name: &Name, kind: FileType, slots: &[u8])
-        ensures goes { (m : Machine) (olds : _) → before_filler name.now ≡ name.now →
-            IsCopying m name.now olds kind slots.now → Stands M.seen self.old m →
-            WentFrom M.seen self.old self.new 15 (λ n. answered n (copy name.now olds n)) m }
-        ensures refused { is_fault_number (code_number self.new.told.status.code) ≡ false →
-            (self.new.told.status.code ≡ Fine) ⊎
-            ((M.seen self.new.medium).content ≡ (M.seen self.old.medium).content) }
-        ensures channels { self.new.channels ≡ self.old.channels }
+        ensures goes { before_filler name.now ≡ name.now → WentWhere M.seen self.old self.new
+            (λ m olds. IsCopying m name.now olds kind slots.now) (λ olds n. answered n (copy name.now olds n)) }
+        ensures refused { IsFineOrSameUnlessFault M.seen self.old self.new }
         ensures count { length self.new.channels ≡ 15 }
-        ensures spared { KeepsIfRefused M.seen self.old self.new }
-        ensures medium { KeepsMedium (M.seen self.old.medium) (M.seen self.new.medium) }
-        ensures outside { (m : Machine) (olds : _) → IsCopying m name.now olds kind slots.now → Stands M.seen self.old m →
-            KeepsOutside (M.seen self.old.medium) (M.seen self.new.medium) }
-        ensures counted { IsFailureCounted M.seen self.old self.new }
+        ensures leaves { LeavesChannels M.seen self.old self.new }
+        ensures outside { KeepsOutsideWhere M.seen self.old self.new (λ m olds. IsCopying m name.now olds kind slots.now) }
     {
         match self.volume.copy(kind, name.bytes(), slots) {
             Ok(true) => self.say(Code::Fine),

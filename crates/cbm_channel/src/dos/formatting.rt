@@ -11,20 +11,16 @@ impl<M: Medium> Dos<M> {
     ghost use Rattle.cbm_command.specs.declared.command.Command.TheVariants.{New};
     ghost use Rattle.cbm_machine.specs.Machines.{answered};
     ghost use Rattle.cbm_machine.specs.Running.{run};
-    ghost use Rattle.cbm_channel.specs.Grounds.{KeepsIfRefused};
-    ghost use Rattle.cbm_channel.specs.Going.{IsFailureCounted, Went, KeepsMedium};
+    ghost use Rattle.cbm_channel.specs.Going.{Went};
+    ghost use Rattle.cbm_channel.specs.Parts.{LeavesChannels};
 
     /// N: an empty disk of this title; with an id it is formatted, else it keeps its own. 60 where a channel is open,
     /// 26 where the disk is protected. Where the medium fails in it, no disk is promised.
     pub(super) fn format(&mut self, title: &Name, id: Option<[u8; 2]>)
         ensures goes { (HasFailed (M.seen self.old.medium) (M.seen self.new.medium) → ⊥) →
             Went M.seen self.old self.new 15 (λ m. answered m (run (New title.now id) m)) }
-        ensures channels { self.new.channels ≡ self.old.channels }
         ensures count { length self.new.channels ≡ 15 }
-        // On any disk: what is refused has changed nothing of it.
-        ensures spared { KeepsIfRefused M.seen self.old self.new }
-        ensures medium { KeepsMedium (M.seen self.old.medium) (M.seen self.new.medium) }
-        ensures counted { IsFailureCounted M.seen self.old self.new }
+        ensures leaves { LeavesChannels M.seen self.old self.new }
     {
         if self.is_any_open() {
             self.say(Code::WriteFileOpen);

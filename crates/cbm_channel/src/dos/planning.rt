@@ -3,7 +3,7 @@
 ghost use Rattle.cbm_machine.specs.Codes.{code_number};
 ghost use Rattle.cbm_channel.specs.Grounds.{is_fault_number};
 ghost use Rattle.cbm_channel.specs.declared.plan.Plan.TheVariants as planned;
-ghost use Rattle.std.specs.Prelude.{◌≡◌, ◌≤◌, ◌⊎◌, ℕ, Bool, true, false, Result, Ok, Err, IfOk, IfErr, if◌then◌else◌, not, ◌&&◌};
+ghost use Rattle.std.specs.Prelude.{◌≡◌, ◌≤◌, ◌⊎◌, ℕ, true, false, Result, Ok, IfOk, IfErr, if◌then◌else◌, not, ◌&&◌};
 ghost use Rattle.cbm_file.specs.Files.{Disk, File};
 ghost use Rattle.cbm_file.specs.declared.file_type.FileType.TheVariants.{Rel};
 ghost use Rattle.cbm_file.specs.Types.{is_same_type};
@@ -90,20 +90,17 @@ impl<M: Medium> Dos<M> {
     ghost use Rattle.cbm_machine.specs.Machines.{Machine, too_many, in_writing, in_use};
     ghost use Rattle.cbm_machine.specs.Finding.{is_there};
     ghost use Rattle.cbm_machine.specs.Plans as plans;
-    ghost use Rattle.cbm_channel.specs.Grounds.{HasGround, IsFromDirectory};
+    ghost use Rattle.cbm_channel.specs.Grounds.{HasGround};
     ghost use Rattle.cbm_channel.specs.Standing.{Stands};
-    ghost use Rattle.cbm_channel.specs.Planned.{PlannedAs, IsOfText, IsFound, IsSized, is_for_writing, plan_writes};
+    ghost use Rattle.cbm_channel.specs.Planned.{IsOfText, is_for_writing, plan_writes};
+    ghost use Rattle.cbm_channel.specs.Opening.{IsSoundPlan, PlansAs, IsFoundIn, IsAllowed};
 
     /// What an OPEN will do. Errors: its refusal, or the fault of the directory.
     pub(super) fn plan(&self, channel: u8, opening: Opening) -> Result<Plan, Status>
-        ensures ground { IfErr result (HasGround M.seen self.now.medium) }
-        ensures from { IfOk result (IsFromDirectory M.seen self.now.medium) }
+        ensures sound { IsSoundPlan M.seen self.now.medium result }
         ensures reads { is_for_writing opening ≡ false → IfOk result (λ p. plan_writes p ≡ false) }
-        ensures allowed { IfOk result (λ p. plan_writes p ≡ true → (M.seen self.now.medium).protected ≡ false) }
-        ensures sized { IfOk result IsSized }
         ensures planned { (m : Machine) → IsOfText opening → Stands M.seen self.now m →
-            PlannedAs (M.seen self.now.medium).tracks (M.seen self.now.medium).content m
-            (plans.plan channel opening m) result }
+            PlansAs M.seen self.now.medium m (plans.plan channel opening m) result }
     {
         match opening {
             Opening::Listing(pattern) => {
@@ -123,15 +120,11 @@ impl<M: Medium> Dos<M> {
 
     /// What an OPEN of a file by its mode will do, which isn't asked for by type L.
     fn plan_file(&self, wanted: Wanted) -> Result<Plan, Status>
-        ensures ground { IfErr result (HasGround M.seen self.now.medium) }
-        ensures from { IfOk result (IsFromDirectory M.seen self.now.medium) }
+        ensures sound { IsSoundPlan M.seen self.now.medium result }
         ensures reads { wanted.mode ≡ Read → IfOk result (λ p. plan_writes p ≡ false) }
-        ensures allowed { IfOk result (λ p. plan_writes p ≡ true → (M.seen self.now.medium).protected ≡ false) }
-        ensures sized { IfOk result IsSized }
         ensures planned { (m : Machine) (ch : ℕ) → IsOfText (opening.File wanted) → wants_relative wanted ≡ false →
             Stands M.seen self.now m →
-            PlannedAs (M.seen self.now.medium).tracks (M.seen self.now.medium).content m (plans.plan ch
-            (opening.File wanted) m) result }
+            PlansAs M.seen self.now.medium m (plans.plan ch (opening.File wanted) m) result }
     {
         if wanted.mode == Mode::Read {
             return self.plan_reading(&wanted);
@@ -149,14 +142,10 @@ impl<M: Medium> Dos<M> {
     /// What an OPEN by type L will do. Errors: 70 too many channels; 64 with `@`, on the channels 0 and 1, or where the
     /// name has another type; else what is met at the file that is there, or where it is not.
     fn plan_relative(&self, channel: u8, wanted: Wanted) -> Result<Plan, Status>
-        ensures ground { IfErr result (HasGround M.seen self.now.medium) }
-        ensures from { IfOk result (IsFromDirectory M.seen self.now.medium) }
-        ensures allowed { IfOk result (λ p. plan_writes p ≡ true → (M.seen self.now.medium).protected ≡ false) }
-        ensures sized { IfOk result IsSized }
+        ensures sound { IsSoundPlan M.seen self.now.medium result }
         ensures planned { (m : Machine) → IsOfText (opening.File wanted) → wants_relative wanted ≡ true →
             Stands M.seen self.now m →
-            PlannedAs (M.seen self.now.medium).tracks (M.seen self.now.medium).content m (plans.plan channel
-            (opening.File wanted) m) result }
+            PlansAs M.seen self.now.medium m (plans.plan channel (opening.File wanted) m) result }
     {
         if self.is_too_many(RECORDS_COST) {
             return Err(Status::plain(Code::NoChannel));
@@ -175,13 +164,10 @@ impl<M: Medium> Dos<M> {
     /// What an OPEN by type L of a name that isn't there will do. Errors: 62 no record length is given, 50 it is 255, 72
     /// two blocks or a place for a name are lacking, 26 the disk is protected; or a fault of the map or of the directory.
     fn plan_missing(&self, wanted: Wanted) -> Result<Plan, Status>
-        ensures ground { IfErr result (HasGround M.seen self.now.medium) }
+        ensures sound { IsSoundPlan M.seen self.now.medium result }
         ensures same { IfOk result (λ p. p ≡ planned.MakeRecords wanted.name wanted.record_length) }
-        ensures allowed { IfOk result (λ p. plan_writes p ≡ true → (M.seen self.now.medium).protected ≡ false) }
-        ensures sized { IfOk result IsSized }
         ensures planned { (m : Machine) → before_filler wanted.name ≡ wanted.name → Stands M.seen self.now m →
-            PlannedAs (M.seen self.now.medium).tracks (M.seen self.now.medium).content m
-            (plans.plan_missing wanted m) result }
+            PlansAs M.seen self.now.medium m (plans.plan_missing wanted m) result }
     {
         if wanted.record_length == 0 {
             return Err(Status::plain(Code::FileNotFound));
@@ -201,14 +187,11 @@ impl<M: Medium> Dos<M> {
 
     /// What reading will do.
     fn plan_reading(&self, wanted: &Wanted) -> Result<Plan, Status>
-        ensures ground { IfErr result (HasGround M.seen self.now.medium) }
-        ensures from { IfOk result (IsFromDirectory M.seen self.now.medium) }
+        ensures sound { IsSoundPlan M.seen self.now.medium result }
         ensures reads { IfOk result (λ p. plan_writes p ≡ false) }
-        ensures sized { IfOk result IsSized }
         ensures planned { (m : Machine) (ch : ℕ) → wanted.now.mode ≡ Read → wants_relative wanted.now ≡ false →
             Stands M.seen self.now m →
-            PlannedAs (M.seen self.now.medium).tracks (M.seen self.now.medium).content m (plans.plan ch
-            (opening.File wanted.now) m) result }
+            PlansAs M.seen self.now.medium m (plans.plan ch (opening.File wanted.now) m) result }
     {
         let found = self.found(&wanted.name, wanted.kind);
         if self.is_too_many(cost_of(wanted, &found)) {
@@ -228,11 +211,10 @@ impl<M: Medium> Dos<M> {
     fn plan_append(&self, found: Found) -> Result<Plan, Status>
         ensures ground { IfErr result (HasGround M.seen self.now.medium) }
         ensures same { IfOk result (λ p. p ≡ planned.AppendFile found) }
-        ensures allowed { IfOk result (λ p. plan_writes p ≡ true → (M.seen self.now.medium).protected ≡ false) }
+        ensures allowed { IfOk result (IsAllowed M.seen self.now.medium) }
         ensures planned { (m : Machine) (s : ℕ) (f : File) → Stands M.seen self.now m →
-            IsFound (M.seen self.now.medium).tracks (M.seen self.now.medium).content m.disk s f found →
-            PlannedAs (M.seen self.now.medium).tracks (M.seen self.now.medium).content m
-            (plans.plan_append m (s, f)) result }
+            IsFoundIn M.seen self.now.medium m s f found →
+            PlansAs M.seen self.now.medium m (plans.plan_append m (s, f)) result }
     {
         let kind = found.entry.kind();
         if kind == Some(FileType::Del) {
@@ -252,14 +234,10 @@ impl<M: Medium> Dos<M> {
 
     /// What writing will do: with `@` and the name there a replacement, else a new file.
     fn plan_writing(&self, wanted: Wanted) -> Result<Plan, Status>
-        ensures ground { IfErr result (HasGround M.seen self.now.medium) }
-        ensures from { IfOk result (IsFromDirectory M.seen self.now.medium) }
-        ensures allowed { IfOk result (λ p. plan_writes p ≡ true → (M.seen self.now.medium).protected ≡ false) }
-        ensures sized { IfOk result IsSized }
+        ensures sound { IsSoundPlan M.seen self.now.medium result }
         ensures planned { (m : Machine) → IsOfText (opening.File wanted) → wants_relative wanted ≡ false →
             Stands M.seen self.now m →
-            PlannedAs (M.seen self.now.medium).tracks (M.seen self.now.medium).content m
-            (plans.plan_writing wanted wanted.kind m) result }
+            PlansAs M.seen self.now.medium m (plans.plan_writing wanted wanted.kind m) result }
     {
         let Some(kind) = wanted.kind else {
             return Err(Status::plain(Code::WrongType));
@@ -280,12 +258,10 @@ impl<M: Medium> Dos<M> {
     fn plan_write(&self, kind: FileType, name: Name) -> Result<Plan, Status>
         ensures ground { IfErr result (HasGround M.seen self.now.medium) }
         ensures same { IfOk result (λ p. p ≡ planned.WriteFile kind name) }
-        ensures allowed { IfOk result (λ p. plan_writes p ≡ true → (M.seen self.now.medium).protected ≡ false) }
+        ensures allowed { IfOk result (IsAllowed M.seen self.now.medium) }
         ensures planned { (m : Machine) (w : Wanted) → w.name ≡ name → is_there m.disk name ≡ false →
             before_filler name ≡ name → is_same_type Del kind ≡ false → is_same_type Rel kind ≡ false →
-            Stands M.seen self.now m →
-            PlannedAs (M.seen self.now.medium).tracks (M.seen self.now.medium).content m
-            (plans.plan_write w kind m) result }
+            Stands M.seen self.now m → PlansAs M.seen self.now.medium m (plans.plan_write w kind m) result }
     {
         let room = self.volume().room()?;
         if room.blocks == 0 || !room.slot {
@@ -302,12 +278,10 @@ impl<M: Medium> Dos<M> {
     fn plan_replace(&self, found: &Found) -> Result<Plan, Status>
         ensures ground { IfErr result (HasGround M.seen self.now.medium) }
         ensures same { IfOk result (λ p. p ≡ planned.ReplaceFile found.now.slot) }
-        ensures allowed { IfOk result (λ p. plan_writes p ≡ true → (M.seen self.now.medium).protected ≡ false) }
+        ensures allowed { IfOk result (IsAllowed M.seen self.now.medium) }
         ensures planned { (m : Machine) (s : ℕ) (f : File) → Stands M.seen self.now m →
-            IsFound (M.seen self.now.medium).tracks (M.seen self.now.medium).content m.disk s f found.now →
-            is_same_type Rel f.kind ≡ false →
-            PlannedAs (M.seen self.now.medium).tracks (M.seen self.now.medium).content m
-            (plans.plan_replace m (s, f)) result }
+            IsFoundIn M.seen self.now.medium m s f found.now → is_same_type Rel f.kind ≡ false →
+            PlansAs M.seen self.now.medium m (plans.plan_replace m (s, f)) result }
     {
         if !found.entry.is_closed() || self.in_use(found.slot) {
             return Err(Status::plain(Code::WriteFileOpen));

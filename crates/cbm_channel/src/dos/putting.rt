@@ -18,19 +18,18 @@ fn without_return(text: &[u8]) -> &[u8]
 }
 
 impl<M: Medium> Dos<M> {
-    ghost use Rattle.std.specs.Prelude.{◌≡◌, ◌≢◌, ◌≤◌, ◌<◌, ◌⊎◌, ℕ, List, [], ◌∷◌, false, true, take, Some, Ok, IfSome, MatchOption};
-    ghost use Rattle.cbm_medium.specs.Seen.{HasFailed};
-    ghost use Rattle.cbm_machine.specs.Machines.{Machine, answered};
+    ghost use Rattle.std.specs.Prelude.{◌≡◌, ◌≢◌, ◌≤◌, ◌<◌, ◌⊎◌, [], ◌∷◌, false, Some, IfSome, MatchOption};
+    ghost use Rattle.cbm_machine.specs.Machines.{answered};
     ghost use Rattle.cbm_machine.specs.Closing.{without_text};
-    ghost use Rattle.cbm_machine.specs.Calls.{put, gather, command, without_return};
+    ghost use Rattle.cbm_machine.specs.Calls.{put, gather, command};
     ghost use Rattle.cbm_machine.specs.Running.{run};
     ghost use Rattle.cbm_command.specs.declared.command.Command.TheVariants.{Position};
-    ghost use Rattle.cbm_channel.specs.Grounds.{HasTold, IsToldFor, KeepsIfRefused, OrdersDisk};
-    ghost use Rattle.cbm_channel.specs.ChannelCalls.{LeavesOutside};
-    ghost use Rattle.cbm_channel.specs.Standing.{Stands, SameBut, HaveSameFiles, Leads, HasNoText, HasText};
+    ghost use Rattle.cbm_channel.specs.Grounds.{KeepsIfRefused};
+    ghost use Rattle.cbm_channel.specs.Standing.{SameBut, Leads};
     ghost use Rattle.cbm_channel.specs.Shown.{is_writing_on, has_records_on, KeepsMediumAndStatus};
-    ghost use Rattle.cbm_channel.specs.Going.{IsFailureCounted, Goes, EndsFrom, RecordsFrom, Went, WentFrom, put_written, KeepsMedium};
-    ghost use Rattle.cbm_channel.specs.Commanded.{IsOfCommandText, changes_disk, commands_change, ends_command, FormatsUnfailing, formats, text_formats, end_formats, validates, text_validates, end_validates, moved_by, text_moves, end_moves, AreSameBut};
+    ghost use Rattle.cbm_channel.specs.Going.{Goes, Went, put_written};
+    ghost use Rattle.cbm_channel.specs.Commanded.{IsOfCommandText, changes_disk, commands_change, formats, text_formats, end_formats, validates, text_validates, end_validates, moved_by, text_moves, end_moves};
+    ghost use Rattle.cbm_channel.specs.Parts.{LeavesDisk, LeavesByCommand, OnlyText, OnlyTells, OnlyTellsFor, CutsOff, TakesText, WritesText, MovesOne, WentUnlessNew, EndsGathered, EndsQuietly, SparesDisk};
 
     /// A byte that the host sends to a channel: on 15 it is gathered for a command, on a channel that has records open
     /// for one of these, and on one that writes a file it goes to the file; on others it is dropped. The first byte for which no block is free sets the status
@@ -41,9 +40,7 @@ impl<M: Medium> Dos<M> {
         // On any disk:
         ensures others { SameBut channel self.old.channels self.new.channels }
         ensures quiet { is_writing_on channel self.old ≡ false → KeepsMediumAndStatus self.old self.new }
-        ensures medium { KeepsMedium (M.seen self.old.medium) (M.seen self.new.medium) }
-        ensures outside { LeavesOutside M.seen self.old self.new }
-        ensures counted { IsFailureCounted M.seen self.old self.new }
+        ensures leaves { LeavesDisk M.seen self.old self.new }
     {
         if channel == 15 {
             self.gather(channel, byte);
@@ -60,11 +57,8 @@ impl<M: Medium> Dos<M> {
         ensures goes { Went M.seen self.old self.new channel (put_written channel byte) }
         ensures others { SameBut channel self.old.channels self.new.channels }
         ensures quiet { is_writing_on channel self.old ≡ false → KeepsMediumAndStatus self.old self.new }
-        ensures medium { KeepsMedium (M.seen self.old.medium) (M.seen self.new.medium) }
-        ensures outside { LeavesOutside M.seen self.old self.new }
-        ensures cut { HasFailed (M.seen self.old.medium) (M.seen self.new.medium) →
-            is_writing_on channel self.new ≡ false }
-        ensures counted { IsFailureCounted M.seen self.old self.new }
+        ensures cut { CutsOff M.seen channel self.old self.new }
+        ensures leaves { LeavesDisk M.seen self.old self.new }
     {
         match self.channels[channel as usize].put(&mut self.volume, byte) {
             Ok(true) => {}
@@ -76,9 +70,7 @@ impl<M: Medium> Dos<M> {
     /// A byte goes to the text that is gathered for a channel.
     fn gather(&mut self, channel: u8, byte: u8)
         ensures leads { Leads M.seen self.old self.new (gather channel byte) }
-        ensures channels { self.new.channels ≡ self.old.channels }
-        ensures told { self.new.told ≡ self.old.told }
-        ensures medium { self.new.medium ≡ self.old.medium }
+        ensures only { OnlyText self.old self.new }
     {
         gather(&mut self.text, channel, byte);
     }
@@ -86,11 +78,8 @@ impl<M: Medium> Dos<M> {
     /// Takes the text that is gathered for a channel.
     pub(super) fn take_text(&mut self, channel: u8) -> Option<Gathered>
         ensures leads { Leads M.seen self.old self.new (without_text channel) }
-        ensures channels { self.new.channels ≡ self.old.channels }
-        ensures told { self.new.told ≡ self.old.told }
-        ensures medium { self.new.medium ≡ self.old.medium }
-        ensures text { (m : Machine) → Stands M.seen self.old m →
-            MatchOption result (HasNoText channel m) (HasText channel m) }
+        ensures only { OnlyText self.old self.new }
+        ensures text { TakesText M.seen channel self.old result }
         ensures taken { IfSome result (λ t. (self.old.text ≡ Some t) × (t.0 ≡ channel)) }
         ensures none { MatchOption result (IfSome self.old.text (λ t. t.0 ≢ channel)) (λ t. Unit {0}) }
     {
@@ -106,24 +95,11 @@ impl<M: Medium> Dos<M> {
     /// a channel that has records open is one write of a record.
     pub fn end_put(&mut self, channel: u8)
         requires { channel ≤ 15 }
-        ensures goes { (m : Machine) → Stands M.seen self.old m →
-            FormatsUnfailing (end_formats channel self.old.text)
-            (HasFailed (M.seen self.old.medium) (M.seen self.new.medium)) →
-            EndsFrom M.seen self.old self.new channel m }
-        // On any disk:
-        ensures channels { HaveSameFiles self.old.channels self.new.channels }
-        ensures others { AreSameBut (end_moves channel self.old.text) self.old.channels self.new.channels }
-        // What is no command that changes the disk, nor for records, leaves the medium as it is.
-        ensures quiet { ends_command channel self.old.text ≡ false → has_records_on channel self.old ≡ false →
-            IsToldFor M.seen self.old self.new × (self.new.medium ≡ self.old.medium) }
-        // What is refused has changed nothing of the disk. A record that was written leaves what is reported.
-        ensures spared { has_records_on channel self.old ≡ false → KeepsIfRefused M.seen self.old self.new }
-        ensures spared_records { (self.new.told ≡ self.old.told) ⊎ KeepsIfRefused M.seen self.old self.new }
-        // V leaves closed files as they are.
-        ensures ordered { end_validates channel self.old.text ≡ true → OrdersDisk M.seen self.old self.new }
-        ensures medium { KeepsMedium (M.seen self.old.medium) (M.seen self.new.medium) }
-        ensures outside { end_formats channel self.old.text ≡ false → LeavesOutside M.seen self.old self.new }
-        ensures counted { IsFailureCounted M.seen self.old self.new }
+        ensures goes { EndsGathered M.seen channel self.old self.new }
+        ensures leaves { LeavesByCommand M.seen (end_moves channel self.old.text) (end_validates channel self.old.text)
+            (end_formats channel self.old.text) self.old self.new }
+        ensures quiet { EndsQuietly M.seen channel self.old self.new }
+        ensures spares { SparesDisk M.seen channel self.old self.new }
     {
         if let Some(text) = self.take_text(channel) {
             if channel == 15 {
@@ -139,15 +115,11 @@ impl<M: Medium> Dos<M> {
     /// the status stays.
     fn write_record(&mut self, channel: u8, bytes: &[u8])
         requires { channel < 15 }
-        ensures goes { (m : Machine) (text : List ℕ) → Stands M.seen self.old m → bytes.now ≡ take 256 text →
-            RecordsFrom M.seen self.old self.new channel text m }
-        ensures channels { HaveSameFiles self.old.channels self.new.channels }
-        ensures others { SameBut channel self.old.channels self.new.channels }
+        ensures goes { WritesText M.seen channel bytes.now self.old self.new }
+        ensures moves { MovesOne channel self.old.channels self.new.channels }
         ensures quiet { has_records_on channel self.old ≡ false → self.new ≡ self.old }
         ensures spared { (self.new.told ≡ self.old.told) ⊎ KeepsIfRefused M.seen self.old self.new }
-        ensures medium { KeepsMedium (M.seen self.old.medium) (M.seen self.new.medium) }
-        ensures outside { LeavesOutside M.seen self.old self.new }
-        ensures counted { IsFailureCounted M.seen self.old self.new }
+        ensures leaves { LeavesDisk M.seen self.old self.new }
     {
         match self.channels[channel as usize].write_record(&mut self.volume, bytes) {
             Ok(Some(false)) => {}
@@ -159,18 +131,11 @@ impl<M: Medium> Dos<M> {
 
     /// Carries a text for channel 15 out; an empty one does nothing.
     pub(super) fn command(&mut self, text: &[u8])
-        ensures goes { (m : Machine) → Stands M.seen self.old m →
-            FormatsUnfailing (text_formats text.now) (HasFailed (M.seen self.old.medium) (M.seen self.new.medium)) →
-            WentFrom M.seen self.old self.new 15 (command text.now) m }
-        ensures channels { HaveSameFiles self.old.channels self.new.channels }
-        ensures others { AreSameBut (text_moves text.now) self.old.channels self.new.channels }
-        ensures quiet { commands_change text.now ≡ false →
-            IsToldFor M.seen self.old self.new × (self.new.medium ≡ self.old.medium) }
+        ensures goes { WentUnlessNew M.seen (text_formats text.now) self.old self.new (command text.now) }
+        ensures leaves { LeavesByCommand M.seen (text_moves text.now) (text_validates text.now) (text_formats text.now)
+            self.old self.new }
+        ensures quiet { commands_change text.now ≡ false → OnlyTellsFor M.seen self.old self.new }
         ensures spared { KeepsIfRefused M.seen self.old self.new }
-        ensures ordered { text_validates text.now ≡ true → OrdersDisk M.seen self.old self.new }
-        ensures medium { KeepsMedium (M.seen self.old.medium) (M.seen self.new.medium) }
-        ensures outside { text_formats text.now ≡ false → LeavesOutside M.seen self.old self.new }
-        ensures counted { IsFailureCounted M.seen self.old self.new }
     {
         let text = without_return(text);
         if text.is_empty() {
@@ -184,18 +149,12 @@ impl<M: Medium> Dos<M> {
 
     /// Carries a command out.
     fn run(&mut self, command: &Command)
-        ensures goes { (m : Machine) → IsOfCommandText command.now → Stands M.seen self.old m →
-            FormatsUnfailing (formats command.now) (HasFailed (M.seen self.old.medium) (M.seen self.new.medium)) →
-            WentFrom M.seen self.old self.new 15 (λ n. answered n (run command.now n)) m }
-        ensures channels { HaveSameFiles self.old.channels self.new.channels }
-        ensures others { AreSameBut (moved_by command.now) self.old.channels self.new.channels }
-        ensures quiet { changes_disk command.now ≡ false →
-            HasTold M.seen self.old self.new × (self.new.medium ≡ self.old.medium) }
+        ensures goes { IsOfCommandText command.now → WentUnlessNew M.seen (formats command.now) self.old self.new
+            (λ n. answered n (run command.now n)) }
+        ensures leaves { LeavesByCommand M.seen (moved_by command.now) (validates command.now) (formats command.now)
+            self.old self.new }
+        ensures quiet { changes_disk command.now ≡ false → OnlyTells M.seen self.old self.new }
         ensures spared { KeepsIfRefused M.seen self.old self.new }
-        ensures ordered { validates command.now ≡ true → OrdersDisk M.seen self.old self.new }
-        ensures medium { KeepsMedium (M.seen self.old.medium) (M.seen self.new.medium) }
-        ensures outside { formats command.now ≡ false → LeavesOutside M.seen self.old self.new }
-        ensures counted { IsFailureCounted M.seen self.old self.new }
     {
         match command {
             Command::New(title, id) => self.format(title, *id),
@@ -216,10 +175,8 @@ impl<M: Medium> Dos<M> {
     fn place(&mut self, channel: u8, number: u16, position: u8)
         ensures leads { 1 ≤ number → 1 ≤ position →
             Leads M.seen self.old self.new (λ m. answered m (run (Position channel number position) m)) }
-        ensures channels { HaveSameFiles self.old.channels self.new.channels }
-        ensures others { SameBut channel self.old.channels self.new.channels }
-        ensures told { HasTold M.seen self.old self.new }
-        ensures medium { self.new.medium ≡ self.old.medium }
+        ensures moves { MovesOne channel self.old.channels self.new.channels }
+        ensures tells { OnlyTells M.seen self.old self.new }
     {
         let channels = self.channels.as_slice();
         if channel as usize >= channels.len() {

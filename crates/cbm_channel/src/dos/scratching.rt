@@ -42,29 +42,23 @@ fn may_go(channels: &[Channel], patterns: &[Name], number: u8, entry: &Entry) ->
 }
 
 impl<M: Medium> Dos<M> {
-    ghost use Rattle.std.specs.Prelude.{◌≡◌, ◌≢◌, ◌≤◌, [], false, IfOk, IfErr, OnOk, OnErr, IsOkAnd, length};
-    ghost use Rattle.cbm_medium.specs.Seen.{HasFailed};
-    ghost use Rattle.cbm_channel.specs.ChannelCalls.{KeepsElse, KeepsOutside, LeavesOutside};
+    ghost use Rattle.std.specs.Prelude.{◌≡◌, ◌≢◌, ◌≤◌, IfOk, IfErr, IsOkAnd, length};
+    ghost use Rattle.cbm_channel.specs.ChannelCalls.{KeepsElse, LeavesOutside};
     ghost use Rattle.cbm_volume.specs.Map.{geometry_of};
     ghost use Rattle.cbm_volume.specs.Slots.{directory_of};
-    ghost use Rattle.cbm_volume.specs.Writers.{HoldsNow, Stopped};
     ghost use Rattle.cbm_machine.specs.Machines.{Machine, answered};
     ghost use Rattle.cbm_machine.specs.Running.{scratch};
     ghost use Rattle.cbm_channel.specs.Grounds.{HasGround, KeepsIfRefused};
-    ghost use Rattle.cbm_channel.specs.Standing.{Stands, uses_of};
-    ghost use Rattle.cbm_channel.specs.Going.{IsFailureCounted, WentFrom, KeepsMedium};
-    ghost use Rattle.cbm_channel.specs.Commanded.{entries_going, slots_going, all_scratched, CanAllGo, AreSlotsGoing, AreUnguarded, RefusesScratch};
+    ghost use Rattle.cbm_channel.specs.Standing.{Stands};
+    ghost use Rattle.cbm_channel.specs.Going.{Went};
+    ghost use Rattle.cbm_channel.specs.Commanded.{entries_going, slots_going, AreSlotsGoing, AreUnguarded, RefusesScratch};
+    ghost use Rattle.cbm_channel.specs.Parts.{OfMachine, WentWhere, KeepsOutsideWhere, LeavesMedium, LeavesChannels, OnlyMedium, SameChannels, ClearsSlots, StopsClearing, KeepsOutsideGoing};
 
     /// S: each file that matches a pattern, isn't locked and isn't open goes; 01 reports how many.
     pub(super) fn scratch(&mut self, patterns: &Names)
-        ensures goes { (m : Machine) → Stands M.seen self.old m →
-            WentFrom M.seen self.old self.new 15 (λ n. answered n (scratch patterns.now n)) m }
-        ensures channels { self.new.channels ≡ self.old.channels }
-        // On any disk: what is refused has changed nothing of it.
-        ensures spared { KeepsIfRefused M.seen self.old self.new }
-        ensures medium { KeepsMedium (M.seen self.old.medium) (M.seen self.new.medium) }
+        ensures goes { Went M.seen self.old self.new 15 (λ n. answered n (scratch patterns.now n)) }
+        ensures leaves { LeavesChannels M.seen self.old self.new }
         ensures outside { LeavesOutside M.seen self.old self.new }
-        ensures counted { IsFailureCounted M.seen self.old self.new }
     {
         match self.plan_scratch(patterns) {
             Ok(slots) => self.scratch_slots(slots.as_slice()),
@@ -75,10 +69,8 @@ impl<M: Medium> Dos<M> {
     /// The slots of the files that go. Errors: 26 the disk is protected; or the fault of the directory.
     fn plan_scratch(&self, patterns: &Names) -> Result<Numbers, Status>
         ensures ground { IfErr result (HasGround M.seen self.now.medium) }
-        ensures planned { (m : Machine) → Stands M.seen self.now m →
-            IfOk result (λ v. AreSlotsGoing m patterns.now v.items) }
-        ensures refused { (m : Machine) → Stands M.seen self.now m →
-            IfErr result (RefusesScratch m patterns.now) }
+        ensures planned { OfMachine M.seen self.now (λ m. IfOk result (λ v. AreSlotsGoing m patterns.now v.items)) }
+        ensures refused { OfMachine M.seen self.now (λ m. IfErr result (RefusesScratch m patterns.now)) }
         ensures unguarded { IfOk result (λ v. AreUnguarded (M.seen self.now.medium).protected v.items) }
         ensures few { IfOk result (λ v. length v.items ≤ 144) }
     {
@@ -113,16 +105,13 @@ impl<M: Medium> Dos<M> {
     /// Scratches these slots, and reports how many they were.
     fn scratch_slots(&mut self, slots: &[u8])
         requires { length slots.now ≤ 144 }
-        ensures goes { (m : Machine) (patterns : _) → AreSlotsGoing m patterns slots.now → Stands M.seen self.old m →
-            WentFrom M.seen self.old self.new 15 (λ n. answered n (scratch patterns n)) m }
-        ensures channels { self.new.channels ≡ self.old.channels }
-        ensures count { length self.new.channels ≡ 15 }
+        ensures goes { WentWhere M.seen self.old self.new (λ m patterns. AreSlotsGoing m patterns slots.now)
+            (λ patterns n. answered n (scratch patterns n)) }
+        ensures same { SameChannels self.old.channels self.new.channels }
         ensures spared { AreUnguarded (M.seen self.old.medium).protected slots.now →
             KeepsIfRefused M.seen self.old self.new }
-        ensures medium { KeepsMedium (M.seen self.old.medium) (M.seen self.new.medium) }
-        ensures outside { (m : Machine) (patterns : _) → AreSlotsGoing m patterns slots.now → Stands M.seen self.old m →
-            KeepsOutside (M.seen self.old.medium) (M.seen self.new.medium) }
-        ensures counted { IsFailureCounted M.seen self.old self.new }
+        ensures leaves { LeavesMedium M.seen self.old self.new }
+        ensures outside { KeepsOutsideWhere M.seen self.old self.new (λ m patterns. AreSlotsGoing m patterns slots.now) }
     {
         match self.clear(slots) {
             Ok(()) => self.set(Status {
@@ -136,23 +125,12 @@ impl<M: Medium> Dos<M> {
 
     /// Scratches these slots, one after another. An `Err` is what ended it: the slots before stay scratched.
     fn clear(&mut self, slots: &[u8]) -> Result<(), Trouble>
-        ensures scratched { let old = M.seen self.old.medium in (m : Machine) → Stands M.seen self.old m →
-            CanAllGo m.disk (uses_of self.old.channels m.channels) slots.now →
-            OnOk result (HoldsNow old.tracks (M.seen self.new.medium).content (all_scratched m.disk slots.now)
-            (uses_of self.old.channels m.channels)) }
-        ensures stopped { let old = M.seen self.old.medium in (m : Machine) → Stands M.seen self.old m →
-            CanAllGo m.disk (uses_of self.old.channels m.channels) slots.now →
-            (slots.now ≢ [] → m.protected ≡ false) →
-            OnErr result (Stopped old.tracks (M.seen self.new.medium).content m.disk
-            (all_scratched m.disk slots.now) (uses_of self.old.channels m.channels)
-            × HasFailed old (M.seen self.new.medium)) }
+        ensures scratched { ClearsSlots M.seen slots.now self.old self.new result }
+        ensures stopped { StopsClearing M.seen slots.now self.old self.new result }
         ensures unguarded { AreUnguarded (M.seen self.old.medium).protected slots.now → IfErr result (λ t. t.code ≢ 26) }
-        ensures rest { self.new ≡ record self.old { medium = self.new.medium } }
-        ensures count { length self.new.channels ≡ 15 }
+        ensures only { OnlyMedium self.old self.new }
         ensures medium { KeepsElse result (M.seen self.old.medium) (M.seen self.new.medium) }
-        ensures outside { (m : Machine) → Stands M.seen self.old m →
-            CanAllGo m.disk (uses_of self.old.channels m.channels) slots.now →
-            KeepsOutside (M.seen self.old.medium) (M.seen self.new.medium) }
+        ensures outside { KeepsOutsideGoing M.seen slots.now self.old self.new }
     {
         'slots: for slot in slots {
             self.volume.scratch(*slot)?;

@@ -6,15 +6,13 @@ use cbm_machine::{Code, Status};
 use cbm_volume::Medium;
 
 impl<M: Medium> Dos<M> {
-    ghost use Rattle.std.specs.Prelude.{◌≡◌, ◌≤◌, ◌<◌, ℕ, false, true, Some, IsSome, slice_index_or};
+    ghost use Rattle.std.specs.Prelude.{◌≡◌, ◌≤◌, ◌<◌, ℕ, false, Some, IsSome};
     ghost use Rattle.cbm_machine.specs.Machines.{Machine};
     ghost use Rattle.cbm_machine.specs.Talking.{peek, taken, after_talk, talk_keeping_error, after_listen};
     ghost use Rattle.cbm_channel.specs.Grounds.{IsToldFor};
-    ghost use Rattle.cbm_channel.specs.Standing.{Stands, SameBut, Leads};
-    ghost use Rattle.cbm_channel.specs.Shown.{has_records_on, shown_by};
-    ghost use Rattle.cbm_machine.specs.Told.{behind_next};
-    ghost use Rattle.cbm_channel.specs.Taken.{IsTaken};
-    ghost use Rattle.cbm_channel.specs.declared.channel.Channel.TheVariants.{Closed};
+    ghost use Rattle.cbm_channel.specs.Standing.{Stands, Leads};
+    ghost use Rattle.cbm_channel.specs.Shown.{shown_by};
+    ghost use Rattle.cbm_channel.specs.Taken.{IsTakenOn, TakesOne};
 
     /// TALK: asks a channel to send; the status becomes 61 where it isn't open for reading, and 50 where the
     /// record of its place isn't there.
@@ -85,13 +83,8 @@ impl<M: Medium> Dos<M> {
     pub fn taken(&mut self, channel: u8)
         requires { channel ≤ 15 }
         ensures leads { Leads M.seen self.old self.new (taken channel) }
-        ensures status { channel ≡ 15 → self.new.told ≡ behind_next self.old.told }
-        ensures byte { channel < 15 →
-            IsTaken (M.seen self.old.medium).content (slice_index_or self.old.channels channel Closed)
-            (slice_index_or self.new.channels channel Closed) self.old.told self.new.told }
-        ensures others { SameBut channel self.old.channels self.new.channels }
-        // A fault that is reported where records are open has its ground in what the disk holds.
-        ensures ground { channel < 15 → has_records_on channel self.old ≡ true → IsToldFor M.seen self.old self.new }
+        ensures takes { TakesOne M.seen channel self.old self.new }
+        ensures byte { channel < 15 → IsTakenOn M.seen channel self.old self.new }
         ensures medium { self.new.medium ≡ self.old.medium }
         // After a byte that isn't the last (EOI) another one waits.
         ensures next { (n : ℕ) → shown_by channel self.old ≡ Some (n, false) → IsSome (shown_by channel self.new) }

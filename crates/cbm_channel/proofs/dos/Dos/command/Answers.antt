@@ -1,4 +1,4 @@
-use Rattle.std.proofs.Common.{◌≤◌, length, sym, ap, ◌∙◌, inl, refl}
+use Rattle.std.proofs.Common.{rules, ◌≤◌, length, sym, ap, ◌∙◌, inl, refl}
 use Rattle.cbm_machine.specs.Calls.{command_text, command}
 use Rattle.cbm_machine.specs.Machines.{answered, say}
 use Rattle.cbm_machine.specs.Running.{run}
@@ -13,7 +13,7 @@ returns-in-Ok-clause-goes g c = λ m s whole.
     let some : 1 ≤ length c.without_return-text.result.now = not_empty c.without_return-text.result.now (sym c.is_empty.ensures ∙ c.if-is_empty.false) in
     let is = sym c.parse_command.ensures ∙ c.in-Ok.is in
     let text = c.without_return-text.ensures in
-    let next = c.run.ensures.goes m (c.without_return-text.result.now, is) s
+    let next = c.run.ensures.goes (c.without_return-text.result.now, is) m s
     (λ e. whole (ap formats_of (ap command_of (sym text) ∙ is) ∙ e)) in
     (next.0, part_same _ 15 (λ n. answered n (run c.in-Ok.command n)) (command c.args.text.now) m next.0 (ap (λ w. command_text w m) (sym text) ∙ asked_for c.without_return-text.result.now c.in-Ok.command m some is) next.1, next.2)
 
@@ -27,15 +27,36 @@ returns-in-Err-clause-goes g c = λ m s whole.
       c.say.ensures.leads m s,
     )
 
--- ---- what lies outside the disk
+-- ---- what it leaves, on any disk
 
-pub returns-then-is_empty-clause-outside : goal.returns-then-is_empty-clause-outside
-returns-then-is_empty-clause-outside g c = λ other m s. outside_itself _ _ refl
+pub returns-then-is_empty-clause-leaves : goal.returns-then-is_empty-clause-leaves
+returns-then-is_empty-clause-leaves g c = record {
+  channels = (search rules);
+  others = (search rules);
+  ordered = (search rules);
+  medium = (search rules);
+  outside = λ other m s. outside_itself _ _ refl;
+  counted = (search rules);
+}
 
-pub returns-in-Ok-clause-outside : goal.returns-in-Ok-clause-outside
-returns-in-Ok-clause-outside g c = λ other m s.
-    let is = sym c.parse_command.ensures ∙ c.in-Ok.is in
-    c.run.ensures.outside (sym (ap formats_of (ap command_of (sym c.without_return-text.ensures) ∙ is)) ∙ other) m s
+pub returns-in-Ok-clause-leaves : goal.returns-in-Ok-clause-leaves
+returns-in-Ok-clause-leaves g c = record {
+  channels = (search rules);
+  others = (search rules);
+  ordered = (search rules);
+  medium = (search rules);
+  outside = λ other m s.
+      let is = sym c.parse_command.ensures ∙ c.in-Ok.is in
+      c.run.ensures.leaves.outside (sym (ap formats_of (ap command_of (sym c.without_return-text.ensures) ∙ is)) ∙ other) m s;
+  counted = (search rules);
+}
 
-pub returns-in-Err-clause-outside : goal.returns-in-Err-clause-outside
-returns-in-Err-clause-outside g c = λ other m s. outside_itself _ _ (ap g.M.Medium.seen c.say.ensures.medium)
+pub returns-in-Err-clause-leaves : goal.returns-in-Err-clause-leaves
+returns-in-Err-clause-leaves g c = record {
+  channels = (search rules);
+  others = (search rules);
+  ordered = (search rules);
+  medium = (search rules);
+  outside = λ other m s. outside_itself _ _ (ap g.M.Medium.seen c.say.ensures.medium);
+  counted = (search rules);
+}

@@ -1,4 +1,4 @@
-use Rattle.std.proofs.Common.{◌≡◌, ℕ, Bool, false, List, sym, ap, subst, ◌∙◌, inl, inr, refl}
+use Rattle.std.proofs.Common.{rules, ◌≡◌, ℕ, Bool, false, List, sym, ap, subst, ◌∙◌, inl, inr, refl}
 use Rattle.std.specs.Prelude.{MatchBool, ◌||◌, nat_lt, not}
 use Rattle.cbm_medium.specs.Seen.{HasFailed}
 use Rattle.cbm_file.specs.Padding.{before_filler}
@@ -24,7 +24,7 @@ use Rattle.cbm_channel.proofs.dos.Dos.copy_slots.Goals as goal
 
 -- the new file is there
 pub returns-in-Ok-true-clause-goes : goal.returns-in-Ok-true-clause-goes
-returns-in-Ok-true-clause-goes g c = λ m olds cut is s.
+returns-in-Ok-true-clause-goes g c = λ cut m olds is s.
     let here = c.self.inside in
     let old = g.M.Medium.seen here.volume in
     let new = g.M.Medium.seen c.copy.new.self in
@@ -50,7 +50,7 @@ returns-in-Ok-true-clause-goes g c = λ m olds cut is s.
 
 -- there is no room for it
 pub returns-in-Ok-false-clause-goes : goal.returns-in-Ok-false-clause-goes
-returns-in-Ok-false-clause-goes g c = λ m olds cut is s.
+returns-in-Ok-false-clause-goes g c = λ cut m olds is s.
     let here = c.self.inside in
     let old = g.M.Medium.seen here.volume in
     let new = g.M.Medium.seen c.copy.new.self in
@@ -70,7 +70,7 @@ returns-in-Ok-false-clause-goes g c = λ m olds cut is s.
 
 -- the disk is protected, or a write was refused
 pub returns-in-Err-clause-goes : goal.returns-in-Err-clause-goes
-returns-in-Err-clause-goes g c = λ m olds cut is s.
+returns-in-Err-clause-goes g c = λ cut m olds is s.
     let here = c.self.inside in
     let old = g.M.Medium.seen here.volume in
     let new = g.M.Medium.seen c.copy.new.self in
@@ -111,21 +111,25 @@ returns-in-Err-clause-refused g c = λ none.
     let fault = trouble_told c.in-Err.trouble c.from.result c.from.ensures in
     let z = sym fault ∙ sym (ap (λ t. is_fault_number (code_number t.status.code)) c.set.ensures.told) ∙ none in absurd (cc)
 
-pub returns-in-Ok-true-clause-spared : goal.returns-in-Ok-true-clause-spared
-returns-in-Ok-true-clause-spared g c = not_refused _ _ c.say.ensures.told refl
+pub returns-in-Ok-true-clause-leaves : goal.returns-in-Ok-true-clause-leaves
+returns-in-Ok-true-clause-leaves g c = record {
+  channels = (search rules);
+  spared = not_refused _ _ c.say.ensures.told refl;
+  medium = (search rules);
+  counted = (search rules);
+}
 
 -- 26 says that the disk is protected
-pub returns-in-Err-clause-spared : goal.returns-in-Err-clause-spared
-returns-in-Err-clause-spared g c = λ is.
-    ap (λ v. (g.M.Medium.seen v).content) c.set.ensures.medium
-    ∙ (c.in-Err.ensures.guarded (c.in-Err.ensures.only.guarded (refused_26 c.in-Err.trouble c.from.result _ c.from.ensures c.set.ensures.told is))
-    ∙ ap (λ k. (g.M.Medium.seen k.medium).content) c.self.view_is)
-
--- ---- what it makes of the medium, on any disk
-
-pub returns-in-Err-clause-counted : goal.returns-in-Err-clause-counted
-returns-in-Err-clause-counted g c =
-    counted_told g.M.Medium.seen c.args.self.now c.set.new.self c.self.inside.volume c.copy.new.self (ap (λ k. k.medium) c.self.view_is) c.set.ensures.medium c.copy.result c.in-Err.trouble c.in-Err.is c.copy.ensures.only (ap (λ x. x.status) c.set.ensures.told ∙ c.from.ensures)
+pub returns-in-Err-clause-leaves : goal.returns-in-Err-clause-leaves
+returns-in-Err-clause-leaves g c = record {
+  channels = (search rules);
+  spared = λ is.
+      ap (λ v. (g.M.Medium.seen v).content) c.set.ensures.medium
+      ∙ (c.in-Err.ensures.guarded (c.in-Err.ensures.only.guarded (refused_26 c.in-Err.trouble c.from.result _ c.from.ensures c.set.ensures.told is))
+      ∙ ap (λ k. (g.M.Medium.seen k.medium).content) c.self.view_is);
+  medium = (search rules);
+  counted = counted_told g.M.Medium.seen c.args.self.now c.set.new.self c.self.inside.volume c.copy.new.self (ap (λ k. k.medium) c.self.view_is) c.set.ensures.medium c.copy.result c.in-Err.trouble c.in-Err.is c.copy.ensures.only (ap (λ x. x.status) c.set.ensures.told ∙ c.from.ensures);
+}
 
 -- ---- what lies outside the disk
 

@@ -1,17 +1,18 @@
-use Rattle.std.proofs.Common.{◌≡◌, ◌≢◌, ◌≤◌, ℕ, List, length, take, sym, ap, subst, ◌∙◌, arith, inl, refl}
+use Rattle.std.proofs.Common.{rules, ◌≡◌, ◌≢◌, ◌≤◌, ℕ, List, length, take, sym, ap, subst, ◌∙◌, arith, inl, refl}
 use Rattle.std.specs.Prelude.{◌==◌, ◌&&◌, true, false, IfSome, MatchOption}
 use Rattle.std.proofs.lemmas.Bool.{eq-eqb}
 use Rattle.cbm_medium.specs.Seen.{HasFailed}
 use Rattle.cbm_machine.specs.Calls.{end_put}
 use Rattle.cbm_machine.specs.Closing.{without_text}
 use Rattle.cbm_machine.specs.Calls.{text_for, command}
-use Rattle.cbm_channel.specs.Commanded.{commands_change, ends_command, text_formats, end_formats, text_validates, end_validates}
+use Rattle.cbm_channel.specs.Commanded.{commands_change, ends_command, text_formats, end_formats, text_validates, end_validates, end_moves}
 use Rattle.cbm_channel.specs.Going.{Passes}
 use Rattle.cbm_channel.proofs.Asked.{below_15, store_command, store_records}
 use Rattle.cbm_channel.proofs.Goings.{record_ends, text_passes}
 use Rattle.cbm_channel.proofs.Texts.{some_kept, command_kept}
 use Rattle.cbm_channel.proofs.Ordered.{OrdersFor, ended_15, not_ended}
 use Rattle.cbm_channel.proofs.Troubles.{told_for}
+use Rattle.cbm_channel.proofs.Changed.{same_all}
 use Rattle.cbm_channel.proofs.Counted.{counted_from}
 use Rattle.cbm_channel.proofs.Outside.{outside_itself, outside_seen}
 use Rattle.cbm_channel.proofs.dos.Dos.end_put.Goals as goal
@@ -30,11 +31,11 @@ returns-then-channel-eq15-clause-goes g c = λ m s unfailed.
     store_command c.args.channel whole m some fifteen ∙ command_kept whole (without_text c.args.channel m) ∙ ap (λ x. command x (without_text c.args.channel m)) bytes in
     let next = c.command.ensures.goes (without_text c.args.channel m) (c.in-Some.ensures.leads m s)
     (λ e f. unfailed (ap (end_formats c.args.channel) c.in-Some.ensures.taken.0 ∙ (λ i. fifteen i && (number i && text_formats (kept i))) ∙ e)
-    (subst (λ v. HasFailed (g.M.Medium.seen v) (g.M.Medium.seen c.command.new.self.medium)) c.in-Some.ensures.medium f)) in
+    (subst (λ v. HasFailed (g.M.Medium.seen v) (g.M.Medium.seen c.command.new.self.medium)) c.in-Some.ensures.only.medium f)) in
     let passes = text_passes _ 15 c.args.channel (command c.bytes.result.now) (end_put c.args.channel) m next.0 law next.1 in (
       next.0,
       inl (subst (λ ch. Passes (HasFailed (g.M.Medium.seen c.args.self.now.medium) (g.M.Medium.seen c.command.new.self.medium)) ch (end_put c.args.channel) m next.0) (sym c.if-channel-eq15.true)
-          (subst (λ v. Passes (HasFailed (g.M.Medium.seen v) (g.M.Medium.seen c.command.new.self.medium)) 15 (end_put c.args.channel) m next.0) c.in-Some.ensures.medium passes)),
+          (subst (λ v. Passes (HasFailed (g.M.Medium.seen v) (g.M.Medium.seen c.command.new.self.medium)) 15 (end_put c.args.channel) m next.0) c.in-Some.ensures.only.medium passes)),
       next.2,
     )
 
@@ -46,7 +47,7 @@ returns-then-channel-eq15-clause-quiet g c = λ quiet none_open.
     let none : commands_change c.in-Some.text.1 ≡ false =
     sym (λ i. fifteen i && (number i && commands_change c.in-Some.text.1)) ∙ sym (ap (ends_command c.args.channel) c.in-Some.ensures.taken.0) ∙ quiet in
     let said = c.command.ensures.quiet (ap commands_change c.bytes.ensures ∙ none) in
-    (told_for g.M.Medium.seen c.args.self.now c.take_text.new.self c.command.new.self c.in-Some.ensures.medium c.in-Some.ensures.told said.0, said.1 ∙ c.in-Some.ensures.medium)
+    (told_for g.M.Medium.seen c.args.self.now c.take_text.new.self c.command.new.self c.in-Some.ensures.only.medium c.in-Some.ensures.only.told said.0, said.1 ∙ c.in-Some.ensures.only.medium)
 
 -- a text for records
 pub returns-else-channel-eq15-clause-goes : goal.returns-else-channel-eq15-clause-goes
@@ -57,51 +58,56 @@ returns-else-channel-eq15-clause-goes g c = λ m s unfailed.
     let other = below_15 c.args.channel (omega (arith, c.requires, c.if-channel-eq15.false)) in
     let next = c.write_record.ensures.goes (without_text c.args.channel m) whole (c.in-Some.ensures.leads m s) (c.bytes-else-channel-eq15.ensures ∙ has.kept) in (
       next.0,
-      record_ends _ _ c.args.channel m next.0 (λ f. subst (λ v. HasFailed (g.M.Medium.seen v) (g.M.Medium.seen c.write_record.new.self.medium)) c.in-Some.ensures.medium f) (store_records c.args.channel whole m some other) next.1,
+      record_ends _ _ c.args.channel m next.0 (λ f. subst (λ v. HasFailed (g.M.Medium.seen v) (g.M.Medium.seen c.write_record.new.self.medium)) c.in-Some.ensures.only.medium f) (store_records c.args.channel whole m some other) next.1,
       next.2,
     )
 
 -- ---- what is refused
 
-pub returns-then-channel-eq15-clause-spared : goal.returns-then-channel-eq15-clause-spared
-returns-then-channel-eq15-clause-spared g c = λ none_open is. c.command.ensures.spared is ∙ ap (λ v. (g.M.Medium.seen v).content) c.in-Some.ensures.medium
+pub returns-then-channel-eq15-clause-spares : goal.returns-then-channel-eq15-clause-spares
+returns-then-channel-eq15-clause-spares g c = record {
+  spared = λ none_open is. c.command.ensures.spared is ∙ ap (λ v. (g.M.Medium.seen v).content) c.in-Some.ensures.only.medium;
+  spared_records = (search rules);
+}
 
 -- ---- what V changes
 
-pub returns-then-channel-eq15-clause-ordered : goal.returns-then-channel-eq15-clause-ordered
-returns-then-channel-eq15-clause-ordered g c = λ v.
-    let fifteen : (c.args.channel == 15) ≡ true = eq-eqb c.args.channel 15 c.if-channel-eq15.true in
-    let number : (c.in-Some.text.0 == 15) ≡ true = eq-eqb c.in-Some.text.0 15 (c.in-Some.ensures.taken.1 ∙ c.if-channel-eq15.true) in
-    let is : text_validates c.in-Some.text.1 ≡ true =
-    sym (λ i. fifteen i && (number i && text_validates c.in-Some.text.1)) ∙ sym (ap (end_validates c.args.channel) c.in-Some.ensures.taken.0) ∙ v in
-    subst (λ k. OrdersFor g.M.Medium.seen k c.command.new.self.medium c.command.new.self.told) c.in-Some.ensures.medium (c.command.ensures.ordered (ap text_validates c.bytes.ensures ∙ is))
+pub returns-then-channel-eq15-clause-leaves : goal.returns-then-channel-eq15-clause-leaves
+returns-then-channel-eq15-clause-leaves g c = record {
+  channels = (search rules);
+  others = (search rules);
+  ordered = λ v.
+      let fifteen : (c.args.channel == 15) ≡ true = eq-eqb c.args.channel 15 c.if-channel-eq15.true in
+      let number : (c.in-Some.text.0 == 15) ≡ true = eq-eqb c.in-Some.text.0 15 (c.in-Some.ensures.taken.1 ∙ c.if-channel-eq15.true) in
+      let is : text_validates c.in-Some.text.1 ≡ true =
+      sym (λ i. fifteen i && (number i && text_validates c.in-Some.text.1)) ∙ sym (ap (end_validates c.args.channel) c.in-Some.ensures.taken.0) ∙ v in
+      subst (λ k. OrdersFor g.M.Medium.seen k c.command.new.self.medium c.command.new.self.told) c.in-Some.ensures.only.medium (c.command.ensures.leaves.ordered (ap text_validates c.bytes.ensures ∙ is));
+  medium = (search rules);
+  outside = λ other m s.
+      let fifteen : (c.args.channel == 15) ≡ true = eq-eqb c.args.channel 15 c.if-channel-eq15.true in
+      let number : (c.in-Some.text.0 == 15) ≡ true = eq-eqb c.in-Some.text.0 15 (c.in-Some.ensures.taken.1 ∙ c.if-channel-eq15.true) in
+      let none : text_formats c.in-Some.text.1 ≡ false = sym (λ i. fifteen i && (number i && text_formats c.in-Some.text.1)) ∙ sym (ap (end_formats c.args.channel) c.in-Some.ensures.taken.0) ∙ other in
+      outside_seen g.M.Medium.seen c.args.self.now.medium c.command.new.self.medium c.take_text.new.self.medium c.command.new.self.medium c.in-Some.ensures.only.medium refl (c.command.ensures.leaves.outside (ap text_formats c.bytes.ensures ∙ none) (without_text c.args.channel m) (c.in-Some.ensures.leads m s));
+  counted = counted_from g.M.Medium.seen c.args.self.now c.take_text.new.self c.command.new.self c.in-Some.ensures.only.medium c.command.ensures.leaves.counted;
+}
 
-pub returns-else-channel-eq15-clause-ordered : goal.returns-else-channel-eq15-clause-ordered
-returns-else-channel-eq15-clause-ordered g c = λ v. absurd (omega (arith, ended_15 c.args.channel c.args.self.now.text v, c.if-channel-eq15.false))
+pub returns-else-channel-eq15-clause-leaves : goal.returns-else-channel-eq15-clause-leaves
+returns-else-channel-eq15-clause-leaves g c = record {
+  channels = (search rules);
+  others = (search rules);
+  ordered = λ v. absurd (omega (arith, ended_15 c.args.channel c.args.self.now.text v, c.if-channel-eq15.false));
+  medium = (search rules);
+  outside = λ other m s. outside_seen g.M.Medium.seen c.args.self.now.medium c.write_record.new.self.medium c.take_text.new.self.medium c.write_record.new.self.medium c.in-Some.ensures.only.medium refl (c.write_record.ensures.leaves.outside (without_text c.args.channel m) (c.in-Some.ensures.leads m s));
+  counted = counted_from g.M.Medium.seen c.args.self.now c.take_text.new.self c.write_record.new.self c.in-Some.ensures.only.medium c.write_record.ensures.leaves.counted;
+}
 
-pub returns-in_default-clause-ordered : goal.returns-in_default-clause-ordered
-returns-in_default-clause-ordered g c = λ v.
-    absurd (not_ended c.args.channel c.args.self.now.text (subst (λ o. MatchOption o (IfSome c.args.self.now.text (λ t. t.0 ≢ c.args.channel)) (λ t. Unit {0})) c.in_default.is c.take_text.ensures.none) v)
-
--- ---- what it makes of the medium, on any disk
-
-pub returns-then-channel-eq15-clause-counted : goal.returns-then-channel-eq15-clause-counted
-returns-then-channel-eq15-clause-counted g c = counted_from g.M.Medium.seen c.args.self.now c.take_text.new.self c.command.new.self c.in-Some.ensures.medium c.command.ensures.counted
-
-pub returns-else-channel-eq15-clause-counted : goal.returns-else-channel-eq15-clause-counted
-returns-else-channel-eq15-clause-counted g c = counted_from g.M.Medium.seen c.args.self.now c.take_text.new.self c.write_record.new.self c.in-Some.ensures.medium c.write_record.ensures.counted
-
--- ---- what lies outside the disk
-
-pub returns-then-channel-eq15-clause-outside : goal.returns-then-channel-eq15-clause-outside
-returns-then-channel-eq15-clause-outside g c = λ other m s.
-    let fifteen : (c.args.channel == 15) ≡ true = eq-eqb c.args.channel 15 c.if-channel-eq15.true in
-    let number : (c.in-Some.text.0 == 15) ≡ true = eq-eqb c.in-Some.text.0 15 (c.in-Some.ensures.taken.1 ∙ c.if-channel-eq15.true) in
-    let none : text_formats c.in-Some.text.1 ≡ false = sym (λ i. fifteen i && (number i && text_formats c.in-Some.text.1)) ∙ sym (ap (end_formats c.args.channel) c.in-Some.ensures.taken.0) ∙ other in
-    outside_seen g.M.Medium.seen c.args.self.now.medium c.command.new.self.medium c.take_text.new.self.medium c.command.new.self.medium c.in-Some.ensures.medium refl (c.command.ensures.outside (ap text_formats c.bytes.ensures ∙ none) (without_text c.args.channel m) (c.in-Some.ensures.leads m s))
-
-pub returns-else-channel-eq15-clause-outside : goal.returns-else-channel-eq15-clause-outside
-returns-else-channel-eq15-clause-outside g c = λ other m s. outside_seen g.M.Medium.seen c.args.self.now.medium c.write_record.new.self.medium c.take_text.new.self.medium c.write_record.new.self.medium c.in-Some.ensures.medium refl (c.write_record.ensures.outside (without_text c.args.channel m) (c.in-Some.ensures.leads m s))
-
-pub returns-in_default-clause-outside : goal.returns-in_default-clause-outside
-returns-in_default-clause-outside g c = λ other m s. outside_itself _ _ (ap g.M.Medium.seen c.take_text.ensures.medium)
+pub returns-in_default-clause-leaves : goal.returns-in_default-clause-leaves
+returns-in_default-clause-leaves g c = record {
+  channels = (search rules);
+  others = same_all (end_moves c.args.channel c.args.self.now.text) c.args.self.now.channels c.take_text.new.self.channels c.take_text.ensures.only.channels;
+  ordered = λ v.
+      absurd (not_ended c.args.channel c.args.self.now.text (subst (λ o. MatchOption o (IfSome c.args.self.now.text (λ t. t.0 ≢ c.args.channel)) (λ t. Unit {0})) c.in_default.is c.take_text.ensures.none) v);
+  medium = (search rules);
+  outside = λ other m s. outside_itself _ _ (ap g.M.Medium.seen c.take_text.ensures.only.medium);
+  counted = (search rules);
+}

@@ -1,4 +1,4 @@
-use Rattle.std.proofs.Common.{sym, ◌∙◌, inl, refl}
+use Rattle.std.proofs.Common.{rules, sym, ◌∙◌, inl, refl}
 use Rattle.cbm_machine.specs.Machines.{channel}
 use Rattle.cbm_channel.specs.Going.{put_written, some_byte_put}
 use Rattle.cbm_channel.proofs.Stores.{fills, fills_none}
@@ -15,10 +15,18 @@ pub returns-else-is_empty-clause-goes : goal.returns-else-is_empty-clause-goes
 returns-else-is_empty-clause-goes g c = λ m s.
     (m, inl (sym (fills_none c.args.channel (channel m c.args.channel) m (sym (c.is_empty.ensures.value m s) ∙ c.if-is_empty.false))), s)
 
--- ---- what lies outside the disk
+-- ---- what it leaves, on any disk
 
-pub returns-then-is_empty-clause-outside : goal.returns-then-is_empty-clause-outside
-returns-then-is_empty-clause-outside g c = c.store.ensures.outside
+pub returns-then-is_empty-clause-leaves : goal.returns-then-is_empty-clause-leaves
+returns-then-is_empty-clause-leaves g c = record {
+  medium = (search rules);
+  outside = c.store.ensures.leaves.outside;
+  counted = (search rules);
+}
 
-pub returns-else-is_empty-clause-outside : goal.returns-else-is_empty-clause-outside
-returns-else-is_empty-clause-outside g c = λ m s. outside_itself _ _ refl
+pub returns-else-is_empty-clause-leaves : goal.returns-else-is_empty-clause-leaves
+returns-else-is_empty-clause-leaves g c = record {
+  medium = (search rules);
+  outside = λ m s. outside_itself _ _ refl;
+  counted = (search rules);
+}

@@ -1,4 +1,4 @@
-use Rattle.std.proofs.Common.{refl, sym, subst, arith, inl, inr, ap, ◌∙◌}
+use Rattle.std.proofs.Common.{rules, refl, sym, subst, arith, inl, inr, ap, ◌∙◌}
 use Rattle.std.specs.Prelude.{slice_index_or, slice_set}
 use Rattle.cbm_medium.specs.Seen.{HasFailed}
 use Rattle.cbm_machine.specs.Machines.{channel}
@@ -41,24 +41,26 @@ returns-in-Err-clause-goes g c = λ m s.
           (sym c.finish.ensures.is_closed) next.2)),
     )
 
--- ---- what it makes of the medium, on any disk
+-- ---- what it leaves, on any disk
 
-pub returns-in-Err-clause-counted : goal.returns-in-Err-clause-counted
-returns-in-Err-clause-counted g c =
-    counted_else g.M.Medium.seen c.args.self.now c.set.new.self c.self.inside.volume c.finish.new.volume (ap (λ k. k.medium) c.self.view_is) c.set.ensures.medium c.finish.result c.in-Err.trouble c.in-Err.is c.finish.ensures.only (ap (λ x. x.status) c.set.ensures.told ∙ c.from.ensures)
+pub returns-in-Err-clause-leaves : goal.returns-in-Err-clause-leaves
+returns-in-Err-clause-leaves g c = record {
+  medium = (search rules);
+  outside = λ m s.
+      let st = stood g.M.Medium.seen _ _ m c.self.view_is s in
+      let at = stands_at _ _ _ _ _ _ m c.args.channel c.index-self-channel.result c.requires c.self.invariant st in
+      let same = use_at (slice_index_or c.self.inside.channels c.args.channel c.index-self-channel.result) _ m.channels c.args.channel _ (omega (arith, c.requires, c.self.invariant.count)) refl in
+      outside_seen g.M.Medium.seen c.args.self.now.medium c.set.new.self.medium c.self.inside.volume c.finish.new.volume (ap (λ k. k.medium) c.self.view_is) c.set.ensures.medium ((c.finish.ensures.call m.disk (uses_of c.self.inside.channels m.channels) c.args.channel (channel m c.args.channel) st.holds same at).outside);
+  counted = counted_else g.M.Medium.seen c.args.self.now c.set.new.self c.self.inside.volume c.finish.new.volume (ap (λ k. k.medium) c.self.view_is) c.set.ensures.medium c.finish.result c.in-Err.trouble c.in-Err.is c.finish.ensures.only (ap (λ x. x.status) c.set.ensures.told ∙ c.from.ensures);
+}
 
--- ---- what lies outside the disk
-
-pub returns-in_default-clause-outside : goal.returns-in_default-clause-outside
-returns-in_default-clause-outside g c = λ m s.
-    let st = stood g.M.Medium.seen _ _ m c.self.view_is s in
-    let at = stands_at _ _ _ _ _ _ m c.args.channel c.index-self-channel.result c.requires c.self.invariant st in
-    let same = use_at (slice_index_or c.self.inside.channels c.args.channel c.index-self-channel.result) _ m.channels c.args.channel _ (omega (arith, c.requires, c.self.invariant.count)) refl in
-    outside_seen g.M.Medium.seen c.args.self.now.medium c.finish.new.volume c.self.inside.volume c.finish.new.volume (ap (λ k. k.medium) c.self.view_is) refl ((c.finish.ensures.call m.disk (uses_of c.self.inside.channels m.channels) c.args.channel (channel m c.args.channel) st.holds same at).outside)
-
-pub returns-in-Err-clause-outside : goal.returns-in-Err-clause-outside
-returns-in-Err-clause-outside g c = λ m s.
-    let st = stood g.M.Medium.seen _ _ m c.self.view_is s in
-    let at = stands_at _ _ _ _ _ _ m c.args.channel c.index-self-channel.result c.requires c.self.invariant st in
-    let same = use_at (slice_index_or c.self.inside.channels c.args.channel c.index-self-channel.result) _ m.channels c.args.channel _ (omega (arith, c.requires, c.self.invariant.count)) refl in
-    outside_seen g.M.Medium.seen c.args.self.now.medium c.set.new.self.medium c.self.inside.volume c.finish.new.volume (ap (λ k. k.medium) c.self.view_is) c.set.ensures.medium ((c.finish.ensures.call m.disk (uses_of c.self.inside.channels m.channels) c.args.channel (channel m c.args.channel) st.holds same at).outside)
+pub returns-in_default-clause-leaves : goal.returns-in_default-clause-leaves
+returns-in_default-clause-leaves g c = record {
+  medium = (search rules);
+  outside = λ m s.
+      let st = stood g.M.Medium.seen _ _ m c.self.view_is s in
+      let at = stands_at _ _ _ _ _ _ m c.args.channel c.index-self-channel.result c.requires c.self.invariant st in
+      let same = use_at (slice_index_or c.self.inside.channels c.args.channel c.index-self-channel.result) _ m.channels c.args.channel _ (omega (arith, c.requires, c.self.invariant.count)) refl in
+      outside_seen g.M.Medium.seen c.args.self.now.medium c.finish.new.volume c.self.inside.volume c.finish.new.volume (ap (λ k. k.medium) c.self.view_is) refl ((c.finish.ensures.call m.disk (uses_of c.self.inside.channels m.channels) c.args.channel (channel m c.args.channel) st.holds same at).outside);
+  counted = (search rules);
+}

@@ -1,4 +1,4 @@
-use Rattle.std.proofs.Common.{◌≡◌, ℕ, true, false, Err, sym, ap, subst, ◌∙◌, inl, refl}
+use Rattle.std.proofs.Common.{rules, ◌≡◌, ℕ, true, false, Err, sym, ap, subst, ◌∙◌, inl, refl}
 use Rattle.std.specs.Prelude.{OnOk}
 use Rattle.cbm_medium.specs.Seen.{HasFailed}
 use Rattle.cbm_file.specs.Changes.{new_disk}
@@ -62,24 +62,24 @@ returns-in-Err-clause-goes g c = λ whole m s.
 
 -- ---- what is refused
 
-pub returns-in-Ok-clause-spared : goal.returns-in-Ok-clause-spared
-returns-in-Ok-clause-spared g c = not_refused _ _ c.say-in-Ok.ensures.told refl
+pub returns-in-Ok-clause-leaves : goal.returns-in-Ok-clause-leaves
+returns-in-Ok-clause-leaves g c = record {
+  channels = (search rules);
+  spared = not_refused _ _ c.say-in-Ok.ensures.told refl;
+  medium = (search rules);
+  counted = let k = new_counts c.new_disk.result c.args.id (g.M.Medium.seen c.self.inside.volume) (g.M.Medium.seen c.new_disk.new.self) c.new_disk.ensures.only in
+      counted_well g.M.Medium.seen c.args.self.now c.say-in-Ok.new.self c.self.inside.volume c.new_disk.new.self (ap (λ k. k.medium) c.self.view_is) c.say-in-Ok.ensures.medium (subst (λ x. OnOk x ((g.M.Medium.seen c.new_disk.new.self).failures ≡ (g.M.Medium.seen c.self.inside.volume).failures)) c.in-Ok.is k.3);
+}
 
 -- 26 says that the disk is protected
-pub returns-in-Err-clause-spared : goal.returns-in-Err-clause-spared
-returns-in-Err-clause-spared g c = λ is.
-    ap (λ v. (g.M.Medium.seen v).content) c.set.ensures.medium
-    ∙ (c.in-Err.ensures.protected (new_refusal (Err c.in-Err.trouble) c.args.id (g.M.Medium.seen c.self.inside.volume) (g.M.Medium.seen c.new_disk.new.self) c.in-Err.ensures.only (refused_26 c.in-Err.trouble c.from.result _ c.from.ensures c.set.ensures.told is))
-    ∙ ap (λ k. (g.M.Medium.seen k.medium).content) c.self.view_is)
-
--- ---- what it makes of the medium, on any disk
-
-pub returns-in-Err-clause-counted : goal.returns-in-Err-clause-counted
-returns-in-Err-clause-counted g c =
-    let k = new_counts c.new_disk.result c.args.id (g.M.Medium.seen c.self.inside.volume) (g.M.Medium.seen c.new_disk.new.self) c.new_disk.ensures.only in
-    counted_by g.M.Medium.seen c.args.self.now c.set.new.self c.self.inside.volume c.new_disk.new.self (ap (λ k. k.medium) c.self.view_is) c.set.ensures.medium c.new_disk.result c.in-Err.trouble c.in-Err.is k.0 k.1 k.2 (ap (λ x. x.status) c.set.ensures.told ∙ c.from.ensures)
-
-pub returns-in-Ok-clause-counted : goal.returns-in-Ok-clause-counted
-returns-in-Ok-clause-counted g c =
-    let k = new_counts c.new_disk.result c.args.id (g.M.Medium.seen c.self.inside.volume) (g.M.Medium.seen c.new_disk.new.self) c.new_disk.ensures.only in
-    counted_well g.M.Medium.seen c.args.self.now c.say-in-Ok.new.self c.self.inside.volume c.new_disk.new.self (ap (λ k. k.medium) c.self.view_is) c.say-in-Ok.ensures.medium (subst (λ x. OnOk x ((g.M.Medium.seen c.new_disk.new.self).failures ≡ (g.M.Medium.seen c.self.inside.volume).failures)) c.in-Ok.is k.3)
+pub returns-in-Err-clause-leaves : goal.returns-in-Err-clause-leaves
+returns-in-Err-clause-leaves g c = record {
+  channels = (search rules);
+  spared = λ is.
+      ap (λ v. (g.M.Medium.seen v).content) c.set.ensures.medium
+      ∙ (c.in-Err.ensures.protected (new_refusal (Err c.in-Err.trouble) c.args.id (g.M.Medium.seen c.self.inside.volume) (g.M.Medium.seen c.new_disk.new.self) c.in-Err.ensures.only (refused_26 c.in-Err.trouble c.from.result _ c.from.ensures c.set.ensures.told is))
+      ∙ ap (λ k. (g.M.Medium.seen k.medium).content) c.self.view_is);
+  medium = (search rules);
+  counted = let k = new_counts c.new_disk.result c.args.id (g.M.Medium.seen c.self.inside.volume) (g.M.Medium.seen c.new_disk.new.self) c.new_disk.ensures.only in
+      counted_by g.M.Medium.seen c.args.self.now c.set.new.self c.self.inside.volume c.new_disk.new.self (ap (λ k. k.medium) c.self.view_is) c.set.ensures.medium c.new_disk.result c.in-Err.trouble c.in-Err.is k.0 k.1 k.2 (ap (λ x. x.status) c.set.ensures.told ∙ c.from.ensures);
+}

@@ -1,4 +1,4 @@
-use Rattle.std.proofs.Common.{◌≡◌, sym, ap, subst, ◌∙◌, arith, refl, inl, inr}
+use Rattle.std.proofs.Common.{rules, ◌≡◌, sym, ap, subst, ◌∙◌, arith, refl, inl, inr}
 use Rattle.std.specs.Prelude.{◌==◌, ◌&&◌, true}
 use Rattle.cbm_machine.specs.Codes.{code_number}
 use Rattle.cbm_machine.specs.Calls.{command}
@@ -24,7 +24,7 @@ returns-then-channel-eq15-clause-goes g c = λ m s whole.
     let next = c.command.ensures.goes m s
     (λ e. whole (ap (λ b. b && text_formats c.args.text.now) fifteen ∙ e)) in
     subst (λ parts. GoesFrom g.M.Medium.seen c.args.self.now c.command.new.self parts m) (sym (parts_command c.args.channel c.args.text.now fifteen))
-    (next.0, one_part (g.M.Medium.seen c.args.self.now.medium) (g.M.Medium.seen c.command.new.self.medium) 15 (command c.args.text.now) m next.0 c.command.ensures.medium.counted next.1, next.2)
+    (next.0, one_part (g.M.Medium.seen c.args.self.now.medium) (g.M.Medium.seen c.command.new.self.medium) 15 (command c.args.text.now) m next.0 c.command.ensures.leaves.medium.counted next.1, next.2)
 
 -- CLOSE, and then OPEN
 pub returns-in-Ok-clause-goes : goal.returns-in-Ok-clause-goes
@@ -32,9 +32,9 @@ returns-in-Ok-clause-goes g c = λ m s whole.
     let other = below_15 c.args.channel (omega (arith, c.requires, c.if-channel-eq15.false)) in
     let is = sym c.parse_open.ensures.value ∙ c.in-Ok.is in
     subst (λ parts. GoesFrom g.M.Medium.seen c.args.self.now c.begin.new.self parts m) (sym (parts_other c.args.channel c.args.text.now other))
-    (close_begin g.M.Medium.seen c.args.self.now c.close_one.new.self c.begin.new.self c.args.channel (close_one c.args.channel) (open_text c.args.channel c.args.text.now) m c.close_one.ensures.medium c.begin.ensures.medium c.close_one.ensures.goes s
+    (close_begin g.M.Medium.seen c.args.self.now c.close_one.new.self c.begin.new.self c.args.channel (close_one c.args.channel) (open_text c.args.channel c.args.text.now) m c.close_one.ensures.leaves.medium c.begin.ensures.leaves.medium c.close_one.ensures.goes s
     (λ n stands.
-    let next = c.begin.ensures.goes n (c.args.channel, c.args.text.now, is) c.close_one.ensures.closed stands in
+    let next = c.begin.ensures.goes n (c.args.channel, c.args.text.now, is) c.close_one.ensures.closes.closed stands in
     (next.0, part_same _ c.args.channel (begun_by c.args.channel c.in-Ok.opening) (open_text c.args.channel c.args.text.now) n next.0 (opened_text c.args.channel c.args.text.now c.in-Ok.opening n is) next.1, next.2)))
 
 pub returns-in-Err-clause-goes : goal.returns-in-Err-clause-goes
@@ -42,86 +42,113 @@ returns-in-Err-clause-goes g c = λ m s whole.
     let other = below_15 c.args.channel (omega (arith, c.requires, c.if-channel-eq15.false)) in
     let is = sym c.parse_open.ensures.value ∙ c.in-Err.is in
     subst (λ parts. GoesFrom g.M.Medium.seen c.args.self.now c.say.new.self parts m) (sym (parts_other c.args.channel c.args.text.now other))
-    (close_then g.M.Medium.seen c.args.self.now c.close_one.new.self c.say.new.self c.args.channel (close_one c.args.channel) (open_text c.args.channel c.args.text.now) m c.close_one.ensures.medium (ap g.M.Medium.seen c.say.ensures.medium) c.close_one.ensures.goes s
+    (close_then g.M.Medium.seen c.args.self.now c.close_one.new.self c.say.new.self c.args.channel (close_one c.args.channel) (open_text c.args.channel c.args.text.now) m c.close_one.ensures.leaves.medium (ap g.M.Medium.seen c.say.ensures.medium) c.close_one.ensures.goes s
     (λ n stands. moved _ _ _ _ _ _ _ _ (refused_text c.args.channel c.args.text.now c.in-Err.refusal n is ∙ ap (λ k. say k n) (sym c.from.ensures)) (c.say.ensures.leads n stands)))
 
 -- ---- what isn't for writing
 
-pub returns-in-Ok-clause-quiet : goal.returns-in-Ok-clause-quiet
-returns-in-Ok-clause-quiet g c = λ none reads.
-    let other = below_15 c.args.channel (omega (arith, c.requires, c.if-channel-eq15.false)) in
-    let is = sym c.parse_open.ensures.value ∙ c.in-Ok.is in
-    let before = c.close_one.ensures.quiet none in
-    let after = c.begin.ensures.quiet (writes_text c.args.channel c.args.text.now c.in-Ok.opening other is reads) in
-    (inr (inl (subst (λ v. HasGround g.M.Medium.seen v c.begin.new.self.told.status) before.1 after.0)), after.1 ∙ before.1)
+pub returns-in-Ok-clause-unwritten : goal.returns-in-Ok-clause-unwritten
+returns-in-Ok-clause-unwritten g c = record {
+  quiet = λ none reads.
+      let other = below_15 c.args.channel (omega (arith, c.requires, c.if-channel-eq15.false)) in
+      let is = sym c.parse_open.ensures.value ∙ c.in-Ok.is in
+      let before = c.close_one.ensures.quiet none in
+      let after = c.begin.ensures.quiet (writes_text c.args.channel c.args.text.now c.in-Ok.opening other is reads) in
+      (inr (inl (subst (λ v. HasGround g.M.Medium.seen v c.begin.new.self.told.status) before.1 after.0)), after.1 ∙ before.1);
+  spared = λ none is. c.begin.ensures.spared is ∙ ap (λ v. (g.M.Medium.seen v).content) (c.close_one.ensures.quiet none).1;
+}
 
-pub returns-in-Err-clause-quiet : goal.returns-in-Err-clause-quiet
-returns-in-Err-clause-quiet g c = λ none reads.
-    let before = c.close_one.ensures.quiet none in
-    (inr (inl (inl (ap (λ x. is_fault_number (code_number x.status.code)) c.say.ensures.told ∙ ap (λ x. is_fault_number (code_number x)) c.from.ensures ∙ own_refusal c.in-Err.refusal))), c.say.ensures.medium ∙ before.1)
+pub returns-in-Err-clause-unwritten : goal.returns-in-Err-clause-unwritten
+returns-in-Err-clause-unwritten g c = record {
+  quiet = λ none reads.
+      let before = c.close_one.ensures.quiet none in
+      (inr (inl (inl (ap (λ x. is_fault_number (code_number x.status.code)) c.say.ensures.told ∙ ap (λ x. is_fault_number (code_number x)) c.from.ensures ∙ own_refusal c.in-Err.refusal))), c.say.ensures.medium ∙ before.1);
+  spared = λ none is. ap (λ v. (g.M.Medium.seen v).content) (c.say.ensures.medium ∙ (c.close_one.ensures.quiet none).1);
+}
 
 -- ---- what is refused
 
-pub returns-then-channel-eq15-clause-spared : goal.returns-then-channel-eq15-clause-spared
-returns-then-channel-eq15-clause-spared g c = λ none. c.command.ensures.spared
-
-pub returns-in-Ok-clause-spared : goal.returns-in-Ok-clause-spared
-returns-in-Ok-clause-spared g c = λ none is. c.begin.ensures.spared is ∙ ap (λ v. (g.M.Medium.seen v).content) (c.close_one.ensures.quiet none).1
-
-pub returns-in-Err-clause-spared : goal.returns-in-Err-clause-spared
-returns-in-Err-clause-spared g c = λ none is. ap (λ v. (g.M.Medium.seen v).content) (c.say.ensures.medium ∙ (c.close_one.ensures.quiet none).1)
+pub returns-then-channel-eq15-clause-unwritten : goal.returns-then-channel-eq15-clause-unwritten
+returns-then-channel-eq15-clause-unwritten g c = record {
+  quiet = (search rules);
+  spared = λ none. c.command.ensures.spared;
+}
 
 -- ---- what it makes of the medium, on any disk
 
-pub returns-then-channel-eq15-clause-counted : goal.returns-then-channel-eq15-clause-counted
-returns-then-channel-eq15-clause-counted g c = λ is. c.command.ensures.counted
+pub returns-then-channel-eq15-clause-command : goal.returns-then-channel-eq15-clause-command
+returns-then-channel-eq15-clause-command g c = λ is. record {
+  channels = (search rules);
+  places = (search rules);
+  counted = c.command.ensures.leaves.counted;
+}
 
-pub returns-then-channel-eq15-clause-closes : goal.returns-then-channel-eq15-clause-closes
-returns-then-channel-eq15-clause-closes g c = λ lt. absurd (omega (arith, lt, c.if-channel-eq15.true))
+pub returns-then-channel-eq15-clause-channel : goal.returns-then-channel-eq15-clause-channel
+returns-then-channel-eq15-clause-channel g c = λ lt. absurd (omega (arith, lt, c.if-channel-eq15.true))
 
-pub returns-in-Ok-clause-counted : goal.returns-in-Ok-clause-counted
-returns-in-Ok-clause-counted g c = λ is. absurd (c.if-channel-eq15.false is)
+pub returns-in-Ok-clause-command : goal.returns-in-Ok-clause-command
+returns-in-Ok-clause-command g c = λ is. absurd (c.if-channel-eq15.false is)
 
-pub returns-in-Ok-clause-closes : goal.returns-in-Ok-clause-closes
-returns-in-Ok-clause-closes g c = λ lt.
+pub returns-in-Ok-clause-channel : goal.returns-in-Ok-clause-channel
+returns-in-Ok-clause-channel g c = λ lt.
     let other = below_15 c.args.channel (omega (arith, c.requires, c.if-channel-eq15.false)) in
     let is = sym c.parse_open.ensures.value ∙ c.in-Ok.is in
     record {
-      closed = c.close_one.new.self;
-      is_closed = c.close_one.ensures.closed;
-      others = c.close_one.ensures.others;
-      close_counted = c.close_one.ensures.counted;
-      quiet = λ reads. c.begin.ensures.quiet (writes_text c.args.channel c.args.text.now c.in-Ok.opening other is reads);
-      spared = c.begin.ensures.spared;
-      counted = c.begin.ensures.counted;
+      others = (search rules);
+      refused = (search rules);
+      closes = record {
+        closed = c.close_one.new.self;
+        is_closed = c.close_one.ensures.closes.closed;
+        others = c.close_one.ensures.closes.others;
+        close_counted = c.close_one.ensures.leaves.counted;
+        quiet = λ reads. c.begin.ensures.quiet (writes_text c.args.channel c.args.text.now c.in-Ok.opening other is reads);
+        spared = c.begin.ensures.spared;
+        counted = c.begin.ensures.leaves.counted;
+      };
     }
 
-pub returns-in-Err-clause-counted : goal.returns-in-Err-clause-counted
-returns-in-Err-clause-counted g c = λ is. absurd (c.if-channel-eq15.false is)
+pub returns-in-Err-clause-command : goal.returns-in-Err-clause-command
+returns-in-Err-clause-command g c = λ is. absurd (c.if-channel-eq15.false is)
 
-pub returns-in-Err-clause-closes : goal.returns-in-Err-clause-closes
-returns-in-Err-clause-closes g c = λ lt. record {
-  closed = c.close_one.new.self;
-  is_closed = c.close_one.ensures.closed;
-  others = c.close_one.ensures.others;
-  close_counted = c.close_one.ensures.counted;
-  quiet = λ reads. (inl (ap (λ x. is_fault_number (code_number x.status.code)) c.say.ensures.told ∙ ap (λ x. is_fault_number (code_number x)) c.from.ensures ∙ own_refusal c.in-Err.refusal), c.say.ensures.medium);
-  spared = λ is. ap (λ v. (g.M.Medium.seen v).content) c.say.ensures.medium;
-  counted = inl (ap (λ k. (g.M.Medium.seen k).failures) c.say.ensures.medium);
+pub returns-in-Err-clause-channel : goal.returns-in-Err-clause-channel
+returns-in-Err-clause-channel g c = λ lt. record {
+  others = (search rules);
+  refused = (search rules);
+  closes = record {
+    closed = c.close_one.new.self;
+    is_closed = c.close_one.ensures.closes.closed;
+    others = c.close_one.ensures.closes.others;
+    close_counted = c.close_one.ensures.leaves.counted;
+    quiet = λ reads. (inl (ap (λ x. is_fault_number (code_number x.status.code)) c.say.ensures.told ∙ ap (λ x. is_fault_number (code_number x)) c.from.ensures ∙ own_refusal c.in-Err.refusal), c.say.ensures.medium);
+    spared = λ is. ap (λ v. (g.M.Medium.seen v).content) c.say.ensures.medium;
+    counted = inl (ap (λ k. (g.M.Medium.seen k).failures) c.say.ensures.medium);
+  };
 }
 
--- ---- what lies outside the disk
+-- ---- what it leaves, on any disk
 
-pub returns-then-channel-eq15-clause-outside : goal.returns-then-channel-eq15-clause-outside
-returns-then-channel-eq15-clause-outside g c = λ other.
-    let fifteen : (c.args.channel == 15) ≡ true = eq-eqb c.args.channel 15 c.if-channel-eq15.true in
-    c.command.ensures.outside (sym (ap (λ b. b && text_formats c.args.text.now) fifteen) ∙ other)
+pub returns-then-channel-eq15-clause-leaves : goal.returns-then-channel-eq15-clause-leaves
+returns-then-channel-eq15-clause-leaves g c = record {
+  ordered = (search rules);
+  medium = (search rules);
+  outside = λ other.
+      let fifteen : (c.args.channel == 15) ≡ true = eq-eqb c.args.channel 15 c.if-channel-eq15.true in
+      c.command.ensures.leaves.outside (sym (ap (λ b. b && text_formats c.args.text.now) fifteen) ∙ other);
+}
 
-pub returns-in-Ok-clause-outside : goal.returns-in-Ok-clause-outside
-returns-in-Ok-clause-outside g c = λ other m s.
-    let is = sym c.parse_open.ensures.value ∙ c.in-Ok.is in
-    let x = c.close_one.ensures.goes m s in
-    outside_then (g.M.Medium.seen c.args.self.now.medium) (g.M.Medium.seen c.close_one.new.self.medium) (g.M.Medium.seen c.begin.new.self.medium) (c.close_one.ensures.outside m s) (c.begin.ensures.outside x.0 (c.args.channel, c.args.text.now, is) x.2)
+pub returns-in-Ok-clause-leaves : goal.returns-in-Ok-clause-leaves
+returns-in-Ok-clause-leaves g c = record {
+  ordered = (search rules);
+  medium = (search rules);
+  outside = λ other m s.
+      let is = sym c.parse_open.ensures.value ∙ c.in-Ok.is in
+      let x = c.close_one.ensures.goes m s in
+      outside_then (g.M.Medium.seen c.args.self.now.medium) (g.M.Medium.seen c.close_one.new.self.medium) (g.M.Medium.seen c.begin.new.self.medium) (c.close_one.ensures.leaves.outside m s) (c.begin.ensures.outside (c.args.channel, c.args.text.now, is) x.0 x.2);
+}
 
-pub returns-in-Err-clause-outside : goal.returns-in-Err-clause-outside
-returns-in-Err-clause-outside g c = λ other m s. outside_seen g.M.Medium.seen c.args.self.now.medium c.say.new.self.medium c.args.self.now.medium c.close_one.new.self.medium refl c.say.ensures.medium (c.close_one.ensures.outside m s)
+pub returns-in-Err-clause-leaves : goal.returns-in-Err-clause-leaves
+returns-in-Err-clause-leaves g c = record {
+  ordered = (search rules);
+  medium = (search rules);
+  outside = λ other m s. outside_seen g.M.Medium.seen c.args.self.now.medium c.say.new.self.medium c.args.self.now.medium c.close_one.new.self.medium refl c.say.ensures.medium (c.close_one.ensures.leaves.outside m s);
+}

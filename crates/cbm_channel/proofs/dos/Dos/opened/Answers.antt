@@ -1,4 +1,4 @@
-use Rattle.std.proofs.Common.{◌≡◌, [], refl, sym, ap, ◌∙◌, subst}
+use Rattle.std.proofs.Common.{rules, ◌≡◌, [], refl, sym, ap, ◌∙◌, subst}
 use Rattle.std.specs.Prelude.{Some, false, true, Ok, replicate}
 use Rattle.std.proofs.lemmas.Result.{err_from_is_err_and}
 use Rattle.cbm_medium.specs.Place.{sector_count}
@@ -32,206 +32,373 @@ use Rattle.cbm_channel.proofs.Outside.{outside_itself, outside_same, outside_see
 use Rattle.cbm_channel.proofs.dos.Dos.opened.Goals as goal
 
 -- a listing
-pub returns-in_err-list-in-ReadListing-clause-stopped : goal.returns-in_err-list-in-ReadListing-clause-stopped
-returns-in_err-list-in-ReadListing-clause-stopped g c = λ m p h s. absurd (c.in_err-list-in-ReadListing.ensures.whole m.disk (means_of _ _ _ _ _ _ m (stood g.M.Medium.seen _ _ m c.self.view_is s)))
+pub returns-in_err-list-in-ReadListing-clause-opens : goal.returns-in_err-list-in-ReadListing-clause-opens
+returns-in_err-list-in-ReadListing-clause-opens g c = record {
+  opened = (search rules);
+  stopped = λ m p h s. absurd (c.in_err-list-in-ReadListing.ensures.whole m.disk (means_of _ _ _ _ _ _ m (stood g.M.Medium.seen _ _ m c.self.view_is s)));
+  outside = λ m p h s. outside_itself _ _ refl;
+}
 
 -- a file that is read
-pub returns-in_err-reader-in-ReadFile-clause-stopped : goal.returns-in_err-reader-in-ReadFile-clause-stopped
-returns-in_err-reader-in-ReadFile-clause-stopped g c = λ m p h s.
-    let x = readable _ _ m p c.args.plan c.in-ReadFile.found (subst (λ k. PlannedAs (g.M.Medium.seen k.medium).tracks (g.M.Medium.seen k.medium).content m (Ok p) (Ok c.args.plan)) (sym c.self.view_is) h) c.in-ReadFile.is in
-    absurd (c.in_err-reader-in-ReadFile.ensures.means m.disk x.0 (bytes_in (body_at m.disk x.0)) (means_of _ _ _ _ _ _ m (stood g.M.Medium.seen _ _ m c.self.view_is s)) x.2.stands x.2.has)
+pub returns-in_err-reader-in-ReadFile-clause-opens : goal.returns-in_err-reader-in-ReadFile-clause-opens
+returns-in_err-reader-in-ReadFile-clause-opens g c = record {
+  opened = (search rules);
+  stopped = λ m p h s.
+      let x = readable _ _ m p c.args.plan c.in-ReadFile.found (subst (λ k. PlannedAs (g.M.Medium.seen k.medium).tracks (g.M.Medium.seen k.medium).content m (Ok p) (Ok c.args.plan)) (sym c.self.view_is) h) c.in-ReadFile.is in
+      absurd (c.in_err-reader-in-ReadFile.ensures.means m.disk x.0 (bytes_in (body_at m.disk x.0)) (means_of _ _ _ _ _ _ m (stood g.M.Medium.seen _ _ m c.self.view_is s)) x.2.stands x.2.has);
+  outside = λ m p h s. outside_itself _ _ refl;
+}
 
 -- the file's chain breaks off at its first block
-pub returns-in_err-reader-in-ReadFile-clause-shown : goal.returns-in_err-reader-in-ReadFile-clause-shown
-returns-in_err-reader-in-ReadFile-clause-shown g c = λ reads from.
-    let there = read_from g.M.Medium.seen c.args.self.now.medium c.args.plan c.in-ReadFile.found c.in-ReadFile.is from in
-    let broken = subst (λ v. held_from (geometry_of (g.M.Medium.seen v).tracks (g.M.Medium.seen v).content) (g.M.Medium.seen v).content (sector_count (geometry_of (g.M.Medium.seen v).tracks (g.M.Medium.seen v).content)) (first_block c.in-ReadFile.found.entry) ≡ record { bytes = []; trouble = Some c.in_err-reader-in-ReadFile.field-0.0 }) (ap (λ k. k.medium) c.self.view_is) c.in_err-reader-in-ReadFile.ensures.err in
-    let shows = ShowsTrouble (geometry_of (g.M.Medium.seen c.args.self.now.medium).tracks (g.M.Medium.seen c.args.self.now.medium).content) (g.M.Medium.seen c.args.self.now.medium).content in
-    passed_on c.from_residual-in_err-reader-in-ReadFile.result c.in_err-reader-in-ReadFile.field-0.0 shows c.from_residual-in_err-reader-in-ReadFile.ensures.1 (entry_broken _ _ c.in-ReadFile.found.entry _ there broken)
+pub returns-in_err-reader-in-ReadFile-clause-writes : goal.returns-in_err-reader-in-ReadFile-clause-writes
+returns-in_err-reader-in-ReadFile-clause-writes g c = record {
+  quiet = (search rules);
+  shown = λ reads from.
+      let there = read_from g.M.Medium.seen c.args.self.now.medium c.args.plan c.in-ReadFile.found c.in-ReadFile.is from in
+      let broken = subst (λ v. held_from (geometry_of (g.M.Medium.seen v).tracks (g.M.Medium.seen v).content) (g.M.Medium.seen v).content (sector_count (geometry_of (g.M.Medium.seen v).tracks (g.M.Medium.seen v).content)) (first_block c.in-ReadFile.found.entry) ≡ record { bytes = []; trouble = Some c.in_err-reader-in-ReadFile.field-0.0 }) (ap (λ k. k.medium) c.self.view_is) c.in_err-reader-in-ReadFile.ensures.err in
+      let shows = ShowsTrouble (geometry_of (g.M.Medium.seen c.args.self.now.medium).tracks (g.M.Medium.seen c.args.self.now.medium).content) (g.M.Medium.seen c.args.self.now.medium).content in
+      passed_on c.from_residual-in_err-reader-in-ReadFile.result c.in_err-reader-in-ReadFile.field-0.0 shows c.from_residual-in_err-reader-in-ReadFile.ensures.1 (entry_broken _ _ c.in-ReadFile.found.entry _ there broken);
+  kept = (search rules);
+  guarded = (search rules);
+}
 
-pub returns-in_ok-reader-in-ReadFile-clause-opened : goal.returns-in_ok-reader-in-ReadFile-clause-opened
-returns-in_ok-reader-in-ReadFile-clause-opened g c = λ m p ch h s idle.
-    let x = readable _ _ m p c.args.plan c.in-ReadFile.found (subst (λ k. PlannedAs (g.M.Medium.seen k.medium).tracks (g.M.Medium.seen k.medium).content m (Ok p) (Ok c.args.plan)) (sym c.self.view_is) h) c.in-ReadFile.is in
-    let st = stood g.M.Medium.seen _ _ m c.self.view_is s in
-    let disk = ap (disk_opened m.disk) x.1 in (
-      (bytes_in (body_at m.disk x.0), file_opens m.disk p x.0 c.in-ReadFile.found.slot x.1 x.2.number),
-      tt,
-      subst (λ d. HoldsNow (g.M.Medium.seen c.args.self.now.medium).tracks (g.M.Medium.seen c.args.self.now.medium).content d (with_use (uses_of c.args.self.now.channels m.channels) ch (use_of (File c.in-ReadFile.found.slot c.in_ok-reader-in-ReadFile.reader) (opened_by m.disk p)))) (sym disk)
-          (subst (λ k. HoldsNow (g.M.Medium.seen k.medium).tracks (g.M.Medium.seen k.medium).content m.disk (with_use (uses_of k.channels m.channels) ch (use_of (File c.in-ReadFile.found.slot c.in_ok-reader-in-ReadFile.reader) (opened_by m.disk p)))) c.self.view_is
-          (reads_as (g.M.Medium.seen c.self.inside.volume).tracks (g.M.Medium.seen c.self.inside.volume).content m.disk p x.0 c.in-ReadFile.found.slot c.in_ok-reader-in-ReadFile.reader (uses_of c.self.inside.channels m.channels) ch x.1 x.2.number
-          (c.in_ok-reader-in-ReadFile.ensures.reads m.disk (uses_of c.self.inside.channels m.channels) ch x.0 (bytes_in (body_at m.disk x.0)) st.holds x.2.stands x.2.has
-          (λ k. unwritten_at x.0 c.self.inside.channels m.channels k st.each (λ j. none_passes (machine.writes x.0) refl m.channels j x.2.unwritten))))),
-    )
+pub returns-in_ok-reader-in-ReadFile-clause-opens : goal.returns-in_ok-reader-in-ReadFile-clause-opens
+returns-in_ok-reader-in-ReadFile-clause-opens g c = record {
+  opened = λ m p ch h s idle.
+      let x = readable _ _ m p c.args.plan c.in-ReadFile.found (subst (λ k. PlannedAs (g.M.Medium.seen k.medium).tracks (g.M.Medium.seen k.medium).content m (Ok p) (Ok c.args.plan)) (sym c.self.view_is) h) c.in-ReadFile.is in
+      let st = stood g.M.Medium.seen _ _ m c.self.view_is s in
+      let disk = ap (disk_opened m.disk) x.1 in (
+        (bytes_in (body_at m.disk x.0), file_opens m.disk p x.0 c.in-ReadFile.found.slot x.1 x.2.number),
+        tt,
+        subst (λ d. HoldsNow (g.M.Medium.seen c.args.self.now.medium).tracks (g.M.Medium.seen c.args.self.now.medium).content d (with_use (uses_of c.args.self.now.channels m.channels) ch (use_of (File c.in-ReadFile.found.slot c.in_ok-reader-in-ReadFile.reader) (opened_by m.disk p)))) (sym disk)
+            (subst (λ k. HoldsNow (g.M.Medium.seen k.medium).tracks (g.M.Medium.seen k.medium).content m.disk (with_use (uses_of k.channels m.channels) ch (use_of (File c.in-ReadFile.found.slot c.in_ok-reader-in-ReadFile.reader) (opened_by m.disk p)))) c.self.view_is
+            (reads_as (g.M.Medium.seen c.self.inside.volume).tracks (g.M.Medium.seen c.self.inside.volume).content m.disk p x.0 c.in-ReadFile.found.slot c.in_ok-reader-in-ReadFile.reader (uses_of c.self.inside.channels m.channels) ch x.1 x.2.number
+            (c.in_ok-reader-in-ReadFile.ensures.reads m.disk (uses_of c.self.inside.channels m.channels) ch x.0 (bytes_in (body_at m.disk x.0)) st.holds x.2.stands x.2.has
+            (λ k. unwritten_at x.0 c.self.inside.channels m.channels k st.each (λ j. none_passes (machine.writes x.0) refl m.channels j x.2.unwritten))))),
+      );
+  stopped = (search rules);
+  outside = λ m p h s. outside_itself _ _ refl;
+}
 
 -- a new file
-pub returns-in_default-clause-opened : goal.returns-in_default-clause-opened
-returns-in_default-clause-opened g c = λ m p ch h s idle.
-    let st = stood g.M.Medium.seen _ _ m c.self.view_is s in
-    let x = writable _ _ m p c.args.plan c.in-WriteFile.kind c.in-WriteFile.name h c.in-WriteFile.is in
-    let none = match_none _ _ _ c.in_default.not-Some ((c.in_ok-writer-in-WriteFile.ensures.call m.disk (uses_of c.self.inside.channels m.channels) st.holds).done ch
-    (subst (λ k. uses_of k.channels m.channels ch ≡ Idle) (sym c.self.view_is) idle) (not_del _ x.1.kept) x.1.plain) in
-    absurd (has_place m.disk x.1.block x.1.place none.0)
+pub returns-in_default-clause-opens : goal.returns-in_default-clause-opens
+returns-in_default-clause-opens g c = record {
+  opened = λ m p ch h s idle.
+      let st = stood g.M.Medium.seen _ _ m c.self.view_is s in
+      let x = writable _ _ m p c.args.plan c.in-WriteFile.kind c.in-WriteFile.name h c.in-WriteFile.is in
+      let none = match_none _ _ _ c.in_default.not-Some ((c.in_ok-writer-in-WriteFile.ensures.call m.disk (uses_of c.self.inside.channels m.channels) st.holds).done ch
+      (subst (λ k. uses_of k.channels m.channels ch ≡ Idle) (sym c.self.view_is) idle) (not_del _ x.1.kept) x.1.plain) in
+      absurd (has_place m.disk x.1.block x.1.place none.0);
+  stopped = (search rules);
+  outside = λ m p h s.
+      let st = stood g.M.Medium.seen _ _ m c.self.view_is s in
+      let uses = uses_of c.self.inside.channels m.channels in
+      let idle : uses 15 ≡ Idle = idle_past c.self.inside.channels m.channels c.self.invariant.count in
+      let x = writable _ _ m p c.args.plan c.in-WriteFile.kind c.in-WriteFile.name h c.in-WriteFile.is in
+      let call = c.begin_write.ensures.call m.disk uses st.holds in
+      outside_seen g.M.Medium.seen c.args.self.now.medium c.begin_write.new.self c.self.inside.volume c.begin_write.new.self (ap (λ k. k.medium) c.self.view_is) refl
+      (begun_outside c.begin_write.result (g.M.Medium.seen c.self.inside.volume) (g.M.Medium.seen c.begin_write.new.self) m.disk _ uses 15 _ _ _ _ _ c.begin_write.ensures.only refl st.holds (begun_write c.begin_write.result uses c.in-WriteFile.kind _ 15 idle (not_del _ x.1.kept) x.1.plain call.done)
+      (cut_sized c.begin_write.result _ _ m.disk _ uses (on_both c.begin_write.result _ _ _ (not_del _ x.1.kept) x.1.plain call.stopped)) (grown_total m.disk));
+}
 
-pub returns-in-Some-clause-opened : goal.returns-in-Some-clause-opened
-returns-in-Some-clause-opened g c = λ m p ch h s idle.
-    let st = stood g.M.Medium.seen _ _ m c.self.view_is s in
-    let x = writable _ _ m p c.args.plan c.in-WriteFile.kind c.in-WriteFile.name h c.in-WriteFile.is in
-    let begun = match_some _ _ _ _ c.in-Some.is ((c.in_ok-writer-in-WriteFile.ensures.call m.disk (uses_of c.self.inside.channels m.channels) st.holds).done ch
-    (subst (λ k. uses_of k.channels m.channels ch ≡ Idle) (sym c.self.view_is) idle) (not_del _ x.1.kept) x.1.plain) in
-    let disk = ap (disk_opened m.disk) x.0 ∙ ap (λ n. with_file m.disk (unclosed c.in-WriteFile.kind n) 1) (sym x.1.cut ∙ ap before_filler (sym c.bytes.ensures.value)) in
-    subst (λ k. IsOpened (g.M.Medium.seen k.medium).tracks (g.M.Medium.seen c.begin_write.new.self).content m ch p (uses_of k.channels m.channels) (Some (code.Writing c.in-Some.writer false))) c.self.view_is
-    (begins_as _ _ m p _ (uses_of c.self.inside.channels m.channels) ch (new_slot m.disk) false [] 1 c.in-Some.writer (ap (opened_by m.disk) x.0) disk begun)
+pub returns-in-Some-clause-opens : goal.returns-in-Some-clause-opens
+returns-in-Some-clause-opens g c = record {
+  opened = λ m p ch h s idle.
+      let st = stood g.M.Medium.seen _ _ m c.self.view_is s in
+      let x = writable _ _ m p c.args.plan c.in-WriteFile.kind c.in-WriteFile.name h c.in-WriteFile.is in
+      let begun = match_some _ _ _ _ c.in-Some.is ((c.in_ok-writer-in-WriteFile.ensures.call m.disk (uses_of c.self.inside.channels m.channels) st.holds).done ch
+      (subst (λ k. uses_of k.channels m.channels ch ≡ Idle) (sym c.self.view_is) idle) (not_del _ x.1.kept) x.1.plain) in
+      let disk = ap (disk_opened m.disk) x.0 ∙ ap (λ n. with_file m.disk (unclosed c.in-WriteFile.kind n) 1) (sym x.1.cut ∙ ap before_filler (sym c.bytes.ensures.value)) in
+      subst (λ k. IsOpened (g.M.Medium.seen k.medium).tracks (g.M.Medium.seen c.begin_write.new.self).content m ch p (uses_of k.channels m.channels) (Some (code.Writing c.in-Some.writer false))) c.self.view_is
+      (begins_as _ _ m p _ (uses_of c.self.inside.channels m.channels) ch (new_slot m.disk) false [] 1 c.in-Some.writer (ap (opened_by m.disk) x.0) disk begun);
+  stopped = (search rules);
+  outside = λ m p h s.
+      let st = stood g.M.Medium.seen _ _ m c.self.view_is s in
+      let uses = uses_of c.self.inside.channels m.channels in
+      let idle : uses 15 ≡ Idle = idle_past c.self.inside.channels m.channels c.self.invariant.count in
+      let x = writable _ _ m p c.args.plan c.in-WriteFile.kind c.in-WriteFile.name h c.in-WriteFile.is in
+      let call = c.begin_write.ensures.call m.disk uses st.holds in
+      outside_seen g.M.Medium.seen c.args.self.now.medium c.begin_write.new.self c.self.inside.volume c.begin_write.new.self (ap (λ k. k.medium) c.self.view_is) refl
+      (begun_outside c.begin_write.result (g.M.Medium.seen c.self.inside.volume) (g.M.Medium.seen c.begin_write.new.self) m.disk _ uses 15 _ _ _ _ _ c.begin_write.ensures.only refl st.holds (begun_write c.begin_write.result uses c.in-WriteFile.kind _ 15 idle (not_del _ x.1.kept) x.1.plain call.done)
+      (cut_sized c.begin_write.result _ _ m.disk _ uses (on_both c.begin_write.result _ _ _ (not_del _ x.1.kept) x.1.plain call.stopped)) (grown_total m.disk));
+}
 
 -- a file that is appended to
-pub returns-in_err-writer-in-AppendFile-clause-stopped : goal.returns-in_err-writer-in-AppendFile-clause-stopped
-returns-in_err-writer-in-AppendFile-clause-stopped g c = λ m p h s.
-    let st = stood g.M.Medium.seen _ _ m c.self.view_is s in
-    let x = appendable _ _ m p c.args.plan c.in-AppendFile.found (subst (λ k. PlannedAs (g.M.Medium.seen k.medium).tracks (g.M.Medium.seen k.medium).content m (Ok p) (Ok c.args.plan)) (sym c.self.view_is) h) c.in-AppendFile.is in
-    let can = can_be c.in-AppendFile.found.slot c.self.inside.channels m x.1.file st.each x.1.in_slot x.1.closed x.1.plain x.1.unused in
-    let failed = failed_by (g.M.Medium.seen c.self.inside.volume) (g.M.Medium.seen c.begin_append.new.self) c.in_err-writer-in-AppendFile.field-0.0 m.protected st.same_protection x.1.unprotected
-    (c.in_err-writer-in-AppendFile.ensures.begun m.disk (uses_of c.self.inside.channels m.channels) st.holds x.1.file can x.1.stands) in
-    on_err _ _ (subst (λ k. Stopped (g.M.Medium.seen k.medium).tracks (g.M.Medium.seen c.begin_append.new.self).content m.disk (disk_opened m.disk p) (uses_of k.channels m.channels) × HasFailed (g.M.Medium.seen k.medium) (g.M.Medium.seen c.begin_append.new.self)) c.self.view_is
-    (nothing_begun _ _ _ _ _ _ c.in_err-writer-in-AppendFile.ensures.err st.holds, failed))
+pub returns-in_err-writer-in-AppendFile-clause-opens : goal.returns-in_err-writer-in-AppendFile-clause-opens
+returns-in_err-writer-in-AppendFile-clause-opens g c = record {
+  opened = (search rules);
+  stopped = λ m p h s.
+      let st = stood g.M.Medium.seen _ _ m c.self.view_is s in
+      let x = appendable _ _ m p c.args.plan c.in-AppendFile.found (subst (λ k. PlannedAs (g.M.Medium.seen k.medium).tracks (g.M.Medium.seen k.medium).content m (Ok p) (Ok c.args.plan)) (sym c.self.view_is) h) c.in-AppendFile.is in
+      let can = can_be c.in-AppendFile.found.slot c.self.inside.channels m x.1.file st.each x.1.in_slot x.1.closed x.1.plain x.1.unused in
+      let failed = failed_by (g.M.Medium.seen c.self.inside.volume) (g.M.Medium.seen c.begin_append.new.self) c.in_err-writer-in-AppendFile.field-0.0 m.protected st.same_protection x.1.unprotected
+      (c.in_err-writer-in-AppendFile.ensures.begun m.disk (uses_of c.self.inside.channels m.channels) st.holds x.1.file can x.1.stands) in
+      on_err _ _ (subst (λ k. Stopped (g.M.Medium.seen k.medium).tracks (g.M.Medium.seen c.begin_append.new.self).content m.disk (disk_opened m.disk p) (uses_of k.channels m.channels) × HasFailed (g.M.Medium.seen k.medium) (g.M.Medium.seen c.begin_append.new.self)) c.self.view_is
+      (nothing_begun _ _ _ _ _ _ c.in_err-writer-in-AppendFile.ensures.err st.holds, failed));
+  outside = λ m p h s.
+      let st = stood g.M.Medium.seen _ _ m c.self.view_is s in
+      let uses = uses_of c.self.inside.channels m.channels in
+      let idle : uses 15 ≡ Idle = idle_past c.self.inside.channels m.channels c.self.invariant.count in
+      let x = appendable _ _ m p c.args.plan c.in-AppendFile.found (subst (λ k. PlannedAs (g.M.Medium.seen k.medium).tracks (g.M.Medium.seen k.medium).content m (Ok p) (Ok c.args.plan)) (sym c.self.view_is) h) c.in-AppendFile.is in
+      let can = can_be c.in-AppendFile.found.slot c.self.inside.channels m x.1.file st.each x.1.in_slot x.1.closed x.1.plain x.1.unused in
+      outside_seen g.M.Medium.seen c.args.self.now.medium c.begin_append.new.self c.self.inside.volume c.begin_append.new.self (ap (λ k. k.medium) c.self.view_is) refl (outside_same _ _ c.begin_append.ensures.only.tracks c.in_err-writer-in-AppendFile.ensures.err);
+}
 
-pub returns-in_ok-writer-in-AppendFile-clause-opened : goal.returns-in_ok-writer-in-AppendFile-clause-opened
-returns-in_ok-writer-in-AppendFile-clause-opened g c = λ m p ch h s idle.
-    let st = stood g.M.Medium.seen _ _ m c.self.view_is s in
-    let x = appendable _ _ m p c.args.plan c.in-AppendFile.found (subst (λ k. PlannedAs (g.M.Medium.seen k.medium).tracks (g.M.Medium.seen k.medium).content m (Ok p) (Ok c.args.plan)) (sym c.self.view_is) h) c.in-AppendFile.is in
-    let can = can_be c.in-AppendFile.found.slot c.self.inside.channels m x.1.file st.each x.1.in_slot x.1.closed x.1.plain x.1.unused in
-    let begun = c.in_ok-writer-in-AppendFile.ensures.begun m.disk (uses_of c.self.inside.channels m.channels) st.holds x.1.file can x.1.stands ch (subst (λ k. uses_of k.channels m.channels ch ≡ Idle) (sym c.self.view_is) idle) x.1.kept in
-    subst (λ k. IsOpened (g.M.Medium.seen k.medium).tracks (g.M.Medium.seen c.begin_append.new.self).content m ch p (uses_of k.channels m.channels) (Some (code.Writing c.in_ok-writer-in-AppendFile.writer false))) c.self.view_is
-    (begins_as _ _ m p _ (uses_of c.self.inside.channels m.channels) ch c.in-AppendFile.found.slot false (bytes_in x.1.file.body) x.1.file.held c.in_ok-writer-in-AppendFile.writer
-    (ap (opened_by m.disk) x.0 ∙ ap (λ o. appended_to o c.in-AppendFile.found.slot) x.1.in_slot) (ap (disk_opened m.disk) x.0 ∙ ap (λ o. reopened_at o m.disk c.in-AppendFile.found.slot) x.1.in_slot) begun)
+pub returns-in_ok-writer-in-AppendFile-clause-opens : goal.returns-in_ok-writer-in-AppendFile-clause-opens
+returns-in_ok-writer-in-AppendFile-clause-opens g c = record {
+  opened = λ m p ch h s idle.
+      let st = stood g.M.Medium.seen _ _ m c.self.view_is s in
+      let x = appendable _ _ m p c.args.plan c.in-AppendFile.found (subst (λ k. PlannedAs (g.M.Medium.seen k.medium).tracks (g.M.Medium.seen k.medium).content m (Ok p) (Ok c.args.plan)) (sym c.self.view_is) h) c.in-AppendFile.is in
+      let can = can_be c.in-AppendFile.found.slot c.self.inside.channels m x.1.file st.each x.1.in_slot x.1.closed x.1.plain x.1.unused in
+      let begun = c.in_ok-writer-in-AppendFile.ensures.begun m.disk (uses_of c.self.inside.channels m.channels) st.holds x.1.file can x.1.stands ch (subst (λ k. uses_of k.channels m.channels ch ≡ Idle) (sym c.self.view_is) idle) x.1.kept in
+      subst (λ k. IsOpened (g.M.Medium.seen k.medium).tracks (g.M.Medium.seen c.begin_append.new.self).content m ch p (uses_of k.channels m.channels) (Some (code.Writing c.in_ok-writer-in-AppendFile.writer false))) c.self.view_is
+      (begins_as _ _ m p _ (uses_of c.self.inside.channels m.channels) ch c.in-AppendFile.found.slot false (bytes_in x.1.file.body) x.1.file.held c.in_ok-writer-in-AppendFile.writer
+      (ap (opened_by m.disk) x.0 ∙ ap (λ o. appended_to o c.in-AppendFile.found.slot) x.1.in_slot) (ap (disk_opened m.disk) x.0 ∙ ap (λ o. reopened_at o m.disk c.in-AppendFile.found.slot) x.1.in_slot) begun);
+  stopped = (search rules);
+  outside = λ m p h s.
+      let st = stood g.M.Medium.seen _ _ m c.self.view_is s in
+      let uses = uses_of c.self.inside.channels m.channels in
+      let idle : uses 15 ≡ Idle = idle_past c.self.inside.channels m.channels c.self.invariant.count in
+      let x = appendable _ _ m p c.args.plan c.in-AppendFile.found (subst (λ k. PlannedAs (g.M.Medium.seen k.medium).tracks (g.M.Medium.seen k.medium).content m (Ok p) (Ok c.args.plan)) (sym c.self.view_is) h) c.in-AppendFile.is in
+      let can = can_be c.in-AppendFile.found.slot c.self.inside.channels m x.1.file st.each x.1.in_slot x.1.closed x.1.plain x.1.unused in
+      let begun = c.in_ok-writer-in-AppendFile.ensures.begun m.disk uses st.holds x.1.file can x.1.stands 15 idle x.1.kept in
+      outside_seen g.M.Medium.seen c.args.self.now.medium c.begin_append.new.self c.self.inside.volume c.begin_append.new.self (ap (λ k. k.medium) c.self.view_is) refl
+      (outside_held c.begin_append.result (g.M.Medium.seen c.self.inside.volume) (g.M.Medium.seen c.begin_append.new.self) m.disk uses c.begin_append.ensures.only refl st.holds (record { disk = _; uses = _; holds = begun.holds; total = refl }));
+}
 
 -- a file that is replaced
-pub returns-in_err-writer-in-ReplaceFile-clause-stopped : goal.returns-in_err-writer-in-ReplaceFile-clause-stopped
-returns-in_err-writer-in-ReplaceFile-clause-stopped g c = λ m p h s.
-    let st = stood g.M.Medium.seen _ _ m c.self.view_is s in
-    let x = replaceable _ _ m p c.args.plan c.in-ReplaceFile.slot h c.in-ReplaceFile.is in
-    let failed = failed_by (g.M.Medium.seen c.self.inside.volume) (g.M.Medium.seen c.begin_replace.new.self) c.in_err-writer-in-ReplaceFile.field-0.0 m.protected st.same_protection x.1.unprotected
-    (c.in_err-writer-in-ReplaceFile.ensures.call m.disk (uses_of c.self.inside.channels m.channels) st.holds).cause in
-    on_err _ _ (subst (λ k. Stopped (g.M.Medium.seen k.medium).tracks (g.M.Medium.seen c.begin_replace.new.self).content m.disk (disk_opened m.disk p) (uses_of k.channels m.channels) × HasFailed (g.M.Medium.seen k.medium) (g.M.Medium.seen c.begin_replace.new.self)) c.self.view_is
-    (nothing_begun _ _ _ _ _ _ c.in_err-writer-in-ReplaceFile.ensures.err st.holds, failed))
+pub returns-in_err-writer-in-ReplaceFile-clause-opens : goal.returns-in_err-writer-in-ReplaceFile-clause-opens
+returns-in_err-writer-in-ReplaceFile-clause-opens g c = record {
+  opened = (search rules);
+  stopped = λ m p h s.
+      let st = stood g.M.Medium.seen _ _ m c.self.view_is s in
+      let x = replaceable _ _ m p c.args.plan c.in-ReplaceFile.slot h c.in-ReplaceFile.is in
+      let failed = failed_by (g.M.Medium.seen c.self.inside.volume) (g.M.Medium.seen c.begin_replace.new.self) c.in_err-writer-in-ReplaceFile.field-0.0 m.protected st.same_protection x.1.unprotected
+      (c.in_err-writer-in-ReplaceFile.ensures.call m.disk (uses_of c.self.inside.channels m.channels) st.holds).cause in
+      on_err _ _ (subst (λ k. Stopped (g.M.Medium.seen k.medium).tracks (g.M.Medium.seen c.begin_replace.new.self).content m.disk (disk_opened m.disk p) (uses_of k.channels m.channels) × HasFailed (g.M.Medium.seen k.medium) (g.M.Medium.seen c.begin_replace.new.self)) c.self.view_is
+      (nothing_begun _ _ _ _ _ _ c.in_err-writer-in-ReplaceFile.ensures.err st.holds, failed));
+  outside = λ m p h s.
+      let st = stood g.M.Medium.seen _ _ m c.self.view_is s in
+      let uses = uses_of c.self.inside.channels m.channels in
+      let idle : uses 15 ≡ Idle = idle_past c.self.inside.channels m.channels c.self.invariant.count in
+      let x = replaceable _ _ m p c.args.plan c.in-ReplaceFile.slot h c.in-ReplaceFile.is in
+      let can = can_be c.in-ReplaceFile.slot c.self.inside.channels m x.1.file st.each x.1.in_slot x.1.closed x.1.plain x.1.unused in
+      let call = c.begin_replace.ensures.call m.disk uses st.holds in
+      outside_seen g.M.Medium.seen c.args.self.now.medium c.begin_replace.new.self c.self.inside.volume c.begin_replace.new.self (ap (λ k. k.medium) c.self.view_is) refl
+      (begun_outside c.begin_replace.result (g.M.Medium.seen c.self.inside.volume) (g.M.Medium.seen c.begin_replace.new.self) m.disk _ uses 15 _ _ _ _ _ c.begin_replace.ensures.only refl st.holds (begun_replace c.begin_replace.result m.disk uses c.in-ReplaceFile.slot x.1.file _ 15 idle can call.done)
+      (same_sized c.begin_replace.result _ _ _ m.disk uses st.holds c.begin_replace.ensures.err) refl);
+}
 
-pub returns-in_default-2-clause-opened : goal.returns-in_default-2-clause-opened
-returns-in_default-2-clause-opened g c = λ m p ch h s idle.
-    let st = stood g.M.Medium.seen _ _ m c.self.view_is s in
-    let x = replaceable _ _ m p c.args.plan c.in-ReplaceFile.slot h c.in-ReplaceFile.is in
-    let can = can_be c.in-ReplaceFile.slot c.self.inside.channels m x.1.file st.each x.1.in_slot x.1.closed x.1.plain x.1.unused in
-    let none = match_none _ _ _ c.in_default-2.not-Some ((c.in_ok-writer-in-ReplaceFile.ensures.call m.disk (uses_of c.self.inside.channels m.channels) st.holds).done ch x.1.file (subst (λ k. uses_of k.channels m.channels ch ≡ Idle) (sym c.self.view_is) idle) can) in
-    absurd (no_block m.disk x.1.block none.0)
+pub returns-in_default-2-clause-opens : goal.returns-in_default-2-clause-opens
+returns-in_default-2-clause-opens g c = record {
+  opened = λ m p ch h s idle.
+      let st = stood g.M.Medium.seen _ _ m c.self.view_is s in
+      let x = replaceable _ _ m p c.args.plan c.in-ReplaceFile.slot h c.in-ReplaceFile.is in
+      let can = can_be c.in-ReplaceFile.slot c.self.inside.channels m x.1.file st.each x.1.in_slot x.1.closed x.1.plain x.1.unused in
+      let none = match_none _ _ _ c.in_default-2.not-Some ((c.in_ok-writer-in-ReplaceFile.ensures.call m.disk (uses_of c.self.inside.channels m.channels) st.holds).done ch x.1.file (subst (λ k. uses_of k.channels m.channels ch ≡ Idle) (sym c.self.view_is) idle) can) in
+      absurd (no_block m.disk x.1.block none.0);
+  stopped = (search rules);
+  outside = λ m p h s.
+      let st = stood g.M.Medium.seen _ _ m c.self.view_is s in
+      let uses = uses_of c.self.inside.channels m.channels in
+      let idle : uses 15 ≡ Idle = idle_past c.self.inside.channels m.channels c.self.invariant.count in
+      let x = replaceable _ _ m p c.args.plan c.in-ReplaceFile.slot h c.in-ReplaceFile.is in
+      let can = can_be c.in-ReplaceFile.slot c.self.inside.channels m x.1.file st.each x.1.in_slot x.1.closed x.1.plain x.1.unused in
+      let call = c.begin_replace.ensures.call m.disk uses st.holds in
+      outside_seen g.M.Medium.seen c.args.self.now.medium c.begin_replace.new.self c.self.inside.volume c.begin_replace.new.self (ap (λ k. k.medium) c.self.view_is) refl
+      (begun_outside c.begin_replace.result (g.M.Medium.seen c.self.inside.volume) (g.M.Medium.seen c.begin_replace.new.self) m.disk _ uses 15 _ _ _ _ _ c.begin_replace.ensures.only refl st.holds (begun_replace c.begin_replace.result m.disk uses c.in-ReplaceFile.slot x.1.file _ 15 idle can call.done)
+      (same_sized c.begin_replace.result _ _ _ m.disk uses st.holds c.begin_replace.ensures.err) refl);
+}
 
-pub returns-in-Some-2-clause-opened : goal.returns-in-Some-2-clause-opened
-returns-in-Some-2-clause-opened g c = λ m p ch h s idle.
-    let st = stood g.M.Medium.seen _ _ m c.self.view_is s in
-    let x = replaceable _ _ m p c.args.plan c.in-ReplaceFile.slot h c.in-ReplaceFile.is in
-    let can = can_be c.in-ReplaceFile.slot c.self.inside.channels m x.1.file st.each x.1.in_slot x.1.closed x.1.plain x.1.unused in
-    let begun = match_some _ _ _ _ c.in-Some-2.is ((c.in_ok-writer-in-ReplaceFile.ensures.call m.disk (uses_of c.self.inside.channels m.channels) st.holds).done ch x.1.file (subst (λ k. uses_of k.channels m.channels ch ≡ Idle) (sym c.self.view_is) idle) can) in
-    subst (λ k. IsOpened (g.M.Medium.seen k.medium).tracks (g.M.Medium.seen c.begin_replace.new.self).content m ch p (uses_of k.channels m.channels) (Some (code.Writing c.in-Some-2.writer false))) c.self.view_is
-    (begins_as _ _ m p _ (uses_of c.self.inside.channels m.channels) ch c.in-ReplaceFile.slot true [] 1 c.in-Some-2.writer (ap (opened_by m.disk) x.0) (ap (disk_opened m.disk) x.0) begun)
+pub returns-in-Some-2-clause-opens : goal.returns-in-Some-2-clause-opens
+returns-in-Some-2-clause-opens g c = record {
+  opened = λ m p ch h s idle.
+      let st = stood g.M.Medium.seen _ _ m c.self.view_is s in
+      let x = replaceable _ _ m p c.args.plan c.in-ReplaceFile.slot h c.in-ReplaceFile.is in
+      let can = can_be c.in-ReplaceFile.slot c.self.inside.channels m x.1.file st.each x.1.in_slot x.1.closed x.1.plain x.1.unused in
+      let begun = match_some _ _ _ _ c.in-Some-2.is ((c.in_ok-writer-in-ReplaceFile.ensures.call m.disk (uses_of c.self.inside.channels m.channels) st.holds).done ch x.1.file (subst (λ k. uses_of k.channels m.channels ch ≡ Idle) (sym c.self.view_is) idle) can) in
+      subst (λ k. IsOpened (g.M.Medium.seen k.medium).tracks (g.M.Medium.seen c.begin_replace.new.self).content m ch p (uses_of k.channels m.channels) (Some (code.Writing c.in-Some-2.writer false))) c.self.view_is
+      (begins_as _ _ m p _ (uses_of c.self.inside.channels m.channels) ch c.in-ReplaceFile.slot true [] 1 c.in-Some-2.writer (ap (opened_by m.disk) x.0) (ap (disk_opened m.disk) x.0) begun);
+  stopped = (search rules);
+  outside = λ m p h s.
+      let st = stood g.M.Medium.seen _ _ m c.self.view_is s in
+      let uses = uses_of c.self.inside.channels m.channels in
+      let idle : uses 15 ≡ Idle = idle_past c.self.inside.channels m.channels c.self.invariant.count in
+      let x = replaceable _ _ m p c.args.plan c.in-ReplaceFile.slot h c.in-ReplaceFile.is in
+      let can = can_be c.in-ReplaceFile.slot c.self.inside.channels m x.1.file st.each x.1.in_slot x.1.closed x.1.plain x.1.unused in
+      let call = c.begin_replace.ensures.call m.disk uses st.holds in
+      outside_seen g.M.Medium.seen c.args.self.now.medium c.begin_replace.new.self c.self.inside.volume c.begin_replace.new.self (ap (λ k. k.medium) c.self.view_is) refl
+      (begun_outside c.begin_replace.result (g.M.Medium.seen c.self.inside.volume) (g.M.Medium.seen c.begin_replace.new.self) m.disk _ uses 15 _ _ _ _ _ c.begin_replace.ensures.only refl st.holds (begun_replace c.begin_replace.result m.disk uses c.in-ReplaceFile.slot x.1.file _ 15 idle can call.done)
+      (same_sized c.begin_replace.result _ _ _ m.disk uses st.holds c.begin_replace.ensures.err) refl);
+}
 
 -- a relative file
-pub returns-in_err-open_records-in-OpenRecords-clause-stopped : goal.returns-in_err-open_records-in-OpenRecords-clause-stopped
-returns-in_err-open_records-in-OpenRecords-clause-stopped g c = λ m p h s.
-    let x = relatable _ _ m p c.args.plan c.in-OpenRecords.found (subst (λ k. PlannedAs (g.M.Medium.seen k.medium).tracks (g.M.Medium.seen k.medium).content m (Ok p) (Ok c.args.plan)) (sym c.self.view_is) h) c.in-OpenRecords.is in
-    let means = means_of _ _ _ _ _ _ m (stood g.M.Medium.seen _ _ m c.self.view_is s) in
-    let file = of_records _ _ m.disk x.0 x.2.file means x.2.in_slot x.2.closed x.2.relative in
-    absurd (let bad = c.in_err-open_records-in-OpenRecords.ensures.means m.disk x.0 x.2.file file.width file.blocks file.sides file.records means x.2.stands x.2.in_slot file.body in (cc))
+pub returns-in_err-open_records-in-OpenRecords-clause-opens : goal.returns-in_err-open_records-in-OpenRecords-clause-opens
+returns-in_err-open_records-in-OpenRecords-clause-opens g c = record {
+  opened = (search rules);
+  stopped = λ m p h s.
+      let x = relatable _ _ m p c.args.plan c.in-OpenRecords.found (subst (λ k. PlannedAs (g.M.Medium.seen k.medium).tracks (g.M.Medium.seen k.medium).content m (Ok p) (Ok c.args.plan)) (sym c.self.view_is) h) c.in-OpenRecords.is in
+      let means = means_of _ _ _ _ _ _ m (stood g.M.Medium.seen _ _ m c.self.view_is s) in
+      let file = of_records _ _ m.disk x.0 x.2.file means x.2.in_slot x.2.closed x.2.relative in
+      absurd (let bad = c.in_err-open_records-in-OpenRecords.ensures.means m.disk x.0 x.2.file file.width file.blocks file.sides file.records means x.2.stands x.2.in_slot file.body in (cc));
+  outside = λ m p h s. outside_itself _ _ refl;
+}
 
-pub returns-in_err-on-in-OpenRecords-clause-stopped : goal.returns-in_err-on-in-OpenRecords-clause-stopped
-returns-in_err-on-in-OpenRecords-clause-stopped g c = λ m p h s.
-    let x = relatable _ _ m p c.args.plan c.in-OpenRecords.found (subst (λ k. PlannedAs (g.M.Medium.seen k.medium).tracks (g.M.Medium.seen k.medium).content m (Ok p) (Ok c.args.plan)) (sym c.self.view_is) h) c.in-OpenRecords.is in
-    let means = means_of _ _ _ _ _ _ m (stood g.M.Medium.seen _ _ m c.self.view_is s) in
-    let file = of_records _ _ m.disk x.0 x.2.file means x.2.in_slot x.2.closed x.2.relative in
-    let width = sym (ap record_length_in file.body) ∙ x.2.width ∙ sym c.record_length-length.ensures in
-    absurd (c.in_err-on-in-OpenRecords.ensures.means m.disk x.2.file file.blocks file.sides file.records means (ap (file_at m.disk) (sym x.2.number) ∙ x.2.in_slot) x.2.closed
-    (file.body ∙ ap (λ w. Records w file.records file.blocks file.sides) width))
+pub returns-in_err-on-in-OpenRecords-clause-opens : goal.returns-in_err-on-in-OpenRecords-clause-opens
+returns-in_err-on-in-OpenRecords-clause-opens g c = record {
+  opened = (search rules);
+  stopped = λ m p h s.
+      let x = relatable _ _ m p c.args.plan c.in-OpenRecords.found (subst (λ k. PlannedAs (g.M.Medium.seen k.medium).tracks (g.M.Medium.seen k.medium).content m (Ok p) (Ok c.args.plan)) (sym c.self.view_is) h) c.in-OpenRecords.is in
+      let means = means_of _ _ _ _ _ _ m (stood g.M.Medium.seen _ _ m c.self.view_is s) in
+      let file = of_records _ _ m.disk x.0 x.2.file means x.2.in_slot x.2.closed x.2.relative in
+      let width = sym (ap record_length_in file.body) ∙ x.2.width ∙ sym c.record_length-length.ensures in
+      absurd (c.in_err-on-in-OpenRecords.ensures.means m.disk x.2.file file.blocks file.sides file.records means (ap (file_at m.disk) (sym x.2.number) ∙ x.2.in_slot) x.2.closed
+      (file.body ∙ ap (λ w. Records w file.records file.blocks file.sides) width));
+  outside = λ m p h s. outside_itself _ _ refl;
+}
 
-pub returns-in_ok-on-in-OpenRecords-clause-opened : goal.returns-in_ok-on-in-OpenRecords-clause-opened
-returns-in_ok-on-in-OpenRecords-clause-opened g c = λ m p ch h s idle.
-    let x = relatable _ _ m p c.args.plan c.in-OpenRecords.found (subst (λ k. PlannedAs (g.M.Medium.seen k.medium).tracks (g.M.Medium.seen k.medium).content m (Ok p) (Ok c.args.plan)) (sym c.self.view_is) h) c.in-OpenRecords.is in
-    let st = stood g.M.Medium.seen _ _ m c.self.view_is s in
-    let means = means_of _ _ _ _ _ _ m st in
-    let file = of_records _ _ m.disk x.0 x.2.file means x.2.in_slot x.2.closed x.2.relative in
-    let width = sym (ap record_length_in file.body) ∙ x.2.width ∙ sym c.record_length-length.ensures in
-    let on = c.in_ok-on-in-OpenRecords.ensures.means m.disk x.2.file file.blocks file.sides file.records means (ap (file_at m.disk) (sym x.2.number) ∙ x.2.in_slot) x.2.closed
-    (file.body ∙ ap (λ w. Records w file.records file.blocks file.sides) width) in
-    let place = c.in_ok-on-in-OpenRecords.ensures.place in
-    subst (λ k. IsOpened (g.M.Medium.seen k.medium).tracks (g.M.Medium.seen k.medium).content m ch p (uses_of k.channels m.channels) (Some (code.Records c.in_ok-on-in-OpenRecords.on))) c.self.view_is
-    (relates_opened _ _ _ _ _ _ m ch p x.0 c.in-OpenRecords.found c.in_ok-on-in-OpenRecords.on st x.1 x.2 place.0 place.1.1.0 place.1.1.1 on)
+pub returns-in_ok-on-in-OpenRecords-clause-opens : goal.returns-in_ok-on-in-OpenRecords-clause-opens
+returns-in_ok-on-in-OpenRecords-clause-opens g c = record {
+  opened = λ m p ch h s idle.
+      let x = relatable _ _ m p c.args.plan c.in-OpenRecords.found (subst (λ k. PlannedAs (g.M.Medium.seen k.medium).tracks (g.M.Medium.seen k.medium).content m (Ok p) (Ok c.args.plan)) (sym c.self.view_is) h) c.in-OpenRecords.is in
+      let st = stood g.M.Medium.seen _ _ m c.self.view_is s in
+      let means = means_of _ _ _ _ _ _ m st in
+      let file = of_records _ _ m.disk x.0 x.2.file means x.2.in_slot x.2.closed x.2.relative in
+      let width = sym (ap record_length_in file.body) ∙ x.2.width ∙ sym c.record_length-length.ensures in
+      let on = c.in_ok-on-in-OpenRecords.ensures.means m.disk x.2.file file.blocks file.sides file.records means (ap (file_at m.disk) (sym x.2.number) ∙ x.2.in_slot) x.2.closed
+      (file.body ∙ ap (λ w. Records w file.records file.blocks file.sides) width) in
+      let place = c.in_ok-on-in-OpenRecords.ensures.place in
+      subst (λ k. IsOpened (g.M.Medium.seen k.medium).tracks (g.M.Medium.seen k.medium).content m ch p (uses_of k.channels m.channels) (Some (code.Records c.in_ok-on-in-OpenRecords.on))) c.self.view_is
+      (relates_opened _ _ _ _ _ _ m ch p x.0 c.in-OpenRecords.found c.in_ok-on-in-OpenRecords.on st x.1 x.2 place.0 place.1.1.0 place.1.1.1 on);
+  stopped = (search rules);
+  outside = λ m p h s. outside_itself _ _ refl;
+}
 
 -- ---- nothing has changed
 
-pub returns-in_default-clause-kept : goal.returns-in_default-clause-kept
-returns-in_default-clause-kept g c =
-    match_none _ _ _ c.in_default.not-Some c.in_ok-writer-in-WriteFile.ensures.kept ∙ ap (λ k. (g.M.Medium.seen k.medium).content) c.self.view_is
+pub returns-in_default-clause-writes : goal.returns-in_default-clause-writes
+returns-in_default-clause-writes g c = record {
+  quiet = (search rules);
+  shown = (search rules);
+  kept = match_none _ _ _ c.in_default.not-Some c.in_ok-writer-in-WriteFile.ensures.kept ∙ ap (λ k. (g.M.Medium.seen k.medium).content) c.self.view_is;
+  guarded = (search rules);
+}
 
-pub returns-in_default-2-clause-kept : goal.returns-in_default-2-clause-kept
-returns-in_default-2-clause-kept g c =
-    match_none _ _ _ c.in_default-2.not-Some c.in_ok-writer-in-ReplaceFile.ensures.kept ∙ ap (λ k. (g.M.Medium.seen k.medium).content) c.self.view_is
+pub returns-in_default-2-clause-writes : goal.returns-in_default-2-clause-writes
+returns-in_default-2-clause-writes g c = record {
+  quiet = (search rules);
+  shown = (search rules);
+  kept = match_none _ _ _ c.in_default-2.not-Some c.in_ok-writer-in-ReplaceFile.ensures.kept ∙ ap (λ k. (g.M.Medium.seen k.medium).content) c.self.view_is;
+  guarded = (search rules);
+}
 
 -- a new file was planned, so the disk isn't protected
-pub returns-in_err-writer-in-WriteFile-clause-guarded : goal.returns-in_err-writer-in-WriteFile-clause-guarded
-returns-in_err-writer-in-WriteFile-clause-guarded g c = λ free.
-    passed_on c.from_residual-in_err-writer-in-WriteFile.result c.in_err-writer-in-WriteFile.field-0.0
-    (λ t. t.code ≡ 26 → (g.M.Medium.seen c.begin_write.new.self).content ≡ (g.M.Medium.seen c.args.self.now.medium).content) c.from_residual-in_err-writer-in-WriteFile.ensures.1
-    (λ is. let z = sym (c.in_err-writer-in-WriteFile.ensures.only.guarded is) ∙ ap (λ k. (g.M.Medium.seen k.medium).protected) c.self.view_is ∙ free (ap plan_writes c.in-WriteFile.is) in absurd (cc))
+pub returns-in_err-writer-in-WriteFile-clause-writes : goal.returns-in_err-writer-in-WriteFile-clause-writes
+returns-in_err-writer-in-WriteFile-clause-writes g c = record {
+  quiet = (search rules);
+  shown = (search rules);
+  kept = (search rules);
+  guarded = λ free.
+      passed_on c.from_residual-in_err-writer-in-WriteFile.result c.in_err-writer-in-WriteFile.field-0.0
+      (λ t. t.code ≡ 26 → (g.M.Medium.seen c.begin_write.new.self).content ≡ (g.M.Medium.seen c.args.self.now.medium).content) c.from_residual-in_err-writer-in-WriteFile.ensures.1
+      (λ is. let z = sym (c.in_err-writer-in-WriteFile.ensures.only.guarded is) ∙ ap (λ k. (g.M.Medium.seen k.medium).protected) c.self.view_is ∙ free (ap plan_writes c.in-WriteFile.is) in absurd (cc));
+}
 
 -- ---- a relative file that is made
 
-pub returns-in_err-slot-in-MakeRecords-clause-stopped : goal.returns-in_err-slot-in-MakeRecords-clause-stopped
-returns-in_err-slot-in-MakeRecords-clause-stopped g c = λ m p h s.
-    let st = stood g.M.Medium.seen _ _ m c.self.view_is s in
-    let uses = uses_of c.self.inside.channels m.channels in
-    let x = makeable _ _ m p c.args.plan c.in-MakeRecords.name c.in-MakeRecords.length h c.in-MakeRecords.is in
-    let name : before_filler c.bytes-in-MakeRecords.result.now ≡ c.in-MakeRecords.name = ap before_filler c.bytes-in-MakeRecords.ensures.value ∙ x.1.cut in
-    let idle : uses 15 ≡ Idle = idle_past c.self.inside.channels m.channels c.self.invariant.count in
-    let disk = ap (λ n. with_new_records m.disk n c.in-MakeRecords.length) name ∙ sym (ap (disk_opened m.disk) x.0) in
-    let failed = failed_by (g.M.Medium.seen c.self.inside.volume) (g.M.Medium.seen c.make_records.new.self) c.in_err-slot-in-MakeRecords.field-0.0 m.protected st.same_protection x.1.unprotected
-    (c.in_err-slot-in-MakeRecords.ensures.call m.disk uses 15 st.holds idle).cause in
-    on_err _ _ (subst (λ k. Stopped (g.M.Medium.seen k.medium).tracks (g.M.Medium.seen c.make_records.new.self).content m.disk (disk_opened m.disk p) (uses_of k.channels m.channels) × HasFailed (g.M.Medium.seen k.medium) (g.M.Medium.seen c.make_records.new.self)) c.self.view_is (
-      subst (λ d. Stopped (g.M.Medium.seen c.self.inside.volume).tracks (g.M.Medium.seen c.make_records.new.self).content m.disk d uses) disk (c.in_err-slot-in-MakeRecords.ensures.call m.disk uses 15 st.holds idle).stopped,
-      failed,
-    ))
+pub returns-in_err-slot-in-MakeRecords-clause-opens : goal.returns-in_err-slot-in-MakeRecords-clause-opens
+returns-in_err-slot-in-MakeRecords-clause-opens g c = record {
+  opened = (search rules);
+  stopped = λ m p h s.
+      let st = stood g.M.Medium.seen _ _ m c.self.view_is s in
+      let uses = uses_of c.self.inside.channels m.channels in
+      let x = makeable _ _ m p c.args.plan c.in-MakeRecords.name c.in-MakeRecords.length h c.in-MakeRecords.is in
+      let name : before_filler c.bytes-in-MakeRecords.result.now ≡ c.in-MakeRecords.name = ap before_filler c.bytes-in-MakeRecords.ensures.value ∙ x.1.cut in
+      let idle : uses 15 ≡ Idle = idle_past c.self.inside.channels m.channels c.self.invariant.count in
+      let disk = ap (λ n. with_new_records m.disk n c.in-MakeRecords.length) name ∙ sym (ap (disk_opened m.disk) x.0) in
+      let failed = failed_by (g.M.Medium.seen c.self.inside.volume) (g.M.Medium.seen c.make_records.new.self) c.in_err-slot-in-MakeRecords.field-0.0 m.protected st.same_protection x.1.unprotected
+      (c.in_err-slot-in-MakeRecords.ensures.call m.disk uses 15 st.holds idle).cause in
+      on_err _ _ (subst (λ k. Stopped (g.M.Medium.seen k.medium).tracks (g.M.Medium.seen c.make_records.new.self).content m.disk (disk_opened m.disk p) (uses_of k.channels m.channels) × HasFailed (g.M.Medium.seen k.medium) (g.M.Medium.seen c.make_records.new.self)) c.self.view_is (
+        subst (λ d. Stopped (g.M.Medium.seen c.self.inside.volume).tracks (g.M.Medium.seen c.make_records.new.self).content m.disk d uses) disk (c.in_err-slot-in-MakeRecords.ensures.call m.disk uses 15 st.holds idle).stopped,
+        failed,
+      ));
+  outside = λ m p h s.
+      let st = stood g.M.Medium.seen _ _ m c.self.view_is s in
+      let uses = uses_of c.self.inside.channels m.channels in
+      let idle : uses 15 ≡ Idle = idle_past c.self.inside.channels m.channels c.self.invariant.count in
+      let call = c.make_records.ensures.call m.disk uses 15 st.holds idle in
+      outside_seen g.M.Medium.seen c.args.self.now.medium c.make_records.new.self c.self.inside.volume c.make_records.new.self (ap (λ k. k.medium) c.self.view_is) refl
+      (made_outside c.make_records.result (g.M.Medium.seen c.self.inside.volume) (g.M.Medium.seen c.make_records.new.self) m.disk _ uses _ _ _ c.make_records.ensures.only refl st.holds call (grown_total m.disk));
+}
 
-pub returns-in_default-3-clause-opened : goal.returns-in_default-3-clause-opened
-returns-in_default-3-clause-opened g c = λ m p ch h s idle.
-    let st = stood g.M.Medium.seen _ _ m c.self.view_is s in
-    let x = makeable _ _ m p c.args.plan c.in-MakeRecords.name c.in-MakeRecords.length h c.in-MakeRecords.is in
-    let none = match_none _ _ _ c.in_default-3.not-Some (c.in_ok-slot-in-MakeRecords.ensures.call m.disk (uses_of c.self.inside.channels m.channels) ch st.holds (subst (λ k. uses_of k.channels m.channels ch ≡ Idle) (sym c.self.view_is) idle)).done in
-    absurd (has_room_of m c.in-MakeRecords.name c.in-MakeRecords.length x.1 none.0)
+pub returns-in_default-3-clause-opens : goal.returns-in_default-3-clause-opens
+returns-in_default-3-clause-opens g c = record {
+  opened = λ m p ch h s idle.
+      let st = stood g.M.Medium.seen _ _ m c.self.view_is s in
+      let x = makeable _ _ m p c.args.plan c.in-MakeRecords.name c.in-MakeRecords.length h c.in-MakeRecords.is in
+      let none = match_none _ _ _ c.in_default-3.not-Some (c.in_ok-slot-in-MakeRecords.ensures.call m.disk (uses_of c.self.inside.channels m.channels) ch st.holds (subst (λ k. uses_of k.channels m.channels ch ≡ Idle) (sym c.self.view_is) idle)).done in
+      absurd (has_room_of m c.in-MakeRecords.name c.in-MakeRecords.length x.1 none.0);
+  stopped = (search rules);
+  outside = λ m p h s.
+      let st = stood g.M.Medium.seen _ _ m c.self.view_is s in
+      let uses = uses_of c.self.inside.channels m.channels in
+      let idle : uses 15 ≡ Idle = idle_past c.self.inside.channels m.channels c.self.invariant.count in
+      let call = c.make_records.ensures.call m.disk uses 15 st.holds idle in
+      outside_seen g.M.Medium.seen c.args.self.now.medium c.make_records.new.self c.self.inside.volume c.make_records.new.self (ap (λ k. k.medium) c.self.view_is) refl
+      (made_outside c.make_records.result (g.M.Medium.seen c.self.inside.volume) (g.M.Medium.seen c.make_records.new.self) m.disk _ uses _ _ _ c.make_records.ensures.only refl st.holds call (grown_total m.disk));
+}
 
 -- its first record reads
-pub returns-in_err-on-in-MakeRecords-clause-stopped : goal.returns-in_err-on-in-MakeRecords-clause-stopped
-returns-in_err-on-in-MakeRecords-clause-stopped g c = λ m p h s.
-    let st = stood g.M.Medium.seen _ _ m c.self.view_is s in
-    let uses = uses_of c.self.inside.channels m.channels in
-    let x = makeable _ _ m p c.args.plan c.in-MakeRecords.name c.in-MakeRecords.length h c.in-MakeRecords.is in
-    let name : before_filler c.bytes-in-MakeRecords.result.now ≡ c.in-MakeRecords.name = ap before_filler c.bytes-in-MakeRecords.ensures.value ∙ x.1.cut in
-    let made = match_some _ _ _ _ c.in-Some-3.is (c.in_ok-slot-in-MakeRecords.ensures.call m.disk uses 15 st.holds (idle_past c.self.inside.channels m.channels c.self.invariant.count)).done in
-    let holds = subst (λ n. HoldsNow (g.M.Medium.seen c.self.inside.volume).tracks (g.M.Medium.seen c.make_records.new.self).content (with_new_records m.disk n c.in-MakeRecords.length) uses) name made.1 in
-    let new : HoldsDisk (g.M.Medium.seen c.self.inside.volume).tracks (g.M.Medium.seen c.make_records.new.self).content (with_new_records m.disk c.in-MakeRecords.name c.in-MakeRecords.length) = record { layout = holds.layout; stands = holds.so.stands } in
-    let means = subst (λ t. HoldsDisk t (g.M.Medium.seen c.make_records.new.self).content (with_new_records m.disk c.in-MakeRecords.name c.in-MakeRecords.length)) (sym c.make_records.ensures.only.tracks) new in
-    let there = made_there m c.in-MakeRecords.name c.in-MakeRecords.length c.in-Some-3.slot x.1 made.0 in
-    let rs = replicate (record_count c.in-MakeRecords.length 1) (fresh_record c.in-MakeRecords.length) in
-    absurd (c.in_err-on-in-MakeRecords.ensures.means (with_new_records m.disk c.in-MakeRecords.name c.in-MakeRecords.length) (made_file c.in-MakeRecords.name c.in-MakeRecords.length) 1 1 rs means there refl refl)
+pub returns-in_err-on-in-MakeRecords-clause-opens : goal.returns-in_err-on-in-MakeRecords-clause-opens
+returns-in_err-on-in-MakeRecords-clause-opens g c = record {
+  opened = (search rules);
+  stopped = λ m p h s.
+      let st = stood g.M.Medium.seen _ _ m c.self.view_is s in
+      let uses = uses_of c.self.inside.channels m.channels in
+      let x = makeable _ _ m p c.args.plan c.in-MakeRecords.name c.in-MakeRecords.length h c.in-MakeRecords.is in
+      let name : before_filler c.bytes-in-MakeRecords.result.now ≡ c.in-MakeRecords.name = ap before_filler c.bytes-in-MakeRecords.ensures.value ∙ x.1.cut in
+      let made = match_some _ _ _ _ c.in-Some-3.is (c.in_ok-slot-in-MakeRecords.ensures.call m.disk uses 15 st.holds (idle_past c.self.inside.channels m.channels c.self.invariant.count)).done in
+      let holds = subst (λ n. HoldsNow (g.M.Medium.seen c.self.inside.volume).tracks (g.M.Medium.seen c.make_records.new.self).content (with_new_records m.disk n c.in-MakeRecords.length) uses) name made.1 in
+      let new : HoldsDisk (g.M.Medium.seen c.self.inside.volume).tracks (g.M.Medium.seen c.make_records.new.self).content (with_new_records m.disk c.in-MakeRecords.name c.in-MakeRecords.length) = record { layout = holds.layout; stands = holds.so.stands } in
+      let means = subst (λ t. HoldsDisk t (g.M.Medium.seen c.make_records.new.self).content (with_new_records m.disk c.in-MakeRecords.name c.in-MakeRecords.length)) (sym c.make_records.ensures.only.tracks) new in
+      let there = made_there m c.in-MakeRecords.name c.in-MakeRecords.length c.in-Some-3.slot x.1 made.0 in
+      let rs = replicate (record_count c.in-MakeRecords.length 1) (fresh_record c.in-MakeRecords.length) in
+      absurd (c.in_err-on-in-MakeRecords.ensures.means (with_new_records m.disk c.in-MakeRecords.name c.in-MakeRecords.length) (made_file c.in-MakeRecords.name c.in-MakeRecords.length) 1 1 rs means there refl refl);
+  outside = λ m p h s.
+      let st = stood g.M.Medium.seen _ _ m c.self.view_is s in
+      let uses = uses_of c.self.inside.channels m.channels in
+      let idle : uses 15 ≡ Idle = idle_past c.self.inside.channels m.channels c.self.invariant.count in
+      let call = c.make_records.ensures.call m.disk uses 15 st.holds idle in
+      outside_seen g.M.Medium.seen c.args.self.now.medium c.make_records.new.self c.self.inside.volume c.make_records.new.self (ap (λ k. k.medium) c.self.view_is) refl
+      (made_outside c.make_records.result (g.M.Medium.seen c.self.inside.volume) (g.M.Medium.seen c.make_records.new.self) m.disk _ uses _ _ _ c.make_records.ensures.only refl st.holds call (grown_total m.disk));
+}
 
-pub returns-in_ok-on-in-MakeRecords-clause-opened : goal.returns-in_ok-on-in-MakeRecords-clause-opened
-returns-in_ok-on-in-MakeRecords-clause-opened g c = λ m p ch h s idle.
-    let st = stood g.M.Medium.seen _ _ m c.self.view_is s in
-    let uses = uses_of c.self.inside.channels m.channels in
-    let x = makeable _ _ m p c.args.plan c.in-MakeRecords.name c.in-MakeRecords.length h c.in-MakeRecords.is in
-    let name : before_filler c.bytes-in-MakeRecords.result.now ≡ c.in-MakeRecords.name = ap before_filler c.bytes-in-MakeRecords.ensures.value ∙ x.1.cut in
-    let made = match_some _ _ _ _ c.in-Some-3.is (c.in_ok-slot-in-MakeRecords.ensures.call m.disk uses ch st.holds (subst (λ k. uses_of k.channels m.channels ch ≡ Idle) (sym c.self.view_is) idle)).done in
-    let holds = subst (λ n. HoldsNow (g.M.Medium.seen c.self.inside.volume).tracks (g.M.Medium.seen c.make_records.new.self).content (with_new_records m.disk n c.in-MakeRecords.length) uses) name made.1 in
-    let new : HoldsDisk (g.M.Medium.seen c.self.inside.volume).tracks (g.M.Medium.seen c.make_records.new.self).content (with_new_records m.disk c.in-MakeRecords.name c.in-MakeRecords.length) = record { layout = holds.layout; stands = holds.so.stands } in
-    let means = subst (λ t. HoldsDisk t (g.M.Medium.seen c.make_records.new.self).content (with_new_records m.disk c.in-MakeRecords.name c.in-MakeRecords.length)) (sym c.make_records.ensures.only.tracks) new in
-    let there = made_there m c.in-MakeRecords.name c.in-MakeRecords.length c.in-Some-3.slot x.1 made.0 in
-    let rs = replicate (record_count c.in-MakeRecords.length 1) (fresh_record c.in-MakeRecords.length) in
-    let on = c.in_ok-on-in-MakeRecords.ensures.means (with_new_records m.disk c.in-MakeRecords.name c.in-MakeRecords.length) (made_file c.in-MakeRecords.name c.in-MakeRecords.length) 1 1 rs means there refl refl in
-    let place = c.in_ok-on-in-MakeRecords.ensures.place in
-    subst (λ k. IsOpened (g.M.Medium.seen k.medium).tracks (g.M.Medium.seen c.make_records.new.self).content m ch p (uses_of k.channels m.channels) (Some (code.Records c.in_ok-on-in-MakeRecords.on))) c.self.view_is
-    (makes_opened _ _ _ _ _ _ _ m ch p c.in-MakeRecords.name c.in-MakeRecords.length c.in-Some-3.slot c.in_ok-on-in-MakeRecords.on st x.0 x.1 made.0 holds place.0 place.1.1.0 place.1.1.1 on)
+pub returns-in_ok-on-in-MakeRecords-clause-opens : goal.returns-in_ok-on-in-MakeRecords-clause-opens
+returns-in_ok-on-in-MakeRecords-clause-opens g c = record {
+  opened = λ m p ch h s idle.
+      let st = stood g.M.Medium.seen _ _ m c.self.view_is s in
+      let uses = uses_of c.self.inside.channels m.channels in
+      let x = makeable _ _ m p c.args.plan c.in-MakeRecords.name c.in-MakeRecords.length h c.in-MakeRecords.is in
+      let name : before_filler c.bytes-in-MakeRecords.result.now ≡ c.in-MakeRecords.name = ap before_filler c.bytes-in-MakeRecords.ensures.value ∙ x.1.cut in
+      let made = match_some _ _ _ _ c.in-Some-3.is (c.in_ok-slot-in-MakeRecords.ensures.call m.disk uses ch st.holds (subst (λ k. uses_of k.channels m.channels ch ≡ Idle) (sym c.self.view_is) idle)).done in
+      let holds = subst (λ n. HoldsNow (g.M.Medium.seen c.self.inside.volume).tracks (g.M.Medium.seen c.make_records.new.self).content (with_new_records m.disk n c.in-MakeRecords.length) uses) name made.1 in
+      let new : HoldsDisk (g.M.Medium.seen c.self.inside.volume).tracks (g.M.Medium.seen c.make_records.new.self).content (with_new_records m.disk c.in-MakeRecords.name c.in-MakeRecords.length) = record { layout = holds.layout; stands = holds.so.stands } in
+      let means = subst (λ t. HoldsDisk t (g.M.Medium.seen c.make_records.new.self).content (with_new_records m.disk c.in-MakeRecords.name c.in-MakeRecords.length)) (sym c.make_records.ensures.only.tracks) new in
+      let there = made_there m c.in-MakeRecords.name c.in-MakeRecords.length c.in-Some-3.slot x.1 made.0 in
+      let rs = replicate (record_count c.in-MakeRecords.length 1) (fresh_record c.in-MakeRecords.length) in
+      let on = c.in_ok-on-in-MakeRecords.ensures.means (with_new_records m.disk c.in-MakeRecords.name c.in-MakeRecords.length) (made_file c.in-MakeRecords.name c.in-MakeRecords.length) 1 1 rs means there refl refl in
+      let place = c.in_ok-on-in-MakeRecords.ensures.place in
+      subst (λ k. IsOpened (g.M.Medium.seen k.medium).tracks (g.M.Medium.seen c.make_records.new.self).content m ch p (uses_of k.channels m.channels) (Some (code.Records c.in_ok-on-in-MakeRecords.on))) c.self.view_is
+      (makes_opened _ _ _ _ _ _ _ m ch p c.in-MakeRecords.name c.in-MakeRecords.length c.in-Some-3.slot c.in_ok-on-in-MakeRecords.on st x.0 x.1 made.0 holds place.0 place.1.1.0 place.1.1.1 on);
+  stopped = (search rules);
+  outside = λ m p h s.
+      let st = stood g.M.Medium.seen _ _ m c.self.view_is s in
+      let uses = uses_of c.self.inside.channels m.channels in
+      let idle : uses 15 ≡ Idle = idle_past c.self.inside.channels m.channels c.self.invariant.count in
+      let call = c.make_records.ensures.call m.disk uses 15 st.holds idle in
+      outside_seen g.M.Medium.seen c.args.self.now.medium c.make_records.new.self c.self.inside.volume c.make_records.new.self (ap (λ k. k.medium) c.self.view_is) refl
+      (made_outside c.make_records.result (g.M.Medium.seen c.self.inside.volume) (g.M.Medium.seen c.make_records.new.self) m.disk _ uses _ _ _ c.make_records.ensures.only refl st.holds call (grown_total m.disk));
+}
 
 -- ---- what a reading meets is never reported as protection
 
@@ -264,148 +431,24 @@ returns-in_err-open_records-in-OpenRecords-clause-medium g c =
 
 -- ---- what lies outside the disk
 
-pub returns-in_err-list-in-ReadListing-clause-outside : goal.returns-in_err-list-in-ReadListing-clause-outside
-returns-in_err-list-in-ReadListing-clause-outside g c = λ m p h s. outside_itself _ _ refl
+pub returns-in_ok-list-in-ReadListing-clause-opens : goal.returns-in_ok-list-in-ReadListing-clause-opens
+returns-in_ok-list-in-ReadListing-clause-opens g c = record {
+  opened = (search rules);
+  stopped = (search rules);
+  outside = λ m p h s. outside_itself _ _ refl;
+}
 
-pub returns-in_ok-list-in-ReadListing-clause-outside : goal.returns-in_ok-list-in-ReadListing-clause-outside
-returns-in_ok-list-in-ReadListing-clause-outside g c = λ m p h s. outside_itself _ _ refl
-
-pub returns-in_err-reader-in-ReadFile-clause-outside : goal.returns-in_err-reader-in-ReadFile-clause-outside
-returns-in_err-reader-in-ReadFile-clause-outside g c = λ m p h s. outside_itself _ _ refl
-
-pub returns-in_ok-reader-in-ReadFile-clause-outside : goal.returns-in_ok-reader-in-ReadFile-clause-outside
-returns-in_ok-reader-in-ReadFile-clause-outside g c = λ m p h s. outside_itself _ _ refl
-
-pub returns-in_err-open_records-in-OpenRecords-clause-outside : goal.returns-in_err-open_records-in-OpenRecords-clause-outside
-returns-in_err-open_records-in-OpenRecords-clause-outside g c = λ m p h s. outside_itself _ _ refl
-
-pub returns-in_err-on-in-OpenRecords-clause-outside : goal.returns-in_err-on-in-OpenRecords-clause-outside
-returns-in_err-on-in-OpenRecords-clause-outside g c = λ m p h s. outside_itself _ _ refl
-
-pub returns-in_ok-on-in-OpenRecords-clause-outside : goal.returns-in_ok-on-in-OpenRecords-clause-outside
-returns-in_ok-on-in-OpenRecords-clause-outside g c = λ m p h s. outside_itself _ _ refl
-
-pub returns-in_err-writer-in-WriteFile-clause-outside : goal.returns-in_err-writer-in-WriteFile-clause-outside
-returns-in_err-writer-in-WriteFile-clause-outside g c = λ m p h s.
-    let st = stood g.M.Medium.seen _ _ m c.self.view_is s in
-    let uses = uses_of c.self.inside.channels m.channels in
-    let idle : uses 15 ≡ Idle = idle_past c.self.inside.channels m.channels c.self.invariant.count in
-    let x = writable _ _ m p c.args.plan c.in-WriteFile.kind c.in-WriteFile.name h c.in-WriteFile.is in
-    let call = c.begin_write.ensures.call m.disk uses st.holds in
-    outside_seen g.M.Medium.seen c.args.self.now.medium c.begin_write.new.self c.self.inside.volume c.begin_write.new.self (ap (λ k. k.medium) c.self.view_is) refl
-    (begun_outside c.begin_write.result (g.M.Medium.seen c.self.inside.volume) (g.M.Medium.seen c.begin_write.new.self) m.disk _ uses 15 _ _ _ _ _ c.begin_write.ensures.only refl st.holds (begun_write c.begin_write.result uses c.in-WriteFile.kind _ 15 idle (not_del _ x.1.kept) x.1.plain call.done)
-    (cut_sized c.begin_write.result _ _ m.disk _ uses (on_both c.begin_write.result _ _ _ (not_del _ x.1.kept) x.1.plain call.stopped)) (grown_total m.disk))
-
-pub returns-in_default-clause-outside : goal.returns-in_default-clause-outside
-returns-in_default-clause-outside g c = λ m p h s.
-    let st = stood g.M.Medium.seen _ _ m c.self.view_is s in
-    let uses = uses_of c.self.inside.channels m.channels in
-    let idle : uses 15 ≡ Idle = idle_past c.self.inside.channels m.channels c.self.invariant.count in
-    let x = writable _ _ m p c.args.plan c.in-WriteFile.kind c.in-WriteFile.name h c.in-WriteFile.is in
-    let call = c.begin_write.ensures.call m.disk uses st.holds in
-    outside_seen g.M.Medium.seen c.args.self.now.medium c.begin_write.new.self c.self.inside.volume c.begin_write.new.self (ap (λ k. k.medium) c.self.view_is) refl
-    (begun_outside c.begin_write.result (g.M.Medium.seen c.self.inside.volume) (g.M.Medium.seen c.begin_write.new.self) m.disk _ uses 15 _ _ _ _ _ c.begin_write.ensures.only refl st.holds (begun_write c.begin_write.result uses c.in-WriteFile.kind _ 15 idle (not_del _ x.1.kept) x.1.plain call.done)
-    (cut_sized c.begin_write.result _ _ m.disk _ uses (on_both c.begin_write.result _ _ _ (not_del _ x.1.kept) x.1.plain call.stopped)) (grown_total m.disk))
-
-pub returns-in-Some-clause-outside : goal.returns-in-Some-clause-outside
-returns-in-Some-clause-outside g c = λ m p h s.
-    let st = stood g.M.Medium.seen _ _ m c.self.view_is s in
-    let uses = uses_of c.self.inside.channels m.channels in
-    let idle : uses 15 ≡ Idle = idle_past c.self.inside.channels m.channels c.self.invariant.count in
-    let x = writable _ _ m p c.args.plan c.in-WriteFile.kind c.in-WriteFile.name h c.in-WriteFile.is in
-    let call = c.begin_write.ensures.call m.disk uses st.holds in
-    outside_seen g.M.Medium.seen c.args.self.now.medium c.begin_write.new.self c.self.inside.volume c.begin_write.new.self (ap (λ k. k.medium) c.self.view_is) refl
-    (begun_outside c.begin_write.result (g.M.Medium.seen c.self.inside.volume) (g.M.Medium.seen c.begin_write.new.self) m.disk _ uses 15 _ _ _ _ _ c.begin_write.ensures.only refl st.holds (begun_write c.begin_write.result uses c.in-WriteFile.kind _ 15 idle (not_del _ x.1.kept) x.1.plain call.done)
-    (cut_sized c.begin_write.result _ _ m.disk _ uses (on_both c.begin_write.result _ _ _ (not_del _ x.1.kept) x.1.plain call.stopped)) (grown_total m.disk))
-
-pub returns-in_err-writer-in-AppendFile-clause-outside : goal.returns-in_err-writer-in-AppendFile-clause-outside
-returns-in_err-writer-in-AppendFile-clause-outside g c = λ m p h s.
-    let st = stood g.M.Medium.seen _ _ m c.self.view_is s in
-    let uses = uses_of c.self.inside.channels m.channels in
-    let idle : uses 15 ≡ Idle = idle_past c.self.inside.channels m.channels c.self.invariant.count in
-    let x = appendable _ _ m p c.args.plan c.in-AppendFile.found (subst (λ k. PlannedAs (g.M.Medium.seen k.medium).tracks (g.M.Medium.seen k.medium).content m (Ok p) (Ok c.args.plan)) (sym c.self.view_is) h) c.in-AppendFile.is in
-    let can = can_be c.in-AppendFile.found.slot c.self.inside.channels m x.1.file st.each x.1.in_slot x.1.closed x.1.plain x.1.unused in
-    outside_seen g.M.Medium.seen c.args.self.now.medium c.begin_append.new.self c.self.inside.volume c.begin_append.new.self (ap (λ k. k.medium) c.self.view_is) refl (outside_same _ _ c.begin_append.ensures.only.tracks c.in_err-writer-in-AppendFile.ensures.err)
-
-pub returns-in_ok-writer-in-AppendFile-clause-outside : goal.returns-in_ok-writer-in-AppendFile-clause-outside
-returns-in_ok-writer-in-AppendFile-clause-outside g c = λ m p h s.
-    let st = stood g.M.Medium.seen _ _ m c.self.view_is s in
-    let uses = uses_of c.self.inside.channels m.channels in
-    let idle : uses 15 ≡ Idle = idle_past c.self.inside.channels m.channels c.self.invariant.count in
-    let x = appendable _ _ m p c.args.plan c.in-AppendFile.found (subst (λ k. PlannedAs (g.M.Medium.seen k.medium).tracks (g.M.Medium.seen k.medium).content m (Ok p) (Ok c.args.plan)) (sym c.self.view_is) h) c.in-AppendFile.is in
-    let can = can_be c.in-AppendFile.found.slot c.self.inside.channels m x.1.file st.each x.1.in_slot x.1.closed x.1.plain x.1.unused in
-    let begun = c.in_ok-writer-in-AppendFile.ensures.begun m.disk uses st.holds x.1.file can x.1.stands 15 idle x.1.kept in
-    outside_seen g.M.Medium.seen c.args.self.now.medium c.begin_append.new.self c.self.inside.volume c.begin_append.new.self (ap (λ k. k.medium) c.self.view_is) refl
-    (outside_held c.begin_append.result (g.M.Medium.seen c.self.inside.volume) (g.M.Medium.seen c.begin_append.new.self) m.disk uses c.begin_append.ensures.only refl st.holds (record { disk = _; uses = _; holds = begun.holds; total = refl }))
-
-pub returns-in_err-writer-in-ReplaceFile-clause-outside : goal.returns-in_err-writer-in-ReplaceFile-clause-outside
-returns-in_err-writer-in-ReplaceFile-clause-outside g c = λ m p h s.
-    let st = stood g.M.Medium.seen _ _ m c.self.view_is s in
-    let uses = uses_of c.self.inside.channels m.channels in
-    let idle : uses 15 ≡ Idle = idle_past c.self.inside.channels m.channels c.self.invariant.count in
-    let x = replaceable _ _ m p c.args.plan c.in-ReplaceFile.slot h c.in-ReplaceFile.is in
-    let can = can_be c.in-ReplaceFile.slot c.self.inside.channels m x.1.file st.each x.1.in_slot x.1.closed x.1.plain x.1.unused in
-    let call = c.begin_replace.ensures.call m.disk uses st.holds in
-    outside_seen g.M.Medium.seen c.args.self.now.medium c.begin_replace.new.self c.self.inside.volume c.begin_replace.new.self (ap (λ k. k.medium) c.self.view_is) refl
-    (begun_outside c.begin_replace.result (g.M.Medium.seen c.self.inside.volume) (g.M.Medium.seen c.begin_replace.new.self) m.disk _ uses 15 _ _ _ _ _ c.begin_replace.ensures.only refl st.holds (begun_replace c.begin_replace.result m.disk uses c.in-ReplaceFile.slot x.1.file _ 15 idle can call.done)
-    (same_sized c.begin_replace.result _ _ _ m.disk uses st.holds c.begin_replace.ensures.err) refl)
-
-pub returns-in_default-2-clause-outside : goal.returns-in_default-2-clause-outside
-returns-in_default-2-clause-outside g c = λ m p h s.
-    let st = stood g.M.Medium.seen _ _ m c.self.view_is s in
-    let uses = uses_of c.self.inside.channels m.channels in
-    let idle : uses 15 ≡ Idle = idle_past c.self.inside.channels m.channels c.self.invariant.count in
-    let x = replaceable _ _ m p c.args.plan c.in-ReplaceFile.slot h c.in-ReplaceFile.is in
-    let can = can_be c.in-ReplaceFile.slot c.self.inside.channels m x.1.file st.each x.1.in_slot x.1.closed x.1.plain x.1.unused in
-    let call = c.begin_replace.ensures.call m.disk uses st.holds in
-    outside_seen g.M.Medium.seen c.args.self.now.medium c.begin_replace.new.self c.self.inside.volume c.begin_replace.new.self (ap (λ k. k.medium) c.self.view_is) refl
-    (begun_outside c.begin_replace.result (g.M.Medium.seen c.self.inside.volume) (g.M.Medium.seen c.begin_replace.new.self) m.disk _ uses 15 _ _ _ _ _ c.begin_replace.ensures.only refl st.holds (begun_replace c.begin_replace.result m.disk uses c.in-ReplaceFile.slot x.1.file _ 15 idle can call.done)
-    (same_sized c.begin_replace.result _ _ _ m.disk uses st.holds c.begin_replace.ensures.err) refl)
-
-pub returns-in-Some-2-clause-outside : goal.returns-in-Some-2-clause-outside
-returns-in-Some-2-clause-outside g c = λ m p h s.
-    let st = stood g.M.Medium.seen _ _ m c.self.view_is s in
-    let uses = uses_of c.self.inside.channels m.channels in
-    let idle : uses 15 ≡ Idle = idle_past c.self.inside.channels m.channels c.self.invariant.count in
-    let x = replaceable _ _ m p c.args.plan c.in-ReplaceFile.slot h c.in-ReplaceFile.is in
-    let can = can_be c.in-ReplaceFile.slot c.self.inside.channels m x.1.file st.each x.1.in_slot x.1.closed x.1.plain x.1.unused in
-    let call = c.begin_replace.ensures.call m.disk uses st.holds in
-    outside_seen g.M.Medium.seen c.args.self.now.medium c.begin_replace.new.self c.self.inside.volume c.begin_replace.new.self (ap (λ k. k.medium) c.self.view_is) refl
-    (begun_outside c.begin_replace.result (g.M.Medium.seen c.self.inside.volume) (g.M.Medium.seen c.begin_replace.new.self) m.disk _ uses 15 _ _ _ _ _ c.begin_replace.ensures.only refl st.holds (begun_replace c.begin_replace.result m.disk uses c.in-ReplaceFile.slot x.1.file _ 15 idle can call.done)
-    (same_sized c.begin_replace.result _ _ _ m.disk uses st.holds c.begin_replace.ensures.err) refl)
-
-pub returns-in_err-slot-in-MakeRecords-clause-outside : goal.returns-in_err-slot-in-MakeRecords-clause-outside
-returns-in_err-slot-in-MakeRecords-clause-outside g c = λ m p h s.
-    let st = stood g.M.Medium.seen _ _ m c.self.view_is s in
-    let uses = uses_of c.self.inside.channels m.channels in
-    let idle : uses 15 ≡ Idle = idle_past c.self.inside.channels m.channels c.self.invariant.count in
-    let call = c.make_records.ensures.call m.disk uses 15 st.holds idle in
-    outside_seen g.M.Medium.seen c.args.self.now.medium c.make_records.new.self c.self.inside.volume c.make_records.new.self (ap (λ k. k.medium) c.self.view_is) refl
-    (made_outside c.make_records.result (g.M.Medium.seen c.self.inside.volume) (g.M.Medium.seen c.make_records.new.self) m.disk _ uses _ _ _ c.make_records.ensures.only refl st.holds call (grown_total m.disk))
-
-pub returns-in_default-3-clause-outside : goal.returns-in_default-3-clause-outside
-returns-in_default-3-clause-outside g c = λ m p h s.
-    let st = stood g.M.Medium.seen _ _ m c.self.view_is s in
-    let uses = uses_of c.self.inside.channels m.channels in
-    let idle : uses 15 ≡ Idle = idle_past c.self.inside.channels m.channels c.self.invariant.count in
-    let call = c.make_records.ensures.call m.disk uses 15 st.holds idle in
-    outside_seen g.M.Medium.seen c.args.self.now.medium c.make_records.new.self c.self.inside.volume c.make_records.new.self (ap (λ k. k.medium) c.self.view_is) refl
-    (made_outside c.make_records.result (g.M.Medium.seen c.self.inside.volume) (g.M.Medium.seen c.make_records.new.self) m.disk _ uses _ _ _ c.make_records.ensures.only refl st.holds call (grown_total m.disk))
-
-pub returns-in_err-on-in-MakeRecords-clause-outside : goal.returns-in_err-on-in-MakeRecords-clause-outside
-returns-in_err-on-in-MakeRecords-clause-outside g c = λ m p h s.
-    let st = stood g.M.Medium.seen _ _ m c.self.view_is s in
-    let uses = uses_of c.self.inside.channels m.channels in
-    let idle : uses 15 ≡ Idle = idle_past c.self.inside.channels m.channels c.self.invariant.count in
-    let call = c.make_records.ensures.call m.disk uses 15 st.holds idle in
-    outside_seen g.M.Medium.seen c.args.self.now.medium c.make_records.new.self c.self.inside.volume c.make_records.new.self (ap (λ k. k.medium) c.self.view_is) refl
-    (made_outside c.make_records.result (g.M.Medium.seen c.self.inside.volume) (g.M.Medium.seen c.make_records.new.self) m.disk _ uses _ _ _ c.make_records.ensures.only refl st.holds call (grown_total m.disk))
-
-pub returns-in_ok-on-in-MakeRecords-clause-outside : goal.returns-in_ok-on-in-MakeRecords-clause-outside
-returns-in_ok-on-in-MakeRecords-clause-outside g c = λ m p h s.
-    let st = stood g.M.Medium.seen _ _ m c.self.view_is s in
-    let uses = uses_of c.self.inside.channels m.channels in
-    let idle : uses 15 ≡ Idle = idle_past c.self.inside.channels m.channels c.self.invariant.count in
-    let call = c.make_records.ensures.call m.disk uses 15 st.holds idle in
-    outside_seen g.M.Medium.seen c.args.self.now.medium c.make_records.new.self c.self.inside.volume c.make_records.new.self (ap (λ k. k.medium) c.self.view_is) refl
-    (made_outside c.make_records.result (g.M.Medium.seen c.self.inside.volume) (g.M.Medium.seen c.make_records.new.self) m.disk _ uses _ _ _ c.make_records.ensures.only refl st.holds call (grown_total m.disk))
+pub returns-in_err-writer-in-WriteFile-clause-opens : goal.returns-in_err-writer-in-WriteFile-clause-opens
+returns-in_err-writer-in-WriteFile-clause-opens g c = record {
+  opened = (search rules);
+  stopped = (search rules);
+  outside = λ m p h s.
+      let st = stood g.M.Medium.seen _ _ m c.self.view_is s in
+      let uses = uses_of c.self.inside.channels m.channels in
+      let idle : uses 15 ≡ Idle = idle_past c.self.inside.channels m.channels c.self.invariant.count in
+      let x = writable _ _ m p c.args.plan c.in-WriteFile.kind c.in-WriteFile.name h c.in-WriteFile.is in
+      let call = c.begin_write.ensures.call m.disk uses st.holds in
+      outside_seen g.M.Medium.seen c.args.self.now.medium c.begin_write.new.self c.self.inside.volume c.begin_write.new.self (ap (λ k. k.medium) c.self.view_is) refl
+      (begun_outside c.begin_write.result (g.M.Medium.seen c.self.inside.volume) (g.M.Medium.seen c.begin_write.new.self) m.disk _ uses 15 _ _ _ _ _ c.begin_write.ensures.only refl st.holds (begun_write c.begin_write.result uses c.in-WriteFile.kind _ 15 idle (not_del _ x.1.kept) x.1.plain call.done)
+      (cut_sized c.begin_write.result _ _ m.disk _ uses (on_both c.begin_write.result _ _ _ (not_del _ x.1.kept) x.1.plain call.stopped)) (grown_total m.disk));
+}

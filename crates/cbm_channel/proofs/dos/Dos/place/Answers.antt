@@ -1,10 +1,10 @@
-use Rattle.std.proofs.Common.{◌<◌, ◌≤◌, length, sym, ap, ◌∙◌, subst, arith, refl, inr}
+use Rattle.std.proofs.Common.{rules, ◌<◌, ◌≤◌, length, sym, ap, ◌∙◌, subst, arith, refl, inr}
 use Rattle.std.specs.Prelude.{slice_index_or}
 use Rattle.cbm_machine.specs.Machines.{channel, with_channel, say}
 use Rattle.cbm_channel.specs.Moved.{placed_on}
 use Rattle.cbm_channel.specs.Grounds.{HasGround}
-use Rattle.cbm_channel.specs.Standing.{HaveSameFiles, uses_of}
-use Rattle.cbm_channel.proofs.Changed.{have_same, fit_set}
+use Rattle.cbm_channel.specs.Standing.{SameBut, HaveSameFiles, uses_of}
+use Rattle.cbm_channel.proofs.Changed.{others_set, have_same, fit_set}
 use Rattle.cbm_channel.proofs.Troubles.{record_broken}
 use Rattle.cbm_channel.proofs.Asked.{below_15, place_none}
 use Rattle.cbm_channel.proofs.Places.{placed_fits, place_is}
@@ -46,16 +46,20 @@ returns-in-Err-clause-leads g c = λ some first m s.
 pub invariant_of-self-in-Err : goal.invariant_of-self-in-Err
 invariant_of-self-in-Err g c =
     let lt : c.args.channel < 15 = omega (arith, c.if-channel-channels.false, ap length c.as_slice-channels.ensures, c.self.invariant.count) in
-    fit_set _ c.self.inside.channels c.args.channel c.place.new.self c.self.invariant c.place.ensures.fits (omega (arith, lt, c.self.invariant.count))
+    fit_set _ c.self.inside.channels c.args.channel c.place.new.self c.self.invariant c.place.ensures.file.fits (omega (arith, lt, c.self.invariant.count))
 
-pub returns-in-Err-clause-channels : goal.returns-in-Err-clause-channels
-returns-in-Err-clause-channels g c =
-    let lt : c.args.channel < 15 = omega (arith, c.if-channel-channels.false, ap length c.as_slice-channels.ensures, c.self.invariant.count) in
-    subst (λ k. HaveSameFiles k.channels c.set.new.self.channels) c.self.view_is
-    (have_same c.self.inside.channels c.set.new.self.channels c.args.channel c.place.new.self c.index-self-channel.result c.set.ensures.channels (omega (arith, lt, c.self.invariant.count)) c.place.ensures.same)
+pub returns-in-Err-clause-moves : goal.returns-in-Err-clause-moves
+returns-in-Err-clause-moves g c = record {
+  channels = let lt : c.args.channel < 15 = omega (arith, c.if-channel-channels.false, ap length c.as_slice-channels.ensures, c.self.invariant.count) in
+      subst (λ k. HaveSameFiles k.channels c.set.new.self.channels) c.self.view_is
+      (have_same c.self.inside.channels c.set.new.self.channels c.args.channel c.place.new.self c.index-self-channel.result c.set.ensures.channels (omega (arith, lt, c.self.invariant.count)) c.place.ensures.file.same);
+  others = subst (λ k. SameBut c.args.channel k.channels c.set.new.self.channels) c.self.view_is (others_set c.self.inside.channels c.set.new.self.channels c.args.channel c.place.new.self c.set.ensures.channels);
+}
 
-pub returns-in-Err-clause-told : goal.returns-in-Err-clause-told
-returns-in-Err-clause-told g c =
-    subst (λ k. HasGround g.M.Medium.seen k.medium c.set.new.self.told.status) c.self.view_is
-    (subst (λ t. HasGround g.M.Medium.seen c.self.inside.volume t.status) (sym c.set.ensures.told)
-    (inr (inr (c.in-Err.trouble, c.from.ensures, record_broken _ _ c.in-Err.trouble c.in-Err.ensures.cause))))
+pub returns-in-Err-clause-tells : goal.returns-in-Err-clause-tells
+returns-in-Err-clause-tells g c = (
+  subst (λ k. HasGround g.M.Medium.seen k.medium c.set.new.self.told.status) c.self.view_is
+      (subst (λ t. HasGround g.M.Medium.seen c.self.inside.volume t.status) (sym c.set.ensures.told)
+      (inr (inr (c.in-Err.trouble, c.from.ensures, record_broken _ _ c.in-Err.trouble c.in-Err.ensures.cause)))),
+  (search rules),
+)

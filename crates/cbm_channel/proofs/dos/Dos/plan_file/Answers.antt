@@ -1,4 +1,4 @@
-use Rattle.std.proofs.Common.{sym, ◌∙◌}
+use Rattle.std.proofs.Common.{rules, sym, ◌∙◌}
 use Rattle.cbm_channel.proofs.Asking.{is_append, is_write, passed_refusal, refused_append, append_planned, writing_planned, too_many_put}
 use Rattle.cbm_channel.proofs.Refused.{only_reads}
 use Rattle.cbm_channel.proofs.dos.Dos.plan_file.Goals as goal
@@ -22,5 +22,10 @@ pub returns-then-is_too_many-clause-planned : goal.returns-then-is_too_many-clau
 returns-then-is_too_many-clause-planned g c = λ m ch text bytes s.
     too_many_put _ _ m ch c.args.wanted bytes c.plain.result c.eq.result c.eq.ensures c.if-eq.false (sym (c.is_too_many.ensures m s) ∙ c.if-is_too_many.true) c.plain.ensures
 
-pub returns-then-eq-clause-allowed : goal.returns-then-eq-clause-allowed
-returns-then-eq-clause-allowed g c = only_reads c.plan_reading.result _ c.plan_reading.ensures.reads
+pub returns-then-eq-clause-sound : goal.returns-then-eq-clause-sound
+returns-then-eq-clause-sound g c = record {
+  ground = (search rules);
+  from = (search rules);
+  allowed = only_reads c.plan_reading.result _ c.plan_reading.ensures.reads;
+  sized = (search rules);
+}

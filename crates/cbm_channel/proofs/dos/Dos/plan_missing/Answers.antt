@@ -1,4 +1,4 @@
-use Rattle.std.proofs.Common.{sym, ap, subst, ◌∙◌, arith}
+use Rattle.std.proofs.Common.{rules, sym, ap, subst, ◌∙◌, arith}
 use Rattle.std.specs.Prelude.{not}
 use Rattle.std.proofs.lemmas.Bool.{ne_eqb, lt-ltb, le-ltb}
 use Rattle.cbm_volume.specs.Holding.{HoldsDisk}
@@ -39,5 +39,10 @@ returns-clause-planned g c = λ m cut st.
     (st.same_protection ∙ sym (ap (λ v. (g.M.Medium.seen v).protected) c.volume-2.ensures) ∙ sym c.is_protected.ensures ∙ c.if-is_protected.false)
     cut (omega (arith, c.if-wanted-eq0.false))
 
-pub returns-clause-allowed : goal.returns-clause-allowed
-returns-clause-allowed g c = λ writes. sym (ap (λ v. (g.M.Medium.seen v).protected) c.volume-2.ensures) ∙ sym c.is_protected.ensures ∙ c.if-is_protected.false
+pub returns-clause-sound : goal.returns-clause-sound
+returns-clause-sound g c = record {
+  ground = (search rules);
+  from = (search rules);
+  allowed = λ writes. sym (ap (λ v. (g.M.Medium.seen v).protected) c.volume-2.ensures) ∙ sym c.is_protected.ensures ∙ c.if-is_protected.false;
+  sized = (search rules);
+}

@@ -1,4 +1,4 @@
-use Rattle.std.proofs.Common.{◌<◌, ◌∙◌, arith, ap, inl, sym}
+use Rattle.std.proofs.Common.{rules, ◌<◌, ◌∙◌, arith, ap, inl, sym}
 use Rattle.cbm_machine.specs.Calls.{put}
 use Rattle.cbm_channel.specs.Going.{put_written}
 use Rattle.cbm_channel.proofs.Asked.{below_15, put_15, put_records, put_other}
@@ -10,7 +10,7 @@ use Rattle.cbm_channel.proofs.dos.Dos.put.Goals as goal
 -- a text for channel 15
 pub returns-then-channel-eq15-clause-goes : goal.returns-then-channel-eq15-clause-goes
 returns-then-channel-eq15-clause-goes g c = λ m s.
-    (_, one_part (g.M.Medium.seen c.args.self.now.medium) (g.M.Medium.seen c.gather.new.self.medium) c.args.channel (put c.args.channel c.args.byte) m _ (keeps_same _ _ (ap g.M.Medium.seen c.gather.ensures.medium)).counted (inl (sym (put_15 c.args.channel c.args.byte m c.if-channel-eq15.true))), c.gather.ensures.leads m s)
+    (_, one_part (g.M.Medium.seen c.args.self.now.medium) (g.M.Medium.seen c.gather.new.self.medium) c.args.channel (put c.args.channel c.args.byte) m _ (keeps_same _ _ (ap g.M.Medium.seen c.gather.ensures.only.medium)).counted (inl (sym (put_15 c.args.channel c.args.byte m c.if-channel-eq15.true))), c.gather.ensures.leads m s)
 
 -- a text for records
 pub returns-then-has_records-clause-goes : goal.returns-then-has_records-clause-goes
@@ -19,7 +19,7 @@ returns-then-has_records-clause-goes g c = λ m s.
     let lt : c.args.channel < 15 = omega (arith, c.requires, c.if-channel-eq15.false) in
     let at = stands_at _ _ _ _ _ _ m c.args.channel c.index-self-channel.result lt c.self.invariant st in
     let law = put_records c.args.channel m _ (below_15 c.args.channel lt) at c.args.byte (sym c.has_records.ensures ∙ c.if-has_records.true) in
-    (_, one_part (g.M.Medium.seen c.args.self.now.medium) (g.M.Medium.seen c.gather-then-has_records.new.self.medium) c.args.channel (put c.args.channel c.args.byte) m _ (keeps_same _ _ (ap g.M.Medium.seen c.gather-then-has_records.ensures.medium)).counted (inl (sym law)), c.gather-then-has_records.ensures.leads m s)
+    (_, one_part (g.M.Medium.seen c.args.self.now.medium) (g.M.Medium.seen c.gather-then-has_records.new.self.medium) c.args.channel (put c.args.channel c.args.byte) m _ (keeps_same _ _ (ap g.M.Medium.seen c.gather-then-has_records.ensures.only.medium)).counted (inl (sym law)), c.gather-then-has_records.ensures.leads m s)
 
 -- a file
 pub returns-else-has_records-clause-goes : goal.returns-else-has_records-clause-goes
@@ -29,15 +29,27 @@ returns-else-has_records-clause-goes g c = λ m s.
     let at = stands_at _ _ _ _ _ _ m c.args.channel c.index-self-channel.result lt c.self.invariant st in
     let next = c.store.ensures.goes m s in
     let law = put_other c.args.channel m _ (below_15 c.args.channel lt) at c.args.byte (sym c.has_records.ensures ∙ c.if-has_records.false) in
-    (next.0, one_part (g.M.Medium.seen c.args.self.now.medium) (g.M.Medium.seen c.store.new.self.medium) c.args.channel (put c.args.channel c.args.byte) m next.0 c.store.ensures.medium.counted (part_same _ c.args.channel (put_written c.args.channel c.args.byte) (put c.args.channel c.args.byte) m next.0 law next.1), next.2)
+    (next.0, one_part (g.M.Medium.seen c.args.self.now.medium) (g.M.Medium.seen c.store.new.self.medium) c.args.channel (put c.args.channel c.args.byte) m next.0 c.store.ensures.leaves.medium.counted (part_same _ c.args.channel (put_written c.args.channel c.args.byte) (put c.args.channel c.args.byte) m next.0 law next.1), next.2)
 
--- ---- what lies outside the disk
+-- ---- what it leaves, on any disk
 
-pub returns-then-channel-eq15-clause-outside : goal.returns-then-channel-eq15-clause-outside
-returns-then-channel-eq15-clause-outside g c = λ m s. outside_itself _ _ (ap g.M.Medium.seen c.gather.ensures.medium)
+pub returns-then-channel-eq15-clause-leaves : goal.returns-then-channel-eq15-clause-leaves
+returns-then-channel-eq15-clause-leaves g c = record {
+  medium = (search rules);
+  outside = λ m s. outside_itself _ _ (ap g.M.Medium.seen c.gather.ensures.only.medium);
+  counted = (search rules);
+}
 
-pub returns-then-has_records-clause-outside : goal.returns-then-has_records-clause-outside
-returns-then-has_records-clause-outside g c = λ m s. outside_itself _ _ (ap g.M.Medium.seen c.gather-then-has_records.ensures.medium)
+pub returns-then-has_records-clause-leaves : goal.returns-then-has_records-clause-leaves
+returns-then-has_records-clause-leaves g c = record {
+  medium = (search rules);
+  outside = λ m s. outside_itself _ _ (ap g.M.Medium.seen c.gather-then-has_records.ensures.only.medium);
+  counted = (search rules);
+}
 
-pub returns-else-has_records-clause-outside : goal.returns-else-has_records-clause-outside
-returns-else-has_records-clause-outside g c = c.store.ensures.outside
+pub returns-else-has_records-clause-leaves : goal.returns-else-has_records-clause-leaves
+returns-else-has_records-clause-leaves g c = record {
+  medium = (search rules);
+  outside = c.store.ensures.leaves.outside;
+  counted = (search rules);
+}

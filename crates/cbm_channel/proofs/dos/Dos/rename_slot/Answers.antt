@@ -1,4 +1,4 @@
-use Rattle.std.proofs.Common.{◌≡◌, refl, sym, ap, subst, ◌∙◌, inl, inr, List, ℕ, Some}
+use Rattle.std.proofs.Common.{rules, ◌≡◌, refl, sym, ap, subst, ◌∙◌, inl, inr, List, ℕ, Some}
 use Rattle.cbm_medium.specs.Seen.{HasFailed}
 use Rattle.cbm_file.specs.Padding.{before_filler}
 use Rattle.cbm_file.specs.Files.{with_slot}
@@ -19,7 +19,7 @@ use Rattle.cbm_channel.proofs.Outside.{outside_seen, outside_held, outside_same}
 use Rattle.cbm_channel.proofs.dos.Dos.rename_slot.Goals as goal
 
 pub returns-in-Ok-clause-goes : goal.returns-in-Ok-clause-goes
-returns-in-Ok-clause-goes g c = λ m old cut is s.
+returns-in-Ok-clause-goes g c = λ cut m old is s.
     let here = c.self.inside in
     let st : StandsBy (g.M.Medium.seen here.volume).content (g.M.Medium.seen here.volume).tracks (g.M.Medium.seen here.volume).protected here.channels here.telling here.text m = stood g.M.Medium.seen c.args.self.now _ m c.self.view_is s in
     let unwritten : IsUnwritten (uses_of here.channels m.channels) c.args.slot = λ k. unwritten_at c.args.slot here.channels m.channels k st.each (λ j. none_passes (writes c.args.slot) refl m.channels j is.unwritten) in
@@ -34,7 +34,7 @@ returns-in-Ok-clause-goes g c = λ m old cut is s.
 
 -- the write was refused
 pub returns-in-Err-clause-goes : goal.returns-in-Err-clause-goes
-returns-in-Err-clause-goes g c = λ m old cut is s.
+returns-in-Err-clause-goes g c = λ cut m old is s.
     let here = c.self.inside in
     let new = g.M.Medium.seen c.rename.new.self in
     let st : StandsBy (g.M.Medium.seen here.volume).content (g.M.Medium.seen here.volume).tracks (g.M.Medium.seen here.volume).protected here.channels here.telling here.text m = stood g.M.Medium.seen c.args.self.now _ m c.self.view_is s in
@@ -45,14 +45,23 @@ returns-in-Err-clause-goes g c = λ m old cut is s.
       c.set.ensures.leads m (renamed _ _ _ _ _ _ _ _ _ c.rename.ensures.only.tracks c.rename.ensures.only.protected same),
     )
 
-pub returns-in-Ok-clause-spared : goal.returns-in-Ok-clause-spared
-returns-in-Ok-clause-spared g c = not_refused _ _ c.say.ensures.told refl
+pub returns-in-Ok-clause-leaves : goal.returns-in-Ok-clause-leaves
+returns-in-Ok-clause-leaves g c = record {
+  channels = (search rules);
+  spared = not_refused _ _ c.say.ensures.told refl;
+  medium = (search rules);
+  counted = (search rules);
+}
 
--- ---- what it makes of the medium, on any disk
+-- ---- what it leaves, on any disk
 
-pub returns-in-Err-clause-counted : goal.returns-in-Err-clause-counted
-returns-in-Err-clause-counted g c =
-    counted_told g.M.Medium.seen c.args.self.now c.set.new.self c.self.inside.volume c.rename.new.self (ap (λ k. k.medium) c.self.view_is) c.set.ensures.medium c.rename.result c.in-Err.trouble c.in-Err.is c.rename.ensures.only (ap (λ x. x.status) c.set.ensures.told ∙ c.from.ensures)
+pub returns-in-Err-clause-leaves : goal.returns-in-Err-clause-leaves
+returns-in-Err-clause-leaves g c = record {
+  channels = (search rules);
+  spared = (search rules);
+  medium = (search rules);
+  counted = counted_told g.M.Medium.seen c.args.self.now c.set.new.self c.self.inside.volume c.rename.new.self (ap (λ k. k.medium) c.self.view_is) c.set.ensures.medium c.rename.result c.in-Err.trouble c.in-Err.is c.rename.ensures.only (ap (λ x. x.status) c.set.ensures.told ∙ c.from.ensures);
+}
 
 -- ---- what lies outside the disk
 

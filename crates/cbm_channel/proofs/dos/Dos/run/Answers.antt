@@ -1,4 +1,4 @@
-use Rattle.std.proofs.Common.{sym, ap, ◌∙◌, inl}
+use Rattle.std.proofs.Common.{rules, sym, ap, ◌∙◌, inl}
 use Rattle.std.specs.Prelude.{Ok}
 use Rattle.cbm_command.specs.declared.command.Command.TheVariants.{New, Validate}
 use Rattle.cbm_machine.specs.Machines.{answered}
@@ -10,58 +10,107 @@ use Rattle.cbm_channel.proofs.Outside.{outside_itself}
 use Rattle.cbm_channel.proofs.dos.Dos.run.Goals as goal
 
 pub returns-in-New-clause-goes : goal.returns-in-New-clause-goes
-returns-in-New-clause-goes g c = λ m of s whole.
+returns-in-New-clause-goes g c = λ of m s whole.
     let next = c.format.ensures.goes (whole (ap formats c.in-New.is)) m s in
     (next.0, part_same _ 15 (λ n. answered n (run (New c.in-New.title c.in-New.id) n)) (λ n. answered n (run c.args.command.now n)) m next.0 (ap (λ x. answered m (run x m)) c.in-New.is) next.1, next.2)
 
 pub returns-in-Scratch-clause-goes : goal.returns-in-Scratch-clause-goes
-returns-in-Scratch-clause-goes g c = λ m of s whole.
+returns-in-Scratch-clause-goes g c = λ of m s whole.
     let next = c.scratch.ensures.goes m s in
     (next.0, part_same _ 15 (λ n. answered n (scratch c.in-Scratch.patterns n)) (λ n. answered n (run c.args.command.now n)) m next.0 (ap (λ x. answered m (run x m)) c.in-Scratch.is) next.1, next.2)
 
 pub returns-in-Rename-clause-goes : goal.returns-in-Rename-clause-goes
-returns-in-Rename-clause-goes g c = λ m of s whole.
+returns-in-Rename-clause-goes g c = λ of m s whole.
     let next = c.rename.ensures.goes (new_name_cut of.0 c.in-Rename.new c.in-Rename.old (of.1 ∙ ap (λ x. Ok x) c.in-Rename.is)) m s in
     (next.0, part_same _ 15 (λ n. answered n (rename c.in-Rename.new c.in-Rename.old n)) (λ n. answered n (run c.args.command.now n)) m next.0 (ap (λ x. answered m (run x m)) c.in-Rename.is) next.1, next.2)
 
 pub returns-in-Copy-clause-goes : goal.returns-in-Copy-clause-goes
-returns-in-Copy-clause-goes g c = λ m of s whole.
+returns-in-Copy-clause-goes g c = λ of m s whole.
     let next = c.copy.ensures.goes (copy_name_cut of.0 c.in-Copy.new c.in-Copy.olds (of.1 ∙ ap (λ x. Ok x) c.in-Copy.is)) m s in
     (next.0, part_same _ 15 (λ n. answered n (copy c.in-Copy.new c.in-Copy.olds n)) (λ n. answered n (run c.args.command.now n)) m next.0 (ap (λ x. answered m (run x m)) c.in-Copy.is) next.1, next.2)
 
 pub returns-in-Validate-clause-goes : goal.returns-in-Validate-clause-goes
-returns-in-Validate-clause-goes g c = λ m of s whole.
+returns-in-Validate-clause-goes g c = λ of m s whole.
     let next = c.validate.ensures.goes m s in
     (next.0, part_same _ 15 (λ n. answered n (run Validate n)) (λ n. answered n (run c.args.command.now n)) m next.0 (ap (λ x. answered m (run x m)) c.in-Validate.is) next.1, next.2)
 
 -- nothing is read anew, as the disk is always what it is
 pub returns-in-Initialize-clause-goes : goal.returns-in-Initialize-clause-goes
-returns-in-Initialize-clause-goes g c = λ m of s whole. (_, inl (sym (ap (λ x. answered m (run x m)) c.in-Initialize.is)), c.say.ensures.leads m s)
+returns-in-Initialize-clause-goes g c = λ of m s whole. (_, inl (sym (ap (λ x. answered m (run x m)) c.in-Initialize.is)), c.say.ensures.leads m s)
 
 pub returns-in-Position-clause-goes : goal.returns-in-Position-clause-goes
-returns-in-Position-clause-goes g c = λ m of s whole.
+returns-in-Position-clause-goes g c = λ of m s whole.
     let some = place_some of.0 _ _ _ (of.1 ∙ ap (λ x. Ok x) c.in-Position.is) in
     (_, inl (sym (ap (λ x. answered m (run x m)) c.in-Position.is)), c.place.ensures.leads some.0 some.1 m s)
 
--- ---- what lies outside the disk
+-- ---- what it leaves, on any disk
 
-pub returns-in-New-clause-outside : goal.returns-in-New-clause-outside
-returns-in-New-clause-outside g c = λ other. let z = sym (ap formats c.in-New.is) ∙ other in absurd (cc)
+pub returns-in-New-clause-leaves : goal.returns-in-New-clause-leaves
+returns-in-New-clause-leaves g c = record {
+  channels = (search rules);
+  others = (search rules);
+  ordered = (search rules);
+  medium = (search rules);
+  outside = λ other. let z = sym (ap formats c.in-New.is) ∙ other in absurd (cc);
+  counted = (search rules);
+}
 
-pub returns-in-Scratch-clause-outside : goal.returns-in-Scratch-clause-outside
-returns-in-Scratch-clause-outside g c = λ other. c.scratch.ensures.outside
+pub returns-in-Scratch-clause-leaves : goal.returns-in-Scratch-clause-leaves
+returns-in-Scratch-clause-leaves g c = record {
+  channels = (search rules);
+  others = (search rules);
+  ordered = (search rules);
+  medium = (search rules);
+  outside = λ other. c.scratch.ensures.outside;
+  counted = (search rules);
+}
 
-pub returns-in-Rename-clause-outside : goal.returns-in-Rename-clause-outside
-returns-in-Rename-clause-outside g c = λ other. c.rename.ensures.outside
+pub returns-in-Rename-clause-leaves : goal.returns-in-Rename-clause-leaves
+returns-in-Rename-clause-leaves g c = record {
+  channels = (search rules);
+  others = (search rules);
+  ordered = (search rules);
+  medium = (search rules);
+  outside = λ other. c.rename.ensures.outside;
+  counted = (search rules);
+}
 
-pub returns-in-Copy-clause-outside : goal.returns-in-Copy-clause-outside
-returns-in-Copy-clause-outside g c = λ other. c.copy.ensures.outside
+pub returns-in-Copy-clause-leaves : goal.returns-in-Copy-clause-leaves
+returns-in-Copy-clause-leaves g c = record {
+  channels = (search rules);
+  others = (search rules);
+  ordered = (search rules);
+  medium = (search rules);
+  outside = λ other. c.copy.ensures.outside;
+  counted = (search rules);
+}
 
-pub returns-in-Validate-clause-outside : goal.returns-in-Validate-clause-outside
-returns-in-Validate-clause-outside g c = λ other. c.validate.ensures.outside
+pub returns-in-Validate-clause-leaves : goal.returns-in-Validate-clause-leaves
+returns-in-Validate-clause-leaves g c = record {
+  channels = (search rules);
+  others = (search rules);
+  ordered = (search rules);
+  medium = (search rules);
+  outside = λ other. c.validate.ensures.outside;
+  counted = (search rules);
+}
 
-pub returns-in-Initialize-clause-outside : goal.returns-in-Initialize-clause-outside
-returns-in-Initialize-clause-outside g c = λ other m s. outside_itself _ _ (ap g.M.Medium.seen c.say.ensures.medium)
+pub returns-in-Initialize-clause-leaves : goal.returns-in-Initialize-clause-leaves
+returns-in-Initialize-clause-leaves g c = record {
+  channels = (search rules);
+  others = (search rules);
+  ordered = (search rules);
+  medium = (search rules);
+  outside = λ other m s. outside_itself _ _ (ap g.M.Medium.seen c.say.ensures.medium);
+  counted = (search rules);
+}
 
-pub returns-in-Position-clause-outside : goal.returns-in-Position-clause-outside
-returns-in-Position-clause-outside g c = λ other m s. outside_itself _ _ (ap g.M.Medium.seen c.place.ensures.medium)
+pub returns-in-Position-clause-leaves : goal.returns-in-Position-clause-leaves
+returns-in-Position-clause-leaves g c = record {
+  channels = (search rules);
+  others = (search rules);
+  ordered = (search rules);
+  medium = (search rules);
+  outside = λ other m s. outside_itself _ _ (ap g.M.Medium.seen c.place.ensures.tells.1);
+  counted = (search rules);
+}

@@ -1,4 +1,4 @@
-use Rattle.std.proofs.Common.{length, sym, ap, subst, ◌∙◌, inl, inr, refl}
+use Rattle.std.proofs.Common.{rules, length, sym, ap, subst, ◌∙◌, inl, inr, refl}
 use Rattle.cbm_medium.specs.Seen.{HasFailed}
 use Rattle.cbm_machine.specs.declared.code.Code.TheVariants.{FilesScratched}
 use Rattle.cbm_machine.specs.Machines.{with_status, with_disk}
@@ -16,7 +16,7 @@ use Rattle.cbm_channel.proofs.dos.Dos.scratch_slots.Goals as goal
 pub returns-in-Ok-clause-goes : goal.returns-in-Ok-clause-goes
 returns-in-Ok-clause-goes g c = λ m ps going s.
     let old = c.args.self.now in
-    let whole = c.clear.ensures.rest in
+    let whole = c.clear.ensures.only.rest in
     let can = all_can_go m ps (uses_of old.channels m.channels) (λ n u. unused_at n old.channels m s.each u) c.args.slots.now going.all in
     let next = scratch_stands _ _ (g.M.Medium.seen c.clear.new.self.medium).content _ old.channels old.told old.text m s ps c.args.slots.now going (c.in-Ok.ensures.scratched m s can) in (
       with_status (record { code = FilesScratched; first = length c.args.slots.now; second = 0 }) (with_disk (all_scratched m.disk c.args.slots.now) m),
@@ -29,12 +29,12 @@ returns-in-Ok-clause-goes g c = λ m ps going s.
 pub returns-in-Err-clause-goes : goal.returns-in-Err-clause-goes
 returns-in-Err-clause-goes g c = λ m ps going s.
     let old = c.args.self.now in
-    let whole = c.clear.ensures.rest in
+    let whole = c.clear.ensures.only.rest in
     let can = all_can_go m ps (uses_of old.channels m.channels) (λ n u. unused_at n old.channels m s.each u) c.args.slots.now going.all in
     let stop = c.in-Err.ensures.stopped m s can going.unprotected in
     let next = scratch_cut _ _ (g.M.Medium.seen c.clear.new.self.medium).content _ old.channels old.told old.text m s ps c.args.slots.now going stop.0 in (
       _,
-      inr (subst (λ v. HasFailed (g.M.Medium.seen old.medium) (g.M.Medium.seen v)) (sym c.set-in-Err.ensures.medium) stop.1, next.1 c.in-Err.trouble c.from.result (sym (ap (λ k. length k.channels) whole) ∙ c.clear.ensures.count) c.from.ensures),
+      inr (subst (λ v. HasFailed (g.M.Medium.seen old.medium) (g.M.Medium.seen v)) (sym c.set-in-Err.ensures.medium) stop.1, next.1 c.in-Err.trouble c.from.result (sym (ap (λ k. length k.channels) whole) ∙ c.clear.ensures.only.count) c.from.ensures),
       c.set-in-Err.ensures.leads next.0 (subst (λ k. StandsBy (g.M.Medium.seen k.medium).content (g.M.Medium.seen k.medium).tracks (g.M.Medium.seen k.medium).protected k.channels k.told k.text next.0) (sym whole)
           (renamed _ _ _ _ _ _ _ _ _ c.clear.ensures.medium.tracks c.clear.ensures.medium.protected next.2)),
     )
@@ -47,11 +47,13 @@ returns-in-Ok-clause-spared g c = λ free. not_refused _ _ c.set.ensures.told re
 pub returns-in-Err-clause-spared : goal.returns-in-Err-clause-spared
 returns-in-Err-clause-spared g c = λ free is. absurd (c.in-Err.ensures.unguarded free (refused_26 c.in-Err.trouble c.from.result _ c.from.ensures c.set-in-Err.ensures.told is))
 
--- ---- what it makes of the medium, on any disk
+-- ---- what it leaves, on any disk
 
-pub returns-in-Err-clause-counted : goal.returns-in-Err-clause-counted
-returns-in-Err-clause-counted g c =
-    counted_else g.M.Medium.seen c.args.self.now c.set-in-Err.new.self c.args.self.now.medium c.clear.new.self.medium refl c.set-in-Err.ensures.medium c.clear.result c.in-Err.trouble c.in-Err.is c.clear.ensures.medium (ap (λ x. x.status) c.set-in-Err.ensures.told ∙ c.from.ensures)
+pub returns-in-Err-clause-leaves : goal.returns-in-Err-clause-leaves
+returns-in-Err-clause-leaves g c = record {
+  medium = (search rules);
+  counted = counted_else g.M.Medium.seen c.args.self.now c.set-in-Err.new.self c.args.self.now.medium c.clear.new.self.medium refl c.set-in-Err.ensures.medium c.clear.result c.in-Err.trouble c.in-Err.is c.clear.ensures.medium (ap (λ x. x.status) c.set-in-Err.ensures.told ∙ c.from.ensures);
+}
 
 -- ---- what lies outside the disk
 

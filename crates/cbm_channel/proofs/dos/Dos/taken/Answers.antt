@@ -1,12 +1,12 @@
-use Rattle.std.proofs.Common.{◌≡◌, ◌<◌, Some, false, true, length, refl, sym, ap, subst, ◌∙◌, arith}
+use Rattle.std.proofs.Common.{rules, ◌≡◌, ◌<◌, Some, false, true, length, refl, sym, ap, subst, ◌∙◌, arith}
 use Rattle.std.specs.Prelude.{slice_index_or}
 use Rattle.cbm_machine.specs.Machines.{channel}
 use Rattle.cbm_machine.specs.Talking.{taken}
 use Rattle.cbm_channel.specs.Grounds.{HidesRecords}
 use Rattle.cbm_channel.specs.Shown.{has_records, has_records_on, shown_by}
-use Rattle.cbm_channel.specs.Standing.{Kept, uses_of}
+use Rattle.cbm_channel.specs.Standing.{SameBut, Kept, uses_of}
 use Rattle.cbm_channel.specs.declared.channel.Channel.TheVariants.{Closed}
-use Rattle.cbm_channel.proofs.Changed.{fit_set}
+use Rattle.cbm_channel.proofs.Changed.{others_set, fit_set}
 use Rattle.cbm_channel.proofs.HiddenRecords.{told_hidden}
 use Rattle.cbm_channel.proofs.Asked.{below_15, taken_other}
 use Rattle.cbm_channel.proofs.Stands.{any_default, with_one, told_on, means_of, stands_at, waits_at, use_at, moved, stood, not_ok}
@@ -60,10 +60,14 @@ invariant_of-self-in-Err g c =
     fit_set _ c.self.inside.channels c.args.channel c.taken-2.new.self c.self.invariant c.taken-2.ensures.fits (omega (arith, c.requires, c.if-channel-eq15.false, c.self.invariant.count))
 
 -- the record's trouble is reported
-pub returns-in-Err-clause-ground : goal.returns-in-Err-clause-ground
-returns-in-Err-clause-ground g c = λ lt rel.
-    let inside : c.args.channel < length c.self.inside.channels = omega (arith, lt, c.self.invariant.count) in
-    let records : has_records (slice_index_or c.self.inside.channels c.args.channel c.index-self-channel.result) ≡ true =
-    sym (ap has_records (any_default c.self.inside.channels c.args.channel Closed c.index-self-channel.result inside)) ∙ subst (λ (k : Kept _). has_records_on c.args.channel k ≡ true) (sym c.self.view_is) rel in
-    told_hidden g.M.Medium.seen c.args.self.now c.set.new.self c.in-Err.trouble (c.set.ensures.told ∙ ap (λ s. record { status = s; told = 0 }) c.from.ensures)
-    (subst (λ (k : Kept _). HidesRecords (g.M.Medium.seen k.medium) c.in-Err.trouble) c.self.view_is (c.in-Err.ensures.cause records))
+pub returns-in-Err-clause-takes : goal.returns-in-Err-clause-takes
+returns-in-Err-clause-takes g c = record {
+  status = (search rules);
+  others = subst (λ (k : Kept _). SameBut c.args.channel k.channels c.set.new.self.channels) c.self.view_is (others_set c.self.inside.channels c.set.new.self.channels c.args.channel c.taken-2.new.self c.set.ensures.channels);
+  ground = λ lt rel.
+      let inside : c.args.channel < length c.self.inside.channels = omega (arith, lt, c.self.invariant.count) in
+      let records : has_records (slice_index_or c.self.inside.channels c.args.channel c.index-self-channel.result) ≡ true =
+      sym (ap has_records (any_default c.self.inside.channels c.args.channel Closed c.index-self-channel.result inside)) ∙ subst (λ (k : Kept _). has_records_on c.args.channel k ≡ true) (sym c.self.view_is) rel in
+      told_hidden g.M.Medium.seen c.args.self.now c.set.new.self c.in-Err.trouble (c.set.ensures.told ∙ ap (λ s. record { status = s; told = 0 }) c.from.ensures)
+      (subst (λ (k : Kept _). HidesRecords (g.M.Medium.seen k.medium) c.in-Err.trouble) c.self.view_is (c.in-Err.ensures.cause records));
+}

@@ -65,15 +65,25 @@ returns-in-Err-clause-goes g c = λ m s.
 
 -- ---- what is refused
 
-pub returns-in-Ok-clause-spared : goal.returns-in-Ok-clause-spared
-returns-in-Ok-clause-spared g c = not_refused _ _ c.say-in-Ok.ensures.told refl
+pub returns-in-Ok-clause-leaves : goal.returns-in-Ok-clause-leaves
+returns-in-Ok-clause-leaves g c = record {
+  channels = (search rules);
+  spared = not_refused _ _ c.say-in-Ok.ensures.told refl;
+  medium = (search rules);
+  counted = (search rules);
+}
 
 -- 26 says that the disk is protected
-pub returns-in-Err-clause-spared : goal.returns-in-Err-clause-spared
-returns-in-Err-clause-spared g c = λ is.
-    ap (λ v. (g.M.Medium.seen v).content) c.set.ensures.medium
-    ∙ (c.in-Err.ensures.kept (c.in-Err.ensures.only.guarded (refused_26 c.in-Err.trouble c.from.result _ c.from.ensures c.set.ensures.told is))
-    ∙ ap (λ k. (g.M.Medium.seen k.medium).content) c.self.view_is)
+pub returns-in-Err-clause-leaves : goal.returns-in-Err-clause-leaves
+returns-in-Err-clause-leaves g c = record {
+  channels = (search rules);
+  spared = λ is.
+      ap (λ v. (g.M.Medium.seen v).content) c.set.ensures.medium
+      ∙ (c.in-Err.ensures.kept (c.in-Err.ensures.only.guarded (refused_26 c.in-Err.trouble c.from.result _ c.from.ensures c.set.ensures.told is))
+      ∙ ap (λ k. (g.M.Medium.seen k.medium).content) c.self.view_is);
+  medium = (search rules);
+  counted = counted_told g.M.Medium.seen c.args.self.now c.set.new.self c.self.inside.volume c.validate.new.self (ap (λ k. k.medium) c.self.view_is) c.set.ensures.medium c.validate.result c.in-Err.trouble c.in-Err.is c.validate.ensures.only (ap (λ x. x.status) c.set.ensures.told ∙ c.from.ensures);
+}
 
 -- ---- what is changed
 
@@ -91,12 +101,6 @@ pub returns-in-Err-clause-ordered : goal.returns-in-Err-clause-ordered
 returns-in-Err-clause-ordered g c =
     refused_ordered g.M.Medium.seen c.args.self.now.medium _ _ (g.M.Medium.seen c.self.inside.volume) (g.M.Medium.seen c.validate.new.self) _ (trouble_not_fine c.in-Err.trouble c.from.result c.from.ensures) (ap (λ k. g.M.Medium.seen k.medium) c.self.view_is)
     (ap g.M.Medium.seen c.set.ensures.medium) c.set.ensures.told c.in-Err.ensures.in_order
-
--- ---- what it makes of the medium, on any disk
-
-pub returns-in-Err-clause-counted : goal.returns-in-Err-clause-counted
-returns-in-Err-clause-counted g c =
-    counted_told g.M.Medium.seen c.args.self.now c.set.new.self c.self.inside.volume c.validate.new.self (ap (λ k. k.medium) c.self.view_is) c.set.ensures.medium c.validate.result c.in-Err.trouble c.in-Err.is c.validate.ensures.only (ap (λ x. x.status) c.set.ensures.told ∙ c.from.ensures)
 
 -- ---- what lies outside the disk
 

@@ -1,7 +1,8 @@
 use Rattle.std.proofs.Common.{subst, inl, refl}
-use Rattle.cbm_channel.proofs.RecordPuts.{Grows, no_place, grows_by}
+use Rattle.cbm_channel.proofs.RecordPuts.{no_place, grows_by}
 use Rattle.cbm_channel.specs.ChannelCalls.{OfPlaced, KeepsOutside}
 use Rattle.cbm_channel.proofs.Outside.{outside_itself, growth_outside}
+use Rattle.cbm_channel.specs.PlaceCalls.{GrowsToPlace}
 use Rattle.cbm_channel.proofs.on_record.OnRecord.grow.Goals as goal
 
 -- a place has no number 0
@@ -10,7 +11,7 @@ returns-then-self-eq0-clause-grown g c = λ d uses b s rs can none. absurd (no_p
 
 pub returns-clause-grown : goal.returns-clause-grown
 returns-clause-grown g c =
-    subst (λ r. Grows (g.M.Medium.seen c.args.volume.now) (g.M.Medium.seen c.grow_records.new.self) r c.grow_records.result) c.self.view_is
+    subst (λ r. GrowsToPlace (g.M.Medium.seen c.args.volume.now) (g.M.Medium.seen c.grow_records.new.self) r c.grow_records.result) c.self.view_is
     (λ d uses b s rs can none. (let call = c.grow_records.ensures.call d uses _ b s rs can.has in
     grows_by (g.M.Medium.seen c.args.volume.now) (g.M.Medium.seen c.grow_records.new.self) d uses _ b s rs c.grow_records.result none call.grown call.full call.stopped))
 
