@@ -1,6 +1,5 @@
 -- What was played from rest, and nothing is due up to the end: each drive was handed what the wires hand it.
 use Rattle.std.proofs.Common.{ℕ, ◌+◌, Bool, List, [], ◌∷◌, Option, Some, None, arith}
-use Rattle.std.specs.Prelude.{Result, Ok, Err, OnOk, MatchResult}
 use Rattle.cbm_iec.specs.Ports.{port_due}
 use Rattle.cbm_iec.specs.declared.machine.Act.{Act}
 use Rattle.cbm_iec.specs.declared.event.Event.{Event}
@@ -13,7 +12,7 @@ use Rattle.cbm_session.specs.Handed.{AllReact}
 use Rattle.cbm_session.specs.Playing.{Station, IsLaterDue, AllInTime, AllLater, at_rest}
 use Rattle.cbm_session.specs.Sessions.{AllUnlike}
 use Rattle.cbm_drive.proofs.Reacted.{stations_in_time}
-use Rattle.cbm_drive.specs.Played.{HasPlayed, IsPlayCut, HasHanded}
+use Rattle.cbm_drive.specs.Played.{HasPlayed, HasHanded}
 use Rattle.cbm_drive.specs.Seats.{Seated, AreInTime, wires_held_by}
 
 module _ (D M : Type 0) (stands : D → M → Type 0) (step : M → Act → M) (says : M → Option (ℕ × Bool)) where
@@ -35,11 +34,3 @@ module _ (D M : Type 0) (stands : D → M → Type 0) (step : M → Act → M) (
     handed = hands_each M step says bs ms p.from end p.made p.stations unlike swift p.plays (let b = p.before in omega (arith, b)) (later_all end p.stations (stations_in_time D M stands step says (wires_held_by host xs) (end + 1) xs p.stations p.now quiet));
     now = p.now;
   }
-
-  -- where the play came to its end
-  pub handed_by : {A E : Type 0} (r : Result A E) (host : Lines) (end : ℕ) (xs : List (Seated D)) (old new : List Event) (cs : List Change) (bs : List Party) (ms : ℕ → M) → AllUnlike bs → AllReact bs
-      → OnOk r (AreInTime (end + 1) xs)
-      → MatchResult r (λ x. HasPlayed D M stands step says host (end + 1) xs old new cs (at_rest M step says ms bs)) (λ f. IsPlayCut D M stands step says host xs old new cs (at_rest M step says ms bs))
-      → OnOk r (HasHanded D M stands step says host end xs old new cs bs ms)
-  handed_by (Ok x) host end xs old new cs bs ms unlike swift quiet p = handed_so host end xs old new cs bs ms unlike swift quiet p
-  handed_by (Err f) host end xs old new cs bs ms unlike swift quiet p = tt

@@ -1,6 +1,5 @@
 -- Behind a play from rest, under a host that keeps the timing, the drives have kept to a session.
 use Rattle.std.proofs.Common.{◌≡◌, ℕ, ◌+◌, Bool, false, List, [], ◌∷◌, ◌++◌, append-nil, Option, Some, None, ap, subst, ◌∙◌, arith}
-use Rattle.std.specs.Prelude.{Result, Ok, Err, OnOk}
 use Rattle.cbm_iec.specs.Ports.{port_due}
 use Rattle.cbm_iec.specs.declared.machine.Act.TheVariants.{Said}
 use Rattle.cbm_iec.specs.declared.machine.Act.{Act}
@@ -15,7 +14,7 @@ use Rattle.cbm_session.specs.Playing.{IsLaterDue, Station, Plays, AllInTime, All
 use Rattle.cbm_session.specs.Sessions.{IsBus}
 use Rattle.cbm_session.specs.Timing.{HostKeeps}
 use Rattle.cbm_drive.proofs.Reacted.{stations_later, stations_in_time}
-use Rattle.cbm_drive.specs.Kept.{HasKept, HasKeptLoosely}
+use Rattle.cbm_drive.specs.Kept.{HasKeptLoosely}
 use Rattle.cbm_drive.specs.Played.{HasPlayed}
 use Rattle.cbm_drive.specs.Players.{Turns, pending, IsAfter}
 use Rattle.cbm_drive.specs.Seats.{Seated, AreLater, AreInTime, wires_held_by}
@@ -38,12 +37,6 @@ module _ (D M : Type 0) (stands : D → M → Type 0) (step : M → Act → M) (
         play = record { made = p.made; stations = p.stations; added = p.added; now = p.now; kept = λ timing. keeps M step says bs ms p.from end p.made p.stations is_bus (record { more = more }) p.plays later timing };
         loosely = λ timing. keeps_loosely M step says bs ms p.from end p.made p.stations is_bus (record { more = more }) p.plays (let b = p.before in omega (arith, b)) later timing;
       }
-
-  -- the play without its loose host
-  pub kept_alone : {E : Type 0} (bs : List Party) (ms : ℕ → M) (host : Lines) (end : ℕ) (xs : List (Seated D)) (old new : List Event) (r : Result (Unit {0}) E)
-      → OnOk r (HasKeptLoosely D M stands step says bs ms host end xs old new) → OnOk r (HasKept D M stands step says bs ms host end xs old new)
-  kept_alone bs ms host end xs old new (Ok x) h = h.play
-  kept_alone bs ms host end xs old new (Err e) h = tt
 
   -- and behind what a player gave
   pub kept_after : ((m : M) (n : ℕ) → says m ≡ Some (n, false) → (x : ℕ × Bool) × (says (step m (Said n false)) ≡ Some x)) → (p : Turns) (b : Cabled D) (bs : List Party) (ms : ℕ → M) (es : List Event) (end : ℕ) → IsBus bs → p.second ≡ None

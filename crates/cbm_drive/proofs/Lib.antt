@@ -13,6 +13,7 @@ pub mod Kept
 pub mod Ordered
 pub mod Ahead
 pub mod Players
+pub mod Added
 pub mod Desks
 pub mod Handed
 pub mod Alone

@@ -1,7 +1,6 @@
 -- Drives play on: a reaction is one step of the play.
-use Rattle.std.proofs.Common.{◌≡◌, ℕ, suc, ◌+◌, ◌<◌, ◌≤◌, Bool, List, [], ◌∷◌, ◌++◌, map, Option, Some, None, refl, sym, ap, subst, ◌∙◌, arith}
+use Rattle.std.proofs.Common.{◌≡◌, ℕ, suc, ◌+◌, ◌<◌, ◌≤◌, Bool, List, [], ◌∷◌, ◌++◌, map, Option, Some, None, refl, sym, ap, ◌∙◌, arith}
 use Rattle.std.proofs.lemmas.List.{append_assoc, append-nil}
-use Rattle.std.specs.Prelude.{Result, Ok, Err, IsErr, MatchResult}
 use Rattle.std.specs.List.{AllZip}
 use Rattle.cbm_iec.specs.declared.machine.Act.{Act}
 use Rattle.cbm_iec.specs.declared.event.Event.{Event}
@@ -12,7 +11,7 @@ use Rattle.cbm_iec.specs.declared.lines.Lines.{Lines}
 use Rattle.cbm_session.specs.Playing.{Station, Plays, stays, change, reaction, tell, host_event, AllBytes, IsByte, reacting, shown, drive_events}
 use Rattle.cbm_session.proofs.headline.Keeping.{plays_then}
 use Rattle.cbm_drive.specs.declared.wires.Wires.{Wires}
-use Rattle.cbm_drive.specs.Played.{HasSettled, HasPlayed, IsPlayCut}
+use Rattle.cbm_drive.specs.Played.{HasSettled}
 use Rattle.cbm_drive.specs.Ordered.{host_changes, with_host}
 use Rattle.cbm_drive.proofs.Reacted.{stations_in_time}
 use Rattle.cbm_drive.specs.Reactions.{HasReacted}
@@ -45,7 +44,7 @@ module _ (D M : Type 0) (stands : D → M → Type 0) (step : M → Act → M) (
   bytes_of all (x ∷ xs) [] h = absurd h
   bytes_of all (x ∷ xs) (s ∷ ss) h = (one_byte x.machine s.machine (says s.machine) h.0.machine refl, bytes_of all xs ss h.1)
 
-  at_bus : (host : Lines) (xs : List (Seated D)) (ss : List (Station M)) → IsBusAt D M stands host xs ss → AllBytes M step says ss
+  pub at_bus : (host : Lines) (xs : List (Seated D)) (ss : List (Station M)) → IsBusAt D M stands host xs ss → AllBytes M step says ss
   at_bus host xs ss h = bytes_of (wires_held_by host xs) xs ss h
 
   -- nothing has happened yet
@@ -105,72 +104,3 @@ module _ (D M : Type 0) (stood stands : D → M → Type 0) (step : M → Act �
       → Plays M step says n ss (host_event c ∷ []) c.moment (map (λ s. tell M step says c s) ss)
   one_change host now c n xs ys ss h t l k =
       change c [] (at_bus D M stood step says byte host xs ss h) l (stations_in_time D M stood step says (wires_held_by host xs) c.moment xs ss h t) refl (stays (at_bus D M stands step says byte_now now ys (map (λ s. tell M step says c s) ss) k) refl refl refl)
-
-module _ (D M : Type 0) (stands : D → M → Type 0) (step : M → Act → M) (says : M → Option (ℕ × Bool)) (byte : (x : D) (m : M) (n : ℕ) (last : Bool) → stands x m → says m ≡ Some (n, last) → n < 256) where
-  -- the reactions before it, and the change
-  pub played_more : (host now : Lines) (c : Change) (before : ℕ) (xs ys zs : List (Seated D)) (old mid new last : List Event) (cs : List Change) (ss : List (Station M)) → (p : HasPlayed D M stands step says host before xs old mid cs ss)
-      → (s : HasSettled D M stands step says host c.moment ys mid new p.from p.stations) → AreInTime c.moment ys → ((us : List (Station M)) → IsBusAt D M stands host ys us → IsBusAt D M stands now zs (map (λ u. tell M step says c u) us))
-      → last ≡ new ++ host_event c ∷ [] → HasPlayed D M stands step says now c.moment zs old last (cs ++ c ∷ []) ss
-  played_more host now c before xs ys zs old mid new last cs ss p s t told e = record {
-    made = p.made ++ (s.made ++ host_event c ∷ []);
-    from = c.moment;
-    stations = map (λ u. tell M step says c u) s.stations;
-    added = e ∙ ap (λ (v : List Event). v ++ host_event c ∷ []) (s.added ∙ ap (λ (v : List Event). v ++ s.made) p.added) ∙ append_assoc (old ++ p.made) s.made (host_event c ∷ []) ∙ append_assoc old p.made (s.made ++ host_event c ∷ []);
-    plays = plays_then M step says p.plays (plays_then M step says s.plays (one_change D M stands stands step says byte byte host now c s.from ys zs s.stations s.now t s.before (told s.stations s.now)));
-    hosts = host_append p.made (s.made ++ host_event c ∷ []) ∙ (λ i. p.hosts i ++ (host_append s.made (host_event c ∷ []) ∙ ap (λ (v : List Change). v ++ c ∷ []) s.quiet) i);
-    before = omega arith;
-    now = told s.stations s.now;
-  }
-
-  -- want of memory behind reactions
-  pub played_cut : (host : Lines) (before limit : ℕ) (xs ys : List (Seated D)) (old mid new : List Event) (cs rest all : List Change) (ss : List (Station M)) → (p : HasPlayed D M stands step says host before xs old mid cs ss)
-      → HasSettled D M stands step says host limit ys mid new p.from p.stations → cs ++ rest ≡ all → IsPlayCut D M stands step says host ys old new all ss
-  played_cut host before limit xs ys old mid new cs rest all ss p s e = record {
-    made = p.made ++ s.made;
-    rest = rest;
-    from = s.from;
-    stations = s.stations;
-    added = s.added ∙ ap (λ (v : List Event). v ++ s.made) p.added ∙ append_assoc old p.made s.made;
-    plays = plays_then M step says p.plays s.plays;
-    hosts = ap (λ (v : List Change). v ++ rest) (host_append p.made s.made ∙ (λ i. p.hosts i ++ s.quiet i) ∙ append-nil cs) ∙ e;
-    now = s.now;
-  }
-
-  -- the reactions up to the end
-  pub played_end : (host : Lines) (before limit : ℕ) (xs ys : List (Seated D)) (old mid new : List Event) (cs : List Change) (ss : List (Station M)) → (p : HasPlayed D M stands step says host before xs old mid cs ss)
-      → HasSettled D M stands step says host limit ys mid new p.from p.stations → HasPlayed D M stands step says host limit ys old new cs ss
-  played_end host before limit xs ys old mid new cs ss p s = record {
-    made = p.made ++ s.made;
-    from = s.from;
-    stations = s.stations;
-    added = s.added ∙ ap (λ (v : List Event). v ++ s.made) p.added ∙ append_assoc old p.made s.made;
-    plays = plays_then M step says p.plays s.plays;
-    hosts = host_append p.made s.made ∙ (λ i. p.hosts i ++ s.quiet i) ∙ append-nil cs;
-    before = s.before;
-    now = s.now;
-  }
-
-  -- nothing was played yet
-  pub played_none : (host : Lines) (xs : List (Seated D)) (es : List Event) (ss : List (Station M)) → IsBusAt D M stands host xs ss → HasPlayed D M stands step says host 0 xs es es [] ss
-  played_none host xs es ss h = record {
-    made = [];
-    from = 0;
-    stations = ss;
-    added = sym (append-nil es);
-    plays = stays (at_bus D M stands step says byte host xs ss h) refl refl refl;
-    hosts = refl;
-    before = omega arith;
-    now = h;
-  }
-
-  -- the answer of the last reactions is the answer of the whole
-  pub played_so : {X E : Type 0} (r : Result X E) (host : Lines) (before limit : ℕ) (xs ys : List (Seated D)) (old mid new : List Event) (cs : List Change) (ss : List (Station M)) → (p : HasPlayed D M stands step says host before xs old mid cs ss)
-      → HasSettled D M stands step says host limit ys mid new p.from p.stations
-      → MatchResult r (λ x. HasPlayed D M stands step says host limit ys old new cs ss) (λ e. IsPlayCut D M stands step says host ys old new cs ss)
-  played_so (Ok x) host before limit xs ys old mid new cs ss p h = played_end host before limit xs ys old mid new cs ss p h
-  played_so (Err e) host before limit xs ys old mid new cs ss p h = played_cut host before limit xs ys old mid new cs [] cs ss p h (append-nil cs)
-
--- what is passed on by `?` is an Err
-pub passed_on : {X E : Type 0} (r : Result X E) (P : X → Type 0) (Q : E → Type 0) → IsErr r → ((e : E) → Q e) → MatchResult r P Q
-passed_on (Ok x) P Q h f = absurd (cc)
-passed_on (Err e) P Q h f = f e

@@ -1,5 +1,5 @@
 -- Changes of a host played one at a time, event by event.
-use Rattle.std.specs.Prelude.{ℕ, ◌+◌, ◌*◌, ◌^◌, ◌≡◌, ◌<◌, ◌≤◌, Bool, List, length, [], ◌∷◌, ◌++◌, Option, Some, None, IfSome}
+use Rattle.std.specs.Prelude.{ℕ, ◌+◌, ◌-◌, min, ◌*◌, ◌^◌, ◌≡◌, ◌<◌, ◌≤◌, Bool, List, length, [], ◌∷◌, ◌++◌, Option, Some, None, IfSome}
 use Rattle.cbm_iec.specs.declared.machine.Act.{Act}
 use Rattle.cbm_iec.specs.declared.event.Event.{Event}
 use Rattle.cbm_iec.specs.declared.event.Who.TheVariants.{Host, Drive}
@@ -7,6 +7,7 @@ use Rattle.cbm_iec.specs.declared.event.Who.{Who}
 use Rattle.cbm_iec.specs.declared.lines.Change.{Change}
 use Rattle.cbm_session.specs.Playing.{Station, Plays}
 use Rattle.cbm_drive.specs.Cables.{Cabled}
+use Rattle.cbm_drive.specs.Ordered.{host_changes}
 use Rattle.cbm_drive.specs.Progress.{left}
 use Rattle.cbm_drive.specs.Seats.{Seated, AreInTime, IsBusAt}
 use Rattle.cbm_drive.specs.Silence.{AreSilent}
@@ -22,6 +23,20 @@ pub record Turns : Type 0 where
 -- a player that was offered nothing and has given nothing
 abbrev pub at_start : Turns
 at_start = record { waiting = None; second = None; from = 0; taken = 0 }
+
+-- a player that took this change
+abbrev pub change_taken : Change → Turns → Turns
+change_taken c p = record { waiting = Some c; second = p.second; from = p.from; taken = min (p.taken + 1) (2 ^ 64 - 1) }
+
+-- a player whose second change of a reaction was given
+abbrev pub nothing_left : Turns → Turns
+nothing_left p = record { waiting = p.waiting; second = None; from = p.from; taken = p.taken }
+
+-- No change is pending, none is still to be given, and the host's next one may come from this moment on.
+pub record IsOpen (p : Turns) (moment : ℕ) : Type 0 where
+  pub waiting : p.waiting ≡ None
+  pub second : p.second ≡ None
+  pub from : p.from ≤ moment
 
 -- the event that is still to be given
 abbrev pub pending : Option Event → List Event
@@ -79,6 +94,14 @@ module _ (D M : Type 0) (stands : D → M → Type 0) (step : M → Act → M) (
     pub plays : Plays M step says n ss (es ++ pending p.second) from stations
     pub now : IsBusAt D M stands b.host b.drives stations
     pub second : IsSecond p.from p.second
+
+  -- EVENTS WERE ADDED to a list, and given behind those before: the changes of the host among them are these, and nothing is still to be given.
+  pub record HasAdded (p : Turns) (b : Cabled D) (old new : List Event) (cs : List Change) (n : ℕ) (ss : List (Station M)) (es : List Event) : Type 0 where
+    pub made : List Event
+    pub added : new ≡ old ++ made
+    pub hosts : host_changes made ≡ cs
+    pub after : IsAfter p b n ss (es ++ made)
+    pub second : p.second ≡ None
 
   -- THE NEXT EVENT was given, which comes at this moment or before.
   pub record HasGiven (p : Turns) (b : Cabled D) (upto n : ℕ) (ss : List (Station M)) (es : List Event) (e : Event) : Type 0 where

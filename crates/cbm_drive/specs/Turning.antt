@@ -17,7 +17,7 @@ use Rattle.cbm_drive.specs.Kept.{HasKept, HasKeptLoosely}
 use Rattle.cbm_drive.specs.Ordered.{fault_of}
 use Rattle.cbm_drive.specs.Playback.{Shown, Playback, IsPlayedBack, played_says, played_step}
 use Rattle.cbm_drive.specs.Played.{HasSettled, HasPlayed, IsPlayCut, HasHanded}
-use Rattle.cbm_drive.specs.Players.{Turns, IsAfter, HasGiven, IsStill, IsFinished}
+use Rattle.cbm_drive.specs.Players.{Turns, IsAfter, HasAdded, HasGiven, IsStill, IsFinished}
 use Rattle.cbm_drive.specs.Reactions.{HasReacted}
 use Rattle.cbm_drive.specs.Seats.{Seated, IsBusAt, Unfailed}
 use Rattle.cbm_drive.specs.Silence.{AnyShows}
@@ -85,6 +85,16 @@ module _ (D M : Type 0) (stands : D → M → Type 0) (step : M → Act → M) (
   abbrev pub Finishes : Turns → Turns → Cabled D → Cabled D → ℕ → Option Event → Type 0
   Finishes p q b c upto result = (n : ℕ) (ss : List (Station M)) (es : List Event) → IsAfter D M stands step says p b n ss es →
       MatchOption result (IsFinished D M stands step says q c upto n ss es) (λ e. IsAfter D M stands step says q c n ss (es ++ e ∷ []))
+
+  -- A change of the host comes with what is due before it, and all is added; or memory is lacking on the way, and the change hasn't come.
+  abbrev pub AddsChange : {E : Type 0} → Turns → Turns → Cabled D → Cabled D → List Event → List Event → Change → Result (Unit {0}) E → Type 0
+  AddsChange p q b c old new change result = (n : ℕ) (ss : List (Station M)) (es : List Event) → IsAfter D M stands step says p b n ss es →
+      MatchResult result (λ x. HasAdded D M stands step says q c old new (change ∷ []) n ss es) (λ e. HasAdded D M stands step says q c old new [] n ss es)
+
+  -- What is due comes, and is added.
+  abbrev pub AddsRest : Turns → Turns → Cabled D → Cabled D → List Event → List Event → Type 0
+  AddsRest p q b c old new = (n : ℕ) (ss : List (Station M)) (es : List Event) → IsAfter D M stands step says p b n ss es →
+      HasAdded D M stands step says q c old new [] n ss es
 
 -- A drive alone, on any disk: there is a record of what it showed after each act of the call, and so it is of the machine that replays this record.
 module _ {D : Type 0} (shows : D → Shown) where

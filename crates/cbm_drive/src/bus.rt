@@ -5,9 +5,8 @@ use crate::drives::{Answer, all_rest, first_due, react, tell_all};
 use crate::fault::{PlayFault, first_fault};
 use crate::half::Half;
 use crate::looking::{any_shows, first_shown};
-use crate::playing::{play_on, settle};
+use crate::playing::play_on;
 use cbm_iec::{Change, Event, Lines, Machine};
-use std::alloc::AllocError;
 use std::marker::Model;
 
 /// Drives on one cable with a host. Of several whose reactions are due at one moment the one that is listed first answers
@@ -41,7 +40,6 @@ impl<D: Machine, const N: usize> Bus<D, N> {
     ghost use Rattle.cbm_drive.specs.Ordered.{fault_of};
     ghost use Rattle.cbm_drive.specs.declared.fault.PlayFault.{PlayFault};
     ghost use Rattle.cbm_drive.specs.declared.fault.PlayFault.TheVariants.{Memory};
-    ghost use Rattle.cbm_drive.specs.Played.{HasSettled};
     ghost use Rattle.cbm_drive.specs.Turning.{ShowsFirst, ShowsAny, PlaysList, HandsToEach, PlaysSessions, PlaysLoosely, ToldBack, ShownBack};
     ghost use Rattle.cbm_drive.specs.Playback.{Shown, Playback, IsPlayedBack, played_says, played_step};
     ghost use Rattle.cbm_drive.specs.Progress.{AreKept, IsNearer, left};
@@ -185,22 +183,6 @@ impl<D: Machine, const N: usize> Bus<D, N> {
         drive.half(limit)
     }
 
-    /// The reactions that are due before a limit happen, each in its turn, and their changes go to the events. So a host may
-    /// change a line at the limit or later. An `Err` is want of memory, before a reaction: what happened went to the events.
-    pub fn settle(&mut self, limit: u64, events: &mut Vec<Event>) -> Result<(), AllocError>
-        requires { limit < 2 ^ 60 }
-        ensures settled { OnOk result (AreInTime limit self.new.drives) }
-        ensures played { Unfailed D.failures self.old.drives self.new.drives → (ss : List (Station D.State)) (n : ℕ) →
-            IsBusAt _ D.State D.stands self.old.host self.old.drives ss → n ≤ limit →
-            HasSettled _ D.State D.stands D.step D.says self.old.host limit self.new.drives events.old.items
-            events.new.items n ss }
-        ensures host { self.new.host ≡ self.old.host }
-        ensures lasting { numbers D.lasting self.new.drives ≡ numbers D.lasting self.old.drives }
-        ensures counted { failed D.failures self.old.drives ≤ failed D.failures self.new.drives }
-    {
-        settle(self.drives.as_mut_slice(), self.host, limit, events)
-    }
-
     /// Plays these changes of the host up to an end, in microseconds: all events, the host's and the drives', come one after
     /// the other, the reactions that are due at the end too. Errors: the first change that goes back in time or comes after
     /// the end, and then nothing was played; or want of memory, before a step: the events are all that happened.
@@ -237,13 +219,7 @@ impl<D: Machine, const N: usize> Bus<D, N> {
         if let Some(fault) = first_fault(changes, 0, 0, end) {
             return Err(fault);
         }
-        match play_on(
-            self.drives.as_mut_slice(),
-            &mut self.host,
-            changes,
-            end,
-            events,
-        ) {
+        match play_on(self, changes, end, events) {
             Ok(()) => Ok(()),
             Err(_) => Err(PlayFault::Memory),
         }

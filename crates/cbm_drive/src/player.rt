@@ -40,8 +40,8 @@ impl Player {
     ghost use Rattle.cbm_drive.specs.Playback.{Shown, Playback, IsPlayedBack, played_says, played_step};
     ghost use Rattle.cbm_drive.specs.Halves.{has_nothing, half_alone, half_events, half_given};
     ghost use Rattle.cbm_drive.specs.Reactions.{AreAtMoment};
-    ghost use Rattle.cbm_drive.specs.Seats.{AreLater, numbers, Unfailed, failed};
-    ghost use Rattle.cbm_drive.specs.Players.{at_start, pending, at_most, IsLessLeft, IsWaitingFrom, IsTurnOf, IsAfterEvent, IsDrives, IsGivenBefore, IsAfter};
+    ghost use Rattle.cbm_drive.specs.Seats.{AreInTime, AreLater, numbers, Unfailed, failed};
+    ghost use Rattle.cbm_drive.specs.Players.{at_start, change_taken, nothing_left, pending, at_most, IsLessLeft, IsWaitingFrom, IsTurnOf, IsAfterEvent, IsDrives, IsGivenBefore, IsAfter};
     ghost use Rattle.cbm_drive.specs.Turning.{GivesNext, GivesOne, GivesHalf, Finishes, GivesNextBack, GivesOneBack, GivesHalfBack, FinishesBack};
     ghost use Rattle.cbm_iec.specs.declared.event.Who.TheVariants.{Drive};
     ghost use Rattle.cbm_drive.specs.declared.fault.PlayFault.TheVariants.{Backwards};
@@ -72,19 +72,33 @@ impl Player {
         requires moment { change.moment < 2 ^ 59 }
         ensures fault { change.moment < self.old.from →
             (result ≡ Err (Backwards self.old.taken)) × (self.new ≡ self.old) }
-        ensures taken { self.old.from ≤ change.moment → (result ≡ Ok tt) × (self.new ≡ record {
-          waiting = Some change;
-          second = self.old.second;
-          from = self.old.from;
-          taken = min (self.old.taken + 1) (2 ^ 64 - 1);
-        }) }
+        ensures taken { self.old.from ≤ change.moment → (result ≡ Ok tt) × (self.new ≡ change_taken change self.old) }
     {
         if change.moment < self.from {
             return Err(PlayFault::Backwards(self.taken));
         }
+        self.take(change);
+        Ok(())
+    }
+
+    /// As `offer`, of a change that comes in order.
+    #[inline(always)]
+    pub(crate) fn take(&mut self, change: Change)
+        requires from { self.old.from ≤ change.moment }
+        requires moment { change.moment < 2 ^ 59 }
+        ensures { self.new ≡ change_taken change self.old }
+    {
         self.waiting = Some(change);
         self.taken = self.taken.saturating_add(1);
-        Ok(())
+    }
+
+    /// The event that is still to be given.
+    #[inline(always)]
+    pub(crate) fn second(&mut self) -> Option<Event>
+        ensures event { result ≡ self.old.second }
+        ensures player { self.new ≡ nothing_left self.old }
+    {
+        self.second.take()
     }
 
     /// The next event at a moment or before it. A pending change comes before reactions of its own moment. None where
@@ -95,7 +109,7 @@ impl Player {
         bus: &mut Bus<D, N>,
         upto: u64,
     ) -> Option<Event>
-        requires { upto < 2 ^ 59 - 1 }
+        requires { upto < 2 ^ 59 }
         ensures given { Unfailed D.failures bus.old.drives bus.new.drives →
             GivesNext _ D.State D.stands D.step D.says self.old self.new bus.old bus.new upto result }
         // Also on disks that aren't sound, of a drive alone: a record of what it offered after each act of this call, and the
@@ -136,7 +150,7 @@ impl Player {
         bus: &mut Bus<D, N>,
         upto: u64,
     ) -> Option<Half>
-        requires { upto < 2 ^ 59 - 1 }
+        requires { upto < 2 ^ 59 }
         ensures comes { is_some result ≡ (has_nothing self.old && half_alone (upto + 1) bus.old.drives) }
         ensures none { result ≡ None → (self.new ≡ self.old) × (bus.new ≡ bus.old) }
         ensures given { GivesHalf _ D.State D.stands D.step D.says self.old self.new bus.old bus.new result }
@@ -169,11 +183,12 @@ impl Player {
     ) -> Option<Event>
         requires none { self.old.waiting ≡ None }
         requires from { self.old.from ≤ upto + 1 }
-        requires upto { upto < 2 ^ 59 - 1 }
+        requires upto { upto < 2 ^ 59 }
         ensures given { Unfailed D.failures bus.old.drives bus.new.drives →
             Finishes _ D.State D.stands D.step D.says self.old self.new bus.old bus.new upto result }
         // Also on disks that aren't sound, of a drive alone: of the machine that replays what it offered.
         ensures recorded { N ≡ 1 → FinishesBack D.shows self.old self.new bus.old bus.new upto result }
+        ensures settled { result ≡ None → AreInTime (upto + 1) bus.new.drives }
         ensures drive { IfSome result (λ e. IsDrives e.who) }
         ensures second { IsGivenBefore (upto + 1) self.new.second }
         ensures from { self.new.from ≤ upto + 1 }
@@ -254,7 +269,7 @@ impl Player {
         requires second { self.old.second ≡ None }
         requires waiting { IsWaitingFrom (upto + 1) self.old.waiting }
         requires from { IsWaitingFrom self.old.from self.old.waiting }
-        requires upto { upto < 2 ^ 59 - 1 }
+        requires upto { upto < 2 ^ 59 }
         ensures given { Unfailed D.failures bus.old.drives bus.new.drives →
             GivesNext _ D.State D.stands D.step D.says self.old self.new bus.old bus.new upto result }
         // Also on disks that aren't sound, of a drive alone: a record of what it offered after each act of this call, and the

@@ -1,93 +1,107 @@
 //! Changes of a host are played on a bus: the events come one after the other.
 
-ghost use Rattle.std.specs.Prelude.{◌≡◌, ◌+◌, ◌≤◌, ◌<◌, ◌^◌, ◌++◌, ℕ, List, length, OnOk, vec_len, vec_capacity};
-ghost use Rattle.cbm_session.specs.Playing.{Station, drive_events};
+ghost use Rattle.std.specs.Prelude.{◌≡◌, ◌+◌, ◌≤◌, ◌<◌, ◌^◌, ◌++◌, ◌∷◌, [], ℕ, List, OnOk, vec_len, vec_capacity};
+ghost use Rattle.cbm_session.specs.Playing.{Station};
 ghost use Rattle.cbm_drive.specs.Ordered.{AreOrdered};
-ghost use Rattle.cbm_drive.specs.Played.{HasSettled};
+ghost use Rattle.cbm_drive.specs.Players.{IsOpen, nothing_left, pending};
 ghost use Rattle.cbm_drive.specs.Seats.{AreInTime, IsBusAt, numbers, Unfailed, failed};
-ghost use Rattle.cbm_drive.specs.Turning.{PlaysUpTo};
+ghost use Rattle.cbm_drive.specs.Turning.{AddsChange, AddsRest, PlaysUpTo};
 
-use crate::drive::Drive;
-use crate::drives::{first_due, react, tell_all};
-use cbm_iec::{Change, Event, Lines, Machine, Who};
+use crate::bus::Bus;
+use crate::player::Player;
+use cbm_iec::{Change, Event, Machine, Who};
 use std::alloc::AllocError;
 
 /// The most changes of one reaction: one of CLOCK, then one of DATA.
 const MOST: usize = 2;
 
-/// The changes that a drive made go to the events, which have room for them.
-fn give(events: &mut Vec<Event>, device: u8, changes: &[Change])
-    requires { vec_len events.old + length changes.now ≤ vec_capacity events.old }
-    ensures { events.new.items ≡ events.old.items ++ drive_events device changes.now }
+/// An event goes to the list, which has room for it, and behind it the second one of its reaction.
+fn add(player: &mut Player, event: Event, events: &mut Vec<Event>)
+    requires { vec_len events.old + 2 ≤ vec_capacity events.old }
+    ensures events { events.new.items ≡ events.old.items ++ event ∷ pending player.old.second }
+    ensures player { player.new ≡ nothing_left player.old }
 {
-    let Some((change, rest)) = changes.split_first() else {
-        return;
-    };
-    events.push_reserved(Event {
-        who: Who::Drive(device),
-        change: *change,
-    });
-    give(events, device, rest);
+    events.push_reserved(event);
+    if let Some(second) = player.second() {
+        events.push_reserved(second);
+    }
 }
 
-/// The reactions that are due before a limit happen, each in its turn; their changes go to the events. An `Err` is want
-/// of memory, before a reaction: up to it all has happened, and is among the events.
-pub(crate) fn settle<D: Machine>(
-    drives: &mut [Drive<D>],
-    host: Lines,
-    limit: u64,
+/// The host's next change, and the reactions that are due before it: all go to the events. An `Err` is want of memory,
+/// before a step: up to it all has happened, and is among the events.
+fn play_change<D: Machine, const N: usize>(
+    player: &mut Player,
+    bus: &mut Bus<D, N>,
+    change: Change,
     events: &mut Vec<Event>,
 ) -> Result<(), AllocError>
-    requires few { length drives.old ≤ 4 }
-    requires limit { limit < 2 ^ 60 }
-    ensures settled { OnOk result (AreInTime limit drives.new) }
-    ensures same { length drives.new ≡ length drives.old }
-    ensures lasting { numbers D.lasting drives.new ≡ numbers D.lasting drives.old }
-    ensures counted { failed D.failures drives.old ≤ failed D.failures drives.new }
-    ensures played { Unfailed D.failures drives.old drives.new →
-        (ss : List (Station D.State)) (n : ℕ) → IsBusAt _ D.State D.stands host drives.old ss → n ≤ limit →
-        HasSettled _ D.State D.stands D.step D.says host limit drives.new events.old.items events.new.items n ss }
+    requires open { IsOpen player.old change.moment }
+    requires moment { change.moment < 2 ^ 59 }
+    ensures open { OnOk result (IsOpen player.new change.moment) }
+    ensures added { Unfailed D.failures bus.old.drives bus.new.drives → AddsChange _ D.State D.stands D.step D.says
+        player.old player.new bus.old bus.new events.old.items events.new.items change result }
+    ensures lasting { numbers D.lasting bus.new.drives ≡ numbers D.lasting bus.old.drives }
+    ensures counted { failed D.failures bus.old.drives ≤ failed D.failures bus.new.drives }
 {
-    while let Some((place, moment)) = first_due(drives) {
-        if moment >= limit {
+    player.take(change);
+    'events: loop {
+        events.reserve(MOST)?;
+        let Some(event) = player.next(bus, change.moment) else {
+            return Ok(());
+        };
+        add(player, event, events);
+        if let Who::Host = event.who {
             return Ok(());
         }
-        events.reserve(MOST)?;
-        if let Some(answer) = react(drives, host, place, moment) {
-            give(events, answer.device, &answer.changes);
-        }
     }
-    Ok(())
+}
+
+/// What is due up to an end: it goes to the events. An `Err` is want of memory, as in `play_change`.
+fn play_out<D: Machine, const N: usize>(
+    player: &mut Player,
+    bus: &mut Bus<D, N>,
+    end: u64,
+    events: &mut Vec<Event>,
+) -> Result<(), AllocError>
+    requires open { IsOpen player.old (end + 1) }
+    requires end { end < 2 ^ 59 }
+    ensures settled { OnOk result (AreInTime (end + 1) bus.new.drives) }
+    ensures from { player.new.from ≤ end + 1 }
+    ensures added { Unfailed D.failures bus.old.drives bus.new.drives → AddsRest _ D.State D.stands D.step D.says
+        player.old player.new bus.old bus.new events.old.items events.new.items }
+    ensures lasting { numbers D.lasting bus.new.drives ≡ numbers D.lasting bus.old.drives }
+    ensures counted { failed D.failures bus.old.drives ≤ failed D.failures bus.new.drives }
+{
+    'events: loop {
+        events.reserve(MOST)?;
+        let Some(event) = player.finish(bus, end) else {
+            return Ok(());
+        };
+        add(player, event, events);
+    }
 }
 
 /// The changes of the host and the reactions of the drives come one after the other, up to an end; all go to the events.
 /// An `Err` is want of memory, before a step: up to it all has happened, and is among the events.
-pub(crate) fn play_on<D: Machine>(
-    drives: &mut [Drive<D>],
-    host: &mut Lines,
+pub(crate) fn play_on<D: Machine, const N: usize>(
+    bus: &mut Bus<D, N>,
     changes: &[Change],
     end: u64,
     events: &mut Vec<Event>,
 ) -> Result<(), AllocError>
-    requires few { length drives.old ≤ 4 }
     requires end { end < 2 ^ 59 }
     requires ordered { AreOrdered 0 end changes.now }
-    ensures settled { OnOk result (AreInTime (end + 1) drives.new) }
-    ensures lasting { numbers D.lasting drives.new ≡ numbers D.lasting drives.old }
-    ensures counted { failed D.failures drives.old ≤ failed D.failures drives.new }
-    ensures played { Unfailed D.failures drives.old drives.new →
-        (ss : List (Station D.State)) → IsBusAt _ D.State D.stands host.old drives.old ss →
-        PlaysUpTo _ D.State D.stands D.step D.says host.new (end + 1) drives.new events.old.items events.new.items
-        changes.now ss result }
+    ensures settled { OnOk result (AreInTime (end + 1) bus.new.drives) }
+    ensures lasting { numbers D.lasting bus.new.drives ≡ numbers D.lasting bus.old.drives }
+    ensures counted { failed D.failures bus.old.drives ≤ failed D.failures bus.new.drives }
+    ensures played { Unfailed D.failures bus.old.drives bus.new.drives →
+        (ss : List (Station D.State)) → IsBusAt _ D.State D.stands bus.old.host bus.old.drives ss →
+        PlaysUpTo _ D.State D.stands D.step D.says bus.new.host (end + 1) bus.new.drives events.old.items
+        events.new.items changes.now ss result }
 {
+    let mut player = Player::new();
     for change in changes {
-        settle(drives, *host, change.moment, events)?;
-        events.reserve(1)?;
-        *host = tell_all(drives, *host, *change);
-        events.push_reserved(Event {
-            who: Who::Host,
-            change: *change,
-        });
+        play_change(&mut player, bus, *change, events)?;
     }
-    settle(drives, *host, end + 1, events)
+    play_out(&mut player, bus, end, events)
 }

@@ -16,12 +16,12 @@ use Rattle.cbm_drive.specs.Cables.{Cabled}
 use Rattle.cbm_drive.specs.Desks.{Desk, DeskStands, desk_step, desk_says, desk_shows}
 use Rattle.cbm_drive.specs.Playback.{Shown, Playback, IsPlayedBack, played_says, played_step}
 use Rattle.cbm_drive.specs.Ordered.{host_changes, latest}
-use Rattle.cbm_drive.specs.Players.{Turns, pending}
+use Rattle.cbm_drive.specs.Players.{Turns, IsOpen, pending}
 use Rattle.cbm_drive.specs.Seats.{Seated, IsBusAt, AreInTime, AreLater, numbers}
 use Rattle.bus_traces.specs.Lines.{lines_of, TakesLine}
 use Rattle.cbm_program.specs.Output.{AppendsPart, AppendsMore}
 use Rattle.cbm_program.specs.Running.{EndsAs}
-use Rattle.cbm_program.specs.Staging.{IsOpen, IsAt, IsBorne, IsFresh, PlaysOn, PlaysPart, Ends, ReplaysOn, ReplaysTo, tracks_of_drives}
+use Rattle.cbm_program.specs.Staging.{IsAt, IsBorne, IsFresh, PlaysOn, PlaysPart, Ends, ReplaysOn, ReplaysTo, tracks_of_drives}
 use Rattle.cbm_program.specs.TimedReading.{ReadsTimed, LacksTimed, TimedRead, IsBadBehind, BehindRead}
 use Rattle.cbm_program.specs.Timetables.{Timetable, timetable_of, timetable_from, timed_meaning, with_timed, stopped_at, ended_at, latest_if, bad_behind}
 use Rattle.bus_traces.specs.Events.{trace_text}

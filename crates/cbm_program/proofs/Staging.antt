@@ -73,17 +73,6 @@ turn_rest e c was now waits turn = one e.who turn
     one Host t = ([], (let same : Some e.change ≡ Some c = sym t.0 ∙ waits in let z : e.change ≡ c = cc in ap (λ (x : Change). x ∷ []) z))
     one (Drive d) t = (c ∷ [], refl)
 
-pub still_waits : (e : Event) (was now : Option Change) → IsDrives e.who → IsTurnOf e.who e.change was now → now ≡ was
-still_waits e was now drive turn = one e.who drive turn
-  where
-    one : (w : Who) → IsDrives w → IsTurnOf w e.change was now → now ≡ was
-    one Host h t = absurd h
-    one (Drive d) h t = t
-
-pub not_host : (w : Who) → (w ≡ Host → ⊥) → IsDrives w
-not_host Host h = absurd (h refl)
-not_host (Drive d) h = tt
-
 -- what waits comes
 pub what_comes : (w : Option Change) (c : Change) (P : Type 0) → w ≡ Some c → IfSome w (λ d. d.moment ≤ c.moment → P) → P
 what_comes None c P e h = absurd (cc)

@@ -1,5 +1,5 @@
 -- A drive under a host whose changes are made one at a time, and printed with what comes of them.
-use Rattle.std.specs.Prelude.{Bool, ◌≡◌, ◌≤◌, ℕ, List, [], ◌∷◌, ◌++◌, Option, None, Result, OnErr, IfErr}
+use Rattle.std.specs.Prelude.{Bool, ◌≡◌, ℕ, List, [], ◌∷◌, ◌++◌, Option, None, Result, OnErr, IfErr}
 use Rattle.std.specs.Io.KnownBytes.{Appends}
 use Rattle.cbm_iec.specs.declared.machine.Act.{Act}
 use Rattle.cbm_iec.specs.declared.event.Event.{Event}
@@ -22,12 +22,6 @@ use Rattle.cbm_program.specs.Running.{IsOfWriting}
 use Rattle.bus_traces.specs.Events.{trace_text}
 use Rattle.cbm_program.specs.Traces.{trace_powered, replaying}
 use Rattle.cbm_drive.specs.KeptDesks.{KeptDesk, DosStands}
-
--- No change is pending, none is still to be given, and the host's next one may come from this moment on.
-pub record IsOpen (p : Turns) (moment : ℕ) : Type 0 where
-  pub waiting : p.waiting ≡ None
-  pub second : p.second ≡ None
-  pub from : p.from ≤ moment
 
 module _ (D S : Type 0) (stands : D → S → Type 0) (step : S → Act → S) (says : S → Option (ℕ × Bool)) where
   -- These changes of the host were made, and what came of them; all events were written.

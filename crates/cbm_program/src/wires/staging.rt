@@ -6,7 +6,8 @@ ghost use Rattle.cbm_drive.specs.Desks as desks;
 ghost use Rattle.cbm_drive.specs.Seats.{Seated};
 ghost use Rattle.cbm_host.specs.Hosted.{party_of};
 ghost use Rattle.cbm_program.specs.Output.{Writes};
-ghost use Rattle.cbm_program.specs.Staging.{IsOpen, IsBorne, IsFresh, StandsOn, PlaysOn, Ends, ReplaysOn, ReplaysTo, HasStaged, tracks_of_drives};
+ghost use Rattle.cbm_drive.specs.Players.{IsOpen};
+ghost use Rattle.cbm_program.specs.Staging.{IsBorne, IsFresh, StandsOn, PlaysOn, Ends, ReplaysOn, ReplaysTo, HasStaged, tracks_of_drives};
 ghost use Rattle.cbm_program.specs.Starts.{KeptBy};
 ghost use Rattle.cbm_drive.specs.KeptDesks.{KeptDesk};
 

@@ -1,10 +1,11 @@
+use Rattle.cbm_drive.proofs.Added.{not_host, still_waits}
 use Rattle.cbm_drive.proofs.Unfailed.{never_failed}
 use Rattle.std.proofs.Common.{rules, ◌+◌, ◌∷◌, [], refl, sym, ap, subst, ◌∙◌, arith}
 use Rattle.cbm_drive.specs.Players.{Turns, IsGivenBefore}
 use Rattle.cbm_drive.specs.Desks.{desk_shows}
 use Rattle.cbm_program.proofs.LinePrints.{if_err}
 use Rattle.cbm_program.proofs.OutputLemmas.{grows_none, grows_on}
-use Rattle.cbm_program.proofs.Staging.{none_played, played_event, replays_none, replays_event, part_event, of_drive, of_host, turn_rest, still_waits, not_host, what_comes}
+use Rattle.cbm_program.proofs.Staging.{none_played, played_event, replays_none, replays_event, part_event, of_drive, of_host, turn_rest, what_comes}
 use Rattle.cbm_program.proofs.wires.staging.Stage.change.Goals as goal
 
 pub events-init : goal.events-init
