@@ -1,12 +1,11 @@
 // How many data blocks and side sectors a relative file has.
 
-ghost use Rattle.std.specs.Prelude.{◌≡◌, ◌≤◌, List, length, Ok, IsOkAnd, IfOk};
-ghost use Rattle.cbm_medium.specs.Place.{Place, sector_count};
+ghost use Rattle.std.specs.Prelude.{◌≡◌, ◌≤◌, ℕ, List, length, Ok, IsOkAnd, IfOk};
+ghost use Rattle.cbm_medium.specs.Place.{Place, Has, sector_count};
 ghost use Rattle.cbm_medium.specs.Links.{Chain};
 ghost use Rattle.cbm_medium.specs.Met.{MeetsTrouble};
 ghost use Rattle.cbm_relfile.specs.Counting.{IsChainCounted};
 ghost use Rattle.cbm_relfile.specs.SideSectors.{sides_behind};
-ghost use Rattle.cbm_relfile.specs.Records.{OfSector};
 
 use crate::relative::Relative;
 use crate::sectors::read_at;
@@ -60,10 +59,10 @@ pub fn extent_of<M: Medium>(
     file: Relative,
 ) -> Result<Extent, Trouble>
     requires { geometry ≤ (M.seen medium.now).tracks }
-    ensures counted { let content = (M.seen medium.now).content in (blocks : List Place) →
-        Chain geometry content file.first blocks → length blocks ≤ sector_count geometry →
-        OfSector geometry content file.side (λ head.
-        IsOkAnd result (λ x. (x.blocks ≡ length blocks) × (x.sides ≡ length (sides_behind 0 head)))) }
+    ensures counted { let now = M.seen medium.now in (blocks : List Place) (head : List ℕ) →
+        Chain geometry now.content file.first blocks → length blocks ≤ sector_count geometry →
+        Has geometry file.side → now.content file.side ≡ Ok head →
+        IsOkAnd result (λ x. (x.blocks ≡ length blocks) × (x.sides ≡ length (sides_behind 0 head))) }
     // On any disk: the blocks were walked, and the first side sector was read.
     ensures walked { IfOk result (λ x. IsChainCounted geometry (M.seen medium.now).content file.first x.blocks) }
     ensures sides { IfOk result (λ x. IsOkAnd ((M.seen medium.now).content file.side)

@@ -30,5 +30,5 @@ pub returns-clause-count : goal.returns-clause-count
 returns-clause-count g c = λ d uses h can.
     let now : Seen = g.M.Medium.seen c.args.medium.now in
     let geometry = c.geometry-geometry.result in
-    counted_ok c.byte_count.result (held_from geometry now.content (sector_count geometry) c.first_block.result) (slot_bytes (file_at d c.args.number)) c.byte_count.ensures.counted c.byte_count.ensures.err
+    counted_ok c.byte_count.result (held_from geometry now.content (sector_count geometry) c.first_block.result) (slot_bytes (file_at d c.args.number)) c.byte_count.ensures.counted c.byte_count.ensures.walk.cut
     (source_held (geometry_of now.tracks now.content) geometry now.content h.layout d c.args.number c.in_ok-entry.field-0 c.in-Some.entry c.first_block.result (geometry_size now.tracks now.content) h.so.stands c.geometry-geometry.ensures.value can c.in-Some.is c.in_ok-entry.ensures c.first_block.ensures)

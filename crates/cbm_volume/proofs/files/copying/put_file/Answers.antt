@@ -34,7 +34,7 @@ pub returns-in_err-count-clause-put : goal.returns-in_err-count-clause-put
 returns-in_err-count-clause-put g c = λ c' l d uses ch bytes k can room.
     let old : Seen = g.M.Medium.seen c.args.medium.now in
     let geometry = c.geometry-geometry.result in
-    absurd (held_whole c.in_err-count.field-0.0 (held_from geometry old.content (sector_count geometry) c.first_block.result) (slot_bytes (file_at d c.args.number)) c.in_err-count.ensures.err
+    absurd (held_whole c.in_err-count.field-0.0 (held_from geometry old.content (sector_count geometry) c.first_block.result) (slot_bytes (file_at d c.args.number)) c.in_err-count.ensures.walk.cut
     (making_held old.tracks geometry c' l d uses ch old.content c.args.chain.now bytes _ c.args.number c.in_ok-entry.field-0 c.in-Some.entry c.first_block.result k c.geometry-geometry.ensures.value can c.in-Some.is c.in_ok-entry.ensures c.first_block.ensures))
 
 pub returns-clause-put : goal.returns-clause-put

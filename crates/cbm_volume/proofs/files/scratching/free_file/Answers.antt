@@ -6,7 +6,7 @@ use Rattle.cbm_volume.proofs.files.scratching.free_file.Goals as goal
 -- the chain doesn't break off
 pub returns-in_err-free_chain-clause-freed : goal.returns-in_err-free_chain-clause-freed
 returns-in_err-free_chain-clause-freed g c = λ b lies few.
-    absurd (no_cut (is_relative c.args.entry.now) c.args.geometry (g.M.Medium.seen c.args.medium.now).content c.args.entry.now b c.first_block.result c.in_err-free_chain.field-0.0 lies few c.first_block.ensures c.in_err-free_chain.ensures.err)
+    absurd (no_cut (is_relative c.args.entry.now) c.args.geometry (g.M.Medium.seen c.args.medium.now).content c.args.entry.now b c.first_block.result c.in_err-free_chain.field-0.0 lies few c.first_block.ensures c.in_err-free_chain.ensures.walk.cut)
 
 -- a file without records
 pub returns-then-not-is_relative-clause-freed : goal.returns-then-not-is_relative-clause-freed

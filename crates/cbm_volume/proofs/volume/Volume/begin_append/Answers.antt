@@ -23,7 +23,7 @@ returns-in_err-chain-clause-begun g c = λ d uses h f can stands.
     let cut : (follow tracks old (sector_count tracks) (first_block c.args.entry.now)).trouble ≡ Some c.in_err-chain.field-0.0 =
     subst (λ (p : Place). (follow tracks old (sector_count tracks) p).trouble ≡ Some c.in_err-chain.field-0.0) c.first_block.ensures
     (subst (λ (x : Content). (follow tracks x (sector_count tracks) c.first_block.result).trouble ≡ Some c.in_err-chain.field-0.0) (ap (λ m. (g.M.Medium.seen m).content) c.self.view_is)
-    (subst (λ (k : ℕ). (follow k inner (sector_count k) c.first_block.result).trouble ≡ Some c.in_err-chain.field-0.0) c.geometry-geometry.ensures.value c.in_err-chain.ensures.err)) in
+    (subst (λ (k : ℕ). (follow k inner (sector_count k) c.first_block.result).trouble ≡ Some c.in_err-chain.field-0.0) c.geometry-geometry.ensures.value c.in_err-chain.ensures.walk.cut)) in
     absurd (not_broken medium old d uses c.args.slot c.args.entry.now f c.in_err-chain.field-0.0 h can stands cut)
 
 pub returns-in_err-chain-clause-untouched : goal.returns-in_err-chain-clause-untouched
