@@ -307,6 +307,10 @@ stays_then tracks between c c' c'' l' one two first sound second tracks'' l l'' 
       same = (all_same_then c c' c'' (l.files m).data_blocks a.same.0 again.0, all_same_then c c' c'' (l.files m).sides a.same.1 again.1);
     }
 
+-- with more that is exempted
+pub stays_more : (tracks : ℕ) (c c' : Content) (one more : ℕ → Bool) → ((m : ℕ) → more m ≡ false → one m ≡ false) → StaysInPlace tracks c c' one → StaysInPlace tracks c c' more
+stays_more tracks c c' one more less stay tracks' l l' s s' m h closed free = stay tracks' l l' s s' m h closed (less m free)
+
 -- where nothing is written all stay
 pub stays_same : (tracks : ℕ) (c c' : Content) (k : Layout) (but : ℕ → Bool) → Sound tracks c k → c' ≡ c → StaysInPlace tracks c c' but
 stays_same tracks c c' k but t e = stays_in tracks c c' k but t (kept_same k c c' but e)
