@@ -14,7 +14,7 @@ loop-byte-preserved g c =
       puts-on (stands c.args.dos.now) (stands c.loop-byte.dos) (stands c.put.new.self) c.args.channel c.args.bytes.now (drop c.loop-byte.byte-index c.args.bytes.now)
           (drop (c.loop-byte.byte-index + 1) c.args.bytes.now) (slice_index c.args.bytes.now c.loop-byte.byte-index) c.loop-byte.invariant.0 rest
           (steady_put g.M.Medium.seen g.met.M.Steady.steady c.loop-byte.dos c.put.new.self c.args.channel (slice_index c.args.bytes.now c.loop-byte.byte-index) c.put.ensures.goes),
-      keeps_then _ _ _ c.loop-byte.invariant.1 c.put.ensures.medium,
+      keeps_then _ _ _ c.loop-byte.invariant.1 c.put.ensures.leaves.medium,
     )
 
 pub returns-clause-leads : goal.returns-clause-leads
