@@ -65,12 +65,20 @@ module _ (D M : Type 0) (stands : D → M → Type 0) (step : M → Act → M) (
   OthersHear failures moment front back front' back' wires cs = Unfailed failures front front' → Unfailed failures back back' →
       Hear D M stands stands step says moment front back front' back' wires cs
 
+  -- Whether one of these drives changes a line before a limit, whatever all hold, if the host changes none.
+  abbrev pub ForetellsSeats : List (Seated D) → ℕ → Bool → Type 0
+  ForetellsSeats xs limit shows = (wires : Wires) (ss : List (Station M)) → AllZip (IsSeat D M stands wires) xs ss → MatchBool shows (AnyShows M step says limit ss) (AreSilent M step says limit ss)
+
   -- The changes of the host were played, with all that came of them; or memory was lacking on the way.
   abbrev pub PlaysUpTo : {E : Type 0} → Lines → ℕ → List (Seated D) → List Event → List Event → List Change → List (Station M) → Result (Unit {0}) E → Type 0
   PlaysUpTo host limit ys old new cs ss result = MatchResult result (λ x. HasPlayed D M stands step says host limit ys old new cs ss)
       (λ e. IsPlayCut D M stands step says host ys old new cs ss)
 
-  -- So it is of all stations that the drives represent, if no machine failed in it and the list is in order.
+  -- So it is of all stations that the drives represent, if no machine failed in it.
+  abbrev pub PlaysThrough : {E : Type 0} → (D → ℕ) → Cabled D → Cabled D → ℕ → List Event → List Event → List Change → Result (Unit {0}) E → Type 0
+  PlaysThrough failures b c limit old new cs result = Unfailed failures b.drives c.drives → (ss : List (Station M)) → IsBusAt D M stands b.host b.drives ss → PlaysUpTo c.host limit c.drives old new cs ss result
+
+  -- So it is if the list is in order, too.
   abbrev pub PlaysList : {E : Type 0} → (D → ℕ) → Cabled D → Cabled D → ℕ → List Event → List Event → List Change → Result (Unit {0}) E → Type 0
   PlaysList failures b c end old new cs result = Unfailed failures b.drives c.drives → (ss : List (Station M)) → fault_of 0 0 end cs ≡ None →
       IsBusAt D M stands b.host b.drives ss → PlaysUpTo c.host (end + 1) c.drives old new cs ss result
@@ -167,43 +175,45 @@ module _ {D : Type 0} (shows : D → Shown) where
       MatchOption result (IsFinished D Playback (IsPlayedBack shows later) played_step played_says q c upto n ss es)
       (λ e. IsAfter D Playback (IsPlayedBack shows later) played_step played_says q c n ss (es ++ e ∷ [])))
 
--- What a call does, both of all that the drives represent if no machine failed in it, and of a drive alone, on any disk, of the machine that replays what
--- the drive showed.
+-- ---- what a call does: of all that the drives represent, if no machine failed in it, and of a drive alone, on any disk, of the machine that replays what
+-- the drive showed
+
 module _ (D M : Type 0) (stands : D → M → Type 0) (step : M → Act → M) (says : M → Option (ℕ × Bool)) (failures : D → ℕ) (shows : D → Shown) (number : ℕ) where
-  -- The next event is given.
+  -- THE NEXT EVENT IS GIVEN, of all that the drives represent, if no machine failed in it; and of a drive alone, on any disk, of the machine that replays
+  -- what the drive showed.
   pub record NextIsGiven (p q : Turns) (b c : Cabled D) (upto : ℕ) (result : Option Event) : Type 0 where
     pub given : Unfailed failures b.drives c.drives → GivesNext D M stands step says p q b c upto result
     pub recorded : number ≡ 1 → GivesNextBack shows p q b c upto result
 
-  -- An event is given.
+  -- AN EVENT IS GIVEN, of either kind of machine.
   pub record OneIsGiven (p q : Turns) (b c : Cabled D) (upto : ℕ) (result : Option Event) : Type 0 where
     pub given : Unfailed failures b.drives c.drives → GivesOne D M stands step says p q b c upto result
     pub recorded : number ≡ 1 → GivesOneBack shows p q b c upto result
 
-  -- The next event is given, or all is over.
+  -- THE NEXT EVENT IS GIVEN, OR ALL IS OVER, of either kind of machine.
   pub record LastIsGiven (p q : Turns) (b c : Cabled D) (upto : ℕ) (result : Option Event) : Type 0 where
     pub given : Unfailed failures b.drives c.drives → Finishes D M stands step says p q b c upto result
     pub recorded : number ≡ 1 → FinishesBack shows p q b c upto result
 
-  -- The first reaction that changes a line has happened.
+  -- THE FIRST REACTION THAT CHANGES A LINE HAS HAPPENED, of either kind of machine; there is one where a machine shows one.
   pub record FirstIsShown (host : Lines) (limit : ℕ) (xs ys : List (Seated D)) (first : Option (ℕ × Answer)) : Type 0 where
     pub played : ShowsFirst D M stands step says failures host limit xs ys first
     pub some : ShowsAny D M stands step says failures host limit xs ys first
     pub recorded : number ≡ 1 → ShownBack shows host limit xs ys first
 
-  -- The reaction of the drive at a place, which was due first, has happened.
+  -- THE REACTION OF THE DRIVE AT A PLACE, which was due first, has happened, of either kind of machine.
   pub record ReactionIsMade (host : Lines) (place moment : ℕ) (xs ys : List (Seated D)) (result : Option Answer) : Type 0 where
     pub reacted : Unfailed failures xs ys → (ss : List (Station M)) → IsBusAt D M stands host xs ss → IsFirstDue xs (place, moment) →
         IfSome result (λ a. HasReacted D M stands step says host moment a.device ys a.changes.items ss)
     pub recorded : number ≡ 1 → IsFirstDue xs (place, moment) → IfSome result (ReactedBack shows host moment xs ys)
 
-  -- The host changed a line, and the drives were told it.
+  -- THE HOST CHANGED A LINE, and the drives were told it, of either kind of machine.
   pub record ChangeIsTold (host now : Lines) (change : Change) (xs ys : List (Seated D)) : Type 0 where
     pub told : Unfailed failures xs ys → (ss : List (Station M)) → IsBusAt D M stands host xs ss → IsBusAt D M stands now ys (map (λ s. tell M step says change s) ss)
     pub recorded : number ≡ 1 → ToldBack shows host now change xs ys
 
--- Half of a bit is given, of all that the drives represent, and of the machine that replays what they show later.
 module _ (D M : Type 0) (stands : D → M → Type 0) (step : M → Act → M) (says : M → Option (ℕ × Bool)) (shows : D → Shown) where
+  -- HALF OF A BIT IS GIVEN, of all that the drive represents, and, on any disk, of the machine that replays what it shows later.
   pub record HalfIsGiven (p q : Turns) (b c : Cabled D) (result : Option Half) : Type 0 where
     pub given : GivesHalf D M stands step says p q b c result
     pub recorded : GivesHalfBack shows p q b c result

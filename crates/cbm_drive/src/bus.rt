@@ -102,11 +102,11 @@ impl<D: Machine, const N: usize> Bus<D, N> {
     }
 
     /// The reaction that is due first happens, to be called at the moment that `next_due` answers: all other drives see
-    /// each line that the drive changes, with what is held then. None where no reaction is due.
+    /// each line that the drive changes, with what is held then. None where no reaction is due. One reaction less is due at this
+    /// moment then, and none before it, also on disks that aren't sound.
     pub fn due(&mut self, moment: u64) -> Option<Answer>
         requires { moment < 2 ^ 60 }
         ensures reacted { ReactsFirst _ D.State D.stands D.step D.says D.failures self.old self.new moment result }
-        // One reaction less is due at this moment, and none before it, also on disks that aren't sound.
         ensures nearer { IsDueFirst self.old.drives moment → IsNearer moment self.old.drives self.new.drives }
         ensures none { result ≡ None → AreIdle self.old.drives × (self.new ≡ self.old) }
         ensures idle { AreIdle self.old.drives → result ≡ None }

@@ -1,13 +1,10 @@
 //! Looking ahead: whether a drive changes a line before a limit.
 
-ghost use Rattle.std.specs.Prelude.{◌≡◌, ◌<◌, ◌≤◌, ◌^◌, Option, List, length, None, MatchBool};
-ghost use Rattle.std.specs.List.{AllZip};
-ghost use Rattle.cbm_session.specs.Playing.{Station};
+ghost use Rattle.std.specs.Prelude.{◌≡◌, ◌<◌, ◌≤◌, ◌^◌, Option, List, length, None};
 ghost use Rattle.cbm_drive.specs.Playback.{Shown, Playback, IsPlayedBack, played_says, played_step};
-ghost use Rattle.cbm_drive.specs.Seats.{IsSeat, AreCarried};
-ghost use Rattle.cbm_drive.specs.Silence.{AnyShows, AreSilent, Foretold};
-ghost use Rattle.cbm_drive.specs.Turning.{FirstIsShown, IsFirstShown};
-ghost use Rattle.cbm_drive.specs.declared.wires.Wires.{Wires};
+ghost use Rattle.cbm_drive.specs.Seats.{AreCarried};
+ghost use Rattle.cbm_drive.specs.Silence.{Foretold};
+ghost use Rattle.cbm_drive.specs.Turning.{ForetellsSeats, FirstIsShown, IsFirstShown};
 
 use crate::drive::Drive;
 use crate::drives::{Answer, first_due, react};
@@ -31,16 +28,13 @@ pub(crate) fn shows(mut port: Port, peek: Option<(u8, bool)>, limit: u64) -> boo
     !reaction.changes.is_empty() || shows(port, peek, limit)
 }
 
-/// Whether one of these drives changes a line before a limit, if the host changes nothing.
+/// Whether one of these drives changes a line before a limit, if the host changes nothing (`recorded`: whatever the machines
+/// represent, of those that play back what they show).
 pub(crate) fn any_shows<D: Machine>(drives: &[Drive<D>], limit: u64) -> bool
     requires { limit < 2 ^ 60 }
-    ensures says { (wires : Wires) (ss : List (Station D.State)) →
-        AllZip (IsSeat _ D.State D.stands wires) drives.now ss → MatchBool result
-        (AnyShows D.State D.step D.says limit ss) (AreSilent D.State D.step D.says limit ss) }
-    // Whatever the machines represent: so it is of those that play back what they show.
-    ensures recorded { (later : List Shown) (wires : Wires) (ss : List (Station Playback)) →
-        AllZip (IsSeat _ Playback (IsPlayedBack D.shows later) wires) drives.now ss → MatchBool result
-        (AnyShows Playback played_step played_says limit ss) (AreSilent Playback played_step played_says limit ss) }
+    ensures says { ForetellsSeats _ D.State D.stands D.step D.says drives.now limit result }
+    ensures recorded { (later : List Shown) →
+        ForetellsSeats _ Playback (IsPlayedBack D.shows later) played_step played_says drives.now limit result }
 {
     let Some((first, rest)) = drives.split_first() else {
         return false;

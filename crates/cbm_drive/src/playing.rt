@@ -1,11 +1,10 @@
 //! Changes of a host are played on a bus: the events come one after the other.
 
-ghost use Rattle.std.specs.Prelude.{◌≡◌, ◌+◌, ◌≤◌, ◌<◌, ◌^◌, ◌++◌, ◌∷◌, List, OnOk, vec_len, vec_capacity};
-ghost use Rattle.cbm_session.specs.Playing.{Station};
+ghost use Rattle.std.specs.Prelude.{◌≡◌, ◌+◌, ◌≤◌, ◌<◌, ◌^◌, ◌++◌, ◌∷◌, OnOk, vec_len, vec_capacity};
 ghost use Rattle.cbm_drive.specs.Ordered.{AreOrdered};
 ghost use Rattle.cbm_drive.specs.Players.{IsOpen, nothing_left, pending};
-ghost use Rattle.cbm_drive.specs.Seats.{AreInTime, IsBusAt, Unfailed, AreCarried};
-ghost use Rattle.cbm_drive.specs.Turning.{AddsChange, AddsRest, PlaysUpTo};
+ghost use Rattle.cbm_drive.specs.Seats.{AreInTime, AreCarried};
+ghost use Rattle.cbm_drive.specs.Turning.{AddsChange, AddsRest, PlaysThrough};
 
 use crate::bus::Bus;
 use crate::player::Player;
@@ -91,10 +90,8 @@ pub(crate) fn play_on<D: Machine, const N: usize>(
     requires ordered { AreOrdered 0 end changes.now }
     ensures settled { OnOk result (AreInTime (end + 1) bus.new.drives) }
     ensures carried { AreCarried D.lasting D.failures bus.old.drives bus.new.drives }
-    ensures played { Unfailed D.failures bus.old.drives bus.new.drives →
-        (ss : List (Station D.State)) → IsBusAt _ D.State D.stands bus.old.host bus.old.drives ss →
-        PlaysUpTo _ D.State D.stands D.step D.says bus.new.host (end + 1) bus.new.drives events.old.items
-        events.new.items changes.now ss result }
+    ensures played { PlaysThrough _ D.State D.stands D.step D.says D.failures bus.old bus.new (end + 1) events.old.items
+        events.new.items changes.now result }
 {
     let mut player = Player::new();
     for change in changes {
