@@ -12,7 +12,7 @@ use Rattle.cbm_session.specs.Playing.{Station, Plays, tell, host_event, drive_ev
 use Rattle.cbm_session.proofs.headline.Keeping.{plays_then}
 use Rattle.cbm_drive.specs.Cables.{Cabled}
 use Rattle.cbm_drive.specs.Played.{HasSettled}
-use Rattle.cbm_drive.specs.Players.{Turns, pending, at_most, IsDrives, IsWaitingFrom, from_behind, IsSecond, IsAfter, HasGiven, IsFinished}
+use Rattle.cbm_drive.specs.Players.{Turns, pending, at_most, IsDrives, IsLessLeft, IsGivenBefore, IsNextEvent, IsWaitingFrom, from_behind, IsSecond, IsAfter, HasGiven, IsFinished}
 use Rattle.cbm_drive.specs.Progress.{left}
 use Rattle.cbm_drive.specs.Reactions.{AreAtMoment}
 use Rattle.cbm_drive.specs.Seats.{Seated, IsBusAt, AreInTime}
@@ -66,6 +66,29 @@ fewer_most limit was (Some e) xs ys l = omega (arith, l)
 behind_drive : (w : Who) (t : ℕ) → IsDrives w → t + 1 ≡ from_behind w t
 behind_drive Host t h = absurd h
 behind_drive (Drive d) t h = refl
+
+-- what comes before a limit comes before a later one
+given_sooner : (limit until : ℕ) (o : Option Event) → limit ≤ until → IsGivenBefore limit o → IsGivenBefore until o
+given_sooner limit until None l h = tt
+given_sooner limit until (Some e) l h = (h.0, (let m = h.1 in omega (arith, m, l)))
+
+second_sooner : (limit until : ℕ) (r o : Option Event) → limit ≤ until → IfSome r (λ e. IsGivenBefore limit o) → IfSome r (λ e. IsGivenBefore until o)
+second_sooner limit until None o l h = tt
+second_sooner limit until (Some e) o l h = given_sooner limit until o l h
+
+fewer_later : {D : Type 0} (p q : Turns) (b c : Cabled D) (limit until : ℕ) (r : Option Event) → limit ≤ until → IfSome r (λ e. IsDrives e.who → IsLessLeft limit p q b c) → IfSome r (λ e. IsDrives e.who → IsLessLeft until p q b c)
+fewer_later p q b c limit until None l h = tt
+fewer_later p q b c limit until (Some e) l h = λ drive m k. h drive m (omega (arith, l, k))
+
+pub next_sooner : {D : Type 0} (p q : Turns) (b c : Cabled D) (limit until : ℕ) (r : Option Event) → limit ≤ until → IsNextEvent p q b c limit r → IsNextEvent p q b c until r
+next_sooner p q b c limit until r l h = record {
+  turn = h.turn;
+  waiting = h.waiting;
+  second = second_sooner limit until r q.second l h.second;
+  behind = h.behind;
+  fewer = fewer_later p q b c limit until r l h.fewer;
+  taken = h.taken;
+}
 
 module _ (D M : Type 0) (stands : D → M → Type 0) (step : M → Act → M) (says : M → Option (ℕ × Bool)) where
   -- the second change of a reaction is given

@@ -1,6 +1,7 @@
 -- Where no machine of a bus failed, none of its parts did.
-use Rattle.std.proofs.Common.{ℕ, ◌≡◌, ◌≤◌, List, [], ◌∷◌, ◌++◌, refl, arith}
-use Rattle.cbm_drive.specs.Seats.{Seated, failed, Unfailed}
+use Rattle.std.proofs.Common.{ℕ, ◌≡◌, ◌≤◌, List, [], ◌∷◌, ◌++◌, refl, sym, ◌∙◌, arith}
+use Rattle.std.proofs.lemmas.List.{map-append}
+use Rattle.cbm_drive.specs.Seats.{Seated, failed, Unfailed, AreCarried}
 use Rattle.cbm_drive.proofs.Reacted.{total_parts}
 
 module _ {D : Type 0} (failures : D → ℕ) (front : List (Seated D)) (x : Seated D) (back front2 : List (Seated D)) (x2 : Seated D) (back2 : List (Seated D)) where
@@ -18,6 +19,22 @@ module _ {D : Type 0} (failures : D → ℕ) (front : List (Seated D)) (x : Seat
       let was = total_parts (λ (y : Seated D). failures y.machine) front x back in
       let now = total_parts (λ (y : Seated D). failures y.machine) front2 x2 back2 in
       omega (arith, a, b, e, was, now)
+
+-- the drives before one, that drive, and those after it went on, so all did
+pub carried_all : {D : Type 0} {number failures : D → ℕ} (front : List (Seated D)) (x : Seated D) (back front2 : List (Seated D)) (x2 : Seated D) (back2 : List (Seated D)) → AreCarried number failures front front2
+    → number x2.machine ≡ number x.machine → failures x.machine ≤ failures x2.machine → AreCarried number failures back back2 → AreCarried number failures (front ++ x ∷ back) (front2 ++ x2 ∷ back2)
+carried_all {number = number} {failures = failures} front x back front2 x2 back2 a same counted b = record {
+  lasting = map-append (λ (y : Seated _). number y.machine) front2 (x2 ∷ back2) ∙ (λ i. a.lasting i ++ same i ∷ b.lasting i) ∙ sym (map-append (λ (y : Seated _). number y.machine) front (x ∷ back));
+  counted = counted_all failures front x back front2 x2 back2 a.counted counted b.counted;
+}
+
+-- two calls one after the other
+pub carried_on : {D : Type 0} {lasting failures : D → ℕ} {xs ys zs : List (Seated D)} → AreCarried lasting failures xs ys → AreCarried lasting failures ys zs → AreCarried lasting failures xs zs
+carried_on h k = record { lasting = k.lasting ∙ h.lasting; counted = (let a = h.counted in let b = k.counted in omega (arith, a, b)) }
+
+-- nothing was done
+pub carried_none : {D : Type 0} {lasting failures : D → ℕ} (xs : List (Seated D)) → AreCarried lasting failures xs xs
+carried_none xs = record { lasting = refl; counted = omega arith }
 
 -- machines that never fail didn't
 module _ {D : Type 0} (failures : D → ℕ) (never : (x : D) → failures x ≡ 0) where

@@ -1,7 +1,7 @@
 -- Half of a bit of a byte that a drive says: one reaction, which changes CLOCK, and perhaps DATA after it.
-use Rattle.std.specs.Prelude.{ℕ, ◌+◌, ◌≡◌, ◌<◌, Bool, false, not, ◌&&◌, nat_lt, is_some, List, [], ◌∷◌, Option, Some, None}
+use Rattle.std.specs.Prelude.{ℕ, ◌+◌, ◌≡◌, ◌<◌, Bool, false, not, ◌&&◌, nat_lt, is_some, List, [], ◌∷◌, Option, Some, None, IfSome, ◌≤◌}
 use Rattle.cbm_drive.specs.Cables.{Cabled}
-use Rattle.cbm_drive.specs.Players.{Turns}
+use Rattle.cbm_drive.specs.Players.{Turns, IsLessLeft}
 use Rattle.cbm_drive.specs.Seats.{Seated}
 use Rattle.cbm_drive.specs.declared.half.Half.{Half}
 use Rattle.cbm_iec.specs.Ports.{port_due, port_half, reacted, reaction_act, changes_between}
@@ -66,3 +66,18 @@ pub record SaysHalfAlone {D : Type 0} (limit : ℕ) (b c : Cabled D) (h : Half) 
   pub now : c.drives ≡ new ∷ []
   pub host : c.host ≡ b.host
   pub half : SaysHalf limit old new h
+
+-- HALF OF A BIT UP TO A MOMENT, whatever the machines represent.
+pub record IsHalfEvent {D : Type 0} (p q : Turns) (b c : Cabled D) (upto : ℕ) (result : Option Half) : Type 0 where
+  -- Where there is none, all is as it was.
+  pub none : result ≡ None → (q ≡ p) × (c ≡ b)
+  -- No change was pending, and none was still to be given.
+  pub alone : IfSome result (λ h. (p.waiting ≡ None) × (p.second ≡ None))
+  -- The host may change a line after it.
+  pub player : IfSome result (λ h. q ≡ half_given p h)
+  -- It comes at that moment or before.
+  pub moment : IfSome result (λ h. h.moment ≤ upto)
+  -- CLOCK is changed.
+  pub clock : IfSome result (λ h. h.now.clock_low ≡ not h.was.clock_low)
+  -- Less is left to come after it.
+  pub fewer : IfSome result (λ h. IsLessLeft (upto + 1) p q b c)

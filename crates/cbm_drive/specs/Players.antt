@@ -85,6 +85,56 @@ abbrev pub IsAfterEvent : Who → Change → Turns → Type 0
 IsAfterEvent Host c p = (p.from ≡ c.moment) × (p.second ≡ None)
 IsAfterEvent (Drive d) c p = Unit {0}
 
+-- IT IS A CHANGE'S TURN: this one is pending, and nothing else is still to be given.
+pub record IsTurnTo (p : Turns) (c : Change) : Type 0 where
+  pub second : p.second ≡ None
+  pub waiting : p.waiting ≡ Some c
+  pub from : p.from ≤ c.moment
+  pub moment : c.moment < 2 ^ 59
+
+-- IT IS THE DRIVES' TURN: nothing is still to be given, and no change is pending before this moment.
+pub record IsDrivesTurn (p : Turns) (limit : ℕ) : Type 0 where
+  pub second : p.second ≡ None
+  pub waiting : IsWaitingFrom limit p.waiting
+  pub from : IsWaitingFrom p.from p.waiting
+
+-- THE HOST IS DONE: no change is pending, and this moment isn't before the next one's.
+pub record IsHostDone (p : Turns) (moment : ℕ) : Type 0 where
+  pub waiting : p.waiting ≡ None
+  pub from : p.from ≤ moment
+
+-- THE NEXT EVENT BEFORE A LIMIT, whatever the machines represent.
+pub record IsNextEvent {D : Type 0} (p q : Turns) (b c : Cabled D) (limit : ℕ) (result : Option Event) : Type 0 where
+  -- An event of the host is the pending change; after one of a drive that is still pending.
+  pub turn : IfSome result (λ e. IsTurnOf e.who e.change p.waiting q.waiting)
+  -- What is pending isn't before the moment from which the host may go on.
+  pub waiting : IsWaitingFrom q.from q.waiting
+  -- What is still to be given comes before the limit.
+  pub second : IfSome result (λ e. IsGivenBefore limit q.second)
+  -- After a change of the host nothing is still to be given.
+  pub behind : IfSome result (λ e. IsAfterEvent e.who e.change q)
+  -- Less is left to come after a change of a drive.
+  pub fewer : IfSome result (λ e. IsDrives e.who → IsLessLeft limit p q b c)
+  -- No change was taken.
+  pub taken : q.taken ≡ p.taken
+
+-- THE NEXT EVENT BEFORE A LIMIT, at the end: where none comes nothing is due any more.
+pub record IsLastEvent {D : Type 0} (p q : Turns) (b c : Cabled D) (limit : ℕ) (result : Option Event) : Type 0 where
+  -- It is a drive's.
+  pub drive : IfSome result (λ e. IsDrives e.who)
+  -- What is still to be given comes before the limit.
+  pub second : IsGivenBefore limit q.second
+  -- The host may go on at the limit.
+  pub from : q.from ≤ limit
+  -- No change is pending.
+  pub waiting : q.waiting ≡ None
+  -- Less is left to come after it.
+  pub fewer : IfSome result (λ e. IsLessLeft limit p q b c)
+  -- No change was taken.
+  pub taken : q.taken ≡ p.taken
+  -- Where there is none, no reaction is due before the limit.
+  pub settled : result ≡ None → AreInTime limit c.drives
+
 module _ (D M : Type 0) (stands : D → M → Type 0) (step : M → Act → M) (says : M → Option (ℕ × Bool)) where
   -- THESE EVENTS WERE GIVEN: they, and the one that is still to be given, which is of the last reaction, are a play, and the drives represent the stations after it.
   pub record IsAfter (p : Turns) (b : Cabled D) (n : ℕ) (ss : List (Station M)) (es : List Event) : Type 0 where

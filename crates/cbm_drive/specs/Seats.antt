@@ -50,6 +50,11 @@ module _ {D : Type 0} where
   abbrev pub Unfailed : (D → ℕ) → List (Seated D) → List (Seated D) → Type 0
   Unfailed failures old new = failed failures new ≤ failed failures old
 
+  -- THE DRIVES WENT ON: each machine keeps the number that lasts, and how often they failed is counted on.
+  pub record AreCarried (number failures : D → ℕ) (old new : List (Seated D)) : Type 0 where
+    pub lasting : numbers number new ≡ numbers number old
+    pub counted : failed failures old ≤ failed failures new
+
   -- no reaction of these drives is due
   abbrev pub AreIdle : List (Seated D) → Type 0
   AreIdle [] = Unit {0}

@@ -31,19 +31,16 @@ impl<D: Machine, const N: usize> Model for Bus<D, N> {
 }
 
 impl<D: Machine, const N: usize> Bus<D, N> {
-    ghost use Rattle.std.specs.Prelude.{◌≡◌, ◌↔◌, ◌+◌, ◌^◌, ◌<◌, ◌≤◌, true, ℕ, List, [], length, map, IfSome, IsSome, is_some, Some, None, MatchBool, Err, IfErr, OnOk, MatchOption};
-    ghost use Rattle.cbm_session.specs.Playing.{Station, tell};
-    ghost use Rattle.cbm_drive.specs.Silence.{AnyShows, AreSilent};
-    ghost use Rattle.cbm_drive.specs.Seats.{AreIdle, AreInTime, AreResting, IsBusAt, numbers, Unfailed, failed};
+    ghost use Rattle.std.specs.Prelude.{◌≡◌, ◌↔◌, ◌+◌, ◌^◌, ◌<◌, ◌≤◌, true, List, length, is_some, Some, None, Err, IfErr, OnOk, MatchOption};
+    ghost use Rattle.cbm_drive.specs.Seats.{AreIdle, AreInTime, AreResting, AreCarried};
     ghost use Rattle.cbm_drive.specs.Cables.{all_free, IsDueFirst};
     ghost use Rattle.cbm_drive.specs.Halves.{half_alone, SaysHalfAlone};
     ghost use Rattle.cbm_drive.specs.Ordered.{fault_of};
     ghost use Rattle.cbm_drive.specs.declared.fault.PlayFault.{PlayFault};
     ghost use Rattle.cbm_drive.specs.declared.fault.PlayFault.TheVariants.{Memory};
-    ghost use Rattle.cbm_drive.specs.Turning.{ShowsFirst, ShowsAny, PlaysList, HandsToEach, PlaysSessions, PlaysLoosely, ToldBack, ShownBack};
+    ghost use Rattle.cbm_drive.specs.Turning.{ForetellsShown, ReactsFirst, ChangeIsTold, FirstIsShown, IsFirstShown, PlaysList, HandsToEach, PlaysSessions, PlaysLoosely};
     ghost use Rattle.cbm_drive.specs.Playback.{Shown, Playback, IsPlayedBack, played_says, played_step};
-    ghost use Rattle.cbm_drive.specs.Progress.{AreKept, IsNearer, left};
-    ghost use Rattle.cbm_drive.specs.Reactions.{AreAtMoment, HasReacted};
+    ghost use Rattle.cbm_drive.specs.Progress.{AreKept, IsNearer};
 
     /// Drives on a cable of which the host holds no line, in the order in which they answer at equal moments.
     pub fn new(drives: [Drive<D>; N]) -> Bus<D, N>
@@ -95,34 +92,26 @@ impl<D: Machine, const N: usize> Bus<D, N> {
     #[inline(always)]
     pub fn line(&mut self, change: Change)
         requires { change.moment < 2 ^ 60 }
-        ensures told { Unfailed D.failures self.old.drives self.new.drives →
-            (ss : List (Station D.State)) → IsBusAt _ D.State D.stands self.old.host self.old.drives ss →
-            IsBusAt _ D.State D.stands self.new.host self.new.drives (map (λ s. tell D.State D.step D.says change s) ss) }
-        // Also on disks that aren't sound, of a drive alone: so it is of the machine that replays what this one showed.
-        ensures recorded { N ≡ 1 → ToldBack D.shows self.old.host self.new.host change self.old.drives self.new.drives }
+        ensures tells { ChangeIsTold _ D.State D.stands D.step D.says D.failures D.shows N self.old.host self.new.host change
+            self.old.drives self.new.drives }
         // What was due is still due, or something later, or nothing, whatever the machines represent.
         ensures kept { AreKept change.moment self.old.drives self.new.drives }
-        ensures lasting { numbers D.lasting self.new.drives ≡ numbers D.lasting self.old.drives }
-        ensures counted { failed D.failures self.old.drives ≤ failed D.failures self.new.drives }
+        ensures carried { AreCarried D.lasting D.failures self.old.drives self.new.drives }
     {
         self.host = tell_all(self.drives.as_mut_slice(), self.host, change);
     }
 
     /// The reaction that is due first happens, to be called at the moment that `next_due` answers: all other drives see
-    /// each line that the drive changes, with what is held then. None where no reaction is due.
+    /// each line that the drive changes, with what is held then. None where no reaction is due. One reaction less is due at this
+    /// moment then, and none before it, also on disks that aren't sound.
     pub fn due(&mut self, moment: u64) -> Option<Answer>
         requires { moment < 2 ^ 60 }
-        ensures reacted { Unfailed D.failures self.old.drives self.new.drives → (ss : List (Station D.State)) →
-            IsBusAt _ D.State D.stands self.old.host self.old.drives ss → IsDueFirst self.old.drives moment →
-            IfSome result (λ a. HasReacted _ D.State D.stands D.step D.says self.old.host moment a.device
-            self.new.drives a.changes.items ss) }
-        // One reaction less is due at this moment, and none before it, also on disks that aren't sound.
+        ensures reacted { ReactsFirst _ D.State D.stands D.step D.says D.failures self.old self.new moment result }
         ensures nearer { IsDueFirst self.old.drives moment → IsNearer moment self.old.drives self.new.drives }
         ensures none { result ≡ None → AreIdle self.old.drives × (self.new ≡ self.old) }
         ensures idle { AreIdle self.old.drives → result ≡ None }
         ensures host { self.new.host ≡ self.old.host }
-        ensures lasting { numbers D.lasting self.new.drives ≡ numbers D.lasting self.old.drives }
-        ensures counted { failed D.failures self.old.drives ≤ failed D.failures self.new.drives }
+        ensures carried { AreCarried D.lasting D.failures self.old.drives self.new.drives }
     {
         let (place, _) = first_due(self.drives.as_slice())?;
         react(self.drives.as_mut_slice(), self.host, place, moment)
@@ -132,12 +121,10 @@ impl<D: Machine, const N: usize> Bus<D, N> {
     #[inline(always)]
     pub fn shows_before(&self, limit: u64) -> bool
         requires { limit < 2 ^ 60 }
-        ensures says { (ss : List (Station D.State)) → IsBusAt _ D.State D.stands self.now.host self.now.drives ss →
-            MatchBool result (AnyShows D.State D.step D.says limit ss) (AreSilent D.State D.step D.says limit ss) }
+        ensures says { ForetellsShown _ D.State D.stands D.step D.says self.now limit result }
         // Whatever the machines represent: so it is of those that play back what they show.
-        ensures recorded { (later : List Shown) (ss : List (Station Playback)) →
-            IsBusAt _ Playback (IsPlayedBack D.shows later) self.now.host self.now.drives ss → MatchBool result
-            (AnyShows Playback played_step played_says limit ss) (AreSilent Playback played_step played_says limit ss) }
+        ensures recorded { (later : List Shown) →
+            ForetellsShown _ Playback (IsPlayedBack D.shows later) played_step played_says self.now limit result }
     {
         any_shows(self.drives.as_slice(), limit)
     }
@@ -146,22 +133,11 @@ impl<D: Machine, const N: usize> Bus<D, N> {
     #[inline(always)]
     pub(crate) fn first_shown(&mut self, limit: u64) -> Option<(u64, Answer)>
         requires { limit < 2 ^ 60 }
-        ensures played { ShowsFirst _ D.State D.stands D.step D.says D.failures self.old.host limit self.old.drives
-            self.new.drives result }
-        // Also on disks that aren't sound, of a drive alone: so it is of the machine that replays what this one showed.
-        ensures recorded { N ≡ 1 → ShownBack D.shows self.old.host limit self.old.drives self.new.drives result }
-        ensures before { IfSome result (λ r. r.0 < limit) }
-        ensures shows { IfSome result (λ r. r.1.changes.items ≡ [] → ⊥) }
-        ensures settled { result ≡ None → AreInTime limit self.new.drives }
-        // Whatever the machines represent, before each later limit less is left to happen.
-        ensures fewer { IfSome result (λ r. (until : ℕ) → limit ≤ until →
-            left until self.new.drives < left until self.old.drives) }
-        ensures moments { IfSome result (λ r. AreAtMoment r.0 r.1.changes.items) }
-        ensures some { ShowsAny _ D.State D.stands D.step D.says D.failures self.old.host limit self.old.drives
-            self.new.drives result }
+        ensures shown { FirstIsShown _ D.State D.stands D.step D.says D.failures D.shows N self.old.host limit
+            self.old.drives self.new.drives result }
+        ensures first { IsFirstShown limit self.old.drives self.new.drives result }
         ensures host { self.new.host ≡ self.old.host }
-        ensures lasting { numbers D.lasting self.new.drives ≡ numbers D.lasting self.old.drives }
-        ensures counted { failed D.failures self.old.drives ≤ failed D.failures self.new.drives }
+        ensures carried { AreCarried D.lasting D.failures self.old.drives self.new.drives }
     {
         first_shown(self.drives.as_mut_slice(), self.host, limit)
     }
@@ -173,8 +149,7 @@ impl<D: Machine, const N: usize> Bus<D, N> {
         requires { limit < 2 ^ 60 }
         ensures comes { is_some result ≡ half_alone limit self.old.drives }
         ensures said { MatchOption result (self.new ≡ self.old) (SaysHalfAlone limit self.old self.new) }
-        ensures lasting { numbers D.lasting self.new.drives ≡ numbers D.lasting self.old.drives }
-        ensures counted { failed D.failures self.old.drives ≤ failed D.failures self.new.drives }
+        ensures carried { AreCarried D.lasting D.failures self.old.drives self.new.drives }
     {
         let (drive, others) = self.drives.as_mut_slice().split_first_mut()?;
         if !others.is_empty() {
@@ -198,23 +173,16 @@ impl<D: Machine, const N: usize> Bus<D, N> {
             (result ≡ Err f) × (self.new ≡ self.old) × (events.new ≡ events.old) }
         ensures memory { fault_of 0 0 end changes.now ≡ None → IfErr result (λ f. f ≡ Memory) }
         ensures settled { OnOk result (AreInTime (end + 1) self.new.drives) }
-        ensures lasting { numbers D.lasting self.new.drives ≡ numbers D.lasting self.old.drives }
-        ensures counted { failed D.failures self.old.drives ≤ failed D.failures self.new.drives }
+        ensures carried { AreCarried D.lasting D.failures self.old.drives self.new.drives }
         ensures played { PlaysList _ D.State D.stands D.step D.says D.failures self.old self.new end events.old.items
             events.new.items changes.now result }
-        // Whether or not the host keeps any timing, from rest:
-        ensures handed { Unfailed D.failures self.old.drives self.new.drives →
-            HandsToEach _ D.State D.stands D.step D.says self.old self.new end events.old.items
+        // From rest, whether or not the host keeps any timing; where it keeps the bus's; and where it does so loosely:
+        ensures handed { HandsToEach _ D.State D.stands D.step D.says D.failures self.old self.new end events.old.items
             events.new.items changes.now result }
-        // From rest, under a host that keeps the bus's timing: a beginning of a session in which each byte talked is the
-        // machine's answer, and no reaction is late.
-        ensures kept { Unfailed D.failures self.old.drives self.new.drives →
-            PlaysSessions _ D.State D.stands D.step D.says self.old self.new end events.old.items
+        ensures kept { PlaysSessions _ D.State D.stands D.step D.says D.failures self.old self.new end events.old.items
             events.new.items changes.now result }
-        // And under one that keeps it loosely, as a computer's KERNAL does:
-        ensures loosely { Unfailed D.failures self.old.drives self.new.drives →
-            PlaysLoosely _ D.State D.stands D.step D.says self.old self.new end events.old.items
-            events.new.items changes.now result }
+        ensures loosely { PlaysLoosely _ D.State D.stands D.step D.says D.failures self.old self.new end
+            events.old.items events.new.items changes.now result }
     {
         if let Some(fault) = first_fault(changes, 0, 0, end) {
             return Err(fault);

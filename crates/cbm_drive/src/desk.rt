@@ -191,14 +191,13 @@ impl<M: Medium> Desk<M> {
         self.addressee.release();
     }
 
-    /// The talker's byte was taken.
+    /// The talker's byte was taken; after one that isn't the last (EOI) there is another, on any disk.
     fn said(&mut self)
         ensures leads { let a = self.old.addressed in
             LeadsUnfailed M.seen self.old.dos self.new.dos (taken_from (channel_said a.role a.channel)) }
         ensures addressed { self.new.addressed ≡ self.old.addressed }
         ensures tracks { (M.seen self.new.dos.medium).tracks ≡ (M.seen self.old.dos.medium).tracks }
         ensures counted { (M.seen self.old.dos.medium).failures ≤ (M.seen self.new.dos.medium).failures }
-        // After a byte that isn't the last (EOI) there is another, on any disk.
         ensures next { (n : ℕ) → desk_shows self.old ≡ Some (n, false) → IsSome (desk_shows self.new) }
     {
         if let Some(channel) = self.addressee.channel_said() {

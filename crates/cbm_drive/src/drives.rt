@@ -3,13 +3,11 @@
 ghost use Rattle.std.specs.Prelude.{◌≡◌, ◌↔◌, ◌+◌, ◌<◌, ◌≤◌, ◌^◌, true, List, [], ◌∷◌, ◌++◌, length, map, IfSome, IsSome, MatchOption};
 ghost use Rattle.std.specs.List.{AllZip};
 ghost use Rattle.cbm_iec.specs.Changes.{lines_after};
-ghost use Rattle.cbm_session.specs.Among.{Rest};
-ghost use Rattle.cbm_session.specs.Playing.{Station, tell, told_lines};
-ghost use Rattle.cbm_drive.specs.Seats.{Seated, Meets, IsSeat, IsBusAt, own_of, numbers, IsFirstDue, AreIdle, AreResting, Unfailed, failed};
+ghost use Rattle.cbm_drive.specs.Seats.{Seated, own_of, IsFirstDue, AreIdle, AreResting, AreCarried};
 ghost use Rattle.cbm_drive.specs.Recorded.{IsToldBy};
-ghost use Rattle.cbm_drive.specs.Turning.{ToldBack, ReactedBack};
+ghost use Rattle.cbm_drive.specs.Turning.{TellsEach, OthersHear, OthersGoOn, ReactionIsMade, ChangeIsTold};
 ghost use Rattle.cbm_drive.specs.Progress.{AreKept, IsNearer};
-ghost use Rattle.cbm_drive.specs.Reactions.{AreAtMoment, Hear, HasReacted};
+ghost use Rattle.cbm_drive.specs.Reactions.{AreAtMoment};
 
 use crate::drive::Drive;
 use crate::wires::Wires;
@@ -25,19 +23,15 @@ pub struct Answer {
     pub device: u8,
 }
 
-/// Tells each of these drives that the others changed a line at this moment, and what is held now.
+/// Tells each of these drives that the others changed a line at this moment, and what is held now (`each`: whatever the
+/// machines represent).
 pub(crate) fn tell_each<D: Machine>(drives: &mut [Drive<D>], moment: u64, wires: &Wires)
     requires { moment < 2 ^ 60 }
-    ensures told { Unfailed D.failures drives.old drives.new → (f : Rest → Rest) (ss : List (Station D.State)) →
-        AllZip (λ x s. Meets _ D.State D.stands wires.now (f s.rest) x s) drives.old ss →
-        AllZip (IsSeat _ D.State D.stands wires.now) drives.new
-        (map (λ s. told_lines D.State D.step D.says moment (f s.rest) s) ss) }
+    ensures told { TellsEach _ D.State D.stands D.step D.says D.failures moment wires.now drives.old drives.new }
     ensures own { map own_of drives.new ≡ map own_of drives.old }
     ensures kept { AreKept moment drives.old drives.new }
-    // Whatever the machines represent:
     ensures each { AllZip (λ x y. IsToldBy D.shows moment wires.now x y) drives.old drives.new }
-    ensures lasting { numbers D.lasting drives.new ≡ numbers D.lasting drives.old }
-    ensures counted { failed D.failures drives.old ≤ failed D.failures drives.new }
+    ensures carried { AreCarried D.lasting D.failures drives.old drives.new }
 {
     let Some((first, rest)) = drives.split_first_mut() else {
         return;
@@ -94,14 +88,10 @@ pub(crate) fn all_rest<D: Machine>(drives: &[Drive<D>]) -> bool
 #[inline(always)]
 fn tell_others<D: Machine>(drives: &mut [Drive<D>], moment: u64, wires: &Wires)
     requires { moment < 2 ^ 60 }
-    ensures told { Unfailed D.failures drives.old drives.new → (f : Rest → Rest) (ss : List (Station D.State)) →
-        AllZip (λ x s. Meets _ D.State D.stands wires.now (f s.rest) x s) drives.old ss →
-        AllZip (IsSeat _ D.State D.stands wires.now) drives.new
-        (map (λ s. told_lines D.State D.step D.says moment (f s.rest) s) ss) }
+    ensures told { TellsEach _ D.State D.stands D.step D.says D.failures moment wires.now drives.old drives.new }
     ensures own { map own_of drives.new ≡ map own_of drives.old }
     ensures kept { AreKept moment drives.old drives.new }
-    ensures lasting { numbers D.lasting drives.new ≡ numbers D.lasting drives.old }
-    ensures counted { failed D.failures drives.old ≤ failed D.failures drives.new }
+    ensures carried { AreCarried D.lasting D.failures drives.old drives.new }
 {
     if drives.is_empty() {
         return;
@@ -120,15 +110,9 @@ fn hear_each<D: Machine>(
     requires moment { moment < 2 ^ 60 }
     requires clocks { wires.clocks + length changes.now < 2 ^ 60 }
     requires datas { wires.datas + length changes.now < 2 ^ 60 }
-    ensures heard { Unfailed D.failures front.old front.new → Unfailed D.failures back.old back.new →
-        Hear _ D.State D.stands D.stands D.step D.says moment front.old back.old front.new back.new wires
-        changes.now }
-    ensures front { AreKept moment front.old front.new }
-    ensures back { AreKept moment back.old back.new }
-    ensures front_lasting { numbers D.lasting front.new ≡ numbers D.lasting front.old }
-    ensures front_counted { failed D.failures front.old ≤ failed D.failures front.new }
-    ensures back_lasting { numbers D.lasting back.new ≡ numbers D.lasting back.old }
-    ensures back_counted { failed D.failures back.old ≤ failed D.failures back.new }
+    ensures heard { OthersHear _ D.State D.stands D.step D.says D.failures moment front.old back.old front.new back.new
+        wires changes.now }
+    ensures others { OthersGoOn D.lasting D.failures moment front.old back.old front.new back.new }
 {
     let Some((change, more)) = changes.split_first() else {
         return;
@@ -151,15 +135,9 @@ fn hear_others<D: Machine>(
     requires moment { moment < 2 ^ 60 }
     requires clocks { wires.clocks + length changes.now < 2 ^ 60 }
     requires datas { wires.datas + length changes.now < 2 ^ 60 }
-    ensures heard { Unfailed D.failures front.old front.new → Unfailed D.failures back.old back.new →
-        Hear _ D.State D.stands D.stands D.step D.says moment front.old back.old front.new back.new wires
-        changes.now }
-    ensures front { AreKept moment front.old front.new }
-    ensures back { AreKept moment back.old back.new }
-    ensures front_lasting { numbers D.lasting front.new ≡ numbers D.lasting front.old }
-    ensures front_counted { failed D.failures front.old ≤ failed D.failures front.new }
-    ensures back_lasting { numbers D.lasting back.new ≡ numbers D.lasting back.old }
-    ensures back_counted { failed D.failures back.old ≤ failed D.failures back.new }
+    ensures heard { OthersHear _ D.State D.stands D.step D.says D.failures moment front.old back.old front.new back.new
+        wires changes.now }
+    ensures others { OthersGoOn D.lasting D.failures moment front.old back.old front.new back.new }
 {
     if front.is_empty() && back.is_empty() {
         return;
@@ -179,20 +157,13 @@ pub(crate) fn react<D: Machine>(
     requires place { place < length drives.old }
     requires few { length drives.old < 2 ^ 16 }
     requires moment { moment < 2 ^ 60 }
-    ensures reacted { Unfailed D.failures drives.old drives.new →
-        (ss : List (Station D.State)) → IsBusAt _ D.State D.stands host drives.old ss →
-        IsFirstDue drives.old (place, moment) →
-        IfSome result (λ a.
-        HasReacted _ D.State D.stands D.step D.says host moment a.device drives.new a.changes.items ss) }
-    // Also on disks that aren't sound, of a drive alone: so it is of the machine that replays what this one showed.
-    ensures recorded { length drives.old ≡ 1 → IsFirstDue drives.old (place, moment) →
-        IfSome result (ReactedBack D.shows host moment drives.old drives.new) }
+    ensures made { ReactionIsMade _ D.State D.stands D.step D.says D.failures D.shows (length drives.old) host place
+        moment drives.old drives.new result }
     ensures moments { IfSome result (λ a. AreAtMoment moment a.changes.items) }
     ensures some { IsSome result }
     ensures nearer { IsFirstDue drives.old (place, moment) → IsNearer moment drives.old drives.new }
     ensures same { length drives.new ≡ length drives.old }
-    ensures lasting { numbers D.lasting drives.new ≡ numbers D.lasting drives.old }
-    ensures counted { failed D.failures drives.old ≤ failed D.failures drives.new }
+    ensures carried { AreCarried D.lasting D.failures drives.old drives.new }
 {
     let wires = Wires::of(host, drives);
     let (front, rest) = drives.split_at_mut(place);
@@ -208,15 +179,11 @@ pub(crate) fn react<D: Machine>(
 pub(crate) fn tell_all<D: Machine>(drives: &mut [Drive<D>], host: Lines, change: Change) -> Lines
     requires { change.moment < 2 ^ 60 }
     ensures host { result ≡ lines_after host change.line change.way }
-    ensures told { Unfailed D.failures drives.old drives.new →
-        (ss : List (Station D.State)) → IsBusAt _ D.State D.stands host drives.old ss →
-        IsBusAt _ D.State D.stands result drives.new (map (λ s. tell D.State D.step D.says change s) ss) }
-    // Also on disks that aren't sound, of a drive alone: so it is of the machine that replays what this one showed.
-    ensures recorded { length drives.old ≡ 1 → ToldBack D.shows host result change drives.old drives.new }
+    ensures tells { ChangeIsTold _ D.State D.stands D.step D.says D.failures D.shows (length drives.old) host result
+        change drives.old drives.new }
     ensures kept { AreKept change.moment drives.old drives.new }
     ensures same { length drives.new ≡ length drives.old }
-    ensures lasting { numbers D.lasting drives.new ≡ numbers D.lasting drives.old }
-    ensures counted { failed D.failures drives.old ≤ failed D.failures drives.new }
+    ensures carried { AreCarried D.lasting D.failures drives.old drives.new }
 {
     let now = host.after(change);
     let wires = Wires::of(now, drives);

@@ -1,15 +1,10 @@
 //! Looking ahead: whether a drive changes a line before a limit.
 
-ghost use Rattle.std.specs.Prelude.{◌≡◌, ◌<◌, ◌≤◌, ◌^◌, ℕ, Option, List, [], length, None, IfSome, IsSome, MatchBool};
-ghost use Rattle.std.specs.List.{AllZip};
-ghost use Rattle.cbm_session.specs.Playing.{Station};
+ghost use Rattle.std.specs.Prelude.{◌≡◌, ◌<◌, ◌≤◌, ◌^◌, Option, List, length, None};
 ghost use Rattle.cbm_drive.specs.Playback.{Shown, Playback, IsPlayedBack, played_says, played_step};
-ghost use Rattle.cbm_drive.specs.Progress.{left};
-ghost use Rattle.cbm_drive.specs.Reactions.{AreAtMoment};
-ghost use Rattle.cbm_drive.specs.Seats.{IsSeat, IsBusAt, AreInTime, numbers, Unfailed, failed};
-ghost use Rattle.cbm_drive.specs.Silence.{AnyShows, AreSilent, Foretold};
-ghost use Rattle.cbm_drive.specs.Turning.{HasShown, ShowsFirst, ShowsAny, ShownBack};
-ghost use Rattle.cbm_drive.specs.declared.wires.Wires.{Wires};
+ghost use Rattle.cbm_drive.specs.Seats.{AreCarried};
+ghost use Rattle.cbm_drive.specs.Silence.{Foretold};
+ghost use Rattle.cbm_drive.specs.Turning.{ForetellsSeats, FirstIsShown, IsFirstShown};
 
 use crate::drive::Drive;
 use crate::drives::{Answer, first_due, react};
@@ -33,16 +28,13 @@ pub(crate) fn shows(mut port: Port, peek: Option<(u8, bool)>, limit: u64) -> boo
     !reaction.changes.is_empty() || shows(port, peek, limit)
 }
 
-/// Whether one of these drives changes a line before a limit, if the host changes nothing.
+/// Whether one of these drives changes a line before a limit, if the host changes nothing (`recorded`: whatever the machines
+/// represent, of those that play back what they show).
 pub(crate) fn any_shows<D: Machine>(drives: &[Drive<D>], limit: u64) -> bool
     requires { limit < 2 ^ 60 }
-    ensures says { (wires : Wires) (ss : List (Station D.State)) →
-        AllZip (IsSeat _ D.State D.stands wires) drives.now ss → MatchBool result
-        (AnyShows D.State D.step D.says limit ss) (AreSilent D.State D.step D.says limit ss) }
-    // Whatever the machines represent: so it is of those that play back what they show.
-    ensures recorded { (later : List Shown) (wires : Wires) (ss : List (Station Playback)) →
-        AllZip (IsSeat _ Playback (IsPlayedBack D.shows later) wires) drives.now ss → MatchBool result
-        (AnyShows Playback played_step played_says limit ss) (AreSilent Playback played_step played_says limit ss) }
+    ensures says { ForetellsSeats _ D.State D.stands D.step D.says drives.now limit result }
+    ensures recorded { (later : List Shown) →
+        ForetellsSeats _ Playback (IsPlayedBack D.shows later) played_step played_says drives.now limit result }
 {
     let Some((first, rest)) = drives.split_first() else {
         return false;
@@ -59,19 +51,11 @@ pub(crate) fn first_shown<D: Machine>(
 ) -> Option<(u64, Answer)>
     requires few { length drives.old ≤ 4 }
     requires limit { limit < 2 ^ 60 }
-    ensures played { ShowsFirst _ D.State D.stands D.step D.says D.failures host limit drives.old drives.new result }
-    // Also on disks that aren't sound, of a drive alone: so it is of the machine that replays what this one showed.
-    ensures recorded { length drives.old ≡ 1 → ShownBack D.shows host limit drives.old drives.new result }
-    ensures before { IfSome result (λ r. r.0 < limit) }
-    ensures shows { IfSome result (λ r. r.1.changes.items ≡ [] → ⊥) }
-    ensures settled { result ≡ None → AreInTime limit drives.new }
-    // Whatever the machines represent, before each later limit less is left to happen.
-    ensures fewer { IfSome result (λ r. (until : ℕ) → limit ≤ until → left until drives.new < left until drives.old) }
-    ensures moments { IfSome result (λ r. AreAtMoment r.0 r.1.changes.items) }
-    ensures some { ShowsAny _ D.State D.stands D.step D.says D.failures host limit drives.old drives.new result }
+    ensures shown { FirstIsShown _ D.State D.stands D.step D.says D.failures D.shows (length drives.old) host limit
+        drives.old drives.new result }
+    ensures first { IsFirstShown limit drives.old drives.new result }
     ensures same { length drives.new ≡ length drives.old }
-    ensures lasting { numbers D.lasting drives.new ≡ numbers D.lasting drives.old }
-    ensures counted { failed D.failures drives.old ≤ failed D.failures drives.new }
+    ensures carried { AreCarried D.lasting D.failures drives.old drives.new }
 {
     while let Some((place, moment)) = first_due(drives) {
         if moment >= limit {

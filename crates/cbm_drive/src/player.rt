@@ -32,18 +32,16 @@ impl Model for Player {
 }
 
 impl Player {
-    ghost use Rattle.std.specs.Prelude.{◌≡◌, ◌+◌, ◌-◌, ◌∷◌, ◌++◌, ◌<◌, ◌≤◌, ◌^◌, ℕ, List, [], is_some, not, ◌&&◌, None, Some, Ok, Err, min, IfSome, MatchOption, IsSome};
-    ghost use Rattle.cbm_session.specs.Playing.{Station, drive_events, at_rest, IsKept};
+    ghost use Rattle.std.specs.Prelude.{◌≡◌, ◌+◌, ◌<◌, ◌≤◌, ◌^◌, ℕ, List, is_some, ◌&&◌, None, Some, Ok, Err, IfSome, IsSome};
+    ghost use Rattle.cbm_session.specs.Playing.{at_rest, IsKept};
     ghost use Rattle.cbm_session.specs.Sessions.{IsBus};
     ghost use Rattle.cbm_session.specs.Timing.{HostKeeps};
     ghost use Rattle.cbm_iec.specs.declared.party.Party.{Party};
-    ghost use Rattle.cbm_drive.specs.Playback.{Shown, Playback, IsPlayedBack, played_says, played_step};
-    ghost use Rattle.cbm_drive.specs.Halves.{has_nothing, half_alone, half_events, half_given};
+    ghost use Rattle.cbm_drive.specs.Halves.{has_nothing, half_alone, IsHalfEvent};
     ghost use Rattle.cbm_drive.specs.Reactions.{AreAtMoment};
-    ghost use Rattle.cbm_drive.specs.Seats.{AreInTime, AreLater, numbers, Unfailed, failed};
-    ghost use Rattle.cbm_drive.specs.Players.{at_start, change_taken, nothing_left, pending, at_most, IsLessLeft, IsWaitingFrom, IsTurnOf, IsAfterEvent, IsDrives, IsGivenBefore, IsAfter};
-    ghost use Rattle.cbm_drive.specs.Turning.{GivesNext, GivesOne, GivesHalf, Finishes, GivesNextBack, GivesOneBack, GivesHalfBack, FinishesBack};
-    ghost use Rattle.cbm_iec.specs.declared.event.Who.TheVariants.{Drive};
+    ghost use Rattle.cbm_drive.specs.Seats.{AreLater, AreCarried};
+    ghost use Rattle.cbm_drive.specs.Players.{at_start, change_taken, nothing_left, IsTurnTo, IsDrivesTurn, IsHostDone, IsNextEvent, IsLastEvent, IsWaitingFrom, IsAfter};
+    ghost use Rattle.cbm_drive.specs.Turning.{NextIsGiven, OneIsGiven, LastIsGiven, HalfIsGiven, IsFirstGiven};
     ghost use Rattle.cbm_drive.specs.declared.fault.PlayFault.TheVariants.{Backwards};
 
     /// Before the first change.
@@ -101,8 +99,8 @@ impl Player {
         self.second.take()
     }
 
-    /// The next event at a moment or before it. A pending change comes before reactions of its own moment. None where
-    /// none comes by then, and then the player and the drives are as they were.
+    /// The next event at a moment or before it. A change pending for that moment or before comes, before reactions of its own
+    /// moment, or a drive's comes before it. None where none comes by then, and then the player and the drives are as they were.
     #[inline(always)]
     pub fn next<D: Machine, const N: usize>(
         &mut self,
@@ -110,23 +108,11 @@ impl Player {
         upto: u64,
     ) -> Option<Event>
         requires { upto < 2 ^ 59 }
-        ensures given { Unfailed D.failures bus.old.drives bus.new.drives →
-            GivesNext _ D.State D.stands D.step D.says self.old self.new bus.old bus.new upto result }
-        // Also on disks that aren't sound, of a drive alone: a record of what it offered after each act of this call, and the
-        // same holds of the machine that replays this record.
-        ensures recorded { N ≡ 1 → GivesNextBack D.shows self.old self.new bus.old bus.new upto result }
-        ensures turn { IfSome result (λ e. IsTurnOf e.who e.change self.old.waiting self.new.waiting) }
-        ensures waiting { IsWaitingFrom self.new.from self.new.waiting }
-        ensures second { IfSome result (λ e. IsGivenBefore (upto + 1) self.new.second) }
-        // A change pending for that moment or before comes, or a drive's comes before it.
+        ensures gives { NextIsGiven _ D.State D.stands D.step D.says D.failures D.shows N self.old self.new bus.old bus.new upto
+            result }
+        ensures event { IsNextEvent self.old self.new bus.old bus.new (upto + 1) result }
         ensures comes { IfSome self.old.waiting (λ c. c.moment ≤ upto → IsSome result) }
-        ensures behind { IfSome result (λ e. IsAfterEvent e.who e.change self.new) }
-        // Also on disks that aren't sound, less is left to come after a change of a drive.
-        ensures fewer { IfSome result (λ e. IsDrives e.who → (limit : ℕ) → upto < limit →
-            at_most limit self.new.second bus.new.drives < at_most limit self.old.second bus.old.drives) }
-        ensures taken { self.new.taken ≡ self.old.taken }
-        ensures lasting { numbers D.lasting bus.new.drives ≡ numbers D.lasting bus.old.drives }
-        ensures counted { failed D.failures bus.old.drives ≤ failed D.failures bus.new.drives }
+        ensures carried { AreCarried D.lasting D.failures bus.old.drives bus.new.drives }
     {
         if let Some(event) = self.second {
             if event.change.moment > upto {
@@ -152,19 +138,9 @@ impl Player {
     ) -> Option<Half>
         requires { upto < 2 ^ 59 }
         ensures comes { is_some result ≡ (has_nothing self.old && half_alone (upto + 1) bus.old.drives) }
-        ensures none { result ≡ None → (self.new ≡ self.old) × (bus.new ≡ bus.old) }
-        ensures given { GivesHalf _ D.State D.stands D.step D.says self.old self.new bus.old bus.new result }
-        // Also on disks that aren't sound: so it is of the machine that replays what this one shows later.
-        ensures recorded { GivesHalfBack D.shows self.old self.new bus.old bus.new result }
-        ensures alone { IfSome result (λ h. (self.old.waiting ≡ None) × (self.old.second ≡ None)) }
-        ensures player { IfSome result (λ h. self.new ≡ half_given self.old h) }
-        ensures moment { IfSome result (λ h. h.moment ≤ upto) }
-        ensures clock { IfSome result (λ h. h.now.clock_low ≡ not h.was.clock_low) }
-        // Also on disks that aren't sound, less is left to come.
-        ensures fewer { IfSome result (λ h. (limit : ℕ) → upto < limit →
-            at_most limit self.new.second bus.new.drives < at_most limit self.old.second bus.old.drives) }
-        ensures lasting { numbers D.lasting bus.new.drives ≡ numbers D.lasting bus.old.drives }
-        ensures counted { failed D.failures bus.old.drives ≤ failed D.failures bus.new.drives }
+        ensures gives { HalfIsGiven _ D.State D.stands D.step D.says D.shows self.old self.new bus.old bus.new result }
+        ensures half { IsHalfEvent self.old self.new bus.old bus.new upto result }
+        ensures carried { AreCarried D.lasting D.failures bus.old.drives bus.new.drives }
     {
         if self.waiting.is_some() || self.second.is_some() {
             return None;
@@ -181,23 +157,12 @@ impl Player {
         bus: &mut Bus<D, N>,
         upto: u64,
     ) -> Option<Event>
-        requires none { self.old.waiting ≡ None }
-        requires from { self.old.from ≤ upto + 1 }
+        requires done { IsHostDone self.old (upto + 1) }
         requires upto { upto < 2 ^ 59 }
-        ensures given { Unfailed D.failures bus.old.drives bus.new.drives →
-            Finishes _ D.State D.stands D.step D.says self.old self.new bus.old bus.new upto result }
-        // Also on disks that aren't sound, of a drive alone: of the machine that replays what it offered.
-        ensures recorded { N ≡ 1 → FinishesBack D.shows self.old self.new bus.old bus.new upto result }
-        ensures settled { result ≡ None → AreInTime (upto + 1) bus.new.drives }
-        ensures drive { IfSome result (λ e. IsDrives e.who) }
-        ensures second { IsGivenBefore (upto + 1) self.new.second }
-        ensures from { self.new.from ≤ upto + 1 }
-        ensures waiting { self.new.waiting ≡ None }
-        ensures fewer { IfSome result (λ e. (limit : ℕ) → upto < limit →
-            at_most limit self.new.second bus.new.drives < at_most limit self.old.second bus.old.drives) }
-        ensures taken { self.new.taken ≡ self.old.taken }
-        ensures lasting { numbers D.lasting bus.new.drives ≡ numbers D.lasting bus.old.drives }
-        ensures counted { failed D.failures bus.old.drives ≤ failed D.failures bus.new.drives }
+        ensures gives { LastIsGiven _ D.State D.stands D.step D.says D.failures D.shows N self.old self.new bus.old bus.new upto
+            result }
+        ensures event { IsLastEvent self.old self.new bus.old bus.new (upto + 1) result }
+        ensures carried { AreCarried D.lasting D.failures bus.old.drives bus.new.drives }
     {
         if let Some(event) = self.second.take() {
             return Some(event);
@@ -227,25 +192,12 @@ impl Player {
         bus: &mut Bus<D, N>,
         change: Change,
     ) -> Option<Event>
-        requires second { self.old.second ≡ None }
-        requires waiting { self.old.waiting ≡ Some change }
-        requires from { self.old.from ≤ change.moment }
-        requires moment { change.moment < 2 ^ 59 }
-        ensures given { Unfailed D.failures bus.old.drives bus.new.drives →
-            GivesOne _ D.State D.stands D.step D.says self.old self.new bus.old bus.new change.moment result }
-        // Also on disks that aren't sound, of a drive alone: a record of what it offered after each act of this call, and the
-        // same holds of the machine that replays this record.
-        ensures recorded { N ≡ 1 → GivesOneBack D.shows self.old self.new bus.old bus.new change.moment result }
-        ensures turn { IfSome result (λ e. IsTurnOf e.who e.change self.old.waiting self.new.waiting) }
-        ensures waiting { IsWaitingFrom self.new.from self.new.waiting }
+        requires { IsTurnTo self.old change }
+        ensures gives { OneIsGiven _ D.State D.stands D.step D.says D.failures D.shows N self.old self.new bus.old bus.new change.moment
+            result }
+        ensures event { IsNextEvent self.old self.new bus.old bus.new change.moment result }
         ensures comes { IsSome result }
-        ensures second { IsGivenBefore change.moment self.new.second }
-        ensures behind { IfSome result (λ e. IsAfterEvent e.who e.change self.new) }
-        // Also on disks that aren't sound, less is left to come after a change of a drive.
-        ensures fewer { IfSome result (λ e. IsDrives e.who → IsLessLeft change.moment self.old self.new bus.old bus.new) }
-        ensures taken { self.new.taken ≡ self.old.taken }
-        ensures lasting { numbers D.lasting bus.new.drives ≡ numbers D.lasting bus.old.drives }
-        ensures counted { failed D.failures bus.old.drives ≤ failed D.failures bus.new.drives }
+        ensures carried { AreCarried D.lasting D.failures bus.old.drives bus.new.drives }
     {
         if let Some((moment, answer)) = bus.first_shown(change.moment) {
             return self.give(moment, &answer);
@@ -266,25 +218,12 @@ impl Player {
         bus: &mut Bus<D, N>,
         upto: u64,
     ) -> Option<Event>
-        requires second { self.old.second ≡ None }
-        requires waiting { IsWaitingFrom (upto + 1) self.old.waiting }
-        requires from { IsWaitingFrom self.old.from self.old.waiting }
+        requires turn { IsDrivesTurn self.old (upto + 1) }
         requires upto { upto < 2 ^ 59 }
-        ensures given { Unfailed D.failures bus.old.drives bus.new.drives →
-            GivesNext _ D.State D.stands D.step D.says self.old self.new bus.old bus.new upto result }
-        // Also on disks that aren't sound, of a drive alone: a record of what it offered after each act of this call, and the
-        // same holds of the machine that replays this record.
-        ensures recorded { N ≡ 1 → GivesNextBack D.shows self.old self.new bus.old bus.new upto result }
-        ensures second { IfSome result (λ e. IsGivenBefore (upto + 1) self.new.second) }
-        ensures turn { IfSome result (λ e. IsTurnOf e.who e.change self.old.waiting self.new.waiting) }
-        ensures waiting { IsWaitingFrom self.new.from self.new.waiting }
-        ensures behind { IfSome result (λ e. IsAfterEvent e.who e.change self.new) }
-        // Also on disks that aren't sound, less is left to come after a change of a drive.
-        ensures fewer { IfSome result (λ e. IsDrives e.who → (limit : ℕ) → upto < limit →
-            at_most limit self.new.second bus.new.drives < at_most limit self.old.second bus.old.drives) }
-        ensures taken { self.new.taken ≡ self.old.taken }
-        ensures lasting { numbers D.lasting bus.new.drives ≡ numbers D.lasting bus.old.drives }
-        ensures counted { failed D.failures bus.old.drives ≤ failed D.failures bus.new.drives }
+        ensures gives { NextIsGiven _ D.State D.stands D.step D.says D.failures D.shows N self.old self.new bus.old bus.new upto
+            result }
+        ensures event { IsNextEvent self.old self.new bus.old bus.new (upto + 1) result }
+        ensures carried { AreCarried D.lasting D.failures bus.old.drives bus.new.drives }
     {
         if !bus.shows_before(upto + 1) {
             return None;
@@ -300,13 +239,7 @@ impl Player {
         requires waiting { IsWaitingFrom (moment + 1) self.old.waiting }
         requires moment { moment < 2 ^ 59 }
         requires moments { AreAtMoment moment answer.now.changes.items }
-        ensures second { IsGivenBefore (moment + 1) self.new.second }
-        ensures given { MatchOption result (answer.now.changes.items ≡ [])
-            (λ e. drive_events answer.now.device answer.now.changes.items ≡ e ∷ pending self.new.second) }
-        ensures drive { IfSome result (λ e. e.who ≡ Drive answer.now.device) }
-        ensures from { self.new.from ≡ moment + 1 }
-        ensures waiting { self.new.waiting ≡ self.old.waiting }
-        ensures taken { self.new.taken ≡ self.old.taken }
+        ensures { IsFirstGiven self.old self.new moment answer.now result }
     {
         let who = Who::Drive(answer.device);
         self.from = moment + 1;

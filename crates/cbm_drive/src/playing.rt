@@ -1,11 +1,10 @@
 //! Changes of a host are played on a bus: the events come one after the other.
 
-ghost use Rattle.std.specs.Prelude.{◌≡◌, ◌+◌, ◌≤◌, ◌<◌, ◌^◌, ◌++◌, ◌∷◌, [], ℕ, List, OnOk, vec_len, vec_capacity};
-ghost use Rattle.cbm_session.specs.Playing.{Station};
+ghost use Rattle.std.specs.Prelude.{◌≡◌, ◌+◌, ◌≤◌, ◌<◌, ◌^◌, ◌++◌, ◌∷◌, OnOk, vec_len, vec_capacity};
 ghost use Rattle.cbm_drive.specs.Ordered.{AreOrdered};
 ghost use Rattle.cbm_drive.specs.Players.{IsOpen, nothing_left, pending};
-ghost use Rattle.cbm_drive.specs.Seats.{AreInTime, IsBusAt, numbers, Unfailed, failed};
-ghost use Rattle.cbm_drive.specs.Turning.{AddsChange, AddsRest, PlaysUpTo};
+ghost use Rattle.cbm_drive.specs.Seats.{AreInTime, AreCarried};
+ghost use Rattle.cbm_drive.specs.Turning.{AddsChange, AddsRest, PlaysThrough};
 
 use crate::bus::Bus;
 use crate::player::Player;
@@ -38,10 +37,9 @@ fn play_change<D: Machine, const N: usize>(
     requires open { IsOpen player.old change.moment }
     requires moment { change.moment < 2 ^ 59 }
     ensures open { OnOk result (IsOpen player.new change.moment) }
-    ensures added { Unfailed D.failures bus.old.drives bus.new.drives → AddsChange _ D.State D.stands D.step D.says
-        player.old player.new bus.old bus.new events.old.items events.new.items change result }
-    ensures lasting { numbers D.lasting bus.new.drives ≡ numbers D.lasting bus.old.drives }
-    ensures counted { failed D.failures bus.old.drives ≤ failed D.failures bus.new.drives }
+    ensures added { AddsChange _ D.State D.stands D.step D.says D.failures player.old player.new bus.old bus.new
+        events.old.items events.new.items change result }
+    ensures carried { AreCarried D.lasting D.failures bus.old.drives bus.new.drives }
 {
     player.take(change);
     'events: loop {
@@ -67,10 +65,9 @@ fn play_out<D: Machine, const N: usize>(
     requires end { end < 2 ^ 59 }
     ensures settled { OnOk result (AreInTime (end + 1) bus.new.drives) }
     ensures from { player.new.from ≤ end + 1 }
-    ensures added { Unfailed D.failures bus.old.drives bus.new.drives → AddsRest _ D.State D.stands D.step D.says
-        player.old player.new bus.old bus.new events.old.items events.new.items }
-    ensures lasting { numbers D.lasting bus.new.drives ≡ numbers D.lasting bus.old.drives }
-    ensures counted { failed D.failures bus.old.drives ≤ failed D.failures bus.new.drives }
+    ensures added { AddsRest _ D.State D.stands D.step D.says D.failures player.old player.new bus.old bus.new
+        events.old.items events.new.items }
+    ensures carried { AreCarried D.lasting D.failures bus.old.drives bus.new.drives }
 {
     'events: loop {
         events.reserve(MOST)?;
@@ -92,12 +89,9 @@ pub(crate) fn play_on<D: Machine, const N: usize>(
     requires end { end < 2 ^ 59 }
     requires ordered { AreOrdered 0 end changes.now }
     ensures settled { OnOk result (AreInTime (end + 1) bus.new.drives) }
-    ensures lasting { numbers D.lasting bus.new.drives ≡ numbers D.lasting bus.old.drives }
-    ensures counted { failed D.failures bus.old.drives ≤ failed D.failures bus.new.drives }
-    ensures played { Unfailed D.failures bus.old.drives bus.new.drives →
-        (ss : List (Station D.State)) → IsBusAt _ D.State D.stands bus.old.host bus.old.drives ss →
-        PlaysUpTo _ D.State D.stands D.step D.says bus.new.host (end + 1) bus.new.drives events.old.items
-        events.new.items changes.now ss result }
+    ensures carried { AreCarried D.lasting D.failures bus.old.drives bus.new.drives }
+    ensures played { PlaysThrough _ D.State D.stands D.step D.says D.failures bus.old bus.new (end + 1) events.old.items
+        events.new.items changes.now result }
 {
     let mut player = Player::new();
     for change in changes {

@@ -1,11 +1,17 @@
 -- A request to a drive on any disk: what the drive showed is played back by a machine, and for that machine the request was carried out.
-use Rattle.std.specs.Prelude.{◌<◌, ◌≤◌, ◌+◌, ◌++◌, ℕ, Bool, List, [], ◌∷◌, None, IfSome}
+use Rattle.std.specs.Prelude.{◌≡◌, false, ◌<◌, ◌≤◌, ◌+◌, ◌++◌, ℕ, Bool, List, [], ◌∷◌, None, IfSome}
 use Rattle.cbm_drive.specs.Cables.{Cabled}
-use Rattle.cbm_drive.specs.Desks.{Desk}
+use Rattle.cbm_channel.specs.Standing.{Kept}
+use Rattle.cbm_file.specs.Files.{Disk}
+use Rattle.cbm_machine.specs.Machines.{Machine}
+use Rattle.cbm_machine.specs.Machines as files
+use Rattle.cbm_medium.specs.Seen.{Seen}
+use Rattle.cbm_volume.specs.Holding.{HoldsDisk}
+use Rattle.cbm_drive.specs.Desks.{Desk, desk_shows}
 use Rattle.cbm_drive.specs.Seats.{IsBusAt}
 use Rattle.cbm_host.specs.CarriedOut.{HasCarriedOut}
 use Rattle.cbm_host.specs.Engines.{engine_at}
-use Rattle.cbm_host.specs.Hosted.{IsTaking, Hosting, party_of}
+use Rattle.cbm_host.specs.Hosted.{IsTaking, Hosting, Rests, IsUnderWay, tracks_on, party_of}
 use Rattle.cbm_host.specs.Performed.{IsCutShort}
 use Rattle.cbm_drive.specs.Playback.{Shown, Playback, played_says, played_step, IsPlayedBack}
 use Rattle.cbm_host.specs.Performers.{Performing}
@@ -59,3 +65,23 @@ module _ {D : Type 0} (shows : D → Shown) where
 -- THE DRIVE RESTS, on any disk.
 abbrev pub RestsAnyway : {K : Type 0} → (Desk K → Shown) → Hosting K → Type 0
 RestsAnyway shows h = IsAtRestAnyway shows (party_of h.pace h.device) h.bus
+
+module _ {M : Type 0} (seen : M → Seen) where
+  -- A DRIVE AT POWER UP with this medium, alone on a cable with a host.
+  pub record IsPoweredUp (h : Hosting (Kept M)) (medium : M) (given : Pace) : Type 0 where
+    -- With a sound disk it rests, for the machine that starts with that disk.
+    pub rests : (d : Disk) → HoldsDisk (seen medium).tracks (seen medium).content d → Rests seen h (files.start d (seen medium).protected (seen medium).tracks)
+    -- It rests on any disk.
+    pub anyway : RestsAnyway desk_shows h
+    pub tracks : tracks_on seen h ≡ (seen medium).tracks ∷ []
+    -- The first request begins at this moment.
+    pub moment : h.moment ≡ 1000
+    pub pace : h.pace ≡ given
+
+  -- A REQUEST BEGINS to a drive that rests, when the last one was over.
+  pub record RequestBegins (h : Hosting (Kept M)) (p : Performing) (request : Request) : Type 0 where
+    pub under_way : (m : Machine) → Rests seen h m → IsUnderWay seen h p m request [] false
+    -- So it is on any disk.
+    pub anyway : RestsAnyway desk_shows h → IsUnderWayAnyway desk_shows h.pace h.device h.moment h.bus p request
+    -- The host gives up no later than such a drive may take.
+    pub limit : p.limit ≡ h.moment + longest h.pace

@@ -5,7 +5,7 @@ use Rattle.cbm_machine.specs.Machines.{Machine}
 use Rattle.cbm_channel.specs.Standing.{Kept}
 use Rattle.cbm_drive.specs.Cables.{Cabled}
 use Rattle.cbm_drive.specs.Desks.{Desk, DeskStands, desk_step, desk_says}
-use Rattle.cbm_drive.specs.Seats.{IsBusAt, failed, numbers}
+use Rattle.cbm_drive.specs.Seats.{IsBusAt, failed, numbers, Unfailed}
 use Rattle.cbm_host.specs.Engines.{Engined, channel_of, engine_at}
 use Rattle.cbm_host.specs.Performed.{IsPerforming, HasPerformed}
 use Rattle.cbm_host.specs.Performers.{Performing}
@@ -32,6 +32,11 @@ module _ (D M : Type 0) (stands : D → M → Type 0) (step : M → Act → M) (
   -- WHERE NO BYTE WAS TAKEN the request is still under way, with those that were.
   abbrev pub TakesOn : Performing → Performing → Cabled D → Cabled D → Type 0
   TakesOn p q b c = (e : Engined) (limit : ℕ) (bytes : List ℕ) (last : Bool) (ss : List (Station M)) → IsTaking e limit p b bytes last ss → IsTaking e limit q c bytes last ss
+
+  -- THE NEXT BYTE that the host takes, or the request's end, if the drive's machine didn't fail in it.
+  abbrev pub TakesNextByte : (D → ℕ) → Performing → Performing → Cabled D → Cabled D → Option (ℕ × Bool) → Type 0
+  TakesNextByte failures p q b c result = Unfailed failures b.drives c.drives → (e : Engined) (limit : ℕ) (bytes : List ℕ) (last : Bool) (ss : List (Station M)) → IsTaking e limit p b bytes last ss → MatchOption result
+      (HasTaken e limit q c bytes last ss) (λ x. IsTaking e limit q c (bytes ++ x.0 ∷ []) x.1 ss)
 
 -- the bus, the drive's device number and pace, and when the last request was over
 pub record Hosting (A : Type 0) : Type 0 where

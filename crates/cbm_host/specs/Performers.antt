@@ -1,7 +1,8 @@
 -- A request played on a bus, event by event.
-use Rattle.std.specs.Prelude.{◌≡◌, ◌≤◌, ◌<◌, ◌⊎◌, ◌+◌, ℕ, min, Bool, List, [], ◌∷◌, ◌++◌, Option, Some, None, IfSome, MatchOption}
+use Rattle.std.specs.Prelude.{◌≡◌, ◌≤◌, ◌<◌, ◌⊎◌, ◌+◌, ℕ, min, Bool, true, false, List, [], ◌∷◌, ◌++◌, Option, Some, None, IfSome, MatchOption}
 use Rattle.cbm_drive.specs.Cables.{Cabled}
-use Rattle.cbm_drive.specs.Players.{Turns, from_behind, pending, IsAfter, IsStill}
+use Rattle.cbm_drive.specs.Seats.{Unfailed}
+use Rattle.cbm_drive.specs.Players.{Turns, at_start, from_behind, pending, IsAfter, IsStill}
 use Rattle.cbm_drive.specs.Silence.{AreSilent}
 use Rattle.cbm_host.specs.Engines.{Engined, stage_taken, engine_due, engine_made, engine_seen, engine_passed}
 use Rattle.cbm_host.specs.declared.due.Due.{Due}
@@ -21,10 +22,34 @@ pub record Performing : Type 0 where
   pub byte : Option (ℕ × Bool)
   pub limit : ℕ
 
+-- A REQUEST BEFORE ITS FIRST EVENT: nothing was played, and the host gives up at this limit.
+pub record IsBeforeEvents (p : Performing) (e : Engined) (until : ℕ) : Type 0 where
+  pub player : p.player ≡ at_start
+  pub engine : p.engine ≡ e
+  pub byte : p.byte ≡ None
+  pub limit : p.limit ≡ until
+
+-- the engine is as it was, and so is the limit
+pub record KeepsEngine (p q : Performing) : Type 0 where
+  pub engine : q.engine ≡ p.engine
+  pub limit : q.limit ≡ p.limit
+
 -- the change that is pending in the player is what the host does next
 abbrev pub IsHandedOn : Option Change → Engined → Type 0
 IsHandedOn None e = Unit {0}
 IsHandedOn (Some c) e = engine_due e ≡ Makes c
+
+-- THE HOST'S CHANGE IS HANDED ON to the player, which may refuse it.
+pub record HandsOn (c : Change) (p q : Performing) (result : Bool) : Type 0 where
+  -- It is pending then, also where it was pending before.
+  pub waits : result ≡ true → IsHandedOn p.player.waiting p.engine → q.player.waiting ≡ Some c
+  -- A change that is refused comes too soon, and nothing has changed.
+  pub refused : result ≡ false → (c.moment < p.player.from) × (q.player ≡ p.player)
+  -- All else is as it was.
+  pub second : q.player.second ≡ p.player.second
+  pub from : q.player.from ≡ p.player.from
+  pub engine : q.engine ≡ p.engine
+  pub limit : q.limit ≡ p.limit
 
 -- a change of the host is the one that was due; one of the drive comes before what the host does next
 abbrev pub IsDue : Who → Change → Engined → Type 0
@@ -120,11 +145,23 @@ module _ (D M : Type 0) (stands : D → M → Type 0) (step : M → Act → M) (
     pub from : new.player.from ≡ from_behind e.who e.change.moment
     pub limit : new.limit ≡ old.limit
 
-  -- WHERE A REQUEST GOES ON: after all events that came so far one more comes, or none comes, and why.
-  abbrev pub GoesOnPerforming : Performing → Performing → Cabled D → Cabled D → Option Event → Type 0
-  GoesOnPerforming old new b c result = (n : ℕ) (ss : List (Station M)) (es : List Event) → IsGoing old b n ss es → MatchOption result (HasStopped old new c n ss es) (HasCome old new c n ss es)
+  -- WHERE A REQUEST GOES ON, if the drive's machine didn't fail in it: after all events that came so far one more comes, or none comes, and why.
+  abbrev pub GoesOnPerforming : (D → ℕ) → Performing → Performing → Cabled D → Cabled D → Option Event → Type 0
+  GoesOnPerforming failures old new b c result = Unfailed failures b.drives c.drives → (n : ℕ) (ss : List (Station M)) (es : List Event) → IsGoing old b n ss es → MatchOption result (HasStopped old new c n ss es) (HasCome old new c n ss es)
 
   -- the same up to a moment, where the host does nothing else than what it has handed on
-  abbrev pub GoesUpTo : ℕ → Performing → Performing → Cabled D → Cabled D → Option Event → Type 0
-  GoesUpTo upto old new b c result = (n : ℕ) (ss : List (Station M)) (es : List Event) → (g : IsGoing old b n ss es) → IsAsked upto old.player.waiting (engine_due old.engine) → MatchOption result
+  abbrev pub GoesUpTo : (D → ℕ) → ℕ → Performing → Performing → Cabled D → Cabled D → Option Event → Type 0
+  GoesUpTo failures upto old new b c result = Unfailed failures b.drives c.drives → (n : ℕ) (ss : List (Station M)) (es : List Event) → (g : IsGoing old b n ss es) → IsAsked upto old.player.waiting (engine_due old.engine) → MatchOption result
       (IsStill D M stands step says old.player new.player b c upto g.after.stations) (HasCome old new c n ss es)
+
+  -- The next event of a request comes, or no more do, and why, if the drive's machine didn't fail in it.
+  abbrev pub GoesToNext : (D → ℕ) → Performing → Performing → Cabled D → Cabled D → Option Event → Type 0
+  GoesToNext failures old new b c result = Unfailed failures b.drives c.drives → (n : ℕ) (ss : List (Station M)) (es : List Event) → IsGoing old b n ss es → MatchOption result (HasStopped old new c n ss es) (HasNext old new c n ss es)
+
+  -- The host's change comes, or the drive's before it; or it is held back; if the drive's machine didn't fail in it.
+  abbrev pub PlaysChange : (D → ℕ) → Change → Performing → Performing → Cabled D → Cabled D → Option Event → Type 0
+  PlaysChange failures change old new b c result = Unfailed failures b.drives c.drives → (n : ℕ) (ss : List (Station M)) (es : List Event) → IsGoing old b n ss es → MatchOption result (IsHeldBack old new b c change) (HasCome old new c n ss es)
+
+  -- The drive's change comes before this moment, or none does; if the drive's machine didn't fail in it.
+  abbrev pub ComesBefore : (D → ℕ) → ℕ → Performing → Performing → Cabled D → Cabled D → Option Event → Type 0
+  ComesBefore failures until old new b c result = Unfailed failures b.drives c.drives → (n : ℕ) (ss : List (Station M)) (es : List Event) → IsGoing old b n ss es → MatchOption result (IsUnmoved old new b c until n ss es) (HasCome old new c n ss es)

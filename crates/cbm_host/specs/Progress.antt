@@ -1,7 +1,8 @@
 -- How much of a request is still to come, whatever the drive says: changes of the host, and between them changes of the drive.
-use Rattle.std.specs.Prelude.{◌≡◌, ◌≤◌, ◌<◌, ◌⊎◌, ℕ, ◌+◌, ◌-◌, ◌*◌, List, length, Some, None}
+use Rattle.std.specs.Prelude.{◌≡◌, ◌≤◌, ◌<◌, ◌⊎◌, ℕ, ◌+◌, ◌-◌, ◌*◌, List, length, Option, Some, None, IfSome}
 use Rattle.cbm_drive.specs.Cables.{Cabled}
-use Rattle.cbm_drive.specs.Players.{at_most}
+use Rattle.cbm_drive.specs.Players.{at_most, IsDrives, IsWaitingFrom}
+use Rattle.cbm_iec.specs.declared.event.Event.{Event}
 use Rattle.cbm_host.specs.Engines.{Engined, engine_due}
 use Rattle.cbm_host.specs.Performers.{Performing}
 use Rattle.cbm_iec.specs.declared.event.Who.TheVariants.{Host, Drive}
@@ -125,3 +126,20 @@ abbrev pub FallsBy : {D : Type 0} → Who → Performing → Performing → Cabl
 FallsBy Host old new b c = (change : Change) × (engine_due new.engine ≡ Makes change) × (engine_left new.engine ≤ engine_left old.engine)
 FallsBy (Drive d) old new b c = (engine_left new.engine < engine_left old.engine)
     ⊎ ((engine_left new.engine ≤ engine_left old.engine) × (at_most (old.limit + 1) new.player.second c.drives < at_most (old.limit + 1) old.player.second b.drives))
+
+-- WHAT THE PLAYER WAS ASKED FOR: the next event, whatever the machine represents.
+pub record HasAsked {D : Type 0} (p q : Performing) (b c : Cabled D) (result : Option Event) : Type 0 where
+  pub waiting : IsWaitingFrom q.player.from q.player.waiting
+  -- Less is left to come before the host gives up, after a change of the drive.
+  pub fewer : IfSome result (λ e. IsDrives e.who → at_most (p.limit + 1) q.player.second c.drives < at_most (p.limit + 1) p.player.second b.drives)
+  pub engine : q.engine ≡ p.engine
+  pub limit : q.limit ≡ p.limit
+
+-- WHAT THE DRIVE DID, where no change of the host was due, whatever the machine represents.
+pub record HasHeeded {D : Type 0} (p q : Performing) (b c : Cabled D) (result : Option Event) : Type 0 where
+  pub waiting : IsWaitingFrom q.player.from q.player.waiting
+  pub drive : IfSome result (λ e. IsDrives e.who)
+  -- Less is left to come before the host gives up.
+  pub fewer : IfSome result (λ e. at_most (p.limit + 1) q.player.second c.drives < at_most (p.limit + 1) p.player.second b.drives)
+  pub engine : q.engine ≡ p.engine
+  pub limit : q.limit ≡ p.limit

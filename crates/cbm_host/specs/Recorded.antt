@@ -3,7 +3,7 @@ use Rattle.std.specs.Prelude.{◌≡◌, ℕ, Bool, List, [], ◌∷◌, ◌++�
 use Rattle.cbm_drive.specs.Cables.{Cabled}
 use Rattle.cbm_drive.specs.Players.{IsStill}
 use Rattle.cbm_host.specs.Engines.{Engined, engine_due}
-use Rattle.cbm_host.specs.Hosted.{IsTaking, HasTaken}
+use Rattle.cbm_host.specs.Hosted.{IsTaking, HasTaken, TakesOn}
 use Rattle.cbm_host.specs.Performed.{IsPerforming, IsCutShort, HasPerformed}
 use Rattle.cbm_host.specs.Performers.{Performing, IsAsked, IsGoing, IsHeldBack, IsUnmoved, HasStopped, HasCome, HasNext}
 use Rattle.cbm_drive.specs.Playback.{Shown, Playback, played_says, played_step, IsPlayedBack}
@@ -53,3 +53,7 @@ module _ {D : Type 0} (shows : D → Shown) where
   abbrev pub TakesRecorded : Performing → Performing → Cabled D → Cabled D → Option (ℕ × Bool) → Type 0
   TakesRecorded old new b c result = (trail : List Shown) × ((later : List Shown) (e : Engined) (limit : ℕ) (bytes : List ℕ) (last : Bool) (ss : List (Station Playback)) → IsTaking D Playback (IsPlayedBack shows (trail ++ later)) played_step played_says e limit old b bytes last ss
       → MatchOption result (HasTaken D Playback (IsPlayedBack shows later) played_step played_says e limit new c bytes last ss) (λ x. IsTaking D Playback (IsPlayedBack shows later) played_step played_says e limit new c (bytes ++ x.0 ∷ []) x.1 ss))
+
+  -- where no byte was taken, whatever the drive shows later
+  abbrev pub TakesOnRecorded : Performing → Performing → Cabled D → Cabled D → Type 0
+  TakesOnRecorded old new b c = (later : List Shown) → TakesOn D Playback (IsPlayedBack shows later) played_step played_says old new b c

@@ -1,6 +1,6 @@
 -- What is promised of a request that is carried out on a bus: whatever kind of machine the drive represents, and on any disk of the machine that plays back
 -- what the drive showed.
-use Rattle.std.specs.Prelude.{ℕ, ◌≡◌, Bool, List, [], ◌∷◌, ◌++◌, Option, Result, IfOk, IfErr, OnOk, MatchBool, MatchResult}
+use Rattle.std.specs.Prelude.{ℕ, ◌≡◌, ◌≤◌, ◌+◌, Some, Bool, List, [], ◌∷◌, ◌++◌, Option, Result, IfOk, IfErr, OnOk, MatchBool, MatchResult}
 use Rattle.cbm_drive.specs.Cables.{Cabled}
 use Rattle.cbm_drive.specs.Playback.{Shown, Playback}
 use Rattle.cbm_drive.specs.Seats.{IsBusAt, Unfailed}
@@ -8,9 +8,10 @@ use Rattle.cbm_drive.specs.declared.fault.PlayFault.{PlayFault}
 use Rattle.cbm_drive.specs.declared.fault.PlayFault.TheVariants.{Memory}
 use Rattle.cbm_host.specs.AnyDisk.{IsCarriedOutAnyway, IsCutShortAnyway}
 use Rattle.cbm_host.specs.CarriedOut.{IsShort, HasCarriedOut}
-use Rattle.cbm_host.specs.Engines.{Engined}
+use Rattle.cbm_host.specs.Engines.{Engined, channel_of, engine_at, stage_end}
 use Rattle.cbm_host.specs.Performed.{IsPerforming, IsCutShort, HasPerformed, HasRun}
 use Rattle.cbm_host.specs.Performers.{Performing}
+use Rattle.cbm_host.specs.Requests.{longest}
 use Rattle.cbm_host.specs.Recorded.{IsPerformingBack, HasPerformedBack, IsCutShortBack}
 use Rattle.cbm_host.specs.declared.done.Done.{Done}
 use Rattle.cbm_host.specs.declared.request.Request.{Request}
@@ -58,24 +59,31 @@ module _ (D M : Type 0) (stands : D → M → Type 0) (step : M → Act → M) (
   abbrev pub LacksMemoryUnfailed : {A : Type 0} → (D → ℕ) → Cabled D → Cabled D → List Event → List Event → Result A PlayFault → Type 0
   LacksMemoryUnfailed failures x y old new result = Unfailed failures x.drives y.drives → LacksMemory x y old new result
 
+  -- WHERE NO MORE EVENTS COME of a request to a drive that was at rest, of either pace, it was carried out, and its end is reported.
+  abbrev pub EndsCarriedOut : Performing → Cabled D → Type 0
+  EndsCarriedOut p bus = (b : Party) (ms : ℕ → M) (start : ℕ) (request : Request) (old new : List Event) (bytes : List ℕ) (last : Bool) → IsDrive b → channel_of request ≤ 15 →
+      IsShort M step says b.device (ms b.device) request →
+      HasPerformed D M stands step says (engine_at start b.device request) (start + longest b.pace) p bus old new bytes last (at_rest M step says ms (b ∷ [])) →
+      (end : ℕ) × (stage_end p.engine.stage ≡ Some end) × HasCarriedOut D M stands step says b ms start request bus old new bytes last end
+
   -- ---- a request under way
 
   -- The next event comes, or no more do.
-  abbrev pub Steps : {E : Type 0} → Performing → Performing → Cabled D → Cabled D → List Event → List Event → Done → Done → Result Bool E → Type 0
-  Steps p q x y was now done made result = (e : Engined) (limit : ℕ) (old : List Event) (ss : List (Station M)) →
+  abbrev pub Steps : {E : Type 0} → (D → ℕ) → Performing → Performing → Cabled D → Cabled D → List Event → List Event → Done → Done → Result Bool E → Type 0
+  Steps failures p q x y was now done made result = Unfailed failures x.drives y.drives → (e : Engined) (limit : ℕ) (old : List Event) (ss : List (Station M)) →
       IsPerforming D M stands step says e limit p x old was done.bytes.items done.last ss → IfOk result (λ more. MatchBool more
       (IsPerforming D M stands step says e limit q y old now made.bytes.items made.last ss)
       (HasPerformed D M stands step says e limit q y old now made.bytes.items made.last ss))
 
   -- All events come, up to the end.
-  abbrev pub RunsOut : {E : Type 0} → Performing → Performing → Cabled D → Cabled D → List Event → List Event → Done → Done → Result (Unit {0}) E → Type 0
-  RunsOut p q x y was now done made result = (e : Engined) (limit : ℕ) (old : List Event) (ss : List (Station M)) →
+  abbrev pub RunsOut : {E : Type 0} → (D → ℕ) → Performing → Performing → Cabled D → Cabled D → List Event → List Event → Done → Done → Result (Unit {0}) E → Type 0
+  RunsOut failures p q x y was now done made result = Unfailed failures x.drives y.drives → (e : Engined) (limit : ℕ) (old : List Event) (ss : List (Station M)) →
       IsPerforming D M stands step says e limit p x old was done.bytes.items done.last ss →
       OnOk result (HasPerformed D M stands step says e limit q y old now made.bytes.items made.last ss)
 
   -- Memory ran out on the way.
-  abbrev pub IsCutOnTheWay : {A E : Type 0} → Performing → Cabled D → Cabled D → List Event → List Event → Done → Result A E → Type 0
-  IsCutOnTheWay p x y was now done result = (e : Engined) (limit : ℕ) (old : List Event) (ss : List (Station M)) →
+  abbrev pub IsCutOnTheWay : {A E : Type 0} → (D → ℕ) → Performing → Cabled D → Cabled D → List Event → List Event → Done → Result A E → Type 0
+  IsCutOnTheWay failures p x y was now done result = Unfailed failures x.drives y.drives → (e : Engined) (limit : ℕ) (old : List Event) (ss : List (Station M)) →
       IsPerforming D M stands step says e limit p x old was done.bytes.items done.last ss →
       IfErr result (λ x. IsCutShort D M stands step says y old now ss)
 

@@ -41,31 +41,24 @@ impl<M: Medium> Model for Hosted<M> {
 }
 
 impl<M: Medium> Hosted<M> {
-    ghost use Rattle.std.specs.Prelude.{◌≡◌, ◌+◌, ◌∷◌, ◌++◌, ◌<◌, ◌≤◌, ◌^◌, [], ℕ, List, Bool, false, None, Some, IfSome, MatchOption};
-    ghost use Rattle.cbm_file.specs.Files.{Disk};
-    ghost use Rattle.cbm_machine.specs.Machines.{Machine, start};
+    ghost use Rattle.std.specs.Prelude.{◌≡◌, ◌+◌, ◌∷◌, ◌<◌, ◌≤◌, ◌^◌, [], ℕ, None, Some, IfSome, MatchOption};
+    ghost use Rattle.cbm_machine.specs.Machines.{Machine};
     ghost use Rattle.cbm_volume.specs.Holding.{HoldsDisk};
     ghost use Rattle.cbm_host.specs.declared.request.Request.{Request};
     ghost use Rattle.cbm_host.specs.Engines.{channel_of};
-    ghost use Rattle.cbm_host.specs.Hosted.{Rests, IsUnderWay, IsGoingOn, IsOver, TakesNext, tracks_on, hosted_failures, HasNotFailed};
+    ghost use Rattle.cbm_host.specs.Hosted.{Rests, TakesNext, tracks_on, hosted_failures, HasNotFailed};
     ghost use Rattle.cbm_host.specs.Progress.{left_of};
     ghost use Rattle.cbm_host.specs.Requests.{longest};
     ghost use Rattle.cbm_iec.specs.declared.pace.Pace.TheVariants.{Profile};
     ghost use Rattle.cbm_host.specs.Served.{served, MovesFew};
     ghost use Rattle.cbm_drive.specs.Desks.{desk_shows};
-    ghost use Rattle.cbm_host.specs.AnyDisk.{IsUnderWayAnyway, IsOverAnyway, RestsAnyway};
+    ghost use Rattle.cbm_host.specs.AnyDisk.{IsPoweredUp, RequestBegins, IsUnderWayAnyway, IsOverAnyway, RestsAnyway};
 
     /// A drive at power up with this medium and a device number from 8 to 11, at the profile's pace.
     pub fn new(medium: M, device: u8) -> Hosted<M>
         requires low { 8 ≤ device }
         requires high { device ≤ 11 }
-        ensures rests { (d : Disk) → HoldsDisk (M.seen medium).tracks (M.seen medium).content d →
-            Rests M.seen result (start d (M.seen medium).protected (M.seen medium).tracks) }
-        // On any disk:
-        ensures anyway { RestsAnyway desk_shows result }
-        ensures tracks { tracks_on M.seen result ≡ (M.seen medium).tracks ∷ [] }
-        ensures moment { result.moment ≡ 1000 }
-        ensures pace { result.pace ≡ Profile }
+        ensures { IsPoweredUp M.seen result medium Profile }
     {
         Hosted::with_pace(medium, device, Pace::Profile)
     }
@@ -74,13 +67,7 @@ impl<M: Medium> Hosted<M> {
     pub fn with_pace(medium: M, device: u8, pace: Pace) -> Hosted<M>
         requires low { 8 ≤ device }
         requires high { device ≤ 11 }
-        ensures rests { (d : Disk) → HoldsDisk (M.seen medium).tracks (M.seen medium).content d →
-            Rests M.seen result (start d (M.seen medium).protected (M.seen medium).tracks) }
-        // On any disk:
-        ensures anyway { RestsAnyway desk_shows result }
-        ensures tracks { tracks_on M.seen result ≡ (M.seen medium).tracks ∷ [] }
-        ensures moment { result.moment ≡ 1000 }
-        ensures pace { result.pace ≡ pace }
+        ensures { IsPoweredUp M.seen result medium pace }
     {
         let desk = Desk::at_power_up(medium, device).with_pace(pace);
         let party = Party {
@@ -100,21 +87,16 @@ impl<M: Medium> Hosted<M> {
     pub fn ask<'a>(&self, request: Request<'a>) -> Performer<'a>
         requires moment { self.now.moment < 2 ^ 58 }
         requires channel { channel_of request ≤ 15 }
-        ensures under_way { (m : Machine) → Rests M.seen self.now m →
-            IsUnderWay M.seen self.now result m request.entry [] false }
-        // On any disk:
-        ensures anyway { RestsAnyway desk_shows self.now →
-            IsUnderWayAnyway desk_shows self.now.pace self.now.device self.now.moment self.now.bus result request.entry }
-        ensures limit { result.limit ≡ self.now.moment + longest self.now.pace }
+        ensures { RequestBegins M.seen self.now result request.entry }
     {
         Performer::with_pace(self.moment, self.device, request, self.pace)
     }
 
     /// Goes on with a request to the next byte that the host takes, and answers it and whether it carries EOI. None where the
-    /// request is over, and then the drive rests again.
+    /// request is over, and then the drive rests again; so it is on any disk (`anyway`). Whatever the drive represents, less is
+    /// left to come after a byte.
     pub fn take(&mut self, performer: &mut Performer) -> Option<(u8, bool)>
         ensures taken { TakesNext M.seen self.old self.new performer.old performer.new result }
-        // On any disk:
         ensures anyway { (request : Request) (start : ℕ) → channel_of request ≤ 15 →
             IsUnderWayAnyway desk_shows self.old.pace self.old.device start self.old.bus performer.old request →
             MatchOption result
@@ -122,7 +104,6 @@ impl<M: Medium> Hosted<M> {
             (λ x. IsUnderWayAnyway desk_shows self.new.pace self.new.device start self.new.bus performer.new request) }
         ensures device { self.new.device ≡ self.old.device }
         ensures pace { self.new.pace ≡ self.old.pace }
-        // Whatever the drive represents:
         ensures fewer { IfSome result (λ x. left_of performer.new self.new.bus < left_of performer.old self.old.bus) }
         ensures limit { performer.new.limit ≡ performer.old.limit }
         ensures moment { MatchOption result (self.new.moment ≤ performer.old.limit)
@@ -144,14 +125,14 @@ impl<M: Medium> Hosted<M> {
     }
 
     /// Carries out a request: an OPEN or a command, bytes put, a CLOSE, or a get or a status, of which it lets go what the drive
-    /// says. Where at most 200,000 bytes are moved, the drive then rests for the machine that the request leads to.
+    /// says. Where at most 200,000 bytes are moved, the drive then rests for the machine that the request leads to; on any disk it
+    /// rests again, and the next request doesn't begin before this one.
     pub fn carry_out(&mut self, request: Request)
         requires moment { self.old.moment < 2 ^ 58 }
         requires channel { channel_of request ≤ 15 }
         ensures rests { HasNotFailed M.seen self.old self.new →
             (m : Machine) → MovesFew request.entry → Rests M.seen self.old m →
             Rests M.seen self.new (served self.old.pace request.entry m).machine }
-        // On any disk the drive rests again, and the next request doesn't begin before this one.
         ensures anyway { MovesFew request.entry → RestsAnyway desk_shows self.old → RestsAnyway desk_shows self.new }
         ensures later { MovesFew request.entry → RestsAnyway desk_shows self.old → self.old.moment ≤ self.new.moment }
         ensures soon { self.new.moment ≤ self.old.moment + longest self.old.pace }

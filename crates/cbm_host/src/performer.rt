@@ -42,27 +42,25 @@ impl<'a> Model for Performer<'a> {
 }
 
 impl<'a> Performer<'a> {
-    ghost use Rattle.std.specs.Prelude.{◌≡◌, ◌+◌, ◌++◌, ◌^◌, ◌<◌, ◌≤◌, ℕ, Bool, List, [], ◌∷◌, None, Some, true, false, IfSome, MatchOption};
-    ghost use Rattle.cbm_session.specs.Playing.{Station, at_rest};
+    ghost use Rattle.std.specs.Prelude.{◌≡◌, ◌+◌, ◌^◌, ◌<◌, ◌≤◌, ℕ, Bool, List, ◌∷◌, [], true, false, IfSome};
+    ghost use Rattle.cbm_session.specs.Playing.{at_rest};
     ghost use Rattle.cbm_session.specs.Sessions.{IsDrive};
     ghost use Rattle.cbm_iec.specs.declared.party.Party.{Party};
     ghost use Rattle.cbm_host.specs.Requests.{longest};
     ghost use Rattle.cbm_host.specs.Begun.{IsRequestBegun};
-    ghost use Rattle.cbm_host.specs.CarriedOut.{IsShort, HasCarriedOut};
-    ghost use Rattle.cbm_host.specs.Performed.{IsPerforming, HasPerformed};
+    ghost use Rattle.cbm_host.specs.CarriedOut.{IsShort};
+    ghost use Rattle.cbm_host.specs.Performed.{IsPerforming};
     ghost use Rattle.cbm_host.specs.declared.request.Request.{Request};
-    ghost use Rattle.cbm_drive.specs.Players.{at_start, at_most, IsDrives, IsWaitingFrom};
-    ghost use Rattle.cbm_drive.specs.Seats.{numbers, Unfailed, failed};
-    ghost use Rattle.cbm_host.specs.Progress.{left_of, FallsBy};
-    ghost use Rattle.cbm_host.specs.Hosted.{IsTaking, HasTaken, TakesOn};
-    ghost use Rattle.cbm_drive.specs.Playback.{Shown, Playback, IsPlayedBack, played_says, played_step};
-    ghost use Rattle.cbm_host.specs.Engines.{Engined};
+    ghost use Rattle.cbm_drive.specs.Seats.{AreCarried};
+    ghost use Rattle.cbm_host.specs.Progress.{left_of, FallsBy, HasAsked, HasHeeded};
+    ghost use Rattle.cbm_host.specs.Hosted.{TakesOn, TakesNextByte};
     ghost use Rattle.cbm_host.specs.Engines.{channel_of, engine_at, engine_due, stage_end};
-    ghost use Rattle.cbm_host.specs.Performers.{IsHandedOn, IsHeldBack, IsUnmoved, IsGoing, GoesOnPerforming, GoesUpTo, HasStopped, HasCome, HasNext, engine_behind, byte_with};
+    ghost use Rattle.cbm_host.specs.Performers.{IsBeforeEvents, KeepsEngine, HandsOn, GoesOnPerforming, GoesUpTo, GoesToNext, PlaysChange, ComesBefore, engine_behind, byte_with};
     ghost use Rattle.cbm_iec.specs.declared.event.Event.{Event};
     ghost use Rattle.cbm_iec.specs.declared.lines.Change.{Change};
     ghost use Rattle.cbm_host.specs.declared.due.Due.TheVariants.{Makes, Waits, Hears};
-    ghost use Rattle.cbm_host.specs.Recorded.{GoesUpToRecorded, GoesOnRecorded, PlaysRecorded, ComesRecorded, NextRecorded, TakesRecorded};
+    ghost use Rattle.cbm_host.specs.Requested.{EndsCarriedOut};
+    ghost use Rattle.cbm_host.specs.Recorded.{GoesUpToRecorded, GoesOnRecorded, PlaysRecorded, ComesRecorded, NextRecorded, TakesRecorded, TakesOnRecorded};
 
     /// Before the first event of a request to the drive with this device number, at the profile's pace; its first change comes
     /// at the start.
@@ -70,10 +68,7 @@ impl<'a> Performer<'a> {
         requires start { start < 2 ^ 58 }
         requires device { device < 31 }
         requires channel { channel_of request ≤ 15 }
-        ensures player { result.player ≡ at_start }
-        ensures engine { result.engine ≡ engine_at start device request.entry }
-        ensures byte { result.byte ≡ None }
-        ensures limit { result.limit ≡ start + 250000000 }
+        ensures { IsBeforeEvents result (engine_at start device request.entry) (start + 250000000) }
     {
         Performer::with_pace(start, device, request, Pace::Profile)
     }
@@ -83,10 +78,7 @@ impl<'a> Performer<'a> {
         requires start { start < 2 ^ 58 }
         requires device { device < 31 }
         requires channel { channel_of request ≤ 15 }
-        ensures player { result.player ≡ at_start }
-        ensures engine { result.engine ≡ engine_at start device request.entry }
-        ensures byte { result.byte ≡ None }
-        ensures limit { result.limit ≡ start + longest pace }
+        ensures { IsBeforeEvents result (engine_at start device request.entry) (start + longest pace) }
     {
         Performer {
             player: Player::new(),
@@ -96,23 +88,17 @@ impl<'a> Performer<'a> {
         }
     }
 
-    /// The next event, the host's or the drive's. None where the request is over.
+    /// The next event, the host's or the drive's. None where the request is over. On any disk the same holds for a machine that
+    /// plays back what the drive showed; and whatever the machine represents, less is left to come after an event.
     #[inline(always)]
     pub fn next<D: Machine, const N: usize>(&mut self, bus: &mut Bus<D, N>) -> Option<Event>
         requires one { N ≡ 1 }
-        ensures next { Unfailed D.failures bus.old.drives bus.new.drives →
-            (n : ℕ) (ss : List (Station D.State)) (es : List Event) →
-            IsGoing _ D.State D.stands D.step D.says self.old bus.old n ss es → MatchOption result
-            (HasStopped _ D.State D.stands D.step D.says self.old self.new bus.new n ss es)
-            (HasNext _ D.State D.stands D.step D.says self.old self.new bus.new n ss es) }
-        // On any disk the same holds for a machine that plays back what the drive showed.
+        ensures next { GoesToNext _ D.State D.stands D.step D.says D.failures self.old self.new bus.old bus.new result }
         ensures recorded { NextRecorded D.shows self.old self.new bus.old bus.new result }
-        // Whatever the machine represents, less is left to come after an event.
         ensures fewer { IfSome result (λ e. left_of self.new bus.new < left_of self.old bus.old) }
         ensures within { IfSome result (λ e. e.change.moment ≤ self.old.limit) }
         ensures limit { self.new.limit ≡ self.old.limit }
-        ensures lasting { numbers D.lasting bus.new.drives ≡ numbers D.lasting bus.old.drives }
-        ensures counted { failed D.failures bus.old.drives ≤ failed D.failures bus.new.drives }
+        ensures carried { AreCarried D.lasting D.failures bus.old.drives bus.new.drives }
     {
         let event = self.event(bus)?;
         if event.change.moment > self.limit {
@@ -123,24 +109,18 @@ impl<'a> Performer<'a> {
     }
 
     /// Goes on to the next byte that the host takes, and answers it and whether it carries EOI. None where the request is
-    /// over.
+    /// over. On any disk the same holds for a machine that plays back what the drive showed.
     #[inline(always)]
     pub fn next_byte<D: Machine, const N: usize>(
         &mut self,
         bus: &mut Bus<D, N>,
     ) -> Option<(u8, bool)>
         requires one { N ≡ 1 }
-        ensures taken { Unfailed D.failures bus.old.drives bus.new.drives →
-            (e : Engined) (limit : ℕ) (bytes : List ℕ) (last : Bool) (ss : List (Station D.State)) →
-            IsTaking _ D.State D.stands D.step D.says e limit self.old bus.old bytes last ss → MatchOption result
-            (HasTaken _ D.State D.stands D.step D.says e limit self.new bus.new bytes last ss)
-            (λ x. IsTaking _ D.State D.stands D.step D.says e limit self.new bus.new (bytes ++ x.0 ∷ []) x.1 ss) }
-        // On any disk the same holds for a machine that plays back what the drive showed.
+        ensures taken { TakesNextByte _ D.State D.stands D.step D.says D.failures self.old self.new bus.old bus.new result }
         ensures recorded { TakesRecorded D.shows self.old self.new bus.old bus.new result }
         ensures fewer { IfSome result (λ x. left_of self.new bus.new < left_of self.old bus.old) }
         ensures limit { self.new.limit ≡ self.old.limit }
-        ensures lasting { numbers D.lasting bus.new.drives ≡ numbers D.lasting bus.old.drives }
-        ensures counted { failed D.failures bus.old.drives ≤ failed D.failures bus.new.drives }
+        ensures carried { AreCarried D.lasting D.failures bus.old.drives bus.new.drives }
     {
         'events: while let Some(_event) = self.next(bus) {
             if let Some(said) = self.byte() {
@@ -182,13 +162,7 @@ impl<'a> Performer<'a> {
     /// A law, and nothing is done: where no more events come of a request to a drive at rest, of either pace, the request was
     /// carried out, and its end is reported.
     pub fn carries_out<D: Machine, const N: usize>(&self, bus: &Bus<D, N>)
-        ensures { (b : Party) (ms : ℕ → D.State) (start : ℕ) (request : Request) (old new : List Event) (bytes : List ℕ)
-            (last : Bool) → IsDrive b → channel_of request ≤ 15 →
-            IsShort D.State D.step D.says b.device (ms b.device) request →
-            HasPerformed _ D.State D.stands D.step D.says (engine_at start b.device request) (start + longest b.pace) self.now
-            bus.now old new bytes last (at_rest D.State D.step D.says ms (b ∷ [])) →
-            (end : ℕ) × (stage_end self.now.engine.stage ≡ Some end) ×
-            HasCarriedOut _ D.State D.stands D.step D.says b ms start request bus.now old new bytes last end }
+        ensures { EndsCarriedOut _ D.State D.stands D.step D.says self.now bus.now }
     {}
 
     /// A law, and nothing is done: while a request to a drive at rest is under way, the bytes so far are the first of those
@@ -224,34 +198,28 @@ impl<'a> Performer<'a> {
     }
 
     /// The halves of bits that the drive says next, one after the other, while the host waits for them. So a byte is taken much
-    /// sooner than event by event.
+    /// sooner than event by event. On any disk the same holds for a machine that plays back what the drive shows later.
     #[inline(always)]
     fn gather<D: Machine, const N: usize>(&mut self, bus: &mut Bus<D, N>)
         ensures taken { TakesOn _ D.State D.stands D.step D.says self.old self.new bus.old bus.new }
-        // On any disk the same holds for a machine that plays back what the drive shows later.
-        ensures recorded { (later : List Shown) →
-            TakesOn _ Playback (IsPlayedBack D.shows later) played_step played_says self.old self.new bus.old bus.new }
+        ensures recorded { TakesOnRecorded D.shows self.old self.new bus.old bus.new }
         ensures fewer { left_of self.new bus.new ≤ left_of self.old bus.old }
         ensures limit { self.new.limit ≡ self.old.limit }
-        ensures lasting { numbers D.lasting bus.new.drives ≡ numbers D.lasting bus.old.drives }
-        ensures counted { failed D.failures bus.old.drives ≤ failed D.failures bus.new.drives }
+        ensures carried { AreCarried D.lasting D.failures bus.old.drives bus.new.drives }
     {
         'halves: while self.half(bus) {}
     }
 
     /// The next half of a bit, where the host waits for it. False where something else comes, or nothing, and then nothing has
-    /// changed.
+    /// changed. On any disk the same holds for a machine that plays back what the drive shows later.
     #[inline(always)]
     fn half<D: Machine, const N: usize>(&mut self, bus: &mut Bus<D, N>) -> bool
         ensures taken { TakesOn _ D.State D.stands D.step D.says self.old self.new bus.old bus.new }
-        // On any disk the same holds for a machine that plays back what the drive shows later.
-        ensures recorded { (later : List Shown) →
-            TakesOn _ Playback (IsPlayedBack D.shows later) played_step played_says self.old self.new bus.old bus.new }
+        ensures recorded { TakesOnRecorded D.shows self.old self.new bus.old bus.new }
         ensures fewer { result ≡ true → left_of self.new bus.new < left_of self.old bus.old }
         ensures same { result ≡ false → (self.new ≡ self.old) × (bus.new ≡ bus.old) }
         ensures limit { self.new.limit ≡ self.old.limit }
-        ensures lasting { numbers D.lasting bus.new.drives ≡ numbers D.lasting bus.old.drives }
-        ensures counted { failed D.failures bus.old.drives ≤ failed D.failures bus.new.drives }
+        ensures carried { AreCarried D.lasting D.failures bus.old.drives bus.new.drives }
     {
         if !self.engine.gathers() {
             return false;
@@ -266,13 +234,11 @@ impl<'a> Performer<'a> {
     /// The event that comes next.
     #[inline(always)]
     fn event<D: Machine, const N: usize>(&mut self, bus: &mut Bus<D, N>) -> Option<Event>
-        ensures come { Unfailed D.failures bus.old.drives bus.new.drives →
-            GoesOnPerforming _ D.State D.stands D.step D.says self.old self.new bus.old bus.new result }
+        ensures come { GoesOnPerforming _ D.State D.stands D.step D.says D.failures self.old self.new bus.old bus.new result }
         ensures recorded { N ≡ 1 → GoesOnRecorded D.shows self.old self.new bus.old bus.new result }
         ensures fewer { IfSome result (λ e. FallsBy e.who self.old self.new bus.old bus.new) }
         ensures limit { self.new.limit ≡ self.old.limit }
-        ensures lasting { numbers D.lasting bus.new.drives ≡ numbers D.lasting bus.old.drives }
-        ensures counted { failed D.failures bus.old.drives ≤ failed D.failures bus.new.drives }
+        ensures carried { AreCarried D.lasting D.failures bus.old.drives bus.new.drives }
     {
         match self.engine.due() {
             Due::Makes(change) => self.play(bus, change),
@@ -286,16 +252,10 @@ impl<'a> Performer<'a> {
     #[inline(always)]
     fn ask<D: Machine, const N: usize>(&mut self, bus: &mut Bus<D, N>, upto: u64) -> Option<Event>
         requires { upto ≤ self.old.limit }
-        ensures come { Unfailed D.failures bus.old.drives bus.new.drives →
-            GoesUpTo _ D.State D.stands D.step D.says upto self.old self.new bus.old bus.new result }
+        ensures come { GoesUpTo _ D.State D.stands D.step D.says D.failures upto self.old self.new bus.old bus.new result }
         ensures recorded { N ≡ 1 → GoesUpToRecorded D.shows upto self.old self.new bus.old bus.new result }
-        ensures waiting { IsWaitingFrom self.new.player.from self.new.player.waiting }
-        ensures fewer { IfSome result (λ e. IsDrives e.who → at_most (self.old.limit + 1) self.new.player.second
-            bus.new.drives < at_most (self.old.limit + 1) self.old.player.second bus.old.drives) }
-        ensures engine { self.new.engine ≡ self.old.engine }
-        ensures limit { self.new.limit ≡ self.old.limit }
-        ensures lasting { numbers D.lasting bus.new.drives ≡ numbers D.lasting bus.old.drives }
-        ensures counted { failed D.failures bus.old.drives ≤ failed D.failures bus.new.drives }
+        ensures asked { HasAsked self.old self.new bus.old bus.new result }
+        ensures carried { AreCarried D.lasting D.failures bus.old.drives bus.new.drives }
     {
         self.player.next(bus, upto)
     }
@@ -305,17 +265,10 @@ impl<'a> Performer<'a> {
     fn heed<D: Machine, const N: usize>(&mut self, bus: &mut Bus<D, N>, upto: u64) -> Option<Event>
         requires upto { upto ≤ self.old.limit }
         requires none { (change : Change) → engine_due self.old.engine ≡ Makes change → ⊥ }
-        ensures come { Unfailed D.failures bus.old.drives bus.new.drives →
-            GoesUpTo _ D.State D.stands D.step D.says upto self.old self.new bus.old bus.new result }
+        ensures come { GoesUpTo _ D.State D.stands D.step D.says D.failures upto self.old self.new bus.old bus.new result }
         ensures recorded { N ≡ 1 → GoesUpToRecorded D.shows upto self.old self.new bus.old bus.new result }
-        ensures waiting { IsWaitingFrom self.new.player.from self.new.player.waiting }
-        ensures drive { IfSome result (λ e. IsDrives e.who) }
-        ensures fewer { IfSome result (λ e. at_most (self.old.limit + 1) self.new.player.second bus.new.drives
-            < at_most (self.old.limit + 1) self.old.player.second bus.old.drives) }
-        ensures engine { self.new.engine ≡ self.old.engine }
-        ensures limit { self.new.limit ≡ self.old.limit }
-        ensures lasting { numbers D.lasting bus.new.drives ≡ numbers D.lasting bus.old.drives }
-        ensures counted { failed D.failures bus.old.drives ≤ failed D.failures bus.new.drives }
+        ensures heeded { HasHeeded self.old self.new bus.old bus.new result }
+        ensures carried { AreCarried D.lasting D.failures bus.old.drives bus.new.drives }
     {
         let event = self.ask(bus, upto)?;
         match event.who {
@@ -328,13 +281,11 @@ impl<'a> Performer<'a> {
     #[inline(always)]
     fn hear<D: Machine, const N: usize>(&mut self, bus: &mut Bus<D, N>) -> Option<Event>
         requires due { engine_due self.old.engine ≡ Hears }
-        ensures come { Unfailed D.failures bus.old.drives bus.new.drives →
-            GoesOnPerforming _ D.State D.stands D.step D.says self.old self.new bus.old bus.new result }
+        ensures come { GoesOnPerforming _ D.State D.stands D.step D.says D.failures self.old self.new bus.old bus.new result }
         ensures recorded { N ≡ 1 → GoesOnRecorded D.shows self.old self.new bus.old bus.new result }
         ensures fewer { IfSome result (λ e. FallsBy e.who self.old self.new bus.old bus.new) }
         ensures limit { self.new.limit ≡ self.old.limit }
-        ensures lasting { numbers D.lasting bus.new.drives ≡ numbers D.lasting bus.old.drives }
-        ensures counted { failed D.failures bus.old.drives ≤ failed D.failures bus.new.drives }
+        ensures carried { AreCarried D.lasting D.failures bus.old.drives bus.new.drives }
     {
         let limit = self.limit;
         self.heed(bus, limit)
@@ -348,17 +299,11 @@ impl<'a> Performer<'a> {
         change: Change,
     ) -> Option<Event>
         requires due { engine_due self.old.engine ≡ Makes change }
-        ensures come { Unfailed D.failures bus.old.drives bus.new.drives →
-            (n : ℕ) (ss : List (Station D.State)) (es : List Event) →
-            IsGoing _ D.State D.stands D.step D.says self.old bus.old n ss es → MatchOption result
-            (IsHeldBack _ D.State D.stands D.step D.says self.old self.new bus.old bus.new change)
-            (HasCome _ D.State D.stands D.step D.says self.old self.new bus.new n ss es) }
+        ensures come { PlaysChange _ D.State D.stands D.step D.says D.failures change self.old self.new bus.old bus.new result }
         ensures recorded { N ≡ 1 → PlaysRecorded D.shows change self.old self.new bus.old bus.new result }
         ensures fewer { IfSome result (λ e. FallsBy e.who self.old self.new bus.old bus.new) }
-        ensures engine { self.new.engine ≡ self.old.engine }
-        ensures limit { self.new.limit ≡ self.old.limit }
-        ensures lasting { numbers D.lasting bus.new.drives ≡ numbers D.lasting bus.old.drives }
-        ensures counted { failed D.failures bus.old.drives ≤ failed D.failures bus.new.drives }
+        ensures keeps { KeepsEngine self.old self.new }
+        ensures carried { AreCarried D.lasting D.failures bus.old.drives bus.new.drives }
     {
         if change.moment > self.limit || !self.hand_on(change) {
             return None;
@@ -372,13 +317,7 @@ impl<'a> Performer<'a> {
     fn hand_on(&mut self, change: Change) -> bool
         requires moment { change.moment ≤ self.old.limit }
         requires due { engine_due self.old.engine ≡ Makes change }
-        ensures waits { result ≡ true → IsHandedOn self.old.player.waiting self.old.engine →
-            self.new.player.waiting ≡ Some change }
-        ensures refused { result ≡ false → (change.moment < self.old.player.from) × (self.new.player ≡ self.old.player) }
-        ensures second { self.new.player.second ≡ self.old.player.second }
-        ensures from { self.new.player.from ≡ self.old.player.from }
-        ensures engine { self.new.engine ≡ self.old.engine }
-        ensures limit { self.new.limit ≡ self.old.limit }
+        ensures { HandsOn change self.old self.new result }
     {
         self.player.waits() || self.player.offer(change).is_ok()
     }
@@ -387,13 +326,11 @@ impl<'a> Performer<'a> {
     #[inline(always)]
     fn wait<D: Machine, const N: usize>(&mut self, bus: &mut Bus<D, N>, until: u64) -> Option<Event>
         requires due { engine_due self.old.engine ≡ Waits until }
-        ensures come { Unfailed D.failures bus.old.drives bus.new.drives →
-            GoesOnPerforming _ D.State D.stands D.step D.says self.old self.new bus.old bus.new result }
+        ensures come { GoesOnPerforming _ D.State D.stands D.step D.says D.failures self.old self.new bus.old bus.new result }
         ensures recorded { N ≡ 1 → GoesOnRecorded D.shows self.old self.new bus.old bus.new result }
         ensures fewer { IfSome result (λ e. FallsBy e.who self.old self.new bus.old bus.new) }
         ensures limit { self.new.limit ≡ self.old.limit }
-        ensures lasting { numbers D.lasting bus.new.drives ≡ numbers D.lasting bus.old.drives }
-        ensures counted { failed D.failures bus.old.drives ≤ failed D.failures bus.new.drives }
+        ensures carried { AreCarried D.lasting D.failures bus.old.drives bus.new.drives }
     {
         if let Some(event) = self.before(bus, until) {
             return Some(event);
@@ -416,17 +353,11 @@ impl<'a> Performer<'a> {
         until: u64,
     ) -> Option<Event>
         requires due { engine_due self.old.engine ≡ Waits until }
-        ensures come { Unfailed D.failures bus.old.drives bus.new.drives →
-            (n : ℕ) (ss : List (Station D.State)) (es : List Event) →
-            IsGoing _ D.State D.stands D.step D.says self.old bus.old n ss es → MatchOption result
-            (IsUnmoved _ D.State D.stands D.step D.says self.old self.new bus.old bus.new until n ss es)
-            (HasCome _ D.State D.stands D.step D.says self.old self.new bus.new n ss es) }
+        ensures come { ComesBefore _ D.State D.stands D.step D.says D.failures until self.old self.new bus.old bus.new result }
         ensures recorded { N ≡ 1 → ComesRecorded D.shows until self.old self.new bus.old bus.new result }
         ensures fewer { IfSome result (λ e. FallsBy e.who self.old self.new bus.old bus.new) }
-        ensures engine { self.new.engine ≡ self.old.engine }
-        ensures limit { self.new.limit ≡ self.old.limit }
-        ensures lasting { numbers D.lasting bus.new.drives ≡ numbers D.lasting bus.old.drives }
-        ensures counted { failed D.failures bus.old.drives ≤ failed D.failures bus.new.drives }
+        ensures keeps { KeepsEngine self.old self.new }
+        ensures carried { AreCarried D.lasting D.failures bus.old.drives bus.new.drives }
     {
         let upto = until.min(self.limit + 1).checked_sub(1)?;
         self.heed(bus, upto)

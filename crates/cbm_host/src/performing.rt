@@ -1,10 +1,10 @@
 //! A request carried out on the bus.
 
-ghost use Rattle.std.specs.Prelude.{◌≡◌, ◌+◌, ◌<◌, ◌≤◌, ◌^◌, ℕ, true, IfOk};
+ghost use Rattle.std.specs.Prelude.{◌≡◌, ◌+◌, ◌<◌, ◌≤◌, ◌^◌, true, IfOk};
 ghost use Rattle.cbm_iec.specs.declared.event.Event.{Event};
 ghost use Rattle.cbm_session.specs.Seats.{at_pace};
 ghost use Rattle.cbm_session.specs.Sessions.{IsDrive};
-ghost use Rattle.cbm_drive.specs.Seats.{Unfailed, failed};
+ghost use Rattle.cbm_drive.specs.Seats.{failed};
 ghost use Rattle.cbm_drive.specs.declared.fault.PlayFault.TheVariants.{Memory};
 ghost use Rattle.cbm_host.specs.Engines.{channel_of, engine_at};
 ghost use Rattle.cbm_iec.specs.declared.pace.Pace.TheVariants.{Profile};
@@ -25,7 +25,9 @@ use std::alloc::{AllocError, Global};
 /// moment when it is over, at most 250,000,000 microseconds later. The events go to `events`. A request of more than 200,000
 /// bytes may be given up at that moment. Error: want of memory, and then they are a beginning of what happened.
 ///
-/// What is promised of the states that the machine represents holds if it didn't fail in it (`Unfailed`).
+/// What is promised of the states that the machine represents holds if it didn't fail in it (`Unfailed`). Each change of the
+/// host came at the moment that the request's stages say, and so did the end. On any disk a machine plays back what the drive
+/// showed, and for that machine the request was carried out; whatever the machine represents, nothing happens after the end.
 pub fn perform<D: Machine, const N: usize>(
     alloc: Global,
     bus: &mut Bus<D, N>,
@@ -40,14 +42,11 @@ pub fn perform<D: Machine, const N: usize>(
     requires channel { channel_of request ≤ 15 }
     ensures carried_out { CarriesOutAtProfile _ D.State D.stands D.step D.says D.failures device start request.entry
         bus.old bus.new events.old.items events.new.items result }
-    // Each change of the host came at the moment that the request's stages say, and so did the end.
     ensures moments { KeepsMomentsUnfailed _ D.State D.stands D.step D.says D.failures
         (engine_at start device request.entry) (start + 250000000) bus.old bus.new events.old.items events.new.items result }
-    // On any disk a machine plays back what the drive showed, and for that machine the request was carried out.
     ensures recorded { (v : Party) → let b = at_pace Profile v in IsDrive b → b.device ≡ device → IsAtRestAnyway D.shows b bus.old →
         CarriesOutAnyway D.shows b start request.entry bus.old bus.new events.old.items events.new.items result }
     ensures end { IfOk result (λ done. done.end ≤ start + 250000000) }
-    // Whatever the machine represents, nothing happens later than that.
     ensures within { HasAddedUpTo (start + 250000000) events.old.items events.new.items }
     ensures counted { failed D.failures bus.old.drives ≤ failed D.failures bus.new.drives }
     ensures memory { LacksMemoryUnfailed _ D.State D.stands D.step D.says D.failures bus.old bus.new events.old.items
@@ -73,14 +72,11 @@ pub fn perform_at<D: Machine, const N: usize>(
     requires channel { channel_of request ≤ 15 }
     ensures carried_out { CarriesOutAt _ D.State D.stands D.step D.says D.failures pace device start request.entry
         bus.old bus.new events.old.items events.new.items result }
-    // Each change of the host came at the moment that the request's stages say, and so did the end.
     ensures moments { KeepsMomentsUnfailed _ D.State D.stands D.step D.says D.failures
         (engine_at start device request.entry) (start + longest pace) bus.old bus.new events.old.items events.new.items result }
-    // On any disk a machine plays back what the drive showed, and for that machine the request was carried out.
     ensures recorded { (b : Party) → IsDrive b → b.device ≡ device → b.pace ≡ pace → IsAtRestAnyway D.shows b bus.old →
         CarriesOutAnyway D.shows b start request.entry bus.old bus.new events.old.items events.new.items result }
     ensures end { IfOk result (λ done. done.end ≤ start + longest pace) }
-    // Whatever the machine represents, nothing happens later than that.
     ensures within { HasAddedUpTo (start + longest pace) events.old.items events.new.items }
     ensures counted { failed D.failures bus.old.drives ≤ failed D.failures bus.new.drives }
     ensures memory { LacksMemoryUnfailed _ D.State D.stands D.step D.says D.failures bus.old bus.new events.old.items
@@ -109,12 +105,10 @@ fn run<D: Machine, const N: usize>(
     done: &mut Done,
 ) -> Result<(), AllocError>
     requires one { N ≡ 1 }
-    ensures performed { Unfailed D.failures bus.old.drives bus.new.drives →
-        RunsOut _ D.State D.stands D.step D.says performer.old performer.new bus.old bus.new events.old.items
-        events.new.items done.old done.new result }
-    ensures memory { Unfailed D.failures bus.old.drives bus.new.drives →
-        IsCutOnTheWay _ D.State D.stands D.step D.says performer.old bus.old bus.new events.old.items
-        events.new.items done.old result }
+    ensures performed { RunsOut _ D.State D.stands D.step D.says D.failures performer.old performer.new bus.old bus.new
+        events.old.items events.new.items done.old done.new result }
+    ensures memory { IsCutOnTheWay _ D.State D.stands D.step D.says D.failures performer.old bus.old bus.new
+        events.old.items events.new.items done.old result }
     ensures recorded { RunsOutBack D.shows performer.old performer.new bus.old bus.new events.old.items events.new.items
         done.old done.new result }
     ensures within { HasAddedUpTo performer.old.limit events.old.items events.new.items }
@@ -133,12 +127,10 @@ fn step<D: Machine, const N: usize>(
     done: &mut Done,
 ) -> Result<bool, AllocError>
     requires one { N ≡ 1 }
-    ensures performing { Unfailed D.failures bus.old.drives bus.new.drives →
-        Steps _ D.State D.stands D.step D.says performer.old performer.new bus.old bus.new events.old.items
-        events.new.items done.old done.new result }
-    ensures memory { Unfailed D.failures bus.old.drives bus.new.drives →
-        IsCutOnTheWay _ D.State D.stands D.step D.says performer.old bus.old bus.new events.old.items
-        events.new.items done.old result }
+    ensures performing { Steps _ D.State D.stands D.step D.says D.failures performer.old performer.new bus.old bus.new
+        events.old.items events.new.items done.old done.new result }
+    ensures memory { IsCutOnTheWay _ D.State D.stands D.step D.says D.failures performer.old bus.old bus.new
+        events.old.items events.new.items done.old result }
     ensures recorded { StepsBack D.shows performer.old performer.new bus.old bus.new events.old.items events.new.items
         done.old done.new result }
     ensures within { HasAddedUpTo performer.old.limit events.old.items events.new.items }

@@ -1,4 +1,4 @@
-use Rattle.std.proofs.Common.{List, ◌∷◌, sym, subst, arith}
+use Rattle.std.proofs.Common.{rules, List, ◌∷◌, sym, subst, arith}
 use Rattle.std.specs.List.{AllZip}
 use Rattle.cbm_iec.specs.declared.lines.Held.{Held}
 use Rattle.cbm_drive.specs.Recorded.{IsToldBy}
@@ -12,12 +12,14 @@ returns-clause-told g t c = λ u.
     λ f ss h.
     told_next _ g.D.Machine.State g.D.Machine.stands g.D.Machine.step g.D.Machine.says c.args.wires.now c.without-others.result c.args.moment f c.in-Some.first.now c.line.new.self c.in-Some.rest.now c.tell_each.new.drives ss
     (λ q w. c.without-others.ensures q (subst (λ (o : Held). IsWithout c.args.wires.now o q) (sym c.own.ensures) w))
-    c.line.ensures.port (c.line.ensures.machine (omega (arith, so, c.tell_each.ensures.counted))) (λ us k. c.tell_each.ensures.told (omega (arith, so, c.line.ensures.counted)) f us k)
+    c.line.ensures.port (c.line.ensures.machine (omega (arith, so, c.tell_each.ensures.carried.counted))) (λ us k. c.tell_each.ensures.told (omega (arith, so, c.line.ensures.counted)) f us k)
     (subst (λ (xs : List (Seated _)). AllZip (λ x s. Meets _ g.D.Machine.State g.D.Machine.stands c.args.wires.now (f s.rest) x s) xs ss) c.in-Some.ensures.cases.0 h)
 
-pub returns-clause-counted : goal.returns-clause-counted
-returns-clause-counted g t c =
-    subst (λ (xs : List (Seated _)). Unfailed g.D.Machine.failures (c.line.new.self ∷ c.tell_each.new.drives) xs) (sym c.in-Some.ensures.cases.0) (omega (arith, c.line.ensures.counted, c.tell_each.ensures.counted))
+pub returns-clause-carried : goal.returns-clause-carried
+returns-clause-carried g t c = record {
+  lasting = (search rules);
+  counted = subst (λ (xs : List (Seated _)). Unfailed g.D.Machine.failures (c.line.new.self ∷ c.tell_each.new.drives) xs) (sym c.in-Some.ensures.cases.0) (omega (arith, c.line.ensures.counted, c.tell_each.ensures.carried.counted));
+}
 
 pub returns-clause-each : goal.returns-clause-each
 returns-clause-each g t c =

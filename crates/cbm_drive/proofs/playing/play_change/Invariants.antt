@@ -2,7 +2,7 @@ use Rattle.std.proofs.Common.{◌≡◌, ◌+◌, ℕ, List, [], Some, None}
 use Rattle.cbm_iec.specs.declared.event.Event.{Event}
 use Rattle.cbm_session.specs.Playing.{Station}
 use Rattle.cbm_drive.specs.Players.{at_most, IsAfter, HasAdded}
-use Rattle.cbm_drive.specs.Seats.{Unfailed, numbers}
+use Rattle.cbm_drive.specs.Seats.{Unfailed, AreCarried}
 use Rattle.cbm_drive.proofs.playing.play_change.Given as goal
 
 -- what came before the change was added
@@ -12,8 +12,7 @@ invariant-events g l = record {
       → HasAdded _ g.D.Machine.State g.D.Machine.stands g.D.Machine.step g.D.Machine.says l.player l.bus l.fn.events.items l.events.items [] n ss es;
   waiting : l.player.waiting ≡ Some l.change;
   second : l.player.second ≡ None;
-  lasting : numbers g.D.Machine.lasting l.bus.drives ≡ numbers g.D.Machine.lasting l.fn.bus.drives;
-  counted : Unfailed g.D.Machine.failures l.bus.drives l.fn.bus.drives;
+  carried : AreCarried g.D.Machine.lasting g.D.Machine.failures l.fn.bus.drives l.bus.drives;
 }
 
 abbrev pub decreases-events : goal.decreases-events

@@ -1,8 +1,8 @@
-use Rattle.std.proofs.Common.{◌≡◌, List, [], take, drop}
+use Rattle.std.proofs.Common.{List, [], take, drop}
 use Rattle.cbm_session.specs.Playing.{Station}
 use Rattle.cbm_drive.specs.Ordered.{AreOrdered, latest}
 use Rattle.cbm_drive.specs.Players.{IsOpen, HasAdded}
-use Rattle.cbm_drive.specs.Seats.{IsBusAt, Unfailed, numbers}
+use Rattle.cbm_drive.specs.Seats.{IsBusAt, Unfailed, AreCarried}
 use Rattle.cbm_drive.proofs.playing.play_on.Given as goal
 
 -- the changes so far were played, and those left are in order behind them
@@ -13,6 +13,5 @@ invariant-loop-change g l =
           → HasAdded _ g.D.Machine.State g.D.Machine.stands g.D.Machine.step g.D.Machine.says l.player l.bus l.initial.events.items l.events.items (take l.change-index l.changes) 0 ss [];
       open_ : IsOpen l.player before;
       ordered : AreOrdered before l.end (drop l.change-index l.changes);
-      lasting : numbers g.D.Machine.lasting l.bus.drives ≡ numbers g.D.Machine.lasting l.initial.bus.drives;
-      counted : Unfailed g.D.Machine.failures l.bus.drives l.initial.bus.drives;
+      carried : AreCarried g.D.Machine.lasting g.D.Machine.failures l.initial.bus.drives l.bus.drives;
     }

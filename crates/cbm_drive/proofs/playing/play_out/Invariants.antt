@@ -1,8 +1,8 @@
-use Rattle.std.proofs.Common.{◌≡◌, ◌+◌, ℕ, List, []}
+use Rattle.std.proofs.Common.{◌+◌, ℕ, List, []}
 use Rattle.cbm_iec.specs.declared.event.Event.{Event}
 use Rattle.cbm_session.specs.Playing.{Station}
 use Rattle.cbm_drive.specs.Players.{at_most, IsOpen, IsAfter, HasAdded}
-use Rattle.cbm_drive.specs.Seats.{Unfailed, numbers}
+use Rattle.cbm_drive.specs.Seats.{Unfailed, AreCarried}
 use Rattle.cbm_drive.proofs.playing.play_out.Given as goal
 
 -- what came so far was added
@@ -11,8 +11,7 @@ invariant-events g l = record {
   added : Unfailed g.D.Machine.failures l.fn.bus.drives l.bus.drives → (n : ℕ) (ss : List (Station g.D.Machine.State)) (es : List Event) → IsAfter _ g.D.Machine.State g.D.Machine.stands g.D.Machine.step g.D.Machine.says l.fn.player l.fn.bus n ss es
       → HasAdded _ g.D.Machine.State g.D.Machine.stands g.D.Machine.step g.D.Machine.says l.player l.bus l.fn.events.items l.events.items [] n ss es;
   open_ : IsOpen l.player (l.end + 1);
-  lasting : numbers g.D.Machine.lasting l.bus.drives ≡ numbers g.D.Machine.lasting l.fn.bus.drives;
-  counted : Unfailed g.D.Machine.failures l.bus.drives l.fn.bus.drives;
+  carried : AreCarried g.D.Machine.lasting g.D.Machine.failures l.fn.bus.drives l.bus.drives;
 }
 
 abbrev pub decreases-events : goal.decreases-events

@@ -34,4 +34,4 @@ pub returns-clause-fault : goal.returns-clause-fault
 returns-clause-fault g c = λ f e. (let k = c.play.ensures.fault f e in (k.0, k.1 ∙ c.self.view_is, k.2))
 
 pub returns-clause-counted : goal.returns-clause-counted
-returns-clause-counted g c = subst (λ b. failures_on g.M.Medium.seen b ≤ failures_on g.M.Medium.seen c.play.new.self) c.self.view_is c.play.ensures.counted
+returns-clause-counted g c = subst (λ b. failures_on g.M.Medium.seen b ≤ failures_on g.M.Medium.seen c.play.new.self) c.self.view_is c.play.ensures.carried.counted

@@ -23,7 +23,7 @@ returns-clause-reacted g c = λ u.
     let at_bus : IsBusAt _ g.D.Machine.State g.D.Machine.stands c.self.inside.host c.as_mut_slice.result.now ss = subst (λ (l : Lines). IsBusAt _ g.D.Machine.State g.D.Machine.stands l c.as_mut_slice.result.now ss) host
     (subst (λ (xs : List (Seated _)). IsBusAt _ g.D.Machine.State g.D.Machine.stands was.host xs ss) drives bus) in
     subst (λ (l : Lines). IfSome c.react.result (λ a. HasReacted _ g.D.Machine.State g.D.Machine.stands g.D.Machine.step g.D.Machine.says l c.args.moment a.device c.react.new.drives a.changes.items ss)) (sym host)
-    (c.react.ensures.reacted (subst (λ (xs : List (Seated _)). Unfailed g.D.Machine.failures xs c.react.new.drives) drives u) ss at_bus due)
+    (c.react.ensures.made.reacted (subst (λ (xs : List (Seated _)). Unfailed g.D.Machine.failures xs c.react.new.drives) drives u) ss at_bus due)
 
 pub returns-clause-nearer : goal.returns-clause-nearer
 returns-clause-nearer g c = λ first.

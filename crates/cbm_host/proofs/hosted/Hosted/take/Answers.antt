@@ -30,18 +30,18 @@ returns-in-Some-clause-fewer g c =
     subst (λ (b : Cabled _). left_of c.next_byte.new.self c.next_byte.new.bus < left_of c.args.performer.now b) (ap (λ (h : Hosting _). h.bus) c.self.view_is) c.in-Some.ensures.fewer
 
 pub returns-in-Some-clause-tracks : goal.returns-in-Some-clause-tracks
-returns-in-Some-clause-tracks g c = c.next_byte.ensures.lasting ∙ ap (λ (h : Hosting _). numbers (λ x. (g.M.Medium.seen x.dos.medium).tracks) h.bus.drives) c.self.view_is
+returns-in-Some-clause-tracks g c = c.next_byte.ensures.carried.lasting ∙ ap (λ (h : Hosting _). numbers (λ x. (g.M.Medium.seen x.dos.medium).tracks) h.bus.drives) c.self.view_is
 
 pub returns-in-None-clause-tracks : goal.returns-in-None-clause-tracks
-returns-in-None-clause-tracks g c = c.next_byte.ensures.lasting ∙ ap (λ (h : Hosting _). numbers (λ x. (g.M.Medium.seen x.dos.medium).tracks) h.bus.drives) c.self.view_is
+returns-in-None-clause-tracks g c = c.next_byte.ensures.carried.lasting ∙ ap (λ (h : Hosting _). numbers (λ x. (g.M.Medium.seen x.dos.medium).tracks) h.bus.drives) c.self.view_is
 
 pub returns-in-Some-clause-counted : goal.returns-in-Some-clause-counted
 returns-in-Some-clause-counted g c =
-    subst (λ (b : Cabled _). failed (λ x. (g.M.Medium.seen x.dos.medium).failures) b.drives ≤ failed (λ x. (g.M.Medium.seen x.dos.medium).failures) c.next_byte.new.bus.drives) (ap (λ (h : Hosting _). h.bus) c.self.view_is) c.next_byte.ensures.counted
+    subst (λ (b : Cabled _). failed (λ x. (g.M.Medium.seen x.dos.medium).failures) b.drives ≤ failed (λ x. (g.M.Medium.seen x.dos.medium).failures) c.next_byte.new.bus.drives) (ap (λ (h : Hosting _). h.bus) c.self.view_is) c.next_byte.ensures.carried.counted
 
 pub returns-in-None-clause-counted : goal.returns-in-None-clause-counted
 returns-in-None-clause-counted g c =
-    subst (λ (b : Cabled _). failed (λ x. (g.M.Medium.seen x.dos.medium).failures) b.drives ≤ failed (λ x. (g.M.Medium.seen x.dos.medium).failures) c.next_byte.new.bus.drives) (ap (λ (h : Hosting _). h.bus) c.self.view_is) c.next_byte.ensures.counted
+    subst (λ (b : Cabled _). failed (λ x. (g.M.Medium.seen x.dos.medium).failures) b.drives ≤ failed (λ x. (g.M.Medium.seen x.dos.medium).failures) c.next_byte.new.bus.drives) (ap (λ (h : Hosting _). h.bus) c.self.view_is) c.next_byte.ensures.carried.counted
 
 pub returns-in-None-clause-moment : goal.returns-in-None-clause-moment
 returns-in-None-clause-moment g c = let soon = c.over-self-inside.ensures.limit in let same = c.next_byte.ensures.limit in omega (arith, soon, same)
@@ -50,10 +50,10 @@ pub returns-in-Some-clause-moment : goal.returns-in-Some-clause-moment
 returns-in-Some-clause-moment g c = ap (λ (h : Hosting _). h.moment) c.self.view_is
 
 pub invariant_of-self-in-None : goal.invariant_of-self-in-None
-invariant_of-self-in-None g c = (c.self.invariant.0, c.self.invariant.1, as_many (λ x. (g.M.Medium.seen x.dos.medium).tracks) c.self.inside.bus.drives c.next_byte.new.bus.drives c.next_byte.ensures.lasting ∙ c.self.invariant.2)
+invariant_of-self-in-None g c = (c.self.invariant.0, c.self.invariant.1, as_many (λ x. (g.M.Medium.seen x.dos.medium).tracks) c.self.inside.bus.drives c.next_byte.new.bus.drives c.next_byte.ensures.carried.lasting ∙ c.self.invariant.2)
 
 pub invariant_of-self : goal.invariant_of-self
-invariant_of-self g c = (c.self.invariant.0, c.self.invariant.1, as_many (λ x. (g.M.Medium.seen x.dos.medium).tracks) c.self.inside.bus.drives c.next_byte.new.bus.drives c.next_byte.ensures.lasting ∙ c.self.invariant.2)
+invariant_of-self g c = (c.self.invariant.0, c.self.invariant.1, as_many (λ x. (g.M.Medium.seen x.dos.medium).tracks) c.self.inside.bus.drives c.next_byte.new.bus.drives c.next_byte.ensures.carried.lasting ∙ c.self.invariant.2)
 
 -- ---- on any disk
 

@@ -11,7 +11,7 @@ pub returns-in-Host-clause-come : goal.returns-in-Host-clause-come
 returns-in-Host-clause-come g c = λ u n ss es k asked.
     let e = c.in_ok-event.event in
     let due : IsDue Host e.change c.ask.new.self.engine = subst (λ (w : Who). IsDue w e.change c.ask.new.self.engine) c.in-Host.is (c.in_ok-event.ensures.come u n ss es k asked).due in
-    absurd (c.requires.none e.change (sym (ap engine_due c.ask.ensures.engine) ∙ due))
+    absurd (c.requires.none e.change (sym (ap engine_due c.ask.ensures.asked.engine) ∙ due))
 
 pub returns-in-Host-clause-recorded : goal.returns-in-Host-clause-recorded
 returns-in-Host-clause-recorded g c = λ one.
@@ -21,7 +21,7 @@ returns-in-Host-clause-recorded g c = λ one.
       come.0,
       λ later n ss es k asked.
           let due : IsDue Host e.change c.ask.new.self.engine = subst (λ (w : Who). IsDue w e.change c.ask.new.self.engine) c.in-Host.is (come.1 later n ss es k asked).due in
-          absurd (c.requires.none e.change (sym (ap engine_due c.ask.ensures.engine) ∙ due)),
+          absurd (c.requires.none e.change (sym (ap engine_due c.ask.ensures.asked.engine) ∙ due)),
     )
 
 pub returns-in_err-event-clause-recorded : goal.returns-in_err-event-clause-recorded

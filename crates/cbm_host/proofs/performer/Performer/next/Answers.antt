@@ -20,7 +20,7 @@ returns-clause-next g c = λ u n ss es k.
 
 pub returns-clause-fewer : goal.returns-clause-fewer
 returns-clause-fewer g c =
-    falls_told c.in_ok-event.event.who c.in_ok-event.event.change c.args.self.now c.event.new.self c.tell.new.self c.args.bus.now c.event.new.bus (as_many g.D.Machine.lasting c.args.bus.now.drives c.event.new.bus.drives c.event.ensures.lasting) c.in_ok-event.ensures.fewer c.in_ok-event.ensures.limit c.tell.ensures.player c.tell.ensures.limit c.tell.ensures.engine
+    falls_told c.in_ok-event.event.who c.in_ok-event.event.change c.args.self.now c.event.new.self c.tell.new.self c.args.bus.now c.event.new.bus (as_many g.D.Machine.lasting c.args.bus.now.drives c.event.new.bus.drives c.event.ensures.carried.lasting) c.in_ok-event.ensures.fewer c.in_ok-event.ensures.limit c.tell.ensures.player c.tell.ensures.limit c.tell.ensures.engine
 
 pub returns-then-event-self-clause-recorded : goal.returns-then-event-self-clause-recorded
 returns-then-event-self-clause-recorded g c =

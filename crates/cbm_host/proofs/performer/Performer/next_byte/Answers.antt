@@ -1,4 +1,5 @@
 use Rattle.std.proofs.Common.{◌<◌, [], ◌++◌, refl, sym, ◌∙◌, arith}
+use Rattle.cbm_drive.proofs.Unfailed.{carried_none, carried_on}
 use Rattle.cbm_host.proofs.Hosting.{taking_none, taking_some, taking_over}
 use Rattle.cbm_host.proofs.Regrouped.{regrouped}
 use Rattle.cbm_host.proofs.performer.Performer.next_byte.Goals as goal
@@ -6,7 +7,7 @@ use Rattle.cbm_drive.specs.Playback.{Playback, played_says, played_step, IsPlaye
 use Rattle.cbm_host.specs.Progress.{left_of}
 
 pub events-init : goal.events-init
-events-init g c = record { taking = λ u e limit bytes last ss t. t; counted = omega arith; fewer = omega arith; limit = refl; lasting = refl; recorded = ([], λ later e limit bytes last ss t. t) }
+events-init g c = record { taking = λ u e limit bytes last ss t. t; carried = carried_none c.args.bus.now.drives; fewer = omega arith; limit = refl; recorded = ([], λ later e limit bytes last ss t. t) }
 
 -- an event, and the halves of bits behind it
 pub events-preserved : goal.events-preserved
@@ -17,12 +18,11 @@ events-preserved g c =
     record {
       taking = λ u e limit bytes last ss t.
           c.gather.ensures.taken e limit bytes last ss
-          (taking_none _ g.D.Machine.State g.D.Machine.stands g.D.Machine.stands g.D.Machine.step g.D.Machine.says e limit c.events.self c.next.new.self c.events.bus c.next.new.bus bytes last ss c.in-Some._event (c.events.invariant.taking (omega (arith, u, c.next.ensures.counted, c.gather.ensures.counted)) e limit bytes last ss t) (c.in-Some.ensures.next (omega (arith, u, c.events.invariant.counted, c.gather.ensures.counted)))
+          (taking_none _ g.D.Machine.State g.D.Machine.stands g.D.Machine.stands g.D.Machine.step g.D.Machine.says e limit c.events.self c.next.new.self c.events.bus c.next.new.bus bytes last ss c.in-Some._event (c.events.invariant.taking (omega (arith, u, c.next.ensures.carried.counted, c.gather.ensures.carried.counted)) e limit bytes last ss t) (c.in-Some.ensures.next (omega (arith, u, c.events.invariant.carried.counted, c.gather.ensures.carried.counted)))
           (sym c.byte.ensures ∙ c.in_default-byte.is));
-      counted = omega (arith, c.next.ensures.counted, c.gather.ensures.counted, c.events.invariant.counted);
+      carried = carried_on (carried_on c.events.invariant.carried c.next.ensures.carried) c.gather.ensures.carried;
       fewer = omega (arith, less, more, least);
       limit = c.gather.ensures.limit ∙ c.next.ensures.limit ∙ c.events.invariant.limit;
-      lasting = c.gather.ensures.lasting ∙ c.next.ensures.lasting ∙ c.events.invariant.lasting;
       recorded =
           (let shows = g.D.Machine.shows in
           let before = c.events.invariant.recorded in
@@ -43,7 +43,7 @@ events-smaller g c =
 
 pub returns-in-Some-byte-clause-taken : goal.returns-in-Some-byte-clause-taken
 returns-in-Some-byte-clause-taken g c = λ u e limit bytes last ss t.
-    taking_some _ g.D.Machine.State g.D.Machine.stands g.D.Machine.stands g.D.Machine.step g.D.Machine.says e limit c.events.self c.next.new.self c.events.bus c.next.new.bus bytes last ss c.in-Some._event c.in-Some-byte.said (c.events.invariant.taking (omega (arith, u, c.next.ensures.counted)) e limit bytes last ss t) (c.in-Some.ensures.next (omega (arith, u, c.events.invariant.counted)))
+    taking_some _ g.D.Machine.State g.D.Machine.stands g.D.Machine.stands g.D.Machine.step g.D.Machine.says e limit c.events.self c.next.new.self c.events.bus c.next.new.bus bytes last ss c.in-Some._event c.in-Some-byte.said (c.events.invariant.taking (omega (arith, u, c.next.ensures.carried.counted)) e limit bytes last ss t) (c.in-Some.ensures.next (omega (arith, u, c.events.invariant.carried.counted)))
     (sym c.byte.ensures ∙ c.in-Some-byte.is)
 
 pub returns-in-Some-byte-clause-fewer : goal.returns-in-Some-byte-clause-fewer
@@ -54,13 +54,13 @@ returns-in-Some-byte-clause-fewer g c =
 
 pub returns-clause-taken : goal.returns-clause-taken
 returns-clause-taken g c = λ u e limit bytes last ss t.
-    taking_over _ g.D.Machine.State g.D.Machine.stands g.D.Machine.stands g.D.Machine.step g.D.Machine.says e limit c.events.self c.next.new.self c.events.bus c.next.new.bus bytes last ss (c.events.invariant.taking (omega (arith, u, c.next.ensures.counted)) e limit bytes last ss t) (c.in_default.ensures.next (omega (arith, u, c.events.invariant.counted)))
+    taking_over _ g.D.Machine.State g.D.Machine.stands g.D.Machine.stands g.D.Machine.step g.D.Machine.says e limit c.events.self c.next.new.self c.events.bus c.next.new.bus bytes last ss (c.events.invariant.taking (omega (arith, u, c.next.ensures.carried.counted)) e limit bytes last ss t) (c.in_default.ensures.next (omega (arith, u, c.events.invariant.carried.counted)))
 
-pub returns-in-Some-byte-clause-counted : goal.returns-in-Some-byte-clause-counted
-returns-in-Some-byte-clause-counted g c = omega (arith, c.next.ensures.counted, c.events.invariant.counted)
+pub returns-in-Some-byte-clause-carried : goal.returns-in-Some-byte-clause-carried
+returns-in-Some-byte-clause-carried g c = carried_on c.events.invariant.carried c.next.ensures.carried
 
-pub returns-clause-counted : goal.returns-clause-counted
-returns-clause-counted g c = omega (arith, c.next.ensures.counted, c.events.invariant.counted)
+pub returns-clause-carried : goal.returns-clause-carried
+returns-clause-carried g c = carried_on c.events.invariant.carried c.next.ensures.carried
 
 -- ---- on any disk
 

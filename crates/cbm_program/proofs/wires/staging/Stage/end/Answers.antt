@@ -24,31 +24,31 @@ returns-in_err-print_event-clause-staged g c =
     let p = err_from_is_err_and c.from_residual.result c.from_residual.ensures.1 in
     record {
       err = if_err c.from_residual.result (λ ss es h. part_event g.M.Medium.seen _ _ _ [] [] [] (c.args.end + 1) c.events.self.player c.finish.new.self c.events.self.bus c.finish.new.bus ss es c.in-Some.event (c.events.invariant.played ss es h)
-          (λ fs at_. c.in-Some.ensures.given (never_failed (λ x. (g.M.Medium.seen x.dos.medium).failures) (λ x. g.met.M.Steady.steady x.dos.medium) c.events.self.bus.drives c.finish.new.bus.drives) 0 ss fs at_) (append-nil _ ∙ of_drive c.in-Some.event c.in-Some.ensures.drive) c.finish.ensures.second c.in_err-print_event.ensures.err);
+          (λ fs at_. c.in-Some.ensures.gives.given (never_failed (λ x. (g.M.Medium.seen x.dos.medium).failures) (λ x. g.met.M.Steady.steady x.dos.medium) c.events.self.bus.drives c.finish.new.bus.drives) 0 ss fs at_) (append-nil _ ∙ of_drive c.in-Some.event c.in-Some.ensures.event.drive) c.finish.ensures.event.second c.in_err-print_event.ensures.err);
       fault = same_err c.from_residual.result _ _ (p.1 ∙ ap Err p.2) c.in_err-print_event.ensures.fault;
       grows = grows_on _ _ _ c.events.invariant.grown c.in_err-print_event.ensures.grows;
-      tracks = c.finish.ensures.lasting ∙ c.events.invariant.tracks;
+      tracks = c.finish.ensures.carried.lasting ∙ c.events.invariant.tracks;
     }
 
 pub events-smaller : goal.events-smaller
-events-smaller g c = c.in-Some.ensures.fewer (c.args.end + 1) (omega arith)
+events-smaller g c = c.in-Some.ensures.event.fewer (c.args.end + 1) (omega arith)
 
 pub events-preserved : goal.events-preserved
 events-preserved g c = record {
   played = λ ss es h. played_event g.M.Medium.seen _ _ _ [] [] c.events.self.player c.finish.new.self c.events.self.bus c.finish.new.bus ss es c.in-Some.event (c.events.invariant.played ss es h)
-      (λ fs at_. c.in-Some.ensures.given (never_failed (λ x. (g.M.Medium.seen x.dos.medium).failures) (λ x. g.met.M.Steady.steady x.dos.medium) c.events.self.bus.drives c.finish.new.bus.drives) 0 ss fs at_) (of_drive c.in-Some.event c.in-Some.ensures.drive) c.in_ok-print_event.ensures.ok;
-  wrote = replays_event desk_shows _ _ _ [] [] c.args.self.now.player c.events.self.player c.finish.new.self c.args.self.now.bus c.events.self.bus c.finish.new.bus c.in-Some.event c.events.invariant.wrote (let k = c.in-Some.ensures.recorded refl in (k.0, λ later ss fs at_. k.1 later 0 ss fs at_)) (of_drive c.in-Some.event c.in-Some.ensures.drive) c.in_ok-print_event.ensures.ok;
-  waiting = c.finish.ensures.waiting;
-  second = c.finish.ensures.second;
-  from = c.finish.ensures.from;
-  tracks = c.finish.ensures.lasting ∙ c.events.invariant.tracks;
+      (λ fs at_. c.in-Some.ensures.gives.given (never_failed (λ x. (g.M.Medium.seen x.dos.medium).failures) (λ x. g.met.M.Steady.steady x.dos.medium) c.events.self.bus.drives c.finish.new.bus.drives) 0 ss fs at_) (of_drive c.in-Some.event c.in-Some.ensures.event.drive) c.in_ok-print_event.ensures.ok;
+  wrote = replays_event desk_shows _ _ _ [] [] c.args.self.now.player c.events.self.player c.finish.new.self c.args.self.now.bus c.events.self.bus c.finish.new.bus c.in-Some.event c.events.invariant.wrote (let k = c.in-Some.ensures.gives.recorded refl in (k.0, λ later ss fs at_. k.1 later 0 ss fs at_)) (of_drive c.in-Some.event c.in-Some.ensures.event.drive) c.in_ok-print_event.ensures.ok;
+  waiting = c.finish.ensures.event.waiting;
+  second = c.finish.ensures.event.second;
+  from = c.finish.ensures.event.from;
+  tracks = c.finish.ensures.carried.lasting ∙ c.events.invariant.tracks;
   grown = grows_on _ _ _ c.events.invariant.grown c.in_ok-print_event.ensures.grows;
 }
 
 pub returns-clause-ok : goal.returns-clause-ok
-returns-clause-ok g c = ended_on g.M.Medium.seen _ _ c.args.end c.args.self.now.player c.events.self.player c.finish.new.self c.args.self.now.bus c.events.self.bus c.finish.new.bus c.events.invariant.played (λ ss fs at_. c.in_default.ensures.given (never_failed (λ x. (g.M.Medium.seen x.dos.medium).failures) (λ x. g.met.M.Steady.steady x.dos.medium) c.events.self.bus.drives c.finish.new.bus.drives) 0 ss fs at_)
+returns-clause-ok g c = ended_on g.M.Medium.seen _ _ c.args.end c.args.self.now.player c.events.self.player c.finish.new.self c.args.self.now.bus c.events.self.bus c.finish.new.bus c.events.invariant.played (λ ss fs at_. c.in_default.ensures.gives.given (never_failed (λ x. (g.M.Medium.seen x.dos.medium).failures) (λ x. g.met.M.Steady.steady x.dos.medium) c.events.self.bus.drives c.finish.new.bus.drives) 0 ss fs at_)
 
 pub returns-clause-wrote : goal.returns-clause-wrote
 returns-clause-wrote g c =
-    let k = c.in_default.ensures.recorded refl in
+    let k = c.in_default.ensures.gives.recorded refl in
     replays_over desk_shows _ _ c.args.end c.args.self.now.player c.events.self.player c.finish.new.self c.args.self.now.bus c.events.self.bus c.finish.new.bus c.events.invariant.wrote (k.0, λ later ss fs at_. k.1 later 0 ss fs at_)
