@@ -1,5 +1,5 @@
 -- What is promised of drives with disks under a host: the headline.
-use Rattle.std.specs.Prelude.{ℕ, Result, OnOk, ◌≡◌, ◌≤◌, ◌==◌, List, [], ◌∷◌, ◌++◌, map, if◌then◌else◌}
+use Rattle.std.specs.Prelude.{ℕ, None, Result, OnOk, ◌≡◌, ◌≤◌, ◌==◌, List, [], ◌∷◌, ◌++◌, map, if◌then◌else◌}
 use Rattle.std.specs.List.{AllZip}
 use Rattle.cbm_iec.specs.declared.event.Event.{Event}
 use Rattle.cbm_iec.specs.declared.lines.Change.{Change}
@@ -15,10 +15,10 @@ use Rattle.cbm_session.specs.Timing.{HostKeeps}
 use Rattle.cbm_drive.specs.Cables.{Cabled}
 use Rattle.cbm_drive.specs.Desks.{Desk, DeskStands, desk_step, desk_says}
 use Rattle.cbm_bus.specs.Powered.{IsAtRest}
-use Rattle.cbm_drive.specs.Ordered.{host_changes}
+use Rattle.cbm_drive.specs.Ordered.{fault_of, host_changes}
 use Rattle.cbm_drive.specs.Played.{HasHanded}
 use Rattle.cbm_session.specs.Handed.{AllReact}
-use Rattle.cbm_session.specs.Sessions.{AllUnlike}
+use Rattle.cbm_session.specs.Sessions.{AllUnlike, IsBus}
 use Rattle.cbm_drive.specs.Seats.{Seated, failed, IsBusAt}
 
 -- the machine of the drive with this device number; that of a number that none of them has is as it was
@@ -65,6 +65,19 @@ module _ {M : Type 0} (seen : M → Seen) where
   pub record HasPlayedFilesLoosely (bs : List Party) (ms : ℕ → Desk Machine) (end : ℕ) (changes : List Change) (b : Cabled (Desk (Kept M))) (old new : List Event) : Type 0 where
     pub play : HasPlayedFiles bs ms end changes b old new
     pub loosely : HostKeepsLoosely (Desk Machine) desk_step desk_says bs ms play.made end → IsKeptLoosely (Desk Machine) desk_step desk_says bs ms play.made end play.now
+
+  -- so it is of any bus that was at rest, of a list in order that was played to its end, if no medium failed by itself
+  abbrev pub PlaysFiles : {E : Type 0} → Cabled (Desk (Kept M)) → Cabled (Desk (Kept M)) → ℕ → List Event → List Event → List Change → Result (Unit {0}) E → Type 0
+  PlaysFiles b c end old new cs result = HaveNotFailed b c → (bs : List Party) (ms : ℕ → Desk Machine) → IsBus bs → IsAtRest seen bs ms b → fault_of 0 0 end cs ≡ None →
+      OnOk result (HasPlayedFiles bs ms end cs c old new)
+
+  abbrev pub PlaysFilesLoosely : {E : Type 0} → Cabled (Desk (Kept M)) → Cabled (Desk (Kept M)) → ℕ → List Event → List Event → List Change → Result (Unit {0}) E → Type 0
+  PlaysFilesLoosely b c end old new cs result = HaveNotFailed b c → (bs : List Party) (ms : ℕ → Desk Machine) → IsBus bs → IsAtRest seen bs ms b → fault_of 0 0 end cs ≡ None →
+      OnOk result (HasPlayedFilesLoosely bs ms end cs c old new)
+
+  -- FROM REST each disk is sound afterwards, if no medium failed by itself.
+  abbrev pub KeepsDisks : Cabled (Desk (Kept M)) → Cabled (Desk (Kept M)) → Type 0
+  KeepsDisks b c = HaveNotFailed b c → (bs : List Party) (ms : ℕ → Desk Machine) → IsAtRest seen bs ms b → AreDisks c
 
   -- WHETHER OR NOT THE HOST KEEPS ANY TIMING, from rest: the machine of each drive ran what the wires handed to it, if no medium failed by itself.
   abbrev pub HandsToMachines : {E : Type 0} → Cabled (Desk (Kept M)) → Cabled (Desk (Kept M)) → ℕ → List Event → List Event → List Change → Result (Unit {0}) E → Type 0

@@ -23,8 +23,8 @@ impl<M: Medium, const N: usize> Model for DiskBus<M, N> {
 }
 
 impl<M: Medium, const N: usize> DiskBus<M, N> {
-    ghost use Rattle.std.specs.Prelude.{◌≡◌, ◌↔◌, ◌^◌, ◌<◌, ◌≤◌, ℕ, true, List, length, Some, None, Err, OnOk, IfErr};
-    ghost use Rattle.cbm_bus.specs.Headline.{AreAt, AreDisks, HandsToMachines, HasPlayedFiles, HasPlayedFilesLoosely, HaveNotFailed, failures_on, machines_now};
+    ghost use Rattle.std.specs.Prelude.{◌≡◌, ◌↔◌, ◌^◌, ◌<◌, ◌≤◌, ℕ, true, List, length, Some, None, Err, IfErr};
+    ghost use Rattle.cbm_bus.specs.Headline.{AreAt, HandsToMachines, KeepsDisks, PlaysFiles, PlaysFilesLoosely, failures_on, machines_now};
     ghost use Rattle.cbm_bus.specs.Powered.{ArePowered, IsAtRest};
     ghost use Rattle.cbm_drive.specs.Cables.{all_free};
     ghost use Rattle.cbm_drive.specs.Desks as desks;
@@ -36,7 +36,7 @@ impl<M: Medium, const N: usize> DiskBus<M, N> {
     ghost use Rattle.cbm_drive.specs.Seats.{AreResting};
     ghost use Rattle.cbm_machine.specs.Machines.{Machine};
     ghost use Rattle.cbm_session.specs.Playing.{Station};
-    ghost use Rattle.cbm_session.specs.Sessions.{AllUnlike, IsBus};
+    ghost use Rattle.cbm_session.specs.Sessions.{AllUnlike};
 
     /// The drives on a cable of which the host holds no line, in the order in which they answer at equal moments.
     pub fn new(drives: [Drive<Desk<M>>; N]) -> DiskBus<M, N>
@@ -80,18 +80,10 @@ impl<M: Medium, const N: usize> DiskBus<M, N> {
         events: &mut Vec<Event>,
     ) -> Result<(), PlayFault>
         requires { end < 2 ^ 59 }
-        ensures headline { HaveNotFailed M.seen self.old self.new →
-            (bs : List Party) (ms : ℕ → desks.Desk Machine) → IsBus bs → IsAtRest M.seen bs ms self.old →
-            fault_of 0 0 end changes.now ≡ None → OnOk result
-            (HasPlayedFiles M.seen bs ms end changes.now self.new events.old.items events.new.items) }
+        ensures headline { PlaysFiles M.seen self.old self.new end events.old.items events.new.items changes.now result }
         // And under a host that keeps the timing loosely, as a computer's KERNAL does:
-        ensures loosely { HaveNotFailed M.seen self.old self.new →
-            (bs : List Party) (ms : ℕ → desks.Desk Machine) → IsBus bs → IsAtRest M.seen bs ms self.old →
-            fault_of 0 0 end changes.now ≡ None → OnOk result
-            (HasPlayedFilesLoosely M.seen bs ms end changes.now self.new events.old.items events.new.items) }
-        ensures disks { HaveNotFailed M.seen self.old self.new →
-            (bs : List Party) (ms : ℕ → desks.Desk Machine) → IsAtRest M.seen bs ms self.old →
-            AreDisks M.seen self.new }
+        ensures loosely { PlaysFilesLoosely M.seen self.old self.new end events.old.items events.new.items changes.now result }
+        ensures disks { KeepsDisks M.seen self.old self.new }
         // Whether or not the host keeps any timing:
         ensures handed { HandsToMachines M.seen self.old self.new end events.old.items events.new.items changes.now result }
         ensures fault { (f : PlayFault) → fault_of 0 0 end changes.now ≡ Some f →

@@ -124,7 +124,8 @@ pub fn write_sector(
     write_at(track, header, at, id, bytes)
 }
 
-/// Writes a sector's data block anew, whose header stands at this place.
+/// Writes a sector's data block anew, whose header stands at this place. A data block and its sync mark take 2,610 bits, and no
+/// header is written over.
 pub(crate) fn write_at(
     track: &mut Track,
     header: Option<u32>,
@@ -141,13 +142,11 @@ pub(crate) fn write_at(
         IsOverwritten track.old track.new d (code (data_block bytes.now))) }
     ensures id { id_shown track.new ≡ id_shown track.old }
     ensures length { length track.new ≡ length track.old }
-    // A data block and its sync mark take 2,610 bits.
     ensures long { OnOk result (2610 ≤ length track.old) }
     ensures err { OnErr result (track.new ≡ track.old) }
     ensures refused { IfSome (header_fault (sector_shown track.old id at))
         (λ code. result ≡ Err (record { code = code; at = at })) }
     ensures cause { IfErr result (λ fault. (header_fault (sector_shown track.old id at) ≡ Some fault.code) × (fault.at ≡ at)) }
-    // No header is written over.
     ensures headers { (other : Place) → header_of track.new other ≡ header_of track.old other }
 {
     match block_of(track, header, at, id) {

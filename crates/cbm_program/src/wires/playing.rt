@@ -59,7 +59,9 @@ fn read_behind<R: Read>(
 }
 
 /// Plays a script on a drive at power up, after its first line: a change is made and printed, with what comes before it,
-/// before the next line is read; what comes of the last one is printed when the end and the lines after it were read.
+/// before the next line is read; what comes of the last one is printed when the end and the lines after it were read. Up to
+/// the script's end or its first bad line its trace was written, and the drive is in the state after it, whatever it
+/// represents; at a fault a beginning of that was written.
 fn play_on<M: Steady, R: Read, W: Write>(
     stage: &mut Stage<M>,
     device: u8,
@@ -70,16 +72,13 @@ fn play_on<M: Steady, R: Read, W: Write>(
     requires open { IsOpen stage.old.player 0 }
     requires one { length (tracks_of_drives M.seen stage.old.bus) ≡ 1 }
     requires device { IsDevice device }
-    // Up to its end or its first bad line the script's trace was written, and the drive is in the state after it.
     ensures ended { (input : Option (List ℕ)) → TakesLine input (source_bytes_left R.remaining lines.old) (codes "lines") →
         EndsAs result (IsTracedTo (party_of pace device) false input (W.contents writer.old) (W.contents writer.new)
         (IsDriveSwitchedOn M.seen (party_of pace device) stage.old.player stage.old.bus) (IsBorne M.seen stage.new.bus)) }
-    // At a fault a beginning of that was written.
     ensures fault { (input : Option (List ℕ)) → TakesLine input (source_bytes_left R.remaining lines.old) (codes "lines") →
         OnErr result (IsTracedPart (party_of pace device) false input (W.contents writer.old) (W.contents writer.new)
         (IsDriveSwitchedOn M.seen (party_of pace device) stage.old.player stage.old.bus)) }
     ensures tracks { tracks_of_drives M.seen stage.new.bus ≡ tracks_of_drives M.seen stage.old.bus }
-    // Whatever the drive represents:
     ensures wrote { (input : Option (List ℕ)) → IsFresh desk_shows (party_of pace device) stage.old.player stage.old.bus →
         TakesLine input (source_bytes_left R.remaining lines.old) (codes "lines") → EndsAs result
         (WritesTrace (party_of pace device) input (W.contents writer.old) (W.contents writer.new)) }
