@@ -8,6 +8,8 @@ use Rattle.cbm_directory.specs.EntryChanges.{fresh_entry, renamed_entry}
 use Rattle.cbm_directory.specs.Growth.{CannotGrow}
 use Rattle.cbm_directory.specs.Entries.{closed_entry, EntersLed}
 use Rattle.cbm_directory.specs.Slots.{Answers, directory_of}
+use Rattle.cbm_image.specs.Images.{kind_of, content_of}
+use Rattle.cbm_shell.specs.Images.{disk_tracks}
 use Rattle.cbm_shell.specs.Locking.{locked_entry}
 
 -- no sector, where a chain without a block begins
@@ -38,3 +40,17 @@ pub record IsDressed (tracks slot : ℕ) (name : List ℕ) (blocks : ℕ) (locke
   pub entry : List ℕ
   pub there : Answers (directory_of tracks old) slot (Ok (Some entry))
   pub entered : EntersLed tracks old new slot (dressed_entry name blocks locked entry)
+
+-- ---- of an image, and a new one of its format
+
+-- the directory of its disk is full, and can't grow
+abbrev pub IsImageFull : List ℕ → Type 0
+IsImageFull image = IsDirectoryFull (disk_tracks image) (content_of (kind_of image) image)
+
+-- the first empty slot of its disk has this entry in the new image
+abbrev pub HasEnteredIn : List ℕ → List ℕ → List ℕ → Type 0
+HasEnteredIn image entry new = HasEntered (disk_tracks image) (content_of (kind_of image) image) (content_of (kind_of image) new) entry
+
+-- the entry of a slot looks so in the new image
+abbrev pub IsDressedIn : List ℕ → ℕ → List ℕ → ℕ → Bool → List ℕ → Type 0
+IsDressedIn image slot name blocks locked new = IsDressed (disk_tracks image) slot name blocks locked (content_of (kind_of image) image) (content_of (kind_of image) new)

@@ -1,11 +1,14 @@
 -- Changes of a disk, as the drive makes them.
-use Rattle.std.specs.Prelude.{ℕ, ◌≡◌, ◌≤◌, ◌<◌, ◌⊎◌}
+use Rattle.std.specs.Prelude.{ℕ, ◌≡◌, ◌≤◌, ◌<◌, ◌⊎◌, Result, MatchResult}
 use Rattle.cbm_medium.specs.Content.{Content}
+use Rattle.cbm_medium.specs.Seen.{Seen}
+use Rattle.cbm_file.specs.Files.{Disk}
+use Rattle.cbm_volume.specs.Holding.{HoldsDisk}
 use Rattle.cbm_bam.specs.Map.{geometry_of}
 use Rattle.cbm_volume.specs.check.WholeDisk.{DiskFault}
 use Rattle.cbm_channel.specs.declared.Status.{Status}
 use Rattle.cbm_machine.specs.Codes.{code_number}
-use Rattle.cbm_machine.specs.Machines.{Machine}
+use Rattle.cbm_machine.specs.Machines.{Machine, start}
 use Rattle.cbm_machine.specs.Closing.{close}
 use Rattle.cbm_machine.specs.Calls.{after_open}
 use Rattle.cbm_talk.specs.Talks.{hear_bytes}
@@ -53,3 +56,11 @@ IsFaultOf tracks content f = ⊥
 -- the drive refused it
 abbrev pub IsStatusRefusal : ShellFault → Type 0
 IsStatusRefusal f = (s : Status) × (f ≡ fault.Refused s)
+
+-- A CHANGE IS MADE ON A MEDIUM, of each disk that it holds: the machine's status is fine, and the medium holds its disk; or the drive
+-- refused it
+abbrev pub MakesChange : {M : Type 0} → (M → Seen) → M → DiskChange → Result M ShellFault → Type 0
+MakesChange seen medium change result = (d : Disk) → HoldsDisk (seen medium).tracks (seen medium).content d → MatchResult result
+    (λ after. IsFine (disk_after_change change (start d (seen medium).protected (seen medium).tracks)).status
+    × HoldsDisk (seen after).tracks (seen after).content (disk_after_change change (start d (seen medium).protected (seen medium).tracks)).disk)
+    (IsUndone change (start d (seen medium).protected (seen medium).tracks))

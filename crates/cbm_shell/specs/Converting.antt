@@ -5,7 +5,7 @@ use Rattle.cbm_medium.specs.Content.{Cell, Content}
 use Rattle.cbm_medium.specs.declared.fault.Fault.{Fault}
 use Rattle.cbm_track.specs.Circle.{each_below}
 use Rattle.cbm_g64.specs.File.{g64_circles}
-use Rattle.cbm_g64.specs.Tracks.{or_zeros, id_for}
+use Rattle.cbm_g64.specs.Tracks.{G64State, or_zeros, id_for}
 use Rattle.cbm_image.specs.declared.kind.Kind.{Kind}
 use Rattle.cbm_image.specs.declared.kind.Kind.TheVariants.{D64, G64}
 use Rattle.cbm_image.specs.Images.{kind_of, content_of}
@@ -79,3 +79,7 @@ IsMistakable image = (kind_of image ≡ G64) × ((bytes : List ℕ) × (content_
 -- why an image isn't converted: its own fault or want of memory, or the new one would be taken for one of the old format
 abbrev pub IsConvertFault : List ℕ → ShellFault → Type 0
 IsConvertFault image f = IsOpenFault image f ⊎ ((f ≡ fault.Mistaken) × IsMistakable image)
+
+-- the disk of a G64 as it is opened: the circles of its 35 tracks, and its file
+abbrev pub circles_shown : List ℕ → G64State
+circles_shown image = record { tracks = g64_circles image 35; file = image; formatted = false; protected = false }

@@ -1,5 +1,5 @@
 -- Why the entries and the title of a disk aren't changed, where no command of the drive changes them.
-use Rattle.std.specs.Prelude.{ℕ, ◌≡◌, ◌≤◌, List, length, false, None, Ok, Err}
+use Rattle.std.specs.Prelude.{ℕ, ◌≡◌, ◌≤◌, List, length, false, None, Result, Ok, Err, OnOk}
 use Rattle.cbm_medium.specs.Place.{Place}
 use Rattle.cbm_medium.specs.Content.{Content}
 use Rattle.cbm_medium.specs.Links.{Chain}
@@ -12,7 +12,7 @@ use Rattle.cbm_volume.specs.check.WholeDisk.{DiskFault}
 use Rattle.cbm_image.specs.Images.{kind_of, tracks_of, content_of}
 use Rattle.cbm_shell.specs.declared.fault.ShellFault.{ShellFault}
 use Rattle.cbm_shell.specs.declared.fault.ShellFault.TheVariants as fault
-use Rattle.cbm_shell.specs.Images.{OrOpenFault}
+use Rattle.cbm_shell.specs.Images.{OrOpenFault, disk_tracks}
 
 -- the directory ends before this slot
 abbrev pub HasNoSlot : ℕ → Content → ℕ → Type 0
@@ -30,7 +30,7 @@ IsUneditedIn image absent = OrOpenFault image (IsUnedited (tracks_of (kind_of im
 
 -- the directory of an image's disk ends before this slot
 abbrev pub HasNoSlotIn : List ℕ → ℕ → Type 0
-HasNoSlotIn image slot = HasNoSlot (geometry_of (tracks_of (kind_of image) image) (content_of (kind_of image) image)) (content_of (kind_of image) image) slot
+HasNoSlotIn image slot = HasNoSlot (disk_tracks image) (content_of (kind_of image) image) slot
 
 -- ---- what private calls say
 
@@ -55,3 +55,7 @@ pub record IsSameMedium (old new : Seen) : Type 0 where
 pub record IsDirectory (tracks : ℕ) (content : Content) (sectors : List Place) : Type 0 where
   pub chain : Chain tracks content first_directory sectors
   pub short : length sectors ≤ 18
+
+-- where the directory can be followed, it can be followed after the call
+abbrev pub KeepsDirectory : {A : Type 0} → Result A ShellFault → ℕ → Content → Content → Type 0
+KeepsDirectory result tracks old new = (sectors : List Place) → IsDirectory tracks old sectors → OnOk result (IsDirectory tracks new sectors)

@@ -10,7 +10,7 @@ use Rattle.cbm_volume.specs.Sweeps.{IsPutInOrder}
 use Rattle.cbm_volume.specs.Layouts.{Layout, Sound}
 use Rattle.cbm_volume.specs.check.WholeDisk.{DiskFault}
 use Rattle.cbm_volume.specs.declared.Unsound.{Unsound}
-use Rattle.cbm_machine.specs.Machines.{Machine}
+use Rattle.cbm_machine.specs.Machines.{Machine, start}
 use Rattle.cbm_image.specs.declared.kind.Kind.{Kind}
 use Rattle.cbm_image.specs.Images.{kind_of, image_fault, tracks_of, content_of, ImageHolds}
 use Rattle.cbm_shell.specs.declared.changing.DiskChange.{DiskChange}
@@ -18,7 +18,7 @@ use Rattle.cbm_shell.specs.declared.fault.ShellFault.{ShellFault}
 use Rattle.cbm_shell.specs.declared.fault.ShellFault.TheVariants as fault
 use Rattle.cbm_shell.specs.Reading.{IsGetFault}
 use Rattle.cbm_shell.specs.Listing.{IsUnlisted}
-use Rattle.cbm_shell.specs.Changing.{IsUndone}
+use Rattle.cbm_shell.specs.Changing.{disk_after_change, IsFine, IsUndone}
 
 -- the disk of an image: it shows what the image is, and can be written
 pub record IsImageOpened (image : List ℕ) (seen : Seen) : Type 0 where
@@ -93,3 +93,23 @@ pub record IsInOrder (kind : Kind) (image : List ℕ) : Type 0 where
 -- between the images nothing has changed but what VALIDATE changes
 abbrev pub IsImageInOrder : Kind → List ℕ → List ℕ → Type 0
 IsImageInOrder kind old new = IsPutInOrder (geometry_of (tracks_of kind old) (content_of kind old)) (content_of kind old) (content_of kind new)
+
+-- how many tracks the disk of an image has, as its map says
+abbrev pub disk_tracks : List ℕ → ℕ
+disk_tracks image = geometry_of (tracks_of (kind_of image) image) (content_of (kind_of image) image)
+
+-- this holds of each disk that an image holds
+abbrev pub OfHeld : List ℕ → (Disk → Type 0) → Type 0
+OfHeld image P = (d : Disk) → ImageHolds (kind_of image) image d → P d
+
+-- the machine at power up, with the disk of an image that can be written
+abbrev pub machine_on : List ℕ → Disk → Machine
+machine_on image d = start d false (tracks_of (kind_of image) image)
+
+-- A CHANGE WAS MADE between an image and a new one of its format: the machine's status is fine, and the new image holds its disk
+abbrev pub HasChanged : List ℕ → DiskChange → Disk → List ℕ → Type 0
+HasChanged image change d new = IsFine (disk_after_change change (machine_on image d)).status × ImageHolds (kind_of image) new (disk_after_change change (machine_on image d)).disk
+
+-- the disk of an image is sound, or this is its first fault
+abbrev pub IsCheckedImage : List ℕ → Result (Unit {0}) Unsound → Type 0
+IsCheckedImage image check = IsChecked (tracks_of (kind_of image) image) (content_of (kind_of image) image) check

@@ -8,7 +8,9 @@ use Rattle.cbm_file.specs.Files.{Disk}
 use Rattle.cbm_directory.specs.Entries.{type_byte, bit_of, EntersLed}
 use Rattle.cbm_directory.specs.Slots.{Answers, directory_of}
 use Rattle.cbm_channel.specs.Sought.{is_sought}
+use Rattle.cbm_image.specs.Images.{kind_of, content_of}
 use Rattle.cbm_shell.specs.Editing.{HasNoSlot}
+use Rattle.cbm_shell.specs.Images.{disk_tracks}
 
 -- two answers that aren't the same
 abbrev pub is_other : Bool → Bool → Bool
@@ -69,3 +71,17 @@ titled title content = written content directory_head (with_title title (bytes_a
 -- a disk with another title
 abbrev pub entitled : List ℕ → Disk → Disk
 entitled title d = record d { title = padded title }
+
+-- ---- of an image, and a new one of its format
+
+-- the files that the patterns mean are locked or freed in the new image
+abbrev pub LocksAllIn : List ℕ → List (List ℕ) → Bool → List ℕ → Type 0
+LocksAllIn image patterns locked new = LocksAll patterns locked (disk_tracks image) (content_of (kind_of image) image) (content_of (kind_of image) new)
+
+-- the new image has the title
+abbrev pub IsRetitled : List ℕ → List ℕ → List ℕ → Type 0
+IsRetitled image title new = content_of (kind_of image) new ≡ titled title (content_of (kind_of image) image)
+
+-- the file in a slot is locked or freed, if its name matches; or the directory ends before the slot, and nothing has changed
+abbrev pub LocksOrEnds : Bool → ℕ → List ℕ → ℕ → Content → Content → Bool → Type 0
+LocksOrEnds locked tracks pattern number old new b = MatchBool b (LocksSlot locked tracks pattern number old new) (HasNoSlot tracks old number × (new ≡ old))

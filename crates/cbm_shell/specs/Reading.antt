@@ -1,6 +1,11 @@
 -- Taking a file out of a disk.
 use Rattle.std.specs.Prelude.{ℕ, ◌≡◌, ◌⊎◌, List, true, false, Option, Some, None, Ok, Err}
+use Rattle.cbm_medium.specs.Place.{sector_count}
+use Rattle.cbm_medium.specs.Seen.{Seen}
 use Rattle.cbm_medium.specs.declared.fault.Trouble.{Trouble}
+use Rattle.cbm_bam.specs.Map.{geometry_of}
+use Rattle.cbm_directory.specs.Entries.{first_block}
+use Rattle.cbm_volume.specs.Reading.{RestOfFile, held_from}
 use Rattle.cbm_file.specs.declared.file_type.FileType.TheVariants.{Rel}
 use Rattle.cbm_file.specs.Types.{is_same_type}
 use Rattle.cbm_file.specs.Files.{File, Disk, bytes_in}
@@ -45,3 +50,7 @@ IsGetFault d pattern (fault.Image n) = ⊥
 IsGetFault d pattern (fault.Unsound u) = ⊥
 IsGetFault d pattern (fault.Refused s) = ⊥
 IsGetFault d pattern fault.Mistaken = ⊥
+
+-- what the chain of an entry holds, over what a medium shows
+abbrev pub file_held : Seen → List ℕ → RestOfFile
+file_held now entry = held_from (geometry_of now.tracks now.content) now.content (sector_count (geometry_of now.tracks now.content)) (first_block entry)

@@ -2,11 +2,13 @@
 use Rattle.std.specs.Prelude.{ℕ, ◌≡◌, ◌⊎◌, List, [], ◌∷◌, Some, Ok}
 use Rattle.cbm_medium.specs.Content.{Content}
 use Rattle.cbm_directory.specs.Entries.{EntersLed}
-use Rattle.cbm_bam.specs.Map.{geometry_of}
 use Rattle.cbm_directory.specs.Slots.{Answers, directory_of}
-use Rattle.cbm_image.specs.Images.{kind_of, tracks_of, content_of}
+use Rattle.cbm_image.specs.Images.{kind_of, content_of}
 use Rattle.cbm_shell.specs.declared.changing.swapping.Swap.{Swap}
+use Rattle.cbm_shell.specs.declared.fault.ShellFault.{ShellFault}
+use Rattle.cbm_shell.specs.declared.fault.ShellFault.TheVariants as fault
 use Rattle.cbm_shell.specs.Editing.{HasNoSlot}
+use Rattle.cbm_shell.specs.Images.{disk_tracks}
 
 -- TWO ENTRIES CHANGE PLACES: each slot has the thirty bytes of the other, and nothing else is changed.
 pub record Swaps (tracks : ℕ) (swap : Swap) (old new : Content) : Type 0 where
@@ -30,4 +32,12 @@ MissesSlot tracks content (swap ∷ rest) = HasNoSlot tracks content swap.first 
 
 -- the same of an image's disk
 abbrev pub MissesSlotIn : List ℕ → List Swap → Type 0
-MissesSlotIn image swaps = MissesSlot (geometry_of (tracks_of (kind_of image) image) (content_of (kind_of image) image)) (content_of (kind_of image) image) swaps
+MissesSlotIn image swaps = MissesSlot (disk_tracks image) (content_of (kind_of image) image) swaps
+
+-- between an image and a new one of its format the entries have changed places
+abbrev pub AreSwappedIn : List ℕ → List Swap → List ℕ → Type 0
+AreSwappedIn image swaps new = AreSwapped (disk_tracks image) swaps (content_of (kind_of image) image) (content_of (kind_of image) new)
+
+-- one of the two slots isn't there
+abbrev pub MissesOne : ℕ → Content → Swap → ShellFault → Type 0
+MissesOne tracks content swap f = (f ≡ fault.NotFound) × (HasNoSlot tracks content swap.first ⊎ HasNoSlot tracks content swap.second)

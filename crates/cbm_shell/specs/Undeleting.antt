@@ -10,7 +10,9 @@ use Rattle.cbm_directory.specs.Slots.{Answers, directory_of}
 use Rattle.cbm_shell.specs.Mapping.{chain_of, entries_shown, free_by, is_among, used_in}
 use Rattle.cbm_shell.specs.Geos.{border_in, in_geos}
 use Rattle.cbm_shell.specs.Lost.{lost_of}
+use Rattle.cbm_image.specs.Images.{kind_of, content_of}
 use Rattle.cbm_shell.specs.Editing.{HasNoSlot}
+use Rattle.cbm_shell.specs.Images.{disk_tracks}
 
 -- the entry with a type, closed, and all else as it was
 abbrev pub restored_entry : FileType → List ℕ → List ℕ
@@ -71,3 +73,13 @@ pub record IsUndeleted (tracks : ℕ) (old new : Content) (slot : ℕ) (kind : F
   pub deleted : IsDeleted tracks old slot entry
   pub clear : IsClear tracks old entry
   pub given : IsGivenAgain tracks old new slot kind entry
+
+-- ---- of an image, and a new one of its format
+
+-- nothing is given back of its disk, and why
+abbrev pub IsNotGivenIn : List ℕ → ℕ → Type 0
+IsNotGivenIn image slot = IsNotGiven (disk_tracks image) (content_of (kind_of image) image) slot
+
+-- the deleted file of a slot is given back in the new image
+abbrev pub IsUndeletedIn : List ℕ → List ℕ → ℕ → FileType → Type 0
+IsUndeletedIn image new slot kind = IsUndeleted (disk_tracks image) (content_of (kind_of image) image) (content_of (kind_of image) new) slot kind

@@ -4,12 +4,11 @@ ghost use Rattle.cbm_machine.specs.Codes.{code_number};
 ghost use Rattle.cbm_machine.specs.Machines.{Machine};
 ghost use Rattle.cbm_channel.specs.Standing.{Stands};
 ghost use Rattle.cbm_channel.specs.Going.{KeepsMedium};
-ghost use Rattle.cbm_machine.specs.Machines.{start};
 ghost use Rattle.cbm_file.specs.Files.{Disk};
 ghost use Rattle.cbm_volume.specs.Holding.{HoldsDisk};
 ghost use Rattle.cbm_shell.specs.Images.{IsSoundDisk};
 ghost use Rattle.cbm_shell.specs.Editing.{IsUnedited};
-ghost use Rattle.cbm_shell.specs.Changing.{disk_after_change, IsFine, IsUndone, IsStatusRefusal, IsFaultOf};
+ghost use Rattle.cbm_shell.specs.Changing.{disk_after_change, IsFine, IsUndone, IsStatusRefusal, IsFaultOf, MakesChange};
 
 pub(crate) mod art;
 pub(crate) mod locking;
@@ -96,15 +95,10 @@ pub(crate) fn require_sound<M: Medium>(volume: &Volume<M>) -> Result<(), ShellFa
 /// Makes a change on a disk, if it is sound. Errors: `Unsound`, and then nothing was changed; `Refused` with the drive's
 /// status.
 pub fn changed<M: Steady + Drop>(medium: M, change: &DiskChange<'_>) -> Result<M, ShellFault>
-    ensures made { let old = M.seen medium in (d : Disk) → HoldsDisk old.tracks old.content d →
-        let m = start d old.protected old.tracks in MatchResult result
-        (λ after. IsFine (disk_after_change change.now m).status
-        × HoldsDisk (M.seen after).tracks (M.seen after).content (disk_after_change change.now m).disk)
-        (IsUndone change.now m) }
+    ensures made { MakesChange M.seen medium change.now result }
     // Of any disk:
-    ensures sound { let old = M.seen medium in
-        OnOk result (IsSoundDisk old.tracks old.content) }
-    ensures fault { let old = M.seen medium in IfErr result (IsFaultOf old.tracks old.content) }
+    ensures sound { OnOk result (IsSoundDisk (M.seen medium).tracks (M.seen medium).content) }
+    ensures fault { IfErr result (IsFaultOf (M.seen medium).tracks (M.seen medium).content) }
     ensures same_tracks { IfOk result (λ after. (M.seen after).tracks ≡ (M.seen medium).tracks) }
     ensures same_protection { IfOk result (λ after. (M.seen after).protected ≡ (M.seen medium).protected) }
 {

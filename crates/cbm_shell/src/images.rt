@@ -6,8 +6,7 @@ ghost use Rattle.cbm_bam.specs.Map.{geometry_of};
 ghost use Rattle.cbm_image.specs.Images.{kind_of, image_fault, tracks_of, content_of, ImageHolds};
 ghost use Rattle.cbm_shell.specs.Reading.{Gets};
 ghost use Rattle.cbm_shell.specs.Listing.{IsListing, IsSent};
-ghost use Rattle.cbm_shell.specs.Changing.{disk_after_change, IsFine};
-ghost use Rattle.cbm_shell.specs.Images.{IsImageOpened, IsSaved, IsOpenFault, IsFailed, IsLost, IsSoundImage, IsHidden, IsChecked, IsOrderlyDisk, IsInOrder, IsImageInOrder};
+ghost use Rattle.cbm_shell.specs.Images.{IsImageOpened, IsSaved, IsOpenFault, IsFailed, IsLost, IsSoundImage, IsHidden, IsChecked, IsOrderlyDisk, IsInOrder, IsImageInOrder, OfHeld, machine_on, HasChanged};
 ghost use Rattle.cbm_volume.specs.Sweeps.{IsPutInOrder};
 ghost use Rattle.cbm_shell.specs.Freeing.{AreFreed, AreGivenBack};
 
@@ -61,10 +60,8 @@ fn change_in<I: DiskImage + Drop>(
     change: &DiskChange<'_>,
 ) -> Result<Vec<u8>, ShellFault>
     requires { kind_of image.now ≡ I.kind }
-    ensures made { let kind = kind_of image.now in (d : Disk) → ImageHolds kind image.now d →
-        let m = start d false (tracks_of kind image.now) in MatchResult result
-        (λ v. IsFine (disk_after_change change.now m).status × ImageHolds kind v.items (disk_after_change change.now m).disk)
-        (IsFailed image.now change.now m) }
+    ensures made { OfHeld image.now (λ d. MatchResult result (λ v. HasChanged image.now change.now d v.items)
+        (IsFailed image.now change.now (machine_on image.now d))) }
     ensures sound { OnOk result (IsSoundImage (kind_of image.now) image.now) }
     ensures opens { IfOk result (λ v. image_fault (kind_of image.now) v.items ≡ None) }
 {
@@ -76,13 +73,10 @@ fn change_in<I: DiskImage + Drop>(
 /// Makes a change on the disk of an image, and gives the image as it is then. Errors: `Image`; `Unsound`, with what is
 /// wrong first; `Refused`, with the drive's status; `Memory`.
 pub fn change(alloc: Global, image: &[u8], change: &DiskChange<'_>) -> Result<Vec<u8>, ShellFault>
-    ensures made { let kind = kind_of image.now in (d : Disk) → ImageHolds kind image.now d →
-        let m = start d false (tracks_of kind image.now) in MatchResult result
-        (λ v. IsFine (disk_after_change change.now m).status × ImageHolds kind v.items (disk_after_change change.now m).disk)
-        (IsFailed image.now change.now m) }
-    // An image that isn't sound gives no new one.
+    ensures made { OfHeld image.now (λ d. MatchResult result (λ v. HasChanged image.now change.now d v.items)
+        (IsFailed image.now change.now (machine_on image.now d))) }
+    // An image that isn't sound gives no new one, and the new image opens again.
     ensures sound { OnOk result (IsSoundImage (kind_of image.now) image.now) }
-    // The new image opens again.
     ensures opens { IfOk result (λ v. image_fault (kind_of image.now) v.items ≡ None) }
 {
     match kind_of(image) {

@@ -6,13 +6,13 @@ ghost use Rattle.cbm_bam.specs.Map.{geometry_of};
 ghost use Rattle.cbm_volume.specs.Holding.{HasBytes, EntryStandsAt};
 ghost use Rattle.cbm_image.specs.Images.{kind_of, tracks_of, ImageHolds};
 ghost use Rattle.cbm_shell.specs.Converting.{content_held};
-ghost use Rattle.cbm_shell.specs.Images.{IsChecked, IsOpenFault, OrOpenFault};
+ghost use Rattle.cbm_shell.specs.Images.{IsOpenFault, OrOpenFault, OfHeld, IsCheckedImage};
 ghost use Rattle.cbm_shell.specs.Reading.{IsReadFault};
 ghost use Rattle.cbm_bam.specs.Marks.{is_marked};
 ghost use Rattle.cbm_shell.specs.Geos.{geos_blocks};
 ghost use Rattle.cbm_directory.specs.Entries.{first_block};
 ghost use Rattle.cbm_shell.specs.Mapping.{picture_of, chain_of, is_among};
-ghost use Rattle.cbm_shell.specs.Sectors.{faults_in};
+ghost use Rattle.cbm_shell.specs.Sectors.{faults_shown};
 
 mod facts;
 mod freeing;
@@ -75,13 +75,11 @@ pub fn file_of(alloc: Global, image: &[u8], entry: &Entry) -> Result<Vec<u8>, Sh
 /// What the disk of an image of one format is.
 fn info_in<I: DiskImage + Drop>(alloc: Global, image: &[u8]) -> Result<Info, ShellFault>
     requires { kind_of image.now ≡ I.kind }
-    ensures faults { IfOk result (λ info. info.unreadable.items
-        ≡ faults_in (content_held image.now) (tracks_of (kind_of image.now) image.now)) }
+    ensures faults { IfOk result (λ info. info.unreadable.items ≡ faults_shown image.now) }
     ensures tracks { IfOk result (λ info. info.tracks ≡ tracks_of (kind_of image.now) image.now) }
-    ensures check { IfOk result (λ info.
-        IsChecked (tracks_of (kind_of image.now) image.now) (content_held image.now) info.check) }
-    ensures means { (d : Disk) → ImageHolds (kind_of image.now) image.now d →
-        IfOk result (λ info. (info.label ≡ Some (record { title = d.title; mark = d.mark })) × (info.free ≡ Some d.free)) }
+    ensures check { IfOk result (λ info. IsCheckedImage image.now info.check) }
+    ensures means { OfHeld image.now (λ d. IfOk result (λ info.
+        (info.label ≡ Some (record { title = d.title; mark = d.mark })) × (info.free ≡ Some d.free))) }
     ensures err { IfErr result (IsOpenFault image.now) }
 {
     let disk = opened::<I>(alloc, image)?;
@@ -92,14 +90,11 @@ fn info_in<I: DiskImage + Drop>(alloc: Global, image: &[u8]) -> Result<Info, She
 /// What the disk of an image is. Errors: `Image`, `Memory`.
 pub fn info(alloc: Global, image: &[u8]) -> Result<Info, ShellFault>
     // The sectors that don't read, in order.
-    ensures faults { IfOk result (λ info. info.unreadable.items
-        ≡ faults_in (content_held image.now) (tracks_of (kind_of image.now) image.now)) }
+    ensures faults { IfOk result (λ info. info.unreadable.items ≡ faults_shown image.now) }
     ensures tracks { IfOk result (λ info. info.tracks ≡ tracks_of (kind_of image.now) image.now) }
-    ensures check { IfOk result (λ info.
-        IsChecked (tracks_of (kind_of image.now) image.now) (content_held image.now) info.check) }
-    // Of a sound disk the title, the id, and how many blocks are free.
-    ensures means { (d : Disk) → ImageHolds (kind_of image.now) image.now d →
-        IfOk result (λ info. (info.label ≡ Some (record { title = d.title; mark = d.mark })) × (info.free ≡ Some d.free)) }
+    ensures check { IfOk result (λ info. IsCheckedImage image.now info.check) }
+    ensures means { OfHeld image.now (λ d. IfOk result (λ info.
+        (info.label ≡ Some (record { title = d.title; mark = d.mark })) × (info.free ≡ Some d.free))) }
     ensures err { IfErr result (IsOpenFault image.now) }
 {
     match kind_of(image) {

@@ -1,12 +1,11 @@
 //! Giving back a file that was deleted.
-ghost use Rattle.std.specs.Prelude.{◌≡◌, ◌≤◌, true, Some, None, Ok, IfOk, IfSome, OnOk, MatchBool, MatchOption};
+ghost use Rattle.std.specs.Prelude.{◌≡◌, ◌≤◌, None, IfOk, IfSome, OnOk, MatchBool, MatchOption};
 ghost use Rattle.cbm_bam.specs.Marks.{is_marked};
 ghost use Rattle.cbm_bam.specs.Map.{geometry_of};
 ghost use Rattle.cbm_directory.specs.Entries.{EntersLed};
-ghost use Rattle.cbm_directory.specs.Slots.{directory_of};
-ghost use Rattle.cbm_image.specs.Images.{kind_of, image_fault, tracks_of, content_of};
-ghost use Rattle.cbm_shell.specs.Mapping.{chain_of, entries_shown, is_among};
-ghost use Rattle.cbm_shell.specs.Undeleting.{restored_entry, all_blocks_free, held_with, HasNoDeleted, IsDeleted, IsMapAnew, IsClear, IsInTheWay, IsNotGiven, IsGivenAgain, IsUndeleted};
+ghost use Rattle.cbm_image.specs.Images.{kind_of, image_fault};
+ghost use Rattle.cbm_shell.specs.Mapping.{chain_of, is_among};
+ghost use Rattle.cbm_shell.specs.Undeleting.{restored_entry, all_blocks_free, held_with, HasNoDeleted, IsDeleted, IsMapAnew, IsClear, IsInTheWay, IsNotGiven, IsGivenAgain, IsUndeleted, IsNotGivenIn, IsUndeletedIn};
 ghost use Rattle.cbm_shell.specs.Images.{IsSaved, IsSoundDisk, IsSoundImage};
 
 use crate::broken::flaws::lost_of;
@@ -203,10 +202,8 @@ fn undelete_in<I: DiskImage + Drop>(
     kind: FileType,
 ) -> Result<Option<Vec<u8>>, ShellFault>
     requires { kind_of image.now ≡ I.kind }
-    ensures given { let format = kind_of image.now in
-        let tracks = geometry_of (tracks_of format image.now) (content_of format image.now) in
-        IfOk result (λ o. MatchOption o (IsNotGiven tracks (content_of format image.now) slot) (λ v.
-        IsUndeleted tracks (content_of format image.now) (content_of format v.items) slot kind)) }
+    ensures given { IfOk result (λ o. MatchOption o (IsNotGivenIn image.now slot)
+        (λ v. IsUndeletedIn image.now v.items slot kind)) }
     ensures sound { IfOk result (λ o. IfSome o (λ v. IsSoundImage (kind_of image.now) v.items)) }
     ensures opens { IfOk result (λ o. IfSome o (λ v. image_fault (kind_of image.now) v.items ≡ None)) }
 {
@@ -229,11 +226,9 @@ pub fn undelete(
     kind: FileType,
 ) -> Result<Option<Vec<u8>>, ShellFault>
     // The entry has its type, the BAM has its blocks as taken, and nothing else of the image is changed; None has its reason.
-    ensures given { let format = kind_of image.now in
-        let tracks = geometry_of (tracks_of format image.now) (content_of format image.now) in
-        IfOk result (λ o. MatchOption o (IsNotGiven tracks (content_of format image.now) slot) (λ v.
-        IsUndeleted tracks (content_of format image.now) (content_of format v.items) slot kind)) }
-    // The new image is sound, and opens again.
+    // The entry has its type, the BAM has its blocks as taken, and nothing else of the image is changed; None has its reason.
+    ensures given { IfOk result (λ o. MatchOption o (IsNotGivenIn image.now slot)
+        (λ v. IsUndeletedIn image.now v.items slot kind)) }
     ensures sound { IfOk result (λ o. IfSome o (λ v. IsSoundImage (kind_of image.now) v.items)) }
     ensures opens { IfOk result (λ o. IfSome o (λ v. image_fault (kind_of image.now) v.items ≡ None)) }
 {

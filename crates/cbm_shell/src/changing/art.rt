@@ -4,11 +4,10 @@ ghost use Rattle.std.specs.Prelude.{◌≡◌, ◌≤◌, None, length, IfOk, If
 ghost use Rattle.cbm_medium.specs.Place.{Place};
 ghost use Rattle.cbm_medium.specs.Content.{IsWhole};
 ghost use Rattle.cbm_bam.specs.Map.{geometry_of};
-ghost use Rattle.cbm_image.specs.Images.{kind_of, image_fault, tracks_of, content_of};
-ghost use Rattle.cbm_directory.specs.Slots.{Answers, directory_of};
+ghost use Rattle.cbm_image.specs.Images.{kind_of, image_fault};
 ghost use Rattle.cbm_shell.specs.Images.{IsSoundImage};
 ghost use Rattle.cbm_shell.specs.Editing.{CanBeEdited, HasNoSlot, HasNoSlotIn, IsUnedited, IsUneditedIn};
-ghost use Rattle.cbm_shell.specs.Art.{art_entry, dressed_entry, HasEntered, IsDressed, IsDirectoryFull};
+ghost use Rattle.cbm_shell.specs.Art.{art_entry, dressed_entry, HasEntered, IsDressed, IsDirectoryFull, IsImageFull, HasEnteredIn, IsDressedIn};
 
 use crate::changing::locking::{entry_of, locked_entry};
 use crate::changing::require_sound;
@@ -71,11 +70,8 @@ fn add_art_in<I: DiskImage + Drop>(
 ) -> Result<Option<Vec<u8>>, ShellFault>
     requires kind { kind_of image.now ≡ I.kind }
     requires short { length looks.name.now ≤ 16 }
-    ensures enters { let kind = kind_of image.now in
-        let tracks = geometry_of (tracks_of kind image.now) (content_of kind image.now) in
-        IfOk result (λ o. MatchOption o (IsDirectoryFull tracks (content_of kind image.now))
-        (λ v. HasEntered tracks (content_of kind image.now) (content_of kind v.items)
-        (art_entry looks.entry.name.now looks.entry.blocks looks.entry.is_locked))) }
+    ensures enters { IfOk result (λ o. MatchOption o (IsImageFull image.now) (λ v. HasEnteredIn image.now
+        (art_entry looks.entry.name.now looks.entry.blocks looks.entry.is_locked) v.items)) }
     ensures sound { OnOk result (IsSoundImage (kind_of image.now) image.now) }
     ensures stays { IfOk result (λ o. IfSome o (λ v. IsSoundImage (kind_of image.now) v.items)) }
     ensures opens { IfOk result (λ o. IfSome o (λ v. image_fault (kind_of image.now) v.items ≡ None)) }
@@ -95,14 +91,10 @@ pub fn add_art(alloc: Global, image: &[u8], looks: Looks<'_>) -> Result<Option<V
     requires { length looks.name.now ≤ 16 }
     // The first empty slot has the entry, and nothing else of the image is changed, but that the directory has grown
     // where no slot was empty.
-    ensures enters { let kind = kind_of image.now in
-        let tracks = geometry_of (tracks_of kind image.now) (content_of kind image.now) in
-        IfOk result (λ o. MatchOption o (IsDirectoryFull tracks (content_of kind image.now))
-        (λ v. HasEntered tracks (content_of kind image.now) (content_of kind v.items)
-        (art_entry looks.entry.name.now looks.entry.blocks looks.entry.is_locked))) }
-    // An image that isn't sound gives no new one.
+    ensures enters { IfOk result (λ o. MatchOption o (IsImageFull image.now) (λ v. HasEnteredIn image.now
+        (art_entry looks.entry.name.now looks.entry.blocks looks.entry.is_locked) v.items)) }
+    // An image that isn't sound gives no new one; the new image is sound, and opens again.
     ensures sound { OnOk result (IsSoundImage (kind_of image.now) image.now) }
-    // The new image is sound, and opens again.
     ensures stays { IfOk result (λ o. IfSome o (λ v. IsSoundImage (kind_of image.now) v.items)) }
     ensures opens { IfOk result (λ o. IfSome o (λ v. image_fault (kind_of image.now) v.items ≡ None)) }
     ensures fault { IfErr result (IsUneditedIn image.now ⊥) }
@@ -151,10 +143,8 @@ fn dress_in<I: DiskImage + Drop>(
 ) -> Result<Vec<u8>, ShellFault>
     requires kind { kind_of image.now ≡ I.kind }
     requires short { length looks.name.now ≤ 16 }
-    ensures dressed { let kind = kind_of image.now in
-        let tracks = geometry_of (tracks_of kind image.now) (content_of kind image.now) in
-        IfOk result (λ v. IsDressed tracks slot looks.entry.name.now looks.entry.blocks looks.entry.is_locked (content_of kind image.now)
-        (content_of kind v.items)) }
+    ensures dressed { IfOk result (λ v.
+        IsDressedIn image.now slot looks.entry.name.now looks.entry.blocks looks.entry.is_locked v.items) }
     ensures sound { OnOk result (IsSoundImage (kind_of image.now) image.now) }
     ensures stays { IfOk result (λ v. IsSoundImage (kind_of image.now) v.items) }
     ensures opens { IfOk result (λ v. image_fault (kind_of image.now) v.items ≡ None) }
@@ -171,13 +161,10 @@ fn dress_in<I: DiskImage + Drop>(
 pub fn dress(alloc: Global, image: &[u8], slot: u8, looks: Looks<'_>) -> Result<Vec<u8>, ShellFault>
     requires { length looks.name.now ≤ 16 }
     // The entry's name, its number of blocks and its lock are others, and nothing else of the image.
-    ensures dressed { let kind = kind_of image.now in
-        let tracks = geometry_of (tracks_of kind image.now) (content_of kind image.now) in
-        IfOk result (λ v. IsDressed tracks slot looks.entry.name.now looks.entry.blocks looks.entry.is_locked (content_of kind image.now)
-        (content_of kind v.items)) }
-    // An image that isn't sound gives no new one.
+    ensures dressed { IfOk result (λ v.
+        IsDressedIn image.now slot looks.entry.name.now looks.entry.blocks looks.entry.is_locked v.items) }
+    // An image that isn't sound gives no new one; the new image is sound, and opens again.
     ensures sound { OnOk result (IsSoundImage (kind_of image.now) image.now) }
-    // The new image is sound, and opens again.
     ensures stays { IfOk result (λ v. IsSoundImage (kind_of image.now) v.items) }
     ensures opens { IfOk result (λ v. image_fault (kind_of image.now) v.items ≡ None) }
     ensures fault { IfErr result (IsUneditedIn image.now (HasNoSlotIn image.now slot)) }

@@ -1,10 +1,10 @@
 //! Locking files against SCRATCH, and another title: two changes that no command of the drive makes.
-ghost use Rattle.std.specs.Prelude.{◌≡◌, ◌<◌, ◌≤◌, None, true, map, IfOk, IfErr, IsOk, OnOk, MatchBool};
+ghost use Rattle.std.specs.Prelude.{◌≡◌, ◌<◌, ◌≤◌, None, true, map, IfOk, IfErr, IsOk, OnOk};
 ghost use Rattle.cbm_bam.specs.Map.{geometry_of};
-ghost use Rattle.cbm_image.specs.Images.{kind_of, image_fault, tracks_of, content_of};
+ghost use Rattle.cbm_image.specs.Images.{kind_of, image_fault};
 ghost use Rattle.cbm_shell.specs.Images.{IsSoundImage};
-ghost use Rattle.cbm_shell.specs.Editing.{CanBeEdited, HasNoSlot, IsSameMedium, IsUneditedIn};
-ghost use Rattle.cbm_shell.specs.Locking.{is_other, is_unlike, lock_bit, locked_type, locked_entry, LocksSlot, LocksEach, LocksAll};
+ghost use Rattle.cbm_shell.specs.Editing.{CanBeEdited, IsSameMedium, IsUneditedIn};
+ghost use Rattle.cbm_shell.specs.Locking.{is_other, is_unlike, lock_bit, locked_type, locked_entry, LocksEach, LocksAll, LocksAllIn, LocksOrEnds};
 
 use crate::changing::require_sound;
 use crate::fault::ShellFault;
@@ -82,9 +82,8 @@ fn lock_slot<M: Steady>(
     is_locked: bool,
 ) -> Result<bool, ShellFault>
     requires { geometry ≤ (M.seen medium.old).tracks }
-    ensures locks { let old = (M.seen medium.old).content in let new = (M.seen medium.new).content in
-        IfOk result (λ b. MatchBool b (LocksSlot is_locked geometry pattern.now number old new)
-        (HasNoSlot geometry old number × (new ≡ old))) }
+    ensures locks { IfOk result (LocksOrEnds is_locked geometry pattern.now number
+        (M.seen medium.old).content (M.seen medium.new).content) }
     ensures few { IfOk result (λ b. b ≡ true → number < 144) }
     ensures same { IsSameMedium (M.seen medium.old) (M.seen medium.new) }
     ensures never { CanBeEdited geometry (M.seen medium.old) → IsOk result }
@@ -163,9 +162,7 @@ fn lock_in<I: DiskImage + Drop>(
     is_locked: bool,
 ) -> Result<Vec<u8>, ShellFault>
     requires { kind_of image.now ≡ I.kind }
-    ensures locks { let kind = kind_of image.now in
-        let tracks = geometry_of (tracks_of kind image.now) (content_of kind image.now) in IfOk result (λ v.
-        LocksAll (map (λ r. r.now) patterns.now) is_locked tracks (content_of kind image.now) (content_of kind v.items)) }
+    ensures locks { IfOk result (λ v. LocksAllIn image.now (map (λ r. r.now) patterns.now) is_locked v.items) }
     ensures sound { OnOk result (IsSoundImage (kind_of image.now) image.now) }
     ensures stays { IfOk result (λ v. IsSoundImage (kind_of image.now) v.items) }
     ensures opens { IfOk result (λ v. image_fault (kind_of image.now) v.items ≡ None) }
@@ -186,12 +183,9 @@ pub fn lock(
     is_locked: bool,
 ) -> Result<Vec<u8>, ShellFault>
     // Of each file that matches one bit of its entry is so, and nothing else of the image is changed.
-    ensures locks { let kind = kind_of image.now in
-        let tracks = geometry_of (tracks_of kind image.now) (content_of kind image.now) in IfOk result (λ v.
-        LocksAll (map (λ r. r.now) patterns.now) is_locked tracks (content_of kind image.now) (content_of kind v.items)) }
-    // An image that isn't sound gives no new one.
+    // Of each file that matches one bit of its entry is so, and nothing else of the image is changed.
+    ensures locks { IfOk result (λ v. LocksAllIn image.now (map (λ r. r.now) patterns.now) is_locked v.items) }
     ensures sound { OnOk result (IsSoundImage (kind_of image.now) image.now) }
-    // The new image is sound, and opens again.
     ensures stays { IfOk result (λ v. IsSoundImage (kind_of image.now) v.items) }
     ensures opens { IfOk result (λ v. image_fault (kind_of image.now) v.items ≡ None) }
     ensures fault { IfErr result (IsUneditedIn image.now ⊥) }

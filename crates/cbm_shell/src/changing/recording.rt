@@ -1,15 +1,12 @@
 //! Relative files, made as the drive makes them.
-ghost use Rattle.std.specs.Prelude.{◌≡◌, ◌≤◌, ℕ, None, map, take, false, MatchResult, IfErr, IfOk, IsOk, OnOk};
-ghost use Rattle.cbm_machine.specs.Codes.{code_number};
-ghost use Rattle.cbm_machine.specs.Machines.{Machine, start};
+ghost use Rattle.std.specs.Prelude.{◌≡◌, ◌≤◌, None, map, MatchResult, IfErr, IfOk, OnOk};
+ghost use Rattle.cbm_machine.specs.Machines.{Machine};
 ghost use Rattle.cbm_channel.specs.Standing.{Stands, Leads};
 ghost use Rattle.cbm_channel.specs.Going.{KeepsMedium};
-ghost use Rattle.cbm_file.specs.Files.{Disk};
-ghost use Rattle.cbm_volume.specs.Holding.{HoldsDisk};
-ghost use Rattle.cbm_image.specs.Images.{kind_of, image_fault, tracks_of, ImageHolds};
-ghost use Rattle.cbm_shell.specs.Images.{IsSoundDisk, IsSoundImage};
+ghost use Rattle.cbm_image.specs.Images.{kind_of, image_fault};
+ghost use Rattle.cbm_shell.specs.Images.{IsSoundDisk, IsSoundImage, OfHeld, machine_on};
 ghost use Rattle.cbm_shell.specs.Changing.{IsFine, IsStatusRefusal};
-ghost use Rattle.cbm_shell.specs.Recording.{hear_records, after_records, AreRecordsUnmade, IsUnmadeIn, IsStoppedAt};
+ghost use Rattle.cbm_shell.specs.Recording.{hear_records, after_records, AreRecordsUnmade, IsUnmadeIn, IsStoppedAt, MakesRecords, HasRecorded};
 
 use crate::changing::{require_sound, told};
 use crate::fault::ShellFault;
@@ -69,14 +66,8 @@ fn record_on<M: Steady>(dos: &mut Dos<M>, file: Records<'_>) -> Result<(), Shell
 
 /// A disk with a relative file more, if it is sound. Errors: `Unsound`; `Refused`.
 fn recorded<M: Steady + Drop>(medium: M, file: Records<'_>) -> Result<M, ShellFault>
-    ensures made { let old = M.seen medium in (d : Disk) → HoldsDisk old.tracks old.content d →
-        let m = start d old.protected old.tracks in MatchResult result
-        (λ after. IsFine (after_records file.entry.text.now (map (λ r. r.now) file.entry.records.now) m).status
-        × HoldsDisk (M.seen after).tracks (M.seen after).content
-        (after_records file.entry.text.now (map (λ r. r.now) file.entry.records.now) m).disk)
-        (AreRecordsUnmade file.entry.text.now (map (λ r. r.now) file.entry.records.now) m) }
-    ensures sound { let old = M.seen medium in
-        OnOk result (IsSoundDisk old.tracks old.content) }
+    ensures made { MakesRecords M.seen medium file.entry.text.now (map (λ r. r.now) file.entry.records.now) result }
+    ensures sound { OnOk result (IsSoundDisk (M.seen medium).tracks (M.seen medium).content) }
     ensures same_tracks { IfOk result (λ after. (M.seen after).tracks ≡ (M.seen medium).tracks) }
 {
     let volume = Volume::open(medium);
@@ -93,11 +84,9 @@ fn put_records_in<I: DiskImage + Drop>(
     file: Records<'_>,
 ) -> Result<Vec<u8>, ShellFault>
     requires { kind_of image.now ≡ I.kind }
-    ensures made { let kind = kind_of image.now in (d : Disk) → ImageHolds kind image.now d →
-        let m = start d false (tracks_of kind image.now) in MatchResult result
-        (λ v. IsFine (after_records file.entry.text.now (map (λ r. r.now) file.entry.records.now) m).status
-        × ImageHolds kind v.items (after_records file.entry.text.now (map (λ r. r.now) file.entry.records.now) m).disk)
-        (IsUnmadeIn image.now file.entry.text.now (map (λ r. r.now) file.entry.records.now) m) }
+    ensures made { OfHeld image.now (λ d. MatchResult result
+        (λ v. HasRecorded image.now file.entry.text.now (map (λ r. r.now) file.entry.records.now) d v.items)
+        (IsUnmadeIn image.now file.entry.text.now (map (λ r. r.now) file.entry.records.now) (machine_on image.now d))) }
     ensures sound { OnOk result (IsSoundImage (kind_of image.now) image.now) }
     ensures opens { IfOk result (λ v. image_fault (kind_of image.now) v.items ≡ None) }
 {
@@ -109,14 +98,11 @@ fn put_records_in<I: DiskImage + Drop>(
 /// Makes a relative file on the disk of an image, and gives the image as it is then. Errors: `Image`; `Unsound`, with what is
 /// wrong first; `Refused`, with the drive's status; `Memory`.
 pub fn put_records(alloc: Global, image: &[u8], file: Records<'_>) -> Result<Vec<u8>, ShellFault>
-    ensures made { let kind = kind_of image.now in (d : Disk) → ImageHolds kind image.now d →
-        let m = start d false (tracks_of kind image.now) in MatchResult result
-        (λ v. IsFine (after_records file.entry.text.now (map (λ r. r.now) file.entry.records.now) m).status
-        × ImageHolds kind v.items (after_records file.entry.text.now (map (λ r. r.now) file.entry.records.now) m).disk)
-        (IsUnmadeIn image.now file.entry.text.now (map (λ r. r.now) file.entry.records.now) m) }
-    // An image that isn't sound gives no new one.
+    ensures made { OfHeld image.now (λ d. MatchResult result
+        (λ v. HasRecorded image.now file.entry.text.now (map (λ r. r.now) file.entry.records.now) d v.items)
+        (IsUnmadeIn image.now file.entry.text.now (map (λ r. r.now) file.entry.records.now) (machine_on image.now d))) }
+    // An image that isn't sound gives no new one, and the new image opens again.
     ensures sound { OnOk result (IsSoundImage (kind_of image.now) image.now) }
-    // The new image opens again.
     ensures opens { IfOk result (λ v. image_fault (kind_of image.now) v.items ≡ None) }
 {
     match kind_of(image) {

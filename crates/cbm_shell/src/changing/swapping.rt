@@ -1,12 +1,12 @@
 //! Entries of the directory in another order, which no command of the drive makes.
-ghost use Rattle.std.specs.Prelude.{◌≡◌, ◌≤◌, ◌⊎◌, List, false, Some, None, Ok, IfOk, IfErr, OnOk};
+ghost use Rattle.std.specs.Prelude.{◌≡◌, ◌≤◌, List, false, Some, None, Ok, IfOk, IfErr, OnOk};
 ghost use Rattle.cbm_medium.specs.Place.{Place};
 ghost use Rattle.cbm_bam.specs.Map.{geometry_of};
 ghost use Rattle.cbm_directory.specs.Slots.{Answers, directory_of};
-ghost use Rattle.cbm_image.specs.Images.{kind_of, image_fault, tracks_of, content_of};
+ghost use Rattle.cbm_image.specs.Images.{kind_of, image_fault};
 ghost use Rattle.cbm_shell.specs.Images.{IsSoundImage};
-ghost use Rattle.cbm_shell.specs.Editing.{CanBeEdited, HasNoSlot, IsDirectory, IsNoEntry, IsSameMedium, IsUnedited, IsUneditedIn};
-ghost use Rattle.cbm_shell.specs.Swapping.{Swaps, AreSwapped, MissesSlot, MissesSlotIn};
+ghost use Rattle.cbm_shell.specs.Editing.{CanBeEdited, IsDirectory, IsNoEntry, IsSameMedium, IsUnedited, IsUneditedIn, KeepsDirectory};
+ghost use Rattle.cbm_shell.specs.Swapping.{Swaps, AreSwapped, MissesSlot, MissesSlotIn, AreSwappedIn, MissesOne};
 
 use crate::changing::require_sound;
 use crate::fault::ShellFault;
@@ -49,11 +49,9 @@ fn swap_two<M: Steady>(medium: &mut M, geometry: Geometry, swap: Swap) -> Result
     requires { geometry ≤ (M.seen medium.old).tracks }
     ensures swaps { OnOk result (Swaps geometry swap (M.seen medium.old).content (M.seen medium.new).content) }
     ensures same { IsSameMedium (M.seen medium.old) (M.seen medium.new) }
-    ensures directory { (sectors : List Place) → IsDirectory geometry (M.seen medium.old).content sectors →
-        OnOk result (IsDirectory geometry (M.seen medium.new).content sectors) }
+    ensures directory { KeepsDirectory result geometry (M.seen medium.old).content (M.seen medium.new).content }
     ensures fault { let old = M.seen medium.old in (sectors : List Place) → IsDirectory geometry old.content sectors →
-        old.protected ≡ false → IfErr result (λ f. (f ≡ ShellFault.NotFound)
-        × (HasNoSlot geometry old.content swap.first ⊎ HasNoSlot geometry old.content swap.second)) }
+        old.protected ≡ false → IfErr result (MissesOne geometry old.content swap) }
 {
     let first = entry_at(medium, geometry, swap.first)?;
     let second = entry_at(medium, geometry, swap.second)?;
@@ -102,9 +100,7 @@ fn swap_in<I: DiskImage + Drop>(
     swaps: &[Swap],
 ) -> Result<Vec<u8>, ShellFault>
     requires { kind_of image.now ≡ I.kind }
-    ensures swapped { let kind = kind_of image.now in
-        let tracks = geometry_of (tracks_of kind image.now) (content_of kind image.now) in
-        IfOk result (λ v. AreSwapped tracks swaps.now (content_of kind image.now) (content_of kind v.items)) }
+    ensures swapped { IfOk result (λ v. AreSwappedIn image.now swaps.now v.items) }
     ensures sound { OnOk result (IsSoundImage (kind_of image.now) image.now) }
     ensures stays { IfOk result (λ v. IsSoundImage (kind_of image.now) v.items) }
     ensures opens { IfOk result (λ v. image_fault (kind_of image.now) v.items ≡ None) }
@@ -120,12 +116,9 @@ fn swap_in<I: DiskImage + Drop>(
 /// first; `NotFound`, where the directory doesn't have one of the slots; `Memory`.
 pub fn swap_entries(alloc: Global, image: &[u8], swaps: &[Swap]) -> Result<Vec<u8>, ShellFault>
     // The entries are those that were there, with all their bytes, and nothing else of the image is changed.
-    ensures swapped { let kind = kind_of image.now in
-        let tracks = geometry_of (tracks_of kind image.now) (content_of kind image.now) in
-        IfOk result (λ v. AreSwapped tracks swaps.now (content_of kind image.now) (content_of kind v.items)) }
-    // An image that isn't sound gives no new one.
+    // The entries are those that were there, with all their bytes, and nothing else of the image is changed.
+    ensures swapped { IfOk result (λ v. AreSwappedIn image.now swaps.now v.items) }
     ensures sound { OnOk result (IsSoundImage (kind_of image.now) image.now) }
-    // The new image is sound, and opens again.
     ensures stays { IfOk result (λ v. IsSoundImage (kind_of image.now) v.items) }
     ensures opens { IfOk result (λ v. image_fault (kind_of image.now) v.items ≡ None) }
     ensures fault { IfErr result (IsUneditedIn image.now (MissesSlotIn image.now swaps.now)) }

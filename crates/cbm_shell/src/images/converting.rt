@@ -1,14 +1,12 @@
 //! D64 images as G64 images, and back.
-ghost use Rattle.std.specs.Prelude.{IsTrue, ◌↔◌, ◌≡◌, ◌∷◌, ◌≢◌, ◌≤◌, ◌<◌, ◌+◌, ◌*◌, ℕ, Ok, [], true, false, length, replicate, slice_index, not, IfOk, IfErr};
+ghost use Rattle.std.specs.Prelude.{IsTrue, ◌↔◌, ◌≡◌, ◌∷◌, ◌≢◌, ◌≤◌, ◌<◌, Ok, [], false, length, replicate, slice_index, IfOk, IfErr};
 ghost use Rattle.cbm_medium.specs.Place.{Place, Has, sectors_on};
 ghost use Rattle.cbm_medium.specs.Content.{written};
-ghost use Rattle.cbm_track.specs.Circle.{each_below};
 ghost use Rattle.cbm_d64.specs.Image.{d64_content, d64_tracks};
-ghost use Rattle.cbm_g64.specs.File.{g64_circles as circles_in};
 ghost use Rattle.cbm_g64.specs.Tracks.{or_zeros, id_for, HasTrack};
 ghost use Rattle.cbm_image.specs.Images.{kind_of};
 ghost use Rattle.cbm_image.specs.declared.kind.Kind.TheVariants.{D64, G64};
-ghost use Rattle.cbm_shell.specs.Converting.{told_id, content_held, is_plain_table, has_more_tracks, has_error_bytes, IsConverted, AreLosses, IsConvertFault};
+ghost use Rattle.cbm_shell.specs.Converting.{told_id, content_held, is_plain_table, has_more_tracks, has_error_bytes, IsConverted, AreLosses, IsConvertFault, circles_shown};
 ghost use Rattle.cbm_shell.specs.Images.{IsOpenFault};
 
 use crate::fault::ShellFault;
@@ -88,12 +86,7 @@ fn header_id(disk: &G64Disk) -> [u8; 2]
 /// The disk of a G64. Errors: `Image` with the number of the format's first fault, `Memory`.
 fn circles(alloc: Global, image: &[u8]) -> Result<G64Disk, ShellFault>
     requires { kind_of image.now ≡ G64 }
-    ensures ok { IfOk result (λ d. d ≡ (record {
-      tracks = circles_in image.now 35;
-      file = image.now;
-      formatted = false;
-      protected = false;
-    })) }
+    ensures ok { IfOk result (λ d. d ≡ circles_shown image.now) }
     ensures err { IfErr result (IsOpenFault image.now) }
 {
     match G64Disk::from_bytes(alloc, image, false) {

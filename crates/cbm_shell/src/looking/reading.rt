@@ -1,12 +1,8 @@
 //! Taking a file out.
 ghost use Rattle.std.specs.Prelude.{◌≡◌, ℕ, List, IfOk, IfErr, None, MatchResult};
 ghost use Rattle.cbm_file.specs.Files.{Disk};
-ghost use Rattle.cbm_medium.specs.Place.{sector_count};
-ghost use Rattle.cbm_volume.specs.Reading.{held_from};
-ghost use Rattle.cbm_directory.specs.Entries.{first_block};
-ghost use Rattle.cbm_bam.specs.Map.{geometry_of};
 ghost use Rattle.cbm_volume.specs.Holding.{HoldsDisk, EntryStandsAt, HasBytes};
-ghost use Rattle.cbm_shell.specs.Reading.{IsReadFault, Gets, IsGetFault};
+ghost use Rattle.cbm_shell.specs.Reading.{IsReadFault, Gets, IsGetFault, file_held};
 
 use crate::fault::ShellFault;
 use cbm_command::matches;
@@ -38,11 +34,8 @@ pub fn read_file<M: Medium>(
     volume: &Volume<M>,
     entry: &Entry,
 ) -> Result<Vec<u8>, ShellFault>
-    ensures ok { let now = M.seen volume.now in let tracks = geometry_of now.tracks now.content in
-        IfOk result (λ v. held_from tracks now.content (sector_count tracks) (first_block entry.now)
-        ≡ (record { bytes = v.items; trouble = None })) }
-    ensures err { let now = M.seen volume.now in let tracks = geometry_of now.tracks now.content in
-        IfErr result (IsReadFault (held_from tracks now.content (sector_count tracks) (first_block entry.now)).trouble) }
+    ensures ok { IfOk result (λ v. file_held (M.seen volume.now) entry.now ≡ (record { bytes = v.items; trouble = None })) }
+    ensures err { IfErr result (IsReadFault (file_held (M.seen volume.now) entry.now).trouble) }
     ensures means { let now = M.seen volume.now in (d : Disk) (n : ℕ) (bytes : List ℕ) →
         HoldsDisk now.tracks now.content d → EntryStandsAt now.tracks now.content n entry.now → HasBytes d n bytes →
         MatchResult result (λ v. v.items ≡ bytes) (λ fault. fault ≡ ShellFault.Memory) }

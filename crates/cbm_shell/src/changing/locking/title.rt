@@ -1,14 +1,12 @@
 //! Another title.
-ghost use Rattle.std.specs.Prelude.{◌≡◌, ◌≤◌, ◌++◌, ℕ, false, None, length, take, drop, IfOk, IfErr, IsOk, OnOk};
+ghost use Rattle.std.specs.Prelude.{◌≡◌, ◌≤◌, false, None, length, IfOk, IfErr, IsOk, OnOk};
 ghost use Rattle.cbm_medium.specs.Place.{Place, directory_head};
 ghost use Rattle.cbm_medium.specs.Content.{IsWhole, written};
-ghost use Rattle.cbm_file.specs.Padding.{padded};
-ghost use Rattle.cbm_file.specs.Files.{Disk};
 ghost use Rattle.cbm_bam.specs.Map.{geometry_of};
-ghost use Rattle.cbm_image.specs.Images.{kind_of, image_fault, content_of, ImageHolds};
-ghost use Rattle.cbm_shell.specs.Images.{IsSoundImage};
+ghost use Rattle.cbm_image.specs.Images.{kind_of, image_fault, ImageHolds};
+ghost use Rattle.cbm_shell.specs.Images.{IsSoundImage, OfHeld};
 ghost use Rattle.cbm_shell.specs.Editing.{CanBeEdited, IsUneditedIn};
-ghost use Rattle.cbm_shell.specs.Locking.{with_title, titled, entitled};
+ghost use Rattle.cbm_shell.specs.Locking.{with_title, titled, entitled, IsRetitled};
 
 use crate::changing::require_sound;
 use crate::fault::ShellFault;
@@ -71,11 +69,9 @@ fn retitle_in<I: DiskImage + Drop>(
 ) -> Result<Vec<u8>, ShellFault>
     requires kind { kind_of image.now ≡ I.kind }
     requires short { length title.now ≤ 16 }
-    ensures title { let kind = kind_of image.now in
-        IfOk result (λ v. content_of kind v.items ≡ titled title.now (content_of kind image.now)) }
+    ensures title { IfOk result (λ v. IsRetitled image.now title.now v.items) }
     ensures sound { OnOk result (IsSoundImage (kind_of image.now) image.now) }
-    ensures made { let kind = kind_of image.now in (d : Disk) → ImageHolds kind image.now d →
-        IfOk result (λ v. ImageHolds kind v.items (entitled title.now d)) }
+    ensures made { OfHeld image.now (λ d. IfOk result (λ v. ImageHolds (kind_of image.now) v.items (entitled title.now d))) }
     ensures opens { IfOk result (λ v. image_fault (kind_of image.now) v.items ≡ None) }
     ensures fault { IfErr result (IsUneditedIn image.now ⊥) }
 {
@@ -89,14 +85,9 @@ fn retitle_in<I: DiskImage + Drop>(
 /// `Memory`.
 pub fn retitle(alloc: Global, image: &[u8], title: &[u8]) -> Result<Vec<u8>, ShellFault>
     requires { length title.now ≤ 16 }
-    // Sixteen bytes of 18/0 are changed, and nothing else of the image.
-    ensures title { let kind = kind_of image.now in
-        IfOk result (λ v. content_of kind v.items ≡ titled title.now (content_of kind image.now)) }
-    // An image that isn't sound gives no new one.
+    ensures title { IfOk result (λ v. IsRetitled image.now title.now v.items) }
     ensures sound { OnOk result (IsSoundImage (kind_of image.now) image.now) }
-    // The new image is sound, means the old disk with the title, and opens again.
-    ensures made { let kind = kind_of image.now in (d : Disk) → ImageHolds kind image.now d →
-        IfOk result (λ v. ImageHolds kind v.items (entitled title.now d)) }
+    ensures made { OfHeld image.now (λ d. IfOk result (λ v. ImageHolds (kind_of image.now) v.items (entitled title.now d))) }
     ensures opens { IfOk result (λ v. image_fault (kind_of image.now) v.items ≡ None) }
     ensures fault { IfErr result (IsUneditedIn image.now ⊥) }
 {
