@@ -24,7 +24,8 @@ pub mod Planning
 pub mod BytesPut
 pub mod DiskSteps
 pub mod Elses
-pub mod Outside
+pub mod Rest
+pub mod Spared
 pub mod Finished
 pub mod Takes
 pub mod Stores

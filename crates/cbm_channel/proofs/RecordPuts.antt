@@ -1,6 +1,6 @@
 -- A text for records: the record is written, which is made where it isn't there, and the place goes on.
 use Rattle.std.proofs.Common.{◌≡◌, ◌≢◌, ℕ, ◌+◌, ◌-◌, ◌*◌, ◌<◌, ◌≤◌, Bool, true, false, List, [], ◌++◌, length, take, drop, refl, sym, ap, ◌∙◌, subst, arith, inl, inr, ◌⊎◌, Option, Some, None, Result, Ok, Err, IsOk}
-use Rattle.std.specs.Prelude.{if◌then◌else◌, replicate, option_map, slice_get, slice_index_or, slice_set, is_some, IfErr, IfOk, IfSome, IsOkAnd, MatchBool, MatchResult}
+use Rattle.std.specs.Prelude.{◌==◌, if◌then◌else◌, replicate, option_map, slice_get, slice_index_or, slice_set, is_some, IfErr, IfOk, IfSome, IsOkAnd, MatchBool, MatchResult}
 use Rattle.std.proofs.lemmas.Bool.{cases_lt, ne_eqb}
 use Rattle.std.proofs.lemmas.List.{get_or_past, get_or-set_same, get_or-set_other, length-append, length-replicate}
 use Rattle.std.proofs.lemmas.Nat.{div-add-mod', le-div, mod_below}
@@ -18,9 +18,9 @@ use Rattle.cbm_volume.specs.RecordWrites.{OfRecords, new_record, with_record, Is
 use Rattle.cbm_volume.specs.Writers.{Use, HoldsNow}
 use Rattle.cbm_channel.specs.Placed.{Placed, IsPlacedAt}
 use Rattle.cbm_channel.specs.Recorded.{CanPut, CanGrow, disk_grown, blocks_grown, sides_grown, records_grown, IsReadAnew, IsTextStored, IsTextCut}
-use Rattle.cbm_channel.specs.ChannelCalls.{KeepsOutside, OfPlaced}
+use Rattle.cbm_channel.specs.ChannelCalls.{KeepsRest, OfPlaced}
 use Rattle.cbm_channel.specs.PlaceCalls.{GrowsToPlace, ReachesRecord}
-use Rattle.cbm_channel.proofs.Outside.{outside_then}
+use Rattle.cbm_channel.proofs.Rest.{rest_then}
 
 -- ---- the disk, where one slot's file has other records
 
@@ -262,9 +262,9 @@ module _ (old mid : Seen) (d : Disk) (uses : ℕ → Use) (r : Placed) (b s : �
         let p = writes (disk_grown d r b s rs) uses (blocks_grown r b) (sides_grown r b s) (records_grown r b rs) can_more in
         let z = sym (grown_there r.width b s r.number rs (omega (arith, can.first, can.inside)) can.number) ∙ ap is_some p.0 in absurd (cc)
 
-    -- what lies outside the disk stays
-    pub written_outside : (new : Seen) → KeepsOutside old more → OfPlaced more r (λ d' uses' b' s' rs'. KeepsOutside more new) → KeepsOutside old new
-    written_outside new first last = outside_then old more new first (last (disk_grown d r b s rs) uses (blocks_grown r b) (sides_grown r b s) (records_grown r b rs) can_more)
+    -- the rest of the disk stays
+    pub written_rest : (new : Seen) → KeepsRest old more (λ n. r.slot == n) → OfPlaced more r (λ d' uses' b' s' rs'. KeepsRest more new (λ n. r.slot == n)) → KeepsRest old new (λ n. r.slot == n)
+    written_rest new first last = rest_then (λ n. r.slot == n) (λ n. r.slot == n) old more new (disk_grown d r b s rs) uses can_more.has.holds (λ n e. (e, e)) first (last (disk_grown d r b s rs) uses (blocks_grown r b) (sides_grown r b s) (records_grown r b rs) can_more)
 
-  pub grown_outside : (more : Seen) → KeepsOutside old mid → OfPlaced mid r (λ d' uses' b' s' rs'. KeepsOutside mid more) → KeepsOutside old more
-  grown_outside more first last = outside_then old mid more first (last d uses b s rs can_grow)
+  pub grown_rest : (more : Seen) → KeepsRest old mid (λ n. r.slot == n) → OfPlaced mid r (λ d' uses' b' s' rs'. KeepsRest mid more (λ n. r.slot == n)) → KeepsRest old more (λ n. r.slot == n)
+  grown_rest more first last = rest_then (λ n. r.slot == n) (λ n. r.slot == n) old mid more d uses can_grow.has.holds (λ n e. (e, e)) first (last d uses b s rs can_grow)

@@ -27,7 +27,7 @@ use Rattle.cbm_channel.specs.Shown.{uses_on}
 use Rattle.cbm_channel.specs.Commanded.{entry_may_go, entries_going, slots_going, all_scratched, CanGo, CanAllGo, AreSlotsGoing}
 use Rattle.cbm_channel.proofs.Planning.{none_passes}
 use Rattle.cbm_channel.proofs.Uses.{any_uses_same}
-use Rattle.cbm_channel.proofs.Outside.{scratched_total}
+use Rattle.cbm_channel.proofs.Rest.{scratched_total}
 
 -- ---- the entries tell of the slots
 

@@ -5,6 +5,7 @@ use Rattle.cbm_file.specs.Files.{File, Disk, file_at}
 use Rattle.cbm_file.specs.Changes.{scratched}
 use Rattle.cbm_command.specs.declared.command.Command.{Command}
 use Rattle.cbm_command.specs.declared.command.Command.TheVariants.{New, Scratch, Rename, Copy, Validate, Initialize, Position}
+use Rattle.cbm_command.specs.declared.refusal.Refusal.{Refusal}
 use Rattle.cbm_command.specs.Commands.{command_of}
 use Rattle.cbm_command.specs.Names.{is_match}
 use Rattle.cbm_volume.specs.Entries.{type_byte, bit_of, name_in}
@@ -160,6 +161,34 @@ abbrev pub slots_going : Machine → List (List ℕ) → ℕ → List (Option Fi
 slots_going m ps n [] = []
 slots_going m ps n (None ∷ slots) = slots_going m ps (n + 1) slots
 slots_going m ps n (Some f ∷ slots) = if may_go m ps n f then n ∷ slots_going m ps (n + 1) slots else slots_going m ps (n + 1) slots
+
+-- the number is one of these
+abbrev pub is_slot_among : List ℕ → ℕ → Bool
+is_slot_among ns n = list_any (λ k. k == n) ns
+
+-- the slots that a command clears: of S those of the files that may go
+abbrev pub cleared_by : Command → Machine → ℕ → Bool
+cleared_by (New name id) m n = false
+cleared_by (Scratch ps) m n = is_slot_among (slots_going m ps 0 m.disk.slots) n
+cleared_by (Rename new old) m n = false
+cleared_by (Copy new olds) m n = false
+cleared_by Validate m n = false
+cleared_by Initialize m n = false
+cleared_by (Position ch k p) m n = false
+
+-- the same of what was read of a text
+abbrev pub read_clears : Result Command Refusal → Machine → ℕ → Bool
+read_clears (Ok command) m n = cleared_by command m n
+read_clears (Err e) m n = false
+
+-- the same of a command's text
+abbrev pub text_clears : List ℕ → Machine → ℕ → Bool
+text_clears text m n = read_clears (command_of (without_return text)) m n
+
+-- the same of the text that is gathered for channel 15, when it is ended
+abbrev pub end_clears : Option (ℕ × List ℕ) → Machine → ℕ → Bool
+end_clears None m n = false
+end_clears (Some t) m n = (t.0 == 15) && text_clears t.1 m n
 
 -- the slots of these numbers are scratched, one after another
 abbrev pub all_scratched : Disk → List ℕ → Disk

@@ -1,5 +1,5 @@
 -- An OPEN on a channel that may be open: a CLOSE, and then the OPEN itself.
-use Rattle.std.specs.Prelude.{ℕ, ◌≡◌, ◌⊎◌, List, true, false, is_some, slice_index_or, Option, Result, Ok, IfOk, IfErr, MatchOption, OnErr}
+use Rattle.std.specs.Prelude.{ℕ, ◌≡◌, ◌⊎◌, ◌==◌, ◌||◌, if◌then◌else◌, Bool, List, true, false, is_some, slice_index_or, Option, Some, None, Result, Ok, Err, IfOk, IfErr, MatchOption, OnErr}
 use Rattle.cbm_medium.specs.Seen.{Seen, HasFailed}
 use Rattle.cbm_medium.specs.declared.fault.Trouble.{Trouble}
 use Rattle.cbm_volume.specs.Map.{geometry_of}
@@ -16,12 +16,12 @@ use Rattle.cbm_channel.specs.declared.channel.Channel.{Channel}
 use Rattle.cbm_channel.specs.declared.channel.Channel.TheVariants.{Closed}
 use Rattle.cbm_channel.specs.declared.finding.Found.{Found}
 use Rattle.cbm_channel.specs.declared.plan.Plan.{Plan}
-use Rattle.cbm_channel.specs.ChannelCalls.{KeepsOutside, LeavesOutside}
+use Rattle.cbm_channel.specs.ChannelCalls.{KeepsRest, LeavesRest}
 use Rattle.cbm_channel.specs.Standing.{Kept, SameBut, HaveSameFiles, Stands, uses_of}
 use Rattle.cbm_channel.specs.Grounds.{HasGround, IsFromDirectory, KeepsIfRefused, OrdersDisk, ShowsTrouble}
 use Rattle.cbm_channel.specs.Going.{IsFailureCounted, GoesFrom, KeepsMedium, WentFrom, opening_parts}
-use Rattle.cbm_channel.specs.Commanded.{AreSameBut, FormatsUnfailing, open_formats, open_validates, text_moves}
-use Rattle.cbm_channel.specs.Shown.{is_writing_on}
+use Rattle.cbm_channel.specs.Commanded.{AreSameBut, FormatsUnfailing, open_formats, open_validates, text_moves, text_clears}
+use Rattle.cbm_channel.specs.Shown.{is_writing_on, writes_on, written_by}
 use Rattle.cbm_channel.specs.Parts.{IsClosedOn, OnlyTells, OnlyTellsFor}
 use Rattle.cbm_channel.specs.Planned.{PlannedAs, IsFound, IsOfText, IsOpened, IsSized, begun_by, disk_opened, plan_writes, text_writes}
 
@@ -68,12 +68,17 @@ pub record OpensUnwritten {M : Type 0} (seen : M → Seen) (ch : ℕ) (text : Li
   pub quiet : OpensQuietly seen ch text old new
   pub spared : is_writing_on ch old ≡ false → KeepsIfRefused seen old new
 
--- WHAT EACH OPEN LEAVES on any disk: closed files, where it is V; tracks and protection of the medium; and, but with NEW, the sectors
--- outside the disk.
+-- the slots that OPEN may change: those that a command clears; on another channel the one that it had open for writing, and the one that it
+-- has then
+abbrev pub changed_by_open : {M : Type 0} → ℕ → List ℕ → Kept M → Kept M → Machine → ℕ → Bool
+changed_by_open ch text old new m n = if ch == 15 then text_clears text m n else written_by ch old n || written_by ch new n
+
+-- WHAT EACH OPEN LEAVES on any disk: closed files, where it is V; tracks and protection of the medium; and, but with NEW, the rest of the
+-- disk but for those slots.
 pub record LeavesByOpen {M : Type 0} (seen : M → Seen) (ch : ℕ) (text : List ℕ) (old new : Kept M) : Type 0 where
   pub ordered : open_validates ch text ≡ true → OrdersDisk seen old new
   pub medium : KeepsMedium (seen old.medium) (seen new.medium)
-  pub outside : open_formats ch text ≡ false → LeavesOutside seen old new
+  pub rest : open_formats ch text ≡ false → LeavesRest seen (changed_by_open ch text old new) old new
 
 -- ---- what a plan is
 
@@ -117,19 +122,25 @@ abbrev pub StopsPlan : {M : Type 0} → (M → Seen) → Plan → Result (Option
 StopsPlan seen plan result old new = (m : machine.Machine) (p : plans.Plan) → PlansAs seen old.medium m (Ok p) (Ok plan) → Stands seen old m
     → OnErr result (Stopped (seen old.medium).tracks (seen new.medium).content m.disk (disk_opened m.disk p) (uses_of old.channels m.channels) × HasFailed (seen old.medium) (seen new.medium))
 
--- on a sound disk the sectors outside it stay, whatever is opened
-abbrev pub OpensOutside : {M : Type 0} → (M → Seen) → Plan → Kept M → Kept M → Type 0
-OpensOutside seen plan old new = (m : machine.Machine) (p : plans.Plan) → PlansAs seen old.medium m (Ok p) (Ok plan) → Stands seen old m → KeepsOutside (seen old.medium) (seen new.medium)
+-- on a sound disk the rest of it stays whatever is opened, but for the slots that pass the test
+abbrev pub OpensRest : {M : Type 0} → (M → Seen) → Plan → (ℕ → Bool) → Kept M → Kept M → Type 0
+OpensRest seen plan but old new = (m : machine.Machine) (p : plans.Plan) → PlansAs seen old.medium m (Ok p) (Ok plan) → Stands seen old m → KeepsRest (seen old.medium) (seen new.medium) but
+
+-- the slot that was opened for writing, if one was
+abbrev pub opened_in : Result (Option Channel) Trouble → ℕ → Bool
+opened_in (Ok (Some x)) n = writes_on n x
+opened_in (Ok None) n = false
+opened_in (Err t) n = false
 
 -- where nothing is written, the content shows why it is refused
 abbrev pub ShowsWhy : {M : Type 0} → (M → Seen) → Plan → Result (Option Channel) Trouble → M → Type 0
 ShowsWhy seen plan result medium = plan_writes plan ≡ false → IsFromDirectory seen medium plan → IfErr result (ShowsTrouble (geometry_of (seen medium).tracks (seen medium).content) (seen medium).content)
 
--- WHAT A PLAN OPENS on a sound disk: the channel, or the stop; and the sectors outside the disk stay.
+-- WHAT A PLAN OPENS on a sound disk: the channel, or the stop; and the rest of the disk stays, but for the slot that is written.
 pub record OpensByPlan {M : Type 0} (seen : M → Seen) (plan : Plan) (result : Result (Option Channel) Trouble) (old new : Kept M) : Type 0 where
   pub opened : OpensPlan seen plan result old new
   pub stopped : StopsPlan seen plan result old new
-  pub outside : OpensOutside seen plan old new
+  pub rest : OpensRest seen plan (opened_in result) old new
 
 -- WHAT AN OPENING WRITES on any disk: nothing where the plan writes nothing, and then there is a channel, or the content shows why not;
 -- nothing where no channel is opened for want of a place; and nothing where the disk is protected.

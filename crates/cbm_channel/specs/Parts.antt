@@ -1,5 +1,6 @@
 -- What a part of a call leaves, whatever it does, and of which machines it says what.
-use Rattle.std.specs.Prelude.{ℕ, ◌≡◌, ◌≢◌, ◌⊎◌, ◌<◌, Bool, false, true, List, [], length, take, slice_index_or, Option, MatchOption, Result, OnOk, OnErr}
+use Rattle.std.specs.Prelude.{ℕ, ◌≡◌, ◌≢◌, ◌⊎◌, ◌<◌, ◌==◌, if◌then◌else◌, Bool, false, true, List, [], length, take, slice_index_or, Option, MatchOption, Result, OnOk, OnErr}
+use Rattle.std.specs.List.{list_any}
 use Rattle.cbm_medium.specs.declared.fault.Trouble.{Trouble}
 use Rattle.cbm_volume.specs.Writers.{HoldsNow, Stopped}
 use Rattle.cbm_medium.specs.Seen.{Seen, HasFailed}
@@ -8,11 +9,11 @@ use Rattle.cbm_machine.specs.Codes.{code_number}
 use Rattle.cbm_machine.specs.Machines.{Machine}
 use Rattle.cbm_channel.specs.declared.channel.Channel.{Channel}
 use Rattle.cbm_channel.specs.declared.channel.Channel.TheVariants.{Closed}
-use Rattle.cbm_channel.specs.ChannelCalls.{KeepsOutside, LeavesOutside}
-use Rattle.cbm_channel.specs.Commanded.{AreSameBut, CanAllGo, FormatsUnfailing, all_scratched, ends_command, end_formats}
+use Rattle.cbm_channel.specs.ChannelCalls.{KeepsRest, LeavesRest}
+use Rattle.cbm_channel.specs.Commanded.{AreSameBut, CanAllGo, FormatsUnfailing, is_slot_among, end_clears, all_scratched, ends_command, end_formats}
 use Rattle.cbm_channel.specs.Going.{KeepsMedium, IsFailureCounted, AreCounted, WentFrom, RecordsFrom, EndsFrom}
 use Rattle.cbm_channel.specs.Grounds.{HasTold, IsToldFor, KeepsIfRefused, OrdersDisk, is_fault_number}
-use Rattle.cbm_channel.specs.Shown.{is_writing_on, has_records_on, KeepsMediumAndStatus}
+use Rattle.cbm_channel.specs.Shown.{is_writing_on, has_records_on, writes_on, written_by, KeepsMediumAndStatus}
 use Rattle.cbm_channel.specs.Standing.{Kept, SameBut, HaveSameFiles, Stands, HasNoText, HasText, uses_of}
 
 -- ---- the machines
@@ -29,9 +30,9 @@ WentWhere seen old new P part = (m : Machine) (a : _) → P m a → Stands seen 
 abbrev pub WentUnlessNew : {M : Type 0} → (M → Seen) → Bool → Kept M → Kept M → (Machine → Machine) → Type 0
 WentUnlessNew seen formats old new part = OfMachine seen old (λ m. FormatsUnfailing formats (HasFailed (seen old.medium) (seen new.medium)) → WentFrom seen old new 15 part m)
 
--- the sectors outside the disk stay, where the drive stood for such a machine
-abbrev pub KeepsOutsideWhere : {M A : Type 0} → (M → Seen) → Kept M → Kept M → (Machine → A → Type 0) → Type 0
-KeepsOutsideWhere seen old new P = (m : Machine) (a : _) → P m a → Stands seen old m → KeepsOutside (seen old.medium) (seen new.medium)
+-- the rest of the disk stays but for the slots that pass the test, where the drive stood for such a machine
+abbrev pub KeepsRestWhere : {M A : Type 0} → (M → Seen) → (ℕ → Bool) → Kept M → Kept M → (Machine → A → Type 0) → Type 0
+KeepsRestWhere seen but old new P = (m : Machine) (a : _) → P m a → Stands seen old m → KeepsRest (seen old.medium) (seen new.medium) but
 
 -- ---- the medium
 
@@ -41,10 +42,10 @@ pub record LeavesMedium {M : Type 0} (seen : M → Seen) (old new : Kept M) : Ty
   pub medium : KeepsMedium (seen old.medium) (seen new.medium)
   pub counted : IsFailureCounted seen old new
 
--- WHAT A PART LEAVES THAT MAKES NO NEW DISK: the same, and the sectors outside the disk as they are.
-pub record LeavesDisk {M : Type 0} (seen : M → Seen) (old new : Kept M) : Type 0 where
+-- WHAT A PART LEAVES THAT MAKES NO NEW DISK: the same, and the rest of the disk as it is, but for the slots that pass the test.
+pub record LeavesDisk {M : Type 0} (seen : M → Seen) (but : ℕ → Bool) (old new : Kept M) : Type 0 where
   pub medium : KeepsMedium (seen old.medium) (seen new.medium)
-  pub outside : LeavesOutside seen old new
+  pub rest : LeavesRest seen (λ m. but) old new
   pub counted : IsFailureCounted seen old new
 
 -- WHAT A COMMAND AT THE DISK LEAVES on any disk: the channels stay, what is refused has changed nothing, and of the medium what each part
@@ -55,15 +56,15 @@ pub record LeavesChannels {M : Type 0} (seen : M → Seen) (old new : Kept M) : 
   pub medium : KeepsMedium (seen old.medium) (seen new.medium)
   pub counted : IsFailureCounted seen old new
 
--- WHAT A COMMAND LEAVES on any disk, by the channel whose place it sets, whether it is VALIDATE and whether it is NEW: each channel keeps
--- its file, and its place but for that channel; V leaves closed files as they are; what lies outside the disk stays, but with NEW; and of
--- the medium what each part leaves.
-pub record LeavesByCommand {M : Type 0} (seen : M → Seen) (moved : Option ℕ) (validates formats : Bool) (old new : Kept M) : Type 0 where
+-- WHAT A COMMAND LEAVES on any disk, by the channel whose place it sets, whether it is VALIDATE, whether it is NEW, and the slots that it
+-- clears: each channel keeps its file, and its place but for that channel; V leaves closed files as they are; the rest of the disk stays
+-- but for those slots, if it isn't NEW; and of the medium what each part leaves.
+pub record LeavesByCommand {M : Type 0} (seen : M → Seen) (moved : Option ℕ) (validates formats : Bool) (but : Machine → ℕ → Bool) (old new : Kept M) : Type 0 where
   pub channels : HaveSameFiles old.channels new.channels
   pub others : AreSameBut moved old.channels new.channels
   pub ordered : validates ≡ true → OrdersDisk seen old new
   pub medium : KeepsMedium (seen old.medium) (seen new.medium)
-  pub outside : formats ≡ false → LeavesOutside seen old new
+  pub rest : formats ≡ false → LeavesRest seen but old new
   pub counted : IsFailureCounted seen old new
 
 -- nothing but the medium changes, and there are fifteen channels
@@ -104,6 +105,10 @@ IsFineOrSameUnlessFault seen old new = is_fault_number (code_number new.told.sta
 abbrev pub CutsOff : {M : Type 0} → (M → Seen) → ℕ → Kept M → Kept M → Type 0
 CutsOff seen ch old new = HasFailed (seen old.medium) (seen new.medium) → is_writing_on ch new ≡ false
 
+-- the channel has the same slot open for writing, or none still
+abbrev pub KeepsSlotOn : {M : Type 0} → ℕ → Kept M → Kept M → Type 0
+KeepsSlotOn ch old new = (n : ℕ) → written_by ch new n ≡ written_by ch old n
+
 -- ---- a channel is closed
 
 -- nothing is open on the channel
@@ -126,11 +131,15 @@ pub record ClosesQuietly {M : Type 0} (ch : ℕ) (old new : Kept M) : Type 0 whe
   pub one : ch < 15 → is_writing_on ch old ≡ false → KeepsMediumAndStatus old new
   pub all : ((k : ℕ) → is_writing_on k old ≡ false) → KeepsMediumAndStatus old new
 
--- WHAT CLOSE LEAVES on any disk: tracks and protection of the medium and the sectors outside the disk stay, and for each channel that is
--- closed the medium refused one write at most.
+-- the slots that CLOSE may change: the one that the channel has open for writing; on 15 those that any channel has
+abbrev pub closed_by : {M : Type 0} → ℕ → Kept M → ℕ → Bool
+closed_by ch k n = if ch == 15 then list_any (writes_on n) k.channels else written_by ch k n
+
+-- WHAT CLOSE LEAVES on any disk: tracks and protection of the medium stay, and the rest of the disk but for the files that it may finish;
+-- and for each channel that is closed the medium refused one write at most.
 pub record LeavesByClose {M : Type 0} (seen : M → Seen) (ch : ℕ) (old new : Kept M) : Type 0 where
   pub medium : KeepsMedium (seen old.medium) (seen new.medium)
-  pub outside : LeavesOutside seen old new
+  pub rest : LeavesRest seen (λ m. closed_by ch old) old new
   pub counted : ch < 15 → IsFailureCounted seen old new
   pub all_counted : ch ≡ 15 → AreCounted seen 15 old new
 
@@ -148,6 +157,10 @@ WritesText seen ch bytes old new = (m : Machine) (text : List ℕ) → Stands se
 pub record MovesOne (ch : ℕ) (old new : List Channel) : Type 0 where
   pub channels : HaveSameFiles old new
   pub others : SameBut ch old new
+
+-- the slots that the end of what is put may change: those that the command clears; on another channel that of its records
+abbrev pub changed_by_end : {M : Type 0} → ℕ → Kept M → Machine → ℕ → Bool
+changed_by_end ch k m n = if ch == 15 then end_clears k.text m n else written_by ch k n
 
 -- from each machine that the drive stood for the gathered text is carried out, or that was stopped; of NEW that says nothing where the
 -- medium failed in it
@@ -179,6 +192,6 @@ abbrev pub StopsClearing : {M : Type 0} → (M → Seen) → List ℕ → Kept M
 StopsClearing seen slots old new result = OfGoing seen slots old (λ m. (slots ≢ [] → m.protected ≡ false) → OnErr result
     (Stopped (seen old.medium).tracks (seen new.medium).content m.disk (all_scratched m.disk slots) (uses_of old.channels m.channels) × HasFailed (seen old.medium) (seen new.medium)))
 
--- the sectors outside the disk stay
-abbrev pub KeepsOutsideGoing : {M : Type 0} → (M → Seen) → List ℕ → Kept M → Kept M → Type 0
-KeepsOutsideGoing seen slots old new = OfGoing seen slots old (λ m. KeepsOutside (seen old.medium) (seen new.medium))
+-- the rest of the disk stays but for these slots
+abbrev pub KeepsRestGoing : {M : Type 0} → (M → Seen) → List ℕ → Kept M → Kept M → Type 0
+KeepsRestGoing seen slots old new = OfGoing seen slots old (λ m. KeepsRest (seen old.medium) (seen new.medium) (is_slot_among slots))

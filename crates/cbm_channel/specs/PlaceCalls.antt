@@ -1,5 +1,5 @@
 -- What the calls at a place of a relative file leave.
-use Rattle.std.specs.Prelude.{ℕ, ◌≡◌, Bool, false, List, Option, Some, None, Result, option_map, slice_get, IfOk, IfSome, IsOk, IsOkAnd, MatchBool, MatchResult}
+use Rattle.std.specs.Prelude.{ℕ, ◌≡◌, ◌==◌, Bool, false, List, Option, Some, None, Result, option_map, slice_get, IfOk, IfSome, IsOk, IsOkAnd, MatchBool, MatchResult}
 use Rattle.arrayvec.specs.ArrayVec.{ArrayVec}
 use Rattle.cbm_medium.specs.Seen.{Seen}
 use Rattle.cbm_medium.specs.declared.fault.Trouble.{Trouble}
@@ -15,7 +15,7 @@ use Rattle.cbm_machine.specs.Talking.{taken_on}
 use Rattle.cbm_channel.specs.declared.channel.Channel.{Channel}
 use Rattle.cbm_channel.specs.declared.channel.Channel.TheVariants as code
 use Rattle.cbm_channel.specs.declared.on_record.Waiting.{Waiting}
-use Rattle.cbm_channel.specs.ChannelCalls.{KeepsElse, KeepsOutside, OfPlaced}
+use Rattle.cbm_channel.specs.ChannelCalls.{KeepsElse, KeepsRest, OfPlaced}
 use Rattle.cbm_channel.specs.Placed.{Placed, Waits, IsOnRecord}
 use Rattle.cbm_channel.specs.Recorded.{CanGrow, disk_grown, IsTextStored, IsTextCut, IsTextEnded, IsTextStopped, OfClosedRecords}
 
@@ -62,9 +62,9 @@ ReadsBehind result next old new r = OfPlaced old r (λ d uses b s rs. IfOk resul
 abbrev pub EndsText : Result (Option Bool) Trouble → Seen → Seen → Placed → Placed → List ℕ → Type 0
 EndsText result old new r q bytes = OfPlaced old r (λ d uses b s rs. MatchResult result (IsTextEnded old new d uses r q b s rs bytes) (IsTextStopped old new d uses r q b s rs bytes))
 
--- where a text can be put to the place, the sectors outside the disk stay
-abbrev pub KeepsOutsidePlaced : Seen → Seen → Placed → Type 0
-KeepsOutsidePlaced old new r = OfPlaced old r (λ d uses b s rs. KeepsOutside old new)
+-- where a text can be put to the place, the rest of the disk stays but for the slot of its file
+abbrev pub KeepsRestPlaced : Seen → Seen → Placed → Type 0
+KeepsRestPlaced old new r = OfPlaced old r (λ d uses b s rs. KeepsRest old new (λ n. r.slot == n))
 
 -- where bytes were stored, some that didn't fit or all, the disk isn't protected
 abbrev pub StoresUnprotected : Result (Option Bool) Trouble → Seen → Type 0
@@ -84,6 +84,6 @@ abbrev pub PutsText : Seen → Seen → Channel → Channel → List ℕ → Res
 PutsText old new x x' bytes result = (r : Placed) → x ≡ code.Records r → OfPlaced old r (λ d uses b s rs.
     (q : Placed) × (x' ≡ code.Records q) × MatchResult result (IsTextEnded old new d uses r q b s rs bytes) (IsTextStopped old new d uses r q b s rs bytes))
 
--- where a text can be put to them, the sectors outside the disk stay
-abbrev pub KeepsOutsideRecords : Seen → Seen → Channel → Type 0
-KeepsOutsideRecords old new x = (r : Placed) → x ≡ code.Records r → KeepsOutsidePlaced old new r
+-- where a text can be put to them, the rest of the disk stays but for the slot of their file
+abbrev pub KeepsRestRecords : Seen → Seen → Channel → Type 0
+KeepsRestRecords old new x = (r : Placed) → x ≡ code.Records r → KeepsRestPlaced old new r

@@ -78,6 +78,10 @@ writes_on n (code.Writing w full) = w.slot == n
 writes_on n (code.Stopped slot) = slot == n
 writes_on n (code.Records r) = r.slot == n
 
+-- the channel of this number has
+abbrev pub written_by : {M : Type 0} → ℕ → Kept M → ℕ → Bool
+written_by ch k n = writes_on n (slice_index_or k.channels ch code.Closed)
+
 -- it has the slot open
 abbrev pub uses_on : ℕ → Channel → Bool
 uses_on n code.Closed = false

@@ -83,7 +83,7 @@ pub(crate) fn any_open(channels: &[Channel]) -> bool
 
 impl Channel {
     ghost use Rattle.std.specs.Prelude.{◌≡◌, ◌≤◌, ◌<◌, ◌^◌, true, false, Some, None, IsOk, IfOk, IfErr, OnErr, replicate};
-    ghost use Rattle.cbm_channel.specs.ChannelCalls.{KeepsElse, OfChannel, TakesOnChannel, PlacesOn, PutsByte, FinishesFile, DoesNothing, KeepsFile};
+    ghost use Rattle.cbm_channel.specs.ChannelCalls.{KeepsElse, OfChannel, TakesOnChannel, PlacesOn, PutsByte, FinishesFile, DoesNothing, KeepsFile, KeepsSlot};
     ghost use Rattle.cbm_machine.specs.Machines as machine;
     ghost use Rattle.cbm_machine.specs.Codes.{code_number};
     ghost use Rattle.cbm_channel.specs.Grounds.{HidesRecords, is_fault_number};
@@ -91,7 +91,7 @@ impl Channel {
     ghost use Rattle.cbm_channel.specs.Shown.{is_channel_closed, talk_refused, is_written, is_writing, has_records, writes_on, uses_on, cost_on, shown_on};
     ghost use Rattle.cbm_channel.specs.Written.{is_unbegun, IsBeingWritten};
     ghost use Rattle.cbm_channel.specs.Taken.{IsTakenBy};
-    ghost use Rattle.cbm_channel.specs.PlaceCalls.{StoresUnprotected, IsRecordsCall, PutsText, KeepsOutsideRecords};
+    ghost use Rattle.cbm_channel.specs.PlaceCalls.{StoresUnprotected, IsRecordsCall, PutsText, KeepsRestRecords};
 
     /// Fifteen channels that are closed.
     pub(crate) fn all_closed() -> [Channel; 15]
@@ -260,6 +260,7 @@ impl Channel {
         ensures call { PutsByte byte (M.seen volume.old) (M.seen volume.new) self.old self.new result }
         ensures quiet { is_writing self.old ≡ false → DoesNothing result true self.old self.new volume.old volume.new }
         ensures cut { OnErr result (is_writing self.new ≡ false) }
+        ensures slot { KeepsSlot self.old self.new }
         ensures only { KeepsElse result (M.seen volume.old) (M.seen volume.new) }
     {
         let Channel::Writing(writer, full) = self else {
@@ -295,7 +296,7 @@ impl Channel {
             DoesNothing result (Some false) self.old self.new volume.old volume.new }
         ensures allowed { has_records self.old ≡ true → StoresUnprotected result (M.seen volume.old) }
         ensures call { IsRecordsCall result None (M.seen volume.old) (M.seen volume.new) }
-        ensures outside { KeepsOutsideRecords (M.seen volume.old) (M.seen volume.new) self.old }
+        ensures rest { KeepsRestRecords (M.seen volume.old) (M.seen volume.new) self.old }
     {
         match self {
             Channel::Records(on) => on.write_record(volume, bytes),

@@ -113,7 +113,7 @@ impl OnRecord {
     ghost use Rattle.cbm_channel.specs.ChannelCalls.{KeepsElse, OfPlaced};
     ghost use Rattle.cbm_channel.specs.declared.on_record.Waiting.TheVariants.{Broken};
     ghost use Rattle.cbm_channel.specs.Placed.{IsOnRecord, IsPlacedAt, IsMoved, shown_at, is_absent, is_broken};
-    ghost use Rattle.cbm_channel.specs.PlaceCalls.{ReachesRecord, WasRead, TakesRecordByte, GrowsToPlace, StoresText, ReadsBehind, EndsText, KeepsOutsidePlaced, StoresUnprotected, IsRecordsCall};
+    ghost use Rattle.cbm_channel.specs.PlaceCalls.{ReachesRecord, WasRead, TakesRecordByte, GrowsToPlace, StoresText, ReadsBehind, EndsText, KeepsRestPlaced, StoresUnprotected, IsRecordsCall};
     ghost use Rattle.cbm_channel.specs.Recorded.{OfClosedRecords};
 
     /// The first byte of the first record of the file in a slot, whose records have this length. Errors: why that
@@ -244,7 +244,7 @@ impl OnRecord {
             IsRecordCall result old new d uses r.slot r.width b s rs r.number r.position bytes.now) }
         ensures write { IsRecordWrite result (M.seen volume.old) (M.seen volume.new) self.now.number }
         ensures only { KeepsElse result (M.seen volume.old) (M.seen volume.new) }
-        ensures outside { KeepsOutsidePlaced (M.seen volume.old) (M.seen volume.new) self.now }
+        ensures rest { KeepsRestPlaced (M.seen volume.old) (M.seen volume.new) self.now }
     {
         // No record has the number 0, and no byte of one.
         if self.number == 0 || self.position == 0 {
@@ -258,7 +258,7 @@ impl OnRecord {
     fn grow<M: Medium>(&self, volume: &mut Volume<M>) -> Result<bool, Trouble>
         ensures grown { GrowsToPlace (M.seen volume.old) (M.seen volume.new) self.now result }
         ensures call { IsRecordsCall result false (M.seen volume.old) (M.seen volume.new) }
-        ensures outside { KeepsOutsidePlaced (M.seen volume.old) (M.seen volume.new) self.now }
+        ensures rest { KeepsRestPlaced (M.seen volume.old) (M.seen volume.new) self.now }
     {
         if self.number == 0 {
             return Ok(false);
@@ -277,7 +277,7 @@ impl OnRecord {
         ensures next { ReadsBehind result (λ x. x.next) (M.seen volume.old) (M.seen volume.new) self.now }
         ensures write { IsRecordWrite result (M.seen volume.old) (M.seen volume.new) self.now.number }
         ensures medium { KeepsElse result (M.seen volume.old) (M.seen volume.new) }
-        ensures outside { KeepsOutsidePlaced (M.seen volume.old) (M.seen volume.new) self.now }
+        ensures rest { KeepsRestPlaced (M.seen volume.old) (M.seen volume.new) self.now }
     {
         if let Some(written) = self.write(volume, bytes)? {
             return Ok(Some(written));
@@ -304,7 +304,7 @@ impl OnRecord {
         ensures file { (self.new.slot ≡ self.old.slot) × (self.new.width ≡ self.old.width) }
         ensures allowed { StoresUnprotected result (M.seen volume.old) }
         ensures call { IsRecordsCall result None (M.seen volume.old) (M.seen volume.new) }
-        ensures outside { KeepsOutsidePlaced (M.seen volume.old) (M.seen volume.new) self.old }
+        ensures rest { KeepsRestPlaced (M.seen volume.old) (M.seen volume.new) self.old }
     {
         match self.store(volume, bytes) {
             Ok(Some(written)) => {

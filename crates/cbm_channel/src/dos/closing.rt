@@ -10,11 +10,11 @@ impl<M: Medium> Dos<M> {
     ghost use Rattle.cbm_machine.specs.Closing.{close_one, finish_channel, without_text};
     ghost use Rattle.cbm_channel.specs.Standing.{Stands, SameBut, Leads};
     ghost use Rattle.cbm_channel.specs.Written.{is_unbegun};
-    ghost use Rattle.cbm_channel.specs.ChannelCalls.{LeavesOutside};
-    ghost use Rattle.cbm_channel.specs.Shown.{is_writing_on, KeepsMediumAndStatus};
+    ghost use Rattle.cbm_channel.specs.ChannelCalls.{LeavesRest, no_slot};
+    ghost use Rattle.cbm_channel.specs.Shown.{is_writing_on, written_by, KeepsMediumAndStatus};
     ghost use Rattle.cbm_machine.specs.Machines.{Machine, channel as channel_of};
     ghost use Rattle.cbm_channel.specs.Going.{AreCounted, Goes, Went, some_byte_put, closing, closings, KeepsMedium};
-    ghost use Rattle.cbm_channel.specs.Parts.{LeavesDisk, OnlyText, CutsOff, ClosesOne, ClosesChannels, ClosesQuietly, LeavesByClose};
+    ghost use Rattle.cbm_channel.specs.Parts.{LeavesDisk, OnlyText, CutsOff, KeepsSlotOn, ClosesOne, ClosesChannels, ClosesQuietly, LeavesByClose, closed_by};
 
     /// CLOSE: the file that is written on the channel is finished, and the channel is closed; on 15 the channels 0 to
     /// 14 are, in order. Where the medium refuses a write, its fault becomes the status.
@@ -39,7 +39,7 @@ impl<M: Medium> Dos<M> {
         ensures goes { Went M.seen self.old self.new channel (close_one channel) }
         ensures closes { ClosesOne channel self.old.channels self.new.channels }
         ensures quiet { is_writing_on channel self.old ≡ false → KeepsMediumAndStatus self.old self.new }
-        ensures leaves { LeavesDisk M.seen self.old self.new }
+        ensures leaves { LeavesDisk M.seen (written_by channel self.old) self.old self.new }
     {
         self.fill(channel);
         self.finish(channel);
@@ -53,7 +53,8 @@ impl<M: Medium> Dos<M> {
         ensures others { SameBut channel self.old.channels self.new.channels }
         ensures quiet { is_writing_on channel self.old ≡ false → self.new ≡ self.old }
         ensures cut { CutsOff M.seen channel self.old self.new }
-        ensures leaves { LeavesDisk M.seen self.old self.new }
+        ensures slot { KeepsSlotOn channel self.old self.new }
+        ensures leaves { LeavesDisk M.seen no_slot self.old self.new }
     {
         if self.is_empty(channel) {
             self.store(channel, b'\r');
@@ -76,7 +77,7 @@ impl<M: Medium> Dos<M> {
         ensures channels { self.new.channels ≡ slice_set self.old.channels channel Closed }
         ensures count { length self.new.channels ≡ 15 }
         ensures quiet { is_writing_on channel self.old ≡ false → KeepsMediumAndStatus self.old self.new }
-        ensures leaves { LeavesDisk M.seen self.old self.new }
+        ensures leaves { LeavesDisk M.seen (written_by channel self.old) self.old self.new }
     {
         if let Err(trouble) = self.channels[channel as usize].finish(&mut self.volume) {
             self.set(Status::from(trouble));
@@ -89,7 +90,7 @@ impl<M: Medium> Dos<M> {
         ensures closed { (k : ℕ) → slice_index_or self.new.channels k Closed ≡ Closed }
         ensures quiet { ((k : ℕ) → is_writing_on k self.old ≡ false) → KeepsMediumAndStatus self.old self.new }
         ensures medium { KeepsMedium (M.seen self.old.medium) (M.seen self.new.medium) }
-        ensures outside { LeavesOutside M.seen self.old self.new }
+        ensures rest { LeavesRest M.seen (λ m. closed_by 15 self.old) self.old self.new }
         ensures counted { AreCounted M.seen 15 self.old self.new }
     {
         for channel in 0..15 {

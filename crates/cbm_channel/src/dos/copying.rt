@@ -37,11 +37,11 @@ impl<M: Medium> Dos<M> {
     ghost use Rattle.cbm_machine.specs.Machines.{Machine, answered};
     ghost use Rattle.cbm_machine.specs.Running.{copy, source, sources};
     ghost use Rattle.cbm_channel.specs.Grounds.{HasGround};
-    ghost use Rattle.cbm_channel.specs.ChannelCalls.{LeavesOutside};
+    ghost use Rattle.cbm_channel.specs.ChannelCalls.{LeavesRest, no_slot};
     ghost use Rattle.cbm_channel.specs.Standing.{Stands};
     ghost use Rattle.cbm_channel.specs.Going.{Went};
     ghost use Rattle.cbm_channel.specs.Joined.{SourceAs, AddsSources, IsCopying, RefusesCopy};
-    ghost use Rattle.cbm_channel.specs.Parts.{OfMachine, WentWhere, KeepsOutsideWhere, LeavesChannels, IsFineOrSameUnlessFault};
+    ghost use Rattle.cbm_channel.specs.Parts.{OfMachine, WentWhere, KeepsRestWhere, LeavesChannels, IsFineOrSameUnlessFault};
 
     /// C: the bytes of the old names' files, one after another, are a new closed file of the first one's type.
     pub(super) fn copy(&mut self, new: &Name, olds: &Names)
@@ -49,7 +49,7 @@ impl<M: Medium> Dos<M> {
             Went M.seen self.old self.new 15 (λ m. answered m (copy new.now olds.now m)) }
         ensures refused { IsFineOrSameUnlessFault M.seen self.old self.new }
         ensures leaves { LeavesChannels M.seen self.old self.new }
-        ensures outside { LeavesOutside M.seen self.old self.new }
+        ensures rest { LeavesRest M.seen (λ m. no_slot) self.old self.new }
     {
         match self.plan_copy(new, olds) {
             Ok((kind, slots)) => self.copy_slots(new, kind, slots.as_slice()),
@@ -122,7 +122,8 @@ impl<M: Medium> Dos<M> {
         ensures refused { IsFineOrSameUnlessFault M.seen self.old self.new }
         ensures count { length self.new.channels ≡ 15 }
         ensures leaves { LeavesChannels M.seen self.old self.new }
-        ensures outside { KeepsOutsideWhere M.seen self.old self.new (λ m olds. IsCopying m name.now olds kind slots.now) }
+        ensures rest { KeepsRestWhere M.seen no_slot self.old self.new
+            (λ m olds. IsCopying m name.now olds kind slots.now) }
     {
         match self.volume.copy(kind, name.bytes(), slots) {
             Ok(true) => self.say(Code::Fine),

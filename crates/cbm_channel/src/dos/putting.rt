@@ -25,11 +25,12 @@ impl<M: Medium> Dos<M> {
     ghost use Rattle.cbm_machine.specs.Running.{run};
     ghost use Rattle.cbm_command.specs.declared.command.Command.TheVariants.{Position};
     ghost use Rattle.cbm_channel.specs.Grounds.{KeepsIfRefused};
+    ghost use Rattle.cbm_channel.specs.ChannelCalls.{no_slot};
     ghost use Rattle.cbm_channel.specs.Standing.{SameBut, Leads};
-    ghost use Rattle.cbm_channel.specs.Shown.{is_writing_on, has_records_on, KeepsMediumAndStatus};
+    ghost use Rattle.cbm_channel.specs.Shown.{is_writing_on, has_records_on, written_by, KeepsMediumAndStatus};
     ghost use Rattle.cbm_channel.specs.Going.{Goes, Went, put_written};
-    ghost use Rattle.cbm_channel.specs.Commanded.{IsOfCommandText, changes_disk, commands_change, formats, text_formats, end_formats, validates, text_validates, end_validates, moved_by, text_moves, end_moves};
-    ghost use Rattle.cbm_channel.specs.Parts.{LeavesDisk, LeavesByCommand, OnlyText, OnlyTells, OnlyTellsFor, CutsOff, TakesText, WritesText, MovesOne, WentUnlessNew, EndsGathered, EndsQuietly, SparesDisk};
+    ghost use Rattle.cbm_channel.specs.Commanded.{IsOfCommandText, changes_disk, commands_change, formats, text_formats, end_formats, validates, text_validates, end_validates, moved_by, text_moves, end_moves, cleared_by, text_clears};
+    ghost use Rattle.cbm_channel.specs.Parts.{LeavesDisk, LeavesByCommand, OnlyText, OnlyTells, OnlyTellsFor, CutsOff, KeepsSlotOn, TakesText, WritesText, MovesOne, WentUnlessNew, EndsGathered, EndsQuietly, SparesDisk, changed_by_end};
 
     /// A byte that the host sends to a channel: on 15 it is gathered for a command, on a channel that has records open
     /// for one of these, and on one that writes a file it goes to the file; on others it is dropped. The first byte for which no block is free sets the status
@@ -40,7 +41,7 @@ impl<M: Medium> Dos<M> {
         // On any disk:
         ensures others { SameBut channel self.old.channels self.new.channels }
         ensures quiet { is_writing_on channel self.old ≡ false → KeepsMediumAndStatus self.old self.new }
-        ensures leaves { LeavesDisk M.seen self.old self.new }
+        ensures leaves { LeavesDisk M.seen no_slot self.old self.new }
     {
         if channel == 15 {
             self.gather(channel, byte);
@@ -58,7 +59,8 @@ impl<M: Medium> Dos<M> {
         ensures others { SameBut channel self.old.channels self.new.channels }
         ensures quiet { is_writing_on channel self.old ≡ false → KeepsMediumAndStatus self.old self.new }
         ensures cut { CutsOff M.seen channel self.old self.new }
-        ensures leaves { LeavesDisk M.seen self.old self.new }
+        ensures slot { KeepsSlotOn channel self.old self.new }
+        ensures leaves { LeavesDisk M.seen no_slot self.old self.new }
     {
         match self.channels[channel as usize].put(&mut self.volume, byte) {
             Ok(true) => {}
@@ -97,7 +99,7 @@ impl<M: Medium> Dos<M> {
         requires { channel ≤ 15 }
         ensures goes { EndsGathered M.seen channel self.old self.new }
         ensures leaves { LeavesByCommand M.seen (end_moves channel self.old.text) (end_validates channel self.old.text)
-            (end_formats channel self.old.text) self.old self.new }
+            (end_formats channel self.old.text) (changed_by_end channel self.old) self.old self.new }
         ensures quiet { EndsQuietly M.seen channel self.old self.new }
         ensures spares { SparesDisk M.seen channel self.old self.new }
     {
@@ -119,7 +121,7 @@ impl<M: Medium> Dos<M> {
         ensures moves { MovesOne channel self.old.channels self.new.channels }
         ensures quiet { has_records_on channel self.old ≡ false → self.new ≡ self.old }
         ensures spared { (self.new.told ≡ self.old.told) ⊎ KeepsIfRefused M.seen self.old self.new }
-        ensures leaves { LeavesDisk M.seen self.old self.new }
+        ensures leaves { LeavesDisk M.seen (written_by channel self.old) self.old self.new }
     {
         match self.channels[channel as usize].write_record(&mut self.volume, bytes) {
             Ok(Some(false)) => {}
@@ -133,7 +135,7 @@ impl<M: Medium> Dos<M> {
     pub(super) fn command(&mut self, text: &[u8])
         ensures goes { WentUnlessNew M.seen (text_formats text.now) self.old self.new (command text.now) }
         ensures leaves { LeavesByCommand M.seen (text_moves text.now) (text_validates text.now) (text_formats text.now)
-            self.old self.new }
+            (text_clears text.now) self.old self.new }
         ensures quiet { commands_change text.now ≡ false → OnlyTellsFor M.seen self.old self.new }
         ensures spared { KeepsIfRefused M.seen self.old self.new }
     {
@@ -152,7 +154,7 @@ impl<M: Medium> Dos<M> {
         ensures goes { IsOfCommandText command.now → WentUnlessNew M.seen (formats command.now) self.old self.new
             (λ n. answered n (run command.now n)) }
         ensures leaves { LeavesByCommand M.seen (moved_by command.now) (validates command.now) (formats command.now)
-            self.old self.new }
+            (cleared_by command.now) self.old self.new }
         ensures quiet { changes_disk command.now ≡ false → OnlyTells M.seen self.old self.new }
         ensures spared { KeepsIfRefused M.seen self.old self.new }
     {

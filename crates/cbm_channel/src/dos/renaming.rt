@@ -12,11 +12,11 @@ impl<M: Medium> Dos<M> {
     ghost use Rattle.cbm_machine.specs.Machines.{Machine, answered};
     ghost use Rattle.cbm_machine.specs.Running.{rename};
     ghost use Rattle.cbm_channel.specs.Grounds.{HasGround};
-    ghost use Rattle.cbm_channel.specs.ChannelCalls.{LeavesOutside};
+    ghost use Rattle.cbm_channel.specs.ChannelCalls.{LeavesRest, no_slot};
     ghost use Rattle.cbm_channel.specs.Standing.{Stands};
     ghost use Rattle.cbm_channel.specs.Going.{Went};
     ghost use Rattle.cbm_channel.specs.Commanded.{IsRenamable, RenamesAs};
-    ghost use Rattle.cbm_channel.specs.Parts.{WentWhere, KeepsOutsideWhere, LeavesChannels, IsFineOrSame};
+    ghost use Rattle.cbm_channel.specs.Parts.{WentWhere, KeepsRestWhere, LeavesChannels, IsFineOrSame};
 
     /// R: the first file of the old name gets the new one, which ends before its first $A0.
     pub(super) fn rename(&mut self, new: &Name, old: &Name)
@@ -24,7 +24,7 @@ impl<M: Medium> Dos<M> {
             Went M.seen self.old self.new 15 (λ m. answered m (rename new.now old.now m)) }
         ensures refused { IsFineOrSame M.seen self.old self.new }
         ensures leaves { LeavesChannels M.seen self.old self.new }
-        ensures outside { LeavesOutside M.seen self.old self.new }
+        ensures rest { LeavesRest M.seen (λ m. no_slot) self.old self.new }
     {
         match self.plan_rename(new, old) {
             Ok(slot) => self.rename_slot(slot, new),
@@ -58,7 +58,7 @@ impl<M: Medium> Dos<M> {
         ensures refused { IsFineOrSame M.seen self.old self.new }
         ensures count { length self.new.channels ≡ 15 }
         ensures leaves { LeavesChannels M.seen self.old self.new }
-        ensures outside { KeepsOutsideWhere M.seen self.old self.new (λ m old. IsRenamable m name.now old slot) }
+        ensures rest { KeepsRestWhere M.seen no_slot self.old self.new (λ m old. IsRenamable m name.now old slot) }
     {
         match self.volume.rename(slot, name.bytes()) {
             Ok(()) => self.say(Code::Fine),

@@ -43,7 +43,7 @@ fn may_go(channels: &[Channel], patterns: &[Name], number: u8, entry: &Entry) ->
 
 impl<M: Medium> Dos<M> {
     ghost use Rattle.std.specs.Prelude.{◌≡◌, ◌≢◌, ◌≤◌, IfOk, IfErr, IsOkAnd, length};
-    ghost use Rattle.cbm_channel.specs.ChannelCalls.{KeepsElse, LeavesOutside};
+    ghost use Rattle.cbm_channel.specs.ChannelCalls.{KeepsElse, LeavesRest};
     ghost use Rattle.cbm_volume.specs.Map.{geometry_of};
     ghost use Rattle.cbm_volume.specs.Slots.{directory_of};
     ghost use Rattle.cbm_machine.specs.Machines.{Machine, answered};
@@ -51,14 +51,14 @@ impl<M: Medium> Dos<M> {
     ghost use Rattle.cbm_channel.specs.Grounds.{HasGround, KeepsIfRefused};
     ghost use Rattle.cbm_channel.specs.Standing.{Stands};
     ghost use Rattle.cbm_channel.specs.Going.{Went};
-    ghost use Rattle.cbm_channel.specs.Commanded.{entries_going, slots_going, AreSlotsGoing, AreUnguarded, RefusesScratch};
-    ghost use Rattle.cbm_channel.specs.Parts.{OfMachine, WentWhere, KeepsOutsideWhere, LeavesMedium, LeavesChannels, OnlyMedium, SameChannels, ClearsSlots, StopsClearing, KeepsOutsideGoing};
+    ghost use Rattle.cbm_channel.specs.Commanded.{entries_going, slots_going, is_slot_among, AreSlotsGoing, AreUnguarded, RefusesScratch};
+    ghost use Rattle.cbm_channel.specs.Parts.{OfMachine, WentWhere, KeepsRestWhere, LeavesMedium, LeavesChannels, OnlyMedium, SameChannels, ClearsSlots, StopsClearing, KeepsRestGoing};
 
     /// S: each file that matches a pattern, isn't locked and isn't open goes; 01 reports how many.
     pub(super) fn scratch(&mut self, patterns: &Names)
         ensures goes { Went M.seen self.old self.new 15 (λ n. answered n (scratch patterns.now n)) }
         ensures leaves { LeavesChannels M.seen self.old self.new }
-        ensures outside { LeavesOutside M.seen self.old self.new }
+        ensures rest { LeavesRest M.seen (λ m. is_slot_among (slots_going m patterns.now 0 m.disk.slots)) self.old self.new }
     {
         match self.plan_scratch(patterns) {
             Ok(slots) => self.scratch_slots(slots.as_slice()),
@@ -111,7 +111,8 @@ impl<M: Medium> Dos<M> {
         ensures spared { AreUnguarded (M.seen self.old.medium).protected slots.now →
             KeepsIfRefused M.seen self.old self.new }
         ensures leaves { LeavesMedium M.seen self.old self.new }
-        ensures outside { KeepsOutsideWhere M.seen self.old self.new (λ m patterns. AreSlotsGoing m patterns slots.now) }
+        ensures rest { KeepsRestWhere M.seen (is_slot_among slots.now) self.old self.new
+            (λ m patterns. AreSlotsGoing m patterns slots.now) }
     {
         match self.clear(slots) {
             Ok(()) => self.set(Status {
@@ -130,7 +131,7 @@ impl<M: Medium> Dos<M> {
         ensures unguarded { AreUnguarded (M.seen self.old.medium).protected slots.now → IfErr result (λ t. t.code ≢ 26) }
         ensures only { OnlyMedium self.old self.new }
         ensures medium { KeepsElse result (M.seen self.old.medium) (M.seen self.new.medium) }
-        ensures outside { KeepsOutsideGoing M.seen slots.now self.old self.new }
+        ensures rest { KeepsRestGoing M.seen slots.now self.old self.new }
     {
         'slots: for slot in slots {
             self.volume.scratch(*slot)?;

@@ -10,7 +10,7 @@ impl<M: Medium> Dos<M> {
     ghost use Rattle.cbm_command.specs.declared.command.Command.TheVariants.{Validate};
     ghost use Rattle.cbm_machine.specs.Machines.{Machine, answered, any_open};
     ghost use Rattle.cbm_machine.specs.Running.{run};
-    ghost use Rattle.cbm_channel.specs.ChannelCalls.{LeavesOutside};
+    ghost use Rattle.cbm_channel.specs.ChannelCalls.{LeavesRest, no_slot};
     ghost use Rattle.cbm_channel.specs.Standing.{Stands};
     ghost use Rattle.cbm_channel.specs.Grounds.{OrdersDisk};
     ghost use Rattle.cbm_channel.specs.Going.{Went};
@@ -24,7 +24,7 @@ impl<M: Medium> Dos<M> {
         // On any disk:
         ensures ordered { OrdersDisk M.seen self.old self.new }
         ensures leaves { LeavesChannels M.seen self.old self.new }
-        ensures outside { LeavesOutside M.seen self.old self.new }
+        ensures rest { LeavesRest M.seen (λ m. no_slot) self.old self.new }
     {
         if self.is_any_open() {
             self.say(Code::WriteFileOpen);

@@ -3,7 +3,8 @@ use Rattle.cbm_volume.proofs.layouts.Calls.{if_ok, on_ok}
 use Rattle.cbm_channel.proofs.BytesPut.{writes_so, written_on}
 use Rattle.cbm_channel.proofs.Finished.{let_go_none, closed_plain, closed_replaced, closed_given, stopped_early, on_err, ok_to, err_to}
 use Rattle.cbm_file.specs.Files.{file_at}
-use Rattle.cbm_channel.proofs.Outside.{outside_itself, change_outside, given_outside, writer_size, max_size, finished_total, replaced_total}
+use Rattle.cbm_channel.proofs.Rest.{rest_itself, rest_none, change_rest, given_rest, writer_size, max_size, finished_total, replaced_total}
+use Rattle.cbm_channel.proofs.Spared.{finish_rest}
 use Rattle.cbm_channel.proofs.channel.Channel.finish_file.Goals as goal
 
 pub returns-in_default-clause-call : goal.returns-in_default-clause-call
@@ -12,7 +13,7 @@ returns-in_default-clause-call g c = λ d uses ch x h e s.
       done = let_go_none _ _ d uses ch c.args.self.now x c.in_default.not-Writing s h;
       stopped = (search rules);
       cause = (search rules);
-      outside = outside_itself _ _ refl;
+      rest = rest_itself _ _ refl;
     }
 
 -- a new file, or one that was appended to
@@ -30,9 +31,9 @@ returns-then-not-replaces-clause-call g c = λ d uses ch x h e s.
       cause =
           let at = writes_so c.args.self.now c.in-Writing.writer c.in-Writing.full x (uses ch) c.in-Writing.is s e in
           (c.finish.ensures.call d uses ch at.0 at.1 h at.3).cause;
-      outside =
+      rest =
           let at = writes_so c.args.self.now c.in-Writing.writer c.in-Writing.full x (uses ch) c.in-Writing.is s e in
-          change_outside c.finish.result (g.M.Medium.seen c.args.volume.now) (g.M.Medium.seen c.finish.new.self) d _ uses _ _ c.finish.ensures.only (max_size _ _ (writer_size (g.M.Medium.seen c.args.volume.now).tracks (g.M.Medium.seen c.args.volume.now).content d uses ch c.in-Writing.writer at.0 at.1 h at.3)) h (c.finish.ensures.call d uses ch at.0 at.1 h at.3) (finished_total (file_at d c.in-Writing.writer.slot) d c.in-Writing.writer.slot at.0 at.1);
+          finish_rest _ _ c.args.self.now c.in-Writing.writer c.in-Writing.full c.in-Writing.is (change_rest c.finish.result (g.M.Medium.seen c.args.volume.now) (g.M.Medium.seen c.finish.new.self) d _ uses _ _ c.finish.ensures.only (max_size _ _ (writer_size (g.M.Medium.seen c.args.volume.now).tracks (g.M.Medium.seen c.args.volume.now).content d uses ch c.in-Writing.writer at.0 at.1 h at.3)) h (c.finish.ensures.call d uses ch at.0 at.1 h at.3) (finished_total (file_at d c.in-Writing.writer.slot) d c.in-Writing.writer.slot at.0 at.1));
     }
 
 -- a replacement on a full disk
@@ -50,9 +51,9 @@ returns-then-full-clause-call g c = λ d uses ch x h e s.
       cause =
           let at = writes_so c.args.self.now c.in-Writing.writer c.in-Writing.full x (uses ch) c.in-Writing.is s e in
           (c.give_up.ensures.call d uses ch at.0 at.1 h at.3).cause;
-      outside =
+      rest =
           let at = writes_so c.args.self.now c.in-Writing.writer c.in-Writing.full x (uses ch) c.in-Writing.is s e in
-          given_outside c.give_up.result (g.M.Medium.seen c.args.volume.now) (g.M.Medium.seen c.give_up.new.self) d uses _ at.1 _ c.give_up.ensures.only (writer_size (g.M.Medium.seen c.args.volume.now).tracks (g.M.Medium.seen c.args.volume.now).content d uses ch c.in-Writing.writer at.0 at.1 h at.3) h (c.give_up.ensures.call d uses ch at.0 at.1 h at.3);
+          rest_none _ _ (given_rest c.give_up.result (g.M.Medium.seen c.args.volume.now) (g.M.Medium.seen c.give_up.new.self) d uses _ at.1 _ c.give_up.ensures.only (writer_size (g.M.Medium.seen c.args.volume.now).tracks (g.M.Medium.seen c.args.volume.now).content d uses ch c.in-Writing.writer at.0 at.1 h at.3) h (c.give_up.ensures.call d uses ch at.0 at.1 h at.3));
     }
 
 -- a replacement
@@ -72,9 +73,9 @@ returns-else-full-clause-call g c = λ d uses ch x h e s.
       cause =
           let at = writes_so c.args.self.now c.in-Writing.writer c.in-Writing.full x (uses ch) c.in-Writing.is s e in
           (c.finish_replacement.ensures.call d uses ch at.0 at.1 h at.3 (sym c.replaces.ensures ∙ c.if-not-replaces.false)).cause;
-      outside =
+      rest =
           let at = writes_so c.args.self.now c.in-Writing.writer c.in-Writing.full x (uses ch) c.in-Writing.is s e in
-          change_outside c.finish_replacement.result (g.M.Medium.seen c.args.volume.now) (g.M.Medium.seen c.finish_replacement.new.self) d _ uses _ _ c.finish_replacement.ensures.only (max_size _ _ (writer_size (g.M.Medium.seen c.args.volume.now).tracks (g.M.Medium.seen c.args.volume.now).content d uses ch c.in-Writing.writer at.0 at.1 h at.3)) h (c.finish_replacement.ensures.call d uses ch at.0 at.1 h at.3 (sym c.replaces.ensures ∙ c.if-not-replaces.false)) (replaced_total (file_at d c.in-Writing.writer.slot) d c.in-Writing.writer.slot at.0 at.1);
+          finish_rest _ _ c.args.self.now c.in-Writing.writer c.in-Writing.full c.in-Writing.is (change_rest c.finish_replacement.result (g.M.Medium.seen c.args.volume.now) (g.M.Medium.seen c.finish_replacement.new.self) d _ uses _ _ c.finish_replacement.ensures.only (max_size _ _ (writer_size (g.M.Medium.seen c.args.volume.now).tracks (g.M.Medium.seen c.args.volume.now).content d uses ch c.in-Writing.writer at.0 at.1 h at.3)) h (c.finish_replacement.ensures.call d uses ch at.0 at.1 h at.3 (sym c.replaces.ensures ∙ c.if-not-replaces.false)) (replaced_total (file_at d c.in-Writing.writer.slot) d c.in-Writing.writer.slot at.0 at.1));
     }
 
 pub returns-then-not-replaces-clause-wrote : goal.returns-then-not-replaces-clause-wrote

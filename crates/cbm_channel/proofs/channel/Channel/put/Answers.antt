@@ -1,6 +1,9 @@
-use Rattle.std.proofs.Common.{rules, ◌∙◌, refl}
+use Rattle.std.proofs.Common.{rules, ℕ, ap, sym, ◌∙◌, refl}
+use Rattle.std.specs.Prelude.{◌==◌}
+use Rattle.cbm_channel.specs.declared.channel.Channel.{Channel}
+use Rattle.cbm_channel.specs.Shown.{writes_on}
 use Rattle.cbm_channel.proofs.BytesPut.{not_written, put_nothing, put_full, fits_on, writes_so, put_done, cut_off}
-use Rattle.cbm_channel.proofs.Outside.{outside_itself, store_outside, writer_size}
+use Rattle.cbm_channel.proofs.Rest.{rest_itself, store_rest, writer_size}
 use Rattle.cbm_channel.proofs.channel.Channel.put.Goals as goal
 
 -- the channel isn't written
@@ -10,7 +13,7 @@ returns-in_default-clause-call g c = λ d uses ch x h e s.
       done = put_nothing _ _ c.args.byte d uses ch c.args.self.now x (not_written c.args.byte d c.args.self.now x c.in_default.not-Writing s) h e s;
       stopped = (search rules);
       cause = (search rules);
-      outside = outside_itself _ _ refl;
+      rest = rest_itself _ _ refl;
     }
 
 -- the disk was full
@@ -20,7 +23,7 @@ returns-then-full-clause-call g c = λ d uses ch x h e s.
       done = put_full _ _ c.args.byte d uses ch c.args.self.now c.in-Writing.writer c.in-Writing.full x c.in-Writing.is c.if-full.true h e s;
       stopped = (search rules);
       cause = (search rules);
-      outside = outside_itself _ _ refl;
+      rest = rest_itself _ _ refl;
     }
 
 pub returns-in-Ok-clause-fits : goal.returns-in-Ok-clause-fits
@@ -36,9 +39,9 @@ returns-in-Ok-clause-call g c = λ d uses ch x h e s.
           (λ bytes blocks is. (c.in-Ok.ensures.call d uses ch bytes blocks h is).done);
       stopped = (search rules);
       cause = (search rules);
-      outside =
+      rest =
           let at = writes_so c.args.self.now c.in-Writing.writer c.in-Writing.full x (uses ch) c.in-Writing.is s e in
-          store_outside c.store.result (g.M.Medium.seen c.args.volume.now) (g.M.Medium.seen c.store.new.self) d uses _ ch c.in-Writing.writer c.store.new.writer at.0 at.1 c.args.byte _ c.store.ensures.only
+          store_rest c.store.result (g.M.Medium.seen c.args.volume.now) (g.M.Medium.seen c.store.new.self) d uses _ ch c.in-Writing.writer c.store.new.writer at.0 at.1 c.args.byte _ c.store.ensures.only
           (writer_size (g.M.Medium.seen c.args.volume.now).tracks (g.M.Medium.seen c.args.volume.now).content d uses ch c.in-Writing.writer at.0 at.1 h at.3) h (c.store.ensures.call d uses ch at.0 at.1 h at.3);
     }
 
@@ -53,8 +56,16 @@ returns-in-Err-clause-call g c = λ d uses ch x h e s.
       cause =
           let at = writes_so c.args.self.now c.in-Writing.writer c.in-Writing.full x (uses ch) c.in-Writing.is s e in
           (c.in-Err.ensures.call d uses ch at.0 at.1 h at.3).cause;
-      outside =
+      rest =
           let at = writes_so c.args.self.now c.in-Writing.writer c.in-Writing.full x (uses ch) c.in-Writing.is s e in
-          store_outside c.store.result (g.M.Medium.seen c.args.volume.now) (g.M.Medium.seen c.store.new.self) d uses _ ch c.in-Writing.writer c.store.new.writer at.0 at.1 c.args.byte _ c.store.ensures.only
+          store_rest c.store.result (g.M.Medium.seen c.args.volume.now) (g.M.Medium.seen c.store.new.self) d uses _ ch c.in-Writing.writer c.store.new.writer at.0 at.1 c.args.byte _ c.store.ensures.only
           (writer_size (g.M.Medium.seen c.args.volume.now).tracks (g.M.Medium.seen c.args.volume.now).content d uses ch c.in-Writing.writer at.0 at.1 h at.3) h (c.store.ensures.call d uses ch at.0 at.1 h at.3);
     }
+
+-- ---- the slot
+
+pub returns-in-Ok-clause-slot : goal.returns-in-Ok-clause-slot
+returns-in-Ok-clause-slot g c = λ n. ap (λ (k : ℕ). k == n) c.store.ensures.writer.0 ∙ sym (ap (λ (y : Channel). writes_on n y) c.in-Writing.is)
+
+pub returns-in-Err-clause-slot : goal.returns-in-Err-clause-slot
+returns-in-Err-clause-slot g c = λ n. ap (λ (k : ℕ). k == n) (c.slot.ensures ∙ c.store.ensures.writer.0) ∙ sym (ap (λ (y : Channel). writes_on n y) c.in-Writing.is)

@@ -1,5 +1,8 @@
 use Rattle.std.proofs.Common.{rules, ◌<◌, sym, ap, subst, ◌∙◌, refl, inl, inr, arith, length}
-use Rattle.std.specs.Prelude.{slice_set}
+use Rattle.std.specs.Prelude.{slice_set, Option, Ok}
+use Rattle.cbm_channel.specs.declared.channel.Channel.{Channel}
+use Rattle.cbm_channel.specs.Opening.{opened_in}
+use Rattle.cbm_channel.specs.Shown.{writes_on}
 use Rattle.cbm_machine.specs.declared.code.Code.TheVariants.{Fine}
 use Rattle.cbm_machine.specs.Machines.{say}
 use Rattle.cbm_machine.specs.Plans.{act}
@@ -10,7 +13,8 @@ use Rattle.cbm_channel.proofs.Stores.{renamed}
 use Rattle.cbm_channel.proofs.Opens.{opened_stands, opened_cut, idle_at}
 use Rattle.cbm_channel.proofs.Refused.{not_refused, refused_26}
 use Rattle.cbm_channel.proofs.Counted.{counted_else}
-use Rattle.cbm_channel.proofs.Outside.{outside_seen}
+use Rattle.cbm_channel.proofs.Rest.{rest_seen, rest_more, rest_none}
+use Rattle.cbm_channel.proofs.Changed.{set_now}
 use Rattle.cbm_channel.proofs.dos.Dos.act.Goals as goal
 
 -- the channel was opened
@@ -58,13 +62,18 @@ returns-in-Err-clause-leaves g c = record {
   counted = counted_else g.M.Medium.seen c.args.self.now c.set.new.self c.args.self.now.medium c.opened.new.self.medium refl c.set.ensures.medium c.opened.result c.in-Err.trouble c.in-Err.is c.opened.ensures.medium (ap (λ x. x.status) c.set.ensures.told ∙ c.from.ensures);
 }
 
--- ---- what lies outside the disk
+-- ---- the rest of the disk
 
-pub returns-in-Ok-Some-clause-outside : goal.returns-in-Ok-Some-clause-outside
-returns-in-Ok-Some-clause-outside g c = λ m p h s. outside_seen g.M.Medium.seen c.args.self.now.medium c.say.new.self.medium c.args.self.now.medium c.opened.new.self.medium refl (c.say.ensures.medium ∙ ap (λ k. k.medium) c.self.view_is) (c.opened.ensures.opens.outside m p h s)
+pub returns-in-Ok-Some-clause-rest : goal.returns-in-Ok-Some-clause-rest
+returns-in-Ok-Some-clause-rest g c = λ m p h s.
+    let more : c.args.channel < length c.self.inside.channels = omega (arith, c.requires.channel, c.opened.ensures.only.count, ap (λ k. length k.channels) c.self.view_is) in
+    let now = set_now c.self.inside.channels c.say.new.self.channels c.args.channel c.in-Ok-Some.opened c.say.ensures.channels more in
+    rest_seen g.M.Medium.seen c.args.self.now.medium c.say.new.self.medium c.args.self.now.medium c.opened.new.self.medium refl (c.say.ensures.medium ∙ ap (λ k. k.medium) c.self.view_is)
+    (rest_more (opened_in (Ok c.in-Ok-Some.field-0)) _ _ (λ n free. ap (λ (o : Option Channel). opened_in (Ok o) n) c.in-Ok-Some.field-0-is ∙ sym (ap (λ (y : Channel). writes_on n y) now) ∙ free) (c.in-Ok-Some.ensures.opens.rest m p h s))
 
-pub returns-in-Ok-None-clause-outside : goal.returns-in-Ok-None-clause-outside
-returns-in-Ok-None-clause-outside g c = λ m p h s. outside_seen g.M.Medium.seen c.args.self.now.medium c.say-in-Ok-None.new.self.medium c.args.self.now.medium c.opened.new.self.medium refl c.say-in-Ok-None.ensures.medium (c.opened.ensures.opens.outside m p h s)
+pub returns-in-Ok-None-clause-rest : goal.returns-in-Ok-None-clause-rest
+returns-in-Ok-None-clause-rest g c = λ m p h s. rest_seen g.M.Medium.seen c.args.self.now.medium c.say-in-Ok-None.new.self.medium c.args.self.now.medium c.opened.new.self.medium refl c.say-in-Ok-None.ensures.medium
+    (rest_more (opened_in (Ok c.in-Ok-None.field-0)) _ _ (λ n free. ap (λ (o : Option Channel). opened_in (Ok o) n) c.in-Ok-None.field-0-is) (c.in-Ok-None.ensures.opens.rest m p h s))
 
-pub returns-in-Err-clause-outside : goal.returns-in-Err-clause-outside
-returns-in-Err-clause-outside g c = λ m p h s. outside_seen g.M.Medium.seen c.args.self.now.medium c.set.new.self.medium c.args.self.now.medium c.opened.new.self.medium refl c.set.ensures.medium (c.opened.ensures.opens.outside m p h s)
+pub returns-in-Err-clause-rest : goal.returns-in-Err-clause-rest
+returns-in-Err-clause-rest g c = λ m p h s. rest_seen g.M.Medium.seen c.args.self.now.medium c.set.new.self.medium c.args.self.now.medium c.opened.new.self.medium refl c.set.ensures.medium (rest_none _ _ (c.in-Err.ensures.opens.rest m p h s))

@@ -5,7 +5,7 @@ use Rattle.cbm_machine.specs.declared.code.Code.TheVariants.{Fine}
 use Rattle.cbm_channel.specs.Planned.{begun_by}
 use Rattle.cbm_channel.proofs.Goings.{part_same}
 use Rattle.cbm_channel.proofs.Planning.{begun_ok, begun_err, begun_does, begun_refuses}
-use Rattle.cbm_channel.proofs.Outside.{outside_itself}
+use Rattle.cbm_channel.proofs.Rest.{rest_itself}
 use Rattle.cbm_channel.proofs.dos.Dos.begin.Goals as goal
 
 pub returns-in-Ok-clause-goes : goal.returns-in-Ok-clause-goes
@@ -23,12 +23,12 @@ returns-in-Err-clause-goes g c = λ m text shut s.
 pub returns-in-Ok-clause-spared : goal.returns-in-Ok-clause-spared
 returns-in-Ok-clause-spared g c = c.act.ensures.spared c.in-Ok.ensures.sound.allowed
 
--- ---- what lies outside the disk
+-- ---- the rest of the disk
 
-pub returns-in-Ok-clause-outside : goal.returns-in-Ok-clause-outside
-returns-in-Ok-clause-outside g c = λ text m s.
+pub returns-in-Ok-clause-rest : goal.returns-in-Ok-clause-rest
+returns-in-Ok-clause-rest g c = λ text m s.
     let x = begun_ok _ _ m _ c.in-Ok.plan (c.in-Ok.ensures.planned m text s) in
-    c.act.ensures.outside m x.0 x.2 s
+    c.act.ensures.rest m x.0 x.2 s
 
-pub returns-in-Err-clause-outside : goal.returns-in-Err-clause-outside
-returns-in-Err-clause-outside g c = λ text m s. outside_itself _ _ (ap g.M.Medium.seen c.set.ensures.medium)
+pub returns-in-Err-clause-rest : goal.returns-in-Err-clause-rest
+returns-in-Err-clause-rest g c = λ text m s. rest_itself _ _ (ap g.M.Medium.seen c.set.ensures.medium)

@@ -1,7 +1,8 @@
 use Rattle.std.proofs.Common.{Ok, length, sym, ap, subst, ◌∙◌, arith, ◌≢◌, refl}
 use Rattle.cbm_medium.specs.Seen.{Seen}
 use Rattle.cbm_volume.specs.Opens.{IsHindered}
-use Rattle.cbm_channel.specs.Commanded.{all_scratched}
+use Rattle.std.specs.Prelude.{◌==◌, slice_index_or}
+use Rattle.cbm_channel.specs.Commanded.{all_scratched, is_slot_among}
 use Rattle.cbm_channel.specs.Standing.{uses_of}
 use Rattle.cbm_channel.proofs.Elses.{only_else, else_nothing, else_more}
 use Rattle.cbm_channel.proofs.DiskSteps.{refused_then, fits_same}
@@ -10,8 +11,9 @@ use Rattle.cbm_channel.proofs.Scratches.{IsClearing, clearing_first, clearing_ne
 use Rattle.cbm_channel.proofs.Goings.{late}
 use Rattle.cbm_channel.proofs.Troubles.{passed_on}
 use Rattle.cbm_file.specs.Files.{file_at}
-use Rattle.cbm_channel.specs.ChannelCalls.{KeepsOutside}
-use Rattle.cbm_channel.proofs.Outside.{outside_itself, outside_then, change_outside, scratched_total}
+use Rattle.cbm_channel.specs.ChannelCalls.{KeepsRest}
+use Rattle.cbm_channel.proofs.Rest.{rest_itself, rest_then, change_rest, scratched_total}
+use Rattle.cbm_channel.proofs.Spared.{not_among}
 use Rattle.cbm_channel.proofs.dos.Dos.clear.Goals as goal
 
 pub slots-init : goal.slots-init
@@ -22,7 +24,7 @@ slots-init g c =
           (clearing_first _ _ _ m.disk c.args.slots.now st.holds can)),
       else_nothing (Ok tt) _ _ (ap g.M.Medium.seen vol) tt,
       c.self.view_is ∙ ap (λ v. record old { medium = v }) (sym vol),
-      (λ m st can. outside_itself _ _ (ap g.M.Medium.seen vol)),
+      (λ m st can. rest_itself _ _ (ap g.M.Medium.seen vol)),
     )
 
 pub invariant_of-self : goal.invariant_of-self
@@ -69,9 +71,9 @@ slots-preserved g c =
           let mid : Seen = g.M.Medium.seen c.slots.self-inside.volume in
           let new : Seen = g.M.Medium.seen c.scratch.new.self in
           let h = next_left _ _ _ m.disk (all_scratched m.disk c.args.slots.now) c.args.slots.now c.slots.slot-index c.slots-test.true (c.slots.invariant.0 m st can) in
-          (outside_then (g.M.Medium.seen old.medium) mid new (c.slots.invariant.3 m st can)
-          (clearing_hindered _ _ new.content (uses_of old.channels m.channels) m.disk (all_scratched m.disk c.args.slots.now) _ _ h mid.tracks (KeepsOutside mid new) c.slots.invariant.1.tracks
-          (λ d us f at some unused. change_outside c.scratch.result mid new d _ us _ _ c.scratch.ensures.only refl at (c.scratch.ensures.call d us at f some unused) (scratched_total (file_at d _) d _))))),
+          (clearing_hindered _ _ new.content (uses_of old.channels m.channels) m.disk (all_scratched m.disk c.args.slots.now) _ _ h mid.tracks (KeepsRest (g.M.Medium.seen old.medium) new (is_slot_among c.args.slots.now)) c.slots.invariant.1.tracks
+          (λ d us f at some unused. rest_then (is_slot_among c.args.slots.now) (λ n. n == slice_index_or c.args.slots.now c.slots.slot-index 0) (g.M.Medium.seen old.medium) mid new d us at (λ n e. (e, not_among c.args.slots.now c.slots.slot-index n c.slots-test.true e)) (c.slots.invariant.3 m st can)
+          (change_rest c.scratch.result mid new d _ us _ _ c.scratch.ensures.only refl at (c.scratch.ensures.call d us at f some unused) (scratched_total (file_at d _) d _))))),
     )
 
 pub returns-clause-scratched : goal.returns-clause-scratched
@@ -91,17 +93,17 @@ pub returns-in_err-scratch-clause-unguarded : goal.returns-in_err-scratch-clause
 returns-in_err-scratch-clause-unguarded g c = λ free. passed_on c.from_residual.result c.in_err-scratch.field-0.0 (λ t. t.code ≢ 26) c.from_residual.ensures.1
     (λ is. let z = sym (c.in_err-scratch.ensures.only.guarded is) ∙ c.slots.invariant.1.protected ∙ free.unprotected (λ e. omega (arith, c.slots-test.true, ap length e)) in absurd (cc))
 
--- ---- what lies outside the disk
+-- ---- the rest of the disk
 
-pub returns-in_err-scratch-clause-outside : goal.returns-in_err-scratch-clause-outside
-returns-in_err-scratch-clause-outside g c = λ m st can.
+pub returns-in_err-scratch-clause-rest : goal.returns-in_err-scratch-clause-rest
+returns-in_err-scratch-clause-rest g c = λ m st can.
     let old = c.args.self.now in
     let mid : Seen = g.M.Medium.seen c.slots.self-inside.volume in
     let new : Seen = g.M.Medium.seen c.scratch.new.self in
     let h = next_left _ _ _ m.disk (all_scratched m.disk c.args.slots.now) c.args.slots.now c.slots.slot-index c.slots-test.true (c.slots.invariant.0 m st can) in
-    (outside_then (g.M.Medium.seen old.medium) mid new (c.slots.invariant.3 m st can)
-    (clearing_hindered _ _ new.content (uses_of old.channels m.channels) m.disk (all_scratched m.disk c.args.slots.now) _ _ h mid.tracks (KeepsOutside mid new) c.slots.invariant.1.tracks
-    (λ d us f at some unused. change_outside c.scratch.result mid new d _ us _ _ c.scratch.ensures.only refl at (c.scratch.ensures.call d us at f some unused) (scratched_total (file_at d _) d _))))
+    (clearing_hindered _ _ new.content (uses_of old.channels m.channels) m.disk (all_scratched m.disk c.args.slots.now) _ _ h mid.tracks (KeepsRest (g.M.Medium.seen old.medium) new (is_slot_among c.args.slots.now)) c.slots.invariant.1.tracks
+    (λ d us f at some unused. rest_then (is_slot_among c.args.slots.now) (λ n. n == slice_index_or c.args.slots.now c.slots.slot-index 0) (g.M.Medium.seen old.medium) mid new d us at (λ n e. (e, not_among c.args.slots.now c.slots.slot-index n c.slots-test.true e)) (c.slots.invariant.3 m st can)
+    (change_rest c.scratch.result mid new d _ us _ _ c.scratch.ensures.only refl at (c.scratch.ensures.call d us at f some unused) (scratched_total (file_at d _) d _))))
 
-pub returns-clause-outside : goal.returns-clause-outside
-returns-clause-outside g c = c.slots.invariant.3
+pub returns-clause-rest : goal.returns-clause-rest
+returns-clause-rest g c = c.slots.invariant.3

@@ -1,7 +1,7 @@
 use Rattle.std.proofs.Common.{◌≡◌, Ok, drop}
 use Rattle.cbm_machine.specs.Machines.{Machine}
-use Rattle.cbm_channel.specs.ChannelCalls.{KeepsElse, KeepsOutside}
-use Rattle.cbm_channel.specs.Commanded.{all_scratched, CanAllGo}
+use Rattle.cbm_channel.specs.ChannelCalls.{KeepsElse, KeepsRest}
+use Rattle.cbm_channel.specs.Commanded.{all_scratched, CanAllGo, is_slot_among}
 use Rattle.cbm_channel.specs.Standing.{Stands, uses_of}
 use Rattle.cbm_channel.proofs.Scratches.{IsClearing}
 use Rattle.cbm_channel.proofs.dos.Dos.clear.Given as goal
@@ -12,4 +12,4 @@ invariant-slots g l =
     → IsClearing (g.M.Medium.seen l.fn.self.medium).tracks (g.M.Medium.seen l.self-inside.volume).content (uses_of l.fn.self.channels m.channels) m.disk (all_scratched m.disk l.slots) (drop l.slot-index l.slots))
     × KeepsElse {A = Unit {0}} (Ok tt) (g.M.Medium.seen l.fn.self.medium) (g.M.Medium.seen l.self-inside.volume)
     × (record { medium = l.self-inside.volume; channels = l.self-inside.channels; told = l.self-inside.telling; text = l.self-inside.text } ≡ record (l.fn.self) { medium = l.self-inside.volume })
-    × ((m : Machine) → Stands g.M.Medium.seen l.fn.self m → CanAllGo m.disk (uses_of l.fn.self.channels m.channels) l.slots → KeepsOutside (g.M.Medium.seen l.fn.self.medium) (g.M.Medium.seen l.self-inside.volume))
+    × ((m : Machine) → Stands g.M.Medium.seen l.fn.self m → CanAllGo m.disk (uses_of l.fn.self.channels m.channels) l.slots → KeepsRest (g.M.Medium.seen l.fn.self.medium) (g.M.Medium.seen l.self-inside.volume) (is_slot_among l.slots))

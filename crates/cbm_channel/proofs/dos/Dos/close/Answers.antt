@@ -5,7 +5,8 @@ use Rattle.cbm_channel.proofs.Asked.{below_15}
 use Rattle.cbm_channel.proofs.Closes.{parts_first, parts_15}
 use Rattle.cbm_channel.proofs.Goings.{went_goes, goes_on, leads_went, keeps_same}
 use Rattle.cbm_channel.proofs.Counted.{counted_to}
-use Rattle.cbm_channel.proofs.Outside.{outside_seen}
+use Rattle.cbm_channel.proofs.Rest.{rest_seen}
+use Rattle.cbm_channel.proofs.Spared.{closed_rest, all_closed_rest}
 use Rattle.cbm_channel.proofs.dos.Dos.close.Goals as goal
 
 pub returns-then-channel-lt15-clause-goes : goal.returns-then-channel-lt15-clause-goes
@@ -26,7 +27,7 @@ returns-else-channel-lt15-clause-goes g c =
 pub returns-then-channel-lt15-clause-leaves : goal.returns-then-channel-lt15-clause-leaves
 returns-then-channel-lt15-clause-leaves g c = record {
   medium = (search rules);
-  outside = c.close_one.ensures.leaves.outside;
+  rest = λ m s. closed_rest c.args.channel c.args.self.now _ _ (below_15 c.args.channel c.if-channel-lt15.true) (c.close_one.ensures.leaves.rest m s);
   counted = λ lt. c.close_one.ensures.leaves.counted;
   all_counted = λ is. absurd (omega (arith, is, c.if-channel-lt15.true));
 }
@@ -34,7 +35,7 @@ returns-then-channel-lt15-clause-leaves g c = record {
 pub returns-else-channel-lt15-clause-leaves : goal.returns-else-channel-lt15-clause-leaves
 returns-else-channel-lt15-clause-leaves g c = record {
   medium = (search rules);
-  outside = λ m s. outside_seen g.M.Medium.seen c.args.self.now.medium c.forget_text.new.self.medium c.args.self.now.medium c.close_all.new.self.medium refl c.forget_text.ensures.only.medium (c.close_all.ensures.outside m s);
+  rest = λ m s. rest_seen g.M.Medium.seen c.args.self.now.medium c.forget_text.new.self.medium c.args.self.now.medium c.close_all.new.self.medium refl c.forget_text.ensures.only.medium (all_closed_rest c.args.channel c.args.self.now _ _ (omega (arith, c.requires, c.if-channel-lt15.false)) (c.close_all.ensures.rest m s));
   counted = λ lt. absurd (omega (arith, lt, c.if-channel-lt15.false));
   all_counted = λ is.
       let all = c.close_all.ensures.counted in

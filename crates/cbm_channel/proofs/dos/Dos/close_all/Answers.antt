@@ -1,8 +1,9 @@
-use Rattle.std.proofs.Common.{◌≡◌, ◌+◌, refl, take, sym, subst, ◌∙◌, ap, arith, inl, inr}
+use Rattle.std.proofs.Common.{rules, ◌≡◌, ◌+◌, refl, take, sym, subst, ◌∙◌, ap, arith, inl, inr}
 use Rattle.std.specs.Prelude.{ℕ, slice_index_or}
 use Rattle.std.proofs.lemmas.Bool.{cases_lt}
 use Rattle.std.proofs.lemmas.Bool.Decides.{eqb_tells}
-use Rattle.cbm_channel.specs.Shown.{is_writing}
+use Rattle.cbm_channel.specs.Shown.{is_writing, written_by}
+use Rattle.cbm_channel.specs.Parts.{closed_by}
 use Rattle.std.proofs.lemmas.List.{get_or_past}
 use Rattle.cbm_channel.specs.declared.channel.Channel.TheVariants.{Closed}
 use Rattle.cbm_machine.specs.Closing.{channel_numbers, close_one}
@@ -11,7 +12,8 @@ use Rattle.cbm_channel.proofs.Changed.{closed_next}
 use Rattle.cbm_channel.proofs.Closes.{closings_next}
 use Rattle.cbm_channel.proofs.Goings.{goes_on, keeps_then}
 use Rattle.cbm_channel.proofs.Counted.{counted_more}
-use Rattle.cbm_channel.proofs.Outside.{outside_then}
+use Rattle.cbm_channel.proofs.Rest.{rest_itself, rest_then}
+use Rattle.cbm_channel.proofs.Spared.{next_free}
 use Rattle.cbm_channel.proofs.dos.Dos.close_all.Goals as goal
 
 pub returns-clause-goes : goal.returns-clause-goes
@@ -29,6 +31,9 @@ returns-clause-closed g c = λ k.
       | inl lt ↦ c.loop-channel.invariant.1 k (omega (arith, lt, all))
       | inr far ↦ get_or_past c.loop-channel.self.channels k Closed (omega (arith, far, c.loop-channel.invariant.3 (omega (arith, all))))
     ]
+
+pub loop-channel-init : goal.loop-channel-init
+loop-channel-init g c = ((search rules), (search rules), (search rules), (search rules), (search rules), (search rules), (λ m s. rest_itself _ _ refl), (λ k far. refl))
 
 pub loop-channel-preserved : goal.loop-channel-preserved
 loop-channel-preserved g c = (
@@ -50,7 +55,9 @@ loop-channel-preserved g c = (
   counted_more g.M.Medium.seen c.loop-channel.channel (c.loop-channel.channel + 1) c.args.self.now c.loop-channel.self c.close_one.new.self refl c.loop-channel.invariant.5 c.close_one.ensures.leaves.counted,
   (λ m s.
       let x = c.loop-channel.invariant.0 m s in
-      outside_then (g.M.Medium.seen c.args.self.now.medium) (g.M.Medium.seen c.loop-channel.self.medium) (g.M.Medium.seen c.close_one.new.self.medium) (c.loop-channel.invariant.6 m s) (c.close_one.ensures.leaves.outside x.0 x.2)),
+      rest_then (closed_by 15 c.args.self.now) (written_by c.loop-channel.channel c.loop-channel.self) (g.M.Medium.seen c.args.self.now.medium) (g.M.Medium.seen c.loop-channel.self.medium) (g.M.Medium.seen c.close_one.new.self.medium) x.0.disk _ x.2.holds
+      (λ n e. (e, next_free c.args.self.now c.loop-channel.self c.loop-channel.channel n (c.loop-channel.invariant.7 c.loop-channel.channel (omega arith)) e)) (c.loop-channel.invariant.6 m s) (c.close_one.ensures.leaves.rest x.0 x.2)),
+  (λ k far. c.close_one.ensures.closes.others k (λ e. absurd (omega (arith, e, far))) ∙ c.loop-channel.invariant.7 k (omega (arith, far))),
 )
 
 pub returns-clause-quiet : goal.returns-clause-quiet
@@ -63,7 +70,7 @@ returns-clause-counted g c =
     let all : c.loop-channel.channel ≡ 15 = omega (arith, c.loop-channel-test.false, c.loop-channel.auto.channel-end) in
     subst (λ (n : ℕ). AreCounted g.M.Medium.seen n c.args.self.now c.loop-channel.self) all c.loop-channel.invariant.5
 
--- ---- what lies outside the disk
+-- ---- the rest of the disk
 
-pub returns-clause-outside : goal.returns-clause-outside
-returns-clause-outside g c = c.loop-channel.invariant.6
+pub returns-clause-rest : goal.returns-clause-rest
+returns-clause-rest g c = c.loop-channel.invariant.6

@@ -1,11 +1,16 @@
-use Rattle.std.proofs.Common.{rules, ◌≤◌, length, sym, ap, ◌∙◌, inl, refl}
+use Rattle.std.proofs.Common.{rules, ◌≤◌, length, subst, sym, ap, ◌∙◌, inl, refl}
 use Rattle.cbm_machine.specs.Calls.{command_text, command}
 use Rattle.cbm_machine.specs.Machines.{answered, say}
 use Rattle.cbm_machine.specs.Running.{run}
+use Rattle.std.specs.Prelude.{Result}
+use Rattle.cbm_command.specs.declared.command.Command.{Command}
+use Rattle.cbm_command.specs.declared.refusal.Refusal.{Refusal}
+use Rattle.cbm_channel.specs.ChannelCalls.{KeepsRest}
+use Rattle.cbm_channel.specs.Commanded.{read_clears}
 use Rattle.cbm_command.specs.Commands.{command_of}
 use Rattle.cbm_channel.proofs.Goings.{part_same}
 use Rattle.cbm_channel.proofs.Texts.{refused, asked_for, not_empty, formats_of}
-use Rattle.cbm_channel.proofs.Outside.{outside_itself}
+use Rattle.cbm_channel.proofs.Rest.{rest_itself}
 use Rattle.cbm_channel.proofs.dos.Dos.command.Goals as goal
 
 pub returns-in-Ok-clause-goes : goal.returns-in-Ok-clause-goes
@@ -35,7 +40,7 @@ returns-then-is_empty-clause-leaves g c = record {
   others = (search rules);
   ordered = (search rules);
   medium = (search rules);
-  outside = λ other m s. outside_itself _ _ refl;
+  rest = λ other m s. rest_itself _ _ refl;
   counted = (search rules);
 }
 
@@ -45,9 +50,10 @@ returns-in-Ok-clause-leaves g c = record {
   others = (search rules);
   ordered = (search rules);
   medium = (search rules);
-  outside = λ other m s.
+  rest = λ other m s.
       let is = sym c.parse_command.ensures ∙ c.in-Ok.is in
-      c.run.ensures.leaves.outside (sym (ap formats_of (ap command_of (sym c.without_return-text.ensures) ∙ is)) ∙ other) m s;
+      subst (λ (r : Result Command Refusal). KeepsRest (g.M.Medium.seen c.args.self.now.medium) (g.M.Medium.seen c.run.new.self.medium) (read_clears r m)) (sym (ap command_of (sym c.without_return-text.ensures) ∙ is))
+      (c.run.ensures.leaves.rest (sym (ap formats_of (ap command_of (sym c.without_return-text.ensures) ∙ is)) ∙ other) m s);
   counted = (search rules);
 }
 
@@ -57,6 +63,6 @@ returns-in-Err-clause-leaves g c = record {
   others = (search rules);
   ordered = (search rules);
   medium = (search rules);
-  outside = λ other m s. outside_itself _ _ (ap g.M.Medium.seen c.say.ensures.medium);
+  rest = λ other m s. rest_itself _ _ (ap g.M.Medium.seen c.say.ensures.medium);
   counted = (search rules);
 }

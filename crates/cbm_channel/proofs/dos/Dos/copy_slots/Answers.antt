@@ -19,7 +19,7 @@ use Rattle.cbm_channel.proofs.Stands.{stood}
 use Rattle.cbm_channel.proofs.Stores.{renamed}
 use Rattle.cbm_channel.proofs.Refused.{not_refused, refused_26}
 use Rattle.cbm_channel.proofs.Counted.{counted_told}
-use Rattle.cbm_channel.proofs.Outside.{outside_seen, copy_outside, grown_total}
+use Rattle.cbm_channel.proofs.Rest.{rest_seen, copy_rest, grown_total}
 use Rattle.cbm_channel.proofs.dos.Dos.copy_slots.Goals as goal
 
 -- the new file is there
@@ -131,10 +131,10 @@ returns-in-Err-clause-leaves g c = record {
   counted = counted_told g.M.Medium.seen c.args.self.now c.set.new.self c.self.inside.volume c.copy.new.self (ap (λ k. k.medium) c.self.view_is) c.set.ensures.medium c.copy.result c.in-Err.trouble c.in-Err.is c.copy.ensures.only (ap (λ x. x.status) c.set.ensures.told ∙ c.from.ensures);
 }
 
--- ---- what lies outside the disk
+-- ---- the rest of the disk
 
-pub returns-in-Ok-true-clause-outside : goal.returns-in-Ok-true-clause-outside
-returns-in-Ok-true-clause-outside g c = λ m olds is s.
+pub returns-in-Ok-true-clause-rest : goal.returns-in-Ok-true-clause-rest
+returns-in-Ok-true-clause-rest g c = λ m olds is s.
     let here = c.self.inside in
     let st : StandsBy (g.M.Medium.seen here.volume).content (g.M.Medium.seen here.volume).tracks (g.M.Medium.seen here.volume).protected here.channels here.telling here.text m = stood g.M.Medium.seen c.args.self.now _ m c.self.view_is s in
     let uses = uses_of here.channels m.channels in
@@ -142,11 +142,11 @@ returns-in-Ok-true-clause-outside g c = λ m olds is s.
     let kept = kind_kept m c.args.name.now olds c.args.kind c.args.slots.now is in
     let plain = kind_plain m c.args.name.now olds c.args.kind c.args.slots.now is in
     let can = all_copied m c.args.name.now olds c.args.kind c.args.slots.now is in
-    outside_seen g.M.Medium.seen c.args.self.now.medium c.say.new.self.medium c.self.inside.volume c.copy.new.self (ap (λ k. k.medium) c.self.view_is) c.say.ensures.medium
-    (copy_outside c.copy.result (g.M.Medium.seen here.volume) (g.M.Medium.seen c.copy.new.self) m.disk _ uses _ _ c.copy.ensures.only refl st.holds (c.copy.ensures.call m.disk uses 15 st.holds idle kept plain can) (grown_total m.disk))
+    rest_seen g.M.Medium.seen c.args.self.now.medium c.say.new.self.medium c.self.inside.volume c.copy.new.self (ap (λ k. k.medium) c.self.view_is) c.say.ensures.medium
+    (copy_rest c.copy.result (g.M.Medium.seen here.volume) (g.M.Medium.seen c.copy.new.self) m.disk _ uses _ _ c.copy.ensures.only refl st.holds (c.copy.ensures.call m.disk uses 15 st.holds idle kept plain can) (grown_total m.disk))
 
-pub returns-in-Ok-false-clause-outside : goal.returns-in-Ok-false-clause-outside
-returns-in-Ok-false-clause-outside g c = λ m olds is s.
+pub returns-in-Ok-false-clause-rest : goal.returns-in-Ok-false-clause-rest
+returns-in-Ok-false-clause-rest g c = λ m olds is s.
     let here = c.self.inside in
     let st : StandsBy (g.M.Medium.seen here.volume).content (g.M.Medium.seen here.volume).tracks (g.M.Medium.seen here.volume).protected here.channels here.telling here.text m = stood g.M.Medium.seen c.args.self.now _ m c.self.view_is s in
     let uses = uses_of here.channels m.channels in
@@ -154,11 +154,11 @@ returns-in-Ok-false-clause-outside g c = λ m olds is s.
     let kept = kind_kept m c.args.name.now olds c.args.kind c.args.slots.now is in
     let plain = kind_plain m c.args.name.now olds c.args.kind c.args.slots.now is in
     let can = all_copied m c.args.name.now olds c.args.kind c.args.slots.now is in
-    outside_seen g.M.Medium.seen c.args.self.now.medium c.say-in-Ok-false.new.self.medium c.self.inside.volume c.copy.new.self (ap (λ k. k.medium) c.self.view_is) c.say-in-Ok-false.ensures.medium
-    (copy_outside c.copy.result (g.M.Medium.seen here.volume) (g.M.Medium.seen c.copy.new.self) m.disk _ uses _ _ c.copy.ensures.only refl st.holds (c.copy.ensures.call m.disk uses 15 st.holds idle kept plain can) (grown_total m.disk))
+    rest_seen g.M.Medium.seen c.args.self.now.medium c.say-in-Ok-false.new.self.medium c.self.inside.volume c.copy.new.self (ap (λ k. k.medium) c.self.view_is) c.say-in-Ok-false.ensures.medium
+    (copy_rest c.copy.result (g.M.Medium.seen here.volume) (g.M.Medium.seen c.copy.new.self) m.disk _ uses _ _ c.copy.ensures.only refl st.holds (c.copy.ensures.call m.disk uses 15 st.holds idle kept plain can) (grown_total m.disk))
 
-pub returns-in-Err-clause-outside : goal.returns-in-Err-clause-outside
-returns-in-Err-clause-outside g c = λ m olds is s.
+pub returns-in-Err-clause-rest : goal.returns-in-Err-clause-rest
+returns-in-Err-clause-rest g c = λ m olds is s.
     let here = c.self.inside in
     let st : StandsBy (g.M.Medium.seen here.volume).content (g.M.Medium.seen here.volume).tracks (g.M.Medium.seen here.volume).protected here.channels here.telling here.text m = stood g.M.Medium.seen c.args.self.now _ m c.self.view_is s in
     let uses = uses_of here.channels m.channels in
@@ -166,5 +166,5 @@ returns-in-Err-clause-outside g c = λ m olds is s.
     let kept = kind_kept m c.args.name.now olds c.args.kind c.args.slots.now is in
     let plain = kind_plain m c.args.name.now olds c.args.kind c.args.slots.now is in
     let can = all_copied m c.args.name.now olds c.args.kind c.args.slots.now is in
-    outside_seen g.M.Medium.seen c.args.self.now.medium c.set.new.self.medium c.self.inside.volume c.copy.new.self (ap (λ k. k.medium) c.self.view_is) c.set.ensures.medium
-    (copy_outside c.copy.result (g.M.Medium.seen here.volume) (g.M.Medium.seen c.copy.new.self) m.disk _ uses _ _ c.copy.ensures.only refl st.holds (c.copy.ensures.call m.disk uses 15 st.holds idle kept plain can) (grown_total m.disk))
+    rest_seen g.M.Medium.seen c.args.self.now.medium c.set.new.self.medium c.self.inside.volume c.copy.new.self (ap (λ k. k.medium) c.self.view_is) c.set.ensures.medium
+    (copy_rest c.copy.result (g.M.Medium.seen here.volume) (g.M.Medium.seen c.copy.new.self) m.disk _ uses _ _ c.copy.ensures.only refl st.holds (c.copy.ensures.call m.disk uses 15 st.holds idle kept plain can) (grown_total m.disk))

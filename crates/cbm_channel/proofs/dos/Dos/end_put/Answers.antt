@@ -5,7 +5,8 @@ use Rattle.cbm_medium.specs.Seen.{HasFailed}
 use Rattle.cbm_machine.specs.Calls.{end_put}
 use Rattle.cbm_machine.specs.Closing.{without_text}
 use Rattle.cbm_machine.specs.Calls.{text_for, command}
-use Rattle.cbm_channel.specs.Commanded.{commands_change, ends_command, text_formats, end_formats, text_validates, end_validates, end_moves}
+use Rattle.cbm_channel.specs.Commanded.{text_clears, commands_change, ends_command, text_formats, end_formats, text_validates, end_validates, end_moves}
+use Rattle.cbm_channel.specs.ChannelCalls.{KeepsRest}
 use Rattle.cbm_channel.specs.Going.{Passes}
 use Rattle.cbm_channel.proofs.Asked.{below_15, store_command, store_records}
 use Rattle.cbm_channel.proofs.Goings.{record_ends, text_passes}
@@ -14,7 +15,8 @@ use Rattle.cbm_channel.proofs.Ordered.{OrdersFor, ended_15, not_ended}
 use Rattle.cbm_channel.proofs.Troubles.{told_for}
 use Rattle.cbm_channel.proofs.Changed.{same_all}
 use Rattle.cbm_channel.proofs.Counted.{counted_from}
-use Rattle.cbm_channel.proofs.Outside.{outside_itself, outside_seen}
+use Rattle.cbm_channel.proofs.Rest.{rest_itself, rest_seen}
+use Rattle.cbm_channel.proofs.Spared.{ended_rest, records_rest}
 use Rattle.cbm_channel.proofs.dos.Dos.end_put.Goals as goal
 
 -- a command
@@ -83,11 +85,13 @@ returns-then-channel-eq15-clause-leaves g c = record {
       sym (λ i. fifteen i && (number i && text_validates c.in-Some.text.1)) ∙ sym (ap (end_validates c.args.channel) c.in-Some.ensures.taken.0) ∙ v in
       subst (λ k. OrdersFor g.M.Medium.seen k c.command.new.self.medium c.command.new.self.told) c.in-Some.ensures.only.medium (c.command.ensures.leaves.ordered (ap text_validates c.bytes.ensures ∙ is));
   medium = (search rules);
-  outside = λ other m s.
+  rest = λ other m s.
       let fifteen : (c.args.channel == 15) ≡ true = eq-eqb c.args.channel 15 c.if-channel-eq15.true in
       let number : (c.in-Some.text.0 == 15) ≡ true = eq-eqb c.in-Some.text.0 15 (c.in-Some.ensures.taken.1 ∙ c.if-channel-eq15.true) in
       let none : text_formats c.in-Some.text.1 ≡ false = sym (λ i. fifteen i && (number i && text_formats c.in-Some.text.1)) ∙ sym (ap (end_formats c.args.channel) c.in-Some.ensures.taken.0) ∙ other in
-      outside_seen g.M.Medium.seen c.args.self.now.medium c.command.new.self.medium c.take_text.new.self.medium c.command.new.self.medium c.in-Some.ensures.only.medium refl (c.command.ensures.leaves.outside (ap text_formats c.bytes.ensures ∙ none) (without_text c.args.channel m) (c.in-Some.ensures.leads m s));
+      rest_seen g.M.Medium.seen c.args.self.now.medium c.command.new.self.medium c.take_text.new.self.medium c.command.new.self.medium c.in-Some.ensures.only.medium refl (ended_rest c.args.channel c.args.self.now c.in-Some.text m _ _ c.if-channel-eq15.true c.in-Some.ensures.taken.0 number
+      (subst (λ (xs : List ℕ). KeepsRest (g.M.Medium.seen c.take_text.new.self.medium) (g.M.Medium.seen c.command.new.self.medium) (text_clears xs (without_text c.args.channel m))) c.bytes.ensures
+      (c.command.ensures.leaves.rest (ap text_formats c.bytes.ensures ∙ none) (without_text c.args.channel m) (c.in-Some.ensures.leads m s))));
   counted = counted_from g.M.Medium.seen c.args.self.now c.take_text.new.self c.command.new.self c.in-Some.ensures.only.medium c.command.ensures.leaves.counted;
 }
 
@@ -97,7 +101,7 @@ returns-else-channel-eq15-clause-leaves g c = record {
   others = (search rules);
   ordered = λ v. absurd (omega (arith, ended_15 c.args.channel c.args.self.now.text v, c.if-channel-eq15.false));
   medium = (search rules);
-  outside = λ other m s. outside_seen g.M.Medium.seen c.args.self.now.medium c.write_record.new.self.medium c.take_text.new.self.medium c.write_record.new.self.medium c.in-Some.ensures.only.medium refl (c.write_record.ensures.leaves.outside (without_text c.args.channel m) (c.in-Some.ensures.leads m s));
+  rest = λ other m s. rest_seen g.M.Medium.seen c.args.self.now.medium c.write_record.new.self.medium c.take_text.new.self.medium c.write_record.new.self.medium c.in-Some.ensures.only.medium refl (records_rest c.args.channel c.args.self.now c.take_text.new.self m _ _ (below_15 c.args.channel (omega (arith, c.requires, c.if-channel-eq15.false))) c.in-Some.ensures.only.channels (c.write_record.ensures.leaves.rest (without_text c.args.channel m) (c.in-Some.ensures.leads m s)));
   counted = counted_from g.M.Medium.seen c.args.self.now c.take_text.new.self c.write_record.new.self c.in-Some.ensures.only.medium c.write_record.ensures.leaves.counted;
 }
 
@@ -108,6 +112,6 @@ returns-in_default-clause-leaves g c = record {
   ordered = λ v.
       absurd (not_ended c.args.channel c.args.self.now.text (subst (λ o. MatchOption o (IfSome c.args.self.now.text (λ t. t.0 ≢ c.args.channel)) (λ t. Unit {0})) c.in_default.is c.take_text.ensures.none) v);
   medium = (search rules);
-  outside = λ other m s. outside_itself _ _ (ap g.M.Medium.seen c.take_text.ensures.only.medium);
+  rest = λ other m s. rest_itself _ _ (ap g.M.Medium.seen c.take_text.ensures.only.medium);
   counted = (search rules);
 }

@@ -3,7 +3,7 @@ use Rattle.cbm_machine.specs.Machines.{channel}
 use Rattle.cbm_channel.specs.Going.{put_written, some_byte_put}
 use Rattle.cbm_channel.proofs.Stores.{fills, fills_none}
 use Rattle.cbm_channel.proofs.Goings.{part_same}
-use Rattle.cbm_channel.proofs.Outside.{outside_itself}
+use Rattle.cbm_channel.proofs.Rest.{rest_itself}
 use Rattle.cbm_channel.proofs.dos.Dos.fill.Goals as goal
 
 pub returns-then-is_empty-clause-goes : goal.returns-then-is_empty-clause-goes
@@ -20,13 +20,13 @@ returns-else-is_empty-clause-goes g c = λ m s.
 pub returns-then-is_empty-clause-leaves : goal.returns-then-is_empty-clause-leaves
 returns-then-is_empty-clause-leaves g c = record {
   medium = (search rules);
-  outside = c.store.ensures.leaves.outside;
+  rest = c.store.ensures.leaves.rest;
   counted = (search rules);
 }
 
 pub returns-else-is_empty-clause-leaves : goal.returns-else-is_empty-clause-leaves
 returns-else-is_empty-clause-leaves g c = record {
   medium = (search rules);
-  outside = λ m s. outside_itself _ _ refl;
+  rest = λ m s. rest_itself _ _ refl;
   counted = (search rules);
 }

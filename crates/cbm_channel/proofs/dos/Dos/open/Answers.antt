@@ -7,6 +7,7 @@ use Rattle.std.proofs.lemmas.Bool.{eq-eqb}
 use Rattle.cbm_machine.specs.Machines.{say}
 use Rattle.cbm_machine.specs.Closing.{close_one}
 use Rattle.cbm_machine.specs.Plans.{open_text}
+use Rattle.cbm_channel.specs.Shown.{written_by}
 use Rattle.cbm_channel.specs.Going.{GoesFrom}
 use Rattle.cbm_channel.specs.Commanded.{text_formats}
 use Rattle.cbm_channel.specs.Planned.{begun_by}
@@ -14,7 +15,8 @@ use Rattle.cbm_channel.proofs.Asked.{below_15}
 use Rattle.cbm_channel.proofs.Stands.{moved}
 use Rattle.cbm_channel.proofs.Planning.{opened_text, refused_text, writes_text, own_refusal}
 use Rattle.cbm_channel.proofs.Goings.{part_same, one_part, close_then, close_begin, parts_other, parts_command}
-use Rattle.cbm_channel.proofs.Outside.{outside_seen, outside_then}
+use Rattle.cbm_channel.proofs.Rest.{rest_seen, rest_then, rest_more}
+use Rattle.cbm_channel.proofs.Spared.{open_command_rest, open_free}
 use Rattle.cbm_channel.proofs.dos.Dos.open.Goals as goal
 
 -- a command
@@ -131,24 +133,29 @@ pub returns-then-channel-eq15-clause-leaves : goal.returns-then-channel-eq15-cla
 returns-then-channel-eq15-clause-leaves g c = record {
   ordered = (search rules);
   medium = (search rules);
-  outside = λ other.
+  rest = λ other m s.
       let fifteen : (c.args.channel == 15) ≡ true = eq-eqb c.args.channel 15 c.if-channel-eq15.true in
-      c.command.ensures.leaves.outside (sym (ap (λ b. b && text_formats c.args.text.now) fifteen) ∙ other);
+      open_command_rest c.args.channel c.args.text.now c.args.self.now c.command.new.self m _ _ fifteen (c.command.ensures.leaves.rest (sym (ap (λ b. b && text_formats c.args.text.now) fifteen) ∙ other) m s);
 }
 
 pub returns-in-Ok-clause-leaves : goal.returns-in-Ok-clause-leaves
 returns-in-Ok-clause-leaves g c = record {
   ordered = (search rules);
   medium = (search rules);
-  outside = λ other m s.
+  rest = λ other m s.
       let is = sym c.parse_open.ensures.value ∙ c.in-Ok.is in
       let x = c.close_one.ensures.goes m s in
-      outside_then (g.M.Medium.seen c.args.self.now.medium) (g.M.Medium.seen c.close_one.new.self.medium) (g.M.Medium.seen c.begin.new.self.medium) (c.close_one.ensures.leaves.outside m s) (c.begin.ensures.outside (c.args.channel, c.args.text.now, is) x.0 x.2);
+      let none = below_15 c.args.channel (omega (arith, c.requires, c.if-channel-eq15.false)) in
+      rest_then (written_by c.args.channel c.args.self.now) (written_by c.args.channel c.begin.new.self) (g.M.Medium.seen c.args.self.now.medium) (g.M.Medium.seen c.close_one.new.self.medium) (g.M.Medium.seen c.begin.new.self.medium) x.0.disk _ x.2.holds
+      (λ n free. open_free c.args.channel c.args.text.now c.args.self.now c.begin.new.self m n none free) (c.close_one.ensures.leaves.rest m s) (c.begin.ensures.rest (c.args.channel, c.args.text.now, is) x.0 x.2);
 }
 
 pub returns-in-Err-clause-leaves : goal.returns-in-Err-clause-leaves
 returns-in-Err-clause-leaves g c = record {
   ordered = (search rules);
   medium = (search rules);
-  outside = λ other m s. outside_seen g.M.Medium.seen c.args.self.now.medium c.say.new.self.medium c.args.self.now.medium c.close_one.new.self.medium refl c.say.ensures.medium (c.close_one.ensures.leaves.outside m s);
+  rest = λ other m s.
+      let none = below_15 c.args.channel (omega (arith, c.requires, c.if-channel-eq15.false)) in
+      rest_seen g.M.Medium.seen c.args.self.now.medium c.say.new.self.medium c.args.self.now.medium c.close_one.new.self.medium refl c.say.ensures.medium
+      (rest_more (written_by c.args.channel c.args.self.now) _ _ (λ n free. (open_free c.args.channel c.args.text.now c.args.self.now c.say.new.self m n none free).0) (c.close_one.ensures.leaves.rest m s));
 }

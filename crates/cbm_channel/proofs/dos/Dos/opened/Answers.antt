@@ -28,7 +28,8 @@ use Rattle.cbm_channel.proofs.Planning.{readable, relatable, makeable, writable,
 use Rattle.cbm_machine.specs.Machines as machine
 use Rattle.cbm_channel.proofs.Opens.{relates_opened, makes_opened, made_file, made_there, has_room_of, idle_past, begins_as, nothing_begun, failed_by, not_del, match_some, match_none, has_place, no_block, can_be, on_err}
 use Rattle.cbm_volume.proofs.held.RecordUses.{of_records}
-use Rattle.cbm_channel.proofs.Outside.{outside_itself, outside_same, outside_seen, outside_held, begun_outside, begun_write, begun_replace, on_both, cut_sized, same_sized, made_outside, grown_total}
+use Rattle.cbm_channel.proofs.Rest.{rest_itself, rest_none, rest_same, rest_seen, outside_held, begun_rest, begun_write, begun_replace, on_both, cut_sized, same_sized, made_rest, grown_total}
+use Rattle.cbm_channel.proofs.Spared.{append_stays}
 use Rattle.cbm_channel.proofs.dos.Dos.opened.Goals as goal
 
 -- a listing
@@ -36,7 +37,7 @@ pub returns-in_err-list-in-ReadListing-clause-opens : goal.returns-in_err-list-i
 returns-in_err-list-in-ReadListing-clause-opens g c = record {
   opened = (search rules);
   stopped = λ m p h s. absurd (c.in_err-list-in-ReadListing.ensures.whole m.disk (means_of _ _ _ _ _ _ m (stood g.M.Medium.seen _ _ m c.self.view_is s)));
-  outside = λ m p h s. outside_itself _ _ refl;
+  rest = λ m p h s. rest_itself _ _ refl;
 }
 
 -- a file that is read
@@ -46,7 +47,7 @@ returns-in_err-reader-in-ReadFile-clause-opens g c = record {
   stopped = λ m p h s.
       let x = readable _ _ m p c.args.plan c.in-ReadFile.found (subst (λ k. PlannedAs (g.M.Medium.seen k.medium).tracks (g.M.Medium.seen k.medium).content m (Ok p) (Ok c.args.plan)) (sym c.self.view_is) h) c.in-ReadFile.is in
       absurd (c.in_err-reader-in-ReadFile.ensures.means m.disk x.0 (bytes_in (body_at m.disk x.0)) (means_of _ _ _ _ _ _ m (stood g.M.Medium.seen _ _ m c.self.view_is s)) x.2.stands x.2.has);
-  outside = λ m p h s. outside_itself _ _ refl;
+  rest = λ m p h s. rest_itself _ _ refl;
 }
 
 -- the file's chain breaks off at its first block
@@ -77,7 +78,7 @@ returns-in_ok-reader-in-ReadFile-clause-opens g c = record {
             (λ k. unwritten_at x.0 c.self.inside.channels m.channels k st.each (λ j. none_passes (machine.writes x.0) refl m.channels j x.2.unwritten))))),
       );
   stopped = (search rules);
-  outside = λ m p h s. outside_itself _ _ refl;
+  rest = λ m p h s. rest_itself _ _ refl;
 }
 
 -- a new file
@@ -90,15 +91,15 @@ returns-in_default-clause-opens g c = record {
       (subst (λ k. uses_of k.channels m.channels ch ≡ Idle) (sym c.self.view_is) idle) (not_del _ x.1.kept) x.1.plain) in
       absurd (has_place m.disk x.1.block x.1.place none.0);
   stopped = (search rules);
-  outside = λ m p h s.
+  rest = λ m p h s.
       let st = stood g.M.Medium.seen _ _ m c.self.view_is s in
       let uses = uses_of c.self.inside.channels m.channels in
       let idle : uses 15 ≡ Idle = idle_past c.self.inside.channels m.channels c.self.invariant.count in
       let x = writable _ _ m p c.args.plan c.in-WriteFile.kind c.in-WriteFile.name h c.in-WriteFile.is in
       let call = c.begin_write.ensures.call m.disk uses st.holds in
-      outside_seen g.M.Medium.seen c.args.self.now.medium c.begin_write.new.self c.self.inside.volume c.begin_write.new.self (ap (λ k. k.medium) c.self.view_is) refl
-      (begun_outside c.begin_write.result (g.M.Medium.seen c.self.inside.volume) (g.M.Medium.seen c.begin_write.new.self) m.disk _ uses 15 _ _ _ _ _ c.begin_write.ensures.only refl st.holds (begun_write c.begin_write.result uses c.in-WriteFile.kind _ 15 idle (not_del _ x.1.kept) x.1.plain call.done)
-      (cut_sized c.begin_write.result _ _ m.disk _ uses (on_both c.begin_write.result _ _ _ (not_del _ x.1.kept) x.1.plain call.stopped)) (grown_total m.disk));
+      rest_seen g.M.Medium.seen c.args.self.now.medium c.begin_write.new.self c.self.inside.volume c.begin_write.new.self (ap (λ k. k.medium) c.self.view_is) refl
+      (rest_none _ _ (begun_rest c.begin_write.result (g.M.Medium.seen c.self.inside.volume) (g.M.Medium.seen c.begin_write.new.self) m.disk _ uses 15 _ _ _ _ _ c.begin_write.ensures.only refl st.holds (begun_write c.begin_write.result uses c.in-WriteFile.kind _ 15 idle (not_del _ x.1.kept) x.1.plain call.done)
+      (cut_sized c.begin_write.result _ _ m.disk _ uses (on_both c.begin_write.result _ _ _ (not_del _ x.1.kept) x.1.plain call.stopped)) (grown_total m.disk) call.untouched));
 }
 
 pub returns-in-Some-clause-opens : goal.returns-in-Some-clause-opens
@@ -112,15 +113,15 @@ returns-in-Some-clause-opens g c = record {
       subst (λ k. IsOpened (g.M.Medium.seen k.medium).tracks (g.M.Medium.seen c.begin_write.new.self).content m ch p (uses_of k.channels m.channels) (Some (code.Writing c.in-Some.writer false))) c.self.view_is
       (begins_as _ _ m p _ (uses_of c.self.inside.channels m.channels) ch (new_slot m.disk) false [] 1 c.in-Some.writer (ap (opened_by m.disk) x.0) disk begun);
   stopped = (search rules);
-  outside = λ m p h s.
+  rest = λ m p h s.
       let st = stood g.M.Medium.seen _ _ m c.self.view_is s in
       let uses = uses_of c.self.inside.channels m.channels in
       let idle : uses 15 ≡ Idle = idle_past c.self.inside.channels m.channels c.self.invariant.count in
       let x = writable _ _ m p c.args.plan c.in-WriteFile.kind c.in-WriteFile.name h c.in-WriteFile.is in
       let call = c.begin_write.ensures.call m.disk uses st.holds in
-      outside_seen g.M.Medium.seen c.args.self.now.medium c.begin_write.new.self c.self.inside.volume c.begin_write.new.self (ap (λ k. k.medium) c.self.view_is) refl
-      (begun_outside c.begin_write.result (g.M.Medium.seen c.self.inside.volume) (g.M.Medium.seen c.begin_write.new.self) m.disk _ uses 15 _ _ _ _ _ c.begin_write.ensures.only refl st.holds (begun_write c.begin_write.result uses c.in-WriteFile.kind _ 15 idle (not_del _ x.1.kept) x.1.plain call.done)
-      (cut_sized c.begin_write.result _ _ m.disk _ uses (on_both c.begin_write.result _ _ _ (not_del _ x.1.kept) x.1.plain call.stopped)) (grown_total m.disk));
+      rest_seen g.M.Medium.seen c.args.self.now.medium c.begin_write.new.self c.self.inside.volume c.begin_write.new.self (ap (λ k. k.medium) c.self.view_is) refl
+      (rest_none _ _ (begun_rest c.begin_write.result (g.M.Medium.seen c.self.inside.volume) (g.M.Medium.seen c.begin_write.new.self) m.disk _ uses 15 _ _ _ _ _ c.begin_write.ensures.only refl st.holds (begun_write c.begin_write.result uses c.in-WriteFile.kind _ 15 idle (not_del _ x.1.kept) x.1.plain call.done)
+      (cut_sized c.begin_write.result _ _ m.disk _ uses (on_both c.begin_write.result _ _ _ (not_del _ x.1.kept) x.1.plain call.stopped)) (grown_total m.disk) call.untouched));
 }
 
 -- a file that is appended to
@@ -135,13 +136,13 @@ returns-in_err-writer-in-AppendFile-clause-opens g c = record {
       (c.in_err-writer-in-AppendFile.ensures.begun m.disk (uses_of c.self.inside.channels m.channels) st.holds x.1.file can x.1.stands) in
       on_err _ _ (subst (λ k. Stopped (g.M.Medium.seen k.medium).tracks (g.M.Medium.seen c.begin_append.new.self).content m.disk (disk_opened m.disk p) (uses_of k.channels m.channels) × HasFailed (g.M.Medium.seen k.medium) (g.M.Medium.seen c.begin_append.new.self)) c.self.view_is
       (nothing_begun _ _ _ _ _ _ c.in_err-writer-in-AppendFile.ensures.err st.holds, failed));
-  outside = λ m p h s.
+  rest = λ m p h s.
       let st = stood g.M.Medium.seen _ _ m c.self.view_is s in
       let uses = uses_of c.self.inside.channels m.channels in
       let idle : uses 15 ≡ Idle = idle_past c.self.inside.channels m.channels c.self.invariant.count in
       let x = appendable _ _ m p c.args.plan c.in-AppendFile.found (subst (λ k. PlannedAs (g.M.Medium.seen k.medium).tracks (g.M.Medium.seen k.medium).content m (Ok p) (Ok c.args.plan)) (sym c.self.view_is) h) c.in-AppendFile.is in
       let can = can_be c.in-AppendFile.found.slot c.self.inside.channels m x.1.file st.each x.1.in_slot x.1.closed x.1.plain x.1.unused in
-      outside_seen g.M.Medium.seen c.args.self.now.medium c.begin_append.new.self c.self.inside.volume c.begin_append.new.self (ap (λ k. k.medium) c.self.view_is) refl (outside_same _ _ c.begin_append.ensures.only.tracks c.in_err-writer-in-AppendFile.ensures.err);
+      rest_seen g.M.Medium.seen c.args.self.now.medium c.begin_append.new.self c.self.inside.volume c.begin_append.new.self (ap (λ k. k.medium) c.self.view_is) refl (rest_same _ _ c.begin_append.ensures.only.tracks c.in_err-writer-in-AppendFile.ensures.err);
 }
 
 pub returns-in_ok-writer-in-AppendFile-clause-opens : goal.returns-in_ok-writer-in-AppendFile-clause-opens
@@ -155,15 +156,15 @@ returns-in_ok-writer-in-AppendFile-clause-opens g c = record {
       (begins_as _ _ m p _ (uses_of c.self.inside.channels m.channels) ch c.in-AppendFile.found.slot false (bytes_in x.1.file.body) x.1.file.held c.in_ok-writer-in-AppendFile.writer
       (ap (opened_by m.disk) x.0 ∙ ap (λ o. appended_to o c.in-AppendFile.found.slot) x.1.in_slot) (ap (disk_opened m.disk) x.0 ∙ ap (λ o. reopened_at o m.disk c.in-AppendFile.found.slot) x.1.in_slot) begun);
   stopped = (search rules);
-  outside = λ m p h s.
+  rest = λ m p h s.
       let st = stood g.M.Medium.seen _ _ m c.self.view_is s in
       let uses = uses_of c.self.inside.channels m.channels in
       let idle : uses 15 ≡ Idle = idle_past c.self.inside.channels m.channels c.self.invariant.count in
       let x = appendable _ _ m p c.args.plan c.in-AppendFile.found (subst (λ k. PlannedAs (g.M.Medium.seen k.medium).tracks (g.M.Medium.seen k.medium).content m (Ok p) (Ok c.args.plan)) (sym c.self.view_is) h) c.in-AppendFile.is in
       let can = can_be c.in-AppendFile.found.slot c.self.inside.channels m x.1.file st.each x.1.in_slot x.1.closed x.1.plain x.1.unused in
       let begun = c.in_ok-writer-in-AppendFile.ensures.begun m.disk uses st.holds x.1.file can x.1.stands 15 idle x.1.kept in
-      outside_seen g.M.Medium.seen c.args.self.now.medium c.begin_append.new.self c.self.inside.volume c.begin_append.new.self (ap (λ k. k.medium) c.self.view_is) refl
-      (outside_held c.begin_append.result (g.M.Medium.seen c.self.inside.volume) (g.M.Medium.seen c.begin_append.new.self) m.disk uses c.begin_append.ensures.only refl st.holds (record { disk = _; uses = _; holds = begun.holds; total = refl }));
+      rest_seen g.M.Medium.seen c.args.self.now.medium c.begin_append.new.self c.self.inside.volume c.begin_append.new.self (ap (λ k. k.medium) c.self.view_is) refl
+      (record { in_place = append_stays _ _ _ c.in-AppendFile.found.slot c.in_ok-writer-in-AppendFile.writer begun.same_slot (c.begin_append.ensures.untouched m.disk uses st.holds).stays; outside = outside_held c.begin_append.result (g.M.Medium.seen c.self.inside.volume) (g.M.Medium.seen c.begin_append.new.self) m.disk uses c.begin_append.ensures.only refl st.holds (record { disk = _; uses = _; holds = begun.holds; total = refl }) });
 }
 
 -- a file that is replaced
@@ -177,16 +178,16 @@ returns-in_err-writer-in-ReplaceFile-clause-opens g c = record {
       (c.in_err-writer-in-ReplaceFile.ensures.call m.disk (uses_of c.self.inside.channels m.channels) st.holds).cause in
       on_err _ _ (subst (λ k. Stopped (g.M.Medium.seen k.medium).tracks (g.M.Medium.seen c.begin_replace.new.self).content m.disk (disk_opened m.disk p) (uses_of k.channels m.channels) × HasFailed (g.M.Medium.seen k.medium) (g.M.Medium.seen c.begin_replace.new.self)) c.self.view_is
       (nothing_begun _ _ _ _ _ _ c.in_err-writer-in-ReplaceFile.ensures.err st.holds, failed));
-  outside = λ m p h s.
+  rest = λ m p h s.
       let st = stood g.M.Medium.seen _ _ m c.self.view_is s in
       let uses = uses_of c.self.inside.channels m.channels in
       let idle : uses 15 ≡ Idle = idle_past c.self.inside.channels m.channels c.self.invariant.count in
       let x = replaceable _ _ m p c.args.plan c.in-ReplaceFile.slot h c.in-ReplaceFile.is in
       let can = can_be c.in-ReplaceFile.slot c.self.inside.channels m x.1.file st.each x.1.in_slot x.1.closed x.1.plain x.1.unused in
       let call = c.begin_replace.ensures.call m.disk uses st.holds in
-      outside_seen g.M.Medium.seen c.args.self.now.medium c.begin_replace.new.self c.self.inside.volume c.begin_replace.new.self (ap (λ k. k.medium) c.self.view_is) refl
-      (begun_outside c.begin_replace.result (g.M.Medium.seen c.self.inside.volume) (g.M.Medium.seen c.begin_replace.new.self) m.disk _ uses 15 _ _ _ _ _ c.begin_replace.ensures.only refl st.holds (begun_replace c.begin_replace.result m.disk uses c.in-ReplaceFile.slot x.1.file _ 15 idle can call.done)
-      (same_sized c.begin_replace.result _ _ _ m.disk uses st.holds c.begin_replace.ensures.err) refl);
+      rest_seen g.M.Medium.seen c.args.self.now.medium c.begin_replace.new.self c.self.inside.volume c.begin_replace.new.self (ap (λ k. k.medium) c.self.view_is) refl
+      (rest_none _ _ (begun_rest c.begin_replace.result (g.M.Medium.seen c.self.inside.volume) (g.M.Medium.seen c.begin_replace.new.self) m.disk _ uses 15 _ _ _ _ _ c.begin_replace.ensures.only refl st.holds (begun_replace c.begin_replace.result m.disk uses c.in-ReplaceFile.slot x.1.file _ 15 idle can call.done)
+      (same_sized c.begin_replace.result _ _ _ m.disk uses st.holds c.begin_replace.ensures.err) refl call.untouched));
 }
 
 pub returns-in_default-2-clause-opens : goal.returns-in_default-2-clause-opens
@@ -198,16 +199,16 @@ returns-in_default-2-clause-opens g c = record {
       let none = match_none _ _ _ c.in_default-2.not-Some ((c.in_ok-writer-in-ReplaceFile.ensures.call m.disk (uses_of c.self.inside.channels m.channels) st.holds).done ch x.1.file (subst (λ k. uses_of k.channels m.channels ch ≡ Idle) (sym c.self.view_is) idle) can) in
       absurd (no_block m.disk x.1.block none.0);
   stopped = (search rules);
-  outside = λ m p h s.
+  rest = λ m p h s.
       let st = stood g.M.Medium.seen _ _ m c.self.view_is s in
       let uses = uses_of c.self.inside.channels m.channels in
       let idle : uses 15 ≡ Idle = idle_past c.self.inside.channels m.channels c.self.invariant.count in
       let x = replaceable _ _ m p c.args.plan c.in-ReplaceFile.slot h c.in-ReplaceFile.is in
       let can = can_be c.in-ReplaceFile.slot c.self.inside.channels m x.1.file st.each x.1.in_slot x.1.closed x.1.plain x.1.unused in
       let call = c.begin_replace.ensures.call m.disk uses st.holds in
-      outside_seen g.M.Medium.seen c.args.self.now.medium c.begin_replace.new.self c.self.inside.volume c.begin_replace.new.self (ap (λ k. k.medium) c.self.view_is) refl
-      (begun_outside c.begin_replace.result (g.M.Medium.seen c.self.inside.volume) (g.M.Medium.seen c.begin_replace.new.self) m.disk _ uses 15 _ _ _ _ _ c.begin_replace.ensures.only refl st.holds (begun_replace c.begin_replace.result m.disk uses c.in-ReplaceFile.slot x.1.file _ 15 idle can call.done)
-      (same_sized c.begin_replace.result _ _ _ m.disk uses st.holds c.begin_replace.ensures.err) refl);
+      rest_seen g.M.Medium.seen c.args.self.now.medium c.begin_replace.new.self c.self.inside.volume c.begin_replace.new.self (ap (λ k. k.medium) c.self.view_is) refl
+      (rest_none _ _ (begun_rest c.begin_replace.result (g.M.Medium.seen c.self.inside.volume) (g.M.Medium.seen c.begin_replace.new.self) m.disk _ uses 15 _ _ _ _ _ c.begin_replace.ensures.only refl st.holds (begun_replace c.begin_replace.result m.disk uses c.in-ReplaceFile.slot x.1.file _ 15 idle can call.done)
+      (same_sized c.begin_replace.result _ _ _ m.disk uses st.holds c.begin_replace.ensures.err) refl call.untouched));
 }
 
 pub returns-in-Some-2-clause-opens : goal.returns-in-Some-2-clause-opens
@@ -220,16 +221,16 @@ returns-in-Some-2-clause-opens g c = record {
       subst (λ k. IsOpened (g.M.Medium.seen k.medium).tracks (g.M.Medium.seen c.begin_replace.new.self).content m ch p (uses_of k.channels m.channels) (Some (code.Writing c.in-Some-2.writer false))) c.self.view_is
       (begins_as _ _ m p _ (uses_of c.self.inside.channels m.channels) ch c.in-ReplaceFile.slot true [] 1 c.in-Some-2.writer (ap (opened_by m.disk) x.0) (ap (disk_opened m.disk) x.0) begun);
   stopped = (search rules);
-  outside = λ m p h s.
+  rest = λ m p h s.
       let st = stood g.M.Medium.seen _ _ m c.self.view_is s in
       let uses = uses_of c.self.inside.channels m.channels in
       let idle : uses 15 ≡ Idle = idle_past c.self.inside.channels m.channels c.self.invariant.count in
       let x = replaceable _ _ m p c.args.plan c.in-ReplaceFile.slot h c.in-ReplaceFile.is in
       let can = can_be c.in-ReplaceFile.slot c.self.inside.channels m x.1.file st.each x.1.in_slot x.1.closed x.1.plain x.1.unused in
       let call = c.begin_replace.ensures.call m.disk uses st.holds in
-      outside_seen g.M.Medium.seen c.args.self.now.medium c.begin_replace.new.self c.self.inside.volume c.begin_replace.new.self (ap (λ k. k.medium) c.self.view_is) refl
-      (begun_outside c.begin_replace.result (g.M.Medium.seen c.self.inside.volume) (g.M.Medium.seen c.begin_replace.new.self) m.disk _ uses 15 _ _ _ _ _ c.begin_replace.ensures.only refl st.holds (begun_replace c.begin_replace.result m.disk uses c.in-ReplaceFile.slot x.1.file _ 15 idle can call.done)
-      (same_sized c.begin_replace.result _ _ _ m.disk uses st.holds c.begin_replace.ensures.err) refl);
+      rest_seen g.M.Medium.seen c.args.self.now.medium c.begin_replace.new.self c.self.inside.volume c.begin_replace.new.self (ap (λ k. k.medium) c.self.view_is) refl
+      (rest_none _ _ (begun_rest c.begin_replace.result (g.M.Medium.seen c.self.inside.volume) (g.M.Medium.seen c.begin_replace.new.self) m.disk _ uses 15 _ _ _ _ _ c.begin_replace.ensures.only refl st.holds (begun_replace c.begin_replace.result m.disk uses c.in-ReplaceFile.slot x.1.file _ 15 idle can call.done)
+      (same_sized c.begin_replace.result _ _ _ m.disk uses st.holds c.begin_replace.ensures.err) refl call.untouched));
 }
 
 -- a relative file
@@ -241,7 +242,7 @@ returns-in_err-open_records-in-OpenRecords-clause-opens g c = record {
       let means = means_of _ _ _ _ _ _ m (stood g.M.Medium.seen _ _ m c.self.view_is s) in
       let file = of_records _ _ m.disk x.0 x.2.file means x.2.in_slot x.2.closed x.2.relative in
       absurd (let bad = c.in_err-open_records-in-OpenRecords.ensures.means m.disk x.0 x.2.file file.width file.blocks file.sides file.records means x.2.stands x.2.in_slot file.body in (cc));
-  outside = λ m p h s. outside_itself _ _ refl;
+  rest = λ m p h s. rest_itself _ _ refl;
 }
 
 pub returns-in_err-on-in-OpenRecords-clause-opens : goal.returns-in_err-on-in-OpenRecords-clause-opens
@@ -254,7 +255,7 @@ returns-in_err-on-in-OpenRecords-clause-opens g c = record {
       let width = sym (ap record_length_in file.body) ∙ x.2.width ∙ sym c.record_length-length.ensures in
       absurd (c.in_err-on-in-OpenRecords.ensures.means m.disk x.2.file file.blocks file.sides file.records means (ap (file_at m.disk) (sym x.2.number) ∙ x.2.in_slot) x.2.closed
       (file.body ∙ ap (λ w. Records w file.records file.blocks file.sides) width));
-  outside = λ m p h s. outside_itself _ _ refl;
+  rest = λ m p h s. rest_itself _ _ refl;
 }
 
 pub returns-in_ok-on-in-OpenRecords-clause-opens : goal.returns-in_ok-on-in-OpenRecords-clause-opens
@@ -271,7 +272,7 @@ returns-in_ok-on-in-OpenRecords-clause-opens g c = record {
       subst (λ k. IsOpened (g.M.Medium.seen k.medium).tracks (g.M.Medium.seen k.medium).content m ch p (uses_of k.channels m.channels) (Some (code.Records c.in_ok-on-in-OpenRecords.on))) c.self.view_is
       (relates_opened _ _ _ _ _ _ m ch p x.0 c.in-OpenRecords.found c.in_ok-on-in-OpenRecords.on st x.1 x.2 place.0 place.1.1.0 place.1.1.1 on);
   stopped = (search rules);
-  outside = λ m p h s. outside_itself _ _ refl;
+  rest = λ m p h s. rest_itself _ _ refl;
 }
 
 -- ---- nothing has changed
@@ -322,13 +323,13 @@ returns-in_err-slot-in-MakeRecords-clause-opens g c = record {
         subst (λ d. Stopped (g.M.Medium.seen c.self.inside.volume).tracks (g.M.Medium.seen c.make_records.new.self).content m.disk d uses) disk (c.in_err-slot-in-MakeRecords.ensures.call m.disk uses 15 st.holds idle).stopped,
         failed,
       ));
-  outside = λ m p h s.
+  rest = λ m p h s.
       let st = stood g.M.Medium.seen _ _ m c.self.view_is s in
       let uses = uses_of c.self.inside.channels m.channels in
       let idle : uses 15 ≡ Idle = idle_past c.self.inside.channels m.channels c.self.invariant.count in
       let call = c.make_records.ensures.call m.disk uses 15 st.holds idle in
-      outside_seen g.M.Medium.seen c.args.self.now.medium c.make_records.new.self c.self.inside.volume c.make_records.new.self (ap (λ k. k.medium) c.self.view_is) refl
-      (made_outside c.make_records.result (g.M.Medium.seen c.self.inside.volume) (g.M.Medium.seen c.make_records.new.self) m.disk _ uses _ _ _ c.make_records.ensures.only refl st.holds call (grown_total m.disk));
+      rest_seen g.M.Medium.seen c.args.self.now.medium c.make_records.new.self c.self.inside.volume c.make_records.new.self (ap (λ k. k.medium) c.self.view_is) refl
+      (rest_none _ _ (made_rest c.make_records.result (g.M.Medium.seen c.self.inside.volume) (g.M.Medium.seen c.make_records.new.self) m.disk _ uses _ _ _ c.make_records.ensures.only refl st.holds call (grown_total m.disk)));
 }
 
 pub returns-in_default-3-clause-opens : goal.returns-in_default-3-clause-opens
@@ -339,13 +340,13 @@ returns-in_default-3-clause-opens g c = record {
       let none = match_none _ _ _ c.in_default-3.not-Some (c.in_ok-slot-in-MakeRecords.ensures.call m.disk (uses_of c.self.inside.channels m.channels) ch st.holds (subst (λ k. uses_of k.channels m.channels ch ≡ Idle) (sym c.self.view_is) idle)).done in
       absurd (has_room_of m c.in-MakeRecords.name c.in-MakeRecords.length x.1 none.0);
   stopped = (search rules);
-  outside = λ m p h s.
+  rest = λ m p h s.
       let st = stood g.M.Medium.seen _ _ m c.self.view_is s in
       let uses = uses_of c.self.inside.channels m.channels in
       let idle : uses 15 ≡ Idle = idle_past c.self.inside.channels m.channels c.self.invariant.count in
       let call = c.make_records.ensures.call m.disk uses 15 st.holds idle in
-      outside_seen g.M.Medium.seen c.args.self.now.medium c.make_records.new.self c.self.inside.volume c.make_records.new.self (ap (λ k. k.medium) c.self.view_is) refl
-      (made_outside c.make_records.result (g.M.Medium.seen c.self.inside.volume) (g.M.Medium.seen c.make_records.new.self) m.disk _ uses _ _ _ c.make_records.ensures.only refl st.holds call (grown_total m.disk));
+      rest_seen g.M.Medium.seen c.args.self.now.medium c.make_records.new.self c.self.inside.volume c.make_records.new.self (ap (λ k. k.medium) c.self.view_is) refl
+      (rest_none _ _ (made_rest c.make_records.result (g.M.Medium.seen c.self.inside.volume) (g.M.Medium.seen c.make_records.new.self) m.disk _ uses _ _ _ c.make_records.ensures.only refl st.holds call (grown_total m.disk)));
 }
 
 -- its first record reads
@@ -364,13 +365,13 @@ returns-in_err-on-in-MakeRecords-clause-opens g c = record {
       let there = made_there m c.in-MakeRecords.name c.in-MakeRecords.length c.in-Some-3.slot x.1 made.0 in
       let rs = replicate (record_count c.in-MakeRecords.length 1) (fresh_record c.in-MakeRecords.length) in
       absurd (c.in_err-on-in-MakeRecords.ensures.means (with_new_records m.disk c.in-MakeRecords.name c.in-MakeRecords.length) (made_file c.in-MakeRecords.name c.in-MakeRecords.length) 1 1 rs means there refl refl);
-  outside = λ m p h s.
+  rest = λ m p h s.
       let st = stood g.M.Medium.seen _ _ m c.self.view_is s in
       let uses = uses_of c.self.inside.channels m.channels in
       let idle : uses 15 ≡ Idle = idle_past c.self.inside.channels m.channels c.self.invariant.count in
       let call = c.make_records.ensures.call m.disk uses 15 st.holds idle in
-      outside_seen g.M.Medium.seen c.args.self.now.medium c.make_records.new.self c.self.inside.volume c.make_records.new.self (ap (λ k. k.medium) c.self.view_is) refl
-      (made_outside c.make_records.result (g.M.Medium.seen c.self.inside.volume) (g.M.Medium.seen c.make_records.new.self) m.disk _ uses _ _ _ c.make_records.ensures.only refl st.holds call (grown_total m.disk));
+      rest_seen g.M.Medium.seen c.args.self.now.medium c.make_records.new.self c.self.inside.volume c.make_records.new.self (ap (λ k. k.medium) c.self.view_is) refl
+      (rest_none _ _ (made_rest c.make_records.result (g.M.Medium.seen c.self.inside.volume) (g.M.Medium.seen c.make_records.new.self) m.disk _ uses _ _ _ c.make_records.ensures.only refl st.holds call (grown_total m.disk)));
 }
 
 pub returns-in_ok-on-in-MakeRecords-clause-opens : goal.returns-in_ok-on-in-MakeRecords-clause-opens
@@ -391,13 +392,13 @@ returns-in_ok-on-in-MakeRecords-clause-opens g c = record {
       subst (λ k. IsOpened (g.M.Medium.seen k.medium).tracks (g.M.Medium.seen c.make_records.new.self).content m ch p (uses_of k.channels m.channels) (Some (code.Records c.in_ok-on-in-MakeRecords.on))) c.self.view_is
       (makes_opened _ _ _ _ _ _ _ m ch p c.in-MakeRecords.name c.in-MakeRecords.length c.in-Some-3.slot c.in_ok-on-in-MakeRecords.on st x.0 x.1 made.0 holds place.0 place.1.1.0 place.1.1.1 on);
   stopped = (search rules);
-  outside = λ m p h s.
+  rest = λ m p h s.
       let st = stood g.M.Medium.seen _ _ m c.self.view_is s in
       let uses = uses_of c.self.inside.channels m.channels in
       let idle : uses 15 ≡ Idle = idle_past c.self.inside.channels m.channels c.self.invariant.count in
       let call = c.make_records.ensures.call m.disk uses 15 st.holds idle in
-      outside_seen g.M.Medium.seen c.args.self.now.medium c.make_records.new.self c.self.inside.volume c.make_records.new.self (ap (λ k. k.medium) c.self.view_is) refl
-      (made_outside c.make_records.result (g.M.Medium.seen c.self.inside.volume) (g.M.Medium.seen c.make_records.new.self) m.disk _ uses _ _ _ c.make_records.ensures.only refl st.holds call (grown_total m.disk));
+      rest_seen g.M.Medium.seen c.args.self.now.medium c.make_records.new.self c.self.inside.volume c.make_records.new.self (ap (λ k. k.medium) c.self.view_is) refl
+      (rest_none _ _ (made_rest c.make_records.result (g.M.Medium.seen c.self.inside.volume) (g.M.Medium.seen c.make_records.new.self) m.disk _ uses _ _ _ c.make_records.ensures.only refl st.holds call (grown_total m.disk)));
 }
 
 -- ---- what a reading meets is never reported as protection
@@ -429,26 +430,26 @@ returns-in_err-open_records-in-OpenRecords-clause-medium g c =
     (rw (p.1, p.2) (λ is. absurd (opening_never_26 (geometry_of volume.tracks volume.content) volume.content c.in-OpenRecords.found.entry c.in_err-open_records-in-OpenRecords.field-0.0
     (λ q. g.met.M.Medium.codes c.self.inside.volume q) c.in_err-open_records-in-OpenRecords.ensures.cause is)))
 
--- ---- what lies outside the disk
+-- ---- the rest of the disk
 
 pub returns-in_ok-list-in-ReadListing-clause-opens : goal.returns-in_ok-list-in-ReadListing-clause-opens
 returns-in_ok-list-in-ReadListing-clause-opens g c = record {
   opened = (search rules);
   stopped = (search rules);
-  outside = λ m p h s. outside_itself _ _ refl;
+  rest = λ m p h s. rest_itself _ _ refl;
 }
 
 pub returns-in_err-writer-in-WriteFile-clause-opens : goal.returns-in_err-writer-in-WriteFile-clause-opens
 returns-in_err-writer-in-WriteFile-clause-opens g c = record {
   opened = (search rules);
   stopped = (search rules);
-  outside = λ m p h s.
+  rest = λ m p h s.
       let st = stood g.M.Medium.seen _ _ m c.self.view_is s in
       let uses = uses_of c.self.inside.channels m.channels in
       let idle : uses 15 ≡ Idle = idle_past c.self.inside.channels m.channels c.self.invariant.count in
       let x = writable _ _ m p c.args.plan c.in-WriteFile.kind c.in-WriteFile.name h c.in-WriteFile.is in
       let call = c.begin_write.ensures.call m.disk uses st.holds in
-      outside_seen g.M.Medium.seen c.args.self.now.medium c.begin_write.new.self c.self.inside.volume c.begin_write.new.self (ap (λ k. k.medium) c.self.view_is) refl
-      (begun_outside c.begin_write.result (g.M.Medium.seen c.self.inside.volume) (g.M.Medium.seen c.begin_write.new.self) m.disk _ uses 15 _ _ _ _ _ c.begin_write.ensures.only refl st.holds (begun_write c.begin_write.result uses c.in-WriteFile.kind _ 15 idle (not_del _ x.1.kept) x.1.plain call.done)
-      (cut_sized c.begin_write.result _ _ m.disk _ uses (on_both c.begin_write.result _ _ _ (not_del _ x.1.kept) x.1.plain call.stopped)) (grown_total m.disk));
+      rest_seen g.M.Medium.seen c.args.self.now.medium c.begin_write.new.self c.self.inside.volume c.begin_write.new.self (ap (λ k. k.medium) c.self.view_is) refl
+      (rest_none _ _ (begun_rest c.begin_write.result (g.M.Medium.seen c.self.inside.volume) (g.M.Medium.seen c.begin_write.new.self) m.disk _ uses 15 _ _ _ _ _ c.begin_write.ensures.only refl st.holds (begun_write c.begin_write.result uses c.in-WriteFile.kind _ 15 idle (not_del _ x.1.kept) x.1.plain call.done)
+      (cut_sized c.begin_write.result _ _ m.disk _ uses (on_both c.begin_write.result _ _ _ (not_del _ x.1.kept) x.1.plain call.stopped)) (grown_total m.disk) call.untouched));
 }

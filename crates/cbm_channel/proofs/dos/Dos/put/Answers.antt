@@ -4,7 +4,7 @@ use Rattle.cbm_channel.specs.Going.{put_written}
 use Rattle.cbm_channel.proofs.Asked.{below_15, put_15, put_records, put_other}
 use Rattle.cbm_channel.proofs.Stands.{stood, stands_at}
 use Rattle.cbm_channel.proofs.Goings.{part_same, one_part, keeps_same}
-use Rattle.cbm_channel.proofs.Outside.{outside_itself}
+use Rattle.cbm_channel.proofs.Rest.{rest_itself}
 use Rattle.cbm_channel.proofs.dos.Dos.put.Goals as goal
 
 -- a text for channel 15
@@ -36,20 +36,20 @@ returns-else-has_records-clause-goes g c = λ m s.
 pub returns-then-channel-eq15-clause-leaves : goal.returns-then-channel-eq15-clause-leaves
 returns-then-channel-eq15-clause-leaves g c = record {
   medium = (search rules);
-  outside = λ m s. outside_itself _ _ (ap g.M.Medium.seen c.gather.ensures.only.medium);
+  rest = λ m s. rest_itself _ _ (ap g.M.Medium.seen c.gather.ensures.only.medium);
   counted = (search rules);
 }
 
 pub returns-then-has_records-clause-leaves : goal.returns-then-has_records-clause-leaves
 returns-then-has_records-clause-leaves g c = record {
   medium = (search rules);
-  outside = λ m s. outside_itself _ _ (ap g.M.Medium.seen c.gather-then-has_records.ensures.only.medium);
+  rest = λ m s. rest_itself _ _ (ap g.M.Medium.seen c.gather-then-has_records.ensures.only.medium);
   counted = (search rules);
 }
 
 pub returns-else-has_records-clause-leaves : goal.returns-else-has_records-clause-leaves
 returns-else-has_records-clause-leaves g c = record {
   medium = (search rules);
-  outside = c.store.ensures.leaves.outside;
+  rest = c.store.ensures.leaves.rest;
   counted = (search rules);
 }

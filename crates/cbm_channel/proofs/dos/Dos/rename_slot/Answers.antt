@@ -15,7 +15,7 @@ use Rattle.cbm_channel.proofs.Stands.{stood, unwritten_at}
 use Rattle.cbm_channel.proofs.Stores.{renamed}
 use Rattle.cbm_channel.proofs.Refused.{not_refused}
 use Rattle.cbm_channel.proofs.Counted.{counted_told}
-use Rattle.cbm_channel.proofs.Outside.{outside_seen, outside_held, outside_same}
+use Rattle.cbm_channel.proofs.Rest.{rest_seen, outside_held, rest_same}
 use Rattle.cbm_channel.proofs.dos.Dos.rename_slot.Goals as goal
 
 pub returns-in-Ok-clause-goes : goal.returns-in-Ok-clause-goes
@@ -63,16 +63,19 @@ returns-in-Err-clause-leaves g c = record {
   counted = counted_told g.M.Medium.seen c.args.self.now c.set.new.self c.self.inside.volume c.rename.new.self (ap (λ k. k.medium) c.self.view_is) c.set.ensures.medium c.rename.result c.in-Err.trouble c.in-Err.is c.rename.ensures.only (ap (λ x. x.status) c.set.ensures.told ∙ c.from.ensures);
 }
 
--- ---- what lies outside the disk
+-- ---- the rest of the disk
 
-pub returns-in-Ok-clause-outside : goal.returns-in-Ok-clause-outside
-returns-in-Ok-clause-outside g c = λ m old is s.
+pub returns-in-Ok-clause-rest : goal.returns-in-Ok-clause-rest
+returns-in-Ok-clause-rest g c = λ m old is s.
     let here = c.self.inside in
     let st : StandsBy (g.M.Medium.seen here.volume).content (g.M.Medium.seen here.volume).tracks (g.M.Medium.seen here.volume).protected here.channels here.telling here.text m = stood g.M.Medium.seen c.args.self.now _ m c.self.view_is s in
     let unwritten : IsUnwritten (uses_of here.channels m.channels) c.args.slot = λ k. unwritten_at c.args.slot here.channels m.channels k st.each (λ j. none_passes (writes c.args.slot) refl m.channels j is.unwritten) in
-    outside_seen g.M.Medium.seen c.args.self.now.medium c.say.new.self.medium c.self.inside.volume c.rename.new.self (ap (λ k. k.medium) c.self.view_is) c.say.ensures.medium
-    (outside_held c.rename.result (g.M.Medium.seen here.volume) (g.M.Medium.seen c.rename.new.self) m.disk (uses_of here.channels m.channels) c.rename.ensures.only refl st.holds
-    (record { disk = _; uses = _; holds = (c.in-Ok.ensures.call m.disk (uses_of here.channels m.channels) st.holds).done is.file is.in_slot unwritten; total = refl }))
+    rest_seen g.M.Medium.seen c.args.self.now.medium c.say.new.self.medium c.self.inside.volume c.rename.new.self (ap (λ k. k.medium) c.self.view_is) c.say.ensures.medium
+    (record {
+      in_place = (c.in-Ok.ensures.call m.disk (uses_of here.channels m.channels) st.holds).untouched.stays;
+      outside = outside_held c.rename.result (g.M.Medium.seen here.volume) (g.M.Medium.seen c.rename.new.self) m.disk (uses_of here.channels m.channels) c.rename.ensures.only refl st.holds
+          (record { disk = _; uses = _; holds = (c.in-Ok.ensures.call m.disk (uses_of here.channels m.channels) st.holds).done is.file is.in_slot unwritten; total = refl });
+    })
 
-pub returns-in-Err-clause-outside : goal.returns-in-Err-clause-outside
-returns-in-Err-clause-outside g c = λ m old is s. outside_seen g.M.Medium.seen c.args.self.now.medium c.set.new.self.medium c.self.inside.volume c.rename.new.self (ap (λ k. k.medium) c.self.view_is) c.set.ensures.medium (outside_same _ _ c.rename.ensures.only.tracks c.in-Err.ensures.err)
+pub returns-in-Err-clause-rest : goal.returns-in-Err-clause-rest
+returns-in-Err-clause-rest g c = λ m old is s. rest_seen g.M.Medium.seen c.args.self.now.medium c.set.new.self.medium c.self.inside.volume c.rename.new.self (ap (λ k. k.medium) c.self.view_is) c.set.ensures.medium (rest_same _ _ c.rename.ensures.only.tracks c.in-Err.ensures.err)

@@ -1,12 +1,14 @@
-use Rattle.std.proofs.Common.{rules, sym, ap, ◌∙◌, inl}
+use Rattle.std.proofs.Common.{rules, subst, sym, ap, ◌∙◌, inl}
 use Rattle.std.specs.Prelude.{Ok}
 use Rattle.cbm_command.specs.declared.command.Command.TheVariants.{New, Validate}
 use Rattle.cbm_machine.specs.Machines.{answered}
 use Rattle.cbm_machine.specs.Running.{run, rename, scratch, copy}
-use Rattle.cbm_channel.specs.Commanded.{formats}
+use Rattle.cbm_command.specs.declared.command.Command.{Command}
+use Rattle.cbm_channel.specs.ChannelCalls.{KeepsRest}
+use Rattle.cbm_channel.specs.Commanded.{formats, cleared_by}
 use Rattle.cbm_channel.proofs.Goings.{part_same}
 use Rattle.cbm_channel.proofs.Named.{new_name_cut, copy_name_cut, place_some}
-use Rattle.cbm_channel.proofs.Outside.{outside_itself}
+use Rattle.cbm_channel.proofs.Rest.{rest_itself, rest_none}
 use Rattle.cbm_channel.proofs.dos.Dos.run.Goals as goal
 
 pub returns-in-New-clause-goes : goal.returns-in-New-clause-goes
@@ -51,7 +53,7 @@ returns-in-New-clause-leaves g c = record {
   others = (search rules);
   ordered = (search rules);
   medium = (search rules);
-  outside = λ other. let z = sym (ap formats c.in-New.is) ∙ other in absurd (cc);
+  rest = λ other. let z = sym (ap formats c.in-New.is) ∙ other in absurd (cc);
   counted = (search rules);
 }
 
@@ -61,7 +63,7 @@ returns-in-Scratch-clause-leaves g c = record {
   others = (search rules);
   ordered = (search rules);
   medium = (search rules);
-  outside = λ other. c.scratch.ensures.outside;
+  rest = λ other m s. subst (λ (x : Command). KeepsRest (g.M.Medium.seen c.args.self.now.medium) (g.M.Medium.seen c.scratch.new.self.medium) (cleared_by x m)) (sym c.in-Scratch.is) (c.scratch.ensures.rest m s);
   counted = (search rules);
 }
 
@@ -71,7 +73,7 @@ returns-in-Rename-clause-leaves g c = record {
   others = (search rules);
   ordered = (search rules);
   medium = (search rules);
-  outside = λ other. c.rename.ensures.outside;
+  rest = λ other m s. rest_none _ _ (c.rename.ensures.rest m s);
   counted = (search rules);
 }
 
@@ -81,7 +83,7 @@ returns-in-Copy-clause-leaves g c = record {
   others = (search rules);
   ordered = (search rules);
   medium = (search rules);
-  outside = λ other. c.copy.ensures.outside;
+  rest = λ other m s. rest_none _ _ (c.copy.ensures.rest m s);
   counted = (search rules);
 }
 
@@ -91,7 +93,7 @@ returns-in-Validate-clause-leaves g c = record {
   others = (search rules);
   ordered = (search rules);
   medium = (search rules);
-  outside = λ other. c.validate.ensures.outside;
+  rest = λ other m s. rest_none _ _ (c.validate.ensures.rest m s);
   counted = (search rules);
 }
 
@@ -101,7 +103,7 @@ returns-in-Initialize-clause-leaves g c = record {
   others = (search rules);
   ordered = (search rules);
   medium = (search rules);
-  outside = λ other m s. outside_itself _ _ (ap g.M.Medium.seen c.say.ensures.medium);
+  rest = λ other m s. rest_itself _ _ (ap g.M.Medium.seen c.say.ensures.medium);
   counted = (search rules);
 }
 
@@ -111,6 +113,6 @@ returns-in-Position-clause-leaves g c = record {
   others = (search rules);
   ordered = (search rules);
   medium = (search rules);
-  outside = λ other m s. outside_itself _ _ (ap g.M.Medium.seen c.place.ensures.tells.1);
+  rest = λ other m s. rest_itself _ _ (ap g.M.Medium.seen c.place.ensures.tells.1);
   counted = (search rules);
 }

@@ -1,6 +1,8 @@
-use Rattle.std.proofs.Common.{sym, ap, ◌∙◌, inl}
+use Rattle.std.proofs.Common.{ℕ, List, subst, sym, ap, ◌∙◌, inl}
 use Rattle.cbm_machine.specs.Machines.{answered, with_status}
-use Rattle.cbm_channel.proofs.Outside.{outside_itself}
+use Rattle.cbm_channel.specs.ChannelCalls.{KeepsRest}
+use Rattle.cbm_channel.specs.Commanded.{is_slot_among, AreSlotsGoing}
+use Rattle.cbm_channel.proofs.Rest.{rest_itself}
 use Rattle.cbm_channel.proofs.dos.Dos.scratch.Goals as goal
 
 pub returns-in-Err-clause-goes : goal.returns-in-Err-clause-goes
@@ -8,7 +10,12 @@ returns-in-Err-clause-goes g c = λ m s.
     let x = c.in-Err.ensures.refused m s in
     (with_status c.in-Err.status m, inl (sym (ap (answered m) x.0 ∙ ap (λ t. with_status t m) (sym x.1))), c.set.ensures.leads m s)
 
--- ---- what lies outside the disk
+-- ---- the rest of the disk
 
-pub returns-in-Err-clause-outside : goal.returns-in-Err-clause-outside
-returns-in-Err-clause-outside g c = λ m s. outside_itself _ _ (ap g.M.Medium.seen c.set.ensures.medium)
+pub returns-in-Ok-clause-rest : goal.returns-in-Ok-clause-rest
+returns-in-Ok-clause-rest g c = λ m s.
+    let going = subst (λ (ns : List ℕ). AreSlotsGoing m c.args.patterns.now ns) (sym c.as_slice.ensures.value) (c.in-Ok.ensures.planned m s) in
+    subst (λ (ns : List ℕ). KeepsRest (g.M.Medium.seen c.args.self.now.medium) (g.M.Medium.seen c.scratch_slots.new.self.medium) (is_slot_among ns)) going.all (c.scratch_slots.ensures.rest m c.args.patterns.now going s)
+
+pub returns-in-Err-clause-rest : goal.returns-in-Err-clause-rest
+returns-in-Err-clause-rest g c = λ m s. rest_itself _ _ (ap g.M.Medium.seen c.set.ensures.medium)

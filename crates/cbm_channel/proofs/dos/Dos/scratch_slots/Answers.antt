@@ -10,7 +10,7 @@ use Rattle.cbm_channel.proofs.Scratches.{scratch_done, all_can_go}
 use Rattle.cbm_channel.proofs.Stores.{renamed}
 use Rattle.cbm_channel.proofs.Refused.{not_refused, refused_26}
 use Rattle.cbm_channel.proofs.Counted.{counted_else}
-use Rattle.cbm_channel.proofs.Outside.{outside_seen}
+use Rattle.cbm_channel.proofs.Rest.{rest_seen}
 use Rattle.cbm_channel.proofs.dos.Dos.scratch_slots.Goals as goal
 
 pub returns-in-Ok-clause-goes : goal.returns-in-Ok-clause-goes
@@ -55,16 +55,16 @@ returns-in-Err-clause-leaves g c = record {
   counted = counted_else g.M.Medium.seen c.args.self.now c.set-in-Err.new.self c.args.self.now.medium c.clear.new.self.medium refl c.set-in-Err.ensures.medium c.clear.result c.in-Err.trouble c.in-Err.is c.clear.ensures.medium (ap (λ x. x.status) c.set-in-Err.ensures.told ∙ c.from.ensures);
 }
 
--- ---- what lies outside the disk
+-- ---- the rest of the disk
 
-pub returns-in-Ok-clause-outside : goal.returns-in-Ok-clause-outside
-returns-in-Ok-clause-outside g c = λ m ps going s.
+pub returns-in-Ok-clause-rest : goal.returns-in-Ok-clause-rest
+returns-in-Ok-clause-rest g c = λ m ps going s.
     let old = c.args.self.now in
     let can = all_can_go m ps (uses_of old.channels m.channels) (λ n u. unused_at n old.channels m s.each u) c.args.slots.now going.all in
-    outside_seen g.M.Medium.seen c.args.self.now.medium c.set.new.self.medium c.args.self.now.medium c.clear.new.self.medium refl c.set.ensures.medium (c.clear.ensures.outside m s can)
+    rest_seen g.M.Medium.seen c.args.self.now.medium c.set.new.self.medium c.args.self.now.medium c.clear.new.self.medium refl c.set.ensures.medium (c.clear.ensures.rest m s can)
 
-pub returns-in-Err-clause-outside : goal.returns-in-Err-clause-outside
-returns-in-Err-clause-outside g c = λ m ps going s.
+pub returns-in-Err-clause-rest : goal.returns-in-Err-clause-rest
+returns-in-Err-clause-rest g c = λ m ps going s.
     let old = c.args.self.now in
     let can = all_can_go m ps (uses_of old.channels m.channels) (λ n u. unused_at n old.channels m s.each u) c.args.slots.now going.all in
-    outside_seen g.M.Medium.seen c.args.self.now.medium c.set-in-Err.new.self.medium c.args.self.now.medium c.clear.new.self.medium refl c.set-in-Err.ensures.medium (c.clear.ensures.outside m s can)
+    rest_seen g.M.Medium.seen c.args.self.now.medium c.set-in-Err.new.self.medium c.args.self.now.medium c.clear.new.self.medium refl c.set-in-Err.ensures.medium (c.clear.ensures.rest m s can)

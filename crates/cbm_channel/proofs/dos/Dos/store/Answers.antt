@@ -8,7 +8,8 @@ use Rattle.cbm_channel.proofs.BytesPut.{IsPut}
 use Rattle.cbm_channel.proofs.Stands.{stood, stands_at, waits_at, use_at}
 use Rattle.cbm_channel.proofs.Stores.{put_waits, put_stored, put_refused, put_cut, has_failed, renamed}
 use Rattle.cbm_channel.proofs.Counted.{counted_else}
-use Rattle.cbm_channel.proofs.Outside.{outside_seen}
+use Rattle.cbm_channel.proofs.Rest.{rest_seen}
+use Rattle.cbm_channel.proofs.Spared.{slot_kept}
 use Rattle.cbm_channel.proofs.dos.Dos.store.Goals as goal
 
 -- the byte is stored, or dropped
@@ -61,32 +62,46 @@ returns-in-Err-clause-goes g c = λ m s.
 pub returns-in-Err-clause-leaves : goal.returns-in-Err-clause-leaves
 returns-in-Err-clause-leaves g c = record {
   medium = (search rules);
-  outside = λ m s.
+  rest = λ m s.
       let st = stood g.M.Medium.seen _ _ m c.self.view_is s in
       let at = stands_at _ _ _ _ _ _ m c.args.channel c.index-self-channel.result c.requires c.self.invariant st in
       let same = use_at (slice_index_or c.self.inside.channels c.args.channel c.index-self-channel.result) _ m.channels c.args.channel _ (omega (arith, c.requires, c.self.invariant.count)) refl in
-      outside_seen g.M.Medium.seen c.args.self.now.medium c.set.new.self.medium c.self.inside.volume c.put.new.volume (ap (λ k. k.medium) c.self.view_is) c.set.ensures.medium ((c.put.ensures.call m.disk (uses_of c.self.inside.channels m.channels) c.args.channel (channel m c.args.channel) st.holds same at).outside);
+      rest_seen g.M.Medium.seen c.args.self.now.medium c.set.new.self.medium c.self.inside.volume c.put.new.volume (ap (λ k. k.medium) c.self.view_is) c.set.ensures.medium ((c.put.ensures.call m.disk (uses_of c.self.inside.channels m.channels) c.args.channel (channel m c.args.channel) st.holds same at).rest);
   counted = counted_else g.M.Medium.seen c.args.self.now c.set.new.self c.self.inside.volume c.put.new.volume (ap (λ k. k.medium) c.self.view_is) c.set.ensures.medium c.put.result c.in-Err.trouble c.in-Err.is c.put.ensures.only (ap (λ x. x.status) c.set.ensures.told ∙ c.from.ensures);
 }
 
 pub returns-in-Ok-true-clause-leaves : goal.returns-in-Ok-true-clause-leaves
 returns-in-Ok-true-clause-leaves g c = record {
   medium = (search rules);
-  outside = λ m s.
+  rest = λ m s.
       let st = stood g.M.Medium.seen _ _ m c.self.view_is s in
       let at = stands_at _ _ _ _ _ _ m c.args.channel c.index-self-channel.result c.requires c.self.invariant st in
       let same = use_at (slice_index_or c.self.inside.channels c.args.channel c.index-self-channel.result) _ m.channels c.args.channel _ (omega (arith, c.requires, c.self.invariant.count)) refl in
-      outside_seen g.M.Medium.seen c.args.self.now.medium c.put.new.volume c.self.inside.volume c.put.new.volume (ap (λ k. k.medium) c.self.view_is) refl ((c.put.ensures.call m.disk (uses_of c.self.inside.channels m.channels) c.args.channel (channel m c.args.channel) st.holds same at).outside);
+      rest_seen g.M.Medium.seen c.args.self.now.medium c.put.new.volume c.self.inside.volume c.put.new.volume (ap (λ k. k.medium) c.self.view_is) refl ((c.put.ensures.call m.disk (uses_of c.self.inside.channels m.channels) c.args.channel (channel m c.args.channel) st.holds same at).rest);
   counted = (search rules);
 }
 
 pub returns-in-Ok-false-clause-leaves : goal.returns-in-Ok-false-clause-leaves
 returns-in-Ok-false-clause-leaves g c = record {
   medium = (search rules);
-  outside = λ m s.
+  rest = λ m s.
       let st = stood g.M.Medium.seen _ _ m c.self.view_is s in
       let at = stands_at _ _ _ _ _ _ m c.args.channel c.index-self-channel.result c.requires c.self.invariant st in
       let same = use_at (slice_index_or c.self.inside.channels c.args.channel c.index-self-channel.result) _ m.channels c.args.channel _ (omega (arith, c.requires, c.self.invariant.count)) refl in
-      outside_seen g.M.Medium.seen c.args.self.now.medium c.say.new.self.medium c.self.inside.volume c.put.new.volume (ap (λ k. k.medium) c.self.view_is) c.say.ensures.medium ((c.put.ensures.call m.disk (uses_of c.self.inside.channels m.channels) c.args.channel (channel m c.args.channel) st.holds same at).outside);
+      rest_seen g.M.Medium.seen c.args.self.now.medium c.say.new.self.medium c.self.inside.volume c.put.new.volume (ap (λ k. k.medium) c.self.view_is) c.say.ensures.medium ((c.put.ensures.call m.disk (uses_of c.self.inside.channels m.channels) c.args.channel (channel m c.args.channel) st.holds same at).rest);
   counted = (search rules);
 }
+
+-- ---- the slot
+
+pub returns-in-Ok-true-clause-slot : goal.returns-in-Ok-true-clause-slot
+returns-in-Ok-true-clause-slot g c =
+    slot_kept c.args.channel c.args.self.now.channels _ c.self.inside.channels c.index-self-channel.result c.put.new.self (ap (λ k. k.channels) c.self.view_is) (omega (arith, c.requires, c.self.invariant.count)) refl c.put.ensures.slot
+
+pub returns-in-Ok-false-clause-slot : goal.returns-in-Ok-false-clause-slot
+returns-in-Ok-false-clause-slot g c =
+    slot_kept c.args.channel c.args.self.now.channels _ c.self.inside.channels c.index-self-channel.result c.put.new.self (ap (λ k. k.channels) c.self.view_is) (omega (arith, c.requires, c.self.invariant.count)) c.say.ensures.channels c.put.ensures.slot
+
+pub returns-in-Err-clause-slot : goal.returns-in-Err-clause-slot
+returns-in-Err-clause-slot g c =
+    slot_kept c.args.channel c.args.self.now.channels _ c.self.inside.channels c.index-self-channel.result c.put.new.self (ap (λ k. k.channels) c.self.view_is) (omega (arith, c.requires, c.self.invariant.count)) c.set.ensures.channels c.put.ensures.slot

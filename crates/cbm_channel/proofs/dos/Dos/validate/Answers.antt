@@ -13,7 +13,7 @@ use Rattle.cbm_channel.proofs.Orders.{not_so}
 use Rattle.cbm_channel.proofs.Refused.{not_refused, refused_26}
 use Rattle.cbm_channel.proofs.Ordered.{trouble_not_fine, fine_ordered, refused_ordered}
 use Rattle.cbm_channel.proofs.Counted.{counted_told}
-use Rattle.cbm_channel.proofs.Outside.{outside_itself, outside_seen, change_outside}
+use Rattle.cbm_channel.proofs.Rest.{rest_itself, rest_seen, change_rest}
 use Rattle.cbm_channel.proofs.dos.Dos.validate.Goals as goal
 
 -- a channel is open
@@ -102,25 +102,25 @@ returns-in-Err-clause-ordered g c =
     refused_ordered g.M.Medium.seen c.args.self.now.medium _ _ (g.M.Medium.seen c.self.inside.volume) (g.M.Medium.seen c.validate.new.self) _ (trouble_not_fine c.in-Err.trouble c.from.result c.from.ensures) (ap (λ k. g.M.Medium.seen k.medium) c.self.view_is)
     (ap g.M.Medium.seen c.set.ensures.medium) c.set.ensures.told c.in-Err.ensures.in_order
 
--- ---- what lies outside the disk
+-- ---- the rest of the disk
 
-pub returns-then-is_any_open-clause-outside : goal.returns-then-is_any_open-clause-outside
-returns-then-is_any_open-clause-outside g c = λ m s. outside_itself _ _ (ap g.M.Medium.seen c.say.ensures.medium)
+pub returns-then-is_any_open-clause-rest : goal.returns-then-is_any_open-clause-rest
+returns-then-is_any_open-clause-rest g c = λ m s. rest_itself _ _ (ap g.M.Medium.seen c.say.ensures.medium)
 
-pub returns-in-Ok-clause-outside : goal.returns-in-Ok-clause-outside
-returns-in-Ok-clause-outside g c = λ m s.
+pub returns-in-Ok-clause-rest : goal.returns-in-Ok-clause-rest
+returns-in-Ok-clause-rest g c = λ m s.
     let here = c.self.inside in
     let st : StandsBy (g.M.Medium.seen here.volume).content (g.M.Medium.seen here.volume).tracks (g.M.Medium.seen here.volume).protected here.channels here.telling here.text m = stood g.M.Medium.seen c.args.self.now _ m c.self.view_is s in
     let shut : any_open m ≡ false = sym (c.is_any_open.ensures m s) ∙ c.if-is_any_open.false in
     let idle : (k : ℕ) → uses_of here.channels m.channels k ≡ Idle = all_idle here.channels m.channels st.each shut in
-    outside_seen g.M.Medium.seen c.args.self.now.medium c.say-in-Ok.new.self.medium c.self.inside.volume c.validate.new.self (ap (λ k. k.medium) c.self.view_is) c.say-in-Ok.ensures.medium
-    (change_outside c.validate.result (g.M.Medium.seen here.volume) (g.M.Medium.seen c.validate.new.self) m.disk (validated m.disk) (uses_of here.channels m.channels) _ _ c.validate.ensures.only refl st.holds (c.validate.ensures.call m.disk (uses_of here.channels m.channels) st.holds idle) refl)
+    rest_seen g.M.Medium.seen c.args.self.now.medium c.say-in-Ok.new.self.medium c.self.inside.volume c.validate.new.self (ap (λ k. k.medium) c.self.view_is) c.say-in-Ok.ensures.medium
+    (change_rest c.validate.result (g.M.Medium.seen here.volume) (g.M.Medium.seen c.validate.new.self) m.disk (validated m.disk) (uses_of here.channels m.channels) _ _ c.validate.ensures.only refl st.holds (c.validate.ensures.call m.disk (uses_of here.channels m.channels) st.holds idle) refl)
 
-pub returns-in-Err-clause-outside : goal.returns-in-Err-clause-outside
-returns-in-Err-clause-outside g c = λ m s.
+pub returns-in-Err-clause-rest : goal.returns-in-Err-clause-rest
+returns-in-Err-clause-rest g c = λ m s.
     let here = c.self.inside in
     let st : StandsBy (g.M.Medium.seen here.volume).content (g.M.Medium.seen here.volume).tracks (g.M.Medium.seen here.volume).protected here.channels here.telling here.text m = stood g.M.Medium.seen c.args.self.now _ m c.self.view_is s in
     let shut : any_open m ≡ false = sym (c.is_any_open.ensures m s) ∙ c.if-is_any_open.false in
     let idle : (k : ℕ) → uses_of here.channels m.channels k ≡ Idle = all_idle here.channels m.channels st.each shut in
-    outside_seen g.M.Medium.seen c.args.self.now.medium c.set.new.self.medium c.self.inside.volume c.validate.new.self (ap (λ k. k.medium) c.self.view_is) c.set.ensures.medium
-    (change_outside c.validate.result (g.M.Medium.seen here.volume) (g.M.Medium.seen c.validate.new.self) m.disk (validated m.disk) (uses_of here.channels m.channels) _ _ c.validate.ensures.only refl st.holds (c.validate.ensures.call m.disk (uses_of here.channels m.channels) st.holds idle) refl)
+    rest_seen g.M.Medium.seen c.args.self.now.medium c.set.new.self.medium c.self.inside.volume c.validate.new.self (ap (λ k. k.medium) c.self.view_is) c.set.ensures.medium
+    (change_rest c.validate.result (g.M.Medium.seen here.volume) (g.M.Medium.seen c.validate.new.self) m.disk (validated m.disk) (uses_of here.channels m.channels) _ _ c.validate.ensures.only refl st.holds (c.validate.ensures.call m.disk (uses_of here.channels m.channels) st.holds idle) refl)

@@ -1,14 +1,16 @@
-use Rattle.std.proofs.Common.{rules, ◌≡◌, IfSome, refl, sym, ap, subst, ◌∙◌, inl, inr, Option, Bool, Ok, Some, true, false, slice_index_or, take}
+use Rattle.std.proofs.Common.{rules, arith, ◌≡◌, IfSome, refl, sym, ap, subst, ◌∙◌, inl, inr, Option, Bool, Ok, Some, true, false, slice_index_or, take}
 use Rattle.cbm_medium.specs.Seen.{Seen, HasFailed}
 use Rattle.cbm_machine.specs.Machines.{with_status}
 use Rattle.cbm_channel.specs.declared.channel.Channel as kept
-use Rattle.cbm_channel.proofs.RecordEnds.{records_or_not, put_done, put_large, put_stopped, none_done, put_outside}
+use Rattle.cbm_channel.proofs.RecordEnds.{records_or_not, put_done, put_large, put_stopped, none_done, put_rest}
 use Rattle.cbm_channel.specs.Shown.{has_records}
 use Rattle.cbm_channel.specs.PlaceCalls.{PutsText}
-use Rattle.cbm_channel.proofs.Stands.{stood}
+use Rattle.cbm_channel.specs.declared.channel.Channel.TheVariants.{Closed}
+use Rattle.cbm_channel.proofs.Stands.{any_default, stood}
 use Rattle.cbm_channel.proofs.Stores.{renamed}
 use Rattle.cbm_channel.proofs.Counted.{counted_else}
-use Rattle.cbm_channel.proofs.Outside.{outside_seen}
+use Rattle.cbm_channel.proofs.Rest.{rest_seen}
+use Rattle.cbm_channel.proofs.Spared.{rest_on}
 use Rattle.cbm_channel.proofs.dos.Dos.write_record.Goals as goal
 
 -- all bytes were written, or the channel has no records
@@ -70,47 +72,47 @@ returns-in-Err-clause-goes g c = λ m text s first.
 pub returns-in-Err-clause-leaves : goal.returns-in-Err-clause-leaves
 returns-in-Err-clause-leaves g c = record {
   medium = (search rules);
-  outside = λ m s.
+  rest = λ m s.
       let old : Seen = g.M.Medium.seen c.self.inside.volume in
       let new : Seen = g.M.Medium.seen c.write_record.new.volume in
       let st = stood g.M.Medium.seen _ _ m c.self.view_is s in
       let x : kept.Channel = slice_index_or c.self.inside.channels c.args.channel c.index-self-channel.result in
-      outside_seen g.M.Medium.seen c.args.self.now.medium c.set.new.self.medium c.self.inside.volume c.write_record.new.volume (ap (λ k. k.medium) c.self.view_is) c.set.ensures.medium (put_outside old new c.self.inside.channels c.self.inside.telling c.self.inside.text m c.args.channel c.requires c.self.invariant st x c.write_record.new.self c.index-self-channel.result refl (take 256 c.args.bytes.now) c.args.bytes.now refl c.write_record.ensures.call.medium.tracks c.write_record.ensures.outside (λ none. ap g.M.Medium.seen (c.write_record.ensures.quiet none).2));
+      rest_seen g.M.Medium.seen c.args.self.now.medium c.set.new.self.medium c.self.inside.volume c.write_record.new.volume (ap (λ k. k.medium) c.self.view_is) c.set.ensures.medium (rest_on old new x (slice_index_or c.args.self.now.channels c.args.channel Closed) (any_default c.self.inside.channels c.args.channel c.index-self-channel.result Closed (omega (arith, c.requires, c.self.invariant.count)) ∙ ap (λ k. slice_index_or k.channels c.args.channel Closed) c.self.view_is) (put_rest old new c.self.inside.channels c.self.inside.telling c.self.inside.text m c.args.channel c.requires c.self.invariant st x c.write_record.new.self c.index-self-channel.result refl (take 256 c.args.bytes.now) c.args.bytes.now refl c.write_record.ensures.call.medium.tracks c.write_record.ensures.rest (λ none. ap g.M.Medium.seen (c.write_record.ensures.quiet none).2)));
   counted = counted_else g.M.Medium.seen c.args.self.now c.set.new.self c.self.inside.volume c.write_record.new.volume (ap (λ k. k.medium) c.self.view_is) c.set.ensures.medium c.write_record.result c.in-Err.trouble c.in-Err.is c.write_record.ensures.call.medium (ap (λ x. x.status) c.set.ensures.told ∙ c.from.ensures);
 }
 
 pub returns-in-Ok-Some-false-clause-leaves : goal.returns-in-Ok-Some-false-clause-leaves
 returns-in-Ok-Some-false-clause-leaves g c = record {
   medium = (search rules);
-  outside = λ m s.
+  rest = λ m s.
       let old : Seen = g.M.Medium.seen c.self.inside.volume in
       let new : Seen = g.M.Medium.seen c.write_record.new.volume in
       let st = stood g.M.Medium.seen _ _ m c.self.view_is s in
       let x : kept.Channel = slice_index_or c.self.inside.channels c.args.channel c.index-self-channel.result in
-      outside_seen g.M.Medium.seen c.args.self.now.medium c.write_record.new.volume c.self.inside.volume c.write_record.new.volume (ap (λ k. k.medium) c.self.view_is) refl (put_outside old new c.self.inside.channels c.self.inside.telling c.self.inside.text m c.args.channel c.requires c.self.invariant st x c.write_record.new.self c.index-self-channel.result refl (take 256 c.args.bytes.now) c.args.bytes.now refl c.write_record.ensures.call.medium.tracks c.write_record.ensures.outside (λ none. ap g.M.Medium.seen (c.write_record.ensures.quiet none).2));
+      rest_seen g.M.Medium.seen c.args.self.now.medium c.write_record.new.volume c.self.inside.volume c.write_record.new.volume (ap (λ k. k.medium) c.self.view_is) refl (rest_on old new x (slice_index_or c.args.self.now.channels c.args.channel Closed) (any_default c.self.inside.channels c.args.channel c.index-self-channel.result Closed (omega (arith, c.requires, c.self.invariant.count)) ∙ ap (λ k. slice_index_or k.channels c.args.channel Closed) c.self.view_is) (put_rest old new c.self.inside.channels c.self.inside.telling c.self.inside.text m c.args.channel c.requires c.self.invariant st x c.write_record.new.self c.index-self-channel.result refl (take 256 c.args.bytes.now) c.args.bytes.now refl c.write_record.ensures.call.medium.tracks c.write_record.ensures.rest (λ none. ap g.M.Medium.seen (c.write_record.ensures.quiet none).2)));
   counted = (search rules);
 }
 
 pub returns-in-Ok-Some-true-clause-leaves : goal.returns-in-Ok-Some-true-clause-leaves
 returns-in-Ok-Some-true-clause-leaves g c = record {
   medium = (search rules);
-  outside = λ m s.
+  rest = λ m s.
       let old : Seen = g.M.Medium.seen c.self.inside.volume in
       let new : Seen = g.M.Medium.seen c.write_record.new.volume in
       let st = stood g.M.Medium.seen _ _ m c.self.view_is s in
       let x : kept.Channel = slice_index_or c.self.inside.channels c.args.channel c.index-self-channel.result in
-      outside_seen g.M.Medium.seen c.args.self.now.medium c.say.new.self.medium c.self.inside.volume c.write_record.new.volume (ap (λ k. k.medium) c.self.view_is) c.say.ensures.medium (put_outside old new c.self.inside.channels c.self.inside.telling c.self.inside.text m c.args.channel c.requires c.self.invariant st x c.write_record.new.self c.index-self-channel.result refl (take 256 c.args.bytes.now) c.args.bytes.now refl c.write_record.ensures.call.medium.tracks c.write_record.ensures.outside (λ none. ap g.M.Medium.seen (c.write_record.ensures.quiet none).2));
+      rest_seen g.M.Medium.seen c.args.self.now.medium c.say.new.self.medium c.self.inside.volume c.write_record.new.volume (ap (λ k. k.medium) c.self.view_is) c.say.ensures.medium (rest_on old new x (slice_index_or c.args.self.now.channels c.args.channel Closed) (any_default c.self.inside.channels c.args.channel c.index-self-channel.result Closed (omega (arith, c.requires, c.self.invariant.count)) ∙ ap (λ k. slice_index_or k.channels c.args.channel Closed) c.self.view_is) (put_rest old new c.self.inside.channels c.self.inside.telling c.self.inside.text m c.args.channel c.requires c.self.invariant st x c.write_record.new.self c.index-self-channel.result refl (take 256 c.args.bytes.now) c.args.bytes.now refl c.write_record.ensures.call.medium.tracks c.write_record.ensures.rest (λ none. ap g.M.Medium.seen (c.write_record.ensures.quiet none).2)));
   counted = (search rules);
 }
 
 pub returns-in-Ok-None-clause-leaves : goal.returns-in-Ok-None-clause-leaves
 returns-in-Ok-None-clause-leaves g c = record {
   medium = (search rules);
-  outside = λ m s.
+  rest = λ m s.
       let old : Seen = g.M.Medium.seen c.self.inside.volume in
       let new : Seen = g.M.Medium.seen c.write_record.new.volume in
       let st = stood g.M.Medium.seen _ _ m c.self.view_is s in
       let x : kept.Channel = slice_index_or c.self.inside.channels c.args.channel c.index-self-channel.result in
-      outside_seen g.M.Medium.seen c.args.self.now.medium c.say-in-Ok-None.new.self.medium c.self.inside.volume c.write_record.new.volume (ap (λ k. k.medium) c.self.view_is) c.say-in-Ok-None.ensures.medium (put_outside old new c.self.inside.channels c.self.inside.telling c.self.inside.text m c.args.channel c.requires c.self.invariant st x c.write_record.new.self c.index-self-channel.result refl (take 256 c.args.bytes.now) c.args.bytes.now refl c.write_record.ensures.call.medium.tracks c.write_record.ensures.outside (λ none. ap g.M.Medium.seen (c.write_record.ensures.quiet none).2));
+      rest_seen g.M.Medium.seen c.args.self.now.medium c.say-in-Ok-None.new.self.medium c.self.inside.volume c.write_record.new.volume (ap (λ k. k.medium) c.self.view_is) c.say-in-Ok-None.ensures.medium (rest_on old new x (slice_index_or c.args.self.now.channels c.args.channel Closed) (any_default c.self.inside.channels c.args.channel c.index-self-channel.result Closed (omega (arith, c.requires, c.self.invariant.count)) ∙ ap (λ k. slice_index_or k.channels c.args.channel Closed) c.self.view_is) (put_rest old new c.self.inside.channels c.self.inside.telling c.self.inside.text m c.args.channel c.requires c.self.invariant st x c.write_record.new.self c.index-self-channel.result refl (take 256 c.args.bytes.now) c.args.bytes.now refl c.write_record.ensures.call.medium.tracks c.write_record.ensures.rest (λ none. ap g.M.Medium.seen (c.write_record.ensures.quiet none).2)));
   counted = (search rules);
 }

@@ -1,7 +1,8 @@
 use Rattle.std.proofs.Common.{subst, inl, refl}
+use Rattle.std.specs.Prelude.{◌==◌}
 use Rattle.cbm_channel.proofs.RecordPuts.{no_place, grows_by}
-use Rattle.cbm_channel.specs.ChannelCalls.{OfPlaced, KeepsOutside}
-use Rattle.cbm_channel.proofs.Outside.{outside_itself, growth_outside}
+use Rattle.cbm_channel.specs.ChannelCalls.{OfPlaced, KeepsRest}
+use Rattle.cbm_channel.proofs.Rest.{rest_itself, growth_rest}
 use Rattle.cbm_channel.specs.PlaceCalls.{GrowsToPlace}
 use Rattle.cbm_channel.proofs.on_record.OnRecord.grow.Goals as goal
 
@@ -15,12 +16,12 @@ returns-clause-grown g c =
     (λ d uses b s rs can none. (let call = c.grow_records.ensures.call d uses _ b s rs can.has in
     grows_by (g.M.Medium.seen c.args.volume.now) (g.M.Medium.seen c.grow_records.new.self) d uses _ b s rs c.grow_records.result none call.grown call.full call.stopped))
 
--- ---- what lies outside the disk
+-- ---- the rest of the disk
 
-pub returns-then-self-eq0-clause-outside : goal.returns-then-self-eq0-clause-outside
-returns-then-self-eq0-clause-outside g c = λ d uses b s rs can. outside_itself _ _ refl
+pub returns-then-self-eq0-clause-rest : goal.returns-then-self-eq0-clause-rest
+returns-then-self-eq0-clause-rest g c = λ d uses b s rs can. rest_itself _ _ refl
 
-pub returns-clause-outside : goal.returns-clause-outside
-returns-clause-outside g c =
-    subst (λ r. OfPlaced (g.M.Medium.seen c.args.volume.now) r (λ d uses b s rs. KeepsOutside (g.M.Medium.seen c.args.volume.now) (g.M.Medium.seen c.grow_records.new.self))) c.self.view_is
-    (λ d uses b s rs can. growth_outside c.grow_records.result (g.M.Medium.seen c.args.volume.now) (g.M.Medium.seen c.grow_records.new.self) d uses _ _ b s rs _ c.grow_records.ensures.only refl can.has.holds (c.grow_records.ensures.call d uses _ b s rs can.has))
+pub returns-clause-rest : goal.returns-clause-rest
+returns-clause-rest g c =
+    subst (λ r. OfPlaced (g.M.Medium.seen c.args.volume.now) r (λ d uses b s rs. KeepsRest (g.M.Medium.seen c.args.volume.now) (g.M.Medium.seen c.grow_records.new.self) (λ n. r.slot == n))) c.self.view_is
+    (λ d uses b s rs can. growth_rest c.grow_records.result (g.M.Medium.seen c.args.volume.now) (g.M.Medium.seen c.grow_records.new.self) d uses _ _ b s rs _ c.grow_records.ensures.only refl can.has.holds (c.grow_records.ensures.call d uses _ b s rs can.has))

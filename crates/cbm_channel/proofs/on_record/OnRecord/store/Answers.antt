@@ -6,7 +6,7 @@ use Rattle.cbm_channel.proofs.Elses.{else_then, else_after, else_refused}
 use Rattle.cbm_volume.proofs.copied.CopySteps.{handed}
 use Rattle.cbm_channel.specs.Recorded.{IsTextCut}
 use Rattle.cbm_channel.proofs.Asked.{none_of}
-use Rattle.cbm_channel.proofs.RecordPuts.{store_full, store_cut, store_more, store_more_cut, store_there, store_next, grown_outside, written_outside}
+use Rattle.cbm_channel.proofs.RecordPuts.{store_full, store_cut, store_more, store_more_cut, store_there, store_next, grown_rest, written_rest}
 use Rattle.cbm_channel.specs.PlaceCalls.{GrowsToPlace}
 use Rattle.cbm_channel.proofs.on_record.OnRecord.store.Goals as goal
 
@@ -117,57 +117,57 @@ returns-in-None-clause-medium g c = else_then c.write-2.result _ c.in_ok-written
     (else_after c.grow.result c.in_ok-grow.field-0 c.write-2.result (g.M.Medium.seen c.args.volume.now) (g.M.Medium.seen c.grow.new.volume) (g.M.Medium.seen c.write-2.new.volume) c.in_ok-grow.was
     (else_after c.write.result c.in_ok-written.field-0 c.grow.result (g.M.Medium.seen c.args.volume.now) (g.M.Medium.seen c.write.new.volume) (g.M.Medium.seen c.grow.new.volume) c.in_ok-written.was c.write.ensures.only c.grow.ensures.call.medium) c.write-2.ensures.only) (search rules)
 
--- ---- what lies outside the disk
+-- ---- the rest of the disk
 
-pub returns-then-not-branch-clause-outside : goal.returns-then-not-branch-clause-outside
-returns-then-not-branch-clause-outside g c = λ d uses b s rs can.
+pub returns-then-not-branch-clause-rest : goal.returns-then-not-branch-clause-rest
+returns-then-not-branch-clause-rest g c = λ d uses b s rs can.
     let old : Seen = g.M.Medium.seen c.args.volume.now in
     let mid : Seen = g.M.Medium.seen c.write.new.volume in
     let none = none_of c.in_ok-written.field-0 c.in_default.not-Some in
     let missing = rw none at ((c.in_ok-written.ensures.put d uses b s rs can).put) in
     let more : Seen = g.M.Medium.seen c.grow.new.volume in
-    let first = c.write.ensures.outside d uses b s rs can in
-    grown_outside old mid d uses c.args.self.now b s rs c.args.bytes.now can c.write.ensures.only.tracks c.write.ensures.only.protected c.write.ensures.only.counted missing more first c.grow.ensures.outside
+    let first = c.write.ensures.rest d uses b s rs can in
+    grown_rest old mid d uses c.args.self.now b s rs c.args.bytes.now can c.write.ensures.only.tracks c.write.ensures.only.protected c.write.ensures.only.counted missing more first c.grow.ensures.rest
 
-pub returns-in_err-grow-clause-outside : goal.returns-in_err-grow-clause-outside
-returns-in_err-grow-clause-outside g c = λ d uses b s rs can.
+pub returns-in_err-grow-clause-rest : goal.returns-in_err-grow-clause-rest
+returns-in_err-grow-clause-rest g c = λ d uses b s rs can.
     let old : Seen = g.M.Medium.seen c.args.volume.now in
     let mid : Seen = g.M.Medium.seen c.write.new.volume in
     let none = none_of c.in_ok-written.field-0 c.in_default.not-Some in
     let missing = rw none at ((c.in_ok-written.ensures.put d uses b s rs can).put) in
     let more : Seen = g.M.Medium.seen c.grow.new.volume in
-    let first = c.write.ensures.outside d uses b s rs can in
-    grown_outside old mid d uses c.args.self.now b s rs c.args.bytes.now can c.write.ensures.only.tracks c.write.ensures.only.protected c.write.ensures.only.counted missing more first c.grow.ensures.outside
+    let first = c.write.ensures.rest d uses b s rs can in
+    grown_rest old mid d uses c.args.self.now b s rs c.args.bytes.now can c.write.ensures.only.tracks c.write.ensures.only.protected c.write.ensures.only.counted missing more first c.grow.ensures.rest
 
-pub returns-in-Some-2-clause-outside : goal.returns-in-Some-2-clause-outside
-returns-in-Some-2-clause-outside g c = λ d uses b s rs can.
+pub returns-in-Some-2-clause-rest : goal.returns-in-Some-2-clause-rest
+returns-in-Some-2-clause-rest g c = λ d uses b s rs can.
     let old : Seen = g.M.Medium.seen c.args.volume.now in
     let mid : Seen = g.M.Medium.seen c.write.new.volume in
     let none = none_of c.in_ok-written.field-0 c.in_default.not-Some in
     let missing = rw none at ((c.in_ok-written.ensures.put d uses b s rs can).put) in
     let more : Seen = g.M.Medium.seen c.grow.new.volume in
-    let first = c.write.ensures.outside d uses b s rs can in
+    let first = c.write.ensures.rest d uses b s rs can in
     let grows = subst (λ (x : Bool). GrowsToPlace mid more c.args.self.now (Ok x)) c.if-not-branch.false c.in_ok-grow.ensures.grown in
-    written_outside old mid d uses c.args.self.now b s rs c.args.bytes.now can c.write.ensures.only.tracks c.write.ensures.only.protected c.write.ensures.only.counted missing more grows c.grow.ensures.call.medium.tracks c.grow.ensures.call.medium.protected c.grow.ensures.call.medium.counted (g.M.Medium.seen c.write-2.new.volume) (grown_outside old mid d uses c.args.self.now b s rs c.args.bytes.now can c.write.ensures.only.tracks c.write.ensures.only.protected c.write.ensures.only.counted missing more first c.grow.ensures.outside) c.write-2.ensures.outside
+    written_rest old mid d uses c.args.self.now b s rs c.args.bytes.now can c.write.ensures.only.tracks c.write.ensures.only.protected c.write.ensures.only.counted missing more grows c.grow.ensures.call.medium.tracks c.grow.ensures.call.medium.protected c.grow.ensures.call.medium.counted (g.M.Medium.seen c.write-2.new.volume) (grown_rest old mid d uses c.args.self.now b s rs c.args.bytes.now can c.write.ensures.only.tracks c.write.ensures.only.protected c.write.ensures.only.counted missing more first c.grow.ensures.rest) c.write-2.ensures.rest
 
-pub returns-in_err-written-2-clause-outside : goal.returns-in_err-written-2-clause-outside
-returns-in_err-written-2-clause-outside g c = λ d uses b s rs can.
+pub returns-in_err-written-2-clause-rest : goal.returns-in_err-written-2-clause-rest
+returns-in_err-written-2-clause-rest g c = λ d uses b s rs can.
     let old : Seen = g.M.Medium.seen c.args.volume.now in
     let mid : Seen = g.M.Medium.seen c.write.new.volume in
     let none = none_of c.in_ok-written.field-0 c.in_default.not-Some in
     let missing = rw none at ((c.in_ok-written.ensures.put d uses b s rs can).put) in
     let more : Seen = g.M.Medium.seen c.grow.new.volume in
-    let first = c.write.ensures.outside d uses b s rs can in
+    let first = c.write.ensures.rest d uses b s rs can in
     let grows = subst (λ (x : Bool). GrowsToPlace mid more c.args.self.now (Ok x)) c.if-not-branch.false c.in_ok-grow.ensures.grown in
-    written_outside old mid d uses c.args.self.now b s rs c.args.bytes.now can c.write.ensures.only.tracks c.write.ensures.only.protected c.write.ensures.only.counted missing more grows c.grow.ensures.call.medium.tracks c.grow.ensures.call.medium.protected c.grow.ensures.call.medium.counted (g.M.Medium.seen c.write-2.new.volume) (grown_outside old mid d uses c.args.self.now b s rs c.args.bytes.now can c.write.ensures.only.tracks c.write.ensures.only.protected c.write.ensures.only.counted missing more first c.grow.ensures.outside) c.write-2.ensures.outside
+    written_rest old mid d uses c.args.self.now b s rs c.args.bytes.now can c.write.ensures.only.tracks c.write.ensures.only.protected c.write.ensures.only.counted missing more grows c.grow.ensures.call.medium.tracks c.grow.ensures.call.medium.protected c.grow.ensures.call.medium.counted (g.M.Medium.seen c.write-2.new.volume) (grown_rest old mid d uses c.args.self.now b s rs c.args.bytes.now can c.write.ensures.only.tracks c.write.ensures.only.protected c.write.ensures.only.counted missing more first c.grow.ensures.rest) c.write-2.ensures.rest
 
-pub returns-in-None-clause-outside : goal.returns-in-None-clause-outside
-returns-in-None-clause-outside g c = λ d uses b s rs can.
+pub returns-in-None-clause-rest : goal.returns-in-None-clause-rest
+returns-in-None-clause-rest g c = λ d uses b s rs can.
     let old : Seen = g.M.Medium.seen c.args.volume.now in
     let mid : Seen = g.M.Medium.seen c.write.new.volume in
     let none = none_of c.in_ok-written.field-0 c.in_default.not-Some in
     let missing = rw none at ((c.in_ok-written.ensures.put d uses b s rs can).put) in
     let more : Seen = g.M.Medium.seen c.grow.new.volume in
-    let first = c.write.ensures.outside d uses b s rs can in
+    let first = c.write.ensures.rest d uses b s rs can in
     let grows = subst (λ (x : Bool). GrowsToPlace mid more c.args.self.now (Ok x)) c.if-not-branch.false c.in_ok-grow.ensures.grown in
-    written_outside old mid d uses c.args.self.now b s rs c.args.bytes.now can c.write.ensures.only.tracks c.write.ensures.only.protected c.write.ensures.only.counted missing more grows c.grow.ensures.call.medium.tracks c.grow.ensures.call.medium.protected c.grow.ensures.call.medium.counted (g.M.Medium.seen c.write-2.new.volume) (grown_outside old mid d uses c.args.self.now b s rs c.args.bytes.now can c.write.ensures.only.tracks c.write.ensures.only.protected c.write.ensures.only.counted missing more first c.grow.ensures.outside) c.write-2.ensures.outside
+    written_rest old mid d uses c.args.self.now b s rs c.args.bytes.now can c.write.ensures.only.tracks c.write.ensures.only.protected c.write.ensures.only.counted missing more grows c.grow.ensures.call.medium.tracks c.grow.ensures.call.medium.protected c.grow.ensures.call.medium.counted (g.M.Medium.seen c.write-2.new.volume) (grown_rest old mid d uses c.args.self.now b s rs c.args.bytes.now can c.write.ensures.only.tracks c.write.ensures.only.protected c.write.ensures.only.counted missing more first c.grow.ensures.rest) c.write-2.ensures.rest

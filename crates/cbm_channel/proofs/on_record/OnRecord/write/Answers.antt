@@ -1,9 +1,10 @@
 use Rattle.std.proofs.Common.{subst, inl, inr, refl}
+use Rattle.std.specs.Prelude.{◌==◌}
 use Rattle.cbm_volume.specs.RecordWrites.{IsRecordCall}
-use Rattle.cbm_channel.specs.ChannelCalls.{OfPlaced, KeepsOutside}
+use Rattle.cbm_channel.specs.ChannelCalls.{OfPlaced, KeepsRest}
 use Rattle.cbm_channel.proofs.RecordPuts.{no_place}
 use Rattle.cbm_channel.proofs.on_record.OnRecord.write.Goals.{then-self-eq0-via-then-self-eq0, then-self-eq0-via-else-self-eq0+then-self-eq0-2}
-use Rattle.cbm_channel.proofs.Outside.{outside_itself, record_outside}
+use Rattle.cbm_channel.proofs.Rest.{rest_itself, record_rest}
 use Rattle.cbm_channel.proofs.on_record.OnRecord.write.Goals as goal
 
 -- a place has no number 0
@@ -16,12 +17,12 @@ returns-clause-put g c =
     subst (λ r. OfPlaced (g.M.Medium.seen c.args.volume.now) r (λ d uses b s rs. IsRecordCall c.write_record.result (g.M.Medium.seen c.args.volume.now) (g.M.Medium.seen c.write_record.new.self) d uses r.slot r.width b s rs r.number r.position c.args.bytes.now)) c.self.view_is
     (λ d uses b s rs can. c.write_record.ensures.put d uses _ b s rs can.has can.inside)
 
--- ---- what lies outside the disk
+-- ---- the rest of the disk
 
-pub returns-then-self-eq0-clause-outside : goal.returns-then-self-eq0-clause-outside
-returns-then-self-eq0-clause-outside g c = λ d uses b s rs can. outside_itself _ _ refl
+pub returns-then-self-eq0-clause-rest : goal.returns-then-self-eq0-clause-rest
+returns-then-self-eq0-clause-rest g c = λ d uses b s rs can. rest_itself _ _ refl
 
-pub returns-clause-outside : goal.returns-clause-outside
-returns-clause-outside g c =
-    subst (λ r. OfPlaced (g.M.Medium.seen c.args.volume.now) r (λ d uses b s rs. KeepsOutside (g.M.Medium.seen c.args.volume.now) (g.M.Medium.seen c.write_record.new.self))) c.self.view_is
-    (λ d uses b s rs can. record_outside (λ x. x.cut) c.write_record.result (g.M.Medium.seen c.args.volume.now) (g.M.Medium.seen c.write_record.new.self) d uses _ _ b s rs _ _ c.args.bytes.now c.write_record.ensures.only refl can.has.holds (c.write_record.ensures.put d uses _ b s rs can.has can.inside).put)
+pub returns-clause-rest : goal.returns-clause-rest
+returns-clause-rest g c =
+    subst (λ r. OfPlaced (g.M.Medium.seen c.args.volume.now) r (λ d uses b s rs. KeepsRest (g.M.Medium.seen c.args.volume.now) (g.M.Medium.seen c.write_record.new.self) (λ n. r.slot == n))) c.self.view_is
+    (λ d uses b s rs can. record_rest (λ x. x.cut) c.write_record.result (g.M.Medium.seen c.args.volume.now) (g.M.Medium.seen c.write_record.new.self) d uses _ _ b s rs _ _ c.args.bytes.now c.write_record.ensures.only refl can.has.holds (c.write_record.ensures.put d uses _ b s rs can.has can.inside).put (c.write_record.ensures.put d uses _ b s rs can.has can.inside).untouched)

@@ -1,6 +1,9 @@
--- The sectors outside a disk stay: a call of the volume changes at most what the disk's own tracks hold, and leaves a disk of as many blocks.
-use Rattle.std.proofs.Common.{◌≡◌, ◌≢◌, ℕ, List, Bool, true, false, refl, sym, ap, ◌∙◌, subst, arith, Option, None, Some, Result, Ok, Err, IfOk, OnErr}
-use Rattle.std.specs.Prelude.{◌+◌, max, IfErr, MatchBool, MatchOption, MatchResult, is_none, option_map}
+-- The rest of a disk stays: a call of the volume changes at most what the disk's own tracks hold, and leaves a disk of as many blocks; and
+-- each closed file stays in place but for those that the call is for.
+use Rattle.std.proofs.Common.{◌≡◌, ◌≢◌, ℕ, List, Bool, true, false, refl, sym, ap, ◌∙◌, subst, arith, inl, inr, Option, None, Some, Result, Ok, Err, IfOk, OnErr}
+use Rattle.std.specs.Prelude.{◌+◌, ◌==◌, ◌||◌, max, IfErr, MatchBool, MatchOption, MatchResult, is_none, option_map}
+use Rattle.std.proofs.lemmas.Bool.{eq-eqb}
+use Rattle.std.proofs.lemmas.Bool.Decides.{eqb_tells}
 use Rattle.cbm_medium.specs.Content.{Content}
 use Rattle.cbm_medium.specs.Seen.{Seen, OnlyContent}
 use Rattle.cbm_medium.specs.declared.fault.Trouble.{Trouble}
@@ -11,34 +14,79 @@ use Rattle.cbm_file.specs.Files.{Body, File, Disk, empty_from, file_at}
 use Rattle.cbm_file.specs.Records.{with_body, with_sized_body}
 use Rattle.cbm_file.specs.Changes.{grown, scratched_in, finished_in, replaced_in}
 use Rattle.cbm_volume.specs.Map.{geometry_of}
-use Rattle.cbm_volume.specs.Calls.{IsCall, IsChange}
+use Rattle.cbm_volume.specs.Calls.{IsCall, IsChange, LeavesFiles, LeavesOthers}
+use Rattle.cbm_volume.specs.Staying.{StaysInPlace}
 use Rattle.cbm_volume.specs.Writers.{Filling, Use, Idle, Writes, IsUsed, HoldsNow, Stopped, IsStored, IsFullDisk, needs_block, one_block_less}
 use Rattle.cbm_volume.specs.Growth.{IsGrowth, IsGrowthCut, IsTooLarge, with_growth}
 use Rattle.cbm_volume.specs.Opens.{BeginsFile, CanBeWritten}
 use Rattle.cbm_volume.specs.RecordWrites.{IsRecordPut, IsRecordCut}
 use Rattle.cbm_volume.proofs.layouts.Sizes.{same_size}
-use Rattle.cbm_channel.specs.ChannelCalls.{KeepsOutside}
+use Rattle.cbm_volume.proofs.layouts.Staying.{stays_same, stays_then}
+use Rattle.cbm_channel.specs.ChannelCalls.{KeepsOutside, KeepsRest, no_slot}
+
+-- ---- closed files
+
+either : (a b : Bool) → a ≡ false → b ≡ false → (a || b) ≡ false
+either a b p q = rw (p, q) refl
 
 -- nothing has changed
-pub outside_same : (old new : Seen) → new.tracks ≡ old.tracks → new.content ≡ old.content → KeepsOutside old new
+pub stays_as : (tracks : ℕ) (c c' : Content) (but : ℕ → Bool) → c' ≡ c → StaysInPlace tracks c c' but
+stays_as tracks c c' but e tracks' l l' s s' = stays_same tracks c c' l but s e tracks' l l' s s'
+
+-- more slots may go
+pub stays_more : (tracks : ℕ) (c c' : Content) (less but : ℕ → Bool) → ((n : ℕ) → but n ≡ false → less n ≡ false) → StaysInPlace tracks c c' less → StaysInPlace tracks c c' but
+stays_more tracks c c' less but more h tracks' l l' s s' n there closed free = h tracks' l l' s s' n there closed (more n free)
+
+-- the two numbers the other way round
+pub turned_free : (m n : ℕ) → (n == m) ≡ false → (m == n) ≡ false
+turned_free m n e = elim (eqb_tells m n) [
+  | inl same ↦ absurd (let z = sym (eq-eqb n m (sym same.1)) ∙ e in (cc))
+  | inr other ↦ other.0
+]
+
+pub turned : (tracks : ℕ) (c c' : Content) (n : ℕ) → StaysInPlace tracks c c' (λ m. m == n) → StaysInPlace tracks c c' (λ m. n == m)
+turned tracks c c' n h = stays_more tracks c c' (λ m. m == n) (λ m. n == m) (λ m e. turned_free m n e) h
+
+-- ---- the rest
+
+-- nothing has changed
+outside_same : (old new : Seen) → new.tracks ≡ old.tracks → new.content ≡ old.content → KeepsOutside old new
 outside_same old new tracks content = record {
   size = (λ i. geometry_of (tracks i) (content i));
   beyond = record { same = λ p past. ap (λ (c : Content). c p) content };
 }
 
-pub outside_itself : (old new : Seen) → new ≡ old → KeepsOutside old new
-outside_itself old new e = outside_same old new (ap (λ (s : Seen). s.tracks) e) (ap (λ (s : Seen). s.content) e)
+pub rest_same : {but : ℕ → Bool} (old new : Seen) → new.tracks ≡ old.tracks → new.content ≡ old.content → KeepsRest old new but
+rest_same {but} old new tracks content = record { outside = outside_same old new tracks content; in_place = stays_as (geometry_of old.tracks old.content) old.content new.content but content }
 
--- one call after another
-pub outside_then : (old mid new : Seen) → KeepsOutside old mid → KeepsOutside mid new → KeepsOutside old new
+pub rest_itself : {but : ℕ → Bool} (old new : Seen) → new ≡ old → KeepsRest old new but
+rest_itself old new e = rest_same old new (ap (λ (s : Seen). s.tracks) e) (ap (λ (s : Seen). s.content) e)
+
+-- more slots may go
+pub rest_more : (less : ℕ → Bool) {but : ℕ → Bool} (old new : Seen) → ((n : ℕ) → but n ≡ false → less n ≡ false) → KeepsRest old new less → KeepsRest old new but
+rest_more less {but} old new more k = record { outside = k.outside; in_place = stays_more (geometry_of old.tracks old.content) old.content new.content less but more k.in_place }
+
+-- so where none may
+pub rest_none : {but : ℕ → Bool} (old new : Seen) → KeepsRest old new no_slot → KeepsRest old new but
+rest_none old new k = rest_more no_slot old new (λ n free. refl) k
+
+outside_then : (old mid new : Seen) → KeepsOutside old mid → KeepsOutside mid new → KeepsOutside old new
 outside_then old mid new a b = record {
   size = b.size ∙ a.size;
   beyond = record { same = λ p past. b.beyond.same p (omega (arith, past, a.size)) ∙ a.beyond.same p past };
 }
 
+-- one call after another, over the disk that the first one leaves
+pub rest_then : (one two : ℕ → Bool) {but : ℕ → Bool} (old mid new : Seen) (d : Disk) (uses : ℕ → Use) → HoldsNow mid.tracks mid.content d uses → ((n : ℕ) → but n ≡ false → (one n ≡ false) × (two n ≡ false)) → KeepsRest old mid one → KeepsRest mid new two → KeepsRest old new but
+rest_then one two {but} old mid new d uses h both a b = record {
+  outside = outside_then old mid new a.outside b.outside;
+  in_place = stays_more (geometry_of old.tracks old.content) old.content new.content (λ n. one n || two n) but (λ n free. either (one n) (two n) (both n free).0 (both n free).1)
+      (stays_then (geometry_of old.tracks old.content) (geometry_of mid.tracks mid.content) old.content mid.content new.content h.layout one two a.in_place h.so.stands.sound b.in_place);
+}
+
 -- the medium as the caller knows it
-pub outside_seen : {M : Type 0} (seen : M → Seen) (old new here then : M) → here ≡ old → new ≡ then → KeepsOutside (seen here) (seen then) → KeepsOutside (seen old) (seen new)
-outside_seen seen old new here then e f k = subst (λ x. KeepsOutside (seen x) (seen new)) e (subst (λ x. KeepsOutside (seen here) (seen x)) (sym f) k)
+pub rest_seen : {M : Type 0} {but : ℕ → Bool} (seen : M → Seen) (old new here then : M) → here ≡ old → new ≡ then → KeepsRest (seen here) (seen then) but → KeepsRest (seen old) (seen new) but
+rest_seen {M} {but} seen old new here then e f k = subst (λ x. KeepsRest (seen x) (seen new) but) e (subst (λ x. KeepsRest (seen here) (seen x) but) (sym f) k)
 
 -- ---- a call of the volume
 
@@ -67,9 +115,12 @@ call_sized r old new Done d before after uses but call same done = by_result r c
     by_result (Err t) k s = subst (HoldsSized old.tracks new.content) same (stopped_sized old.tracks new.content before after uses s)
 
 -- a call that makes one disk of another
-pub change_outside : {disk : ℕ} (r : Result (Unit {0}) Trouble) (old new : Seen) (d after : Disk) (uses uses' : ℕ → Use) (but : ℕ → Bool) → OnlyContent disk r old new → disk ≡ geometry_of old.tracks old.content → HoldsNow old.tracks old.content d uses → IsChange r old new d after uses' but → after.total ≡ d.total → KeepsOutside old new
-change_outside r old new d after uses uses' but only size h call total =
-    outside_held r old new d uses only size h (call_sized r old new (λ x. HoldsNow old.tracks new.content after uses') d d after uses' but call refl (λ x k. record { disk = after; uses = uses'; holds = k; total = total }))
+pub change_rest : {disk : ℕ} (r : Result (Unit {0}) Trouble) (old new : Seen) (d after : Disk) (uses uses' : ℕ → Use) (but : ℕ → Bool) → OnlyContent disk r old new → disk ≡ geometry_of old.tracks old.content → HoldsNow old.tracks old.content d uses → IsChange r old new d after uses' but → after.total ≡ d.total → KeepsRest old new but
+change_rest r old new d after uses uses' but only size h call total = record {
+  in_place = call.untouched.stays;
+  outside =
+      outside_held r old new d uses only size h (call_sized r old new (λ x. HoldsNow old.tracks new.content after uses') d d after uses' but call refl (λ x k. record { disk = after; uses = uses'; holds = k; total = total }));
+}
 
 -- a channel writes on a disk of as many tracks
 pub writer_size : (medium : ℕ) (c : Content) (d : Disk) (uses : ℕ → Use) (ch : ℕ) (w : Filling) (bytes : List ℕ) (blocks : ℕ) → HoldsNow medium c d uses → uses ch ≡ Writes w bytes blocks → w.chain.tracks ≡ geometry_of medium c
@@ -109,50 +160,48 @@ stored_sized : (medium : ℕ) (c c' : Content) (d : Disk) (uses : ℕ → Use) (
 stored_sized medium c c' d uses ch v w bytes blocks byte true h k = record { disk = _; uses = _; holds = k.holds; total = less_total (needs_block bytes blocks) d }
 stored_sized medium c c' d uses ch v w bytes blocks byte false h k = record { disk = d; uses = uses; holds = subst (λ (x : Content). HoldsNow medium x d uses) (sym k.same) h; total = refl }
 
-pub store_outside : {disk : ℕ} (r : Result Bool Trouble) (old new : Seen) (d : Disk) (uses uses' : ℕ → Use) (ch : ℕ) (v w : Filling) (bytes : List ℕ) (blocks byte : ℕ) (but : ℕ → Bool) → OnlyContent disk r old new → disk ≡ geometry_of old.tracks old.content → HoldsNow old.tracks old.content d uses
-    → IsCall r old new (λ done. MatchBool done (IsStored old.tracks new.content d uses ch w bytes blocks byte) (IsFullDisk old.content new.content d v w bytes blocks)) (Stopped old.tracks new.content d d uses') but → KeepsOutside old new
-store_outside r old new d uses uses' ch v w bytes blocks byte but only size h call =
-    outside_held r old new d uses only size h (call_sized r old new _ d d d uses' but call refl (λ done k. stored_sized old.tracks old.content new.content d uses ch v w bytes blocks byte done h k))
+pub store_rest : {disk : ℕ} (r : Result Bool Trouble) (old new : Seen) (d : Disk) (uses uses' : ℕ → Use) (ch : ℕ) (v w : Filling) (bytes : List ℕ) (blocks byte : ℕ) (but : ℕ → Bool) → OnlyContent disk r old new → disk ≡ geometry_of old.tracks old.content → HoldsNow old.tracks old.content d uses
+    → IsCall r old new (λ done. MatchBool done (IsStored old.tracks new.content d uses ch w bytes blocks byte) (IsFullDisk old.content new.content d v w bytes blocks)) (Stopped old.tracks new.content d d uses') but → KeepsRest old new but
+store_rest r old new d uses uses' ch v w bytes blocks byte but only size h call = record {
+  in_place = call.untouched.stays;
+  outside =
+      outside_held r old new d uses only size h (call_sized r old new _ d d d uses' but call refl (λ done k. stored_sized old.tracks old.content new.content d uses ch v w bytes blocks byte done h k));
+}
 
-pub given_outside : {disk : ℕ} (r : Result (Unit {0}) Trouble) (old new : Seen) (d : Disk) (uses uses' : ℕ → Use) (blocks : ℕ) (but : ℕ → Bool) → OnlyContent disk r old new → disk ≡ geometry_of old.tracks old.content → HoldsNow old.tracks old.content d uses
-    → IsCall r old new (λ x. HoldsNow old.tracks new.content (record d { free = d.free + blocks }) uses') (Stopped old.tracks new.content d d uses') but → KeepsOutside old new
-given_outside r old new d uses uses' blocks but only size h call =
-    outside_held r old new d uses only size h (call_sized r old new _ d d d uses' but call refl (λ x k. record { disk = _; uses = _; holds = k; total = refl }))
+pub given_rest : {disk : ℕ} (r : Result (Unit {0}) Trouble) (old new : Seen) (d : Disk) (uses uses' : ℕ → Use) (blocks : ℕ) (but : ℕ → Bool) → OnlyContent disk r old new → disk ≡ geometry_of old.tracks old.content → HoldsNow old.tracks old.content d uses
+    → IsCall r old new (λ x. HoldsNow old.tracks new.content (record d { free = d.free + blocks }) uses') (Stopped old.tracks new.content d d uses') but → KeepsRest old new but
+given_rest r old new d uses uses' blocks but only size h call = record {
+  in_place = call.untouched.stays;
+  outside =
+      outside_held r old new d uses only size h (call_sized r old new _ d d d uses' but call refl (λ x k. record { disk = _; uses = _; holds = k; total = refl }));
+}
 
 -- a call that may find no room
-pub copy_outside : {disk : ℕ} (r : Result Bool Trouble) (old new : Seen) (d after : Disk) (uses : ℕ → Use) (none : Type 0) (but : ℕ → Bool) → OnlyContent disk r old new → disk ≡ geometry_of old.tracks old.content → HoldsNow old.tracks old.content d uses
-    → IsCall r old new (λ done. MatchBool done (HoldsNow old.tracks new.content after uses) (none × (new.content ≡ old.content))) (Stopped old.tracks new.content d after uses) but → after.total ≡ d.total → KeepsOutside old new
-copy_outside r old new d after uses none but only size h call total = outside_held r old new d uses only size h (call_sized r old new _ d d after uses but call refl by_done)
+pub copy_rest : {disk : ℕ} (r : Result Bool Trouble) (old new : Seen) (d after : Disk) (uses : ℕ → Use) (none : Type 0) (but : ℕ → Bool) → OnlyContent disk r old new → disk ≡ geometry_of old.tracks old.content → HoldsNow old.tracks old.content d uses
+    → IsCall r old new (λ done. MatchBool done (HoldsNow old.tracks new.content after uses) (none × (new.content ≡ old.content))) (Stopped old.tracks new.content d after uses) but → after.total ≡ d.total → KeepsRest old new but
+copy_rest r old new d after uses none but only size h call total = record { in_place = call.untouched.stays; outside = outside_held r old new d uses only size h (call_sized r old new _ d d after uses but call refl by_done) }
   where
     by_done : (done : Bool) → MatchBool done (HoldsNow old.tracks new.content after uses) (none × (new.content ≡ old.content)) → HoldsSized old.tracks new.content d
     by_done true k = record { disk = after; uses = uses; holds = k; total = total }
     by_done false k = record { disk = d; uses = uses; holds = subst (λ (x : Content). HoldsNow old.tracks x d uses) (sym k.1) h; total = refl }
 
-pub made_outside : {disk : ℕ} (r : Result (Option ℕ) Trouble) (old new : Seen) (d after : Disk) (uses : ℕ → Use) (none : Type 0) (some : ℕ → Type 0) (but : ℕ → Bool) → OnlyContent disk r old new → disk ≡ geometry_of old.tracks old.content → HoldsNow old.tracks old.content d uses
-    → IsCall r old new (λ o. MatchOption o (none × (new.content ≡ old.content)) (λ slot. some slot × HoldsNow old.tracks new.content after uses)) (Stopped old.tracks new.content d after uses) but → after.total ≡ d.total → KeepsOutside old new
-made_outside r old new d after uses none some but only size h call total = outside_held r old new d uses only size h (call_sized r old new _ d d after uses but call refl by_option)
+pub made_rest : {disk : ℕ} (r : Result (Option ℕ) Trouble) (old new : Seen) (d after : Disk) (uses : ℕ → Use) (none : Type 0) (some : ℕ → Type 0) (but : ℕ → Bool) → OnlyContent disk r old new → disk ≡ geometry_of old.tracks old.content → HoldsNow old.tracks old.content d uses
+    → IsCall r old new (λ o. MatchOption o (none × (new.content ≡ old.content)) (λ slot. some slot × HoldsNow old.tracks new.content after uses)) (Stopped old.tracks new.content d after uses) but → after.total ≡ d.total → KeepsRest old new but
+made_rest r old new d after uses none some but only size h call total = record { in_place = call.untouched.stays; outside = outside_held r old new d uses only size h (call_sized r old new _ d d after uses but call refl by_option) }
   where
     by_option : (o : Option ℕ) → MatchOption o (none × (new.content ≡ old.content)) (λ slot. some slot × HoldsNow old.tracks new.content after uses) → HoldsSized old.tracks new.content d
     by_option (Some slot) k = record { disk = after; uses = uses; holds = k.1; total = total }
     by_option None k = record { disk = d; uses = uses; holds = subst (λ (x : Content). HoldsNow old.tracks x d uses) (sym k.1) h; total = refl }
 
 -- a channel begins to write, or nothing has changed
-pub begun_outside : {disk : ℕ} (r : Result (Option Filling) Trouble) (old new : Seen) (d after : Disk) (uses : ℕ → Use) (ch slot : ℕ) (replaces : Bool) (bytes : List ℕ) (blocks : ℕ) (none : Type 0) → OnlyContent disk r old new → disk ≡ geometry_of old.tracks old.content → HoldsNow old.tracks old.content d uses
-    → IfOk r (λ o. MatchOption o (none × (new.content ≡ old.content)) (BeginsFile old.tracks new.content after uses ch slot replaces bytes blocks)) → OnErr r (HoldsSized old.tracks new.content d) → after.total ≡ d.total → KeepsOutside old new
-begun_outside r old new d after uses ch slot replaces bytes blocks none only size h done stopped total = outside_held r old new d uses only size h (by_result r done stopped)
+pub begun_rest : {disk : ℕ} (r : Result (Option Filling) Trouble) (old new : Seen) (d after : Disk) (uses : ℕ → Use) (ch slot : ℕ) (replaces : Bool) (bytes : List ℕ) (blocks : ℕ) (none : Type 0) → OnlyContent disk r old new → disk ≡ geometry_of old.tracks old.content → HoldsNow old.tracks old.content d uses
+    → IfOk r (λ o. MatchOption o (none × (new.content ≡ old.content)) (BeginsFile old.tracks new.content after uses ch slot replaces bytes blocks)) → OnErr r (HoldsSized old.tracks new.content d) → after.total ≡ d.total → LeavesFiles old new (λ m. false) → KeepsRest old new (λ m. false)
+begun_rest r old new d after uses ch slot replaces bytes blocks none only size h done stopped total files = record { in_place = files.stays; outside = outside_held r old new d uses only size h (by_result r done stopped) }
   where
     by_result : (q : Result (Option Filling) Trouble) → IfOk q (λ o. MatchOption o (none × (new.content ≡ old.content)) (BeginsFile old.tracks new.content after uses ch slot replaces bytes blocks)) → OnErr q (HoldsSized old.tracks new.content d) → HoldsSized old.tracks new.content d
     by_result (Ok (Some w)) k s = record { disk = after; uses = _; holds = k.holds; total = total }
     by_result (Ok None) k s = record { disk = d; uses = uses; holds = subst (λ (x : Content). HoldsNow old.tracks x d uses) (sym k.1) h; total = refl }
     by_result (Err t) k s = s
-
-pub appended_outside : {disk : ℕ} (r : Result Filling Trouble) (old new : Seen) (d after : Disk) (uses : ℕ → Use) (ch slot : ℕ) (replaces : Bool) (bytes : List ℕ) (blocks : ℕ) → OnlyContent disk r old new → disk ≡ geometry_of old.tracks old.content → HoldsNow old.tracks old.content d uses
-    → IfOk r (BeginsFile old.tracks new.content after uses ch slot replaces bytes blocks) → OnErr r (new.content ≡ old.content) → after.total ≡ d.total → KeepsOutside old new
-appended_outside r old new d after uses ch slot replaces bytes blocks only size h done same total = outside_held r old new d uses only size h (by_result r done same)
-  where
-    by_result : (q : Result Filling Trouble) → IfOk q (BeginsFile old.tracks new.content after uses ch slot replaces bytes blocks) → OnErr q (new.content ≡ old.content) → HoldsSized old.tracks new.content d
-    by_result (Ok w) k s = record { disk = after; uses = _; holds = k.holds; total = total }
-    by_result (Err t) k s = record { disk = d; uses = uses; holds = subst (λ (x : Content). HoldsNow old.tracks x d uses) (sym s) h; total = refl }
 
 pub same_sized : {A : Type 0} (r : Result A Trouble) (medium : ℕ) (c c' : Content) (d : Disk) (uses : ℕ → Use) → HoldsNow medium c d uses → OnErr r (c' ≡ c) → OnErr r (HoldsSized medium c' d)
 same_sized (Ok x) medium c c' d uses h s = tt
@@ -193,18 +242,18 @@ sized_total d s n body = by_file (file_at d s) refl
     by_file None e = rw (e, with_sized_body) refl
     by_file (Some f) e = rw (e, with_sized_body) refl
 
-pub record_outside : {disk : ℕ} {A : Type 0} (cut : A → Bool) (r : Result (Option A) Trouble) (old new : Seen) (d : Disk) (uses : ℕ → Use) (n w b s : ℕ) (rs : List (List ℕ)) (k p : ℕ) (bytes : List ℕ) → OnlyContent disk r old new → disk ≡ geometry_of old.tracks old.content → HoldsNow old.tracks old.content d uses
-    → MatchResult r (λ o. IsRecordPut old.tracks old.content new.content d uses n w b s rs k p bytes (option_map cut o)) (IsRecordCut old new d uses n w b s rs k p bytes) → KeepsOutside old new
-record_outside {A} cut r old new d uses n w b s rs k p bytes only size h call = outside_held r old new d uses only size h (by_result r call)
+pub record_rest : {disk : ℕ} {A : Type 0} (cut : A → Bool) (r : Result (Option A) Trouble) (old new : Seen) (d : Disk) (uses : ℕ → Use) (n w b s : ℕ) (rs : List (List ℕ)) (k p : ℕ) (bytes : List ℕ) → OnlyContent disk r old new → disk ≡ geometry_of old.tracks old.content → HoldsNow old.tracks old.content d uses
+    → MatchResult r (λ o. IsRecordPut old.tracks old.content new.content d uses n w b s rs k p bytes (option_map cut o)) (IsRecordCut old new d uses n w b s rs k p bytes) → LeavesOthers old new n → KeepsRest old new (λ m. n == m)
+record_rest {A} cut r old new d uses n w b s rs k p bytes only size h call files = record { in_place = turned (geometry_of old.tracks old.content) old.content new.content n files.stays; outside = outside_held r old new d uses only size h (by_result r call) }
   where
     by_result : (q : Result (Option A) Trouble) → MatchResult q (λ o. IsRecordPut old.tracks old.content new.content d uses n w b s rs k p bytes (option_map cut o)) (IsRecordCut old new d uses n w b s rs k p bytes) → HoldsSized old.tracks new.content d
     by_result (Ok (Some x)) z = record { disk = _; uses = uses; holds = z.2; total = body_total d n _ }
     by_result (Ok None) z = record { disk = d; uses = uses; holds = subst (λ (x : Content). HoldsNow old.tracks x d uses) (sym z.1) h; total = refl }
     by_result (Err t) z = record { disk = _; uses = uses; holds = z.holds; total = body_total d n _ }
 
-pub growth_outside : {disk : ℕ} (r : Result Bool Trouble) (old new : Seen) (d : Disk) (uses : ℕ → Use) (n w b s : ℕ) (rs : List (List ℕ)) (k : ℕ) → OnlyContent disk r old new → disk ≡ geometry_of old.tracks old.content → HoldsNow old.tracks old.content d uses
-    → IsGrowth r old new d uses n w b s rs k → KeepsOutside old new
-growth_outside r old new d uses n w b s rs k only size h call = outside_held r old new d uses only size h (by_result r call.grown call.stopped)
+pub growth_rest : {disk : ℕ} (r : Result Bool Trouble) (old new : Seen) (d : Disk) (uses : ℕ → Use) (n w b s : ℕ) (rs : List (List ℕ)) (k : ℕ) → OnlyContent disk r old new → disk ≡ geometry_of old.tracks old.content → HoldsNow old.tracks old.content d uses
+    → IsGrowth r old new d uses n w b s rs k → KeepsRest old new (λ m. n == m)
+growth_rest r old new d uses n w b s rs k only size h call = record { in_place = turned (geometry_of old.tracks old.content) old.content new.content n call.untouched.stays; outside = outside_held r old new d uses only size h (by_result r call.grown call.stopped) }
   where
     by_result : (q : Result Bool Trouble) → IfOk q (λ done. MatchBool done (HoldsNow old.tracks new.content (with_growth d n w b s rs k) uses) (IsTooLarge d w b s k × (new.content ≡ old.content))) → IfErr q (IsGrowthCut old new d uses n w rs) → HoldsSized old.tracks new.content d
     by_result (Ok true) z c = record { disk = _; uses = uses; holds = z; total = sized_total d n _ _ }
