@@ -21,7 +21,7 @@ use Rattle.cbm_channel.specs.ChannelCalls.{KeepsRest, KeepsSlot}
 use Rattle.cbm_channel.specs.Commanded.{is_slot_among, slots_going, cleared_by, read_clears, text_clears, end_clears}
 use Rattle.cbm_channel.specs.Opening.{changed_by_open}
 use Rattle.cbm_channel.specs.Parts.{closed_by, changed_by_end}
-use Rattle.cbm_channel.specs.Shown.{writes_on, written_by}
+use Rattle.cbm_channel.specs.Shown.{writes_on, written_by, appends_on, appended_by}
 use Rattle.cbm_channel.specs.Standing.{Kept}
 use Rattle.cbm_channel.proofs.Changed.{set_now}
 use Rattle.cbm_channel.proofs.Stands.{any_default}
@@ -105,16 +105,18 @@ records_rest ch k now m old new other same h = rest_more (written_by ch now) old
 -- ---- OPEN
 
 -- bytes are appended to the file of a slot
-pub append_stays : (tracks : ℕ) (c c' : Content) (slot : ℕ) (w : Filling) → w.slot ≡ slot → StaysInPlace tracks c c' (λ m. m == slot) → StaysInPlace tracks c c' (λ n. writes_on n (code.Writing w false))
-append_stays tracks c c' slot w same h = stays_more tracks c c' (λ m. m == slot) (λ n. w.slot == n) (λ n free. turned_free n slot (ap (λ (k : ℕ). k == n) (sym same) ∙ free)) h
+pub append_stays : (tracks : ℕ) (c c' : Content) (slot : ℕ) (w : Filling) → w.slot ≡ slot → w.replaces ≡ false → StaysInPlace tracks c c' (λ m. m == slot) → StaysInPlace tracks c c' (λ n. appends_on n (code.Writing w false))
+append_stays tracks c c' slot w same way h = stays_more tracks c c' (λ m. m == slot) (λ n. appends_on n (code.Writing w false)) (λ n free.
+    let other : (w.slot == n) ≡ false = sym (ap (λ (b : Bool). if b then false else w.slot == n) way) ∙ free in
+    turned_free n slot (ap (λ (k : ℕ). k == n) (sym same) ∙ other)) h
 
 -- a command
 pub open_command_rest : {M : Type 0} (ch : ℕ) (text : List ℕ) (k k' : Kept M) (m : Machine) (old new : Seen) → (ch == 15) ≡ true → KeepsRest old new (text_clears text m) → KeepsRest old new (changed_by_open ch text k k' m)
-open_command_rest ch text k k' m old new fifteen h = rest_more (text_clears text m) old new (λ n free. sym (ap (λ (b : Bool). if b then text_clears text m n else written_by ch k n || written_by ch k' n) fifteen) ∙ free) h
+open_command_rest ch text k k' m old new fifteen h = rest_more (text_clears text m) old new (λ n free. sym (ap (λ (b : Bool). if b then text_clears text m n else written_by ch k n || appended_by ch k' n) fifteen) ∙ free) h
 
--- on another channel it had the slot not open for writing before, and hasn't then
-pub open_free : {M : Type 0} (ch : ℕ) (text : List ℕ) (k k' : Kept M) (m : Machine) (n : ℕ) → (ch == 15) ≡ false → changed_by_open ch text k k' m n ≡ false → (written_by ch k n ≡ false) × (written_by ch k' n ≡ false)
-open_free ch text k k' m n other free = either_false (written_by ch k n) (written_by ch k' n) (sym (ap (λ (b : Bool). if b then text_clears text m n else written_by ch k n || written_by ch k' n) other) ∙ free)
+-- on another channel it had the slot not open for writing, and won't append to its file
+pub open_free : {M : Type 0} (ch : ℕ) (text : List ℕ) (k k' : Kept M) (m : Machine) (n : ℕ) → (ch == 15) ≡ false → changed_by_open ch text k k' m n ≡ false → (written_by ch k n ≡ false) × (appended_by ch k' n ≡ false)
+open_free ch text k k' m n other free = either_false (written_by ch k n) (appended_by ch k' n) (sym (ap (λ (b : Bool). if b then text_clears text m n else written_by ch k n || appended_by ch k' n) other) ∙ free)
 
 -- ---- a byte that is put
 

@@ -21,7 +21,7 @@ use Rattle.cbm_channel.specs.Standing.{Kept, SameBut, HaveSameFiles, Stands, use
 use Rattle.cbm_channel.specs.Grounds.{HasGround, IsFromDirectory, KeepsIfRefused, OrdersDisk, ShowsTrouble}
 use Rattle.cbm_channel.specs.Going.{IsFailureCounted, GoesFrom, KeepsMedium, WentFrom, opening_parts}
 use Rattle.cbm_channel.specs.Commanded.{AreSameBut, FormatsUnfailing, open_formats, open_validates, text_moves, text_clears}
-use Rattle.cbm_channel.specs.Shown.{is_writing_on, writes_on, written_by}
+use Rattle.cbm_channel.specs.Shown.{is_writing_on, appends_on, appended_by, written_by}
 use Rattle.cbm_channel.specs.Parts.{IsClosedOn, OnlyTells, OnlyTellsFor}
 use Rattle.cbm_channel.specs.Planned.{PlannedAs, IsFound, IsOfText, IsOpened, IsSized, begun_by, disk_opened, plan_writes, text_writes}
 
@@ -68,10 +68,10 @@ pub record OpensUnwritten {M : Type 0} (seen : M → Seen) (ch : ℕ) (text : Li
   pub quiet : OpensQuietly seen ch text old new
   pub spared : is_writing_on ch old ≡ false → KeepsIfRefused seen old new
 
--- the slots that OPEN may change: those that a command clears; on another channel the one that it had open for writing, and the one that it
--- has then
+-- the slots that OPEN may change: those that a command clears; on another channel the one that it had open for writing, and the one to whose
+-- file it will append. A file that it will replace stays, and one whose records it opens.
 abbrev pub changed_by_open : {M : Type 0} → ℕ → List ℕ → Kept M → Kept M → Machine → ℕ → Bool
-changed_by_open ch text old new m n = if ch == 15 then text_clears text m n else written_by ch old n || written_by ch new n
+changed_by_open ch text old new m n = if ch == 15 then text_clears text m n else written_by ch old n || appended_by ch new n
 
 -- WHAT EACH OPEN LEAVES on any disk: closed files, where it is V; tracks and protection of the medium; and, but with NEW, the rest of the
 -- disk but for those slots.
@@ -126,9 +126,9 @@ StopsPlan seen plan result old new = (m : machine.Machine) (p : plans.Plan) → 
 abbrev pub OpensRest : {M : Type 0} → (M → Seen) → Plan → (ℕ → Bool) → Kept M → Kept M → Type 0
 OpensRest seen plan but old new = (m : machine.Machine) (p : plans.Plan) → PlansAs seen old.medium m (Ok p) (Ok plan) → Stands seen old m → KeepsRest (seen old.medium) (seen new.medium) but
 
--- the slot that was opened for writing, if one was
+-- the slot to whose file bytes will be put, if one was opened so
 abbrev pub opened_in : Result (Option Channel) Trouble → ℕ → Bool
-opened_in (Ok (Some x)) n = writes_on n x
+opened_in (Ok (Some x)) n = appends_on n x
 opened_in (Ok None) n = false
 opened_in (Err t) n = false
 
@@ -136,7 +136,7 @@ opened_in (Err t) n = false
 abbrev pub ShowsWhy : {M : Type 0} → (M → Seen) → Plan → Result (Option Channel) Trouble → M → Type 0
 ShowsWhy seen plan result medium = plan_writes plan ≡ false → IsFromDirectory seen medium plan → IfErr result (ShowsTrouble (geometry_of (seen medium).tracks (seen medium).content) (seen medium).content)
 
--- WHAT A PLAN OPENS on a sound disk: the channel, or the stop; and the rest of the disk stays, but for the slot that is written.
+-- WHAT A PLAN OPENS on a sound disk: the channel, or the stop; and the rest of the disk stays, but for the slot to whose file bytes will be put.
 pub record OpensByPlan {M : Type 0} (seen : M → Seen) (plan : Plan) (result : Result (Option Channel) Trouble) (old new : Kept M) : Type 0 where
   pub opened : OpensPlan seen plan result old new
   pub stopped : StopsPlan seen plan result old new

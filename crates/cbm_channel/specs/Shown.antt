@@ -82,6 +82,19 @@ writes_on n (code.Records r) = r.slot == n
 abbrev pub written_by : {M : Type 0} → ℕ → Kept M → ℕ → Bool
 written_by ch k n = writes_on n (slice_index_or k.channels ch code.Closed)
 
+-- it has the slot open for writing, and not for what will replace its file
+abbrev pub appends_on : ℕ → Channel → Bool
+appends_on n code.Closed = false
+appends_on n (code.Listing l) = false
+appends_on n (code.File slot r) = false
+appends_on n (code.Writing w full) = if w.replaces then false else w.slot == n
+appends_on n (code.Stopped slot) = false
+appends_on n (code.Records r) = false
+
+-- the channel of this number has
+abbrev pub appended_by : {M : Type 0} → ℕ → Kept M → ℕ → Bool
+appended_by ch k n = appends_on n (slice_index_or k.channels ch code.Closed)
+
 -- it has the slot open
 abbrev pub uses_on : ℕ → Channel → Bool
 uses_on n code.Closed = false

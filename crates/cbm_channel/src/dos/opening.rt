@@ -14,7 +14,7 @@ impl<M: Medium> Dos<M> {
     ghost use Rattle.cbm_channel.specs.ChannelCalls.{KeepsElse, LeavesRest};
     ghost use Rattle.cbm_machine.specs.declared.code.Code.TheVariants.{Fine};
     ghost use Rattle.cbm_channel.specs.Grounds.{IsFromDirectory, KeepsIfRefused};
-    ghost use Rattle.cbm_channel.specs.Shown.{written_by};
+    ghost use Rattle.cbm_channel.specs.Shown.{appended_by};
     ghost use Rattle.cbm_channel.specs.Standing.{SameBut, FitsTracks};
     ghost use Rattle.cbm_channel.specs.Opening.{OpensRest, OpensFrom, IsClosedUnlessFine, BeginsOpening, ActsOnPlan, OpensByPlan, WritesByPlan, OpensChannel, OpensCommand, OpensUnwritten, LeavesByOpen, IsAllowed};
     ghost use Rattle.cbm_channel.specs.Planned.{IsOfText, IsSized, is_for_writing, plan_writes};
@@ -50,7 +50,7 @@ impl<M: Medium> Dos<M> {
         ensures quiet { is_for_writing opening ≡ false → OnlyTells M.seen self.old self.new }
         ensures spared { KeepsIfRefused M.seen self.old self.new }
         ensures leaves { LeavesMedium M.seen self.old self.new }
-        ensures rest { IsOfText opening → LeavesRest M.seen (λ m. written_by channel self.new) self.old self.new }
+        ensures rest { IsOfText opening → LeavesRest M.seen (λ m. appended_by channel self.new) self.old self.new }
     {
         match self.plan(channel, opening) {
             Ok(plan) => self.act(channel, plan),
@@ -69,7 +69,7 @@ impl<M: Medium> Dos<M> {
             OnlyTells M.seen self.old self.new }
         ensures spared { IsAllowed M.seen self.old.medium plan → KeepsIfRefused M.seen self.old self.new }
         ensures leaves { LeavesMedium M.seen self.old self.new }
-        ensures rest { OpensRest M.seen plan (written_by channel self.new) self.old self.new }
+        ensures rest { OpensRest M.seen plan (appended_by channel self.new) self.old self.new }
     {
         match self.opened(plan) {
             Ok(Some(opened)) => {

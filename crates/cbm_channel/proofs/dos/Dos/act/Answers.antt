@@ -2,7 +2,7 @@ use Rattle.std.proofs.Common.{rules, ◌<◌, sym, ap, subst, ◌∙◌, refl, i
 use Rattle.std.specs.Prelude.{slice_set, Option, Ok}
 use Rattle.cbm_channel.specs.declared.channel.Channel.{Channel}
 use Rattle.cbm_channel.specs.Opening.{opened_in}
-use Rattle.cbm_channel.specs.Shown.{writes_on}
+use Rattle.cbm_channel.specs.Shown.{appends_on}
 use Rattle.cbm_machine.specs.declared.code.Code.TheVariants.{Fine}
 use Rattle.cbm_machine.specs.Machines.{say}
 use Rattle.cbm_machine.specs.Plans.{act}
@@ -69,7 +69,7 @@ returns-in-Ok-Some-clause-rest g c = λ m p h s.
     let more : c.args.channel < length c.self.inside.channels = omega (arith, c.requires.channel, c.opened.ensures.only.count, ap (λ k. length k.channels) c.self.view_is) in
     let now = set_now c.self.inside.channels c.say.new.self.channels c.args.channel c.in-Ok-Some.opened c.say.ensures.channels more in
     rest_seen g.M.Medium.seen c.args.self.now.medium c.say.new.self.medium c.args.self.now.medium c.opened.new.self.medium refl (c.say.ensures.medium ∙ ap (λ k. k.medium) c.self.view_is)
-    (rest_more (opened_in (Ok c.in-Ok-Some.field-0)) _ _ (λ n free. ap (λ (o : Option Channel). opened_in (Ok o) n) c.in-Ok-Some.field-0-is ∙ sym (ap (λ (y : Channel). writes_on n y) now) ∙ free) (c.in-Ok-Some.ensures.opens.rest m p h s))
+    (rest_more (opened_in (Ok c.in-Ok-Some.field-0)) _ _ (λ n free. ap (λ (o : Option Channel). opened_in (Ok o) n) c.in-Ok-Some.field-0-is ∙ sym (ap (λ (y : Channel). appends_on n y) now) ∙ free) (c.in-Ok-Some.ensures.opens.rest m p h s))
 
 pub returns-in-Ok-None-clause-rest : goal.returns-in-Ok-None-clause-rest
 returns-in-Ok-None-clause-rest g c = λ m p h s. rest_seen g.M.Medium.seen c.args.self.now.medium c.say-in-Ok-None.new.self.medium c.args.self.now.medium c.opened.new.self.medium refl c.say-in-Ok-None.ensures.medium

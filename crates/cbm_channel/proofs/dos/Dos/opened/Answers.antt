@@ -164,7 +164,7 @@ returns-in_ok-writer-in-AppendFile-clause-opens g c = record {
       let can = can_be c.in-AppendFile.found.slot c.self.inside.channels m x.1.file st.each x.1.in_slot x.1.closed x.1.plain x.1.unused in
       let begun = c.in_ok-writer-in-AppendFile.ensures.begun m.disk uses st.holds x.1.file can x.1.stands 15 idle x.1.kept in
       rest_seen g.M.Medium.seen c.args.self.now.medium c.begin_append.new.self c.self.inside.volume c.begin_append.new.self (ap (λ k. k.medium) c.self.view_is) refl
-      (record { in_place = append_stays _ _ _ c.in-AppendFile.found.slot c.in_ok-writer-in-AppendFile.writer begun.same_slot (c.begin_append.ensures.untouched m.disk uses st.holds).stays; outside = outside_held c.begin_append.result (g.M.Medium.seen c.self.inside.volume) (g.M.Medium.seen c.begin_append.new.self) m.disk uses c.begin_append.ensures.only refl st.holds (record { disk = _; uses = _; holds = begun.holds; total = refl }) });
+      (record { in_place = append_stays _ _ _ c.in-AppendFile.found.slot c.in_ok-writer-in-AppendFile.writer begun.same_slot begun.same_way (c.begin_append.ensures.untouched m.disk uses st.holds).stays; outside = outside_held c.begin_append.result (g.M.Medium.seen c.self.inside.volume) (g.M.Medium.seen c.begin_append.new.self) m.disk uses c.begin_append.ensures.only refl st.holds (record { disk = _; uses = _; holds = begun.holds; total = refl }) });
 }
 
 -- a file that is replaced
