@@ -68,7 +68,7 @@ pub record WiresStandAt (bs : List Party) (p : Parties) (moment : ℕ) (wires : 
 abbrev pub WiresStand : List Party → Wires → List Change → List Event → Type 0
 WiresStand bs w cs es = WiresStandAt bs (parties_of w.hands) w.moment w.wires w.ahead.items cs es
 
--- this holds of whatever parties' events it tells, from changes that were read
+-- this holds of the parties, the changes that were read and the events that were given, whatever these are
 abbrev pub OfWires : Wires → (List Party → List Change → List Event → Type 0) → Type 0
 OfWires w P = (bs : List Party) (cs : List Change) (es : List Event) → WiresStand bs w cs es → P bs cs es
 

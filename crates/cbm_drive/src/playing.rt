@@ -14,7 +14,7 @@ use std::alloc::AllocError;
 /// The most changes of one reaction: one of CLOCK, then one of DATA.
 const MOST: usize = 2;
 
-/// An event goes to the list, which has room for it, and behind it the second one of its reaction.
+/// An event goes to the list, which has room for it, and after it the second one of its reaction.
 fn add(player: &mut Player, event: Event, events: &mut Vec<Event>)
     requires { vec_len events.old + 2 ≤ vec_capacity events.old }
     ensures events { events.new.items ≡ events.old.items ++ event ∷ pending player.old.second }
