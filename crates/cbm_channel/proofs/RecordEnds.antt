@@ -28,7 +28,7 @@ use Rattle.cbm_channel.specs.declared.channel.Channel as kept
 use Rattle.cbm_channel.specs.declared.channel.Channel.TheVariants as code
 use Rattle.cbm_channel.specs.Placed.{Placed, IsOnRecord, IsPlacedAt}
 use Rattle.cbm_channel.specs.Recorded.{CanPut, disk_grown, blocks_grown, sides_grown, records_grown, IsReadAnew, IsTextStored, IsTextCut, IsTextStopped}
-use Rattle.cbm_channel.specs.Shown.{writes_on, has_records}
+use Rattle.cbm_channel.specs.Shown.{records_on, has_records}
 use Rattle.cbm_channel.proofs.Asked.{record_of_none, relative_of}
 use Rattle.cbm_channel.proofs.Commanding.{protected_status}
 use Rattle.cbm_channel.proofs.RecordPuts.{IsSameBut, but_itself, but_record, but_growth, but_cut, but_then, grown_file, growth_there}
@@ -439,11 +439,11 @@ module _ (old new : Seen) (chs : List kept.Channel) (told : ToldStatus) (text : 
       )
 
   -- the rest of the disk stays
-  pub put_rest : ((r : Placed) → x ≡ code.Records r → OfPlaced old r (λ d uses b s rs. KeepsRest old new (λ n. r.slot == n))) → (has_records x ≡ false → new ≡ old) → KeepsRest old new (λ n. writes_on n x)
+  pub put_rest : ((r : Placed) → x ≡ code.Records r → OfPlaced old r (λ d uses b s rs. KeepsRest old new (λ n. r.slot == n))) → (has_records x ≡ false → new ≡ old) → KeepsRest old new (λ n. records_on n x)
   put_rest puts quiet = elim (records_or_not x) [
     | inl none ↦ rest_itself old new (quiet none)
     | inr k ↦ (let on : IsOnRecord m.disk k.0 = on_it k.0 k.1 in
-        subst (λ (y : kept.Channel). KeepsRest old new (λ n. writes_on n y)) (sym k.1) (puts k.0 k.1 m.disk (uses_of chs m.channels) on.blocks on.sides on.records (can_put old.tracks old.content new.content old.protected chs told text m ch k.0 lt fit st (here k.0 k.1) on)))
+        subst (λ (y : kept.Channel). KeepsRest old new (λ n. records_on n y)) (sym k.1) (puts k.0 k.1 m.disk (uses_of chs m.channels) on.blocks on.sides on.records (can_put old.tracks old.content new.content old.protected chs told text m ch k.0 lt fit st (here k.0 k.1) on)))
   ]
 
   -- THE WRITE WAS REFUSED

@@ -21,7 +21,7 @@ use Rattle.cbm_channel.specs.ChannelCalls.{KeepsRest, KeepsSlot}
 use Rattle.cbm_channel.specs.Commanded.{is_slot_among, slots_going, cleared_by, read_clears, text_clears, end_clears}
 use Rattle.cbm_channel.specs.Opening.{changed_by_open}
 use Rattle.cbm_channel.specs.Parts.{closed_by, changed_by_end}
-use Rattle.cbm_channel.specs.Shown.{writes_on, written_by, appends_on, appended_by}
+use Rattle.cbm_channel.specs.Shown.{finishes_on, finished_by, records_on, with_records_by, appends_on, appended_by}
 use Rattle.cbm_channel.specs.Standing.{Kept}
 use Rattle.cbm_channel.proofs.Changed.{set_now}
 use Rattle.cbm_channel.proofs.Stands.{any_default}
@@ -33,11 +33,11 @@ pub either_false : (a b : Bool) → (a || b) ≡ false → (a ≡ false) × (b �
 either_false true b h = absurd (cc)
 either_false false b h = (refl, h)
 
--- no channel has the slot open for writing
-pub none_writes : (n : ℕ) (xs : List Channel) (k : ℕ) → list_any (writes_on n) xs ≡ false → writes_on n (slice_index_or xs k code.Closed) ≡ false
+-- on no channel a file is written in the slot
+pub none_writes : (n : ℕ) (xs : List Channel) (k : ℕ) → list_any (finishes_on n) xs ≡ false → finishes_on n (slice_index_or xs k code.Closed) ≡ false
 none_writes n [] k h = refl
-none_writes n (x ∷ xs) zero h = (either_false (writes_on n x) (list_any (writes_on n) xs) h).0
-none_writes n (x ∷ xs) (suc k) h = none_writes n xs k (either_false (writes_on n x) (list_any (writes_on n) xs) h).1
+none_writes n (x ∷ xs) zero h = (either_false (finishes_on n x) (list_any (finishes_on n) xs) h).0
+none_writes n (x ∷ xs) (suc k) h = none_writes n xs k (either_false (finishes_on n x) (list_any (finishes_on n) xs) h).1
 
 -- it is none of these
 pub not_among : (ns : List ℕ) (i n : ℕ) → i < length ns → is_slot_among ns n ≡ false → (n == slice_index_or ns i 0) ≡ false
@@ -48,24 +48,24 @@ not_among (k ∷ ns) (suc i) n lt h = not_among ns i n (omega (arith, lt)) (eith
 -- ---- a channel
 
 -- the file that it writes is finished
-pub finish_rest : (old new : Seen) (k : Channel) (w : Filling) (full : Bool) → k ≡ code.Writing w full → KeepsRest old new (λ m. m == w.slot) → KeepsRest old new (λ n. writes_on n k)
-finish_rest old new k w full is h = rest_more (λ m. m == w.slot) old new (λ n free. turned_free n w.slot (sym (ap (λ (y : Channel). writes_on n y) is) ∙ free)) h
+pub finish_rest : (old new : Seen) (k : Channel) (w : Filling) (full : Bool) → k ≡ code.Writing w full → KeepsRest old new (λ m. m == w.slot) → KeepsRest old new (λ n. finishes_on n k)
+finish_rest old new k w full is h = rest_more (λ m. m == w.slot) old new (λ n free. turned_free n w.slot (sym (ap (λ (y : Channel). finishes_on n y) is) ∙ free)) h
 
 -- the channel as the caller knows it
-pub rest_on : (old new : Seen) (x y : Channel) → x ≡ y → KeepsRest old new (λ n. writes_on n x) → KeepsRest old new (λ n. writes_on n y)
-rest_on old new x y e h = subst (λ (z : Channel). KeepsRest old new (λ n. writes_on n z)) e h
+pub rest_on : (test : ℕ → Channel → Bool) (old new : Seen) (x y : Channel) → x ≡ y → KeepsRest old new (λ n. test n x) → KeepsRest old new (λ n. test n y)
+rest_on test old new x y e h = subst (λ (z : Channel). KeepsRest old new (λ n. test n z)) e h
 
 -- ---- CLOSE
 
-pub closed_rest : {M : Type 0} (ch : ℕ) (k : Kept M) (old new : Seen) → (ch == 15) ≡ false → KeepsRest old new (written_by ch k) → KeepsRest old new (closed_by ch k)
-closed_rest ch k old new e h = rest_more (written_by ch k) old new (λ n free. sym (ap (λ (b : Bool). if b then list_any (writes_on n) k.channels else written_by ch k n) e) ∙ free) h
+pub closed_rest : {M : Type 0} (ch : ℕ) (k : Kept M) (old new : Seen) → (ch == 15) ≡ false → KeepsRest old new (finished_by ch k) → KeepsRest old new (closed_by ch k)
+closed_rest ch k old new e h = rest_more (finished_by ch k) old new (λ n free. sym (ap (λ (b : Bool). if b then list_any (finishes_on n) k.channels else finished_by ch k n) e) ∙ free) h
 
 pub all_closed_rest : {M : Type 0} (ch : ℕ) (k : Kept M) (old new : Seen) → ch ≡ 15 → KeepsRest old new (closed_by 15 k) → KeepsRest old new (closed_by ch k)
 all_closed_rest ch k old new e h = subst (λ (c : ℕ). KeepsRest old new (closed_by c k)) (sym e) h
 
 -- the channel that is closed next has the slot open that it had at first
-pub next_free : {M : Type 0} (k now : Kept M) (ch n : ℕ) → slice_index_or now.channels ch code.Closed ≡ slice_index_or k.channels ch code.Closed → closed_by 15 k n ≡ false → written_by ch now n ≡ false
-next_free k now ch n same free = ap (λ (y : Channel). writes_on n y) same ∙ none_writes n k.channels ch free
+pub next_free : {M : Type 0} (k now : Kept M) (ch n : ℕ) → slice_index_or now.channels ch code.Closed ≡ slice_index_or k.channels ch code.Closed → closed_by 15 k n ≡ false → finished_by ch now n ≡ false
+next_free k now ch n same free = ap (λ (y : Channel). finishes_on n y) same ∙ none_writes n k.channels ch free
 
 -- ---- S
 
@@ -93,14 +93,14 @@ clears_text ch m (Err e) n = refl
 -- a command, for which its text was taken
 pub ended_rest : {M : Type 0} (ch : ℕ) (k : Kept M) (t : ℕ × List ℕ) (m : Machine) (old new : Seen) → ch ≡ 15 → k.text ≡ Some t → (t.0 == 15) ≡ true → KeepsRest old new (text_clears t.1 (without_text ch m)) → KeepsRest old new (changed_by_end ch k m)
 ended_rest ch k t m old new fifteen is number h = rest_more (text_clears t.1 (without_text ch m)) old new (λ n free.
-    let of_text : end_clears k.text m n ≡ false = sym (ap (λ (c : ℕ). if c == 15 then end_clears k.text m n else written_by ch k n) fifteen) ∙ free in
+    let of_text : end_clears k.text m n ≡ false = sym (ap (λ (c : ℕ). if c == 15 then end_clears k.text m n else with_records_by ch k n) fifteen) ∙ free in
     let kept : text_clears t.1 m n ≡ false = sym (ap (λ (b : Bool). b && text_clears t.1 m n) number) ∙ sym (ap (λ (o : Option (ℕ × List ℕ)). end_clears o m n) is) ∙ of_text in
     clears_text ch m (command_of (without_return t.1)) n ∙ kept) h
 
 -- a text for records
-pub records_rest : {M : Type 0} (ch : ℕ) (k now : Kept M) (m : Machine) (old new : Seen) → (ch == 15) ≡ false → now.channels ≡ k.channels → KeepsRest old new (written_by ch now) → KeepsRest old new (changed_by_end ch k m)
-records_rest ch k now m old new other same h = rest_more (written_by ch now) old new (λ n free.
-    ap (λ (xs : List Channel). writes_on n (slice_index_or xs ch code.Closed)) same ∙ sym (ap (λ (b : Bool). if b then end_clears k.text m n else written_by ch k n) other) ∙ free) h
+pub records_rest : {M : Type 0} (ch : ℕ) (k now : Kept M) (m : Machine) (old new : Seen) → (ch == 15) ≡ false → now.channels ≡ k.channels → KeepsRest old new (with_records_by ch now) → KeepsRest old new (changed_by_end ch k m)
+records_rest ch k now m old new other same h = rest_more (with_records_by ch now) old new (λ n free.
+    ap (λ (xs : List Channel). records_on n (slice_index_or xs ch code.Closed)) same ∙ sym (ap (λ (b : Bool). if b then end_clears k.text m n else with_records_by ch k n) other) ∙ free) h
 
 -- ---- OPEN
 
@@ -112,14 +112,15 @@ append_stays tracks c c' slot w same way h = stays_more tracks c c' (λ m. m == 
 
 -- a command
 pub open_command_rest : {M : Type 0} (ch : ℕ) (text : List ℕ) (k k' : Kept M) (m : Machine) (old new : Seen) → (ch == 15) ≡ true → KeepsRest old new (text_clears text m) → KeepsRest old new (changed_by_open ch text k k' m)
-open_command_rest ch text k k' m old new fifteen h = rest_more (text_clears text m) old new (λ n free. sym (ap (λ (b : Bool). if b then text_clears text m n else written_by ch k n || appended_by ch k' n) fifteen) ∙ free) h
+open_command_rest ch text k k' m old new fifteen h = rest_more (text_clears text m) old new (λ n free. sym (ap (λ (b : Bool). if b then text_clears text m n else finished_by ch k n || appended_by ch k' n) fifteen) ∙ free) h
 
 -- on another channel it had the slot not open for writing, and won't append to its file
-pub open_free : {M : Type 0} (ch : ℕ) (text : List ℕ) (k k' : Kept M) (m : Machine) (n : ℕ) → (ch == 15) ≡ false → changed_by_open ch text k k' m n ≡ false → (written_by ch k n ≡ false) × (appended_by ch k' n ≡ false)
-open_free ch text k k' m n other free = either_false (written_by ch k n) (appended_by ch k' n) (sym (ap (λ (b : Bool). if b then text_clears text m n else written_by ch k n || appended_by ch k' n) other) ∙ free)
+pub open_free : {M : Type 0} (ch : ℕ) (text : List ℕ) (k k' : Kept M) (m : Machine) (n : ℕ) → (ch == 15) ≡ false → changed_by_open ch text k k' m n ≡ false → (finished_by ch k n ≡ false) × (appended_by ch k' n ≡ false)
+open_free ch text k k' m n other free = either_false (finished_by ch k n) (appended_by ch k' n) (sym (ap (λ (b : Bool). if b then text_clears text m n else finished_by ch k n || appended_by ch k' n) other) ∙ free)
 
 -- ---- a byte that is put
 
--- the channel that is set has the slot open that it had
-pub slot_kept : (ch : ℕ) (before after xs : List Channel) (d x : Channel) → xs ≡ before → ch < length xs → after ≡ slice_set xs ch x → KeepsSlot (slice_index_or xs ch d) x → (n : ℕ) → writes_on n (slice_index_or after ch code.Closed) ≡ writes_on n (slice_index_or before ch code.Closed)
-slot_kept ch before after xs d x same lt is keeps n = ap (λ (y : Channel). writes_on n y) (set_now xs after ch x is lt) ∙ keeps n ∙ ap (λ (y : Channel). writes_on n y) (any_default xs ch d code.Closed lt ∙ ap (λ (ys : List Channel). slice_index_or ys ch code.Closed) same)
+-- the channel that is set writes the file of no other slot
+pub slot_kept : (ch : ℕ) (before after xs : List Channel) (d x : Channel) → xs ≡ before → ch < length xs → after ≡ slice_set xs ch x → KeepsSlot (slice_index_or xs ch d) x → (n : ℕ) → finishes_on n (slice_index_or before ch code.Closed) ≡ false → finishes_on n (slice_index_or after ch code.Closed) ≡ false
+slot_kept ch before after xs d x same lt is keeps n free =
+    ap (λ (y : Channel). finishes_on n y) (set_now xs after ch x is lt) ∙ keeps n (ap (λ (y : Channel). finishes_on n y) (any_default xs ch d code.Closed lt ∙ ap (λ (ys : List Channel). slice_index_or ys ch code.Closed) same) ∙ free)

@@ -14,7 +14,7 @@ use Rattle.cbm_machine.specs.Talking.{taken_on}
 use Rattle.cbm_channel.specs.declared.channel.Channel.{Channel}
 use Rattle.cbm_channel.specs.Placed.{Placed}
 use Rattle.cbm_channel.specs.Recorded.{CanPut}
-use Rattle.cbm_channel.specs.Shown.{writes_on}
+use Rattle.cbm_channel.specs.Shown.{finishes_on}
 use Rattle.cbm_channel.specs.Moved.{code_placed, placed_on}
 use Rattle.cbm_channel.specs.Standing.{ChannelStands, FitsTracks, IsSameFile, Kept, Stands, WaitsFor, use_of}
 use Rattle.cbm_channel.specs.Written.{is_lost, channel_put, disk_put, disk_closed, IsCutOff}
@@ -93,15 +93,15 @@ PutsByte byte old new k k' result = OfChannel old k (λ d uses ch x. IsChannelCa
 abbrev pub FinishesFile : Seen → Seen → Channel → Result (Unit {0}) Trouble → Type 0
 FinishesFile old new k result = OfChannel old k (λ d uses ch x. IsChannelCall result old new
     (λ done. HoldsNow old.tracks new.content (disk_closed d x) (with_use uses ch Idle))
-    (Stopped old.tracks new.content d (disk_closed d x) (with_use uses ch Idle)) (λ n. writes_on n k))
+    (Stopped old.tracks new.content d (disk_closed d x) (with_use uses ch Idle)) (λ n. finishes_on n k))
 
 -- nothing is done: the answer is this one, and the channel and the volume stay
 abbrev pub DoesNothing : {A V : Type 0} → Result A Trouble → A → Channel → Channel → V → V → Type 0
 DoesNothing result answer k k' v v' = (result ≡ Ok answer) × (k' ≡ k) × (v' ≡ v)
 
--- a channel has the same slot open for writing, or none still
+-- a channel writes the file of no other slot than before
 abbrev pub KeepsSlot : Channel → Channel → Type 0
-KeepsSlot old new = (n : ℕ) → writes_on n new ≡ writes_on n old
+KeepsSlot old new = (n : ℕ) → finishes_on n old ≡ false → finishes_on n new ≡ false
 
 -- A CHANNEL KEEPS ITS FILE, though the place in its records may be another; and it fits the medium's tracks.
 pub record KeepsFile (tracks : ℕ) (old new : Channel) : Type 0 where

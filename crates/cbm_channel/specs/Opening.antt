@@ -21,7 +21,7 @@ use Rattle.cbm_channel.specs.Standing.{Kept, SameBut, HaveSameFiles, Stands, use
 use Rattle.cbm_channel.specs.Grounds.{HasGround, IsFromDirectory, KeepsIfRefused, OrdersDisk, ShowsTrouble}
 use Rattle.cbm_channel.specs.Going.{IsFailureCounted, GoesFrom, KeepsMedium, WentFrom, opening_parts}
 use Rattle.cbm_channel.specs.Commanded.{AreSameBut, FormatsUnfailing, open_formats, open_validates, text_moves, text_clears}
-use Rattle.cbm_channel.specs.Shown.{is_writing_on, appends_on, appended_by, written_by}
+use Rattle.cbm_channel.specs.Shown.{is_writing_on, appends_on, appended_by, finished_by}
 use Rattle.cbm_channel.specs.Parts.{IsClosedOn, OnlyTells, OnlyTellsFor}
 use Rattle.cbm_channel.specs.Planned.{PlannedAs, IsFound, IsOfText, IsOpened, IsSized, begun_by, disk_opened, plan_writes, text_writes}
 
@@ -68,10 +68,10 @@ pub record OpensUnwritten {M : Type 0} (seen : M → Seen) (ch : ℕ) (text : Li
   pub quiet : OpensQuietly seen ch text old new
   pub spared : is_writing_on ch old ≡ false → KeepsIfRefused seen old new
 
--- the slots that OPEN may change: those that a command clears; on another channel the one that it had open for writing, and the one to whose
--- file it will append. A file that it will replace stays, and one whose records it opens.
+-- the slots that OPEN may change: those that a command clears; on another channel the one whose file was being written on it,
+-- and the one to whose file it will append. A file that it will replace stays, and one whose records it opens.
 abbrev pub changed_by_open : {M : Type 0} → ℕ → List ℕ → Kept M → Kept M → Machine → ℕ → Bool
-changed_by_open ch text old new m n = if ch == 15 then text_clears text m n else written_by ch old n || appended_by ch new n
+changed_by_open ch text old new m n = if ch == 15 then text_clears text m n else finished_by ch old n || appended_by ch new n
 
 -- WHAT EACH OPEN LEAVES on any disk: closed files, where it is V; tracks and protection of the medium; and, but with NEW, the rest of the
 -- disk but for those slots.

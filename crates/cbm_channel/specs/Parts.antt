@@ -13,7 +13,7 @@ use Rattle.cbm_channel.specs.ChannelCalls.{KeepsRest, LeavesRest}
 use Rattle.cbm_channel.specs.Commanded.{AreSameBut, CanAllGo, FormatsUnfailing, is_slot_among, end_clears, all_scratched, ends_command, end_formats}
 use Rattle.cbm_channel.specs.Going.{KeepsMedium, IsFailureCounted, AreCounted, WentFrom, RecordsFrom, EndsFrom}
 use Rattle.cbm_channel.specs.Grounds.{HasTold, IsToldFor, KeepsIfRefused, OrdersDisk, is_fault_number}
-use Rattle.cbm_channel.specs.Shown.{is_writing_on, has_records_on, writes_on, written_by, KeepsMediumAndStatus}
+use Rattle.cbm_channel.specs.Shown.{is_writing_on, has_records_on, finishes_on, finished_by, with_records_by, KeepsMediumAndStatus}
 use Rattle.cbm_channel.specs.Standing.{Kept, SameBut, HaveSameFiles, Stands, HasNoText, HasText, uses_of}
 
 -- ---- the machines
@@ -105,9 +105,9 @@ IsFineOrSameUnlessFault seen old new = is_fault_number (code_number new.told.sta
 abbrev pub CutsOff : {M : Type 0} → (M → Seen) → ℕ → Kept M → Kept M → Type 0
 CutsOff seen ch old new = HasFailed (seen old.medium) (seen new.medium) → is_writing_on ch new ≡ false
 
--- the channel has the same slot open for writing, or none still
+-- the channel writes the file of no other slot than before
 abbrev pub KeepsSlotOn : {M : Type 0} → ℕ → Kept M → Kept M → Type 0
-KeepsSlotOn ch old new = (n : ℕ) → written_by ch new n ≡ written_by ch old n
+KeepsSlotOn ch old new = (n : ℕ) → finished_by ch old n ≡ false → finished_by ch new n ≡ false
 
 -- ---- a channel is closed
 
@@ -131,9 +131,9 @@ pub record ClosesQuietly {M : Type 0} (ch : ℕ) (old new : Kept M) : Type 0 whe
   pub one : ch < 15 → is_writing_on ch old ≡ false → KeepsMediumAndStatus old new
   pub all : ((k : ℕ) → is_writing_on k old ≡ false) → KeepsMediumAndStatus old new
 
--- the slots that CLOSE may change: the one that the channel has open for writing; on 15 those that any channel has
+-- the slots that CLOSE may change: the one whose file is being written on the channel; on 15 those of all channels
 abbrev pub closed_by : {M : Type 0} → ℕ → Kept M → ℕ → Bool
-closed_by ch k n = if ch == 15 then list_any (writes_on n) k.channels else written_by ch k n
+closed_by ch k n = if ch == 15 then list_any (finishes_on n) k.channels else finished_by ch k n
 
 -- WHAT CLOSE LEAVES on any disk: tracks and protection of the medium stay, and the rest of the disk but for the files that it may finish;
 -- and for each channel that is closed the medium refused one write at most.
@@ -160,7 +160,7 @@ pub record MovesOne (ch : ℕ) (old new : List Channel) : Type 0 where
 
 -- the slots that the end of what is put may change: those that the command clears; on another channel that of its records
 abbrev pub changed_by_end : {M : Type 0} → ℕ → Kept M → Machine → ℕ → Bool
-changed_by_end ch k m n = if ch == 15 then end_clears k.text m n else written_by ch k n
+changed_by_end ch k m n = if ch == 15 then end_clears k.text m n else with_records_by ch k n
 
 -- from each machine that the drive stood for the gathered text is carried out, or that was stopped; of NEW that says nothing where the
 -- medium failed in it

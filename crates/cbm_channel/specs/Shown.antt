@@ -78,11 +78,33 @@ writes_on n (code.Writing w full) = w.slot == n
 writes_on n (code.Stopped slot) = slot == n
 writes_on n (code.Records r) = r.slot == n
 
--- the channel of this number has
-abbrev pub written_by : {M : Type 0} → ℕ → Kept M → ℕ → Bool
-written_by ch k n = writes_on n (slice_index_or k.channels ch code.Closed)
+-- a file is being written on it in this slot, which CLOSE finishes
+abbrev pub finishes_on : ℕ → Channel → Bool
+finishes_on n code.Closed = false
+finishes_on n (code.Listing l) = false
+finishes_on n (code.File slot r) = false
+finishes_on n (code.Writing w full) = w.slot == n
+finishes_on n (code.Stopped slot) = false
+finishes_on n (code.Records r) = false
 
--- it has the slot open for writing, and not for what will replace its file
+-- so it is on the channel of this number
+abbrev pub finished_by : {M : Type 0} → ℕ → Kept M → ℕ → Bool
+finished_by ch k n = finishes_on n (slice_index_or k.channels ch code.Closed)
+
+-- it has the records of the file in this slot open
+abbrev pub records_on : ℕ → Channel → Bool
+records_on n code.Closed = false
+records_on n (code.Listing l) = false
+records_on n (code.File slot r) = false
+records_on n (code.Writing w full) = false
+records_on n (code.Stopped slot) = false
+records_on n (code.Records r) = r.slot == n
+
+-- the channel of this number has
+abbrev pub with_records_by : {M : Type 0} → ℕ → Kept M → ℕ → Bool
+with_records_by ch k n = records_on n (slice_index_or k.channels ch code.Closed)
+
+-- a file is being written on it in this slot, and doesn't replace one
 abbrev pub appends_on : ℕ → Channel → Bool
 appends_on n code.Closed = false
 appends_on n (code.Listing l) = false
@@ -91,7 +113,7 @@ appends_on n (code.Writing w full) = if w.replaces then false else w.slot == n
 appends_on n (code.Stopped slot) = false
 appends_on n (code.Records r) = false
 
--- the channel of this number has
+-- so it is on the channel of this number
 abbrev pub appended_by : {M : Type 0} → ℕ → Kept M → ℕ → Bool
 appended_by ch k n = appends_on n (slice_index_or k.channels ch code.Closed)
 

@@ -11,7 +11,7 @@ impl<M: Medium> Dos<M> {
     ghost use Rattle.cbm_channel.specs.Standing.{Stands, SameBut, Leads};
     ghost use Rattle.cbm_channel.specs.Written.{is_unbegun};
     ghost use Rattle.cbm_channel.specs.ChannelCalls.{LeavesRest, no_slot};
-    ghost use Rattle.cbm_channel.specs.Shown.{is_writing_on, written_by, KeepsMediumAndStatus};
+    ghost use Rattle.cbm_channel.specs.Shown.{is_writing_on, finished_by, KeepsMediumAndStatus};
     ghost use Rattle.cbm_machine.specs.Machines.{Machine, channel as channel_of};
     ghost use Rattle.cbm_channel.specs.Going.{AreCounted, Goes, Went, some_byte_put, closing, closings, KeepsMedium};
     ghost use Rattle.cbm_channel.specs.Parts.{LeavesDisk, OnlyText, CutsOff, KeepsSlotOn, ClosesOne, ClosesChannels, ClosesQuietly, LeavesByClose, closed_by};
@@ -39,7 +39,7 @@ impl<M: Medium> Dos<M> {
         ensures goes { Went M.seen self.old self.new channel (close_one channel) }
         ensures closes { ClosesOne channel self.old.channels self.new.channels }
         ensures quiet { is_writing_on channel self.old ≡ false → KeepsMediumAndStatus self.old self.new }
-        ensures leaves { LeavesDisk M.seen (written_by channel self.old) self.old self.new }
+        ensures leaves { LeavesDisk M.seen (finished_by channel self.old) self.old self.new }
     {
         self.fill(channel);
         self.finish(channel);
@@ -77,7 +77,7 @@ impl<M: Medium> Dos<M> {
         ensures channels { self.new.channels ≡ slice_set self.old.channels channel Closed }
         ensures count { length self.new.channels ≡ 15 }
         ensures quiet { is_writing_on channel self.old ≡ false → KeepsMediumAndStatus self.old self.new }
-        ensures leaves { LeavesDisk M.seen (written_by channel self.old) self.old self.new }
+        ensures leaves { LeavesDisk M.seen (finished_by channel self.old) self.old self.new }
     {
         if let Err(trouble) = self.channels[channel as usize].finish(&mut self.volume) {
             self.set(Status::from(trouble));

@@ -27,7 +27,7 @@ impl<M: Medium> Dos<M> {
     ghost use Rattle.cbm_channel.specs.Grounds.{KeepsIfRefused};
     ghost use Rattle.cbm_channel.specs.ChannelCalls.{no_slot};
     ghost use Rattle.cbm_channel.specs.Standing.{SameBut, Leads};
-    ghost use Rattle.cbm_channel.specs.Shown.{is_writing_on, has_records_on, written_by, KeepsMediumAndStatus};
+    ghost use Rattle.cbm_channel.specs.Shown.{is_writing_on, has_records_on, with_records_by, KeepsMediumAndStatus};
     ghost use Rattle.cbm_channel.specs.Going.{Goes, Went, put_written};
     ghost use Rattle.cbm_channel.specs.Commanded.{IsOfCommandText, changes_disk, commands_change, formats, text_formats, end_formats, validates, text_validates, end_validates, moved_by, text_moves, end_moves, cleared_by, text_clears};
     ghost use Rattle.cbm_channel.specs.Parts.{LeavesDisk, LeavesByCommand, OnlyText, OnlyTells, OnlyTellsFor, CutsOff, KeepsSlotOn, TakesText, WritesText, MovesOne, WentUnlessNew, EndsGathered, EndsQuietly, SparesDisk, changed_by_end};
@@ -121,7 +121,7 @@ impl<M: Medium> Dos<M> {
         ensures moves { MovesOne channel self.old.channels self.new.channels }
         ensures quiet { has_records_on channel self.old ≡ false → self.new ≡ self.old }
         ensures spared { (self.new.told ≡ self.old.told) ⊎ KeepsIfRefused M.seen self.old self.new }
-        ensures leaves { LeavesDisk M.seen (written_by channel self.old) self.old self.new }
+        ensures leaves { LeavesDisk M.seen (with_records_by channel self.old) self.old self.new }
     {
         match self.channels[channel as usize].write_record(&mut self.volume, bytes) {
             Ok(Some(false)) => {}

@@ -1,7 +1,7 @@
 use Rattle.std.proofs.Common.{rules, ℕ, ap, sym, ◌∙◌, refl}
 use Rattle.std.specs.Prelude.{◌==◌}
 use Rattle.cbm_channel.specs.declared.channel.Channel.{Channel}
-use Rattle.cbm_channel.specs.Shown.{writes_on}
+use Rattle.cbm_channel.specs.Shown.{finishes_on}
 use Rattle.cbm_channel.proofs.BytesPut.{not_written, put_nothing, put_full, fits_on, writes_so, put_done, cut_off}
 use Rattle.cbm_channel.proofs.Rest.{rest_itself, store_rest, writer_size}
 use Rattle.cbm_channel.proofs.channel.Channel.put.Goals as goal
@@ -65,7 +65,7 @@ returns-in-Err-clause-call g c = λ d uses ch x h e s.
 -- ---- the slot
 
 pub returns-in-Ok-clause-slot : goal.returns-in-Ok-clause-slot
-returns-in-Ok-clause-slot g c = λ n. ap (λ (k : ℕ). k == n) c.store.ensures.writer.0 ∙ sym (ap (λ (y : Channel). writes_on n y) c.in-Writing.is)
+returns-in-Ok-clause-slot g c = λ n free. ap (λ (k : ℕ). k == n) c.store.ensures.writer.0 ∙ sym (ap (λ (y : Channel). finishes_on n y) c.in-Writing.is) ∙ free
 
 pub returns-in-Err-clause-slot : goal.returns-in-Err-clause-slot
-returns-in-Err-clause-slot g c = λ n. ap (λ (k : ℕ). k == n) (c.slot.ensures ∙ c.store.ensures.writer.0) ∙ sym (ap (λ (y : Channel). writes_on n y) c.in-Writing.is)
+returns-in-Err-clause-slot g c = λ n free. refl

@@ -2,7 +2,7 @@ use Rattle.std.proofs.Common.{rules, ◌≡◌, ◌+◌, refl, take, sym, subst,
 use Rattle.std.specs.Prelude.{ℕ, slice_index_or}
 use Rattle.std.proofs.lemmas.Bool.{cases_lt}
 use Rattle.std.proofs.lemmas.Bool.Decides.{eqb_tells}
-use Rattle.cbm_channel.specs.Shown.{is_writing, written_by}
+use Rattle.cbm_channel.specs.Shown.{is_writing, finished_by}
 use Rattle.cbm_channel.specs.Parts.{closed_by}
 use Rattle.std.proofs.lemmas.List.{get_or_past}
 use Rattle.cbm_channel.specs.declared.channel.Channel.TheVariants.{Closed}
@@ -55,7 +55,7 @@ loop-channel-preserved g c = (
   counted_more g.M.Medium.seen c.loop-channel.channel (c.loop-channel.channel + 1) c.args.self.now c.loop-channel.self c.close_one.new.self refl c.loop-channel.invariant.5 c.close_one.ensures.leaves.counted,
   (λ m s.
       let x = c.loop-channel.invariant.0 m s in
-      rest_then (closed_by 15 c.args.self.now) (written_by c.loop-channel.channel c.loop-channel.self) (g.M.Medium.seen c.args.self.now.medium) (g.M.Medium.seen c.loop-channel.self.medium) (g.M.Medium.seen c.close_one.new.self.medium) x.0.disk _ x.2.holds
+      rest_then (closed_by 15 c.args.self.now) (finished_by c.loop-channel.channel c.loop-channel.self) (g.M.Medium.seen c.args.self.now.medium) (g.M.Medium.seen c.loop-channel.self.medium) (g.M.Medium.seen c.close_one.new.self.medium) x.0.disk _ x.2.holds
       (λ n e. (e, next_free c.args.self.now c.loop-channel.self c.loop-channel.channel n (c.loop-channel.invariant.7 c.loop-channel.channel (omega arith)) e)) (c.loop-channel.invariant.6 m s) (c.close_one.ensures.leaves.rest x.0 x.2)),
   (λ k far. c.close_one.ensures.closes.others k (λ e. absurd (omega (arith, e, far))) ∙ c.loop-channel.invariant.7 k (omega (arith, far))),
 )

@@ -4,7 +4,7 @@ use Rattle.cbm_medium.specs.Seen.{Seen, HasFailed}
 use Rattle.cbm_machine.specs.Closing.{without_text, finish_channel, close_one}
 use Rattle.cbm_channel.specs.declared.channel.Channel.TheVariants.{Closed}
 use Rattle.cbm_channel.specs.ChannelCalls.{no_slot}
-use Rattle.cbm_channel.specs.Shown.{written_by}
+use Rattle.cbm_channel.specs.Shown.{finished_by}
 use Rattle.cbm_channel.specs.Going.{some_byte_put}
 use Rattle.cbm_channel.proofs.Goings.{passes_on, close_passes, closed_at, early, late}
 use Rattle.cbm_channel.proofs.Counted.{counted_to, counted_then}
@@ -38,7 +38,7 @@ returns-clause-leaves g c = record {
   medium = (search rules);
   rest = λ m s.
       let first = c.fill.ensures.goes m s in
-      rest_seen g.M.Medium.seen c.args.self.now.medium c.forget_text.new.self.medium c.args.self.now.medium c.finish.new.self.medium refl c.forget_text.ensures.only.medium (rest_then no_slot (written_by c.args.channel c.fill.new.self) (g.M.Medium.seen c.args.self.now.medium) (g.M.Medium.seen c.fill.new.self.medium) (g.M.Medium.seen c.finish.new.self.medium) first.0.disk _ first.2.holds (λ n e. (refl, c.fill.ensures.slot n ∙ e)) (c.fill.ensures.leaves.rest m s) (c.finish.ensures.leaves.rest first.0 first.2));
+      rest_seen g.M.Medium.seen c.args.self.now.medium c.forget_text.new.self.medium c.args.self.now.medium c.finish.new.self.medium refl c.forget_text.ensures.only.medium (rest_then no_slot (finished_by c.args.channel c.fill.new.self) (g.M.Medium.seen c.args.self.now.medium) (g.M.Medium.seen c.fill.new.self.medium) (g.M.Medium.seen c.finish.new.self.medium) first.0.disk _ first.2.holds (λ n e. (refl, c.fill.ensures.slot n e)) (c.fill.ensures.leaves.rest m s) (c.finish.ensures.leaves.rest first.0 first.2));
   counted = counted_to g.M.Medium.seen c.args.self.now c.finish.new.self c.forget_text.new.self c.forget_text.ensures.only.medium c.forget_text.ensures.only.told
       (counted_then g.M.Medium.seen c.args.self.now c.fill.new.self c.finish.new.self c.fill.ensures.leaves.counted c.finish.ensures.leaves.counted (λ failed. c.finish.ensures.quiet (c.fill.ensures.cut failed)));
 }

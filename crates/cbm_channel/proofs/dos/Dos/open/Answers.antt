@@ -7,7 +7,7 @@ use Rattle.std.proofs.lemmas.Bool.{eq-eqb}
 use Rattle.cbm_machine.specs.Machines.{say}
 use Rattle.cbm_machine.specs.Closing.{close_one}
 use Rattle.cbm_machine.specs.Plans.{open_text}
-use Rattle.cbm_channel.specs.Shown.{appended_by, written_by}
+use Rattle.cbm_channel.specs.Shown.{appended_by, finished_by}
 use Rattle.cbm_channel.specs.Going.{GoesFrom}
 use Rattle.cbm_channel.specs.Commanded.{text_formats}
 use Rattle.cbm_channel.specs.Planned.{begun_by}
@@ -146,7 +146,7 @@ returns-in-Ok-clause-leaves g c = record {
       let is = sym c.parse_open.ensures.value ∙ c.in-Ok.is in
       let x = c.close_one.ensures.goes m s in
       let none = below_15 c.args.channel (omega (arith, c.requires, c.if-channel-eq15.false)) in
-      rest_then (written_by c.args.channel c.args.self.now) (appended_by c.args.channel c.begin.new.self) (g.M.Medium.seen c.args.self.now.medium) (g.M.Medium.seen c.close_one.new.self.medium) (g.M.Medium.seen c.begin.new.self.medium) x.0.disk _ x.2.holds
+      rest_then (finished_by c.args.channel c.args.self.now) (appended_by c.args.channel c.begin.new.self) (g.M.Medium.seen c.args.self.now.medium) (g.M.Medium.seen c.close_one.new.self.medium) (g.M.Medium.seen c.begin.new.self.medium) x.0.disk _ x.2.holds
       (λ n free. open_free c.args.channel c.args.text.now c.args.self.now c.begin.new.self m n none free) (c.close_one.ensures.leaves.rest m s) (c.begin.ensures.rest (c.args.channel, c.args.text.now, is) x.0 x.2);
 }
 
@@ -157,5 +157,5 @@ returns-in-Err-clause-leaves g c = record {
   rest = λ other m s.
       let none = below_15 c.args.channel (omega (arith, c.requires, c.if-channel-eq15.false)) in
       rest_seen g.M.Medium.seen c.args.self.now.medium c.say.new.self.medium c.args.self.now.medium c.close_one.new.self.medium refl c.say.ensures.medium
-      (rest_more (written_by c.args.channel c.args.self.now) _ _ (λ n free. (open_free c.args.channel c.args.text.now c.args.self.now c.say.new.self m n none free).0) (c.close_one.ensures.leaves.rest m s));
+      (rest_more (finished_by c.args.channel c.args.self.now) _ _ (λ n free. (open_free c.args.channel c.args.text.now c.args.self.now c.say.new.self m n none free).0) (c.close_one.ensures.leaves.rest m s));
 }

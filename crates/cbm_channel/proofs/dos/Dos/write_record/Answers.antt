@@ -3,7 +3,7 @@ use Rattle.cbm_medium.specs.Seen.{Seen, HasFailed}
 use Rattle.cbm_machine.specs.Machines.{with_status}
 use Rattle.cbm_channel.specs.declared.channel.Channel as kept
 use Rattle.cbm_channel.proofs.RecordEnds.{records_or_not, put_done, put_large, put_stopped, none_done, put_rest}
-use Rattle.cbm_channel.specs.Shown.{has_records}
+use Rattle.cbm_channel.specs.Shown.{records_on, has_records}
 use Rattle.cbm_channel.specs.PlaceCalls.{PutsText}
 use Rattle.cbm_channel.specs.declared.channel.Channel.TheVariants.{Closed}
 use Rattle.cbm_channel.proofs.Stands.{any_default, stood}
@@ -77,7 +77,7 @@ returns-in-Err-clause-leaves g c = record {
       let new : Seen = g.M.Medium.seen c.write_record.new.volume in
       let st = stood g.M.Medium.seen _ _ m c.self.view_is s in
       let x : kept.Channel = slice_index_or c.self.inside.channels c.args.channel c.index-self-channel.result in
-      rest_seen g.M.Medium.seen c.args.self.now.medium c.set.new.self.medium c.self.inside.volume c.write_record.new.volume (ap (λ k. k.medium) c.self.view_is) c.set.ensures.medium (rest_on old new x (slice_index_or c.args.self.now.channels c.args.channel Closed) (any_default c.self.inside.channels c.args.channel c.index-self-channel.result Closed (omega (arith, c.requires, c.self.invariant.count)) ∙ ap (λ k. slice_index_or k.channels c.args.channel Closed) c.self.view_is) (put_rest old new c.self.inside.channels c.self.inside.telling c.self.inside.text m c.args.channel c.requires c.self.invariant st x c.write_record.new.self c.index-self-channel.result refl (take 256 c.args.bytes.now) c.args.bytes.now refl c.write_record.ensures.call.medium.tracks c.write_record.ensures.rest (λ none. ap g.M.Medium.seen (c.write_record.ensures.quiet none).2)));
+      rest_seen g.M.Medium.seen c.args.self.now.medium c.set.new.self.medium c.self.inside.volume c.write_record.new.volume (ap (λ k. k.medium) c.self.view_is) c.set.ensures.medium (rest_on records_on old new x (slice_index_or c.args.self.now.channels c.args.channel Closed) (any_default c.self.inside.channels c.args.channel c.index-self-channel.result Closed (omega (arith, c.requires, c.self.invariant.count)) ∙ ap (λ k. slice_index_or k.channels c.args.channel Closed) c.self.view_is) (put_rest old new c.self.inside.channels c.self.inside.telling c.self.inside.text m c.args.channel c.requires c.self.invariant st x c.write_record.new.self c.index-self-channel.result refl (take 256 c.args.bytes.now) c.args.bytes.now refl c.write_record.ensures.call.medium.tracks c.write_record.ensures.rest (λ none. ap g.M.Medium.seen (c.write_record.ensures.quiet none).2)));
   counted = counted_else g.M.Medium.seen c.args.self.now c.set.new.self c.self.inside.volume c.write_record.new.volume (ap (λ k. k.medium) c.self.view_is) c.set.ensures.medium c.write_record.result c.in-Err.trouble c.in-Err.is c.write_record.ensures.call.medium (ap (λ x. x.status) c.set.ensures.told ∙ c.from.ensures);
 }
 
@@ -89,7 +89,7 @@ returns-in-Ok-Some-false-clause-leaves g c = record {
       let new : Seen = g.M.Medium.seen c.write_record.new.volume in
       let st = stood g.M.Medium.seen _ _ m c.self.view_is s in
       let x : kept.Channel = slice_index_or c.self.inside.channels c.args.channel c.index-self-channel.result in
-      rest_seen g.M.Medium.seen c.args.self.now.medium c.write_record.new.volume c.self.inside.volume c.write_record.new.volume (ap (λ k. k.medium) c.self.view_is) refl (rest_on old new x (slice_index_or c.args.self.now.channels c.args.channel Closed) (any_default c.self.inside.channels c.args.channel c.index-self-channel.result Closed (omega (arith, c.requires, c.self.invariant.count)) ∙ ap (λ k. slice_index_or k.channels c.args.channel Closed) c.self.view_is) (put_rest old new c.self.inside.channels c.self.inside.telling c.self.inside.text m c.args.channel c.requires c.self.invariant st x c.write_record.new.self c.index-self-channel.result refl (take 256 c.args.bytes.now) c.args.bytes.now refl c.write_record.ensures.call.medium.tracks c.write_record.ensures.rest (λ none. ap g.M.Medium.seen (c.write_record.ensures.quiet none).2)));
+      rest_seen g.M.Medium.seen c.args.self.now.medium c.write_record.new.volume c.self.inside.volume c.write_record.new.volume (ap (λ k. k.medium) c.self.view_is) refl (rest_on records_on old new x (slice_index_or c.args.self.now.channels c.args.channel Closed) (any_default c.self.inside.channels c.args.channel c.index-self-channel.result Closed (omega (arith, c.requires, c.self.invariant.count)) ∙ ap (λ k. slice_index_or k.channels c.args.channel Closed) c.self.view_is) (put_rest old new c.self.inside.channels c.self.inside.telling c.self.inside.text m c.args.channel c.requires c.self.invariant st x c.write_record.new.self c.index-self-channel.result refl (take 256 c.args.bytes.now) c.args.bytes.now refl c.write_record.ensures.call.medium.tracks c.write_record.ensures.rest (λ none. ap g.M.Medium.seen (c.write_record.ensures.quiet none).2)));
   counted = (search rules);
 }
 
@@ -101,7 +101,7 @@ returns-in-Ok-Some-true-clause-leaves g c = record {
       let new : Seen = g.M.Medium.seen c.write_record.new.volume in
       let st = stood g.M.Medium.seen _ _ m c.self.view_is s in
       let x : kept.Channel = slice_index_or c.self.inside.channels c.args.channel c.index-self-channel.result in
-      rest_seen g.M.Medium.seen c.args.self.now.medium c.say.new.self.medium c.self.inside.volume c.write_record.new.volume (ap (λ k. k.medium) c.self.view_is) c.say.ensures.medium (rest_on old new x (slice_index_or c.args.self.now.channels c.args.channel Closed) (any_default c.self.inside.channels c.args.channel c.index-self-channel.result Closed (omega (arith, c.requires, c.self.invariant.count)) ∙ ap (λ k. slice_index_or k.channels c.args.channel Closed) c.self.view_is) (put_rest old new c.self.inside.channels c.self.inside.telling c.self.inside.text m c.args.channel c.requires c.self.invariant st x c.write_record.new.self c.index-self-channel.result refl (take 256 c.args.bytes.now) c.args.bytes.now refl c.write_record.ensures.call.medium.tracks c.write_record.ensures.rest (λ none. ap g.M.Medium.seen (c.write_record.ensures.quiet none).2)));
+      rest_seen g.M.Medium.seen c.args.self.now.medium c.say.new.self.medium c.self.inside.volume c.write_record.new.volume (ap (λ k. k.medium) c.self.view_is) c.say.ensures.medium (rest_on records_on old new x (slice_index_or c.args.self.now.channels c.args.channel Closed) (any_default c.self.inside.channels c.args.channel c.index-self-channel.result Closed (omega (arith, c.requires, c.self.invariant.count)) ∙ ap (λ k. slice_index_or k.channels c.args.channel Closed) c.self.view_is) (put_rest old new c.self.inside.channels c.self.inside.telling c.self.inside.text m c.args.channel c.requires c.self.invariant st x c.write_record.new.self c.index-self-channel.result refl (take 256 c.args.bytes.now) c.args.bytes.now refl c.write_record.ensures.call.medium.tracks c.write_record.ensures.rest (λ none. ap g.M.Medium.seen (c.write_record.ensures.quiet none).2)));
   counted = (search rules);
 }
 
@@ -113,6 +113,6 @@ returns-in-Ok-None-clause-leaves g c = record {
       let new : Seen = g.M.Medium.seen c.write_record.new.volume in
       let st = stood g.M.Medium.seen _ _ m c.self.view_is s in
       let x : kept.Channel = slice_index_or c.self.inside.channels c.args.channel c.index-self-channel.result in
-      rest_seen g.M.Medium.seen c.args.self.now.medium c.say-in-Ok-None.new.self.medium c.self.inside.volume c.write_record.new.volume (ap (λ k. k.medium) c.self.view_is) c.say-in-Ok-None.ensures.medium (rest_on old new x (slice_index_or c.args.self.now.channels c.args.channel Closed) (any_default c.self.inside.channels c.args.channel c.index-self-channel.result Closed (omega (arith, c.requires, c.self.invariant.count)) ∙ ap (λ k. slice_index_or k.channels c.args.channel Closed) c.self.view_is) (put_rest old new c.self.inside.channels c.self.inside.telling c.self.inside.text m c.args.channel c.requires c.self.invariant st x c.write_record.new.self c.index-self-channel.result refl (take 256 c.args.bytes.now) c.args.bytes.now refl c.write_record.ensures.call.medium.tracks c.write_record.ensures.rest (λ none. ap g.M.Medium.seen (c.write_record.ensures.quiet none).2)));
+      rest_seen g.M.Medium.seen c.args.self.now.medium c.say-in-Ok-None.new.self.medium c.self.inside.volume c.write_record.new.volume (ap (λ k. k.medium) c.self.view_is) c.say-in-Ok-None.ensures.medium (rest_on records_on old new x (slice_index_or c.args.self.now.channels c.args.channel Closed) (any_default c.self.inside.channels c.args.channel c.index-self-channel.result Closed (omega (arith, c.requires, c.self.invariant.count)) ∙ ap (λ k. slice_index_or k.channels c.args.channel Closed) c.self.view_is) (put_rest old new c.self.inside.channels c.self.inside.telling c.self.inside.text m c.args.channel c.requires c.self.invariant st x c.write_record.new.self c.index-self-channel.result refl (take 256 c.args.bytes.now) c.args.bytes.now refl c.write_record.ensures.call.medium.tracks c.write_record.ensures.rest (λ none. ap g.M.Medium.seen (c.write_record.ensures.quiet none).2)));
   counted = (search rules);
 }
