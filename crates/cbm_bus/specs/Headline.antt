@@ -5,7 +5,7 @@ use Rattle.cbm_iec.specs.declared.event.Event.{Event}
 use Rattle.cbm_iec.specs.declared.lines.Change.{Change}
 use Rattle.cbm_iec.specs.declared.party.Party.{Party}
 use Rattle.cbm_medium.specs.Seen.{Seen}
-use Rattle.cbm_channel.specs.Files.{Disk}
+use Rattle.cbm_file.specs.Files.{Disk}
 use Rattle.cbm_machine.specs.Machines.{Machine}
 use Rattle.cbm_channel.specs.Standing.{Kept}
 use Rattle.cbm_volume.specs.Holding.{HoldsDisk}

@@ -4,7 +4,7 @@ use Rattle.std.specs.List.{AllZip}
 use Rattle.cbm_iec.specs.Ports.{resting}
 use Rattle.cbm_iec.specs.declared.party.Party.{Party}
 use Rattle.cbm_medium.specs.Seen.{Seen}
-use Rattle.cbm_channel.specs.Files.{Disk}
+use Rattle.cbm_file.specs.Files.{Disk}
 use Rattle.cbm_machine.specs.Machines.{Machine, start}
 use Rattle.cbm_channel.specs.Standing.{Kept}
 use Rattle.cbm_session.specs.Playing.{at_rest}

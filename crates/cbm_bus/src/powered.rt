@@ -1,6 +1,6 @@
 //! A drive with a disk in it.
 ghost use Rattle.std.specs.Prelude.{◌≡◌, ◌<◌, ◌≤◌};
-ghost use Rattle.cbm_channel.specs.Files.{Disk};
+ghost use Rattle.cbm_file.specs.Files.{Disk};
 ghost use Rattle.cbm_volume.specs.Holding.{HoldsDisk};
 ghost use Rattle.cbm_bus.specs.Powered.{IsPowered, powered};
 ghost use Rattle.cbm_machine.specs.Machines.{Machine};

@@ -2,10 +2,10 @@
 use Rattle.std.proofs.Common.{◌≡◌, ◌≤◌, ℕ, Bool, true, false, List, [], ◌∷◌, ◌++◌, refl, subst, arith, inl, inr}
 use Rattle.std.specs.Prelude.{◌==◌, if◌then◌else◌}
 use Rattle.cbm_medium.specs.Seen.{Seen, HasFailed}
-use Rattle.cbm_channel.specs.Machines.{Machine}
-use Rattle.cbm_channel.specs.Closing.{close_one, close_all, close, channel_numbers, without_text}
-use Rattle.cbm_channel.specs.Plans.{open_text}
-use Rattle.cbm_channel.specs.Calls.{put, end_put, command, after_open}
+use Rattle.cbm_machine.specs.Machines.{Machine}
+use Rattle.cbm_machine.specs.Closing.{close_one, close_all, close, channel_numbers, without_text}
+use Rattle.cbm_machine.specs.Plans.{open_text}
+use Rattle.cbm_machine.specs.Calls.{put, end_put, command, after_open}
 use Rattle.cbm_channel.specs.Standing.{Kept, Stands, Leads}
 use Rattle.cbm_channel.specs.Commanded.{FormatsUnfailing, open_formats, end_formats}
 use Rattle.cbm_channel.proofs.Goings.{rises}

@@ -7,10 +7,10 @@ use Rattle.cbm_file.specs.declared.file_type.FileType.{FileType}
 use Rattle.cbm_file.specs.Types.{type_with}
 use Rattle.cbm_file.specs.Files.{File, Disk, files, files_from}
 use Rattle.cbm_command.specs.Names.{is_match}
-use Rattle.cbm_volume.specs.Entries.{type_byte, name_in}
+use Rattle.cbm_directory.specs.Entries.{type_byte, name_in}
 use Rattle.cbm_medium.specs.Content.{Content}
-use Rattle.cbm_volume.specs.Map.{geometry_of}
-use Rattle.cbm_volume.specs.Slots.{Listed, Finds, first_from, directory_of}
+use Rattle.cbm_bam.specs.Map.{geometry_of}
+use Rattle.cbm_directory.specs.Slots.{Listed, Finds, first_from, directory_of}
 use Rattle.cbm_volume.specs.Holding.{EntrySays, SlotSays, TellsOf}
 use Rattle.cbm_machine.specs.declared.code.Code.{Code}
 use Rattle.cbm_machine.specs.declared.code.Code.TheVariants.{WrongType, FileNotFound}

@@ -3,7 +3,7 @@ use Rattle.std.specs.Prelude.{◌≡◌}
 use Rattle.std.proofs.Common.{ap, inl, inr}
 use Rattle.cbm_medium.specs.Seen.{Seen}
 use Rattle.cbm_medium.specs.declared.fault.Trouble.{Trouble}
-use Rattle.cbm_volume.specs.Map.{geometry_of}
+use Rattle.cbm_bam.specs.Map.{geometry_of}
 use Rattle.cbm_machine.specs.Statuses.{trouble_status}
 use Rattle.cbm_channel.specs.Grounds.{HidesRecords, IsToldFor, ShowsTrouble}
 use Rattle.cbm_channel.specs.Standing.{Kept}

@@ -9,8 +9,8 @@ use Rattle.cbm_command.specs.Names.{is_match}
 use Rattle.cbm_listing.specs.Lines.{title_line, entry_line, file_line, last_line}
 use Rattle.cbm_listing.specs.Listed as listed
 use Rattle.cbm_medium.specs.declared.fault.Trouble.{Trouble}
-use Rattle.cbm_volume.specs.Entries.{type_byte, bit_of, is_closed, name_in}
-use Rattle.cbm_volume.specs.Slots.{Listed, listed_after}
+use Rattle.cbm_directory.specs.Entries.{type_byte, bit_of, is_closed, name_in}
+use Rattle.cbm_directory.specs.Slots.{Listed, listed_after}
 use Rattle.cbm_volume.specs.Holding.{EntrySays, SlotSays, TellsOf}
 use Rattle.cbm_channel.specs.Listing.{listing_line, listing_lines}
 use Rattle.cbm_machine.specs.Listings.{named, listing}

@@ -5,8 +5,8 @@ use Rattle.cbm_medium.specs.Content.{Content, HasFaultCode}
 use Rattle.cbm_medium.specs.Met.{IsMet}
 use Rattle.cbm_medium.specs.declared.fault.Trouble.{Trouble}
 use Rattle.cbm_medium.proofs.FaultCodes.{never_26, followed_never_26}
-use Rattle.cbm_volume.specs.Entries.{first_directory}
-use Rattle.cbm_volume.specs.Slots.{directory_of, listed_from}
+use Rattle.cbm_directory.specs.Entries.{first_directory}
+use Rattle.cbm_directory.specs.Slots.{directory_of, listed_from}
 use Rattle.cbm_volume.specs.RecordFaults.{IsMislisted}
 use Rattle.cbm_channel.specs.Grounds.{ShowsTrouble}
 

@@ -7,7 +7,7 @@ use Rattle.cbm_listing.specs.Listed as listed
 use Rattle.cbm_medium.proofs.Walks.{follow_end}
 use Rattle.cbm_medium.specs.declared.fault.Trouble.{Trouble}
 use Rattle.cbm_medium.specs.Content.{Content}
-use Rattle.cbm_volume.specs.Reading.{RestOfFile, Reading, held_from, held_in, rest_of, one_less, IsSettled}
+use Rattle.cbm_chain.specs.Reading.{RestOfFile, Reading, held_from, held_in, rest_of, one_less, IsSettled}
 use Rattle.cbm_machine.specs.Statuses.{status_line}
 use Rattle.cbm_machine.specs.Told.{ToldStatus, next_told, behind_next}
 use Rattle.cbm_channel.specs.declared.channel.Channel.{Channel}

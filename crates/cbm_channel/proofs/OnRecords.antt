@@ -6,7 +6,7 @@ use Rattle.std.specs.List.{list_all}
 use Rattle.cbm_file.specs.Files.{Body, Bytes, Records, File, Disk, file_at}
 use Rattle.cbm_machine.specs.Machines.{Channel, Relative}
 use Rattle.cbm_machine.specs.Finding.{body_at}
-use Rattle.cbm_machine.specs.Records.{record_at}
+use Rattle.cbm_file.specs.Records.{record_at}
 use Rattle.cbm_machine.specs.Talking.{taken_on}
 use Rattle.cbm_channel.specs.Placed.{Placed, IsOnRecord, IsPlacedAt, Waits, record_of, is_broken, is_last_filled}
 use Rattle.cbm_channel.specs.declared.on_record.Waiting.{Waiting}

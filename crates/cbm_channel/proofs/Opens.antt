@@ -13,7 +13,7 @@ use Rattle.cbm_file.specs.Files.{File, Disk, file_at, with_slot, bytes_in, empty
 use Rattle.cbm_file.specs.Changes.{grown, has_slot, new_slot, with_file, unclosed, closed_file, reopened}
 use Rattle.cbm_file.specs.Records.{fresh_record, record_count, new_records, with_new_records}
 use Rattle.cbm_volume.specs.Layouts.{Layout}
-use Rattle.cbm_volume.specs.Map.{geometry_of}
+use Rattle.cbm_bam.specs.Map.{geometry_of}
 use Rattle.cbm_volume.specs.NewRecords.{HasNoRoomForRecords}
 use Rattle.cbm_medium.specs.Content.{Content}
 use Rattle.cbm_volume.specs.Opens.{BeginsFile, CanBeWritten, IsUnused, HasNoPlace, IsHindered}

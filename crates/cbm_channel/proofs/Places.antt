@@ -13,7 +13,7 @@ use Rattle.cbm_machine.specs.Machines as machine
 use Rattle.cbm_machine.specs.Machines.{Machine, Channel, Closed, Reading, Writing, Stopped, Relative, with_channel, say, answered}
 use Rattle.cbm_machine.specs.Finding.{body_at}
 use Rattle.cbm_machine.specs.Orderly.{IsReadFrom, IsPlace, IsOrderly, channel_in, still_uses, still_writes}
-use Rattle.cbm_machine.specs.Records.{record_at}
+use Rattle.cbm_file.specs.Records.{record_at}
 use Rattle.cbm_machine.specs.Running.{place, run}
 use Rattle.cbm_command.specs.declared.command.Command.TheVariants.{Position}
 use Rattle.cbm_machine.specs.Talking.{taken_on}

@@ -9,7 +9,7 @@ use Rattle.cbm_machine.specs.declared.code.Code.{Code}
 use Rattle.cbm_machine.specs.declared.code.Code.TheVariants.{Fine, NoRecord, RecordOverflow, WrongType}
 use Rattle.cbm_machine.specs.Finding.{body_at}
 use Rattle.cbm_machine.specs.Machines as machine
-use Rattle.cbm_machine.specs.Records.{record_at}
+use Rattle.cbm_file.specs.Records.{record_at}
 use Rattle.cbm_channel.specs.declared.channel.Channel.{Channel}
 use Rattle.cbm_channel.specs.declared.channel.Channel.TheVariants as code
 use Rattle.cbm_channel.specs.declared.on_record.Waiting.{Waiting}

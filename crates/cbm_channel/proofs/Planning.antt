@@ -14,7 +14,7 @@ use Rattle.cbm_command.specs.declared.refusal.Refusal.TheVariants as refusal
 use Rattle.cbm_command.specs.Openings.{wants_relative, opening_of}
 use Rattle.cbm_command.specs.Refusals.{◌>>=◌}
 use Rattle.cbm_medium.specs.Content.{Content}
-use Rattle.cbm_volume.specs.Reading.{Reading}
+use Rattle.cbm_chain.specs.Reading.{Reading}
 use Rattle.cbm_volume.specs.Writers.{Use, Reads, HoldsNow, with_use}
 use Rattle.cbm_channel.specs.declared.channel.Channel.TheVariants as kept
 use Rattle.cbm_channel.specs.Standing.{use_of}

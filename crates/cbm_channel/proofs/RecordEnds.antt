@@ -4,7 +4,7 @@ use Rattle.std.specs.Prelude.{◌==◌, ◌||◌, nat_lt, replicate, if◌then�
 use Rattle.std.proofs.lemmas.Bool.{cases_lt, eq-eqb}
 use Rattle.std.proofs.lemmas.Bool.Decides.{nat_tests}
 use Rattle.cbm_file.specs.Files.{Body, Bytes, Records, File, Disk, file_at, with_slot, record_length_in}
-use Rattle.cbm_file.specs.Records.{zeros, fresh_record, record_count, blocks_for, sides_for, with_sized_body}
+use Rattle.cbm_file.specs.Records.{zeros, fresh_record, record_count, blocks_for, sides_for, with_sized_body, record_at}
 use Rattle.cbm_medium.specs.Seen.{Seen, HasFailed}
 use Rattle.cbm_volume.specs.Holding.{HoldsDisk}
 use Rattle.cbm_command.specs.Refusals.{◌>>=◌, unless}
@@ -18,7 +18,7 @@ use Rattle.cbm_volume.specs.Opens.{IsHindered}
 use Rattle.cbm_machine.specs.Machines.{Machine, Relative, Channel, say, with_status, answered, channel, with_channel, with_disk}
 use Rattle.cbm_machine.specs.Finding.{body_at}
 use Rattle.cbm_machine.specs.Orderly.{IsPlace, channel_in, still_uses, still_writes}
-use Rattle.cbm_machine.specs.Records.{record_at, with_written_record, grown_to, write_record}
+use Rattle.cbm_machine.specs.Records.{with_written_record, grown_to, write_record}
 use Rattle.cbm_machine.specs.Told.{ToldStatus}
 use Rattle.cbm_machine.specs.Statuses.{plain, trouble_status}
 use Rattle.cbm_machine.specs.declared.status.Status.{Status}

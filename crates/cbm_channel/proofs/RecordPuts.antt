@@ -8,8 +8,7 @@ use Rattle.std.proofs.lemmas.Option.{slice_get-get_or}
 use Rattle.cbm_medium.specs.Seen.{Seen}
 use Rattle.cbm_medium.specs.declared.fault.Trouble.{Trouble}
 use Rattle.cbm_file.specs.Files.{Body, File, Disk, Records, file_at, with_slot}
-use Rattle.cbm_file.specs.Records.{fresh_record, record_count, blocks_for, sides_for, with_body, with_sized_body}
-use Rattle.cbm_machine.specs.Records.{record_at}
+use Rattle.cbm_file.specs.Records.{fresh_record, record_count, blocks_for, sides_for, with_body, with_sized_body, record_at}
 use Rattle.cbm_medium.specs.Content.{Content}
 use Rattle.cbm_volume.specs.Growth.{filled_up, with_growth, IsTooLarge, IsGrowthCut}
 use Rattle.cbm_volume.specs.Holding.{HoldsDisk}

@@ -13,7 +13,7 @@ use Rattle.cbm_file.specs.Types.{is_same_type}
 use Rattle.cbm_file.specs.Files.{Body, File, Disk, empty_from, file_at}
 use Rattle.cbm_file.specs.Records.{with_body, with_sized_body}
 use Rattle.cbm_file.specs.Changes.{grown, scratched_in, finished_in, replaced_in}
-use Rattle.cbm_volume.specs.Map.{geometry_of}
+use Rattle.cbm_bam.specs.Map.{geometry_of}
 use Rattle.cbm_volume.specs.Calls.{IsCall, IsChange, LeavesFiles, LeavesOthers}
 use Rattle.cbm_volume.specs.Staying.{StaysInPlace}
 use Rattle.cbm_volume.specs.Writers.{Filling, Use, Idle, Writes, IsUsed, HoldsNow, Stopped, IsStored, IsFullDisk, needs_block, one_block_less}

@@ -10,8 +10,8 @@ use Rattle.cbm_file.specs.Files.{File, Disk, blocks_held, files, files_from, fil
 use Rattle.cbm_file.specs.Changes.{scratched_in, scratched}
 use Rattle.cbm_command.specs.Names.{is_match}
 use Rattle.cbm_medium.specs.declared.fault.Trouble.{Trouble}
-use Rattle.cbm_volume.specs.Entries.{type_byte, bit_of, name_in}
-use Rattle.cbm_volume.specs.Slots.{Listed, listed_after}
+use Rattle.cbm_directory.specs.Entries.{type_byte, bit_of, name_in}
+use Rattle.cbm_directory.specs.Slots.{Listed, listed_after}
 use Rattle.cbm_volume.specs.Holding.{EntrySays, SlotSays, TellsOf}
 use Rattle.cbm_medium.specs.Content.{Content}
 use Rattle.cbm_volume.specs.Writers.{Use, HoldsNow, known, Stopped}

@@ -9,17 +9,16 @@ use Rattle.cbm_medium.proofs.Walks.{follow_end}
 use Rattle.cbm_machine.specs.Statuses.{status_line}
 use Rattle.cbm_medium.specs.Seen.{Seen}
 use Rattle.cbm_medium.specs.Content.{Content}
-use Rattle.cbm_volume.specs.Reading.{Reading, RestOfFile, rest_of, held_from, held_in, IsSettled}
+use Rattle.cbm_chain.specs.Reading.{Reading, RestOfFile, rest_of, held_from, held_in, IsSettled}
 use Rattle.cbm_file.specs.Waiting.{next_shown}
 use Rattle.cbm_file.specs.Files.{File, Disk, file_at}
 use Rattle.cbm_volume.specs.Holding.{HoldsDisk}
-use Rattle.cbm_volume.specs.Map.{geometry_of}
+use Rattle.cbm_bam.specs.Map.{geometry_of}
 use Rattle.cbm_volume.specs.Writers.{Use, IsUsed, HoldsNow, with_use, writes_slot, known}
 use Rattle.cbm_volume.specs.Writers as usage
 use Rattle.cbm_listing.specs.Listed as listed
-use Rattle.std.proofs.lemmas.List.{drop-drop}
+use Rattle.std.proofs.lemmas.List.{drop-drop, get_or-replicate, get_or_past, get_or-set_same, get_or-set_other, length-replicate}
 use Rattle.std.proofs.lemmas.Bool.Decides.{nat_tests, eqb_tells}
-use Rattle.std.proofs.lemmas.List.{get_or-replicate, get_or_past, get_or-set_same, get_or-set_other, length-replicate}
 use Rattle.cbm_channel.specs.declared.channel.Channel.{Channel}
 use Rattle.cbm_channel.specs.declared.channel.Channel.TheVariants as code
 use Rattle.cbm_machine.specs.declared.status.Status.{Status}

@@ -1,9 +1,9 @@
 -- Over a medium that never fails by itself each part of a call is done.
 use Rattle.std.proofs.Common.{◌≡◌, ◌≤◌, ℕ, List, [], ◌∷◌, arith}
 use Rattle.cbm_medium.specs.Seen.{Seen, HasFailed}
-use Rattle.cbm_channel.specs.Machines.{Machine}
-use Rattle.cbm_channel.specs.Closing.{close}
-use Rattle.cbm_channel.specs.Calls.{put, end_put, after_open}
+use Rattle.cbm_machine.specs.Machines.{Machine}
+use Rattle.cbm_machine.specs.Closing.{close}
+use Rattle.cbm_machine.specs.Calls.{put, end_put, after_open}
 use Rattle.cbm_channel.specs.Standing.{Kept, Stands, Leads}
 use Rattle.cbm_channel.specs.Commanded.{FormatsUnfailing, open_formats, end_formats}
 use Rattle.cbm_channel.specs.Going.{closing, opening_parts, GoesFrom, Goes, EndsFrom}

@@ -2,8 +2,8 @@
 use Rattle.std.proofs.Common.{◌≡◌, ℕ, List, drop, Some, refl, sym, ap, ◌∙◌, subst}
 use Rattle.cbm_file.specs.Files.{Disk}
 use Rattle.cbm_medium.specs.Content.{Content}
-use Rattle.cbm_volume.specs.Reading.{Reading}
-use Rattle.cbm_volume.specs.Writers.{Filling, Use, HoldsNow, with_use}
+use Rattle.cbm_chain.specs.Reading.{Reading}
+use Rattle.cbm_volume.specs.Writers.{Use, HoldsNow, with_use}
 use Rattle.cbm_volume.specs.Writers as usage
 use Rattle.cbm_listing.specs.Listed as listed
 use Rattle.cbm_machine.specs.Machines as machine

@@ -9,10 +9,10 @@ use Rattle.cbm_medium.specs.Seen.{Seen, HasFailed}
 use Rattle.cbm_medium.specs.Met.{IsMet}
 use Rattle.cbm_volume.specs.RecordFaults.{IsMislisted}
 use Rattle.cbm_medium.specs.Content.{Content}
-use Rattle.cbm_volume.specs.Reading.{RestOfFile, held_from}
-use Rattle.cbm_volume.specs.Map.{geometry_of}
-use Rattle.cbm_volume.specs.Entries.{first_block}
-use Rattle.cbm_volume.specs.Slots.{first_from, directory_of}
+use Rattle.cbm_chain.specs.Reading.{RestOfFile, held_from}
+use Rattle.cbm_bam.specs.Map.{geometry_of}
+use Rattle.cbm_directory.specs.Entries.{first_block}
+use Rattle.cbm_directory.specs.Slots.{first_from, directory_of}
 use Rattle.cbm_channel.specs.declared.finding.Found.{Found}
 use Rattle.cbm_channel.specs.declared.plan.Plan.{Plan}
 use Rattle.cbm_channel.specs.declared.plan.Plan.TheVariants.{ReadFile, OpenRecords}

@@ -3,7 +3,7 @@ use Rattle.std.specs.Prelude.{ℕ, ◌≡◌, ◌+◌, ◌≤◌, true, false, n
 use Rattle.cbm_medium.specs.Seen.{Seen, HasFailed, KeepsBeyond}
 use Rattle.cbm_medium.specs.declared.fault.Trouble.{Trouble}
 use Rattle.cbm_file.specs.Files.{Disk}
-use Rattle.cbm_volume.specs.Map.{geometry_of}
+use Rattle.cbm_bam.specs.Map.{geometry_of}
 use Rattle.cbm_volume.specs.Opens.{IsHindered}
 use Rattle.cbm_volume.specs.Staying.{StaysInPlace}
 use Rattle.cbm_volume.specs.Writers.{Use, Idle, HoldsNow, Stopped, with_use}

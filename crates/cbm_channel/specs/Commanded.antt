@@ -8,7 +8,7 @@ use Rattle.cbm_command.specs.declared.command.Command.TheVariants.{New, Scratch,
 use Rattle.cbm_command.specs.declared.refusal.Refusal.{Refusal}
 use Rattle.cbm_command.specs.Commands.{command_of}
 use Rattle.cbm_command.specs.Names.{is_match}
-use Rattle.cbm_volume.specs.Entries.{type_byte, bit_of, name_in}
+use Rattle.cbm_directory.specs.Entries.{type_byte, bit_of, name_in}
 use Rattle.cbm_volume.specs.Opens.{IsUnused}
 use Rattle.cbm_volume.specs.Writers.{Use}
 use Rattle.cbm_machine.specs.declared.code.Code.{Code}

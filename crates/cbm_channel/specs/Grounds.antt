@@ -9,9 +9,9 @@ use Rattle.cbm_medium.specs.Met.{IsMet}
 use Rattle.cbm_medium.specs.Content.{Content}
 use Rattle.cbm_volume.specs.RecordFaults.{IsMislisted}
 use Rattle.cbm_volume.specs.Sweeps.{IsPutInOrder, IsPartlyInOrder}
-use Rattle.cbm_volume.specs.Map.{geometry_of}
-use Rattle.cbm_volume.specs.Entries.{first_block}
-use Rattle.cbm_volume.specs.Slots.{directory_of}
+use Rattle.cbm_bam.specs.Map.{geometry_of}
+use Rattle.cbm_directory.specs.Entries.{first_block}
+use Rattle.cbm_directory.specs.Slots.{directory_of}
 use Rattle.cbm_machine.specs.declared.code.Code.{Code}
 use Rattle.cbm_machine.specs.declared.code.Code.TheVariants.{Fine, FilesScratched, NoHeader, NoSync, NoData, DataChecksum, DataCode, WriteFailed, WriteProtected, HeaderChecksum, LongData, WrongId, Syntax, UnknownCommand, LongText, WildName, NoName, NoRecord, RecordOverflow, FileTooLarge, WriteFileOpen, FileNotOpen, FileNotFound, FileExists, WrongType, WrongLink, NoChannel, EndlessChain, DiskFull, PowerUp, DriveNotReady}
 use Rattle.cbm_machine.specs.declared.status.Status.{Status}

@@ -16,15 +16,4 @@ pub mod Planned
 pub mod Sought
 pub mod Listing
 pub mod Exchanged
-pub use Rattle.cbm_file.specs.Files
-pub use Rattle.cbm_machine.specs.Codes
-pub use Rattle.cbm_machine.specs.Statuses
-pub use Rattle.cbm_machine.specs.Machines
-pub use Rattle.cbm_machine.specs.Finding
-pub use Rattle.cbm_machine.specs.Records
-pub use Rattle.cbm_machine.specs.Closing
-pub use Rattle.cbm_machine.specs.Plans
-pub use Rattle.cbm_machine.specs.Talking
-pub use Rattle.cbm_machine.specs.Calls
-pub use Rattle.cbm_machine.specs.Told
 pub mod Opening

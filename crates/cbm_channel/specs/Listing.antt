@@ -2,7 +2,7 @@
 use Rattle.std.specs.Prelude.{ℕ, ◌+◌, ◌*◌, ◌%◌, List, [], flat_map, slice_index, if◌then◌else◌, None}
 use Rattle.cbm_file.specs.Types.{type_with}
 use Rattle.cbm_listing.specs.Lines.{entry_line}
-use Rattle.cbm_volume.specs.Entries.{type_byte, bit_of, is_closed, name_in}
+use Rattle.cbm_directory.specs.Entries.{type_byte, bit_of, is_closed, name_in}
 use Rattle.cbm_channel.specs.Sought.{is_sought}
 
 -- the line of an entry that isn't empty and matches

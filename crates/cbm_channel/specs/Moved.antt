@@ -5,7 +5,7 @@ use Rattle.cbm_machine.specs.declared.code.Code.{Code}
 use Rattle.cbm_machine.specs.declared.code.Code.TheVariants.{Fine, NoRecord, RecordOverflow, WrongType, NoChannel}
 use Rattle.cbm_machine.specs.Machines.{Channel, Closed, Reading, Writing, Stopped, Relative}
 use Rattle.cbm_machine.specs.Finding.{body_at}
-use Rattle.cbm_machine.specs.Records.{record_at}
+use Rattle.cbm_file.specs.Records.{record_at}
 
 -- what is reported
 abbrev pub code_placed : ℕ → ℕ → Disk → Channel → Code

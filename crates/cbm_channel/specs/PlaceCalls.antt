@@ -10,7 +10,7 @@ use Rattle.cbm_volume.specs.Holding.{HoldsDisk}
 use Rattle.cbm_volume.specs.RecordWrites.{OfRecords}
 use Rattle.cbm_volume.specs.Writers.{HoldsNow}
 use Rattle.cbm_machine.specs.Machines.{Relative}
-use Rattle.cbm_machine.specs.Records.{record_at}
+use Rattle.cbm_file.specs.Records.{record_at}
 use Rattle.cbm_machine.specs.Talking.{taken_on}
 use Rattle.cbm_channel.specs.declared.channel.Channel.{Channel}
 use Rattle.cbm_channel.specs.declared.channel.Channel.TheVariants as code

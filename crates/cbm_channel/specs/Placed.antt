@@ -3,7 +3,7 @@ use Rattle.std.specs.Prelude.{ℕ, ◌+◌, ◌≡◌, ◌==◌, MatchBool, Bool
 use Rattle.std.specs.List.{list_all}
 use Rattle.cbm_medium.specs.declared.fault.Trouble.{Trouble}
 use Rattle.cbm_file.specs.Files.{File, Disk, Records, file_at}
-use Rattle.cbm_machine.specs.Records.{record_at}
+use Rattle.cbm_file.specs.Records.{record_at}
 use Rattle.cbm_machine.specs.Talking.{next_of_record}
 use Rattle.cbm_channel.specs.declared.on_record.Waiting.{Waiting}
 use Rattle.cbm_channel.specs.declared.on_record.Waiting.TheVariants as waits

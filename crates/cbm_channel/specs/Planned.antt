@@ -12,7 +12,7 @@ use Rattle.cbm_volume.specs.Holding.{EntryStandsAt, HasBytes, EntrySays}
 use Rattle.cbm_volume.specs.Writers.{Use, HoldsNow, with_use}
 use Rattle.cbm_channel.specs.declared.channel.Channel as kept
 use Rattle.cbm_channel.specs.Standing.{ChannelStands, WaitsFor, use_of}
-use Rattle.cbm_volume.specs.Entries.{width_of}
+use Rattle.cbm_directory.specs.Entries.{width_of}
 use Rattle.cbm_channel.specs.Commanded.{commands_change}
 use Rattle.cbm_machine.specs.declared.code.Code.{Code}
 use Rattle.cbm_machine.specs.declared.status.Status.{Status}

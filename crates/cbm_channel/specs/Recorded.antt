@@ -3,8 +3,7 @@ use Rattle.std.specs.Prelude.{ℕ, ◌+◌, ◌≤◌, ◌≡◌, ◌⊎◌, Boo
 use Rattle.cbm_medium.specs.Seen.{Seen}
 use Rattle.cbm_medium.specs.declared.fault.Trouble.{Trouble}
 use Rattle.cbm_file.specs.Files.{File, Disk, Records, file_at}
-use Rattle.cbm_file.specs.Records.{blocks_for, sides_for}
-use Rattle.cbm_machine.specs.Records.{record_at}
+use Rattle.cbm_file.specs.Records.{blocks_for, sides_for, record_at}
 use Rattle.cbm_medium.specs.Content.{Content}
 use Rattle.cbm_volume.specs.Growth.{filled_up, with_growth, IsTooLarge, IsGrowthCut}
 use Rattle.cbm_volume.specs.Holding.{HoldsDisk}

@@ -3,7 +3,7 @@ use Rattle.std.specs.Prelude.{ℕ, ◌%◌, ◌==◌, Bool, true, false, ◌&&�
 use Rattle.cbm_file.specs.declared.file_type.FileType.{FileType}
 use Rattle.cbm_file.specs.Types.{type_with, is_same_type}
 use Rattle.cbm_command.specs.Names.{is_match}
-use Rattle.cbm_volume.specs.Entries.{type_byte, name_in}
+use Rattle.cbm_directory.specs.Entries.{type_byte, name_in}
 
 -- the type is the one that is meant, if one is
 abbrev pub is_meant : Option FileType → Option FileType → Bool

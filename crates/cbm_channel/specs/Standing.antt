@@ -3,7 +3,7 @@ use Rattle.std.specs.Prelude.{ℕ, ◌≤◌, ◌≡◌, ◌≢◌, ◌⊎◌, B
 use Rattle.std.specs.List.{All, AllZip}
 use Rattle.cbm_medium.specs.Seen.{Seen}
 use Rattle.cbm_medium.specs.Content.{Content}
-use Rattle.cbm_volume.specs.Reading.{IsSettled}
+use Rattle.cbm_chain.specs.Reading.{IsSettled}
 use Rattle.cbm_volume.specs.Writers.{Use, Idle, Reads, Relates, Writes, HoldsNow}
 use Rattle.cbm_file.specs.Files.{Disk}
 use Rattle.cbm_channel.specs.declared.channel.Channel.{Channel}

@@ -3,7 +3,7 @@ use Rattle.std.specs.Prelude.{ℕ, ◌≡◌, ◌<◌, true, drop, slice_index_o
 use Rattle.cbm_medium.specs.declared.fault.Trouble.{Trouble}
 use Rattle.cbm_medium.specs.Content.{Content}
 use Rattle.cbm_medium.specs.Seen.{Seen}
-use Rattle.cbm_volume.specs.Reading.{Reading, rest_of, one_less}
+use Rattle.cbm_chain.specs.Reading.{Reading, rest_of, one_less}
 use Rattle.cbm_listing.specs.Listed.{with_next_taken}
 use Rattle.cbm_channel.specs.declared.channel.Channel.{Channel}
 use Rattle.cbm_channel.specs.declared.channel.Channel.TheVariants as code

@@ -109,7 +109,7 @@ impl OnRecord {
     ghost use Rattle.std.specs.Prelude.{◌≡◌, ◌≢◌, ◌≤◌, ◌<◌, ◌+◌, ◌^◌, false, None, IfOk, IfErr, OnOk, OnErr, IsOkAnd};
     ghost use Rattle.cbm_medium.specs.Seen.{Seen};
     ghost use Rattle.cbm_volume.specs.RecordWrites.{IsRecordCall};
-    ghost use Rattle.cbm_volume.specs.Written.{IsRecordWrite};
+    ghost use Rattle.cbm_relfile.specs.Written.{IsRecordWrite};
     ghost use Rattle.cbm_channel.specs.ChannelCalls.{KeepsElse, OfPlaced};
     ghost use Rattle.cbm_channel.specs.declared.on_record.Waiting.TheVariants.{Broken};
     ghost use Rattle.cbm_channel.specs.Placed.{IsOnRecord, IsPlacedAt, IsMoved, shown_at, is_absent, is_broken};

@@ -1,9 +1,9 @@
 -- Looks into an image.
-use Rattle.std.specs.Prelude.{ℕ, ◌≡◌, ◌≢◌, ◌⊎◌, List, Option, Some, None, Result, Ok, Err}
+use Rattle.std.specs.Prelude.{ℕ, ◌≡◌, ◌≢◌, ◌⊎◌, List, Option, None, Result, Ok, Err}
 use Rattle.cbm_medium.specs.Place.{Place, Has, directory_head}
 use Rattle.cbm_file.specs.Files.{Disk}
-use Rattle.cbm_volume.specs.Map.{geometry_of}
-use Rattle.cbm_volume.specs.Slots.{Answers, directory_of}
+use Rattle.cbm_bam.specs.Map.{geometry_of}
+use Rattle.cbm_directory.specs.Slots.{Answers, directory_of}
 use Rattle.cbm_volume.specs.Layouts.{Layout, Sound}
 use Rattle.cbm_volume.specs.check.WholeDisk.{DiskFault}
 use Rattle.cbm_volume.specs.declared.Unsound as unsound

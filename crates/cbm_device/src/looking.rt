@@ -4,7 +4,7 @@ ghost use Rattle.cbm_file.specs.Files.{Disk};
 ghost use Rattle.cbm_medium.specs.Place.{directory_head};
 ghost use Rattle.cbm_volume.specs.Holding.{HoldsDisk, EntryStandsAt};
 ghost use Rattle.cbm_volume.specs.Layouts.{Layout, Sound};
-ghost use Rattle.cbm_volume.specs.Map.{geometry_of};
+ghost use Rattle.cbm_bam.specs.Map.{geometry_of};
 ghost use Rattle.cbm_image.specs.Images.{kind_of, tracks_of, content_of, ImageHolds};
 ghost use Rattle.cbm_machine.specs.Machines.{start};
 ghost use Rattle.cbm_shell.specs.Images.{IsChecked};

@@ -9,7 +9,7 @@ use Rattle.cbm_file.specs.Waiting.{next_shown}
 use Rattle.cbm_machine.specs.Statuses.{return, status_line}
 use Rattle.cbm_machine.specs.Machines.{Channel, Closed, Reading, Writing, Stopped, Relative, Machine, channel}
 use Rattle.cbm_machine.specs.Finding.{body_at}
-use Rattle.cbm_machine.specs.Records.{record_at}
+use Rattle.cbm_file.specs.Records.{record_at}
 use Rattle.cbm_machine.specs.Talking.{next_of_record, peek_on, peek, taken_on, taken}
 use Rattle.cbm_iec.specs.declared.machine.Act.TheVariants.{Said}
 use Rattle.cbm_drive.specs.Addressing.{channel_said}

@@ -24,7 +24,8 @@ use Rattle.cbm_host.proofs.Statuses.{left_behind, enough, left_short}
 use Rattle.cbm_iec.specs.Attentions.{listen as listen_to, unlisten, talk as talk_to, untalk, data_on, open_on}
 use Rattle.cbm_host.specs.CarriedOut.{acts_heard, spoken, said, acts_called, left_by, acts_carried_out, IsTakenUpTo, AreTakenBy, SaysOn, IsShort}
 use Rattle.cbm_host.specs.Engines.{channel_of, most_of}
-use Rattle.cbm_host.specs.Served.{puts, hear_bytes, TalkSaid, says, status_said, served, at_power_up, IsServed, IsModest}
+use Rattle.cbm_talk.specs.Talks.{puts, hear_bytes, TalkSaid, says, status_said}
+use Rattle.cbm_host.specs.Served.{served, at_power_up, IsServed, IsModest}
 use Rattle.cbm_host.specs.declared.request.Request.{Request}
 use Rattle.cbm_host.specs.declared.request.Request.TheVariants.{Open, Put, Fill, Get, Close, Status}
 use Rattle.cbm_iec.specs.Roles.{role_after}

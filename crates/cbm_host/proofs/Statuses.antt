@@ -10,7 +10,7 @@ use Rattle.cbm_machine.specs.Statuses.{status_line}
 use Rattle.cbm_machine.specs.Machines.{Machine, say}
 use Rattle.cbm_machine.specs.Talking.{taken}
 use Rattle.cbm_file.specs.Waiting.{next_shown}
-use Rattle.cbm_host.specs.Served.{says}
+use Rattle.cbm_talk.specs.Talks.{says}
 use Rattle.cbm_talk.proofs.Spoken.{none_said}
 
 text_short : (c : Code) → length (code_text c) ≤ 23

@@ -1,5 +1,5 @@
 -- What a request asks of the named-files machine of the drive, and what that says.
-pub use Rattle.cbm_talk.specs.Talks.{puts, hear_bytes, TalkSaid, says, talked, status_said}
+use Rattle.cbm_talk.specs.Talks.{hear_bytes, TalkSaid, says, status_said}
 use Rattle.std.specs.Prelude.{◌≡◌, ◌≤◌, ℕ, Bool, false, List, [], length, replicate}
 use Rattle.cbm_machine.specs.Machines.{Machine}
 use Rattle.cbm_machine.specs.Closing.{close}

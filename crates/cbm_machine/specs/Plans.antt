@@ -18,7 +18,7 @@ use Rattle.cbm_machine.specs.Codes.{code_of_refusal}
 use Rattle.cbm_machine.specs.Listings.{listing}
 use Rattle.cbm_machine.specs.Machines.{Machine, Reading, Writing, Relative, with_disk, with_free, with_channel, say, answered, in_use, in_writing, too_many}
 use Rattle.cbm_machine.specs.Finding.{is_kind, is_there, found, body_at}
-use Rattle.cbm_machine.specs.Records.{new_records}
+use Rattle.cbm_file.specs.Records.{new_records}
 
 -- What an OPEN will do. Slots go by number.
 pub data Plan : Type 0 where

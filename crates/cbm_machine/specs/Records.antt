@@ -5,7 +5,7 @@ use Rattle.cbm_command.specs.Refusals.{◌>>=◌, unless}
 use Rattle.cbm_machine.specs.declared.code.Code.{Code}
 use Rattle.cbm_machine.specs.declared.code.Code.TheVariants.{WriteProtected, RecordOverflow, FileTooLarge}
 use Rattle.cbm_machine.specs.Machines.{Channel, Relative, Machine, with_disk, with_channel, say, answered}
-pub use Rattle.cbm_file.specs.Records.{zeros, fresh_record, record_count, new_records, record_at, with_bytes, blocks_for, sides_for, with_body, with_sized_body}
+use Rattle.cbm_file.specs.Records.{fresh_record, record_count, record_at, with_bytes, blocks_for, sides_for, with_body, with_sized_body}
 use Rattle.cbm_machine.specs.Finding.{body_at}
 
 -- The record is there: the bytes are written, and the place is the next record's first byte. Bytes that did not fit are reported.

@@ -10,10 +10,9 @@ use Rattle.cbm_command.specs.Refusals.{◌>>=◌, unless}
 use Rattle.cbm_machine.specs.declared.code.Code.{Code}
 use Rattle.cbm_machine.specs.declared.code.Code.TheVariants.{Fine, FilesScratched, WriteProtected, NoName, NoRecord, RecordOverflow, WriteFileOpen, FileExists, WrongType, NoChannel, DiskFull}
 use Rattle.cbm_machine.specs.Machines.{Channel, Closed, Relative, Machine, with_status, say, with_disk, channel, with_channel, in_use, in_writing, any_open}
-pub use Rattle.cbm_file.specs.Changes.{new_disk}
-use Rattle.cbm_file.specs.Changes.{has_slot, with_file, closed_file, validated}
+use Rattle.cbm_file.specs.Changes.{new_disk, has_slot, with_file, closed_file, validated}
 use Rattle.cbm_machine.specs.Finding.{is_kind, is_there, found, body_at}
-use Rattle.cbm_machine.specs.Records.{record_at}
+use Rattle.cbm_file.specs.Records.{record_at}
 
 -- ---- S
 

@@ -9,7 +9,7 @@ use Rattle.cbm_machine.specs.Told.{is_unread_error, told_by}
 use Rattle.cbm_machine.specs.Statuses.{return, status_line}
 use Rattle.cbm_machine.specs.Machines.{Channel, Closed, Reading, Writing, Stopped, Relative, Machine, say, channel, with_channel}
 use Rattle.cbm_machine.specs.Finding.{body_at}
-use Rattle.cbm_machine.specs.Records.{record_at}
+use Rattle.cbm_file.specs.Records.{record_at}
 
 -- of a record the next byte, which is the last where only zeros follow; of no record a return
 abbrev pub next_of_record : Option (List ℕ) → ℕ → Option (ℕ × Bool)

@@ -9,7 +9,8 @@ use Rattle.cbm_medium.specs.Seen.{Seen}
 use Rattle.cbm_host.specs.Engines.{channel_of}
 use Rattle.cbm_host.specs.Hosted.{AreFirst, Rests, IsUnderWay, IsGoingOn, IsOver}
 use Rattle.cbm_host.specs.Performers.{Performing}
-use Rattle.cbm_host.specs.Served.{TalkSaid, served, talked_at, IsModest}
+use Rattle.cbm_talk.specs.Talks.{TalkSaid}
+use Rattle.cbm_host.specs.Served.{served, talked_at, IsModest}
 use Rattle.cbm_host.specs.declared.request.Request as asks
 use Rattle.cbm_program.specs.Output.{AppendsPart}
 use Rattle.cbm_program.specs.Scripts.{hex, eoi_mark, bytes_text, get_line}

@@ -21,7 +21,8 @@ use Rattle.cbm_file.specs.Changes.{has_slot}
 use Rattle.cbm_file.specs.declared.file_type.FileType.TheVariants.{Del, Rel}
 use Rattle.cbm_machine.specs.Machines.{Channel, Closed, Reading, Writing, Stopped, Relative, Machine, start, with_channel, channel, say, with_status, with_disk, answered, in_writing, in_use}
 use Rattle.cbm_machine.specs.Plans.{Plan, ReadListing, ReadFile, WriteFile, AppendFile, ReplaceFile, OpenRecords, MakeRecords, plan_read, plan_write, plan_append, plan_replace, plan_writing, plan_there, plan_missing, plan_relative, plan_by_mode, plan, act, asked, open_text}
-use Rattle.cbm_machine.specs.Records.{with_written_record, grown_to, write_record, record_at, blocks_for, sides_for, with_sized_body, record_count, fresh_record, with_body, with_bytes}
+use Rattle.cbm_machine.specs.Records.{with_written_record, grown_to, write_record}
+use Rattle.cbm_file.specs.Records.{record_at, blocks_for, sides_for, with_sized_body, record_count, fresh_record, with_body, with_bytes}
 use Rattle.cbm_machine.specs.Running.{may_go, kept_slots, scratched_disk, scratch, rename_to, sources, copied, place, run}
 use Rattle.cbm_machine.specs.Talking.{taken_on, taken, only_refused, talk_refusal, after_talk, talk_keeping_error, listen_refusal, after_listen}
 

@@ -20,7 +20,7 @@ use Rattle.cbm_drive.specs.declared.addressee.ended.Ended.TheVariants.{Name, Byt
 use Rattle.cbm_drive.specs.declared.secondary.Secondary.{Secondary}
 use Rattle.cbm_drive.specs.declared.secondary.Secondary.TheVariants.{Data, Close, Open}
 use Rattle.cbm_host.specs.Served as served
-use Rattle.cbm_host.specs.Served.{puts, hear_bytes, says, talked_at, status_said}
+use Rattle.cbm_talk.specs.Talks.{puts, hear_bytes, says}
 use Rattle.cbm_program.proofs.Along.{kept_along}
 use Rattle.cbm_program.proofs.Guarded.{IsGuarded, guarded_start, if_both, closes, takes, talks, talks_keeping, listens, puts_one, opens, ends_put}
 use Rattle.cbm_program.specs.Outcome.{IsScriptServed}

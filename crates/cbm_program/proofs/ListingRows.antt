@@ -4,7 +4,7 @@ use Rattle.std.specs.Fmt.{digits}
 use Rattle.cbm_machine.specs.Machines.{Machine, start}
 use Rattle.cbm_program.specs.declared.request.ScriptRequest.{ScriptRequest}
 use Rattle.cbm_program.specs.declared.request.ScriptRequest.TheVariants.{Get, Close}
-use Rattle.cbm_program.specs.Scripts.{talked}
+use Rattle.cbm_talk.specs.Talks.{talked}
 use Rattle.cbm_program.proofs.Words.{open_by, put_by, formatted, blank, prints, behind}
 
 -- the listing of a formatted disk, 64 bytes

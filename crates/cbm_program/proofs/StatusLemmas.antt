@@ -9,7 +9,8 @@ use Rattle.cbm_machine.specs.Talking.{peek, taken, after_talk}
 use Rattle.cbm_host.proofs.Statuses.{says_from, line_short}
 use Rattle.cbm_host.specs.Hosted.{AreFirst}
 use Rattle.cbm_program.specs.Output.{AppendsPart}
-use Rattle.cbm_program.specs.Scripts.{TalkSaid, says, status_said, status_text}
+use Rattle.cbm_talk.specs.Talks.{TalkSaid, says, status_said}
+use Rattle.cbm_program.specs.Scripts.{status_text}
 
 -- a channel says no more than it is asked for
 from_short : (p : Option (ℕ × Bool)) (n ch : ℕ) (so_far : List ℕ) (m : Machine) → ((front : List ℕ) (k : Machine) → length (says n ch front k).bytes ≤ length front + n)

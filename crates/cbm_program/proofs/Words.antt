@@ -3,8 +3,7 @@ use Rattle.std.specs.Prelude.{ℕ, true, false, List, [], ◌∷◌, ◌++◌, m
 use Rattle.cbm_file.specs.declared.file_type.FileType.{FileType}
 use Rattle.cbm_file.specs.Files.{Bytes, File, Disk, files}
 use Rattle.cbm_machine.specs.Machines.{Machine, start}
-use Rattle.cbm_file.specs.Changes.{closed_file}
-use Rattle.cbm_machine.specs.Running.{new_disk}
+use Rattle.cbm_file.specs.Changes.{closed_file, new_disk}
 use Rattle.cbm_program.specs.declared.request.ScriptRequest.{ScriptRequest}
 use Rattle.cbm_program.specs.declared.request.ScriptRequest.TheVariants.{Open, Put}
 use Rattle.cbm_iec.specs.declared.pace.Pace.TheVariants.{Profile, Kernal}

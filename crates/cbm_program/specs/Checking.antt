@@ -5,7 +5,7 @@ use Rattle.cbm_file.specs.Files.{Disk}
 use Rattle.cbm_medium.specs.Content.{Content}
 use Rattle.cbm_medium.specs.Seen.{Seen}
 use Rattle.cbm_volume.specs.Holding.{HoldsDisk}
-use Rattle.cbm_volume.specs.Map.{geometry_of}
+use Rattle.cbm_bam.specs.Map.{geometry_of}
 use Rattle.cbm_volume.specs.Layouts.{Layout, Sound}
 use Rattle.cbm_volume.specs.check.WholeDisk.{DiskFault}
 use Rattle.cbm_volume.specs.declared.Unsound.{Unsound}

@@ -2,7 +2,8 @@
 use Rattle.std.specs.Prelude.{ℕ, List, [], ◌∷◌, codes, ◌==◌, Option, Some, None, option_map, option_and_then, if◌then◌else◌}
 use Rattle.std.specs.Str.{bytes_eq}
 use Rattle.cbm_program.specs.Texts.{text_of}
-use Rattle.cbm_program.specs.Words.{first_word, after_word, channel_number, count_of, hex_byte}
+use Rattle.bus_traces.specs.Words.{first_word, after_word}
+use Rattle.cbm_program.specs.Words.{channel_number, count_of, hex_byte}
 use Rattle.cbm_program.specs.declared.request.ScriptRequest.{ScriptRequest}
 use Rattle.cbm_program.specs.declared.request.ScriptRequest.TheVariants.{Open, Put, Fill, Get, Close, Status}
 use Rattle.cbm_program.specs.declared.line.ScriptLine.{ScriptLine}

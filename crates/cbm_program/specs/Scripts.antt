@@ -1,5 +1,6 @@
 -- A script of requests on a machine, and what it prints.
-pub use Rattle.cbm_host.specs.Served.{puts, hear_bytes, TalkSaid, says, talked, talked_at, status_said}
+use Rattle.cbm_talk.specs.Talks.{hear_bytes, TalkSaid, status_said}
+use Rattle.cbm_host.specs.Served.{talked_at}
 use Rattle.std.specs.Prelude.{ℕ, ◌+◌, ◌/◌, ◌%◌, nat_lt, Bool, List, [], ◌∷◌, ◌++◌, flat_map, replicate, codes, decimal, if◌then◌else◌}
 use Rattle.cbm_machine.specs.Machines.{Machine}
 use Rattle.cbm_machine.specs.Closing.{close}

@@ -3,7 +3,8 @@ use Rattle.std.specs.Prelude.{ℕ, ◌≤◌, List, [], ◌∷◌, codes, Bool, 
 use Rattle.std.specs.Str.{bytes_eq}
 use Rattle.cbm_iec.specs.declared.event.Event.{Event}
 use Rattle.bus_traces.specs.Events.{host_event_of}
-use Rattle.cbm_program.specs.Words.{first_word, after_word, moment_number}
+use Rattle.bus_traces.specs.Words.{first_word, after_word}
+use Rattle.cbm_program.specs.Words.{moment_number}
 use Rattle.cbm_program.specs.declared.wires.timed.Timed.{Timed}
 use Rattle.cbm_program.specs.declared.wires.timed.Timed.TheVariants.{Skipped, Changes, Ends}
 

@@ -2,7 +2,8 @@
 use Rattle.std.specs.Prelude.{ℕ, ◌≡◌, List, [], ◌++◌, codes, decimal, flat_map, Bool, true, false, Option, Some, None}
 use Rattle.std.specs.Io.KnownBytes.{Appends}
 use Rattle.cbm_program.specs.Output.{AppendsPart}
-use Rattle.cbm_program.specs.Scripts.{TalkSaid, hex, eoi_mark}
+use Rattle.cbm_talk.specs.Talks.{TalkSaid}
+use Rattle.cbm_program.specs.Scripts.{hex, eoi_mark}
 
 -- what is printed of a byte
 abbrev pub unit_text : Option (ℕ × Bool) → List ℕ

@@ -1,7 +1,6 @@
 -- The words of a line of a script, and the numbers in them.
-pub use Rattle.bus_traces.specs.Words.{first_word, after_word}
-use Rattle.std.specs.Prelude.{ℕ, ◌+◌, ◌*◌, List, [], ◌∷◌, ◌&&◌, Option, Some, None, option_and_then, if◌then◌else◌}
 use Rattle.bus_traces.specs.Words.{is_between, trace_number, number_upto}
+use Rattle.std.specs.Prelude.{ℕ, ◌+◌, ◌*◌, List, [], ◌∷◌, ◌&&◌, Option, Some, None, option_and_then, if◌then◌else◌}
 use Rattle.cbm_program.specs.Texts.{is_hex, hex_value}
 
 -- the number, if it lies between these

@@ -5,7 +5,7 @@ use Rattle.cbm_medium.specs.Content.{Content}
 use Rattle.cbm_medium.specs.declared.fault.Trouble.{Trouble}
 use Rattle.cbm_medium.proofs.Walks.{follow_end}
 use Rattle.cbm_shell.specs.Salvaging.{waiting_bytes}
-use Rattle.cbm_volume.specs.Reading.{RestOfFile, Reading, held_from, held_in, rest_of, with_front, one_less, IsSettled}
+use Rattle.cbm_chain.specs.Reading.{RestOfFile, Reading, held_from, held_in, rest_of, with_front, one_less, IsSettled}
 
 abbrev byte_in : Option (ℕ × Bool) → ℕ
 byte_in None = 0

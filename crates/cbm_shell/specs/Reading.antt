@@ -5,7 +5,7 @@ use Rattle.cbm_medium.specs.Seen.{Seen}
 use Rattle.cbm_medium.specs.declared.fault.Trouble.{Trouble}
 use Rattle.cbm_bam.specs.Map.{geometry_of}
 use Rattle.cbm_directory.specs.Entries.{first_block}
-use Rattle.cbm_volume.specs.Reading.{RestOfFile, held_from}
+use Rattle.cbm_chain.specs.Reading.{RestOfFile, held_from}
 use Rattle.cbm_file.specs.declared.file_type.FileType.TheVariants.{Rel}
 use Rattle.cbm_file.specs.Types.{is_same_type}
 use Rattle.cbm_file.specs.Files.{File, Disk, bytes_in}

@@ -22,8 +22,3 @@ pub mod Unmendable
 pub mod ViewLaws
 pub mod check
 pub mod Plain
-pub use Rattle.cbm_bam.specs.Map
-pub use Rattle.cbm_chain.specs.Reading
-pub use Rattle.cbm_relfile.specs.Written
-pub use Rattle.cbm_directory.specs.Entries
-pub use Rattle.cbm_directory.specs.Slots

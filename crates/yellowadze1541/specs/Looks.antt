@@ -1,9 +1,9 @@
 -- What C is told of an image.
 use Rattle.std.specs.Prelude.{ℕ, ℤ, ◌≡◌, ◌⊎◌, ◌+◌, ◌*◌, ◌%◌, Bool, true, false, List, Ok, slice_index, slice_range}
 use Rattle.cbm_file.specs.Files.{Disk}
-use Rattle.cbm_volume.specs.Map.{geometry_of}
+use Rattle.cbm_bam.specs.Map.{geometry_of}
 use Rattle.cbm_volume.specs.Layouts.{Layout, Sound}
-use Rattle.cbm_volume.specs.Entries.{type_byte, bit_of, is_closed, width_of}
+use Rattle.cbm_directory.specs.Entries.{type_byte, bit_of, is_closed, width_of}
 use Rattle.cbm_volume.specs.Holding.{EntryStandsAt}
 use Rattle.cbm_volume.specs.check.WholeDisk.{DiskFault}
 use Rattle.cbm_medium.specs.Content.{Content}

@@ -44,8 +44,8 @@ fn may_go(channels: &[Channel], patterns: &[Name], number: u8, entry: &Entry) ->
 impl<M: Medium> Dos<M> {
     ghost use Rattle.std.specs.Prelude.{◌≡◌, ◌≢◌, ◌≤◌, IfOk, IfErr, IsOkAnd, length};
     ghost use Rattle.cbm_channel.specs.ChannelCalls.{KeepsElse, LeavesRest};
-    ghost use Rattle.cbm_volume.specs.Map.{geometry_of};
-    ghost use Rattle.cbm_volume.specs.Slots.{directory_of};
+    ghost use Rattle.cbm_bam.specs.Map.{geometry_of};
+    ghost use Rattle.cbm_directory.specs.Slots.{directory_of};
     ghost use Rattle.cbm_machine.specs.Machines.{Machine, answered};
     ghost use Rattle.cbm_machine.specs.Running.{scratch};
     ghost use Rattle.cbm_channel.specs.Grounds.{HasGround, KeepsIfRefused};

@@ -5,7 +5,8 @@ ghost use Rattle.cbm_machine.specs.Calls.{without_return};
 ghost use Rattle.cbm_host.specs.Hosted.{Rests};
 ghost use Rattle.cbm_program.specs.declared.request.ScriptRequest.TheVariants.{Status};
 ghost use Rattle.cbm_program.specs.Performing.{GoesOnHosting, HasPrinted};
-ghost use Rattle.cbm_program.specs.Scripts.{status_said, printed_by};
+ghost use Rattle.cbm_talk.specs.Talks.{status_said};
+ghost use Rattle.cbm_program.specs.Scripts.{printed_by};
 
 use crate::fault::RunFault;
 use crate::output::print;

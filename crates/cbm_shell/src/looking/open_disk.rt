@@ -3,7 +3,7 @@ ghost use Rattle.std.specs.Prelude.{◌≡◌, ℕ, List, None, IfErr, IfOk, Mat
 ghost use Rattle.cbm_file.specs.Files.{Disk};
 ghost use Rattle.cbm_medium.specs.Place.{sector_count};
 ghost use Rattle.cbm_directory.specs.Entries.{first_block};
-ghost use Rattle.cbm_volume.specs.Reading.{held_from};
+ghost use Rattle.cbm_chain.specs.Reading.{held_from};
 ghost use Rattle.cbm_directory.specs.Slots.{directory_of};
 ghost use Rattle.cbm_bam.specs.Map.{geometry_of};
 ghost use Rattle.cbm_volume.specs.Holding.{HasBytes, HoldsDisk, EntryStandsAt};

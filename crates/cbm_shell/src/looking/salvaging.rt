@@ -4,7 +4,7 @@ ghost use Rattle.cbm_file.specs.Waiting.{next_shown};
 ghost use Rattle.cbm_medium.specs.Place.{sector_count};
 ghost use Rattle.cbm_bam.specs.Map.{geometry_of};
 ghost use Rattle.cbm_directory.specs.Entries.{first_block};
-ghost use Rattle.cbm_volume.specs.Reading.{held_from, rest_of, IsSettled};
+ghost use Rattle.cbm_chain.specs.Reading.{held_from, rest_of, IsSettled};
 ghost use Rattle.cbm_shell.specs.Salvaging.{waiting_bytes};
 
 use cbm_medium::Medium;

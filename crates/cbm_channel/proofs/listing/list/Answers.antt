@@ -1,7 +1,7 @@
 use Rattle.std.proofs.Common.{ap, subst}
 use Rattle.std.specs.Prelude.{Ok}
 use Rattle.cbm_listing.specs.Listed.{ListedBytes}
-use Rattle.cbm_volume.specs.Slots.{Gives, listed_left}
+use Rattle.cbm_directory.specs.Slots.{Gives, listed_left}
 use Rattle.cbm_volume.specs.Holding.{TellsOf}
 use Rattle.cbm_channel.proofs.ListedLines.{listed_all, never_broken}
 use Rattle.cbm_channel.proofs.listing.list.Goals as goal

@@ -1,6 +1,6 @@
 use Rattle.std.proofs.Common.{◌≤◌}
-use Rattle.cbm_volume.specs.Map.{geometry_of}
-use Rattle.cbm_volume.specs.Slots.{directory_of, listed_left, most_left}
+use Rattle.cbm_bam.specs.Map.{geometry_of}
+use Rattle.cbm_directory.specs.Slots.{directory_of, listed_left, most_left}
 use Rattle.cbm_channel.proofs.ListedLines.{Lists}
 use Rattle.cbm_channel.proofs.listing.list.Given as goal
 

@@ -1,6 +1,6 @@
 use Rattle.std.proofs.Common.{true}
 use Rattle.cbm_volume.specs.Layouts.{Sound}
-use Rattle.cbm_volume.specs.Map.{geometry_of}
+use Rattle.cbm_bam.specs.Map.{geometry_of}
 use Rattle.cbm_shell.specs.Images.{IsChecked}
 use Rattle.cbm_shell.proofs.ImageLemmas.{as_checked}
 use Rattle.cbm_device.specs.ImageDisks.{counted_seen}

@@ -1,7 +1,7 @@
 use Rattle.std.proofs.Common.{sym, subst, ◌∙◌}
 use Rattle.std.specs.Prelude.{Ok}
-use Rattle.cbm_volume.specs.Map.{geometry_of}
-use Rattle.cbm_volume.specs.Slots.{Finds, directory_of}
+use Rattle.cbm_bam.specs.Map.{geometry_of}
+use Rattle.cbm_directory.specs.Slots.{Finds, directory_of}
 use Rattle.cbm_volume.specs.Holding.{HoldsDisk}
 use Rattle.cbm_machine.specs.declared.code.Code.TheVariants.{WrongType, FileNotFound}
 use Rattle.cbm_machine.specs.Finding.{found}

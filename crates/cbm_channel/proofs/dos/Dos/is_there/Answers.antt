@@ -1,7 +1,7 @@
 use Rattle.std.proofs.Common.{refl, sym, ap, subst, ◌∙◌}
 use Rattle.std.specs.Prelude.{Ok}
-use Rattle.cbm_volume.specs.Map.{geometry_of}
-use Rattle.cbm_volume.specs.Slots.{directory_of}
+use Rattle.cbm_bam.specs.Map.{geometry_of}
+use Rattle.cbm_directory.specs.Slots.{directory_of}
 use Rattle.cbm_volume.specs.Holding.{HoldsDisk}
 use Rattle.cbm_channel.proofs.Found.{named_as}
 use Rattle.cbm_channel.proofs.Stands.{means_of}

@@ -9,9 +9,9 @@ use Rattle.cbm_file.specs.Padding.{before_filler}
 use Rattle.cbm_file.specs.Records.{fresh_record, record_count, with_new_records}
 use Rattle.cbm_volume.specs.Holding.{HoldsDisk}
 use Rattle.cbm_file.specs.Changes.{new_slot, with_file, unclosed}
-use Rattle.cbm_volume.specs.Map.{geometry_of}
-use Rattle.cbm_volume.specs.Entries.{first_block}
-use Rattle.cbm_volume.specs.Reading.{held_from}
+use Rattle.cbm_bam.specs.Map.{geometry_of}
+use Rattle.cbm_directory.specs.Entries.{first_block}
+use Rattle.cbm_chain.specs.Reading.{held_from}
 use Rattle.cbm_volume.specs.Writers.{HoldsNow, with_use, Idle, Stopped}
 use Rattle.cbm_machine.specs.Machines.{Writing}
 use Rattle.cbm_machine.specs.Finding.{body_at}

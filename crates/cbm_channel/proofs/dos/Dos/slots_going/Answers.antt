@@ -1,7 +1,7 @@
 use Rattle.std.proofs.Common.{sym, ap, subst, ◌∙◌}
 use Rattle.std.specs.Prelude.{Ok}
-use Rattle.cbm_volume.specs.Map.{geometry_of}
-use Rattle.cbm_volume.specs.Slots.{Gives, directory_of, listed_left}
+use Rattle.cbm_bam.specs.Map.{geometry_of}
+use Rattle.cbm_directory.specs.Slots.{Gives, directory_of, listed_left}
 use Rattle.cbm_volume.specs.Holding.{HoldsDisk, TellsOf}
 use Rattle.cbm_channel.proofs.Stands.{means_of}
 use Rattle.cbm_channel.proofs.Scratches.{numbers_same, gathered_all, never_broken}

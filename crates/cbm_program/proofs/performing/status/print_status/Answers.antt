@@ -1,7 +1,7 @@
 use Rattle.std.proofs.Common.{rules, ◌≡◌, ◌++◌, codes}
 use Rattle.std.proofs.lemmas.Result.{on_ok_weaker, on_err_weaker}
 use Rattle.cbm_machine.specs.Calls.{without_return}
-use Rattle.cbm_program.specs.Scripts.{status_said}
+use Rattle.cbm_talk.specs.Talks.{status_said}
 use Rattle.cbm_program.proofs.StatusLemmas.{status_all, status_part}
 use Rattle.cbm_program.proofs.performing.status.print_status.Goals as goal
 

@@ -1,5 +1,5 @@
 use Rattle.std.proofs.Common.{rules, sym, ◌∙◌}
-use Rattle.cbm_volume.specs.Reading.{rest_of}
+use Rattle.cbm_chain.specs.Reading.{rest_of}
 use Rattle.cbm_shell.proofs.ReadingLemmas.{one_fewer, read_more, read_all, these_bytes, never_met}
 use Rattle.cbm_shell.proofs.looking.reading.read_file.Goals as goal
 

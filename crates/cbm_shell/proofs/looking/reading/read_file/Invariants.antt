@@ -2,7 +2,7 @@ use Rattle.std.proofs.Common.{◌≡◌, ◌≤◌, length}
 use Rattle.cbm_medium.specs.Place.{sector_count}
 use Rattle.cbm_bam.specs.Map.{geometry_of}
 use Rattle.cbm_directory.specs.Entries.{first_block}
-use Rattle.cbm_volume.specs.Reading.{held_from, rest_of, with_front, IsSettled}
+use Rattle.cbm_chain.specs.Reading.{held_from, rest_of, with_front, IsSettled}
 use Rattle.cbm_shell.proofs.looking.reading.read_file.Given as goal
 
 abbrev pub invariant-bytes : goal.invariant-bytes

@@ -1,5 +1,4 @@
-use Rattle.std.proofs.Common.{rules, sym, ◌∙◌}
-use Rattle.cbm_volume.specs.Reading.{rest_of}
+use Rattle.std.proofs.Common.{rules, sym}
 use Rattle.cbm_shell.proofs.ReadingLemmas.{one_fewer, read_more, read_all, cut_off}
 use Rattle.cbm_shell.proofs.looking.salvaging.read_rest.Goals as goal
 

@@ -1,5 +1,5 @@
 use Rattle.std.proofs.Common.{◌≡◌, ◌≤◌, length}
-use Rattle.cbm_volume.specs.Reading.{rest_of, with_front, IsSettled}
+use Rattle.cbm_chain.specs.Reading.{rest_of, with_front, IsSettled}
 use Rattle.cbm_shell.proofs.looking.salvaging.read_rest.Given as goal
 
 abbrev pub invariant-bytes : goal.invariant-bytes
