@@ -71,6 +71,7 @@ module _ {M : Type 0} (seen : M → Seen) where
   PlaysFiles b c end old new cs result = HaveNotFailed b c → (bs : List Party) (ms : ℕ → Desk Machine) → IsBus bs → IsAtRest seen bs ms b → fault_of 0 0 end cs ≡ None →
       OnOk result (HasPlayedFiles bs ms end cs c old new)
 
+  -- and so it is of what is promised where the host keeps the timing loosely
   abbrev pub PlaysFilesLoosely : {E : Type 0} → Cabled (Desk (Kept M)) → Cabled (Desk (Kept M)) → ℕ → List Event → List Event → List Change → Result (Unit {0}) E → Type 0
   PlaysFilesLoosely b c end old new cs result = HaveNotFailed b c → (bs : List Party) (ms : ℕ → Desk Machine) → IsBus bs → IsAtRest seen bs ms b → fault_of 0 0 end cs ≡ None →
       OnOk result (HasPlayedFilesLoosely bs ms end cs c old new)
