@@ -7,22 +7,12 @@ mod drives;
 mod images;
 mod records;
 mod scripts;
+mod times;
 mod wires;
 mod writes;
 
 use std::io;
 
 fn main(rt: HostRuntime) -> io::Result<()> {
-    disks::copies(&rt, rt.alloc())?;
-    disks::images(&rt, rt.alloc())?;
-    disks::chains(&rt, rt.alloc())?;
-    drives::files(&rt, rt.alloc())?;
-    drives::checks(&rt, rt.alloc())?;
-    writes::files(&rt, rt.alloc())?;
-    writes::validations(&rt, rt.alloc())?;
-    writes::copies(&rt, rt.alloc())?;
-    records::files(&rt, rt.alloc())?;
-    wires::drives(&rt, rt.alloc())?;
-    scripts::requests(&rt, rt.alloc())?;
-    circles::images(&rt, rt.alloc())
+    times::all(&rt)
 }

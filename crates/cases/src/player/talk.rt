@@ -1,8 +1,8 @@
 // What is asked of a drive in a step, and what it must answer.
 
-use crate::items::printed_for;
-use crate::numbered::Numbered;
-use crate::report::Report;
+use crate::player::items::printed_for;
+use crate::player::numbered::Numbered;
+use crate::player::report::Report;
 use std::alloc::{AllocError, Global};
 
 /// The requests of a step and its answers, as they are written.

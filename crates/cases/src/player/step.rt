@@ -1,11 +1,11 @@
 // A step of a case.
 
-use crate::head::Way;
-use crate::playing::{Played, circles_of, holds_the_same, play};
-use crate::refusals::{Refusals, Stop};
-use crate::report::Report;
-use crate::stops;
-use crate::talk::Talk;
+use crate::player::head::Way;
+use crate::player::playing::{Played, circles_of, holds_the_same, play};
+use crate::player::refusals::{Refusals, Stop};
+use crate::player::report::Report;
+use crate::player::stops;
+use crate::player::talk::Talk;
 use std::alloc::{AllocError, Global};
 
 /// How far a step is.

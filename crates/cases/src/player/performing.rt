@@ -2,7 +2,7 @@
 
 ghost use Rattle.std.specs.Prelude.{◌≤◌};
 
-use crate::items::show;
+use crate::player::items::show;
 use cbm_channel::Dos;
 use cbm_medium::Medium;
 use cbm_program::{ScriptLine, ScriptRequest, parse};

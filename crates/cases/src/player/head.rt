@@ -1,6 +1,6 @@
 // The head of a step: which disk is put in, and how.
 
-use crate::refusals::Refusals;
+use crate::player::refusals::Refusals;
 use cbm_program::Pace;
 
 /// Where the disk of a step comes from.

@@ -1,7 +1,7 @@
 // Lines that stand for several: `for # = 0 to 143` .. `next`.
 
-use crate::numbered::Numbered;
-use crate::report::Report;
+use crate::player::numbered::Numbered;
+use crate::player::report::Report;
 use std::alloc::{AllocError, Global};
 
 /// The lines between a `for` and its `next`, and the numbers that `#` stands for in them.

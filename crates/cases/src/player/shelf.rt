@@ -1,7 +1,7 @@
 // The disks of a file: those that are made for it, and those that it kept.
 
-use crate::head::Form;
-use crate::playing::circles_of;
+use crate::player::head::Form;
+use crate::player::playing::circles_of;
 use std::alloc::{AllocError, Global};
 use test_images::{empty_image, wide_image};
 

@@ -1,8 +1,8 @@
 // What is said of the disk that a step left.
 
-use crate::items::{bytes_of, place_of, sector_of, show};
-use crate::listing::rows_of;
-use crate::playing::print_check;
+use crate::player::items::{bytes_of, place_of, sector_of, show};
+use crate::player::listing::rows_of;
+use crate::player::playing::print_check;
 use std::alloc::{AllocError, Global};
 use test_images::{lost_blocks, put};
 
