@@ -19,8 +19,7 @@ use Rattle.cbm_drive.specs.declared.addressee.ended.Ended.{Ended}
 use Rattle.cbm_drive.specs.declared.addressee.ended.Ended.TheVariants.{Name, Bytes}
 use Rattle.cbm_drive.specs.declared.secondary.Secondary.{Secondary}
 use Rattle.cbm_drive.specs.declared.secondary.Secondary.TheVariants.{Data, Close, Open}
-use Rattle.cbm_host.specs.Served as served
-use Rattle.cbm_talk.specs.Talks.{puts, hear_bytes, says}
+use Rattle.cbm_talk.specs.Talks.{puts, hear_bytes, says, TalkSaid}
 use Rattle.cbm_program.proofs.Along.{kept_along}
 use Rattle.cbm_program.proofs.Guarded.{IsGuarded, guarded_start, if_both, closes, takes, talks, talks_keeping, listens, puts_one, opens, ends_put}
 use Rattle.cbm_program.specs.Outcome.{IsScriptServed}
@@ -50,7 +49,7 @@ module _ (d : Disk) where
   talks_at Profile ch m g = talks d ch m g
   talks_at Kernal ch m g = talks_keeping d ch m g
 
-  abbrev said_by : ℕ → ℕ → List ℕ → Machine → Option (ℕ × Bool) → served.TalkSaid
+  abbrev said_by : ℕ → ℕ → List ℕ → Machine → Option (ℕ × Bool) → TalkSaid
   said_by n ch so_far m None = record { bytes = so_far; marked = false; machine = m }
   said_by n ch so_far m (Some p) =
       if p.1 then record { bytes = so_far ++ p.0 ∷ []; marked = true; machine = taken ch m }
@@ -62,7 +61,7 @@ module _ (d : Disk) where
     where
       by : (o : Option (ℕ × Bool)) → ((bytes : List ℕ) → IsGuarded d (says n ch bytes (taken ch m)).machine) → IsGuarded d (said_by n ch so_far m o).machine
       by None on = g
-      by (Some p) on = if_both (λ (s : served.TalkSaid). IsGuarded d s.machine) p.1 (record { bytes = so_far ++ p.0 ∷ []; marked = true; machine = taken ch m }) (says n ch (so_far ++ p.0 ∷ []) (taken ch m)) (takes d ch m g) (on (so_far ++ p.0 ∷ []))
+      by (Some p) on = if_both (λ (s : TalkSaid). IsGuarded d s.machine) p.1 (record { bytes = so_far ++ p.0 ∷ []; marked = true; machine = taken ch m }) (says n ch (so_far ++ p.0 ∷ []) (taken ch m)) (takes d ch m g) (on (so_far ++ p.0 ∷ []))
 
   one : (pace : Pace) (r : asks.ScriptRequest) (m : Machine) → IsGuarded d m → IsGuarded d (printed_by pace r m).machine
   one pace (request.Open ch text) m g = opens d ch text.items m g

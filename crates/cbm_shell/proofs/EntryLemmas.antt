@@ -15,7 +15,7 @@ use Rattle.cbm_volume.specs.Layouts.{DataOf, SideOf, OwnedBy, Layout, slot_count
 use Rattle.cbm_volume.proofs.layouts.Listing.{entry_found}
 use Rattle.cbm_volume.proofs.layouts.Loose.{sector_owned}
 use Rattle.cbm_volume.proofs.layouts.Meaning.{sound_stands}
-use Rattle.cbm_volume.proofs.changed.Renames.{lies_alike}
+use Rattle.cbm_volume.proofs.layouts.Frames.{lies_alike}
 use Rattle.cbm_volume.proofs.layouts.Steps.{stands_entry, extends_itself}
 
 -- the new entry says of its file what the old one said, so far as it counts for where the file lies
