@@ -23,6 +23,7 @@ pub mod ListedLines
 pub mod Planning
 pub mod BytesPut
 pub mod DiskSteps
+pub mod GroundedReports
 pub mod Elses
 pub mod Rest
 pub mod Spared

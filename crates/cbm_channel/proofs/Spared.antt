@@ -33,6 +33,10 @@ pub either_false : (a b : Bool) → (a || b) ≡ false → (a ≡ false) × (b �
 either_false true b h = absurd (cc)
 either_false false b h = (refl, h)
 
+pub never_both : (a b : Bool) → a ≡ false → (a && b) ≡ true → ⊥
+never_both true b e h = absurd (cc)
+never_both false b e h = absurd (cc)
+
 -- on no channel a file is written in the slot
 pub none_writes : (n : ℕ) (xs : List Channel) (k : ℕ) → list_any (finishes_on n) xs ≡ false → finishes_on n (slice_index_or xs k code.Closed) ≡ false
 none_writes n [] k h = refl

@@ -1,6 +1,7 @@
 -- What a call leaves that writes for one channel.
 use Rattle.std.specs.Prelude.{ℕ, ◌≡◌, ◌+◌, ◌≤◌, true, false, not, Bool, Some, List, Result, Ok, IfOk, IfErr, IsOk, IsOkAnd, OnOk, OnErr}
 use Rattle.cbm_medium.specs.Seen.{Seen, HasFailed, KeepsBeyond}
+use Rattle.cbm_channel.specs.TempGround.{IsGrounded}
 use Rattle.cbm_medium.specs.declared.fault.Trouble.{Trouble}
 use Rattle.cbm_file.specs.Files.{Disk}
 use Rattle.cbm_bam.specs.Map.{geometry_of}
@@ -21,7 +22,7 @@ use Rattle.cbm_channel.specs.Written.{is_lost, channel_put, disk_put, disk_close
 
 -- A call of several on the medium, whatever sectors they changed: tracks, protection and id stay. It makes no write after one that the
 -- medium refused by itself: failures go up by one at most, only where it answers Err, and then that is what the medium refused last. It
--- answers the code 26 only where the medium is protected.
+-- answers the code 26 only where the medium is protected, and each trouble has its ground.
 pub record KeepsElse {A : Type 0} (result : Result A Trouble) (old new : Seen) : Type 0 where
   pub tracks : new.tracks ≡ old.tracks
   pub protected : new.protected ≡ old.protected
@@ -31,6 +32,7 @@ pub record KeepsElse {A : Type 0} (result : Result A Trouble) (old new : Seen) :
   pub uncounted : OnOk result (new.failures ≡ old.failures)
   pub own : IfErr result (λ t. HasFailed old new → new.refused ≡ Some t)
   pub guarded : IfErr result (λ t. t.code ≡ 26 → old.protected ≡ true)
+  pub shown : IfErr result (IsGrounded old new)
 
 -- THE SECTORS OUTSIDE THE DISK STAY: it uses as many tracks of its medium as before, and each sector of a track beyond those, which a
 -- medium of 40 tracks has where the disk has 35, holds what it held.

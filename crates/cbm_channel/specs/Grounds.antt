@@ -5,6 +5,7 @@ use Rattle.cbm_medium.specs.Place.{sector_count}
 use Rattle.cbm_medium.specs.Links.{follow}
 use Rattle.cbm_medium.specs.declared.fault.Trouble.{Trouble}
 use Rattle.cbm_medium.specs.Seen.{Seen, HasFailed}
+use Rattle.cbm_channel.specs.TempGround.{IsGrounded}
 use Rattle.cbm_medium.specs.Met.{IsMet}
 use Rattle.cbm_medium.specs.Content.{Content}
 use Rattle.cbm_volume.specs.RecordFaults.{IsMislisted}
@@ -57,6 +58,17 @@ IsToldFor seen old new =
     (new.told ≡ old.told)
     ⊎ (HasTold seen old new
     ⊎ ((t : Trouble) × (new.told.status ≡ trouble_status t) × HasFailed (seen old.medium) (seen new.medium)))
+
+-- A STATUS HAS ITS GROUND where a call may have written: it is no fault of a disk; or it is of a trouble that has its ground, as the medium
+-- is after the call.
+abbrev pub TellsGrounded : {M : Type 0} → (M → Seen) → Kept M → Kept M → Type 0
+TellsGrounded seen old new =
+    (is_fault_number (code_number new.told.status.code) ≡ false)
+    ⊎ ((t : Trouble) × (new.told.status ≡ trouble_status t) × IsGrounded (seen old.medium) (seen new.medium) t)
+
+-- What is reported stays, or a status with its ground is reported.
+abbrev pub KeepsGrounded : {M : Type 0} → (M → Seen) → Kept M → Kept M → Type 0
+KeepsGrounded seen old new = (new.told ≡ old.told) ⊎ TellsGrounded seen old new
 
 -- the entry is one of the directory's
 abbrev pub IsInDirectory : {M : Type 0} → (M → Seen) → M → List ℕ → Type 0

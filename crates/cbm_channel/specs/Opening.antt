@@ -18,7 +18,7 @@ use Rattle.cbm_channel.specs.declared.finding.Found.{Found}
 use Rattle.cbm_channel.specs.declared.plan.Plan.{Plan}
 use Rattle.cbm_channel.specs.ChannelCalls.{KeepsRest, LeavesRest}
 use Rattle.cbm_channel.specs.Standing.{Kept, SameBut, HaveSameFiles, Stands, uses_of}
-use Rattle.cbm_channel.specs.Grounds.{HasGround, IsFromDirectory, KeepsIfRefused, OrdersDisk, ShowsTrouble}
+use Rattle.cbm_channel.specs.Grounds.{HasGround, IsFromDirectory, KeepsGrounded, KeepsIfRefused, OrdersDisk, ShowsTrouble, TellsGrounded}
 use Rattle.cbm_channel.specs.Going.{IsFailureCounted, GoesFrom, KeepsMedium, WentFrom, opening_parts}
 use Rattle.cbm_channel.specs.Commanded.{AreSameBut, FormatsUnfailing, open_formats, open_validates, text_moves, text_clears}
 use Rattle.cbm_channel.specs.Shown.{is_writing_on, appends_on, appended_by, finished_by}
@@ -50,18 +50,20 @@ abbrev pub IsClosedUnlessFine : {M : Type 0} → ℕ → Kept M → Type 0
 IsClosedUnlessFine ch new = (new.told.status.code ≡ Fine) ⊎ IsClosedOn ch new
 
 -- WHAT AN OPEN OF A CHANNEL FROM 0 TO 14 LEAVES on any disk: the other channels as they were, and this one open or closed, as the status
--- says; CLOSE comes first, and what the OPEN itself does is measured from there.
+-- says; CLOSE comes first, and what the OPEN itself does is measured from there. The status that it reports has its ground.
 pub record OpensChannel {M : Type 0} (seen : M → Seen) (ch : ℕ) (text : List ℕ) (old new : Kept M) : Type 0 where
   pub others : SameBut ch old.channels new.channels
   pub refused : IsClosedUnlessFine ch new
   pub closes : ClosesFirst seen ch text old new
+  pub grounded : TellsGrounded seen old new
 
--- WHAT AN OPEN OF CHANNEL 15 LEAVES on any disk: each channel keeps its file, and its place but for one that the command sets; and the
--- medium refused one write at most.
+-- WHAT AN OPEN OF CHANNEL 15 LEAVES on any disk: each channel keeps its file, and its place but for one that the command sets; the medium
+-- refused one write at most; and a status that is reported has its ground.
 pub record OpensCommand {M : Type 0} (seen : M → Seen) (text : List ℕ) (old new : Kept M) : Type 0 where
   pub channels : HaveSameFiles old.channels new.channels
   pub places : AreSameBut (text_moves text) old.channels new.channels
   pub counted : IsFailureCounted seen old new
+  pub grounded : KeepsGrounded seen old new
 
 -- On a channel that isn't written, what isn't for writing leaves the medium as it is, and what is refused has changed nothing of the disk.
 pub record OpensUnwritten {M : Type 0} (seen : M → Seen) (ch : ℕ) (text : List ℕ) (old new : Kept M) : Type 0 where

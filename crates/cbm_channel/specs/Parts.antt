@@ -12,7 +12,7 @@ use Rattle.cbm_channel.specs.declared.channel.Channel.TheVariants.{Closed}
 use Rattle.cbm_channel.specs.ChannelCalls.{KeepsRest, LeavesRest}
 use Rattle.cbm_channel.specs.Commanded.{AreSameBut, CanAllGo, FormatsUnfailing, is_slot_among, end_clears, all_scratched, ends_command, end_formats}
 use Rattle.cbm_channel.specs.Going.{KeepsMedium, IsFailureCounted, AreCounted, WentFrom, RecordsFrom, EndsFrom}
-use Rattle.cbm_channel.specs.Grounds.{HasTold, IsToldFor, KeepsIfRefused, OrdersDisk, is_fault_number}
+use Rattle.cbm_channel.specs.Grounds.{HasTold, IsToldFor, KeepsGrounded, KeepsIfRefused, OrdersDisk, TellsGrounded, is_fault_number}
 use Rattle.cbm_channel.specs.Shown.{is_writing_on, has_records_on, finishes_on, finished_by, with_records_by, KeepsMediumAndStatus}
 use Rattle.cbm_channel.specs.Standing.{Kept, SameBut, HaveSameFiles, Stands, HasNoText, HasText, uses_of}
 
@@ -36,29 +36,33 @@ KeepsRestWhere seen but old new P = (m : Machine) (a : _) → P m a → Stands s
 
 -- ---- the medium
 
--- WHAT EACH PART OF A CALL LEAVES on any disk: tracks and protection of the medium stay, and the medium refused one write at most, which
--- is then what is reported.
+-- WHAT A PART OF A CALL THAT REPORTS LEAVES on any disk: tracks and protection of the medium stay; the medium refused one write at most,
+-- which is then what is reported; and the status has its ground.
 pub record LeavesMedium {M : Type 0} (seen : M → Seen) (old new : Kept M) : Type 0 where
   pub medium : KeepsMedium (seen old.medium) (seen new.medium)
   pub counted : IsFailureCounted seen old new
+  pub grounded : TellsGrounded seen old new
 
--- WHAT A PART LEAVES THAT MAKES NO NEW DISK: the same, and the rest of the disk as it is, but for the slots that pass the test.
+-- WHAT A PART LEAVES THAT MAKES NO NEW DISK: the same, where the status may stay, too; and the rest of the disk as it is, but for the slots
+-- that pass the test.
 pub record LeavesDisk {M : Type 0} (seen : M → Seen) (but : ℕ → Bool) (old new : Kept M) : Type 0 where
   pub medium : KeepsMedium (seen old.medium) (seen new.medium)
   pub rest : LeavesRest seen (λ m. but) old new
   pub counted : IsFailureCounted seen old new
+  pub grounded : KeepsGrounded seen old new
 
--- WHAT A COMMAND AT THE DISK LEAVES on any disk: the channels stay, what is refused has changed nothing, and of the medium what each part
--- leaves.
+-- WHAT A COMMAND AT THE DISK LEAVES on any disk: the channels stay, what is refused has changed nothing, the status has its ground, and of
+-- the medium what each part leaves.
 pub record LeavesChannels {M : Type 0} (seen : M → Seen) (old new : Kept M) : Type 0 where
   pub channels : new.channels ≡ old.channels
   pub spared : KeepsIfRefused seen old new
   pub medium : KeepsMedium (seen old.medium) (seen new.medium)
   pub counted : IsFailureCounted seen old new
+  pub grounded : TellsGrounded seen old new
 
 -- WHAT A COMMAND LEAVES on any disk, by the channel whose place it sets, whether it is VALIDATE, whether it is NEW, and the slots that it
 -- clears: each channel keeps its file, and its place but for that channel; V leaves closed files as they are; the rest of the disk stays
--- but for those slots, if it isn't NEW; and of the medium what each part leaves.
+-- but for those slots, if it isn't NEW; a status that is reported has its ground; and of the medium what each part leaves.
 pub record LeavesByCommand {M : Type 0} (seen : M → Seen) (moved : Option ℕ) (validates formats : Bool) (but : Machine → ℕ → Bool) (old new : Kept M) : Type 0 where
   pub channels : HaveSameFiles old.channels new.channels
   pub others : AreSameBut moved old.channels new.channels
@@ -66,6 +70,7 @@ pub record LeavesByCommand {M : Type 0} (seen : M → Seen) (moved : Option ℕ)
   pub medium : KeepsMedium (seen old.medium) (seen new.medium)
   pub rest : formats ≡ false → LeavesRest seen but old new
   pub counted : IsFailureCounted seen old new
+  pub grounded : KeepsGrounded seen old new
 
 -- nothing but the medium changes, and there are fifteen channels
 pub record OnlyMedium {M : Type 0} (old new : Kept M) : Type 0 where
@@ -105,6 +110,10 @@ IsFineOrSameUnlessFault seen old new = is_fault_number (code_number new.told.sta
 abbrev pub CutsOff : {M : Type 0} → (M → Seen) → ℕ → Kept M → Kept M → Type 0
 CutsOff seen ch old new = HasFailed (seen old.medium) (seen new.medium) → is_writing_on ch new ≡ false
 
+-- What was reported stays, or it is no fault of a disk, or no file is written on the channel from then on.
+abbrev pub StopsOnFault : {M : Type 0} → ℕ → Kept M → Kept M → Type 0
+StopsOnFault ch old new = (new.told ≡ old.told) ⊎ ((is_fault_number (code_number new.told.status.code) ≡ false) ⊎ (is_writing_on ch new ≡ false))
+
 -- the channel writes the file of no other slot than before
 abbrev pub KeepsSlotOn : {M : Type 0} → ℕ → Kept M → Kept M → Type 0
 KeepsSlotOn ch old new = (n : ℕ) → finished_by ch old n ≡ false → finished_by ch new n ≡ false
@@ -136,11 +145,12 @@ abbrev pub closed_by : {M : Type 0} → ℕ → Kept M → ℕ → Bool
 closed_by ch k n = if ch == 15 then list_any (finishes_on n) k.channels else finished_by ch k n
 
 -- WHAT CLOSE LEAVES on any disk: tracks and protection of the medium stay, and the rest of the disk but for the files that it may finish;
--- and for each channel that is closed the medium refused one write at most.
+-- for each channel that is closed the medium refused one write at most; and where one is closed, a status that is reported has its ground.
 pub record LeavesByClose {M : Type 0} (seen : M → Seen) (ch : ℕ) (old new : Kept M) : Type 0 where
   pub medium : KeepsMedium (seen old.medium) (seen new.medium)
   pub rest : LeavesRest seen (λ m. closed_by ch old) old new
   pub counted : ch < 15 → IsFailureCounted seen old new
+  pub grounded : ch < 15 → KeepsGrounded seen old new
   pub all_counted : ch ≡ 15 → AreCounted seen 15 old new
 
 -- ---- the text that is gathered

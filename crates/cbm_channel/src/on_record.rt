@@ -205,6 +205,7 @@ impl OnRecord {
         ensures place { IsPlacedAt self.old self.new (self.old.number + 1) 1 }
         ensures well { (now : Seen) → WasRead now self.old.slot self.old.number next →
             ReachesRecord now self.old self.new result }
+        ensures handed { IfErr result (λ t. next ≡ Err t) }
         ensures never_26 { IfErr result (λ t. t.code ≢ 26) }
     {
         self.number += 1;

@@ -1,4 +1,4 @@
-use Rattle.std.proofs.Common.{sym, inl, ap}
+use Rattle.std.proofs.Common.{sym, inl, ap, rules}
 use Rattle.cbm_machine.specs.Machines.{say, with_status}
 use Rattle.cbm_machine.specs.Plans.{act}
 use Rattle.cbm_machine.specs.declared.code.Code.TheVariants.{Fine}
@@ -6,6 +6,7 @@ use Rattle.cbm_channel.specs.Planned.{begun_by}
 use Rattle.cbm_channel.proofs.Goings.{part_same}
 use Rattle.cbm_channel.proofs.Planning.{begun_ok, begun_err, begun_does, begun_refuses}
 use Rattle.cbm_channel.proofs.Rest.{rest_itself}
+use Rattle.cbm_channel.proofs.GroundedReports.{refusal_grounded}
 use Rattle.cbm_channel.proofs.dos.Dos.begin.Goals as goal
 
 pub returns-in-Ok-clause-goes : goal.returns-in-Ok-clause-goes
@@ -32,3 +33,10 @@ returns-in-Ok-clause-rest g c = λ text m s.
 
 pub returns-in-Err-clause-rest : goal.returns-in-Err-clause-rest
 returns-in-Err-clause-rest g c = λ text m s. rest_itself _ _ (ap g.M.Medium.seen c.set.ensures.medium)
+
+pub returns-in-Err-clause-leaves : goal.returns-in-Err-clause-leaves
+returns-in-Err-clause-leaves g c = record {
+  medium = (search rules);
+  counted = (search rules);
+  grounded = refusal_grounded g.M.Medium.seen c.args.self.now c.set.new.self c.in-Err.status c.set.ensures.medium c.in-Err.ensures.sound.ground (ap (λ x. x.status) c.set.ensures.told);
+}

@@ -22,7 +22,7 @@ slots-init g c =
     let vol = ap (λ k. k.medium) c.self.view_is in (
       (λ m st can. subst (λ x. IsClearing (g.M.Medium.seen old.medium).tracks (g.M.Medium.seen x).content (uses_of old.channels m.channels) m.disk (all_scratched m.disk c.args.slots.now) c.args.slots.now) (sym vol)
           (clearing_first _ _ _ m.disk c.args.slots.now st.holds can)),
-      else_nothing (Ok tt) _ _ (ap g.M.Medium.seen vol) tt,
+      else_nothing (Ok tt) _ _ (ap g.M.Medium.seen vol) tt tt,
       c.self.view_is ∙ ap (λ v. record old { medium = v }) (sym vol),
       (λ m st can. rest_itself _ _ (ap g.M.Medium.seen vol)),
     )

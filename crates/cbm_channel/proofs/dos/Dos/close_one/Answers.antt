@@ -10,6 +10,7 @@ use Rattle.cbm_channel.proofs.Goings.{passes_on, close_passes, closed_at, early,
 use Rattle.cbm_channel.proofs.Counted.{counted_to, counted_then}
 use Rattle.cbm_channel.proofs.Rest.{rest_seen, rest_then}
 use Rattle.cbm_channel.proofs.dos.Dos.close_one.Goals as goal
+use Rattle.cbm_channel.proofs.GroundedReports.{grounded_then, grounded_to}
 
 -- the return, CLOSE and the text are one part
 pub returns-clause-goes : goal.returns-clause-goes
@@ -41,4 +42,6 @@ returns-clause-leaves g c = record {
       rest_seen g.M.Medium.seen c.args.self.now.medium c.forget_text.new.self.medium c.args.self.now.medium c.finish.new.self.medium refl c.forget_text.ensures.only.medium (rest_then no_slot (finished_by c.args.channel c.fill.new.self) (g.M.Medium.seen c.args.self.now.medium) (g.M.Medium.seen c.fill.new.self.medium) (g.M.Medium.seen c.finish.new.self.medium) first.0.disk _ first.2.holds (λ n e. (refl, c.fill.ensures.slot n e)) (c.fill.ensures.leaves.rest m s) (c.finish.ensures.leaves.rest first.0 first.2));
   counted = counted_to g.M.Medium.seen c.args.self.now c.finish.new.self c.forget_text.new.self c.forget_text.ensures.only.medium c.forget_text.ensures.only.told
       (counted_then g.M.Medium.seen c.args.self.now c.fill.new.self c.finish.new.self c.fill.ensures.leaves.counted c.finish.ensures.leaves.counted (λ failed. c.finish.ensures.quiet (c.fill.ensures.cut failed)));
+  grounded = grounded_to g.M.Medium.seen c.args.self.now c.finish.new.self c.forget_text.new.self c.forget_text.ensures.only.medium c.forget_text.ensures.only.told
+      (grounded_then g.M.Medium.seen c.args.channel c.args.self.now c.fill.new.self c.finish.new.self c.fill.ensures.leaves.medium.counted c.fill.ensures.leaves.grounded c.fill.ensures.stops c.finish.ensures.leaves.grounded c.finish.ensures.quiet);
 }

@@ -42,6 +42,7 @@ returns-then-is_empty-clause-leaves g c = record {
   medium = (search rules);
   rest = λ other m s. rest_itself _ _ refl;
   counted = (search rules);
+  grounded = (search rules);
 }
 
 pub returns-in-Ok-clause-leaves : goal.returns-in-Ok-clause-leaves
@@ -55,6 +56,7 @@ returns-in-Ok-clause-leaves g c = record {
       subst (λ (r : Result Command Refusal). KeepsRest (g.M.Medium.seen c.args.self.now.medium) (g.M.Medium.seen c.run.new.self.medium) (read_clears r m)) (sym (ap command_of (sym c.without_return-text.ensures) ∙ is))
       (c.run.ensures.leaves.rest (sym (ap formats_of (ap command_of (sym c.without_return-text.ensures) ∙ is)) ∙ other) m s);
   counted = (search rules);
+  grounded = (search rules);
 }
 
 pub returns-in-Err-clause-leaves : goal.returns-in-Err-clause-leaves
@@ -65,4 +67,5 @@ returns-in-Err-clause-leaves g c = record {
   medium = (search rules);
   rest = λ other m s. rest_itself _ _ (ap g.M.Medium.seen c.say.ensures.medium);
   counted = (search rules);
+  grounded = (search rules);
 }

@@ -21,6 +21,7 @@ use Rattle.cbm_channel.proofs.Refused.{not_refused, refused_26}
 use Rattle.cbm_channel.proofs.Counted.{counted_told}
 use Rattle.cbm_channel.proofs.Rest.{rest_seen, copy_rest, grown_total}
 use Rattle.cbm_channel.proofs.dos.Dos.copy_slots.Goals as goal
+use Rattle.cbm_channel.proofs.GroundedReports.{answer_grounded, only_grounded}
 
 -- the new file is there
 pub returns-in-Ok-true-clause-goes : goal.returns-in-Ok-true-clause-goes
@@ -117,6 +118,7 @@ returns-in-Ok-true-clause-leaves g c = record {
   spared = not_refused _ _ c.say.ensures.told refl;
   medium = (search rules);
   counted = (search rules);
+  grounded = (search rules);
 }
 
 -- 26 says that the disk is protected
@@ -129,6 +131,7 @@ returns-in-Err-clause-leaves g c = record {
       ∙ ap (λ k. (g.M.Medium.seen k.medium).content) c.self.view_is);
   medium = (search rules);
   counted = counted_told g.M.Medium.seen c.args.self.now c.set.new.self c.self.inside.volume c.copy.new.self (ap (λ k. k.medium) c.self.view_is) c.set.ensures.medium c.copy.result c.in-Err.trouble c.in-Err.is c.copy.ensures.only (ap (λ x. x.status) c.set.ensures.told ∙ c.from.ensures);
+  grounded = answer_grounded g.M.Medium.seen c.args.self.now c.set.new.self c.self.inside.volume c.copy.new.self (ap (λ k. k.medium) c.self.view_is) c.set.ensures.medium c.copy.result c.in-Err.trouble c.in-Err.is (only_grounded _ _ _ c.copy.ensures.only) (ap (λ x. x.status) c.set.ensures.told ∙ c.from.ensures);
 }
 
 -- ---- the rest of the disk

@@ -18,6 +18,7 @@ use Rattle.cbm_channel.proofs.Counted.{counted_from}
 use Rattle.cbm_channel.proofs.Rest.{rest_itself, rest_seen}
 use Rattle.cbm_channel.proofs.Spared.{ended_rest, records_rest}
 use Rattle.cbm_channel.proofs.dos.Dos.end_put.Goals as goal
+use Rattle.cbm_channel.proofs.GroundedReports.{grounded_from}
 
 -- a command
 pub returns-then-channel-eq15-clause-goes : goal.returns-then-channel-eq15-clause-goes
@@ -93,6 +94,7 @@ returns-then-channel-eq15-clause-leaves g c = record {
       (subst (λ (xs : List ℕ). KeepsRest (g.M.Medium.seen c.take_text.new.self.medium) (g.M.Medium.seen c.command.new.self.medium) (text_clears xs (without_text c.args.channel m))) c.bytes.ensures
       (c.command.ensures.leaves.rest (ap text_formats c.bytes.ensures ∙ none) (without_text c.args.channel m) (c.in-Some.ensures.leads m s))));
   counted = counted_from g.M.Medium.seen c.args.self.now c.take_text.new.self c.command.new.self c.in-Some.ensures.only.medium c.command.ensures.leaves.counted;
+  grounded = grounded_from g.M.Medium.seen c.args.self.now c.take_text.new.self c.command.new.self c.in-Some.ensures.only.medium c.in-Some.ensures.only.told c.command.ensures.leaves.grounded;
 }
 
 pub returns-else-channel-eq15-clause-leaves : goal.returns-else-channel-eq15-clause-leaves
@@ -103,6 +105,7 @@ returns-else-channel-eq15-clause-leaves g c = record {
   medium = (search rules);
   rest = λ other m s. rest_seen g.M.Medium.seen c.args.self.now.medium c.write_record.new.self.medium c.take_text.new.self.medium c.write_record.new.self.medium c.in-Some.ensures.only.medium refl (records_rest c.args.channel c.args.self.now c.take_text.new.self m _ _ (below_15 c.args.channel (omega (arith, c.requires, c.if-channel-eq15.false))) c.in-Some.ensures.only.channels (c.write_record.ensures.leaves.rest (without_text c.args.channel m) (c.in-Some.ensures.leads m s)));
   counted = counted_from g.M.Medium.seen c.args.self.now c.take_text.new.self c.write_record.new.self c.in-Some.ensures.only.medium c.write_record.ensures.leaves.counted;
+  grounded = grounded_from g.M.Medium.seen c.args.self.now c.take_text.new.self c.write_record.new.self c.in-Some.ensures.only.medium c.in-Some.ensures.only.told c.write_record.ensures.leaves.grounded;
 }
 
 pub returns-in_default-clause-leaves : goal.returns-in_default-clause-leaves
@@ -114,4 +117,5 @@ returns-in_default-clause-leaves g c = record {
   medium = (search rules);
   rest = λ other m s. rest_itself _ _ (ap g.M.Medium.seen c.take_text.ensures.only.medium);
   counted = (search rules);
+  grounded = (search rules);
 }

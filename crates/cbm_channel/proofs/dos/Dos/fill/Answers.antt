@@ -22,6 +22,7 @@ returns-then-is_empty-clause-leaves g c = record {
   medium = (search rules);
   rest = c.store.ensures.leaves.rest;
   counted = (search rules);
+  grounded = (search rules);
 }
 
 pub returns-else-is_empty-clause-leaves : goal.returns-else-is_empty-clause-leaves
@@ -29,4 +30,5 @@ returns-else-is_empty-clause-leaves g c = record {
   medium = (search rules);
   rest = λ m s. rest_itself _ _ refl;
   counted = (search rules);
+  grounded = (search rules);
 }

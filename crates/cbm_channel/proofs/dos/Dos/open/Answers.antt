@@ -1,5 +1,5 @@
-use Rattle.std.proofs.Common.{rules, ◌≡◌, sym, ap, subst, ◌∙◌, arith, refl, inl, inr}
-use Rattle.std.specs.Prelude.{◌==◌, ◌&&◌, true}
+use Rattle.std.proofs.Common.{rules, ◌≡◌, sym, ap, subst, ◌∙◌, arith, refl, inl, inr, ℕ}
+use Rattle.std.specs.Prelude.{◌==◌, ◌&&◌, true, false}
 use Rattle.cbm_machine.specs.Codes.{code_number}
 use Rattle.cbm_machine.specs.Calls.{command}
 use Rattle.cbm_channel.specs.Grounds.{is_fault_number, HasGround}
@@ -10,14 +10,15 @@ use Rattle.cbm_machine.specs.Plans.{open_text}
 use Rattle.cbm_channel.specs.Shown.{appended_by, finished_by}
 use Rattle.cbm_channel.specs.Going.{GoesFrom}
 use Rattle.cbm_channel.specs.Commanded.{text_formats}
-use Rattle.cbm_channel.specs.Planned.{begun_by}
+use Rattle.cbm_channel.specs.Planned.{begun_by, text_writes}
 use Rattle.cbm_channel.proofs.Asked.{below_15}
 use Rattle.cbm_channel.proofs.Stands.{moved}
 use Rattle.cbm_channel.proofs.Planning.{opened_text, refused_text, writes_text, own_refusal}
 use Rattle.cbm_channel.proofs.Goings.{part_same, one_part, close_then, close_begin, parts_other, parts_command}
 use Rattle.cbm_channel.proofs.Rest.{rest_seen, rest_then, rest_more}
-use Rattle.cbm_channel.proofs.Spared.{open_command_rest, open_free}
+use Rattle.cbm_channel.proofs.Spared.{open_command_rest, open_free, never_both}
 use Rattle.cbm_channel.proofs.dos.Dos.open.Goals as goal
+use Rattle.cbm_channel.proofs.GroundedReports.{grounded_after}
 
 -- a command
 pub returns-then-channel-eq15-clause-goes : goal.returns-then-channel-eq15-clause-goes
@@ -72,7 +73,7 @@ returns-in-Err-clause-unwritten g c = record {
 
 pub returns-then-channel-eq15-clause-unwritten : goal.returns-then-channel-eq15-clause-unwritten
 returns-then-channel-eq15-clause-unwritten g c = record {
-  quiet = (search rules);
+  quiet = λ none reads. c.command.ensures.quiet (subst (λ (ch : ℕ). text_writes ch c.args.text.now ≡ false) c.if-channel-eq15.true reads);
   spared = λ none. c.command.ensures.spared;
 }
 
@@ -83,6 +84,7 @@ returns-then-channel-eq15-clause-command g c = λ is. record {
   channels = (search rules);
   places = (search rules);
   counted = c.command.ensures.leaves.counted;
+  grounded = c.command.ensures.leaves.grounded;
 }
 
 pub returns-then-channel-eq15-clause-channel : goal.returns-then-channel-eq15-clause-channel
@@ -107,6 +109,7 @@ returns-in-Ok-clause-channel g c = λ lt.
         spared = c.begin.ensures.spared;
         counted = c.begin.ensures.leaves.counted;
       };
+      grounded = grounded_after g.M.Medium.seen c.args.self.now c.close_one.new.self c.begin.new.self c.close_one.ensures.leaves.medium.counted c.begin.ensures.leaves.grounded;
     }
 
 pub returns-in-Err-clause-command : goal.returns-in-Err-clause-command
@@ -125,6 +128,7 @@ returns-in-Err-clause-channel g c = λ lt. record {
     spared = λ is. ap (λ v. (g.M.Medium.seen v).content) c.say.ensures.medium;
     counted = inl (ap (λ k. (g.M.Medium.seen k).failures) c.say.ensures.medium);
   };
+  grounded = inl (ap (λ x. is_fault_number (code_number x.status.code)) c.say.ensures.told ∙ ap (λ x. is_fault_number (code_number x)) c.from.ensures ∙ own_refusal c.in-Err.refusal);
 }
 
 -- ---- what it leaves, on any disk
@@ -152,7 +156,7 @@ returns-in-Ok-clause-leaves g c = record {
 
 pub returns-in-Err-clause-leaves : goal.returns-in-Err-clause-leaves
 returns-in-Err-clause-leaves g c = record {
-  ordered = (search rules);
+  ordered = λ validates. absurd (never_both _ _ (below_15 c.args.channel (omega (arith, c.requires, c.if-channel-eq15.false))) validates);
   medium = (search rules);
   rest = λ other m s.
       let none = below_15 c.args.channel (omega (arith, c.requires, c.if-channel-eq15.false)) in

@@ -38,6 +38,7 @@ returns-then-channel-eq15-clause-leaves g c = record {
   medium = (search rules);
   rest = λ m s. rest_itself _ _ (ap g.M.Medium.seen c.gather.ensures.only.medium);
   counted = (search rules);
+  grounded = (search rules);
 }
 
 pub returns-then-has_records-clause-leaves : goal.returns-then-has_records-clause-leaves
@@ -45,6 +46,7 @@ returns-then-has_records-clause-leaves g c = record {
   medium = (search rules);
   rest = λ m s. rest_itself _ _ (ap g.M.Medium.seen c.gather-then-has_records.ensures.only.medium);
   counted = (search rules);
+  grounded = (search rules);
 }
 
 pub returns-else-has_records-clause-leaves : goal.returns-else-has_records-clause-leaves
@@ -52,4 +54,5 @@ returns-else-has_records-clause-leaves g c = record {
   medium = (search rules);
   rest = c.store.ensures.leaves.rest;
   counted = (search rules);
+  grounded = (search rules);
 }

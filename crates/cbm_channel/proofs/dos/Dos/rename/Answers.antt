@@ -1,6 +1,7 @@
-use Rattle.std.proofs.Common.{sym, ap, ◌∙◌, inl}
+use Rattle.std.proofs.Common.{sym, ap, ◌∙◌, inl, rules}
 use Rattle.cbm_machine.specs.Machines.{answered, with_status}
 use Rattle.cbm_channel.proofs.Rest.{rest_itself}
+use Rattle.cbm_channel.proofs.GroundedReports.{refusal_grounded}
 use Rattle.cbm_channel.proofs.dos.Dos.rename.Goals as goal
 
 pub returns-in-Err-clause-goes : goal.returns-in-Err-clause-goes
@@ -15,3 +16,12 @@ returns-in-Ok-clause-rest g c = λ m s. c.rename_slot.ensures.rest m c.args.old.
 
 pub returns-in-Err-clause-rest : goal.returns-in-Err-clause-rest
 returns-in-Err-clause-rest g c = λ m s. rest_itself _ _ (ap g.M.Medium.seen c.set.ensures.medium)
+
+pub returns-in-Err-clause-leaves : goal.returns-in-Err-clause-leaves
+returns-in-Err-clause-leaves g c = record {
+  channels = (search rules);
+  spared = (search rules);
+  medium = (search rules);
+  counted = (search rules);
+  grounded = refusal_grounded g.M.Medium.seen c.args.self.now c.set.new.self c.in-Err.status c.set.ensures.medium c.in-Err.ensures.ground (ap (λ x. x.status) c.set.ensures.told);
+}

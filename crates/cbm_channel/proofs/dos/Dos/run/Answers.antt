@@ -1,4 +1,4 @@
-use Rattle.std.proofs.Common.{rules, subst, sym, ap, ◌∙◌, inl}
+use Rattle.std.proofs.Common.{rules, subst, sym, ap, ◌∙◌, inl, inr}
 use Rattle.std.specs.Prelude.{Ok}
 use Rattle.cbm_command.specs.declared.command.Command.TheVariants.{New, Validate}
 use Rattle.cbm_machine.specs.Machines.{answered}
@@ -9,6 +9,7 @@ use Rattle.cbm_channel.specs.Commanded.{formats, cleared_by}
 use Rattle.cbm_channel.proofs.Goings.{part_same}
 use Rattle.cbm_channel.proofs.Named.{new_name_cut, copy_name_cut, place_some}
 use Rattle.cbm_channel.proofs.Rest.{rest_itself, rest_none}
+use Rattle.cbm_channel.proofs.GroundedReports.{told_grounded}
 use Rattle.cbm_channel.proofs.dos.Dos.run.Goals as goal
 
 pub returns-in-New-clause-goes : goal.returns-in-New-clause-goes
@@ -55,6 +56,7 @@ returns-in-New-clause-leaves g c = record {
   medium = (search rules);
   rest = λ other. let z = sym (ap formats c.in-New.is) ∙ other in absurd (cc);
   counted = (search rules);
+  grounded = (search rules);
 }
 
 pub returns-in-Scratch-clause-leaves : goal.returns-in-Scratch-clause-leaves
@@ -65,6 +67,7 @@ returns-in-Scratch-clause-leaves g c = record {
   medium = (search rules);
   rest = λ other m s. subst (λ (x : Command). KeepsRest (g.M.Medium.seen c.args.self.now.medium) (g.M.Medium.seen c.scratch.new.self.medium) (cleared_by x m)) (sym c.in-Scratch.is) (c.scratch.ensures.rest m s);
   counted = (search rules);
+  grounded = (search rules);
 }
 
 pub returns-in-Rename-clause-leaves : goal.returns-in-Rename-clause-leaves
@@ -75,6 +78,7 @@ returns-in-Rename-clause-leaves g c = record {
   medium = (search rules);
   rest = λ other m s. rest_none _ _ (c.rename.ensures.rest m s);
   counted = (search rules);
+  grounded = (search rules);
 }
 
 pub returns-in-Copy-clause-leaves : goal.returns-in-Copy-clause-leaves
@@ -85,6 +89,7 @@ returns-in-Copy-clause-leaves g c = record {
   medium = (search rules);
   rest = λ other m s. rest_none _ _ (c.copy.ensures.rest m s);
   counted = (search rules);
+  grounded = (search rules);
 }
 
 pub returns-in-Validate-clause-leaves : goal.returns-in-Validate-clause-leaves
@@ -95,6 +100,7 @@ returns-in-Validate-clause-leaves g c = record {
   medium = (search rules);
   rest = λ other m s. rest_none _ _ (c.validate.ensures.rest m s);
   counted = (search rules);
+  grounded = (search rules);
 }
 
 pub returns-in-Initialize-clause-leaves : goal.returns-in-Initialize-clause-leaves
@@ -105,6 +111,7 @@ returns-in-Initialize-clause-leaves g c = record {
   medium = (search rules);
   rest = λ other m s. rest_itself _ _ (ap g.M.Medium.seen c.say.ensures.medium);
   counted = (search rules);
+  grounded = (search rules);
 }
 
 pub returns-in-Position-clause-leaves : goal.returns-in-Position-clause-leaves
@@ -115,4 +122,5 @@ returns-in-Position-clause-leaves g c = record {
   medium = (search rules);
   rest = λ other m s. rest_itself _ _ (ap g.M.Medium.seen c.place.ensures.tells.1);
   counted = (search rules);
+  grounded = inr (told_grounded g.M.Medium.seen c.args.self.now c.place.new.self c.place.ensures.tells.1 c.place.ensures.tells.0);
 }

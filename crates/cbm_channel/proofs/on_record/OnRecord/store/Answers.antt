@@ -98,7 +98,7 @@ returns-in_err-grow-clause-medium g c =
 
 pub returns-then-not-branch-clause-medium : goal.returns-then-not-branch-clause-medium
 returns-then-not-branch-clause-medium g c = else_then c.grow.result _ c.in_ok-grow.field-0 (g.M.Medium.seen c.args.volume.now) (g.M.Medium.seen c.grow.new.volume) c.in_ok-grow.was
-    (else_after c.write.result c.in_ok-written.field-0 c.grow.result (g.M.Medium.seen c.args.volume.now) (g.M.Medium.seen c.write.new.volume) (g.M.Medium.seen c.grow.new.volume) c.in_ok-written.was c.write.ensures.only c.grow.ensures.call.medium) tt
+    (else_after c.write.result c.in_ok-written.field-0 c.grow.result (g.M.Medium.seen c.args.volume.now) (g.M.Medium.seen c.write.new.volume) (g.M.Medium.seen c.grow.new.volume) c.in_ok-written.was c.write.ensures.only c.grow.ensures.call.medium) tt tt
 
 pub returns-in_err-written-2-clause-medium : goal.returns-in_err-written-2-clause-medium
 returns-in_err-written-2-clause-medium g c =
@@ -110,12 +110,12 @@ returns-in_err-written-2-clause-medium g c =
 pub returns-in-Some-2-clause-medium : goal.returns-in-Some-2-clause-medium
 returns-in-Some-2-clause-medium g c = else_then c.write-2.result _ c.in_ok-written-2.field-0 (g.M.Medium.seen c.args.volume.now) (g.M.Medium.seen c.write-2.new.volume) c.in_ok-written-2.was
     (else_after c.grow.result c.in_ok-grow.field-0 c.write-2.result (g.M.Medium.seen c.args.volume.now) (g.M.Medium.seen c.grow.new.volume) (g.M.Medium.seen c.write-2.new.volume) c.in_ok-grow.was
-    (else_after c.write.result c.in_ok-written.field-0 c.grow.result (g.M.Medium.seen c.args.volume.now) (g.M.Medium.seen c.write.new.volume) (g.M.Medium.seen c.grow.new.volume) c.in_ok-written.was c.write.ensures.only c.grow.ensures.call.medium) c.write-2.ensures.only) tt
+    (else_after c.write.result c.in_ok-written.field-0 c.grow.result (g.M.Medium.seen c.args.volume.now) (g.M.Medium.seen c.write.new.volume) (g.M.Medium.seen c.grow.new.volume) c.in_ok-written.was c.write.ensures.only c.grow.ensures.call.medium) c.write-2.ensures.only) tt tt
 
 pub returns-in-None-clause-medium : goal.returns-in-None-clause-medium
 returns-in-None-clause-medium g c = else_then c.write-2.result _ c.in_ok-written-2.field-0 (g.M.Medium.seen c.args.volume.now) (g.M.Medium.seen c.write-2.new.volume) c.in_ok-written-2.was
     (else_after c.grow.result c.in_ok-grow.field-0 c.write-2.result (g.M.Medium.seen c.args.volume.now) (g.M.Medium.seen c.grow.new.volume) (g.M.Medium.seen c.write-2.new.volume) c.in_ok-grow.was
-    (else_after c.write.result c.in_ok-written.field-0 c.grow.result (g.M.Medium.seen c.args.volume.now) (g.M.Medium.seen c.write.new.volume) (g.M.Medium.seen c.grow.new.volume) c.in_ok-written.was c.write.ensures.only c.grow.ensures.call.medium) c.write-2.ensures.only) (search rules)
+    (else_after c.write.result c.in_ok-written.field-0 c.grow.result (g.M.Medium.seen c.args.volume.now) (g.M.Medium.seen c.write.new.volume) (g.M.Medium.seen c.grow.new.volume) c.in_ok-written.was c.write.ensures.only c.grow.ensures.call.medium) c.write-2.ensures.only) (search rules) (search rules)
 
 -- ---- the rest of the disk
 
