@@ -6,6 +6,7 @@ ghost use Rattle.cbm_medium.specs.Links.{with_block};
 ghost use Rattle.cbm_bam.specs.Map.{Frees, IsGiven};
 ghost use Rattle.cbm_chain.specs.GivenUp.{linked_blocks};
 ghost use Rattle.cbm_medium.specs.Met.{Walks};
+ghost use Rattle.cbm_medium.specs.Seen.{IsShown};
 
 use cbm_bam::Release;
 use cbm_medium::codes::ILLEGAL_LINK;
@@ -24,6 +25,7 @@ pub(crate) fn give_linked<M: Medium>(
     ensures freed { OnOk result (Frees geometry release.old
         (linked_blocks geometry (M.seen medium.now).content more first).blocks release.new) }
     ensures walk { Walks (linked_blocks geometry (M.seen medium.now).content more first).trouble result }
+    ensures shown { IfErr result (IsShown (M.seen medium.now)) }
 {
     let mut at = first;
     for passed in 0..more {
@@ -48,6 +50,7 @@ fn give_and_follow<M: Medium>(
     ensures err { (n : ℕ) → IfErr result (λ t. linked_blocks geometry (M.seen medium.now).content (suc n) at ≡
         (record { blocks = []; trouble = Some t })) }
     ensures never_26 { IfErr result (λ t. t.code ≢ 26) }
+    ensures shown { IfErr result (IsShown (M.seen medium.now)) }
 {
     let address = give_at(geometry, at, release)?;
     let bytes = medium.read(address)?;
@@ -62,6 +65,7 @@ fn give_at(geometry: Geometry, at: Link, release: &mut Release) -> Result<Addres
     ensures err { IfErr result (λ t. (has geometry at ≡ false) ×
         (t ≡ (record { code = 66; track = at.track; sector = at.sector }))) }
     ensures never_26 { IfErr result (λ t. t.code ≢ 26) }
+    ensures code { IfErr result (λ t. t.code ≡ 66) }
 {
     let Some(address) = at.address(geometry) else {
         return Err(at.trouble(ILLEGAL_LINK));

@@ -1,7 +1,8 @@
 -- What a medium shows, and what a write leaves of it.
-use Rattle.std.specs.Prelude.{ℕ, ◌+◌, Bool, true, List, Option, Some, option_map, Result, OnOk, IfErr, ◌≡◌, ◌<◌, ◌≤◌, ◌⊎◌}
+use Rattle.std.specs.Prelude.{ℕ, ◌+◌, Bool, true, List, Option, Some, option_map, Result, Err, OnOk, IfErr, ◌≡◌, ◌<◌, ◌≤◌, ◌⊎◌}
 use Rattle.cbm_medium.specs.Place.{Place}
 use Rattle.cbm_medium.specs.Content.{Content, refusal}
+use Rattle.cbm_medium.specs.Met.{place_of}
 use Rattle.cbm_medium.specs.declared.fault.Fault.{Fault}
 use Rattle.cbm_medium.specs.declared.fault.Trouble.{Trouble}
 
@@ -35,6 +36,18 @@ write_refusal s at = refusal s.protected (s.content at)
 abbrev pub HasFailed : Seen → Seen → Type 0
 HasFailed old new = old.failures < new.failures
 
+-- A SECTOR SHOWS THE FAULT: the one that the trouble names doesn't read, with this code, or it refuses a write with it.
+abbrev pub ShowsFault : Seen → Trouble → Type 0
+ShowsFault s t = (s.content (place_of t) ≡ Err t.code) ⊎ (write_refusal s (place_of t) ≡ Some t.code)
+
+-- THE MEDIUM SHOWS THE TROUBLE: it is one of links (66 or 71), or a sector shows the fault.
+abbrev pub IsShown : Seen → Trouble → Type 0
+IsShown s t = ((t.code ≡ 66) ⊎ (t.code ≡ 71)) ⊎ ShowsFault s t
+
+-- A TROUBLE HAS ITS GROUND: the medium shows it after the call, or it failed by itself in the call.
+abbrev pub IsGrounded : Seen → Seen → Trouble → Type 0
+IsGrounded old new t = IsShown new t ⊎ HasFailed old new
+
 -- A write was refused with this fault, and changed nothing: for what the medium shows (why), or by a failure of the medium's own, which is
 -- counted, one for a write, and kept as what it refused last. The code 26 says that the medium is protected.
 pub record IsRefused (why : Option ℕ) (fault : Fault) (old new : Seen) : Type 0 where
@@ -51,7 +64,8 @@ pub record KeepsBeyond (tracks : ℕ) (old new : Content) : Type 0 where
 
 -- A call changed at most what the sectors of a disk of so many tracks hold, though the medium may have more: tracks, protection and id stay.
 -- It makes no write after one that the medium refused by itself: failures go up by one at most, only where it answers Err, and then that is
--- what the medium refused last. It answers the code 26 only where the medium is protected, whatever that holds.
+-- what the medium refused last. It answers the code 26 only where the medium is protected, whatever that holds, and no trouble without its
+-- ground.
 pub record OnlyContent {A : Type 0} (disk : ℕ) (result : Result A Trouble) (old new : Seen) : Type 0 where
   pub tracks : new.tracks ≡ old.tracks
   pub protected : new.protected ≡ old.protected
@@ -61,4 +75,5 @@ pub record OnlyContent {A : Type 0} (disk : ℕ) (result : Result A Trouble) (ol
   pub uncounted : OnOk result (new.failures ≡ old.failures)
   pub own : IfErr result (λ t. HasFailed old new → new.refused ≡ Some t)
   pub guarded : IfErr result (λ t. t.code ≡ 26 → old.protected ≡ true)
+  pub shown : IfErr result (IsGrounded old new)
   pub beyond : KeepsBeyond disk old.content new.content

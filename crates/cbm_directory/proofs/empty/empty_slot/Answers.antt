@@ -4,7 +4,7 @@ use Rattle.cbm_medium.specs.Content.{Content}
 use Rattle.cbm_directory.specs.Slots.{directory_of}
 use Rattle.cbm_directory.specs.Growth.{Grows, CannotGrow}
 use Rattle.cbm_directory.specs.Empties.{FindsEmpty}
-use Rattle.cbm_directory.proofs.Codes.{directory_never_26, found_never_26}
+use Rattle.cbm_directory.proofs.Codes.{directory_never_26, found_never_26, directory_shown, found_shown}
 use Rattle.cbm_medium.proofs.Sequences.{only_then, only_nothing}
 use Rattle.cbm_directory.proofs.Emptied.{grown_then, grown_stopped, grown_refused}
 use Rattle.cbm_directory.proofs.empty.empty_slot.Goals as goal
@@ -35,6 +35,7 @@ pub returns-clause-only : goal.returns-clause-only
 returns-clause-only g c =
     only_then c.grow.result c.first_empty-2.result c.in_ok-grow.field-0 (g.M.Medium.seen c.args.medium.now) (g.M.Medium.seen c.grow.new.medium) c.in_ok-grow.was c.grow.ensures.only
     (found_never_26 c.args.geometry (g.M.Medium.seen c.grow.new.medium).content c.first_empty-2.result _ (λ q. g.met.M.Medium.codes c.grow.new.medium q) c.first_empty-2.ensures)
+    (found_shown c.args.geometry (g.M.Medium.seen c.grow.new.medium) c.first_empty-2.result c.first_empty-2.ensures)
 
 pub returns-in-Some-clause-taken : goal.returns-in-Some-clause-taken
 returns-in-Some-clause-taken g c =
@@ -46,3 +47,4 @@ returns-in_err-slot-clause-only g c =
     let p = err_from_is_err_and c.from_residual.result c.from_residual.ensures.1 in
     only_nothing c.from_residual.result (g.M.Medium.seen c.args.medium.now) (g.M.Medium.seen c.args.medium.now) (λ i. g.M.Medium.seen c.args.medium.now)
     (rw (p.1, p.2) (λ is. absurd (directory_never_26 c.args.geometry (g.M.Medium.seen c.args.medium.now).content c.in_err-slot.field-0.0 (λ q. g.met.M.Medium.codes c.args.medium.now q) c.in_err-slot.ensures.1 is)))
+    (rw (p.1, p.2) (directory_shown c.args.geometry (g.M.Medium.seen c.args.medium.now) c.in_err-slot.field-0.0 c.in_err-slot.ensures.1))

@@ -5,7 +5,7 @@ use Rattle.std.proofs.lemmas.Result.{err_from_is_err_and}
 use Rattle.cbm_medium.specs.Place.{Place, directory_head}
 use Rattle.cbm_medium.specs.Content.{Content, written}
 use Rattle.cbm_medium.specs.Links.{or_nothing, bytes_at}
-use Rattle.cbm_medium.specs.Seen.{Seen, OnlyContent, write_refusal}
+use Rattle.cbm_medium.specs.Seen.{Seen, OnlyContent}
 use Rattle.cbm_medium.proofs.Sequences.{only_after, only_then, write_only, write_refused}
 use Rattle.cbm_bam.specs.Map.{ClaimsOn18}
 use Rattle.cbm_directory.specs.Entries.{first_directory, HasLink}
@@ -97,7 +97,7 @@ returns-in_err-write-2-clause-only g c =
     let new : Seen = g.M.Medium.seen c.write-2.new.self in
     let p = err_from_is_err_and c.from_residual-in_err-write-2.result c.from_residual-in_err-write-2.ensures.1 in
     only_after (Ok tt) tt c.from_residual-in_err-write-2.result old one new refl (placed g c)
-    (write_refused c.from_residual-in_err-write-2.result p.0 c.in_err-write-2.field-0.0 (write_refusal one c.in_ok-last.last.at) one new p.1 p.2 c.in_err-write-2.ensures.err.1)
+    (write_refused c.from_residual-in_err-write-2.result p.0 c.in_err-write-2.field-0.0 c.in_ok-last.last.at one new p.1 p.2 c.in_err-write-2.ensures.err.0 c.in_err-write-2.ensures.err.1)
 
 pub returns-clause-only : goal.returns-clause-only
 returns-clause-only g c =
@@ -109,4 +109,4 @@ returns-clause-only g c =
     only_then (Ok tt) (Ok true) tt old new refl
     (only_after (Ok tt) tt (Ok tt) old one new refl
     (only_after c.claim_directory.result c.in_ok-at.field-0 (Ok tt) old mid one c.in_ok-at.was c.claim_directory.ensures.only (write_only mid one c.in-Some.at c.blank.result took.has.1 c.in_ok-write.ensures.ok))
-    (write_only one new c.in_ok-last.last.at c.linked-bytes.result c.in_ok-last.ensures.track c.in_ok-write-2.ensures.ok)) tt
+    (write_only one new c.in_ok-last.last.at c.linked-bytes.result c.in_ok-last.ensures.track c.in_ok-write-2.ensures.ok)) tt tt

@@ -1,20 +1,34 @@
-use Rattle.std.proofs.Common.{Err, ap, sym, ◌∙◌}
+use Rattle.std.proofs.Common.{Err, ap, sym, inl, inr, ◌∙◌}
 use Rattle.std.proofs.lemmas.Result.{err_from_is_err_and}
 use Rattle.cbm_medium.proofs.Sequences.{only_after, only_refused}
 use Rattle.cbm_medium.specs.Seen.{Seen}
 use Rattle.cbm_relfile.specs.Changing.{IsWriteRefused}
+use Rattle.cbm_relfile.specs.Records.{IsRecordRefused}
 use Rattle.cbm_relfile.proofs.Changed.{handed, back_refused}
 use Rattle.cbm_relfile.proofs.writing.rewrite.Goals as goal
+use Rattle.cbm_relfile.proofs.writing.rewrite.Given.{Over}
 
 -- the second sector was read before the first one was written
-pub returns-in_err-put_part-3-clause-refused : goal.returns-in_err-put_part-3-clause-refused
-returns-in_err-put_part-3-clause-refused g c = λ here next.
+back : (g : Over) (c : goal.After-from_residual-in_err-put_part-3 g) → IsWriteRefused c.args.geometry (g.M.Medium.seen c.args.medium.now) (g.M.Medium.seen c.put_part-3.new.medium) c.in_err-put_part-3.field-0.0.code
+back g c =
     let old : Seen = g.M.Medium.seen c.args.medium.now in
     let mid : Seen = g.M.Medium.seen c.put_part-2.new.medium in
     let new : Seen = g.M.Medium.seen c.put_part-3.new.medium in
-    handed c.from_residual-in_err-put_part-3.result c.in_err-put_part-3.field-0.0 (λ t. IsWriteRefused c.args.geometry old new t.code) c.from_residual-in_err-put_part-3.ensures.1
-    (back_refused c.args.geometry old mid new c.args.at c.of-next.result _ c.in_ok-more.more c.in_err-put_part-3.field-0.0.code c.in_ok-put_part-2.ensures.ok c.in_ok-put_part-2.ensures.only.protected c.in_ok-put_part-2.ensures.only.counted c.in_ok-more.ensures.ok c.in_ok-more.ensures.has
-    (c.in_err-put_part-3.ensures.refused c.in_ok-more.ensures.has))
+    back_refused c.args.geometry old mid new c.args.at c.of-next.result _ c.in_ok-more.more c.in_err-put_part-3.field-0.0.code c.in_ok-put_part-2.ensures.ok c.in_ok-put_part-2.ensures.only.protected c.in_ok-put_part-2.ensures.only.counted c.in_ok-more.ensures.ok c.in_ok-more.ensures.has
+    (c.in_err-put_part-3.ensures.refused c.in_ok-more.ensures.has)
+
+pub returns-in_err-put_part-3-clause-refused : goal.returns-in_err-put_part-3-clause-refused
+returns-in_err-put_part-3-clause-refused g c = λ here next.
+    let old : Seen = g.M.Medium.seen c.args.medium.now in
+    let new : Seen = g.M.Medium.seen c.put_part-3.new.medium in
+    handed c.from_residual-in_err-put_part-3.result c.in_err-put_part-3.field-0.0 (λ t. IsWriteRefused c.args.geometry old new t.code) c.from_residual-in_err-put_part-3.ensures.1 (back g c)
+
+pub returns-in_err-put_part-3-clause-cause : goal.returns-in_err-put_part-3-clause-cause
+returns-in_err-put_part-3-clause-cause g c =
+    let old : Seen = g.M.Medium.seen c.args.medium.now in
+    let new : Seen = g.M.Medium.seen c.put_part-3.new.medium in
+    handed c.from_residual-in_err-put_part-3.result c.in_err-put_part-3.field-0.0 (IsRecordRefused c.args.geometry old new) c.from_residual-in_err-put_part-3.ensures.1
+    (inr (elim (back g c) [ inl w ↦ inl (w.0, w.2) | inr failed ↦ inr failed ]))
 
 pub returns-in_err-put_part-3-clause-only : goal.returns-in_err-put_part-3-clause-only
 returns-in_err-put_part-3-clause-only g c =

@@ -1,4 +1,6 @@
 use Rattle.std.proofs.Common.{◌≡◌, ℕ, ◌+◌, ◌-◌, ◌*◌, ◌/◌, length, get_or, sym, ap, subst, ◌∙◌, refl, arith, inl, inr}
+use Rattle.std.proofs.lemmas.Result.{err_from_is_err_and}
+use Rattle.cbm_medium.proofs.Sequences.{only_nothing}
 use Rattle.cbm_medium.specs.Place.{Place, directory_head}
 use Rattle.cbm_medium.specs.Content.{Content}
 use Rattle.cbm_medium.specs.Links.{Chain}
@@ -98,3 +100,20 @@ returns-clause-full g c = λ xs sides w laid short l all.
     let is : c.in_ok-at.at ≡ get_or xs (c.args.blocks - 1) directory_head = c.in_ok-at.ensures.there xs chain short (omega (arith, l, c.requires.some)) in
     let long = ends_with c.args.geometry now c.args.file.first xs c.args.blocks c.in_ok-at.at c.in_ok-at.sector w laid.chain l c.requires.some is c.in_ok-at.ensures.reads in
     absurd (omega (arith, long, all, ap length c.bytes_of.ensures.value, c.if-used-eq254.false, c.requires.some))
+
+-- the block isn't there
+pub returns-in_err-at-clause-only : goal.returns-in_err-at-clause-only
+returns-in_err-at-clause-only g c =
+    let p = err_from_is_err_and c.from_residual.result c.from_residual.ensures.1 in
+    only_nothing c.from_residual.result (g.M.Medium.seen c.args.medium.now) (g.M.Medium.seen c.args.medium.now) (λ i. g.M.Medium.seen c.args.medium.now)
+    (rw (p.1, p.2) (λ is. absurd (c.in_err-at.ensures.never_26 is)))
+    (rw (p.1, p.2) c.in_err-at.ensures.shown)
+
+-- the block before the last one isn't written
+pub returns-in_err-fill_tail-clause-laid : goal.returns-in_err-fill_tail-clause-laid
+returns-in_err-fill_tail-clause-laid g c = λ xs sides w laid short l.
+    let old : Seen = g.M.Medium.seen c.args.medium.now in
+    let new : Seen = g.M.Medium.seen c.fill_tail.new.medium in
+    let t = c.in_err-fill_tail.ensures.laid xs laid.chain short l in
+    refused_by c.from_residual-in_err-fill_tail.result _ _ (λ u. IsFillStopped c.args.geometry old new xs c.args.file.width u.code) c.from_residual-in_err-fill_tail.ensures.1
+    (record { so_far = inl t.0; cause = t.1 })

@@ -4,7 +4,7 @@ use Rattle.std.proofs.lemmas.Result.{err_from_is_err_and}
 use Rattle.cbm_medium.specs.Place.{Place}
 use Rattle.cbm_medium.proofs.Sequences.{only_after, only_then, write_only, write_refused}
 use Rattle.cbm_medium.specs.Content.{written}
-use Rattle.cbm_medium.specs.Seen.{Seen, write_refusal}
+use Rattle.cbm_medium.specs.Seen.{Seen}
 use Rattle.cbm_bam.specs.Map.{Claims}
 use Rattle.cbm_relfile.specs.Growing.{IsLengthenStopped}
 use Rattle.cbm_relfile.proofs.Changed.{refused_by}
@@ -51,7 +51,7 @@ returns-in_err-write-2-clause-only g c =
     let p = err_from_is_err_and c.from_residual-in_err-write-2.result c.from_residual-in_err-write-2.ensures.1 in
     only_after (Ok tt) tt c.from_residual-in_err-write-2.result old mid new refl
     (only_after c.claim_next.result c.in_ok-block.field-0 (Ok tt) old one mid c.in_ok-block.was c.claim_next.ensures.only (write_only one mid c.in-Some.block c.fresh_from-fresh.result few c.in_ok-write.ensures.ok))
-    (write_refused c.from_residual-in_err-write-2.result p.0 c.in_err-write-2.field-0.0 (write_refusal mid c.args.last) mid new p.1 p.2 c.in_err-write-2.ensures.err.1)
+    (write_refused c.from_residual-in_err-write-2.result p.0 c.in_err-write-2.field-0.0 c.args.last mid new p.1 p.2 c.in_err-write-2.ensures.err.0 c.in_err-write-2.ensures.err.1)
 
 pub returns-clause-only : goal.returns-clause-only
 returns-clause-only g c =
@@ -63,4 +63,4 @@ returns-clause-only g c =
     only_then (Ok tt) (Ok (Some c.in-Some.block)) tt old new refl
     (only_after (Ok tt) tt (Ok tt) old mid new refl
     (only_after c.claim_next.result c.in_ok-block.field-0 (Ok tt) old one mid c.in_ok-block.was c.claim_next.ensures.only (write_only one mid c.in-Some.block c.fresh_from-fresh.result few c.in_ok-write.ensures.ok))
-    (write_only mid new c.args.last c.fresh_from-linked.result c.requires.last c.in_ok-write-2.ensures.ok)) tt
+    (write_only mid new c.args.last c.fresh_from-linked.result c.requires.last c.in_ok-write-2.ensures.ok)) tt tt
