@@ -1,12 +1,12 @@
 -- Calls that change at most what the sectors hold, one after another: all but the last have succeeded.
 use Rattle.std.proofs.Common.{◌≡◌, ◌≤◌, ℕ, List, ap, sym, subst, ◌∙◌, arith, inl, inr, Result, Ok, Err}
-use Rattle.std.specs.Prelude.{OnOk, IfErr, Some, true}
+use Rattle.std.specs.Prelude.{OnOk, IfErr, Some, Bool, true, false, if◌then◌else◌}
 use Rattle.cbm_medium.specs.declared.fault.Fault.{Fault}
 use Rattle.cbm_medium.specs.declared.fault.Trouble.{Trouble}
-use Rattle.cbm_medium.specs.Place.{Place}
+use Rattle.cbm_medium.specs.Place.{Place, is_place}
 use Rattle.cbm_medium.specs.Content.{Content, written}
 use Rattle.cbm_medium.specs.Met.{place_of}
-use Rattle.cbm_medium.specs.Seen.{Seen, HasFailed, IsRefused, IsShown, IsGrounded, KeepsBeyond, OnlyContent, trouble_of, with_content, write_refusal}
+use Rattle.cbm_medium.specs.Seen.{Seen, HasFailed, IsRefused, IsShown, IsGrounded, KeepsBeyond, KeepsReadable, OnlyContent, trouble_of, with_content, write_refusal}
 use Rattle.cbm_medium.proofs.Places.{written_elsewhere}
 
 -- an answer of the code 26 says that the medium is protected
@@ -44,18 +44,32 @@ beyond_refused tracks old new e = record { same = λ p far. ap (λ (c : Content)
 pub beyond_after : (tracks : ℕ) (old mid new : Content) → KeepsBeyond tracks old mid → KeepsBeyond tracks mid new → KeepsBeyond tracks old new
 beyond_after tracks old mid new h k = record { same = λ p far. k.same p far ∙ h.same p far }
 
+-- no write makes a sector unreadable, nor one that is refused, nor one after another
+pub readable_written : (old new : Content) (at : Place) (bytes : List ℕ) → new ≡ written old at bytes → KeepsReadable old new
+readable_written old new at bytes e = record { faults = λ p code fault. before p code (is_place at p) (sym (ap (λ (c : Content). c p) e) ∙ fault) }
+  where
+    before : (p : Place) (code : ℕ) (here : Bool) → (if here then Ok bytes else old p) ≡ Err code → old p ≡ Err code
+    before p code true fault = absurd (cc)
+    before p code false fault = fault
+
+pub readable_same : (old new : Content) → new ≡ old → KeepsReadable old new
+readable_same old new e = record { faults = λ p code fault. sym (ap (λ (c : Content). c p) e) ∙ fault }
+
+pub readable_after : (old mid new : Content) → KeepsReadable old mid → KeepsReadable mid new → KeepsReadable old new
+readable_after old mid new h k = record { faults = λ p code fault. h.faults p code (k.faults p code fault) }
+
 -- a disk of as many tracks or more
 pub beyond_within : (few many : ℕ) (old new : Content) → few ≤ many → KeepsBeyond few old new → KeepsBeyond many old new
 beyond_within few many old new more h = record { same = λ p far. h.same p (omega (arith, more, far)) }
 
 pub only_within : {few : ℕ} {A : Type 0} (many : ℕ) (r : Result A Trouble) (old new : Seen) → few ≤ many → OnlyContent few r old new → OnlyContent many r old new
 only_within {few} {A} many r old new more h =
-    record { tracks = h.tracks; protected = h.protected; id = h.id; counted = h.counted; once = h.once; uncounted = h.uncounted; own = h.own; guarded = h.guarded; shown = h.shown; beyond = beyond_within few many old.content new.content more h.beyond }
+    record { tracks = h.tracks; protected = h.protected; id = h.id; counted = h.counted; once = h.once; uncounted = h.uncounted; own = h.own; guarded = h.guarded; shown = h.shown; beyond = beyond_within few many old.content new.content more h.beyond; readable = h.readable }
 
 -- nothing was done
 pub only_nothing : {disk : ℕ} {A : Type 0} (r : Result A Trouble) (old new : Seen) → new ≡ old → IsGuarded r old → IfErr r (IsShown new) → OnlyContent disk r old new
 only_nothing {disk} {A} r old new e guards shows =
-    record { tracks = ap (λ (s : Seen). s.tracks) e; protected = ap (λ (s : Seen). s.protected) e; id = ap (λ (s : Seen). s.id) e; counted = omega (arith, same); once = omega (arith, same); uncounted = on_ok r; own = on_err r; guarded = guards; shown = grounds_of r old new shows; beyond = beyond_refused disk old.content new.content (ap (λ (s : Seen). s.content) e) }
+    record { tracks = ap (λ (s : Seen). s.tracks) e; protected = ap (λ (s : Seen). s.protected) e; id = ap (λ (s : Seen). s.id) e; counted = omega (arith, same); once = omega (arith, same); uncounted = on_ok r; own = on_err r; guarded = guards; shown = grounds_of r old new shows; beyond = beyond_refused disk old.content new.content (ap (λ (s : Seen). s.content) e); readable = readable_same old.content new.content (ap (λ (s : Seen). s.content) e) }
   where
     same : new.failures ≡ old.failures
     same = ap (λ (s : Seen). s.failures) e
@@ -75,7 +89,7 @@ nothing_yet {disk} s = only_nothing (Ok tt) s s (λ i. s) tt tt
 -- one call after another that succeeded
 pub only_after : {disk : ℕ} {A B : Type 0} (q : Result A Trouble) (a : A) (r : Result B Trouble) (old mid new : Seen) → q ≡ Ok a → OnlyContent disk q old mid → OnlyContent disk r mid new → OnlyContent disk r old new
 only_after {disk} {A} {B} q a r old mid new e h k =
-    record { tracks = k.tracks ∙ h.tracks; protected = k.protected ∙ h.protected; id = k.id ∙ h.id; counted = omega (arith, h.counted, k.counted); once = omega (arith, first, k.once); uncounted = on_ok r k.uncounted; own = on_err r k.own; guarded = guards r k.guarded; shown = grounds r k.shown; beyond = beyond_after disk old.content mid.content new.content h.beyond k.beyond }
+    record { tracks = k.tracks ∙ h.tracks; protected = k.protected ∙ h.protected; id = k.id ∙ h.id; counted = omega (arith, h.counted, k.counted); once = omega (arith, first, k.once); uncounted = on_ok r k.uncounted; own = on_err r k.own; guarded = guards r k.guarded; shown = grounds r k.shown; beyond = beyond_after disk old.content mid.content new.content h.beyond k.beyond; readable = readable_after old.content mid.content new.content h.readable k.readable }
   where
     first : mid.failures ≡ old.failures
     first = subst (λ (x : Result A Trouble). OnOk x (mid.failures ≡ old.failures)) e h.uncounted
@@ -99,7 +113,7 @@ only_after {disk} {A} {B} q a r old mid new e h k =
 -- a call that only reads after one that succeeded
 pub only_then : {disk : ℕ} {A B : Type 0} (q : Result A Trouble) (r : Result B Trouble) (a : A) (old new : Seen) → q ≡ Ok a → OnlyContent disk q old new → IsGuarded r old → IfErr r (IsShown new) → OnlyContent disk r old new
 only_then {disk} {A} {B} q r a old new e h guards shows =
-    record { tracks = h.tracks; protected = h.protected; id = h.id; counted = h.counted; once = h.once; uncounted = on_ok r; own = on_err r; guarded = guards; shown = grounds_of r old new shows; beyond = h.beyond }
+    record { tracks = h.tracks; protected = h.protected; id = h.id; counted = h.counted; once = h.once; uncounted = on_ok r; own = on_err r; guarded = guards; shown = grounds_of r old new shows; beyond = h.beyond; readable = h.readable }
   where
     same : new.failures ≡ old.failures
     same = subst (λ (x : Result A Trouble). OnOk x (new.failures ≡ old.failures)) e h.uncounted
@@ -131,6 +145,7 @@ only_refused {disk} {A} {B} r s t old new refuses hands h =
       guarded = subst (λ (x : Result B Trouble). IsGuarded x old) (sym hands) (subst (λ (x : Result A Trouble). IsGuarded x old) refuses h.guarded);
       shown = subst (λ (x : Result B Trouble). IfErr x (IsGrounded old new)) (sym hands) (subst (λ (x : Result A Trouble). IfErr x (IsGrounded old new)) refuses h.shown);
       beyond = h.beyond;
+      readable = h.readable;
     }
 
 -- ---- a write of the medium's
@@ -148,6 +163,7 @@ write_only {disk} old new at bytes few e = record {
   guarded = tt;
   shown = tt;
   beyond = beyond_written disk old.content new.content at bytes few (ap (λ (s : Seen). s.content) e);
+  readable = readable_written old.content new.content at bytes (ap (λ (s : Seen). s.content) e);
 }
   where
     same : new.failures ≡ old.failures
@@ -166,4 +182,5 @@ write_refused {disk} {B} r t fault at old new hands says stands h = record {
   guarded = subst (λ (x : Result B Trouble). IsGuarded x old) (sym hands) (λ is. h.only_protected (ap (λ (u : Trouble). u.code) (sym says) ∙ is));
   shown = subst (λ (x : Result B Trouble). IfErr x (IsGrounded old new)) (sym hands) (refused_grounded old new at fault t says stands h);
   beyond = beyond_refused disk old.content new.content (ap (λ (s : Seen). s.content) h.same);
+  readable = readable_same old.content new.content (ap (λ (s : Seen). s.content) h.same);
 }

@@ -62,7 +62,12 @@ pub record IsRefused (why : Option ℕ) (fault : Fault) (old new : Seen) : Type 
 pub record KeepsBeyond (tracks : ℕ) (old new : Content) : Type 0 where
   pub same : (p : Place) → tracks < p.track → new p ≡ old p
 
--- A call changed at most what the sectors of a disk of so many tracks hold, though the medium may have more: tracks, protection and id stay.
+-- NO SECTOR BECOMES UNREADABLE: a fault that stands in place of its bytes stood there before.
+pub record KeepsReadable (old new : Content) : Type 0 where
+  pub faults : (p : Place) (code : ℕ) → new p ≡ Err code → old p ≡ Err code
+
+-- A call changed at most what the sectors of a disk of so many tracks hold, though the medium may have more: tracks, protection and id stay,
+-- and no sector becomes unreadable.
 -- It makes no write after one that the medium refused by itself: failures go up by one at most, only where it answers Err, and then that is
 -- what the medium refused last. It answers the code 26 only where the medium is protected, whatever that holds, and no trouble without its
 -- ground.
@@ -77,3 +82,4 @@ pub record OnlyContent {A : Type 0} (disk : ℕ) (result : Result A Trouble) (ol
   pub guarded : IfErr result (λ t. t.code ≡ 26 → old.protected ≡ true)
   pub shown : IfErr result (IsGrounded old new)
   pub beyond : KeepsBeyond disk old.content new.content
+  pub readable : KeepsReadable old.content new.content
