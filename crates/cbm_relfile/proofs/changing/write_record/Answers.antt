@@ -1,4 +1,4 @@
-use Rattle.std.proofs.Common.{◌≡◌, ◌⊎◌, ℕ, length, ◌+◌, ◌-◌, ◌*◌, ◌/◌, ◌%◌, List, ◌∷◌, Option, refl, sym, ap, ◌∙◌, subst, arith, inl}
+use Rattle.std.proofs.Common.{rules, ◌≡◌, ◌⊎◌, ℕ, length, ◌+◌, ◌-◌, ◌*◌, ◌/◌, ◌%◌, List, ◌∷◌, Option, refl, sym, ap, ◌∙◌, subst, arith, inl}
 use Rattle.std.specs.Prelude.{option_map, nat_lt, Bool, IsOkAnd, MatchBool}
 use Rattle.cbm_file.specs.Records.{with_bytes}
 use Rattle.cbm_medium.specs.Content.{refusal}
@@ -7,6 +7,7 @@ use Rattle.cbm_chain.specs.Data.{chain_bytes}
 use Rattle.cbm_relfile.specs.Records.{stretch_in, IsRewritten, EndsBefore}
 use Rattle.cbm_relfile.specs.Changing.{record_bytes, IsChangedIfThere, IsHalfRewritten, IsChangeStopped}
 use Rattle.cbm_relfile.proofs.Changed.{refused_by, read_from, no_stretch, with_bytes_length}
+use Rattle.cbm_relfile.proofs.StillShown.{still_shown}
 use Rattle.cbm_relfile.proofs.Stretches.{no_block, block_found, next_record}
 use Rattle.cbm_relfile.proofs.changing.write_record.Goals as goal
 
@@ -122,3 +123,19 @@ returns-clause-next g c = λ blocks sides w laid short.
     ∙ next_record c.args.geometry (g.M.Medium.seen c.args.medium.now).content c.args.file.first blocks c.args.number c.args.file.width from (from / 254) w laid.chain c.requires.number.0 c.requires.length.0
     (ap (λ (m : ℕ). (c.args.number - 1) * m) c.length.ensures) refl found.there)
     (c.next_stretch-next.ensures.chain c.in-Some.at found.rest w c.in_ok-sector.ensures.ok found.chain)
+
+-- a record that doesn't read didn't read before either
+pub returns-clause-write : goal.returns-clause-write
+returns-clause-write g c =
+    let old : Seen = g.M.Medium.seen c.args.medium.now in
+    let new : Seen = g.M.Medium.seen c.rewrite.new.medium in
+    let place : ℕ = ((c.args.number - 1) * c.length.result) % 254 in
+    let w = subst (λ (b : Bool). MatchBool b (IsRewritten old.content new.content c.in-Some.at c.in_ok-sector.sector place c.deref.result.now) (new.content ≡ old.content)) c.if-not-branch.false c.in_ok-rewrite.ensures.done in
+    record {
+      kept = (search rules);
+      few = (search rules);
+      allowed = (search rules);
+      guarded = (search rules);
+      next_never_26 = (search rules);
+      next_shown = still_shown c.next_stretch-next.result c.args.geometry old new c.in-Some.at c.in_ok-sector.sector place c.deref.result.now c.in_ok-sector.ensures.ok w c.next_stretch-next.ensures.err;
+    }
