@@ -2,3 +2,4 @@ pub mod Places
 pub mod Sequences
 pub mod Walks
 pub mod FaultCodes
+pub mod Named
