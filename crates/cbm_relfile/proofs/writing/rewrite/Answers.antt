@@ -1,10 +1,22 @@
-use Rattle.std.proofs.Common.{Err, ap, sym, ◌∙◌}
+use Rattle.std.proofs.Common.{◌≡◌, ◌⊎◌, Err, ap, sym, ◌∙◌, inl, inr}
 use Rattle.std.proofs.lemmas.Result.{err_from_is_err_and}
 use Rattle.cbm_medium.proofs.Sequences.{only_after, only_refused}
+use Rattle.cbm_medium.specs.Place.{Place}
+use Rattle.cbm_medium.specs.Links.{link}
 use Rattle.cbm_medium.specs.Seen.{Seen}
+use Rattle.cbm_medium.proofs.Named.{one_start, met_more}
+use Rattle.cbm_relfile.specs.Records.{IsRecordRefused}
 use Rattle.cbm_relfile.specs.Changing.{IsWriteRefused}
 use Rattle.cbm_relfile.proofs.Changed.{handed, back_refused}
 use Rattle.cbm_relfile.proofs.writing.rewrite.Goals as goal
+
+-- the next block doesn't read
+pub returns-in_err-more-clause-cause : goal.returns-in_err-more-clause-cause
+returns-in_err-more-clause-cause g c =
+    let old : Seen = g.M.Medium.seen c.args.medium.now in
+    let starts : Place → Type 0 = λ q. (q ≡ c.args.at) ⊎ (q ≡ link c.args.sector.now) in
+    handed c.from_residual-in_err-more.result c.in_err-more.field-0.0 (IsRecordRefused c.args.geometry starts old old) c.from_residual-in_err-more.ensures.1
+    (inl (met_more c.args.geometry old.content (λ q. q ≡ c.of-next.result) starts (one_start c.args.geometry old.content starts c.of-next.result (inl (inr c.of-next.ensures))) c.in_err-more.field-0.0 c.in_err-more.ensures.err.shown))
 
 -- the second sector was read before the first one was written
 pub returns-in_err-put_part-3-clause-refused : goal.returns-in_err-put_part-3-clause-refused
