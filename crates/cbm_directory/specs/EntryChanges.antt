@@ -4,7 +4,7 @@ use Rattle.cbm_medium.specs.Place.{Place}
 use Rattle.cbm_medium.specs.Content.{Content}
 use Rattle.cbm_medium.specs.Links.{bytes_at}
 use Rattle.cbm_medium.specs.Seen.{Seen}
-use Rattle.cbm_medium.specs.Met.{IsMet}
+use Rattle.cbm_medium.specs.Met.{IsMetFrom}
 use Rattle.cbm_medium.specs.declared.fault.Trouble.{Trouble}
 use Rattle.cbm_bam.specs.Causes.{HasCause}
 use Rattle.cbm_file.specs.Padding.{before_filler, padded}
@@ -48,7 +48,7 @@ ClearsLed tracks old new n =
 -- Why an entry isn't written, on any content: a link on the way to it meets this, or its sector refuses.
 abbrev pub IsEntryRefused : ℕ → Seen → Seen → ℕ → Trouble → Type 0
 IsEntryRefused tracks old new n t =
-    IsMet tracks old.content t
+    IsMetFrom tracks old.content (λ q. ⊥) t
     ⊎ ((p : Place) × (led_to tracks old.content (n / 8) first_directory ≡ Some p) × HasCause old new p t.code)
 
 -- The entry under another name.

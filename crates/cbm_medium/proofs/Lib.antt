@@ -3,3 +3,4 @@ pub mod Sequences
 pub mod Walks
 pub mod FaultCodes
 pub mod Shown
+pub mod Named

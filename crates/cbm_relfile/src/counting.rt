@@ -5,6 +5,7 @@ ghost use Rattle.cbm_medium.specs.Place.{Place, Has, sector_count};
 ghost use Rattle.cbm_medium.specs.Links.{Chain};
 ghost use Rattle.cbm_medium.specs.Met.{MeetsTrouble};
 ghost use Rattle.cbm_relfile.specs.Counting.{IsChainCounted};
+ghost use Rattle.cbm_relfile.specs.OfFile.{IsOfFile};
 ghost use Rattle.cbm_relfile.specs.SideSectors.{sides_behind};
 
 use crate::relative::Relative;
@@ -25,7 +26,7 @@ fn block_count<M: Medium>(medium: &M, geometry: Geometry, first: Link) -> Result
     ensures chain { (blocks : List Place) → Chain geometry (M.seen medium.now).content first blocks →
         length blocks ≤ sector_count geometry → IsOkAnd result (λ k. k ≡ length blocks) }
     ensures walked { IfOk result (IsChainCounted geometry (M.seen medium.now).content first) }
-    ensures err { MeetsTrouble geometry (M.seen medium.now).content result }
+    ensures err { MeetsTrouble geometry (M.seen medium.now).content (λ q. q ≡ first) result }
 {
     let sectors = geometry.sectors();
     let mut at = first;
@@ -68,7 +69,7 @@ pub fn extent_of<M: Medium>(
     ensures sides { IfOk result (λ x. IsOkAnd ((M.seen medium.now).content file.side)
         (λ head. x.sides ≡ length (sides_behind 0 head))) }
     ensures most { IfOk result (λ x. x.sides ≤ 6) }
-    ensures err { MeetsTrouble geometry (M.seen medium.now).content result }
+    ensures err { MeetsTrouble geometry (M.seen medium.now).content (IsOfFile geometry (M.seen medium.now).content file) result }
 {
     let blocks = block_count(medium, geometry, file.first())?;
     let head = read_at(medium, geometry, file.side())?;

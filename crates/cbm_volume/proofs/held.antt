@@ -3,3 +3,4 @@ pub mod ReadingUses
 pub mod Slices
 pub mod RecordsRead
 pub mod RecordUses
+pub mod FileMet

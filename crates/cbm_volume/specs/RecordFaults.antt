@@ -1,8 +1,13 @@
--- What is wrong with the side sectors of a relative file, as OPEN reports it.
+-- What is wrong with a relative file: with its side sectors, as OPEN reports it, and with its links.
 use Rattle.std.specs.Prelude.{ℕ, ◌≡◌, List, false}
+use Rattle.std.specs.List.{Contains}
+use Rattle.cbm_medium.specs.Place.{Place}
 use Rattle.cbm_medium.specs.Content.{Content}
 use Rattle.cbm_medium.specs.declared.fault.Trouble.{Trouble}
-use Rattle.cbm_directory.specs.Entries.{first_side}
+use Rattle.cbm_medium.specs.Met.{IsMetFrom}
+use Rattle.cbm_directory.specs.Entries.{first_block, first_side, width_of}
+use Rattle.cbm_directory.specs.Slots.{directory_of}
+use Rattle.cbm_relfile.specs.OfFile.{IsOfFile}
 use Rattle.cbm_volume.specs.check.SideLists.{are_records}
 
 -- THE SIDE SECTORS OF AN ENTRY AREN'T RIGHT: 71, reported at the first of them.
@@ -11,3 +16,12 @@ pub record IsMislisted (tracks : ℕ) (c : Content) (e : List ℕ) (t : Trouble)
   pub track : t.track ≡ (first_side e).track
   pub sector : t.sector ≡ (first_side e).sector
   pub wrong : are_records tracks c e ≡ false
+
+-- A PLACE OF AN ENTRY'S FILE: one that the entry names, or one of its side sectors.
+abbrev pub IsOfEntry : ℕ → Content → List ℕ → Place → Type 0
+IsOfEntry tracks c entry q = IsOfFile tracks c (record { first = first_block entry; side = first_side entry; width = width_of entry }) q
+
+-- A FILE MEETS THE TROUBLE: a place of the file of an entry of the directory, or a place to which a sector links, is no sector of the disk
+-- (66), or a sector doesn't read, with its fault.
+abbrev pub IsMetInFile : ℕ → Content → Trouble → Type 0
+IsMetInFile tracks c t = (entry : List ℕ) × Contains (directory_of tracks c).entries entry × IsMetFrom tracks c (IsOfEntry tracks c entry) t

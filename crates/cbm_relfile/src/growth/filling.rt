@@ -3,7 +3,7 @@
 ghost use Rattle.std.specs.Prelude.{◌≡◌, ◌≢◌, ◌≤◌, ◌<◌, ◌*◌, ◌-◌, ◌⊎◌, ℕ, List, length, slice_index_or, Ok, Some, true, IsOk, IfOk, IfErr, IsOkAnd, OnOk, OnErr, MatchResult};
 ghost use Rattle.cbm_medium.specs.Place.{Place, Has, directory_head, sector_count};
 ghost use Rattle.cbm_medium.specs.Links.{link, Chain};
-ghost use Rattle.cbm_medium.specs.Met.{IsMet, place_of};
+ghost use Rattle.cbm_medium.specs.Met.{IsMetFrom, place_of};
 ghost use Rattle.cbm_medium.specs.Seen.{IsShown, OnlyContent};
 ghost use Rattle.cbm_chain.specs.Data.{chain_bytes};
 ghost use Rattle.cbm_relfile.specs.Records.{AllWhole, IsLaid};
@@ -31,7 +31,7 @@ fn block_there<M: Medium>(
     ensures reads { IfOk result (λ r. (M.seen medium.now).content r.0 ≡ Ok r.1) }
     ensures has { IfOk result (λ r. Has geometry r.0) }
     // The content shows why, or the chain has no such block.
-    ensures err { IfErr result (λ t. IsMet geometry (M.seen medium.now).content t ⊎
+    ensures err { IfErr result (λ t. IsMetFrom geometry (M.seen medium.now).content (λ q. q ≡ first) t ⊎
         ((t.code ≡ 71) × (place_of t ≡ first))) }
     ensures never_26 { IfErr result (λ t. t.code ≢ 26) }
     ensures shown { IfErr result (IsShown (M.seen medium.now)) }

@@ -6,6 +6,7 @@ ghost use Rattle.cbm_medium.specs.Links.{bytes_at};
 ghost use Rattle.cbm_medium.specs.Met.{MeetsTrouble, place_of};
 ghost use Rattle.cbm_bam.specs.Map.{Frees, IsGiven};
 ghost use Rattle.cbm_relfile.specs.Records.{OfSector};
+ghost use Rattle.cbm_relfile.specs.OfFile.{IsSide};
 ghost use Rattle.cbm_relfile.specs.SideSectors.{AllHave, sides_listed};
 
 use crate::sectors::read_at;
@@ -27,7 +28,7 @@ pub fn free_sides<M: Medium>(
         release.new) }
     ensures goes { OfSector geometry (M.seen medium.now).content first (λ head.
         AllHave geometry (sides_listed head) → IsOk result) }
-    ensures err { MeetsTrouble geometry (M.seen medium.now).content result }
+    ensures err { MeetsTrouble geometry (M.seen medium.now).content (IsSide geometry (M.seen medium.now).content first) result }
 {
     let head = read_at(medium, geometry, first)?;
     for n in 0..6usize {
@@ -45,7 +46,8 @@ fn give_named(geometry: Geometry, at: Link, release: &mut Release) -> Result<(),
     ensures given { OnOk result (IsGiven geometry release.old release.new at) }
     ensures has { Has geometry at → IsOk result }
     ensures code { IfErr result (λ t. t.code ≡ 66) }
-    ensures place { IfErr result (λ t. has geometry (place_of t) ≡ false) }
+    ensures off { IfErr result (λ t. has geometry (place_of t) ≡ false) }
+    ensures place { IfErr result (λ t. place_of t ≡ at) }
 {
     let Some(address) = at.address(geometry) else {
         return Err(at.trouble(ILLEGAL_LINK));

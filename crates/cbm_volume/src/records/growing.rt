@@ -1,7 +1,6 @@
 // A relative file grows until a record is there.
 
 ghost use Rattle.std.specs.Prelude.{◌≡◌, ◌≢◌, ◌≤◌, ◌<◌, ◌+◌, ◌-◌, ◌==◌, ◌^◌, ◌⊎◌, ℕ, List, true, false, None, Some, Ok, IfErr, IfOk, IfSome, IsOkAnd, MatchOption, MatchResult};
-ghost use Rattle.cbm_medium.specs.Met.{IsMet};
 ghost use Rattle.cbm_file.specs.Files.{Disk};
 ghost use Rattle.cbm_file.specs.Records.{blocks_for, sides_for};
 ghost use Rattle.cbm_bam.specs.Map.{geometry_of};
@@ -9,6 +8,7 @@ ghost use Rattle.cbm_directory.specs.Entries.{first_block, first_side};
 ghost use Rattle.cbm_directory.specs.Slots.{directory_of};
 ghost use Rattle.cbm_volume.specs.Growth.{IsTooLarge, IsGrowth};
 ghost use Rattle.cbm_volume.specs.Growing.{IsGrowthStopped, IsGrownTo, IsPlanned, is_too_large, OfFile};
+ghost use Rattle.cbm_volume.specs.RecordFaults.{IsMetInFile};
 ghost use Rattle.cbm_volume.specs.RecordWrites.{HasRecordsOpen, OfOpen};
 ghost use Rattle.cbm_volume.specs.Writers.{Use};
 ghost use Rattle.cbm_volume.specs.Calls.{OnlyOnDisk, KeepsProtected, IsSameOn};
@@ -78,7 +78,7 @@ pub fn plan_growth<M: Medium>(
         (1 ≤ p.extent.blocks) × (p.extent.blocks ≤ p.blocks) × (p.blocks ≤ 720) × (p.extent.sides ≤ 6))) }
     // The directory breaks off before the slot, or a link of the file meets the fault.
     ensures cause { let now = M.seen medium.now in let tracks = geometry_of now.tracks now.content in
-        IfErr result (λ t. ((directory_of tracks now.content).trouble ≡ Some t) ⊎ IsMet tracks now.content t) }
+        IfErr result (λ t. ((directory_of tracks now.content).trouble ≡ Some t) ⊎ IsMetInFile tracks now.content t) }
     ensures never_26 { IfErr result (λ t. t.code ≢ 26) }
 {
     let geometry = cbm_bam::geometry(medium);

@@ -1,9 +1,10 @@
 // OPEN of a relative file that is there: its side sectors are looked at.
 
 ghost use Rattle.std.specs.Prelude.{◌≡◌, ◌⊎◌, ℕ, List, true, IsOk, OnOk, IfErr};
-ghost use Rattle.cbm_medium.specs.Met.{IsMet};
+ghost use Rattle.cbm_medium.specs.Met.{IsMetFrom};
 ghost use Rattle.cbm_file.specs.Files.{Disk, File, Records, file_at};
 ghost use Rattle.cbm_bam.specs.Map.{geometry_of};
+ghost use Rattle.cbm_directory.specs.Entries.{first_side};
 ghost use Rattle.cbm_volume.specs.Holding.{HoldsDisk, EntryStandsAt};
 ghost use Rattle.cbm_volume.specs.RecordFaults.{IsMislisted};
 ghost use Rattle.cbm_volume.specs.check.SideLists.{are_records};
@@ -24,7 +25,8 @@ impl<M: Medium> Volume<M> {
         ensures right { let now = M.seen self.now in
             OnOk result (are_records (geometry_of now.tracks now.content) now.content entry.now ≡ true) }
         ensures cause { let now = M.seen self.now in let tracks = geometry_of now.tracks now.content in
-            IfErr result (λ t. IsMet tracks now.content t ⊎ IsMislisted tracks now.content entry.now t) }
+            IfErr result (λ t. IsMetFrom tracks now.content (λ q. q ≡ first_side entry.now) t ⊎
+            IsMislisted tracks now.content entry.now t) }
     {
         let geometry = self.geometry();
         let at = entry.first_side();

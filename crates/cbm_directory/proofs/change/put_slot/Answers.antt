@@ -2,7 +2,7 @@ use Rattle.std.proofs.Common.{rules, ◌≡◌, ◌≢◌, true, ℕ, List, ◌<
 use Rattle.cbm_medium.specs.Place.{Place}
 use Rattle.cbm_medium.specs.Seen.{OnlyContent}
 use Rattle.cbm_medium.specs.Links.{Chain}
-use Rattle.cbm_medium.specs.Met.{IsMet}
+use Rattle.cbm_medium.specs.Met.{IsMetFrom}
 use Rattle.cbm_bam.specs.Causes.{HasCause}
 use Rattle.cbm_directory.specs.Entries.{HasEntry, Enters, EntersLed, led_to, first_directory, sector_of}
 use Rattle.cbm_directory.specs.EntryChanges.{Clears, ClearsLed, IsEntryRefused}

@@ -1,7 +1,7 @@
 use Rattle.std.proofs.Common.{rules, ◌≡◌, ◌≢◌, ◌≤◌, ◌<◌, ◌+◌, ◌-◌, ◌*◌, List, ℕ, true, length, Ok, IsOk, IsOkAnd, IfOk, IfErr, ◌/◌, ◌%◌, Bool, false, nat_eq, nat_lt, [], ◌∷◌, ◌++◌, slice_index_or, slice_set, bit_and, bit_or, Fits, w8, w32, w64, Bor, MutBor}
 use Rattle.cbm_medium.specs.Place.{Has}
 use Rattle.cbm_medium.specs.Links.{place_in}
-use Rattle.cbm_medium.specs.Met.{IsMet}
+use Rattle.cbm_medium.specs.Met.{IsMetFrom}
 use Rattle.cbm_relfile.specs.SideSectors.{listed_behind, sides_listed, blocks_listed, Numbered, IsNear}
 use Rattle.cbm_relfile.proofs.listing.last_in.Goals as goal
 

@@ -1,12 +1,23 @@
-use Rattle.std.proofs.Common.{Err, ap, sym, inl, inr, ◌∙◌}
+use Rattle.std.proofs.Common.{◌≡◌, ◌⊎◌, Err, ap, sym, ◌∙◌, inl, inr}
 use Rattle.std.proofs.lemmas.Result.{err_from_is_err_and}
 use Rattle.cbm_medium.proofs.Sequences.{only_after, only_refused}
+use Rattle.cbm_medium.specs.Place.{Place}
+use Rattle.cbm_medium.specs.Links.{link}
 use Rattle.cbm_medium.specs.Seen.{Seen}
-use Rattle.cbm_relfile.specs.Changing.{IsWriteRefused}
+use Rattle.cbm_medium.proofs.Named.{one_start, met_more}
 use Rattle.cbm_relfile.specs.Records.{IsRecordRefused}
+use Rattle.cbm_relfile.specs.Changing.{IsWriteRefused}
 use Rattle.cbm_relfile.proofs.Changed.{handed, back_refused}
 use Rattle.cbm_relfile.proofs.writing.rewrite.Goals as goal
 use Rattle.cbm_relfile.proofs.writing.rewrite.Given.{Over}
+
+-- the next block doesn't read
+pub returns-in_err-more-clause-cause : goal.returns-in_err-more-clause-cause
+returns-in_err-more-clause-cause g c =
+    let old : Seen = g.M.Medium.seen c.args.medium.now in
+    let starts : Place → Type 0 = λ q. (q ≡ c.args.at) ⊎ (q ≡ link c.args.sector.now) in
+    handed c.from_residual-in_err-more.result c.in_err-more.field-0.0 (IsRecordRefused c.args.geometry starts old old) c.from_residual-in_err-more.ensures.1
+    (inl (met_more c.args.geometry old.content (λ q. q ≡ c.of-next.result) starts (one_start c.args.geometry old.content starts c.of-next.result (inl (inr c.of-next.ensures))) c.in_err-more.field-0.0 c.in_err-more.ensures.err.shown))
 
 -- the second sector was read before the first one was written
 back : (g : Over) (c : goal.After-from_residual-in_err-put_part-3 g) → IsWriteRefused c.args.geometry (g.M.Medium.seen c.args.medium.now) (g.M.Medium.seen c.put_part-3.new.medium) c.in_err-put_part-3.field-0.0.code
@@ -27,7 +38,8 @@ pub returns-in_err-put_part-3-clause-cause : goal.returns-in_err-put_part-3-clau
 returns-in_err-put_part-3-clause-cause g c =
     let old : Seen = g.M.Medium.seen c.args.medium.now in
     let new : Seen = g.M.Medium.seen c.put_part-3.new.medium in
-    handed c.from_residual-in_err-put_part-3.result c.in_err-put_part-3.field-0.0 (IsRecordRefused c.args.geometry old new) c.from_residual-in_err-put_part-3.ensures.1
+    let starts : Place → Type 0 = λ q. (q ≡ c.args.at) ⊎ (q ≡ link c.args.sector.now) in
+    handed c.from_residual-in_err-put_part-3.result c.in_err-put_part-3.field-0.0 (IsRecordRefused c.args.geometry starts old new) c.from_residual-in_err-put_part-3.ensures.1
     (inr (elim (back g c) [ inl w ↦ inl (w.0, w.2) | inr failed ↦ inr failed ]))
 
 pub returns-in_err-put_part-3-clause-only : goal.returns-in_err-put_part-3-clause-only

@@ -2,7 +2,7 @@ use Rattle.std.proofs.Common.{◌≡◌, ◌-◌, ℕ, Some, sym, ap, subst, ◌
 use Rattle.std.proofs.lemmas.Result.{err_from_is_err_and}
 use Rattle.cbm_medium.specs.Place.{Place}
 use Rattle.cbm_medium.specs.Content.{Content}
-use Rattle.cbm_medium.specs.Met.{IsMet}
+use Rattle.cbm_medium.specs.Met.{IsMetFrom}
 use Rattle.cbm_bam.specs.Map.{Frees}
 use Rattle.cbm_chain.specs.Writing.{State}
 use Rattle.cbm_chain.specs.GivenUp.{linked_blocks}
@@ -13,8 +13,10 @@ pub returns-in_err-give_linked-clause-cause : goal.returns-in_err-give_linked-cl
 returns-in_err-give_linked-clause-cause g c =
     let content : Content = (g.M.Medium.seen c.args.medium.now).content in
     let p = err_from_is_err_and c.from_residual-in_err-give_linked.result c.from_residual-in_err-give_linked.ensures.1 in
-    rw (p.1, p.2) (inl (subst (λ (n : ℕ). IsMet n content c.in_err-give_linked.field-0.0) (ap (λ (s : State). s.tracks) c.self.view_is)
-    (linked_met c.self.inside.geometry content c.saturating_sub-more.result c.from.result c.in_err-give_linked.field-0.0 c.in_err-give_linked.ensures.walk.cut)))
+    let starts : Place → Type 0 = λ q. c.args.self.now.first ≡ Some q in
+    let first : c.args.self.now.first ≡ Some c.from.result = sym (ap (λ (s : State). s.first) c.self.view_is) ∙ c.in-Some.is ∙ ap (λ (p : Place). Some p) (sym c.from.ensures) in
+    rw (p.1, p.2) (inl (subst (λ (n : ℕ). IsMetFrom n content starts c.in_err-give_linked.field-0.0) (ap (λ (s : State). s.tracks) c.self.view_is)
+    (linked_met c.self.inside.geometry content starts c.saturating_sub-more.result c.from.result c.in_err-give_linked.field-0.0 (inl first) c.in_err-give_linked.ensures.walk.cut)))
 
 -- the blocks that were written are linked
 pub returns-in_err-give_linked-clause-linked : goal.returns-in_err-give_linked-clause-linked

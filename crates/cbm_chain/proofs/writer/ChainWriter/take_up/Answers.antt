@@ -3,7 +3,7 @@ use Rattle.cbm_medium.specs.Place.{Place, directory_head, sector_count}
 use Rattle.cbm_medium.specs.Content.{Content, written}
 use Rattle.cbm_medium.specs.Seen.{write_refusal, HasFailed, OnlyContent}
 use Rattle.cbm_medium.specs.Links.{link, follow, with_block, bytes_at}
-use Rattle.cbm_medium.specs.Met.{IsMet}
+use Rattle.cbm_medium.specs.Met.{IsMetFrom}
 use Rattle.cbm_bam.specs.Map.{map_of, IsFull, Claims}
 use Rattle.cbm_bam.specs.Causes.{HasCause}
 use Rattle.cbm_chain.specs.Data.{data_of}

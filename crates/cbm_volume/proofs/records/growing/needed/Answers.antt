@@ -1,5 +1,5 @@
 use Rattle.std.proofs.Common.{rules, ◌≡◌, ◌≢◌, ◌≤◌, ◌<◌, ◌+◌, ◌-◌, ◌==◌, ◌^◌, ◌⊎◌, ℕ, List, true, false, None, Some, Ok, IfErr, IfOk, IfSome, IsOkAnd, MatchBool, MatchOption, MatchResult, ◌*◌, length, ◌/◌, ◌%◌, Bool, nat_eq, nat_lt, [], ◌∷◌, ◌++◌, slice_index_or, slice_set, bit_and, bit_or, Fits, w8, w32, w64, Bor, MutBor}
-use Rattle.cbm_medium.specs.Met.{IsMet}
+use Rattle.cbm_medium.specs.Met.{IsMetFrom}
 use Rattle.cbm_medium.specs.Seen.{OnlyContent}
 use Rattle.cbm_file.specs.Files.{Disk, Records}
 use Rattle.cbm_file.specs.Records.{blocks_for, record_at, sides_for}

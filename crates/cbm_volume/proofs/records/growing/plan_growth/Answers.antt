@@ -1,10 +1,11 @@
-use Rattle.std.proofs.Common.{◌≡◌, ◌∙◌}
+use Rattle.std.proofs.Common.{◌≡◌, refl, ◌∙◌, inr}
 use Rattle.std.proofs.lemmas.Result.{err_from_is_err_and}
 use Rattle.cbm_bam.specs.Map.{geometry_of}
 use Rattle.cbm_directory.proofs.Codes.{directory_never_26}
 use Rattle.cbm_volume.proofs.copied.CopySteps.{no_trouble}
 use Rattle.cbm_volume.proofs.grown.GrowingPlans.{counted, good_width, is_planned, no_block, too_large}
 use Rattle.cbm_volume.proofs.records_made.RecordsPut.{open_at, open_there}
+use Rattle.cbm_volume.proofs.held.FileMet.{entry_there, met_in_file}
 use Rattle.cbm_volume.proofs.held.RecordsRead.{relative_of}
 use Rattle.cbm_volume.proofs.records.growing.plan_growth.Goals as goal
 
@@ -46,3 +47,11 @@ pub returns-clause-planned : goal.returns-clause-planned
 returns-clause-planned g c = λ d uses w b s rs o free.
     let count = counted (g.M.Medium.seen c.args.medium.now).tracks (g.M.Medium.seen c.args.medium.now).content d uses c.args.slot w b s rs o c.geometry-geometry.result c.new-file.result c.in-Some.entry c.geometry-geometry.ensures.value (c.new-file.ensures ∙ (λ i. record { first = c.first_block.ensures i; side = c.first_side.ensures i; width = c.record_length-length.ensures i })) (open_at (g.M.Medium.seen c.args.medium.now).tracks c.geometry-geometry.result (g.M.Medium.seen c.args.medium.now).content d uses c.args.slot w b s rs o c.in_ok-entry.field-0 c.in-Some.entry c.geometry-geometry.ensures.whole c.geometry-geometry.ensures.value c.in-Some.is c.in_ok-entry.ensures) (λ k j. (c.in_ok-extent.extent.blocks ≡ k) × (c.in_ok-extent.extent.sides ≡ j)) c.in_ok-extent.ensures.counted in
     is_planned (g.M.Medium.seen c.args.medium.now).tracks (g.M.Medium.seen c.args.medium.now).content d uses c.args.slot w b s rs o c.geometry-geometry.result c.new-file.result c.in-Some.entry c.geometry-geometry.ensures.value (c.new-file.ensures ∙ (λ i. record { first = c.first_block.ensures i; side = c.first_side.ensures i; width = c.record_length-length.ensures i })) (open_at (g.M.Medium.seen c.args.medium.now).tracks c.geometry-geometry.result (g.M.Medium.seen c.args.medium.now).content d uses c.args.slot w b s rs o c.in_ok-entry.field-0 c.in-Some.entry c.geometry-geometry.ensures.whole c.geometry-geometry.ensures.value c.in-Some.is c.in_ok-entry.ensures) c.record_length-length.result c.in_ok-extent.extent.blocks c.in_ok-extent.extent.sides c.args.free c.args.number c.in-Some-needed.blocks c.record_length-length.ensures count free c.in-Some-needed.ensures.some
+
+-- what is met on the way through the file
+pub returns-in_err-extent-clause-cause : goal.returns-in_err-extent-clause-cause
+returns-in_err-extent-clause-cause g c =
+    let now = g.M.Medium.seen c.args.medium.now in
+    let p = err_from_is_err_and c.from_residual-in_err-extent.result c.from_residual-in_err-extent.ensures.1 in
+    rw (p.1, p.2) (inr (met_in_file (geometry_of now.tracks now.content) c.geometry-geometry.result now.content now.content c.args.slot c.in-Some.entry c.new-file.result c.in_err-extent.field-0.0 c.geometry-geometry.ensures.value refl
+    (entry_there (geometry_of now.tracks now.content) c.geometry-geometry.result c.args.slot now.content c.in_ok-entry.field-0 c.in-Some.entry c.geometry-geometry.ensures.value c.in-Some.is c.in_ok-entry.ensures) (c.new-file.ensures ∙ (λ i. record { first = c.first_block.ensures i; side = c.first_side.ensures i; width = c.record_length-length.ensures i })) c.in_err-extent.ensures.err.shown))

@@ -1,6 +1,6 @@
 use Rattle.std.proofs.Common.{rules, ◌≡◌, ◌≢◌, ◌≤◌, ◌⊎◌, ℕ, List, [], Bool, false, Some, None, Err, IsOkAnd, IfOk, IfErr, IfSome, OnOk, OnErr, IsOk, slice_range, drop, length, ◌+◌, ◌<◌, ◌-◌, ◌^◌, option_map, slice_get, ◌*◌, ◌/◌, ◌%◌, true, nat_eq, nat_lt, ◌∷◌, ◌++◌, slice_index_or, slice_set, bit_and, bit_or, Fits, w8, w32, w64, Bor, MutBor}
 use Rattle.cbm_medium.specs.Content.{IsWhole}
-use Rattle.cbm_medium.specs.Met.{IsMet}
+use Rattle.cbm_medium.specs.Met.{IsMetFrom}
 use Rattle.cbm_medium.specs.Place.{Place, directory_head, sector_count}
 use Rattle.cbm_file.specs.Files.{Disk, File, Records, file_at}
 use Rattle.cbm_bam.specs.Map.{map_of, free_in, geometry_of}
