@@ -2,20 +2,18 @@
 use Rattle.std.proofs.Common.{◌≡◌, ◌≤◌, ℕ, ap, sym, subst, ◌∙◌, arith, inl, Result, Ok, Err}
 use Rattle.std.specs.Prelude.{OnOk, IfErr, Some, true}
 use Rattle.cbm_medium.specs.declared.fault.Trouble.{Trouble}
-use Rattle.cbm_medium.specs.Seen.{Seen, HasFailed, OnlyContent}
-use Rattle.cbm_medium.proofs.Sequences.{IsGuarded}
-use Rattle.cbm_channel.specs.TempGround.{IsGrounded, IsShown}
+use Rattle.cbm_medium.specs.Seen.{Seen, HasFailed, IsGrounded, IsShown, OnlyContent}
+use Rattle.cbm_medium.proofs.Sequences.{IsGuarded, grounded_before, readable_after, readable_same}
 use Rattle.cbm_channel.specs.ChannelCalls.{KeepsElse}
-use Rattle.cbm_channel.proofs.GroundedReports.{only_grounded, grounded_before}
 
 -- what a call keeps that changes at most the sectors of a disk
 pub only_else : {disk : ℕ} {A : Type 0} (r : Result A Trouble) (old new : Seen) → OnlyContent disk r old new → KeepsElse r old new
-only_else r old new h = record { tracks = h.tracks; protected = h.protected; id = h.id; counted = h.counted; once = h.once; uncounted = h.uncounted; own = h.own; guarded = h.guarded; shown = only_grounded r old new h }
+only_else r old new h = record { tracks = h.tracks; protected = h.protected; id = h.id; counted = h.counted; once = h.once; uncounted = h.uncounted; own = h.own; guarded = h.guarded; shown = h.shown; readable = h.readable }
 
 -- nothing was done
 pub else_nothing : {A : Type 0} (r : Result A Trouble) (old new : Seen) → new ≡ old → IsGuarded r old → IfErr r (IsShown new) → KeepsElse r old new
 else_nothing {A} r old new e guards shows =
-    record { tracks = ap (λ (s : Seen). s.tracks) e; protected = ap (λ (s : Seen). s.protected) e; id = ap (λ (s : Seen). s.id) e; counted = omega (arith, same); once = omega (arith, same); uncounted = on_ok r; own = on_err r; guarded = guards; shown = on_shown r shows }
+    record { tracks = ap (λ (s : Seen). s.tracks) e; protected = ap (λ (s : Seen). s.protected) e; id = ap (λ (s : Seen). s.id) e; counted = omega (arith, same); once = omega (arith, same); uncounted = on_ok r; own = on_err r; guarded = guards; shown = on_shown r shows; readable = readable_same old.content new.content (ap (λ (s : Seen). s.content) e) }
   where
     same : new.failures ≡ old.failures
     same = ap (λ (s : Seen). s.failures) e
@@ -35,7 +33,7 @@ else_nothing {A} r old new e guards shows =
 -- one call after another that succeeded
 pub else_after : {A B : Type 0} (q : Result A Trouble) (a : A) (r : Result B Trouble) (old mid new : Seen) → q ≡ Ok a → KeepsElse q old mid → KeepsElse r mid new → KeepsElse r old new
 else_after {A} {B} q a r old mid new e h k =
-    record { tracks = k.tracks ∙ h.tracks; protected = k.protected ∙ h.protected; id = k.id ∙ h.id; counted = omega (arith, h.counted, k.counted); once = omega (arith, first, k.once); uncounted = on_ok r k.uncounted; own = on_err r k.own; guarded = guards r k.guarded; shown = grounds r k.shown }
+    record { tracks = k.tracks ∙ h.tracks; protected = k.protected ∙ h.protected; id = k.id ∙ h.id; counted = omega (arith, h.counted, k.counted); once = omega (arith, first, k.once); uncounted = on_ok r k.uncounted; own = on_err r k.own; guarded = guards r k.guarded; shown = grounds r k.shown; readable = readable_after old.content mid.content new.content h.readable k.readable }
   where
     first : mid.failures ≡ old.failures
     first = subst (λ (x : Result A Trouble). OnOk x (mid.failures ≡ old.failures)) e h.uncounted
@@ -58,7 +56,7 @@ else_after {A} {B} q a r old mid new e h k =
 
 -- a call that only reads after one that succeeded
 pub else_then : {A B : Type 0} (q : Result A Trouble) (r : Result B Trouble) (a : A) (old new : Seen) → q ≡ Ok a → KeepsElse q old new → IsGuarded r old → IfErr r (IsShown new) → KeepsElse r old new
-else_then {A} {B} q r a old new e h guards shows = else_after q a r old new new e h (record { tracks = λ i. new.tracks; protected = λ i. new.protected; id = λ i. new.id; counted = omega arith; once = omega arith; uncounted = on_ok r; own = on_err r; guarded = still r guards; shown = on_shown r shows })
+else_then {A} {B} q r a old new e h guards shows = else_after q a r old new new e h (record { tracks = λ i. new.tracks; protected = λ i. new.protected; id = λ i. new.id; counted = omega arith; once = omega arith; uncounted = on_ok r; own = on_err r; guarded = still r guards; shown = on_shown r shows; readable = readable_same new.content new.content (λ i. new.content) })
   where
     first : new.failures ≡ old.failures
     first = subst (λ (x : Result A Trouble). OnOk x (new.failures ≡ old.failures)) e h.uncounted
@@ -96,6 +94,7 @@ else_refused {A} {B} r s t old new refuses hands h =
       own = handed (λ u. HasFailed old new → new.refused ≡ Some u) h.own;
       guarded = handed (λ u. u.code ≡ 26 → old.protected ≡ true) h.guarded;
       shown = handed (IsGrounded old new) h.shown;
+      readable = h.readable;
     }
   where
     handed : (P : Trouble → Type 0) → IfErr r P → IfErr s P

@@ -1,6 +1,8 @@
 -- Parts of a call one after another.
-use Rattle.std.proofs.Common.{◌≡◌, ◌≢◌, ◌⊎◌, ℕ, ◌*◌, ◌<◌, ◌≤◌, Bool, true, false, List, [], ◌∷◌, ◌++◌, length, refl, sym, ap, ◌∙◌, subst, arith, inl, inr}
+use Rattle.std.proofs.Common.{◌≡◌, ◌≢◌, ◌⊎◌, ℕ, ◌*◌, ◌<◌, ◌≤◌, Bool, true, false, List, [], ◌∷◌, ◌++◌, length, Result, refl, sym, ap, ◌∙◌, subst, arith, inl, inr}
 use Rattle.cbm_medium.specs.Seen.{Seen, HasFailed}
+use Rattle.cbm_medium.specs.declared.fault.Trouble.{Trouble}
+use Rattle.cbm_medium.proofs.Sequences.{readable_after, readable_same}
 use Rattle.std.specs.Prelude.{◌==◌, slice_set, slice_index_or}
 use Rattle.cbm_machine.specs.Plans.{open_text}
 use Rattle.cbm_machine.specs.Calls.{command, end_put, text_for}
@@ -13,6 +15,7 @@ use Rattle.cbm_machine.specs.Machines.{Machine, Channel, Closed, Reading, Writin
 use Rattle.cbm_machine.specs.Closing.{put_on, with_some_byte, finish_channel, close_one, without_text}
 use Rattle.cbm_channel.specs.declared.channel.Channel.TheVariants as code
 use Rattle.cbm_channel.specs.declared.channel.Channel as kept
+use Rattle.cbm_channel.specs.ChannelCalls.{KeepsElse}
 use Rattle.cbm_channel.specs.Written.{disk_closed}
 use Rattle.cbm_channel.proofs.Finished.{finish_law}
 use Rattle.cbm_channel.proofs.Stands.{zip_at}
@@ -160,10 +163,15 @@ closed_at seen k n chs ch st e lt =
 -- ---- calls in several parts
 
 pub keeps_then : (a b c : Seen) → KeepsMedium a b → KeepsMedium b c → KeepsMedium a c
-keeps_then a b c x y = record { tracks = y.tracks ∙ x.tracks; protected = y.protected ∙ x.protected; counted = omega (arith, x.counted, y.counted) }
+keeps_then a b c x y = record { tracks = y.tracks ∙ x.tracks; protected = y.protected ∙ x.protected; counted = omega (arith, x.counted, y.counted); readable = readable_after a.content b.content c.content x.readable y.readable }
 
 pub keeps_same : (a b : Seen) → b ≡ a → KeepsMedium a b
-keeps_same a b e = record { tracks = ap (λ (s : Seen). s.tracks) e; protected = ap (λ (s : Seen). s.protected) e; counted = omega (arith, ap (λ (s : Seen). s.failures) e) }
+keeps_same a b e = record { tracks = ap (λ (s : Seen). s.tracks) e; protected = ap (λ (s : Seen). s.protected) e; counted = omega (arith, ap (λ (s : Seen). s.failures) e); readable = readable_same a.content b.content (ap (λ (s : Seen). s.content) e) }
+
+-- what a call keeps, of the medium that the drive had and has
+pub keeps_call : {M A : Type 0} (seen : M → Seen) (a b before after : M) (r : Result A Trouble) → before ≡ a → b ≡ after → KeepsElse r (seen before) (seen after) → KeepsMedium (seen a) (seen b)
+keeps_call {M} seen a b before after r was is h =
+    subst (λ (m : M). KeepsMedium (seen m) (seen b)) was (subst (λ (m : M). KeepsMedium (seen before) (seen m)) (sym is) (record { tracks = h.tracks; protected = h.protected; counted = h.counted; readable = h.readable }))
 
 module _ {M : Type 0} (seen : M → Seen) (old mid new : Kept M) (parts : List (ℕ × (Machine → Machine))) (ch : ℕ) (part : Machine → Machine) where
   -- one part more

@@ -1,7 +1,6 @@
 -- What a call leaves that writes for one channel.
 use Rattle.std.specs.Prelude.{ℕ, ◌≡◌, ◌+◌, ◌≤◌, true, false, not, Bool, Some, List, Result, Ok, IfOk, IfErr, IsOk, IsOkAnd, OnOk, OnErr}
-use Rattle.cbm_medium.specs.Seen.{Seen, HasFailed, KeepsBeyond}
-use Rattle.cbm_channel.specs.TempGround.{IsGrounded}
+use Rattle.cbm_medium.specs.Seen.{Seen, HasFailed, IsGrounded, KeepsBeyond, KeepsReadable}
 use Rattle.cbm_medium.specs.declared.fault.Trouble.{Trouble}
 use Rattle.cbm_file.specs.Files.{Disk}
 use Rattle.cbm_bam.specs.Map.{geometry_of}
@@ -20,7 +19,7 @@ use Rattle.cbm_channel.specs.Moved.{code_placed, placed_on}
 use Rattle.cbm_channel.specs.Standing.{ChannelStands, FitsTracks, IsSameFile, Kept, Stands, WaitsFor, use_of}
 use Rattle.cbm_channel.specs.Written.{is_lost, channel_put, disk_put, disk_closed, IsCutOff}
 
--- A call of several on the medium, whatever sectors they changed: tracks, protection and id stay. It makes no write after one that the
+-- A call of several on the medium, whatever sectors they changed: tracks, protection and id stay, and no sector becomes unreadable. It makes no write after one that the
 -- medium refused by itself: failures go up by one at most, only where it answers Err, and then that is what the medium refused last. It
 -- answers the code 26 only where the medium is protected, and each trouble has its ground.
 pub record KeepsElse {A : Type 0} (result : Result A Trouble) (old new : Seen) : Type 0 where
@@ -33,6 +32,7 @@ pub record KeepsElse {A : Type 0} (result : Result A Trouble) (old new : Seen) :
   pub own : IfErr result (λ t. HasFailed old new → new.refused ≡ Some t)
   pub guarded : IfErr result (λ t. t.code ≡ 26 → old.protected ≡ true)
   pub shown : IfErr result (IsGrounded old new)
+  pub readable : KeepsReadable old.content new.content
 
 -- THE SECTORS OUTSIDE THE DISK STAY: it uses as many tracks of its medium as before, and each sector of a track beyond those, which a
 -- medium of 40 tracks has where the disk has 35, holds what it held.

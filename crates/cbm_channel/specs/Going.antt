@@ -1,7 +1,7 @@
 -- Where a call that may write leads: to the machine's next state, or it was stopped at a refused write.
 use Rattle.std.specs.Prelude.{ℕ, zero, suc, ◌+◌, ◌-◌, ◌≤◌, ◌≡◌, ◌≢◌, ◌⊎◌, ◌==◌, if◌then◌else◌, List, [], ◌∷◌, ◌++◌, take, drop, replicate, slice_index_or, Some, true}
 use Rattle.cbm_medium.specs.declared.fault.Trouble.{Trouble}
-use Rattle.cbm_medium.specs.Seen.{Seen, HasFailed}
+use Rattle.cbm_medium.specs.Seen.{Seen, HasFailed, KeepsReadable}
 use Rattle.cbm_volume.specs.Writers.{IsEither}
 use Rattle.cbm_machine.specs.Statuses.{trouble_status}
 use Rattle.cbm_file.specs.Files.{File, Disk, Records, file_at, with_slot}
@@ -90,11 +90,12 @@ abbrev pub Goes : {M : Type 0} → (M → Seen) → Kept M → Kept M → List (
 Goes seen old new parts =
     (m : Machine) → Stands seen old m → GoesFrom seen old new parts m
 
--- Tracks and protection of the medium stay, and failures are counted.
+-- Tracks and protection of the medium stay, failures are counted, and no sector becomes unreadable.
 pub record KeepsMedium (old new : Seen) : Type 0 where
   pub tracks : new.tracks ≡ old.tracks
   pub protected : new.protected ≡ old.protected
   pub counted : old.failures ≤ new.failures
+  pub readable : KeepsReadable old.content new.content
 
 -- ---- the end of what is put
 

@@ -4,8 +4,7 @@ use Rattle.std.specs.List.{Contains}
 use Rattle.cbm_medium.specs.Place.{sector_count}
 use Rattle.cbm_medium.specs.Links.{follow}
 use Rattle.cbm_medium.specs.declared.fault.Trouble.{Trouble}
-use Rattle.cbm_medium.specs.Seen.{Seen, HasFailed}
-use Rattle.cbm_channel.specs.TempGround.{IsGrounded}
+use Rattle.cbm_medium.specs.Seen.{Seen, HasFailed, IsShown}
 use Rattle.cbm_medium.specs.Met.{IsMet}
 use Rattle.cbm_medium.specs.Content.{Content}
 use Rattle.cbm_volume.specs.RecordFaults.{IsMislisted}
@@ -59,12 +58,12 @@ IsToldFor seen old new =
     ⊎ (HasTold seen old new
     ⊎ ((t : Trouble) × (new.told.status ≡ trouble_status t) × HasFailed (seen old.medium) (seen new.medium)))
 
--- A STATUS HAS ITS GROUND where a call may have written: it is no fault of a disk; or it is of a trouble that has its ground, as the medium
--- is after the call.
+-- A STATUS HAS ITS GROUND where a call may have written: it is no fault of a disk; or it is a trouble that the medium showed before the call;
+-- or the medium failed by itself in it.
 abbrev pub TellsGrounded : {M : Type 0} → (M → Seen) → Kept M → Kept M → Type 0
 TellsGrounded seen old new =
     (is_fault_number (code_number new.told.status.code) ≡ false)
-    ⊎ ((t : Trouble) × (new.told.status ≡ trouble_status t) × IsGrounded (seen old.medium) (seen new.medium) t)
+    ⊎ ((t : Trouble) × (new.told.status ≡ trouble_status t) × (IsShown (seen old.medium) t ⊎ HasFailed (seen old.medium) (seen new.medium)))
 
 -- What is reported stays, or a status with its ground is reported.
 abbrev pub KeepsGrounded : {M : Type 0} → (M → Seen) → Kept M → Kept M → Type 0

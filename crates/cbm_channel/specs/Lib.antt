@@ -2,7 +2,6 @@ pub mod Placed
 pub mod Standing
 pub mod Going
 pub mod Written
-pub mod TempGround
 pub mod Grounds
 pub mod Shown
 pub mod Taken

@@ -110,10 +110,6 @@ IsFineOrSameUnlessFault seen old new = is_fault_number (code_number new.told.sta
 abbrev pub CutsOff : {M : Type 0} → (M → Seen) → ℕ → Kept M → Kept M → Type 0
 CutsOff seen ch old new = HasFailed (seen old.medium) (seen new.medium) → is_writing_on ch new ≡ false
 
--- What was reported stays, or it is no fault of a disk, or no file is written on the channel from then on.
-abbrev pub StopsOnFault : {M : Type 0} → ℕ → Kept M → Kept M → Type 0
-StopsOnFault ch old new = (new.told ≡ old.told) ⊎ ((is_fault_number (code_number new.told.status.code) ≡ false) ⊎ (is_writing_on ch new ≡ false))
-
 -- the channel writes the file of no other slot than before
 abbrev pub KeepsSlotOn : {M : Type 0} → ℕ → Kept M → Kept M → Type 0
 KeepsSlotOn ch old new = (n : ℕ) → finished_by ch old n ≡ false → finished_by ch new n ≡ false
@@ -145,12 +141,12 @@ abbrev pub closed_by : {M : Type 0} → ℕ → Kept M → ℕ → Bool
 closed_by ch k n = if ch == 15 then list_any (finishes_on n) k.channels else finished_by ch k n
 
 -- WHAT CLOSE LEAVES on any disk: tracks and protection of the medium stay, and the rest of the disk but for the files that it may finish;
--- for each channel that is closed the medium refused one write at most; and where one is closed, a status that is reported has its ground.
+-- for each channel that is closed the medium refused one write at most; and a status that is reported has its ground.
 pub record LeavesByClose {M : Type 0} (seen : M → Seen) (ch : ℕ) (old new : Kept M) : Type 0 where
   pub medium : KeepsMedium (seen old.medium) (seen new.medium)
   pub rest : LeavesRest seen (λ m. closed_by ch old) old new
   pub counted : ch < 15 → IsFailureCounted seen old new
-  pub grounded : ch < 15 → KeepsGrounded seen old new
+  pub grounded : KeepsGrounded seen old new
   pub all_counted : ch ≡ 15 → AreCounted seen 15 old new
 
 -- ---- the text that is gathered

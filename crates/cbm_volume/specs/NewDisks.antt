@@ -48,7 +48,8 @@ abbrev pub content_under : Option (List ℕ) → Content → Content
 content_under None old = old
 content_under (Some id) old = blank
 
--- NEW changes at most what the sectors hold and, where one is given, the id in their headers; a format that was refused leaves the old id.
+-- NEW changes at most what the sectors hold and, where one is given, the id in their headers, over zeros everywhere; a format that was refused
+-- leaves the old id.
 abbrev pub OnlyNew : Result (Unit {0}) Trouble → Option (List ℕ) → Seen → Seen → Type 0
 OnlyNew result None old new = OnlyContent 18 result old new
-OnlyNew result (Some id) old new = OnlyContent 18 result (formatted_as id (with_content new.content old)) new ⊎ (IsErr result × OnlyContent 18 result old new)
+OnlyNew result (Some id) old new = OnlyContent 18 result (formatted_as id (with_content blank old)) new ⊎ (IsErr result × OnlyContent 18 result old new)

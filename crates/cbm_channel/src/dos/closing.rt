@@ -13,8 +13,9 @@ impl<M: Medium> Dos<M> {
     ghost use Rattle.cbm_channel.specs.ChannelCalls.{LeavesRest, no_slot};
     ghost use Rattle.cbm_channel.specs.Shown.{is_writing_on, finished_by, KeepsMediumAndStatus};
     ghost use Rattle.cbm_machine.specs.Machines.{Machine, channel as channel_of};
+    ghost use Rattle.cbm_channel.specs.Grounds.{KeepsGrounded};
     ghost use Rattle.cbm_channel.specs.Going.{AreCounted, Goes, Went, some_byte_put, closing, closings, KeepsMedium};
-    ghost use Rattle.cbm_channel.specs.Parts.{LeavesDisk, OnlyText, CutsOff, StopsOnFault, KeepsSlotOn, ClosesOne, ClosesChannels, ClosesQuietly, LeavesByClose, closed_by};
+    ghost use Rattle.cbm_channel.specs.Parts.{LeavesDisk, OnlyText, CutsOff, KeepsSlotOn, ClosesOne, ClosesChannels, ClosesQuietly, LeavesByClose, closed_by};
 
     /// CLOSE: the file that is written on the channel is finished, and the channel is closed; on 15 the channels 0 to
     /// 14 are, in order. Where the medium refuses a write, its fault becomes the status.
@@ -53,7 +54,6 @@ impl<M: Medium> Dos<M> {
         ensures others { SameBut channel self.old.channels self.new.channels }
         ensures quiet { is_writing_on channel self.old ≡ false → self.new ≡ self.old }
         ensures cut { CutsOff M.seen channel self.old self.new }
-        ensures stops { StopsOnFault channel self.old self.new }
         ensures slot { KeepsSlotOn channel self.old self.new }
         ensures leaves { LeavesDisk M.seen no_slot self.old self.new }
     {
@@ -93,6 +93,7 @@ impl<M: Medium> Dos<M> {
         ensures medium { KeepsMedium (M.seen self.old.medium) (M.seen self.new.medium) }
         ensures rest { LeavesRest M.seen (λ m. closed_by 15 self.old) self.old self.new }
         ensures counted { AreCounted M.seen 15 self.old self.new }
+        ensures grounded { KeepsGrounded M.seen self.old self.new }
     {
         for channel in 0..15 {
             self.close_one(channel);

@@ -30,7 +30,7 @@ impl<M: Medium> Dos<M> {
     ghost use Rattle.cbm_channel.specs.Shown.{is_writing_on, has_records_on, with_records_by, KeepsMediumAndStatus};
     ghost use Rattle.cbm_channel.specs.Going.{Goes, Went, put_written};
     ghost use Rattle.cbm_channel.specs.Commanded.{IsOfCommandText, changes_disk, commands_change, formats, text_formats, end_formats, validates, text_validates, end_validates, moved_by, text_moves, end_moves, cleared_by, text_clears};
-    ghost use Rattle.cbm_channel.specs.Parts.{LeavesDisk, LeavesByCommand, OnlyText, OnlyTells, OnlyTellsFor, CutsOff, StopsOnFault, KeepsSlotOn, TakesText, WritesText, MovesOne, WentUnlessNew, EndsGathered, EndsQuietly, SparesDisk, changed_by_end};
+    ghost use Rattle.cbm_channel.specs.Parts.{LeavesDisk, LeavesByCommand, OnlyText, OnlyTells, OnlyTellsFor, CutsOff, KeepsSlotOn, TakesText, WritesText, MovesOne, WentUnlessNew, EndsGathered, EndsQuietly, SparesDisk, changed_by_end};
 
     /// A byte that the host sends to a channel: on 15 it is gathered for a command, on a channel that has records open
     /// for one of these, and on one that writes a file it goes to the file; on others it is dropped. The first byte for which no block is free sets the status
@@ -59,7 +59,6 @@ impl<M: Medium> Dos<M> {
         ensures others { SameBut channel self.old.channels self.new.channels }
         ensures quiet { is_writing_on channel self.old ≡ false → KeepsMediumAndStatus self.old self.new }
         ensures cut { CutsOff M.seen channel self.old self.new }
-        ensures stops { StopsOnFault channel self.old self.new }
         ensures slot { KeepsSlotOn channel self.old self.new }
         ensures leaves { LeavesDisk M.seen no_slot self.old self.new }
     {

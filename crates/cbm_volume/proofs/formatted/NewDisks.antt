@@ -253,10 +253,7 @@ only_stopped r id o old new some err h = subst (λ (y : Option (List ℕ)). Only
 -- or done
 pub only_long : (r : Result (Unit {0}) Trouble) (id : List ℕ) (o : Option (List ℕ)) (old mid new : Seen) → mid ≡ formatted_as id (with_content blank old) → o ≡ Some id → OnlyContent 18 r mid new → OnlyNew r o old new
 only_long r id o old mid new was some h =
-    subst (λ (y : Option (List ℕ)). OnlyNew r y old new) (sym some) (inl (under (subst (λ (s : Seen). OnlyContent 18 r s new) was h)))
-  where
-    under : OnlyContent 18 r (formatted_as id (with_content blank old)) new → OnlyContent 18 r (formatted_as id (with_content new.content old)) new
-    under k = record { tracks = k.tracks; protected = k.protected; id = k.id; counted = k.counted; once = k.once; uncounted = k.uncounted; own = k.own; guarded = k.guarded; beyond = record { same = λ p far i. new.content p } }
+    subst (λ (y : Option (List ℕ)). OnlyNew r y old new) (sym some) (inl (subst (λ (s : Seen). OnlyContent 18 r s new) was h))
 
 -- tracks and protection stay, and failures are counted
 pub new_keeps : (r : Result (Unit {0}) Trouble) (o : Option (List ℕ)) (old new : Seen) → OnlyNew r o old new → (new.tracks ≡ old.tracks) × (new.protected ≡ old.protected) × (old.failures ≤ new.failures)

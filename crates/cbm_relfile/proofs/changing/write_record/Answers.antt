@@ -137,5 +137,5 @@ returns-clause-write g c =
       allowed = (search rules);
       guarded = (search rules);
       next_never_26 = (search rules);
-      next_shown = still_shown c.next_stretch-next.result c.args.geometry old new c.in-Some.at c.in_ok-sector.sector place c.deref.result.now c.in_ok-sector.ensures.ok w c.next_stretch-next.ensures.err;
+      next_shown = still_shown c.next_stretch-next.result c.args.geometry _ old new c.in-Some.at c.in_ok-sector.sector place c.deref.result.now c.in_ok-sector.ensures.ok w c.next_stretch-next.ensures.err;
     }

@@ -61,7 +61,7 @@ pub returns-in-Err-clause-leaves : goal.returns-in-Err-clause-leaves
 returns-in-Err-clause-leaves g c = record {
   medium = (search rules);
   counted = counted_else g.M.Medium.seen c.args.self.now c.set.new.self c.args.self.now.medium c.opened.new.self.medium refl c.set.ensures.medium c.opened.result c.in-Err.trouble c.in-Err.is c.opened.ensures.medium (ap (λ x. x.status) c.set.ensures.told ∙ c.from.ensures);
-  grounded = answer_grounded g.M.Medium.seen c.args.self.now c.set.new.self c.args.self.now.medium c.opened.new.self.medium refl c.set.ensures.medium c.opened.result c.in-Err.trouble c.in-Err.is c.opened.ensures.medium.shown (ap (λ x. x.status) c.set.ensures.told ∙ c.from.ensures);
+  grounded = answer_grounded g.M.Medium.seen c.args.self.now c.set.new.self c.args.self.now.medium c.opened.new.self.medium refl c.set.ensures.medium c.opened.result c.in-Err.trouble c.in-Err.is c.opened.ensures.medium (ap (λ x. x.status) c.set.ensures.told ∙ c.from.ensures);
 }
 
 -- ---- the rest of the disk

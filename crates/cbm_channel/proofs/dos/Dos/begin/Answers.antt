@@ -38,5 +38,5 @@ pub returns-in-Err-clause-leaves : goal.returns-in-Err-clause-leaves
 returns-in-Err-clause-leaves g c = record {
   medium = (search rules);
   counted = (search rules);
-  grounded = refusal_grounded g.M.Medium.seen c.args.self.now c.set.new.self c.in-Err.status c.set.ensures.medium c.in-Err.ensures.sound.ground (ap (λ x. x.status) c.set.ensures.told);
+  grounded = refusal_grounded g.M.Medium.seen c.args.self.now c.set.new.self c.in-Err.status c.in-Err.ensures.sound.ground (ap (λ x. x.status) c.set.ensures.told);
 }

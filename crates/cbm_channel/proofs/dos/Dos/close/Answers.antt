@@ -5,6 +5,7 @@ use Rattle.cbm_channel.proofs.Asked.{below_15}
 use Rattle.cbm_channel.proofs.Closes.{parts_first, parts_15}
 use Rattle.cbm_channel.proofs.Goings.{went_goes, goes_on, leads_went, keeps_same}
 use Rattle.cbm_channel.proofs.Counted.{counted_to}
+use Rattle.cbm_channel.proofs.GroundedReports.{grounded_to}
 use Rattle.cbm_channel.proofs.Rest.{rest_seen}
 use Rattle.cbm_channel.proofs.Spared.{closed_rest, all_closed_rest}
 use Rattle.cbm_channel.proofs.dos.Dos.close.Goals as goal
@@ -29,7 +30,7 @@ returns-then-channel-lt15-clause-leaves g c = record {
   medium = (search rules);
   rest = λ m s. closed_rest c.args.channel c.args.self.now _ _ (below_15 c.args.channel c.if-channel-lt15.true) (c.close_one.ensures.leaves.rest m s);
   counted = λ lt. c.close_one.ensures.leaves.counted;
-  grounded = λ lt. c.close_one.ensures.leaves.grounded;
+  grounded = c.close_one.ensures.leaves.grounded;
   all_counted = λ is. absurd (omega (arith, is, c.if-channel-lt15.true));
 }
 
@@ -38,7 +39,7 @@ returns-else-channel-lt15-clause-leaves g c = record {
   medium = (search rules);
   rest = λ m s. rest_seen g.M.Medium.seen c.args.self.now.medium c.forget_text.new.self.medium c.args.self.now.medium c.close_all.new.self.medium refl c.forget_text.ensures.only.medium (all_closed_rest c.args.channel c.args.self.now _ _ (omega (arith, c.requires, c.if-channel-lt15.false)) (c.close_all.ensures.rest m s));
   counted = λ lt. absurd (omega (arith, lt, c.if-channel-lt15.false));
-  grounded = λ lt. absurd (omega (arith, lt, c.if-channel-lt15.false));
+  grounded = grounded_to g.M.Medium.seen c.args.self.now c.close_all.new.self c.forget_text.new.self c.forget_text.ensures.only.medium c.forget_text.ensures.only.told c.close_all.ensures.grounded;
   all_counted = λ is.
       let all = c.close_all.ensures.counted in
       (all.0, all.1, counted_to g.M.Medium.seen all.0 c.close_all.new.self c.forget_text.new.self c.forget_text.ensures.only.medium c.forget_text.ensures.only.told all.2);

@@ -10,8 +10,9 @@ use Rattle.cbm_machine.specs.Closing.{channel_numbers, close_one}
 use Rattle.cbm_channel.specs.Going.{Goes, AreCounted, closings_of}
 use Rattle.cbm_channel.proofs.Changed.{closed_next}
 use Rattle.cbm_channel.proofs.Closes.{closings_next}
-use Rattle.cbm_channel.proofs.Goings.{goes_on, keeps_then}
+use Rattle.cbm_channel.proofs.Goings.{goes_on, keeps_same, keeps_then}
 use Rattle.cbm_channel.proofs.Counted.{counted_more}
+use Rattle.cbm_channel.proofs.GroundedReports.{grounded_then}
 use Rattle.cbm_channel.proofs.Rest.{rest_itself, rest_then}
 use Rattle.cbm_channel.proofs.Spared.{next_free}
 use Rattle.cbm_channel.proofs.dos.Dos.close_all.Goals as goal
@@ -33,7 +34,7 @@ returns-clause-closed g c = λ k.
     ]
 
 pub loop-channel-init : goal.loop-channel-init
-loop-channel-init g c = ((search rules), (search rules), (search rules), (search rules), (search rules), (search rules), (λ m s. rest_itself _ _ refl), (λ k far. refl))
+loop-channel-init g c = ((search rules), (search rules), keeps_same _ _ refl, (search rules), (search rules), (search rules), inl refl, (λ m s. rest_itself _ _ refl), (λ k far. refl))
 
 pub loop-channel-preserved : goal.loop-channel-preserved
 loop-channel-preserved g c = (
@@ -53,11 +54,12 @@ loop-channel-preserved g c = (
         ]),
       )),
   counted_more g.M.Medium.seen c.loop-channel.channel (c.loop-channel.channel + 1) c.args.self.now c.loop-channel.self c.close_one.new.self refl c.loop-channel.invariant.5 c.close_one.ensures.leaves.counted,
+  grounded_then g.M.Medium.seen c.args.self.now c.loop-channel.self c.close_one.new.self c.loop-channel.invariant.2 c.close_one.ensures.leaves.medium.counted c.loop-channel.invariant.6 c.close_one.ensures.leaves.grounded,
   (λ m s.
       let x = c.loop-channel.invariant.0 m s in
       rest_then (closed_by 15 c.args.self.now) (finished_by c.loop-channel.channel c.loop-channel.self) (g.M.Medium.seen c.args.self.now.medium) (g.M.Medium.seen c.loop-channel.self.medium) (g.M.Medium.seen c.close_one.new.self.medium) x.0.disk _ x.2.holds
-      (λ n e. (e, next_free c.args.self.now c.loop-channel.self c.loop-channel.channel n (c.loop-channel.invariant.7 c.loop-channel.channel (omega arith)) e)) (c.loop-channel.invariant.6 m s) (c.close_one.ensures.leaves.rest x.0 x.2)),
-  (λ k far. c.close_one.ensures.closes.others k (λ e. absurd (omega (arith, e, far))) ∙ c.loop-channel.invariant.7 k (omega (arith, far))),
+      (λ n e. (e, next_free c.args.self.now c.loop-channel.self c.loop-channel.channel n (c.loop-channel.invariant.8 c.loop-channel.channel (omega arith)) e)) (c.loop-channel.invariant.7 m s) (c.close_one.ensures.leaves.rest x.0 x.2)),
+  (λ k far. c.close_one.ensures.closes.others k (λ e. absurd (omega (arith, e, far))) ∙ c.loop-channel.invariant.8 k (omega (arith, far))),
 )
 
 pub returns-clause-quiet : goal.returns-clause-quiet
@@ -73,4 +75,7 @@ returns-clause-counted g c =
 -- ---- the rest of the disk
 
 pub returns-clause-rest : goal.returns-clause-rest
-returns-clause-rest g c = c.loop-channel.invariant.6
+returns-clause-rest g c = c.loop-channel.invariant.7
+
+pub returns-clause-grounded : goal.returns-clause-grounded
+returns-clause-grounded g c = c.loop-channel.invariant.6

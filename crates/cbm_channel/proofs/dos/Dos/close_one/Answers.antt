@@ -43,5 +43,5 @@ returns-clause-leaves g c = record {
   counted = counted_to g.M.Medium.seen c.args.self.now c.finish.new.self c.forget_text.new.self c.forget_text.ensures.only.medium c.forget_text.ensures.only.told
       (counted_then g.M.Medium.seen c.args.self.now c.fill.new.self c.finish.new.self c.fill.ensures.leaves.counted c.finish.ensures.leaves.counted (λ failed. c.finish.ensures.quiet (c.fill.ensures.cut failed)));
   grounded = grounded_to g.M.Medium.seen c.args.self.now c.finish.new.self c.forget_text.new.self c.forget_text.ensures.only.medium c.forget_text.ensures.only.told
-      (grounded_then g.M.Medium.seen c.args.channel c.args.self.now c.fill.new.self c.finish.new.self c.fill.ensures.leaves.medium.counted c.fill.ensures.leaves.grounded c.fill.ensures.stops c.finish.ensures.leaves.grounded c.finish.ensures.quiet);
+      (grounded_then g.M.Medium.seen c.args.self.now c.fill.new.self c.finish.new.self c.fill.ensures.leaves.medium c.finish.ensures.leaves.medium.counted c.fill.ensures.leaves.grounded c.finish.ensures.leaves.grounded);
 }

@@ -20,5 +20,5 @@ returns-in-Err-clause-leaves g c = record {
   spared = (search rules);
   medium = (search rules);
   counted = (search rules);
-  grounded = refusal_grounded g.M.Medium.seen c.args.self.now c.set.new.self c.in-Err.status c.set.ensures.medium c.in-Err.ensures.ground (ap (λ x. x.status) c.set.ensures.told);
+  grounded = refusal_grounded g.M.Medium.seen c.args.self.now c.set.new.self c.in-Err.status c.in-Err.ensures.ground (ap (λ x. x.status) c.set.ensures.told);
 }

@@ -21,7 +21,8 @@ use Rattle.cbm_channel.proofs.Refused.{not_refused, refused_26}
 use Rattle.cbm_channel.proofs.Counted.{counted_told}
 use Rattle.cbm_channel.proofs.Rest.{rest_seen, copy_rest, grown_total}
 use Rattle.cbm_channel.proofs.dos.Dos.copy_slots.Goals as goal
-use Rattle.cbm_channel.proofs.GroundedReports.{answer_grounded, only_grounded}
+use Rattle.cbm_channel.proofs.Elses.{only_else}
+use Rattle.cbm_channel.proofs.GroundedReports.{answer_grounded}
 
 -- the new file is there
 pub returns-in-Ok-true-clause-goes : goal.returns-in-Ok-true-clause-goes
@@ -131,7 +132,7 @@ returns-in-Err-clause-leaves g c = record {
       ∙ ap (λ k. (g.M.Medium.seen k.medium).content) c.self.view_is);
   medium = (search rules);
   counted = counted_told g.M.Medium.seen c.args.self.now c.set.new.self c.self.inside.volume c.copy.new.self (ap (λ k. k.medium) c.self.view_is) c.set.ensures.medium c.copy.result c.in-Err.trouble c.in-Err.is c.copy.ensures.only (ap (λ x. x.status) c.set.ensures.told ∙ c.from.ensures);
-  grounded = answer_grounded g.M.Medium.seen c.args.self.now c.set.new.self c.self.inside.volume c.copy.new.self (ap (λ k. k.medium) c.self.view_is) c.set.ensures.medium c.copy.result c.in-Err.trouble c.in-Err.is (only_grounded _ _ _ c.copy.ensures.only) (ap (λ x. x.status) c.set.ensures.told ∙ c.from.ensures);
+  grounded = answer_grounded g.M.Medium.seen c.args.self.now c.set.new.self c.self.inside.volume c.copy.new.self (ap (λ k. k.medium) c.self.view_is) c.set.ensures.medium c.copy.result c.in-Err.trouble c.in-Err.is (only_else _ _ _ c.copy.ensures.only) (ap (λ x. x.status) c.set.ensures.told ∙ c.from.ensures);
 }
 
 -- ---- the rest of the disk

@@ -14,7 +14,7 @@ use Rattle.cbm_channel.proofs.Stores.{renamed}
 use Rattle.cbm_channel.proofs.Refused.{not_refused, refused_26}
 use Rattle.cbm_channel.proofs.Counted.{counted_by, counted_well, new_counts}
 use Rattle.cbm_channel.proofs.dos.Dos.format.Goals as goal
-use Rattle.cbm_channel.proofs.GroundedReports.{answer_grounded, new_grounded, protected_grounded}
+use Rattle.cbm_channel.proofs.GroundedReports.{answer_grounded_by, new_grounded, new_readable, protected_grounded}
 
 -- a channel is open
 pub returns-then-is_any_open-clause-goes : goal.returns-then-is_any_open-clause-goes
@@ -84,7 +84,7 @@ returns-in-Err-clause-leaves g c = record {
   medium = (search rules);
   counted = let k = new_counts c.new_disk.result c.args.id (g.M.Medium.seen c.self.inside.volume) (g.M.Medium.seen c.new_disk.new.self) c.new_disk.ensures.only in
       counted_by g.M.Medium.seen c.args.self.now c.set.new.self c.self.inside.volume c.new_disk.new.self (ap (λ k. k.medium) c.self.view_is) c.set.ensures.medium c.new_disk.result c.in-Err.trouble c.in-Err.is k.0 k.1 k.2 (ap (λ x. x.status) c.set.ensures.told ∙ c.from.ensures);
-  grounded = answer_grounded g.M.Medium.seen c.args.self.now c.set.new.self c.self.inside.volume c.new_disk.new.self (ap (λ k. k.medium) c.self.view_is) c.set.ensures.medium c.new_disk.result c.in-Err.trouble c.in-Err.is (new_grounded _ _ _ _ c.new_disk.ensures.only) (ap (λ x. x.status) c.set.ensures.told ∙ c.from.ensures);
+  grounded = answer_grounded_by g.M.Medium.seen c.args.self.now c.set.new.self c.self.inside.volume c.new_disk.new.self (ap (λ k. k.medium) c.self.view_is) c.set.ensures.medium c.new_disk.result c.in-Err.trouble c.in-Err.is (new_keeps _ _ _ _ c.new_disk.ensures.only).1 (new_readable _ _ _ _ c.new_disk.ensures.only) (new_grounded _ _ _ _ c.new_disk.ensures.only) (ap (λ x. x.status) c.set.ensures.told ∙ c.from.ensures);
 }
 
 pub returns-then-is_protected-clause-leaves : goal.returns-then-is_protected-clause-leaves
@@ -93,5 +93,5 @@ returns-then-is_protected-clause-leaves g c = record {
   spared = (search rules);
   medium = (search rules);
   counted = (search rules);
-  grounded = protected_grounded g.M.Medium.seen c.args.self.now c.say-then-is_protected.new.self (ap (λ x. x.status) c.say-then-is_protected.ensures.told) (ap (λ v. (g.M.Medium.seen v).protected) (c.say-then-is_protected.ensures.medium ∙ sym c.volume.ensures) ∙ sym c.is_protected.ensures ∙ c.if-is_protected.true);
+  grounded = protected_grounded g.M.Medium.seen c.args.self.now c.say-then-is_protected.new.self (ap (λ x. x.status) c.say-then-is_protected.ensures.told) (ap (λ v. (g.M.Medium.seen v).protected) (sym c.volume.ensures) ∙ sym c.is_protected.ensures ∙ c.if-is_protected.true);
 }

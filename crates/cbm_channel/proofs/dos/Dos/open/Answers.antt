@@ -109,7 +109,7 @@ returns-in-Ok-clause-channel g c = λ lt.
         spared = c.begin.ensures.spared;
         counted = c.begin.ensures.leaves.counted;
       };
-      grounded = grounded_after g.M.Medium.seen c.args.self.now c.close_one.new.self c.begin.new.self c.close_one.ensures.leaves.medium.counted c.begin.ensures.leaves.grounded;
+      grounded = grounded_after g.M.Medium.seen c.args.self.now c.close_one.new.self c.begin.new.self c.close_one.ensures.leaves.medium c.begin.ensures.leaves.grounded;
     }
 
 pub returns-in-Err-clause-command : goal.returns-in-Err-clause-command

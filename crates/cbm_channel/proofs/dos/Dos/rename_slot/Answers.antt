@@ -17,7 +17,8 @@ use Rattle.cbm_channel.proofs.Refused.{not_refused}
 use Rattle.cbm_channel.proofs.Counted.{counted_told}
 use Rattle.cbm_channel.proofs.Rest.{rest_seen, outside_held, rest_same}
 use Rattle.cbm_channel.proofs.dos.Dos.rename_slot.Goals as goal
-use Rattle.cbm_channel.proofs.GroundedReports.{answer_grounded, only_grounded}
+use Rattle.cbm_channel.proofs.Elses.{only_else}
+use Rattle.cbm_channel.proofs.GroundedReports.{answer_grounded}
 
 pub returns-in-Ok-clause-goes : goal.returns-in-Ok-clause-goes
 returns-in-Ok-clause-goes g c = λ cut m old is s.
@@ -63,7 +64,7 @@ returns-in-Err-clause-leaves g c = record {
   spared = (search rules);
   medium = (search rules);
   counted = counted_told g.M.Medium.seen c.args.self.now c.set.new.self c.self.inside.volume c.rename.new.self (ap (λ k. k.medium) c.self.view_is) c.set.ensures.medium c.rename.result c.in-Err.trouble c.in-Err.is c.rename.ensures.only (ap (λ x. x.status) c.set.ensures.told ∙ c.from.ensures);
-  grounded = answer_grounded g.M.Medium.seen c.args.self.now c.set.new.self c.self.inside.volume c.rename.new.self (ap (λ k. k.medium) c.self.view_is) c.set.ensures.medium c.rename.result c.in-Err.trouble c.in-Err.is (only_grounded _ _ _ c.rename.ensures.only) (ap (λ x. x.status) c.set.ensures.told ∙ c.from.ensures);
+  grounded = answer_grounded g.M.Medium.seen c.args.self.now c.set.new.self c.self.inside.volume c.rename.new.self (ap (λ k. k.medium) c.self.view_is) c.set.ensures.medium c.rename.result c.in-Err.trouble c.in-Err.is (only_else _ _ _ c.rename.ensures.only) (ap (λ x. x.status) c.set.ensures.told ∙ c.from.ensures);
 }
 
 -- ---- the rest of the disk

@@ -122,5 +122,5 @@ returns-in-Position-clause-leaves g c = record {
   medium = (search rules);
   rest = λ other m s. rest_itself _ _ (ap g.M.Medium.seen c.place.ensures.tells.1);
   counted = (search rules);
-  grounded = inr (told_grounded g.M.Medium.seen c.args.self.now c.place.new.self c.place.ensures.tells.1 c.place.ensures.tells.0);
+  grounded = inr (told_grounded g.M.Medium.seen c.args.self.now c.place.new.self c.place.ensures.tells.0);
 }

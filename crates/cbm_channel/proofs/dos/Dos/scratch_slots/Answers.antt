@@ -54,7 +54,7 @@ pub returns-in-Err-clause-leaves : goal.returns-in-Err-clause-leaves
 returns-in-Err-clause-leaves g c = record {
   medium = (search rules);
   counted = counted_else g.M.Medium.seen c.args.self.now c.set-in-Err.new.self c.args.self.now.medium c.clear.new.self.medium refl c.set-in-Err.ensures.medium c.clear.result c.in-Err.trouble c.in-Err.is c.clear.ensures.medium (ap (λ x. x.status) c.set-in-Err.ensures.told ∙ c.from.ensures);
-  grounded = answer_grounded g.M.Medium.seen c.args.self.now c.set-in-Err.new.self c.args.self.now.medium c.clear.new.self.medium refl c.set-in-Err.ensures.medium c.clear.result c.in-Err.trouble c.in-Err.is c.clear.ensures.medium.shown (ap (λ x. x.status) c.set-in-Err.ensures.told ∙ c.from.ensures);
+  grounded = answer_grounded g.M.Medium.seen c.args.self.now c.set-in-Err.new.self c.args.self.now.medium c.clear.new.self.medium refl c.set-in-Err.ensures.medium c.clear.result c.in-Err.trouble c.in-Err.is c.clear.ensures.medium (ap (λ x. x.status) c.set-in-Err.ensures.told ∙ c.from.ensures);
 }
 
 -- ---- the rest of the disk

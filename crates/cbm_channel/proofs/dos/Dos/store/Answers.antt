@@ -69,7 +69,7 @@ returns-in-Err-clause-leaves g c = record {
       let same = use_at (slice_index_or c.self.inside.channels c.args.channel c.index-self-channel.result) _ m.channels c.args.channel _ (omega (arith, c.requires, c.self.invariant.count)) refl in
       rest_seen g.M.Medium.seen c.args.self.now.medium c.set.new.self.medium c.self.inside.volume c.put.new.volume (ap (λ k. k.medium) c.self.view_is) c.set.ensures.medium ((c.put.ensures.call m.disk (uses_of c.self.inside.channels m.channels) c.args.channel (channel m c.args.channel) st.holds same at).rest);
   counted = counted_else g.M.Medium.seen c.args.self.now c.set.new.self c.self.inside.volume c.put.new.volume (ap (λ k. k.medium) c.self.view_is) c.set.ensures.medium c.put.result c.in-Err.trouble c.in-Err.is c.put.ensures.only (ap (λ x. x.status) c.set.ensures.told ∙ c.from.ensures);
-  grounded = inr (answer_grounded g.M.Medium.seen c.args.self.now c.set.new.self c.self.inside.volume c.put.new.volume (ap (λ k. k.medium) c.self.view_is) c.set.ensures.medium c.put.result c.in-Err.trouble c.in-Err.is c.put.ensures.only.shown (ap (λ x. x.status) c.set.ensures.told ∙ c.from.ensures));
+  grounded = inr (answer_grounded g.M.Medium.seen c.args.self.now c.set.new.self c.self.inside.volume c.put.new.volume (ap (λ k. k.medium) c.self.view_is) c.set.ensures.medium c.put.result c.in-Err.trouble c.in-Err.is c.put.ensures.only (ap (λ x. x.status) c.set.ensures.told ∙ c.from.ensures));
 }
 
 pub returns-in-Ok-true-clause-leaves : goal.returns-in-Ok-true-clause-leaves

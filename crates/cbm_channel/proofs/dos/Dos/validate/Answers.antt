@@ -15,7 +15,8 @@ use Rattle.cbm_channel.proofs.Ordered.{trouble_not_fine, fine_ordered, refused_o
 use Rattle.cbm_channel.proofs.Counted.{counted_told}
 use Rattle.cbm_channel.proofs.Rest.{rest_itself, rest_seen, change_rest}
 use Rattle.cbm_channel.proofs.dos.Dos.validate.Goals as goal
-use Rattle.cbm_channel.proofs.GroundedReports.{answer_grounded, only_grounded}
+use Rattle.cbm_channel.proofs.Elses.{only_else}
+use Rattle.cbm_channel.proofs.GroundedReports.{answer_grounded}
 
 -- a channel is open
 pub returns-then-is_any_open-clause-goes : goal.returns-then-is_any_open-clause-goes
@@ -85,7 +86,7 @@ returns-in-Err-clause-leaves g c = record {
       ∙ ap (λ k. (g.M.Medium.seen k.medium).content) c.self.view_is);
   medium = (search rules);
   counted = counted_told g.M.Medium.seen c.args.self.now c.set.new.self c.self.inside.volume c.validate.new.self (ap (λ k. k.medium) c.self.view_is) c.set.ensures.medium c.validate.result c.in-Err.trouble c.in-Err.is c.validate.ensures.only (ap (λ x. x.status) c.set.ensures.told ∙ c.from.ensures);
-  grounded = answer_grounded g.M.Medium.seen c.args.self.now c.set.new.self c.self.inside.volume c.validate.new.self (ap (λ k. k.medium) c.self.view_is) c.set.ensures.medium c.validate.result c.in-Err.trouble c.in-Err.is (only_grounded _ _ _ c.validate.ensures.only) (ap (λ x. x.status) c.set.ensures.told ∙ c.from.ensures);
+  grounded = answer_grounded g.M.Medium.seen c.args.self.now c.set.new.self c.self.inside.volume c.validate.new.self (ap (λ k. k.medium) c.self.view_is) c.set.ensures.medium c.validate.result c.in-Err.trouble c.in-Err.is (only_else _ _ _ c.validate.ensures.only) (ap (λ x. x.status) c.set.ensures.told ∙ c.from.ensures);
 }
 
 -- ---- what is changed

@@ -80,7 +80,7 @@ returns-in-Err-clause-leaves g c = record {
       let x : kept.Channel = slice_index_or c.self.inside.channels c.args.channel c.index-self-channel.result in
       rest_seen g.M.Medium.seen c.args.self.now.medium c.set.new.self.medium c.self.inside.volume c.write_record.new.volume (ap (λ k. k.medium) c.self.view_is) c.set.ensures.medium (rest_on records_on old new x (slice_index_or c.args.self.now.channels c.args.channel Closed) (any_default c.self.inside.channels c.args.channel c.index-self-channel.result Closed (omega (arith, c.requires, c.self.invariant.count)) ∙ ap (λ k. slice_index_or k.channels c.args.channel Closed) c.self.view_is) (put_rest old new c.self.inside.channels c.self.inside.telling c.self.inside.text m c.args.channel c.requires c.self.invariant st x c.write_record.new.self c.index-self-channel.result refl (take 256 c.args.bytes.now) c.args.bytes.now refl c.write_record.ensures.call.medium.tracks c.write_record.ensures.rest (λ none. ap g.M.Medium.seen (c.write_record.ensures.quiet none).2)));
   counted = counted_else g.M.Medium.seen c.args.self.now c.set.new.self c.self.inside.volume c.write_record.new.volume (ap (λ k. k.medium) c.self.view_is) c.set.ensures.medium c.write_record.result c.in-Err.trouble c.in-Err.is c.write_record.ensures.call.medium (ap (λ x. x.status) c.set.ensures.told ∙ c.from.ensures);
-  grounded = inr (answer_grounded g.M.Medium.seen c.args.self.now c.set.new.self c.self.inside.volume c.write_record.new.volume (ap (λ k. k.medium) c.self.view_is) c.set.ensures.medium c.write_record.result c.in-Err.trouble c.in-Err.is c.write_record.ensures.call.medium.shown (ap (λ x. x.status) c.set.ensures.told ∙ c.from.ensures));
+  grounded = inr (answer_grounded g.M.Medium.seen c.args.self.now c.set.new.self c.self.inside.volume c.write_record.new.volume (ap (λ k. k.medium) c.self.view_is) c.set.ensures.medium c.write_record.result c.in-Err.trouble c.in-Err.is c.write_record.ensures.call.medium (ap (λ x. x.status) c.set.ensures.told ∙ c.from.ensures));
 }
 
 pub returns-in-Ok-Some-false-clause-leaves : goal.returns-in-Ok-Some-false-clause-leaves
