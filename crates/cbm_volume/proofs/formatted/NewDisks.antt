@@ -6,7 +6,7 @@ use Rattle.std.proofs.lemmas.List.{get_or-replicate}
 use Rattle.cbm_medium.specs.Place.{Place, directory_head, Has}
 use Rattle.cbm_medium.specs.Content.{Cell, Content, written, blank, header_fault, is_header_fault}
 use Rattle.cbm_medium.specs.Links.{or_nothing, bytes_at, link}
-use Rattle.cbm_medium.specs.Seen.{Seen, with_content, formatted_as, OnlyContent}
+use Rattle.cbm_medium.specs.Seen.{Seen, with_content, formatted_as, IsGrounded, OnlyContent}
 use Rattle.cbm_medium.specs.declared.fault.Trouble.{Trouble}
 use Rattle.cbm_file.specs.Files.{Disk, blocks_on}
 use Rattle.cbm_file.specs.Changes.{new_disk}
@@ -256,7 +256,7 @@ only_long r id o old mid new was some h =
     subst (λ (y : Option (List ℕ)). OnlyNew r y old new) (sym some) (inl (under (subst (λ (s : Seen). OnlyContent 18 r s new) was h)))
   where
     under : OnlyContent 18 r (formatted_as id (with_content blank old)) new → OnlyContent 18 r (formatted_as id (with_content new.content old)) new
-    under k = record { tracks = k.tracks; protected = k.protected; id = k.id; counted = k.counted; once = k.once; uncounted = k.uncounted; own = k.own; guarded = k.guarded; beyond = record { same = λ p far i. new.content p } }
+    under k = record { tracks = k.tracks; protected = k.protected; id = k.id; counted = k.counted; once = k.once; uncounted = k.uncounted; own = k.own; guarded = k.guarded; shown = k.shown; beyond = record { same = λ p far i. new.content p } }
 
 -- tracks and protection stay, and failures are counted
 pub new_keeps : (r : Result (Unit {0}) Trouble) (o : Option (List ℕ)) (old new : Seen) → OnlyNew r o old new → (new.tracks ≡ old.tracks) × (new.protected ≡ old.protected) × (old.failures ≤ new.failures)
@@ -269,3 +269,9 @@ pub new_refusal : (r : Result (Unit {0}) Trouble) (o : Option (List ℕ)) (old n
 new_refusal r None old new h = h.guarded
 new_refusal r (Some id) old new (inl h) = h.guarded
 new_refusal r (Some id) old new (inr (err, h)) = h.guarded
+
+-- and a trouble has its ground
+pub new_grounded : (r : Result (Unit {0}) Trouble) (o : Option (List ℕ)) (old new : Seen) → OnlyNew r o old new → IfErr r (IsGrounded old new)
+new_grounded r None old new h = h.shown
+new_grounded r (Some id) old new (inl h) = h.shown
+new_grounded r (Some id) old new (inr (err, h)) = h.shown
