@@ -1,7 +1,7 @@
 ghost use Rattle.std.specs.Prelude.{◌≡◌, ◌≢◌, ◌==◌, ◌≤◌, Ok, IsOk, IfOk, IfErr, OnOk, find, is_some};
 ghost use Rattle.cbm_medium.specs.Place.{Place, directory_head, sectors_on};
 ghost use Rattle.cbm_medium.specs.Content.{IsWhole};
-ghost use Rattle.cbm_medium.specs.Seen.{IsShown};
+ghost use Rattle.cbm_medium.specs.Seen.{ShowsGround};
 ghost use Rattle.cbm_bam.specs.Orders.{directory_order};
 ghost use Rattle.cbm_bam.specs.Map.{map_of, is_free_in, count_in, tally, free_in, number, geometry_of};
 ghost use Rattle.cbm_bam.specs.Causes.{IsHeadFault};
@@ -38,7 +38,7 @@ pub fn read_map<M: Medium>(medium: &M, geometry: Geometry) -> Result<[u8; 256], 
     ensures ok { IfOk result (λ map. (M.seen medium.now).content directory_head ≡ Ok map) }
     ensures err { IfErr result (IsHeadFault (M.seen medium.now).content) }
     ensures never_26 { IfErr result (λ t. t.code ≢ 26) }
-    ensures shown { IfErr result (IsShown (M.seen medium.now)) }
+    ensures shown { IfErr result (ShowsGround (M.seen medium.now)) }
 {
     prove!(geometry.tracks() >= 35);
     let map = medium.read(Address::of_map())?;
@@ -62,7 +62,7 @@ pub fn free_blocks<M: Medium>(medium: &M, geometry: Geometry) -> Result<u16, Tro
     ensures ok { IfOk result (λ free. free ≡ free_in geometry (map_of (M.seen medium.now).content)) }
     ensures read { OnOk result (IsOk ((M.seen medium.now).content directory_head)) }
     ensures err { IfErr result (IsHeadFault (M.seen medium.now).content) }
-    ensures shown { IfErr result (IsShown (M.seen medium.now)) }
+    ensures shown { IfErr result (ShowsGround (M.seen medium.now)) }
 {
     let map = read_map(medium, geometry)?;
     Ok(map::free_blocks(&map, geometry.tracks()))
@@ -75,7 +75,7 @@ pub fn free_bits<M: Medium>(medium: &M, geometry: Geometry) -> Result<u16, Troub
     ensures read { OnOk result (IsOk ((M.seen medium.now).content directory_head)) }
     ensures err { IfErr result (IsHeadFault (M.seen medium.now).content) }
     ensures never_26 { IfErr result (λ t. t.code ≢ 26) }
-    ensures shown { IfErr result (IsShown (M.seen medium.now)) }
+    ensures shown { IfErr result (ShowsGround (M.seen medium.now)) }
 {
     let map = read_map(medium, geometry)?;
     Ok(map::free_bits(&map, geometry.tracks()))
@@ -88,7 +88,7 @@ pub fn has_directory_room<M: Medium>(medium: &M, geometry: Geometry) -> Result<b
         directory_order)) }
     ensures read { OnOk result (IsOk ((M.seen medium.now).content directory_head)) }
     ensures err { IfErr result (IsHeadFault (M.seen medium.now).content) }
-    ensures shown { IfErr result (IsShown (M.seen medium.now)) }
+    ensures shown { IfErr result (ShowsGround (M.seen medium.now)) }
 {
     let map = read_map(medium, geometry)?;
     Ok(in_directory(&map).is_some())

@@ -4,7 +4,7 @@ ghost use Rattle.std.specs.Prelude.{◌≡◌, ◌≢◌, ◌≤◌, ◌<◌, �
 ghost use Rattle.cbm_medium.specs.Place.{sector_count};
 ghost use Rattle.cbm_chain.specs.Reading.{held_from};
 ghost use Rattle.cbm_medium.specs.Met.{Walks};
-ghost use Rattle.cbm_medium.specs.Seen.{IsShown};
+ghost use Rattle.cbm_medium.specs.Seen.{ShowsGround};
 
 use crate::loaded::{Loaded, load};
 use cbm_medium::{Geometry, Link, Medium, Trouble};
@@ -16,7 +16,7 @@ pub fn byte_count<M: Medium>(medium: &M, geometry: Geometry, first: Link) -> Res
     ensures counted { let content = (M.seen medium.now).content in IfOk result
         (λ n. n ≡ length (held_from geometry content (sector_count geometry) first).bytes) }
     ensures walk { Walks (held_from geometry (M.seen medium.now).content (sector_count geometry) first).trouble result }
-    ensures shown { IfErr result (IsShown (M.seen medium.now)) }
+    ensures shown { IfErr result (ShowsGround (M.seen medium.now)) }
 {
     let mut at = first;
     let mut left = geometry.sectors();
@@ -49,7 +49,7 @@ fn count_one<M: Medium>(
     ensures err { IfErr result
         (λ t. held_from geometry (M.seen medium.now).content left at ≡ (record { bytes = []; trouble = Some t })) }
     ensures never_26 { IfErr result (λ t. t.code ≢ 26) }
-    ensures shown { IfErr result (IsShown (M.seen medium.now)) }
+    ensures shown { IfErr result (ShowsGround (M.seen medium.now)) }
 {
     let Loaded { sector, to, next } = load(medium, geometry, at, left)?;
     Ok(((to - 2) as u32, next))

@@ -6,7 +6,7 @@ ghost use Rattle.cbm_medium.specs.Links.{with_block};
 ghost use Rattle.cbm_bam.specs.Map.{Frees, IsGiven};
 ghost use Rattle.cbm_chain.specs.GivenUp.{linked_blocks};
 ghost use Rattle.cbm_medium.specs.Met.{Walks};
-ghost use Rattle.cbm_medium.specs.Seen.{IsShown};
+ghost use Rattle.cbm_medium.specs.Seen.{ShowsGround};
 
 use cbm_bam::Release;
 use cbm_medium::codes::ILLEGAL_LINK;
@@ -25,7 +25,7 @@ pub(crate) fn give_linked<M: Medium>(
     ensures freed { OnOk result (Frees geometry release.old
         (linked_blocks geometry (M.seen medium.now).content more first).blocks release.new) }
     ensures walk { Walks (linked_blocks geometry (M.seen medium.now).content more first).trouble result }
-    ensures shown { IfErr result (IsShown (M.seen medium.now)) }
+    ensures shown { IfErr result (ShowsGround (M.seen medium.now)) }
 {
     let mut at = first;
     for passed in 0..more {
@@ -50,7 +50,7 @@ fn give_and_follow<M: Medium>(
     ensures err { (n : ℕ) → IfErr result (λ t. linked_blocks geometry (M.seen medium.now).content (suc n) at ≡
         (record { blocks = []; trouble = Some t })) }
     ensures never_26 { IfErr result (λ t. t.code ≢ 26) }
-    ensures shown { IfErr result (IsShown (M.seen medium.now)) }
+    ensures shown { IfErr result (ShowsGround (M.seen medium.now)) }
 {
     let address = give_at(geometry, at, release)?;
     let bytes = medium.read(address)?;

@@ -2,7 +2,7 @@
 use Rattle.std.proofs.Common.{◌≡◌, ◌≤◌, ℕ, ap, sym, subst, ◌∙◌, arith, inl, Result, Ok, Err}
 use Rattle.std.specs.Prelude.{OnOk, IfErr, Some, true}
 use Rattle.cbm_medium.specs.declared.fault.Trouble.{Trouble}
-use Rattle.cbm_medium.specs.Seen.{Seen, HasFailed, IsGrounded, IsShown, OnlyContent}
+use Rattle.cbm_medium.specs.Seen.{Seen, HasFailed, IsGrounded, ShowsGround, OnlyContent}
 use Rattle.cbm_medium.proofs.Sequences.{IsGuarded, grounded_before, readable_after, readable_same}
 use Rattle.cbm_channel.specs.ChannelCalls.{KeepsElse}
 
@@ -11,7 +11,7 @@ pub only_else : {disk : ℕ} {A : Type 0} (r : Result A Trouble) (old new : Seen
 only_else r old new h = record { tracks = h.tracks; protected = h.protected; id = h.id; counted = h.counted; once = h.once; uncounted = h.uncounted; own = h.own; guarded = h.guarded; shown = h.shown; readable = h.readable }
 
 -- nothing was done
-pub else_nothing : {A : Type 0} (r : Result A Trouble) (old new : Seen) → new ≡ old → IsGuarded r old → IfErr r (IsShown new) → KeepsElse r old new
+pub else_nothing : {A : Type 0} (r : Result A Trouble) (old new : Seen) → new ≡ old → IsGuarded r old → IfErr r (ShowsGround new) → KeepsElse r old new
 else_nothing {A} r old new e guards shows =
     record { tracks = ap (λ (s : Seen). s.tracks) e; protected = ap (λ (s : Seen). s.protected) e; id = ap (λ (s : Seen). s.id) e; counted = omega (arith, same); once = omega (arith, same); uncounted = on_ok r; own = on_err r; guarded = guards; shown = on_shown r shows; readable = readable_same old.content new.content (ap (λ (s : Seen). s.content) e) }
   where
@@ -26,7 +26,7 @@ else_nothing {A} r old new e guards shows =
     on_err (Ok a) = tt
     on_err (Err t) = λ failed. absurd (omega (arith, same, failed))
 
-    on_shown : (x : Result A Trouble) → IfErr x (IsShown new) → IfErr x (IsGrounded old new)
+    on_shown : (x : Result A Trouble) → IfErr x (ShowsGround new) → IfErr x (IsGrounded old new)
     on_shown (Ok a) h = tt
     on_shown (Err t) h = inl h
 
@@ -55,7 +55,7 @@ else_after {A} {B} q a r old mid new e h k =
     grounds (Err t) f = grounded_before old mid new t h.counted f
 
 -- a call that only reads after one that succeeded
-pub else_then : {A B : Type 0} (q : Result A Trouble) (r : Result B Trouble) (a : A) (old new : Seen) → q ≡ Ok a → KeepsElse q old new → IsGuarded r old → IfErr r (IsShown new) → KeepsElse r old new
+pub else_then : {A B : Type 0} (q : Result A Trouble) (r : Result B Trouble) (a : A) (old new : Seen) → q ≡ Ok a → KeepsElse q old new → IsGuarded r old → IfErr r (ShowsGround new) → KeepsElse r old new
 else_then {A} {B} q r a old new e h guards shows = else_after q a r old new new e h (record { tracks = λ i. new.tracks; protected = λ i. new.protected; id = λ i. new.id; counted = omega arith; once = omega arith; uncounted = on_ok r; own = on_err r; guarded = still r guards; shown = on_shown r shows; readable = readable_same new.content new.content (λ i. new.content) })
   where
     first : new.failures ≡ old.failures
@@ -73,7 +73,7 @@ else_then {A} {B} q r a old new e h guards shows = else_after q a r old new new 
     still (Ok b) f = tt
     still (Err t) f = λ is. h.protected ∙ f is
 
-    on_shown : (x : Result B Trouble) → IfErr x (IsShown new) → IfErr x (IsGrounded new new)
+    on_shown : (x : Result B Trouble) → IfErr x (ShowsGround new) → IfErr x (IsGrounded new new)
     on_shown (Ok b) f = tt
     on_shown (Err t) f = inl f
 

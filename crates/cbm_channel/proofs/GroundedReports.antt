@@ -5,7 +5,7 @@ use Rattle.cbm_medium.specs.declared.fault.Trouble.{Trouble}
 use Rattle.cbm_medium.specs.Place.{Place}
 use Rattle.cbm_medium.specs.Content.{Cell, blank, header_fault, is_header_fault, refusal}
 use Rattle.cbm_medium.specs.Met.{IsMetFrom, place_of}
-use Rattle.cbm_medium.specs.Seen.{Seen, HasFailed, IsGrounded, IsShown, KeepsReadable}
+use Rattle.cbm_medium.specs.Seen.{Seen, HasFailed, IsGrounded, ShowsGround, KeepsReadable}
 use Rattle.cbm_medium.proofs.Shown.{cut_shown, met_shown}
 use Rattle.cbm_bam.specs.Map.{geometry_of}
 use Rattle.cbm_directory.specs.Entries.{first_directory}
@@ -22,11 +22,11 @@ use Rattle.cbm_channel.specs.Grounds.{HasGround, HasTold, HidesRecords, IsToldFo
 
 -- ---- what a medium shows
 
-listed_shown : (tracks : ℕ) (s : Seen) (t : Trouble) → (directory_of tracks s.content).trouble ≡ Some t → IsShown s t
+listed_shown : (tracks : ℕ) (s : Seen) (t : Trouble) → (directory_of tracks s.content).trouble ≡ Some t → ShowsGround s t
 unfolding directory_of listed_from
 listed_shown tracks s t e = cut_shown tracks s 18 first_directory t e
 
-pub trouble_shown : (tracks : ℕ) (s : Seen) (t : Trouble) → ShowsTrouble tracks s.content t → IsShown s t
+pub trouble_shown : (tracks : ℕ) (s : Seen) (t : Trouble) → ShowsTrouble tracks s.content t → ShowsGround s t
 trouble_shown tracks s t (inl e) = inr (inl e)
 trouble_shown tracks s t (inr (inl e)) = listed_shown tracks s t e
 trouble_shown tracks s t (inr (inr (inl (entry, there, e)))) = cut_shown tracks s _ _ t e
@@ -34,12 +34,12 @@ trouble_shown tracks s t (inr (inr (inr (inl (entry, there, m))))) = inl (inr m.
 trouble_shown tracks s t (inr (inr (inr (inr (entry, there, m))))) = met_shown tracks _ s t m
 
 -- why a record can't be read
-pub hidden_shown : (s : Seen) (t : Trouble) → HidesRecords s t → IsShown s t
+pub hidden_shown : (s : Seen) (t : Trouble) → HidesRecords s t → ShowsGround s t
 hidden_shown s t (inl e) = listed_shown (geometry_of s.tracks s.content) s t e
 hidden_shown s t (inr (entry, there, m)) = met_shown _ _ s t m
 
 -- the same was shown before a call that made no sector unreadable
-pub shown_before : (old new : Seen) (t : Trouble) → new.protected ≡ old.protected → KeepsReadable old.content new.content → IsShown new t → IsShown old t
+pub shown_before : (old new : Seen) (t : Trouble) → new.protected ≡ old.protected → KeepsReadable old.content new.content → ShowsGround new t → ShowsGround old t
 shown_before old new t same r (inl link) = inl link
 shown_before old new t same r (inr (inl fault)) = inr (inl (r.faults (place_of t) t.code fault))
 shown_before old new t same r (inr (inr refuses)) = inr (by_protection old.protected (subst (λ (b : Bool). refusal b (new.content (place_of t)) ≡ Some t.code) same refuses))
@@ -56,7 +56,7 @@ shown_before old new t same r (inr (inr refuses)) = inr (by_protection old.prote
     by_protection true e = inr e
     by_protection false e = inl (r.faults (place_of t) t.code (is_fault (new.content (place_of t)) e))
 
-grounded_as_before : (old new : Seen) (t : Trouble) → new.protected ≡ old.protected → KeepsReadable old.content new.content → IsGrounded old new t → IsShown old t ⊎ HasFailed old new
+grounded_as_before : (old new : Seen) (t : Trouble) → new.protected ≡ old.protected → KeepsReadable old.content new.content → IsGrounded old new t → ShowsGround old t ⊎ HasFailed old new
 grounded_as_before old new t same r (inl shows) = inl (shown_before old new t same r shows)
 grounded_as_before old new t same r (inr failed) = inr failed
 
@@ -79,7 +79,7 @@ module _ {M : Type 0} (seen : M → Seen) (old new : Kept M) where
     pub answer_grounded_by : (seen after).protected ≡ (seen before).protected → KeepsReadable (seen before).content (seen after).content → IfErr r (IsGrounded (seen before) (seen after)) → new.told.status ≡ trouble_status t → TellsGrounded seen old new
     answer_grounded_by same readable grounds told =
         let ground = grounded_as_before (seen before) (seen after) t same readable (subst (λ (x : Result A Trouble). IfErr x (IsGrounded (seen before) (seen after))) err grounds) in
-        inr (t, told, subst (λ (m : M). IsShown (seen m) t ⊎ HasFailed (seen m) (seen new.medium)) was (subst (λ (m : M). IsShown (seen before) t ⊎ HasFailed (seen before) (seen m)) (sym is) ground))
+        inr (t, told, subst (λ (m : M). ShowsGround (seen m) t ⊎ HasFailed (seen m) (seen new.medium)) was (subst (λ (m : M). ShowsGround (seen before) t ⊎ HasFailed (seen before) (seen m)) (sym is) ground))
 
     pub answer_grounded : KeepsElse r (seen before) (seen after) → new.told.status ≡ trouble_status t → TellsGrounded seen old new
     answer_grounded kept told = answer_grounded_by kept.protected kept.readable kept.shown told
@@ -117,7 +117,7 @@ grounded_after seen old mid new k (inr (t, told, inr failed)) = inr (t, told, in
 pub grounded_from : {M : Type 0} (seen : M → Seen) (old first new : Kept M) → first.medium ≡ old.medium → first.told ≡ old.told → KeepsGrounded seen first new → KeepsGrounded seen old new
 grounded_from seen old first new same told (inl e) = inl (e ∙ told)
 grounded_from seen old first new same told (inr (inl e)) = inr (inl e)
-grounded_from {M} seen old first new same told (inr (inr (t, status, g))) = inr (inr (t, status, subst (λ (m : M). IsShown (seen m) t ⊎ HasFailed (seen m) (seen new.medium)) same g))
+grounded_from {M} seen old first new same told (inr (inr (t, status, g))) = inr (inr (t, status, subst (λ (m : M). ShowsGround (seen m) t ⊎ HasFailed (seen m) (seen new.medium)) same g))
 
 -- a step after that leaves what is reported
 reported_still : {M : Type 0} (seen : M → Seen) (old mid new : Kept M) → new.told ≡ mid.told → (seen mid.medium).failures ≤ (seen new.medium).failures → KeepsGrounded seen old mid → KeepsGrounded seen old new

@@ -4,7 +4,7 @@ use Rattle.std.specs.List.{Contains}
 use Rattle.cbm_medium.specs.Place.{sector_count}
 use Rattle.cbm_medium.specs.Links.{follow}
 use Rattle.cbm_medium.specs.declared.fault.Trouble.{Trouble}
-use Rattle.cbm_medium.specs.Seen.{Seen, HasFailed, IsShown}
+use Rattle.cbm_medium.specs.Seen.{Seen, HasFailed, ShowsGround}
 use Rattle.cbm_medium.specs.Met.{IsMet}
 use Rattle.cbm_medium.specs.Content.{Content}
 use Rattle.cbm_volume.specs.RecordFaults.{IsMislisted}
@@ -63,7 +63,7 @@ IsToldFor seen old new =
 abbrev pub TellsGrounded : {M : Type 0} → (M → Seen) → Kept M → Kept M → Type 0
 TellsGrounded seen old new =
     (is_fault_number (code_number new.told.status.code) ≡ false)
-    ⊎ ((t : Trouble) × (new.told.status ≡ trouble_status t) × (IsShown (seen old.medium) t ⊎ HasFailed (seen old.medium) (seen new.medium)))
+    ⊎ ((t : Trouble) × (new.told.status ≡ trouble_status t) × (ShowsGround (seen old.medium) t ⊎ HasFailed (seen old.medium) (seen new.medium)))
 
 -- What is reported stays, or a status with its ground is reported.
 abbrev pub KeepsGrounded : {M : Type 0} → (M → Seen) → Kept M → Kept M → Type 0

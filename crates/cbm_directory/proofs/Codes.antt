@@ -4,7 +4,7 @@ use Rattle.std.specs.Prelude.{IfErr}
 use Rattle.cbm_medium.specs.Place.{Place}
 use Rattle.cbm_medium.specs.Content.{Content, HasFaultCode}
 use Rattle.cbm_medium.specs.declared.fault.Trouble.{Trouble}
-use Rattle.cbm_medium.specs.Seen.{Seen, IsShown}
+use Rattle.cbm_medium.specs.Seen.{Seen, ShowsGround}
 use Rattle.cbm_medium.proofs.FaultCodes.{followed_never_26}
 use Rattle.cbm_medium.proofs.Shown.{cut_shown}
 use Rattle.cbm_directory.specs.Entries.{first_directory}
@@ -22,10 +22,10 @@ found_never_26 tracks c (Err t) P codes f = λ is. absurd (directory_never_26 tr
 
 -- ---- the ground
 
-pub directory_shown : (tracks : ℕ) (s : Seen) (t : Trouble) → (directory_of tracks s.content).trouble ≡ Some t → IsShown s t
+pub directory_shown : (tracks : ℕ) (s : Seen) (t : Trouble) → (directory_of tracks s.content).trouble ≡ Some t → ShowsGround s t
 unfolding directory_of listed_from
 directory_shown tracks s t e = cut_shown tracks s 18 first_directory t e
 
-pub found_shown : (tracks : ℕ) (s : Seen) (r : Result (Option ℕ) Trouble) → FindsEmpty (directory_of tracks s.content) r → IfErr r (IsShown s)
+pub found_shown : (tracks : ℕ) (s : Seen) (r : Result (Option ℕ) Trouble) → FindsEmpty (directory_of tracks s.content) r → IfErr r (ShowsGround s)
 found_shown tracks s (Ok o) f = tt
 found_shown tracks s (Err t) f = directory_shown tracks s t f.1

@@ -2,7 +2,7 @@
 
 ghost use Rattle.std.specs.Prelude.{◌≡◌, ◌≢◌, ◌≤◌, true, Some, Ok, IfOk, IfErr, OnErr};
 ghost use Rattle.cbm_medium.specs.Links.{follow};
-ghost use Rattle.cbm_medium.specs.Seen.{IsShown, OnlyContent};
+ghost use Rattle.cbm_medium.specs.Seen.{ShowsGround, OnlyContent};
 ghost use Rattle.cbm_directory.specs.Entries.{HasLink, first_directory};
 ghost use Rattle.cbm_directory.specs.Growth.{IsLastSector, new_sector, GrowthStopped, IsGrowthRefused, GrowsIfRoom};
 
@@ -30,7 +30,7 @@ fn last_sector<M: Medium>(medium: &M, geometry: Geometry) -> Result<Sector, Trou
     ensures err { IfErr result (λ t.
         (follow geometry (M.seen medium.now).content 18 first_directory).trouble ≡ Some t) }
     ensures never_26 { IfErr result (λ t. t.code ≢ 26) }
-    ensures shown { IfErr result (IsShown (M.seen medium.now)) }
+    ensures shown { IfErr result (ShowsGround (M.seen medium.now)) }
 {
     let mut at = Link::new(18, 1);
     let mut left = MOST;

@@ -6,7 +6,7 @@ use Rattle.cbm_medium.specs.declared.fault.Trouble.{Trouble}
 use Rattle.cbm_medium.specs.Place.{Place, is_place}
 use Rattle.cbm_medium.specs.Content.{Content, written}
 use Rattle.cbm_medium.specs.Met.{place_of}
-use Rattle.cbm_medium.specs.Seen.{Seen, HasFailed, IsRefused, IsShown, IsGrounded, KeepsBeyond, KeepsReadable, OnlyContent, trouble_of, with_content, write_refusal}
+use Rattle.cbm_medium.specs.Seen.{Seen, HasFailed, IsRefused, ShowsGround, IsGrounded, KeepsBeyond, KeepsReadable, OnlyContent, trouble_of, with_content, write_refusal}
 use Rattle.cbm_medium.proofs.Places.{written_elsewhere}
 
 -- an answer of the code 26 says that the medium is protected
@@ -14,7 +14,7 @@ abbrev pub IsGuarded : {A : Type 0} → Result A Trouble → Seen → Type 0
 IsGuarded r old = IfErr r (λ t. t.code ≡ 26 → old.protected ≡ true)
 
 -- a trouble that the medium shows is grounded, and stays so for a call that begins earlier: failures never fall
-pub shown_grounded : (old new : Seen) (t : Trouble) → IsShown new t → IsGrounded old new t
+pub shown_grounded : (old new : Seen) (t : Trouble) → ShowsGround new t → IsGrounded old new t
 shown_grounded old new t h = inl h
 
 pub grounded_before : (old mid new : Seen) (t : Trouble) → old.failures ≤ mid.failures → IsGrounded mid new t → IsGrounded old new t
@@ -30,7 +30,7 @@ refused_grounded old new at fault t says stands h = elim h.cause [
 ]
 
 -- what a call that only reads shows
-grounds_of : {A : Type 0} (r : Result A Trouble) (old new : Seen) → IfErr r (IsShown new) → IfErr r (IsGrounded old new)
+grounds_of : {A : Type 0} (r : Result A Trouble) (old new : Seen) → IfErr r (ShowsGround new) → IfErr r (IsGrounded old new)
 grounds_of (Ok a) old new h = tt
 grounds_of (Err t) old new h = shown_grounded old new t h
 
@@ -67,7 +67,7 @@ only_within {few} {A} many r old new more h =
     record { tracks = h.tracks; protected = h.protected; id = h.id; counted = h.counted; once = h.once; uncounted = h.uncounted; own = h.own; guarded = h.guarded; shown = h.shown; beyond = beyond_within few many old.content new.content more h.beyond; readable = h.readable }
 
 -- nothing was done
-pub only_nothing : {disk : ℕ} {A : Type 0} (r : Result A Trouble) (old new : Seen) → new ≡ old → IsGuarded r old → IfErr r (IsShown new) → OnlyContent disk r old new
+pub only_nothing : {disk : ℕ} {A : Type 0} (r : Result A Trouble) (old new : Seen) → new ≡ old → IsGuarded r old → IfErr r (ShowsGround new) → OnlyContent disk r old new
 only_nothing {disk} {A} r old new e guards shows =
     record { tracks = ap (λ (s : Seen). s.tracks) e; protected = ap (λ (s : Seen). s.protected) e; id = ap (λ (s : Seen). s.id) e; counted = omega (arith, same); once = omega (arith, same); uncounted = on_ok r; own = on_err r; guarded = guards; shown = grounds_of r old new shows; beyond = beyond_refused disk old.content new.content (ap (λ (s : Seen). s.content) e); readable = readable_same old.content new.content (ap (λ (s : Seen). s.content) e) }
   where
@@ -111,7 +111,7 @@ only_after {disk} {A} {B} q a r old mid new e h k =
     grounds (Err t) f = grounded_before old mid new t h.counted f
 
 -- a call that only reads after one that succeeded
-pub only_then : {disk : ℕ} {A B : Type 0} (q : Result A Trouble) (r : Result B Trouble) (a : A) (old new : Seen) → q ≡ Ok a → OnlyContent disk q old new → IsGuarded r old → IfErr r (IsShown new) → OnlyContent disk r old new
+pub only_then : {disk : ℕ} {A B : Type 0} (q : Result A Trouble) (r : Result B Trouble) (a : A) (old new : Seen) → q ≡ Ok a → OnlyContent disk q old new → IsGuarded r old → IfErr r (ShowsGround new) → OnlyContent disk r old new
 only_then {disk} {A} {B} q r a old new e h guards shows =
     record { tracks = h.tracks; protected = h.protected; id = h.id; counted = h.counted; once = h.once; uncounted = on_ok r; own = on_err r; guarded = guards; shown = grounds_of r old new shows; beyond = h.beyond; readable = h.readable }
   where

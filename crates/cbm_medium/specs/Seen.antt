@@ -40,13 +40,13 @@ HasFailed old new = old.failures < new.failures
 abbrev pub ShowsFault : Seen → Trouble → Type 0
 ShowsFault s t = (s.content (place_of t) ≡ Err t.code) ⊎ (write_refusal s (place_of t) ≡ Some t.code)
 
--- THE MEDIUM SHOWS THE TROUBLE: it is one of links (66 or 71), or a sector shows the fault.
-abbrev pub IsShown : Seen → Trouble → Type 0
-IsShown s t = ((t.code ≡ 66) ⊎ (t.code ≡ 71)) ⊎ ShowsFault s t
+-- THE MEDIUM SHOWS THE GROUND of a trouble: it is one of links (66 or 71), or a sector shows the fault.
+abbrev pub ShowsGround : Seen → Trouble → Type 0
+ShowsGround s t = ((t.code ≡ 66) ⊎ (t.code ≡ 71)) ⊎ ShowsFault s t
 
--- A TROUBLE HAS ITS GROUND: the medium shows it after the call, or it failed by itself in the call.
+-- A TROUBLE HAS ITS GROUND: the medium shows it after the call, or the medium failed by itself in the call.
 abbrev pub IsGrounded : Seen → Seen → Trouble → Type 0
-IsGrounded old new t = IsShown new t ⊎ HasFailed old new
+IsGrounded old new t = ShowsGround new t ⊎ HasFailed old new
 
 -- A write was refused with this fault, and changed nothing: for what the medium shows (why), or by a failure of the medium's own, which is
 -- counted, one for a write, and kept as what it refused last. The code 26 says that the medium is protected.

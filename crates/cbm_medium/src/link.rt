@@ -4,7 +4,7 @@ ghost use Rattle.cbm_medium.specs.Content.{Content, written};
 ghost use Rattle.cbm_medium.specs.Links.{link, Chain, IsCut, follow, ended, IsApart};
 ghost use Rattle.cbm_medium.specs.declared.fault.Trouble.{Trouble};
 ghost use Rattle.cbm_medium.specs.Met.{WalksOn};
-ghost use Rattle.cbm_medium.specs.Seen.{IsShown};
+ghost use Rattle.cbm_medium.specs.Seen.{ShowsGround};
 
 use crate::address::Address;
 use crate::codes::{ENDLESS_CHAIN, ILLEGAL_LINK};
@@ -113,7 +113,7 @@ pub fn read_linked<M: Medium>(
     ensures ok { IfOk result (λ bytes. (M.seen medium.now).content at ≡ Ok bytes) }
     ensures has { OnOk result (Has geometry at) }
     ensures step { WalksOn geometry (M.seen medium.now).content left at result link }
-    ensures shown { IfErr result (IsShown (M.seen medium.now)) }
+    ensures shown { IfErr result (ShowsGround (M.seen medium.now)) }
 {
     let Some(address) = at.address(geometry) else {
         return Err(at.trouble(ILLEGAL_LINK));

@@ -1,6 +1,6 @@
 -- What a call that writes a record in place leaves on any content.
 use Rattle.std.specs.Prelude.{ℕ, ◌≡◌, ◌≢◌, ◌≤◌, true, false, Option, None, Result, IfOk, IfErr, IfSome}
-use Rattle.cbm_medium.specs.Seen.{Seen, IsShown}
+use Rattle.cbm_medium.specs.Seen.{Seen, ShowsGround}
 use Rattle.cbm_medium.specs.declared.fault.Trouble.{Trouble}
 use Rattle.cbm_relfile.specs.declared.changing.WrittenRecord.{WrittenRecord}
 
@@ -13,4 +13,4 @@ pub record IsRecordWrite (result : Result (Option WrittenRecord) Trouble) (old n
   pub allowed : IfOk result (λ o. IfSome o (λ r. old.protected ≡ false))
   pub guarded : old.protected ≡ true → new.content ≡ old.content
   pub next_never_26 : IfOk result (λ o. IfSome o (λ r. IfErr r.next (λ t. t.code ≢ 26)))
-  pub next_shown : IfOk result (λ o. IfSome o (λ r. IfErr r.next (IsShown new)))
+  pub next_shown : IfOk result (λ o. IfSome o (λ r. IfErr r.next (ShowsGround new)))

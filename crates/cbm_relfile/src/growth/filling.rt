@@ -4,7 +4,7 @@ ghost use Rattle.std.specs.Prelude.{◌≡◌, ◌≢◌, ◌≤◌, ◌<◌, �
 ghost use Rattle.cbm_medium.specs.Place.{Place, Has, directory_head, sector_count};
 ghost use Rattle.cbm_medium.specs.Links.{link, Chain};
 ghost use Rattle.cbm_medium.specs.Met.{IsMetFrom, place_of};
-ghost use Rattle.cbm_medium.specs.Seen.{IsShown, OnlyContent};
+ghost use Rattle.cbm_medium.specs.Seen.{ShowsGround, OnlyContent};
 ghost use Rattle.cbm_chain.specs.Data.{chain_bytes};
 ghost use Rattle.cbm_relfile.specs.Records.{AllWhole, IsLaid};
 ghost use Rattle.cbm_relfile.specs.Filling.{IsTailFilled, IsFilledUp, IsFillStopped};
@@ -34,7 +34,7 @@ fn block_there<M: Medium>(
     ensures err { IfErr result (λ t. IsMetFrom geometry (M.seen medium.now).content (λ q. q ≡ first) t ⊎
         ((t.code ≡ 71) × (place_of t ≡ first))) }
     ensures never_26 { IfErr result (λ t. t.code ≢ 26) }
-    ensures shown { IfErr result (IsShown (M.seen medium.now)) }
+    ensures shown { IfErr result (ShowsGround (M.seen medium.now)) }
 {
     let Some(at) = nth_block(medium, geometry, first, number)? else {
         return Err(first.trouble(ENDLESS_CHAIN));

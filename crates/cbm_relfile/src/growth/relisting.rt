@@ -3,7 +3,7 @@
 ghost use Rattle.std.specs.Prelude.{◌≡◌, ◌≢◌, ◌≤◌, ◌<◌, ◌+◌, ◌*◌, ℕ, List, [], true, length, take, drop, slice_index, Ok, IsOk, IfErr, IfOk, IsOkAnd, MatchResult};
 ghost use Rattle.cbm_medium.specs.Place.{Place, Has, sector_count};
 ghost use Rattle.cbm_medium.specs.Links.{Chain, place_in};
-ghost use Rattle.cbm_medium.specs.Seen.{IsShown, OnlyContent};
+ghost use Rattle.cbm_medium.specs.Seen.{ShowsGround, OnlyContent};
 ghost use Rattle.cbm_relfile.specs.Making.{IsNotWritten};
 ghost use Rattle.cbm_relfile.specs.Records.{AllWhole, Relative, IsLaid};
 ghost use Rattle.cbm_relfile.specs.SideSectors.{IsEnded};
@@ -43,7 +43,7 @@ fn listed_from<M: Medium>(
         Chain geometry now.content r.1 (drop 120 blocks)) }
     ensures front { IfOk result (λ r. (i : ℕ) → 2 ≤ i → i < 16 → slice_index r.0 i ≡ slice_index side.now i) }
     ensures never_26 { IfErr result (λ t. t.code ≢ 26) }
-    ensures shown { IfErr result (IsShown (M.seen medium.now)) }
+    ensures shown { IfErr result (ShowsGround (M.seen medium.now)) }
 {
     let mut new = cut_at(side, BLOCKS);
     let mut at = first;
@@ -124,7 +124,7 @@ fn are_listed<M: Medium>(
         IsLaid geometry now.content file xs ss → first ≡ file.first →
         NamesSides head.now ss → length ss ≡ sides → AreInForm now.content ss xs → result ≡ Ok true }
     ensures never_26 { IfErr result (λ t. t.code ≢ 26) }
-    ensures shown { IfErr result (IsShown (M.seen medium.now)) }
+    ensures shown { IfErr result (ShowsGround (M.seen medium.now)) }
 {
     let mut at = first;
     for number in 0..sides {

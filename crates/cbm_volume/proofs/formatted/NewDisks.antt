@@ -6,7 +6,7 @@ use Rattle.std.proofs.lemmas.List.{get_or-replicate}
 use Rattle.cbm_medium.specs.Place.{Place, directory_head, Has}
 use Rattle.cbm_medium.specs.Content.{Cell, Content, written, blank, header_fault, is_header_fault}
 use Rattle.cbm_medium.specs.Links.{or_nothing, bytes_at, link}
-use Rattle.cbm_medium.specs.Seen.{Seen, with_content, formatted_as, OnlyContent}
+use Rattle.cbm_medium.specs.Seen.{Seen, with_content, formatted_as, IsGrounded, OnlyContent}
 use Rattle.cbm_medium.specs.declared.fault.Trouble.{Trouble}
 use Rattle.cbm_file.specs.Files.{Disk, blocks_on}
 use Rattle.cbm_file.specs.Changes.{new_disk}
@@ -266,3 +266,9 @@ pub new_refusal : (r : Result (Unit {0}) Trouble) (o : Option (List ℕ)) (old n
 new_refusal r None old new h = h.guarded
 new_refusal r (Some id) old new (inl h) = h.guarded
 new_refusal r (Some id) old new (inr (err, h)) = h.guarded
+
+-- and a trouble has its ground
+pub new_grounded : (r : Result (Unit {0}) Trouble) (o : Option (List ℕ)) (old new : Seen) → OnlyNew r o old new → IfErr r (IsGrounded old new)
+new_grounded r None old new h = h.shown
+new_grounded r (Some id) old new (inl h) = h.shown
+new_grounded r (Some id) old new (inr (err, h)) = h.shown

@@ -2,7 +2,7 @@
 
 ghost use Rattle.std.specs.Prelude.{◌≡◌, ◌≢◌, ◌≤◌, ◌⊎◌, ℕ, List, true, None, Some, Ok, Err, OnOk, IfOk, IfErr, length, slice_range, take, drop, ◌++◌};
 ghost use Rattle.cbm_medium.specs.Place.{directory_head};
-ghost use Rattle.cbm_medium.specs.Seen.{OnlyContent};
+ghost use Rattle.cbm_medium.specs.Seen.{ShowsGround, OnlyContent};
 ghost use Rattle.cbm_file.specs.Files.{Disk};
 ghost use Rattle.cbm_file.specs.Changes.{new_disk};
 ghost use Rattle.cbm_bam.specs.Map.{map_of};
@@ -112,6 +112,7 @@ fn told_id<M: Medium>(medium: &M) -> Result<[u8; 2], Trouble>
     ensures ok { IfOk result (λ id. id ≡ slice_range (map_of (M.seen medium.now).content) 162 164) }
     ensures err { IfErr result (λ t. (M.seen medium.now).content directory_head ≡ Err t.code) }
     ensures never_26 { IfErr result (λ t. t.code ≢ 26) }
+    ensures shown { IfErr result (ShowsGround (M.seen medium.now)) }
 {
     let map = read_map(medium, all_tracks(medium))?;
     Ok([map[162], map[163]])

@@ -1,8 +1,8 @@
 // VALIDATE: the map is written anew from the closed files.
 
-ghost use Rattle.std.specs.Prelude.{◌≡◌, ◌≢◌, ◌≤◌, ◌⊎◌, Some, true, false, IfOk, IfErr, IsOk, IsErrAnd, OnOk, OnErr, MatchResult, ℕ};
+ghost use Rattle.std.specs.Prelude.{◌≡◌, ◌≢◌, ◌≤◌, ◌⊎◌, Some, Err, true, false, IfOk, IfErr, IsOk, IsErrAnd, OnOk, OnErr, MatchResult, ℕ};
 ghost use Rattle.cbm_medium.specs.Place.{directory_head};
-ghost use Rattle.cbm_medium.specs.Seen.{OnlyContent};
+ghost use Rattle.cbm_medium.specs.Seen.{ShowsGround, OnlyContent};
 ghost use Rattle.cbm_medium.specs.Content.{written};
 ghost use Rattle.cbm_file.specs.Files.{Disk};
 ghost use Rattle.cbm_file.specs.Changes.{validated};
@@ -34,6 +34,7 @@ fn code_at<M: Medium>(medium: &M, geometry: Geometry, at: Link) -> u8
     requires { geometry ≤ (M.seen medium.now).tracks }
     ensures value { result ≡ code_at geometry (M.seen medium.now).content at }
     ensures never_26 { result ≢ 26 }
+    ensures shown { (result ≡ 71) ⊎ ((M.seen medium.now).content at ≡ Err result) }
 {
     let Some(address) = at.address(geometry) else {
         return ENDLESS_CHAIN;
@@ -50,6 +51,7 @@ fn flaw_code<M: Medium>(medium: &M, geometry: Geometry, flaw: Unsound) -> u8
     requires { geometry ≤ (M.seen medium.now).tracks }
     ensures value { result ≡ flaw_code geometry (M.seen medium.now).content flaw }
     ensures never_26 { result ≢ 26 }
+    ensures shown { ShowsGround (M.seen medium.now) (record { code = result; track = flaw.track; sector = flaw.sector }) }
 {
     if flaw.is(Flaw::BadHeader) || flaw.is(Flaw::Unreadable) {
         return code_at(medium, geometry, Link::new(flaw.track, flaw.sector));
@@ -69,6 +71,7 @@ fn closed_sectors<M: Medium>(medium: &M) -> Result<SectorSet, Trouble>
     ensures err { let now = M.seen medium.now in
         IfErr result (IsUnmendable (geometry_of now.tracks now.content) now.content) }
     ensures never_26 { IfErr result (λ t. t.code ≢ 26) }
+    ensures shown { IfErr result (ShowsGround (M.seen medium.now)) }
 {
     let geometry = cbm_bam::geometry(medium);
     let view = ClosedView { medium, geometry };

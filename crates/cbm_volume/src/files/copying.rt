@@ -2,7 +2,7 @@
 
 ghost use Rattle.std.specs.Prelude.{◌≡◌, ◌≢◌, ◌≤◌, ◌||◌, ◌++◌, ◌∷◌, List, [], length, min, not, nat_lt, true, false, Some, IfOk, IfErr, IsOkAnd, MatchBool, MatchResult, ℕ};
 ghost use Rattle.cbm_medium.specs.Content.{Content};
-ghost use Rattle.cbm_medium.specs.Seen.{OnlyContent};
+ghost use Rattle.cbm_medium.specs.Seen.{ShowsGround, OnlyContent};
 ghost use Rattle.cbm_file.specs.declared.file_type.FileType.TheVariants.{Del, Rel};
 ghost use Rattle.cbm_file.specs.Types.{is_same_type};
 ghost use Rattle.cbm_file.specs.Padding.{before_filler};
@@ -77,6 +77,7 @@ fn bytes_of<M: Medium>(medium: &M, number: u8) -> Result<u32, Trouble>
         HoldsNow now.tracks now.content d uses → CanBeCopied d number →
         IsOkAnd result (λ n. n ≡ length (slot_bytes (file_at d number))) }
     ensures never_26 { IfErr result (λ t. t.code ≢ 26) }
+    ensures shown { IfErr result (ShowsGround (M.seen medium.now)) }
 {
     let geometry = cbm_bam::geometry(medium);
     let Some(entry) = slot(medium, geometry, number)? else {
@@ -91,6 +92,7 @@ fn byte_total<M: Medium>(medium: &M, sources: &[u8]) -> Result<u32, Trouble>
         HoldsNow now.tracks now.content d uses → AreCopied d sources.now →
         IsOkAnd result (λ n. n ≡ min (length (joined d sources.now)) 4294967295) }
     ensures never_26 { IfErr result (λ t. t.code ≢ 26) }
+    ensures shown { IfErr result (ShowsGround (M.seen medium.now)) }
 {
     let mut total: u32 = 0;
     'sources: for number in sources {

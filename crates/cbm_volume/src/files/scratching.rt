@@ -2,6 +2,7 @@
 
 ghost use Rattle.std.specs.Prelude.{◌≡◌, ◌≢◌, ◌==◌, ◌≤◌, ◌++◌, true, length, Some, IsOk, IfErr};
 ghost use Rattle.cbm_medium.specs.Place.{sector_count};
+ghost use Rattle.cbm_medium.specs.Seen.{ShowsGround};
 ghost use Rattle.cbm_file.specs.Files.{File, file_at};
 ghost use Rattle.cbm_file.specs.Changes.{scratched};
 ghost use Rattle.cbm_bam.specs.Map.{Frees};
@@ -56,6 +57,7 @@ fn free_file<M: Medium>(
         length b.data_blocks ≤ sector_count geometry →
         IsOk result × Frees geometry release.old (b.data_blocks ++ b.sides) release.new }
     ensures never_26 { IfErr result (λ t. t.code ≢ 26) }
+    ensures shown { IfErr result (ShowsGround (M.seen medium.now)) }
 {
     free_chain(medium, geometry, entry.first_block(), release)?;
     if !entry.is_relative() {

@@ -1,6 +1,7 @@
 // A relative file grows until a record is there.
 
 ghost use Rattle.std.specs.Prelude.{◌≡◌, ◌≢◌, ◌≤◌, ◌<◌, ◌+◌, ◌-◌, ◌==◌, ◌^◌, ◌⊎◌, ℕ, List, true, false, None, Some, Ok, IfErr, IfOk, IfSome, IsOkAnd, MatchOption, MatchResult};
+ghost use Rattle.cbm_medium.specs.Seen.{ShowsGround};
 ghost use Rattle.cbm_file.specs.Files.{Disk};
 ghost use Rattle.cbm_file.specs.Records.{blocks_for, sides_for};
 ghost use Rattle.cbm_bam.specs.Map.{geometry_of};
@@ -80,6 +81,7 @@ pub fn plan_growth<M: Medium>(
     ensures cause { let now = M.seen medium.now in let tracks = geometry_of now.tracks now.content in
         IfErr result (λ t. ((directory_of tracks now.content).trouble ≡ Some t) ⊎ IsMetInFile tracks now.content t) }
     ensures never_26 { IfErr result (λ t. t.code ≢ 26) }
+    ensures shown { IfErr result (ShowsGround (M.seen medium.now)) }
 {
     let geometry = cbm_bam::geometry(medium);
     let Some(entry) = cbm_directory::slot(medium, geometry, slot)? else {

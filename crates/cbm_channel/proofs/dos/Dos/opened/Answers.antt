@@ -31,7 +31,7 @@ use Rattle.cbm_volume.proofs.held.RecordUses.{of_records}
 use Rattle.cbm_channel.proofs.Rest.{rest_itself, rest_none, rest_same, rest_seen, outside_held, begun_rest, begun_write, begun_replace, on_both, cut_sized, same_sized, made_rest, grown_total}
 use Rattle.cbm_channel.proofs.Spared.{append_stays}
 use Rattle.cbm_channel.proofs.dos.Dos.opened.Goals as goal
-use Rattle.cbm_channel.specs.TempGround.{IsShown}
+use Rattle.cbm_channel.specs.TempGround.{ShowsGround}
 use Rattle.cbm_channel.proofs.GroundedReports.{cut_shown, opening_shown, trouble_shown}
 
 -- a listing
@@ -412,7 +412,7 @@ returns-in_err-list-in-ReadListing-clause-medium g c =
     else_nothing c.from_residual.result now now (λ i. now)
     (rw (p.1, p.2) (λ is. absurd (shown_never_26 (geometry_of (g.M.Medium.seen c.self.inside.volume).tracks (g.M.Medium.seen c.self.inside.volume).content) (g.M.Medium.seen c.self.inside.volume).content c.in_err-list-in-ReadListing.field-0.0
     (λ q. g.met.M.Medium.codes c.self.inside.volume q) c.in_err-list-in-ReadListing.ensures.shown is)))
-    (rw (p.1, p.2) (subst (λ m. IsShown (g.M.Medium.seen m) c.in_err-list-in-ReadListing.field-0.0) (ap (λ k. k.medium) c.self.view_is) (trouble_shown _ (g.M.Medium.seen c.self.inside.volume) c.in_err-list-in-ReadListing.field-0.0 c.in_err-list-in-ReadListing.ensures.shown)))
+    (rw (p.1, p.2) (subst (λ m. ShowsGround (g.M.Medium.seen m) c.in_err-list-in-ReadListing.field-0.0) (ap (λ k. k.medium) c.self.view_is) (trouble_shown _ (g.M.Medium.seen c.self.inside.volume) c.in_err-list-in-ReadListing.field-0.0 c.in_err-list-in-ReadListing.ensures.shown)))
 
 pub returns-in_err-reader-in-ReadFile-clause-medium : goal.returns-in_err-reader-in-ReadFile-clause-medium
 returns-in_err-reader-in-ReadFile-clause-medium g c =
@@ -423,7 +423,7 @@ returns-in_err-reader-in-ReadFile-clause-medium g c =
     let broken = broken_at_once tracks volume.content (sector_count tracks) (first_block c.in-ReadFile.found.entry) c.in_err-reader-in-ReadFile.field-0.0 c.in_err-reader-in-ReadFile.ensures.err in
     else_nothing c.from_residual-in_err-reader-in-ReadFile.result now now (λ i. now)
     (rw (p.1, p.2) (λ is. absurd (followed_never_26 tracks volume.content (sector_count tracks) (first_block c.in-ReadFile.found.entry) c.in_err-reader-in-ReadFile.field-0.0 (λ q. g.met.M.Medium.codes c.self.inside.volume q) broken is)))
-    (rw (p.1, p.2) (subst (λ m. IsShown (g.M.Medium.seen m) c.in_err-reader-in-ReadFile.field-0.0) (ap (λ k. k.medium) c.self.view_is) (cut_shown tracks volume _ _ c.in_err-reader-in-ReadFile.field-0.0 broken)))
+    (rw (p.1, p.2) (subst (λ m. ShowsGround (g.M.Medium.seen m) c.in_err-reader-in-ReadFile.field-0.0) (ap (λ k. k.medium) c.self.view_is) (cut_shown tracks volume _ _ c.in_err-reader-in-ReadFile.field-0.0 broken)))
 
 pub returns-in_err-open_records-in-OpenRecords-clause-medium : goal.returns-in_err-open_records-in-OpenRecords-clause-medium
 returns-in_err-open_records-in-OpenRecords-clause-medium g c =
@@ -433,7 +433,7 @@ returns-in_err-open_records-in-OpenRecords-clause-medium g c =
     else_nothing c.from_residual-in_err-open_records-in-OpenRecords.result now now (λ i. now)
     (rw (p.1, p.2) (λ is. absurd (opening_never_26 (geometry_of volume.tracks volume.content) volume.content c.in-OpenRecords.found.entry c.in_err-open_records-in-OpenRecords.field-0.0
     (λ q. g.met.M.Medium.codes c.self.inside.volume q) c.in_err-open_records-in-OpenRecords.ensures.cause is)))
-    (rw (p.1, p.2) (subst (λ m. IsShown (g.M.Medium.seen m) c.in_err-open_records-in-OpenRecords.field-0.0) (ap (λ k. k.medium) c.self.view_is) (opening_shown _ volume _ c.in_err-open_records-in-OpenRecords.field-0.0 c.in_err-open_records-in-OpenRecords.ensures.cause)))
+    (rw (p.1, p.2) (subst (λ m. ShowsGround (g.M.Medium.seen m) c.in_err-open_records-in-OpenRecords.field-0.0) (ap (λ k. k.medium) c.self.view_is) (opening_shown _ volume _ c.in_err-open_records-in-OpenRecords.field-0.0 c.in_err-open_records-in-OpenRecords.ensures.cause)))
 
 -- ---- the rest of the disk
 

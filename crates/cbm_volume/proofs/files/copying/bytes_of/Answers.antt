@@ -5,7 +5,7 @@ use Rattle.cbm_file.specs.Files.{file_at}
 use Rattle.cbm_file.specs.Changes.{slot_bytes}
 use Rattle.cbm_bam.specs.Map.{geometry_of}
 use Rattle.cbm_chain.specs.Reading.{held_from}
-use Rattle.cbm_directory.proofs.Codes.{directory_never_26}
+use Rattle.cbm_directory.proofs.Codes.{directory_never_26, directory_shown}
 use Rattle.cbm_volume.proofs.layouts.Listing.{geometry_size}
 use Rattle.cbm_volume.proofs.copied.CopySteps.{no_trouble, no_end, source_held, counted_ok}
 use Rattle.cbm_volume.proofs.files.copying.bytes_of.Goals as goal
@@ -20,6 +20,11 @@ pub returns-in_err-entry-clause-never_26 : goal.returns-in_err-entry-clause-neve
 returns-in_err-entry-clause-never_26 g c =
     let p = err_from_is_err_and c.from_residual.result c.from_residual.ensures.1 in
     rw (p.1, p.2) (λ is. directory_never_26 c.geometry-geometry.result (g.M.Medium.seen c.args.medium.now).content c.in_err-entry.field-0.0 (λ q. g.met.M.Medium.codes c.args.medium.now q) c.in_err-entry.ensures.1 is)
+
+pub returns-in_err-entry-clause-shown : goal.returns-in_err-entry-clause-shown
+returns-in_err-entry-clause-shown g c =
+    let p = err_from_is_err_and c.from_residual.result c.from_residual.ensures.1 in
+    rw (p.1, p.2) (directory_shown c.geometry-geometry.result (g.M.Medium.seen c.args.medium.now) c.in_err-entry.field-0.0 c.in_err-entry.ensures.1)
 
 pub returns-in_default-clause-count : goal.returns-in_default-clause-count
 returns-in_default-clause-count g c = λ d uses h can.

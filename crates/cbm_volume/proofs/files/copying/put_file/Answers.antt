@@ -7,7 +7,7 @@ use Rattle.cbm_file.specs.Files.{file_at}
 use Rattle.cbm_file.specs.Changes.{slot_bytes}
 use Rattle.cbm_bam.specs.Map.{geometry_of}
 use Rattle.cbm_chain.specs.Reading.{held_from}
-use Rattle.cbm_directory.proofs.Codes.{directory_never_26}
+use Rattle.cbm_directory.proofs.Codes.{directory_never_26, directory_shown}
 use Rattle.cbm_volume.specs.Copies.{less}
 use Rattle.cbm_volume.proofs.copied.CopySteps.{no_trouble, no_end, can_less, making_held, making_reads, held_length, held_whole}
 use Rattle.cbm_volume.proofs.files.copying.put_file.Goals as goal
@@ -23,6 +23,7 @@ returns-in_err-entry-clause-only g c =
     let p = err_from_is_err_and c.from_residual.result c.from_residual.ensures.1 in
     only_nothing c.from_residual.result (g.M.Medium.seen c.args.medium.now) (g.M.Medium.seen c.args.medium.now) (λ i. g.M.Medium.seen c.args.medium.now)
     (rw (p.1, p.2) (λ is. absurd (directory_never_26 c.geometry-geometry.result (g.M.Medium.seen c.args.medium.now).content c.in_err-entry.field-0.0 (λ q. g.met.M.Medium.codes c.args.medium.now q) c.in_err-entry.ensures.1 is)))
+    (rw (p.1, p.2) (directory_shown c.geometry-geometry.result (g.M.Medium.seen c.args.medium.now) c.in_err-entry.field-0.0 c.in_err-entry.ensures.1))
 
 pub returns-in_default-clause-put : goal.returns-in_default-clause-put
 returns-in_default-clause-put g c = λ c' l d uses ch bytes k can room.

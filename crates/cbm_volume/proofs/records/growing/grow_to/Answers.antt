@@ -10,6 +10,14 @@ use Rattle.cbm_volume.proofs.grown.GrowingLists.{stop_later}
 use Rattle.cbm_volume.proofs.grown.GrowthBegun.{sides_room, sides_twice}
 use Rattle.cbm_volume.proofs.records.growing.grow_to.Goals as goal
 
+-- the growth didn't begin
+pub returns-in_err-from-clause-grown : goal.returns-in_err-from-clause-grown
+returns-in_err-from-clause-grown g c = λ d uses w rs o is free.
+    let old : Seen = g.M.Medium.seen c.args.medium.now in
+    let new : Seen = g.M.Medium.seen c.begin_growth.new.medium in
+    handed c.from_residual.result c.in_err-from.field-0.0 _ (IsGrowthStopped old new old.content o.holds.layout d uses c.args.slot w rs) c.from_residual.ensures.1
+    (c.in_err-from.ensures.begun c.args.slot c.geometry-geometry.ensures.value d uses w rs o is (sides_room c.args.extent.sides c.args.extent.blocks c.args.blocks d.free c.requires.blocks.1 free))
+
 -- a write of a block was refused
 pub returns-in_err-reach-clause-grown : goal.returns-in_err-reach-clause-grown
 returns-in_err-reach-clause-grown g c = λ d uses w rs o is free.

@@ -1,7 +1,7 @@
 use Rattle.std.proofs.Common.{◌≡◌, refl, ◌∙◌, inr}
 use Rattle.std.proofs.lemmas.Result.{err_from_is_err_and}
 use Rattle.cbm_bam.specs.Map.{geometry_of}
-use Rattle.cbm_directory.proofs.Codes.{directory_never_26}
+use Rattle.cbm_directory.proofs.Codes.{directory_never_26, directory_shown}
 use Rattle.cbm_volume.proofs.copied.CopySteps.{no_trouble}
 use Rattle.cbm_volume.proofs.grown.GrowingPlans.{counted, good_width, is_planned, no_block, too_large}
 use Rattle.cbm_volume.proofs.records_made.RecordsPut.{open_at, open_there}
@@ -18,6 +18,11 @@ pub returns-in_err-entry-clause-never_26 : goal.returns-in_err-entry-clause-neve
 returns-in_err-entry-clause-never_26 g c =
     let p = err_from_is_err_and c.from_residual.result c.from_residual.ensures.1 in
     rw (p.1, p.2) (λ is. directory_never_26 c.geometry-geometry.result (g.M.Medium.seen c.args.medium.now).content c.in_err-entry.field-0.0 (λ q. g.met.M.Medium.codes c.args.medium.now q) c.in_err-entry.ensures.1 is)
+
+pub returns-in_err-entry-clause-shown : goal.returns-in_err-entry-clause-shown
+returns-in_err-entry-clause-shown g c =
+    let p = err_from_is_err_and c.from_residual.result c.from_residual.ensures.1 in
+    rw (p.1, p.2) (directory_shown c.geometry-geometry.result (g.M.Medium.seen c.args.medium.now) c.in_err-entry.field-0.0 c.in_err-entry.ensures.1)
 
 -- the slot is there
 pub returns-in_default-clause-planned : goal.returns-in_default-clause-planned

@@ -1,11 +1,14 @@
 use Rattle.std.proofs.Common.{ℕ, sym, ap, subst, ◌∙◌, Ok, Err}
 use Rattle.cbm_medium.specs.Place.{Place}
 use Rattle.cbm_medium.specs.Seen.{Seen}
+use Rattle.std.proofs.lemmas.Result.{err_from_is_err_and}
+use Rattle.cbm_medium.proofs.Sequences.{only_after, only_refused}
 use Rattle.cbm_bam.specs.Map.{geometry_of}
 use Rattle.cbm_file.specs.Records.{with_new_records}
 use Rattle.cbm_file.specs.Padding.{before_filler}
 use Rattle.cbm_volume.specs.Copies.{IsCopyCut}
 use Rattle.cbm_volume.specs.NewRecords.{HasTwo}
+use Rattle.cbm_volume.proofs.layouts.OnDisks.{of_tracks}
 use Rattle.cbm_volume.proofs.copied.CopySteps.{handed, cut_since}
 use Rattle.cbm_volume.proofs.copied.CopyEnds.{since_begun}
 use Rattle.cbm_volume.proofs.records_made.RecordsPlaced.{two_written, new_cut}
@@ -69,3 +72,14 @@ returns-clause-made g c = λ d uses ch h idle some room.
           (since_begun {A = Unit {0}} mid two new old.content h.layout d after uses (Ok c.in_ok-enter.field-0) on.tracks on.protected on.counted
           (c.in_ok-enter.ensures.entered old.content h.layout d uses ch (subst (λ (n : ℕ). HasTwo n old.content h.layout d uses ch two.content p q) (sym on.tracks) placed.0) placed.1 begun.0 (c.geometry-geometry.ensures.value ∙ ap (λ (n : ℕ). geometry_of n old.content) (sym (on.tracks ∙ only.tracks))))),
     )
+
+-- only what the disk's sectors hold is new
+pub returns-in_err-write_new-clause-only : goal.returns-in_err-write_new-clause-only
+returns-in_err-write_new-clause-only g c =
+    let old : Seen = g.M.Medium.seen c.args.medium.now in
+    let mid : Seen = g.M.Medium.seen c.begin.new.medium in
+    let new : Seen = g.M.Medium.seen c.write_new.new.medium in
+    let p = err_from_is_err_and c.from_residual-in_err-write_new.result c.from_residual-in_err-write_new.ensures.1 in
+    of_tracks c.geometry-geometry.result c.from_residual-in_err-write_new.result old new c.geometry-geometry.ensures.value
+    (only_refused c.write_new.result c.from_residual-in_err-write_new.result p.0 old new (c.in_err-write_new.was ∙ ap Err (sym p.2)) p.1
+    (only_after c.begin.result _ c.write_new.result old mid new c.in_ok-number.was c.begin.ensures.only c.write_new.ensures.only))

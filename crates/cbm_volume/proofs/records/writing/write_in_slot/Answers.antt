@@ -5,7 +5,7 @@ use Rattle.cbm_medium.proofs.Sequences.{only_nothing}
 use Rattle.cbm_medium.specs.Seen.{Seen}
 use Rattle.cbm_bam.specs.Map.{geometry_of}
 use Rattle.cbm_directory.specs.Entries.{width_of}
-use Rattle.cbm_directory.proofs.Codes.{directory_never_26}
+use Rattle.cbm_directory.proofs.Codes.{directory_never_26, directory_shown}
 use Rattle.cbm_volume.proofs.copied.CopySteps.{no_trouble}
 use Rattle.cbm_volume.proofs.records_made.RecordsPut.{open_at, open_there, bad_place, laid_means, put_means, put_untouched, next_means}
 use Rattle.cbm_volume.proofs.records.writing.write_in_slot.Goals as goal
@@ -43,6 +43,7 @@ returns-in_err-entry-clause-only g c =
     let p = err_from_is_err_and c.from_residual.result c.from_residual.ensures.1 in
     only_nothing c.from_residual.result (g.M.Medium.seen c.args.medium.now) (g.M.Medium.seen c.args.medium.now) (λ i. g.M.Medium.seen c.args.medium.now)
     (rw (p.1, p.2) (λ is. absurd (directory_never_26 c.geometry-geometry.result (g.M.Medium.seen c.args.medium.now).content c.in_err-entry.field-0.0 (λ q. g.met.M.Medium.codes c.args.medium.now q) c.in_err-entry.ensures.1 is)))
+    (rw (p.1, p.2) (directory_shown c.geometry-geometry.result (g.M.Medium.seen c.args.medium.now) c.in_err-entry.field-0.0 c.in_err-entry.ensures.1))
 
 -- the record behind it stays
 pub returns-clause-put : goal.returns-clause-put

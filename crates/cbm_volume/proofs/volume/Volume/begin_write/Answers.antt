@@ -51,7 +51,7 @@ lost g c d uses h = slot_lost (g.M.Medium.seen c.args.self.now).tracks (g.M.Medi
 pub returns-in_err-slot-clause-call : goal.returns-in_err-slot-clause-call
 returns-in_err-slot-clause-call g c = λ d uses h.
     record {
-      done = (search rules);
+      done = (let p = err_from_is_err_and c.from_residual-in_err-slot.result c.from_residual-in_err-slot.ensures.1 in rw p.1 tt);
       stopped = on_err c.from_residual-in_err-slot.result (λ ne plain. stopped_at (g.M.Medium.seen c.args.self.now).tracks (g.M.Medium.seen c.args.self.now).content h.layout (g.M.Medium.seen c.empty_slot.new.medium).content d (lost g c d uses h).disk _ uses h (lost g c d uses h).reached (lost g c d uses h).slots);
       cause =
           let p = err_from_is_err_and c.from_residual-in_err-slot.result c.from_residual-in_err-slot.ensures.1 in
@@ -237,7 +237,7 @@ put_entered g c =
 pub returns-clause-only : goal.returns-clause-only
 returns-clause-only g c =
     of_tracks c.geometry-geometry.result (Ok (Some c.of_new.result)) (g.M.Medium.seen c.args.self.now) (g.M.Medium.seen c.put_slot.new.medium) c.geometry-geometry.ensures.value
-    (only_then c.put_slot.result (Ok (Some c.of_new.result)) c.in_ok-put_slot.field-0 (g.M.Medium.seen c.args.self.now) (g.M.Medium.seen c.put_slot.new.medium) c.in_ok-put_slot.was (put_entered g c) tt)
+    (only_then c.put_slot.result (Ok (Some c.of_new.result)) c.in_ok-put_slot.field-0 (g.M.Medium.seen c.args.self.now) (g.M.Medium.seen c.put_slot.new.medium) c.in_ok-put_slot.was (put_entered g c) tt tt)
 
 -- ---- on any disk
 

@@ -9,7 +9,8 @@ use Rattle.cbm_file.specs.Files.{Disk, empty_from}
 use Rattle.cbm_file.specs.Changes.{grown}
 use Rattle.cbm_file.specs.Records.{with_new_records}
 use Rattle.cbm_bam.specs.Map.{geometry_of}
-use Rattle.cbm_directory.proofs.Codes.{directory_never_26}
+use Rattle.cbm_bam.proofs.Heads.{head_shown}
+use Rattle.cbm_directory.proofs.Codes.{directory_never_26, directory_shown}
 use Rattle.cbm_volume.specs.Copies.{IsCopyCut}
 use Rattle.cbm_volume.specs.Opens.{IsHindered}
 use Rattle.cbm_volume.specs.Reaches.{Reached}
@@ -44,6 +45,7 @@ returns-in_err-room-clause-only g c =
       | inl k ↦ never_26 (old.content directory_head) c.in_err-room.field-0.0.code (g.met.M.Medium.codes c.args.self.now directory_head) k.0 is
       | inr k ↦ directory_never_26 (geometry_of old.tracks old.content) old.content c.in_err-room.field-0.0 (λ q. g.met.M.Medium.codes c.args.self.now q) k is
     ])))
+    (rw (p.1, p.2) (elim c.in_err-room.ensures.err [ inl k ↦ head_shown old c.in_err-room.field-0.0 k | inr k ↦ directory_shown (geometry_of old.tracks old.content) old c.in_err-room.field-0.0 k ]))
 
 pub returns-then-not-has_room-clause-call : goal.returns-then-not-has_room-clause-call
 returns-then-not-has_room-clause-call g c = λ d uses ch h idle.

@@ -9,7 +9,7 @@ use Rattle.cbm_medium.specs.Links.{Chain}
 use Rattle.cbm_bam.specs.Map.{geometry_of}
 use Rattle.cbm_bam.specs.Causes.{HasCause}
 use Rattle.cbm_directory.specs.Entries.{first_directory, sector_of}
-use Rattle.cbm_directory.proofs.Codes.{directory_never_26}
+use Rattle.cbm_directory.proofs.Codes.{directory_never_26, directory_shown}
 use Rattle.cbm_file.specs.Files.{File, file_at, with_slot}
 use Rattle.cbm_file.specs.Padding.{before_filler}
 use Rattle.cbm_volume.specs.Opens.{IsUnwritten}
@@ -83,3 +83,4 @@ returns-in_err-entry-clause-only g c =
     let p = err_from_is_err_and c.from_residual.result c.from_residual.ensures.1 in
     only_nothing c.from_residual.result (g.M.Medium.seen c.args.self.now) (g.M.Medium.seen c.args.self.now) (λ i. g.M.Medium.seen c.args.self.now)
     (rw (p.1, p.2) (λ is. absurd (directory_never_26 (geometry_of old.tracks old.content) old.content c.in_err-entry.field-0.0 (λ q. g.met.M.Medium.codes c.args.self.now q) c.in_err-entry.ensures.answers.1 is)))
+    (rw (p.1, p.2) (directory_shown (geometry_of old.tracks old.content) old c.in_err-entry.field-0.0 c.in_err-entry.ensures.answers.1))

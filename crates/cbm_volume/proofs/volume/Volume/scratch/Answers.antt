@@ -5,13 +5,13 @@ use Rattle.cbm_medium.proofs.Sequences.{only_after, only_nothing}
 use Rattle.cbm_medium.specs.Place.{Place, directory_head}
 use Rattle.cbm_medium.specs.Content.{Content}
 use Rattle.cbm_medium.specs.Links.{Chain}
-use Rattle.cbm_medium.specs.Seen.{Seen, OnlyContent}
+use Rattle.cbm_medium.specs.Seen.{Seen, ShowsGround, OnlyContent}
 use Rattle.cbm_medium.specs.declared.fault.Trouble.{Trouble}
 use Rattle.cbm_bam.specs.Causes.{HasCause}
 use Rattle.cbm_bam.specs.Map.{geometry_of}
 use Rattle.cbm_directory.specs.Entries.{first_directory, sector_of}
 use Rattle.cbm_directory.specs.Slots.{Answers, directory_of}
-use Rattle.cbm_directory.proofs.Codes.{directory_never_26}
+use Rattle.cbm_directory.proofs.Codes.{directory_never_26, directory_shown}
 use Rattle.cbm_volume.proofs.layouts.OnDisks.{of_tracks}
 use Rattle.cbm_volume.proofs.layouts.Calls.{if_ok}
 use Rattle.cbm_volume.proofs.written.Finishing.{on_err}
@@ -204,9 +204,19 @@ returns-in_err-entry-clause-only g c =
     let p = err_from_is_err_and c.from_residual.result c.from_residual.ensures.1 in
     only_nothing c.from_residual.result (g.M.Medium.seen c.args.self.now) (g.M.Medium.seen c.args.self.now) (λ i. g.M.Medium.seen c.args.self.now)
     (rw (p.1, p.2) (λ is. absurd (directory_never_26 (geometry_of old.tracks old.content) old.content c.in_err-entry.field-0.0 (λ q. g.met.M.Medium.codes c.args.self.now q) c.in_err-entry.ensures.answers.1 is)))
+    (rw (p.1, p.2) (directory_shown (geometry_of old.tracks old.content) old c.in_err-entry.field-0.0 c.in_err-entry.ensures.answers.1))
 
 pub returns-clause-only : goal.returns-clause-only
 returns-clause-only g c =
     of_tracks c.geometry-geometry.result c.write.result (g.M.Medium.seen c.args.self.now) (g.M.Medium.seen c.write.new.medium) c.geometry-geometry.ensures.value
     (only_after c.clear_slot-2.result c.in_ok-clear_slot.field-0 c.write.result (g.M.Medium.seen c.args.self.now) (g.M.Medium.seen c.clear_slot-2.new.medium) (g.M.Medium.seen c.write.new.medium) c.in_ok-clear_slot.was
     (subst (λ (s : Seen). OnlyContent c.geometry-geometry.result c.clear_slot-2.result s (g.M.Medium.seen c.clear_slot-2.new.medium)) (ap (λ m. g.M.Medium.seen m) c.self.view_is) c.clear_slot-2.ensures.only) c.write.ensures.only)
+
+-- what is met before a write
+pub returns-in_err-free_file-clause-only : goal.returns-in_err-free_file-clause-only
+returns-in_err-free_file-clause-only g c =
+    let old : Seen = g.M.Medium.seen c.args.self.now in
+    let p = err_from_is_err_and c.from_residual-in_err-free_file.result c.from_residual-in_err-free_file.ensures.1 in
+    only_nothing c.from_residual-in_err-free_file.result old old (λ i. old)
+    (rw (p.1, p.2) (λ is. absurd (c.in_err-free_file.ensures.never_26 is)))
+    (rw (p.1, p.2) (subst (λ (s : Seen). ShowsGround s c.in_err-free_file.field-0.0) (ap (λ m. g.M.Medium.seen m) c.self.view_is) c.in_err-free_file.ensures.shown))
