@@ -1,6 +1,6 @@
-use Rattle.std.proofs.Common.{◌≡◌, ℕ, ◌+◌, ◌-◌, ◌*◌, ◌/◌, length, get_or, sym, ap, subst, ◌∙◌, refl, arith, inl, inr}
+use Rattle.std.proofs.Common.{◌≡◌, ℕ, ◌+◌, ◌-◌, ◌*◌, ◌/◌, length, get_or, sym, ap, subst, ◌∙◌, refl, arith, inl, inr, Ok}
 use Rattle.std.proofs.lemmas.Result.{err_from_is_err_and}
-use Rattle.cbm_medium.proofs.Sequences.{only_nothing}
+use Rattle.cbm_medium.proofs.Sequences.{only_nothing, only_after, only_then, write_only}
 use Rattle.cbm_medium.specs.Place.{Place, directory_head}
 use Rattle.cbm_medium.specs.Content.{Content}
 use Rattle.cbm_medium.specs.Links.{Chain}
@@ -117,3 +117,12 @@ returns-in_err-fill_tail-clause-laid g c = λ xs sides w laid short l.
     let t = c.in_err-fill_tail.ensures.laid xs laid.chain short l in
     refused_by c.from_residual-in_err-fill_tail.result _ _ (λ u. IsFillStopped c.args.geometry old new xs c.args.file.width u.code) c.from_residual-in_err-fill_tail.ensures.1
     (record { so_far = inl t.0; cause = t.1 })
+
+-- both are written
+pub returns-clause-only : goal.returns-clause-only
+returns-clause-only g c =
+    let old : Seen = g.M.Medium.seen c.args.medium.now in
+    let mid : Seen = g.M.Medium.seen c.fill_tail.new.medium in
+    let new : Seen = g.M.Medium.seen c.write.new.self in
+    only_then (Ok tt) (Ok c.in_ok-at.at) tt old new refl
+    (only_after c.fill_tail.result c.in_ok-fill_tail.field-0 (Ok tt) old mid new c.in_ok-fill_tail.was c.fill_tail.ensures.only (write_only mid new c.in_ok-at.at c.fresh_from-new.result c.in_ok-at.ensures.has.1 c.in_ok-write.ensures.ok)) tt tt

@@ -3,6 +3,7 @@ use Rattle.cbm_medium.specs.Seen.{Seen}
 use Rattle.cbm_relfile.specs.Relisting.{IsSideRefused, AreListed}
 use Rattle.cbm_relfile.proofs.Changed.{refused_by}
 use Rattle.cbm_relfile.proofs.Relisted.{head_names, relisted_then, later_refused}
+use Rattle.cbm_medium.proofs.Sequences.{only_after}
 use Rattle.cbm_relfile.proofs.growth.relisting.list_anew.Goals as goal
 
 -- side sectors and blocks read
@@ -56,3 +57,10 @@ returns-clause-form g c = λ xs ss laid l form.
     let old : Seen = g.M.Medium.seen c.args.medium.now in
     let yes = c.in_ok-are_listed.ensures.form c.args.file xs ss laid c.first.ensures (head_names c.args.geometry old.content c.args.file xs ss c.side.result c.in_ok-head.head laid c.side.ensures c.in_ok-head.ensures.ok) l form in
     absurd (let no = c.if-branch.false in cc)
+
+pub returns-clause-only : goal.returns-clause-only
+returns-clause-only g c =
+    let old : Seen = g.M.Medium.seen c.args.medium.now in
+    let mid : Seen = g.M.Medium.seen c.unlist.new.medium in
+    let new : Seen = g.M.Medium.seen c.relist.new.medium in
+    only_after c.unlist.result c.in_ok-unlist.field-0 c.relist.result old mid new c.in_ok-unlist.was c.unlist.ensures.only c.relist.ensures.only

@@ -1,9 +1,10 @@
-use Rattle.std.proofs.Common.{◌*◌, drop, refl, arith}
+use Rattle.std.proofs.Common.{◌*◌, drop, refl, arith, Ok, Err, ap, sym, ◌∙◌}
 use Rattle.cbm_medium.specs.Seen.{Seen}
 use Rattle.cbm_relfile.specs.Relisting.{IsSideRefused}
 use Rattle.cbm_relfile.proofs.Changed.{refused_by}
-use Rattle.cbm_medium.proofs.Sequences.{nothing_yet, only_more}
+use Rattle.cbm_medium.proofs.Sequences.{nothing_yet, only_more, only_after, only_refused}
 use Rattle.cbm_relfile.proofs.Relisted.{relisting_begins, side_stopped, relisted_one}
+use Rattle.std.proofs.lemmas.Result.{err_from_is_err_and}
 use Rattle.cbm_relfile.proofs.growth.relisting.relist.Goals as goal
 
 pub loop-number-init : goal.loop-number-init
@@ -40,3 +41,12 @@ pub returns-clause-relisted : goal.returns-clause-relisted
 returns-clause-relisted g c = λ file xs ss whole laid apart first names l none.
     let h = c.loop-number.invariant.1 file xs ss whole laid apart first names l none in
     (h.relisted, λ i k. h.before i (omega (arith, c.loop-number-test.false, l, k)) k)
+
+pub returns-in_err-at-clause-only : goal.returns-in_err-at-clause-only
+returns-in_err-at-clause-only g c =
+    let old : Seen = g.M.Medium.seen c.args.medium.now in
+    let mid : Seen = g.M.Medium.seen c.loop-number.medium in
+    let new : Seen = g.M.Medium.seen c.write_side.new.medium in
+    let p = err_from_is_err_and c.from_residual.result c.from_residual.ensures.1 in
+    only_refused c.write_side.result c.from_residual.result p.0 old new (c.in_err-at.was ∙ ap Err (sym p.2)) p.1
+    (only_after (Ok tt) tt c.write_side.result old mid new refl c.loop-number.invariant.0 c.write_side.ensures.only)

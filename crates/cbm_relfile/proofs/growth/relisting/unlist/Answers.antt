@@ -1,9 +1,10 @@
-use Rattle.std.proofs.Common.{◌≡◌, ℕ, ◌+◌, ◌-◌, [], refl, subst, arith}
+use Rattle.std.proofs.Common.{◌≡◌, ℕ, ◌+◌, ◌-◌, [], refl, subst, arith, Ok, Err, ap, sym, ◌∙◌}
 use Rattle.cbm_medium.specs.Seen.{Seen}
 use Rattle.cbm_relfile.specs.Relisting.{IsSideRefused}
 use Rattle.cbm_relfile.proofs.Changed.{refused_by}
-use Rattle.cbm_medium.proofs.Sequences.{nothing_yet, only_more}
+use Rattle.cbm_medium.proofs.Sequences.{nothing_yet, only_more, only_after, only_refused}
 use Rattle.cbm_relfile.proofs.Relisted.{Unlisting, unlisting_begins, side_stopped, no_blocks, unlisted_one}
+use Rattle.std.proofs.lemmas.Result.{err_from_is_err_and}
 use Rattle.cbm_relfile.proofs.growth.relisting.unlist.Goals as goal
 
 pub loop-passed-init : goal.loop-passed-init
@@ -41,3 +42,12 @@ pub returns-clause-unlisted : goal.returns-clause-unlisted
 returns-clause-unlisted g c = λ file xs ss whole laid apart names l.
     let h = c.loop-passed.invariant.1 file xs ss whole laid apart names l in
     (h.relisted, λ i k. h.behind i (omega (arith, c.loop-passed-test.false)) k)
+
+pub returns-in_err-write_side-clause-only : goal.returns-in_err-write_side-clause-only
+returns-in_err-write_side-clause-only g c =
+    let old : Seen = g.M.Medium.seen c.args.medium.now in
+    let mid : Seen = g.M.Medium.seen c.loop-passed.medium in
+    let new : Seen = g.M.Medium.seen c.write_side.new.medium in
+    let p = err_from_is_err_and c.from_residual.result c.from_residual.ensures.1 in
+    only_refused c.write_side.result c.from_residual.result p.0 old new (c.in_err-write_side.was ∙ ap Err (sym p.2)) p.1
+    (only_after (Ok tt) tt c.write_side.result old mid new refl c.loop-passed.invariant.0 c.write_side.ensures.only)
