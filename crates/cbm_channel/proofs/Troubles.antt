@@ -6,12 +6,13 @@ use Rattle.cbm_medium.specs.declared.fault.Trouble.{Trouble}
 use Rattle.cbm_medium.specs.Place.{Place, sector_count}
 use Rattle.cbm_medium.specs.Links.{follow}
 use Rattle.cbm_medium.specs.Seen.{Seen, HasFailed}
-use Rattle.cbm_medium.specs.Met.{IsMet}
-use Rattle.cbm_volume.specs.RecordFaults.{IsMislisted}
+use Rattle.cbm_medium.specs.Met.{IsMetFrom}
+use Rattle.cbm_medium.proofs.Named.{one_start, met_more}
+use Rattle.cbm_volume.specs.RecordFaults.{IsMislisted, IsOfEntry, IsMetInFile}
 use Rattle.cbm_medium.specs.Content.{Content}
 use Rattle.cbm_chain.specs.Reading.{RestOfFile, held_from}
 use Rattle.cbm_bam.specs.Map.{geometry_of}
-use Rattle.cbm_directory.specs.Entries.{first_block}
+use Rattle.cbm_directory.specs.Entries.{first_block, first_side}
 use Rattle.cbm_directory.specs.Slots.{first_from, directory_of}
 use Rattle.cbm_channel.specs.declared.finding.Found.{Found}
 use Rattle.cbm_channel.specs.declared.plan.Plan.{Plan}
@@ -45,13 +46,14 @@ pub entry_broken : (tracks : ℕ) (c : Content) (entry : List ℕ) (t : Trouble)
 entry_broken tracks c entry t there e = inr (inr (inl (entry, there, broken_at_once tracks c (sector_count tracks) (first_block entry) t e)))
 
 -- why a record can't be read
-pub record_broken : (tracks : ℕ) (c : Content) (t : Trouble) → ((directory_of tracks c).trouble ≡ Some t) ⊎ IsMet tracks c t → ShowsTrouble tracks c t
+pub record_broken : (tracks : ℕ) (c : Content) (t : Trouble) → ((directory_of tracks c).trouble ≡ Some t) ⊎ IsMetInFile tracks c t → ShowsTrouble tracks c t
 record_broken tracks c t (inl e) = inr (inl e)
 record_broken tracks c t (inr m) = inr (inr (inr (inr m)))
 
 -- why the records of one of the directory's entries can't be opened
-pub records_broken : (tracks : ℕ) (c : Content) (entry : List ℕ) (t : Trouble) → Contains (directory_of tracks c).entries entry → IsMet tracks c t ⊎ IsMislisted tracks c entry t → ShowsTrouble tracks c t
-records_broken tracks c entry t there (inl m) = inr (inr (inr (inr m)))
+pub records_broken : (tracks : ℕ) (c : Content) (entry : List ℕ) (t : Trouble) → Contains (directory_of tracks c).entries entry → IsMetFrom tracks c (λ q. q ≡ first_side entry) t ⊎ IsMislisted tracks c entry t → ShowsTrouble tracks c t
+records_broken tracks c entry t there (inl m) =
+    inr (inr (inr (inr (entry, there, met_more tracks c (λ q. q ≡ first_side entry) (IsOfEntry tracks c entry) (one_start tracks c (IsOfEntry tracks c entry) (first_side entry) (inl (inr (inl (inl refl))))) t m))))
 records_broken tracks c entry t there (inr h) = inr (inr (inr (inl (entry, there, h))))
 
 -- the file that is read is one of the directory's

@@ -1,28 +1,30 @@
-use Rattle.std.proofs.Common.{rules, ◌≡◌, [], refl, sym, ap, ◌∙◌, subst}
+use Rattle.std.proofs.Common.{rules, ◌≡◌, ◌⊎◌, [], refl, sym, ap, ◌∙◌, subst}
 use Rattle.std.specs.Prelude.{Some, false, true, Ok, replicate}
 use Rattle.std.proofs.lemmas.Result.{err_from_is_err_and}
 use Rattle.cbm_medium.specs.Place.{sector_count}
 use Rattle.cbm_channel.proofs.Elses.{else_nothing}
 use Rattle.cbm_medium.specs.Seen.{HasFailed}
+use Rattle.cbm_medium.specs.Met.{IsMetFrom}
 use Rattle.cbm_file.specs.Files.{Records, bytes_in, record_length_in, file_at}
 use Rattle.cbm_file.specs.Padding.{before_filler}
 use Rattle.cbm_file.specs.Records.{fresh_record, record_count, with_new_records}
 use Rattle.cbm_volume.specs.Holding.{HoldsDisk}
 use Rattle.cbm_file.specs.Changes.{new_slot, with_file, unclosed}
 use Rattle.cbm_bam.specs.Map.{geometry_of}
-use Rattle.cbm_directory.specs.Entries.{first_block}
+use Rattle.cbm_directory.specs.Entries.{first_block, first_side}
 use Rattle.cbm_chain.specs.Reading.{held_from}
+use Rattle.cbm_volume.specs.RecordFaults.{IsMislisted}
 use Rattle.cbm_volume.specs.Writers.{HoldsNow, with_use, Idle, Stopped}
 use Rattle.cbm_machine.specs.Machines.{Writing}
 use Rattle.cbm_machine.specs.Finding.{body_at}
 use Rattle.cbm_channel.specs.declared.channel.Channel.TheVariants as code
 use Rattle.cbm_channel.specs.declared.channel.Channel.TheVariants.{File}
-use Rattle.cbm_channel.specs.Grounds.{ShowsTrouble}
+use Rattle.cbm_channel.specs.Grounds.{ShowsTrouble, HidesRecords}
 use Rattle.cbm_channel.specs.Standing.{use_of, uses_of}
 use Rattle.cbm_channel.specs.Planned.{PlannedAs, IsOpened, opened_by, disk_opened, appended_to, reopened_at, plan_writes}
 use Rattle.cbm_medium.proofs.FaultCodes.{followed_never_26}
 use Rattle.cbm_channel.proofs.NeverProtected.{shown_never_26, opening_never_26}
-use Rattle.cbm_channel.proofs.Troubles.{read_from, entry_broken, broken_at_once, passed_on}
+use Rattle.cbm_channel.proofs.Troubles.{read_from, relates_from, entry_broken, record_broken, records_broken, broken_at_once, passed_on}
 use Rattle.cbm_channel.proofs.Stands.{stood, means_of, unwritten_at}
 use Rattle.cbm_channel.proofs.Planning.{readable, relatable, makeable, writable, appendable, replaceable, file_opens, reads_as, none_passes}
 use Rattle.cbm_machine.specs.Machines as machine
@@ -61,6 +63,34 @@ returns-in_err-reader-in-ReadFile-clause-writes g c = record {
       let broken = subst (λ v. held_from (geometry_of (g.M.Medium.seen v).tracks (g.M.Medium.seen v).content) (g.M.Medium.seen v).content (sector_count (geometry_of (g.M.Medium.seen v).tracks (g.M.Medium.seen v).content)) (first_block c.in-ReadFile.found.entry) ≡ record { bytes = []; trouble = Some c.in_err-reader-in-ReadFile.field-0.0 }) (ap (λ k. k.medium) c.self.view_is) c.in_err-reader-in-ReadFile.ensures.err in
       let shows = ShowsTrouble (geometry_of (g.M.Medium.seen c.args.self.now.medium).tracks (g.M.Medium.seen c.args.self.now.medium).content) (g.M.Medium.seen c.args.self.now.medium).content in
       passed_on c.from_residual-in_err-reader-in-ReadFile.result c.in_err-reader-in-ReadFile.field-0.0 shows c.from_residual-in_err-reader-in-ReadFile.ensures.1 (entry_broken _ _ c.in-ReadFile.found.entry _ there broken);
+  kept = (search rules);
+  guarded = (search rules);
+}
+
+-- a link of the file's side sectors, or these aren't right
+pub returns-in_err-open_records-in-OpenRecords-clause-writes : goal.returns-in_err-open_records-in-OpenRecords-clause-writes
+returns-in_err-open_records-in-OpenRecords-clause-writes g c = record {
+  quiet = (search rules);
+  shown = λ reads from.
+      let entry = c.in-OpenRecords.found.entry in
+      let t = c.in_err-open_records-in-OpenRecords.field-0.0 in
+      let there = relates_from g.M.Medium.seen c.args.self.now.medium c.args.plan c.in-OpenRecords.found c.in-OpenRecords.is from in
+      let broken = subst (λ v. IsMetFrom (geometry_of (g.M.Medium.seen v).tracks (g.M.Medium.seen v).content) (g.M.Medium.seen v).content (λ q. q ≡ first_side entry) t ⊎ IsMislisted (geometry_of (g.M.Medium.seen v).tracks (g.M.Medium.seen v).content) (g.M.Medium.seen v).content entry t) (ap (λ k. k.medium) c.self.view_is) c.in_err-open_records-in-OpenRecords.ensures.cause in
+      let shows = ShowsTrouble (geometry_of (g.M.Medium.seen c.args.self.now.medium).tracks (g.M.Medium.seen c.args.self.now.medium).content) (g.M.Medium.seen c.args.self.now.medium).content in
+      passed_on c.from_residual-in_err-open_records-in-OpenRecords.result t shows c.from_residual-in_err-open_records-in-OpenRecords.ensures.1 (records_broken _ _ entry t there broken);
+  kept = (search rules);
+  guarded = (search rules);
+}
+
+-- the first record can't be read
+pub returns-in_err-on-in-OpenRecords-clause-writes : goal.returns-in_err-on-in-OpenRecords-clause-writes
+returns-in_err-on-in-OpenRecords-clause-writes g c = record {
+  quiet = (search rules);
+  shown = λ reads from.
+      let t = c.in_err-on-in-OpenRecords.field-0.0 in
+      let broken = subst (λ v. HidesRecords (g.M.Medium.seen v) t) (ap (λ k. k.medium) c.self.view_is) c.in_err-on-in-OpenRecords.ensures.cause in
+      let shows = ShowsTrouble (geometry_of (g.M.Medium.seen c.args.self.now.medium).tracks (g.M.Medium.seen c.args.self.now.medium).content) (g.M.Medium.seen c.args.self.now.medium).content in
+      passed_on c.from_residual-in_err-on-in-OpenRecords.result t shows c.from_residual-in_err-on-in-OpenRecords.ensures.1 (record_broken _ _ t broken);
   kept = (search rules);
   guarded = (search rules);
 }
