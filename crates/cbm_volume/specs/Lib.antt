@@ -3,7 +3,10 @@ pub mod Layouts
 pub mod Staying
 pub mod Writers
 pub mod Holding
+pub mod SeenDisks
+pub mod Rooms
 pub mod Opens
+pub mod ReadFiles
 pub mod Calls
 pub mod RecordFaults
 pub mod RecordWrites
