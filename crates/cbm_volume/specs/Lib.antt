@@ -8,6 +8,8 @@ pub mod Rooms
 pub mod Opens
 pub mod ReadFiles
 pub mod Calls
+pub mod Beginning
+pub mod Filled
 pub mod RecordFaults
 pub mod RecordWrites
 pub mod Growth
@@ -17,6 +19,7 @@ pub mod AddingSides
 pub mod GrowthSteps
 pub mod Reaches
 pub mod Copies
+pub mod Copying
 pub mod NewRecords
 pub mod NewDisks
 pub mod Views
