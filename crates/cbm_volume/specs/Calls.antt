@@ -1,5 +1,5 @@
 -- What the volume's calls that write leave of a sound disk.
-use Rattle.std.specs.Prelude.{ℕ, max, ◌≡◌, ◌==◌, Bool, true, false, List, Option, Some, Result, IfOk, IfErr, OnErr, MatchOption}
+use Rattle.std.specs.Prelude.{ℕ, max, ◌≡◌, ◌==◌, Bool, true, false, List, Option, Some, Result, IsOk, IfOk, IfErr, OnErr, MatchOption}
 use Rattle.cbm_medium.specs.Content.{Content}
 use Rattle.cbm_medium.specs.Seen.{Seen, OnlyContent}
 use Rattle.cbm_medium.specs.declared.fault.Trouble.{Trouble}
@@ -67,6 +67,10 @@ OnlyOfWriter w result old new = OnlyContent (max w.chain.tracks (geometry_of old
 -- a protected medium stays as it is
 abbrev pub KeepsProtected : Seen → Seen → Type 0
 KeepsProtected old new = old.protected ≡ true → new.content ≡ old.content
+
+-- it is done, and nothing has changed
+abbrev pub IsLeftAlone : {A : Type 0} → Result A Trouble → Seen → Seen → Type 0
+IsLeftAlone result old new = IsOk result × (new.content ≡ old.content)
 
 -- the answer None says that nothing has changed
 abbrev pub IsNoneSame : {A : Type 0} → Result (Option A) Trouble → Seen → Seen → Type 0

@@ -14,6 +14,9 @@ pub mod RecordFaults
 pub mod RecordWrites
 pub mod Growth
 pub mod Growing
+pub mod GrowthPlans
+pub mod GrowthBegins
+pub mod BlockCounts
 pub mod Relists
 pub mod AddingSides
 pub mod GrowthSteps
