@@ -14,6 +14,10 @@ use Rattle.cbm_volume.specs.Writers.{Filling, Use, Idle, Writes, HoldsNow, Stopp
 abbrev pub OfDisk : Seen → (Disk → (ℕ → Use) → Type 0) → Type 0
 OfDisk now P = (d : Disk) (uses : ℕ → Use) → HoldsNow now.tracks now.content d uses → P d uses
 
+-- this holds of each such disk of which no channel uses anything
+abbrev pub OfUnusedDisk : Seen → (Disk → (ℕ → Use) → Type 0) → Type 0
+OfUnusedDisk now P = (d : Disk) (uses : ℕ → Use) → HoldsNow now.tracks now.content d uses → ((ch : ℕ) → uses ch ≡ Idle) → P d uses
+
 -- this holds of each such disk and of each channel that uses nothing of it
 abbrev pub OfIdle : Seen → (Disk → (ℕ → Use) → ℕ → Type 0) → Type 0
 OfIdle now P = (d : Disk) (uses : ℕ → Use) (ch : ℕ) → HoldsNow now.tracks now.content d uses → uses ch ≡ Idle → P d uses ch
