@@ -1,7 +1,6 @@
 // OPEN for appending.
 
-ghost use Rattle.std.specs.Prelude.{◌≡◌, ◌≤◌, ◌==◌, false, OnErr, IfOk};
-ghost use Rattle.cbm_file.specs.Changes.{reopened};
+ghost use Rattle.std.specs.Prelude.{◌≡◌, ◌≤◌, ◌==◌, OnErr, IfOk};
 ghost use Rattle.cbm_volume.specs.Beginning.{BeginsAppending};
 ghost use Rattle.cbm_volume.specs.Calls.{OnlyOnDisk, OfDisk, LeavesFiles};
 

@@ -1,6 +1,6 @@
 // COPY: the bytes of closed files, one after another, are a new file.
 
-ghost use Rattle.std.specs.Prelude.{◌≡◌, ◌≢◌, ◌≤◌, ◌||◌, length, min, not, nat_lt, true, false, Some, IfOk, IfErr, IsOkAnd};
+ghost use Rattle.std.specs.Prelude.{◌≡◌, ◌≢◌, ◌≤◌, ◌||◌, length, min, not, nat_lt, true, false, IfOk, IfErr, IsOkAnd};
 ghost use Rattle.cbm_medium.specs.Seen.{OnlyContent};
 ghost use Rattle.cbm_file.specs.Files.{file_at, blocks_of};
 ghost use Rattle.cbm_file.specs.Changes.{slot_bytes, joined};

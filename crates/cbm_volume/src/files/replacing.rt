@@ -1,6 +1,6 @@
 // A file is to be replaced: what will replace it begins.
 
-ghost use Rattle.std.specs.Prelude.{◌≡◌, ◌≤◌, ◌-◌, true, OnErr, IfOk, IfSome};
+ghost use Rattle.std.specs.Prelude.{◌≡◌, ◌≤◌, OnErr, IfOk, IfSome};
 ghost use Rattle.cbm_volume.specs.Beginning.{BeginsReplacement};
 ghost use Rattle.cbm_volume.specs.Calls.{OnlyOnDisk, IsNoneSame};
 

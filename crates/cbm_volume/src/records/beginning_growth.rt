@@ -1,6 +1,6 @@
 // A relative file begins to grow: its side sectors are in the drive's form, and its last data block is full.
 
-ghost use Rattle.std.specs.Prelude.{◌≡◌, ◌≤◌, ◌*◌, ◌-◌, ℕ, IfOk};
+ghost use Rattle.std.specs.Prelude.{◌≡◌, ◌≤◌, ◌*◌, ℕ, IfOk};
 ghost use Rattle.cbm_medium.specs.Seen.{OnlyContent};
 ghost use Rattle.cbm_volume.specs.GrowthBegins.{BeginsListed, BeginsGrowth, KeepsReady};
 ghost use Rattle.cbm_volume.specs.Growing.{OfSized};

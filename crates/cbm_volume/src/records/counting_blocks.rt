@@ -1,6 +1,6 @@
 // A relative file that grew: its entry says how many blocks it has.
 
-ghost use Rattle.std.specs.Prelude.{◌≤◌, ◌==◌, true, Some, IfErr};
+ghost use Rattle.std.specs.Prelude.{◌≤◌, ◌==◌, true, IfErr};
 ghost use Rattle.cbm_medium.specs.Seen.{OnlyContent};
 ghost use Rattle.cbm_volume.specs.BlockCounts.{CountsBlocks, OfHeldLayout, OnlyDirectory};
 ghost use Rattle.cbm_volume.specs.Reaches.{KeepsEntries};

@@ -1,6 +1,6 @@
 // OPEN of a relative file that isn't there: a block of fresh records, a side sector that lists it, and a closed entry.
 
-ghost use Rattle.std.specs.Prelude.{◌≡◌, ◌≤◌, ◌||◌, length, not, nat_lt, true, false, Some, None, IfOk, IsOkAnd};
+ghost use Rattle.std.specs.Prelude.{◌≡◌, ◌≤◌, ◌||◌, length, not, nat_lt, true, false, None, IfOk, IsOkAnd};
 ghost use Rattle.cbm_medium.specs.Seen.{OnlyContent};
 ghost use Rattle.cbm_volume.specs.NewRecords.{HasNoRoomForRecords, OpensNewRecords, MakesRelative, ClaimsForRecords, EntersRecords};
 ghost use Rattle.cbm_volume.specs.Calls.{OnlyOnDisk, OfDisk, KeepsProtected, IsSameOn};
