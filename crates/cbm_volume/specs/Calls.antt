@@ -1,5 +1,5 @@
 -- What the volume's calls that write leave of a sound disk.
-use Rattle.std.specs.Prelude.{ℕ, max, ◌≡◌, ◌==◌, Bool, true, false, List, Some, Result, IfOk, IfErr, OnErr}
+use Rattle.std.specs.Prelude.{ℕ, max, ◌≡◌, ◌==◌, Bool, true, false, List, Option, Some, Result, IsOk, IfOk, IfErr, OnErr, MatchOption}
 use Rattle.cbm_medium.specs.Content.{Content}
 use Rattle.cbm_medium.specs.Seen.{Seen, OnlyContent}
 use Rattle.cbm_medium.specs.declared.fault.Trouble.{Trouble}
@@ -13,6 +13,10 @@ use Rattle.cbm_volume.specs.Writers.{Filling, Use, Idle, Writes, HoldsNow, Stopp
 -- this holds of each disk that the medium holds, however the channels use it
 abbrev pub OfDisk : Seen → (Disk → (ℕ → Use) → Type 0) → Type 0
 OfDisk now P = (d : Disk) (uses : ℕ → Use) → HoldsNow now.tracks now.content d uses → P d uses
+
+-- this holds of each such disk of which no channel uses anything
+abbrev pub OfUnusedDisk : Seen → (Disk → (ℕ → Use) → Type 0) → Type 0
+OfUnusedDisk now P = (d : Disk) (uses : ℕ → Use) → HoldsNow now.tracks now.content d uses → ((ch : ℕ) → uses ch ≡ Idle) → P d uses
 
 -- this holds of each such disk and of each channel that uses nothing of it
 abbrev pub OfIdle : Seen → (Disk → (ℕ → Use) → ℕ → Type 0) → Type 0
@@ -67,6 +71,14 @@ OnlyOfWriter w result old new = OnlyContent (max w.chain.tracks (geometry_of old
 -- a protected medium stays as it is
 abbrev pub KeepsProtected : Seen → Seen → Type 0
 KeepsProtected old new = old.protected ≡ true → new.content ≡ old.content
+
+-- it is done, and nothing has changed
+abbrev pub IsLeftAlone : {A : Type 0} → Result A Trouble → Seen → Seen → Type 0
+IsLeftAlone result old new = IsOk result × (new.content ≡ old.content)
+
+-- the answer None says that nothing has changed
+abbrev pub IsNoneSame : {A : Type 0} → Result (Option A) Trouble → Seen → Seen → Type 0
+IsNoneSame result old new = IfOk result (λ o. MatchOption o (new.content ≡ old.content) (λ x. Unit {0}))
 
 -- an answer of this says that nothing has changed
 abbrev pub IsSameOn : {A : Type 0} → Result A Trouble → A → Seen → Seen → Type 0

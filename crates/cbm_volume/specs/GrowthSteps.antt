@@ -9,6 +9,7 @@ use Rattle.cbm_file.specs.Records.{sides_for}
 use Rattle.cbm_bam.specs.Map.{geometry_of}
 use Rattle.cbm_relfile.specs.Growing.{side_at, IsListStopped, IsSideLinked, AreSides, AreSidesLinked}
 use Rattle.cbm_relfile.specs.Records.{Relative}
+use Rattle.cbm_volume.specs.declared.records.growing_blocks.Reach.{Reach}
 use Rattle.cbm_volume.specs.AddingSides.{HasSides, HasEmptySide}
 use Rattle.cbm_volume.specs.Growing.{HasGrown, HasLonger, HasSide, IsGrowthStopped}
 use Rattle.cbm_volume.specs.RecordWrites.{HasRecordsOpen}
@@ -72,6 +73,19 @@ OfSideable r b1 s1 q m c0 d uses n w b s rs o c = HasLonger m c0 d uses n w b s 
 -- and a side sector at the second place lists it alone, which isn't listed
 abbrev pub OfSide : Relative → ℕ → ℕ → Place → Place → GrowthState
 OfSide r b1 s1 q t m c0 d uses n w b s rs o c = HasSide m c0 d uses n w b s rs o r c b1 s1 q t
+
+-- the file grows from where it reaches to this many data blocks, where enough are free for them and for the side sectors that list them
+abbrev pub GrowsTo : Result Reach Trouble → Seen → Seen → ℕ → Relative → Reach → ℕ → Type 0
+GrowsTo result old new geometry r from goal =
+    GrowthGoes result old new geometry (OfGoal r from.blocks from.sides from.last goal) (λ x. OfReached r goal (sides_for from.sides goal) x.sides x.last)
+
+-- a new side sector, which lists the last data block alone, isn't listed before the step nor after it
+abbrev pub KeepsSide : Result (Unit {0}) Trouble → Seen → Seen → ℕ → Relative → ℕ → ℕ → Place → Place → Type 0
+KeepsSide result old new geometry r b1 s1 q t = GrowthGoes result old new geometry (OfSide r b1 s1 q t) (λ x. OfSide r b1 s1 q t)
+
+-- so it is where the new side sector lists no block
+abbrev pub KeepsEmpty : Result (Unit {0}) Trouble → Seen → Seen → ℕ → Relative → ℕ → Place → Type 0
+KeepsEmpty result old new geometry r s1 t = GrowthGoes result old new geometry (OfEmpty r s1 t) (λ x. OfEmpty r s1 t)
 
 -- ---- the lists of the side sectors
 

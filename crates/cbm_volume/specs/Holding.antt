@@ -17,6 +17,10 @@ use Rattle.cbm_volume.specs.Layouts.{Layout, Sound, Means}
 abbrev pub HoldsDisk : ℕ → Content → Disk → Type 0
 HoldsDisk medium content d = Means (geometry_of medium content) content d
 
+-- this holds of each disk that the medium holds, whether or not channels use it
+abbrev pub OfHeldDisk : Seen → (Disk → Type 0) → Type 0
+OfHeldDisk now P = (d : Disk) → HoldsDisk now.tracks now.content d → P d
+
 -- it is sound, with some layout
 abbrev pub HasSoundLayout : Seen → Type 0
 HasSoundLayout now = (l : Layout) × Sound (geometry_of now.tracks now.content) now.content l

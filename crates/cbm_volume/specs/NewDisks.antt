@@ -1,5 +1,5 @@
 -- What NEW writes: the map's sector with the title and the id, and an empty first sector of the directory.
-use Rattle.std.specs.Prelude.{ℕ, ◌≡◌, ◌++◌, ◌∷◌, [], List, Bool, true, false, not, replicate, slice_index, slice_range, Option, Some, None, Result, IsErr, ◌⊎◌}
+use Rattle.std.specs.Prelude.{ℕ, ◌≡◌, ◌++◌, ◌∷◌, [], List, Bool, true, false, not, replicate, slice_index, slice_range, Option, Some, None, Result, IsErr, OnOk, ◌⊎◌}
 use Rattle.cbm_medium.specs.Place.{Place, Has, directory_head}
 use Rattle.cbm_medium.specs.Content.{Content, written, blank}
 use Rattle.cbm_medium.specs.Seen.{Seen, formatted_as, with_content, OnlyContent}
@@ -47,6 +47,11 @@ id_behind (Some id) old = id
 abbrev pub content_under : Option (List ℕ) → Content → Content
 content_under None old = old
 content_under (Some id) old = blank
+
+-- WHERE NEW IS DONE, whatever the medium held, 18/0 and 18/1 are those of an empty disk; all other sectors are zeros where an id is given, and
+-- as they were where none is.
+abbrev pub EmptiesDisk : Result (Unit {0}) Trouble → List ℕ → Option (List ℕ) → Seen → Seen → Type 0
+EmptiesDisk result title id old new = OnOk result (IsEmptied old.tracks title (id_behind id old.content) (content_under id old.content) new.content)
 
 -- NEW changes at most what the sectors hold and, where one is given, the id in their headers, over zeros everywhere; a format that was refused
 -- leaves the old id.

@@ -1,15 +1,20 @@
 -- OPEN of a new relative file: too little room for it, and a file that is being made.
-use Rattle.std.specs.Prelude.{ℕ, ◌≡◌, ◌≢◌, nat_lt, List, true, ◌||◌, not, Ok}
+use Rattle.std.specs.Prelude.{ℕ, ◌≤◌, ◌≡◌, ◌≢◌, nat_lt, List, true, false, ◌||◌, not, Option, Some, Result, Ok, MatchOption, MatchResult}
 use Rattle.cbm_medium.specs.Place.{Place, Has}
 use Rattle.cbm_medium.specs.Content.{Content}
-use Rattle.cbm_file.specs.Files.{Disk}
-use Rattle.cbm_file.specs.Changes.{has_slot}
+use Rattle.cbm_medium.specs.Seen.{Seen}
+use Rattle.cbm_medium.specs.declared.fault.Trouble.{Trouble}
+use Rattle.cbm_file.specs.Padding.{before_filler}
+use Rattle.cbm_file.specs.Files.{Disk, empty_from}
+use Rattle.cbm_file.specs.Changes.{has_slot, grown}
+use Rattle.cbm_file.specs.Records.{with_new_records}
 use Rattle.cbm_bam.specs.Map.{geometry_of}
 use Rattle.cbm_relfile.specs.Making.{IsFreshBlock, one_listed}
-use Rattle.cbm_volume.specs.Copies.{less}
+use Rattle.cbm_volume.specs.Calls.{OfIdle, IsCall}
+use Rattle.cbm_volume.specs.Copies.{less, IsCopyCut, OfVacant}
 use Rattle.cbm_volume.specs.Layouts.{Writer, Layout}
 use Rattle.cbm_volume.specs.Reaches.{Reached}
-use Rattle.cbm_volume.specs.Writers.{Use, Idle}
+use Rattle.cbm_volume.specs.Writers.{Use, Idle, HoldsNow, Stopped}
 
 -- fewer than two blocks are free, or there is no place for the name
 abbrev pub HasNoRoomForRecords : Disk → Type 0
@@ -34,3 +39,36 @@ pub record HoldsNew (c : Content) (p q : Place) (w : ℕ) : Type 0 where
   pub fresh : IsFreshBlock w bytes
   pub at_block : c p ≡ Ok bytes
   pub at_side : c q ≡ Ok (one_listed p q w)
+
+-- ---- what the calls leave
+
+-- WHAT OPEN OF A NEW RELATIVE FILE LEAVES of a sound disk: the first empty slot has the file, and is answered; or there is no room for it, and
+-- nothing has changed; or a write was refused, and each slot is as before or as after.
+abbrev pub OpensNewRecords : Result (Option ℕ) Trouble → Seen → Seen → List ℕ → ℕ → Type 0
+OpensNewRecords result old new name width =
+    OfIdle old (λ d uses ch. let after = with_new_records d (before_filler name) width in
+    IsCall result old new (λ o. MatchOption o (HasNoRoomForRecords d × (new.content ≡ old.content))
+    (λ slot. (empty_from 0 (grown d).slots ≡ Some slot) × HoldsNow old.tracks new.content after uses))
+    (Stopped old.tracks new.content d after uses) (λ m. false))
+
+-- The file is made where two blocks are free: the first empty slot has it, and is answered; or a write was refused on the way.
+abbrev pub MakesRelative : Result ℕ Trouble → Seen → Seen → List ℕ → ℕ → Type 0
+MakesRelative result old new name width =
+    OfVacant old (λ d uses ch h. 2 ≤ d.free → let after = with_new_records d (before_filler name) width in
+    MatchResult result (λ slot. (empty_from 0 (grown d).slots ≡ Some slot) × Reached old.tracks old.content h.layout new.content after uses)
+    (IsCopyCut old new old.content h.layout d uses))
+
+-- It begins where two blocks are free, on a disk of so many tracks: the first empty slot is found, and a block and a side sector are claimed.
+abbrev pub ClaimsForRecords : Result (ℕ × (Place × Place)) Trouble → Seen → Seen → ℕ → Type 0
+ClaimsForRecords result old new geometry =
+    OfVacant old (λ d uses ch h. 2 ≤ d.free → geometry ≡ geometry_of old.tracks old.content →
+    MatchResult result (λ r. (empty_from 0 (grown d).slots ≡ Some r.0) × HasTwo old.tracks old.content h.layout d uses ch new.content r.1.0 r.1.1)
+    (IsCopyCut old new old.content h.layout d uses))
+
+-- Its entry is written into the slot that was found, where its two sectors are: the disk has the file, or the write was refused.
+abbrev pub EntersRecords : Result (Unit {0}) Trouble → Seen → Seen → ℕ → Place → Place → List ℕ → ℕ → ℕ → Type 0
+EntersRecords result old new geometry block side name width number =
+    (c : Content) (l : Layout) (d : Disk) (uses : ℕ → Use) (ch : ℕ) →
+    HasTwo old.tracks c l d uses ch old.content block side → HoldsNew old.content block side width →
+    empty_from 0 (grown d).slots ≡ Some number → geometry ≡ geometry_of old.tracks c →
+    MatchResult result (λ x. Reached old.tracks c l new.content (with_new_records d (before_filler name) width) uses) (IsCopyCut old new c l d uses)

@@ -45,7 +45,7 @@ abbrev pub IsFront : Layout → Layout → Type 0
 IsFront l l' = (rest : List Place) × (l'.directory ≡ l.directory ++ rest)
 
 -- WHAT A CALL HAS REACHED on its way: the medium holds this disk, in a layout of as many tracks, in which the directory is the same but for
--- sectors behind it; and the closed files are kept
+-- sectors after it; and the closed files are kept
 pub record Reached (medium : ℕ) (c : Content) (l : Layout) (c1 : Content) (d1 : Disk) (uses : ℕ → Use) : Type 0 where
   pub layout : Layout
   pub so : HoldsAt (geometry_of medium c) c1 layout d1 uses

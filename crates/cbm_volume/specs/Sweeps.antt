@@ -1,11 +1,11 @@
 -- Slots that were never closed become empty, one after another.
-use Rattle.std.specs.Prelude.{ℕ, ◌*◌, ◌%◌, ◌<◌, ◌≤◌, ◌⊎◌, ◌≡◌, ◌≢◌, List, true, false, length, slice_index, Result, IsOk, IfErr}
+use Rattle.std.specs.Prelude.{ℕ, ◌*◌, ◌%◌, ◌<◌, ◌≤◌, ◌⊎◌, ◌≡◌, ◌≢◌, List, true, false, length, slice_index, Result, IsOk, IfErr, MatchResult}
 use Rattle.cbm_medium.specs.Place.{Place, directory_head}
 use Rattle.cbm_medium.specs.Content.{Content}
 use Rattle.cbm_medium.specs.Links.{Chain, IsApart, bytes_at, link}
 use Rattle.cbm_medium.specs.Seen.{Seen}
 use Rattle.cbm_medium.specs.declared.fault.Trouble.{Trouble}
-use Rattle.cbm_bam.specs.Map.{IsOutsideMap, map_of}
+use Rattle.cbm_bam.specs.Map.{IsOutsideMap, map_of, geometry_of}
 use Rattle.cbm_directory.specs.Entries.{type_byte, is_closed, entry_at, sector_of, first_directory}
 use Rattle.cbm_directory.specs.EntryChanges.{Clears}
 use Rattle.cbm_volume.specs.Layouts.{IsCellWritable}
@@ -55,3 +55,9 @@ pub record IsPutInOrder (tracks : ℕ) (old new : Content) : Type 0 where
 -- What it has changed where a write was refused: nothing, or slots that weren't closed, up to some number.
 abbrev pub IsPartlyInOrder : ℕ → Content → Content → Type 0
 IsPartlyInOrder tracks old new = (new ≡ old) ⊎ ((directory : List Place) × IsDirectoryChain tracks old directory × (k : ℕ) × IsSwept old new directory k)
+
+-- what it has changed on any disk, where it is done, and where it wasn't
+abbrev pub PutsInOrder : {A : Type 0} → Result A Trouble → Seen → Seen → Type 0
+PutsInOrder result old new = MatchResult result
+    (λ x. IsPutInOrder (geometry_of old.tracks old.content) old.content new.content)
+    (λ t. IsPartlyInOrder (geometry_of old.tracks old.content) old.content new.content)

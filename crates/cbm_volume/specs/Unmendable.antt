@@ -2,7 +2,9 @@
 use Rattle.std.specs.Prelude.{ℕ, ◌≡◌, ◌==◌, ◌||◌, if◌then◌else◌, Ok, Err}
 use Rattle.cbm_medium.specs.Place.{Place, has}
 use Rattle.cbm_medium.specs.Content.{Cell, Content}
+use Rattle.cbm_medium.specs.Seen.{Seen}
 use Rattle.cbm_medium.specs.declared.fault.Trouble.{Trouble}
+use Rattle.cbm_bam.specs.Map.{geometry_of}
 use Rattle.cbm_volume.specs.Views.{view_of}
 use Rattle.cbm_volume.specs.check.Flaws.{flaw_number}
 use Rattle.cbm_volume.specs.check.WholeDisk.{DiskFault}
@@ -33,3 +35,7 @@ flaw_trouble tracks c u = record { code = flaw_code tracks c u; track = u.track;
 -- THE DISK CAN'T BE MENDED: the directory and the closed files have this as their first flaw, whatever the map says
 abbrev pub IsUnmendable : ℕ → Content → Trouble → Type 0
 IsUnmendable tracks c t = (u : Unsound) × (DiskFault tracks (view_of tracks c) u × (t ≡ flaw_trouble tracks c u))
+
+-- it is reported so, and nothing has changed
+abbrev pub IsUnmended : Seen → Seen → Trouble → Type 0
+IsUnmended old new t = IsUnmendable (geometry_of old.tracks old.content) old.content t × (new.content ≡ old.content)

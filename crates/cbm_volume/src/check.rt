@@ -1,7 +1,7 @@
 ghost use Rattle.std.specs.Prelude.{◌≡◌, IfOk, IfErr};
-ghost use Rattle.cbm_bam.specs.Map.{geometry_of};
 ghost use Rattle.cbm_bam.specs.Marks.{is_marked};
-ghost use Rattle.cbm_volume.specs.check.WholeDisk.{only_head, ClaimsInto, DiskFault};
+ghost use Rattle.cbm_volume.specs.SeenDisks.{seen_tracks};
+ghost use Rattle.cbm_volume.specs.check.WholeDisk.{only_head, ClaimsInto, SeenFault};
 
 mod claims;
 mod entries;
@@ -34,10 +34,8 @@ fn head_alone() -> SectorSet
 /// Looks at the whole disk, and answers the sectors of its parts, or the first fault that it meets: of the headers, of
 /// the map, of the directory, of the slots.
 pub fn check_disk<M: Medium>(medium: &M) -> Result<SectorSet, Unsound>
-    ensures ok { let now = M.seen medium.now in
-        IfOk result (λ set. ClaimsInto (geometry_of now.tracks now.content) now.content (is_marked set)) }
-    ensures err { let now = M.seen medium.now in
-        IfErr result (λ u. DiskFault (geometry_of now.tracks now.content) now.content u) }
+    ensures ok { IfOk result (λ set. ClaimsInto (seen_tracks (M.seen medium.now)) (M.seen medium.now).content (is_marked set)) }
+    ensures err { IfErr result (SeenFault (M.seen medium.now)) }
 {
     let geometry = cbm_bam::geometry(medium);
     check_headers(medium, geometry)?;

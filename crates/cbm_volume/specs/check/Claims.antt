@@ -49,11 +49,23 @@ ClaimsChain part tracks content claimed a (b ∷ rest) after =
 abbrev pub fault_at : ℕ → Place → Unsound
 fault_at number p = record { number = number; track = p.track; sector = p.sector }
 
+-- the next sector of a part has this fault
+abbrev pub IsWrongAt : Part → ℕ → Content → (Place → Bool) → Place → Unsound → Type 0
+IsWrongAt part tracks content claimed p u = (wrong_at part tracks content claimed p ≡ Some u.number) × (u ≡ fault_at u.number p)
+
 -- From a these sectors are claimed, and the next one has this fault.
 abbrev pub MeetsFault : Part → ℕ → Content → (Place → Bool) → Place → List Place → Unsound → Type 0
 MeetsFault part tracks content claimed a [] u = (a.track ≢ 0) × (wrong_at part tracks content claimed a ≡ Some u.number) × (u ≡ fault_at u.number a)
 MeetsFault part tracks content claimed a (b ∷ rest) u =
     (a ≡ b) × (wrong_at part tracks content claimed b ≡ None) × MeetsFault part tracks content (with_bit claimed b true) (link (bytes_at content b)) rest u
+
+-- from a the whole chain is claimed
+abbrev pub ClaimsFrom : Part → ℕ → Content → (Place → Bool) → Place → (Place → Bool) → Type 0
+ClaimsFrom part tracks content claimed a after = (blocks : List Place) × ClaimsChain part tracks content claimed a blocks after
+
+-- from a some sector of the chain has this fault, and those before it are claimed
+abbrev pub MeetsFrom : Part → ℕ → Content → (Place → Bool) → Place → Unsound → Type 0
+MeetsFrom part tracks content claimed a u = (blocks : List Place) × MeetsFault part tracks content claimed a blocks u
 
 -- how many sectors for this part are still to be claimed
 unfoldable pub unclaimed : Part → (Place → Bool) → ℕ

@@ -1,8 +1,11 @@
 -- The headers of all sectors, in order.
-use Rattle.std.specs.Prelude.{ℕ, ◌≡◌, ◌==◌, ◌&&◌, ◌||◌, nat_lt, Bool, true, false, Ok, Err}
-use Rattle.cbm_medium.specs.Place.{Place, Has}
+use Rattle.std.specs.Prelude.{ℕ, ◌<◌, ◌≡◌, ◌==◌, ◌&&◌, ◌||◌, nat_lt, Bool, true, false, Ok, Err}
+use Rattle.cbm_medium.specs.Place.{Place, Has, sectors_on}
 use Rattle.cbm_medium.specs.Content.{Cell, Content, is_header_fault}
+use Rattle.cbm_bam.specs.Map.{at}
 use Rattle.cbm_volume.specs.Layouts.{IsCellWritable}
+use Rattle.cbm_volume.specs.declared.check.unsound.Unsound.{Unsound}
+use Rattle.cbm_volume.specs.check.Claims.{fault_at}
 
 abbrev pub is_bad_header : Cell → Bool
 is_bad_header (Ok bytes) = false
@@ -17,3 +20,9 @@ pub record IsFirstBad (tracks : ℕ) (content : Content) (p : Place) : Type 0 wh
   pub has : Has tracks p
   pub bad : is_bad_header (content p) ≡ true
   pub first : (q : Place) → Has tracks q → comes_before q p ≡ true → IsCellWritable (content q)
+
+-- the first sector of a track that has a fault of its header (5)
+abbrev pub TrackFault : Content → ℕ → Unsound → Type 0
+TrackFault content track u =
+    (s : ℕ) × (s < sectors_on track) × (is_bad_header (content (at track s)) ≡ true)
+    × ((r : ℕ) → r < s → IsCellWritable (content (at track r))) × (u ≡ fault_at 5 (at track s))

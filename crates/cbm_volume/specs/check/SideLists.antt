@@ -9,7 +9,7 @@ use Rattle.cbm_relfile.specs.SideSectors.{sides_listed, named_in}
 use Rattle.cbm_volume.specs.declared.check.unsound.Part.{Part}
 use Rattle.cbm_volume.specs.declared.check.unsound.Part.TheVariants.{OfFile}
 use Rattle.cbm_volume.specs.declared.check.unsound.Unsound.{Unsound}
-use Rattle.cbm_volume.specs.check.Claims.{wrong_at, fault_at}
+use Rattle.cbm_volume.specs.check.Claims.{wrong_at, fault_at, IsWrongAt}
 
 -- Nothing is wrong with any of these sectors, in their order, and they are claimed.
 abbrev pub ClaimsEach : Part → ℕ → Content → (Place → Bool) → List Place → (Place → Bool) → Type 0
@@ -20,7 +20,7 @@ ClaimsEach part tracks content claimed (p ∷ rest) after = (wrong_at part track
 abbrev pub MeetsAmong : Part → ℕ → Content → (Place → Bool) → List Place → Unsound → Type 0
 MeetsAmong part tracks content claimed [] u = ⊥
 MeetsAmong part tracks content claimed (p ∷ rest) u =
-    ((wrong_at part tracks content claimed p ≡ Some u.number) × (u ≡ fault_at u.number p))
+    IsWrongAt part tracks content claimed p u
     ⊎ ((wrong_at part tracks content claimed p ≡ None) × MeetsAmong part tracks content (with_bit claimed p true) rest u)
 
 -- the side sectors of a relative file that a sector lists after the first

@@ -8,7 +8,7 @@ use Rattle.cbm_directory.specs.Entries.{type_byte, is_closed, is_relative, first
 use Rattle.cbm_directory.specs.Slots.{entries_from}
 use Rattle.cbm_volume.specs.declared.check.unsound.Part.TheVariants.{OfDirectory, OfFile}
 use Rattle.cbm_volume.specs.declared.check.unsound.Unsound.{Unsound}
-use Rattle.cbm_volume.specs.check.Claims.{wrong_at, ClaimsChain, fault_at, MeetsFault}
+use Rattle.cbm_volume.specs.check.Claims.{wrong_at, ClaimsChain, ClaimsFrom, fault_at, MeetsFrom}
 use Rattle.cbm_volume.specs.check.SideLists.{ClaimsSides, SidesFault}
 
 -- the chain and the side sectors of a relative file are claimed
@@ -19,31 +19,39 @@ ClaimsRelative tracks content claimed e after =
 -- the chain of a relative file has a fault, or it is claimed, and the side sectors have one
 abbrev pub RelativeFault : ℕ → Content → (Place → Bool) → List ℕ → Unsound → Type 0
 RelativeFault tracks content claimed e u =
-    ((blocks : List Place) × MeetsFault OfFile tracks content claimed (first_block e) blocks u)
+    MeetsFrom OfFile tracks content claimed (first_block e) u
     ⊎ ((blocks : List Place) × ((between : Place → Bool) × (ClaimsChain OfFile tracks content claimed (first_block e) blocks between × SidesFault tracks content between e u)))
 
 -- The sectors of an entry's file are claimed: by whether it is closed, and relative. A relative file has a block.
 abbrev pub ClaimsFile : Bool → Bool → ℕ → Content → (Place → Bool) → List ℕ → (Place → Bool) → Type 0
 ClaimsFile false r tracks content claimed e after = after ≡ claimed
-ClaimsFile true false tracks content claimed e after = (blocks : List Place) × ClaimsChain OfFile tracks content claimed (first_block e) blocks after
+ClaimsFile true false tracks content claimed e after = ClaimsFrom OfFile tracks content claimed (first_block e) after
 ClaimsFile true true tracks content claimed e after = ((first_block e).track ≢ 0) × ClaimsRelative tracks content claimed e after
 
 -- an entry's file has this fault; a relative one without a block is a link to elsewhere (4)
 abbrev pub FileFault : Bool → Bool → ℕ → Content → (Place → Bool) → List ℕ → Unsound → Type 0
 FileFault false r tracks content claimed e u = ⊥
-FileFault true false tracks content claimed e u = (blocks : List Place) × MeetsFault OfFile tracks content claimed (first_block e) blocks u
+FileFault true false tracks content claimed e u = MeetsFrom OfFile tracks content claimed (first_block e) u
 FileFault true true tracks content claimed e u =
     (((first_block e).track ≡ 0) × (u ≡ fault_at 4 (first_block e)))
     ⊎ (((first_block e).track ≢ 0) × RelativeFault tracks content claimed e u)
 
+-- the sectors of its file are claimed, as the entry itself says whether it is closed, and relative
+abbrev pub ClaimsFileOf : ℕ → Content → (Place → Bool) → List ℕ → (Place → Bool) → Type 0
+ClaimsFileOf tracks content claimed e after = ClaimsFile (is_closed e) (is_relative e) tracks content claimed e after
+
+-- its file has this fault, as it says so
+abbrev pub FaultOfFile : ℕ → Content → (Place → Bool) → List ℕ → Unsound → Type 0
+FaultOfFile tracks content claimed e u = FileFault (is_closed e) (is_relative e) tracks content claimed e u
+
 -- the type of an entry is known, and its file is claimed
 abbrev pub ClaimsEntry : ℕ → Content → (Place → Bool) → List ℕ → (Place → Bool) → Type 0
-ClaimsEntry tracks content claimed e after = (type_byte e % 16 < 5) × ClaimsFile (is_closed e) (is_relative e) tracks content claimed e after
+ClaimsEntry tracks content claimed e after = (type_byte e % 16 < 5) × ClaimsFileOf tracks content claimed e after
 
 -- its type is none's (8, at the sector of the directory), or its file has a fault
 abbrev pub EntryFault : ℕ → Content → (Place → Bool) → Place → List ℕ → Unsound → Type 0
 EntryFault tracks content claimed sector e u =
-    ((5 ≤ type_byte e % 16) × (u ≡ fault_at 8 sector)) ⊎ ((type_byte e % 16 < 5) × FileFault (is_closed e) (is_relative e) tracks content claimed e u)
+    ((5 ≤ type_byte e % 16) × (u ≡ fault_at 8 sector)) ⊎ ((type_byte e % 16 < 5) × FaultOfFile tracks content claimed e u)
 
 -- the entries are claimed in their order
 abbrev pub ClaimsEntries : ℕ → Content → (Place → Bool) → List (List ℕ) → (Place → Bool) → Type 0

@@ -9,7 +9,7 @@ use Rattle.cbm_directory.specs.Entries.{first_directory}
 use Rattle.cbm_volume.specs.Layouts.{IsCellWritable}
 use Rattle.cbm_volume.specs.declared.check.unsound.Part.TheVariants.{OfDirectory}
 use Rattle.cbm_volume.specs.declared.check.unsound.Unsound.{Unsound}
-use Rattle.cbm_volume.specs.check.Claims.{ClaimsChain, fault_at, MeetsFault}
+use Rattle.cbm_volume.specs.check.Claims.{ClaimsChain, fault_at, MeetsFrom}
 use Rattle.cbm_volume.specs.check.Headers.{IsFirstBad}
 use Rattle.cbm_volume.specs.check.MapCounts.{IsMapRight, IsMapFault}
 use Rattle.cbm_volume.specs.check.SlotWalk.{ClaimsSlots, SlotsFault}
@@ -39,7 +39,7 @@ HeaderFault tracks content u = (p : Place) × IsFirstBad tracks content p × (u 
 
 -- the first fault of the directory, as a chain (6, 3, 9, 2)
 abbrev pub DirectoryFault : ℕ → Content → Unsound → Type 0
-DirectoryFault tracks content u = (sectors : List Place) × MeetsFault OfDirectory tracks content only_head first_directory sectors u
+DirectoryFault tracks content u = MeetsFrom OfDirectory tracks content only_head first_directory u
 
 -- the first fault of its slots, after a directory that is claimed (8, 4, 3, 9, 2, 7)
 pub record SlotFault (tracks : ℕ) (content : Content) (u : Unsound) : Type 0 where

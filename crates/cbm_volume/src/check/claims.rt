@@ -1,8 +1,7 @@
-ghost use Rattle.std.specs.Prelude.{◌≡◌, List, true, None, Some, OnOk, IfOk, IfErr, Ok};
-ghost use Rattle.cbm_medium.specs.Place.{Place};
+ghost use Rattle.std.specs.Prelude.{◌≡◌, true, None, OnOk, IfOk, IfErr, Ok};
 ghost use Rattle.cbm_bam.specs.Map.{with_bit};
 ghost use Rattle.cbm_bam.specs.Marks.{is_marked};
-ghost use Rattle.cbm_volume.specs.check.Claims.{wrong_at, fault_at, ClaimsChain, MeetsFault, HasMap};
+ghost use Rattle.cbm_volume.specs.check.Claims.{wrong_at, IsWrongAt, ClaimsFrom, MeetsFrom, HasMap};
 
 use crate::check::unsound::{Flaw, Part, Unsound};
 use cbm_bam::{SectorSet, is_free};
@@ -20,9 +19,7 @@ pub fn claim<M: Medium>(
     ensures none { OnOk result (wrong_at part geometry (M.seen medium.now).content (is_marked claimed.old) at ≡ None) }
     ensures claimed { OnOk result (is_marked claimed.new ≡ with_bit (is_marked claimed.old) at true) }
     ensures read { IfOk result (λ bytes. (M.seen medium.now).content at ≡ Ok bytes) }
-    ensures wrong { IfErr result
-        (λ u. (wrong_at part geometry (M.seen medium.now).content (is_marked claimed.old) at ≡ Some u.number) ×
-        (u ≡ fault_at u.number at)) }
+    ensures wrong { IfErr result (IsWrongAt part geometry (M.seen medium.now).content (is_marked claimed.old) at) }
 {
     let outside = match part {
         Part::OfDirectory => Flaw::DirectoryChain,
@@ -56,10 +53,8 @@ pub fn claim_chain<M: Medium>(
     claimed: &mut SectorSet,
 ) -> Result<(), Unsound>
     requires map { HasMap geometry (M.seen medium.now) }
-    ensures ok { OnOk result ((blocks : List Place) × ClaimsChain part geometry (M.seen medium.now).content
-        (is_marked claimed.old) first blocks (is_marked claimed.new)) }
-    ensures err { IfErr result (λ u. (blocks : List Place) × MeetsFault part geometry (M.seen medium.now).content
-        (is_marked claimed.old) first blocks u) }
+    ensures ok { OnOk result (ClaimsFrom part geometry (M.seen medium.now).content (is_marked claimed.old) first (is_marked claimed.new)) }
+    ensures err { IfErr result (MeetsFrom part geometry (M.seen medium.now).content (is_marked claimed.old) first) }
 {
     let mut at = first;
     while !at.is_end() {

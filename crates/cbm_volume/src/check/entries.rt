@@ -1,8 +1,8 @@
 ghost use Rattle.std.specs.Prelude.{◌≡◌, ◌≤◌, ◌<◌, true, false, OnOk, IfErr, Ok};
-ghost use Rattle.cbm_directory.specs.Entries.{is_closed, is_relative, first_side};
+ghost use Rattle.cbm_directory.specs.Entries.{first_side};
 ghost use Rattle.cbm_bam.specs.Marks.{is_marked};
 ghost use Rattle.cbm_volume.specs.check.SideLists.{are_records_in, ClaimsSides, SidesFault};
-ghost use Rattle.cbm_volume.specs.check.SlotWalk.{ClaimsFile, FileFault, ClaimsEntry, EntryFault};
+ghost use Rattle.cbm_volume.specs.check.SlotWalk.{ClaimsFile, ClaimsFileOf, FileFault, FaultOfFile, ClaimsEntry, EntryFault};
 ghost use Rattle.cbm_volume.specs.check.Claims.{HasMap};
 
 use crate::check::claims::claim_chain;
@@ -44,8 +44,7 @@ fn check_sides<M: Medium>(
     requires map { HasMap geometry (M.seen medium.now) }
     ensures ok { OnOk result (ClaimsSides geometry (M.seen medium.now).content (is_marked claimed.old) entry.now
         (is_marked claimed.new)) }
-    ensures err { IfErr result
-        (λ u. SidesFault geometry (M.seen medium.now).content (is_marked claimed.old) entry.now u) }
+    ensures err { IfErr result (SidesFault geometry (M.seen medium.now).content (is_marked claimed.old) entry.now) }
 {
     let at = entry.first_side();
     let first = claim_sides(medium, geometry, at, claimed)?;
@@ -65,8 +64,7 @@ fn check_relative<M: Medium>(
     requires map { HasMap geometry (M.seen medium.now) }
     ensures ok { OnOk result (ClaimsFile true true geometry (M.seen medium.now).content
         (is_marked claimed.old) entry.now (is_marked claimed.new)) }
-    ensures err { IfErr result (λ u. FileFault true true geometry (M.seen medium.now).content
-        (is_marked claimed.old) entry.now u) }
+    ensures err { IfErr result (FileFault true true geometry (M.seen medium.now).content (is_marked claimed.old) entry.now) }
 {
     let first = entry.first_block();
     if first.is_end() {
@@ -84,10 +82,8 @@ fn check_file<M: Medium>(
     claimed: &mut SectorSet,
 ) -> Result<(), Unsound>
     requires map { HasMap geometry (M.seen medium.now) }
-    ensures ok { OnOk result (ClaimsFile (is_closed entry.now) (is_relative entry.now) geometry
-        (M.seen medium.now).content (is_marked claimed.old) entry.now (is_marked claimed.new)) }
-    ensures err { IfErr result (λ u. FileFault (is_closed entry.now) (is_relative entry.now) geometry
-        (M.seen medium.now).content (is_marked claimed.old) entry.now u) }
+    ensures ok { OnOk result (ClaimsFileOf geometry (M.seen medium.now).content (is_marked claimed.old) entry.now (is_marked claimed.new)) }
+    ensures err { IfErr result (FaultOfFile geometry (M.seen medium.now).content (is_marked claimed.old) entry.now) }
 {
     if !entry.is_closed() {
         return Ok(());
@@ -109,8 +105,7 @@ pub fn check_entry<M: Medium>(
     requires map { HasMap geometry (M.seen medium.now) }
     ensures ok { OnOk result (ClaimsEntry geometry (M.seen medium.now).content (is_marked claimed.old) entry.now
         (is_marked claimed.new)) }
-    ensures err { IfErr result (λ u. EntryFault geometry (M.seen medium.now).content
-        (is_marked claimed.old) sector entry.now u) }
+    ensures err { IfErr result (EntryFault geometry (M.seen medium.now).content (is_marked claimed.old) sector entry.now) }
 {
     if entry.kind().is_none() {
         return Err(Flaw::UnknownType.at(sector));

@@ -2,8 +2,9 @@ ghost use Rattle.std.specs.Prelude.{◌≡◌, ◌<◌, ◌≤◌, ℕ, true, On
 ghost use Rattle.cbm_medium.specs.Place.{Place, Has, sectors_on};
 ghost use Rattle.cbm_bam.specs.Map.{at};
 ghost use Rattle.cbm_volume.specs.Layouts.{IsCellWritable};
-ghost use Rattle.cbm_volume.specs.check.Headers.{is_bad_header, IsFirstBad};
+ghost use Rattle.cbm_volume.specs.check.Headers.{is_bad_header, TrackFault};
 ghost use Rattle.cbm_volume.specs.check.Claims.{fault_at};
+ghost use Rattle.cbm_volume.specs.check.WholeDisk.{HeaderFault};
 
 use crate::check::unsound::{Flaw, Unsound};
 use cbm_medium::{Address, Geometry, Link, Medium, is_of_header, sectors_of};
@@ -24,9 +25,7 @@ fn check_header<M: Medium>(medium: &M, at: Address) -> Result<(), Unsound>
 fn check_track<M: Medium>(medium: &M, track: u8) -> Result<(), Unsound>
     requires { (0 < track) × (track ≤ (M.seen medium.now).tracks) }
     ensures ok { OnOk result ((s : ℕ) → s < sectors_on track → IsCellWritable ((M.seen medium.now).content (at track s))) }
-    ensures err { IfErr result (λ u. (s : ℕ) × (s < sectors_on track) ×
-        (is_bad_header ((M.seen medium.now).content (at track s)) ≡ true) × ((r : ℕ) → r < s →
-        IsCellWritable ((M.seen medium.now).content (at track r))) × (u ≡ fault_at 5 (at track s))) }
+    ensures err { IfErr result (TrackFault (M.seen medium.now).content track) }
 {
     for sector in 0..sectors_of(track) {
         let at = Address::new(track, sector).unwrap();
@@ -39,8 +38,7 @@ fn check_track<M: Medium>(medium: &M, track: u8) -> Result<(), Unsound>
 pub fn check_headers<M: Medium>(medium: &M, geometry: Geometry) -> Result<(), Unsound>
     requires { geometry ≤ (M.seen medium.now).tracks }
     ensures ok { OnOk result ((p : Place) → Has geometry p → IsCellWritable ((M.seen medium.now).content p)) }
-    ensures err { IfErr result (λ u. (p : Place) × IsFirstBad geometry (M.seen medium.now).content p ×
-        (u ≡ fault_at 5 p)) }
+    ensures err { IfErr result (HeaderFault geometry (M.seen medium.now).content) }
 {
     for track in 1..geometry.tracks() + 1 {
         check_track(medium, track)?;

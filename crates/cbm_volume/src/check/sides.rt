@@ -20,8 +20,7 @@ fn claim_listed<M: Medium>(
     requires map { HasMap geometry (M.seen medium.now) }
     ensures ok { OnOk result (ClaimsEach OfFile geometry (M.seen medium.now).content (is_marked claimed.old)
         (behind_first first.now) (is_marked claimed.new)) }
-    ensures err { IfErr result (λ u. MeetsAmong OfFile geometry (M.seen medium.now).content (is_marked claimed.old)
-        (behind_first first.now) u) }
+    ensures err { IfErr result (MeetsAmong OfFile geometry (M.seen medium.now).content (is_marked claimed.old) (behind_first first.now)) }
 {
     if first[SIDES] == 0 {
         return Ok(());
@@ -47,8 +46,8 @@ pub fn claim_sides<M: Medium>(
     ensures ok { OnOk result (ClaimsEach OfFile geometry (M.seen medium.now).content (is_marked claimed.old)
         (sides_from (M.seen medium.now).content first) (is_marked claimed.new)) }
     ensures read { IfOk result (λ bytes. (M.seen medium.now).content first ≡ Ok bytes) }
-    ensures err { IfErr result (λ u. MeetsAmong OfFile geometry (M.seen medium.now).content (is_marked claimed.old)
-        (sides_from (M.seen medium.now).content first) u) }
+    ensures err { IfErr result (MeetsAmong OfFile geometry (M.seen medium.now).content (is_marked claimed.old)
+        (sides_from (M.seen medium.now).content first)) }
 {
     let bytes = claim(medium, geometry, Part::OfFile, first, claimed)?;
     claim_listed(medium, geometry, &bytes, claimed)?;

@@ -1,6 +1,6 @@
 // NEW: an empty disk.
 
-ghost use Rattle.std.specs.Prelude.{◌≡◌, ◌≢◌, ◌≤◌, ◌⊎◌, ℕ, List, true, None, Some, Ok, Err, OnOk, IfOk, IfErr, length, slice_range, take, drop, ◌++◌};
+ghost use Rattle.std.specs.Prelude.{◌≡◌, ◌≢◌, ◌≤◌, ◌⊎◌, List, None, Some, Ok, Err, OnOk, IfOk, IfErr, length, slice_range, take, drop, ◌++◌};
 ghost use Rattle.cbm_medium.specs.Place.{directory_head};
 ghost use Rattle.cbm_medium.specs.Seen.{ShowsGround, OnlyContent};
 ghost use Rattle.cbm_file.specs.Files.{Disk};
@@ -9,11 +9,12 @@ ghost use Rattle.cbm_bam.specs.Map.{map_of};
 ghost use Rattle.cbm_bam.specs.Marks.{is_marked};
 ghost use Rattle.cbm_directory.specs.Entries.{first_directory};
 ghost use Rattle.cbm_directory.specs.Growth.{new_sector};
+ghost use Rattle.cbm_volume.specs.Calls.{OfDisk, OfUnusedDisk, KeepsProtected};
 ghost use Rattle.cbm_volume.specs.Holding.{HoldsDisk};
 ghost use Rattle.cbm_volume.specs.Layouts.{IsCellWritable};
-ghost use Rattle.cbm_volume.specs.NewDisks.{used_by_new, new_label, around_map, IsNewHead, IsEmptied, OnlyNew, id_behind, content_under};
+ghost use Rattle.cbm_volume.specs.NewDisks.{used_by_new, new_label, around_map, IsNewHead, IsEmptied, OnlyNew, EmptiesDisk};
 ghost use Rattle.cbm_volume.specs.Opens.{IsHindered};
-ghost use Rattle.cbm_volume.specs.Writers.{Use, Idle, HoldsNow};
+ghost use Rattle.cbm_volume.specs.Writers.{HoldsNow};
 
 use crate::volume::Volume;
 use cbm_bam::{SectorSet, anew, read_map};
@@ -126,8 +127,7 @@ fn write_new<M: Medium>(medium: &mut M, title: &[u8], id: [u8; 2]) -> Result<(),
         OnOk result (IsEmptied old.tracks title.now id old.content (M.seen medium.new).content) }
     ensures cause { let old = M.seen medium.old in IsCellWritable (old.content directory_head) →
         IsCellWritable (old.content first_directory) → IfErr result (IsHindered old (M.seen medium.new)) }
-    ensures protected { let old = M.seen medium.old in old.protected ≡ true →
-        (M.seen medium.new).content ≡ old.content }
+    ensures protected { KeepsProtected (M.seen medium.old) (M.seen medium.new) }
     ensures only { OnlyContent 18 result (M.seen medium.old) (M.seen medium.new) }
 {
     let head = new_head(title, id, all_tracks(medium));
@@ -143,20 +143,14 @@ impl<M: Medium> Volume<M> {
     /// failed by itself; nothing is promised of a disk on which NEW was stopped.
     pub fn new_disk(&mut self, title: &[u8], id: Option<[u8; 2]>) -> Result<(), Trouble>
         requires { length title.now ≤ 16 }
-        ensures made { let old = M.seen self.old in (d : Disk) (uses : ℕ → Use) →
-            HoldsNow old.tracks old.content d uses → ((ch : ℕ) → uses ch ≡ Idle) →
-            OnOk result (HoldsNow old.tracks (M.seen self.new).content (new_disk old.tracks title.now id d) uses) }
+        ensures made { let old = M.seen self.old in OfUnusedDisk old (λ d uses.
+            OnOk result (HoldsNow old.tracks (M.seen self.new).content (new_disk old.tracks title.now id d) uses)) }
         ensures formatted { let old = M.seen self.old in id ≢ None → (d : Disk) →
             OnOk result (HoldsDisk old.tracks (M.seen self.new).content (new_disk old.tracks title.now id d)) }
-        // On any content: what stands in 18/0 and 18/1 after it. All other sectors are zeros where an id is given, and as
-        // they were where none is.
-        ensures emptied { let old = M.seen self.old in OnOk result (IsEmptied old.tracks title.now
-            (id_behind id old.content) (content_under id old.content) (M.seen self.new).content) }
-        ensures protected { let old = M.seen self.old in old.protected ≡ true →
-            (M.seen self.new).content ≡ old.content }
+        ensures emptied { EmptiesDisk result title.now id (M.seen self.old) (M.seen self.new) }
+        ensures protected { KeepsProtected (M.seen self.old) (M.seen self.new) }
         ensures only { OnlyNew result id (M.seen self.old) (M.seen self.new) }
-        ensures cause { let old = M.seen self.old in (d : Disk) (uses : ℕ → Use) →
-            HoldsNow old.tracks old.content d uses → IfErr result (IsHindered old (M.seen self.new)) }
+        ensures cause { OfDisk (M.seen self.old) (λ d uses. IfErr result (IsHindered (M.seen self.old) (M.seen self.new))) }
     {
         let Some(id) = id else {
             let id = told_id(&self.medium)?;

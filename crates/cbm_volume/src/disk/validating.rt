@@ -1,6 +1,6 @@
 // VALIDATE: the map is written anew from the closed files.
 
-ghost use Rattle.std.specs.Prelude.{◌≡◌, ◌≢◌, ◌≤◌, ◌⊎◌, Some, Err, true, false, IfOk, IfErr, IsOk, IsErrAnd, OnOk, OnErr, MatchResult, ℕ};
+ghost use Rattle.std.specs.Prelude.{◌≡◌, ◌≢◌, ◌≤◌, ◌⊎◌, Some, true, false, IfOk, IfErr, IsOk, IsErrAnd, OnOk, OnErr, ℕ};
 ghost use Rattle.cbm_medium.specs.Place.{directory_head};
 ghost use Rattle.cbm_medium.specs.Seen.{ShowsGround, OnlyContent};
 ghost use Rattle.cbm_medium.specs.Content.{written};
@@ -11,11 +11,11 @@ ghost use Rattle.cbm_bam.specs.Marks.{is_marked};
 ghost use Rattle.cbm_volume.specs.Holding.{HoldsDisk, OfSound};
 ghost use Rattle.cbm_volume.specs.Opens.{IsHindered};
 ghost use Rattle.cbm_volume.specs.Views.{view_of};
-ghost use Rattle.cbm_volume.specs.Unmendable.{code_at, flaw_code, IsUnmendable};
-ghost use Rattle.cbm_volume.specs.Sweeps.{OfDirectory, IsSwept, SlotSwept, IsPutInOrder, IsPartlyInOrder, StopsSweep};
-ghost use Rattle.cbm_volume.specs.Writers.{Idle};
+ghost use Rattle.cbm_volume.specs.Unmendable.{code_at, flaw_code, IsUnmendable, IsUnmended};
+ghost use Rattle.cbm_volume.specs.SeenDisks.{seen_tracks};
+ghost use Rattle.cbm_volume.specs.Sweeps.{OfDirectory, IsSwept, SlotSwept, PutsInOrder, StopsSweep};
 ghost use Rattle.cbm_volume.specs.check.WholeDisk.{ClaimsInto};
-ghost use Rattle.cbm_volume.specs.Calls.{OnlyOnDisk, OfDisk, IsChange, KeepsProtected};
+ghost use Rattle.cbm_volume.specs.Calls.{OnlyOnDisk, OfDisk, OfUnusedDisk, IsChange, KeepsProtected};
 ghost use Rattle.cbm_bam.specs.Causes.{IsHeadRefused};
 
 use crate::check::{Flaw, Unsound, check_disk};
@@ -68,8 +68,7 @@ fn closed_sectors<M: Medium>(medium: &M) -> Result<SectorSet, Trouble>
     ensures ok { let now = M.seen medium.now in let tracks = geometry_of now.tracks now.content in
         IfOk result (λ set. ClaimsInto tracks (view_of tracks now.content) (is_marked set)) }
     ensures exact { OfSound (M.seen medium.now) (λ l. IsOk result) }
-    ensures err { let now = M.seen medium.now in
-        IfErr result (IsUnmendable (geometry_of now.tracks now.content) now.content) }
+    ensures err { IfErr result (IsUnmendable (seen_tracks (M.seen medium.now)) (M.seen medium.now).content) }
     ensures never_26 { IfErr result (λ t. t.code ≢ 26) }
     ensures shown { IfErr result (ShowsGround (M.seen medium.now)) }
 {
@@ -140,21 +139,15 @@ impl<M: Medium> Volume<M> {
     /// changed, and the `Err` reports the first that is met. Else an `Err` is the medium's refusal: 26 where it is
     /// protected, with nothing changed.
     pub fn validate(&mut self) -> Result<(), Trouble>
-        ensures call { OfDisk (M.seen self.old) (λ d uses. ((ch : ℕ) → uses ch ≡ Idle) →
+        ensures call { OfUnusedDisk (M.seen self.old) (λ d uses.
             IsChange result (M.seen self.old) (M.seen self.new) d (validated d) uses (λ m. false)) }
         // On any content: what can't be mended is reported, and nothing is changed; else the medium refused a write.
-        ensures refused { let old = M.seen self.old in IfErr result
-            (λ t. (IsUnmendable (geometry_of old.tracks old.content) old.content t × ((M.seen self.new).content ≡
-            old.content)) ⊎ IsHindered old (M.seen self.new) t) }
+        ensures refused { IfErr result (λ t. IsUnmended (M.seen self.old) (M.seen self.new) t ⊎ IsHindered (M.seen self.old) (M.seen self.new) t) }
         // On any content: the disk is sound; closed entries, their files and the label stay.
-        ensures sound { let old = M.seen self.old in OnOk result
-            ((e : Disk) × HoldsDisk old.tracks (M.seen self.new).content e × (e ≡ validated e)) }
-        ensures in_order { let old = M.seen self.old in MatchResult result
-            (λ x. IsPutInOrder (geometry_of old.tracks old.content) old.content (M.seen self.new).content)
-            (λ t. IsPartlyInOrder (geometry_of old.tracks old.content) old.content (M.seen self.new).content) }
+        ensures sound { OnOk result ((e : Disk) × HoldsDisk (M.seen self.old).tracks (M.seen self.new).content e × (e ≡ validated e)) }
+        ensures in_order { PutsInOrder result (M.seen self.old) (M.seen self.new) }
         ensures kept { KeepsProtected (M.seen self.old) (M.seen self.new) }
-        ensures guarded { OfDisk (M.seen self.old) (λ d uses. (M.seen self.old).protected ≡ true →
-            IsErrAnd result (λ t. t.code ≡ 26)) }
+        ensures guarded { OfDisk (M.seen self.old) (λ d uses. (M.seen self.old).protected ≡ true → IsErrAnd result (λ t. t.code ≡ 26)) }
         ensures only { OnlyOnDisk result (M.seen self.old) (M.seen self.new) }
     {
         let geometry = self.geometry();

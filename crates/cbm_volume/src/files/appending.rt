@@ -1,13 +1,7 @@
 // OPEN for appending.
 
-ghost use Rattle.std.specs.Prelude.{◌≡◌, ◌≤◌, ◌==◌, Some, false, OnErr, IfOk, MatchResult, ℕ};
-ghost use Rattle.cbm_file.specs.declared.file_type.FileType.TheVariants.{Del};
-ghost use Rattle.cbm_file.specs.Types.{is_same_type};
-ghost use Rattle.cbm_file.specs.Files.{File, with_slot, bytes_in};
-ghost use Rattle.cbm_file.specs.Changes.{reopened};
-ghost use Rattle.cbm_volume.specs.Holding.{EntryStandsAt};
-ghost use Rattle.cbm_volume.specs.Writers.{Idle};
-ghost use Rattle.cbm_volume.specs.Opens.{CanBeWritten, BeginsFile, IsHindered};
+ghost use Rattle.std.specs.Prelude.{◌≡◌, ◌≤◌, ◌==◌, OnErr, IfOk};
+ghost use Rattle.cbm_volume.specs.Beginning.{BeginsAppending};
 ghost use Rattle.cbm_volume.specs.Calls.{OnlyOnDisk, OfDisk, LeavesFiles};
 
 use crate::files::filling::FileWriter;
@@ -20,13 +14,7 @@ impl<M: Medium> Volume<M> {
     /// OPEN of a closed file for appending: its entry is no longer closed, and the writer stands after its last byte.
     /// An `Err` changes nothing: on a sound disk it is 26 on a protected medium, or the medium's own failure.
     pub fn begin_append(&mut self, slot: u8, entry: &Entry) -> Result<FileWriter, Trouble>
-        // A file of type DEL has no such entry: with bit 7 cleared, its type byte is that of an empty slot.
-        ensures begun { let old = M.seen self.old in let new = M.seen self.new in
-            OfDisk old (λ d uses. (f : File) → CanBeWritten d uses slot f →
-            EntryStandsAt old.tracks old.content slot entry.now → MatchResult result
-            (λ w. (ch : ℕ) → uses ch ≡ Idle → is_same_type Del f.kind ≡ false → BeginsFile old.tracks new.content
-            (with_slot d slot (Some (reopened f))) uses ch slot false (bytes_in f.body) f.held w)
-            (IsHindered old new)) }
+        ensures begun { BeginsAppending result (M.seen self.old) (M.seen self.new) slot entry.now }
         ensures err { OnErr result ((M.seen self.new).content ≡ (M.seen self.old).content) }
         ensures untouched { OfDisk (M.seen self.old) (λ d uses. LeavesFiles (M.seen self.old) (M.seen self.new) (λ m. m == slot)) }
         ensures tracks { IfOk result (λ w. w.chain.tracks ≤ (M.seen self.old).tracks) }

@@ -1,20 +1,14 @@
 // COPY: the bytes of closed files, one after another, are a new file.
 
-ghost use Rattle.std.specs.Prelude.{◌≡◌, ◌≢◌, ◌≤◌, ◌||◌, ◌++◌, ◌∷◌, List, [], length, min, not, nat_lt, true, false, Some, IfOk, IfErr, IsOkAnd, MatchBool, MatchResult, ℕ};
-ghost use Rattle.cbm_medium.specs.Content.{Content};
+ghost use Rattle.std.specs.Prelude.{◌≡◌, ◌≢◌, ◌≤◌, ◌||◌, length, min, not, nat_lt, true, false, IfOk, IfErr, IsOkAnd};
 ghost use Rattle.cbm_medium.specs.Seen.{ShowsGround, OnlyContent};
-ghost use Rattle.cbm_file.specs.declared.file_type.FileType.TheVariants.{Del, Rel};
-ghost use Rattle.cbm_file.specs.Types.{is_same_type};
-ghost use Rattle.cbm_file.specs.Padding.{before_filler};
-ghost use Rattle.cbm_file.specs.Files.{Disk, Bytes, file_at, empty_from, blocks_of};
-ghost use Rattle.cbm_file.specs.Changes.{slot_bytes, joined, copy_blocks, with_copy, with_file, closed_file, grown, has_slot};
-ghost use Rattle.cbm_bam.specs.Map.{geometry_of};
+ghost use Rattle.cbm_file.specs.Files.{file_at, blocks_of};
+ghost use Rattle.cbm_file.specs.Changes.{slot_bytes, joined};
 ghost use Rattle.cbm_chain.specs.Reading.{IsSettled};
-ghost use Rattle.cbm_volume.specs.Copies.{AreCopied, CanBeCopied, HasNoRoomFor, IsCopyCut, Making, Makes, OfMaking, OfVacant};
-ghost use Rattle.cbm_volume.specs.Layouts.{Layout};
-ghost use Rattle.cbm_volume.specs.Reaches.{Reached};
-ghost use Rattle.cbm_volume.specs.Writers.{Use, Idle, Reads, HoldsNow, Stopped};
-ghost use Rattle.cbm_volume.specs.Calls.{OnlyOnDisk, OfDisk, OfIdle, IsCall, KeepsProtected, IsSameOn};
+ghost use Rattle.cbm_volume.specs.Copies.{AreCopied, CanBeCopied, HasNoRoomFor};
+ghost use Rattle.cbm_volume.specs.Copying.{CopiesFiles, MakesCopy, BeginsCopy, CopiesByte, CopiesNext, CopiesRest, CopiesOf, EntersCopy};
+ghost use Rattle.cbm_volume.specs.SeenDisks.{seen_tracks};
+ghost use Rattle.cbm_volume.specs.Calls.{OnlyOnDisk, OfDisk, KeepsProtected, IsSameOn};
 
 use crate::disk::Room;
 use crate::volume::Volume;
@@ -32,12 +26,7 @@ impl<M: Medium> Volume<M> {
     /// changed, or failed by itself.
     pub fn copy(&mut self, kind: FileType, name: &[u8], sources: &[u8]) -> Result<bool, Trouble>
         requires { length name.now ≤ 16 }
-        ensures call { let old = M.seen self.old in let new = M.seen self.new in
-            OfIdle old (λ d uses ch. kind ≢ Del → is_same_type Rel kind ≡ false → AreCopied d sources.now →
-            let after = with_copy d kind (before_filler name.now) sources.now in IsCall result old new
-            (λ done. MatchBool done (HoldsNow old.tracks new.content after uses)
-            (HasNoRoomFor d sources.now × (new.content ≡ old.content)))
-            (Stopped old.tracks new.content d after uses) (λ m. false)) }
+        ensures call { CopiesFiles result (M.seen self.old) (M.seen self.new) kind name.now sources.now }
         // Too little room is reported first, also on a protected medium.
         ensures full { OfDisk (M.seen self.old) (λ d uses. AreCopied d sources.now → HasNoRoomFor d sources.now →
             IsOkAnd result (λ done. done ≡ false)) }
@@ -73,9 +62,8 @@ fn has_room(room: Room, bytes: u32) -> bool
 
 /// How many bytes the file in a slot has.
 fn bytes_of<M: Medium>(medium: &M, number: u8) -> Result<u32, Trouble>
-    ensures count { let now = M.seen medium.now in (d : Disk) (uses : ℕ → Use) →
-        HoldsNow now.tracks now.content d uses → CanBeCopied d number →
-        IsOkAnd result (λ n. n ≡ length (slot_bytes (file_at d number))) }
+    ensures count { OfDisk (M.seen medium.now) (λ d uses. CanBeCopied d number →
+        IsOkAnd result (λ n. n ≡ length (slot_bytes (file_at d number)))) }
     ensures never_26 { IfErr result (λ t. t.code ≢ 26) }
     ensures shown { IfErr result (ShowsGround (M.seen medium.now)) }
 {
@@ -88,9 +76,8 @@ fn bytes_of<M: Medium>(medium: &M, number: u8) -> Result<u32, Trouble>
 
 /// How many bytes the files in these slots have, or the greatest number that there is for it.
 fn byte_total<M: Medium>(medium: &M, sources: &[u8]) -> Result<u32, Trouble>
-    ensures total { let now = M.seen medium.now in (d : Disk) (uses : ℕ → Use) →
-        HoldsNow now.tracks now.content d uses → AreCopied d sources.now →
-        IsOkAnd result (λ n. n ≡ min (length (joined d sources.now)) 4294967295) }
+    ensures total { OfDisk (M.seen medium.now) (λ d uses. AreCopied d sources.now →
+        IsOkAnd result (λ n. n ≡ min (length (joined d sources.now)) 4294967295)) }
     ensures never_26 { IfErr result (λ t. t.code ≢ 26) }
     ensures shown { IfErr result (ShowsGround (M.seen medium.now)) }
 {
@@ -121,13 +108,7 @@ fn make<M: Medium>(
     sources: &[u8],
 ) -> Result<(), Trouble>
     requires { length name.now ≤ 16 }
-    ensures made { let old = M.seen medium.old in let new = M.seen medium.new in
-        (d : Disk) (uses : ℕ → Use) (ch : ℕ) (h : HoldsNow old.tracks old.content d uses) → uses ch ≡ Idle →
-        kind ≢ Del → is_same_type Rel kind ≡ false → AreCopied d sources.now → has_slot d ≡ true →
-        copy_blocks d sources.now ≤ d.free →
-        MatchResult result (λ x. Reached old.tracks old.content h.layout new.content
-        (with_copy d kind (before_filler name.now) sources.now) uses)
-        (IsCopyCut old new old.content h.layout d uses) }
+    ensures made { MakesCopy result (M.seen medium.old) (M.seen medium.new) kind name.now sources.now }
     ensures only { OnlyOnDisk result (M.seen medium.old) (M.seen medium.new) }
 {
     let (number, mut chain) = begin(medium)?;
@@ -137,12 +118,8 @@ fn make<M: Medium>(
 
 /// Finds an empty slot, for which the directory may grow, and claims a first block.
 fn begin<M: Medium>(medium: &mut M) -> Result<(u8, ChainWriter), Trouble>
-    ensures begun { let old = M.seen medium.old in let new = M.seen medium.new in
-        OfVacant old (λ d uses ch h. 1 ≤ d.free → MatchResult result (λ r. (empty_from 0 (grown d).slots ≡ Some r.0) ×
-        Making old.tracks old.content h.layout d uses ch new.content r.1 [] Idle)
-        (IsCopyCut old new old.content h.layout d uses)) }
-    ensures tracks { let old = M.seen medium.old in
-        IfOk result (λ r. (r.1.tracks ≡ geometry_of old.tracks old.content) × (r.1.tracks ≤ old.tracks)) }
+    ensures begun { BeginsCopy result (M.seen medium.old) (M.seen medium.new) }
+    ensures tracks { IfOk result (λ r. (r.1.tracks ≡ seen_tracks (M.seen medium.old)) × (r.1.tracks ≤ (M.seen medium.old).tracks)) }
     ensures only { OnlyOnDisk result (M.seen medium.old) (M.seen medium.new) }
 {
     let geometry = cbm_bam::geometry(medium);
@@ -158,11 +135,7 @@ fn begin<M: Medium>(medium: &mut M) -> Result<(u8, ChainWriter), Trouble>
 /// Puts a byte into the copy.
 fn put_byte<M: Medium>(medium: &mut M, chain: &mut ChainWriter, byte: u8) -> Result<(), Trouble>
     requires { chain.old.tracks ≤ (M.seen medium.old).tracks }
-    ensures put { let old = M.seen medium.old in let new = M.seen medium.new in
-        (c : Content) (l : Layout) (d : Disk) (uses : ℕ → Use) (ch : ℕ) (bytes : List ℕ) (source : Use) →
-        Making old.tracks c l d uses ch old.content chain.old bytes source →
-        blocks_of (length (bytes ++ byte ∷ [])) ≤ d.free →
-        Makes result old new c l d uses ch chain.new (bytes ++ byte ∷ []) source }
+    ensures put { CopiesByte result (M.seen medium.old) (M.seen medium.new) chain.old chain.new byte }
     ensures tracks { chain.new.tracks ≡ chain.old.tracks }
     ensures only { OnlyContent chain.old.tracks result (M.seen medium.old) (M.seen medium.new) }
 {
@@ -183,11 +156,7 @@ fn put_next<M: Medium>(
 ) -> Result<(), Trouble>
     requires chain { chain.old.tracks ≤ (M.seen medium.old).tracks }
     requires reader { reader.old.tracks ≤ (M.seen medium.old).tracks }
-    ensures put { let old = M.seen medium.old in let new = M.seen medium.new in
-        (c : Content) (l : Layout) (d : Disk) (uses : ℕ → Use) (ch number byte : ℕ) (bytes left : List ℕ) →
-        Making old.tracks c l d uses ch old.content chain.old bytes (Reads number reader.old (byte ∷ left)) →
-        IsSettled reader.old → blocks_of (length (bytes ++ byte ∷ [])) ≤ d.free →
-        Makes result old new c l d uses ch chain.new (bytes ++ byte ∷ []) (Reads number reader.new left) }
+    ensures put { CopiesNext result (M.seen medium.old) (M.seen medium.new) chain.old chain.new reader.old reader.new }
     ensures settled { IsSettled reader.old → IsSettled reader.new }
     ensures tracks { (chain.new.tracks ≡ chain.old.tracks) × (reader.new.tracks ≡ reader.old.tracks) }
     ensures only { OnlyContent chain.old.tracks result (M.seen medium.old) (M.seen medium.new) }
@@ -208,11 +177,7 @@ fn put_read<M: Medium>(
 ) -> Result<(), Trouble>
     requires chain { chain.old.tracks ≤ (M.seen medium.old).tracks }
     requires reader { reader.old.tracks ≤ (M.seen medium.old).tracks }
-    ensures put { let old = M.seen medium.old in let new = M.seen medium.new in
-        (c : Content) (l : Layout) (d : Disk) (uses : ℕ → Use) (ch number : ℕ) (bytes left : List ℕ) →
-        Making old.tracks c l d uses ch old.content chain.old bytes (Reads number reader.old left) →
-        IsSettled reader.old → count ≡ length left → blocks_of (length (bytes ++ left)) ≤ d.free →
-        Makes result old new c l d uses ch chain.new (bytes ++ left) Idle }
+    ensures put { CopiesRest result (M.seen medium.old) (M.seen medium.new) chain.old chain.new reader.old count }
     ensures tracks { chain.new.tracks ≡ chain.old.tracks }
     ensures only { OnlyContent chain.old.tracks result (M.seen medium.old) (M.seen medium.new) }
 {
@@ -225,9 +190,8 @@ fn put_read<M: Medium>(
 /// Puts the bytes of the file in a slot.
 fn put_file<M: Medium>(medium: &mut M, chain: &mut ChainWriter, number: u8) -> Result<(), Trouble>
     requires { chain.old.tracks ≤ (M.seen medium.old).tracks }
-    ensures put { let old = M.seen medium.old in let new = M.seen medium.new in
-        OfMaking old chain.old (λ c l d uses ch bytes. let all = bytes ++ slot_bytes (file_at d number) in
-        CanBeCopied d number → blocks_of (length all) ≤ d.free → Makes result old new c l d uses ch chain.new all Idle) }
+    ensures put { CopiesOf result (M.seen medium.old) (M.seen medium.new) chain.old chain.new
+        (λ d. CanBeCopied d number) (λ d. slot_bytes (file_at d number)) }
     ensures tracks { chain.new.tracks ≡ chain.old.tracks }
     ensures only { OnlyContent chain.old.tracks result (M.seen medium.old) (M.seen medium.new) }
 {
@@ -247,9 +211,8 @@ fn put_files<M: Medium>(
     sources: &[u8],
 ) -> Result<(), Trouble>
     requires { chain.old.tracks ≤ (M.seen medium.old).tracks }
-    ensures put { let old = M.seen medium.old in let new = M.seen medium.new in
-        OfMaking old chain.old (λ c l d uses ch bytes. let all = bytes ++ joined d sources.now in
-        AreCopied d sources.now → blocks_of (length all) ≤ d.free → Makes result old new c l d uses ch chain.new all Idle) }
+    ensures put { CopiesOf result (M.seen medium.old) (M.seen medium.new) chain.old chain.new
+        (λ d. AreCopied d sources.now) (λ d. joined d sources.now) }
     ensures tracks { chain.new.tracks ≡ chain.old.tracks }
     ensures only { OnlyContent chain.old.tracks result (M.seen medium.old) (M.seen medium.new) }
 {
@@ -269,12 +232,7 @@ fn enter<M: Medium>(
 ) -> Result<(), Trouble>
     requires chain { chain.now.tracks ≤ (M.seen medium.old).tracks }
     requires name { length name.now ≤ 16 }
-    ensures entered { let old = M.seen medium.old in let new = M.seen medium.new in
-        OfMaking old chain.now (λ c l d uses ch bytes. uses ch ≡ Idle →
-        empty_from 0 (grown d).slots ≡ Some number → kind ≢ Del → is_same_type Rel kind ≡ false →
-        MatchResult result (λ x. Reached old.tracks c l new.content (with_file d (closed_file kind
-        (before_filler name.now) (blocks_of (length bytes)) (Bytes bytes)) (blocks_of (length bytes))) uses)
-        (IsCopyCut old new c l d uses)) }
+    ensures entered { EntersCopy result (M.seen medium.old) (M.seen medium.new) chain.now kind name.now number }
     ensures only { OnlyContent chain.now.tracks result (M.seen medium.old) (M.seen medium.new) }
 {
     chain.finish(medium)?;

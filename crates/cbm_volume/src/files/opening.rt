@@ -1,13 +1,8 @@
 // OPEN of a new file for writing.
 
-ghost use Rattle.std.specs.Prelude.{◌≡◌, ◌≢◌, ◌≤◌, [], false, length, IfOk, IfSome, MatchOption, ℕ};
-ghost use Rattle.cbm_file.specs.declared.file_type.FileType.TheVariants.{Del, Rel};
-ghost use Rattle.cbm_file.specs.Types.{is_same_type};
-ghost use Rattle.cbm_file.specs.Padding.{before_filler};
-ghost use Rattle.cbm_file.specs.Changes.{with_file, unclosed, new_slot};
-ghost use Rattle.cbm_volume.specs.Writers.{Idle, Stopped};
-ghost use Rattle.cbm_volume.specs.Opens.{BeginsFile, HasNoPlace};
-ghost use Rattle.cbm_volume.specs.Calls.{OnlyOnDisk, OfDisk, IsCall};
+ghost use Rattle.std.specs.Prelude.{◌≤◌, length, IfOk, IfSome};
+ghost use Rattle.cbm_volume.specs.Beginning.{BeginsNewFile};
+ghost use Rattle.cbm_volume.specs.Calls.{OnlyOnDisk, IsNoneSame};
 
 use crate::files::filling::FileWriter;
 use crate::volume::Volume;
@@ -28,16 +23,9 @@ impl<M: Medium> Volume<M> {
         name: &[u8],
     ) -> Result<Option<FileWriter>, Trouble>
         requires { length name.now ≤ 16 }
-        ensures call { let old = M.seen self.old in let new = M.seen self.new in
-            OfDisk old (λ d uses. let after = with_file d (unclosed kind (before_filler name.now)) 1 in IsCall result old new
-            (λ o. (ch : ℕ) → uses ch ≡ Idle → kind ≢ Del → is_same_type Rel kind ≡ false →
-            MatchOption o (HasNoPlace d × (new.content ≡ old.content))
-            (λ w. BeginsFile old.tracks new.content after uses ch (new_slot d) false [] 1 w))
-            (kind ≢ Del → is_same_type Rel kind ≡ false → Stopped old.tracks new.content d after uses) (λ m. false)) }
+        ensures call { BeginsNewFile result (M.seen self.old) (M.seen self.new) kind name.now }
         ensures tracks { IfOk result (λ o. IfSome o (λ w. w.chain.tracks ≤ (M.seen self.old).tracks)) }
-        // None says that nothing has changed, whatever the medium holds.
-        ensures kept { IfOk result
-            (λ o. MatchOption o ((M.seen self.new).content ≡ (M.seen self.old).content) (λ w. Unit {0})) }
+        ensures kept { IsNoneSame result (M.seen self.old) (M.seen self.new) }
         ensures only { OnlyOnDisk result (M.seen self.old) (M.seen self.new) }
     {
         let geometry = self.geometry();

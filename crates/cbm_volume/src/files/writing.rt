@@ -1,11 +1,9 @@
 // Files that are being written.
 
-ghost use Rattle.std.specs.Prelude.{◌≡◌, ◌≤◌, ◌==◌, length, true, false};
-ghost use Rattle.std.specs.Prelude.{MatchBool};
+ghost use Rattle.std.specs.Prelude.{◌≡◌, ◌≤◌, ◌==◌, length};
 ghost use Rattle.cbm_medium.specs.Seen.{OnlyContent};
-ghost use Rattle.cbm_file.specs.Changes.{with_finished, with_replaced};
-ghost use Rattle.cbm_volume.specs.Writers.{Idle, with_use, IsStored, IsFullDisk, Stopped};
-ghost use Rattle.cbm_volume.specs.Calls.{OnlyOfWriter, OfWriter, IsCall, IsChange};
+ghost use Rattle.cbm_volume.specs.Filled.{StoresByte, FinishesWriting, FinishesReplacing};
+ghost use Rattle.cbm_volume.specs.Calls.{OnlyOfWriter, OfWriter};
 
 use crate::files::filling::FileWriter;
 use crate::volume::Volume;
@@ -20,11 +18,7 @@ impl<M: Medium> Volume<M> {
     /// medium is protected (26), or failed by itself.
     pub fn store(&mut self, writer: &mut FileWriter, byte: u8) -> Result<bool, Trouble>
         requires { writer.old.chain.tracks ≤ (M.seen self.old).tracks }
-        ensures call { let old = M.seen self.old in let new = M.seen self.new in
-            OfWriter old writer.old (λ d uses ch bytes blocks. IsCall result old new
-            (λ done. MatchBool done (IsStored old.tracks new.content d uses ch writer.new bytes blocks byte)
-            (IsFullDisk old.content new.content d writer.old writer.new bytes blocks))
-            (Stopped old.tracks new.content d d (with_use uses ch Idle)) (λ m. false)) }
+        ensures call { StoresByte result (M.seen self.old) (M.seen self.new) writer.old writer.new byte }
         ensures writer { (writer.new.slot ≡ writer.old.slot) × (writer.new.replaces ≡ writer.old.replaces) ×
             (writer.new.chain.tracks ≡ writer.old.chain.tracks) }
         ensures only { OnlyContent writer.old.chain.tracks result (M.seen self.old) (M.seen self.new) }
@@ -48,9 +42,7 @@ impl<M: Medium> Volume<M> {
     /// is protected (26), or failed by itself.
     pub fn finish(&mut self, writer: &FileWriter) -> Result<(), Trouble>
         requires { writer.now.chain.tracks ≤ (M.seen self.old).tracks }
-        ensures call { OfWriter (M.seen self.old) writer.now (λ d uses ch bytes blocks.
-            IsChange result (M.seen self.old) (M.seen self.new) d (with_finished d writer.now.slot bytes blocks)
-            (with_use uses ch Idle) (λ m. m == writer.now.slot)) }
+        ensures call { FinishesWriting result (M.seen self.old) (M.seen self.new) writer.now }
         ensures only { OnlyOfWriter writer.now result (M.seen self.old) (M.seen self.new) }
     {
         let geometry = self.geometry();
@@ -67,9 +59,7 @@ impl<M: Medium> Volume<M> {
     /// says that the medium is protected (26), or failed by itself.
     pub fn finish_replacement(&mut self, writer: &FileWriter) -> Result<(), Trouble>
         requires { writer.now.chain.tracks ≤ (M.seen self.old).tracks }
-        ensures call { OfWriter (M.seen self.old) writer.now (λ d uses ch bytes blocks. writer.now.replaces ≡ true →
-            IsChange result (M.seen self.old) (M.seen self.new) d (with_replaced d writer.now.slot bytes blocks)
-            (with_use uses ch Idle) (λ m. m == writer.now.slot)) }
+        ensures call { FinishesReplacing result (M.seen self.old) (M.seen self.new) writer.now }
         ensures only { OnlyOfWriter writer.now result (M.seen self.old) (M.seen self.new) }
     {
         let geometry = self.geometry();

@@ -1,9 +1,9 @@
 // A relative file begins to grow: its side sectors are in the drive's form, and its last data block is full.
 
-ghost use Rattle.std.specs.Prelude.{◌≡◌, ◌≤◌, ◌*◌, ◌-◌, ℕ, IsOk, IfOk, MatchResult};
+ghost use Rattle.std.specs.Prelude.{◌≡◌, ◌≤◌, ◌*◌, ℕ, IfOk};
 ghost use Rattle.cbm_medium.specs.Seen.{OnlyContent};
-ghost use Rattle.cbm_file.specs.Records.{sides_for};
-ghost use Rattle.cbm_volume.specs.Growing.{HasGrown, IsReadyToGrow, IsGrowthStopped, OfSized};
+ghost use Rattle.cbm_volume.specs.GrowthBegins.{BeginsListed, BeginsGrowth, KeepsReady};
+ghost use Rattle.cbm_volume.specs.Growing.{OfSized};
 
 use crate::records::adding_sides::add_sides;
 use crate::records::growing_blocks::Reach;
@@ -26,13 +26,9 @@ fn begin_listed<M: Medium>(
     requires length { (1 ≤ file.width) × (file.width ≤ 254) }
     requires some { 1 ≤ blocks }
     requires sides { sides ≤ 6 }
-    ensures begun { let old = M.seen medium.old in let new = M.seen medium.new in
-        (n : ℕ) → OfSized geometry old file n blocks sides (λ d uses w rs o. blocks ≤ 120 * sides → MatchResult result
-        (λ at. HasGrown old.tracks old.content d uses n w blocks sides rs o file new.content blocks sides at)
-        (IsGrowthStopped old new old.content o.holds.layout d uses n w rs)) }
+    ensures begun { BeginsListed result (M.seen medium.old) (M.seen medium.new) geometry file blocks sides }
     ensures ready { let old = M.seen medium.old in (n : ℕ) → OfSized geometry old file n blocks sides (λ d uses w rs o.
-        let l = o.holds.layout in IsReadyToGrow old.content (l.files n).sides (l.files n).data_blocks blocks →
-        IsOk result × ((M.seen medium.new).content ≡ old.content)) }
+        KeepsReady result old (M.seen medium.new) o.holds.layout n blocks) }
     ensures bound { IfOk result (λ at. at.track ≤ geometry) }
     ensures only { OnlyContent geometry result (M.seen medium.old) (M.seen medium.new) }
 {
@@ -54,16 +50,9 @@ pub fn begin_growth<M: Medium>(
     requires length { (1 ≤ file.width) × (file.width ≤ 254) }
     requires blocks { (1 ≤ blocks) × (blocks ≤ 720) }
     requires sides { sides ≤ 6 }
-    ensures begun { let old = M.seen medium.old in let new = M.seen medium.new in
-        (n : ℕ) → OfSized geometry old file n blocks sides (λ d uses w rs o. sides_for sides blocks - sides ≤ d.free →
-        MatchResult result (λ x. (x.sides ≡ sides_for sides blocks) ×
-        HasGrown old.tracks old.content d uses n w blocks sides rs o file new.content blocks x.sides x.last)
-        (IsGrowthStopped old new old.content o.holds.layout d uses n w rs)) }
-    // Nothing is written to a file that this drive wrote.
+    ensures begun { BeginsGrowth result (M.seen medium.old) (M.seen medium.new) geometry file blocks sides }
     ensures ready { let old = M.seen medium.old in (n : ℕ) → OfSized geometry old file n blocks sides (λ d uses w rs o.
-        blocks ≤ 120 * sides → let l = o.holds.layout in
-        IsReadyToGrow old.content (l.files n).sides (l.files n).data_blocks blocks →
-        IsOk result × ((M.seen medium.new).content ≡ old.content)) }
+        blocks ≤ 120 * sides → KeepsReady result old (M.seen medium.new) o.holds.layout n blocks) }
     ensures bound { IfOk result (λ x. (x.blocks ≡ blocks) × (x.sides ≤ 6) × (x.last.track ≤ geometry)) }
     ensures only { OnlyContent geometry result (M.seen medium.old) (M.seen medium.new) }
 {

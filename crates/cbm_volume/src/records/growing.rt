@@ -3,15 +3,15 @@
 ghost use Rattle.std.specs.Prelude.{◌≡◌, ◌≢◌, ◌≤◌, ◌<◌, ◌+◌, ◌-◌, ◌==◌, ◌^◌, ◌⊎◌, ℕ, List, true, false, None, Some, Ok, IfErr, IfOk, IfSome, IsOkAnd, MatchOption, MatchResult};
 ghost use Rattle.cbm_medium.specs.Seen.{ShowsGround};
 ghost use Rattle.cbm_file.specs.Files.{Disk};
-ghost use Rattle.cbm_file.specs.Records.{blocks_for, sides_for};
+ghost use Rattle.cbm_file.specs.Records.{blocks_for};
 ghost use Rattle.cbm_bam.specs.Map.{geometry_of};
 ghost use Rattle.cbm_directory.specs.Entries.{first_block, first_side};
 ghost use Rattle.cbm_directory.specs.Slots.{directory_of};
-ghost use Rattle.cbm_volume.specs.Growth.{IsTooLarge, IsGrowth};
-ghost use Rattle.cbm_volume.specs.Growing.{IsGrowthStopped, IsGrownTo, IsPlanned, is_too_large, OfFile};
+ghost use Rattle.cbm_volume.specs.Growth.{IsGrowth};
+ghost use Rattle.cbm_volume.specs.GrowthPlans.{PlansGrowth, GrowsFile};
+ghost use Rattle.cbm_volume.specs.Growing.{is_too_large};
+ghost use Rattle.cbm_volume.specs.RecordWrites.{OfOpen};
 ghost use Rattle.cbm_volume.specs.RecordFaults.{IsMetInFile};
-ghost use Rattle.cbm_volume.specs.RecordWrites.{HasRecordsOpen, OfOpen};
-ghost use Rattle.cbm_volume.specs.Writers.{Use};
 ghost use Rattle.cbm_volume.specs.Calls.{OnlyOnDisk, KeepsProtected, IsSameOn};
 
 use crate::records::beginning_growth::begin_growth;
@@ -70,11 +70,7 @@ pub fn plan_growth<M: Medium>(
     free: u16,
 ) -> Result<Option<GrowthPlan>, Trouble>
     requires number { number < 2 ^ 24 }
-    ensures planned { let now = M.seen medium.now in
-        (d : Disk) (uses : ℕ → Use) (w b s : ℕ) (rs : List (List ℕ)) →
-        (o : HasRecordsOpen now.tracks now.content d uses slot w b s rs) → free ≡ d.free → IsOkAnd result
-        (λ x. MatchOption x (IsTooLarge d w b s number)
-        (λ p. IsPlanned now.tracks now.content d uses slot w b s rs o number p.file p.extent.blocks p.extent.sides p.blocks)) }
+    ensures planned { PlansGrowth result (M.seen medium.now) slot number free }
     ensures bound { IfOk result (λ x. IfSome x (λ p. (1 ≤ p.file.width) × (p.file.width ≤ 254) ×
         (1 ≤ p.extent.blocks) × (p.extent.blocks ≤ p.blocks) × (p.blocks ≤ 720) × (p.extent.sides ≤ 6))) }
     // The directory breaks off before the slot, or a link of the file meets the fault.
@@ -117,11 +113,7 @@ pub fn grow_to<M: Medium>(
     requires length { (1 ≤ file.width) × (file.width ≤ 254) }
     requires blocks { (1 ≤ extent.blocks) × (extent.blocks ≤ blocks) × (blocks ≤ 720) }
     requires sides { extent.sides ≤ 6 }
-    ensures grown { let old = M.seen medium.old in let new = M.seen medium.new in
-        OfFile old file slot extent.blocks extent.sides (λ d uses w rs o.
-        blocks + sides_for extent.sides blocks - (extent.blocks + extent.sides) ≤ d.free → MatchResult result
-        (λ x. IsGrownTo old.tracks old.content new.content o.holds.layout d uses slot w rs extent.blocks extent.sides blocks)
-        (IsGrowthStopped old new old.content o.holds.layout d uses slot w rs)) }
+    ensures grown { GrowsFile result (M.seen medium.old) (M.seen medium.new) slot file extent.blocks extent.sides blocks }
     ensures only { OnlyOnDisk result (M.seen medium.old) (M.seen medium.new) }
 {
     let geometry = cbm_bam::geometry(medium);

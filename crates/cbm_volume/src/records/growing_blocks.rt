@@ -3,8 +3,7 @@
 ghost use Rattle.std.specs.Prelude.{◌≡◌, ◌≤◌, ◌<◌, ◌+◌, ◌-◌, ◌*◌, ℕ, IfOk};
 ghost use Rattle.cbm_medium.specs.Place.{Place};
 ghost use Rattle.cbm_medium.specs.Seen.{OnlyContent};
-ghost use Rattle.cbm_file.specs.Records.{sides_for};
-ghost use Rattle.cbm_volume.specs.GrowthSteps.{GrowthGoes, NamesSide, NameSides, OfEmpty, OfSides, OfLonger, OfGrown, OfSide, OfGrowable, OfGoal, OfReached, OfSideable};
+ghost use Rattle.cbm_volume.specs.GrowthSteps.{GrowthGoes, GrowsTo, KeepsSide, KeepsEmpty, NamesSide, NameSides, OfEmpty, OfSides, OfLonger, OfGrown, OfSide, OfGrowable, OfSideable};
 
 use crate::records::making::miscounted;
 use cbm_medium::{Address, Geometry, Medium, Trouble};
@@ -87,16 +86,13 @@ pub fn copy_side<M: Medium>(
 ) -> Result<(), Trouble>
     requires tracks { geometry ≤ (M.seen medium.old).tracks }
     requires number { (number < sides) × (sides < 6) }
-    ensures copied { (b1 : ℕ) (q : Place) → 0 < number → GrowthGoes result (M.seen medium.old) (M.seen medium.new) geometry
-        (OfSide file b1 sides q side) (λ x. OfSide file b1 sides q side) }
+    ensures copied { (b1 : ℕ) (q : Place) → 0 < number → KeepsSide result (M.seen medium.old) (M.seen medium.new) geometry file b1 sides q side }
     ensures added { (b1 : ℕ) (q : Place) → number ≡ 0 → b1 ≡ 120 * sides → GrowthGoes result (M.seen medium.old) (M.seen medium.new) geometry
         (OfSide file b1 sides q side) (λ x. OfGrown file (b1 + 1) (sides + 1) q) }
     // So it is where the new side sector lists no block.
-    ensures copied_empty { 0 < number → GrowthGoes result (M.seen medium.old) (M.seen medium.new) geometry
-        (OfEmpty file sides side) (λ x. OfEmpty file sides side) }
+    ensures copied_empty { 0 < number → KeepsEmpty result (M.seen medium.old) (M.seen medium.new) geometry file sides side }
     ensures added_empty { number ≡ 0 → GrowthGoes result (M.seen medium.old) (M.seen medium.new) geometry
         (OfEmpty file sides side) (λ x. OfSides file (sides + 1)) }
-    // The side sector of that number names the new one, and all else in it stays.
     ensures linked { NamesSide result (M.seen medium.old) (M.seen medium.new) geometry file number sides side }
     ensures only { OnlyContent geometry result (M.seen medium.old) (M.seen medium.new) }
 {
@@ -113,11 +109,8 @@ pub fn copy_sides<M: Medium>(
 ) -> Result<(), Trouble>
     requires tracks { geometry ≤ (M.seen medium.old).tracks }
     requires sides { sides < 6 }
-    ensures copied { (b1 : ℕ) (q : Place) → GrowthGoes result (M.seen medium.old) (M.seen medium.new) geometry
-        (OfSide file b1 sides q side) (λ x. OfSide file b1 sides q side) }
-    ensures copied_empty { GrowthGoes result (M.seen medium.old) (M.seen medium.new) geometry
-        (OfEmpty file sides side) (λ x. OfEmpty file sides side) }
-    // Each of them names the new one then, after those that it named.
+    ensures copied { (b1 : ℕ) (q : Place) → KeepsSide result (M.seen medium.old) (M.seen medium.new) geometry file b1 sides q side }
+    ensures copied_empty { KeepsEmpty result (M.seen medium.old) (M.seen medium.new) geometry file sides side }
     ensures linked { NameSides result (M.seen medium.old) (M.seen medium.new) geometry file sides side }
     ensures only { OnlyContent geometry result (M.seen medium.old) (M.seen medium.new) }
 {
@@ -167,9 +160,7 @@ pub fn grow_once<M: Medium>(
     requires length { (1 ≤ file.width) × (file.width ≤ 254) }
     requires blocks { (1 ≤ reach.blocks) × (reach.blocks < 720) }
     requires sides { reach.sides ≤ 6 }
-    ensures grown { let goal = reach.blocks + 1 in
-        GrowthGoes result (M.seen medium.old) (M.seen medium.new) geometry (OfGoal file reach.blocks reach.sides reach.last goal)
-        (λ x. OfReached file goal (sides_for reach.sides goal) x.sides x.last) }
+    ensures grown { GrowsTo result (M.seen medium.old) (M.seen medium.new) geometry file reach (reach.blocks + 1) }
     ensures bound { IfOk result
         (λ x. (x.blocks ≡ reach.blocks + 1) × (x.last.track ≤ geometry) × (x.sides ≤ 6)) }
     ensures only { OnlyContent geometry result (M.seen medium.old) (M.seen medium.new) }
@@ -205,9 +196,7 @@ pub fn grow_blocks<M: Medium>(
     requires length { (1 ≤ file.width) × (file.width ≤ 254) }
     requires blocks { (1 ≤ from.blocks) × (from.blocks + count ≤ 720) }
     requires sides { from.sides ≤ 6 }
-    ensures grown { let goal = from.blocks + count in
-        GrowthGoes result (M.seen medium.old) (M.seen medium.new) geometry (OfGoal file from.blocks from.sides from.last goal)
-        (λ x. OfReached file goal (sides_for from.sides goal) x.sides x.last) }
+    ensures grown { GrowsTo result (M.seen medium.old) (M.seen medium.new) geometry file from (from.blocks + count) }
     ensures bound { IfOk result (λ x. (x.blocks ≡ from.blocks + count) × (x.sides ≤ 6)) }
     ensures only { OnlyContent geometry result (M.seen medium.old) (M.seen medium.new) }
 {

@@ -1,11 +1,12 @@
 // A relative file that grows: its last data block is filled up with fresh records.
 
-ghost use Rattle.std.specs.Prelude.{◌≡◌, ◌≤◌, ◌*◌, ℕ, length, IsOk, IfOk, MatchResult};
+ghost use Rattle.std.specs.Prelude.{◌≡◌, ◌≤◌, ◌*◌, ℕ, length, IfOk};
 ghost use Rattle.cbm_medium.specs.Place.{Has};
 ghost use Rattle.cbm_medium.specs.Seen.{OnlyContent};
 ghost use Rattle.cbm_chain.specs.Data.{chain_bytes};
-ghost use Rattle.cbm_volume.specs.Growth.{IsGrowthCut};
-ghost use Rattle.cbm_volume.specs.Growing.{IsListed, LeavesAside, HasGrown, OfSized};
+ghost use Rattle.cbm_volume.specs.Calls.{IsLeftAlone};
+ghost use Rattle.cbm_volume.specs.GrowthBegins.{FillsLast};
+ghost use Rattle.cbm_volume.specs.Growing.{LeavesAside, OfSized};
 
 use cbm_medium::{Address, Geometry, Medium, Trouble};
 use cbm_relfile::{Relative, fill_up};
@@ -22,14 +23,9 @@ pub(crate) fn fill_last<M: Medium>(
     requires tracks { geometry ≤ (M.seen medium.old).tracks }
     requires length { (1 ≤ file.width) × (file.width ≤ 254) }
     requires some { 1 ≤ blocks }
-    ensures filled { let old = M.seen medium.old in let new = M.seen medium.new in
-        (n s : ℕ) → OfSized geometry old file n blocks s (λ d uses w rs o. let l = o.holds.layout in
-        IsListed old.content (l.files n).sides (l.files n).data_blocks → MatchResult result
-        (λ at. HasGrown old.tracks old.content d uses n w blocks s rs o file new.content blocks s at)
-        (IsGrowthCut old new d uses n w rs)) }
+    ensures filled { FillsLast result (M.seen medium.old) (M.seen medium.new) geometry file blocks }
     ensures full { let old = M.seen medium.old in (n s : ℕ) → OfSized geometry old file n blocks s (λ d uses w rs o.
-        length (chain_bytes old.content (o.holds.layout.files n).data_blocks) ≡ 254 * blocks →
-        IsOk result × ((M.seen medium.new).content ≡ old.content)) }
+        length (chain_bytes old.content (o.holds.layout.files n).data_blocks) ≡ 254 * blocks → IsLeftAlone result old (M.seen medium.new)) }
     // All but the file is as it was.
     ensures aside { let old = M.seen medium.old in (n s : ℕ) → OfSized geometry old file n blocks s (λ d uses w rs o.
         LeavesAside n old.content o.holds.layout (M.seen medium.new).content o.holds.layout) }

@@ -1,11 +1,11 @@
 // A relative file that grows: its side sectors are brought into the drive's form.
 
-ghost use Rattle.std.specs.Prelude.{◌≡◌, ◌≤◌, ◌*◌, ℕ, IsOk, MatchResult};
+ghost use Rattle.std.specs.Prelude.{◌≤◌, ℕ};
 ghost use Rattle.cbm_medium.specs.Seen.{OnlyContent};
 ghost use Rattle.cbm_relfile.specs.Relisting.{AreInForm};
-ghost use Rattle.cbm_volume.specs.Growing.{IsListed, OfSized};
-ghost use Rattle.cbm_volume.specs.Opens.{IsHindered};
-ghost use Rattle.cbm_volume.specs.Relists.{IsSameDisk};
+ghost use Rattle.cbm_volume.specs.Calls.{IsLeftAlone};
+ghost use Rattle.cbm_volume.specs.Growing.{OfSized};
+ghost use Rattle.cbm_volume.specs.Relists.{ListsAnew};
 
 use cbm_medium::{Geometry, Medium, Trouble};
 use cbm_relfile::Relative;
@@ -21,13 +21,9 @@ pub(crate) fn list_anew<M: Medium>(
 ) -> Result<(), Trouble>
     requires tracks { geometry ≤ (M.seen medium.old).tracks }
     requires sides { sides ≤ 6 }
-    ensures listed { let old = M.seen medium.old in let new = M.seen medium.new in
-        (n b : ℕ) → OfSized geometry old file n b sides (λ d uses w rs o. let l = o.holds.layout in
-        IsSameDisk old.tracks old.content new.content l d uses n × MatchResult result
-        (λ x. b ≤ 120 * sides → IsListed new.content (l.files n).sides (l.files n).data_blocks) (IsHindered old new)) }
+    ensures listed { ListsAnew result (M.seen medium.old) (M.seen medium.new) geometry file sides }
     ensures form { let old = M.seen medium.old in (n b : ℕ) → OfSized geometry old file n b sides (λ d uses w rs o.
-        let l = o.holds.layout in AreInForm old.content (l.files n).sides (l.files n).data_blocks →
-        IsOk result × ((M.seen medium.new).content ≡ old.content)) }
+        let l = o.holds.layout in AreInForm old.content (l.files n).sides (l.files n).data_blocks → IsLeftAlone result old (M.seen medium.new)) }
     ensures only { OnlyContent geometry result (M.seen medium.old) (M.seen medium.new) }
 {
     // Each sector that reads has 256 bytes.
