@@ -11,6 +11,7 @@ use Rattle.cbm_bam.specs.Map.{geometry_of}
 use Rattle.cbm_directory.specs.Entries.{first_directory}
 use Rattle.cbm_directory.specs.Slots.{directory_of, listed_from}
 use Rattle.cbm_volume.specs.NewDisks.{OnlyNew}
+use Rattle.cbm_volume.specs.RecordFaults.{IsMislisted}
 use Rattle.cbm_machine.specs.declared.status.Status.{Status}
 use Rattle.cbm_machine.specs.declared.code.Code.TheVariants.{WriteProtected}
 use Rattle.cbm_machine.specs.Codes.{code_number}
@@ -32,6 +33,11 @@ trouble_shown tracks s t (inr (inl e)) = listed_shown tracks s t e
 trouble_shown tracks s t (inr (inr (inl (entry, there, e)))) = cut_shown tracks s _ _ t e
 trouble_shown tracks s t (inr (inr (inr (inl (entry, there, m))))) = inl (inr m.code)
 trouble_shown tracks s t (inr (inr (inr (inr (entry, there, m))))) = met_shown tracks _ s t m
+
+-- why the records of an entry can't be opened
+pub opening_shown : (tracks : ℕ) (starts : Place → Type 0) (s : Seen) (e : List ℕ) (t : Trouble) → IsMetFrom tracks s.content starts t ⊎ IsMislisted tracks s.content e t → ShowsGround s t
+opening_shown tracks starts s e t (inl m) = met_shown tracks starts s t m
+opening_shown tracks starts s e t (inr m) = inl (inr m.code)
 
 -- why a record can't be read
 pub hidden_shown : (s : Seen) (t : Trouble) → HidesRecords s t → ShowsGround s t

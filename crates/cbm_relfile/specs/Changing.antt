@@ -47,11 +47,15 @@ abbrev pub IsHalfRewritten : Content → Content → Place → List ℕ → ℕ 
 IsHalfRewritten c c' p sector place bytes =
     (more : List ℕ) × (length (data_of sector) < place + length bytes) × (c (link sector) ≡ Ok more) × (place + length bytes ≤ 254 + length (data_of more)) × (c' ≡ front_written c p sector place bytes)
 
+-- A STRETCH IS WRITTEN IN PART: nothing of it, or its first block alone.
+abbrev pub IsRewrittenInPart : Content → Content → Place → List ℕ → ℕ → List ℕ → Type 0
+IsRewrittenInPart c c' p sector place bytes = (c' ≡ c) ⊎ IsHalfRewritten c c' p sector place bytes
+
 -- A WRITE OF A RECORD WAS REFUSED: nothing has changed, or of the record's two blocks the first is written.
 pub record IsChangeStopped (tracks : ℕ) (old new : Seen) (blocks : List Place) (w k p : ℕ) (bytes : List ℕ) (code : ℕ) : Type 0 where
   pub at : Place
   pub sector : List ℕ
   pub place : ℕ
   pub lies : LiesFrom old.content blocks w k at sector place
-  pub so_far : (new.content ≡ old.content) ⊎ IsHalfRewritten old.content new.content at sector place (with_bytes w (record_bytes w (chain_bytes old.content blocks) k) p bytes)
+  pub so_far : IsRewrittenInPart old.content new.content at sector place (with_bytes w (record_bytes w (chain_bytes old.content blocks) k) p bytes)
   pub cause : IsWriteRefused tracks old new code

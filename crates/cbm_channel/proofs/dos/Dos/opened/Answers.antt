@@ -3,7 +3,7 @@ use Rattle.std.specs.Prelude.{Some, false, true, Ok, replicate}
 use Rattle.std.proofs.lemmas.Result.{err_from_is_err_and}
 use Rattle.cbm_medium.specs.Place.{sector_count}
 use Rattle.cbm_channel.proofs.Elses.{else_nothing}
-use Rattle.cbm_medium.specs.Seen.{HasFailed}
+use Rattle.cbm_medium.specs.Seen.{HasFailed, ShowsGround}
 use Rattle.cbm_medium.specs.Met.{IsMetFrom}
 use Rattle.cbm_file.specs.Files.{Records, bytes_in, record_length_in, file_at}
 use Rattle.cbm_file.specs.Padding.{before_filler}
@@ -33,8 +33,8 @@ use Rattle.cbm_volume.proofs.held.RecordUses.{of_records}
 use Rattle.cbm_channel.proofs.Rest.{rest_itself, rest_none, rest_same, rest_seen, outside_held, begun_rest, begun_write, begun_replace, on_both, cut_sized, same_sized, made_rest, grown_total}
 use Rattle.cbm_channel.proofs.Spared.{append_stays}
 use Rattle.cbm_channel.proofs.dos.Dos.opened.Goals as goal
-use Rattle.cbm_channel.specs.TempGround.{ShowsGround}
-use Rattle.cbm_channel.proofs.GroundedReports.{cut_shown, opening_shown, trouble_shown}
+use Rattle.cbm_medium.proofs.Shown.{cut_shown}
+use Rattle.cbm_channel.proofs.GroundedReports.{opening_shown, trouble_shown}
 
 -- a listing
 pub returns-in_err-list-in-ReadListing-clause-opens : goal.returns-in_err-list-in-ReadListing-clause-opens
@@ -463,7 +463,7 @@ returns-in_err-open_records-in-OpenRecords-clause-medium g c =
     else_nothing c.from_residual-in_err-open_records-in-OpenRecords.result now now (λ i. now)
     (rw (p.1, p.2) (λ is. absurd (opening_never_26 (geometry_of volume.tracks volume.content) volume.content c.in-OpenRecords.found.entry c.in_err-open_records-in-OpenRecords.field-0.0
     (λ q. g.met.M.Medium.codes c.self.inside.volume q) c.in_err-open_records-in-OpenRecords.ensures.cause is)))
-    (rw (p.1, p.2) (subst (λ m. ShowsGround (g.M.Medium.seen m) c.in_err-open_records-in-OpenRecords.field-0.0) (ap (λ k. k.medium) c.self.view_is) (opening_shown _ volume _ c.in_err-open_records-in-OpenRecords.field-0.0 c.in_err-open_records-in-OpenRecords.ensures.cause)))
+    (rw (p.1, p.2) (subst (λ m. ShowsGround (g.M.Medium.seen m) c.in_err-open_records-in-OpenRecords.field-0.0) (ap (λ k. k.medium) c.self.view_is) (opening_shown _ _ volume _ c.in_err-open_records-in-OpenRecords.field-0.0 c.in_err-open_records-in-OpenRecords.ensures.cause)))
 
 -- ---- the rest of the disk
 
