@@ -1,11 +1,9 @@
 // A relative file grows until a record is there.
 
-ghost use Rattle.std.specs.Prelude.{◌≡◌, ◌≢◌, ◌≤◌, ◌<◌, ◌+◌, ◌-◌, ◌==◌, ◌^◌, ◌⊎◌, ℕ, List, true, false, None, Some, Ok, IfErr, IfOk, IfSome, IsOkAnd, MatchOption, MatchResult};
+ghost use Rattle.std.specs.Prelude.{◌≡◌, ◌≢◌, ◌≤◌, ◌<◌, ◌^◌, ◌⊎◌, true, false, None, Some, IfErr, IfOk, IfSome};
 ghost use Rattle.cbm_medium.specs.Seen.{ShowsGround};
-ghost use Rattle.cbm_file.specs.Files.{Disk};
 ghost use Rattle.cbm_file.specs.Records.{blocks_for};
 ghost use Rattle.cbm_bam.specs.Map.{geometry_of};
-ghost use Rattle.cbm_directory.specs.Entries.{first_block, first_side};
 ghost use Rattle.cbm_directory.specs.Slots.{directory_of};
 ghost use Rattle.cbm_volume.specs.Growth.{IsGrowth};
 ghost use Rattle.cbm_volume.specs.GrowthPlans.{PlansGrowth, GrowsFile};
