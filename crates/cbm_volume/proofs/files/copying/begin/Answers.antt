@@ -2,6 +2,8 @@ use Rattle.cbm_medium.specs.Seen.{Seen}
 use Rattle.cbm_volume.specs.Copies.{IsCopyCut}
 use Rattle.cbm_volume.proofs.copied.CopySteps.{handed}
 use Rattle.cbm_volume.proofs.copied.CopyEnds.{begin_cut, begin_place, begin_ready, claim_cut, claim_place, claim_made}
+use Rattle.std.proofs.Common.{rules}
+use Rattle.cbm_medium.proofs.Sequences.{readable_after}
 use Rattle.cbm_volume.proofs.files.copying.begin.Goals as goal
 
 pub returns-in_err-number-clause-begun : goal.returns-in_err-number-clause-begun
@@ -37,3 +39,18 @@ returns-clause-begun g c = λ d uses ch h idle some room.
     let mid : Seen = g.M.Medium.seen c.empty_slot.new.medium in
     claim_made old mid (g.M.Medium.seen c.begin.new.medium) c.geometry-geometry.result c.in-Some.number c.in_ok-chain.field-0 c.in-Some-2.chain d uses ch h idle
     (begin_ready old mid c.geometry-geometry.result c.in-Some.number c.in_ok-number.field-0 d uses h c.geometry-geometry.ensures.value c.in-Some.is c.in_ok-number.ensures.taken) c.geometry-geometry.ensures.value c.in-Some-2.is c.in_ok-chain.ensures.begun
+
+pub returns-clause-only : goal.returns-clause-only
+returns-clause-only g c = record {
+  tracks = (search rules);
+  protected = (search rules);
+  id = (search rules);
+  counted = (search rules);
+  once = (search rules);
+  uncounted = (search rules);
+  own = (search rules);
+  guarded = (search rules);
+  shown = (search rules);
+  beyond = (search rules);
+  readable = readable_after _ _ _ c.in_ok-number.ensures.only.readable c.in_ok-chain.ensures.only.readable;
+}

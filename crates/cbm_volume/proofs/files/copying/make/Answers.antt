@@ -1,4 +1,4 @@
-use Rattle.std.proofs.Common.{ℕ, [], length, sym, subst}
+use Rattle.std.proofs.Common.{ℕ, [], length, sym, subst, rules}
 use Rattle.cbm_medium.specs.Seen.{Seen}
 use Rattle.cbm_file.specs.Changes.{joined, with_copy}
 use Rattle.cbm_file.specs.Padding.{before_filler}
@@ -6,6 +6,7 @@ use Rattle.cbm_volume.specs.Copies.{IsCopyCut, Making}
 use Rattle.cbm_volume.specs.Writers.{Idle}
 use Rattle.cbm_volume.proofs.copied.CopySteps.{handed, cut_since}
 use Rattle.cbm_volume.proofs.copied.CopyEnds.{since_begun, one_block}
+use Rattle.cbm_medium.proofs.Sequences.{readable_after}
 use Rattle.cbm_volume.proofs.files.copying.make.Goals as goal
 
 pub returns-in_err-number-clause-made : goal.returns-in_err-number-clause-made
@@ -41,3 +42,33 @@ returns-clause-made g c = λ d uses ch h idle ne plain are some room.
     since_begun old mid new old.content h.layout d after uses c.enter.result only.tracks only.protected only.counted
     (since_begun mid two new old.content h.layout d after uses c.enter.result on.tracks on.protected on.counted
     (c.enter.ensures.entered old.content h.layout d uses ch bytes (subst (λ (n : ℕ). Making n old.content h.layout d uses ch two.content c.put_files.new.chain bytes Idle) (sym on.tracks) put) idle begun.0 ne plain))
+
+pub returns-in_err-put_files-clause-only : goal.returns-in_err-put_files-clause-only
+returns-in_err-put_files-clause-only g c = record {
+  tracks = (search rules);
+  protected = (search rules);
+  id = (search rules);
+  counted = (search rules);
+  once = (search rules);
+  uncounted = (search rules);
+  own = (search rules);
+  guarded = (search rules);
+  shown = (search rules);
+  beyond = (search rules);
+  readable = readable_after _ _ _ c.in_ok-number.ensures.only.readable c.in_err-put_files.ensures.only.readable;
+}
+
+pub returns-clause-only : goal.returns-clause-only
+returns-clause-only g c = record {
+  tracks = (search rules);
+  protected = (search rules);
+  id = (search rules);
+  counted = (search rules);
+  once = (search rules);
+  uncounted = (search rules);
+  own = (search rules);
+  guarded = (search rules);
+  shown = (search rules);
+  beyond = (search rules);
+  readable = readable_after _ _ _ c.in_ok-number.ensures.only.readable (readable_after _ _ _ c.in_ok-put_files.ensures.only.readable c.enter.ensures.only.readable);
+}

@@ -1,5 +1,5 @@
-use Rattle.std.proofs.Common.{ℕ, Ok, refl, subst, ◌∙◌}
-use Rattle.cbm_medium.proofs.Sequences.{nothing_yet, only_more}
+use Rattle.std.proofs.Common.{ℕ, Ok, refl, subst, ◌∙◌, rules}
+use Rattle.cbm_medium.proofs.Sequences.{nothing_yet, only_more, readable_after}
 use Rattle.cbm_medium.specs.Seen.{Seen, OnlyContent}
 use Rattle.cbm_volume.specs.Copies.{IsCopyCut}
 use Rattle.cbm_volume.proofs.copied.CopySteps.{handed, copied_first, copied_step, copied_cut, all_copied}
@@ -30,3 +30,18 @@ sources-preserved g c =
 pub returns-clause-put : goal.returns-clause-put
 returns-clause-put g c =
     all_copied (g.M.Medium.seen c.args.medium.now) (g.M.Medium.seen c.sources.medium) c.args.chain.now c.sources.chain c.args.sources.now c.sources.number-index c.sources-test.false c.sources.invariant.0
+
+pub returns-in_err-put_file-clause-only : goal.returns-in_err-put_file-clause-only
+returns-in_err-put_file-clause-only g c = record {
+  tracks = (search rules);
+  protected = (search rules);
+  id = (search rules);
+  counted = (search rules);
+  once = (search rules);
+  uncounted = (search rules);
+  own = (search rules);
+  guarded = (search rules);
+  shown = (search rules);
+  beyond = (search rules);
+  readable = readable_after _ _ _ c.sources.invariant.1.readable c.in_err-put_file.ensures.only.readable;
+}

@@ -1,8 +1,9 @@
-use Rattle.std.proofs.Common.{◌+◌, refl}
+use Rattle.std.proofs.Common.{◌+◌, refl, rules}
 use Rattle.cbm_medium.specs.Seen.{Seen}
 use Rattle.cbm_volume.specs.Growing.{IsGrowthStopped}
 use Rattle.cbm_volume.proofs.copied.CopySteps.{handed}
 use Rattle.cbm_volume.proofs.grown.SidesAnswers.{OfRoom, OfEmpty, OfSides, stop_then, both_then}
+use Rattle.cbm_medium.proofs.Sequences.{readable_after}
 use Rattle.cbm_volume.proofs.records.adding_sides.add_empty.Goals as goal
 
 -- it isn't claimed or written
@@ -34,3 +35,33 @@ returns-clause-added g c = λ c0 d uses n w b s rs o e h.
     (both_then c.copy_side.result one two new c.args.geometry (OfEmpty c.args.file c.args.sides c.in_ok-side.side) (OfEmpty c.args.file c.args.sides c.in_ok-side.side) (OfSides c.args.file (c.args.sides + 1))
     c.in_ok-copy_sides.ensures.only.tracks c.in_ok-copy_sides.ensures.only.protected c.in_ok-copy_sides.ensures.only.counted c.in_ok-copy_sides.ensures.copied_empty
     (c.copy_side.ensures.added_empty refl)) c0 d uses n w b s rs o e h
+
+pub returns-in_err-copy_sides-clause-only : goal.returns-in_err-copy_sides-clause-only
+returns-in_err-copy_sides-clause-only g c = record {
+  tracks = (search rules);
+  protected = (search rules);
+  id = (search rules);
+  counted = (search rules);
+  once = (search rules);
+  uncounted = (search rules);
+  own = (search rules);
+  guarded = (search rules);
+  shown = (search rules);
+  beyond = (search rules);
+  readable = readable_after _ _ _ c.in_ok-side.ensures.only.readable c.in_err-copy_sides.ensures.only.readable;
+}
+
+pub returns-clause-only : goal.returns-clause-only
+returns-clause-only g c = record {
+  tracks = (search rules);
+  protected = (search rules);
+  id = (search rules);
+  counted = (search rules);
+  once = (search rules);
+  uncounted = (search rules);
+  own = (search rules);
+  guarded = (search rules);
+  shown = (search rules);
+  beyond = (search rules);
+  readable = readable_after _ _ _ c.in_ok-side.ensures.only.readable (readable_after _ _ _ c.in_ok-copy_sides.ensures.only.readable c.copy_side.ensures.only.readable);
+}

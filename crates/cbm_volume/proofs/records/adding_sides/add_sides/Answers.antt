@@ -1,6 +1,6 @@
-use Rattle.std.proofs.Common.{◌≡◌, ℕ, ◌+◌, ◌-◌, ◌/◌, ◌≤◌, sym, subst, arith}
+use Rattle.std.proofs.Common.{◌≡◌, ℕ, ◌+◌, ◌-◌, ◌/◌, ◌≤◌, sym, subst, arith, rules}
 use Rattle.std.proofs.Math.Nat.{max-eq_left, max-eq_right}
-use Rattle.cbm_medium.proofs.Sequences.{nothing_yet, only_more}
+use Rattle.cbm_medium.proofs.Sequences.{nothing_yet, only_more, readable_after}
 use Rattle.cbm_medium.specs.Seen.{Seen}
 use Rattle.cbm_file.specs.Records.{sides_for}
 use Rattle.cbm_volume.specs.AddingSides.{HasSides}
@@ -58,3 +58,18 @@ returns-clause-added g c = λ c0 d uses n w b s rs o e h.
     let last : c.loop-number.number ≡ all = omega (arith, c.loop-number-test.false, c.loop-number.auto.number-end) in
     let done = c.loop-number.invariant.0 c0 d uses n w b s rs o e (h.0, subst (λ (m : ℕ). m - s ≤ d.free) size h.1) in
     (sym size, subst (λ (k : ℕ). HasSides old.tracks c0 d uses n w b s rs o c.args.file new.content k) last done.0)
+
+pub returns-in_err-add_empty-clause-only : goal.returns-in_err-add_empty-clause-only
+returns-in_err-add_empty-clause-only g c = record {
+  tracks = (search rules);
+  protected = (search rules);
+  id = (search rules);
+  counted = (search rules);
+  once = (search rules);
+  uncounted = (search rules);
+  own = (search rules);
+  guarded = (search rules);
+  shown = (search rules);
+  beyond = (search rules);
+  readable = readable_after _ _ _ c.loop-number.invariant.1.readable c.in_err-add_empty.ensures.only.readable;
+}

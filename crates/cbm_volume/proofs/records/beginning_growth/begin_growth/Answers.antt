@@ -1,4 +1,4 @@
-use Rattle.std.proofs.Common.{◌≡◌, ℕ, ◌*◌, ◌≤◌, sym, ap, ◌∙◌, subst, IsOk, Result, Ok, Err, arith}
+use Rattle.std.proofs.Common.{◌≡◌, ℕ, ◌*◌, ◌≤◌, sym, ap, ◌∙◌, subst, IsOk, Result, Ok, Err, arith, rules}
 use Rattle.cbm_medium.specs.Place.{Place}
 use Rattle.cbm_medium.specs.Content.{Content}
 use Rattle.cbm_medium.specs.declared.fault.Trouble.{Trouble}
@@ -10,6 +10,7 @@ use Rattle.cbm_volume.specs.RecordWrites.{HasRecordsOpen}
 use Rattle.cbm_volume.proofs.copied.CopySteps.{handed}
 use Rattle.cbm_volume.proofs.relative.Begun.{same_medium}
 use Rattle.cbm_volume.proofs.grown.GrowthBegun.{sides_begin, enough_sides, open_again, grown_since, stopped_since}
+use Rattle.cbm_medium.proofs.Sequences.{readable_after}
 use Rattle.cbm_volume.proofs.records.beginning_growth.begin_growth.Goals as goal
 
 -- a side sector isn't added
@@ -78,3 +79,33 @@ returns-clause-ready g c = λ n size d uses w rs o is all ready.
     c.in_ok-sides.ensures.only.tracks kept.1
     (subst (λ (k : ℕ). c.args.geometry ≡ geometry_of mid.tracks mid.content → (o1 : HasRecordsOpen mid.tracks mid.content d uses n w c.args.blocks k rs) → c.args.file ≡ record { first = first_block (entry_at mid.content o1.holds.layout.directory n); side = first_side (entry_at mid.content o1.holds.layout.directory n); width = w }
     → IsReadyToGrow mid.content (o1.holds.layout.files n).sides (o1.holds.layout.files n).data_blocks c.args.blocks → IsOk r × (new.content ≡ mid.content)) same (λ sized. c.in_ok-last.ensures.ready n sized d uses w rs)) size o is ready
+
+pub returns-in_err-last-clause-only : goal.returns-in_err-last-clause-only
+returns-in_err-last-clause-only g c = record {
+  tracks = (search rules);
+  protected = (search rules);
+  id = (search rules);
+  counted = (search rules);
+  once = (search rules);
+  uncounted = (search rules);
+  own = (search rules);
+  guarded = (search rules);
+  shown = (search rules);
+  beyond = (search rules);
+  readable = readable_after _ _ _ c.in_ok-sides.ensures.only.readable c.in_err-last.ensures.only.readable;
+}
+
+pub returns-clause-only : goal.returns-clause-only
+returns-clause-only g c = record {
+  tracks = (search rules);
+  protected = (search rules);
+  id = (search rules);
+  counted = (search rules);
+  once = (search rules);
+  uncounted = (search rules);
+  own = (search rules);
+  guarded = (search rules);
+  shown = (search rules);
+  beyond = (search rules);
+  readable = readable_after _ _ _ c.in_ok-sides.ensures.only.readable c.in_ok-last.ensures.only.readable;
+}

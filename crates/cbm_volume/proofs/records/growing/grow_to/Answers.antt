@@ -1,4 +1,4 @@
-use Rattle.std.proofs.Common.{◌≡◌, ◌≤◌, ◌+◌, ◌-◌, ℕ, sym, ap, subst, ◌∙◌, arith}
+use Rattle.std.proofs.Common.{◌≡◌, ◌≤◌, ◌+◌, ◌-◌, ℕ, sym, ap, subst, ◌∙◌, arith, rules}
 use Rattle.cbm_medium.specs.Seen.{Seen}
 use Rattle.cbm_file.specs.Records.{sides_for}
 use Rattle.cbm_bam.specs.Map.{geometry_of}
@@ -8,6 +8,7 @@ use Rattle.cbm_volume.proofs.grown.GrowingEnds.{told_ends}
 use Rattle.cbm_volume.proofs.grown.GrowingJoined.{BlocksBy}
 use Rattle.cbm_volume.proofs.grown.GrowingLists.{stop_later}
 use Rattle.cbm_volume.proofs.grown.GrowthBegun.{sides_room, sides_twice}
+use Rattle.cbm_medium.proofs.Sequences.{readable_after}
 use Rattle.cbm_volume.proofs.records.growing.grow_to.Goals as goal
 
 -- the growth didn't begin
@@ -63,3 +64,33 @@ returns-clause-grown g c = λ d uses w rs o is free.
     let sized : c.geometry-geometry.result ≡ geometry_of mid.tracks mid.content = same ∙ sym here.same ∙ ap (λ (m : ℕ). geometry_of m mid.content) (sym (then.tracks ∙ first.tracks)) in
     told_ends old mid new d uses c.args.slot w b s rs o c.args.file c.args.blocks c.in_ok-reach.reach.sides c.in_ok-reach.reach.last here (then.tracks ∙ first.tracks) (then.protected ∙ first.protected) (omega (arith, first.counted, then.counted))
     c.tell_blocks.result (c.in_ok-reach.reach.blocks + c.in_ok-reach.reach.sides) (omega (arith, all, c.in_ok-reach.ensures.bound.0)) sides (c.tell_blocks.ensures.told sized) (c.tell_blocks.ensures.elsewhere sized) (c.tell_blocks.ensures.entries sized)
+
+pub returns-in_err-reach-clause-only : goal.returns-in_err-reach-clause-only
+returns-in_err-reach-clause-only g c = record {
+  tracks = (search rules);
+  protected = (search rules);
+  id = (search rules);
+  counted = (search rules);
+  once = (search rules);
+  uncounted = (search rules);
+  own = (search rules);
+  guarded = (search rules);
+  shown = (search rules);
+  beyond = (search rules);
+  readable = readable_after _ _ _ c.in_ok-from.ensures.only.readable c.in_err-reach.ensures.only.readable;
+}
+
+pub returns-clause-only : goal.returns-clause-only
+returns-clause-only g c = record {
+  tracks = (search rules);
+  protected = (search rules);
+  id = (search rules);
+  counted = (search rules);
+  once = (search rules);
+  uncounted = (search rules);
+  own = (search rules);
+  guarded = (search rules);
+  shown = (search rules);
+  beyond = (search rules);
+  readable = readable_after _ _ _ c.in_ok-from.ensures.only.readable (readable_after _ _ _ c.in_ok-reach.ensures.only.readable c.tell_blocks.ensures.only.readable);
+}

@@ -1,10 +1,11 @@
-use Rattle.std.proofs.Common.{◌+◌, ℕ, subst, ◌∙◌, arith}
+use Rattle.std.proofs.Common.{◌+◌, ℕ, subst, ◌∙◌, arith, rules}
 use Rattle.cbm_medium.specs.Seen.{Seen}
 use Rattle.cbm_volume.specs.Growing.{HasGrown, IsGrowthStopped}
 use Rattle.std.specs.Prelude.{MatchResult}
 use Rattle.cbm_volume.proofs.copied.CopySteps.{handed}
 use Rattle.cbm_volume.proofs.grown.GrowingJoined.{CopiesAll, AddsBy, later}
 use Rattle.cbm_volume.proofs.grown.GrowingLists.{stop_later}
+use Rattle.cbm_medium.proofs.Sequences.{readable_after}
 use Rattle.cbm_volume.proofs.records.growing_blocks.add_side.Goals as goal
 
 pub returns-in_err-side-clause-added : goal.returns-in_err-side-clause-added
@@ -36,3 +37,33 @@ returns-clause-added g c = λ b1 whole c0 d uses n w b s rs o e h.
     let copied = subst (λ (m : ℕ). CopiesAll m one mid c.args.file c.args.geometry c.args.sides c.in_ok-side.side (λ p y. p)) first.tracks (λ c1 d1 uses1 n1 w1 b2 s2 bb rs1 q1 o1 e1 h1. c.in_ok-copy_sides.ensures.copied bb q1 c1 d1 uses1 n1 w1 b2 s2 rs1 o1 e1 h1) c0 d uses n w b s b1 rs c.args.block o e begun in
     later c.copy_side.result (HasGrown old.tracks c0 d uses n w b s rs o c.args.file new.content (b1 + 1) (c.args.sides + 1) c.args.block) old mid new c0 o.holds.layout d uses n w rs (then.tracks ∙ first.tracks) (then.protected ∙ first.protected) (omega (arith, first.counted, then.counted))
     (subst (λ (m : ℕ). AddsBy m mid new c.args.file c.args.geometry c.args.sides 0 c.in_ok-side.side (λ p y. MatchResult c.copy_side.result (λ x. p) y)) (then.tracks ∙ first.tracks) (λ c1 d1 uses1 n1 w1 b2 s2 bb rs1 q1 o1 e1 h1 zero1 whole1. c.copy_side.ensures.added bb q1 zero1 whole1 c1 d1 uses1 n1 w1 b2 s2 rs1 o1 e1 h1) c0 d uses n w b s b1 rs c.args.block o e copied (λ i. 0) whole)
+
+pub returns-in_err-copy_sides-clause-only : goal.returns-in_err-copy_sides-clause-only
+returns-in_err-copy_sides-clause-only g c = record {
+  tracks = (search rules);
+  protected = (search rules);
+  id = (search rules);
+  counted = (search rules);
+  once = (search rules);
+  uncounted = (search rules);
+  own = (search rules);
+  guarded = (search rules);
+  shown = (search rules);
+  beyond = (search rules);
+  readable = readable_after _ _ _ c.in_ok-side.ensures.only.readable c.in_err-copy_sides.ensures.only.readable;
+}
+
+pub returns-clause-only : goal.returns-clause-only
+returns-clause-only g c = record {
+  tracks = (search rules);
+  protected = (search rules);
+  id = (search rules);
+  counted = (search rules);
+  once = (search rules);
+  uncounted = (search rules);
+  own = (search rules);
+  guarded = (search rules);
+  shown = (search rules);
+  beyond = (search rules);
+  readable = readable_after _ _ _ c.in_ok-side.ensures.only.readable (readable_after _ _ _ c.in_ok-copy_sides.ensures.only.readable c.copy_side.ensures.only.readable);
+}

@@ -1,5 +1,5 @@
-use Rattle.std.proofs.Common.{◌+◌, ◌-◌, arith}
-use Rattle.cbm_medium.proofs.Sequences.{nothing_yet, only_more}
+use Rattle.std.proofs.Common.{◌+◌, ◌-◌, arith, rules}
+use Rattle.cbm_medium.proofs.Sequences.{nothing_yet, only_more, readable_after}
 use Rattle.cbm_medium.specs.Seen.{Seen}
 use Rattle.cbm_relfile.proofs.SidesLinked.{linked_none, linked_more, linked_all}
 use Rattle.cbm_volume.specs.Growing.{IsGrowthStopped}
@@ -54,3 +54,18 @@ returns-in_err-copy_side-clause-copied_empty g c = λ c0 d uses n w b s rs o e h
 
 pub returns-clause-copied_empty : goal.returns-clause-copied_empty
 returns-clause-copied_empty g c = c.loop-passed.invariant.4
+
+pub returns-in_err-copy_side-clause-only : goal.returns-in_err-copy_side-clause-only
+returns-in_err-copy_side-clause-only g c = record {
+  tracks = (search rules);
+  protected = (search rules);
+  id = (search rules);
+  counted = (search rules);
+  once = (search rules);
+  uncounted = (search rules);
+  own = (search rules);
+  guarded = (search rules);
+  shown = (search rules);
+  beyond = (search rules);
+  readable = readable_after _ _ _ c.loop-passed.invariant.1.readable c.in_err-copy_side.ensures.only.readable;
+}

@@ -1,5 +1,5 @@
-use Rattle.std.proofs.Common.{◌≡◌, ◌+◌, ℕ, subst, arith}
-use Rattle.cbm_medium.proofs.Sequences.{nothing_yet, only_more}
+use Rattle.std.proofs.Common.{◌≡◌, ◌+◌, ℕ, subst, arith, rules}
+use Rattle.cbm_medium.proofs.Sequences.{nothing_yet, only_more, readable_after}
 use Rattle.cbm_medium.specs.Seen.{Seen}
 use Rattle.cbm_volume.specs.Growing.{HasGrown, IsGrowthStopped}
 use Rattle.cbm_file.specs.Records.{sides_for}
@@ -53,3 +53,18 @@ returns-clause-grown g c = λ c0 d uses n w b s rs o e both.
     let end = c.loop-passed.invariant.0 c0 d uses n w b s rs o e h room in
     let blocks : c.loop-passed.reach.blocks ≡ c.args.from.blocks + c.args.count = omega (arith, c.loop-passed.invariant.2, all) in
     (subst (λ (m : ℕ). c.loop-passed.reach.sides ≡ sides_for c.args.from.sides (c.args.from.blocks + m)) all end.0, subst (λ (m : ℕ). HasGrown old.tracks c0 d uses n w b s rs o c.args.file new.content m c.loop-passed.reach.sides c.loop-passed.reach.last) blocks end.1)
+
+pub returns-in_err-reach-clause-only : goal.returns-in_err-reach-clause-only
+returns-in_err-reach-clause-only g c = record {
+  tracks = (search rules);
+  protected = (search rules);
+  id = (search rules);
+  counted = (search rules);
+  once = (search rules);
+  uncounted = (search rules);
+  own = (search rules);
+  guarded = (search rules);
+  shown = (search rules);
+  beyond = (search rules);
+  readable = readable_after _ _ _ c.loop-passed.invariant.1.readable c.in_err-reach.ensures.only.readable;
+}

@@ -3,6 +3,8 @@ use Rattle.cbm_volume.specs.Copies.{IsCopyCut}
 use Rattle.cbm_volume.proofs.copied.CopySteps.{handed}
 use Rattle.cbm_volume.proofs.copied.CopyEnds.{begin_cut, begin_place, begin_ready}
 use Rattle.cbm_volume.proofs.records_made.RecordsPlaced.{claims_cut, lacks_none, has_two}
+use Rattle.std.proofs.Common.{rules}
+use Rattle.cbm_medium.proofs.Sequences.{beyond_after, readable_after}
 use Rattle.cbm_volume.proofs.records.making.begin.Goals as goal
 
 pub returns-in_err-number-clause-begun : goal.returns-in_err-number-clause-begun
@@ -38,3 +40,48 @@ returns-clause-begun g c = λ d uses ch h idle some room size.
     let mid : Seen = g.M.Medium.seen c.empty_slot.new.medium in
     has_two old mid (g.M.Medium.seen c.claim_two.new.medium) c.args.geometry c.in-Some.number c.in_ok-sectors.field-0 c.in-Some-2.sectors d uses ch h idle
     (begin_ready old mid c.args.geometry c.in-Some.number c.in_ok-number.field-0 d uses h size c.in-Some.is c.in_ok-number.ensures.taken) size c.in-Some-2.is c.in_ok-sectors.ensures.claimed
+
+pub returns-in_err-sectors-clause-only : goal.returns-in_err-sectors-clause-only
+returns-in_err-sectors-clause-only g c = record {
+  tracks = (search rules);
+  protected = (search rules);
+  id = (search rules);
+  counted = (search rules);
+  once = (search rules);
+  uncounted = (search rules);
+  own = (search rules);
+  guarded = (search rules);
+  shown = (search rules);
+  beyond = (search rules);
+  readable = readable_after _ _ _ c.in_ok-number.ensures.only.readable c.in_err-sectors.ensures.only.readable;
+}
+
+pub returns-in_default-2-clause-only : goal.returns-in_default-2-clause-only
+returns-in_default-2-clause-only g c = record {
+  tracks = (search rules);
+  protected = (search rules);
+  id = (search rules);
+  counted = (search rules);
+  once = (search rules);
+  uncounted = (search rules);
+  own = (search rules);
+  guarded = (search rules);
+  shown = (search rules);
+  beyond = (search rules);
+  readable = readable_after _ _ _ c.in_ok-number.ensures.only.readable c.in_ok-sectors.ensures.only.readable;
+}
+
+pub returns-clause-only : goal.returns-clause-only
+returns-clause-only g c = record {
+  tracks = (search rules);
+  protected = (search rules);
+  id = (search rules);
+  counted = (search rules);
+  once = (search rules);
+  uncounted = (search rules);
+  own = (search rules);
+  guarded = (search rules);
+  shown = (search rules);
+  beyond = beyond_after _ _ _ _ c.in_ok-number.ensures.only.beyond c.in_ok-sectors.ensures.only.beyond;
+  readable = readable_after _ _ _ c.in_ok-number.ensures.only.readable c.in_ok-sectors.ensures.only.readable;
+}

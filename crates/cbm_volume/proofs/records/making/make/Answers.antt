@@ -1,8 +1,8 @@
-use Rattle.std.proofs.Common.{ℕ, sym, ap, subst, ◌∙◌, Ok, Err}
+use Rattle.std.proofs.Common.{ℕ, sym, ap, subst, ◌∙◌, Ok, Err, rules}
 use Rattle.cbm_medium.specs.Place.{Place}
 use Rattle.cbm_medium.specs.Seen.{Seen}
 use Rattle.std.proofs.lemmas.Result.{err_from_is_err_and}
-use Rattle.cbm_medium.proofs.Sequences.{only_after, only_refused}
+use Rattle.cbm_medium.proofs.Sequences.{only_after, only_refused, readable_after}
 use Rattle.cbm_bam.specs.Map.{geometry_of}
 use Rattle.cbm_file.specs.Records.{with_new_records}
 use Rattle.cbm_file.specs.Padding.{before_filler}
@@ -83,3 +83,33 @@ returns-in_err-write_new-clause-only g c =
     of_tracks c.geometry-geometry.result c.from_residual-in_err-write_new.result old new c.geometry-geometry.ensures.value
     (only_refused c.write_new.result c.from_residual-in_err-write_new.result p.0 old new (c.in_err-write_new.was ∙ ap Err (sym p.2)) p.1
     (only_after c.begin.result _ c.write_new.result old mid new c.in_ok-number.was c.begin.ensures.only c.write_new.ensures.only))
+
+pub returns-in_err-enter-clause-only : goal.returns-in_err-enter-clause-only
+returns-in_err-enter-clause-only g c = record {
+  tracks = (search rules);
+  protected = (search rules);
+  id = (search rules);
+  counted = (search rules);
+  once = (search rules);
+  uncounted = (search rules);
+  own = (search rules);
+  guarded = (search rules);
+  shown = (search rules);
+  beyond = (search rules);
+  readable = readable_after _ _ _ c.in_ok-number.ensures.only.readable (readable_after _ _ _ c.in_ok-write_new.ensures.only.readable c.in_err-enter.ensures.only.readable);
+}
+
+pub returns-clause-only : goal.returns-clause-only
+returns-clause-only g c = record {
+  tracks = (search rules);
+  protected = (search rules);
+  id = (search rules);
+  counted = (search rules);
+  once = (search rules);
+  uncounted = (search rules);
+  own = (search rules);
+  guarded = (search rules);
+  shown = (search rules);
+  beyond = (search rules);
+  readable = readable_after _ _ _ c.in_ok-number.ensures.only.readable (readable_after _ _ _ c.in_ok-write_new.ensures.only.readable c.in_ok-enter.ensures.only.readable);
+}
