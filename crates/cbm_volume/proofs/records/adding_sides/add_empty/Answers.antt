@@ -1,9 +1,10 @@
-use Rattle.std.proofs.Common.{◌+◌, refl, rules}
+use Rattle.std.proofs.Common.{◌+◌, refl}
 use Rattle.cbm_medium.specs.Seen.{Seen}
 use Rattle.cbm_volume.specs.Growing.{IsGrowthStopped}
 use Rattle.cbm_volume.proofs.copied.CopySteps.{handed}
 use Rattle.cbm_volume.proofs.grown.SidesAnswers.{OfRoom, OfEmpty, OfSides, stop_then, both_then}
-use Rattle.cbm_medium.proofs.Sequences.{readable_after}
+use Rattle.cbm_medium.proofs.Sequences.{only_after}
+use Rattle.cbm_volume.proofs.OneAfterAnother.{second_refused}
 use Rattle.cbm_volume.proofs.records.adding_sides.add_empty.Goals as goal
 
 -- it isn't claimed or written
@@ -37,31 +38,7 @@ returns-clause-added g c = λ c0 d uses n w b s rs o e h.
     (c.copy_side.ensures.added_empty refl)) c0 d uses n w b s rs o e h
 
 pub returns-in_err-copy_sides-clause-only : goal.returns-in_err-copy_sides-clause-only
-returns-in_err-copy_sides-clause-only g c = record {
-  tracks = (search rules);
-  protected = (search rules);
-  id = (search rules);
-  counted = (search rules);
-  once = (search rules);
-  uncounted = (search rules);
-  own = (search rules);
-  guarded = (search rules);
-  shown = (search rules);
-  beyond = (search rules);
-  readable = readable_after _ _ _ c.in_ok-side.ensures.only.readable c.in_err-copy_sides.ensures.only.readable;
-}
+returns-in_err-copy_sides-clause-only g c = second_refused c.from_residual-in_err-copy_sides.result c.in_ok-side.was c.in_err-copy_sides.was c.from_residual-in_err-copy_sides.ensures.1 c.open_empty.ensures.only c.copy_sides.ensures.only
 
 pub returns-clause-only : goal.returns-clause-only
-returns-clause-only g c = record {
-  tracks = (search rules);
-  protected = (search rules);
-  id = (search rules);
-  counted = (search rules);
-  once = (search rules);
-  uncounted = (search rules);
-  own = (search rules);
-  guarded = (search rules);
-  shown = (search rules);
-  beyond = (search rules);
-  readable = readable_after _ _ _ c.in_ok-side.ensures.only.readable (readable_after _ _ _ c.in_ok-copy_sides.ensures.only.readable c.copy_side.ensures.only.readable);
-}
+returns-clause-only g c = only_after _ _ _ _ _ _ c.in_ok-copy_sides.was (only_after _ _ _ _ _ _ c.in_ok-side.was c.open_empty.ensures.only c.copy_sides.ensures.only) c.copy_side.ensures.only

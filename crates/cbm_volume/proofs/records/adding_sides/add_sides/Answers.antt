@@ -1,12 +1,13 @@
-use Rattle.std.proofs.Common.{◌≡◌, ℕ, ◌+◌, ◌-◌, ◌/◌, ◌≤◌, sym, subst, arith, rules}
+use Rattle.std.proofs.Common.{◌≡◌, ℕ, ◌+◌, ◌-◌, ◌/◌, ◌≤◌, sym, subst, arith, refl}
 use Rattle.std.proofs.Math.Nat.{max-eq_left, max-eq_right}
-use Rattle.cbm_medium.proofs.Sequences.{nothing_yet, only_more, readable_after}
+use Rattle.cbm_medium.proofs.Sequences.{nothing_yet, only_more}
 use Rattle.cbm_medium.specs.Seen.{Seen}
 use Rattle.cbm_file.specs.Records.{sides_for}
 use Rattle.cbm_volume.specs.AddingSides.{HasSides}
 use Rattle.cbm_volume.specs.Growing.{IsGrowthStopped}
 use Rattle.cbm_volume.proofs.copied.CopySteps.{handed}
 use Rattle.cbm_volume.proofs.grown.SidesAnswers.{OfRoomFor, OfSides, ok_then, stop_then, room_there, some_side}
+use Rattle.cbm_volume.proofs.OneAfterAnother.{second_refused}
 use Rattle.cbm_volume.proofs.records.adding_sides.add_sides.Goals as goal
 
 -- a sound file has one
@@ -60,16 +61,4 @@ returns-clause-added g c = λ c0 d uses n w b s rs o e h.
     (sym size, subst (λ (k : ℕ). HasSides old.tracks c0 d uses n w b s rs o c.args.file new.content k) last done.0)
 
 pub returns-in_err-add_empty-clause-only : goal.returns-in_err-add_empty-clause-only
-returns-in_err-add_empty-clause-only g c = record {
-  tracks = (search rules);
-  protected = (search rules);
-  id = (search rules);
-  counted = (search rules);
-  once = (search rules);
-  uncounted = (search rules);
-  own = (search rules);
-  guarded = (search rules);
-  shown = (search rules);
-  beyond = (search rules);
-  readable = readable_after _ _ _ c.loop-number.invariant.1.readable c.in_err-add_empty.ensures.only.readable;
-}
+returns-in_err-add_empty-clause-only g c = second_refused c.from_residual.result refl c.in_err-add_empty.was c.from_residual.ensures.1 c.loop-number.invariant.1 c.add_empty.ensures.only

@@ -1,4 +1,4 @@
-use Rattle.std.proofs.Common.{◌≡◌, ℕ, ◌*◌, ◌≤◌, sym, ap, ◌∙◌, subst, IsOk, Result, Ok, Err, arith, rules}
+use Rattle.std.proofs.Common.{◌≡◌, ℕ, ◌*◌, ◌≤◌, sym, ap, ◌∙◌, subst, IsOk, Result, Ok, Err, arith}
 use Rattle.cbm_medium.specs.Place.{Place}
 use Rattle.cbm_medium.specs.Content.{Content}
 use Rattle.cbm_medium.specs.declared.fault.Trouble.{Trouble}
@@ -10,7 +10,7 @@ use Rattle.cbm_volume.specs.RecordWrites.{HasRecordsOpen}
 use Rattle.cbm_volume.proofs.copied.CopySteps.{handed}
 use Rattle.cbm_volume.proofs.relative.Begun.{same_medium}
 use Rattle.cbm_volume.proofs.grown.GrowthBegun.{sides_begin, enough_sides, open_again, grown_since, stopped_since}
-use Rattle.cbm_medium.proofs.Sequences.{readable_after}
+use Rattle.cbm_volume.proofs.OneAfterAnother.{second_refused, both_done}
 use Rattle.cbm_volume.proofs.records.beginning_growth.begin_growth.Goals as goal
 
 -- a side sector isn't added
@@ -81,31 +81,7 @@ returns-clause-ready g c = λ n size d uses w rs o is all ready.
     → IsReadyToGrow mid.content (o1.holds.layout.files n).sides (o1.holds.layout.files n).data_blocks c.args.blocks → IsOk r × (new.content ≡ mid.content)) same (λ sized. c.in_ok-last.ensures.ready n sized d uses w rs)) size o is ready
 
 pub returns-in_err-last-clause-only : goal.returns-in_err-last-clause-only
-returns-in_err-last-clause-only g c = record {
-  tracks = (search rules);
-  protected = (search rules);
-  id = (search rules);
-  counted = (search rules);
-  once = (search rules);
-  uncounted = (search rules);
-  own = (search rules);
-  guarded = (search rules);
-  shown = (search rules);
-  beyond = (search rules);
-  readable = readable_after _ _ _ c.in_ok-sides.ensures.only.readable c.in_err-last.ensures.only.readable;
-}
+returns-in_err-last-clause-only g c = second_refused c.from_residual-in_err-last.result c.in_ok-sides.was c.in_err-last.was c.from_residual-in_err-last.ensures.1 c.add_sides.ensures.only c.begin_listed.ensures.only
 
 pub returns-clause-only : goal.returns-clause-only
-returns-clause-only g c = record {
-  tracks = (search rules);
-  protected = (search rules);
-  id = (search rules);
-  counted = (search rules);
-  once = (search rules);
-  uncounted = (search rules);
-  own = (search rules);
-  guarded = (search rules);
-  shown = (search rules);
-  beyond = (search rules);
-  readable = readable_after _ _ _ c.in_ok-sides.ensures.only.readable c.in_ok-last.ensures.only.readable;
-}
+returns-clause-only g c = both_done _ c.in_ok-sides.was c.in_ok-last.was c.add_sides.ensures.only c.begin_listed.ensures.only

@@ -1,11 +1,12 @@
-use Rattle.std.proofs.Common.{◌+◌, ℕ, subst, ◌∙◌, arith, rules}
+use Rattle.std.proofs.Common.{◌+◌, ℕ, subst, ◌∙◌, arith}
 use Rattle.cbm_medium.specs.Seen.{Seen}
 use Rattle.cbm_volume.specs.Growing.{HasGrown, IsGrowthStopped}
 use Rattle.std.specs.Prelude.{MatchResult}
 use Rattle.cbm_volume.proofs.copied.CopySteps.{handed}
 use Rattle.cbm_volume.proofs.grown.GrowingJoined.{CopiesAll, AddsBy, later}
 use Rattle.cbm_volume.proofs.grown.GrowingLists.{stop_later}
-use Rattle.cbm_medium.proofs.Sequences.{readable_after}
+use Rattle.cbm_medium.proofs.Sequences.{only_after}
+use Rattle.cbm_volume.proofs.OneAfterAnother.{second_refused}
 use Rattle.cbm_volume.proofs.records.growing_blocks.add_side.Goals as goal
 
 pub returns-in_err-side-clause-added : goal.returns-in_err-side-clause-added
@@ -39,31 +40,7 @@ returns-clause-added g c = λ b1 whole c0 d uses n w b s rs o e h.
     (subst (λ (m : ℕ). AddsBy m mid new c.args.file c.args.geometry c.args.sides 0 c.in_ok-side.side (λ p y. MatchResult c.copy_side.result (λ x. p) y)) (then.tracks ∙ first.tracks) (λ c1 d1 uses1 n1 w1 b2 s2 bb rs1 q1 o1 e1 h1 zero1 whole1. c.copy_side.ensures.added bb q1 zero1 whole1 c1 d1 uses1 n1 w1 b2 s2 rs1 o1 e1 h1) c0 d uses n w b s b1 rs c.args.block o e copied (λ i. 0) whole)
 
 pub returns-in_err-copy_sides-clause-only : goal.returns-in_err-copy_sides-clause-only
-returns-in_err-copy_sides-clause-only g c = record {
-  tracks = (search rules);
-  protected = (search rules);
-  id = (search rules);
-  counted = (search rules);
-  once = (search rules);
-  uncounted = (search rules);
-  own = (search rules);
-  guarded = (search rules);
-  shown = (search rules);
-  beyond = (search rules);
-  readable = readable_after _ _ _ c.in_ok-side.ensures.only.readable c.in_err-copy_sides.ensures.only.readable;
-}
+returns-in_err-copy_sides-clause-only g c = second_refused c.from_residual-in_err-copy_sides.result c.in_ok-side.was c.in_err-copy_sides.was c.from_residual-in_err-copy_sides.ensures.1 c.open_side.ensures.only c.copy_sides.ensures.only
 
 pub returns-clause-only : goal.returns-clause-only
-returns-clause-only g c = record {
-  tracks = (search rules);
-  protected = (search rules);
-  id = (search rules);
-  counted = (search rules);
-  once = (search rules);
-  uncounted = (search rules);
-  own = (search rules);
-  guarded = (search rules);
-  shown = (search rules);
-  beyond = (search rules);
-  readable = readable_after _ _ _ c.in_ok-side.ensures.only.readable (readable_after _ _ _ c.in_ok-copy_sides.ensures.only.readable c.copy_side.ensures.only.readable);
-}
+returns-clause-only g c = only_after _ _ _ _ _ _ c.in_ok-copy_sides.was (only_after _ _ _ _ _ _ c.in_ok-side.was c.open_side.ensures.only c.copy_sides.ensures.only) c.copy_side.ensures.only

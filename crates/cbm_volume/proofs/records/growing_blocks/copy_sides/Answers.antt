@@ -1,11 +1,12 @@
-use Rattle.std.proofs.Common.{◌+◌, ◌-◌, arith, rules}
-use Rattle.cbm_medium.proofs.Sequences.{nothing_yet, only_more, readable_after}
+use Rattle.std.proofs.Common.{◌+◌, ◌-◌, arith, refl}
+use Rattle.cbm_medium.proofs.Sequences.{nothing_yet, only_more}
 use Rattle.cbm_medium.specs.Seen.{Seen}
 use Rattle.cbm_relfile.proofs.SidesLinked.{linked_none, linked_more, linked_all}
 use Rattle.cbm_volume.specs.Growing.{IsGrowthStopped}
 use Rattle.cbm_volume.proofs.copied.CopySteps.{handed}
 use Rattle.cbm_volume.proofs.grown.GrowingJoined.{copied_none, copied_more, copied_stop}
 use Rattle.cbm_volume.proofs.grown.SidesAnswers.{OfEmpty, ok_then, stop_then}
+use Rattle.cbm_volume.proofs.OneAfterAnother.{second_refused}
 use Rattle.cbm_volume.proofs.records.growing_blocks.copy_sides.Goals as goal
 
 pub loop-passed-init : goal.loop-passed-init
@@ -56,16 +57,4 @@ pub returns-clause-copied_empty : goal.returns-clause-copied_empty
 returns-clause-copied_empty g c = c.loop-passed.invariant.4
 
 pub returns-in_err-copy_side-clause-only : goal.returns-in_err-copy_side-clause-only
-returns-in_err-copy_side-clause-only g c = record {
-  tracks = (search rules);
-  protected = (search rules);
-  id = (search rules);
-  counted = (search rules);
-  once = (search rules);
-  uncounted = (search rules);
-  own = (search rules);
-  guarded = (search rules);
-  shown = (search rules);
-  beyond = (search rules);
-  readable = readable_after _ _ _ c.loop-passed.invariant.1.readable c.in_err-copy_side.ensures.only.readable;
-}
+returns-in_err-copy_side-clause-only g c = second_refused c.from_residual.result refl c.in_err-copy_side.was c.from_residual.ensures.1 c.loop-passed.invariant.1 c.copy_side.ensures.only

@@ -1,10 +1,11 @@
-use Rattle.std.proofs.Common.{◌≡◌, ◌+◌, ℕ, subst, arith, rules}
-use Rattle.cbm_medium.proofs.Sequences.{nothing_yet, only_more, readable_after}
+use Rattle.std.proofs.Common.{◌≡◌, ◌+◌, ℕ, subst, arith, refl}
+use Rattle.cbm_medium.proofs.Sequences.{nothing_yet, only_more}
 use Rattle.cbm_medium.specs.Seen.{Seen}
 use Rattle.cbm_volume.specs.Growing.{HasGrown, IsGrowthStopped}
 use Rattle.cbm_file.specs.Records.{sides_for}
 use Rattle.cbm_volume.proofs.copied.CopySteps.{handed}
 use Rattle.cbm_volume.proofs.grown.GrowingJoined.{turned_none, turned_more, turned_stop}
+use Rattle.cbm_volume.proofs.OneAfterAnother.{second_refused}
 use Rattle.cbm_volume.proofs.records.growing_blocks.grow_blocks.Goals as goal
 
 pub loop-passed-init : goal.loop-passed-init
@@ -55,16 +56,4 @@ returns-clause-grown g c = λ c0 d uses n w b s rs o e both.
     (subst (λ (m : ℕ). c.loop-passed.reach.sides ≡ sides_for c.args.from.sides (c.args.from.blocks + m)) all end.0, subst (λ (m : ℕ). HasGrown old.tracks c0 d uses n w b s rs o c.args.file new.content m c.loop-passed.reach.sides c.loop-passed.reach.last) blocks end.1)
 
 pub returns-in_err-reach-clause-only : goal.returns-in_err-reach-clause-only
-returns-in_err-reach-clause-only g c = record {
-  tracks = (search rules);
-  protected = (search rules);
-  id = (search rules);
-  counted = (search rules);
-  once = (search rules);
-  uncounted = (search rules);
-  own = (search rules);
-  guarded = (search rules);
-  shown = (search rules);
-  beyond = (search rules);
-  readable = readable_after _ _ _ c.loop-passed.invariant.1.readable c.in_err-reach.ensures.only.readable;
-}
+returns-in_err-reach-clause-only g c = second_refused c.from_residual.result refl c.in_err-reach.was c.from_residual.ensures.1 c.loop-passed.invariant.1 c.grow_once.ensures.only

@@ -1,11 +1,11 @@
-use Rattle.std.proofs.Common.{◌≡◌, ◌<◌, ◌+◌, ◌*◌, ℕ, subst, arith, rules}
+use Rattle.std.proofs.Common.{◌≡◌, ◌<◌, ◌+◌, ◌*◌, ℕ, subst, arith}
 use Rattle.cbm_medium.specs.Seen.{Seen}
 use Rattle.cbm_file.specs.Records.{sides_for}
 use Rattle.cbm_volume.specs.Growing.{IsGrowthStopped}
 use Rattle.cbm_volume.proofs.copied.CopySteps.{handed}
 use Rattle.cbm_volume.proofs.grown.GrowingJoined.{ListsBy, SidesBy, grown_listed, sides_full, sides_room}
 use Rattle.cbm_volume.proofs.grown.GrowingLists.{stop_later}
-use Rattle.cbm_medium.proofs.Sequences.{readable_after}
+use Rattle.cbm_volume.proofs.OneAfterAnother.{second_refused, both_done}
 use Rattle.cbm_volume.proofs.records.growing_blocks.grow_once.Goals as goal
 
 -- a write of the new block was refused, or the claim
@@ -79,61 +79,13 @@ returns-clause-grown g c = λ c0 d uses n w b s rs o e both.
     (sides_room c.args.reach.blocks c.args.reach.sides few, subst (λ (m : ℕ). ListsBy m mid new c.args.file c.args.geometry c.args.reach.blocks c.in_ok-block.block (λ p y. p)) only.tracks (λ c1 d1 uses1 n1 w1 b2 s2 s3 rs1 o1 e1 h1 few1. c.in_ok-list_last.ensures.listed s3 few1 c1 d1 uses1 n1 w1 b2 s2 rs1 o1 e1 h1) c0 d uses n w b s c.args.reach.sides rs o e longer few)
 
 pub returns-in_err-add_side-clause-only : goal.returns-in_err-add_side-clause-only
-returns-in_err-add_side-clause-only g c = record {
-  tracks = (search rules);
-  protected = (search rules);
-  id = (search rules);
-  counted = (search rules);
-  once = (search rules);
-  uncounted = (search rules);
-  own = (search rules);
-  guarded = (search rules);
-  shown = (search rules);
-  beyond = (search rules);
-  readable = readable_after _ _ _ c.in_ok-block.ensures.only.readable c.in_err-add_side.ensures.only.readable;
-}
+returns-in_err-add_side-clause-only g c = second_refused c.from_residual-in_err-add_side.result c.in_ok-block.was c.in_err-add_side.was c.from_residual-in_err-add_side.ensures.1 c.lengthen_file.ensures.only c.add_side.ensures.only
 
 pub returns-then-reach-clause-only : goal.returns-then-reach-clause-only
-returns-then-reach-clause-only g c = record {
-  tracks = (search rules);
-  protected = (search rules);
-  id = (search rules);
-  counted = (search rules);
-  once = (search rules);
-  uncounted = (search rules);
-  own = (search rules);
-  guarded = (search rules);
-  shown = (search rules);
-  beyond = (search rules);
-  readable = readable_after _ _ _ c.in_ok-block.ensures.only.readable c.in_ok-add_side.ensures.only.readable;
-}
+returns-then-reach-clause-only g c = both_done _ c.in_ok-block.was c.in_ok-add_side.was c.lengthen_file.ensures.only c.add_side.ensures.only
 
 pub returns-in_err-list_last-clause-only : goal.returns-in_err-list_last-clause-only
-returns-in_err-list_last-clause-only g c = record {
-  tracks = (search rules);
-  protected = (search rules);
-  id = (search rules);
-  counted = (search rules);
-  once = (search rules);
-  uncounted = (search rules);
-  own = (search rules);
-  guarded = (search rules);
-  shown = (search rules);
-  beyond = (search rules);
-  readable = readable_after _ _ _ c.in_ok-block.ensures.only.readable c.in_err-list_last.ensures.only.readable;
-}
+returns-in_err-list_last-clause-only g c = second_refused c.from_residual-in_err-list_last.result c.in_ok-block.was c.in_err-list_last.was c.from_residual-in_err-list_last.ensures.1 c.lengthen_file.ensures.only c.list_last.ensures.only
 
 pub returns-clause-only : goal.returns-clause-only
-returns-clause-only g c = record {
-  tracks = (search rules);
-  protected = (search rules);
-  id = (search rules);
-  counted = (search rules);
-  once = (search rules);
-  uncounted = (search rules);
-  own = (search rules);
-  guarded = (search rules);
-  shown = (search rules);
-  beyond = (search rules);
-  readable = readable_after _ _ _ c.in_ok-block.ensures.only.readable c.in_ok-list_last.ensures.only.readable;
-}
+returns-clause-only g c = both_done _ c.in_ok-block.was c.in_ok-list_last.was c.lengthen_file.ensures.only c.list_last.ensures.only

@@ -4,7 +4,8 @@ use Rattle.cbm_volume.proofs.copied.CopySteps.{handed}
 use Rattle.cbm_volume.proofs.copied.CopyEnds.{begin_cut, begin_place, begin_ready}
 use Rattle.cbm_volume.proofs.records_made.RecordsPlaced.{claims_cut, lacks_none, has_two}
 use Rattle.std.proofs.Common.{rules}
-use Rattle.cbm_medium.proofs.Sequences.{beyond_after, readable_after}
+use Rattle.cbm_medium.proofs.Sequences.{readable_after}
+use Rattle.cbm_volume.proofs.OneAfterAnother.{second_refused, both_done}
 use Rattle.cbm_volume.proofs.records.making.begin.Goals as goal
 
 pub returns-in_err-number-clause-begun : goal.returns-in_err-number-clause-begun
@@ -42,19 +43,7 @@ returns-clause-begun g c = λ d uses ch h idle some room size.
     (begin_ready old mid c.args.geometry c.in-Some.number c.in_ok-number.field-0 d uses h size c.in-Some.is c.in_ok-number.ensures.taken) size c.in-Some-2.is c.in_ok-sectors.ensures.claimed
 
 pub returns-in_err-sectors-clause-only : goal.returns-in_err-sectors-clause-only
-returns-in_err-sectors-clause-only g c = record {
-  tracks = (search rules);
-  protected = (search rules);
-  id = (search rules);
-  counted = (search rules);
-  once = (search rules);
-  uncounted = (search rules);
-  own = (search rules);
-  guarded = (search rules);
-  shown = (search rules);
-  beyond = (search rules);
-  readable = readable_after _ _ _ c.in_ok-number.ensures.only.readable c.in_err-sectors.ensures.only.readable;
-}
+returns-in_err-sectors-clause-only g c = second_refused c.from_residual-in_err-sectors.result c.in_ok-number.was c.in_err-sectors.was c.from_residual-in_err-sectors.ensures.1 c.empty_slot.ensures.only c.claim_two.ensures.only
 
 pub returns-in_default-2-clause-only : goal.returns-in_default-2-clause-only
 returns-in_default-2-clause-only g c = record {
@@ -72,16 +61,4 @@ returns-in_default-2-clause-only g c = record {
 }
 
 pub returns-clause-only : goal.returns-clause-only
-returns-clause-only g c = record {
-  tracks = (search rules);
-  protected = (search rules);
-  id = (search rules);
-  counted = (search rules);
-  once = (search rules);
-  uncounted = (search rules);
-  own = (search rules);
-  guarded = (search rules);
-  shown = (search rules);
-  beyond = beyond_after _ _ _ _ c.in_ok-number.ensures.only.beyond c.in_ok-sectors.ensures.only.beyond;
-  readable = readable_after _ _ _ c.in_ok-number.ensures.only.readable c.in_ok-sectors.ensures.only.readable;
-}
+returns-clause-only g c = both_done _ c.in_ok-number.was c.in_ok-sectors.was c.empty_slot.ensures.only c.claim_two.ensures.only
