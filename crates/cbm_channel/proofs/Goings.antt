@@ -169,9 +169,11 @@ pub keeps_same : (a b : Seen) → b ≡ a → KeepsMedium a b
 keeps_same a b e = record { tracks = ap (λ (s : Seen). s.tracks) e; protected = ap (λ (s : Seen). s.protected) e; counted = omega (arith, ap (λ (s : Seen). s.failures) e); readable = readable_same a.content b.content (ap (λ (s : Seen). s.content) e) }
 
 -- what a call keeps, of the medium that the drive had and has
+pub keeps_by : {M : Type 0} (seen : M → Seen) (a b before after : M) → before ≡ a → b ≡ after → KeepsMedium (seen before) (seen after) → KeepsMedium (seen a) (seen b)
+keeps_by {M} seen a b before after was is h = subst (λ (m : M). KeepsMedium (seen m) (seen b)) was (subst (λ (m : M). KeepsMedium (seen before) (seen m)) (sym is) h)
+
 pub keeps_call : {M A : Type 0} (seen : M → Seen) (a b before after : M) (r : Result A Trouble) → before ≡ a → b ≡ after → KeepsElse r (seen before) (seen after) → KeepsMedium (seen a) (seen b)
-keeps_call {M} seen a b before after r was is h =
-    subst (λ (m : M). KeepsMedium (seen m) (seen b)) was (subst (λ (m : M). KeepsMedium (seen before) (seen m)) (sym is) (record { tracks = h.tracks; protected = h.protected; counted = h.counted; readable = h.readable }))
+keeps_call seen a b before after r was is h = keeps_by seen a b before after was is (record { tracks = h.tracks; protected = h.protected; counted = h.counted; readable = h.readable })
 
 module _ {M : Type 0} (seen : M → Seen) (old mid new : Kept M) (parts : List (ℕ × (Machine → Machine))) (ch : ℕ) (part : Machine → Machine) where
   -- one part more

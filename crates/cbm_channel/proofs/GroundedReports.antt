@@ -11,6 +11,7 @@ use Rattle.cbm_bam.specs.Map.{geometry_of}
 use Rattle.cbm_directory.specs.Entries.{first_directory}
 use Rattle.cbm_directory.specs.Slots.{directory_of, listed_from}
 use Rattle.cbm_volume.specs.NewDisks.{OnlyNew}
+use Rattle.cbm_volume.proofs.formatted.NewDisks.{new_keeps}
 use Rattle.cbm_volume.specs.RecordFaults.{IsMislisted}
 use Rattle.cbm_machine.specs.declared.status.Status.{Status}
 use Rattle.cbm_machine.specs.declared.code.Code.TheVariants.{WriteProtected}
@@ -67,10 +68,13 @@ grounded_as_before old new t same r (inl shows) = inl (shown_before old new t sa
 grounded_as_before old new t same r (inr failed) = inr failed
 
 -- NEW, with an id and without one
-pub new_readable : (r : Result (Unit {0}) Trouble) (o : Option (List ℕ)) (old new : Seen) → OnlyNew r o old new → KeepsReadable old.content new.content
+new_readable : (r : Result (Unit {0}) Trouble) (o : Option (List ℕ)) (old new : Seen) → OnlyNew r o old new → KeepsReadable old.content new.content
 new_readable r None old new h = h.readable
 new_readable r (Some id) old new (inl h) = record { faults = λ p code fault. let no = h.readable.faults p code fault in absurd (cc) }
 new_readable r (Some id) old new (inr (err, h)) = h.readable
+
+pub new_medium : (r : Result (Unit {0}) Trouble) (o : Option (List ℕ)) (old new : Seen) → OnlyNew r o old new → KeepsMedium old new
+new_medium r o old new h = let k = new_keeps r o old new h in record { tracks = k.0; protected = k.1; counted = k.2; readable = new_readable r o old new h }
 
 pub new_grounded : (r : Result (Unit {0}) Trouble) (o : Option (List ℕ)) (old new : Seen) → OnlyNew r o old new → IfErr r (IsGrounded old new)
 new_grounded r None old new h = h.shown

@@ -1,3 +1,5 @@
+use Rattle.std.proofs.Common.{ap}
+use Rattle.cbm_channel.proofs.Goings.{keeps_same, keeps_then}
 use Rattle.cbm_channel.proofs.Steady.{steady_end}
 use Rattle.cbm_talk.proofs.hearing.hear.Goals as goal
 
@@ -5,3 +7,6 @@ pub returns-clause-leads : goal.returns-clause-leads
 returns-clause-leads g c = λ m s.
     steady_end g.M.Medium.seen g.met.M.Steady.steady c.put_each.new.dos c.end_put.new.self c.args.channel c.end_put.ensures.goes _
     (c.put_each.ensures.leads _ (c.listen.ensures.leads m s))
+
+pub returns-clause-medium : goal.returns-clause-medium
+returns-clause-medium g c = keeps_then _ _ _ (keeps_same _ _ (ap g.M.Medium.seen c.listen.ensures.medium)) (keeps_then _ _ _ c.put_each.ensures.medium c.end_put.ensures.leaves.medium)

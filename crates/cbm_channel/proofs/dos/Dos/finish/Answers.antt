@@ -12,6 +12,7 @@ use Rattle.cbm_channel.proofs.Rest.{rest_seen}
 use Rattle.cbm_channel.specs.Shown.{finishes_on}
 use Rattle.cbm_channel.proofs.Spared.{rest_on}
 use Rattle.cbm_channel.proofs.dos.Dos.finish.Goals as goal
+use Rattle.cbm_channel.proofs.Goings.{keeps_call}
 use Rattle.cbm_channel.proofs.GroundedReports.{answer_grounded}
 
 pub returns-in_default-clause-goes : goal.returns-in_default-clause-goes
@@ -49,7 +50,7 @@ returns-in-Err-clause-goes g c = λ m s.
 
 pub returns-in-Err-clause-leaves : goal.returns-in-Err-clause-leaves
 returns-in-Err-clause-leaves g c = record {
-  medium = (search rules);
+  medium = keeps_call g.M.Medium.seen c.args.self.now.medium c.set.new.self.medium c.self.inside.volume c.finish.new.volume c.finish.result (ap (λ k. k.medium) c.self.view_is) c.set.ensures.medium c.finish.ensures.only;
   rest = λ m s.
       let st = stood g.M.Medium.seen _ _ m c.self.view_is s in
       let at = stands_at _ _ _ _ _ _ m c.args.channel c.index-self-channel.result c.requires c.self.invariant st in

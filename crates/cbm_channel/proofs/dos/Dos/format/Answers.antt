@@ -14,7 +14,8 @@ use Rattle.cbm_channel.proofs.Stores.{renamed}
 use Rattle.cbm_channel.proofs.Refused.{not_refused, refused_26}
 use Rattle.cbm_channel.proofs.Counted.{counted_by, counted_well, new_counts}
 use Rattle.cbm_channel.proofs.dos.Dos.format.Goals as goal
-use Rattle.cbm_channel.proofs.GroundedReports.{answer_grounded_by, new_grounded, new_readable, protected_grounded}
+use Rattle.cbm_channel.proofs.Goings.{keeps_by}
+use Rattle.cbm_channel.proofs.GroundedReports.{answer_grounded_by, new_grounded, new_medium, protected_grounded}
 
 -- a channel is open
 pub returns-then-is_any_open-clause-goes : goal.returns-then-is_any_open-clause-goes
@@ -67,7 +68,7 @@ pub returns-in-Ok-clause-leaves : goal.returns-in-Ok-clause-leaves
 returns-in-Ok-clause-leaves g c = record {
   channels = (search rules);
   spared = not_refused _ _ c.say-in-Ok.ensures.told refl;
-  medium = (search rules);
+  medium = keeps_by g.M.Medium.seen c.args.self.now.medium c.say-in-Ok.new.self.medium c.self.inside.volume c.new_disk.new.self (ap (λ k. k.medium) c.self.view_is) c.say-in-Ok.ensures.medium (new_medium _ _ _ _ c.new_disk.ensures.only);
   counted = let k = new_counts c.new_disk.result c.args.id (g.M.Medium.seen c.self.inside.volume) (g.M.Medium.seen c.new_disk.new.self) c.new_disk.ensures.only in
       counted_well g.M.Medium.seen c.args.self.now c.say-in-Ok.new.self c.self.inside.volume c.new_disk.new.self (ap (λ k. k.medium) c.self.view_is) c.say-in-Ok.ensures.medium (subst (λ x. OnOk x ((g.M.Medium.seen c.new_disk.new.self).failures ≡ (g.M.Medium.seen c.self.inside.volume).failures)) c.in-Ok.is k.3);
   grounded = (search rules);
@@ -81,10 +82,10 @@ returns-in-Err-clause-leaves g c = record {
       ap (λ v. (g.M.Medium.seen v).content) c.set.ensures.medium
       ∙ (c.in-Err.ensures.protected (new_refusal (Err c.in-Err.trouble) c.args.id (g.M.Medium.seen c.self.inside.volume) (g.M.Medium.seen c.new_disk.new.self) c.in-Err.ensures.only (refused_26 c.in-Err.trouble c.from.result _ c.from.ensures c.set.ensures.told is))
       ∙ ap (λ k. (g.M.Medium.seen k.medium).content) c.self.view_is);
-  medium = (search rules);
+  medium = keeps_by g.M.Medium.seen c.args.self.now.medium c.set.new.self.medium c.self.inside.volume c.new_disk.new.self (ap (λ k. k.medium) c.self.view_is) c.set.ensures.medium (new_medium _ _ _ _ c.new_disk.ensures.only);
   counted = let k = new_counts c.new_disk.result c.args.id (g.M.Medium.seen c.self.inside.volume) (g.M.Medium.seen c.new_disk.new.self) c.new_disk.ensures.only in
       counted_by g.M.Medium.seen c.args.self.now c.set.new.self c.self.inside.volume c.new_disk.new.self (ap (λ k. k.medium) c.self.view_is) c.set.ensures.medium c.new_disk.result c.in-Err.trouble c.in-Err.is k.0 k.1 k.2 (ap (λ x. x.status) c.set.ensures.told ∙ c.from.ensures);
-  grounded = answer_grounded_by g.M.Medium.seen c.args.self.now c.set.new.self c.self.inside.volume c.new_disk.new.self (ap (λ k. k.medium) c.self.view_is) c.set.ensures.medium c.new_disk.result c.in-Err.trouble c.in-Err.is (new_keeps _ _ _ _ c.new_disk.ensures.only).1 (new_readable _ _ _ _ c.new_disk.ensures.only) (new_grounded _ _ _ _ c.new_disk.ensures.only) (ap (λ x. x.status) c.set.ensures.told ∙ c.from.ensures);
+  grounded = answer_grounded_by g.M.Medium.seen c.args.self.now c.set.new.self c.self.inside.volume c.new_disk.new.self (ap (λ k. k.medium) c.self.view_is) c.set.ensures.medium c.new_disk.result c.in-Err.trouble c.in-Err.is (new_medium _ _ _ _ c.new_disk.ensures.only).protected (new_medium _ _ _ _ c.new_disk.ensures.only).readable (new_grounded _ _ _ _ c.new_disk.ensures.only) (ap (λ x. x.status) c.set.ensures.told ∙ c.from.ensures);
 }
 
 pub returns-then-is_protected-clause-leaves : goal.returns-then-is_protected-clause-leaves

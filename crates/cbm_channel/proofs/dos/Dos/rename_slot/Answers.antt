@@ -18,6 +18,7 @@ use Rattle.cbm_channel.proofs.Counted.{counted_told}
 use Rattle.cbm_channel.proofs.Rest.{rest_seen, outside_held, rest_same}
 use Rattle.cbm_channel.proofs.dos.Dos.rename_slot.Goals as goal
 use Rattle.cbm_channel.proofs.Elses.{only_else}
+use Rattle.cbm_channel.proofs.Goings.{keeps_call}
 use Rattle.cbm_channel.proofs.GroundedReports.{answer_grounded}
 
 pub returns-in-Ok-clause-goes : goal.returns-in-Ok-clause-goes
@@ -62,7 +63,7 @@ pub returns-in-Err-clause-leaves : goal.returns-in-Err-clause-leaves
 returns-in-Err-clause-leaves g c = record {
   channels = (search rules);
   spared = (search rules);
-  medium = (search rules);
+  medium = keeps_call g.M.Medium.seen c.args.self.now.medium c.set.new.self.medium c.self.inside.volume c.rename.new.self c.rename.result (ap (λ k. k.medium) c.self.view_is) c.set.ensures.medium (only_else _ _ _ c.rename.ensures.only);
   counted = counted_told g.M.Medium.seen c.args.self.now c.set.new.self c.self.inside.volume c.rename.new.self (ap (λ k. k.medium) c.self.view_is) c.set.ensures.medium c.rename.result c.in-Err.trouble c.in-Err.is c.rename.ensures.only (ap (λ x. x.status) c.set.ensures.told ∙ c.from.ensures);
   grounded = answer_grounded g.M.Medium.seen c.args.self.now c.set.new.self c.self.inside.volume c.rename.new.self (ap (λ k. k.medium) c.self.view_is) c.set.ensures.medium c.rename.result c.in-Err.trouble c.in-Err.is (only_else _ _ _ c.rename.ensures.only) (ap (λ x. x.status) c.set.ensures.told ∙ c.from.ensures);
 }

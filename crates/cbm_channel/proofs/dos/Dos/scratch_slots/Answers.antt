@@ -12,6 +12,7 @@ use Rattle.cbm_channel.proofs.Refused.{not_refused, refused_26}
 use Rattle.cbm_channel.proofs.Counted.{counted_else}
 use Rattle.cbm_channel.proofs.Rest.{rest_seen}
 use Rattle.cbm_channel.proofs.dos.Dos.scratch_slots.Goals as goal
+use Rattle.cbm_channel.proofs.Goings.{keeps_call}
 use Rattle.cbm_channel.proofs.GroundedReports.{answer_grounded}
 
 pub returns-in-Ok-clause-goes : goal.returns-in-Ok-clause-goes
@@ -52,7 +53,7 @@ returns-in-Err-clause-spared g c = λ free is. absurd (c.in-Err.ensures.unguarde
 
 pub returns-in-Err-clause-leaves : goal.returns-in-Err-clause-leaves
 returns-in-Err-clause-leaves g c = record {
-  medium = (search rules);
+  medium = keeps_call g.M.Medium.seen c.args.self.now.medium c.set-in-Err.new.self.medium c.args.self.now.medium c.clear.new.self.medium c.clear.result refl c.set-in-Err.ensures.medium c.clear.ensures.medium;
   counted = counted_else g.M.Medium.seen c.args.self.now c.set-in-Err.new.self c.args.self.now.medium c.clear.new.self.medium refl c.set-in-Err.ensures.medium c.clear.result c.in-Err.trouble c.in-Err.is c.clear.ensures.medium (ap (λ x. x.status) c.set-in-Err.ensures.told ∙ c.from.ensures);
   grounded = answer_grounded g.M.Medium.seen c.args.self.now c.set-in-Err.new.self c.args.self.now.medium c.clear.new.self.medium refl c.set-in-Err.ensures.medium c.clear.result c.in-Err.trouble c.in-Err.is c.clear.ensures.medium (ap (λ x. x.status) c.set-in-Err.ensures.told ∙ c.from.ensures);
 }

@@ -16,6 +16,7 @@ use Rattle.cbm_channel.proofs.Counted.{counted_told}
 use Rattle.cbm_channel.proofs.Rest.{rest_itself, rest_seen, change_rest}
 use Rattle.cbm_channel.proofs.dos.Dos.validate.Goals as goal
 use Rattle.cbm_channel.proofs.Elses.{only_else}
+use Rattle.cbm_channel.proofs.Goings.{keeps_call}
 use Rattle.cbm_channel.proofs.GroundedReports.{answer_grounded}
 
 -- a channel is open
@@ -84,7 +85,7 @@ returns-in-Err-clause-leaves g c = record {
       ap (λ v. (g.M.Medium.seen v).content) c.set.ensures.medium
       ∙ (c.in-Err.ensures.kept (c.in-Err.ensures.only.guarded (refused_26 c.in-Err.trouble c.from.result _ c.from.ensures c.set.ensures.told is))
       ∙ ap (λ k. (g.M.Medium.seen k.medium).content) c.self.view_is);
-  medium = (search rules);
+  medium = keeps_call g.M.Medium.seen c.args.self.now.medium c.set.new.self.medium c.self.inside.volume c.validate.new.self c.validate.result (ap (λ k. k.medium) c.self.view_is) c.set.ensures.medium (only_else _ _ _ c.validate.ensures.only);
   counted = counted_told g.M.Medium.seen c.args.self.now c.set.new.self c.self.inside.volume c.validate.new.self (ap (λ k. k.medium) c.self.view_is) c.set.ensures.medium c.validate.result c.in-Err.trouble c.in-Err.is c.validate.ensures.only (ap (λ x. x.status) c.set.ensures.told ∙ c.from.ensures);
   grounded = answer_grounded g.M.Medium.seen c.args.self.now c.set.new.self c.self.inside.volume c.validate.new.self (ap (λ k. k.medium) c.self.view_is) c.set.ensures.medium c.validate.result c.in-Err.trouble c.in-Err.is (only_else _ _ _ c.validate.ensures.only) (ap (λ x. x.status) c.set.ensures.told ∙ c.from.ensures);
 }

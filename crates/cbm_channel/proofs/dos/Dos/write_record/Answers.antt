@@ -12,6 +12,7 @@ use Rattle.cbm_channel.proofs.Counted.{counted_else}
 use Rattle.cbm_channel.proofs.Rest.{rest_seen}
 use Rattle.cbm_channel.proofs.Spared.{rest_on}
 use Rattle.cbm_channel.proofs.dos.Dos.write_record.Goals as goal
+use Rattle.cbm_channel.proofs.Goings.{keeps_call}
 use Rattle.cbm_channel.proofs.GroundedReports.{answer_grounded}
 
 -- all bytes were written, or the channel has no records
@@ -72,7 +73,7 @@ returns-in-Err-clause-goes g c = λ m text s first.
 
 pub returns-in-Err-clause-leaves : goal.returns-in-Err-clause-leaves
 returns-in-Err-clause-leaves g c = record {
-  medium = (search rules);
+  medium = keeps_call g.M.Medium.seen c.args.self.now.medium c.set.new.self.medium c.self.inside.volume c.write_record.new.volume c.write_record.result (ap (λ k. k.medium) c.self.view_is) c.set.ensures.medium c.write_record.ensures.call.medium;
   rest = λ m s.
       let old : Seen = g.M.Medium.seen c.self.inside.volume in
       let new : Seen = g.M.Medium.seen c.write_record.new.volume in

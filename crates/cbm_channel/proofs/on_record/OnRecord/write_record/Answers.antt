@@ -1,4 +1,4 @@
-use Rattle.std.proofs.Common.{refl, subst, ◌+◌, Ok, Err}
+use Rattle.std.proofs.Common.{rules, refl, subst, ◌+◌, Ok, Err}
 use Rattle.cbm_medium.specs.Seen.{Seen}
 use Rattle.cbm_channel.specs.Placed.{Placed, IsPlacedAt}
 use Rattle.cbm_channel.proofs.RecordPuts.{read_there, read_anew}
@@ -32,3 +32,13 @@ returns-in-Err-clause-put g c = λ d uses b s rs can.
     let new : Seen = g.M.Medium.seen c.store.new.volume in
     let at = subst (λ (r : Placed). IsPlacedAt c.args.self.now c.go-in-Err.new.self r.number r.position) c.go.view_is c.go-in-Err.ensures.place in
     (c.in-Err.ensures.put d uses b s rs can, (at, read_anew new c.args.self.now c.go-in-Err.new.self c.args.self.now.number c.args.self.now.position c.go-in-Err.result c.go-in-Err.ensures.well at))
+
+-- ---- what else the medium shows
+
+-- the next record doesn't read
+pub returns-in_err-go_on-in-Ok-Some-clause-call : goal.returns-in_err-go_on-in-Ok-Some-clause-call
+returns-in_err-go_on-in-Ok-Some-clause-call g c = record {
+  kept = (search rules);
+  guarded = (search rules);
+  medium = ?;
+}
