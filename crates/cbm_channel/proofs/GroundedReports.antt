@@ -1,6 +1,6 @@
 -- Where a status comes from, also where a call may have written.
 use Rattle.std.proofs.Common.{◌≡◌, ◌⊎◌, ℕ, ◌≤◌, Bool, true, false, List, Option, None, Some, Result, Ok, Err, ap, sym, refl, subst, ◌∙◌, inl, inr, arith}
-use Rattle.std.specs.Prelude.{IfErr}
+use Rattle.std.specs.Prelude.{IfErr, if◌then◌else◌}
 use Rattle.cbm_medium.specs.declared.fault.Trouble.{Trouble}
 use Rattle.cbm_medium.specs.Place.{Place}
 use Rattle.cbm_medium.specs.Content.{Cell, blank, header_fault, is_header_fault, refusal}
@@ -8,11 +8,10 @@ use Rattle.cbm_medium.specs.Met.{IsMetFrom, place_of}
 use Rattle.cbm_medium.specs.Seen.{Seen, HasFailed, IsGrounded, ShowsGround, KeepsReadable}
 use Rattle.cbm_medium.proofs.Shown.{cut_shown, met_shown}
 use Rattle.cbm_bam.specs.Map.{geometry_of}
-use Rattle.cbm_directory.specs.Entries.{first_directory}
-use Rattle.cbm_directory.specs.Slots.{directory_of, listed_from}
+use Rattle.cbm_directory.proofs.Codes.{directory_shown}
 use Rattle.cbm_volume.specs.NewDisks.{OnlyNew}
 use Rattle.cbm_volume.proofs.formatted.NewDisks.{new_keeps}
-use Rattle.cbm_volume.specs.RecordFaults.{IsMislisted}
+use Rattle.cbm_volume.specs.RecordFaults.{IsMislisted, IsOfEntry}
 use Rattle.cbm_machine.specs.declared.status.Status.{Status}
 use Rattle.cbm_machine.specs.declared.code.Code.TheVariants.{WriteProtected}
 use Rattle.cbm_machine.specs.Codes.{code_number}
@@ -24,16 +23,12 @@ use Rattle.cbm_channel.specs.Grounds.{HasGround, HasTold, HidesRecords, IsToldFo
 
 -- ---- what a medium shows
 
-listed_shown : (tracks : ℕ) (s : Seen) (t : Trouble) → (directory_of tracks s.content).trouble ≡ Some t → ShowsGround s t
-unfolding directory_of listed_from
-listed_shown tracks s t e = cut_shown tracks s 18 first_directory t e
-
 pub trouble_shown : (tracks : ℕ) (s : Seen) (t : Trouble) → ShowsTrouble tracks s.content t → ShowsGround s t
 trouble_shown tracks s t (inl e) = inr (inl e)
-trouble_shown tracks s t (inr (inl e)) = listed_shown tracks s t e
+trouble_shown tracks s t (inr (inl e)) = directory_shown tracks s t e
 trouble_shown tracks s t (inr (inr (inl (entry, there, e)))) = cut_shown tracks s _ _ t e
 trouble_shown tracks s t (inr (inr (inr (inl (entry, there, m))))) = inl (inr m.code)
-trouble_shown tracks s t (inr (inr (inr (inr (entry, there, m))))) = met_shown tracks _ s t m
+trouble_shown tracks s t (inr (inr (inr (inr (entry, there, m))))) = met_shown tracks (IsOfEntry tracks s.content entry) s t m
 
 -- why the records of an entry can't be opened
 pub opening_shown : (tracks : ℕ) (starts : Place → Type 0) (s : Seen) (e : List ℕ) (t : Trouble) → IsMetFrom tracks s.content starts t ⊎ IsMislisted tracks s.content e t → ShowsGround s t
@@ -42,8 +37,8 @@ opening_shown tracks starts s e t (inr m) = inl (inr m.code)
 
 -- why a record can't be read
 pub hidden_shown : (s : Seen) (t : Trouble) → HidesRecords s t → ShowsGround s t
-hidden_shown s t (inl e) = listed_shown (geometry_of s.tracks s.content) s t e
-hidden_shown s t (inr (entry, there, m)) = met_shown _ _ s t m
+hidden_shown s t (inl e) = directory_shown (geometry_of s.tracks s.content) s t e
+hidden_shown s t (inr (entry, there, m)) = let tracks = geometry_of s.tracks s.content in met_shown tracks (IsOfEntry tracks s.content entry) s t m
 
 -- the same was shown before a call that made no sector unreadable
 pub shown_before : (old new : Seen) (t : Trouble) → new.protected ≡ old.protected → KeepsReadable old.content new.content → ShowsGround new t → ShowsGround old t
@@ -53,9 +48,15 @@ shown_before old new t same r (inr (inr refuses)) = inr (by_protection old.prote
   where
     is_fault : (cell : Cell) → header_fault cell ≡ Some t.code → cell ≡ Err t.code
     is_fault (Ok bytes) e = absurd (cc)
-    is_fault (Err code) e = by_code (is_header_fault code) e
+    is_fault (Err code) e = ap told_by (by_code (is_header_fault code) e)
       where
-        by_code : (b : Bool) → (if b then Some code else None) ≡ Some t.code → Err code ≡ Err t.code
+        chosen : Bool → Option ℕ
+        chosen b = if b then Some code else None
+
+        told_by : ℕ → Cell
+        told_by n = Err n
+
+        by_code : (b : Bool) → chosen b ≡ Some t.code → code ≡ t.code
         by_code true e = cc
         by_code false e = absurd (cc)
 
@@ -75,11 +76,6 @@ new_readable r (Some id) old new (inr (err, h)) = h.readable
 
 pub new_medium : (r : Result (Unit {0}) Trouble) (o : Option (List ℕ)) (old new : Seen) → OnlyNew r o old new → KeepsMedium old new
 new_medium r o old new h = let k = new_keeps r o old new h in record { tracks = k.0; protected = k.1; counted = k.2; readable = new_readable r o old new h }
-
-pub new_grounded : (r : Result (Unit {0}) Trouble) (o : Option (List ℕ)) (old new : Seen) → OnlyNew r o old new → IfErr r (IsGrounded old new)
-new_grounded r None old new h = h.shown
-new_grounded r (Some id) old new (inl h) = h.shown
-new_grounded r (Some id) old new (inr (err, h)) = h.shown
 
 -- ---- a report
 

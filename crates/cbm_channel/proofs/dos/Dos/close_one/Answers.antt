@@ -6,7 +6,7 @@ use Rattle.cbm_channel.specs.declared.channel.Channel.TheVariants.{Closed}
 use Rattle.cbm_channel.specs.ChannelCalls.{no_slot}
 use Rattle.cbm_channel.specs.Shown.{finished_by}
 use Rattle.cbm_channel.specs.Going.{some_byte_put}
-use Rattle.cbm_channel.proofs.Goings.{passes_on, close_passes, closed_at, early, late}
+use Rattle.cbm_channel.proofs.Goings.{passes_on, close_passes, closed_at, early, late, keeps_same, keeps_then}
 use Rattle.cbm_channel.proofs.Counted.{counted_to, counted_then}
 use Rattle.cbm_channel.proofs.Rest.{rest_seen, rest_then}
 use Rattle.cbm_channel.proofs.dos.Dos.close_one.Goals as goal
@@ -36,7 +36,7 @@ returns-clause-goes g c = λ m s.
 
 pub returns-clause-leaves : goal.returns-clause-leaves
 returns-clause-leaves g c = record {
-  medium = (search rules);
+  medium = keeps_then _ _ _ (keeps_then _ _ _ c.fill.ensures.leaves.medium c.finish.ensures.leaves.medium) (keeps_same _ _ (ap g.M.Medium.seen c.forget_text.ensures.only.medium));
   rest = λ m s.
       let first = c.fill.ensures.goes m s in
       rest_seen g.M.Medium.seen c.args.self.now.medium c.forget_text.new.self.medium c.args.self.now.medium c.finish.new.self.medium refl c.forget_text.ensures.only.medium (rest_then no_slot (finished_by c.args.channel c.fill.new.self) (g.M.Medium.seen c.args.self.now.medium) (g.M.Medium.seen c.fill.new.self.medium) (g.M.Medium.seen c.finish.new.self.medium) first.0.disk _ first.2.holds (λ n e. (refl, c.fill.ensures.slot n e)) (c.fill.ensures.leaves.rest m s) (c.finish.ensures.leaves.rest first.0 first.2));

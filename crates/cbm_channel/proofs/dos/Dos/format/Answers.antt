@@ -5,7 +5,7 @@ use Rattle.cbm_file.specs.Changes.{new_disk}
 use Rattle.cbm_volume.specs.Writers.{Idle, HoldsNow}
 use Rattle.cbm_machine.specs.Machines.{any_open, say, with_disk}
 use Rattle.cbm_machine.specs.declared.code.Code.TheVariants.{Fine, WriteFileOpen, WriteProtected}
-use Rattle.cbm_volume.proofs.formatted.NewDisks.{new_keeps, new_refusal}
+use Rattle.cbm_volume.proofs.formatted.NewDisks.{new_grounded, new_keeps, new_refusal}
 use Rattle.cbm_channel.specs.Standing.{StandsBy, uses_of}
 use Rattle.cbm_channel.proofs.Commanding.{new_open, new_done, new_guarded, new_stands, all_idle}
 use Rattle.cbm_channel.proofs.Opens.{failed_by}
@@ -15,7 +15,7 @@ use Rattle.cbm_channel.proofs.Refused.{not_refused, refused_26}
 use Rattle.cbm_channel.proofs.Counted.{counted_by, counted_well, new_counts}
 use Rattle.cbm_channel.proofs.dos.Dos.format.Goals as goal
 use Rattle.cbm_channel.proofs.Goings.{keeps_by}
-use Rattle.cbm_channel.proofs.GroundedReports.{answer_grounded_by, new_grounded, new_medium, protected_grounded}
+use Rattle.cbm_channel.proofs.GroundedReports.{answer_grounded_by, new_medium, protected_grounded}
 
 -- a channel is open
 pub returns-then-is_any_open-clause-goes : goal.returns-then-is_any_open-clause-goes

@@ -14,7 +14,7 @@ use Rattle.cbm_channel.specs.Planned.{begun_by, text_writes}
 use Rattle.cbm_channel.proofs.Asked.{below_15}
 use Rattle.cbm_channel.proofs.Stands.{moved}
 use Rattle.cbm_channel.proofs.Planning.{opened_text, refused_text, writes_text, own_refusal}
-use Rattle.cbm_channel.proofs.Goings.{part_same, one_part, close_then, close_begin, parts_other, parts_command}
+use Rattle.cbm_channel.proofs.Goings.{part_same, one_part, close_then, close_begin, parts_other, parts_command, keeps_same, keeps_then}
 use Rattle.cbm_channel.proofs.Rest.{rest_seen, rest_then, rest_more}
 use Rattle.cbm_channel.proofs.Spared.{open_command_rest, open_free, never_both}
 use Rattle.cbm_channel.proofs.dos.Dos.open.Goals as goal
@@ -145,7 +145,7 @@ returns-then-channel-eq15-clause-leaves g c = record {
 pub returns-in-Ok-clause-leaves : goal.returns-in-Ok-clause-leaves
 returns-in-Ok-clause-leaves g c = record {
   ordered = (search rules);
-  medium = (search rules);
+  medium = keeps_then _ _ _ c.close_one.ensures.leaves.medium c.begin.ensures.leaves.medium;
   rest = λ other m s.
       let is = sym c.parse_open.ensures.value ∙ c.in-Ok.is in
       let x = c.close_one.ensures.goes m s in
@@ -157,7 +157,7 @@ returns-in-Ok-clause-leaves g c = record {
 pub returns-in-Err-clause-leaves : goal.returns-in-Err-clause-leaves
 returns-in-Err-clause-leaves g c = record {
   ordered = λ validates. absurd (never_both _ _ (below_15 c.args.channel (omega (arith, c.requires, c.if-channel-eq15.false))) validates);
-  medium = (search rules);
+  medium = keeps_then _ _ _ c.close_one.ensures.leaves.medium (keeps_same _ _ (ap g.M.Medium.seen c.say.ensures.medium));
   rest = λ other m s.
       let none = below_15 c.args.channel (omega (arith, c.requires, c.if-channel-eq15.false)) in
       rest_seen g.M.Medium.seen c.args.self.now.medium c.say.new.self.medium c.args.self.now.medium c.close_one.new.self.medium refl c.say.ensures.medium

@@ -2,7 +2,7 @@ use Rattle.std.proofs.Common.{rules, ◌≡◌, ◌⊎◌, [], refl, sym, ap, �
 use Rattle.std.specs.Prelude.{Some, false, true, Ok, replicate}
 use Rattle.std.proofs.lemmas.Result.{err_from_is_err_and}
 use Rattle.cbm_medium.specs.Place.{sector_count}
-use Rattle.cbm_channel.proofs.Elses.{else_nothing}
+use Rattle.cbm_channel.proofs.Elses.{else_nothing, else_then, only_else}
 use Rattle.cbm_medium.specs.Seen.{HasFailed, ShowsGround}
 use Rattle.cbm_medium.specs.Met.{IsMetFrom}
 use Rattle.cbm_file.specs.Files.{Records, bytes_in, record_length_in, file_at}
@@ -34,7 +34,8 @@ use Rattle.cbm_channel.proofs.Rest.{rest_itself, rest_none, rest_same, rest_seen
 use Rattle.cbm_channel.proofs.Spared.{append_stays}
 use Rattle.cbm_channel.proofs.dos.Dos.opened.Goals as goal
 use Rattle.cbm_medium.proofs.Shown.{cut_shown}
-use Rattle.cbm_channel.proofs.GroundedReports.{opening_shown, trouble_shown}
+use Rattle.cbm_channel.specs.ChannelCalls.{KeepsElse}
+use Rattle.cbm_channel.proofs.GroundedReports.{opening_shown, trouble_shown, hidden_shown}
 
 -- a listing
 pub returns-in_err-list-in-ReadListing-clause-opens : goal.returns-in_err-list-in-ReadListing-clause-opens
@@ -463,7 +464,7 @@ returns-in_err-open_records-in-OpenRecords-clause-medium g c =
     else_nothing c.from_residual-in_err-open_records-in-OpenRecords.result now now (λ i. now)
     (rw (p.1, p.2) (λ is. absurd (opening_never_26 (geometry_of volume.tracks volume.content) volume.content c.in-OpenRecords.found.entry c.in_err-open_records-in-OpenRecords.field-0.0
     (λ q. g.met.M.Medium.codes c.self.inside.volume q) c.in_err-open_records-in-OpenRecords.ensures.cause is)))
-    (rw (p.1, p.2) (subst (λ m. ShowsGround (g.M.Medium.seen m) c.in_err-open_records-in-OpenRecords.field-0.0) (ap (λ k. k.medium) c.self.view_is) (opening_shown _ _ volume _ c.in_err-open_records-in-OpenRecords.field-0.0 c.in_err-open_records-in-OpenRecords.ensures.cause)))
+    (rw (p.1, p.2) (subst (λ m. ShowsGround (g.M.Medium.seen m) c.in_err-open_records-in-OpenRecords.field-0.0) (ap (λ k. k.medium) c.self.view_is) (opening_shown _ (λ q. q ≡ first_side c.in-OpenRecords.found.entry) volume _ c.in_err-open_records-in-OpenRecords.field-0.0 c.in_err-open_records-in-OpenRecords.ensures.cause)))
 
 -- ---- the rest of the disk
 
@@ -488,3 +489,25 @@ returns-in_err-writer-in-WriteFile-clause-opens g c = record {
       (rest_none _ _ (begun_rest c.begin_write.result (g.M.Medium.seen c.self.inside.volume) (g.M.Medium.seen c.begin_write.new.self) m.disk _ uses 15 _ _ _ _ _ c.begin_write.ensures.only refl st.holds (begun_write c.begin_write.result uses c.in-WriteFile.kind _ 15 idle (not_del _ x.1.kept) x.1.plain call.done)
       (cut_sized c.begin_write.result _ _ m.disk _ uses (on_both c.begin_write.result _ _ _ (not_del _ x.1.kept) x.1.plain call.stopped)) (grown_total m.disk) call.untouched));
 }
+
+-- the first record can't be read
+pub returns-in_err-on-in-OpenRecords-clause-medium : goal.returns-in_err-on-in-OpenRecords-clause-medium
+returns-in_err-on-in-OpenRecords-clause-medium g c =
+    let now = g.M.Medium.seen c.args.self.now.medium in
+    let t = c.in_err-on-in-OpenRecords.field-0.0 in
+    let p = err_from_is_err_and c.from_residual-in_err-on-in-OpenRecords.result c.from_residual-in_err-on-in-OpenRecords.ensures.1 in
+    else_nothing c.from_residual-in_err-on-in-OpenRecords.result now now (λ i. now)
+    (rw (p.1, p.2) (λ is. absurd (c.in_err-on-in-OpenRecords.ensures.never_26 is)))
+    (rw (p.1, p.2) (subst (λ m. ShowsGround (g.M.Medium.seen m) t) (ap (λ k. k.medium) c.self.view_is) (hidden_shown (g.M.Medium.seen c.self.inside.volume) t c.in_err-on-in-OpenRecords.ensures.cause)))
+
+pub returns-in_err-on-in-MakeRecords-clause-medium : goal.returns-in_err-on-in-MakeRecords-clause-medium
+returns-in_err-on-in-MakeRecords-clause-medium g c =
+    let old = g.M.Medium.seen c.self.inside.volume in
+    let new = g.M.Medium.seen c.make_records.new.self in
+    let t = c.in_err-on-in-MakeRecords.field-0.0 in
+    let s = c.from_residual-in_err-on-in-MakeRecords.result in
+    let p = err_from_is_err_and s c.from_residual-in_err-on-in-MakeRecords.ensures.1 in
+    subst (λ m. KeepsElse s (g.M.Medium.seen m) new) (ap (λ k. k.medium) c.self.view_is)
+    (else_then c.make_records.result s c.in_ok-slot-in-MakeRecords.field-0 old new c.in_ok-slot-in-MakeRecords.was (only_else _ _ _ c.make_records.ensures.only)
+    (rw (p.1, p.2) (λ is. absurd (c.in_err-on-in-MakeRecords.ensures.never_26 is)))
+    (rw (p.1, p.2) (hidden_shown new t c.in_err-on-in-MakeRecords.ensures.cause)))

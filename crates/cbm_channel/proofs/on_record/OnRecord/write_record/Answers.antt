@@ -1,7 +1,10 @@
 use Rattle.std.proofs.Common.{rules, refl, subst, ◌+◌, Ok, Err}
-use Rattle.cbm_medium.specs.Seen.{Seen}
+use Rattle.cbm_medium.specs.Seen.{Seen, ShowsGround}
 use Rattle.cbm_channel.specs.Placed.{Placed, IsPlacedAt}
 use Rattle.cbm_channel.proofs.RecordPuts.{read_there, read_anew}
+use Rattle.cbm_channel.proofs.Elses.{else_then}
+use Rattle.std.specs.Prelude.{IfErr}
+use Rattle.std.proofs.lemmas.Result.{err_from_is_err_and}
 use Rattle.cbm_channel.proofs.on_record.OnRecord.write_record.Goals as goal
 
 -- on a sound disk the next record reads
@@ -37,8 +40,14 @@ returns-in-Err-clause-put g c = λ d uses b s rs can.
 
 -- the next record doesn't read
 pub returns-in_err-go_on-in-Ok-Some-clause-call : goal.returns-in_err-go_on-in-Ok-Some-clause-call
-returns-in_err-go_on-in-Ok-Some-clause-call g c = record {
-  kept = (search rules);
-  guarded = (search rules);
-  medium = ?;
-}
+returns-in_err-go_on-in-Ok-Some-clause-call g c =
+    let new : Seen = g.M.Medium.seen c.store.new.volume in
+    let p = err_from_is_err_and c.from_residual.result c.from_residual.ensures.1 in
+    let shows = rw c.in-Ok-Some.field-0-is at (c.in-Ok-Some.ensures.write.next_shown) in
+    record {
+      kept = (search rules);
+      guarded = (search rules);
+      medium = else_then c.store.result c.from_residual.result c.in-Ok-Some.field-0 (g.M.Medium.seen c.args.volume.now) new c.in-Ok-Some.is c.store.ensures.medium
+          (rw (p.1, p.2) (λ is. absurd (c.in_err-go_on-in-Ok-Some.ensures.never_26 is)))
+          (rw (p.1, p.2) (subst (λ x. IfErr x (ShowsGround new)) c.in_err-go_on-in-Ok-Some.ensures.handed shows));
+    }
