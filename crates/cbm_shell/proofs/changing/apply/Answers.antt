@@ -2,6 +2,7 @@ use Rattle.cbm_channel.specs.Standing.{Stands}
 use Rattle.cbm_channel.proofs.Steady.{steady_open, steady_close}
 use Rattle.cbm_shell.specs.declared.changing.DiskChange.TheVariants.{File}
 use Rattle.cbm_shell.proofs.ChangeLemmas.{made}
+use Rattle.cbm_channel.proofs.Goings.{keeps_then}
 use Rattle.cbm_shell.proofs.changing.apply.Goals as goal
 
 pub returns-in_ok-told-in-File-clause-made : goal.returns-in_ok-told-in-File-clause-made
@@ -10,3 +11,8 @@ returns-in_ok-told-in-File-clause-made g c = rw c.in-File.is (λ m s.
     let opened = steady_open seen g.met.M.Steady.steady c.args.dos.now c.open-in-File.new.self 2 c.in-File.text.now c.open-in-File.ensures.goes m s in
     let closed = steady_close seen g.met.M.Steady.steady c.hear.new.dos c.close.new.self 2 c.close.ensures.goes _ (c.hear.ensures.leads _ opened) in
     made (File c.in-File.text c.in-File.bytes) m (Stands seen c.close.new.self) c.told-in-File-2.result c.status-in-File-2.result closed (c.status-in-File-2.ensures.status _ closed) c.told-in-File-2.ensures)
+
+-- ---- what it makes of the medium
+
+pub returns-in_ok-told-in-File-clause-medium : goal.returns-in_ok-told-in-File-clause-medium
+returns-in_ok-told-in-File-clause-medium g c = keeps_then _ _ _ (keeps_then _ _ _ c.open-in-File.ensures.leaves.medium c.hear.ensures.medium) c.close.ensures.leaves.medium
