@@ -4,3 +4,4 @@ pub mod Walks
 pub mod FaultCodes
 pub mod Shown
 pub mod Named
+pub mod Passed

@@ -1,9 +1,8 @@
 -- How many blocks a chain has, and how many side sectors a first one lists.
-use Rattle.std.proofs.Common.{◌≡◌, ◌≢◌, ℕ, ◌+◌, ◌-◌, ◌*◌, ◌<◌, ◌≤◌, List, [], ◌∷◌, ◌++◌, length, drop, get_or, Ok, IsOk, refl, sym, ap, subst, ◌∙◌, arith}
-use Rattle.std.proofs.lemmas.List.{length-append}
+use Rattle.std.proofs.Common.{◌≡◌, ◌≢◌, ℕ, ◌+◌, ◌-◌, ◌*◌, ◌<◌, ◌≤◌, List, [], ◌∷◌, length, drop, get_or, Ok, IsOk, refl, sym, ap, subst, ◌∙◌, arith}
 use Rattle.cbm_medium.specs.Place.{Place, Has}
 use Rattle.cbm_medium.specs.Content.{Cell, Content}
-use Rattle.cbm_medium.specs.Links.{bytes_at, or_nothing, link, LinksLead, Chain}
+use Rattle.cbm_medium.specs.Links.{bytes_at, or_nothing, link, Chain}
 use Rattle.cbm_relfile.specs.SideSectors.{named_in, sides_listed, sides_behind}
 use Rattle.cbm_relfile.proofs.Listed.{at_bytes, list_none, list_some}
 
@@ -74,24 +73,3 @@ behind_end n head h l = omega (arith, h, ap (λ (ys : List Place). length ys) (s
 pub behind_all : (head : List ℕ) → sides_behind 0 head ≡ sides_listed head
 unfolding sides_behind
 behind_all head = refl
-
--- ---- the blocks that were walked, on any disk
-
-pub record WalksTo (tracks : ℕ) (c : Content) (first p : Place) (passed : ℕ) : Type 0 where
-  pub blocks : List Place
-  pub number : length blocks ≡ passed
-  pub leads : LinksLead tracks c first blocks p
-
-pub walks_none : (tracks : ℕ) (c : Content) (first : Place) → WalksTo tracks c first first 0
-walks_none tracks c first = record { blocks = []; number = refl; leads = refl }
-
-leads_more : (tracks : ℕ) (c : Content) (a p : Place) (xs : List Place) → LinksLead tracks c a xs p → Has tracks p → IsOk (c p) → LinksLead tracks c a (xs ++ p ∷ []) (link (bytes_at c p))
-leads_more tracks c a p [] h has reads = (h, has, reads, refl)
-leads_more tracks c a p (x ∷ xs) h has reads = (h.0, h.1, h.2, leads_more tracks c (link (bytes_at c x)) p xs h.3 has reads)
-
-pub walks_more : (tracks : ℕ) (c : Content) (first p q : Place) (passed : ℕ) (bytes : List ℕ) → WalksTo tracks c first p passed → Has tracks p → c p ≡ Ok bytes → q ≡ link bytes → WalksTo tracks c first q (passed + 1)
-walks_more tracks c first p q passed bytes w has holds is = record {
-  blocks = w.blocks ++ p ∷ [];
-  number = omega (arith, w.number, length-append w.blocks (p ∷ []));
-  leads = subst (λ (r : Place). LinksLead tracks c first (w.blocks ++ p ∷ []) r) (ap (λ (x : Cell). link (or_nothing x)) holds ∙ sym is) (leads_more tracks c first p w.blocks w.leads has (subst (λ (x : Cell). IsOk x) (sym holds) refl));
-}

@@ -1,6 +1,7 @@
 use Rattle.std.proofs.Common.{◌≡◌, ℕ, ◌≤◌, length, refl, sym, subst, arith, inl, inr}
 use Rattle.cbm_medium.proofs.Named.{linked_by, one_start, meets_on}
-use Rattle.cbm_relfile.proofs.Counted.{walked_none, walked_end, walked_on, walked_more, walked_all, walks_none, walks_more}
+use Rattle.cbm_medium.proofs.Passed.{walks_none, walks_more}
+use Rattle.cbm_relfile.proofs.Counted.{walked_none, walked_end, walked_on, walked_more, walked_all}
 use Rattle.cbm_relfile.proofs.counting.block_count.Goals as goal
 
 pub loop-passed-init : goal.loop-passed-init

@@ -2,7 +2,8 @@ use Rattle.std.proofs.Common.{◌≡◌, List}
 use Rattle.cbm_medium.specs.Place.{Place}
 use Rattle.cbm_medium.specs.Links.{Chain}
 use Rattle.cbm_medium.specs.Met.{IsNamed}
-use Rattle.cbm_relfile.proofs.Counted.{Walked, WalksTo}
+use Rattle.cbm_medium.proofs.Passed.{WalksTo}
+use Rattle.cbm_relfile.proofs.Counted.{Walked}
 use Rattle.cbm_relfile.proofs.counting.block_count.Given as goal
 
 -- what is left of a chain that begins where the walk began, the blocks that were walked, and the place is the first one, or linked
