@@ -10,7 +10,7 @@ use Rattle.cbm_bam.specs.Causes.{HasCause}
 use Rattle.cbm_file.specs.Padding.{before_filler, padded}
 use Rattle.cbm_file.specs.Types.{type_number}
 use Rattle.cbm_file.specs.declared.file_type.FileType.{FileType}
-use Rattle.cbm_directory.specs.Entries.{Enters, entry_of, led_to, first_directory, type_byte, first_block, first_side, width_of, name_in}
+use Rattle.cbm_directory.specs.Entries.{Enters, entry_of, led_to, first_directory, DirectoryLeadsOff, type_byte, first_block, first_side, width_of, name_in}
 
 -- A new entry of a file that isn't closed: its type, the link to its first block and its name, and all else is 0.
 abbrev pub fresh_entry : FileType → List ℕ → Place → List ℕ
@@ -40,10 +40,10 @@ pub record IsTypedAs (old new : List ℕ) (type : ℕ) : Type 0 where
 abbrev pub Clears : Content → Content → Place → ℕ → Type 0
 Clears old new p e = Enters old new p e (cleared_entry (entry_of (bytes_at old p) e))
 
--- The entry of this number is cleared where the directory's links lead, on any content; nothing where they lead nowhere.
+-- The entry of this number is cleared where the directory's links lead, on any content; nothing where they lead off the disk.
 abbrev pub ClearsLed : ℕ → Content → Content → ℕ → Type 0
 ClearsLed tracks old new n =
-    MatchOption (led_to tracks old (n / 8) first_directory) (new ≡ old) (λ p. Clears old new p (n % 8))
+    MatchOption (led_to tracks old (n / 8) first_directory) ((new ≡ old) × DirectoryLeadsOff tracks old) (λ p. Clears old new p (n % 8))
 
 -- Why an entry isn't written, on any content: a link on the way to it meets this, or its sector refuses.
 abbrev pub IsEntryRefused : ℕ → Seen → Seen → ℕ → Trouble → Type 0
