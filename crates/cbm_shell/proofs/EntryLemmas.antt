@@ -6,7 +6,7 @@ use Rattle.cbm_medium.specs.Content.{Cell, Content}
 use Rattle.cbm_medium.specs.Links.{or_nothing, bytes_at, link, Chain}
 use Rattle.cbm_medium.proofs.Places.{written_elsewhere}
 use Rattle.cbm_medium.proofs.Walks.{has_true}
-use Rattle.cbm_directory.specs.Entries.{Enters, EntersLed, led_to, first_directory, type_byte, is_closed, is_relative, first_block, first_side, width_of, entry_at, sector_of}
+use Rattle.cbm_directory.specs.Entries.{Enters, EntersLed, DirectoryLeadsOff, led_to, first_directory, type_byte, is_closed, is_relative, first_block, first_side, width_of, entry_at, sector_of}
 use Rattle.cbm_directory.proofs.Placing.{led_on}
 use Rattle.cbm_file.specs.Files.{Disk}
 use Rattle.cbm_directory.specs.Slots.{Answers, directory_of}
@@ -48,7 +48,7 @@ led_along tracks c a (x ∷ rest) (suc i) d h l =
 -- it is written in the sector of its slot
 pub entered_in : (tracks : ℕ) (c c2 : Content) (directory : List Place) (n : ℕ) (entry : List ℕ) → Chain tracks c first_directory directory → n < 8 * length directory → EntersLed tracks c c2 n entry → Enters c c2 (sector_of directory n) (n % 8) entry
 entered_in tracks c c2 directory n entry chain k h =
-    subst (λ (o : Option Place). MatchOption o (c2 ≡ c) (λ p. Enters c c2 p (n % 8) entry)) (led_along tracks c first_directory directory (n / 8) directory_head chain (omega arith)) h
+    subst (λ (o : Option Place). MatchOption o ((c2 ≡ c) × DirectoryLeadsOff tracks c) (λ p. Enters c c2 p (n % 8) entry)) (led_along tracks c first_directory directory (n / 8) directory_head chain (omega arith)) h
 
 -- THE DISK IS SOUND AS IT WAS, and 18/0 is the same
 pub record StaysSound (tracks : ℕ) (c c2 : Content) : Type 0 where

@@ -19,7 +19,7 @@ use Rattle.cbm_bam.specs.Map.{geometry_of}
 use Rattle.cbm_bam.specs.Causes.{HasCause}
 use Rattle.cbm_chain.specs.Data.{chain_bytes}
 use Rattle.cbm_chain.specs.Writing.{State, Part, Wrote, StandsAfter}
-use Rattle.cbm_directory.specs.Entries.{Enters, EntersLed, led_to, first_directory, type_byte, is_closed, is_relative, bit_of, type_of_number, name_in, first_block, entry_at, sector_of}
+use Rattle.cbm_directory.specs.Entries.{Enters, EntersLed, DirectoryLeadsOff, led_to, first_directory, type_byte, is_closed, is_relative, bit_of, type_of_number, name_in, first_block, entry_at, sector_of}
 use Rattle.cbm_directory.specs.EntryChanges.{reopened_entry, IsTypedAs}
 use Rattle.cbm_directory.proofs.Placing.{led_on, led_nowhere}
 use Rattle.cbm_relfile.specs.Records.{AllWhole}
@@ -254,8 +254,8 @@ entry_untouched medium c c2 n body d uses h led =
     tracks : ℕ
     tracks = geometry_of medium c
 
-    by_place : (o : Option Place) → led_to tracks c (n / 8) first_directory ≡ o → MatchOption o (c2 ≡ c) (λ p. Enters c c2 p (n % 8) body) → KeepsClosed h.layout c c2 (λ m. m == n)
-    by_place None e same = kept_same h.layout c c2 (λ m. m == n) same
+    by_place : (o : Option Place) → led_to tracks c (n / 8) first_directory ≡ o → MatchOption o ((c2 ≡ c) × DirectoryLeadsOff tracks c) (λ p. Enters c c2 p (n % 8) body) → KeepsClosed h.layout c c2 (λ m. m == n)
+    by_place None e same = kept_same h.layout c c2 (λ m. m == n) same.0
     by_place (Some p) e enters =
         let at = led_nth tracks c (n / 8) first_directory p directory_head h.layout.directory h.so.stands.sound.directory e in
         kept_exempt tracks h.layout c c c2 n body h.so.stands.sound (omega (arith, at.0)) (subst (λ (q : Place). Enters c c2 q (n % 8) body) at.1 enters)
