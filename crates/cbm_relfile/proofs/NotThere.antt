@@ -1,14 +1,15 @@
 -- A None that is handed on, and what it says.
-use Rattle.std.proofs.Common.{◌≡◌, ◌≢◌, ◌⊎◌, ℕ, ◌≤◌, ◌<◌, Option, Some, None, Ok, Err, refl, sym, subst, ◌∙◌, arith, inl, inr}
+use Rattle.std.proofs.Common.{◌≡◌, ◌≢◌, ◌⊎◌, ℕ, ◌+◌, ◌-◌, ◌*◌, ◌/◌, ◌%◌, ◌≤◌, ◌<◌, List, Option, Some, None, Ok, Err, refl, sym, ap, subst, ◌∙◌, arith, inl, inr}
 use Rattle.std.specs.Prelude.{Result, IfOk, IfNone, IfSome}
-use Rattle.cbm_medium.specs.Place.{Place}
+use Rattle.cbm_medium.specs.Place.{Place, Has}
 use Rattle.cbm_medium.specs.Content.{Content}
+use Rattle.cbm_medium.specs.Links.{link}
 use Rattle.cbm_medium.specs.declared.fault.Trouble.{Trouble}
 use Rattle.cbm_medium.proofs.Passed.{WalksTo}
-use Rattle.cbm_relfile.specs.Records.{Relative}
+use Rattle.cbm_relfile.specs.Records.{Relative, EndsBefore}
 use Rattle.cbm_relfile.specs.Counting.{IsChainCounted, EndsBy, LeadsTo}
 use Rattle.cbm_relfile.specs.OfFile.{IsOfFile}
-use Rattle.cbm_relfile.specs.Missing.{IsBlockMissing, IsBlockReached}
+use Rattle.cbm_relfile.specs.Missing.{IsBlockMissing, IsBlockReached, IsStretchMissing, IsRecordMissing}
 
 -- what a None says says more
 pub none_more : {A : Type 0} (P Q : Type 0) (r : Result (Option A) Trouble) → (P → Q) → IfOk r (λ o. IfNone o P) → IfOk r (λ o. IfNone o Q)
@@ -43,3 +44,27 @@ ends_within tracks c q k number l (inr e) = inr (e.0, omega (arith, l, e.1), e.2
 
 pub missing_from : (tracks : ℕ) (c : Content) (file : Relative) (q : Place) (k number : ℕ) → IsOfFile tracks c file q → k ≤ number → EndsBy tracks c q k → IsBlockMissing tracks c file number
 missing_from tracks c file q k number of l e = (q, of, ends_within tracks c q k number l e)
+
+-- the block in which it begins is missing
+pub record_missing : (tracks : ℕ) (c : Content) (file : Relative) (number width : ℕ) → width ≡ file.width → IsBlockMissing tracks c file ((number - 1) * width / 254) → IsRecordMissing tracks c file number
+record_missing tracks c file number width e h = inl (subst (λ (w : ℕ). IsBlockMissing tracks c file ((number - 1) * w / 254)) e h)
+
+-- or the chain ends before it does
+pub record_short : (tracks : ℕ) (c : Content) (file : Relative) (number width count : ℕ) (at : Place) (sector : List ℕ) → width ≡ file.width → count ≡ file.width → IsBlockReached tracks c file ((number - 1) * width / 254) at → Has tracks at → c at ≡ Ok sector
+    → EndsBefore c sector ((number - 1) * width % 254 + count) → IsRecordMissing tracks c file number
+record_short tracks c file number width count at sector e f reached has holds ends =
+    inr (at, sector, subst (λ (w : ℕ). IsBlockReached tracks c file ((number - 1) * w / 254) at) e reached, has, holds, subst (λ (n : ℕ). EndsBefore c sector n) (λ i. (number - 1) * e i % 254 + f i) ends)
+
+-- ---- the stretch after another one
+
+-- in this block the chain ends
+pub none_here : (c : Content) (sector : List ℕ) (from count : ℕ) → from < 254 → EndsBefore c sector (from + count) → IsStretchMissing c sector from count
+none_here c sector from count l h = inl (l, h)
+
+-- there is no next one
+pub none_after : (c : Content) (sector : List ℕ) (at : Place) (from count : ℕ) → 254 ≤ from → at ≡ link sector → at.track ≡ 0 → IsStretchMissing c sector from count
+none_after c sector at from count l is z = inr (l, inl (ap (λ (p : Place). p.track) (sym is) ∙ z))
+
+-- in the next one it ends
+pub none_next : (c : Content) (sector more : List ℕ) (at : Place) (from count : ℕ) → 254 ≤ from → at ≡ link sector → c at ≡ Ok more → EndsBefore c more (from - 254 + count) → IsStretchMissing c sector from count
+none_next c sector more at from count l is holds h = inr (l, inr (more, ap c (sym is) ∙ holds, h))
