@@ -9,7 +9,7 @@ use Rattle.cbm_medium.proofs.Passed.{WalksTo}
 use Rattle.cbm_relfile.specs.Records.{Relative, EndsBefore}
 use Rattle.cbm_relfile.specs.Counting.{IsChainCounted, EndsBy, LeadsTo}
 use Rattle.cbm_relfile.specs.OfFile.{IsOfFile}
-use Rattle.cbm_relfile.specs.Missing.{IsBlockMissing, IsBlockReached, IsStretchMissing, IsRecordMissing}
+use Rattle.cbm_relfile.specs.Missing.{IsBlockMissing, IsBlockReached, IsStretchMissing, IsRecordMissing, IsNextMissing}
 
 -- what a None says says more
 pub none_more : {A : Type 0} (P Q : Type 0) (r : Result (Option A) Trouble) → (P → Q) → IfOk r (λ o. IfNone o P) → IfOk r (λ o. IfNone o Q)
@@ -68,3 +68,9 @@ none_after c sector at from count l is z = inr (l, inl (ap (λ (p : Place). p.tr
 -- in the next one it ends
 pub none_next : (c : Content) (sector more : List ℕ) (at : Place) (from count : ℕ) → 254 ≤ from → at ≡ link sector → c at ≡ Ok more → EndsBefore c more (from - 254 + count) → IsStretchMissing c sector from count
 none_next c sector more at from count l is holds h = inr (l, inr (more, ap c (sym is) ∙ holds, h))
+
+-- and the stretch after a record's is the next one's
+pub next_missing : (tracks : ℕ) (c : Content) (file : Relative) (number width count : ℕ) (at : Place) (sector : List ℕ) → width ≡ file.width → count ≡ file.width → IsBlockReached tracks c file ((number - 1) * width / 254) at → Has tracks at → c at ≡ Ok sector
+    → IsStretchMissing c sector ((number - 1) * width % 254 + count) count → IsNextMissing tracks c file number
+next_missing tracks c file number width count at sector e f reached has holds none =
+    (at, sector, subst (λ (w : ℕ). IsBlockReached tracks c file ((number - 1) * w / 254) at) e reached, has, holds, subst (λ (x : ℕ × ℕ). IsStretchMissing c sector (x.0 % 254 + x.1) x.1) (λ i. ((number - 1) * e i, f i)) none)

@@ -22,13 +22,19 @@ IsStretchMissing c sector from count =
     ((from < 254) × EndsBefore c sector (from + count))
     ⊎ ((254 ≤ from) × (((link sector).track ≡ 0) ⊎ ((more : List ℕ) × (c (link sector) ≡ Ok more) × EndsBefore c more (from - 254 + count))))
 
--- the block of this number is there and reads, and the chain ends before this place of it
-abbrev pub EndsInBlock : ℕ → Content → Relative → ℕ → ℕ → Type 0
-EndsInBlock tracks c file number end =
-    (at : Place) × (sector : List ℕ) × IsBlockReached tracks c file number at × Has tracks at × (c at ≡ Ok sector) × EndsBefore c sector end
+-- the block of this number is reached and reads, and this holds of its bytes
+abbrev pub HasBlockWith : ℕ → Content → Relative → ℕ → (List ℕ → Type 0) → Type 0
+HasBlockWith tracks c file number P =
+    (at : Place) × (sector : List ℕ) × IsBlockReached tracks c file number at × Has tracks at × (c at ≡ Ok sector) × P sector
 
 -- A RECORD IS MISSING, by its number from 1: the block is missing in which it begins, or from that block on the chain ends before it does.
 abbrev pub IsRecordMissing : ℕ → Content → Relative → ℕ → Type 0
 IsRecordMissing tracks c file number =
     let from = (number - 1) * file.width in
-    IsBlockMissing tracks c file (from / 254) ⊎ EndsInBlock tracks c file (from / 254) (from % 254 + file.width)
+    IsBlockMissing tracks c file (from / 254) ⊎ HasBlockWith tracks c file (from / 254) (λ sector. EndsBefore c sector (from % 254 + file.width))
+
+-- THE NEXT RECORD IS MISSING: from the block in which this one begins the chain ends before the next one does.
+abbrev pub IsNextMissing : ℕ → Content → Relative → ℕ → Type 0
+IsNextMissing tracks c file number =
+    let from = (number - 1) * file.width in
+    HasBlockWith tracks c file (from / 254) (λ sector. IsStretchMissing c sector (from % 254 + file.width) file.width)

@@ -7,8 +7,8 @@ use Rattle.cbm_chain.specs.Data.{chain_bytes}
 use Rattle.cbm_relfile.specs.Records.{stretch_in, IsRewritten, EndsBefore}
 use Rattle.cbm_relfile.specs.Changing.{record_bytes, IsChangedIfThere, IsHalfRewritten, IsChangeStopped}
 use Rattle.cbm_relfile.proofs.Changed.{refused_by, read_from, no_stretch, with_bytes_length}
-use Rattle.cbm_relfile.specs.Missing.{IsBlockMissing, IsBlockReached}
-use Rattle.cbm_relfile.proofs.NotThere.{none_says, some_says, record_missing, record_short}
+use Rattle.cbm_relfile.specs.Missing.{IsBlockMissing, IsBlockReached, IsStretchMissing, IsNextMissing}
+use Rattle.cbm_relfile.proofs.NotThere.{none_more, none_says, some_says, record_missing, record_short, next_missing}
 use Rattle.cbm_relfile.proofs.StillShown.{still_shown}
 use Rattle.cbm_relfile.proofs.Stretches.{no_block, block_found, next_record}
 use Rattle.cbm_relfile.proofs.changing.write_record.Goals as goal
@@ -162,3 +162,10 @@ returns-then-not-branch-clause-missing g c =
     ap length (c.deref.ensures.0 ∙ c.changed-new.ensures) ∙ with_bytes_length (length c.in-Some-2.old.items) c.in-Some-2.old.items c.args.position c.args.bytes.now c.requires.position.0 (omega (arith, c.requires.position.1, size)) ∙ size in
     record_short c.args.geometry (g.M.Medium.seen c.args.medium.now).content c.args.file c.args.number c.length.result (length c.deref.result.now) c.in-Some.at c.in_ok-sector.sector c.length.ensures long
     (some_says (IsBlockReached c.args.geometry (g.M.Medium.seen c.args.medium.now).content c.args.file ((c.args.number - 1) * c.length.result / 254)) _ c.in-Some.at c.in-Some.is c.in_ok-at.ensures.reached) c.in_ok-sector.ensures.has c.in_ok-sector.ensures.ok (c.in_ok-rewrite.ensures.short c.if-not-branch.true)
+
+-- nor the next one
+pub returns-clause-misses_next : goal.returns-clause-misses_next
+returns-clause-misses_next g c =
+    none_more (IsStretchMissing (g.M.Medium.seen c.args.medium.now).content c.in_ok-sector.sector ((c.args.number - 1) * c.length.result % 254 + c.length-3.result) c.length-3.result) (IsNextMissing c.args.geometry (g.M.Medium.seen c.args.medium.now).content c.args.file c.args.number) c.next_stretch-next.result
+    (next_missing c.args.geometry (g.M.Medium.seen c.args.medium.now).content c.args.file c.args.number c.length.result c.length-3.result c.in-Some.at c.in_ok-sector.sector c.length.ensures c.length-3.ensures
+      (some_says (IsBlockReached c.args.geometry (g.M.Medium.seen c.args.medium.now).content c.args.file ((c.args.number - 1) * c.length.result / 254)) _ c.in-Some.at c.in-Some.is c.in_ok-at.ensures.reached) c.in_ok-sector.ensures.has c.in_ok-sector.ensures.ok) c.next_stretch-next.ensures.missing
