@@ -1,5 +1,5 @@
 -- The places that a relative file names, as they are read.
-use Rattle.std.proofs.Common.{◌≡◌, ◌⊎◌, ℕ, suc, zero, ◌+◌, ◌-◌, ◌*◌, ◌<◌, ◌≤◌, List, Option, Some, None, Ok, Err, refl, sym, subst, ◌∙◌, ap, arith, inl, inr}
+use Rattle.std.proofs.Common.{◌≡◌, ℕ, suc, zero, ◌+◌, ◌-◌, ◌*◌, ◌<◌, ◌≤◌, List, Option, Some, None, Ok, Err, refl, sym, subst, ◌∙◌, ap, arith, inl, inr}
 use Rattle.cbm_medium.specs.Place.{Place, Has, has}
 use Rattle.cbm_medium.specs.Content.{Content}
 use Rattle.std.specs.Prelude.{false, Result, IfOk, IfSome, IsErrAnd}

@@ -1,5 +1,5 @@
 -- A None that is handed on, and what it says.
-use Rattle.std.proofs.Common.{◌≡◌, ◌≢◌, ◌⊎◌, ℕ, ◌+◌, ◌-◌, ◌*◌, ◌/◌, ◌%◌, ◌≤◌, ◌<◌, List, Option, Some, None, Ok, Err, refl, sym, ap, subst, ◌∙◌, arith, inl, inr}
+use Rattle.std.proofs.Common.{◌≡◌, ◌≢◌, ℕ, ◌+◌, ◌-◌, ◌*◌, ◌/◌, ◌%◌, ◌≤◌, ◌<◌, List, Option, Some, None, Ok, Err, sym, ap, subst, ◌∙◌, arith, inl, inr}
 use Rattle.std.specs.Prelude.{Result, IfOk, IfNone, IfSome}
 use Rattle.cbm_medium.specs.Place.{Place, Has}
 use Rattle.cbm_medium.specs.Content.{Content}
@@ -7,7 +7,7 @@ use Rattle.cbm_medium.specs.Links.{link}
 use Rattle.cbm_medium.specs.declared.fault.Trouble.{Trouble}
 use Rattle.cbm_medium.proofs.Passed.{WalksTo}
 use Rattle.cbm_relfile.specs.Records.{Relative, EndsBefore}
-use Rattle.cbm_relfile.specs.Counting.{IsChainCounted, EndsBy, LeadsTo}
+use Rattle.cbm_relfile.specs.Counting.{ChainEndsBy, BlocksLeadTo}
 use Rattle.cbm_relfile.specs.OfFile.{IsOfFile}
 use Rattle.cbm_relfile.specs.Missing.{IsBlockMissing, IsBlockReached, IsStretchMissing, IsRecordMissing, IsNextMissing}
 
@@ -31,18 +31,18 @@ pub some_says : {A : Type 0} (P : A → Type 0) (o : Option A) (x : A) → o ≡
 some_says {A = A} P o x is h = subst (λ (y : Option A). IfSome y P) is h
 
 -- a walk has come to track 0
-pub walk_ends : (tracks : ℕ) (c : Content) (first at : Place) (k number : ℕ) → WalksTo tracks c first at k → k ≤ number → at.track ≡ 0 → EndsBy tracks c first number
+pub walk_ends : (tracks : ℕ) (c : Content) (first at : Place) (k number : ℕ) → WalksTo tracks c first at k → k ≤ number → at.track ≡ 0 → ChainEndsBy tracks c first number
 walk_ends tracks c first at k number w l z = inr (k, l, record { blocks = w.blocks; behind = at; number = w.number; leads = w.leads; ends = inl z })
 
 -- or goes on
-pub walk_leads : (tracks : ℕ) (c : Content) (first at : Place) (k number : ℕ) → WalksTo tracks c first at k → k ≡ number → at.track ≢ 0 → LeadsTo tracks c first number at
+pub walk_leads : (tracks : ℕ) (c : Content) (first at : Place) (k number : ℕ) → WalksTo tracks c first at k → k ≡ number → at.track ≢ 0 → BlocksLeadTo tracks c first number at
 walk_leads tracks c first at k number w e ne = record { blocks = w.blocks; count = w.number ∙ e; leads = w.leads; going = ne }
 
-ends_within : (tracks : ℕ) (c : Content) (q : Place) (k number : ℕ) → k ≤ number → EndsBy tracks c q k → EndsBy tracks c q number
+ends_within : (tracks : ℕ) (c : Content) (q : Place) (k number : ℕ) → k ≤ number → ChainEndsBy tracks c q k → ChainEndsBy tracks c q number
 ends_within tracks c q k number l (inl s) = inl (omega (arith, l, s))
 ends_within tracks c q k number l (inr e) = inr (e.0, omega (arith, l, e.1), e.2)
 
-pub missing_from : (tracks : ℕ) (c : Content) (file : Relative) (q : Place) (k number : ℕ) → IsOfFile tracks c file q → k ≤ number → EndsBy tracks c q k → IsBlockMissing tracks c file number
+pub missing_from : (tracks : ℕ) (c : Content) (file : Relative) (q : Place) (k number : ℕ) → IsOfFile tracks c file q → k ≤ number → ChainEndsBy tracks c q k → IsBlockMissing tracks c file number
 missing_from tracks c file q k number of l e = (q, of, ends_within tracks c q k number l e)
 
 -- the block in which it begins is missing

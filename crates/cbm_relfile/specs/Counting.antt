@@ -13,11 +13,11 @@ pub record IsChainCounted (tracks : ℕ) (c : Content) (first : Place) (k : ℕ)
   pub ends : (behind.track ≡ 0) ⊎ (k ≡ sector_count tracks)
 
 -- THE CHAIN ENDS BY THIS NUMBER: walked from its first block, it has no more blocks than this many; or the disk has no more sectors.
-abbrev pub EndsBy : ℕ → Content → Place → ℕ → Type 0
-EndsBy tracks c first number = (sector_count tracks ≤ number) ⊎ ((k : ℕ) × (k ≤ number) × IsChainCounted tracks c first k)
+abbrev pub ChainEndsBy : ℕ → Content → Place → ℕ → Type 0
+ChainEndsBy tracks c first number = (sector_count tracks ≤ number) ⊎ ((k : ℕ) × (k ≤ number) × IsChainCounted tracks c first k)
 
 -- THIS MANY BLOCKS LEAD TO A PLACE: from a first one they link each to the next one, and the last to this place, which isn't track 0.
-pub record LeadsTo (tracks : ℕ) (c : Content) (first : Place) (number : ℕ) (at : Place) : Type 0 where
+pub record BlocksLeadTo (tracks : ℕ) (c : Content) (first : Place) (number : ℕ) (at : Place) : Type 0 where
   pub blocks : List Place
   pub count : length blocks ≡ number
   pub leads : LinksLead tracks c first blocks at

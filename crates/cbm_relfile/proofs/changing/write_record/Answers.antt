@@ -168,4 +168,4 @@ pub returns-clause-misses_next : goal.returns-clause-misses_next
 returns-clause-misses_next g c =
     none_more (IsStretchMissing (g.M.Medium.seen c.args.medium.now).content c.in_ok-sector.sector ((c.args.number - 1) * c.length.result % 254 + c.length-3.result) c.length-3.result) (IsNextMissing c.args.geometry (g.M.Medium.seen c.args.medium.now).content c.args.file c.args.number) c.next_stretch-next.result
     (next_missing c.args.geometry (g.M.Medium.seen c.args.medium.now).content c.args.file c.args.number c.length.result c.length-3.result c.in-Some.at c.in_ok-sector.sector c.length.ensures c.length-3.ensures
-      (some_says (IsBlockReached c.args.geometry (g.M.Medium.seen c.args.medium.now).content c.args.file ((c.args.number - 1) * c.length.result / 254)) _ c.in-Some.at c.in-Some.is c.in_ok-at.ensures.reached) c.in_ok-sector.ensures.has c.in_ok-sector.ensures.ok) c.next_stretch-next.ensures.missing
+    (some_says (IsBlockReached c.args.geometry (g.M.Medium.seen c.args.medium.now).content c.args.file ((c.args.number - 1) * c.length.result / 254)) _ c.in-Some.at c.in-Some.is c.in_ok-at.ensures.reached) c.in_ok-sector.ensures.has c.in_ok-sector.ensures.ok) c.next_stretch-next.ensures.missing
