@@ -1,5 +1,5 @@
 -- The places that a relative file names, as they are read.
-use Rattle.std.proofs.Common.{◌≡◌, ◌⊎◌, ℕ, suc, zero, ◌+◌, ◌-◌, ◌*◌, ◌<◌, ◌≤◌, List, Option, Some, None, Ok, Err, refl, sym, subst, ◌∙◌, ap, arith, inl, inr}
+use Rattle.std.proofs.Common.{◌≡◌, ℕ, suc, zero, ◌+◌, ◌-◌, ◌*◌, ◌<◌, ◌≤◌, List, Option, Some, None, Ok, Err, refl, sym, subst, ◌∙◌, ap, arith, inl, inr}
 use Rattle.cbm_medium.specs.Place.{Place, Has, has}
 use Rattle.cbm_medium.specs.Content.{Content}
 use Rattle.std.specs.Prelude.{false, Result, IfOk, IfSome, IsErrAnd}
@@ -23,6 +23,11 @@ pub last_listed : (tracks : ℕ) (c : Content) (file : Relative) (p before q : P
     → (count ≡ 0 → q ≡ before) → (0 < count → q ≡ place_in side (16 + 2 * (count - 1))) → IsOfFile tracks c file before → IsOfFile tracks c file q
 last_listed tracks c file p before q side zero s h e l none last b = subst (λ (x : Place). IsOfFile tracks c file x) (sym (none refl)) b
 last_listed tracks c file p before q side (suc n) s h e l none last b = block_listed tracks c file p q side n s h e (omega (arith, l)) (last (omega arith) ∙ ap (λ (k : ℕ). place_in side (16 + 2 * k)) (omega arith))
+
+-- no more blocks are left to the block that is wanted than before
+pub last_left : (count left before after number : ℕ) → (count ≡ 0 → after ≡ before) → (0 < count → after ≡ left - (count - 1)) → left ≤ number → before ≤ number → after ≤ number
+last_left zero left before after number none last l b = omega (arith, none refl, b)
+last_left (suc n) left before after number none last l b = omega (arith, last (omega arith), l)
 
 -- a block that is found is named from more starts, too
 pub found_more : (tracks : ℕ) (c : Content) (starts others : Place → Type 0) (r : Result (Option Place) Trouble) → StartsAmong tracks c starts others → IfOk r (λ o. IfSome o (IsNamed tracks c starts)) → IfOk r (λ o. IfSome o (IsNamed tracks c others))

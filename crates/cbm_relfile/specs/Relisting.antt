@@ -2,10 +2,10 @@
 use Rattle.std.specs.Prelude.{ℕ, ◌+◌, ◌*◌, ◌<◌, ◌≤◌, ◌≡◌, ◌⊎◌, true, List, length, take, drop, slice_index, slice_index_or, Ok}
 use Rattle.cbm_medium.specs.Place.{Place, directory_head}
 use Rattle.cbm_medium.specs.Content.{Content, written}
-use Rattle.cbm_medium.specs.Links.{bytes_at, place_in, IsApart}
+use Rattle.cbm_medium.specs.Links.{bytes_at, IsApart}
 use Rattle.cbm_medium.specs.Seen.{Seen, HasFailed}
 use Rattle.cbm_relfile.specs.Records.{AllWhole, Relative, IsLaid}
-use Rattle.cbm_relfile.specs.SideSectors.{named_in, IsEnded}
+use Rattle.cbm_relfile.specs.SideSectors.{named_in, listed_side, IsEnded}
 
 -- A side sector lists these blocks, with zeros after them; its number, the records' length and the list of the side sectors stay.
 pub record ListsThese (old : List ℕ) (blocks : List Place) (new : List ℕ) : Type 0 where
@@ -29,7 +29,7 @@ lists_at c sides i = named_in 120 (drop 16 (bytes_at c (slice_index_or sides i d
 
 -- these are the side sectors that the first one names
 abbrev pub NamesSides : List ℕ → List Place → Type 0
-NamesSides head sides = (i : ℕ) → i < length sides → slice_index_or sides i directory_head ≡ place_in head (4 + 2 * i)
+NamesSides head sides = (i : ℕ) → i < length sides → slice_index_or sides i directory_head ≡ listed_side head i
 
 -- Why a side sector that reads isn't written: the medium is protected, which is reported as 26, or it failed by itself.
 abbrev pub IsSideRefused : Seen → Seen → ℕ → Type 0

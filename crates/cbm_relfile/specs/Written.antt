@@ -1,7 +1,10 @@
 -- What a call that writes a record in place leaves on any content.
-use Rattle.std.specs.Prelude.{ℕ, ◌≡◌, ◌≢◌, ◌≤◌, true, false, Option, None, Result, IfOk, IfErr, IfSome}
+use Rattle.std.specs.Prelude.{ℕ, ◌≡◌, ◌≢◌, ◌≤◌, true, false, Option, None, Result, IfOk, IfErr, IfNone, IfSome}
+use Rattle.cbm_medium.specs.Content.{Content}
 use Rattle.cbm_medium.specs.Seen.{Seen, ShowsGround}
 use Rattle.cbm_medium.specs.declared.fault.Trouble.{Trouble}
+use Rattle.cbm_relfile.specs.Records.{Relative}
+use Rattle.cbm_relfile.specs.Missing.{IsNextMissing}
 use Rattle.cbm_relfile.specs.declared.changing.WrittenRecord.{WrittenRecord}
 
 -- None says that nothing has changed. A record that is there has a small number, as this many bytes have 768 blocks at most, and isn't
@@ -14,3 +17,7 @@ pub record IsRecordWrite (result : Result (Option WrittenRecord) Trouble) (old n
   pub guarded : old.protected ≡ true → new.content ≡ old.content
   pub next_never_26 : IfOk result (λ o. IfSome o (λ r. IfErr r.next (λ t. t.code ≢ 26)))
   pub next_shown : IfOk result (λ o. IfSome o (λ r. IfErr r.next (ShowsGround new)))
+
+-- That the next record isn't there says that it was missing before the call.
+abbrev pub MissesNext : Result (Option WrittenRecord) Trouble → ℕ → Content → Relative → ℕ → Type 0
+MissesNext result tracks c file number = IfOk result (λ o. IfSome o (λ r. IfOk r.next (λ x. IfNone x (IsNextMissing tracks c file number))))

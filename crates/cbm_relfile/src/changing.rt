@@ -1,12 +1,13 @@
 // A record is written in place.
 
-ghost use Rattle.std.specs.Prelude.{◌≡◌, ◌≤◌, ◌<◌, ◌+◌, ◌^◌, None, length, option_map, IfOk, IfSome, IsOkAnd, MatchResult};
+ghost use Rattle.std.specs.Prelude.{◌≡◌, ◌≤◌, ◌<◌, ◌+◌, ◌^◌, None, length, option_map, IfOk, IfNone, IfSome, IsOkAnd, MatchResult};
 ghost use Rattle.cbm_medium.specs.Seen.{OnlyContent};
 ghost use Rattle.cbm_file.specs.Records.{with_bytes};
 ghost use Rattle.cbm_chain.specs.Data.{chain_bytes};
 ghost use Rattle.cbm_relfile.specs.Records.{OfRelative, record_in};
 ghost use Rattle.cbm_relfile.specs.Changing.{IsChangedIfThere, IsChangeStopped};
-ghost use Rattle.cbm_relfile.specs.Written.{IsRecordWrite};
+ghost use Rattle.cbm_relfile.specs.Missing.{IsRecordMissing};
+ghost use Rattle.cbm_relfile.specs.Written.{IsRecordWrite, MissesNext};
 
 use crate::reading::{Record, block_at, joined, next_stretch, stretch};
 use crate::relative::Relative;
@@ -64,6 +65,8 @@ pub fn write_record<M: Medium>(
         ≡ record_in file.width (chain_bytes content blocks) (number + 1))))) }
     ensures write { IsRecordWrite result (M.seen medium.old) (M.seen medium.new) number }
     ensures only { OnlyContent geometry result (M.seen medium.old) (M.seen medium.new) }
+    ensures missing { IfOk result (λ o. IfNone o (IsRecordMissing geometry (M.seen medium.old).content file number)) }
+    ensures misses_next { MissesNext result geometry (M.seen medium.old).content file number }
 {
     let from = (number - 1) * file.length() as u32;
     let Some(at) = block_at(medium, geometry, file, from / 254)? else {

@@ -7,6 +7,8 @@ use Rattle.cbm_chain.specs.Data.{chain_bytes}
 use Rattle.cbm_relfile.specs.Records.{stretch_in, IsRewritten, EndsBefore}
 use Rattle.cbm_relfile.specs.Changing.{record_bytes, IsChangedIfThere, IsHalfRewritten, IsChangeStopped}
 use Rattle.cbm_relfile.proofs.Changed.{refused_by, read_from, no_stretch, with_bytes_length}
+use Rattle.cbm_relfile.specs.Missing.{IsBlockMissing, IsBlockReached, IsStretchMissing, IsNextMissing}
+use Rattle.cbm_relfile.proofs.NotThere.{none_more, none_says, some_says, record_missing, record_short, next_missing}
 use Rattle.cbm_relfile.proofs.StillShown.{still_shown}
 use Rattle.cbm_relfile.proofs.Stretches.{no_block, block_found, next_record}
 use Rattle.cbm_relfile.proofs.changing.write_record.Goals as goal
@@ -139,3 +141,31 @@ returns-clause-write g c =
       next_never_26 = (search rules);
       next_shown = still_shown c.next_stretch-next.result c.args.geometry _ old new c.in-Some.at c.in_ok-sector.sector place c.deref.result.now c.in_ok-sector.ensures.ok w c.next_stretch-next.ensures.err;
     }
+
+-- ---- when the record isn't there
+
+pub returns-in_default-clause-missing : goal.returns-in_default-clause-missing
+returns-in_default-clause-missing g c =
+    record_missing c.args.geometry (g.M.Medium.seen c.args.medium.now).content c.args.file c.args.number c.length.result c.length.ensures
+    (none_says (IsBlockMissing c.args.geometry (g.M.Medium.seen c.args.medium.now).content c.args.file ((c.args.number - 1) * c.length.result / 254)) _ c.in_default.is c.in_ok-at.ensures.missing)
+
+pub returns-in_default-2-clause-missing : goal.returns-in_default-2-clause-missing
+returns-in_default-2-clause-missing g c =
+    record_short c.args.geometry (g.M.Medium.seen c.args.medium.now).content c.args.file c.args.number c.length.result c.length-2.result c.in-Some.at c.in_ok-sector.sector c.length.ensures c.length-2.ensures
+    (some_says (IsBlockReached c.args.geometry (g.M.Medium.seen c.args.medium.now).content c.args.file ((c.args.number - 1) * c.length.result / 254)) _ c.in-Some.at c.in-Some.is c.in_ok-at.ensures.reached) c.in_ok-sector.ensures.has c.in_ok-sector.ensures.ok
+    (none_says (EndsBefore (g.M.Medium.seen c.args.medium.now).content c.in_ok-sector.sector ((c.args.number - 1) * c.length.result % 254 + c.length-2.result)) _ c.in_default-2.is c.in_ok-old.ensures.short)
+
+pub returns-then-not-branch-clause-missing : goal.returns-then-not-branch-clause-missing
+returns-then-not-branch-clause-missing g c =
+    let size : length c.in-Some-2.old.items ≡ c.args.file.width = (let n = rw c.in-Some-2.is at c.in_ok-old.ensures.size in n ∙ c.length-2.ensures) in
+    let long : length c.deref.result.now ≡ c.args.file.width =
+    ap length (c.deref.ensures.0 ∙ c.changed-new.ensures) ∙ with_bytes_length (length c.in-Some-2.old.items) c.in-Some-2.old.items c.args.position c.args.bytes.now c.requires.position.0 (omega (arith, c.requires.position.1, size)) ∙ size in
+    record_short c.args.geometry (g.M.Medium.seen c.args.medium.now).content c.args.file c.args.number c.length.result (length c.deref.result.now) c.in-Some.at c.in_ok-sector.sector c.length.ensures long
+    (some_says (IsBlockReached c.args.geometry (g.M.Medium.seen c.args.medium.now).content c.args.file ((c.args.number - 1) * c.length.result / 254)) _ c.in-Some.at c.in-Some.is c.in_ok-at.ensures.reached) c.in_ok-sector.ensures.has c.in_ok-sector.ensures.ok (c.in_ok-rewrite.ensures.short c.if-not-branch.true)
+
+-- nor the next one
+pub returns-clause-misses_next : goal.returns-clause-misses_next
+returns-clause-misses_next g c =
+    none_more (IsStretchMissing (g.M.Medium.seen c.args.medium.now).content c.in_ok-sector.sector ((c.args.number - 1) * c.length.result % 254 + c.length-3.result) c.length-3.result) (IsNextMissing c.args.geometry (g.M.Medium.seen c.args.medium.now).content c.args.file c.args.number) c.next_stretch-next.result
+    (next_missing c.args.geometry (g.M.Medium.seen c.args.medium.now).content c.args.file c.args.number c.length.result c.length-3.result c.in-Some.at c.in_ok-sector.sector c.length.ensures c.length-3.ensures
+    (some_says (IsBlockReached c.args.geometry (g.M.Medium.seen c.args.medium.now).content c.args.file ((c.args.number - 1) * c.length.result / 254)) _ c.in-Some.at c.in-Some.is c.in_ok-at.ensures.reached) c.in_ok-sector.ensures.has c.in_ok-sector.ensures.ok) c.next_stretch-next.ensures.missing

@@ -6,7 +6,7 @@ use Rattle.cbm_relfile.specs.OfFile.{IsOfFile}
 use Rattle.cbm_relfile.specs.SideSectors.{sides_listed, blocks_listed, Numbered, IsNear}
 use Rattle.cbm_relfile.specs.declared.listing.Near.{Near}
 use Rattle.cbm_relfile.proofs.Listed.{near_none, near_ends, next_side, near_here, near_next, same_ok}
-use Rattle.cbm_relfile.proofs.FilePlaces.{side_listed, block_listed, last_listed}
+use Rattle.cbm_relfile.proofs.FilePlaces.{side_listed, block_listed, last_listed, last_left}
 use Rattle.cbm_relfile.proofs.listing.nearest_listed.Goals as goal
 
 -- no side sector is left
@@ -49,6 +49,8 @@ loop-n-preserved g c = record {
   place = last_listed c.args.geometry (g.M.Medium.seen c.args.medium.now).content c.args.file c.new-at.result c.loop-n.near.at c.last_in-near.result.at c.in_ok-side.side c.listed_count-count.result
       (side_listed c.args.geometry (g.M.Medium.seen c.args.medium.now).content c.args.file.side c.side-first.result c.new-at.result c.in_ok-head.head c.loop-n.n c.side-first.ensures c.in_ok-head.ensures.has c.in_ok-head.ensures.ok c.loop-n-test.true c.new-at.ensures)
       (c.in_ok-side.ensures.has c.in_ok-head.ensures.has) c.in_ok-side.ensures.ok c.listed_count-count.ensures.most (λ z. ap (λ (r : Near). r.at) (c.last_in-near.ensures.none z)) (λ h. (c.last_in-near.ensures.last h).0) c.loop-n.invariant.place;
+  few = omega (arith, c.loop-n.invariant.few);
+  near_few = last_left c.listed_count-count.result c.loop-n.left c.loop-n.near.left c.last_in-near.result.left c.args.number (λ z. ap (λ (r : Near). r.left) (c.last_in-near.ensures.none z)) (λ h. (c.last_in-near.ensures.last h).1) c.loop-n.invariant.few c.loop-n.invariant.near_few;
 }
 
 pub returns-clause-listed : goal.returns-clause-listed
@@ -75,3 +77,9 @@ pub returns-in_err-side-clause-err : goal.returns-in_err-side-clause-err
 returns-in_err-side-clause-err g c =
     meets_on c.args.geometry (g.M.Medium.seen c.args.medium.now).content (λ q. q ≡ c.new-at.result) (IsOfFile c.args.geometry (g.M.Medium.seen c.args.medium.now).content c.args.file) _ c.in_err-side.field-0.0 c.from_residual-in_err-side.result refl c.from_residual-in_err-side.ensures.1
     (one_start c.args.geometry (g.M.Medium.seen c.args.medium.now).content (IsOfFile c.args.geometry (g.M.Medium.seen c.args.medium.now).content c.args.file) c.new-at.result (inl (inr (inl (side_listed c.args.geometry (g.M.Medium.seen c.args.medium.now).content c.args.file.side c.side-first.result c.new-at.result c.in_ok-head.head c.loop-n.n c.side-first.ensures c.in_ok-head.ensures.has c.in_ok-head.ensures.ok c.loop-n-test.true c.new-at.ensures))))) c.in_err-side.ensures.err
+
+pub returns-then-is_end-clause-left : goal.returns-then-is_end-clause-left
+returns-then-is_end-clause-left g c = c.loop-n.invariant.near_few
+
+pub returns-clause-left : goal.returns-clause-left
+returns-clause-left g c = c.loop-n.invariant.near_few

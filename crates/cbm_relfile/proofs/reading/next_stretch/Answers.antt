@@ -3,6 +3,9 @@ use Rattle.std.specs.Prelude.{IsOkAnd, option_map}
 use Rattle.cbm_medium.specs.Place.{Place}
 use Rattle.cbm_medium.specs.Links.{link}
 use Rattle.cbm_medium.proofs.Named.{linked_by, one_start, meets_more, meets_on}
+use Rattle.cbm_relfile.specs.Records.{EndsBefore}
+use Rattle.cbm_relfile.specs.Missing.{IsStretchMissing}
+use Rattle.cbm_relfile.proofs.NotThere.{none_more, none_here, none_after, none_next}
 use Rattle.cbm_relfile.proofs.NextStretches.{no_next, begins_next}
 use Rattle.cbm_relfile.proofs.reading.next_stretch.Goals as goal
 
@@ -37,3 +40,18 @@ pub returns-clause-err : goal.returns-clause-err
 returns-clause-err g c =
     meets_more c.args.geometry (g.M.Medium.seen c.args.medium.now).content (λ q. q ≡ link c.in_ok-more.more) (λ q. q ≡ link c.args.bytes.now) c.stretch-2.result
     (one_start c.args.geometry (g.M.Medium.seen c.args.medium.now).content (λ q. q ≡ link c.args.bytes.now) (link c.in_ok-more.more) (linked_by c.args.geometry (g.M.Medium.seen c.args.medium.now).content (λ q. q ≡ link c.args.bytes.now) c.of-next.result (link c.in_ok-more.more) c.in_ok-more.more c.in_ok-more.ensures.has c.in_ok-more.ensures.ok refl)) c.stretch-2.ensures.err
+
+-- ---- when the chain ends before
+
+pub returns-then-behind-lt254-clause-missing : goal.returns-then-behind-lt254-clause-missing
+returns-then-behind-lt254-clause-missing g c =
+    none_more (EndsBefore (g.M.Medium.seen c.args.medium.now).content c.args.bytes.now (c.args.place + c.args.count + c.args.count)) (IsStretchMissing (g.M.Medium.seen c.args.medium.now).content c.args.bytes.now (c.args.place + c.args.count) c.args.count) c.stretch.result
+    (none_here (g.M.Medium.seen c.args.medium.now).content c.args.bytes.now (c.args.place + c.args.count) c.args.count c.if-behind-lt254.true) c.stretch.ensures.short
+
+pub returns-then-is_end-clause-missing : goal.returns-then-is_end-clause-missing
+returns-then-is_end-clause-missing g c = none_after (g.M.Medium.seen c.args.medium.now).content c.args.bytes.now c.of-next.result (c.args.place + c.args.count) c.args.count c.if-behind-lt254.false c.of-next.ensures (c.if-is_end.ensures.0 refl)
+
+pub returns-clause-missing : goal.returns-clause-missing
+returns-clause-missing g c =
+    none_more (EndsBefore (g.M.Medium.seen c.args.medium.now).content c.in_ok-more.more (c.args.place + c.args.count - 254 + c.args.count)) (IsStretchMissing (g.M.Medium.seen c.args.medium.now).content c.args.bytes.now (c.args.place + c.args.count) c.args.count) c.stretch-2.result
+    (none_next (g.M.Medium.seen c.args.medium.now).content c.args.bytes.now c.in_ok-more.more c.of-next.result (c.args.place + c.args.count) c.args.count c.if-behind-lt254.false c.of-next.ensures c.in_ok-more.ensures.ok) c.stretch-2.ensures.short
