@@ -22,7 +22,7 @@ const BITS: u64 = 20 + 8 * 120 + 50;
 /// The same at a KERNAL's pace.
 const SLOW_BITS: u64 = 20 + 8 * 160 + 50;
 
-/// A moment behind all that is played.
+/// A moment after all that is played.
 const END: u64 = 1_000_000_000_000;
 
 /// What a host changes, one after the other.

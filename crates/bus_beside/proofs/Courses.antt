@@ -99,15 +99,15 @@ module _ (D M : Type 0) (stands : D → M → Type 0) (step : M → Act → M) (
       → GoOnBeside D M stands step says failures b (record { seats = ys; from = from; tidy_from = from }) (drive_events device cs) (drive_events device cs)
   reacts_on bytes failures b ys t device from cs e come = goes_on failures b (record { seats = ys; from = from; tidy_from = from }) (drive_events device cs) (drive_events device cs) come.0 (λ u bs ms es fs h.
       let r = come.1 u h.stations h.tidied h.sit in
-      let after = reacting M step says t r.before r.one r.behind in
-      let after2 = reacting M step says t r.before2 r.one2 r.behind2 in
+      let after = reacting M step says t r.before r.one r.afterwards in
+      let after2 = reacting M step says t r.before2 r.one2 r.afterwards2 in
       let is : suc t ≡ from = omega (arith, e) in
       record {
         stations = after;
         tidied = after2;
         reaches = subst (λ k. Reaches D M stands step says bs ms k k after after2 (es ++ drive_events device cs) (fs ++ drive_events device cs)) is
             (reaches_on bs ms b.from b.tidy_from (suc t) (suc t) h.stations h.tidied after after2 es fs (drive_events device cs) (drive_events device cs) h.reaches
-            (λ end more tidied rest. reacts t r.before r.one r.behind r.before2 r.one2 r.behind2 more tidied (all_bytes bytes b.seats h.stations h.tidied h.sit) r.is r.tidied r.first r.front r.heeds r.back
+            (λ end more tidied rest. reacts t r.before r.one r.afterwards r.before2 r.one2 r.afterwards2 more tidied (all_bytes bytes b.seats h.stations h.tidied h.sit) r.is r.tidied r.first r.front r.heeds r.back
             (λ i. drive_events (r.which i) (r.changes i) ++ more) (λ i. drive_events (r.which i) (r.changes i) ++ tidied) rest));
         sit = r.now;
       })

@@ -99,20 +99,20 @@ module _ (D M : Type 0) (stands : D → M → Type 0) (step : M → Act → M) (
   record Parts (front : List (SeatedTwice D)) (x : SeatedTwice D) (back : List (SeatedTwice D)) (ss ts : List (Station M)) : Type 0 where
     before : List (Station M)
     one : Station M
-    behind : List (Station M)
+    afterwards : List (Station M)
     before2 : List (Station M)
     one2 : Station M
-    behind2 : List (Station M)
-    is : ss ≡ before ++ one ∷ behind
-    tidied : ts ≡ before2 ++ one2 ∷ behind2
+    afterwards2 : List (Station M)
+    is : ss ≡ before ++ one ∷ afterwards
+    tidied : ts ≡ before2 ++ one2 ∷ afterwards2
     front_sits : Sit D M stands front before before2
     sits : Sits D M stands x one one2
-    back_sits : Sit D M stands back behind behind2
+    back_sits : Sit D M stands back afterwards afterwards2
 
   parts : (front : List (SeatedTwice D)) (x : SeatedTwice D) (back : List (SeatedTwice D)) (ss ts : List (Station M)) → Sit D M stands (front ++ x ∷ back) ss ts → Parts front x back ss ts
   parts [] x back [] ts h = absurd h
   parts [] x back (s ∷ ss) [] h = absurd h
-  parts [] x back (s ∷ ss) (t ∷ ts) h = record { before = []; one = s; behind = ss; before2 = []; one2 = t; behind2 = ts; is = refl; tidied = refl; front_sits = tt; sits = h.0; back_sits = h.1 }
+  parts [] x back (s ∷ ss) (t ∷ ts) h = record { before = []; one = s; afterwards = ss; before2 = []; one2 = t; afterwards2 = ts; is = refl; tidied = refl; front_sits = tt; sits = h.0; back_sits = h.1 }
   parts (y ∷ front) x back [] ts h = absurd h
   parts (y ∷ front) x back (s ∷ ss) [] h = absurd h
   parts (y ∷ front) x back (s ∷ ss) (t ∷ ts) h =
@@ -120,10 +120,10 @@ module _ (D M : Type 0) (stands : D → M → Type 0) (step : M → Act → M) (
       record {
         before = s ∷ p.before;
         one = p.one;
-        behind = p.behind;
+        afterwards = p.afterwards;
         before2 = t ∷ p.before2;
         one2 = p.one2;
-        behind2 = p.behind2;
+        afterwards2 = p.afterwards2;
         is = ap (λ us. s ∷ us) p.is;
         tidied = ap (λ us. t ∷ us) p.tidied;
         front_sits = (h.0, p.front_sits);
@@ -139,26 +139,26 @@ module _ (D M : Type 0) (stands : D → M → Type 0) (step : M → Act → M) (
       let p = parts front x back ss ts h in
       let r = reacts p.one p.one2 p.sits in
       let f = heard p.before p.before2 p.front_sits in
-      let b = heard2 p.behind p.behind2 p.back_sits in
-      let all : Sit D M stands (front' ++ x' ∷ back') (map (hear_all M step says cs) p.before ++ react M step says t p.one ∷ map (hear_all M step says cs) p.behind) (map (hear_all M step says cs) p.before2 ++ react M step says t p.one2 ∷ map (hear_all M step says cs) p.behind2)
-      = sit_cat front' (x' ∷ back') (map (hear_all M step says cs) p.before) (map (hear_all M step says cs) p.before2) (react M step says t p.one ∷ map (hear_all M step says cs) p.behind) (react M step says t p.one2 ∷ map (hear_all M step says cs) p.behind2) f.1 (r.now, b.1) in
+      let b = heard2 p.afterwards p.afterwards2 p.back_sits in
+      let all : Sit D M stands (front' ++ x' ∷ back') (map (hear_all M step says cs) p.before ++ react M step says t p.one ∷ map (hear_all M step says cs) p.afterwards) (map (hear_all M step says cs) p.before2 ++ react M step says t p.one2 ∷ map (hear_all M step says cs) p.afterwards2)
+      = sit_cat front' (x' ∷ back') (map (hear_all M step says cs) p.before) (map (hear_all M step says cs) p.before2) (react M step says t p.one ∷ map (hear_all M step says cs) p.afterwards) (react M step says t p.one2 ∷ map (hear_all M step says cs) p.afterwards2) f.1 (r.now, b.1) in
       record {
         before = p.before;
         one = p.one;
-        behind = p.behind;
+        afterwards = p.afterwards;
         before2 = p.before2;
         one2 = p.one2;
-        behind2 = p.behind2;
+        afterwards2 = p.afterwards2;
         is = p.is;
         tidied = p.tidied;
-        first = record { due = r.due; later = later p.before p.before2 p.front_sits; in_time = in_time p.behind p.behind2 p.back_sits };
+        first = record { due = r.due; later = later p.before p.before2 p.front_sits; in_time = in_time p.afterwards p.afterwards2 p.back_sits };
         front = subst (λ (ds : List Change). AllZip (HeedsAll M step says ds) p.before p.before2) r.changes f.0;
         heeds = r.heeds;
-        back = subst (λ (ds : List Change). AllZip (HeedsAll M step says ds) p.behind p.behind2) r.changes b.0;
+        back = subst (λ (ds : List Change). AllZip (HeedsAll M step says ds) p.afterwards p.afterwards2) r.changes b.0;
         which = r.which;
         changes = r.changes;
-        now = subst (λ (ds : List Change). Sit D M stands (front' ++ x' ∷ back') (map (hear_all M step says ds) p.before ++ react M step says t p.one ∷ map (hear_all M step says ds) p.behind) (reacting M step says t p.before2 p.one2 p.behind2)) r.changes
-            (subst (λ (ds : List Change). Sit D M stands (front' ++ x' ∷ back') (map (hear_all M step says cs) p.before ++ react M step says t p.one ∷ map (hear_all M step says cs) p.behind) (map (hear_all M step says ds) p.before2 ++ react M step says t p.one2 ∷ map (hear_all M step says ds) p.behind2)) r.tidied all);
+        now = subst (λ (ds : List Change). Sit D M stands (front' ++ x' ∷ back') (map (hear_all M step says ds) p.before ++ react M step says t p.one ∷ map (hear_all M step says ds) p.afterwards) (reacting M step says t p.before2 p.one2 p.afterwards2)) r.changes
+            (subst (λ (ds : List Change). Sit D M stands (front' ++ x' ∷ back') (map (hear_all M step says cs) p.before ++ react M step says t p.one ∷ map (hear_all M step says cs) p.afterwards) (map (hear_all M step says ds) p.before2 ++ react M step says t p.one2 ∷ map (hear_all M step says ds) p.afterwards2)) r.tidied all);
       }
 
   pub goes_reacted : (failures : D → ℕ) (t device : ℕ) (cs : List Change) (front front' : List (SeatedTwice D)) (x x' : SeatedTwice D) (back back' : List (SeatedTwice D)) → HaveNothingUpto D M stands step says t front → HaveNothingBefore D M stands step says t back

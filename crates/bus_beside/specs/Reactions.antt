@@ -35,16 +35,16 @@ module _ (D M : Type 0) (stands : D → M → Type 0) (step : M → Act → M) (
   pub record HaveReacted (t device : ℕ) (cs : List Change) (ys : List (SeatedTwice D)) (ss ts : List (Station M)) : Type 0 where
     pub before : List (Station M)
     pub one : Station M
-    pub behind : List (Station M)
+    pub afterwards : List (Station M)
     pub before2 : List (Station M)
     pub one2 : Station M
-    pub behind2 : List (Station M)
-    pub is : ss ≡ before ++ one ∷ behind
-    pub tidied : ts ≡ before2 ++ one2 ∷ behind2
-    pub first : IsFirst M step says t before one behind
+    pub afterwards2 : List (Station M)
+    pub is : ss ≡ before ++ one ∷ afterwards
+    pub tidied : ts ≡ before2 ++ one2 ∷ afterwards2
+    pub first : IsFirst M step says t before one afterwards
     pub front : AllZip (HeedsAll M step says (shown M step says t one)) before before2
     pub heeds : Heeds M step says one one2
-    pub back : AllZip (HeedsAll M step says (shown M step says t one)) behind behind2
+    pub back : AllZip (HeedsAll M step says (shown M step says t one)) afterwards afterwards2
     pub which : device ≡ one.port.party.device
     pub changes : cs ≡ shown M step says t one
-    pub now : Sit D M stands ys (reacting M step says t before one behind) (reacting M step says t before2 one2 behind2)
+    pub now : Sit D M stands ys (reacting M step says t before one afterwards) (reacting M step says t before2 one2 afterwards2)

@@ -1,7 +1,7 @@
 //! What all others hold, as a drive counts it.
 
 ghost use Rattle.std.specs.Prelude.{◌≡◌, IfSome};
-ghost use Rattle.cbm_session.specs.Among.{wires_of, behind_host, behind_other, counted};
+ghost use Rattle.cbm_session.specs.Among.{wires_of, after_the_host, after_another, counted};
 ghost use Rattle.cbm_session.specs.Playing.{nobody};
 ghost use Rattle.bus_beside.specs.Rests.{rest_by};
 
@@ -54,7 +54,7 @@ impl Others {
 
     /// After a change of the host.
     pub(crate) fn after_host(self, change: Change) -> Others
-        ensures { rest_by result ≡ behind_host change.line change.way (rest_by self) }
+        ensures { rest_by result ≡ after_the_host change.line change.way (rest_by self) }
     {
         Others {
             host: self.host.after(change),
@@ -64,7 +64,7 @@ impl Others {
 
     /// After a change of another drive. None where the count is too great.
     pub(crate) fn after_drive(self, change: Change) -> Option<Others>
-        ensures { IfSome result (λ o. rest_by o ≡ behind_other change.line change.way (rest_by self)) }
+        ensures { IfSome result (λ o. rest_by o ≡ after_another change.line change.way (rest_by self)) }
     {
         match change.line {
             Line::Atn => Some(self),

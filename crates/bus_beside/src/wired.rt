@@ -2,7 +2,7 @@
 
 ghost use Rattle.std.specs.Prelude.{◌≡◌, ◌<◌, ◌^◌, MatchOption, IfSome, true};
 ghost use Rattle.cbm_iec.specs.Ports.{resting, told, told_act};
-ghost use Rattle.cbm_session.specs.Among.{wires_of, behind_host, behind_other};
+ghost use Rattle.cbm_session.specs.Among.{wires_of, after_the_host, after_another};
 ghost use Rattle.cbm_session.specs.Playing.{nobody};
 ghost use Rattle.bus_beside.specs.Rests.{rest_by, ToldBy};
 
@@ -31,7 +31,7 @@ impl Wired {
     /// The host changes a line. Answers the act that counts with it.
     pub(crate) fn tell(&mut self, change: Change) -> Option<Act>
         requires { change.moment < 2 ^ 60 }
-        ensures { ToldBy change.moment (behind_host change.line change.way (rest_by self.old.others)) self.old self.new result }
+        ensures { ToldBy change.moment (after_the_host change.line change.way (rest_by self.old.others)) self.old self.new result }
     {
         let others = self.others.after_host(change);
         self.told(change.moment, others)
@@ -40,7 +40,7 @@ impl Wired {
     /// Another drive changes a line. Answers the act that counts with it; None where there are too many drives.
     pub(crate) fn hear(&mut self, change: Change) -> Option<Option<Act>>
         requires { change.moment < 2 ^ 60 }
-        ensures { IfSome result (λ act. ToldBy change.moment (behind_other change.line change.way (rest_by self.old.others)) self.old self.new act) }
+        ensures { IfSome result (λ act. ToldBy change.moment (after_another change.line change.way (rest_by self.old.others)) self.old self.new act) }
     {
         let others = self.others.after_drive(change)?;
         Some(self.told(change.moment, others))

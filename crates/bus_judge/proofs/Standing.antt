@@ -69,7 +69,7 @@ goes-on-at p Listening e h = ([], subst MayEnd (sym e) tt)
 goes-on-at p (Leading at) e h = (Full (Talk at (last_frame (talker_of p.seats) at)) ∷ [], ((e, last-fits (talker_of p.seats) at), tt))
 goes-on-at p (Cutting at) e h = absurd h
 
--- the session of the pieces so far, the one under way, and others behind it
+-- the session of the pieces so far, the one under way, and others after it
 pub splits_with : (bs : List Party) (p : Point) (w : OwnWhole) (steps : List OwnStep) (seen : ℕ) (done : List Step) (s : JudgeStandsAt bs p (Some w) steps seen done) (others : List Piece)
     → Linked (whole_point p (whole_of w)) others
     → Splits bs (s.ks ++ Full (whole_of w) ∷ others) done (steps_shown (drop seen steps) ++ session_steps (whole_point p (whole_of w)) others)
@@ -126,9 +126,9 @@ stands_more bs p whole steps x seen done s h =
     record { ks = s.ks; leads = s.leads; under_way = s.under_way; steps_done = a ∙ (b ∙ ap (λ (y : List Step). y ++ step_of x ∷ []) s.steps_done) }
 
 -- a piece has come, whole or cut: all its steps were seen
-stands-behind : (bs : List Party) (p : Point) (w : OwnWhole) (k : Piece) (q : Point) (steps : List OwnStep) (seen : ℕ) (done : List Step)
+stands-afterwards : (bs : List Party) (p : Point) (w : OwnWhole) (k : Piece) (q : Point) (steps : List OwnStep) (seen : ℕ) (done : List Step)
     → JudgeStandsAt bs p (Some w) steps seen done → PieceFits p k → piece_steps p k ≡ steps_shown (take seen steps) → q ≡ point_after p k → JudgeStandsAt bs q None [] 0 done
-stands-behind bs p w k q steps seen done s f e g =
+stands-afterwards bs p w k q steps seen done s f e g =
     let front = session_steps (rest bs) s.ks in
     let l : LeadsTo (rest bs) (s.ks ++ k ∷ []) q = subst (λ (x : Point). LeadsTo (rest bs) (s.ks ++ k ∷ []) x) (sym g) (leads-append (rest bs) s.ks k p s.leads f) in
     let a : session_steps (rest bs) (s.ks ++ k ∷ []) ≡ front ++ (piece_steps p k ++ []) = steps-append (rest bs) s.ks (k ∷ []) p s.leads in
@@ -138,14 +138,14 @@ stands-behind bs p w k q steps seen done s f e g =
 pub stands_passed : (bs : List Party) (p : Point) (w : OwnWhole) (q : Point) (steps : List OwnStep) (seen : ℕ) (done : List Step)
     → JudgeStandsAt bs p (Some w) steps seen done → length steps ≤ seen → q ≡ whole_point p (whole_of w) → JudgeStandsAt bs q None [] 0 done
 stands_passed bs p w q steps seen done s h g =
-    stands-behind bs p w (Full (whole_of w)) q steps seen done s s.under_way.0 (sym s.under_way.1 ∙ ap steps_shown (sym (take_all seen steps h))) g
+    stands-afterwards bs p w (Full (whole_of w)) q steps seen done s s.under_way.0 (sym s.under_way.1 ∙ ap steps_shown (sym (take_all seen steps h))) g
 
 pub stands_cut : (bs : List Party) (p : Point) (w : OwnWhole) (cut : ℕ) (q : Point) (steps : List OwnStep) (seen : ℕ) (done : List Step)
     → JudgeStandsAt bs p (Some w) steps seen done → CutFits p (whole_of w) cut → some_from cut (steps_shown steps) ≡ true → before cut (steps_shown steps) ≡ steps_shown (take seen steps)
     → q ≡ point_after p (Cut (whole_of w) cut) → JudgeStandsAt bs q None [] 0 done
 stands_cut bs p w cut q steps seen done s f more e g =
     let fits : PieceFits p (Cut (whole_of w) cut) = (s.under_way.0, f, subst (λ (x : List Step). some_from cut x ≡ true) s.under_way.1 more) in
-    stands-behind bs p w (Cut (whole_of w) cut) q steps seen done s fits (ap (λ (x : List Step). before cut x) (sym s.under_way.1) ∙ e) g
+    stands-afterwards bs p w (Cut (whole_of w) cut) q steps seen done s fits (ap (λ (x : List Step). before cut x) (sym s.under_way.1) ∙ e) g
 
 -- the same with another judge's words for nothing under way
 pub stands_cleared : (bs : List Party) (p q : Point) (whole : Option OwnWhole) (steps : List OwnStep) (seen : ℕ) (done : List Step)

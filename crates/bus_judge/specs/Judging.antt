@@ -24,7 +24,7 @@ abbrev pub IsPieceUnderWay : Point → Option OwnWhole → List OwnStep → Type
 IsPieceUnderWay p None steps = steps ≡ []
 IsPieceUnderWay p (Some w) steps = Fits p (whole_of w) × (steps_shown steps ≡ steps_of p (whole_of w))
 
--- behind these steps of a session of these drives: pieces up to a point, and so many steps of the one under way
+-- after these steps of a session of these drives: pieces up to a point, and so many steps of the one under way
 pub record JudgeStandsAt (bs : List Party) (p : Point) (whole : Option OwnWhole) (steps : List OwnStep) (seen : ℕ) (done : List Step) : Type 0 where
   pub ks : List Piece
   pub leads : LeadsTo (rest bs) ks p
@@ -51,7 +51,7 @@ and_then done event mark = done ++ (record { event = event; mark = step_mark mar
 abbrev pub BeginsSo : List Party → List Step → Type 0
 BeginsSo bs done = Begins bs (acts_of bs done) (events_of done)
 
--- a piece behind which a session may end
+-- a piece after which a session may end
 abbrev pub JudgeRests : Whole → Type 0
 JudgeRests (ToTalker at clock) = ⊥
 JudgeRests (Talk at f) = is_last f ≡ true

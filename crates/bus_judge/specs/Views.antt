@@ -76,7 +76,7 @@ whole_of (OwnToTalker at clock) = ToTalker at clock
 whole_of (OwnNothing at clock freed) = Nothing at clock freed
 whole_of (OwnTalk at f) = Talk at (told_of f)
 
--- the lines that a party holds behind a change of its own
+-- the lines that a party holds after a change of its own
 abbrev pub after_change : Held → Change → Held
 after_change held c = elim c.line [ Atn ↦ held | Clock ↦ record held { clock_low = is_pull c.way } | Data ↦ record held { data_low = is_pull c.way } ]
 

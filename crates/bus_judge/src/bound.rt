@@ -14,7 +14,7 @@ pub enum Bound {
     /// CLOCK's first pull of a frame without EOI.
     Start,
     /// CLOCK's first pull of a frame with EOI.
-    StartBehindPulse,
+    StartAfterPulse,
     /// CLOCK's release with a bit.
     Settled,
     /// CLOCK's pull after a bit.

@@ -191,7 +191,7 @@ fn start_fits(hearers: &[Seat], eoi: bool, frame: &Sent) -> Result<(), Cause>
 {
     if eoi {
         let quiet = frame.quiet(hearers);
-        return least(Bound::StartBehindPulse, Since::Pulse, quiet, 1, frame.start);
+        return least(Bound::StartAfterPulse, Since::Pulse, quiet, 1, frame.start);
     }
     let wire = frame.wire(hearers);
     least(Bound::Start, Since::Wire, wire, 1, frame.start)?;

@@ -32,19 +32,19 @@ fn held_before(held: Held, steps: &[Step], at: u64) -> Held
 }
 
 /// The moment after which all drives without a role have let go of DATA too.
-fn behind_all(at: u64, moment: u64, seats: &[Seat]) -> Result<u64, Unmade>
-    ensures { IfOk result (λ t. t ≡ spec.behind_all at moment (seats_of seats.now)) }
+fn after_all_of(at: u64, moment: u64, seats: &[Seat]) -> Result<u64, Unmade>
+    ensures { IfOk result (λ t. t ≡ spec.after_all_of at moment (seats_of seats.now)) }
 {
     let [seat, rest @ ..] = seats else {
         return Ok(moment);
     };
-    let behind = behind_all(at, moment, rest)?;
+    let afterwards = after_all_of(at, moment, rest)?;
     match seat.role {
         Role::Absent => {
             let freed = later(at, seat.reaction())?;
-            Ok(later(freed, 1)?.max(behind))
+            Ok(later(freed, 1)?.max(afterwards))
         }
-        Role::Listener | Role::Talker => Ok(behind),
+        Role::Listener | Role::Talker => Ok(afterwards),
     }
 }
 
@@ -234,7 +234,7 @@ impl Point {
             pulled: self.pulled,
             released: None,
             accepted: self.accepted,
-            since: behind_all(at, later(answer, 1)?, &self.seats)?,
+            since: after_all_of(at, later(answer, 1)?, &self.seats)?,
         })
     }
 
@@ -242,7 +242,7 @@ impl Point {
         ensures { IfOk result (λ p. point_of p ≡ spec.whole_point (point_of self.now) (spec.Nothing at clock freed)) }
     {
         let end = exact(silent_end(talker_of(&self.seats), clock))?;
-        let (behind, holds) = match freed {
+        let (afterwards, holds) = match freed {
             None => (later(end, 1)?, true),
             Some(freed) => (freed, false),
         };
@@ -253,7 +253,7 @@ impl Point {
             pulled: self.pulled,
             released: None,
             accepted: self.accepted,
-            since: behind_all(at, behind, &self.seats)?,
+            since: after_all_of(at, afterwards, &self.seats)?,
         })
     }
 

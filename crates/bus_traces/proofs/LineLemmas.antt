@@ -100,7 +100,7 @@ at_break (Some l) None c line h k u = absurd h
 at_break (Some l) (Some m) None line h k u = absurd k
 at_break (Some l) (Some m) (Some n) line h k u = ap lines_of h ∙ (ap (λ t. lines_of (line ++ t)) k ∙ broken line n u)
 
--- what the end says, behind a line and behind none
+-- what the end says, after a line and after none
 pub at_end : (a b : Option (List ℕ)) (line : List ℕ) → Consumes a b line → IsAtEnd b → IsUnbroken line → 0 < length line → TakesLine a b line
 at_end None b line h k u n = tt
 at_end (Some l) None line h k u n = absurd h

@@ -83,7 +83,7 @@ number_more tracks f p has off h =
     number_less tracks (with_bit f p true) p has off (bit_there f p true)
     ∙ ap suc (number_same tracks (with_bit (with_bit f p true) p false) f (λ q k. bit_twice f p q h))
 
--- each was taken, also after those behind it are set free: so they were taken, and are distinct
+-- each was taken, also once those after it are set free: so they were taken, and are distinct
 abbrev pub AreTaken : ℕ → (Place → Bool) → List Place → Type 0
 AreTaken tracks f [] = Unit {0}
 AreTaken tracks f (p ∷ rest) = Has tracks p × (p.track ≢ 18) × (with_freed f rest p ≡ false) × AreTaken tracks f rest

@@ -25,15 +25,15 @@ Finds f [] = Unit {0}
 Finds f (s ∷ ss) = (f s.port.party.device ≡ s.machine) × Finds f ss
 
 -- one more in front of them has another number
-finds_behind : (ms : ℕ → Desk Machine) (s : Station (Desk Machine)) (ss ts : List (Station (Desk Machine))) → Unlike s.port.party.device (map (λ s. s.port.party) ts) → Finds (machines_now ss ms) ts → Finds (machines_now (s ∷ ss) ms) ts
-finds_behind ms s ss [] u f = tt
-finds_behind ms s ss (t ∷ ts) u f =
-    (ap (λ (b : Bool). if b then s.machine else machines_now ss ms t.port.party.device) (ne_eqb s.port.party.device t.port.party.device u.0) ∙ f.0, finds_behind ms s ss ts u.1 f.1)
+finds_after_it : (ms : ℕ → Desk Machine) (s : Station (Desk Machine)) (ss ts : List (Station (Desk Machine))) → Unlike s.port.party.device (map (λ s. s.port.party) ts) → Finds (machines_now ss ms) ts → Finds (machines_now (s ∷ ss) ms) ts
+finds_after_it ms s ss [] u f = tt
+finds_after_it ms s ss (t ∷ ts) u f =
+    (ap (λ (b : Bool). if b then s.machine else machines_now ss ms t.port.party.device) (ne_eqb s.port.party.device t.port.party.device u.0) ∙ f.0, finds_after_it ms s ss ts u.1 f.1)
 
 finds : (ms : ℕ → Desk Machine) (ss : List (Station (Desk Machine))) → AllUnlike (map (λ s. s.port.party) ss) → Finds (machines_now ss ms) ss
 finds ms [] u = tt
 finds ms (s ∷ ss) u =
-    (ap (λ (b : Bool). if b then s.machine else machines_now ss ms s.port.party.device) (eq-eqb s.port.party.device s.port.party.device refl), finds_behind ms s ss ss u.0 (finds ms ss u.1))
+    (ap (λ (b : Bool). if b then s.machine else machines_now ss ms s.port.party.device) (eq-eqb s.port.party.device s.port.party.device refl), finds_after_it ms s ss ss u.0 (finds ms ss u.1))
 
 module _ {M : Type 0} (seen : M → Seen) where
   powered_now : (f : ℕ → Desk Machine) (h : Lines) (all : List (Seated (Desk (Kept M)))) (xs : List (Seated (Desk (Kept M)))) (ss : List (Station (Desk Machine))) → AllZip (IsSeat (Desk (Kept M)) (Desk Machine) (DeskStands seen) (wires_held_by h all)) xs ss → AreResting xs → Finds f ss

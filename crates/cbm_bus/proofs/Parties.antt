@@ -11,14 +11,14 @@ module _ (M : Type 0) (step : M → Act → M) (peek : M → Option (ℕ × Bool
   pub plays_parties : {n n2 : ℕ} {ss ss2 : List (Station M)} {es : List Event} → Plays M step peek n ss es n2 ss2 → map (λ s. s.port.party) ss2 ≡ map (λ s. s.port.party) ss
   plays_parties (stays y e k f) = ap (λ (l : List (Station M)). parties M step peek l) f
   plays_parties {n} {n2} {ss} (change c more y l i e f) = plays_parties f ∙ party_map M step peek (λ s. tell M step peek c s) ss (λ s. refl)
-  plays_parties {n} {n2} {ss} (reaction t before o behind more y e i k f) =
+  plays_parties {n} {n2} {ss} (reaction t before o afterwards more y e i k f) =
       let heard = λ (s : Station M). hear_all M step peek (shown M step peek t o) s in
       let same = λ (s : Station M). party_heard M step peek (shown M step peek t o) s in
       plays_parties f
-      ∙ map-append (λ s. s.port.party) (map heard before) (react M step peek t o ∷ map heard behind)
-      ∙ ap (λ (l : List Party). l ++ o.port.party ∷ parties M step peek (map heard behind)) (party_map M step peek heard before same)
-      ∙ ap (λ (l : List Party). parties M step peek before ++ o.port.party ∷ l) (party_map M step peek heard behind same)
-      ∙ sym (map-append (λ s. s.port.party) before (o ∷ behind))
+      ∙ map-append (λ s. s.port.party) (map heard before) (react M step peek t o ∷ map heard afterwards)
+      ∙ ap (λ (l : List Party). l ++ o.port.party ∷ parties M step peek (map heard afterwards)) (party_map M step peek heard before same)
+      ∙ ap (λ (l : List Party). parties M step peek before ++ o.port.party ∷ l) (party_map M step peek heard afterwards same)
+      ∙ sym (map-append (λ s. s.port.party) before (o ∷ afterwards))
       ∙ ap (λ (l : List (Station M)). parties M step peek l) (sym e)
 
   pub rest_parties : (ms : ℕ → M) (bs : List Party) → map (λ s. s.port.party) (at_rest M step peek ms bs) ≡ bs

@@ -15,8 +15,8 @@ use Rattle.cbm_chain.proofs.Parts.{part_chain_bytes}
 use Rattle.cbm_chain.specs.Writing.{State, StandsAfter, taken_up, place_or, first_block_of, last_block_of, last_of, block_data_at, one_more, Part, part_bytes, Wrote}
 
 -- what follows, with these blocks before it
-abbrev pub behind_these : List Place → Followed → Followed
-behind_these before f = record f { blocks = before ++ f.blocks }
+abbrev pub after_these : List Place → Followed → Followed
+after_these before f = record f { blocks = before ++ f.blocks }
 
 pub none_before : (tracks : ℕ) (c : Content) (s : State) → s ≡ (record { tracks = tracks; first = None; current = None; count = 0; waiting = [] }) → StandsAfter tracks c [] s
 none_before tracks c s e = record {
@@ -52,11 +52,11 @@ one_taken tracks c before p old new s e = record {
     more : one_more (min (length before) 65535) ≡ min (length (before ++ p ∷ [])) 65535
     more = omega (arith, length-append before (p ∷ []))
 
-pub followed_on : (whole here next : Followed) (before : List Place) (p : Place) → whole ≡ behind_these before here → here ≡ with_block p next → whole ≡ behind_these (before ++ p ∷ []) next
-followed_on whole here next before p e h = e ∙ ap (behind_these before) h ∙ ap (λ (bs : List Place). record next { blocks = bs }) (sym (append_assoc before (p ∷ []) next.blocks))
+pub followed_on : (whole here next : Followed) (before : List Place) (p : Place) → whole ≡ after_these before here → here ≡ with_block p next → whole ≡ after_these (before ++ p ∷ []) next
+followed_on whole here next before p e h = e ∙ ap (after_these before) h ∙ ap (λ (bs : List Place). record next { blocks = bs }) (sym (append_assoc before (p ∷ []) next.blocks))
 
 -- at the end of the chain
-pub all_taken : (tracks left : ℕ) (c : Content) (at : Place) (whole : Followed) (before : List Place) → at.track ≡ 0 → whole ≡ behind_these before (follow tracks c left at) → (whole.blocks ≡ before) × (whole.trouble ≡ None)
+pub all_taken : (tracks left : ℕ) (c : Content) (at : Place) (whole : Followed) (before : List Place) → at.track ≡ 0 → whole ≡ after_these before (follow tracks c left at) → (whole.blocks ≡ before) × (whole.trouble ≡ None)
 all_taken tracks left c at whole before z e = (
   ap (λ (f : Followed). f.blocks) e ∙ ap (λ (f : Followed). before ++ f.blocks) (follow_end tracks c left at z) ∙ append-nil before,
   ap (λ (f : Followed). f.trouble) e ∙ ap (λ (f : Followed). f.trouble) (follow_end tracks c left at z),

@@ -1,4 +1,4 @@
--- The blocks of a writer: they stay, one more comes behind them, or the last one ends them.
+-- The blocks of a writer: they stay, one more comes after them, or the last one ends them.
 use Rattle.std.proofs.Common.{◌≡◌, ◌≢◌, ℕ, List, [], ◌∷◌, ◌++◌, IsOk, refl, sym, ap, subst, ◌∙◌}
 use Rattle.std.proofs.lemmas.List.{append_assoc, append-nil}
 use Rattle.cbm_medium.specs.Place.{Place, Has}

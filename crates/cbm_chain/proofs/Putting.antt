@@ -1,4 +1,4 @@
--- A writer puts its bytes one behind another, each into a block of its own chain.
+-- A writer puts its bytes one after another, each into a block of its own chain.
 use Rattle.std.proofs.Common.{◌≡◌, ◌≢◌, ℕ, ◌+◌, ◌<◌, ◌≤◌, length, arith, List, [], ◌∷◌, ◌++◌, Bool, true, false, IsOk, refl, sym, ap, subst, ◌∙◌, inl, inr, Option, Some, None, Ok}
 use Rattle.std.specs.Prelude.{if◌then◌else◌}
 use Rattle.std.proofs.lemmas.List.{append_assoc, append-nil, length-append}
@@ -24,9 +24,9 @@ claim_keeps tracks c c' q [] h k = tt
 claim_keeps tracks c c' q (b ∷ []) h k = (claim_leaves tracks c c' b q k h.1, tt)
 claim_keeps tracks c c' q (b ∷ b' ∷ rest) h k = (claim_leaves tracks c c' b q k h.1, claim_keeps tracks c c' q (b' ∷ rest) h.5 k)
 
--- what is free behind a claim
-free_behind : (tracks : ℕ) (c c' : Content) (q p : Place) → Claims tracks c c' q → Has tracks p → is_free_in (map_of c') p ≡ with_bit (is_free_in (map_of c)) q false p
-free_behind tracks c c' q p k has =
+-- what is free after a claim
+free_after_it : (tracks : ℕ) (c c' : Content) (q p : Place) → Claims tracks c c' q → Has tracks p → is_free_in (map_of c') p ≡ with_bit (is_free_in (map_of c)) q false p
+free_after_it tracks c c' q p k has =
     let new : map_of c' ≡ k.remaps.map = ap (λ (x : Content). map_of x) k.remaps.written ∙ ap (λ (x : Cell). or_nothing x) (written_there c directory_head k.remaps.map) in
     ap (λ (m : List ℕ). is_free_in m p) new ∙ k.remaps.mapped.bits p has
 
@@ -38,13 +38,13 @@ still_taken free q p e = by_test (is_place q p)
     by_test false = e
 
 claimed_taken : (tracks : ℕ) (c c' : Content) (q : Place) → Claims tracks c c' q → is_free_in (map_of c') q ≡ false
-claimed_taken tracks c c' q k = free_behind tracks c c' q q k k.has ∙ ap (λ (b : Bool). if b then false else is_free_in (map_of c) q) (place_is_itself q)
+claimed_taken tracks c c' q k = free_after_it tracks c c' q q k k.has ∙ ap (λ (b : Bool). if b then false else is_free_in (map_of c) q) (place_is_itself q)
 
 others_taken : (tracks : ℕ) (c c' : Content) (q : Place) (xs : List Place) → Part tracks c xs → Claims tracks c c' q → AreTaken (map_of c) xs → AreTaken (map_of c') xs
 others_taken tracks c c' q [] h k t = tt
-others_taken tracks c c' q (b ∷ []) h k t = (free_behind tracks c c' q b k h.0 ∙ still_taken (is_free_in (map_of c)) q b t.0, tt)
+others_taken tracks c c' q (b ∷ []) h k t = (free_after_it tracks c c' q b k h.0 ∙ still_taken (is_free_in (map_of c)) q b t.0, tt)
 others_taken tracks c c' q (b ∷ b' ∷ rest) h k t =
-    (free_behind tracks c c' q b k h.0 ∙ still_taken (is_free_in (map_of c)) q b t.0, others_taken tracks c c' q (b' ∷ rest) h.5 k t.1)
+    (free_after_it tracks c c' q b k h.0 ∙ still_taken (is_free_in (map_of c)) q b t.0, others_taken tracks c c' q (b' ∷ rest) h.5 k t.1)
 
 taken_push : (map : List ℕ) (q : Place) (xs : List Place) → AreTaken map xs → is_free_in map q ≡ false → AreTaken map (xs ++ q ∷ [])
 taken_push map q [] t f = (f, tt)
@@ -76,7 +76,7 @@ wrote_first tracks c q bytes byte has off empty = record {
   none = λ z. absurd (cc);
 }
 
--- the next block does, behind a full one that links to it
+-- the next block does, after a full one that links to it
 pub wrote_on : (tracks : ℕ) (c mid c' : Content) (s : State) (b : Place) (rest : List Place) (bytes : List ℕ) (byte : ℕ) (q : Place) (sector : List ℕ) → Wrote c s (b ∷ rest) bytes → s.tracks ≡ tracks
     → AreKept c mid (b ∷ rest) → IsApart q (b ∷ rest) → c' ≡ written mid (last_of b rest) sector → link sector ≡ q → data_of sector ≡ s.waiting
     → Has tracks q → q.track ≢ 18 → Wrote c' (with_byte byte (gone_on q s)) (b ∷ rest ++ q ∷ []) (bytes ++ byte ∷ [])
@@ -149,7 +149,7 @@ one_put c c' s s' blocks bytes byte h t (inr goes) = subst (λ (x : State). HasP
 
 -- ---- any number of bytes
 
--- what was put behind what was put before
+-- what was put after what was put before
 joined : (m n k : ℕ) (c : Content) (s : State) (blocks more : List Place) (bytes : List ℕ) → length more ≤ m → m + n ≤ k → HasPut n c s (blocks ++ more) bytes → HasPut k c s blocks bytes
 joined m n k c s blocks more bytes l e h = record {
   more = more ++ h.more;

@@ -25,17 +25,17 @@ shown_next byte xs from to h k = elim (cases_eq from to) [
       ∙ (λ i. Some (byte, sym (ne_eqb from to ne) i))
 ]
 
--- nothing is left behind a link of track 0
+-- nothing is left after a link of track 0
 pub held_end : (tracks : ℕ) (content : Content) (left : ℕ) (at : Place) → at.track ≡ 0 → (held_from tracks content left at).bytes ≡ []
 unfolding held_from
 held_end tracks content left at z = ap (λ (f : Followed). chain_bytes content f.blocks) (follow_end tracks content left at z)
 
 -- the byte that waits was taken, and nothing is left but what its sector holds
-pub taken_last : (waiting first : Option ℕ) (sector : List ℕ) (from behind to : ℕ) (rest : RestOfFile) → rest.bytes ≡ [] → (waiting ≡ None → to ≤ from)
-    → option_to_list first ++ slice_range sector behind to ≡ slice_range sector from to
-    → with_front (option_to_list first ++ slice_range sector behind to) rest ≡ one_less (with_front (option_to_list waiting ++ slice_range sector from to) rest)
-taken_last (Some byte) first sector from behind to rest end some e = ap (λ (ys : List ℕ). with_front ys rest) e
-taken_last None first sector from behind to rest end some e =
+pub taken_last : (waiting first : Option ℕ) (sector : List ℕ) (from afterwards to : ℕ) (rest : RestOfFile) → rest.bytes ≡ [] → (waiting ≡ None → to ≤ from)
+    → option_to_list first ++ slice_range sector afterwards to ≡ slice_range sector from to
+    → with_front (option_to_list first ++ slice_range sector afterwards to) rest ≡ one_less (with_front (option_to_list waiting ++ slice_range sector from to) rest)
+taken_last (Some byte) first sector from afterwards to rest end some e = ap (λ (ys : List ℕ). with_front ys rest) e
+taken_last None first sector from afterwards to rest end some e =
     let none : slice_range sector from to ≡ [] = range_empty sector from to (some refl) in
     ap (λ (ys : List ℕ). with_front ys rest) (e ∙ none)
     ∙ (λ i. record { bytes = (end ∙ sym (ap (λ (ys : List ℕ). drop 1 (ys ++ rest.bytes)) none ∙ ap (drop 1) end)) i; trouble = rest.trouble })

@@ -15,7 +15,7 @@ pub fn a_writer_after_a_chain_has_its_bytes()
 {}
 
 /// A byte that is put stands after those that its writer put before, in the same blocks or with one more.
-pub fn a_byte_stands_behind_the_others()
+pub fn a_byte_stands_after_the_others()
     ensures { (old new : Content) (s t : State) (blocks : List Place) (bytes : List ℕ) (byte : ℕ) →
         Wrote old s blocks bytes → AreTaken (map_of old) blocks → Puts old new s byte t →
         HasPut 1 new t blocks (bytes ++ byte ∷ []) }

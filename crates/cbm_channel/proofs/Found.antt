@@ -58,7 +58,7 @@ module _ (p : List ℕ) (k : Option FileType) (code : Code) where
   pub record Hit (n : ℕ) (slots : List (Option File)) (entries : List (List ℕ)) (j : ℕ) (e : List ℕ) : Type 0 where
     pub file : File
     pub is : chosen (files_from n slots) ≡ Ok (j, file)
-    pub behind : n ≤ j
+    pub afterwards : n ≤ j
     pub in_slot : slice_index_or slots (j - n) None ≡ Some file
     pub says : EntrySays file e
     pub entry : slice_get entries (j - n) ≡ Some e
@@ -66,11 +66,11 @@ module _ (p : List ℕ) (k : Option FileType) (code : Code) where
   later : (n : ℕ) (s : Option File) (slots : List (Option File)) (x : List ℕ) (entries : List (List ℕ)) (j : ℕ) (e : List ℕ)
       → chosen (files_from n (s ∷ slots)) ≡ chosen (files_from (n + 1) slots) → Hit (n + 1) slots entries j e → Hit n (s ∷ slots) (x ∷ entries) j e
   later n s slots x entries j e same h =
-      let next : j - n ≡ suc (j - (n + 1)) = omega (arith, h.behind) in
+      let next : j - n ≡ suc (j - (n + 1)) = omega (arith, h.afterwards) in
       record {
         file = h.file;
         is = same ∙ h.is;
-        behind = omega (arith, h.behind);
+        afterwards = omega (arith, h.afterwards);
         in_slot = rw next h.in_slot;
         says = h.says;
         entry = rw next h.entry;
@@ -97,7 +97,7 @@ module _ (p : List ℕ) (k : Option FileType) (code : Code) where
           record {
             file = f;
             is = first_is n f (files_from (n + 1) slots) (is_match p f.name) (of_kind k f) refl refl t ∙ ap (λ (i : ℕ). Ok (i, f)) number;
-            behind = omega (arith, number);
+            afterwards = omega (arith, number);
             in_slot = rw none refl;
             says = subst (EntrySays f) entry_same z.0;
             entry = rw none (ap Some entry_same);

@@ -51,7 +51,7 @@ one_part a b ch part m n le p = (b, le, n, p, (refl, omega arith))
 pub went_goes : {M : Type 0} (seen : M → Seen) (old new : Kept M) (ch : ℕ) (part : Machine → Machine) → KeepsMedium (seen old.medium) (seen new.medium) → Went seen old new ch part → Goes seen old new ((ch, part) ∷ [])
 went_goes seen old new ch part k w m s = let x = w m s in (x.0, one_part (seen old.medium) (seen new.medium) ch part m x.0 k.counted x.1, x.2)
 
--- one more part behind those
+-- one more part after those
 pub all_more : (a b c : Seen) (parts : List (ℕ × (Machine → Machine))) (ch : ℕ) (part : Machine → Machine) (m k n : Machine) → b.failures ≤ c.failures → PassesAll a b parts m k → Passes (HasFailed b c) ch part k n → PassesAll a c (parts ++ (ch, part) ∷ []) m n
 all_more a b c [] ch part m k n le h p =
     let first : a.failures ≤ b.failures = h.1 in

@@ -15,13 +15,13 @@ take_room (suc zero) [] b h = refl
 take_room (suc (suc n)) [] b h = refl
 take_room (suc n) (x ∷ xs) b h = ap (λ ys. x ∷ ys) (take_room n xs b (omega (arith, h)))
 
--- what stands behind the first n isn't among them
+-- what stands after the first n isn't among them
 pub take_front : (n : ℕ) (xs ys : List ℕ) → n ≤ length xs → take n (xs ++ ys) ≡ take n xs
 take_front zero xs ys h = refl
 take_front (suc n) [] ys h = absurd (omega arith)
 take_front (suc n) (x ∷ xs) ys h = ap (λ zs. x ∷ zs) (take_front n xs ys (omega arith))
 
--- a byte behind what is kept of a text is as one behind the text
+-- a byte after what is kept of a text is as one after the text
 pub take_more : (n : ℕ) (xs ys : List ℕ) → take n (take n xs ++ ys) ≡ take n (xs ++ ys)
 take_more zero xs ys = refl
 take_more (suc n) [] ys = refl

@@ -9,7 +9,7 @@ use Rattle.cbm_command.specs.declared.refusal.Refusal.{Refusal}
 use Rattle.cbm_command.specs.declared.refusal.Refusal.TheVariants.{Syntax, LongText, NoName, WildName, UnknownCommand}
 use Rattle.cbm_command.specs.declared.command.Command.{Command}
 use Rattle.cbm_command.specs.declared.command.Command.TheVariants.{New, Scratch, Rename, Copy, Validate, Initialize, Position}
-use Rattle.cbm_command.specs.Commands.{command_head, later_name, later_names, names_in, new_asked, scratch_asked, rename_asked, copy_asked, behind_head, position_asked, by_letter, command_in, command_of}
+use Rattle.cbm_command.specs.Commands.{command_head, later_name, later_names, names_in, new_asked, scratch_asked, rename_asked, copy_asked, after_the_head, position_asked, by_letter, command_in, command_of}
 use Rattle.cbm_command.specs.declared.opening.Mode.{Mode}
 use Rattle.cbm_command.specs.declared.opening.Mode.TheVariants.{Read, Write, Append}
 use Rattle.cbm_command.specs.declared.opening.Wanted.{Wanted}
@@ -196,8 +196,8 @@ position_cuts (a ∷ []) = tt
 position_cuts (a ∷ b ∷ []) = tt
 position_cuts (a ∷ b ∷ c ∷ text) = (some_max (b + 256 * c), some_max (slice_index_or text 0 0))
 
-headed_cuts : (text : List ℕ) (f : List ℕ → Result Command Refusal) → ((rest : List ℕ) → Cuts (f rest)) → Cuts (behind_head text >>= f)
-headed_cuts text f h = bound (λ x. Unit {0}) IsCutName (behind_head text) f (always (behind_head text)) (λ rest x. h rest)
+headed_cuts : (text : List ℕ) (f : List ℕ → Result Command Refusal) → ((rest : List ℕ) → Cuts (f rest)) → Cuts (after_the_head text >>= f)
+headed_cuts text f h = bound (λ x. Unit {0}) IsCutName (after_the_head text) f (always (after_the_head text)) (λ rest x. h rest)
 
 plain_cuts : (text : List ℕ) (x : Command) → IsCutName x → Cuts (command_head (before_byte colon text) >>= λ _. Ok x)
 plain_cuts text x h = bound (λ y. Unit {0}) IsCutName (command_head (before_byte colon text)) (λ y. Ok x) (always (command_head (before_byte colon text))) (λ y z. h)

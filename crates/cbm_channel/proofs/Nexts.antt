@@ -1,4 +1,4 @@
--- Behind a byte that isn't the last another one waits, on any disk.
+-- After a byte that isn't the last another one waits, on any disk.
 use Rattle.std.proofs.Common.{◌≡◌, ℕ, zero, suc, ◌+◌, ◌≤◌, ◌<◌, Bool, true, false, List, [], ◌∷◌, ◌++◌, length, drop, Option, Some, None, refl, sym, ap, subst, ◌∙◌, arith}
 use Rattle.std.specs.Prelude.{IsSome, MatchBool, Result, Ok, Err, ◌==◌, slice_index_or, slice_set, if◌then◌else◌}
 use Rattle.std.proofs.lemmas.Bool.{lt-ltb, false≢true}
@@ -9,7 +9,7 @@ use Rattle.cbm_medium.specs.declared.fault.Trouble.{Trouble}
 use Rattle.cbm_medium.specs.Content.{Content}
 use Rattle.cbm_chain.specs.Reading.{RestOfFile, Reading, held_from, held_in, rest_of, one_less, IsSettled}
 use Rattle.cbm_machine.specs.Statuses.{status_line}
-use Rattle.cbm_machine.specs.Told.{ToldStatus, next_told, behind_next}
+use Rattle.cbm_machine.specs.Told.{ToldStatus, next_told, after_the_next}
 use Rattle.cbm_channel.specs.declared.channel.Channel.{Channel}
 use Rattle.cbm_channel.specs.declared.channel.Channel.TheVariants as code
 use Rattle.cbm_channel.specs.declared.on_record.Waiting.{Waiting}
@@ -46,7 +46,7 @@ line_more (b ∷ line) (suc told) n e =
     let same : suc (told + 1) ≡ suc told + 1 = omega arith in
     (subst (λ t. IsSome (next_shown (drop t (b ∷ line)))) same rest.0, omega (arith, rest.1))
 
-pub told_more : (t : ToldStatus) (n : ℕ) → next_told t ≡ Some (n, false) → IsSome (next_told (behind_next t))
+pub told_more : (t : ToldStatus) (n : ℕ) → next_told t ≡ Some (n, false) → IsSome (next_told (after_the_next t))
 told_more t n e =
     let more = line_more (status_line t.status) t.told n e in
     rw (lt-ltb (t.told + 1) (length (status_line t.status)) more.1) more.0
@@ -58,7 +58,7 @@ listing_more l n e =
     let lt : l.taken < length l.bytes = (let past = more.1 in omega (arith, past)) in
     rw (lt-ltb l.taken (length l.bytes) lt) more.0
 
--- of a file's bytes, with what is still behind them
+-- of a file's bytes, with what is still after them
 two_left : (bytes more : List ℕ) (n : ℕ) → next_shown bytes ≡ Some (n, false) → drop 1 (bytes ++ more) ≡ [] → ⊥
 two_left [] more n e z = absurd cc
 two_left (b ∷ []) more n e z = not_last b n e
@@ -120,5 +120,5 @@ more_of tracks c chs after ch n d new told now result is lt count fits h e =
     (channel_more tracks c (slice_index_or chs ch d) new result n fits h (subst (λ (k : Channel). shown_on k ≡ Some (n, false)) (any_default chs ch code.Closed d inside) said)))
 
 -- and on channel 15
-pub more_told : (chs : List Channel) (ch n : ℕ) (told now : ToldStatus) → ch ≡ 15 → now ≡ behind_next told → shown_of ch told chs ≡ Some (n, false) → IsSome (shown_of ch now chs)
+pub more_told : (chs : List Channel) (ch n : ℕ) (told now : ToldStatus) → ch ≡ 15 → now ≡ after_the_next told → shown_of ch told chs ≡ Some (n, false) → IsSome (shown_of ch now chs)
 more_told chs ch n told now at_ e said = subst (λ (k : ℕ). IsSome (shown_of k now chs)) (sym at_) (subst (λ (t : ToldStatus). IsSome (next_told t)) (sym e) (told_more told n (subst (λ (k : ℕ). shown_of k told chs ≡ Some (n, false)) at_ said)))

@@ -135,7 +135,7 @@ empty_at k n [] h = absurd (cc)
 empty_at k n (None ∷ xs) h = (0, (let e : k ≡ n = cc in omega (arith, e)), refl)
 empty_at k n (Some f ∷ xs) h = let r = empty_at (k + 1) n xs h in (suc r.0, omega (arith, r.1), r.2)
 
--- where none is, it comes behind them
+-- where none is, it comes after them
 comes_next : (k : ℕ) (xs ys : List (Option File)) → empty_from k xs ≡ None → empty_from k (xs ++ None ∷ ys) ≡ Some (k + length xs)
 comes_next k [] ys h = ap Some (omega arith)
 comes_next k (None ∷ xs) ys h = absurd (cc)

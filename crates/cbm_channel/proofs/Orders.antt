@@ -163,7 +163,7 @@ closed_fits d d' protected channels ch old stays =
 
 -- ---- reading
 
--- behind a byte that was taken of what is read
+-- after a byte that was taken of what is read
 one_less : (d : Disk) (s : ℕ) (left : List ℕ) → IsReadFrom d s left → ReadsWell d (Reading (Some s) (drop 1 left))
 one_less d s left there slot more h =
     let number : s ≡ slot = ap slot_of h in

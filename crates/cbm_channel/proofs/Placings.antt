@@ -59,16 +59,16 @@ place_plain t c d uses ch k p x old no_closed no_records h used stands w =
 width_of : (d : Disk) (r : Placed) → IsOnRecord d r → record_length_in (body_at d r.slot) ≡ r.width
 width_of d r on = ap record_length_in (body_there d r.slot on.file on.in_slot ∙ on.body)
 
--- the place lies behind the record's end
+-- the place lies after the record's end
 pub place_beyond : (t : ℕ) (c : Content) (d : Disk) (uses : ℕ → Use) (ch k p : ℕ) (x : machine.Channel) (old : Channel) (r : Placed) → old ≡ code.Records r → r.width < p → HoldsNow t c d uses → uses ch ≡ use_of old x → ChannelStands old x → WaitsFor d old
     → IsWellPlaced t c d uses ch (code.Records r) x k p RecordOverflow
 place_beyond t c d uses ch k p x old r is far h used stands w =
     let on : IsOnRecord d r = subst (WaitsFor d) is w in
     let at = relative_is old r x is stands in
-    let behind : nat_lt (record_length_in (body_at d r.slot)) p ≡ true = ap (λ (n : ℕ). nat_lt n p) (width_of d r on) ∙ lt-ltb r.width p far in
+    let afterwards : nat_lt (record_length_in (body_at d r.slot)) p ≡ true = ap (λ (n : ℕ). nat_lt n p) (width_of d r on) ∙ lt-ltb r.width p far in
     subst (λ (y : Channel). IsWellPlaced t c d uses ch y x k p RecordOverflow) is (stays_there t c d uses ch k p x old RecordOverflow
-    (sym (ap (code_placed k p d) at ∙ ap (λ (b : Bool). if b then RecordOverflow else if is_some (record_at (body_at d r.slot) k) then Fine else NoRecord) behind))
-    (ap (placed_on k p d) at ∙ ap (λ (b : Bool). if b then machine.Relative r.slot r.number r.position else machine.Relative r.slot k p) behind ∙ sym at) h used stands w)
+    (sym (ap (code_placed k p d) at ∙ ap (λ (b : Bool). if b then RecordOverflow else if is_some (record_at (body_at d r.slot) k) then Fine else NoRecord) afterwards))
+    (ap (placed_on k p d) at ∙ ap (λ (b : Bool). if b then machine.Relative r.slot r.number r.position else machine.Relative r.slot k p) afterwards ∙ sym at) h used stands w)
 
 said_there : (w : Waiting) (b : Bool) → is_broken w ≡ false → is_absent w ≡ b → (if b then NoRecord else Fine) ≡ (if is_some (record_of w) then Fine else NoRecord)
 said_there (waits.Record r) b whole e = ap (λ (a : Bool). if a then NoRecord else Fine) (sym e)

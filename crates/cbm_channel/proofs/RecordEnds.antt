@@ -77,11 +77,11 @@ cut_kept n text few = elim (cases_lt 256 (length text)) [
 abbrev pub told_cut : Bool → Machine → Machine
 told_cut cut m = if cut then say RecordOverflow m else m
 
--- the machine behind the write
-abbrev pub behind_on : Disk → ℕ → ℕ → ℕ → ℕ → ℕ → ℕ → ℕ → List (List ℕ) → List ℕ → Machine → Machine
-behind_on d ch s k p l b sides rs bytes m = with_channel ch (Relative s (k + 1) 1) (with_disk (with_record d s l rs b sides k (new_record l rs k p bytes)) m)
+-- the machine after the write
+abbrev pub machine_after_write : Disk → ℕ → ℕ → ℕ → ℕ → ℕ → ℕ → ℕ → List (List ℕ) → List ℕ → Machine → Machine
+machine_after_write d ch s k p l b sides rs bytes m = with_channel ch (Relative s (k + 1) 1) (with_disk (with_record d s l rs b sides k (new_record l rs k p bytes)) m)
 
-written_is : (ch s k p l b sides : ℕ) (rs : List (List ℕ)) (bytes : List ℕ) (m : Machine) → body_at m.disk s ≡ Records l rs b sides → with_written_record ch s k p bytes m ≡ told_cut (nat_lt (l + 1 - p) (length bytes)) (behind_on m.disk ch s k p l b sides rs bytes m)
+written_is : (ch s k p l b sides : ℕ) (rs : List (List ℕ)) (bytes : List ℕ) (m : Machine) → body_at m.disk s ≡ Records l rs b sides → with_written_record ch s k p bytes m ≡ told_cut (nat_lt (l + 1 - p) (length bytes)) (machine_after_write m.disk ch s k p l b sides rs bytes m)
 written_is ch s k p l b sides rs bytes m body = ap (λ (x : Body). elim x [
   | Bytes _ ↦ m
   | Records l rs b sides ↦
@@ -95,7 +95,7 @@ module _ (ch s k p l b sides : ℕ) (rs : List (List ℕ)) (bytes : List ℕ) (m
   by_there t e = ap (λ (t : Bool). answered m ((if t then unless ((m.protected, WriteProtected) ∷ []) (Ok m) else grown_to s k m) >>= λ n. Ok (with_written_record ch s k p bytes n))) (ap (λ (x : Body). is_some (record_at x k)) body ∙ e)
 
   -- THE RECORD IS THERE
-  pub record_written : is_some (record_at (Records l rs b sides) k) ≡ true → m.protected ≡ false → write_record ch (Relative s k p) bytes m ≡ told_cut (nat_lt (l + 1 - p) (length bytes)) (behind_on m.disk ch s k p l b sides rs bytes m)
+  pub record_written : is_some (record_at (Records l rs b sides) k) ≡ true → m.protected ≡ false → write_record ch (Relative s k p) bytes m ≡ told_cut (nat_lt (l + 1 - p) (length bytes)) (machine_after_write m.disk ch s k p l b sides rs bytes m)
   record_written e free = by_there true e ∙ ap (λ (t : Bool). answered m (unless ((t, WriteProtected) ∷ []) (Ok m) >>= λ n. Ok (with_written_record ch s k p bytes n))) free ∙ written_is ch s k p l b sides rs bytes m body
 
   -- on a protected disk
@@ -135,7 +135,7 @@ module _ (ch s k p l b sides : ℕ) (rs : List (List ℕ)) (bytes : List ℕ) (m
 
     pub record_grown : m.protected ≡ false → body_at (with_growth m.disk s l b sides rs k) s ≡ Records l (filled_up l (blocks_for l b k) rs) (blocks_for l b k) (sides_for sides (blocks_for l b k))
         → write_record ch (Relative s k p) bytes m
-        ≡ told_cut (nat_lt (l + 1 - p) (length bytes)) (behind_on (with_growth m.disk s l b sides rs k) ch s k p l (blocks_for l b k) (sides_for sides (blocks_for l b k)) (filled_up l (blocks_for l b k) rs) bytes m)
+        ≡ told_cut (nat_lt (l + 1 - p) (length bytes)) (machine_after_write (with_growth m.disk s l b sides rs k) ch s k p l (blocks_for l b k) (sides_for sides (blocks_for l b k)) (filled_up l (blocks_for l b k) rs) bytes m)
     record_grown free made = step_grown none false false fits free
         ∙ written_is ch s k p l (blocks_for l b k) (sides_for sides (blocks_for l b k)) (filled_up l (blocks_for l b k) rs) bytes (with_disk (with_growth m.disk s l b sides rs k) m) made
 

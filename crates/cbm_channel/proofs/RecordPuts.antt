@@ -98,7 +98,7 @@ but_cut d n w b s shown free rs f at shut =
 pub but_then : (d d1 d2 : Disk) (n w : ℕ) → IsSameBut d d1 n w → IsSameBut d1 d2 n w → IsSameBut d d2 n w
 but_then d d1 d2 n w a b = record { file = b.file; in_slot = b.in_slot; closed = b.closed; records = b.records; blocks = b.blocks; sides = b.sides; body = b.body; others = λ m ne. b.others m ne ∙ a.others m ne }
 
--- ---- the record is there behind the growth
+-- ---- the record is there after the growth
 
 enough : (w b k : ℕ) → 0 < w → k ≤ record_count w (blocks_for w b k)
 enough w b k some = le-div k (254 * blocks_for w b k) w some (omega (arith, div-add-mod' (k * w + 253) 254, mod_below (k * w + 253) 254 (omega arith)))
@@ -122,7 +122,7 @@ abbrev pub Writes : {A : Type 0} → (A → Bool) → Seen → Seen → Placed �
 Writes cut old new r bytes result = (d : Disk) (uses : ℕ → Use) (b s : ℕ) (rs : List (List ℕ)) → CanPut old.tracks old.content d uses r b s rs
     → MatchResult result (λ o. IsRecordPut old.tracks old.content new.content d uses r.slot r.width b s rs r.number r.position bytes (option_map cut o)) (IsRecordCut old new d uses r.slot r.width b s rs r.number r.position bytes)
 
--- its clause of the record behind
+-- its clause of the record after it
 abbrev pub ReadsOn : {A : Type 0} → (A → Option (List ℕ) → Type 0) → Seen → Seen → Placed → Result (Option A) Trouble → Type 0
 ReadsOn Q old new r result = (d : Disk) (uses : ℕ → Use) (b s : ℕ) (rs : List (List ℕ)) → CanPut old.tracks old.content d uses r b s rs
     → IfOk result (λ o. IfSome o (λ x. OfRecords new r.slot (λ found. Q x (slice_get found r.number))))
@@ -251,7 +251,7 @@ module _ (old mid : Seen) (d : Disk) (uses : ℕ → Use) (r : Placed) (b s : �
           (writes (disk_grown d r b s rs) uses (blocks_grown r b) (sides_grown r b s) (records_grown r b rs) can_more)),
     )
 
-    -- and the record behind it is read
+    -- and the record after it is read
     pub store_next : {A : Type 0} (Q : A → Option (List ℕ) → Type 0) (new : Seen) (x : A) → ReadsOn Q more new r (Ok (Some x)) → OfRecords new r.slot (λ found. Q x (slice_get found r.number))
     store_next Q new x reads = reads (disk_grown d r b s rs) uses (blocks_grown r b) (sides_grown r b s) (records_grown r b rs) can_more
 

@@ -49,15 +49,15 @@ module _ (chs : List Channel) (m : Machine) (each : AllZip ChannelStands chs m.c
   numbers_same n (Some f ∷ slots) (e ∷ entries) z =
       (λ i. if entry_says n f e z.0 i then n ∷ numbers_same (n + 1) slots entries z.1 i else numbers_same (n + 1) slots entries z.1 i)
 
--- ---- one slot behind others
+-- ---- one slot after others
 
-at_behind : {A : Type 0} (pre rest : List A) (x d : A) → slice_index_or (pre ++ x ∷ rest) (length pre) d ≡ x
-at_behind [] rest x d = refl
-at_behind (y ∷ pre) rest x d = at_behind pre rest x d
+at_after : {A : Type 0} (pre rest : List A) (x d : A) → slice_index_or (pre ++ x ∷ rest) (length pre) d ≡ x
+at_after [] rest x d = refl
+at_after (y ∷ pre) rest x d = at_after pre rest x d
 
-set_behind : {A : Type 0} (pre rest : List A) (x y : A) → slice_set (pre ++ x ∷ rest) (length pre) y ≡ pre ++ y ∷ rest
-set_behind [] rest x y = refl
-set_behind (z ∷ pre) rest x y = ap (λ xs. z ∷ xs) (set_behind pre rest x y)
+set_after : {A : Type 0} (pre rest : List A) (x y : A) → slice_set (pre ++ x ∷ rest) (length pre) y ≡ pre ++ y ∷ rest
+set_after [] rest x y = refl
+set_after (z ∷ pre) rest x y = ap (λ xs. z ∷ xs) (set_after pre rest x y)
 
 one_more : {A : Type 0} (pre : List A) (x : A) (n : ℕ) → n ≡ length pre → n + 1 ≡ length (pre ++ x ∷ [])
 one_more pre x n e = omega (arith, e, length-append pre (x ∷ []))
@@ -73,13 +73,13 @@ module _ (m : Machine) (ps : List (List ℕ)) where
   held_going n (None ∷ slots) = held_going (n + 1) slots
   held_going n (Some f ∷ slots) = (if may_go m ps n f then blocks_held (Some f) else 0) + held_going (n + 1) slots
 
-  scratched_behind : (d : Disk) (pre slots : List (Option File)) (n free : ℕ) (f : File) → n ≡ length pre
+  scratched_after : (d : Disk) (pre slots : List (Option File)) (n free : ℕ) (f : File) → n ≡ length pre
       → scratched (having d (pre ++ Some f ∷ slots) free) n ≡ having d (pre ++ None ∷ slots) (free + blocks_held (Some f))
-  scratched_behind d pre slots n free f e =
+  scratched_after d pre slots n free f e =
       let x : Disk = having d (pre ++ Some f ∷ slots) free in
-      let here : file_at x n ≡ Some f = ap (file_at x) e ∙ at_behind pre slots (Some f) None in
+      let here : file_at x n ≡ Some f = ap (file_at x) e ∙ at_after pre slots (Some f) None in
       ap (λ (o : Option File). scratched_in o x n) here
-      ∙ ap (λ (xs : List (Option File)). having d xs (free + blocks_held (Some f))) (ap (λ (k : ℕ). slice_set (pre ++ Some f ∷ slots) k None) e ∙ set_behind pre slots (Some f) None)
+      ∙ ap (λ (xs : List (Option File)). having d xs (free + blocks_held (Some f))) (ap (λ (k : ℕ). slice_set (pre ++ Some f ∷ slots) k None) e ∙ set_after pre slots (Some f) None)
 
   -- the slots are cleared, one after another
   pub all_gone : (d : Disk) (pre slots : List (Option File)) (n free : ℕ) → n ≡ length pre
@@ -103,7 +103,7 @@ module _ (m : Machine) (ps : List (List ℕ)) where
           → all_scratched (having d ((pre ++ Some f ∷ []) ++ slots) free) (slots_going m ps (n + 1) slots) ≡ having d ((pre ++ Some f ∷ []) ++ kept_slots m ps (n + 1) slots) (free + held_going (n + 1) slots)
           → all_scratched (having d (pre ++ Some f ∷ slots) free) (slots_going m ps n (Some f ∷ slots)) ≡ having d (pre ++ kept_slots m ps n (Some f ∷ slots)) (free + held_going n (Some f ∷ slots))
       by_test true t gone kept = rw t
-          (ap (λ (x : Disk). all_scratched x (slots_going m ps (n + 1) slots)) (scratched_behind d pre slots n free f e)
+          (ap (λ (x : Disk). all_scratched x (slots_going m ps (n + 1) slots)) (scratched_after d pre slots n free f e)
           ∙ ap (λ (xs : List (Option File)). all_scratched (having d xs (free + blocks_held (Some f))) (slots_going m ps (n + 1) slots)) (sym (append_assoc pre (None ∷ []) slots))
           ∙ gone
           ∙ (λ i. having d (append_assoc pre (None ∷ []) (kept_slots m ps (n + 1) slots) i) (sum_is i)))
@@ -199,11 +199,11 @@ module _ (m : Machine) (ps : List (List ℕ)) where
             → CanAllGo (having d ((pre ++ Some f ∷ []) ++ slots) free) uses (slots_going m ps (n + 1) slots) → CanAllGo x uses (slots_going m ps n (Some f ∷ slots))
         by_test true t gone kept =
             let same : having d ((pre ++ None ∷ []) ++ slots) (free + blocks_held (Some f)) ≡ scratched x n =
-            ap (λ (xs : List (Option File)). having d xs (free + blocks_held (Some f))) (append_assoc pre (None ∷ []) slots) ∙ sym (scratched_behind d pre slots n free f e) in
+            ap (λ (xs : List (Option File)). having d xs (free + blocks_held (Some f))) (append_assoc pre (None ∷ []) slots) ∙ sym (scratched_after d pre slots n free f e) in
             let can : CanGo x uses n × CanAllGo (scratched x n) uses (slots_going m ps (n + 1) slots) = (
               record {
                 file = f;
-                in_slot = ap (file_at x) e ∙ at_behind pre slots (Some f) None;
+                in_slot = ap (file_at x) e ∙ at_after pre slots (Some f) None;
                 unused = unused n (gone_unused n f t);
               },
               subst (λ (y : Disk). CanAllGo y uses (slots_going m ps (n + 1) slots)) same gone,

@@ -1,4 +1,4 @@
--- A drive stands for a machine before and behind each change of its parts.
+-- A drive stands for a machine before and after each change of its parts.
 use Rattle.std.proofs.Common.{◌≡◌, ℕ, zero, suc, ◌+◌, ◌<◌, ◌≤◌, Bool, true, false, List, [], ◌∷◌, ◌++◌, length, take, drop, refl, sym, ap, ◌∙◌, subst, arith, inl, inr, ◌≢◌}
 use Rattle.std.specs.Prelude.{◌==◌, ◌||◌, nat_lt, Option, Some, None, slice_index_or, slice_set, sum_by, replicate, if◌then◌else◌, Result, Ok, Err, IsOk, OnOk}
 use Rattle.std.specs.List.{AllZip, list_any}
@@ -28,7 +28,7 @@ use Rattle.cbm_machine.specs.Orderly.{channel_in, still_uses}
 use Rattle.cbm_machine.specs.Closing.{forget_text, without_text}
 use Rattle.cbm_machine.specs.Talking.{peek_on, taken, taken_on, next_of_record}
 use Rattle.cbm_machine.specs.Calls.{text_for, is_relative_channel}
-use Rattle.cbm_machine.specs.Told.{ToldStatus, told_by, behind_next}
+use Rattle.cbm_machine.specs.Told.{ToldStatus, told_by, after_the_next}
 use Rattle.cbm_channel.specs.Exchanged.{still_telling}
 use Rattle.cbm_channel.specs.Standing.{Kept, FitsTracks, AreFit, ChannelStands, WaitsFor, use_of, uses_of, kept_text, StandsBy, Stands, HasText, HasNoText}
 use Rattle.cbm_channel.specs.Shown.{shown_on, cost_on, writes_on}
@@ -273,14 +273,14 @@ module _ (c : Content) (t : ℕ) (p : Bool) (chs : List Channel) (told : ToldSta
     same_text = e;
   }
 
-  stepped : nat_lt (m.told + 1) (length (status_line m.status)) ≡ true → told_by (record m { told = m.told + 1 }) ≡ behind_next (told_by m)
+  stepped : nat_lt (m.told + 1) (length (status_line m.status)) ≡ true → told_by (record m { told = m.told + 1 }) ≡ after_the_next (told_by m)
   stepped e = rw e refl
 
-  ended : nat_lt (m.told + 1) (length (status_line m.status)) ≡ false → told_by (machine.say Fine m) ≡ behind_next (told_by m)
+  ended : nat_lt (m.told + 1) (length (status_line m.status)) ≡ false → told_by (machine.say Fine m) ≡ after_the_next (told_by m)
   ended e = rw e refl
 
   -- the byte that channel 15 tells was taken
-  pub told_on : (new : ToldStatus) → new ≡ behind_next told → StandsBy c t p chs told text m → StandsBy c t p chs new text (taken 15 m)
+  pub told_on : (new : ToldStatus) → new ≡ after_the_next told → StandsBy c t p chs told text m → StandsBy c t p chs new text (taken 15 m)
   told_on new is st = by_test (nat_lt (m.told + 1) (length (status_line m.status))) refl
     where
       by_test : (b : Bool) → nat_lt (m.told + 1) (length (status_line m.status)) ≡ b → StandsBy c t p chs new text (taken 15 m)
@@ -291,7 +291,7 @@ module _ (c : Content) (t : ℕ) (p : Bool) (chs : List Channel) (told : ToldSta
         same_protection = st.same_protection;
         each = st.each;
         waits = st.waits;
-        same_told = stepped e ∙ ap behind_next st.same_told ∙ sym is;
+        same_told = stepped e ∙ ap after_the_next st.same_told ∙ sym is;
         same_text = st.same_text;
       })
       by_test false e = rw e (record {
@@ -301,7 +301,7 @@ module _ (c : Content) (t : ℕ) (p : Bool) (chs : List Channel) (told : ToldSta
         same_protection = st.same_protection;
         each = st.each;
         waits = st.waits;
-        same_told = ended e ∙ ap behind_next st.same_told ∙ sym is;
+        same_told = ended e ∙ ap after_the_next st.same_told ∙ sym is;
         same_text = st.same_text;
       })
 
@@ -443,7 +443,7 @@ text_kept ch (Some t) = by_channel (t.0 == ch)
     by_channel true = refl
     by_channel false = refl
 
--- a byte behind the text of a channel
+-- a byte after the text of a channel
 pub gathered : (ch b : ℕ) (m : machine.Machine) (old new : Option (ℕ × List ℕ)) → kept_text m.text ≡ old → new ≡ Some (ch, take 256 (text_for ch old ++ b ∷ []))
     → kept_text (Some (ch, text_for ch m.text ++ b ∷ [])) ≡ new
 gathered ch b m old new is e =

@@ -119,7 +119,7 @@ put_plain byte d s bytes blocks false replaces = by_none (finds_none d (Writing 
     by_none true e = rw e refl
     by_none false e = rw e refl
 
--- behind a byte nothing else waits
+-- after a byte nothing else waits
 pub put_waits : (byte : ℕ) (d : Disk) (k k' : kept.Channel) (x : Channel) → ChannelStands k x → ChannelStands k' (channel_put byte d x) → (is_writing k ≡ false → k' ≡ k) → WaitsFor d k → WaitsFor (disk_put d x) k'
 put_waits byte d code.Closed k' x h h' quiet w = subst (WaitsFor (disk_put d x)) (sym (quiet refl)) tt
 put_waits byte d (code.Listing l) k' x h h' quiet w = subst (WaitsFor (disk_put d x)) (sym (quiet refl)) tt

@@ -1,4 +1,4 @@
--- How the channels use the disk, before and behind a change of one of them.
+-- How the channels use the disk, before and after a change of one of them.
 use Rattle.std.proofs.Common.{◌≡◌, ◌≢◌, ℕ, ◌<◌, Bool, true, false, List, [], ◌∷◌, length, refl, sym, ap, ◌∙◌}
 use Rattle.std.specs.Prelude.{◌==◌, ◌||◌, slice_set}
 use Rattle.std.specs.List.{AllZip, list_any}

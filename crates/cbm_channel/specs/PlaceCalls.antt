@@ -30,7 +30,7 @@ ReadsRecord now slot number result =
 abbrev pub ReachesRecord : Seen → Placed → Placed → Result (Unit {0}) Trouble → Type 0
 ReachesRecord now old new result = OfClosedRecords now old.slot old.width (λ d. IsOk result × IsOnRecord d new)
 
--- the record behind a number, which counts from 1, was read: the file has this one there, or none
+-- the record of this number, which counts from 1, was read: the file has this one there, or none
 abbrev pub WasRead : Seen → ℕ → ℕ → Result (Option (ArrayVec ℕ)) Trouble → Type 0
 WasRead now slot number next = OfRecords now slot (λ found. IsOkAnd next (λ x. option_map (λ y. y.items) x ≡ slice_get found number))
 
@@ -55,8 +55,8 @@ StoresText result cut old new r bytes = OfPlaced old r (λ d uses b s rs. MatchR
     (IsTextCut old new d uses r b s rs bytes))
 
 -- where it was stored, the next record was read with it
-abbrev pub ReadsBehind : {A : Type 0} → Result (Option A) Trouble → (A → Result (Option (ArrayVec ℕ)) Trouble) → Seen → Seen → Placed → Type 0
-ReadsBehind result next old new r = OfPlaced old r (λ d uses b s rs. IfOk result (λ o. IfSome o (λ x. WasRead new r.slot r.number (next x))))
+abbrev pub ReadsAfter : {A : Type 0} → Result (Option A) Trouble → (A → Result (Option (ArrayVec ℕ)) Trouble) → Seen → Seen → Placed → Type 0
+ReadsAfter result next old new r = OfPlaced old r (λ d uses b s rs. IfOk result (λ o. IfSome o (λ x. WasRead new r.slot r.number (next x))))
 
 -- a text is stored, and the place goes to the next record; or it was refused, and the place stays
 abbrev pub EndsText : Result (Option Bool) Trouble → Seen → Seen → Placed → Placed → List ℕ → Type 0

@@ -9,7 +9,7 @@ use Rattle.cbm_channel.specs.declared.channel.Channel.{Channel}
 use Rattle.cbm_channel.specs.declared.channel.Channel.TheVariants as code
 use Rattle.cbm_channel.specs.Placed.{Placed, IsMoved}
 use Rattle.cbm_machine.specs.Statuses.{trouble_status}
-use Rattle.cbm_machine.specs.Told.{ToldStatus, behind_next}
+use Rattle.cbm_machine.specs.Told.{ToldStatus, after_the_next}
 use Rattle.cbm_channel.specs.Grounds.{IsToldFor}
 use Rattle.cbm_channel.specs.Shown.{has_records_on}
 use Rattle.cbm_channel.specs.Standing.{Kept, SameBut}
@@ -45,6 +45,6 @@ IsTakenOn seen ch old new = IsTaken (seen old.medium).content (slice_index_or ol
 -- WHAT A BYTE THAT WAS TAKEN LEAVES on any disk: on 15 the status is told on; the other channels stay; and a fault that is reported where
 -- records are open has its ground in what the disk holds.
 pub record TakesOne {M : Type 0} (seen : M → Seen) (ch : ℕ) (old new : Kept M) : Type 0 where
-  pub status : ch ≡ 15 → new.told ≡ behind_next old.told
+  pub status : ch ≡ 15 → new.told ≡ after_the_next old.told
   pub others : SameBut ch old.channels new.channels
   pub ground : ch < 15 → has_records_on ch old ≡ true → IsToldFor seen old new

@@ -113,7 +113,7 @@ impl OnRecord {
     ghost use Rattle.cbm_channel.specs.ChannelCalls.{KeepsElse, OfPlaced};
     ghost use Rattle.cbm_channel.specs.declared.on_record.Waiting.TheVariants.{Broken};
     ghost use Rattle.cbm_channel.specs.Placed.{IsOnRecord, IsPlacedAt, IsMoved, shown_at, is_absent, is_broken};
-    ghost use Rattle.cbm_channel.specs.PlaceCalls.{ReachesRecord, WasRead, TakesRecordByte, GrowsToPlace, StoresText, ReadsBehind, EndsText, KeepsRestPlaced, StoresUnprotected, IsRecordsCall};
+    ghost use Rattle.cbm_channel.specs.PlaceCalls.{ReachesRecord, WasRead, TakesRecordByte, GrowsToPlace, StoresText, ReadsAfter, EndsText, KeepsRestPlaced, StoresUnprotected, IsRecordsCall};
     ghost use Rattle.cbm_channel.specs.Recorded.{OfClosedRecords};
 
     /// The first byte of the first record of the file in a slot, whose records have this length. Errors: why that
@@ -275,7 +275,7 @@ impl OnRecord {
         bytes: &[u8],
     ) -> Result<Option<WrittenRecord>, Trouble>
         ensures put { StoresText result (λ x. x.cut) (M.seen volume.old) (M.seen volume.new) self.now bytes.now }
-        ensures next { ReadsBehind result (λ x. x.next) (M.seen volume.old) (M.seen volume.new) self.now }
+        ensures next { ReadsAfter result (λ x. x.next) (M.seen volume.old) (M.seen volume.new) self.now }
         ensures write { IsRecordWrite result (M.seen volume.old) (M.seen volume.new) self.now.number }
         ensures medium { KeepsElse result (M.seen volume.old) (M.seen volume.new) }
         ensures rest { KeepsRestPlaced (M.seen volume.old) (M.seen volume.new) self.now }

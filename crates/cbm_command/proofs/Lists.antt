@@ -7,7 +7,7 @@ use Rattle.cbm_command.specs.Refusals.{◌>>=◌}
 use Rattle.cbm_command.specs.Commands.{later_name, later_names, names_in, names_and}
 use Rattle.cbm_command.proofs.Parts.{more_parts, parts_at-cut}
 
--- a name and those behind it, by the text
+-- a name and those after it, by the text
 cut : (ns : List (List ℕ)) (text : List ℕ) →
     names_and ns (later_names (parts_at comma text)) ≡ names_and ns (later_names (before_byte comma text ∷ more_parts comma text))
 cut ns text = ap (λ ps. names_and ns (later_names ps)) (parts_at-cut comma text)
@@ -23,7 +23,7 @@ pub names_refused : (ns : List (List ℕ)) (text : List ℕ) (e : Refusal) → l
     names_and ns (later_names (parts_at comma text)) ≡ Err e
 names_refused ns text e h = cut ns text ∙ rw h
 
--- a name behind which others stand
+-- a name after which others stand
 pub names_more : (ns : List (List ℕ)) (text : List ℕ) (n : List ℕ) → later_name (before_byte comma text) ≡ Ok n → holds_byte comma text ≡ true →
     names_and ns (later_names (parts_at comma text)) ≡ names_and (ns ++ n ∷ []) (later_names (parts_at comma (after_byte comma text)))
 names_more ns text n h more = cut ns text ∙ rw (h, more) (one_more ns n (later_names (parts_at comma (after_byte comma text))))

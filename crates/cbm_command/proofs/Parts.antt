@@ -25,22 +25,22 @@ right_false true b h = cc
 right_false false b h = h
 
 -- what follows a byte is shorter than the text
-pub behind_short : (c : ℕ) (text : List ℕ) → length (after_byte c text) ≤ length text
-behind_short c [] = omega arith
-behind_short c (x ∷ text) = let rest = behind_short c text in
+pub after_short : (c : ℕ) (text : List ℕ) → length (after_byte c text) ≤ length text
+after_short c [] = omega arith
+after_short c (x ∷ text) = let rest = after_short c text in
     elim (eqb x c) as (λ b. length (cond b text (after_byte c text)) ≤ length (x ∷ text)) [ true ↦ omega arith | false ↦ omega arith ]
 
-pub behind_shorter : (c : ℕ) (text : List ℕ) → holds_byte c text ≡ true → length (after_byte c text) < length text
-behind_shorter c [] h = cc
-behind_shorter c (x ∷ text) h = let rest = behind_short c text in
+pub after_shorter : (c : ℕ) (text : List ℕ) → holds_byte c text ≡ true → length (after_byte c text) < length text
+after_shorter c [] h = cc
+after_shorter c (x ∷ text) h = let rest = after_short c text in
     elim (eqb x c) as (λ b. length (cond b text (after_byte c text)) < length (x ∷ text)) [ true ↦ omega arith | false ↦ omega arith ]
 
--- what isn't there has nothing behind it
-pub behind-none : (c : ℕ) (text : List ℕ) → holds_byte c text ≡ false → after_byte c text ≡ []
-behind-none c [] h = refl
-behind-none c (x ∷ text) h = elim (eqb_tells x c) [
+-- what isn't there has nothing after it
+pub afterwards-none : (c : ℕ) (text : List ℕ) → holds_byte c text ≡ false → after_byte c text ≡ []
+afterwards-none c [] h = refl
+afterwards-none c (x ∷ text) h = elim (eqb_tells x c) [
   | inl e ↦ absurd (no_or (eqb x c) (holds_byte c text) e.0 h)
-  | inr e ↦ (rw e.0 (behind-none c text (right_false (eqb x c) (holds_byte c text) h)))
+  | inr e ↦ (rw e.0 (afterwards-none c text (right_false (eqb x c) (holds_byte c text) h)))
 ]
 
 -- the parts after the first
@@ -72,9 +72,9 @@ first_byte-parts_at (x ∷ text) =
     let there = first_byte-add x (parts_at comma text) in
     elim (eqb_tells x comma) [ inl h ↦ (rw h.0 (here ∙ sym h.1)) | inr h ↦ (rw h.0 there) ]
 
--- the first byte behind the first separator
+-- the first byte after the first separator
 pub first_byte-more_parts : (text : List ℕ) → first_byte (more_parts comma text) ≡ slice_index_or (after_byte comma text) 0 0
 first_byte-more_parts text = elim (bool_cases (holds_byte comma text)) [
   | inl h ↦ (rw h (first_byte-parts_at (after_byte comma text)))
-  | inr h ↦ (rw (h, behind-none comma text h))
+  | inr h ↦ (rw (h, afterwards-none comma text h))
 ]

@@ -7,7 +7,7 @@ use Rattle.cbm_command.specs.Texts.{comma, before_byte, after_byte, holds_byte, 
 use Rattle.cbm_command.specs.Openings.{with_piece, with_pieces, is_length_piece}
 use Rattle.cbm_command.proofs.Parts.{more_parts, parts_at-cut, first_byte-more_parts}
 
--- a piece and those behind it, by the text
+-- a piece and those after it, by the text
 cut : (text : List ℕ) (w : Wanted) → with_pieces (parts_at comma text) w ≡ with_pieces (before_byte comma text ∷ more_parts comma text) w
 cut text w = ap (λ ps. with_pieces ps w) (parts_at-cut comma text)
 
@@ -16,12 +16,12 @@ pub pieces_refused : (text : List ℕ) (w : Wanted) (e : Refusal) → with_piece
     with_pieces (parts_at comma text) w ≡ Err e
 pieces_refused text w e h = cut text w ∙ rw h
 
--- the record length behind L
+-- the record length after L
 pub pieces_length : (text : List ℕ) (w v : Wanted) → with_piece (before_byte comma text) w ≡ Ok v → is_length_piece (before_byte comma text) ≡ true →
     with_pieces (parts_at comma text) w ≡ Ok (record v { record_length = slice_index_or (after_byte comma text) 0 0 })
 pieces_length text w v h l = cut text w ∙ rw (h, l, first_byte-more_parts text)
 
--- a piece behind which others stand
+-- a piece after which others stand
 pub pieces_more : (text : List ℕ) (w v : Wanted) → with_piece (before_byte comma text) w ≡ Ok v → is_length_piece (before_byte comma text) ≡ false →
     holds_byte comma text ≡ true → with_pieces (parts_at comma text) w ≡ with_pieces (parts_at comma (after_byte comma text)) v
 pieces_more text w v h l more = cut text w ∙ rw (h, l, more)

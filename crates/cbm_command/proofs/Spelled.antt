@@ -25,11 +25,11 @@ before-front c (x ∷ front) rest h =
     let there = before-front c front rest (right_false (eqb x c) (holds_byte c front) h) in
     rw (here, there)
 
-behind-front : (c : ℕ) (front rest : List ℕ) → holds_byte c front ≡ false → after_byte c (front ++ c ∷ rest) ≡ rest
-behind-front c [] rest h = rw (eq-eqb c c refl)
-behind-front c (x ∷ front) rest h =
+afterwards-front : (c : ℕ) (front rest : List ℕ) → holds_byte c front ≡ false → after_byte c (front ++ c ∷ rest) ≡ rest
+afterwards-front c [] rest h = rw (eq-eqb c c refl)
+afterwards-front c (x ∷ front) rest h =
     let here = left_false (eqb x c) (holds_byte c front) h in
-    let there = behind-front c front rest (right_false (eqb x c) (holds_byte c front) h) in
+    let there = afterwards-front c front rest (right_false (eqb x c) (holds_byte c front) h) in
     rw (here, there)
 
 or-true : (b : Bool) → (b || true) ≡ true
@@ -101,5 +101,5 @@ usual ch (c ∷ name) kind mode two plain h =
     ∙ by_ordinary ch c (name ++ comma ∷ rest) plain.ordinary
     ∙ by_no_head ch text (ap (holds_byte colon) front ∙ plain.no_colon)
     ∙ by_parts ch text (c ∷ name) rest (ap name_of front ∙ name_of-plain (c ∷ name) plain.no_filler plain.short) (some_byte c name)
-    (has-front comma (c ∷ name) rest) (behind-front comma (c ∷ name) rest plain.no_comma)
+    (has-front comma (c ∷ name) rest) (afterwards-front comma (c ∷ name) rest plain.no_comma)
     ∙ by_pieces ch (c ∷ name) kind mode h zero one plain.no_pattern

@@ -73,8 +73,8 @@ copy_asked text =
 -- ---- the whole text
 
 -- a colon is there and the head before it is right: what stands after it
-abbrev pub behind_head : List ℕ → Result (List ℕ) Refusal
-behind_head text =
+abbrev pub after_the_head : List ℕ → Result (List ℕ) Refusal
+after_the_head text =
     unless ((not (holds_byte colon text), NoName) ∷ []) (command_head (before_byte colon text) >>= λ _. Ok (after_byte colon text))
 
 -- P: a channel, a record's number low byte first, and perhaps a position; 0 means 1
@@ -85,10 +85,10 @@ position_asked _ = Err Syntax
 -- The first byte chooses. V and I have a head alone, and what follows a colon isn't read.
 abbrev pub by_letter : ℕ → List ℕ → Result Command Refusal
 by_letter c text =
-    if c == 78 then (behind_head text >>= new_asked) else
-    if c == 83 then (behind_head text >>= scratch_asked) else
-    if c == 82 then (behind_head text >>= rename_asked) else
-    if c == 67 then (behind_head text >>= copy_asked) else
+    if c == 78 then (after_the_head text >>= new_asked) else
+    if c == 83 then (after_the_head text >>= scratch_asked) else
+    if c == 82 then (after_the_head text >>= rename_asked) else
+    if c == 67 then (after_the_head text >>= copy_asked) else
     if c == 86 then (command_head (before_byte colon text) >>= λ _. Ok Validate) else
     if c == 73 then (command_head (before_byte colon text) >>= λ _. Ok Initialize) else
     if c == 80 then position_asked text else Err UnknownCommand

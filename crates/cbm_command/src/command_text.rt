@@ -3,7 +3,7 @@
 ghost use Rattle.std.specs.Prelude.{◌≡◌, ◌+◌, ◌≤◌, IfOk, length};
 ghost use Rattle.std.specs.Result.{result_map_both};
 ghost use Rattle.cbm_command.specs.Texts.{comma, parts_at};
-ghost use Rattle.cbm_command.specs.Commands.{later_name, later_names, names_in, names_and, behind_head, new_asked, scratch_asked, rename_asked, copy_asked, position_asked, by_letter, command_of};
+ghost use Rattle.cbm_command.specs.Commands.{later_name, later_names, names_in, names_and, after_the_head, new_asked, scratch_asked, rename_asked, copy_asked, position_asked, by_letter, command_of};
 
 use crate::command::Command;
 use crate::head::command_head;
@@ -11,7 +11,7 @@ use crate::name::Name;
 use crate::names::Names;
 use crate::open_text::LONGEST;
 use crate::refusal::Refusal;
-use crate::text::{before_first, behind_first, contains, first_or_zero, is_digit};
+use crate::text::{after_the_first, before_first, contains, first_or_zero, is_digit};
 
 /// A name after the first: the drive's digit and a colon before it are skipped.
 fn later_name(text: &[u8]) -> Result<Name, Refusal>
@@ -41,7 +41,7 @@ fn more_names(mut names: Names, text: &[u8]) -> Result<Names, Refusal>
 {
     names.push(later_name(before_first(b',', text))?);
     if contains(b',', text) {
-        more_names(names, behind_first(b',', text))
+        more_names(names, after_the_first(b',', text))
     } else {
         Ok(names)
     }
@@ -55,7 +55,7 @@ fn names_in(text: &[u8]) -> Result<Names, Refusal>
     let mut names = Names::new();
     names.push(Name::of(before_first(b',', text)));
     if contains(b',', text) {
-        more_names(names, behind_first(b',', text))
+        more_names(names, after_the_first(b',', text))
     } else {
         Ok(names)
     }
@@ -74,7 +74,7 @@ fn new_asked(text: &[u8]) -> Result<Command, Refusal>
     if !contains(b',', text) {
         return Ok(Command::New(name, None));
     }
-    match behind_first(b',', text) {
+    match after_the_first(b',', text) {
         [first, second, ..] => Ok(Command::New(name, Some([*first, *second]))),
         _ => Err(Refusal::Syntax),
     }
@@ -95,7 +95,7 @@ fn rename_asked(text: &[u8]) -> Result<Command, Refusal>
     ensures { result ≡ rename_asked text.now }
 {
     let new = Name::of(before_first(b'=', text));
-    let old = later_name(behind_first(b'=', text))?;
+    let old = later_name(after_the_first(b'=', text))?;
     if !contains(b'=', text) || new.is_empty() || old.is_empty() {
         return Err(Refusal::NoName);
     }
@@ -110,7 +110,7 @@ fn copy_asked(text: &[u8]) -> Result<Command, Refusal>
     ensures { result ≡ copy_asked text.now }
 {
     let new = Name::of(before_first(b'=', text));
-    let sources = more_names(Names::new(), behind_first(b'=', text))?;
+    let sources = more_names(Names::new(), after_the_first(b'=', text))?;
     if !contains(b'=', text) || new.is_empty() || sources.has_empty() {
         return Err(Refusal::NoName);
     }
@@ -135,15 +135,15 @@ fn position_asked(text: &[u8]) -> Result<Command, Refusal>
 }
 
 /// What follows the colon of a correct head.
-fn behind_head(text: &[u8]) -> Result<&[u8], Refusal>
-    ensures value { result_map_both (λ rest. rest.now) (λ refusal. refusal) result ≡ behind_head text.now }
+fn after_the_head(text: &[u8]) -> Result<&[u8], Refusal>
+    ensures value { result_map_both (λ rest. rest.now) (λ refusal. refusal) result ≡ after_the_head text.now }
     ensures short { IfOk result (λ rest. length rest.now ≤ length text.now) }
 {
     if !contains(b':', text) {
         return Err(Refusal::NoName);
     }
     command_head(before_first(b':', text))?;
-    Ok(behind_first(b':', text))
+    Ok(after_the_first(b':', text))
 }
 
 fn by_letter(letter: u8, text: &[u8]) -> Result<Command, Refusal>
@@ -151,10 +151,10 @@ fn by_letter(letter: u8, text: &[u8]) -> Result<Command, Refusal>
     ensures { result ≡ by_letter letter text.now }
 {
     match letter {
-        b'N' => new_asked(behind_head(text)?),
-        b'S' => scratch_asked(behind_head(text)?),
-        b'R' => rename_asked(behind_head(text)?),
-        b'C' => copy_asked(behind_head(text)?),
+        b'N' => new_asked(after_the_head(text)?),
+        b'S' => scratch_asked(after_the_head(text)?),
+        b'R' => rename_asked(after_the_head(text)?),
+        b'C' => copy_asked(after_the_head(text)?),
         b'V' => {
             command_head(before_first(b':', text))?;
             Ok(Command::Validate)

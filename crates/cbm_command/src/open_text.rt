@@ -11,7 +11,7 @@ use crate::head::{at_in_head, drive_head};
 use crate::name::Name;
 use crate::opening::{Mode, Opening, Wanted};
 use crate::refusal::Refusal;
-use crate::text::{before_first, behind_first, contains, first_or_zero};
+use crate::text::{after_the_first, before_first, contains, first_or_zero};
 use cbm_file::FileType;
 
 /// The most bytes of a text.
@@ -36,7 +36,7 @@ fn listing_asked(text: &[u8]) -> Result<Opening, Refusal>
 {
     drive_head(before_first(b':', text))?;
     if contains(b':', text) {
-        pattern_asked(behind_first(b':', text))
+        pattern_asked(after_the_first(b':', text))
     } else {
         Ok(Opening::Listing(Name::of(b"*")))
     }
@@ -90,14 +90,14 @@ fn with_pieces(text: &[u8], wanted: Wanted) -> Result<Wanted, Refusal>
     let piece = before_first(b',', text);
     let wanted = with_piece(piece, wanted)?;
     if is_length_piece(piece) {
-        let record_length = first_or_zero(behind_first(b',', text));
+        let record_length = first_or_zero(after_the_first(b',', text));
         return Ok(Wanted {
             record_length,
             ..wanted
         });
     }
     if contains(b',', text) {
-        with_pieces(behind_first(b',', text), wanted)
+        with_pieces(after_the_first(b',', text), wanted)
     } else {
         Ok(wanted)
     }
@@ -173,7 +173,7 @@ fn file_asked(channel: u8, has_at: bool, text: &[u8]) -> Result<Opening, Refusal
     if !contains(b',', text) {
         return file_named(or_default(channel, by_channel(channel, plain)));
     }
-    let wanted = with_pieces(behind_first(b',', text), plain)?;
+    let wanted = with_pieces(after_the_first(b',', text), plain)?;
     file_named(or_default(channel, by_channel(channel, wanted)))
 }
 
@@ -185,7 +185,7 @@ fn headed_file(channel: u8, text: &[u8]) -> Result<Opening, Refusal>
         return file_asked(channel, false, text);
     }
     let has_at = at_in_head(before_first(b':', text))?;
-    file_asked(channel, has_at, behind_first(b':', text))
+    file_asked(channel, has_at, after_the_first(b':', text))
 }
 
 /// The first byte of a text of at most 58 bytes chooses.

@@ -28,7 +28,7 @@ pub(crate) fn before_first(byte: u8, text: &[u8]) -> &[u8]
 }
 
 /// What follows the first such byte; nothing where there is none.
-pub(crate) fn behind_first(byte: u8, text: &[u8]) -> &[u8]
+pub(crate) fn after_the_first(byte: u8, text: &[u8]) -> &[u8]
     ensures value { result.now ≡ after_byte byte text.now }
     ensures short { length result.now ≤ length text.now }
     ensures shorter { holds_byte byte text.now ≡ true → length result.now < length text.now }

@@ -41,7 +41,7 @@ pub length-put : (xs ys : List ℕ) (i k : ℕ) → length ys ≡ 256 → k ≡ 
 length-put xs ys i k e f h =
     let shape : length (put_mid (256 * i) k xs ys) ≡ length (take (256 * i) xs ++ (ys ++ post_of (256 * i) k xs)) = refl in
     let rest : length (post_of (256 * i) k xs) ≡ length (drop (256 * i) xs) - k = length-drop {A = ℕ} k (drop (256 * i) xs) in
-    let behind : length (drop (256 * i) xs) ≡ length xs - 256 * i = length-drop {A = ℕ} (256 * i) xs in
+    let afterwards : length (drop (256 * i) xs) ≡ length xs - 256 * i = length-drop {A = ℕ} (256 * i) xs in
     omega (
       arith,
       length-append {A = ℕ} (take (256 * i) xs) (ys ++ post_of (256 * i) k xs),
@@ -194,7 +194,7 @@ sector_in_zeros n ys j h =
     ∙ take-append-le 256 (replicate (n - 256 * j) 0) ys (omega (arith, length-replicate {A = ℕ} (n - 256 * j) 0))
     ∙ take-replicate 256 (n - 256 * j) 0 (omega arith)
 
--- the error bytes of a front and ones behind it
+-- the error bytes of a front and ones after it
 pub ones_are_good : (front : List ℕ) (n j : ℕ) → (length (front ++ replicate n 1) ≡ 175531 → length front ≡ 174848) → j < sectors_in (length (front ++ replicate n 1))
     → error_at (front ++ replicate n 1) j ≡ 1
 ones_are_good front n j l h = elim (cases_eq (length (front ++ replicate n 1)) 175531) [

@@ -1,4 +1,4 @@
--- The first empty slot: the first entry of type byte 0, before or behind a growth of the directory.
+-- The first empty slot: the first entry of type byte 0, before or after a growth of the directory.
 use Rattle.std.proofs.Common.{◌≡◌, ℕ, ◌+◌, List, [], ◌∷◌, Bool, true, false, ap, subst, inr, Option, Some, None, Result, Ok, Err}
 use Rattle.std.specs.Prelude.{◌==◌, if◌then◌else◌, option_map, IfOk, IfErr, OnOk}
 use Rattle.cbm_medium.specs.Content.{Content}

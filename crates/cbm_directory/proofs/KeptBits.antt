@@ -17,9 +17,9 @@ use Rattle.cbm_directory.specs.Growth.{Grows, new_sector}
 byte_of : (xs : List ℕ) (a b j : ℕ) → j < b - a → slice_index (slice_range xs a b) j ≡ slice_index xs (a + j)
 byte_of xs a b j h = get_or-take (b - a) (drop a xs) j 0 h ∙ get_or-drop a xs j 0
 
--- behind the link every byte is as it was
-behind_link : (old new : List ℕ) (q : Place) (i : ℕ) → HasLink old new q → 2 ≤ i → i < 256 → slice_index new i ≡ slice_index old i
-behind_link old new q i h l m = elim (cases_lt (i % 32) 2) [
+-- after the link every byte is as it was
+after_link : (old new : List ℕ) (q : Place) (i : ℕ) → HasLink old new q → 2 ≤ i → i < 256 → slice_index new i ≡ slice_index old i
+after_link old new q i h l m = elim (cases_lt (i % 32) 2) [
   | inl low ↦ elim (cases_eq (i % 32) 0) [
     | inl z ↦ (let e : i ≡ 32 * (i / 32) = omega arith in
         ap (slice_index new) e ∙ (h.between (i / 32) (omega arith) (omega arith)).0 ∙ ap (slice_index old) (sym e))
@@ -37,9 +37,9 @@ behind_link old new q i h l m = elim (cases_lt (i % 32) 2) [
 few_tracks : (t s : ℕ) → s < sectors_on t → t ≤ 40
 few_tracks t s h = grind arith
 
--- where a bit stands is behind the link, and in the sector
-bit_behind : (tracks : ℕ) (p : Place) → Has tracks p → (2 ≤ count_index p.track + 1 + p.sector / 8) × (count_index p.track + 1 + p.sector / 8 < 256)
-bit_behind tracks p h =
+-- where a bit stands is after the link, and in the sector
+bit_after : (tracks : ℕ) (p : Place) → Has tracks p → (2 ≤ count_index p.track + 1 + p.sector / 8) × (count_index p.track + 1 + p.sector / 8 < 256)
+bit_after tracks p h =
     let low : p.track ≤ 40 = few_tracks p.track p.sector h.2 in
     let few = few_sectors p.track in
     let bound = index_bound p.track low in
@@ -51,8 +51,8 @@ bit_behind tracks p h =
 linked_bits : (tracks : ℕ) (old new : List ℕ) (q p : Place) → HasLink old new q → Has tracks p → is_free_in new p ≡ is_free_in old p
 unfolding is_free_in
 linked_bits tracks old new q p h has =
-    let b = bit_behind tracks p has in
-    rw (behind_link old new q (count_index p.track + 1 + p.sector / 8) h b.0 b.1) refl
+    let b = bit_after tracks p has in
+    rw (after_link old new q (count_index p.track + 1 + p.sector / 8) h b.0 b.1) refl
 
 pub bits_kept : (tracks : ℕ) (c c' : Content) (g : Grows tracks c c') (p : Place) → Has tracks p → p.track ≢ 18 → is_free_in (map_of c') p ≡ is_free_in (map_of c) p
 bits_kept tracks c c' g p has off = elim (place_decide g.last directory_head) [

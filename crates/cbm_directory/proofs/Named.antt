@@ -48,5 +48,5 @@ renamed_as e p name w ep l =
     record {
       named = named (put_mid 3 16 e p) p name ep (between-put_mid 3 16 e p 19 (omega arith) k);
       before = λ i b. mid_below 3 16 e p i (omega arith) k b;
-      behind = λ i b. mid_above 3 16 e p i (omega arith) k b;
+      afterwards = λ i b. mid_above 3 16 e p i (omega arith) k b;
     }

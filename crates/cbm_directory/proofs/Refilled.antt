@@ -13,13 +13,13 @@ use Rattle.cbm_directory.specs.Growth.{Grows, new_sector}
 use Rattle.cbm_directory.specs.Empties.{empty_in, FindsEmpty}
 use Rattle.cbm_directory.proofs.Stepping.{listed_cut, listed_next}
 
--- no entry is empty, and no trouble comes behind them
+-- no entry is empty, and no trouble comes after them
 abbrev IsTaken : ℕ → Listed → Type 0
 IsTaken n d = (empty_in n d.entries ≡ None) × (d.trouble ≡ None)
 
-taken_behind : (n : ℕ) (xs : List (List ℕ)) (rest : Listed) → IsTaken n (listed_after xs rest) → (m : ℕ) × IsTaken m rest
-taken_behind n [] rest h = (n, h)
-taken_behind n (x ∷ xs) rest h = by_test (type_byte x == 0) h.0 (λ e. taken_behind (n + 1) xs rest (e, h.1))
+taken_after : (n : ℕ) (xs : List (List ℕ)) (rest : Listed) → IsTaken n (listed_after xs rest) → (m : ℕ) × IsTaken m rest
+taken_after n [] rest h = (n, h)
+taken_after n (x ∷ xs) rest h = by_test (type_byte x == 0) h.0 (λ e. taken_after (n + 1) xs rest (e, h.1))
   where
     by_test : (b : Bool) → (if b then Some n else empty_in (n + 1) (xs ++ rest.entries)) ≡ None
         → (empty_in (n + 1) (xs ++ rest.entries) ≡ None → (m : ℕ) × IsTaken m rest) → (m : ℕ) × IsTaken m rest
@@ -38,7 +38,7 @@ none_left tracks c a n has h =
 -- one sector on
 one_on : (tracks : ℕ) (c : Content) (left : ℕ) (a : Place) (bytes : List ℕ) (n : ℕ) → Has tracks a → c a ≡ Ok bytes → IsTaken n (listed_from tracks c (suc left) a) → (m : ℕ) × IsTaken m (listed_from tracks c left (link bytes))
 one_on tracks c left a bytes n has ok h =
-    taken_behind n (entries_from 8 bytes 0) (listed_from tracks c left (link bytes))
+    taken_after n (entries_from 8 bytes 0) (listed_from tracks c left (link bytes))
     (subst (IsTaken n) (listed_next tracks c (suc left) left a bytes ok (follow_next tracks c (suc left) left a bytes (on_a_track tracks a has) has refl ok)) h)
 
 -- a sector that links to itself never ends
@@ -60,7 +60,7 @@ new_met tracks c (suc left) a n has ok h =
     let z = sym (first_is_empty n (listed_from tracks c left (link new_sector)).entries) ∙ k.0 in
     cc
 
--- what a sector that read is behind the growth: the last one, the new one, or one with the same link
+-- what a sector that read is after the growth: the last one, the new one, or one with the same link
 abbrev Becomes : Content → Place → List ℕ → Place → Place → List ℕ → Type 0
 Becomes c' last sector more b bytes =
     (b ≡ last) ⊎ ((b ≡ more) × (c' b ≡ Ok new_sector) ⊎ ((now : List ℕ) × (c' b ≡ Ok now) × (link now ≡ link bytes)))

@@ -59,7 +59,7 @@ renamed_entry e name = take 3 e ++ (padded name ++ drop 19 e)
 pub record IsRenamedAs (old new name : List ℕ) : Type 0 where
   pub named : name_in new ≡ before_filler name
   pub before : (i : ℕ) → i < 3 → slice_index new i ≡ slice_index old i
-  pub behind : (i : ℕ) → 19 ≤ i → slice_index new i ≡ slice_index old i
+  pub afterwards : (i : ℕ) → 19 ≤ i → slice_index new i ≡ slice_index old i
 
 -- The entry has another number of blocks; what else it says of the file stays.
 pub record IsCountedAs (old new : List ℕ) (blocks : ℕ) : Type 0 where

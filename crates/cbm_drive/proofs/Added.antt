@@ -35,7 +35,7 @@ pub not_host : (w : Who) → (w ≡ Host → ⊥) → IsDrives w
 not_host Host h = absurd (h refl)
 not_host (Drive d) h = tt
 
--- behind an event of a drive the change still waits
+-- after an event of a drive the change still waits
 pub still_waits : (e : Event) (was now : Option Change) → IsDrives e.who → IsTurnOf e.who e.change was now → now ≡ was
 still_waits e was now drive turn = one e.who drive turn
   where
@@ -96,7 +96,7 @@ module _ (D M : Type 0) (stands : D → M → Type 0) (step : M → Act → M) (
   pub added_same : (p : Turns) (b : Cabled D) (old mid new : List Event) (cs : List Change) (n : ℕ) (ss : List (Station M)) (es : List Event) → new ≡ mid → HasAdded D M stands step says p b old mid cs n ss es → HasAdded D M stands step says p b old new cs n ss es
   added_same p b old mid new cs n ss es e h = subst (λ (v : List Event). HasAdded D M stands step says p b old v cs n ss es) (sym e) h
 
-  -- more events were added behind these
+  -- more events were added after these
   pub added_more : (p q : Turns) (b c : Cabled D) (old mid new : List Event) (cs ds all : List Change) (n : ℕ) (ss : List (Station M)) (es : List Event) → (h : HasAdded D M stands step says p b old mid cs n ss es)
       → HasAdded D M stands step says q c mid new ds n ss (es ++ h.made) → cs ++ ds ≡ all → HasAdded D M stands step says q c old new all n ss es
   added_more p q b c old mid new cs ds all n ss es h k both = record {

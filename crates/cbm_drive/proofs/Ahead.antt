@@ -72,7 +72,7 @@ module _ (M : Type 0) (step : M → Act → M) (says : M → Option (ℕ × Bool
   is_over limit peek _ party role own others rest m (seen t due before some) = absurd (cc)
   is_over limit peek answer party role own others rest m (over t due before none more) = absurd (cc)
 
-  -- behind a frame CLOCK is held, and will be freed, whatever there is to say then
+  -- after a frame CLOCK is held, and will be freed, whatever there is to say then
   is_taken : (limit : ℕ) (peek : Option (ℕ × Bool)) (answer : Bool) (party : Party) (role : Role) (low : Bool) (others : Lines) (at_ : ℕ) (last : Bool) (rest : Rest) (m : M)
       → Foretold limit peek answer (record { party = party; role = role; own = record { clock_low = true; data_low = low }; others = others; side = Speaking (after_taken party.reaction at_ last) })
       → Foreseen M step says limit answer (with_port rest m (record { party = party; role = role; own = record { clock_low = true; data_low = low }; others = others; side = Speaking (after_taken party.reaction at_ last) }))
@@ -163,23 +163,23 @@ module _ (M : Type 0) (step : M → Act → M) (says : M → Option (ℕ × Bool
   any_due limit (s ∷ ss) l (inr h) = any_due limit ss l.1 h
 
   -- a reaction that shows nothing leaves what is to be shown
-  behind_silence : (limit t : ℕ) (s : Station M) → port_due s.port ≡ Some t → shown M step says t s ≡ [] → Foreseen M step says limit true s → Foreseen M step says limit true (react M step says t s)
-  behind_silence limit t s due none (shows u due_u before some) = (let same : u ≡ t = some_same u t (port_due s.port) due_u due in absurd (some (subst (λ (v : ℕ). shown M step says v s ≡ []) (sym same) none)))
-  behind_silence limit t s due none (passes u due_u before none_u more) = (let same : u ≡ t = some_same u t (port_due s.port) due_u due in subst (λ (v : ℕ). Foreseen M step says limit true (react M step says v s)) same more)
+  after_silence : (limit t : ℕ) (s : Station M) → port_due s.port ≡ Some t → shown M step says t s ≡ [] → Foreseen M step says limit true s → Foreseen M step says limit true (react M step says t s)
+  after_silence limit t s due none (shows u due_u before some) = (let same : u ≡ t = some_same u t (port_due s.port) due_u due in absurd (some (subst (λ (v : ℕ). shown M step says v s ≡ []) (sym same) none)))
+  after_silence limit t s due none (passes u due_u before none_u more) = (let same : u ≡ t = some_same u t (port_due s.port) due_u due in subst (λ (v : ℕ). Foreseen M step says limit true (react M step says v s)) same more)
 
-  any_behind : (limit t : ℕ) (before behind : List (Station M)) (s : Station M) → port_due s.port ≡ Some t → shown M step says t s ≡ [] → AnyShows M step says limit (before ++ s ∷ behind)
-      → AnyShows M step says limit (before ++ react M step says t s ∷ behind)
-  any_behind limit t [] behind s due none (inl h) = inl (behind_silence limit t s due none h)
-  any_behind limit t [] behind s due none (inr h) = inr h
-  any_behind limit t (x ∷ before) behind s due none (inl h) = inl h
-  any_behind limit t (x ∷ before) behind s due none (inr h) = inr (any_behind limit t before behind s due none h)
+  any_afterwards : (limit t : ℕ) (before afterwards : List (Station M)) (s : Station M) → port_due s.port ≡ Some t → shown M step says t s ≡ [] → AnyShows M step says limit (before ++ s ∷ afterwards)
+      → AnyShows M step says limit (before ++ react M step says t s ∷ afterwards)
+  any_afterwards limit t [] afterwards s due none (inl h) = inl (after_silence limit t s due none h)
+  any_afterwards limit t [] afterwards s due none (inr h) = inr h
+  any_afterwards limit t (x ∷ before) afterwards s due none (inl h) = inl h
+  any_afterwards limit t (x ∷ before) afterwards s due none (inr h) = inr (any_afterwards limit t before afterwards s due none h)
 
-  pub any_reacting : (limit t : ℕ) (before behind : List (Station M)) (s : Station M) → port_due s.port ≡ Some t → shown M step says t s ≡ [] → AnyShows M step says limit (before ++ s ∷ behind)
-      → AnyShows M step says limit (reacting M step says t before s behind)
-  any_reacting limit t before behind s due none h =
-      subst (λ (cs : List Change). AnyShows M step says limit (map (λ x. hear_all M step says cs x) before ++ react M step says t s ∷ map (λ x. hear_all M step says cs x) behind)) (sym none)
-      (subst (λ (xs : List (Station M)). AnyShows M step says limit (xs ++ react M step says t s ∷ map (λ x. x) behind)) (sym (same_map before))
-      (subst (λ (xs : List (Station M)). AnyShows M step says limit (before ++ react M step says t s ∷ xs)) (sym (same_map behind)) (any_behind limit t before behind s due none h)))
+  pub any_reacting : (limit t : ℕ) (before afterwards : List (Station M)) (s : Station M) → port_due s.port ≡ Some t → shown M step says t s ≡ [] → AnyShows M step says limit (before ++ s ∷ afterwards)
+      → AnyShows M step says limit (reacting M step says t before s afterwards)
+  any_reacting limit t before afterwards s due none h =
+      subst (λ (cs : List Change). AnyShows M step says limit (map (λ x. hear_all M step says cs x) before ++ react M step says t s ∷ map (λ x. hear_all M step says cs x) afterwards)) (sym none)
+      (subst (λ (xs : List (Station M)). AnyShows M step says limit (xs ++ react M step says t s ∷ map (λ x. x) afterwards)) (sym (same_map before))
+      (subst (λ (xs : List (Station M)). AnyShows M step says limit (before ++ react M step says t s ∷ xs)) (sym (same_map afterwards)) (any_afterwards limit t before afterwards s due none h)))
 
 module _ (D M : Type 0) (stands : D → M → Type 0) (step : M → Act → M) (says : M → Option (ℕ × Bool)) where
   -- the drives stand for stations of which one shows a change
@@ -195,7 +195,7 @@ module _ (D M : Type 0) (stood stands : D → M → Type 0) (step : M → Act �
   -- one reaction on
   pub shows_on : (host : Lines) (limit t device : ℕ) (xs ys : List (Seated D)) (cs : List Change) → (k : ShowsStill D M stood step says host limit xs) → HasReacted D M stands step says host t device ys cs k.stations → cs ≡ [] → ShowsStill D M stands step says host limit ys
   shows_on host limit t device xs ys cs k r none = record {
-    stations = reacting M step says t r.before r.station r.behind;
+    stations = reacting M step says t r.before r.station r.afterwards;
     now = r.now;
-    any = any_reacting M step says limit t r.before r.behind r.station r.first.due (sym r.changes ∙ none) (subst (AnyShows M step says limit) r.is k.any);
+    any = any_reacting M step says limit t r.before r.afterwards r.station r.first.due (sym r.changes ∙ none) (subst (AnyShows M step says limit) r.is k.any);
   }

@@ -11,19 +11,19 @@ use Rattle.cbm_iec.specs.declared.lines.Change.{Change}
 use Rattle.cbm_iec.specs.declared.lines.Held.{Held}
 use Rattle.cbm_iec.specs.declared.lines.Lines.{Lines}
 use Rattle.cbm_iec.specs.declared.port.Port.{Port}
-use Rattle.cbm_session.specs.Among.{behind_host}
+use Rattle.cbm_session.specs.Among.{after_the_host}
 use Rattle.cbm_session.specs.Playing.{Station, tell, hear_all, drive_events}
 use Rattle.cbm_drive.specs.declared.wires.Wires.{Wires}
 use Rattle.cbm_drive.specs.Playback.{Shown, Playback, played_says, played_step, IsPlayedBack, recorded}
 use Rattle.cbm_drive.specs.PlayedBack.{played_as, played_byte, played_acted}
 use Rattle.cbm_drive.specs.Played.{HasSettled}
 use Rattle.cbm_drive.specs.Progress.{AreKept}
-use Rattle.cbm_drive.specs.Reactions.{Toggles, IsAllOf, HaveHeard, HasReacted, wires_after_all, held_behind, behind_change, own_after}
+use Rattle.cbm_drive.specs.Reactions.{Toggles, IsAllOf, HaveHeard, HasReacted, wires_after_all, held_afterwards, after_a_change, own_after}
 use Rattle.cbm_drive.specs.Recorded.{IsToldBy, ReactsBy}
 use Rattle.cbm_drive.specs.Seats.{Seated, IsSeat, IsBusAt, IsFirstDue, AreInTime, pulls_counted, wires_held_by}
 use Rattle.cbm_drive.specs.Silence.{AnyShows, AreSilent, Foretold, Foreseen}
 use Rattle.cbm_drive.proofs.Ahead.{ShowsStill, shows_on, shows_never, foreseen_by}
-use Rattle.cbm_drive.proofs.Heard.{counted_behind}
+use Rattle.cbm_drive.proofs.Heard.{counted_after_it}
 use Rattle.cbm_drive.proofs.Played.{settled_none, settled_more, settled_to}
 use Rattle.cbm_drive.proofs.Reacted.{reacts}
 use Rattle.cbm_drive.proofs.Told.{told_one}
@@ -33,17 +33,17 @@ no_seats : {A B : Type 0} (R S : A → B → Type 0) (f : B → B) (bs : List B)
 no_seats R S f [] h = tt
 no_seats R S f (b ∷ bs) h = absurd h
 
-lone_counts : {D : Type 0} (cs : List Change) (all : Wires) (own : Held) → Toggles own cs → IsAllOf {D = D} all own [] [] → IsAllOf {D = D} (wires_after_all cs all) (held_behind cs own) [] []
+lone_counts : {D : Type 0} (cs : List Change) (all : Wires) (own : Held) → Toggles own cs → IsAllOf {D = D} all own [] [] → IsAllOf {D = D} (wires_after_all cs all) (held_afterwards cs own) [] []
 lone_counts [] all own t h = h
-lone_counts (c ∷ cs) all own t h = lone_counts cs (behind_change c.line c.way all) (own_after c.line c.way own) t.1 (counted_behind c.line c.way all own [] [] [] [] t.0 h refl refl)
+lone_counts (c ∷ cs) all own t h = lone_counts cs (after_a_change c.line c.way all) (own_after c.line c.way own) t.1 (counted_after_it c.line c.way all own [] [] [] [] t.0 h refl refl)
 
 -- what changes on a cable with nobody else
 pub heard_nobody : (D M : Type 0) (stands : D → M → Type 0) (step : M → Act → M) (says : M → Option (ℕ × Bool)) (cs : List Change) (all : Wires) (own : Held) (front back : List (Seated D)) (bs hs : List (Station M)) → front ≡ [] → back ≡ []
-    → Toggles own cs → IsAllOf all own front back → AllZip (IsSeat D M stands all) front bs → AllZip (IsSeat D M stands all) back hs → HaveHeard D M stands step says (wires_after_all cs all) (held_behind cs own) cs front back bs hs
+    → Toggles own cs → IsAllOf all own front back → AllZip (IsSeat D M stands all) front bs → AllZip (IsSeat D M stands all) back hs → HaveHeard D M stands step says (wires_after_all cs all) (held_afterwards cs own) cs front back bs hs
 heard_nobody D M stands step says cs all own [] [] bs hs front back toggles counts b h = record {
   counts = lone_counts cs all own toggles counts;
   before = no_seats (IsSeat D M stands all) (IsSeat D M stands (wires_after_all cs all)) (λ s. hear_all M step says cs s) bs b;
-  behind = no_seats (IsSeat D M stands all) (IsSeat D M stands (wires_after_all cs all)) (λ s. hear_all M step says cs s) hs h;
+  afterwards = no_seats (IsSeat D M stands all) (IsSeat D M stands (wires_after_all cs all)) (λ s. hear_all M step says cs s) hs h;
 }
 heard_nobody D M stands step says cs all own (x ∷ xs) ys bs hs front back toggles counts b h = absurd (cc)
 heard_nobody D M stands step says cs all own [] (y ∷ ys) bs hs front back toggles counts b h = absurd (cc)
@@ -83,7 +83,7 @@ module _ {D : Type 0} (shows : D → Shown) where
         (λ own bs hs when toggles counts b h. record {
           counts = lone_counts cs (wires_held_by host (x ∷ [])) own toggles counts;
           before = no_seats (IsSeat D Playback (IsPlayedBack shows (recorded shows (reaction_act (shows x.machine) x.port) y.machine ++ later)) (wires_held_by host (x ∷ []))) (IsSeat D Playback (IsPlayedBack shows later) (wires_after_all cs (wires_held_by host (x ∷ [])))) (λ s. hear_all Playback played_step played_says cs s) bs b;
-          behind = no_seats (IsSeat D Playback (IsPlayedBack shows (recorded shows (reaction_act (shows x.machine) x.port) y.machine ++ later)) (wires_held_by host (x ∷ []))) (IsSeat D Playback (IsPlayedBack shows later) (wires_after_all cs (wires_held_by host (x ∷ [])))) (λ s. hear_all Playback played_step played_says cs s) hs h;
+          afterwards = no_seats (IsSeat D Playback (IsPlayedBack shows (recorded shows (reaction_act (shows x.machine) x.port) y.machine ++ later)) (wires_held_by host (x ∷ []))) (IsSeat D Playback (IsPlayedBack shows later) (wires_after_all cs (wires_held_by host (x ∷ [])))) (λ s. hear_all Playback played_step played_says cs s) hs h;
         }) bus (due, tt))),
   )
 
@@ -115,7 +115,7 @@ module _ {D : Type 0} (shows : D → Shown) where
       let b = h.0 in
       let own : y.port.own ≡ x.port.own = ap (λ (p : Port). p.own) k.port in (
         subst (λ (o : Held). IsSeat D Playback (IsPlayedBack shows later) (record { host = now; clocks = pulls_counted o.clock_low + 0; datas = pulls_counted o.data_low + 0 }) y (tell Playback played_step played_says c s)) (sym own)
-            (told_one D Playback (IsPlayedBack shows (recorded shows (told_act k.others x.port) y.machine ++ later)) (IsPlayedBack shows later) played_step played_says (wires_held_by now (x ∷ [])) k.others c.moment (behind_host c.line c.way s.rest) x y s
+            (told_one D Playback (IsPlayedBack shows (recorded shows (told_act k.others x.port) y.machine ++ later)) (IsPlayedBack shows later) played_step played_says (wires_held_by now (x ∷ [])) k.others c.moment (after_the_host c.line c.way s.rest) x y s
             k.lines k.port (λ m q. played_acted shows later x.machine y.machine m (told_act k.others x.port) q k.machine)
             (record {
               port = b.port;
@@ -160,7 +160,7 @@ module _ {D : Type 0} (shows : D → Shown) where
   shows_rest limit true x xs f more later all (s ∷ ss) h = inr (more later all ss h.1)
   shows_rest limit false x xs f more later all (s ∷ ss) h = (let one = one_shows limit later all false x s f h.0 in (one.0, one.1, more later all ss h.1))
 
-  -- ---- reactions that show nothing, one behind the other
+  -- ---- reactions that show nothing, one after the other
 
   abbrev pub Settles : Lines → ℕ → List (Seated D) → List (Seated D) → Type 0
   Settles host limit xs ys = (trail : List Shown) × ((later : List Shown) (ss : List (Station Playback)) → IsBack (trail ++ later) host xs ss

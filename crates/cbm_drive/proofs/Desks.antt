@@ -11,7 +11,7 @@ use Rattle.cbm_iec.specs.declared.machine.Act.{Act}
 use Rattle.cbm_drive.specs.Addressing.{addressed_after}
 use Rattle.cbm_drive.specs.Desks.{Desk, desk_asked, desk_step, desk_says, shown_from, IsAlike, DeskStands}
 
--- what is owed is another byte, behind one that isn't the last
+-- what is owed is another byte, after one that isn't the last
 pub owes_next : (act : Act) (shown : Option (ℕ × Bool)) → owes act shown ≡ true → (n : ℕ) × (shown ≡ Some (n, false))
 owes_next (Said byte true) shown e = absurd cc
 owes_next (Said byte false) None e = absurd cc

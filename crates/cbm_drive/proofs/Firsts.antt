@@ -27,7 +27,7 @@ first_in_time t u n [] l h = absurd h
 first_in_time t u zero (x ∷ xs) l h = (subst (IsInTime t) (sym h.0) l, all_in_time t u xs l h.1)
 first_in_time t u (suc n) (x ∷ xs) l h = (later_in_time t u (port_due x.port) l h.0, first_in_time t u n xs l h.1)
 
--- The first drive's reaction comes before that of those behind it.
+-- The first drive's reaction comes before that of those after it.
 pub sooner : {D : Type 0} (t u n : ℕ) (x : Seated D) (xs : List (Seated D)) → Some t ≡ port_due x.port → t ≤ u → IsFirstDue xs (n, u) → IsFirstDue (x ∷ xs) (0, t)
 sooner t u n x xs due l h = (sym due, first_in_time t u n xs l h)
 
@@ -54,7 +54,7 @@ one_first zero t (suc k) u (x ∷ xs) h g = absurd (apart t u (port_due x.port) 
 one_first (suc n) t zero u (x ∷ xs) h g = absurd (apart u t (port_due x.port) g.0 h.0 (not_before u t n xs g.1 h.1))
 one_first (suc n) t (suc k) u (x ∷ xs) h g = (let e = one_first n t k u xs h.1 g.1 in (ap suc e.0, e.1))
 
--- ---- one drive more, behind those that were looked at
+-- ---- one drive more, after those that were looked at
 
 later_than : (t u : ℕ) (due : Option ℕ) → u < t → IsInTime t due → IsLaterDue u due
 later_than t u None l h = tt

@@ -1,4 +1,4 @@
--- A drive changes a line, and the drives before and behind it are told.
+-- A drive changes a line, and the drives before and after it are told.
 use Rattle.std.proofs.Common.{◌≡◌, ℕ, length, zero, suc, ◌+◌, ◌≤◌, Bool, List, [], ◌∷◌, map, Option, refl, sym, ap, subst, ◌∙◌, arith}
 use Rattle.std.specs.Prelude.{not}
 use Rattle.std.specs.List.{AllZip}
@@ -10,11 +10,11 @@ use Rattle.cbm_iec.specs.declared.lines.Line.{Line}
 use Rattle.cbm_iec.specs.declared.lines.Way.TheVariants.{Pull, Free}
 use Rattle.cbm_iec.specs.declared.lines.Way.{Way}
 use Rattle.cbm_iec.specs.declared.lines.Held.{Held}
-use Rattle.cbm_session.specs.Among.{Rest, counted, behind_other}
+use Rattle.cbm_session.specs.Among.{Rest, counted, after_another}
 use Rattle.cbm_session.specs.Playing.{Station, told_lines, hear, hear_all}
 use Rattle.cbm_drive.specs.declared.wires.Wires.{Wires}
 use Rattle.cbm_drive.specs.Seats.{Seated, Meets, IsSeat, IsWithout, pulls_counted, total, own_of, clock_of, data_pulls}
-use Rattle.cbm_drive.specs.Reactions.{AreAtMoment, Toggles, IsToggled, IsAllOf, HaveHeard, behind_change, wires_after_all, own_after, held_behind}
+use Rattle.cbm_drive.specs.Reactions.{AreAtMoment, Toggles, IsToggled, IsAllOf, HaveHeard, after_a_change, wires_after_all, own_after, held_afterwards}
 
 -- counts depend on the lines that the drives hold, and on nothing else
 sums : {D : Type 0} (f : Held → ℕ) (xs : List (Seated D)) → total (λ x. f (own_of x)) xs ≡ total f (map own_of xs)
@@ -45,10 +45,10 @@ less_room Atn way all a b n k h = absurd h
 less_room Clock way all a b n k h = (λ e. omega (arith, h e), λ e. omega (arith, h e))
 less_room Data way all a b n k h = (λ e. omega (arith, h e), λ e. omega (arith, h e))
 
-without_behind : (line : Line) (way : Way) (all : Wires) (own : Held) (r : Rest) → HasRoom line way all (pulls_counted own.clock_low) (pulls_counted own.data_low) → IsWithout all own r → IsWithout (behind_change line way all) own (behind_other line way r)
-without_behind Atn way all own r room h = absurd room
-without_behind Clock way all own r room h = record { host = h.host; clocks = counts_more way r.clocks (pulls_counted own.clock_low) all.clocks h.clocks room; datas = h.datas }
-without_behind Data way all own r room h = record { host = h.host; clocks = h.clocks; datas = counts_more way r.datas (pulls_counted own.data_low) all.datas h.datas room }
+without_after : (line : Line) (way : Way) (all : Wires) (own : Held) (r : Rest) → HasRoom line way all (pulls_counted own.clock_low) (pulls_counted own.data_low) → IsWithout all own r → IsWithout (after_a_change line way all) own (after_another line way r)
+without_after Atn way all own r room h = absurd room
+without_after Clock way all own r room h = record { host = h.host; clocks = counts_more way r.clocks (pulls_counted own.clock_low) all.clocks h.clocks room; datas = h.datas }
+without_after Data way all own r room h = record { host = h.host; clocks = h.clocks; datas = counts_more way r.datas (pulls_counted own.data_low) all.datas h.datas room }
 
 -- the toggled line is counted, so there is room
 toggled_room : {D : Type 0} (line : Line) (way : Way) (all : Wires) (own : Held) (front back : List (Seated D)) → IsToggled line way own → IsAllOf all own front back
@@ -68,9 +68,9 @@ recount Pull low c f b t e = (let z : pulls_counted low ≡ 0 = ap pulls_counted
 recount Free low zero f b t e = (let z : pulls_counted low ≡ 1 = ap pulls_counted t in absurd (omega (arith, e, z)))
 recount Free low (suc c) f b t e = (let z : pulls_counted low ≡ 1 = ap pulls_counted t in omega (arith, e, z))
 
-pub counted_behind : {D : Type 0} (line : Line) (way : Way) (all : Wires) (own : Held) (front back front' back' : List (Seated D)) → IsToggled line way own → IsAllOf all own front back → map own_of front' ≡ map own_of front → map own_of back' ≡ map own_of back
-    → IsAllOf (behind_change line way all) (own_after line way own) front' back'
-counted_behind line way all own front back front' back' t h e f =
+pub counted_after_it : {D : Type 0} (line : Line) (way : Way) (all : Wires) (own : Held) (front back front' back' : List (Seated D)) → IsToggled line way own → IsAllOf all own front back → map own_of front' ≡ map own_of front → map own_of back' ≡ map own_of back
+    → IsAllOf (after_a_change line way all) (own_after line way own) front' back'
+counted_after_it line way all own front back front' back' t h e f =
     let cf = same_sums (λ o. pulls_counted o.clock_low) front front' e in
     let df = same_sums (λ o. pulls_counted o.data_low) front front' e in
     let cb = same_sums (λ o. pulls_counted o.clock_low) back back' f in
@@ -80,7 +80,7 @@ counted_behind line way all own front back front' back' t h e f =
       datas = h.datas ∙ (λ i. sym df i + (pulls_counted own.data_low + sym db i));
     })
   where
-    moved : (line : Line) → IsToggled line way own → IsAllOf all own front' back' → IsAllOf (behind_change line way all) (own_after line way own) front' back'
+    moved : (line : Line) → IsToggled line way own → IsAllOf all own front' back' → IsAllOf (after_a_change line way all) (own_after line way own) front' back'
     moved Atn t k = absurd t
     moved Clock t k = record { clocks = recount way own.clock_low all.clocks (total clock_of front') (total clock_of back') t k.clocks; datas = k.datas }
     moved Data t k = record { clocks = k.clocks; datas = recount way own.data_low all.datas (total data_pulls front') (total data_pulls back') t k.datas }
@@ -98,15 +98,15 @@ map_twice f g [] = refl
 map_twice f g (x ∷ xs) = ap (λ ys. g (f x) ∷ ys) (map_twice f g xs)
 
 module _ (D M : Type 0) (stands : D → M → Type 0) (step : M → Act → M) (says : M → Option (ℕ × Bool)) where
-  -- each that stands for a station meets what it holds behind the change
+  -- each that stands for a station meets what it holds after the change
   all_meet : (line : Line) (way : Way) (all : Wires) (xs : List (Seated D)) (ss : List (Station M)) → HasRoom line way all (total clock_of xs) (total data_pulls xs) → AllZip (IsSeat D M stands all) xs ss
-      → AllZip (λ x s. Meets D M stands (behind_change line way all) (behind_other line way s.rest) x s) xs ss
+      → AllZip (λ x s. Meets D M stands (after_a_change line way all) (after_another line way s.rest) x s) xs ss
   all_meet line way all [] [] room h = tt
   all_meet line way all [] (s ∷ ss) room h = absurd h
   all_meet line way all (x ∷ xs) [] room h = absurd h
   all_meet line way all (x ∷ xs) (s ∷ ss) room h =
       let parts = less_room line way all (clock_of x) (data_pulls x) (total clock_of xs) (total data_pulls xs) room in
-      (record { port = h.0.port; machine = h.0.machine; rest = without_behind line way all x.port.own s.rest parts.0 h.0.rest }, all_meet line way all xs ss parts.1 h.1)
+      (record { port = h.0.port; machine = h.0.machine; rest = without_after line way all x.port.own s.rest parts.0 h.0.rest }, all_meet line way all xs ss parts.1 h.1)
 
   -- nothing was changed
   pub heard_none : (all : Wires) (own : Held) (front back : List (Seated D)) (bs hs : List (Station M)) → IsAllOf all own front back → AllZip (IsSeat D M stands all) front bs → AllZip (IsSeat D M stands all) back hs
@@ -114,33 +114,33 @@ module _ (D M : Type 0) (stands : D → M → Type 0) (step : M → Act → M) (
   heard_none all own front back bs hs counts b h = record {
     counts = counts;
     before = subst (λ ss. AllZip (IsSeat D M stands all) front ss) (sym (same_map bs)) b;
-    behind = subst (λ ss. AllZip (IsSeat D M stands all) back ss) (sym (same_map hs)) h;
+    afterwards = subst (λ ss. AllZip (IsSeat D M stands all) back ss) (sym (same_map hs)) h;
   }
 
   -- what tell_each says of drives that are told
   abbrev pub Told : ℕ → Wires → List (Seated D) → List (Seated D) → Type 0
   Told moment all xs ys = (f : Rest → Rest) (ss : List (Station M)) → AllZip (λ x s. Meets D M stands all (f s.rest) x s) xs ss → AllZip (IsSeat D M stands all) ys (map (λ s. told_lines M step says moment (f s.rest) s) ss)
 
-  told_heard : (moment : ℕ) (c : Change) (all : Wires) (xs ys : List (Seated D)) (ss : List (Station M)) → c.moment ≡ moment → HasRoom c.line c.way all (total clock_of xs) (total data_pulls xs) → Told moment (behind_change c.line c.way all) xs ys
-      → AllZip (IsSeat D M stands all) xs ss → AllZip (IsSeat D M stands (behind_change c.line c.way all)) ys (map (λ s. hear M step says c s) ss)
+  told_heard : (moment : ℕ) (c : Change) (all : Wires) (xs ys : List (Seated D)) (ss : List (Station M)) → c.moment ≡ moment → HasRoom c.line c.way all (total clock_of xs) (total data_pulls xs) → Told moment (after_a_change c.line c.way all) xs ys
+      → AllZip (IsSeat D M stands all) xs ss → AllZip (IsSeat D M stands (after_a_change c.line c.way all)) ys (map (λ s. hear M step says c s) ss)
   told_heard moment c all xs ys ss when room told h =
-      subst (λ (t : ℕ). AllZip (IsSeat D M stands (behind_change c.line c.way all)) ys (map (λ s. told_lines M step says t (behind_other c.line c.way s.rest) s) ss)) (sym when)
-      (told (behind_other c.line c.way) ss (all_meet c.line c.way all xs ss room h))
+      subst (λ (t : ℕ). AllZip (IsSeat D M stands (after_a_change c.line c.way all)) ys (map (λ s. told_lines M step says t (after_another c.line c.way s.rest) s) ss)) (sym when)
+      (told (after_another c.line c.way) ss (all_meet c.line c.way all xs ss room h))
 
   -- one change more
   pub heard_next : (moment : ℕ) (c : Change) (cs : List Change) (all : Wires) (own : Held) (front back front' back' front2 back2 : List (Seated D)) (bs hs : List (Station M))
-      → Told moment (behind_change c.line c.way all) front front' → map own_of front' ≡ map own_of front → Told moment (behind_change c.line c.way all) back back' → map own_of back' ≡ map own_of back
-      → ((o : Held) (us es : List (Station M)) → AreAtMoment moment cs → Toggles o cs → IsAllOf (behind_change c.line c.way all) o front' back' → AllZip (IsSeat D M stands (behind_change c.line c.way all)) front' us
-      → AllZip (IsSeat D M stands (behind_change c.line c.way all)) back' es → HaveHeard D M stands step says (wires_after_all cs (behind_change c.line c.way all)) (held_behind cs o) cs front2 back2 us es)
+      → Told moment (after_a_change c.line c.way all) front front' → map own_of front' ≡ map own_of front → Told moment (after_a_change c.line c.way all) back back' → map own_of back' ≡ map own_of back
+      → ((o : Held) (us es : List (Station M)) → AreAtMoment moment cs → Toggles o cs → IsAllOf (after_a_change c.line c.way all) o front' back' → AllZip (IsSeat D M stands (after_a_change c.line c.way all)) front' us
+      → AllZip (IsSeat D M stands (after_a_change c.line c.way all)) back' es → HaveHeard D M stands step says (wires_after_all cs (after_a_change c.line c.way all)) (held_afterwards cs o) cs front2 back2 us es)
       → AreAtMoment moment (c ∷ cs) → Toggles own (c ∷ cs) → IsAllOf all own front back → AllZip (IsSeat D M stands all) front bs → AllZip (IsSeat D M stands all) back hs
-      → HaveHeard D M stands step says (wires_after_all (c ∷ cs) all) (held_behind (c ∷ cs) own) (c ∷ cs) front2 back2 bs hs
+      → HaveHeard D M stands step says (wires_after_all (c ∷ cs) all) (held_afterwards (c ∷ cs) own) (c ∷ cs) front2 back2 bs hs
   heard_next moment c cs all own front back front' back' front2 back2 bs hs tf of tb ob more when toggles counts b h =
       let room = toggled_room c.line c.way all own front back toggles.0 counts in
       let rest = more (own_after c.line c.way own) (map (λ s. hear M step says c s) bs) (map (λ s. hear M step says c s) hs) when.1 toggles.1
-      (counted_behind c.line c.way all own front back front' back' toggles.0 counts of ob)
+      (counted_after_it c.line c.way all own front back front' back' toggles.0 counts of ob)
       (told_heard moment c all front front' bs when.0 room.0 tf b) (told_heard moment c all back back' hs when.0 room.1 tb h) in
       record {
         counts = rest.counts;
         before = subst (λ ss. AllZip (IsSeat D M stands (wires_after_all (c ∷ cs) all)) front2 ss) (map_twice (λ s. hear M step says c s) (λ s. hear_all M step says cs s) bs) rest.before;
-        behind = subst (λ ss. AllZip (IsSeat D M stands (wires_after_all (c ∷ cs) all)) back2 ss) (map_twice (λ s. hear M step says c s) (λ s. hear_all M step says cs s) hs) rest.behind;
+        afterwards = subst (λ ss. AllZip (IsSeat D M stands (wires_after_all (c ∷ cs) all)) back2 ss) (map_twice (λ s. hear M step says c s) (λ s. hear_all M step says cs s) hs) rest.afterwards;
       }

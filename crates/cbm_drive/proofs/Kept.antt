@@ -1,4 +1,4 @@
--- Behind a play from rest, under a host that keeps the timing, the drives have kept to a session.
+-- After a play from rest, under a host that keeps the timing, the drives have kept to a session.
 use Rattle.std.proofs.Common.{◌≡◌, ℕ, ◌+◌, Bool, false, List, [], ◌∷◌, ◌++◌, append-nil, Option, Some, None, ap, subst, ◌∙◌, arith}
 use Rattle.cbm_iec.specs.Ports.{port_due}
 use Rattle.cbm_iec.specs.declared.machine.Act.TheVariants.{Said}
@@ -38,7 +38,7 @@ module _ (D M : Type 0) (stands : D → M → Type 0) (step : M → Act → M) (
         loosely = λ timing. keeps_loosely M step says bs ms p.from end p.made p.stations is_bus (record { more = more }) p.plays (let b = p.before in omega (arith, b)) later timing;
       }
 
-  -- and behind what a player gave
+  -- and after what a player gave
   pub kept_after : ((m : M) (n : ℕ) → says m ≡ Some (n, false) → (x : ℕ × Bool) × (says (step m (Said n false)) ≡ Some x)) → (p : Turns) (b : Cabled D) (bs : List Party) (ms : ℕ → M) (es : List Event) (end : ℕ) → IsBus bs → p.second ≡ None
       → (a : IsAfter D M stands step says p b 0 (at_rest M step says ms bs) es) → AreLater end b.drives → HostKeeps bs es end → IsKept M step says bs ms es end a.stations
   kept_after more p b bs ms es end is_bus none a late timing =

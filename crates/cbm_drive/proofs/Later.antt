@@ -1,4 +1,4 @@
--- What is due behind a change and behind a reaction, in the words of this crate.
+-- What is due after a change and after a reaction, in the words of this crate.
 use Rattle.std.specs.Prelude.{◌≡◌, ℕ, ◌≤◌, Bool, Option, Some}
 use Rattle.cbm_iec.specs.Ports.{port_due, told, reacted}
 use Rattle.cbm_iec.specs.declared.lines.Lines.{Lines}

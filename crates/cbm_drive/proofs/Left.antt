@@ -43,7 +43,7 @@ at_most_all : {D : Type 0} (t : ℕ) (xs : List (Seated D)) → due_now t xs ≤
 at_most_all t [] = omega arith
 at_most_all t (x ∷ xs) = omega (arith, at_most_one t (port_due x.port), at_most_all t xs)
 
--- LESS IS LEFT behind a reaction
+-- LESS IS LEFT after a reaction
 pub less_left : {D : Type 0} (n t limit : ℕ) (xs ys : List (Seated D)) → IsFirstDue xs (n, t) → t < limit → length ys ≤ 4 → IsNearer t xs ys → left limit ys < left limit xs
 less_left n t limit xs ys first before few near =
     subst (λ (k : ℕ). left limit ys < k) (sym (ap (left_from limit xs) (first_soonest n t xs first))) (by_soonest (soonest ys) (soonest_in_time t ys near.in_time))

@@ -1,4 +1,4 @@
--- One reaction less is due behind a reaction.
+-- One reaction less is due after a reaction.
 use Rattle.std.proofs.Common.{◌≡◌, ℕ, zero, suc, length, ◌+◌, ◌<◌, ◌≤◌, Bool, List, [], ◌∷◌, ◌++◌, Option, Some, None, refl, sym, ap, subst, ◌∙◌, inl, inr, arith}
 use Rattle.std.proofs.lemmas.Bool.{eq-eqb, ne_eqb}
 use Rattle.std.specs.Prelude.{if◌then◌else◌}
@@ -71,7 +71,7 @@ due_there (suc n) t [] x ys e h = absurd (omega (arith, e))
 due_there zero t (y ∷ xs) x ys e h = absurd (omega (arith, e))
 due_there (suc n) t (y ∷ xs) x ys e h = due_there n t xs x ys (omega (arith, e)) h.1
 
--- what the reacting drive and the others owe behind it
+-- what the reacting drive and the others owe after it
 pub nearer : {D : Type 0} (n t : ℕ) (front : List (Seated D)) (x x' : Seated D) (back front' back' : List (Seated D)) → length front ≡ n → IsFirstDue (front ++ x ∷ back) (n, t)
     → (port_due x.port ≡ Some t → IsLaterDue t (port_due x'.port)) → AreKept t front front' → AreKept t back back' → IsNearer t (front ++ x ∷ back) (front' ++ x' ∷ back')
 nearer n t front x x' back front' back' len first later kf kb =

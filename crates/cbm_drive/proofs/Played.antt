@@ -60,16 +60,16 @@ module _ (D M : Type 0) (stands : D → M → Type 0) (step : M → Act → M) (
     now = h;
   }
 
--- one step more: of what stood for the stations before, something stands behind it
+-- one step more: of what stood for the stations before, something stands after it
 module _ (D M : Type 0) (stood stands : D → M → Type 0) (step : M → Act → M) (says : M → Option (ℕ × Bool)) (byte : (x : D) (m : M) (n : ℕ) (last : Bool) → stood x m → says m ≡ Some (n, last) → n < 256)
     (byte_now : (x : D) (m : M) (n : ℕ) (last : Bool) → stands x m → says m ≡ Some (n, last) → n < 256) where
   one_step : (host : Lines) (t n device : ℕ) (xs ys : List (Seated D)) (cs : List Change) (ss : List (Station M)) → IsBusAt D M stood host xs ss → (r : HasReacted D M stands step says host t device ys cs ss)
-      → Plays M step says n ss (drive_events device cs) (suc t) (reacting M step says t r.before r.station r.behind)
+      → Plays M step says n ss (drive_events device cs) (suc t) (reacting M step says t r.before r.station r.afterwards)
   one_step host t n device xs ys cs ss h r =
       let made : drive_events device cs ≡ drive_events r.station.port.party.device (shown M step says t r.station) ++ [] =
       (λ i. drive_events (r.which i) (r.changes i)) ∙ sym (append-nil (drive_events r.station.port.party.device (shown M step says t r.station))) in
-      reaction t r.before r.station r.behind [] (at_bus D M stood step says byte host xs ss h) r.is r.first made
-      (stays (at_bus D M stands step says byte_now host ys (reacting M step says t r.before r.station r.behind) r.now) refl refl refl)
+      reaction t r.before r.station r.afterwards [] (at_bus D M stood step says byte host xs ss h) r.is r.first made
+      (stays (at_bus D M stands step says byte_now host ys (reacting M step says t r.before r.station r.afterwards) r.now) refl refl refl)
 
   -- one reaction more
   pub settled_more : (host : Lines) (limit t device n : ℕ) (xs ys : List (Seated D)) (cs : List Change) (old mid new : List Event) (ss : List (Station M)) → (s : HasSettled D M stood step says host limit xs old mid n ss)
@@ -77,7 +77,7 @@ module _ (D M : Type 0) (stood stands : D → M → Type 0) (step : M → Act �
   settled_more host limit t device n xs ys cs old mid new ss s r l e = record {
     made = s.made ++ drive_events device cs;
     from = suc t;
-    stations = reacting M step says t r.before r.station r.behind;
+    stations = reacting M step says t r.before r.station r.afterwards;
     added = e ∙ ap (λ (v : List Event). v ++ drive_events device cs) s.added ∙ append_assoc old s.made (drive_events device cs);
     plays = plays_then M step says s.plays (one_step host t s.from device xs ys cs s.stations s.now r);
     quiet = both_none s.made device cs s.quiet;
@@ -91,7 +91,7 @@ module _ (D M : Type 0) (stood stands : D → M → Type 0) (step : M → Act �
   settled_to host limit t device n xs ys cs ss s r = record {
     made = s.made ++ drive_events device cs;
     from = suc t;
-    stations = reacting M step says t r.before r.station r.behind;
+    stations = reacting M step says t r.before r.station r.afterwards;
     added = ap (λ (v : List Event). v ++ drive_events device cs) s.added;
     plays = plays_then M step says s.plays (one_step host t s.from device xs ys cs s.stations s.now r);
     quiet = both_none s.made device cs s.quiet;

@@ -12,16 +12,16 @@ use Rattle.cbm_session.specs.Playing.{Station, Plays, tell, host_event, drive_ev
 use Rattle.cbm_session.proofs.headline.Keeping.{plays_then}
 use Rattle.cbm_drive.specs.Cables.{Cabled}
 use Rattle.cbm_drive.specs.Played.{HasSettled}
-use Rattle.cbm_drive.specs.Players.{Turns, pending, at_most, IsDrives, IsLessLeft, IsGivenBefore, IsNextEvent, IsWaitingFrom, from_behind, IsSecond, IsAfter, HasGiven, IsFinished}
+use Rattle.cbm_drive.specs.Players.{Turns, pending, at_most, IsDrives, IsLessLeft, IsGivenBefore, IsNextEvent, IsWaitingFrom, from_after, IsSecond, IsAfter, HasGiven, IsFinished}
 use Rattle.cbm_drive.specs.Progress.{left}
 use Rattle.cbm_drive.specs.Reactions.{AreAtMoment}
 use Rattle.cbm_drive.specs.Seats.{Seated, IsBusAt, AreInTime}
 use Rattle.cbm_drive.proofs.Played.{one_change}
 
--- a change that waits from a limit on waits behind what comes before the limit
-pub waits_behind : (t limit : ℕ) (w : Option Change) → t < limit → IsWaitingFrom limit w → IsWaitingFrom (t + 1) w
-waits_behind t limit None l h = tt
-waits_behind t limit (Some c) l h = (let from = h.0 in omega (arith, l, from), h.1)
+-- a change that waits from a limit on waits after what comes before the limit
+pub waits_after : (t limit : ℕ) (w : Option Change) → t < limit → IsWaitingFrom limit w → IsWaitingFrom (t + 1) w
+waits_after t limit None l h = tt
+waits_after t limit (Some c) l h = (let from = h.0 in omega (arith, l, from), h.1)
 
 pub waits_for : (limit : ℕ) (w : Option Change) (c : Change) → w ≡ Some c → limit ≤ c.moment → c.moment < 2 ^ 59 → IsWaitingFrom limit w
 waits_for limit w c e l m = subst (IsWaitingFrom limit) (sym e) (l, m)
@@ -57,15 +57,15 @@ pub some_match : {A : Type 0} (r : Option A) (P : A → Type 0) (Q : Type 0) →
 some_match None P Q h = (let z = h.1 in absurd (cc))
 some_match (Some x) P Q h = h.0
 
--- less is left behind a reaction that shows
+-- less is left after a reaction that shows
 pub fewer_most : {D : Type 0} (limit : ℕ) (was now : Option Event) (xs ys : List (Seated D)) → left limit ys < left limit xs → at_most limit now ys < at_most limit was xs
 fewer_most limit was None xs ys l = omega (arith, l)
 fewer_most limit was (Some e) xs ys l = omega (arith, l)
 
--- behind a drive's event the host may change a line one moment later
-behind_drive : (w : Who) (t : ℕ) → IsDrives w → t + 1 ≡ from_behind w t
-behind_drive Host t h = absurd h
-behind_drive (Drive d) t h = refl
+-- after a drive's event the host may change a line one moment later
+after_a_drive : (w : Who) (t : ℕ) → IsDrives w → t + 1 ≡ from_after w t
+after_a_drive Host t h = absurd h
+after_a_drive (Drive d) t h = refl
 
 -- what comes before a limit comes before a later one
 given_sooner : (limit until : ℕ) (o : Option Event) → limit ≤ until → IsGivenBefore limit o → IsGivenBefore until o
@@ -85,7 +85,7 @@ next_sooner p q b c limit until r l h = record {
   turn = h.turn;
   waiting = h.waiting;
   second = second_sooner limit until r q.second l h.second;
-  behind = h.behind;
+  afterwards = h.afterwards;
   fewer = fewer_later p q b c limit until r l h.fewer;
   taken = h.taken;
 }
@@ -106,7 +106,7 @@ module _ (D M : Type 0) (stands : D → M → Type 0) (step : M → Act → M) (
           second = subst (IsSecond q.from) (sym none) tt;
         };
         moment = l;
-        from = same ∙ sym drives.1 ∙ behind_drive e.who e.change.moment drives.0;
+        from = same ∙ sym drives.1 ∙ after_a_drive e.who e.change.moment drives.0;
       }
 
   -- what was given up to a moment was given up to a later one
@@ -121,7 +121,7 @@ module _ (D M : Type 0) (stands : D → M → Type 0) (step : M → Act → M) (
   -- the first event of what a drive shows, where the second one is kept
   pub given_shown : (stood : D → M → Type 0) (p q : Turns) (b c : Cabled D) (upto t device n until : ℕ) (cs : List Change) (ss : List (Station M)) (es : List Event) (e : Event) → p.second ≡ None → (a : IsAfter D M stood step says p b n ss es)
       → HasSettled D M stands step says b.host until c.drives [] (drive_events device cs) a.from a.stations → c.host ≡ b.host → until ≤ q.from → q.from ≡ t + 1 → AreAtMoment t cs → drive_events device cs ≡ e ∷ pending q.second → t ≤ upto → HasGiven D M stands step says q c upto n ss es e
-  given_shown stood p q b c upto t device n until cs ss es e none a s host from behind at_ made moment = record {
+  given_shown stood p q b c upto t device n until cs ss es e none a s host from afterwards at_ made moment = record {
     after = record {
       from = s.from;
       stations = s.stations;
@@ -130,10 +130,10 @@ module _ (D M : Type 0) (stands : D → M → Type 0) (step : M → Act → M) (
           ((λ i. none_pending p es none i ++ (sym s.added ∙ made) i) ∙ sym (append_assoc es (e ∷ []) (pending q.second)))
           (plays_then M step says a.plays s.plays);
       now = subst (λ (l : Lines). IsBusAt D M stands l c.drives s.stations) (sym host) s.now;
-      second = second_at t device cs e q.second q.from at_ behind made;
+      second = second_at t device cs e q.second q.from at_ afterwards made;
     };
     moment = (let m = first_at t device cs e (pending q.second) at_ made in omega (arith, m, moment));
-    from = behind ∙ ap (λ (m : ℕ). m + 1) (sym (first_at t device cs e (pending q.second) at_ made)) ∙ ap (λ (w : Who). from_behind w e.change.moment) (sym (first_of_drive device cs e (pending q.second) made));
+    from = afterwards ∙ ap (λ (m : ℕ). m + 1) (sym (first_at t device cs e (pending q.second) at_ made)) ∙ ap (λ (w : Who). from_after w e.change.moment) (sym (first_of_drive device cs e (pending q.second) made));
   }
 
   -- the change that waited

@@ -19,7 +19,7 @@ use Rattle.cbm_session.specs.Following.{IsInTime}
 use Rattle.cbm_session.specs.Playing.{Station, IsLaterDue, AllLater, AllInTime, hear_all, react, shown}
 use Rattle.cbm_drive.specs.declared.wires.Wires.{Wires}
 use Rattle.cbm_drive.specs.Seats.{Seated, IsSeat, IsWithout, IsBusAt, IsFirstDue, AreLater, AreInTime, pulls_counted, total, clock_of, data_pulls, wires_held_by}
-use Rattle.cbm_drive.specs.Reactions.{AreAtMoment, Toggles, IsToggled, Hear, HasReacted, behind_change, wires_after_all, own_after, held_behind}
+use Rattle.cbm_drive.specs.Reactions.{AreAtMoment, Toggles, IsToggled, Hear, HasReacted, after_a_change, wires_after_all, own_after, held_afterwards}
 
 -- ---- the changes of a reaction
 
@@ -66,7 +66,7 @@ changes_toggle t true true false true = (refl, tt)
 changes_toggle t true true true false = (refl, tt)
 changes_toggle t true true true true = tt
 
-changes_lead : (t : ℕ) (a b c d : Bool) → held_behind (changes_between t (two a c) (two b d)) (two a c) ≡ two b d
+changes_lead : (t : ℕ) (a b c d : Bool) → held_afterwards (changes_between t (two a c) (two b d)) (two a c) ≡ two b d
 changes_lead t false false false false = refl
 changes_lead t false false false true = refl
 changes_lead t false false true false = refl
@@ -91,24 +91,24 @@ pulled_self Pull low after n c t a e = (let z : pulls_counted low ≡ 0 = ap pul
 pulled_self Free low after n zero t a e = (let z : pulls_counted low ≡ 1 = ap pulls_counted t in absurd (omega (arith, e, z)))
 pulled_self Free low after n (suc c) t a e = (let z : pulls_counted low ≡ 1 = ap pulls_counted t in let y : pulls_counted after ≡ 0 = ap pulls_counted a in omega (arith, e, z, y))
 
-self_one : (line : Line) (way : Way) (all : Wires) (own : Held) (r : Rest) → IsToggled line way own → IsWithout all own r → IsWithout (behind_change line way all) (own_after line way own) r
+self_one : (line : Line) (way : Way) (all : Wires) (own : Held) (r : Rest) → IsToggled line way own → IsWithout all own r → IsWithout (after_a_change line way all) (own_after line way own) r
 self_one Atn way all own r t h = absurd t
 self_one Clock way all own r t h = record { host = h.host; clocks = pulled_self way own.clock_low (is_pull way) r.clocks all.clocks t refl h.clocks; datas = h.datas }
 self_one Data way all own r t h = record { host = h.host; clocks = h.clocks; datas = pulled_self way own.data_low (is_pull way) r.datas all.datas t refl h.datas }
 
-self_all : (cs : List Change) (all : Wires) (own : Held) (r : Rest) → Toggles own cs → IsWithout all own r → IsWithout (wires_after_all cs all) (held_behind cs own) r
+self_all : (cs : List Change) (all : Wires) (own : Held) (r : Rest) → Toggles own cs → IsWithout all own r → IsWithout (wires_after_all cs all) (held_afterwards cs own) r
 self_all [] all own r t h = h
-self_all (c ∷ cs) all own r t h = self_all cs (behind_change c.line c.way all) (own_after c.line c.way own) r t.1 (self_one c.line c.way all own r t.0 h)
+self_all (c ∷ cs) all own r t h = self_all cs (after_a_change c.line c.way all) (own_after c.line c.way own) r t.1 (self_one c.line c.way all own r t.0 h)
 
 -- the host's lines stay
-host_one : (line : Line) (way : Way) (all : Wires) → (behind_change line way all).host ≡ all.host
+host_one : (line : Line) (way : Way) (all : Wires) → (after_a_change line way all).host ≡ all.host
 host_one Atn way all = refl
 host_one Clock way all = refl
 host_one Data way all = refl
 
 host_all : (cs : List Change) (all : Wires) → (wires_after_all cs all).host ≡ all.host
 host_all [] all = refl
-host_all (c ∷ cs) all = host_all cs (behind_change c.line c.way all) ∙ host_one c.line c.way all
+host_all (c ∷ cs) all = host_all cs (after_a_change c.line c.way all) ∙ host_one c.line c.way all
 
 -- ---- lists in three parts
 
@@ -119,19 +119,19 @@ total_parts f (y ∷ xs) x ys = omega (arith, total_parts f xs x ys)
 record Parts {A B : Type 0} (R : A → B → Type 0) (xs : List A) (x : A) (ys : List A) (ss : List B) : Type 0 where
   before : List B
   station : B
-  behind : List B
-  is : ss ≡ before ++ station ∷ behind
+  afterwards : List B
+  is : ss ≡ before ++ station ∷ afterwards
   front : AllZip R xs before
   here : R x station
-  back : AllZip R ys behind
+  back : AllZip R ys afterwards
 
 parts : {A B : Type 0} (R : A → B → Type 0) (xs : List A) (x : A) (ys : List A) (ss : List B) → AllZip R (xs ++ x ∷ ys) ss → Parts R xs x ys ss
 parts R [] x ys [] h = absurd h
-parts R [] x ys (s ∷ ss) h = record { before = []; station = s; behind = ss; is = refl; front = tt; here = h.0; back = h.1 }
+parts R [] x ys (s ∷ ss) h = record { before = []; station = s; afterwards = ss; is = refl; front = tt; here = h.0; back = h.1 }
 parts R (y ∷ xs) x ys [] h = absurd h
 parts R (y ∷ xs) x ys (s ∷ ss) h =
     let p = parts R xs x ys ss h.1 in
-    record { before = s ∷ p.before; station = p.station; behind = p.behind; is = ap (λ us. s ∷ us) p.is; front = (h.0, p.front); here = p.here; back = p.back }
+    record { before = s ∷ p.before; station = p.station; afterwards = p.afterwards; is = ap (λ us. s ∷ us) p.is; front = (h.0, p.front); here = p.here; back = p.back }
 
 joined : {A B : Type 0} (R : A → B → Type 0) (xs : List A) (x : A) (ys : List A) (bs : List B) (s : B) (hs : List B) → AllZip R xs bs → R x s → AllZip R ys hs → AllZip R (xs ++ x ∷ ys) (bs ++ s ∷ hs)
 joined R [] x ys [] s hs f h b = (h, b)
@@ -184,8 +184,8 @@ module _ (D M : Type 0) (stood stands : D → M → Type 0) (step : M → Act �
       let now : Held = next_held (says m) x.port in
       let at_t : AreAtMoment t cs = subst (AreAtMoment t) (sym is_changes) (changes_at t was.clock_low now.clock_low was.data_low now.data_low) in
       let toggles : Toggles was cs = subst (Toggles was) (sym is_changes) (changes_toggle t was.clock_low now.clock_low was.data_low now.data_low) in
-      let leads : held_behind cs was ≡ x'.port.own = ap (λ (ys : List Change). held_behind ys was) is_changes ∙ changes_lead t was.clock_low now.clock_low was.data_low now.data_low ∙ sym (ap (λ (q : Port). q.own) is_port) in
-      let told = heard was p.before p.behind at_t toggles (record { clocks = total_parts clock_of front x back; datas = total_parts data_pulls front x back }) p.front p.back in
+      let leads : held_afterwards cs was ≡ x'.port.own = ap (λ (ys : List Change). held_afterwards ys was) is_changes ∙ changes_lead t was.clock_low now.clock_low was.data_low now.data_low ∙ sym (ap (λ (q : Port). q.own) is_port) in
+      let told = heard was p.before p.afterwards at_t toggles (record { clocks = total_parts clock_of front x back; datas = total_parts data_pulls front x back }) p.front p.back in
       let after : Wires = wires_after_all cs all in
       let new : List (Seated D) = front' ++ x' ∷ back' in
       let clocks : after.clocks ≡ total clock_of new = told.counts.clocks ∙ ap (λ (h : Held). total clock_of front' + (pulls_counted h.clock_low + total clock_of back')) leads ∙ sym (total_parts clock_of front' x' back') in
@@ -197,20 +197,20 @@ module _ (D M : Type 0) (stood stands : D → M → Type 0) (step : M → Act �
         rest = subst (λ (h : Held). IsWithout after h s.rest) leads (self_all cs all was s.rest toggles p.here.rest);
       } in
       let is_shown : cs ≡ shown M step says t s = is_changes ∙ ap (reaction_changes t (says m)) p.here.port in
-      let bus_now : AllZip (IsSeat D M stands after) new (map (λ u. hear_all M step says cs u) p.before ++ react M step says t s ∷ map (λ u. hear_all M step says cs u) p.behind) =
-      joined (IsSeat D M stands after) front' x' back' (map (λ u. hear_all M step says cs u) p.before) (react M step says t s) (map (λ u. hear_all M step says cs u) p.behind) told.before here told.behind in
+      let bus_now : AllZip (IsSeat D M stands after) new (map (λ u. hear_all M step says cs u) p.before ++ react M step says t s ∷ map (λ u. hear_all M step says cs u) p.afterwards) =
+      joined (IsSeat D M stands after) front' x' back' (map (λ u. hear_all M step says cs u) p.before) (react M step says t s) (map (λ u. hear_all M step says cs u) p.afterwards) told.before here told.afterwards in
       record {
         before = p.before;
         station = s;
-        behind = p.behind;
+        afterwards = p.afterwards;
         is = p.is;
         first = record {
           due = subst (λ (q : Port). port_due q ≡ Some t) p.here.port f.due;
           later = stations_later D M stood step says all t front p.before p.front f.later;
-          in_time = stations_in_time D M stood step says all t back p.behind p.back f.in_time;
+          in_time = stations_in_time D M stood step says all t back p.afterwards p.back f.in_time;
         };
         which = ap (λ (q : Port). q.party.device) p.here.port;
         changes = is_shown;
-        now = subst (λ (ys : List Change). AllZip (IsSeat D M stands (wires_held_by host new)) new (map (λ u. hear_all M step says ys u) p.before ++ react M step says t s ∷ map (λ u. hear_all M step says ys u) p.behind)) is_shown
-            (subst (λ (w : Wires). AllZip (IsSeat D M stands w) new (map (λ u. hear_all M step says cs u) p.before ++ react M step says t s ∷ map (λ u. hear_all M step says cs u) p.behind)) same bus_now);
+        now = subst (λ (ys : List Change). AllZip (IsSeat D M stands (wires_held_by host new)) new (map (λ u. hear_all M step says ys u) p.before ++ react M step says t s ∷ map (λ u. hear_all M step says ys u) p.afterwards)) is_shown
+            (subst (λ (w : Wires). AllZip (IsSeat D M stands w) new (map (λ u. hear_all M step says cs u) p.before ++ react M step says t s ∷ map (λ u. hear_all M step says cs u) p.afterwards)) same bus_now);
       }

@@ -27,7 +27,7 @@ module _ (D M : Type 0) (stood stands : D → M → Type 0) (step : M → Act �
       }
 
 module _ (D M : Type 0) (stands : D → M → Type 0) (step : M → Act → M) (says : M → Option (ℕ × Bool)) where
-  -- this drive and those behind it
+  -- this drive and those after it
   pub told_next : (wires : Wires) (others : Lines) (moment : ℕ) (f : Rest → Rest) (x x' : Seated D) (xs xs' : List (Seated D)) (ss : List (Station M)) → ((q : Rest) → IsWithout wires x.port.own q → others ≡ wires_of q)
       → x'.port ≡ told moment others x.port → ((m : M) → stands x.machine m → stands x'.machine (acted M step (told_act others x.port) m))
       → ((us : List (Station M)) → AllZip (λ y u. Meets D M stands wires (f u.rest) y u) xs us → AllZip (IsSeat D M stands wires) xs' (map (λ u. told_lines M step says moment (f u.rest) u) us))

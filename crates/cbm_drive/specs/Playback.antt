@@ -1,6 +1,6 @@
 -- A machine that plays back what another one showed, act by act. So a drive on any disk is a machine, too: of what it showed nothing else is known.
 use Rattle.std.specs.Prelude.{ℕ, ◌≡◌, ◌<◌, Bool, true, List, [], ◌∷◌, Option, Some, None, IfSome, IsSome, if◌then◌else◌}
-use Rattle.cbm_iec.specs.Machines.{owes, IsShownBehind}
+use Rattle.cbm_iec.specs.Machines.{owes, IsShownAfter}
 use Rattle.cbm_iec.specs.declared.machine.Act.{Act}
 
 -- the byte to say, and whether it is the last
@@ -45,7 +45,7 @@ module _ {D : Type 0} (shows : D → Shown) where
   -- WHAT A MACHINE BECOMES with an act, or with none: without one it stays.
   abbrev pub IsActed : Option Act → D → D → Type 0
   IsActed None x y = y ≡ x
-  IsActed (Some act) x y = IsShownBehind act (shows x) (shows y)
+  IsActed (Some act) x y = IsShownAfter act (shows x) (shows y)
 
   -- what is recorded of that
   abbrev pub recorded : Option Act → D → List Shown

@@ -1,7 +1,7 @@
 -- What plays back a machine is a machine: it says bytes, and after a byte that isn't the last another one.
 use Rattle.std.proofs.Common.{◌≡◌, ℕ, ◌<◌, Bool, true, false, List, ◌∷◌, ◌++◌, Option, Some, None, refl, sym, ap, subst, ◌∙◌}
 use Rattle.std.specs.Prelude.{IfSome, IsSome}
-use Rattle.cbm_iec.specs.Machines.{acted, goes_on, owes, IsShownBehind}
+use Rattle.cbm_iec.specs.Machines.{acted, goes_on, owes, IsShownAfter}
 use Rattle.cbm_iec.specs.declared.machine.Act.TheVariants.{Said}
 use Rattle.cbm_iec.specs.declared.machine.Act.{Act}
 use Rattle.cbm_session.specs.Playing.{IsMachine}
@@ -36,7 +36,7 @@ module _ {D : Type 0} (shows : D → Shown) where
   played_byte later x p n last h e = subst (λ (o : Shown). IfSome o (λ s. s.0 < 256)) (sym (played_as later x p h) ∙ e) h.byte
 
   -- HOW IT GOES ON after an act
-  pub played_on : (later : List Shown) (x y : D) (p : Playback) (act : Act) → IsPlayedBack shows (shows y ∷ later) x p → IsShownBehind act (shows x) (shows y) → IsPlayedBack shows later y (played_step p act)
+  pub played_on : (later : List Shown) (x y : D) (p : Playback) (act : Act) → IsPlayedBack shows (shows y ∷ later) x p → IsShownAfter act (shows x) (shows y) → IsPlayedBack shows later y (played_step p act)
   played_on later x y p act h k = record {
     shown = ap shown_later h.shown;
     owed = λ e. k.1 (sym (ap (owes act) (played_as (shows y ∷ later) x p h)) ∙ e);

@@ -66,9 +66,9 @@ abbrev pub IsGivenBefore : ℕ → Option Event → Type 0
 IsGivenBefore from second = IfSome second (λ e. IsDrives e.who × (e.change.moment < from))
 
 -- from when on the host may change a line after an event: its own moment, or after a drive's the one after it
-abbrev pub from_behind : Who → ℕ → ℕ
-from_behind Host t = t
-from_behind (Drive d) t = t + 1
+abbrev pub from_after : Who → ℕ → ℕ
+from_after Host t = t
+from_after (Drive d) t = t + 1
 
 -- what is still to be given is a drive's change of the reaction that was made last
 abbrev pub IsSecond : ℕ → Option Event → Type 0
@@ -112,7 +112,7 @@ pub record IsNextEvent {D : Type 0} (p q : Turns) (b c : Cabled D) (limit : ℕ)
   -- What is still to be given comes before the limit.
   pub second : IfSome result (λ e. IsGivenBefore limit q.second)
   -- After a change of the host nothing is still to be given.
-  pub behind : IfSome result (λ e. IsAfterEvent e.who e.change q)
+  pub afterwards : IfSome result (λ e. IsAfterEvent e.who e.change q)
   -- Less is left to come after a change of a drive.
   pub fewer : IfSome result (λ e. IsDrives e.who → IsLessLeft limit p q b c)
   -- No change was taken.
@@ -145,7 +145,7 @@ module _ (D M : Type 0) (stands : D → M → Type 0) (step : M → Act → M) (
     pub now : IsBusAt D M stands b.host b.drives stations
     pub second : IsSecond p.from p.second
 
-  -- EVENTS WERE ADDED to a list, and given behind those before: the changes of the host among them are these, and nothing is still to be given.
+  -- EVENTS WERE ADDED to a list, and given after those before: the changes of the host among them are these, and nothing is still to be given.
   pub record HasAdded (p : Turns) (b : Cabled D) (old new : List Event) (cs : List Change) (n : ℕ) (ss : List (Station M)) (es : List Event) : Type 0 where
     pub made : List Event
     pub added : new ≡ old ++ made
@@ -157,7 +157,7 @@ module _ (D M : Type 0) (stands : D → M → Type 0) (step : M → Act → M) (
   pub record HasGiven (p : Turns) (b : Cabled D) (upto n : ℕ) (ss : List (Station M)) (es : List Event) (e : Event) : Type 0 where
     pub after : IsAfter p b n ss (es ++ e ∷ [])
     pub moment : e.change.moment ≤ upto
-    pub from : p.from ≡ from_behind e.who e.change.moment
+    pub from : p.from ≡ from_after e.who e.change.moment
 
   -- NOTHING COMES up to this moment, and all is as it was.
   pub record IsStill (p q : Turns) (b c : Cabled D) (upto : ℕ) (stations : List (Station M)) : Type 0 where

@@ -21,15 +21,15 @@ AreAtMoment t [] = Unit {0}
 AreAtMoment t (c ∷ cs) = (c.moment ≡ t) × AreAtMoment t cs
 
 -- what all hold after a change of a drive
-abbrev pub behind_change : Line → Way → Wires → Wires
-behind_change Atn way all = all
-behind_change Clock way all = record { host = all.host; clocks = counted way all.clocks; datas = all.datas }
-behind_change Data way all = record { host = all.host; clocks = all.clocks; datas = counted way all.datas }
+abbrev pub after_a_change : Line → Way → Wires → Wires
+after_a_change Atn way all = all
+after_a_change Clock way all = record { host = all.host; clocks = counted way all.clocks; datas = all.datas }
+after_a_change Data way all = record { host = all.host; clocks = all.clocks; datas = counted way all.datas }
 
 -- what all hold after changes of a drive
 abbrev pub wires_after_all : List Change → Wires → Wires
 wires_after_all [] all = all
-wires_after_all (c ∷ cs) all = wires_after_all cs (behind_change c.line c.way all)
+wires_after_all (c ∷ cs) all = wires_after_all cs (after_a_change c.line c.way all)
 
 -- what a drive holds after a change of its own
 abbrev pub own_after : Line → Way → Held → Held
@@ -38,9 +38,9 @@ own_after Clock way own = with_clock (is_pull way) own
 own_after Data way own = with_data (is_pull way) own
 
 -- what a drive holds after changes of its own
-abbrev pub held_behind : List Change → Held → Held
-held_behind [] own = own
-held_behind (c ∷ cs) own = held_behind cs (own_after c.line c.way own)
+abbrev pub held_afterwards : List Change → Held → Held
+held_afterwards [] own = own
+held_afterwards (c ∷ cs) own = held_afterwards cs (own_after c.line c.way own)
 
 -- A line is pulled where it was free, and freed where it was held.
 abbrev pub IsToggled : Line → Way → Held → Type 0
@@ -62,21 +62,21 @@ pub record IsAllOf {D : Type 0} (all : Wires) (own : Held) (front back : List (S
 pub record HaveHeard (D M : Type 0) (stands : D → M → Type 0) (step : M → Act → M) (says : M → Option (ℕ × Bool)) (all : Wires) (own : Held) (cs : List Change) (front back : List (Seated D)) (bs hs : List (Station M)) : Type 0 where
   pub counts : IsAllOf all own front back
   pub before : AllZip (IsSeat D M stands all) front (map (λ s. hear_all M step says cs s) bs)
-  pub behind : AllZip (IsSeat D M stands all) back (map (λ s. hear_all M step says cs s) hs)
+  pub afterwards : AllZip (IsSeat D M stands all) back (map (λ s. hear_all M step says cs s) hs)
 
 -- The drives before and after one that made these changes at this moment hear each of them, where it changed its own lines with them and these counts of
 -- who holds a line are true.
 abbrev pub Hear : (D M : Type 0) (stood stands : D → M → Type 0) (step : M → Act → M) (says : M → Option (ℕ × Bool)) → ℕ → List (Seated D) → List (Seated D) → List (Seated D) → List (Seated D) → Wires → List Change → Type 0
 Hear D M stood stands step says t front back front' back' all cs = (own : Held) (bs hs : List (Station M)) → AreAtMoment t cs → Toggles own cs → IsAllOf all own front back → AllZip (IsSeat D M stood all) front bs → AllZip (IsSeat D M stood all) back hs
-    → HaveHeard D M stands step says (wires_after_all cs all) (held_behind cs own) cs front' back' bs hs
+    → HaveHeard D M stands step says (wires_after_all cs all) (held_afterwards cs own) cs front' back' bs hs
 
 -- THE REACTION THAT IS DUE FIRST HAS HAPPENED: the drives represent the stations after it.
 pub record HasReacted (D M : Type 0) (stands : D → M → Type 0) (step : M → Act → M) (says : M → Option (ℕ × Bool)) (host : Lines) (t device : ℕ) (xs : List (Seated D)) (cs : List Change) (ss : List (Station M)) : Type 0 where
   pub before : List (Station M)
   pub station : Station M
-  pub behind : List (Station M)
-  pub is : ss ≡ before ++ station ∷ behind
-  pub first : IsFirst M step says t before station behind
+  pub afterwards : List (Station M)
+  pub is : ss ≡ before ++ station ∷ afterwards
+  pub first : IsFirst M step says t before station afterwards
   pub which : device ≡ station.port.party.device
   pub changes : cs ≡ shown M step says t station
-  pub now : IsBusAt D M stands host xs (reacting M step says t before station behind)
+  pub now : IsBusAt D M stands host xs (reacting M step says t before station afterwards)

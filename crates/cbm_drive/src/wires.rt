@@ -3,7 +3,7 @@
 ghost use Rattle.std.specs.Prelude.{◌≡◌, ◌≤◌, ◌<◌, ◌+◌, ◌^◌, length};
 ghost use Rattle.cbm_session.specs.Among.{Rest, wires_of, counted};
 ghost use Rattle.cbm_drive.specs.Seats.{pulls_counted, wires_held_by, IsWithout};
-ghost use Rattle.cbm_drive.specs.Reactions.{behind_change};
+ghost use Rattle.cbm_drive.specs.Reactions.{after_a_change};
 
 use crate::drive::Drive;
 use cbm_iec::{Change, Held, Line, Lines, Machine, Way};
@@ -60,7 +60,7 @@ impl Wires {
     pub(crate) fn after(self, line: Line, way: Way) -> Wires
         requires clocks { self.clocks < 2 ^ 60 }
         requires datas { self.datas < 2 ^ 60 }
-        ensures value { result ≡ behind_change line way self }
+        ensures value { result ≡ after_a_change line way self }
         ensures clocks { result.clocks ≤ self.clocks + 1 }
         ensures datas { result.datas ≤ self.datas + 1 }
     {

@@ -65,8 +65,8 @@ put_there a k xs ys p h l u =
     skip (take a xs) (ys ++ post_of a k xs) a (p - a) p (length-take-le a xs h) (omega arith)
     ∙ get_or_append_left ys (post_of a k xs) 0 (p - a) (omega arith)
 
-pub put_behind : (a k : ℕ) (xs ys : List ℕ) (p : ℕ) → a ≤ length xs → k ≡ length ys → a + length ys ≤ p → get_or (put_mid a k xs ys) p 0 ≡ get_or xs p 0
-put_behind a k xs ys p h e l =
+pub put_after_it : (a k : ℕ) (xs ys : List ℕ) (p : ℕ) → a ≤ length xs → k ≡ length ys → a + length ys ≤ p → get_or (put_mid a k xs ys) p 0 ≡ get_or xs p 0
+put_after_it a k xs ys p h e l =
     let q : p ≡ (a + k) + (p - (a + k)) = omega arith in
     ap (λ (n : ℕ). get_or (put_mid a k xs ys) n 0) q
     ∙ sym (get_or-drop (a + k) (put_mid a k xs ys) (p - (a + k)) 0)
@@ -147,13 +147,13 @@ put_more file tracks image ys n k h l p ne e f g =
         | inr c ↦ ap circle_bits_of (same_bytes file (put_mid (offset file n + 2) k image ys) image i size' (omega (arith, size', p.same_length, (stands file q i (omega arith) z).within)) (λ r x y.
             elim (apart file q i n (omega arith) l c z ne) [
               | inl u ↦ put_before (offset file n + 2) k image ys r a (omega arith)
-              | inr u ↦ put_behind (offset file n + 2) k image ys r a e (omega arith)
+              | inr u ↦ put_after_it (offset file n + 2) k image ys r a e (omega arith)
             ]))
             ∙ p.circles i (omega arith) z
       ];
       others = λ r out. elim (out n l ne) [
         | inl u ↦ put_before (offset file n + 2) k image ys r a u ∙ p.others r out
-        | inr u ↦ put_behind (offset file n + 2) k image ys r a e (omega arith) ∙ p.others r out
+        | inr u ↦ put_after_it (offset file n + 2) k image ys r a e (omega arith) ∙ p.others r out
       ];
     }
   where

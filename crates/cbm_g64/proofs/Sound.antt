@@ -74,7 +74,7 @@ good file p = record {
 
 -- where a track's length and bytes stand
 pub record Stands (file : List ℕ) (i : ℕ) : Type 0 where
-  pub behind : 564 ≤ offset file i
+  pub afterwards : 564 ≤ offset file i
   pub tables : tables_end file ≤ offset file i
   pub within : offset file i + 2 + size file i ≤ length file
   pub some : 0 < size file i
@@ -93,7 +93,7 @@ stands file p i l ne =
     let c = and_parts (ltb 0 (size file i)) _ (or_right (offset file i == 0) _ (sized_at file p.sized i l) z) in
     let t : tables_end file ≤ offset file i = leb-true (tables_end file) (offset file i) a.0 in
     record {
-      behind = omega (arith, t, (many_entries file p.few_entries).1);
+      afterwards = omega (arith, t, (many_entries file p.few_entries).1);
       tables = t;
       within = leb-true (offset file i + 2 + size file i) (length file) b.1;
       some = ltb-true 0 (size file i) c.0;

@@ -16,11 +16,11 @@ use Rattle.cbm_session.specs.Playing.{Station, host_event, AllBytes, AllInTime, 
 use Rattle.cbm_session.specs.Sessions.{rest, Linked, IsBus}
 use Rattle.cbm_session.specs.Steps.{Mark, Step, Plain, ForEach, For, moment_of, event_of, events_of}
 use Rattle.cbm_host.proofs.Joined.{DriveComes, Comes}
-use Rattle.cbm_host.proofs.Joining.{ss0, all_steps, order, no_sooner, is_next, moment_is, quiet_next, first_time, behind_host, behind_drive}
+use Rattle.cbm_host.proofs.Joining.{ss0, all_steps, order, no_sooner, is_next, moment_is, quiet_next, first_time, after_the_host, after_a_drive}
 use Rattle.cbm_host.proofs.Waiting.{IsPassed, passed_due}
 use Rattle.cbm_host.specs.Engines.{Engined, engine_due, engine_made, engine_seen, engine_passed, stage_taken}
 use Rattle.cbm_host.specs.Performed.{taken_with, last_with}
-use Rattle.cbm_host.specs.Performers.{IsDue, engine_behind, byte_with, GoesOnFrom}
+use Rattle.cbm_host.specs.Performers.{IsDue, engine_after, byte_with, GoesOnFrom}
 use Rattle.cbm_host.specs.Performing.{Performs, IsBefore, IsSilent, IsTakenAs, ends, makes, sees, passes}
 use Rattle.cbm_host.specs.Stages.{stage_due, stage_passed}
 use Rattle.cbm_host.specs.declared.due.Due.{Due}
@@ -63,7 +63,7 @@ one_more : (xs : List Step) (s : Step) (ss : List Step) → xs ++ s ∷ ss ≡ (
 one_more xs s ss = sym (append_assoc xs (s ∷ []) ss)
 
 module _ (M : Type 0) (step : M → Act → M) (peek : M → Option (ℕ × Bool)) (bytes : (ss : List (Station M)) → AllBytes M step peek ss) (b : Party) (ms : ℕ → M) (is_bus : IsBus (b ∷ [])) (machine : IsMachine M step peek) (ks : List Piece) (linked : Linked (rest (b ∷ [])) ks) (allowed : Allowed M step peek (rest (b ∷ [])) ms ks)
-    (behind : Engined) (until : ℕ) (ending : behind.stage ≡ Ending until) where
+    (afterwards : Engined) (until : ℕ) (ending : afterwards.stage ≡ Ending until) where
   abbrev start : List (Station M)
   start = ss0 M step peek bytes b ms is_bus machine ks linked allowed
 
@@ -74,10 +74,10 @@ module _ (M : Type 0) (step : M → Act → M) (peek : M → Option (ℕ × Bool
   GoesTo done old e = GoesOnFrom M step peek zero start (events_of done) old e
 
   -- at the session's end the host waits for the end
-  pub end_due : (e : Engined) → behind ≡ e → engine_due e ≡ Waits until
+  pub end_due : (e : Engined) → afterwards ≡ e → engine_due e ≡ Waits until
   end_due e same = ap (λ (x : Engined). stage_due x.stage) (sym same) ∙ ap stage_due ending
 
-  pub end_passed : (e : Engined) → behind ≡ e → engine_due (engine_passed e) ≡ Over until
+  pub end_passed : (e : Engined) → afterwards ≡ e → engine_due (engine_passed e) ≡ Over until
   end_passed e same = ap (λ (x : Engined). stage_due (stage_passed x.stage)) (sym same) ∙ ap (λ (x : Stage). stage_due (stage_passed x)) ending
 
   -- when a change of the host comes where it waited
@@ -91,9 +91,9 @@ module _ (M : Type 0) (step : M → Act → M) (peek : M → Option (ℕ × Bool
     pub is : more ≡ next ∷ left
     pub event : next.event ≡ host_event c
     pub taken : IsTakenAs next.mark (stage_taken found.stage)
-    pub performs : Performs (engine_made c.moment found) left behind
+    pub performs : Performs (engine_made c.moment found) left afterwards
 
-  host_step : (done more : List Step) {e : Engined} → Performs e more behind → steps ≡ done ++ more → (found : Engined) → GoesTo done e found → (c : Change) → engine_due found ≡ Makes c → (n : ℕ) (there : List (Station M)) → Plays M step peek zero start (events_of done) n there → AllInTime M step peek c.moment there
+  host_step : (done more : List Step) {e : Engined} → Performs e more afterwards → steps ≡ done ++ more → (found : Engined) → GoesTo done e found → (c : Change) → engine_due found ≡ Makes c → (n : ℕ) (there : List (Station M)) → Plays M step peek zero start (events_of done) n there → AllInTime M step peek c.moment there
       → HostStep more found c
   host_step done more {e} (ends same) all found (inl g) c due n there p i = let k = sym (end_due e same) ∙ ap engine_due (sym g) ∙ due in absurd cc
   host_step done more {e} (ends same) all found (inr g) c due n there p i = let k = sym (end_passed e same) ∙ ap engine_due (sym g.2) ∙ due in absurd cc
@@ -106,7 +106,7 @@ module _ (M : Type 0) (step : M → Act → M) (peek : M → Option (ℕ × Bool
         is = refl;
         event = ap (λ (x : Change). host_event x) same;
         taken = subst (λ (x : Engined). IsTakenAs mark (stage_taken x.stage)) (sym g) taken;
-        performs = subst (λ (x : Engined). Performs (engine_made c.moment x) ss behind) (sym g) (subst (λ (x : Change). Performs (engine_made x.moment e) ss behind) same h);
+        performs = subst (λ (x : Engined). Performs (engine_made c.moment x) ss afterwards) (sym g) (subst (λ (x : Change). Performs (engine_made x.moment e) ss afterwards) same h);
       }
   host_step done more {e} (makes {t} {line} {way} makes_due taken h) all found (inr g) c due n there p i = let k : Makes (change_at t line way) ≡ Waits g.0 = sym makes_due ∙ g.1 in absurd cc
   host_step done more {e} (sees {o} {t} {line} {way} {mark} {ss} early h) all found g c due n there p i =
@@ -129,18 +129,18 @@ module _ (M : Type 0) (step : M → Act → M) (peek : M → Option (ℕ × Bool
     pub left : List Step
     pub is : more ≡ next ∷ left
     pub event : next.event ≡ x
-    pub performs : Performs (engine_seen x.change found) left behind
+    pub performs : Performs (engine_seen x.change found) left afterwards
 
-  -- behind a wait to no avail the session's next step isn't before its end
-  waits_later : (t u : ℕ) (e : Engined) (more : List Step) → engine_due e ≡ Waits u → IsSilent u more → Performs (engine_passed e) more behind → t < u → GoesOn more → HostFrom (suc t) more
+  -- after a wait to no avail the session's next step isn't before its end
+  waits_later : (t u : ℕ) (e : Engined) (more : List Step) → engine_due e ≡ Waits u → IsSilent u more → Performs (engine_passed e) more afterwards → t < u → GoesOn more → HostFrom (suc t) more
   waits_later t u e [] due silent h l g = elim silent [ ]
   waits_later t u e more due silent (makes {t = t2} {line} {way} {mark} {ss} makes_due taken h) l g =
       let at_ = passed_at e u (change_at t2 line way) due makes_due in
-      behind_host t (record { event = event_of Host t2 line way; mark = mark }) ss refl (omega (arith, at_, l)) g
-  waits_later t u e more due silent (sees {o} {t = t2} {line} {way} {mark} {ss} early h) l g = behind_drive t o (record { event = event_of (Drive o) t2 line way; mark = mark }) ss refl (omega (arith, silent, l)) g
+      after_the_host t (record { event = event_of Host t2 line way; mark = mark }) ss refl (omega (arith, at_, l)) g
+  waits_later t u e more due silent (sees {o} {t = t2} {line} {way} {mark} {ss} early h) l g = after_a_drive t o (record { event = event_of (Drive o) t2 line way; mark = mark }) ss refl (omega (arith, silent, l)) g
   waits_later t u e more due silent (passes u2 wait silent2 h) l g = let k : IsPassed u (Waits u2) = subst (IsPassed u) wait (passed_due e u due) in elim k [ ]
 
-  -- an event of a drive comes before what the host does behind a wait
+  -- an event of a drive comes before what the host does after a wait
   before_wait : (t : ℕ) (done : List Step) (e found : Engined) → GoesTo done e found → IsBefore t (engine_due found) → (u : ℕ) → engine_due e ≡ Waits u → t < u
   before_wait t done e found (inl g) early u due = subst (IsBefore t) (ap engine_due g ∙ due) early
   before_wait t done e found (inr g) early u due =
@@ -154,20 +154,20 @@ module _ (M : Type 0) (step : M → Act → M) (peek : M → Option (ℕ × Bool
       by_due Hears p l = elim p [ ]
       by_due (Over at) p l = elim l [ ]
 
-  host_late : (done more : List Step) {e : Engined} → Performs e more behind → steps ≡ done ++ more → (found : Engined) → GoesTo done e found → (t : ℕ) → IsBefore t (engine_due found) → (n : ℕ) (there : List (Station M)) → Plays M step peek zero start (events_of done) n there → AllInTime M step peek t there
+  host_late : (done more : List Step) {e : Engined} → Performs e more afterwards → steps ≡ done ++ more → (found : Engined) → GoesTo done e found → (t : ℕ) → IsBefore t (engine_due found) → (n : ℕ) (there : List (Station M)) → Plays M step peek zero start (events_of done) n there → AllInTime M step peek t there
       → HostFrom (suc t) more
   host_late done more {e} (ends same) all found g t early n there p i = tt
   host_late done more {e} (makes {t = t2} {line} {way} {mark} {ss} makes_due taken h) all found (inl g) t early n there p i =
       let l : t < t2 = subst (IsBefore t) (ap engine_due g ∙ makes_due) early in
-      behind_host t (record { event = event_of Host t2 line way; mark = mark }) ss refl l (order M step peek bytes b ms is_bus machine ks linked allowed done more all)
+      after_the_host t (record { event = event_of Host t2 line way; mark = mark }) ss refl l (order M step peek bytes b ms is_bus machine ks linked allowed done more all)
   host_late done more {e} (makes {t = t2} {line} {way} makes_due taken h) all found (inr g) t early n there p i = let k : Makes (change_at t2 line way) ≡ Waits g.0 = sym makes_due ∙ g.1 in absurd cc
   host_late done more {e} (sees {o} {t = t2} {line} {way} {mark} {ss} soon h) all found g t early n there p i =
       let late = no_sooner M step peek bytes b ms is_bus machine ks linked allowed done (record { event = event_of (Drive o) t2 line way; mark = mark }) ss o n t there all refl p i in
-      behind_drive t o (record { event = event_of (Drive o) t2 line way; mark = mark }) ss refl late (order M step peek bytes b ms is_bus machine ks linked allowed done more all)
+      after_a_drive t o (record { event = event_of (Drive o) t2 line way; mark = mark }) ss refl late (order M step peek bytes b ms is_bus machine ks linked allowed done more all)
   host_late done more {e} (passes u wait silent h) all found g t early n there p i =
       waits_later t u e more wait silent h (before_wait t done e found g early u wait) (order M step peek bytes b ms is_bus machine ks linked allowed done more all)
 
-  drive_seen : (done more : List Step) {e : Engined} → Performs e more behind → steps ≡ done ++ more → (found : Engined) → GoesTo done e found → (d : ℕ) (x : Event) → x.who ≡ Drive d → IsBefore x.change.moment (engine_due found) → (s : Step) (left : List Step) → more ≡ s ∷ left → s.event ≡ x → DriveStep more found x
+  drive_seen : (done more : List Step) {e : Engined} → Performs e more afterwards → steps ≡ done ++ more → (found : Engined) → GoesTo done e found → (d : ℕ) (x : Event) → x.who ≡ Drive d → IsBefore x.change.moment (engine_due found) → (s : Step) (left : List Step) → more ≡ s ∷ left → s.event ≡ x → DriveStep more found x
   drive_seen done more {e} (ends same) all found g d x who early s left is event = absurd cc
   drive_seen done more {e} (makes {t} {line} {way} {mark} {ss} makes_due taken h) all found g d x who early s left is event =
       let same : (record { event = event_of Host t line way; mark = mark }) ≡ s = cc in
@@ -181,7 +181,7 @@ module _ (M : Type 0) (step : M → Act → M) (peek : M → Option (ℕ × Bool
         left = ss;
         is = refl;
         event = ap (λ (v : Step). v.event) same ∙ event;
-        performs = subst (λ (v : Engined). Performs (engine_seen x.change v) ss behind) (sym g) (subst (λ (c : Change). Performs (engine_seen c e) ss behind) change h);
+        performs = subst (λ (v : Engined). Performs (engine_seen x.change v) ss afterwards) (sym g) (subst (λ (c : Change). Performs (engine_seen c e) ss afterwards) change h);
       }
   drive_seen done more {e} (sees {o} {t} {line} {way} {mark} {ss} soon h) all found (inr g) d x who early s left is event =
       let late = quiet_next M step peek bytes b ms is_bus machine ks linked allowed done (record { event = event_of (Drive o) t line way; mark = mark }) ss o g.0 all refl g.3 in
@@ -200,12 +200,12 @@ module _ (M : Type 0) (step : M → Act → M) (peek : M → Option (ℕ × Bool
     pub more : List Step
     pub all : steps ≡ done ++ more
     pub shown : events_of done ≡ es
-    pub performs : Performs e more behind
+    pub performs : Performs e more afterwards
     pub taken : said ≡ taken_in done
     pub over : last ≡ last_in false done
 
   pub step_on : (es : List Event) (e found : Engined) (taken : List ℕ) (last : Bool) (j : Joined es e taken last) → GoesOnFrom M step peek zero start es e found → (x : Event) (w : Who) → x.who ≡ w → Comes M step peek zero start es w x → IsDue w x.change found
-      → Joined (es ++ x ∷ []) (engine_behind w x.change found) (taken ++ taken_with (byte_with w found)) (last_with (byte_with w found) last)
+      → Joined (es ++ x ∷ []) (engine_after w x.change found) (taken ++ taken_with (byte_with w found)) (last_with (byte_with w found) last)
   step_on es e found taken last j g x Host who k due =
       let g2 = subst (λ (l : List Event). GoesOnFrom M step peek zero start l e found) (sym j.shown) g in
       let s = host_step j.done j.more j.performs j.all found g2 x.change due k.from k.there (subst (λ (l : List Event). Plays M step peek zero start l k.from k.there) (sym j.shown) k.plays) k.time in
@@ -226,8 +226,8 @@ module _ (M : Type 0) (step : M → Act → M) (peek : M → Option (ℕ × Bool
       let at_ = moment_is M step peek bytes b ms is_bus machine ks linked allowed (events_of j.done) x k2 in
       let n = is_next M step peek bytes b ms is_bus machine ks linked allowed j.done j.more x j.all k2 (λ none.
       let same : k2.before_it ≡ events_of j.done = sym (k2.parts ∙ ap (λ (l : List Event). k2.before_it ++ l) none ∙ append-nil k2.before_it) in
-      subst (λ (t : ℕ). HostFrom (suc t) j.more) at_ (host_late j.done j.more j.performs j.all found g2 x.change.moment due k2.from (k2.before ++ k2.o ∷ k2.behind)
-      (subst (λ (l : List Event). Plays M step peek zero start l k2.from (k2.before ++ k2.o ∷ k2.behind)) same k2.plays) (subst (λ (t : ℕ). AllInTime M step peek t (k2.before ++ k2.o ∷ k2.behind)) (sym at_) (first_time M step peek bytes k2.moment k2.before k2.o k2.behind k2.due)))) in
+      subst (λ (t : ℕ). HostFrom (suc t) j.more) at_ (host_late j.done j.more j.performs j.all found g2 x.change.moment due k2.from (k2.before ++ k2.o ∷ k2.afterwards)
+      (subst (λ (l : List Event). Plays M step peek zero start l k2.from (k2.before ++ k2.o ∷ k2.afterwards)) same k2.plays) (subst (λ (t : ℕ). AllInTime M step peek t (k2.before ++ k2.o ∷ k2.afterwards)) (sym at_) (first_time M step peek bytes k2.moment k2.before k2.o k2.afterwards k2.due)))) in
       let s = drive_seen j.done j.more j.performs j.all found g2 d x who due n.0 n.1 n.2 n.3 in
       let quiet : said_with s.next.event.who s.next.mark ≡ None = ap (λ (v : Who). said_with v s.next.mark) (ap (λ (v : Event). v.who) s.event ∙ who) in
       record {

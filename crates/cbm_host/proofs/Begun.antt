@@ -40,7 +40,7 @@ module _ (M : Type 0) (step : M → Act → M) (says : M → Option (ℕ × Bool
         let m1 = run_acts M step says m (acts_called (listen + d) second) in
         let m2 = run_acts M step says (run_acts M step says m1 (acts_heard sent_bytes)) (left_by unlisten) in
         let ran : Run M step says m (acts_called (listen + d) second ++ (acts_heard sent_bytes ++ left_by unlisten)) m2 = (tt, (tt, (tt, (tt, heard_runs m1 sent_bytes (left_by unlisten) _ (tt, (tt, (tt, refl))))))) in
-        record { whole = []; marked = false; behind = m2; ran = subst (λ (l : List Act). Run M step says m l m2) (sym acts) ran; taken = taken; more = []; front = none_more bytes h.0; all = λ e. (let no = sym h.1 ∙ e in absurd cc) }
+        record { whole = []; marked = false; afterwards = m2; ran = subst (λ (l : List Act). Run M step says m l m2) (sym acts) ran; taken = taken; more = []; front = none_more bytes h.0; all = λ e. (let no = sym h.1 ∙ e in absurd cc) }
 
     -- where they are taken, the machine says all
     taken : (most second : ℕ) (bytes : List ℕ) (last : Bool) → 1 ≤ most → let m1 = run_acts M step says m (acts_called (talk + d) second) in
@@ -51,15 +51,15 @@ module _ (M : Type 0) (step : M → Act → M) (says : M → Option (ℕ × Bool
     begun_of (Open channel text) bytes last short h k = sent (Open channel text) (open_on + channel) text.now bytes last refl (refl, refl) h
     begun_of (Put channel sent_bytes) bytes last short h k = sent (Put channel sent_bytes) (data_on + channel) sent_bytes.now bytes last refl (refl, refl) h
     begun_of (Fill channel count byte) bytes last short h k = sent (Fill channel count byte) (data_on + channel) (replicate count byte) bytes last refl (refl, refl) h
-    begun_of (Close channel) bytes last short h k = record { whole = []; marked = false; behind = run_acts M step says m (acts_carried_out d (Close channel) [] false); ran = (tt, (tt, (tt, (tt, (tt, refl))))); taken = (refl, refl); more = []; front = none_more bytes h.0; all = λ e. (let no = sym h.1 ∙ e in absurd cc) }
+    begun_of (Close channel) bytes last short h k = record { whole = []; marked = false; afterwards = run_acts M step says m (acts_carried_out d (Close channel) [] false); ran = (tt, (tt, (tt, (tt, (tt, refl))))); taken = (refl, refl); more = []; front = none_more bytes h.0; all = λ e. (let no = sym h.1 ∙ e in absurd cc) }
     begun_of (Get channel most) bytes last short h k =
         let m1 = run_acts M step says m (acts_called (talk + d) (data_on + channel)) in
         let w = taken most (data_on + channel) bytes last short.0 h k in
-        record { whole = w.bytes_all; marked = w.marked; behind = _; ran = (tt, (tt, (tt, (tt, all_runs M step says machine m1 w.bytes_all w.marked (left_by untalk) _ w.said (tt, (tt, (tt, refl))))))); taken = w.taken; more = w.more; front = w.front; all = w.all }
+        record { whole = w.bytes_all; marked = w.marked; afterwards = _; ran = (tt, (tt, (tt, (tt, all_runs M step says machine m1 w.bytes_all w.marked (left_by untalk) _ w.said (tt, (tt, (tt, refl))))))); taken = w.taken; more = w.more; front = w.front; all = w.all }
     begun_of Status bytes last short h k =
         let m1 = run_acts M step says m (acts_called (talk + d) (data_on + 15)) in
         let w = taken (most_of Status) (data_on + 15) bytes last short.0 h k in
-        record { whole = w.bytes_all; marked = w.marked; behind = _; ran = (tt, (tt, (tt, (tt, all_runs M step says machine m1 w.bytes_all w.marked (left_by untalk) _ w.said (tt, (tt, (tt, refl))))))); taken = w.taken; more = w.more; front = w.front; all = w.all }
+        record { whole = w.bytes_all; marked = w.marked; afterwards = _; ran = (tt, (tt, (tt, (tt, all_runs M step says machine m1 w.bytes_all w.marked (left_by untalk) _ w.said (tt, (tt, (tt, refl))))))); taken = w.taken; more = w.more; front = w.front; all = w.all }
 
 module _ (D M : Type 0) (stands : D → M → Type 0) (step : M → Act → M) (says : M → Option (ℕ × Bool)) (machine : IsMachine M step says) (b : Party) (drive : IsDrive b) (ms : ℕ → M) (start : ℕ) (request : Request) (channel : channel_of request ≤ 15) (short : IsShort M step says b.device (ms b.device) request) where
   is_bus : IsBus (b ∷ [])
@@ -71,7 +71,7 @@ module _ (D M : Type 0) (stands : D → M → Type 0) (step : M → Act → M) (
   front v p bus old new bytes last h =
       let k = plan M step says v machine b drive (ms b.device) start request channel short in
       let allowed : Allowed M step (bytewise M step says v) (rest (b ∷ [])) ms k.pieces = k.counts.allowed ms refl in
-      let j = met M step says v b ms is_bus machine k.pieces k.played.linked allowed (engine_at start b.device request) k.played.behind k.played.until k.played.ending k.played.performs h.runs (pending p.player.second) h.going.after.from h.going.after.stations h.going.after.plays in
+      let j = met M step says v b ms is_bus machine k.pieces k.played.linked allowed (engine_at start b.device request) k.played.afterwards k.played.until k.played.ending k.played.performs h.runs (pending p.player.second) h.going.after.from h.going.after.stations h.going.after.plays in
       let parts : k.marks ≡ marks_of j.done ++ marks_of j.more = sym k.counts.counted ∙ ap (λ (l : List Step). marks_of l) j.all ∙ marks_append j.done j.more in
       let bytes_are : bytes ≡ taken_from (marks_of j.done) = j.taken ∙ taken_are j.done in
       let last_is : last ≡ last_from false (marks_of j.done) = j.over ∙ last_are false j.done in

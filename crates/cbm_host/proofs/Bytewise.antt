@@ -69,20 +69,20 @@ module _ (M : Type 0) (step : M → Act → M) (says : M → Option (ℕ × Bool
   all_bytes [] = tt
   all_bytes (s ∷ ss) = (are_bytes (says s.machine), all_bytes ss)
 
-  byte_of : (before : List (Station M)) (o : Station M) (behind : List (Station M)) → AllBytes M step says (before ++ o ∷ behind) → IsByte M step says (says o.machine)
-  byte_of [] o behind h = h.0
-  byte_of (x ∷ before) o behind h = byte_of before o behind h.1
+  byte_of : (before : List (Station M)) (o : Station M) (afterwards : List (Station M)) → AllBytes M step says (before ++ o ∷ afterwards) → IsByte M step says (says o.machine)
+  byte_of [] o afterwards h = h.0
+  byte_of (x ∷ before) o afterwards h = byte_of before o afterwards h.1
 
   -- what drives show and become, by what there is to say
   abbrev reacting_by : Option (ℕ × Bool) → ℕ → List (Station M) → Station M → List (Station M) → List (Station M)
-  reacting_by peek t before o behind =
-      map (λ s. hear_all M step says (reaction_changes t peek o.port) s) before ++ (record { port = reacted t peek o.port; rest = o.rest; machine = acted M step (reaction_act peek o.port) o.machine }) ∷ map (λ s. hear_all M step says (reaction_changes t peek o.port) s) behind
+  reacting_by peek t before o afterwards =
+      map (λ s. hear_all M step says (reaction_changes t peek o.port) s) before ++ (record { port = reacted t peek o.port; rest = o.rest; machine = acted M step (reaction_act peek o.port) o.machine }) ∷ map (λ s. hear_all M step says (reaction_changes t peek o.port) s) afterwards
 
   -- a play of the one is a play of the other
   pub plays_bytes : {n n2 : ℕ} {ss ss2 : List (Station M)} {es : List Event} → Plays M step says n ss es n2 ss2 → Plays M step bytewise n ss es n2 ss2
   plays_bytes {ss} (stays y e k f) = stays (all_bytes ss) e k f
   plays_bytes {ss} (change c more y l i e p) = change c more (all_bytes ss) l i e (plays_bytes p)
-  plays_bytes {n} {n2} {ss} {ss2} (reaction t before o behind more y u f e p) =
-      let same : says o.machine ≡ bytewise o.machine = sym (byte_stays (says o.machine) (byte_of before o behind (subst (λ (v : List (Station M)). AllBytes M step says v) u y))) in
-      reaction t before o behind more (all_bytes ss) u (record { due = f.due; later = f.later; in_time = f.in_time }) (e ∙ ap (λ (k : Option (ℕ × Bool)). drive_events o.port.party.device (reaction_changes t k o.port) ++ more) same)
-      (subst (λ (k : Option (ℕ × Bool)). Plays M step bytewise (suc t) (reacting_by k t before o behind) more n2 ss2) same (plays_bytes p))
+  plays_bytes {n} {n2} {ss} {ss2} (reaction t before o afterwards more y u f e p) =
+      let same : says o.machine ≡ bytewise o.machine = sym (byte_stays (says o.machine) (byte_of before o afterwards (subst (λ (v : List (Station M)). AllBytes M step says v) u y))) in
+      reaction t before o afterwards more (all_bytes ss) u (record { due = f.due; later = f.later; in_time = f.in_time }) (e ∙ ap (λ (k : Option (ℕ × Bool)). drive_events o.port.party.device (reaction_changes t k o.port) ++ more) same)
+      (subst (λ (k : Option (ℕ × Bool)). Plays M step bytewise (suc t) (reacting_by k t before o afterwards) more n2 ss2) same (plays_bytes p))

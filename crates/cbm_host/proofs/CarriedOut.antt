@@ -77,7 +77,7 @@ take_over (Accepting t byte last) at e = cc
 
 ended_then : (s : Stage) (at : ℕ) → stage_due s ≡ Over at → stage_end s ≡ Some at
 ended_then (Attending t p a) at e = absurd cc
-ended_then (Framing frame behind) at e = absurd (due_over (Rattle.cbm_host.specs.Sending.frame_change frame) at e)
+ended_then (Framing frame afterwards) at e = absurd (due_over (Rattle.cbm_host.specs.Sending.frame_change frame) at e)
 ended_then (Calling t) at e = absurd cc
 ended_then (Releasing t r) at e = absurd cc
 ended_then (Turning t) at e = absurd cc
@@ -123,14 +123,14 @@ module _ (D M : Type 0) (stands : D → M → Type 0) (step : M → Act → M) (
     abbrev until : ℕ
     until = the_plan.played.until
 
-    joint : Rattle.cbm_host.proofs.Along.Joined M step (bytewise M step says false) (all_bytes M step says false) b ms is_bus (byte_machine M step says false machine) the_plan.pieces the_plan.played.linked allowed the_plan.played.behind the_plan.played.until the_plan.played.ending h.made h.behind bytes last
-    joint = met M step says false b ms is_bus machine the_plan.pieces the_plan.played.linked allowed (engine_at start b.device request) the_plan.played.behind the_plan.played.until the_plan.played.ending the_plan.played.performs h.runs (pending p.player.second) h.going.after.from h.going.after.stations h.going.after.plays
+    joint : Rattle.cbm_host.proofs.Along.Joined M step (bytewise M step says false) (all_bytes M step says false) b ms is_bus (byte_machine M step says false machine) the_plan.pieces the_plan.played.linked allowed the_plan.played.afterwards the_plan.played.until the_plan.played.ending h.made h.afterwards bytes last
+    joint = met M step says false b ms is_bus machine the_plan.pieces the_plan.played.linked allowed (engine_at start b.device request) the_plan.played.afterwards the_plan.played.until the_plan.played.ending the_plan.played.performs h.runs (pending p.player.second) h.going.after.from h.going.after.stations h.going.after.plays
 
     over : (joint.more ≡ []) × (engine_due p.engine ≡ Over the_plan.played.until)
     over =
         let f = the_plan.played in
-        finished M step (bytewise M step says false) (all_bytes M step says false) b ms is_bus (byte_machine M step says false machine) the_plan.pieces f.linked allowed f.behind f.until f.ending (start + longest b.pace) f.soon f.front f.last f.steps f.over h.made h.behind bytes last joint p.engine
-        (goes_bytes M step says false zero (at_rest M step says ms (b ∷ [])) h.made h.behind p.engine h.goes_on) p.player h.from (stops_bytes p.player (start + longest b.pace) zero (at_rest M step says ms (b ∷ [])) h.made (engine_due p.engine) h.stops)
+        finished M step (bytewise M step says false) (all_bytes M step says false) b ms is_bus (byte_machine M step says false machine) the_plan.pieces f.linked allowed f.afterwards f.until f.ending (start + longest b.pace) f.soon f.front f.last f.steps f.over h.made h.afterwards bytes last joint p.engine
+        (goes_bytes M step says false zero (at_rest M step says ms (b ∷ [])) h.made h.afterwards p.engine h.goes_on) p.player h.from (stops_bytes p.player (start + longest b.pace) zero (at_rest M step says ms (b ∷ [])) h.made (engine_due p.engine) h.stops)
 
     all_done : session_steps (rest (b ∷ [])) the_plan.pieces ≡ joint.done ++ []
     all_done = joint.all ∙ ap (λ (l : List Step). joint.done ++ l) over.0

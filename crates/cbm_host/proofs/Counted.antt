@@ -171,7 +171,7 @@ byte_marks p b o true byte ready =
     let f = frame_for b true byte ready in
     ap (λ (l : List Step). marks_of l) (frame_is (ready + b.reaction) (seat b Listener o) (Heard (byte_in_cells f.cells) true) f true (omega arith, omega arith) (cells_fit false 8 byte f.start)) ∙ frame_marks (ready + b.reaction) (seat b Listener o) true (Heard (byte_in_cells f.cells) true) f
 
--- a byte of the talker, and CLOCK's release behind the last one
+-- a byte of the talker, and CLOCK's release after the last one
 signal_none : (x : Option (ℕ × ℕ)) → marks_of (signal_steps x) ≡ []
 signal_none None = refl
 signal_none (Some x) = refl

@@ -29,7 +29,7 @@ module _ (M : Type 0) (step : M → Act → M) (says : M → Option (ℕ × Bool
   -- the host still waits, or does something
   still : (s : Stage) → Tells limit end s → StopsPerforming M step says p limit n ss es (stage_due s) → end ≡ over_at limit s
   still (Attending at q a) h k = h.given_up refl
-  still (Framing frame behind) h k = h.given_up refl
+  still (Framing frame afterwards) h k = h.given_up refl
   still (Calling at) h k = h.given_up refl
   still (Releasing at r) h k = h.given_up refl
   still (Turning until) h k = h.given_up refl
@@ -40,7 +40,7 @@ module _ (M : Type 0) (step : M → Act → M) (says : M → Option (ℕ × Bool
   -- it has waited
   waited : (s : Stage) → Tells limit end (stage_passed s) → end ≡ over_at limit s
   waited (Attending at q a) h = h.given_up refl
-  waited (Framing frame behind) h = h.given_up refl
+  waited (Framing frame afterwards) h = h.given_up refl
   waited (Calling at) h = h.given_up refl
   waited (Releasing at r) h = h.given_up refl
   waited (Turning until) h = h.given_up refl
@@ -49,7 +49,7 @@ module _ (M : Type 0) (step : M → Act → M) (says : M → Option (ℕ × Bool
   waited (Done t) h = sooner_of limit end t h
 
   -- THE END, by the stage after the last event
-  pub over_then : (behind e : Engined) → GoesOnFrom M step says n ss es behind e → StopsPerforming M step says p limit n ss es (engine_due e)
-      → ((t : ℕ) → stage_end e.stage ≡ Some t → t ≤ limit → end ≡ t) → ((t : ℕ) → stage_end e.stage ≡ Some t → limit < t → end ≡ limit) → (stage_end e.stage ≡ None → end ≡ limit) → end ≡ over_at limit behind.stage
-  over_then behind e (inl same) stops there late given_up = subst (λ (x : Engined). end ≡ over_at limit x.stage) same (still e.stage (record { there = there; late = late; given_up = given_up }) stops)
-  over_then behind e (inr passed) stops there late given_up = waited behind.stage (subst (λ (x : Engined). Tells limit end x.stage) passed.2 (record { there = there; late = late; given_up = given_up }))
+  pub over_then : (afterwards e : Engined) → GoesOnFrom M step says n ss es afterwards e → StopsPerforming M step says p limit n ss es (engine_due e)
+      → ((t : ℕ) → stage_end e.stage ≡ Some t → t ≤ limit → end ≡ t) → ((t : ℕ) → stage_end e.stage ≡ Some t → limit < t → end ≡ limit) → (stage_end e.stage ≡ None → end ≡ limit) → end ≡ over_at limit afterwards.stage
+  over_then afterwards e (inl same) stops there late given_up = subst (λ (x : Engined). end ≡ over_at limit x.stage) same (still e.stage (record { there = there; late = late; given_up = given_up }) stops)
+  over_then afterwards e (inr passed) stops there late given_up = waited afterwards.stage (subst (λ (x : Engined). Tells limit end x.stage) passed.2 (record { there = there; late = late; given_up = given_up }))

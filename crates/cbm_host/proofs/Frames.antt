@@ -21,7 +21,7 @@ use Rattle.cbm_host.specs.Waits.{phase}
 use Rattle.cbm_host.specs.declared.frame.Bits.{Bits}
 use Rattle.cbm_host.specs.declared.frame.Frame.{Frame}
 use Rattle.cbm_host.specs.declared.frame.Frame.TheVariants.{Readying, Setting, Showing, Clearing, Sent}
-use Rattle.cbm_host.specs.declared.stage.Behind.{Behind}
+use Rattle.cbm_host.specs.declared.stage.Afterwards.{Afterwards}
 use Rattle.cbm_host.specs.declared.stage.Stage.TheVariants.{Framing}
 
 abbrev pub bits : ℕ → ℕ → Bool → Bits
@@ -50,10 +50,10 @@ pub frame_fits : (s : Seat) (eoi : Bool) (byte ready : ℕ) → SentFits (s ∷ 
 frame_fits s true byte ready = record { start = omega arith; eight = cells_count 8 byte (start_for s.party true ready); cells = cells_fit false 8 byte (start_for s.party true ready) }
 frame_fits s false byte ready = record { start = (omega arith, omega arith); eight = cells_count 8 byte (start_for s.party false ready); cells = cells_fit false 8 byte (start_for s.party false ready) }
 
-module _ (behind : Behind) (left : List ℕ) (most : ℕ) where
+module _ (afterwards : Afterwards) (left : List ℕ) (most : ℕ) where
   -- in a frame
   abbrev pub framing : Frame → Engined
-  framing f = record { stage = Framing f behind; left = left; most = most }
+  framing f = record { stage = Framing f afterwards; left = left; most = most }
 
   -- the next bit, by whether DATA is held for it
   abbrev bit_frame : Bool → ℕ → Bits → Frame
@@ -74,7 +74,7 @@ module _ (behind : Behind) (left : List ℕ) (most : ℕ) where
   not_not true = refl
   not_not false = refl
 
-  -- so many bits, and DATA's release behind them
+  -- so many bits, and DATA's release after them
   abbrev bit_steps : Bool → ℕ → ℕ → ℕ → List Step
   bit_steps held n l t = cells_steps held (cells_for n l t) ++ where_held (held_after held (cells_for n l t)) (host (last_pull t (cells_for n l t)) Data Free)
 
@@ -95,14 +95,14 @@ module _ (behind : Behind) (left : List ℕ) (most : ℕ) where
 
   -- a whole frame, up to the accept
   pub frame_performs : (s : Seat) (act : Act) (byte ready : ℕ) → let f = frame_for s.party false byte ready in
-      Performs (framing (Readying ready byte false)) (one_frame (ready + reaction s) s false act f) (accepted (end_of f + reaction s) behind (framing Sent))
+      Performs (framing (Readying ready byte false)) (one_frame (ready + reaction s) s false act f) (accepted (end_of f + reaction s) afterwards (framing Sent))
   frame_performs s act byte ready =
       let f = frame_for s.party false byte ready in
       makes refl refl (sees tt (makes refl refl (performs_then (bits_perform 8 false f.start byte) (sees tt (ends refl)))))
 
   -- the last one
   pub last_performs : (s : Seat) (act : Act) (byte ready : ℕ) → let f = frame_for s.party true byte ready in
-      Performs (framing (Readying ready byte true)) (one_frame (ready + reaction s) s true act f) (accepted (end_of f + reaction s) behind (framing Sent))
+      Performs (framing (Readying ready byte true)) (one_frame (ready + reaction s) s true act f) (accepted (end_of f + reaction s) afterwards (framing Sent))
   last_performs s act byte ready =
       let f = frame_for s.party true byte ready in
       makes refl refl (sees tt (sees tt (sees tt (makes refl refl (performs_then (bits_perform 8 false f.start byte) (sees tt (ends refl)))))))

@@ -1,4 +1,4 @@
--- The bytes that the host has taken before a request is over: the first of those that the machine says, whatever it says behind them.
+-- The bytes that the host has taken before a request is over: the first of those that the machine says, whatever it says after them.
 use Rattle.std.proofs.Common.{◌≡◌, ℕ, zero, suc, ◌+◌, ◌-◌, ◌≤◌, ◌⊎◌, inl, inr, Bool, true, false, List, [], ◌∷◌, ◌++◌, length, append_assoc, Option, Some, None, refl, sym, ap, ◌∙◌, subst, arith}
 use Rattle.std.proofs.lemmas.Bool.Decides.{leb_tells}
 use Rattle.std.specs.Prelude.{if◌then◌else◌}
@@ -73,7 +73,7 @@ OnlyLast [] = Unit {0}
 OnlyLast (x ∷ []) = Unit {0}
 OnlyLast (x ∷ y ∷ xs) = (x.1 ≡ false) × OnlyLast (y ∷ xs)
 
--- the mark of a byte, where these come behind it
+-- the mark of a byte, where these come after it
 abbrev pub ends : List ℕ → Bool → Bool
 ends [] last = last
 ends (byte ∷ more) last = false
@@ -219,7 +219,7 @@ module _ (M : Type 0) (step : M → Act → M) (says : M → Option (ℕ × Bool
           all = k.all;
         }
 
-    -- ALL THAT IT SAYS behind a front of it: nothing, or bytes
+    -- ALL THAT IT SAYS after a front of it: nothing, or bytes
     abbrev pub SaysAll : M → List ℕ → Bool → Type 0
     SaysAll m [] marked = says m ≡ None
     SaysAll m (byte ∷ more) marked = SaysSo M step says m (byte ∷ more) marked
@@ -264,7 +264,7 @@ module _ (M : Type 0) (step : M → Act → M) (says : M → Option (ℕ × Bool
           all = k.all;
         }
 
-    -- its acts, and what comes behind them
+    -- its acts, and what comes after them
     so_runs : (m : M) (byte : ℕ) (more : List ℕ) (last : Bool) (acts : List Act) (m2 : M) → SaysSo M step says m (byte ∷ more) last → Run M step says (run_acts M step says m (spoken last byte more)) acts m2 → Run M step says m (spoken last byte more ++ acts) m2
     so_runs m byte [] last acts m2 h r = (h.0, r)
     so_runs m byte (next ∷ more) last acts m2 h r = (h.0, so_runs (step m (Said byte false)) next more last acts m2 h.1 r)

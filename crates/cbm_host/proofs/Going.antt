@@ -10,17 +10,17 @@ use Rattle.cbm_iec.specs.declared.lines.Change.{Change}
 use Rattle.cbm_session.specs.Following.{IsInTime}
 use Rattle.cbm_session.specs.Playing.{Station, Plays}
 use Rattle.cbm_drive.specs.Cables.{Cabled}
-use Rattle.cbm_drive.specs.Players.{Turns, pending, from_behind, IsSecond, IsWaitingFrom, IsTurnOf, IsAfter, HasGiven, IsStill}
+use Rattle.cbm_drive.specs.Players.{Turns, pending, from_after, IsSecond, IsWaitingFrom, IsTurnOf, IsAfter, HasGiven, IsStill}
 use Rattle.cbm_drive.specs.Silence.{AreSilent, quiet, idle}
 use Rattle.cbm_host.proofs.Handed.{handed_on}
 use Rattle.cbm_host.specs.Engines.{Engined, engine_due, engine_passed}
 use Rattle.cbm_host.specs.Performing.{IsBefore}
-use Rattle.cbm_host.specs.Performers.{Performing, IsHandedOn, IsDue, IsAsked, IsChangeRefused, IsQuietUntil, GoesOnFrom, StopsPerforming, engine_behind, byte_with, IsGoing, IsHeldBack, IsUnmoved, HasStopped, HasCome, HasNext}
+use Rattle.cbm_host.specs.Performers.{Performing, IsHandedOn, IsDue, IsAsked, IsChangeRefused, IsQuietUntil, GoesOnFrom, StopsPerforming, engine_after, byte_with, IsGoing, IsHeldBack, IsUnmoved, HasStopped, HasCome, HasNext}
 use Rattle.cbm_host.specs.declared.due.Due.{Due}
 use Rattle.cbm_host.specs.declared.due.Due.TheVariants.{Makes, Waits, Hears, Over}
 
 -- a change of the host is the one that was handed on, and one of the drive comes before it
-turn_due : (w : Who) (c : Change) (p q : Turns) (e : Engined) (upto : ℕ) → IsHandedOn p.waiting e → IsTurnOf w c p.waiting q.waiting → IsAsked upto p.waiting (engine_due e) → c.moment ≤ upto → IsWaitingFrom q.from q.waiting → q.from ≡ from_behind w c.moment → IsDue w c e
+turn_due : (w : Who) (c : Change) (p q : Turns) (e : Engined) (upto : ℕ) → IsHandedOn p.waiting e → IsTurnOf w c p.waiting q.waiting → IsAsked upto p.waiting (engine_due e) → c.moment ≤ upto → IsWaitingFrom q.from q.waiting → q.from ≡ from_after w c.moment → IsDue w c e
 turn_due Host c p q e upto h t a l w from = subst (λ (o : Option Change). IsHandedOn o e) t.0 h
 turn_due (Drive d) c p q e upto h t a l w from = by_due (engine_due e) a
   where
@@ -33,9 +33,9 @@ turn_due (Drive d) c p q e upto h t a l w from = by_due (engine_due e) a
     by_due Hears a = tt
     by_due (Over at) a = a
 
-turn_handed : (w : Who) (c : Change) (was now : Option Change) (e : Engined) → IsHandedOn was e → IsTurnOf w c was now → IsHandedOn now (engine_behind w c e)
-turn_handed Host c was now e h t = subst (λ (o : Option Change). IsHandedOn o (engine_behind Host c e)) (sym t.1) tt
-turn_handed (Drive d) c was now e h t = subst (λ (o : Option Change). IsHandedOn o (engine_behind (Drive d) c e)) (sym t) (handed_on was e c h)
+turn_handed : (w : Who) (c : Change) (was now : Option Change) (e : Engined) → IsHandedOn was e → IsTurnOf w c was now → IsHandedOn now (engine_after w c e)
+turn_handed Host c was now e h t = subst (λ (o : Option Change). IsHandedOn o (engine_after Host c e)) (sym t.1) tt
+turn_handed (Drive d) c was now e h t = subst (λ (o : Option Change). IsHandedOn o (engine_after (Drive d) c e)) (sym t) (handed_on was e c h)
 
 -- where the host waits nothing is handed on
 none_waits : (w : Option Change) (e e2 : Engined) (until : ℕ) → engine_due e ≡ Waits until → IsHandedOn w e → IsHandedOn w e2
@@ -147,8 +147,8 @@ module _ (D M : Type 0) (stands : D → M → Type 0) (step : M → Act → M) (
           let before_it = last.1 in
           omega (arith, upto, before_it, h)
 
-  pub come_behind : (old mid new : Performing) (b2 : Cabled D) (n : ℕ) (ss : List (Station M)) (es : List Event) (e : Event) → mid.engine ≡ old.engine → mid.limit ≡ old.limit → HasCome D M stands step says mid new b2 n ss es e → HasCome D M stands step says old new b2 n ss es e
-  come_behind old mid new b2 n ss es e engine limit k = record {
+  pub come_after : (old mid new : Performing) (b2 : Cabled D) (n : ℕ) (ss : List (Station M)) (es : List Event) (e : Event) → mid.engine ≡ old.engine → mid.limit ≡ old.limit → HasCome D M stands step says mid new b2 n ss es e → HasCome D M stands step says old new b2 n ss es e
+  come_after old mid new b2 n ss es e engine limit k = record {
     after = k.after;
     goes_on = goes_same n ss es old.engine mid.engine new.engine engine k.goes_on;
     due = k.due;
@@ -172,7 +172,7 @@ module _ (D M : Type 0) (stands : D → M → Type 0) (step : M → Act → M) (
 
       by_answer : (r : Option Event) → MatchOption r (IsStill D M stands step says mid.player new.player b b2 change.moment going.after.stations) (HasCome D M stands step says mid new b2 n ss es) → MatchOption r (IsHeldBack D M stands step says old new b b2 change) (HasCome D M stands step says old new b2 n ss es)
       by_answer None k = absurd (never_still mid new b change n ss es (waits g.handed) ahead going k.second k.waiting k.same)
-      by_answer (Some e) k = come_behind old mid new b2 n ss es e engine limit k
+      by_answer (Some e) k = come_after old mid new b2 n ss es e engine limit k
 
   -- where the player refused it, or where it is too late
   pub held_back : (old new : Performing) (b b2 : Cabled D) (n : ℕ) (ss : List (Station M)) (es : List Event) (change : Change) → engine_due old.engine ≡ Makes change → new.engine ≡ old.engine → new.limit ≡ old.limit → IsHeldBack D M stands step says old new b b2 change → IsGoing D M stands step says old b n ss es → HasStopped D M stands step says old new b2 n ss es
@@ -257,12 +257,12 @@ module _ (D M : Type 0) (stands : D → M → Type 0) (step : M → Act → M) (
     waited_then new b3 (Some e) same h = record { after = h.after; goes_on = inr (until, due, same ∙ passed, waited_quiet); due = h.due; handed = h.handed; moment = h.moment; from = h.from; limit = h.limit ∙ limit }
 
   -- the engine is told the event
-  pub told_next : (old mid new : Performing) (b : Cabled D) (n : ℕ) (ss : List (Station M)) (es : List Event) (e : Event) → HasCome D M stands step says old mid b n ss es e → new.player ≡ mid.player → new.limit ≡ mid.limit → new.engine ≡ engine_behind e.who e.change mid.engine → new.byte ≡ byte_with e.who mid.engine
+  pub told_next : (old mid new : Performing) (b : Cabled D) (n : ℕ) (ss : List (Station M)) (es : List Event) (e : Event) → HasCome D M stands step says old mid b n ss es e → new.player ≡ mid.player → new.limit ≡ mid.limit → new.engine ≡ engine_after e.who e.change mid.engine → new.byte ≡ byte_with e.who mid.engine
       → HasNext D M stands step says old new b n ss es e
   told_next old mid new b n ss es e k player limit engine byte = record {
     going = record {
       after = subst (λ (x : Turns). IsAfter D M stands step says x b n ss (es ++ e ∷ [])) (sym player) k.after;
-      handed = subst (λ (x : Engined). IsHandedOn new.player.waiting x) (sym engine) (subst (λ (x : Turns). IsHandedOn x.waiting (engine_behind e.who e.change mid.engine)) (sym player) k.handed);
+      handed = subst (λ (x : Engined). IsHandedOn new.player.waiting x) (sym engine) (subst (λ (x : Turns). IsHandedOn x.waiting (engine_after e.who e.change mid.engine)) (sym player) k.handed);
     };
     found = mid.engine;
     goes_on = k.goes_on;

@@ -5,7 +5,7 @@ use Rattle.std.proofs.lemmas.Bool.Decides.{nat_tests}
 use Rattle.std.specs.Prelude.{not, nat_lt, ◌==◌, if◌then◌else◌}
 use Rattle.cbm_drive.specs.Cables.{Cabled}
 use Rattle.cbm_drive.specs.Halves.{half_lines, half_events}
-use Rattle.cbm_drive.specs.Players.{from_behind, at_most, IsAfter}
+use Rattle.cbm_drive.specs.Players.{from_after, at_most, IsAfter}
 use Rattle.cbm_drive.specs.declared.half.Half.{Half}
 use Rattle.cbm_host.proofs.Progress.{seen_least, less_second}
 use Rattle.cbm_host.specs.Engines.{Engined, at_stage, engine_due, engine_seen, engine_heard, stage_gathers}
@@ -42,7 +42,7 @@ in_gathering e = by_stage e.stage refl
   where
     by_stage : (s : Stage) → e.stage ≡ s → stage_gathers s ≡ true → (came : Came) × (e ≡ gathering came e) × (nat_lt came.count 8 ≡ true)
     by_stage (Attending at p a) same g = absurd cc
-    by_stage (Framing frame behind) same g = absurd cc
+    by_stage (Framing frame afterwards) same g = absurd cc
     by_stage (Calling at) same g = absurd cc
     by_stage (Releasing at r) same g = absurd cc
     by_stage (Turning until) same g = absurd cc
@@ -95,7 +95,7 @@ half_heard h e clock g =
 
 last_append : (t : ℕ) (es xs : List Event) → from_last t (es ++ xs) ≡ from_last (from_last t es) xs
 last_append t [] xs = refl
-last_append t (e ∷ es) xs = last_append (from_behind e.who e.change.moment) es xs
+last_append t (e ∷ es) xs = last_append (from_after e.who e.change.moment) es xs
 
 last_half : (u t device : ℕ) (clock was now : Bool) → from_last u (drive_events device (changes_between t (two clock was) (two (not clock) now))) ≡ t + 1
 last_half u t device true false false = refl

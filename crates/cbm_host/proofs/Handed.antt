@@ -13,7 +13,7 @@ use Rattle.cbm_host.specs.Stages.{due_of, stage_due, take_due}
 use Rattle.cbm_host.specs.declared.due.Due.TheVariants.{Makes}
 use Rattle.cbm_host.specs.declared.frame.Frame.{Frame}
 use Rattle.cbm_host.specs.declared.frame.Frame.TheVariants.{Readying, Ready, EoiSent, EoiHeard, Starting, Setting, Showing, Hiding, Clearing, Sent}
-use Rattle.cbm_host.specs.declared.stage.Behind.{Behind}
+use Rattle.cbm_host.specs.declared.stage.Afterwards.{Afterwards}
 use Rattle.cbm_host.specs.declared.stage.Stage.{Stage}
 use Rattle.cbm_host.specs.declared.stage.Stage.TheVariants.{Attending, Framing, Calling, Releasing, Turning, Taking, Ending, Done}
 use Rattle.cbm_host.specs.declared.take.Take.{Take}
@@ -23,25 +23,25 @@ module _ (left : List ℕ) (most : ℕ) (c : Change) (t : ℕ) where
   abbrev seen : Line → Way → Stage → Engined
   seen line way stage = engine_seen (change_at t line way) (record { stage = stage; left = left; most = most })
 
-  frame_kept : (line : Line) (way : Way) (frame : Frame) (behind : Behind) → due_of (frame_change frame) ≡ Makes c → engine_due (seen line way (Framing frame behind)) ≡ Makes c
-  frame_kept Atn way frame behind h = h
-  frame_kept Clock way frame behind h = h
-  frame_kept Data way (Ready byte eoi) behind h = absurd cc
-  frame_kept Data way (EoiSent byte) behind h = absurd cc
-  frame_kept Data way (EoiHeard byte) behind h = absurd cc
-  frame_kept Data way Sent behind h = absurd cc
-  frame_kept Data Pull (Readying at byte eoi) behind h = h
-  frame_kept Data Pull (Starting at byte) behind h = h
-  frame_kept Data Pull (Setting at b) behind h = h
-  frame_kept Data Pull (Showing at b) behind h = h
-  frame_kept Data Pull (Hiding at b) behind h = h
-  frame_kept Data Pull (Clearing at) behind h = h
-  frame_kept Data Free (Readying at byte eoi) behind h = h
-  frame_kept Data Free (Starting at byte) behind h = h
-  frame_kept Data Free (Setting at b) behind h = h
-  frame_kept Data Free (Showing at b) behind h = h
-  frame_kept Data Free (Hiding at b) behind h = h
-  frame_kept Data Free (Clearing at) behind h = h
+  frame_kept : (line : Line) (way : Way) (frame : Frame) (afterwards : Afterwards) → due_of (frame_change frame) ≡ Makes c → engine_due (seen line way (Framing frame afterwards)) ≡ Makes c
+  frame_kept Atn way frame afterwards h = h
+  frame_kept Clock way frame afterwards h = h
+  frame_kept Data way (Ready byte eoi) afterwards h = absurd cc
+  frame_kept Data way (EoiSent byte) afterwards h = absurd cc
+  frame_kept Data way (EoiHeard byte) afterwards h = absurd cc
+  frame_kept Data way Sent afterwards h = absurd cc
+  frame_kept Data Pull (Readying at byte eoi) afterwards h = h
+  frame_kept Data Pull (Starting at byte) afterwards h = h
+  frame_kept Data Pull (Setting at b) afterwards h = h
+  frame_kept Data Pull (Showing at b) afterwards h = h
+  frame_kept Data Pull (Hiding at b) afterwards h = h
+  frame_kept Data Pull (Clearing at) afterwards h = h
+  frame_kept Data Free (Readying at byte eoi) afterwards h = h
+  frame_kept Data Free (Starting at byte) afterwards h = h
+  frame_kept Data Free (Setting at b) afterwards h = h
+  frame_kept Data Free (Showing at b) afterwards h = h
+  frame_kept Data Free (Hiding at b) afterwards h = h
+  frame_kept Data Free (Clearing at) afterwards h = h
 
   take_kept : (line : Line) (way : Way) (take : Take) → take_due take ≡ Makes c → engine_due (seen line way (Taking take)) ≡ Makes c
   take_kept line way Awaiting h = absurd cc
@@ -67,7 +67,7 @@ module _ (left : List ℕ) (most : ℕ) (c : Change) (t : ℕ) where
 
   due_kept : (line : Line) (way : Way) (stage : Stage) → stage_due stage ≡ Makes c → engine_due (seen line way stage) ≡ Makes c
   due_kept line way (Attending at p a) h = h
-  due_kept line way (Framing frame behind) h = frame_kept line way frame behind h
+  due_kept line way (Framing frame afterwards) h = frame_kept line way frame afterwards h
   due_kept line way (Calling at) h = h
   due_kept line way (Releasing at r) h = h
   due_kept line way (Turning until) h = absurd cc

@@ -57,7 +57,7 @@ is_modest Status few bytes = tt
 
 -- ---- over any machine
 
--- other drives may stand for the stations before an event than behind it
+-- other drives may stand for the stations before an event than after it
 module _ (D M : Type 0) (stood stands : D → M → Type 0) (step : M → Act → M) (says : M → Option (ℕ × Bool)) where
   -- each event leads on, and a byte with it
   taking_on : (e : Engined) (limit : ℕ) (p q : Performing) (b c : Cabled D) (bytes : List ℕ) (last : Bool) (ss : List (Station M)) (x : Event) → (t : IsTaking D M stood step says e limit p b bytes last ss)
@@ -123,7 +123,7 @@ module _ {M : Type 0} (seen : M → Seen) where
   going_on h p m request bytes last low high channel modest begins u =
       let t = u.taking in
       let k = begins (party_of h.pace h.device) (λ d. at_power_up h.pace h.device m) u.start request [] t.made bytes last (is_drive h.pace h.device low high) channel (is_short h.pace h.device request m (omega (arith, high)) channel modest) t.performing in
-      let s = serves h.pace h.device request m k.whole k.marked k.behind (omega (arith, high)) channel k.taken k.ran in
+      let s = serves h.pace h.device request m k.whole k.marked k.afterwards (omega (arith, high)) channel k.taken k.ran in
       record {
         under_way = u;
         first = record { more = k.more; front = sym s.said ∙ k.front; all = λ e. ((k.all e).0, sym s.marked ∙ (k.all e).1) };
@@ -137,7 +137,7 @@ module _ {M : Type 0} (seen : M → Seen) where
       let k = (carries (party_of h.pace h.device) (λ d. at_power_up h.pace h.device m) start request [] t.made bytes last (is_drive h.pace h.device low high) channel (is_short h.pace h.device request m (omega (arith, high)) channel modest) t.performed).2 in
       let s = serves h.pace h.device request m bytes last k.machine (omega (arith, high)) channel k.done.taken k.done.ran in
       record {
-        rests = subst (λ (x : Desk Machine). IsBusAt (Desk (Kept M)) (Desk Machine) (DeskStands seen) h.bus.host h.bus.drives (at_rest (Desk Machine) desk_step desk_says (λ d. x) (party_of h.pace h.device ∷ []))) s.behind k.now;
+        rests = subst (λ (x : Desk Machine). IsBusAt (Desk (Kept M)) (Desk Machine) (DeskStands seen) h.bus.host h.bus.drives (at_rest (Desk Machine) desk_step desk_says (λ d. x) (party_of h.pace h.device ∷ []))) s.afterwards k.now;
         said = s.said;
         marked = s.marked;
       }

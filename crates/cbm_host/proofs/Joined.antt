@@ -28,16 +28,16 @@ module _ (M : Type 0) (step : M → Act → M) (peek : M → Option (ℕ × Bool
     pub moment : ℕ
     pub before : List (Station M)
     pub o : Station M
-    pub behind : List (Station M)
-    pub plays : Plays M step peek n ss before_it from (before ++ o ∷ behind)
-    pub due : IsFirst M step peek moment before o behind
+    pub afterwards : List (Station M)
+    pub plays : Plays M step peek n ss before_it from (before ++ o ∷ afterwards)
+    pub due : IsFirst M step peek moment before o afterwards
     pub events : drive_events o.port.party.device (shown M step peek moment o) ≡ first ++ x ∷ second
 
   abbrev pub Comes : ℕ → List (Station M) → List Event → Who → Event → Type 0
   Comes n ss front Host x = HostComes n ss front x.change
   Comes n ss front (Drive d) x = DriveComes n ss front x
 
-  -- a list that goes on behind a first part: an item is in that part, or behind it
+  -- a list that goes on after a first part: an item is in that part, or after it
   split_or : (ds more front : List Event) (x : Event) (back : List Event) → ds ++ more ≡ front ++ x ∷ back → ((d2 : List Event) × (ds ≡ front ++ x ∷ d2)) ⊎ ((f2 : List Event) × (front ≡ ds ++ f2) × (more ≡ f2 ++ x ∷ back))
   split_or [] more front x back e = inr (front, refl, e)
   split_or (d ∷ ds) more [] x back e = inl (ds, (let same : d ≡ x = cc in ap (λ (y : Event). y ∷ ds) same))
@@ -55,10 +55,10 @@ module _ (M : Type 0) (step : M → Act → M) (peek : M → Option (ℕ × Bool
   drive_event d (c ∷ cs) [] x back e = let same : (record { who = Drive d; change = c }) ≡ x = cc in ap (λ (y : Event). y.who) (sym same)
   drive_event d (c ∷ cs) (f ∷ front) x back e = let tail : drive_events d cs ≡ front ++ x ∷ back = cc in drive_event d cs front x back tail
 
-  -- behind what was played before
-  behind_play : (w : Who) (n n1 : ℕ) (ss s1 : List (Station M)) (first front : List Event) (x : Event) → Plays M step peek n ss first n1 s1 → Comes n1 s1 front w x → Comes n ss (first ++ front) w x
-  behind_play Host n n1 ss s1 first front x p k = record { from = k.from; there = k.there; plays = plays_then M step peek p k.plays; time = k.time }
-  behind_play (Drive d) n n1 ss s1 first front x p k = record {
+  -- after what was played before
+  after_play : (w : Who) (n n1 : ℕ) (ss s1 : List (Station M)) (first front : List Event) (x : Event) → Plays M step peek n ss first n1 s1 → Comes n1 s1 front w x → Comes n ss (first ++ front) w x
+  after_play Host n n1 ss s1 first front x p k = record { from = k.from; there = k.there; plays = plays_then M step peek p k.plays; time = k.time }
+  after_play (Drive d) n n1 ss s1 first front x p k = record {
     before_it = first ++ k.before_it;
     first = k.first;
     second = k.second;
@@ -67,7 +67,7 @@ module _ (M : Type 0) (step : M → Act → M) (peek : M → Option (ℕ × Bool
     moment = k.moment;
     before = k.before;
     o = k.o;
-    behind = k.behind;
+    afterwards = k.afterwards;
     plays = plays_then M step peek p k.plays;
     due = k.due;
     events = k.events;
@@ -87,8 +87,8 @@ module _ (M : Type 0) (step : M → Act → M) (peek : M → Option (ℕ × Bool
   comes {n} {ss = ss} (change c more y l i e p) (z ∷ front) x back h =
       let tail : more ≡ front ++ x ∷ back = cc in
       let head : host_event c ≡ z = cc in
-      subst (λ (v : Event). Comes n ss (v ∷ front) x.who x) head (behind_play x.who n c.moment ss _ (host_event c ∷ []) front x (change c [] y l i refl (stays (first_bytes p) refl refl refl)) (comes p front x back tail))
-  comes {n} {ss = ss} (reaction t before o behind more y u f e p) front x back h =
+      subst (λ (v : Event). Comes n ss (v ∷ front) x.who x) head (after_play x.who n c.moment ss _ (host_event c ∷ []) front x (change c [] y l i refl (stays (first_bytes p) refl refl refl)) (comes p front x back tail))
+  comes {n} {ss = ss} (reaction t before o afterwards more y u f e p) front x back h =
       let ds = drive_events o.port.party.device (shown M step peek t o) in
       elim (split_or ds more front x back (sym e ∙ h)) [
         | inl k ↦ subst (λ (w : Who). Comes n ss front w x) (sym (drive_event o.port.party.device (shown M step peek t o) front x k.0 k.1)) (record {
@@ -100,10 +100,10 @@ module _ (M : Type 0) (step : M → Act → M) (peek : M → Option (ℕ × Bool
           moment = t;
           before = before;
           o = o;
-          behind = behind;
+          afterwards = afterwards;
           plays = stays y refl refl (sym u);
           due = f;
           events = k.1;
         })
-        | inr k ↦ subst (λ (l : List Event). Comes n ss l x.who x) (sym k.1) (behind_play x.who n (suc t) ss _ ds k.0 x (subst (λ (l : List Event). Plays M step peek n ss l (suc t) (reacting M step peek t before o behind)) (append-nil ds) (reaction t before o behind [] y u f refl (stays (first_bytes p) refl refl refl))) (comes p k.0 x back k.2))
+        | inr k ↦ subst (λ (l : List Event). Comes n ss l x.who x) (sym k.1) (after_play x.who n (suc t) ss _ ds k.0 x (subst (λ (l : List Event). Plays M step peek n ss l (suc t) (reacting M step peek t before o afterwards)) (append-nil ds) (reaction t before o afterwards [] y u f refl (stays (first_bytes p) refl refl refl))) (comes p k.0 x back k.2))
       ]

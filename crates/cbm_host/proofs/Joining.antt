@@ -38,18 +38,18 @@ from_drive : (t o m : ℕ) (ss : List Step) → t ≤ suc m → AllAfter (Drive 
 from_drive t o m [] l a = tt
 from_drive t o m (s ∷ ss) l a = (one s.event.who a.0, from_drive t o m ss l a.1)
   where
-    one : (w : Who) → Rattle.cbm_session.specs.Among.ComesBehind m w (moment_of s) → is_host w ≡ true → t ≤ moment_of s
+    one : (w : Who) → Rattle.cbm_session.specs.Among.ComesAfter m w (moment_of s) → is_host w ≡ true → t ≤ moment_of s
     one Host h k = omega (arith, l, h)
     one (Drive u) h k = absurd cc
 
 -- the first of these is the host's, and later than t; or a drive's, and not before t
-pub behind_host : (t : ℕ) (s : Step) (ss : List Step) → s.event.who ≡ Host → t < moment_of s → GoesOn (s ∷ ss) → HostFrom (suc t) (s ∷ ss)
-behind_host t s ss w l g = (λ k. omega (arith, l), from_host (suc t) (moment_of s) ss (omega (arith, l)) (subst (λ (v : Who). AllAfter v (moment_of s) ss) w g.0))
+pub after_the_host : (t : ℕ) (s : Step) (ss : List Step) → s.event.who ≡ Host → t < moment_of s → GoesOn (s ∷ ss) → HostFrom (suc t) (s ∷ ss)
+after_the_host t s ss w l g = (λ k. omega (arith, l), from_host (suc t) (moment_of s) ss (omega (arith, l)) (subst (λ (v : Who). AllAfter v (moment_of s) ss) w g.0))
 
-pub behind_drive : (t d : ℕ) (s : Step) (ss : List Step) → s.event.who ≡ Drive d → t ≤ moment_of s → GoesOn (s ∷ ss) → HostFrom (suc t) (s ∷ ss)
-behind_drive t d s ss w l g = (λ k. (let no : is_host (Drive d) ≡ true = ap is_host (sym w) ∙ k in absurd cc), from_drive (suc t) d (moment_of s) ss (omega (arith, l)) (subst (λ (v : Who). AllAfter v (moment_of s) ss) w g.0))
+pub after_a_drive : (t d : ℕ) (s : Step) (ss : List Step) → s.event.who ≡ Drive d → t ≤ moment_of s → GoesOn (s ∷ ss) → HostFrom (suc t) (s ∷ ss)
+after_a_drive t d s ss w l g = (λ k. (let no : is_host (Drive d) ≡ true = ap is_host (sym w) ∙ k in absurd cc), from_drive (suc t) d (moment_of s) ss (omega (arith, l)) (subst (λ (v : Who). AllAfter v (moment_of s) ss) w g.0))
 
--- a session is ordered behind any front of it
+-- a session is ordered after any front of it
 pub front_goes : (xs ys : List Step) → GoesOn (xs ++ ys) → GoesOn ys
 front_goes xs ys g = goes_rest xs ys g
 
@@ -63,21 +63,21 @@ split_steps (s ∷ done) (x ∷ f1) f2 e =
     let k = split_steps done f1 f2 tail in
     (s ∷ k.0, k.1, ap (λ (l : List Step). s ∷ l) k.2, ap (λ (l : List Event). s.event ∷ l) k.3 ∙ ap (λ (y : Event). y ∷ f1) head, k.4)
 
--- the step behind a front
-behind_front : (d2 more rs left : List Step) (f2 second : List Event) (x : Event) → d2 ++ more ≡ rs ++ left → events_of d2 ≡ f2 → events_of rs ≡ f2 ++ x ∷ second → (s : Step) × (ss : List Step) × (more ≡ s ∷ ss) × (s.event ≡ x)
-behind_front [] more [] left f2 second x e h k = let none : f2 ≡ [] = sym h in let no : [] ≡ x ∷ second = k ∙ ap (λ (l : List Event). l ++ x ∷ second) none in absurd cc
-behind_front [] more (r ∷ rs) left f2 second x e h k =
+-- the step after a front
+after_a_front : (d2 more rs left : List Step) (f2 second : List Event) (x : Event) → d2 ++ more ≡ rs ++ left → events_of d2 ≡ f2 → events_of rs ≡ f2 ++ x ∷ second → (s : Step) × (ss : List Step) × (more ≡ s ∷ ss) × (s.event ≡ x)
+after_a_front [] more [] left f2 second x e h k = let none : f2 ≡ [] = sym h in let no : [] ≡ x ∷ second = k ∙ ap (λ (l : List Event). l ++ x ∷ second) none in absurd cc
+after_a_front [] more (r ∷ rs) left f2 second x e h k =
     let same : r.event ∷ events_of rs ≡ x ∷ second = k ∙ ap (λ (l : List Event). l ++ x ∷ second) (sym h) in
     let first : r.event ≡ x = cc in
     (r, rs ++ left, e, first)
-behind_front (d ∷ d2) more [] left [] second x e h k = absurd cc
-behind_front (d ∷ d2) more [] left (f ∷ f2) second x e h k = absurd cc
-behind_front (d ∷ d2) more (r ∷ rs) left [] second x e h k = absurd cc
-behind_front (d ∷ d2) more (r ∷ rs) left (f ∷ f2) second x e h k =
+after_a_front (d ∷ d2) more [] left [] second x e h k = absurd cc
+after_a_front (d ∷ d2) more [] left (f ∷ f2) second x e h k = absurd cc
+after_a_front (d ∷ d2) more (r ∷ rs) left [] second x e h k = absurd cc
+after_a_front (d ∷ d2) more (r ∷ rs) left (f ∷ f2) second x e h k =
     let tail : d2 ++ more ≡ rs ++ left = cc in
     let shown : events_of d2 ≡ f2 = cc in
     let rest : events_of rs ≡ f2 ++ x ∷ second = cc in
-    behind_front d2 more rs left f2 second x tail shown rest
+    after_a_front d2 more rs left f2 second x tail shown rest
 
 module _ (M : Type 0) (step : M → Act → M) (peek : M → Option (ℕ × Bool)) (bytes : (ss : List (Station M)) → AllBytes M step peek ss) where
   pub in_time_sooner : (e m : ℕ) (ss : List (Station M)) → e ≤ m → AllInTime M step peek m ss → AllInTime M step peek e ss
@@ -88,13 +88,13 @@ module _ (M : Type 0) (step : M → Act → M) (peek : M → Option (ℕ × Bool
       one None k = tt
       one (Some t) k = omega (arith, l, k)
 
-  pub first_time : (t : ℕ) (before : List (Station M)) (o : Station M) (behind : List (Station M)) → IsFirst M step peek t before o behind → AllInTime M step peek t (before ++ o ∷ behind)
-  first_time t [] o behind f = (due (port_due o.port) f.due, f.in_time)
+  pub first_time : (t : ℕ) (before : List (Station M)) (o : Station M) (afterwards : List (Station M)) → IsFirst M step peek t before o afterwards → AllInTime M step peek t (before ++ o ∷ afterwards)
+  first_time t [] o afterwards f = (due (port_due o.port) f.due, f.in_time)
     where
       due : (x : Option ℕ) → x ≡ Some t → IsInTime t x
       due None e = tt
       due (Some u) e = let k : u ≡ t = cc in omega (arith, k)
-  first_time t (b ∷ before) o behind f = (one (port_due b.port) f.later.0, first_time t before o behind (record { due = f.due; later = f.later.1; in_time = f.in_time }))
+  first_time t (b ∷ before) o afterwards f = (one (port_due b.port) f.later.0, first_time t before o afterwards (record { due = f.due; later = f.later.1; in_time = f.in_time }))
     where
       one : (x : Option ℕ) → IsLaterDue t x → IsInTime t x
       one None k = tt
@@ -138,7 +138,7 @@ module _ (M : Type 0) (step : M → Act → M) (peek : M → Option (ℕ × Bool
           (let late = k.1 in
           let early : suc (moment_of s) ≤ u = omega (arith, late) in
           let l = soon_met M step peek (b ∷ []) ms is_bus machine (events_of done) ss (suc (moment_of s)) ks done more s (n, p) (in_time_sooner (suc (moment_of s)) u ss early i) (record { linked = linked; steps = e }) refl allowed
-          (behind_drive (moment_of s) d s more w (omega arith) (order done (s ∷ more) e)) (ap is_host w) in
+          (after_a_drive (moment_of s) d s more w (omega arith) (order done (s ∷ more) e)) (ap is_host w) in
           absurd (omega (arith, l)))
     ]
 
@@ -148,8 +148,8 @@ module _ (M : Type 0) (step : M → Act → M) (peek : M → Option (ℕ × Bool
         let p = split_steps done k.before_it k.first k.parts in
         let all : all_steps ≡ p.0 ++ (p.1 ++ more) = e ∙ ap (λ (l : List Step). l ++ more) p.2 ∙ append_assoc p.0 p.1 more in
         let a : Adopted M step peek (b ∷ []) ms k.before_it (suc k.moment) = record { pieces = ks; done = p.0; more = p.1 ++ more; splits = record { linked = linked; steps = all }; events = p.3; allowed = allowed; host = by_first p.1 p.4 (order p.0 (p.1 ++ more) all) } in
-        let n = next_met M step peek (b ∷ []) ms is_bus machine k.before_it k.moment k.before k.o k.behind a (k.from, k.plays) k.due in
-        behind_front p.1 more n.0 n.1.0 k.first k.second x n.1.1.0 p.4 (n.1.1.1 ∙ k.events)
+        let n = next_met M step peek (b ∷ []) ms is_bus machine k.before_it k.moment k.before k.o k.afterwards a (k.from, k.plays) k.due in
+        after_a_front p.1 more n.0 n.1.0 k.first k.second x n.1.1.0 p.4 (n.1.1.1 ∙ k.events)
       where
         by_first : (d2 : List Step) → events_of d2 ≡ k.first → GoesOn (d2 ++ more) → HostFrom (suc k.moment) (d2 ++ more)
         by_first [] h g = late (sym h)
@@ -157,7 +157,7 @@ module _ (M : Type 0) (step : M → Act → M) (peek : M → Option (ℕ × Bool
             let o = k.o.port.party.device in
             let events : drive_events o (shown M step peek k.moment k.o) ≡ s.event ∷ (events_of d2 ++ x ∷ k.second) = k.events ∙ ap (λ (l : List Event). l ++ x ∷ k.second) (sym h) in
             let at_ = at_moment k.moment [] s.event (events_of d2 ++ x ∷ k.second) (drive_events o (shown M step peek k.moment k.o)) (shown_at o k.moment k.o) events in
-            behind_drive k.moment o s (d2 ++ more) (Rattle.cbm_host.proofs.Joined.drive_event M step peek o (shown M step peek k.moment k.o) [] s.event (events_of d2 ++ x ∷ k.second) events) (omega (arith, at_)) g
+            after_a_drive k.moment o s (d2 ++ more) (Rattle.cbm_host.proofs.Joined.drive_event M step peek o (shown M step peek k.moment k.o) [] s.event (events_of d2 ++ x ∷ k.second) events) (omega (arith, at_)) g
 
     pub moment_is : (front : List Event) (x : Event) (k : DriveComes M step peek zero ss0 front x) → x.change.moment ≡ k.moment
     moment_is front x k = at_moment k.moment k.first x k.second (drive_events k.o.port.party.device (shown M step peek k.moment k.o)) (shown_at k.o.port.party.device k.moment k.o) k.events
@@ -181,7 +181,7 @@ module _ (M : Type 0) (step : M → Act → M) (peek : M → Option (ℕ × Bool
             by_first [] none =
                 let same : k.before_it ≡ events_of done = sym (k.parts ∙ ap (λ (l : List Event). k.before_it ++ l) none ∙ append-nil k.before_it) in
                 let m = moment_is (events_of done) x k in
-                no_sooner done s more d k.from u (k.before ++ k.o ∷ k.behind) e w (subst (λ (l : List Event). Plays M step peek zero ss0 l k.from (k.before ++ k.o ∷ k.behind)) same k.plays) (in_time_sooner u k.moment (k.before ++ k.o ∷ k.behind) (omega (arith, l, m)) (first_time k.moment k.before k.o k.behind k.due))
+                no_sooner done s more d k.from u (k.before ++ k.o ∷ k.afterwards) e w (subst (λ (l : List Event). Plays M step peek zero ss0 l k.from (k.before ++ k.o ∷ k.afterwards)) same k.plays) (in_time_sooner u k.moment (k.before ++ k.o ∷ k.afterwards) (omega (arith, l, m)) (first_time k.moment k.before k.o k.afterwards k.due))
             by_first (f ∷ fs) some =
                 let n = is_next done (s ∷ more) x e k (λ none. let no : f ∷ fs ≡ [] = sym some ∙ none in absurd cc) in
                 let same : s ≡ n.0 = (let is = n.2 in cc) in

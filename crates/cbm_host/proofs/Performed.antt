@@ -5,7 +5,7 @@ use Rattle.std.proofs.lemmas.List.Elements.{All-append}
 use Rattle.std.specs.List.{AllZip}
 use Rattle.std.specs.Prelude.{IsErrAnd, MatchBool, MatchResult, slice_index_or}
 use Rattle.cbm_drive.specs.Cables.{Cabled}
-use Rattle.cbm_drive.specs.Players.{at_start, from_behind, pending, IsAfter}
+use Rattle.cbm_drive.specs.Players.{at_start, from_after, pending, IsAfter}
 use Rattle.cbm_drive.specs.Seats.{Seated, IsSeat, IsBusAt, wires_held_by}
 use Rattle.cbm_host.specs.Engines.{Engined, engine_due}
 use Rattle.cbm_host.specs.Performed.{taken_with, last_with, from_last, begins, goes, IsPerforming, IsCutShort, HasAddedUpTo, HasPerformed}
@@ -32,7 +32,7 @@ match_err (Err e) S Q P is h = h e
 
 -- ---- events up to a limit
 
--- none was added; one; and more behind them
+-- none was added; one; and more after them
 pub added_none : (limit : ℕ) (old new : List Event) → new ≡ old → HasAddedUpTo limit old new
 added_none limit old new same = record { made = []; added = same ∙ sym (append-nil old); within = λ k d l. absurd (omega (arith, l)) }
 
@@ -50,11 +50,11 @@ added_more limit old mid new h k = record {
   within = All-append (λ e. e.change.moment ≤ limit) h.made k.made h.within k.within;
 }
 
-last_of : (t : ℕ) (es : List Event) (x : Event) → from_last t (es ++ x ∷ []) ≡ from_behind x.who x.change.moment
+last_of : (t : ℕ) (es : List Event) (x : Event) → from_last t (es ++ x ∷ []) ≡ from_after x.who x.change.moment
 last_of t [] x = refl
-last_of t (e ∷ es) x = last_of (from_behind e.who e.change.moment) es x
+last_of t (e ∷ es) x = last_of (from_after e.who e.change.moment) es x
 
--- Before a call other drives may stand for the stations than behind it: `stood` and `stands`.
+-- Before a call other drives may stand for the stations than after it: `stood` and `stands`.
 module _ (D M : Type 0) (stood stands : D → M → Type 0) (step : M → Act → M) (says : M → Option (ℕ × Bool)) where
   pub performing_on : (e : Engined) (limit : ℕ) (old new : Performing) (b b2 : Cabled D) (first es es2 : List Event) (bytes bytes2 : List ℕ) (last last2 : Bool) (ss : List (Station M)) (x : Event) → (p : IsPerforming D M stood step says e limit old b first es bytes last ss)
       → HasNext D M stands step says old new b2 0 ss p.made x → es2 ≡ es ++ x ∷ [] → bytes2 ≡ bytes ++ taken_with new.byte → last2 ≡ last_with new.byte last → IsPerforming D M stands step says e limit new b2 first es2 bytes2 last2 ss
@@ -82,9 +82,9 @@ module _ (D M : Type 0) (stood stands : D → M → Type 0) (step : M → Act �
         now = a.now;
       }
 
-  pub cut_behind : (e : Engined) (limit : ℕ) (old new : Performing) (b b2 : Cabled D) (first es es2 : List Event) (bytes : List ℕ) (last : Bool) (ss : List (Station M)) (x : Event) → (p : IsPerforming D M stood step says e limit old b first es bytes last ss)
+  pub cut_after_it : (e : Engined) (limit : ℕ) (old new : Performing) (b b2 : Cabled D) (first es es2 : List Event) (bytes : List ℕ) (last : Bool) (ss : List (Station M)) (x : Event) → (p : IsPerforming D M stood step says e limit old b first es bytes last ss)
       → HasNext D M stands step says old new b2 0 ss p.made x → es2 ≡ es ++ x ∷ [] → IsCutShort D M stands step says b2 first es2 ss
-  cut_behind e limit old new b b2 first es es2 bytes last ss x p k more =
+  cut_after_it e limit old new b b2 first es es2 bytes last ss x p k more =
       let a = k.going.after in
       record {
         made = p.made ++ x ∷ [];
@@ -103,7 +103,7 @@ module _ (D M : Type 0) (stood stands : D → M → Type 0) (step : M → Act �
     made = p.made;
     added = p.added;
     going = k.going;
-    behind = old.engine;
+    afterwards = old.engine;
     runs = p.runs;
     goes_on = k.goes_on;
     stops = subst (λ (l : ℕ). StopsPerforming M step says new.player l 0 ss p.made (engine_due new.engine)) (k.limit ∙ p.until) k.stops;

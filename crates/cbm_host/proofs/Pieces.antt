@@ -27,7 +27,7 @@ use Rattle.cbm_host.specs.Stages.{commanding, leaving}
 use Rattle.cbm_iec.specs.Attentions.{untalk}
 use Rattle.cbm_host.specs.Waits.{ready_wait, answer_wait, phase, silence}
 use Rattle.cbm_host.specs.declared.frame.Frame.TheVariants.{Readying, Sent}
-use Rattle.cbm_host.specs.declared.stage.Behind.{Behind}
+use Rattle.cbm_host.specs.declared.stage.Afterwards.{Afterwards}
 use Rattle.cbm_host.specs.declared.stage.Sequence.{Sequence}
 use Rattle.cbm_host.specs.declared.stage.Pulls.TheVariants.{PullAtn}
 use Rattle.cbm_host.specs.declared.stage.Release.TheVariants.{AtnToNobody, DataToTalker}
@@ -62,14 +62,14 @@ module _ (s : Seat) (some : 1 ≤ reaction s) (prompt : reaction s ≤ 60) (left
       (performs_then (host_pulls p.host.clock_low p.host.data_low at a) (drive_pulled s.own.clock_low s.own.data_low at a))
 
   -- a byte in attention, and one to a listener
-  pub command_performed : (p : Point) (byte ready : ℕ) (behind : Behind) → let f = frame_for s.party false byte ready in
-      Performs (framing behind left most (Readying ready byte false)) (steps_of (alone p s) (Command f)) (accepted (end_of f + reaction s) behind (framing behind left most Sent))
-  command_performed p byte ready behind =
+  pub command_performed : (p : Point) (byte ready : ℕ) (afterwards : Afterwards) → let f = frame_for s.party false byte ready in
+      Performs (framing afterwards left most (Readying ready byte false)) (steps_of (alone p s) (Command f)) (accepted (end_of f + reaction s) afterwards (framing afterwards left most Sent))
+  command_performed p byte ready afterwards =
       let f = frame_for s.party false byte ready in
-      let e = framing behind left most (Readying ready byte false) in
-      let e2 = accepted (end_of f + reaction s) behind (framing behind left most Sent) in
+      let e = framing afterwards left most (Readying ready byte false) in
+      let e2 = accepted (end_of f + reaction s) afterwards (framing afterwards left most Sent) in
       subst (λ (zs : List Step). Performs e zs e2) (sym (frame_is (ready + reaction s) s (Attention (byte_in_cells f.cells)) f false (omega arith) (cells_fit false 8 byte f.start)))
-      (frame_performs behind left most s (Attention (byte_in_cells f.cells)) byte ready)
+      (frame_performs afterwards left most s (Attention (byte_in_cells f.cells)) byte ready)
 
   -- ATN's release
   pub listener_performed : (p : Point) (o : Held) (at : ℕ) → let t = seat s.party Listener o in
@@ -103,22 +103,22 @@ module _ (s : Seat) (some : 1 ≤ reaction s) (prompt : reaction s ≤ 60) (left
       (makes refl refl (makes refl refl (makes refl refl (sees (omega (arith, prompt)) (sees tt (ends refl))))))
 
 -- a byte to a listener
-pub byte_performed : (b : Party) (o : Held) (left : List ℕ) (most : ℕ) (p : Point) (eoi : Bool) (byte ready : ℕ) (behind : Behind) → let s = seat b Listener o in let f = frame_for b eoi byte ready in
-    Performs (framing behind left most (Readying ready byte eoi)) (steps_of (alone p s) (Byte eoi f)) (accepted (end_of f + b.reaction) behind (framing behind left most Sent))
-byte_performed b o left most p false byte ready behind =
+pub byte_performed : (b : Party) (o : Held) (left : List ℕ) (most : ℕ) (p : Point) (eoi : Bool) (byte ready : ℕ) (afterwards : Afterwards) → let s = seat b Listener o in let f = frame_for b eoi byte ready in
+    Performs (framing afterwards left most (Readying ready byte eoi)) (steps_of (alone p s) (Byte eoi f)) (accepted (end_of f + b.reaction) afterwards (framing afterwards left most Sent))
+byte_performed b o left most p false byte ready afterwards =
     let s = seat b Listener o in
     let f = frame_for b false byte ready in
-    subst (λ (zs : List Step). Performs (framing behind left most (Readying ready byte false)) zs (accepted (end_of f + b.reaction) behind (framing behind left most Sent)))
-    (sym (frame_is (ready + b.reaction) s (Heard (byte_in_cells f.cells) false) f false (omega arith) (cells_fit false 8 byte f.start))) (frame_performs behind left most s (Heard (byte_in_cells f.cells) false) byte ready)
-byte_performed b o left most p true byte ready behind =
+    subst (λ (zs : List Step). Performs (framing afterwards left most (Readying ready byte false)) zs (accepted (end_of f + b.reaction) afterwards (framing afterwards left most Sent)))
+    (sym (frame_is (ready + b.reaction) s (Heard (byte_in_cells f.cells) false) f false (omega arith) (cells_fit false 8 byte f.start))) (frame_performs afterwards left most s (Heard (byte_in_cells f.cells) false) byte ready)
+byte_performed b o left most p true byte ready afterwards =
     let s = seat b Listener o in
     let f = frame_for b true byte ready in
-    subst (λ (zs : List Step). Performs (framing behind left most (Readying ready byte true)) zs (accepted (end_of f + b.reaction) behind (framing behind left most Sent)))
-    (sym (frame_is (ready + b.reaction) s (Heard (byte_in_cells f.cells) true) f true (omega arith, omega arith) (cells_fit false 8 byte f.start))) (last_performs behind left most s (Heard (byte_in_cells f.cells) true) byte ready)
+    subst (λ (zs : List Step). Performs (framing afterwards left most (Readying ready byte true)) zs (accepted (end_of f + b.reaction) afterwards (framing afterwards left most Sent)))
+    (sym (frame_is (ready + b.reaction) s (Heard (byte_in_cells f.cells) true) f true (omega arith, omega arith) (cells_fit false 8 byte f.start))) (last_performs afterwards left most s (Heard (byte_in_cells f.cells) true) byte ready)
 
 -- ---- nothing to say
 
--- the host lets go of DATA behind the talker, and not later than a talker at the profile's pace has it
+-- the host lets go of DATA after the talker, and not later than a talker at the profile's pace has it
 pub hushed_from : (e : Pace) (r clock : ℕ) → r ≤ 60 → silent_at e (clock + r) + 1 ≤ hushed_for e r clock
 hushed_from Profile r clock prompt = omega (arith, prompt)
 hushed_from Kernal r clock prompt = omega arith

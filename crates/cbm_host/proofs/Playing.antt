@@ -1,4 +1,4 @@
--- A request goes on piece by piece: each fits the point behind the one before, and the host performs its part of it.
+-- A request goes on piece by piece: each fits the point after the one before, and the host performs its part of it.
 use Rattle.std.proofs.Common.{◌≡◌, ℕ, zero, suc, ◌+◌, ◌*◌, ◌/◌, ◌%◌, ◌≤◌, ◌<◌, Bool, true, false, not, List, [], ◌∷◌, ◌++◌, append_assoc, append-nil, Option, None, ap, sym, ◌∙◌, subst, arith, refl}
 use Rattle.std.proofs.Math.Nat.{max-le}
 use Rattle.std.proofs.lemmas.Bool.{ne_eqb, le-leb, lt-leb, eq-eqb, eqb-true, eqb-false}
@@ -32,8 +32,8 @@ use Rattle.cbm_host.specs.Stages as stages
 use Rattle.cbm_host.specs.Waits.{ready_wait, turn_wait, phase}
 use Rattle.cbm_host.specs.declared.commands.Commands.TheVariants.{One}
 use Rattle.cbm_host.specs.declared.frame.Frame.TheVariants.{Readying, Sent}
-use Rattle.cbm_host.specs.declared.stage.Behind.{Behind}
-use Rattle.cbm_host.specs.declared.stage.Behind.TheVariants.{Commanded}
+use Rattle.cbm_host.specs.declared.stage.Afterwards.{Afterwards}
+use Rattle.cbm_host.specs.declared.stage.Afterwards.TheVariants.{Commanded}
 use Rattle.cbm_host.specs.declared.stage.Errand.TheVariants.{Leaves}
 use Rattle.cbm_host.specs.declared.stage.Pulls.TheVariants.{PullAtn}
 use Rattle.cbm_host.specs.declared.stage.Sequence.{Sequence}
@@ -94,12 +94,12 @@ one_gap Kernal s = max-le (omega arith) (omega arith)
 pub gap_enough : (b : Party) (role : Role) (own : Held) → gap (seat b role own ∷ []) (seat b role own ∷ []) ≤ 20
 gap_enough b role own = one_gap (bus_pace (seat b role own ∷ [])) (seat b role own)
 
--- ---- one piece, and those behind it
+-- ---- one piece, and those after it
 
 pub go_on : {b : Party} {p : Point} {e : Engined} (k : Piece) (ks : List Piece) (limit : ℕ) (e1 : Engined) → PieceFits p k → Performs e (piece_steps p k) e1 → IsPlayed b (point_after p k) e1 ks limit → IsPlayed b p e (k ∷ ks) limit
 go_on {p} k ks limit e1 fits here more = record {
   linked = (fits, more.linked);
-  behind = more.behind;
+  afterwards = more.afterwards;
   until = more.until;
   ending = more.ending;
   performs = performs_then here more.performs;
@@ -131,15 +131,15 @@ attending b role some pulled accepted since = point b role (lines false true) (C
 
 module _ (b : Party) (some : 1 ≤ b.reaction) (prompt : b.reaction ≤ 60) (left : List ℕ) (most : ℕ) where
   -- a byte of an attention
-  pub command_then : (role : Role) (first : Bool) (pulled accept since t byte limit : ℕ) (behind : Behind) (ks : List Piece) → byte < 256 → pulled ≤ t → accept ≤ t
-      → IsPlayed b (attending b (role_after b.device byte role) true pulled (accept_for b false byte (t + ready_wait)) since) (accepted (accept_for b false byte (t + ready_wait)) behind (framing behind left most Sent)) ks limit
-      → IsPlayed b (attending b role first pulled accept since) (framing behind left most (Readying (t + ready_wait) byte false)) (Full (Command (frame_for b false byte (t + ready_wait))) ∷ ks) limit
-  command_then role first pulled accept since t byte limit behind ks small p a more =
+  pub command_then : (role : Role) (first : Bool) (pulled accept since t byte limit : ℕ) (afterwards : Afterwards) (ks : List Piece) → byte < 256 → pulled ≤ t → accept ≤ t
+      → IsPlayed b (attending b (role_after b.device byte role) true pulled (accept_for b false byte (t + ready_wait)) since) (accepted (accept_for b false byte (t + ready_wait)) afterwards (framing afterwards left most Sent)) ks limit
+      → IsPlayed b (attending b role first pulled accept since) (framing afterwards left most (Readying (t + ready_wait) byte false)) (Full (Command (frame_for b false byte (t + ready_wait))) ∷ ks) limit
+  command_then role first pulled accept since t byte limit afterwards ks small p a more =
       let s = seat b role (lines false true) in
       let f = frame_for b false byte (t + ready_wait) in
-      let e1 = accepted (accept_for b false byte (t + ready_wait)) behind (framing behind left most Sent) in
+      let e1 = accepted (accept_for b false byte (t + ready_wait)) afterwards (framing afterwards left most Sent) in
       go_on (Full (Command f)) ks limit e1 (commanding, omega (arith, p), omega (arith, a), frame_fits s false byte (t + ready_wait))
-      (command_performed s some prompt left most (attending b role first pulled accept since) byte (t + ready_wait) behind)
+      (command_performed s some prompt left most (attending b role first pulled accept since) byte (t + ready_wait) afterwards)
       (subst (λ (n : ℕ). IsPlayed b (attending b (role_after b.device n role) true pulled (accept_for b false byte (t + ready_wait)) since) e1 ks limit) (sym (frame_byte b false byte (t + ready_wait) small)) more)
 
   -- ATN's release to nobody, and the end
@@ -149,7 +149,7 @@ module _ (b : Party) (some : 1 ≤ b.reaction) (prompt : b.reaction ≤ 60) (lef
       subst (λ (x : Role). IsPlayed b (attending b x true pulled accept since) (at_stage left most (stages.releasing accept Leaves)) (Full (ToNobody (accept + turn_wait) (accept + turn_wait)) ∷ []) limit) (sym absent)
       (record {
         linked = ((record { commanding = refl; listener = refl; talker = refl; gap = (let few = gap_enough b Absent (lines false true) in omega (arith, few)) }, omega arith), tt);
-        behind = at_stage left most (Ending (accept + turn_wait + ready_wait));
+        afterwards = at_stage left most (Ending (accept + turn_wait + ready_wait));
         until = accept + turn_wait + ready_wait;
         ending = refl;
         performs = subst (λ (l : List Step). Performs (at_stage left most (stages.releasing accept Leaves)) l (at_stage left most (Ending (accept + turn_wait + ready_wait)))) (sym (append-nil _))

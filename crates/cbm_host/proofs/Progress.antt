@@ -17,9 +17,9 @@ use Rattle.cbm_iec.specs.declared.lines.Line.TheVariants.{Atn, Clock, Data}
 use Rattle.cbm_iec.specs.declared.lines.Way.{Way}
 use Rattle.cbm_iec.specs.declared.lines.Way.TheVariants.{Pull, Free}
 use Rattle.cbm_host.specs.Engines.{Engined, at_stage, sending_on, accepted, took, made_at, engine_made, heard_data, heard, seen_at, engine_seen, engine_passed, engine_due}
-use Rattle.cbm_host.specs.Progress.{bits_left, frame_left, sends_left, take_left, takes_left, commands_left, errand_left, behind_left, stage_left, engine_left, more_than, left_of, FallsBy}
-use Rattle.cbm_host.specs.Performers.{Performing, engine_behind}
-use Rattle.cbm_host.specs.Sending.{starts_low, behind_bit, bits_to_send, next_bit, frame_change, frame_made, frame_freed, frame_pulled, frame_lined}
+use Rattle.cbm_host.specs.Progress.{bits_left, frame_left, sends_left, take_left, takes_left, commands_left, errand_left, afterwards_left, stage_left, engine_left, more_than, left_of, FallsBy}
+use Rattle.cbm_host.specs.Performers.{Performing, engine_after}
+use Rattle.cbm_host.specs.Sending.{starts_low, after_bit, bits_to_send, next_bit, frame_change, frame_made, frame_freed, frame_pulled, frame_lined}
 use Rattle.cbm_host.specs.Stages.{commanding, leaving, due_of, take_due, stage_due, turned, hushed, taking_seen, stage_passed}
 use Rattle.cbm_host.specs.Taking.{take_lined, came_bit}
 use Rattle.cbm_host.specs.declared.commands.Commands.{Commands}
@@ -28,8 +28,8 @@ use Rattle.cbm_host.specs.declared.due.Due.TheVariants.{Makes, Waits}
 use Rattle.cbm_host.specs.declared.frame.Bits.{Bits}
 use Rattle.cbm_host.specs.declared.frame.Frame.{Frame}
 use Rattle.cbm_host.specs.declared.frame.Frame.TheVariants.{Readying, Ready, EoiSent, EoiHeard, Starting, Setting, Showing, Hiding, Clearing, Sent}
-use Rattle.cbm_host.specs.declared.stage.Behind.{Behind}
-use Rattle.cbm_host.specs.declared.stage.Behind.TheVariants.{Commanded, Listened}
+use Rattle.cbm_host.specs.declared.stage.Afterwards.{Afterwards}
+use Rattle.cbm_host.specs.declared.stage.Afterwards.TheVariants.{Commanded, Listened}
 use Rattle.cbm_host.specs.declared.stage.Errand.{Errand}
 use Rattle.cbm_host.specs.declared.stage.Errand.TheVariants.{Sends, Takes, Leaves}
 use Rattle.cbm_host.specs.declared.stage.Pulls.TheVariants.{PullAtn, PullClock, FreeData}
@@ -58,7 +58,7 @@ frame_less t (EoiHeard byte) c e = absurd cc
 frame_less t (Starting at byte) c e = let k = bit_least t (bits_to_send byte) in omega (arith, k)
 frame_less t (Setting at b) c e = omega arith
 frame_less t (Showing at b) c e = omega arith
-frame_less t (Hiding at b) c e = let k = bit_least t (behind_bit b) in omega (arith, k)
+frame_less t (Hiding at b) c e = let k = bit_least t (after_bit b) in omega (arith, k)
 frame_less t (Clearing at) c e = omega arith
 frame_less t Sent c e = absurd cc
 
@@ -152,7 +152,7 @@ commanded_is t (One a) errand e = omega arith
 commanded_is t (Two a b) errand e = omega arith
 commanded_is t (Three a b c) errand e = omega arith
 
--- behind a change of the host that was due
+-- after a change of the host that was due
 pub made_less : (t : ℕ) (e : Engined) (c : Change) → engine_due e ≡ Makes c → engine_left (engine_made t e) < engine_left e
 made_less t e c d = by_stage e.stage d
   where
@@ -163,9 +163,9 @@ made_less t e c d = by_stage e.stage d
     by_stage (Attending at (PullClock true) a) d = omega arith
     by_stage (Attending at (PullClock false) a) d = let k = commanded_is t a.commands a.errand e in omega (arith, k)
     by_stage (Attending at FreeData a) d = let k = commanded_is t a.commands a.errand e in omega (arith, k)
-    by_stage (Framing frame behind) d = by_change (frame_change frame) refl d
+    by_stage (Framing frame afterwards) d = by_change (frame_change frame) refl d
       where
-        by_change : (o : Option Change) → frame_change frame ≡ o → due_of o ≡ Makes c → engine_left (made_at t (Framing frame behind) e) < stage_left (Framing frame behind) e.left e.most
+        by_change : (o : Option Change) → frame_change frame ≡ o → due_of o ≡ Makes c → engine_left (made_at t (Framing frame afterwards) e) < stage_left (Framing frame afterwards) e.left e.most
         by_change None f d = absurd cc
         by_change (Some x) f d = let k = frame_less t frame x f in omega (arith, k)
     by_stage (Calling at) d = let k = sent_least t Rattle.cbm_host.specs.Waits.ready_wait e.most e.left in omega (arith, k)
@@ -180,47 +180,47 @@ made_less t e c d = by_stage e.stage d
     by_stage (Ending until) d = absurd cc
     by_stage (Done at) d = absurd cc
 
-accepted_least : (t : ℕ) (behind : Behind) (e : Engined) → engine_left (accepted t behind e) ≤ behind_left behind e.left e.most
+accepted_least : (t : ℕ) (afterwards : Afterwards) (e : Engined) → engine_left (accepted t afterwards e) ≤ afterwards_left afterwards e.left e.most
 accepted_least t (Commanded (Some commands) errand) e = let k = commanded_is t commands errand e in omega (arith, k)
 accepted_least t (Commanded None Sends) e = omega arith
 accepted_least t (Commanded None Takes) e = omega arith
 accepted_least t (Commanded None Leaves) e = omega arith
 accepted_least t Listened e = sent_least t Rattle.cbm_host.specs.Waits.turn_wait e.most e.left
 
--- behind a change of the drive
+-- after a change of the drive
 pub seen_least : (c : Change) (e : Engined) → engine_left (engine_seen c e) ≤ engine_left e
 seen_least c e = by_stage e.stage
   where
-    in_frame : (line : Line) (way : Way) (frame : Frame) (behind : Behind) → stage_left (Framing (frame_lined c.moment line way frame) behind) e.left e.most ≤ stage_left (Framing frame behind) e.left e.most
-    in_frame line way frame behind = let k = lined_least c.moment line way frame in omega (arith, k)
+    in_frame : (line : Line) (way : Way) (frame : Frame) (afterwards : Afterwards) → stage_left (Framing (frame_lined c.moment line way frame) afterwards) e.left e.most ≤ stage_left (Framing frame afterwards) e.left e.most
+    in_frame line way frame afterwards = let k = lined_least c.moment line way frame in omega (arith, k)
 
-    by_frame : (frame : Frame) (behind : Behind) → engine_left (heard c c.line frame behind e) ≤ stage_left (Framing frame behind) e.left e.most
-    by_frame frame behind = by_line c.line refl
+    by_frame : (frame : Frame) (afterwards : Afterwards) → engine_left (heard c c.line frame afterwards e) ≤ stage_left (Framing frame afterwards) e.left e.most
+    by_frame frame afterwards = by_line c.line refl
       where
-        pulled : (f : Frame) → engine_left (heard_data c Pull f behind e) ≤ stage_left (Framing f behind) e.left e.most
-        pulled Sent = let k = accepted_least c.moment behind e in omega (arith, k)
-        pulled (Readying at byte eoi) = in_frame c.line c.way (Readying at byte eoi) behind
-        pulled (Ready byte eoi) = in_frame c.line c.way (Ready byte eoi) behind
-        pulled (EoiSent byte) = in_frame c.line c.way (EoiSent byte) behind
-        pulled (EoiHeard byte) = in_frame c.line c.way (EoiHeard byte) behind
-        pulled (Starting at byte) = in_frame c.line c.way (Starting at byte) behind
-        pulled (Setting at b) = in_frame c.line c.way (Setting at b) behind
-        pulled (Showing at b) = in_frame c.line c.way (Showing at b) behind
-        pulled (Hiding at b) = in_frame c.line c.way (Hiding at b) behind
-        pulled (Clearing at) = in_frame c.line c.way (Clearing at) behind
+        pulled : (f : Frame) → engine_left (heard_data c Pull f afterwards e) ≤ stage_left (Framing f afterwards) e.left e.most
+        pulled Sent = let k = accepted_least c.moment afterwards e in omega (arith, k)
+        pulled (Readying at byte eoi) = in_frame c.line c.way (Readying at byte eoi) afterwards
+        pulled (Ready byte eoi) = in_frame c.line c.way (Ready byte eoi) afterwards
+        pulled (EoiSent byte) = in_frame c.line c.way (EoiSent byte) afterwards
+        pulled (EoiHeard byte) = in_frame c.line c.way (EoiHeard byte) afterwards
+        pulled (Starting at byte) = in_frame c.line c.way (Starting at byte) afterwards
+        pulled (Setting at b) = in_frame c.line c.way (Setting at b) afterwards
+        pulled (Showing at b) = in_frame c.line c.way (Showing at b) afterwards
+        pulled (Hiding at b) = in_frame c.line c.way (Hiding at b) afterwards
+        pulled (Clearing at) = in_frame c.line c.way (Clearing at) afterwards
 
-        by_way : (way : Way) → engine_left (heard_data c way frame behind e) ≤ stage_left (Framing frame behind) e.left e.most
+        by_way : (way : Way) → engine_left (heard_data c way frame afterwards e) ≤ stage_left (Framing frame afterwards) e.left e.most
         by_way Pull = pulled frame
-        by_way Free = in_frame c.line c.way frame behind
+        by_way Free = in_frame c.line c.way frame afterwards
 
-        by_line : (line : Line) → c.line ≡ line → engine_left (heard c line frame behind e) ≤ stage_left (Framing frame behind) e.left e.most
+        by_line : (line : Line) → c.line ≡ line → engine_left (heard c line frame afterwards e) ≤ stage_left (Framing frame afterwards) e.left e.most
         by_line Data same = by_way c.way
-        by_line Atn same = in_frame c.line c.way frame behind
-        by_line Clock same = in_frame c.line c.way frame behind
+        by_line Atn same = in_frame c.line c.way frame afterwards
+        by_line Clock same = in_frame c.line c.way frame afterwards
 
     by_stage : (s : Stage) → engine_left (seen_at c s e) ≤ stage_left s e.left e.most
     by_stage (Attending at p a) = omega arith
-    by_stage (Framing frame behind) = by_frame frame behind
+    by_stage (Framing frame afterwards) = by_frame frame afterwards
     by_stage (Calling at) = omega arith
     by_stage (Releasing at r) = omega arith
     by_stage (Turning until) = in_turn c.line c.way
@@ -250,7 +250,7 @@ seen_least c e = by_stage e.stage
     by_stage (Ending until) = omega arith
     by_stage (Done at) = omega arith
 
--- behind a wait, where the host goes on by itself
+-- after a wait, where the host goes on by itself
 no_wait : (o : Option Change) (until : ℕ) → due_of o ≡ Waits until → ⊥
 no_wait None until d = cc
 no_wait (Some c) until d = cc
@@ -260,7 +260,7 @@ passed_less e until c d after = by_stage e.stage d after
   where
     by_stage : (s : Stage) → stage_due s ≡ Waits until → stage_due (stage_passed s) ≡ Makes c → stage_left (stage_passed s) e.left e.most < stage_left s e.left e.most
     by_stage (Attending at p a) d after = absurd cc
-    by_stage (Framing frame behind) d after = absurd (no_wait (frame_change frame) until d)
+    by_stage (Framing frame afterwards) d after = absurd (no_wait (frame_change frame) until d)
     by_stage (Calling at) d after = absurd cc
     by_stage (Releasing at r) d after = absurd cc
     by_stage (Turning u) d after = omega arith
@@ -324,16 +324,16 @@ less_second a b c d k first second = let m = times_least a c k first in omega (a
 
 module _ {D : Type 0} where
   pub falls_told : (w : Who) (change : Change) (old mid new : Performing) (b c : Cabled D) → length c.drives ≡ length b.drives → FallsBy w old mid b c → mid.limit ≡ old.limit
-      → new.player ≡ mid.player → new.limit ≡ mid.limit → new.engine ≡ engine_behind w change mid.engine → left_of new c < left_of old b
+      → new.player ≡ mid.player → new.limit ≡ mid.limit → new.engine ≡ engine_after w change mid.engine → left_of new c < left_of old b
   falls_told w change old mid new b c many falls same player limit engine =
       subst (λ (e : Engined). engine_left e * more_than (new.limit + 1) (length c.drives) + at_most (new.limit + 1) new.player.second c.drives < left_of old b) (sym engine)
-      (subst (λ (x : Rattle.cbm_drive.specs.Players.Turns). engine_left (engine_behind w change mid.engine) * more_than (new.limit + 1) (length c.drives) + at_most (new.limit + 1) x.second c.drives < left_of old b) (sym player)
-      (subst (λ (l : ℕ). engine_left (engine_behind w change mid.engine) * more_than (l + 1) (length c.drives) + at_most (l + 1) mid.player.second c.drives < left_of old b) (sym (limit ∙ same)) (subst (λ (n : ℕ). engine_left (engine_behind w change mid.engine) * more_than (old.limit + 1) n + at_most (old.limit + 1) mid.player.second c.drives < left_of old b) (sym many) (by_who w falls))))
+      (subst (λ (x : Rattle.cbm_drive.specs.Players.Turns). engine_left (engine_after w change mid.engine) * more_than (new.limit + 1) (length c.drives) + at_most (new.limit + 1) x.second c.drives < left_of old b) (sym player)
+      (subst (λ (l : ℕ). engine_left (engine_after w change mid.engine) * more_than (l + 1) (length c.drives) + at_most (l + 1) mid.player.second c.drives < left_of old b) (sym (limit ∙ same)) (subst (λ (n : ℕ). engine_left (engine_after w change mid.engine) * more_than (old.limit + 1) n + at_most (old.limit + 1) mid.player.second c.drives < left_of old b) (sym many) (by_who w falls))))
     where
       small : at_most (old.limit + 1) mid.player.second c.drives < more_than (old.limit + 1) (length b.drives)
       small = subst (λ (n : ℕ). at_most (old.limit + 1) mid.player.second c.drives < more_than (old.limit + 1) n) many (most_few (old.limit + 1) mid.player.second c.drives)
 
-      by_who : (w : Who) → FallsBy w old mid b c → engine_left (engine_behind w change mid.engine) * more_than (old.limit + 1) (length b.drives) + at_most (old.limit + 1) mid.player.second c.drives < left_of old b
+      by_who : (w : Who) → FallsBy w old mid b c → engine_left (engine_after w change mid.engine) * more_than (old.limit + 1) (length b.drives) + at_most (old.limit + 1) mid.player.second c.drives < left_of old b
       by_who Host f =
           let less = made_less change.moment mid.engine f.0 f.1 in
           let most = f.2 in
@@ -360,7 +360,7 @@ module _ {D : Type 0} where
             (subst (λ (x : Option Event). at_most (mid.limit + 1) new.player.second c.drives < at_most (mid.limit + 1) x b.drives) second (less tt)),
       )
 
-  -- and one of them behind a wait
+  -- and one of them after a wait
   pub falls_waited : (w : Who) (old mid new : Performing) (b m c : Cabled D) (until : ℕ) (change : Change) → engine_due old.engine ≡ Waits until → mid.engine ≡ engine_passed old.engine → engine_due mid.engine ≡ Makes change → FallsBy w mid new m c → FallsBy w old new b c
   falls_waited w old mid new b m c until change waits passed due falls = by_who w falls
     where

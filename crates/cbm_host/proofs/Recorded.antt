@@ -1,4 +1,4 @@
--- Calls of the performer on a drive that a machine plays back: what stood before a call plays back what the drive showed in it, and what stands behind it what comes later.
+-- Calls of the performer on a drive that a machine plays back: what stood before a call plays back what the drive showed in it, and what stands after it what comes later.
 use Rattle.std.proofs.Common.{◌≡◌, ℕ, ◌+◌, ◌≤◌, inr, min, Bool, List, [], ◌++◌, Option, Some, None, refl, sym, ap, ◌∙◌, subst, arith}
 use Rattle.std.specs.Prelude.{IfSome, MatchOption}
 use Rattle.cbm_iec.specs.declared.machine.Act.{Act}
@@ -7,7 +7,7 @@ use Rattle.cbm_iec.specs.declared.lines.Change.{Change}
 use Rattle.cbm_session.specs.Playing.{Station}
 use Rattle.cbm_drive.specs.Cables.{Cabled}
 use Rattle.cbm_drive.specs.Players.{Turns, IsWaitingFrom, IsTurnOf, IsAfter, HasGiven, IsStill}
-use Rattle.cbm_host.proofs.Going.{still_quiet, given_come, heard_none, handed_going, never_still, come_behind, held_back, unmoved_none}
+use Rattle.cbm_host.proofs.Going.{still_quiet, given_come, heard_none, handed_going, never_still, come_after, held_back, unmoved_none}
 use Rattle.cbm_host.specs.Engines.{engine_due, engine_passed}
 use Rattle.cbm_host.specs.Performers.{Performing, IsHandedOn, IsAsked, IsQuietUntil, IsGoing, IsHeldBack, IsUnmoved, HasStopped, HasCome}
 use Rattle.cbm_host.specs.declared.due.Due.TheVariants.{Makes, Waits, Hears}
@@ -59,7 +59,7 @@ module _ (A D M : Type 0) (back : List A → D → M → Type 0) (step : M → A
 
       by_answer : (r : Option Event) → MatchOption r ((trail ≡ []) × IsStill D M (back later) step says mid.player new.player b b2 change.moment going.after.stations) (HasCome D M (back later) step says mid new b2 n ss es) → MatchOption r ((trail ≡ []) × IsHeldBack D M (back later) step says old new b b2 change) (HasCome D M (back later) step says old new b2 n ss es)
       by_answer None k = absurd (never_still D M (back (trail ++ later)) step says mid new b change n ss es (waits g.handed) ahead going k.1.second k.1.waiting k.1.same)
-      by_answer (Some e) k = come_behind D M (back later) step says old mid new b2 n ss es e engine limit k
+      by_answer (Some e) k = come_after D M (back later) step says old mid new b2 n ss es e engine limit k
 
   pub made_or_held_back : (trail later : List A) (old new : Performing) (b b2 : Cabled D) (n : ℕ) (ss : List (Station M)) (es : List Event) (change : Change) (r : Option Event) → engine_due old.engine ≡ Makes change → new.engine ≡ old.engine → new.limit ≡ old.limit
       → MatchOption r ((trail ≡ []) × IsHeldBack D M (back later) step says old new b b2 change) (HasCome D M (back later) step says old new b2 n ss es) → IsGoing D M (back (trail ++ later)) step says old b n ss es

@@ -1,4 +1,4 @@
--- What was shown in two calls, one behind the other, and later.
+-- What was shown in two calls, one after the other, and later.
 use Rattle.std.proofs.Common.{ℕ, Bool, List, ◌++◌, subst}
 use Rattle.std.proofs.lemmas.List.{append_assoc}
 use Rattle.cbm_drive.specs.Cables.{Cabled}

@@ -22,7 +22,7 @@ use Rattle.cbm_host.specs.Stages as stages
 use Rattle.cbm_host.specs.Waits.{ready_wait, turn_wait, phase}
 use Rattle.cbm_host.specs.declared.commands.Commands.TheVariants.{One, Two, Three}
 use Rattle.cbm_host.specs.declared.request.Request.TheVariants.{Open, Put, Fill, Get, Close, Status}
-use Rattle.cbm_host.specs.declared.stage.Behind.TheVariants.{Commanded}
+use Rattle.cbm_host.specs.declared.stage.Afterwards.TheVariants.{Commanded}
 use Rattle.cbm_host.specs.declared.stage.Errand.{Errand}
 use Rattle.cbm_host.specs.declared.stage.Errand.TheVariants.{Sends, Takes, Leaves}
 use Rattle.cbm_host.specs.declared.stage.Pulls.TheVariants.{PullAtn}
@@ -52,12 +52,12 @@ module _ (b : Party) (drive : IsDrive b) (start : ℕ) (left : List ℕ) (most :
       let c1 = c.1 in
       (omega (arith, a0), omega (arith, c0), omega (arith, a1, c1))
 
-  abbrev behind_two : ℕ → ℕ → Role
-  behind_two one two = role_after d two (role_after d one Absent)
+  abbrev role_after_two : ℕ → ℕ → Role
+  role_after_two one two = role_after d two (role_after d one Absent)
 
   -- ATN's pull and two bytes
   two_then : (one two limit : ℕ) (errand : Errand) (ks : List Piece) → one < 256 → two < 256
-      → IsPlayed b (attending b (behind_two one two) true start (second_accept one two) start) (at_stage left most (stages.releasing (second_accept one two) errand)) ks limit
+      → IsPlayed b (attending b (role_after_two one two) true start (second_accept one two) start) (at_stage left most (stages.releasing (second_accept one two) errand)) ks limit
       → IsPlayed b (rest (b ∷ [])) (at_stage left most (Attending start (PullAtn false false) (record { commands = Two one two; errand = errand }))) (attention b start (one ∷ two ∷ []) ++ ks) limit
   two_then one two limit errand ks small small2 more =
       let soon = second_soon one two in
@@ -74,7 +74,7 @@ module _ (b : Party) (drive : IsDrive b) (start : ℕ) (left : List ℕ) (most :
       let two = second_soon (listen + d) second in
       let two_soon = two.2 in
       let role = ap (λ (x : Role). role_after d second x) (listens d) ∙ still_listens d second few high in
-      two_then (listen + d) second limit Sends _ (omega (arith, few)) small (listener_then b drive.some drive.prompt most (behind_two (listen + d) second) start (second_accept (listen + d) second) start limit left role (omega (arith, two_soon, soon)))
+      two_then (listen + d) second limit Sends _ (omega (arith, few)) small (listener_then b drive.some drive.prompt most (role_after_two (listen + d) second) start (second_accept (listen + d) second) start limit left role (omega (arith, two_soon, soon)))
 
   -- a request that takes
   pub takes : (channel limit : ℕ) (said : Said) → channel ≤ 15 → IsSaidFor most said → start + 5000 + byte_time b.pace * said_count said ≤ limit
@@ -91,21 +91,21 @@ module _ (b : Party) (drive : IsDrive b) (start : ℕ) (left : List ℕ) (most :
       two_soon : accept ≤ start + 1800
       two_soon = (second_soon (talk + d) (data_on + channel)).2
 
-      role : behind_two (talk + d) (data_on + channel) ≡ Talker
+      role : role_after_two (talk + d) (data_on + channel) ≡ Talker
       role = ap (λ (x : Role). role_after d (data_on + channel) x) (talks d) ∙ still_talks d (data_on + channel) few (omega arith)
 
       by_said : (said : Said) → IsSaidFor most said → start + 5000 + byte_time b.pace * said_count said ≤ limit
-          → IsPlayed b (attending b (behind_two (talk + d) (data_on + channel)) true start accept start) (at_stage left most (stages.releasing accept Takes)) (turnaround_pieces b (accept + turn_wait) said) limit
-      by_said Mute wanted soon = nothing_then b drive.some drive.prompt (behind_two (talk + d) (data_on + channel)) left most start accept start limit role few (let t = two_soon in omega (arith, t, soon))
+          → IsPlayed b (attending b (role_after_two (talk + d) (data_on + channel)) true start accept start) (at_stage left most (stages.releasing accept Takes)) (turnaround_pieces b (accept + turn_wait) said) limit
+      by_said Mute wanted soon = nothing_then b drive.some drive.prompt (role_after_two (talk + d) (data_on + channel)) left most start accept start limit role few (let t = two_soon in omega (arith, t, soon))
       by_said (UpToLast first more) wanted soon =
           let t = two_soon in
           let p = drive.prompt in
-          talker_then b drive.some drive.prompt (behind_two (talk + d) (data_on + channel)) left most start accept start limit _ role
+          talker_then b drive.some drive.prompt (role_after_two (talk + d) (data_on + channel)) left most start accept start limit _ role
           (up_to_last_then b drive.some drive.prompt left most start accept (accept + turn_wait + phase + r + 1) (accept + turn_wait + phase + r + lead) first limit more wanted few (omega arith) (omega arith) (omega (arith, t, p, soon)))
       by_said (UpToMost first more next last) wanted soon =
           let t = two_soon in
           let p = drive.prompt in
-          talker_then b drive.some drive.prompt (behind_two (talk + d) (data_on + channel)) left most start accept start limit _ role
+          talker_then b drive.some drive.prompt (role_after_two (talk + d) (data_on + channel)) left most start accept start limit _ role
           (as_many_then b drive.some drive.prompt left most start accept (accept + turn_wait + phase + r + 1) next (accept + turn_wait + phase + r + lead) first limit last more wanted few (omega arith) (omega (arith, t, p, soon)))
 
   -- CLOSE
@@ -125,8 +125,8 @@ module _ (b : Party) (drive : IsDrive b) (start : ℕ) (left : List ℕ) (most :
       pull_then b drive.some drive.prompt left most (rest (b ∷ [])) (seat b Absent (lines false false)) (record { commands = Three one two unlisten; errand = Leaves }) start limit _ refl (tt, omega arith)
       (command_then b drive.some drive.prompt left most Absent false start 0 start start one limit (Commanded (Some (Two two unlisten)) Leaves) _ (omega (arith, few)) (omega arith) (omega arith)
       (command_then b drive.some drive.prompt left most (role_after d one Absent) true start (first_accept one) start (first_accept one) two limit (Commanded (Some (One unlisten)) Leaves) _ (omega (arith, few_channels)) early (omega arith)
-      (command_then b drive.some drive.prompt left most (behind_two one two) true start (second_accept one two) start (second_accept one two) unlisten limit (Commanded None Leaves) _ (omega arith) (omega (arith, early, later)) (omega arith)
-      (nobody_then b drive.some drive.prompt left most (role_after d unlisten (behind_two one two)) start third start limit role (omega (arith, two_soon, third_soon, soon))))))
+      (command_then b drive.some drive.prompt left most (role_after_two one two) true start (second_accept one two) start (second_accept one two) unlisten limit (Commanded None Leaves) _ (omega arith) (omega (arith, early, later)) (omega arith)
+      (nobody_then b drive.some drive.prompt left most (role_after d unlisten (role_after_two one two)) start third start limit role (omega (arith, two_soon, third_soon, soon))))))
 
 -- so long are the greatest request of bytes to the drive, and of bytes of it
 sent_long : (p : Pace) (n : ℕ) → n ≤ most_bytes → 2700 + 900 * n ≤ longest p

@@ -264,7 +264,7 @@ module _ (M : Type 0) (step : M → Act → M) (peek : M → Option (ℕ × Bool
       (ap (λ (l : List Act). Released ∷ l) (one_act (Drive d) Silent)) (tt, (says, refl))
       (leave_counts (point b Talker (lines false false) Open (lines false false) pulled Rattle.std.proofs.Common.None accept freed) (seat b Talker (lines false false)) (freed + answer_wait) untalk (step (step m Released) Silent) refl (omega arith) (untalked d few)))
 
-  -- ---- what the machine says behind ATN's release
+  -- ---- what the machine says after ATN's release
 
   abbrev pub IsSaid : M → Said → Type 0
   IsSaid m Mute = peek m ≡ None

@@ -17,7 +17,7 @@ use Rattle.cbm_host.specs.Framed.{start_for, frame_for}
 use Rattle.cbm_host.specs.Requests.{accept_for, bytes_sent, IsPlayed}
 use Rattle.cbm_host.specs.Stages as stages
 use Rattle.cbm_host.specs.Waits.{ready_wait, turn_wait}
-use Rattle.cbm_host.specs.declared.stage.Behind.TheVariants.{Listened}
+use Rattle.cbm_host.specs.declared.stage.Afterwards.TheVariants.{Listened}
 use Rattle.cbm_host.specs.declared.stage.Errand.TheVariants.{Sends}
 
 -- with a listener, ATN free

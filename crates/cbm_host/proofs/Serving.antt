@@ -20,7 +20,7 @@ use Rattle.cbm_drive.specs.declared.secondary.Secondary.{Secondary}
 use Rattle.cbm_drive.specs.declared.secondary.Secondary.TheVariants.{Data, Close as CloseOf, Open as OpenOf}
 use Rattle.cbm_file.specs.Waiting.{next_shown}
 use Rattle.cbm_talk.proofs.Spoken.{says_from, none_said}
-use Rattle.cbm_host.proofs.Statuses.{left_behind, enough, left_short}
+use Rattle.cbm_host.proofs.Statuses.{left_after_it, enough, left_short}
 use Rattle.cbm_iec.specs.Attentions.{listen as listen_to, unlisten, talk as talk_to, untalk, data_on, open_on}
 use Rattle.cbm_host.specs.CarriedOut.{acts_heard, spoken, said, acts_called, left_by, acts_carried_out, IsTakenUpTo, AreTakenBy, SaysOn, IsShort}
 use Rattle.cbm_host.specs.Engines.{channel_of, most_of}
@@ -113,7 +113,7 @@ module _ (pace : Pace) where
   abbrev waits : ℕ → Role → Machine → Desk Machine
   waits d role m = record { dos = m; addressed = in_role d role }
 
-  -- a listener behind ATN's release, with a channel for a name or for bytes, and what came of the name; and a talker
+  -- a listener after ATN's release, with a channel for a name or for bytes, and what came of the name; and a talker
   abbrev hearing : ℕ → ℕ → Bool → List ℕ → Machine → Desk Machine
   hearing d ch naming name m = record { dos = m; addressed = record { device = d; pace = pace; role = Listener; channel = Some ch; naming = naming; freed = true; name = name } }
 
@@ -239,7 +239,7 @@ module _ (pace : Pace) where
 
   -- ---- bytes of a talker
 
-  -- what a channel said, and the desk behind it
+  -- what a channel said, and the desk after it
   abbrev IsSpoken : ℕ → List ℕ → Bool → TalkSaid → Desk Machine → Type 0
   IsSpoken d bytes last whole y = (m : Machine) × (whole ≡ record { bytes = bytes; marked = last; machine = m }) × (y ≡ at_power_up pace d m)
 
@@ -268,7 +268,7 @@ module _ (pace : Pace) where
 
   told : (d : ℕ) (request : Request) (m : Machine) (bytes : List ℕ) (last : Bool) (y : Desk Machine) → IsSpoken d bytes last (served pace request m) y → IsServed pace d request m bytes last y
   told d request m bytes last y s = record {
-    behind = s.2 ∙ ap (λ (x : TalkSaid). at_power_up pace d x.machine) (sym s.1);
+    afterwards = s.2 ∙ ap (λ (x : TalkSaid). at_power_up pace d x.machine) (sym s.1);
     said = sym (ap (λ (x : TalkSaid). x.bytes) s.1);
     marked = sym (ap (λ (x : TalkSaid). x.marked) s.1);
   }
@@ -289,12 +289,12 @@ module _ (pace : Pace) where
       let two = named d ch [] text.now m (left_by unlisten) y one in
       let three = unlistened d (after_open ch (kept [] text.now) m) y small two.1 in
       record {
-        behind = three ∙ ap (λ (l : List ℕ). at_power_up pace d (after_open ch l m)) (kept_front [] text.now) ∙ ap (λ (x : Machine). at_power_up pace d x) (sym (open_kept ch text.now m));
+        afterwards = three ∙ ap (λ (l : List ℕ). at_power_up pace d (after_open ch l m)) (kept_front [] text.now) ∙ ap (λ (x : Machine). at_power_up pace d x) (sym (open_kept ch text.now m));
         said = taken.0;
         marked = taken.1;
       }
-  serves d (Put ch sent) m bytes last y small few taken r = record { behind = sent_served d ch sent.now m y small few r; said = taken.0; marked = taken.1 }
-  serves d (Fill ch count byte) m bytes last y small few taken r = record { behind = sent_served d ch (replicate count byte) m y small few r; said = taken.0; marked = taken.1 }
+  serves d (Put ch sent) m bytes last y small few taken r = record { afterwards = sent_served d ch sent.now m y small few r; said = taken.0; marked = taken.1 }
+  serves d (Fill ch count byte) m bytes last y small few taken r = record { afterwards = sent_served d ch (replicate count byte) m y small few r; said = taken.0; marked = taken.1 }
   serves d (Get ch most) m bytes last y small few taken r =
       told d (Get ch most) m bytes last y (talk_served d most ch (talked_to pace ch m) bytes last y small taken (talk_called d ch m (said bytes last ++ left_by untalk) y small few r))
   serves d (Close ch) m bytes last y small few taken r =
@@ -302,7 +302,7 @@ module _ (pace : Pace) where
       subst (λ (x : Desk Machine). Goes x (Attention (224 + ch) ∷ Attention 63 ∷ Released ∷ []) y) (listened d m small) r.1.1 in
       let two = attends d (224 + ch) (Some (CloseOf ch)) Listener Listener m (close_is ch few) (stays_listener d (224 + ch) small (omega arith)) in
       let three : Goes (waits d Listener (close ch m)) (Attention 63 ∷ Released ∷ []) y = subst (λ (x : Desk Machine). Goes x (Attention 63 ∷ Released ∷ []) y) two one.1 in
-      record { behind = unlistened d (close ch m) y small three; said = taken.0; marked = taken.1 }
+      record { afterwards = unlistened d (close ch m) y small three; said = taken.0; marked = taken.1 }
   serves d Status m bytes last y small few taken r =
       told d Status m bytes last y (status_served (most_of Status) (omega arith) taken
       (subst (λ (x : Machine). Goes (speaking d 15 x) (said bytes last ++ left_by untalk) y) (status_talks pace m) (talk_called d 15 m (said bytes last ++ left_by untalk) y small (omega arith) r)))
@@ -320,13 +320,13 @@ module _ (pace : Pace) where
   marked None = false
   marked (Some said) = said.1
 
-  -- behind each byte that isn't the last of a status line there is one more of it
+  -- after each byte that isn't the last of a status line there is one more of it
   few_said : (d : ℕ) (left : List ℕ) (m : Machine) (bytes : List ℕ) → drop m.told (status_line m.status) ≡ left → SaysOn (Desk Machine) desk_step desk_says (speaking d 15 m) bytes → length bytes ≤ length left
   few_said d left m [] e on = omega arith
   few_said d [] m (byte ∷ bytes) e on = let said = sym (ap next_shown e) ∙ on.0 in absurd cc
   few_said d (c ∷ []) m (byte ∷ bytes) e on = let said : next_shown (c ∷ []) ≡ Some (byte, false) = sym (ap next_shown e) ∙ on.0 in absurd (false≢true (sym (ap marked said)))
   few_said d (c ∷ next ∷ rest) m (byte ∷ bytes) e on =
-      let more = few_said d (next ∷ rest) (taken 15 m) bytes (left_behind m c next rest e) on.1 in omega (arith, more)
+      let more = few_said d (next ∷ rest) (taken 15 m) bytes (left_after_it m c next rest e) on.1 in omega (arith, more)
 
   pub is_short : (d : ℕ) (request : Request) (m : Machine) → d < 31 → channel_of request ≤ 15 → IsModest request → IsShort (Desk Machine) desk_step desk_says d (at_power_up pace d m) request
   is_short d (Open ch text) m small few modest = modest

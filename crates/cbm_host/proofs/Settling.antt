@@ -1,4 +1,4 @@
--- A drive without a role hears idly behind ATN's release: it lets go of its lines, and then it waits for nothing but ATN.
+-- A drive without a role hears idly after ATN's release: it lets go of its lines, and then it waits for nothing but ATN.
 use Rattle.std.proofs.Common.{◌≡◌, ℕ, ◌+◌, ◌⊎◌, inl, inr, Bool, true, false, List, [], ◌∷◌, ◌++◌, map, Option, Some, None, refl, sym, ap, ◌∙◌, subst}
 use Rattle.std.specs.Prelude.{if◌then◌else◌}
 use Rattle.cbm_iec.specs.Hearing.{is_same, after_data}
@@ -133,9 +133,9 @@ module _ (M : Type 0) (step : M → Act → M) (peek : M → Option (ℕ × Bool
       let same : o ∷ [] ≡ s ∷ [] = sym u ∙ h in
       let is : s ≡ o = cc in
       one_keeps P told reacted p (react M step peek t o) refl (reacted t o (subst P is kept))
-  one_keeps P told reacted (reaction t [] o (b ∷ behind) more y u f e p) s h kept = let no : o ∷ b ∷ behind ≡ s ∷ [] = sym u ∙ h in absurd cc
-  one_keeps P told reacted (reaction t (b ∷ []) o behind more y u f e p) s h kept = let no : b ∷ o ∷ behind ≡ s ∷ [] = sym u ∙ h in absurd cc
-  one_keeps P told reacted (reaction t (b ∷ c ∷ before) o behind more y u f e p) s h kept = let no : b ∷ c ∷ (before ++ o ∷ behind) ≡ s ∷ [] = sym u ∙ h in absurd cc
+  one_keeps P told reacted (reaction t [] o (b ∷ afterwards) more y u f e p) s h kept = let no : o ∷ b ∷ afterwards ≡ s ∷ [] = sym u ∙ h in absurd cc
+  one_keeps P told reacted (reaction t (b ∷ []) o afterwards more y u f e p) s h kept = let no : b ∷ o ∷ afterwards ≡ s ∷ [] = sym u ∙ h in absurd cc
+  one_keeps P told reacted (reaction t (b ∷ c ∷ before) o afterwards more y u f e p) s h kept = let no : b ∷ c ∷ (before ++ o ∷ afterwards) ≡ s ∷ [] = sym u ∙ h in absurd cc
 
   pub one_stays : {n n2 : ℕ} {ss ss2 : List (Station M)} {es : List Event} → Plays M step peek n ss es n2 ss2 → (s : Station M) → ss ≡ s ∷ [] → (a : Station M) × (ss2 ≡ a ∷ [])
   one_stays p s h = let k = one_keeps (λ (x : Station M). Unit {0}) (λ c x kept. tt) (λ t x kept. tt) p s h tt in (k.0, k.1)

@@ -23,12 +23,12 @@ use Rattle.cbm_host.specs.declared.stage.Stage.TheVariants.{Ending}
 record HasStepAt (t : ℕ) (ss : List Step) : Type 0 where
   front : List Step
   here : Step
-  behind : List Step
-  parts : ss ≡ front ++ here ∷ behind
+  afterwards : List Step
+  parts : ss ≡ front ++ here ∷ afterwards
   moment : moment_of here ≡ t
 
 one_more : (t : ℕ) (s : Step) (ss : List Step) → HasStepAt t ss → HasStepAt t (s ∷ ss)
-one_more t s ss h = record { front = s ∷ h.front; here = h.here; behind = h.behind; parts = ap (λ (l : List Step). s ∷ l) h.parts; moment = h.moment }
+one_more t s ss h = record { front = s ∷ h.front; here = h.here; afterwards = h.afterwards; parts = ap (λ (l : List Step). s ∷ l) h.parts; moment = h.moment }
 
 module _ (start d : ℕ) (request : Request) (until : ℕ) where
   -- before the pull nothing that the drive does changes what the host is at
@@ -37,7 +37,7 @@ module _ (start d : ℕ) (request : Request) (until : ℕ) where
   pulls {e} (makes {t} {line} {way} {mark} {ss} due taken h) first ending =
       let k : Makes (change_at t line way) ≡ Makes (change_at start Atn Pull) = sym due ∙ ap engine_due first in
       let c : change_at t line way ≡ change_at start Atn Pull = cc in
-      record { front = []; here = _; behind = ss; parts = refl; moment = ap (λ (x : Change). x.moment) c }
+      record { front = []; here = _; afterwards = ss; parts = refl; moment = ap (λ (x : Change). x.moment) c }
   pulls {e} (sees {o} {t} {line} {way} {mark} {ss} early h) first ending = one_more start _ ss (pulls h (ap (engine_seen (change_at t line way)) first) ending)
   pulls {e} (passes u due silent h) first ending = let k : Waits u ≡ Makes (change_at start Atn Pull) = sym due ∙ ap engine_due first in absurd cc
 
@@ -45,8 +45,8 @@ module _ (start d : ℕ) (request : Request) (until : ℕ) where
 pub not_before_start : (b : Party) (start d limit : ℕ) (request : Request) (ks : List Piece) → IsBus (b ∷ []) → (f : IsPlayed b (rest (b ∷ [])) (engine_at start d request) ks limit) → start ≤ f.until
 not_before_start b start d limit request ks is_bus f =
     let h = pulls start d request f.until f.performs refl f.ending in
-    let order : GoesOn (h.front ++ h.here ∷ h.behind) = subst GoesOn h.parts (goes_on (b ∷ []) ks is_bus f.linked) in
-    let last = upto_last h.front h.here h.behind f.front f.last order (sym h.parts ∙ f.steps) in
+    let order : GoesOn (h.front ++ h.here ∷ h.afterwards) = subst GoesOn h.parts (goes_on (b ∷ []) ks is_bus f.linked) in
+    let last = upto_last h.front h.here h.afterwards f.front f.last order (sym h.parts ∙ f.steps) in
     let here = h.moment in
     let over = f.over in
     omega (arith, last, here, over)

@@ -54,7 +54,7 @@ line_short s = let t = text_short s.code in grind (arith, t)
 drop-more : (n : ℕ) (xs : List ℕ) (x : ℕ) (rest : List ℕ) → drop n xs ≡ x ∷ rest → drop (n + 1) xs ≡ rest
 drop-more n xs x rest e = sym (drop-drop 1 n xs) ∙ ap (λ l. drop 1 l) e
 
--- behind a byte that isn't the last, the next one is told
+-- after a byte that isn't the last, the next one is told
 told_next : (m : Machine) (c d : ℕ) (rest : List ℕ) → drop m.told (status_line m.status) ≡ c ∷ d ∷ rest → taken 15 m ≡ record m { told = m.told + 1 }
 told_next m c d rest e =
     let l = length-drop m.told (status_line m.status) in
@@ -62,9 +62,9 @@ told_next m c d rest e =
     let more : nat_lt (m.told + 1) (length (status_line m.status)) ≡ true = grind (arith, k) in
     ap (λ b. if b then record m { told = m.told + 1 } else say Fine m) more
 
--- and of the line those behind it are left
-pub left_behind : (m : Machine) (c d : ℕ) (rest : List ℕ) → drop m.told (status_line m.status) ≡ c ∷ d ∷ rest → drop (taken 15 m).told (status_line (taken 15 m).status) ≡ d ∷ rest
-left_behind m c d rest e =
+-- and of the line those after it are left
+pub left_after_it : (m : Machine) (c d : ℕ) (rest : List ℕ) → drop m.told (status_line m.status) ≡ c ∷ d ∷ rest → drop (taken 15 m).told (status_line (taken 15 m).status) ≡ d ∷ rest
+left_after_it m c d rest e =
     ap (λ (x : Machine). drop x.told (status_line x.status)) (told_next m c d rest e) ∙ drop-more m.told (status_line m.status) c (d ∷ rest) e
 
 -- Any two numbers of bytes that suffice say the same.
@@ -79,7 +79,7 @@ enough (c ∷ d ∷ rest) zero n so_far m e a b = absurd (omega arith)
 enough (c ∷ d ∷ rest) (suc k) zero so_far m e a b = absurd (omega arith)
 enough (c ∷ d ∷ rest) (suc k) (suc n) so_far m e a b =
     ap (λ p. says_from p k 15 so_far m) (ap next_shown e)
-    ∙ (enough (d ∷ rest) k n (so_far ++ c ∷ []) (taken 15 m) (left_behind m c d rest e) (omega (arith, a)) (omega (arith, b))
+    ∙ (enough (d ∷ rest) k n (so_far ++ c ∷ []) (taken 15 m) (left_after_it m c d rest e) (omega (arith, a)) (omega (arith, b))
     ∙ sym (ap (λ p. says_from p n 15 so_far m) (ap next_shown e)))
 
 -- what is left of the line has at most 33 bytes

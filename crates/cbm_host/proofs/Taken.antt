@@ -103,7 +103,7 @@ module _ (b : Party) (some : 1 ≤ b.reaction) (prompt : b.reaction ≤ 60) wher
   told_fits true byte at = record { eight = bits_count b [] 0 8 byte; free = omega arith; signal = (omega arith, omega arith); accept = omega arith; soon = omega arith }
   told_fits false byte at = record { eight = bits_count b [] 0 8 byte; free = omega arith; signal = tt; accept = omega arith; soon = omega arith }
 
-  -- the steps of the frame up to the accept, and CLOCK's release behind a last byte
+  -- the steps of the frame up to the accept, and CLOCK's release after a last byte
   abbrev pub told_front : Bool → ℕ → ℕ → List Step
   told_front last byte at =
       let f = told_for b last byte at in
@@ -140,7 +140,7 @@ module _ (b : Party) (some : 1 ≤ b.reaction) (prompt : b.reaction ≤ 60) wher
       ap (λ (v : Bool). if v then at_stage left most (stages.leaving (t + answer_wait) untalk false true) else at_stage left (most - 1) (Taking Awaiting)) (lt-leb most 1 (omega (arith, many)))
       ∙ ap (λ (n : ℕ). at_stage left n (Taking Awaiting)) same
 
-  -- the last attention, behind a talk
+  -- the last attention, after a talk
   pub untalk_then : (p : Point) (s : Seat) (left : List ℕ) (most at limit : ℕ) → s.party ≡ b → s.role ≡ Talker → p.place ≡ Cutting at → p.accepted ≤ at → p.host ≡ lines false true → b.device ≤ 11 → at + 720 ≤ limit
       → IsPlayed b (alone p s) (at_stage left most (stages.leaving at untalk false true)) (leave b at (untalk ∷ [])) limit
   untalk_then p s left most at limit same talks place late held few soon =
@@ -217,7 +217,7 @@ module _ (b : Party) (some : 1 ≤ b.reaction) (prompt : b.reaction ≤ 60) wher
       let many = bits_count b [] 0 8 byte in
       (omega arith, (omega arith, (omega arith, (omega arith, all_append (f.accept + answer_wait) (bit_steps b (first_bit b f) false f.bits) _ (bits_before b (first_bit b f) (f.accept + answer_wait) false f.bits (omega (arith, many, by_eight b.pace many))) (omega arith, tt)))))
 
-  -- a slow drive's last frame is cut behind its byte
+  -- a slow drive's last frame is cut after its byte
   pub cut_last : (p : Point) (o : Held) (byte at : ℕ) → 20 ≤ r → before ((told_for b true byte at).accept + answer_wait) (steps_of (alone p (seat b Talker o)) (Talk at (told_for b true byte at))) ≡ told_front true byte at
   cut_last p o byte at slow =
       let cut = (told_for b true byte at).accept + answer_wait in

@@ -35,7 +35,7 @@ by_stage : (stage : Stage) (until : ℕ) → stage_due stage ≡ Waits until →
 by_stage (Turning t) until e = cc
 by_stage (Ending t) until e = cc
 by_stage (Taking take) until e = by_take take until e
-by_stage (Framing frame behind) until e = absurd (no_wait (frame_change frame) until e)
+by_stage (Framing frame afterwards) until e = absurd (no_wait (frame_change frame) until e)
 by_stage (Attending at p a) until e = absurd cc
 by_stage (Calling at) until e = absurd cc
 by_stage (Releasing at r) until e = absurd cc

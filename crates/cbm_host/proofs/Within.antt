@@ -34,15 +34,15 @@ module _ (M : Type 0) (step : M → Act → M) (says : M → Option (ℕ × Bool
   pub host_first : (ms : ℕ → M) (b : Party) {n n2 : ℕ} {ss2 : List (Station M)} {es : List Event} → Plays M step says n (at_rest M step says ms (b ∷ [])) es n2 ss2 → (x : Event) (xs : List Event) → es ≡ x ∷ xs → x.who ≡ Host
   host_first ms b (stays bytes none from same) x xs e = let no : [] ≡ x ∷ xs = sym none ∙ e in absurd cc
   host_first ms b (change c more bytes later time is plays) x xs e = let both : host_event c ∷ more ≡ x ∷ xs = sym is ∙ e in let same : host_event c ≡ x = cc in ap (λ (y : Event). y.who) (sym same)
-  host_first ms b (reaction t before o behind more bytes parts first is plays) x xs e = absurd (by before parts)
+  host_first ms b (reaction t before o afterwards more bytes parts first is plays) x xs e = absurd (by before parts)
     where
       one : Station M
       one = record { port = resting b; rest = Rattle.cbm_session.specs.Playing.nobody; machine = ms b.device }
 
-      by : (before : List (Station M)) → at_rest M step says ms (b ∷ []) ≡ before ++ o ∷ behind → ⊥
+      by : (before : List (Station M)) → at_rest M step says ms (b ∷ []) ≡ before ++ o ∷ afterwards → ⊥
       by [] p = let same : one ≡ o = cc in let due : port_due (resting b) ≡ Some t = ap (λ (s : Station M). port_due s.port) same ∙ first.due in cc
-      by (s ∷ []) p = let no : [] ≡ o ∷ behind = cc in cc
-      by (s ∷ s2 ∷ before) p = let no : [] ≡ s2 ∷ (before ++ o ∷ behind) = cc in cc
+      by (s ∷ []) p = let no : [] ≡ o ∷ afterwards = cc in cc
+      by (s ∷ s2 ∷ before) p = let no : [] ≡ s2 ∷ (before ++ o ∷ afterwards) = cc in cc
 
 -- the first step is the host's, at the start: then all are between it and the end
 pub between : (start end : ℕ) (s : Step) (ys front : List Step) (last : Step) → GoesOn (s ∷ ys) → s ∷ ys ≡ front ++ last ∷ [] → s.event.who ≡ Host → moment_of s ≡ start → moment_of last ≤ end → All (IsIn start end) (events_of (s ∷ ys))

@@ -10,8 +10,8 @@ use Rattle.cbm_host.specs.declared.request.Request.{Request}
 pub record IsRequestBegun (M : Type 0) (step : M → Act → M) (says : M → Option (ℕ × Bool)) (d : ℕ) (m : M) (request : Request) (bytes : List ℕ) (last : Bool) : Type 0 where
   pub whole : List ℕ
   pub marked : Bool
-  pub behind : M
-  pub ran : Run M step says m (acts_carried_out d request whole marked) behind
+  pub afterwards : M
+  pub ran : Run M step says m (acts_carried_out d request whole marked) afterwards
   pub taken : AreTakenBy request whole marked
   pub more : List ℕ
   pub front : whole ≡ bytes ++ more

@@ -17,8 +17,8 @@ use Rattle.cbm_host.specs.declared.frame.Frame.TheVariants.{Readying, Sent}
 use Rattle.cbm_host.specs.declared.request.Request.{Request}
 use Rattle.cbm_host.specs.declared.request.Request.TheVariants.{Open, Put, Fill, Get, Close, Status}
 use Rattle.cbm_host.specs.declared.stage.Sequence.{Sequence}
-use Rattle.cbm_host.specs.declared.stage.Behind.{Behind}
-use Rattle.cbm_host.specs.declared.stage.Behind.TheVariants.{Commanded, Listened}
+use Rattle.cbm_host.specs.declared.stage.Afterwards.{Afterwards}
+use Rattle.cbm_host.specs.declared.stage.Afterwards.TheVariants.{Commanded, Listened}
 use Rattle.cbm_host.specs.declared.stage.Errand.TheVariants.{Sends, Takes, Leaves}
 use Rattle.cbm_host.specs.declared.stage.Pulls.TheVariants.{PullAtn}
 use Rattle.cbm_host.specs.declared.stage.Stage.{Stage}
@@ -118,7 +118,7 @@ taking_on t last e =
     else record { stage = Taking Awaiting; left = e.left; most = e.most - 1 }
 
 -- the byte of the host was accepted
-abbrev pub accepted : ℕ → Behind → Engined → Engined
+abbrev pub accepted : ℕ → Afterwards → Engined → Engined
 accepted t (Commanded (Some commands) errand) e = at_stage (commanding t (record { commands = commands; errand = errand })) e
 accepted t (Commanded None errand) e = at_stage (releasing t errand) e
 accepted t Listened e = sending_on t turn_wait e.most e.left
@@ -139,18 +139,18 @@ abbrev pub engine_made : ℕ → Engined → Engined
 engine_made t e = made_at t e.stage e
 
 -- a request after a change of DATA by the drive: a frame that was sent waits for it to be pulled
-abbrev pub heard_data : Change → Way → Frame → Behind → Engined → Engined
-heard_data c Pull Sent behind e = accepted c.moment behind e
-heard_data c way frame behind e = at_stage (Framing (frame_seen c frame) behind) e
+abbrev pub heard_data : Change → Way → Frame → Afterwards → Engined → Engined
+heard_data c Pull Sent afterwards e = accepted c.moment afterwards e
+heard_data c way frame afterwards e = at_stage (Framing (frame_seen c frame) afterwards) e
 
 -- a request after a change of the drive in a frame of the host
-abbrev pub heard : Change → Line → Frame → Behind → Engined → Engined
-heard c Data frame behind e = heard_data c c.way frame behind e
-heard c line frame behind e = at_stage (Framing (frame_seen c frame) behind) e
+abbrev pub heard : Change → Line → Frame → Afterwards → Engined → Engined
+heard c Data frame afterwards e = heard_data c c.way frame afterwards e
+heard c line frame afterwards e = at_stage (Framing (frame_seen c frame) afterwards) e
 
 -- the same of what the host is at
 abbrev pub seen_at : Change → Stage → Engined → Engined
-seen_at c (Framing frame behind) e = heard c c.line frame behind e
+seen_at c (Framing frame afterwards) e = heard c c.line frame afterwards e
 seen_at c stage e = at_stage (stage_seen c stage) e
 
 -- a request after a change of the drive

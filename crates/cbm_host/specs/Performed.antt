@@ -2,10 +2,10 @@
 use Rattle.std.specs.List.{All}
 use Rattle.std.specs.Prelude.{◌≡◌, ◌≤◌, ℕ, min, Bool, false, List, [], ◌∷◌, ◌++◌, Option, Some, None}
 use Rattle.cbm_drive.specs.Cables.{Cabled}
-use Rattle.cbm_drive.specs.Players.{from_behind}
+use Rattle.cbm_drive.specs.Players.{from_after}
 use Rattle.cbm_drive.specs.Seats.{IsBusAt}
 use Rattle.cbm_host.specs.Engines.{Engined, engine_due}
-use Rattle.cbm_host.specs.Performers.{Performing, GoesOnFrom, StopsPerforming, IsDue, engine_behind, byte_with, IsGoing}
+use Rattle.cbm_host.specs.Performers.{Performing, GoesOnFrom, StopsPerforming, IsDue, engine_after, byte_with, IsGoing}
 use Rattle.cbm_host.specs.declared.stage.Stage.{Stage}
 use Rattle.cbm_host.specs.declared.stage.Stage.TheVariants.{Ending, Done}
 use Rattle.cbm_iec.specs.declared.machine.Act.{Act}
@@ -25,7 +25,7 @@ last_with (Some said) last = said.1
 -- from when on the host may change a line after these events
 abbrev pub from_last : ℕ → List Event → ℕ
 from_last t [] = t
-from_last t (x ∷ xs) = from_last (from_behind x.who x.change.moment) xs
+from_last t (x ∷ xs) = from_last (from_after x.who x.change.moment) xs
 
 -- These events were added, and none of them is later than the limit.
 pub record HasAddedUpTo (limit : ℕ) (old new : List Event) : Type 0 where
@@ -39,7 +39,7 @@ module _ (M : Type 0) (step : M → Act → M) (says : M → Option (ℕ × Bool
   pub data Runs : Engined → List Event → List ℕ → Bool → Engined → Type 0 where
     begins : {e e2 : Engined} {es : List Event} {bytes : List ℕ} {last : Bool} → e2 ≡ e → es ≡ [] → bytes ≡ [] → last ≡ false → Runs e es bytes last e2
     goes : {e e2 : Engined} {es2 : List Event} {bytes2 : List ℕ} {last2 : Bool} (e1 found : Engined) (x : Event) (es : List Event) (bytes : List ℕ) (last : Bool) → Runs e es bytes last e1 → GoesOnFrom M step says 0 ss es e1 found → IsDue x.who x.change found
-        → e2 ≡ engine_behind x.who x.change found → es2 ≡ es ++ x ∷ [] → bytes2 ≡ bytes ++ taken_with (byte_with x.who found) → last2 ≡ last_with (byte_with x.who found) last → Runs e es2 bytes2 last2 e2
+        → e2 ≡ engine_after x.who x.change found → es2 ≡ es ++ x ∷ [] → bytes2 ≡ bytes ++ taken_with (byte_with x.who found) → last2 ≡ last_with (byte_with x.who found) last → Runs e es2 bytes2 last2 e2
 
 -- when a request is over whose host is at this stage after its last event: at the end that it waits for, and else at the limit, where it gives up
 abbrev pub over_at : ℕ → Stage → ℕ
@@ -52,9 +52,9 @@ module _ (M : Type 0) (step : M → Act → M) (says : M → Option (ℕ × Bool
   pub record HasRun (e : Engined) (limit : ℕ) (old new : List Event) (bytes : List ℕ) (last : Bool) (end : ℕ) (ss : List (Station M)) : Type 0 where
     pub made : List Event
     pub added : new ≡ old ++ made
-    pub behind : Engined
-    pub runs : Runs M step says ss e made bytes last behind
-    pub over : end ≡ over_at limit behind.stage
+    pub afterwards : Engined
+    pub runs : Runs M step says ss e made bytes last afterwards
+    pub over : end ≡ over_at limit afterwards.stage
 
 module _ (D M : Type 0) (stands : D → M → Type 0) (step : M → Act → M) (says : M → Option (ℕ × Bool)) where
   -- A REQUEST IS UNDER WAY up to a limit: events were added, a play of the bus, and the request runs along it.
@@ -81,9 +81,9 @@ module _ (D M : Type 0) (stands : D → M → Type 0) (step : M → Act → M) (
     pub made : List Event
     pub added : new ≡ old ++ made
     pub going : IsGoing D M stands step says p b 0 ss made
-    pub behind : Engined
-    pub runs : Runs M step says ss e made bytes last behind
-    pub goes_on : GoesOnFrom M step says 0 ss made behind p.engine
+    pub afterwards : Engined
+    pub runs : Runs M step says ss e made bytes last afterwards
+    pub goes_on : GoesOnFrom M step says 0 ss made afterwards p.engine
     pub stops : StopsPerforming M step says p.player limit 0 ss made (engine_due p.engine)
     pub from : p.player.from ≡ from_last 0 made
     pub until : p.limit ≡ limit

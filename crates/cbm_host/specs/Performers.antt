@@ -2,7 +2,7 @@
 use Rattle.std.specs.Prelude.{◌≡◌, ◌≤◌, ◌<◌, ◌⊎◌, ◌+◌, ℕ, min, Bool, true, false, List, [], ◌∷◌, ◌++◌, Option, Some, None, IfSome, MatchOption}
 use Rattle.cbm_drive.specs.Cables.{Cabled}
 use Rattle.cbm_drive.specs.Seats.{Unfailed}
-use Rattle.cbm_drive.specs.Players.{Turns, at_start, from_behind, pending, IsAfter, IsStill}
+use Rattle.cbm_drive.specs.Players.{Turns, at_start, from_after, pending, IsAfter, IsStill}
 use Rattle.cbm_drive.specs.Silence.{AreSilent}
 use Rattle.cbm_host.specs.Engines.{Engined, stage_taken, engine_due, engine_made, engine_seen, engine_passed}
 use Rattle.cbm_host.specs.declared.due.Due.{Due}
@@ -57,9 +57,9 @@ IsDue Host c e = engine_due e ≡ Makes c
 IsDue (Drive d) c e = IsBefore c.moment (engine_due e)
 
 -- the engine after an event
-abbrev pub engine_behind : Who → Change → Engined → Engined
-engine_behind Host c e = engine_made c.moment e
-engine_behind (Drive d) c e = engine_seen c e
+abbrev pub engine_after : Who → Change → Engined → Engined
+engine_after Host c e = engine_made c.moment e
+engine_after (Drive d) c e = engine_seen c e
 
 -- the byte that the host took with an event
 abbrev pub byte_with : Who → Engined → Option (ℕ × Bool)
@@ -129,9 +129,9 @@ module _ (D M : Type 0) (stands : D → M → Type 0) (step : M → Act → M) (
     pub after : IsAfter D M stands step says new.player b n ss (es ++ e ∷ [])
     pub goes_on : GoesOnFrom M step says n ss es old.engine new.engine
     pub due : IsDue e.who e.change new.engine
-    pub handed : IsHandedOn new.player.waiting (engine_behind e.who e.change new.engine)
+    pub handed : IsHandedOn new.player.waiting (engine_after e.who e.change new.engine)
     pub moment : e.change.moment ≤ new.limit
-    pub from : new.player.from ≡ from_behind e.who e.change.moment
+    pub from : new.player.from ≡ from_after e.who e.change.moment
     pub limit : new.limit ≡ old.limit
 
   -- THE NEXT EVENT: the host's change that was due, or what the drive did before; and the byte that the host took with it.
@@ -140,9 +140,9 @@ module _ (D M : Type 0) (stands : D → M → Type 0) (step : M → Act → M) (
     pub found : Engined
     pub goes_on : GoesOnFrom M step says n ss es old.engine found
     pub due : IsDue e.who e.change found
-    pub engine : new.engine ≡ engine_behind e.who e.change found
+    pub engine : new.engine ≡ engine_after e.who e.change found
     pub byte : new.byte ≡ byte_with e.who found
-    pub from : new.player.from ≡ from_behind e.who e.change.moment
+    pub from : new.player.from ≡ from_after e.who e.change.moment
     pub limit : new.limit ≡ old.limit
 
   -- WHERE A REQUEST GOES ON, if the drive's machine didn't fail in it: after all events that came so far one more comes, or none comes, and why.

@@ -13,8 +13,8 @@ use Rattle.cbm_host.specs.declared.commands.Commands.TheVariants.{One, Two, Thre
 use Rattle.cbm_host.specs.declared.due.Due.TheVariants.{Makes}
 use Rattle.cbm_host.specs.declared.frame.Frame.{Frame}
 use Rattle.cbm_host.specs.declared.frame.Frame.TheVariants.{Readying, Ready, EoiSent, EoiHeard, Starting, Setting, Showing, Hiding, Clearing, Sent}
-use Rattle.cbm_host.specs.declared.stage.Behind.{Behind}
-use Rattle.cbm_host.specs.declared.stage.Behind.TheVariants.{Commanded, Listened}
+use Rattle.cbm_host.specs.declared.stage.Afterwards.{Afterwards}
+use Rattle.cbm_host.specs.declared.stage.Afterwards.TheVariants.{Commanded, Listened}
 use Rattle.cbm_host.specs.declared.stage.Errand.{Errand}
 use Rattle.cbm_host.specs.declared.stage.Errand.TheVariants.{Sends, Takes, Leaves}
 use Rattle.cbm_host.specs.declared.stage.Pulls.{Pulls}
@@ -76,10 +76,10 @@ errand_left Takes left most = 8 + takes_left most
 errand_left Leaves left most = 2
 
 -- the host's changes for what follows a byte to the drive, at most
-abbrev pub behind_left : Behind → List ℕ → ℕ → ℕ
-behind_left (Commanded None errand) left most = errand_left errand left most
-behind_left (Commanded (Some commands) errand) left most = commands_left commands + errand_left errand left most
-behind_left Listened left most = sends_left left
+abbrev pub afterwards_left : Afterwards → List ℕ → ℕ → ℕ
+afterwards_left (Commanded None errand) left most = errand_left errand left most
+afterwards_left (Commanded (Some commands) errand) left most = commands_left commands + errand_left errand left most
+afterwards_left Listened left most = sends_left left
 
 -- the host's changes left of ATN's pull and of what goes with it, at most
 abbrev pub pulls_left : Pulls → ℕ
@@ -99,7 +99,7 @@ release_left DataToSilent left most = 33
 -- the host's changes left at what the host is at and after it, at most
 abbrev pub stage_left : Stage → List ℕ → ℕ → ℕ
 stage_left (Attending at p a) left most = pulls_left p + (commands_left a.commands + errand_left a.errand left most)
-stage_left (Framing frame behind) left most = frame_left frame + behind_left behind left most
+stage_left (Framing frame afterwards) left most = frame_left frame + afterwards_left afterwards left most
 stage_left (Calling at) left most = 1 + sends_left left
 stage_left (Releasing at r) left most = release_left r left most
 stage_left (Turning until) left most = 5 + takes_left most

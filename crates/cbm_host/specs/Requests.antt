@@ -137,10 +137,10 @@ end_point p (k ∷ ks) = end_point (point_after p k) ks
 -- its engine at that point until it only waits for the end, which is after the last step and not later than a limit.
 pub record IsPlayed (b : Party) (p : Point) (e : Engined) (ks : List Piece) (limit : ℕ) : Type 0 where
   pub linked : Linked p ks
-  pub behind : Engined
+  pub afterwards : Engined
   pub until : ℕ
-  pub ending : behind.stage ≡ Ending until
-  pub performs : Performs e (session_steps p ks) behind
+  pub ending : afterwards.stage ≡ Ending until
+  pub performs : Performs e (session_steps p ks) afterwards
   pub soon : until ≤ limit
   pub front : List Step
   pub last : Step

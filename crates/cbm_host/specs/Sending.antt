@@ -29,8 +29,8 @@ abbrev pub toggle : Bits → Way
 toggle b = if b.low then Free else Pull
 
 -- the bits of a byte after one was sent
-abbrev pub behind_bit : Bits → Bits
-behind_bit b = record { left = b.left / 2; count = b.count - 1; low = b.low }
+abbrev pub after_bit : Bits → Bits
+after_bit b = record { left = b.left / 2; count = b.count - 1; low = b.low }
 
 -- CLOCK was pulled: DATA is set where the next bit changes it; after the eighth it is freed where it is held
 abbrev pub next_bit : ℕ → Bits → Frame
@@ -55,7 +55,7 @@ frame_made t (Readying at byte eoi) = Ready byte eoi
 frame_made t (Starting at byte) = next_bit t (bits_to_send byte)
 frame_made t (Setting at b) = Showing (t + phase) (toggled b)
 frame_made t (Showing at b) = Hiding (t + phase) b
-frame_made t (Hiding at b) = next_bit t (behind_bit b)
+frame_made t (Hiding at b) = next_bit t (after_bit b)
 frame_made t (Clearing at) = Sent
 frame_made t frame = frame
 

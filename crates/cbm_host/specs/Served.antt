@@ -35,7 +35,7 @@ at_power_up pace d m = with_pace pace (at_first d m)
 -- A DRIVE WITH THIS DEVICE NUMBER SERVED A REQUEST: after it its desk is as at power up, with the machine that the request leads to, and these are the bytes
 -- that were said, the last with EOI or not.
 pub record IsServed (pace : Pace) (d : ℕ) (request : Request) (m : Machine) (bytes : List ℕ) (last : Bool) (desk : Desk Machine) : Type 0 where
-  pub behind : desk ≡ at_power_up pace d (served pace request m).machine
+  pub afterwards : desk ≡ at_power_up pace d (served pace request m).machine
   pub said : bytes ≡ (served pace request m).bytes
   pub marked : last ≡ (served pace request m).marked
 

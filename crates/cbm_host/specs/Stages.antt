@@ -16,7 +16,7 @@ use Rattle.cbm_host.specs.declared.due.Due.{Due}
 use Rattle.cbm_host.specs.declared.due.Due.TheVariants.{Makes, Waits, Hears, Over}
 use Rattle.cbm_host.specs.declared.frame.Frame.TheVariants.{Readying}
 use Rattle.cbm_host.specs.declared.stage.Sequence.{Sequence}
-use Rattle.cbm_host.specs.declared.stage.Behind.TheVariants.{Commanded}
+use Rattle.cbm_host.specs.declared.stage.Afterwards.TheVariants.{Commanded}
 use Rattle.cbm_host.specs.declared.stage.Errand.{Errand}
 use Rattle.cbm_host.specs.declared.stage.Errand.TheVariants.{Sends, Takes, Leaves}
 use Rattle.cbm_host.specs.declared.stage.Pulls.{Pulls}
@@ -49,13 +49,13 @@ pull_change at (PullClock data_low) = change_at at Clock Pull
 pull_change at FreeData = change_at at Data Free
 
 -- what is still to be changed after one of these changes, or nothing
-abbrev pub behind_pull : Pulls → Option Pulls
-behind_pull (PullAtn false data_low) = Some (PullClock data_low)
-behind_pull (PullAtn true true) = Some FreeData
-behind_pull (PullAtn true false) = None
-behind_pull (PullClock true) = Some FreeData
-behind_pull (PullClock false) = None
-behind_pull FreeData = None
+abbrev pub after_a_pull : Pulls → Option Pulls
+after_a_pull (PullAtn false data_low) = Some (PullClock data_low)
+after_a_pull (PullAtn true true) = Some FreeData
+after_a_pull (PullAtn true false) = None
+after_a_pull (PullClock true) = Some FreeData
+after_a_pull (PullClock false) = None
+after_a_pull FreeData = None
 
 -- what the host is at after one of these changes, made at t: the next of them, or the first byte of the attention
 abbrev pub stage_attended : ℕ → Sequence → Option Pulls → Stage
@@ -95,7 +95,7 @@ take_due take = due_of (take_change take)
 -- what the host does next, by what it is at
 abbrev pub stage_due : Stage → Due
 stage_due (Attending at p a) = Makes (pull_change at p)
-stage_due (Framing frame behind) = due_of (frame_change frame)
+stage_due (Framing frame afterwards) = due_of (frame_change frame)
 stage_due (Calling at) = Makes (change_at at Atn Free)
 stage_due (Releasing at r) = Makes (release_change at r)
 stage_due (Turning until) = Waits until
@@ -107,8 +107,8 @@ stage_due (Done at) = Over at
 
 -- what the host is at after its own change, made at t
 abbrev pub stage_made : ℕ → Stage → Stage
-stage_made t (Attending at p a) = stage_attended t a (behind_pull p)
-stage_made t (Framing frame behind) = Framing (frame_made t frame) behind
+stage_made t (Attending at p a) = stage_attended t a (after_a_pull p)
+stage_made t (Framing frame afterwards) = Framing (frame_made t frame) afterwards
 stage_made t (Releasing at r) = released t r
 stage_made t (Taking take) = Taking (take_made t take)
 stage_made t stage = stage
@@ -132,7 +132,7 @@ taking_seen c take = Taking (take_seen c take)
 
 -- what the host is at after a change of the drive
 abbrev pub stage_seen : Change → Stage → Stage
-stage_seen c (Framing frame behind) = Framing (frame_seen c frame) behind
+stage_seen c (Framing frame afterwards) = Framing (frame_seen c frame) afterwards
 stage_seen c (Turning until) = turned c.line c.way until
 stage_seen c (Taking take) = taking_seen c take
 stage_seen c stage = stage

@@ -5,7 +5,7 @@ use crate::due::Due;
 use crate::frame::Frame;
 use crate::left::Left;
 use crate::request::Request;
-use crate::stage::{Behind, Errand, Pulls, Sequence, Stage};
+use crate::stage::{Afterwards, Errand, Pulls, Sequence, Stage};
 use crate::take::Take;
 use crate::waits::{ANSWER, READY, TURN};
 use cbm_drive::Half;
@@ -124,11 +124,11 @@ impl<'a> Engine<'a> {
             (
                 Stage::Framing {
                     frame: Frame::Sent,
-                    behind,
+                    afterwards,
                 },
                 Line::Data,
                 Way::Pull,
-            ) => self.accepted(change.moment, behind),
+            ) => self.accepted(change.moment, afterwards),
             (stage, _, _) => self.stage = stage.seen(change),
         }
     }
@@ -164,16 +164,16 @@ impl<'a> Engine<'a> {
     }
 
     /// A byte of the host was accepted.
-    fn accepted(&mut self, moment: u64, behind: Behind)
+    fn accepted(&mut self, moment: u64, afterwards: Afterwards)
         requires { moment < 2 ^ 60 }
-        ensures { self.new ≡ accepted moment behind self.old }
+        ensures { self.new ≡ accepted moment afterwards self.old }
     {
-        match behind {
-            Behind::Commanded(Some(commands), errand) => {
+        match afterwards {
+            Afterwards::Commanded(Some(commands), errand) => {
                 self.stage = Stage::command(moment, Sequence { commands, errand });
             }
-            Behind::Commanded(None, errand) => self.stage = Stage::release(moment, errand),
-            Behind::Listened => self.send(moment, TURN),
+            Afterwards::Commanded(None, errand) => self.stage = Stage::release(moment, errand),
+            Afterwards::Listened => self.send(moment, TURN),
         }
     }
 
@@ -193,7 +193,7 @@ impl<'a> Engine<'a> {
                 byte,
                 eoi: self.left.is_empty(),
             },
-            behind: Behind::Listened,
+            afterwards: Afterwards::Listened,
         };
     }
 

@@ -1,7 +1,7 @@
 //! A byte of the host on the wires.
 
 ghost use Rattle.std.specs.Prelude.{◌≡◌, ◌^◌, ◌<◌};
-ghost use Rattle.cbm_host.specs.Sending.{frame_change, frame_made, frame_seen, bits_to_send, starts_low, toggle, toggled, behind_bit, next_bit};
+ghost use Rattle.cbm_host.specs.Sending.{frame_change, frame_made, frame_seen, bits_to_send, starts_low, toggle, toggled, after_bit, next_bit};
 
 use crate::waits::{ANSWER, PHASE};
 use cbm_iec::{Change, Line, Way};
@@ -78,7 +78,7 @@ impl Frame {
                     bits,
                 };
             }
-            Frame::Hiding { bits, .. } => *self = bits.behind().next(moment),
+            Frame::Hiding { bits, .. } => *self = bits.afterwards().next(moment),
             Frame::Readying { byte, eoi, .. } => *self = Frame::Ready { byte, eoi },
             Frame::Starting { byte, .. } => *self = Bits::of(byte).next(moment),
             Frame::Clearing(_) => *self = Frame::Sent,
@@ -142,8 +142,8 @@ impl Bits {
     }
 
     /// The bits after the next one.
-    fn behind(self) -> Bits
-        ensures { result ≡ behind_bit self }
+    fn afterwards(self) -> Bits
+        ensures { result ≡ after_bit self }
     {
         Bits {
             left: self.left / 2,

@@ -55,7 +55,7 @@ impl<'a> Performer<'a> {
     ghost use Rattle.cbm_host.specs.Progress.{left_of, FallsBy, HasAsked, HasHeeded};
     ghost use Rattle.cbm_host.specs.Hosted.{TakesOn, TakesNextByte};
     ghost use Rattle.cbm_host.specs.Engines.{channel_of, engine_at, engine_due, stage_end};
-    ghost use Rattle.cbm_host.specs.Performers.{IsBeforeEvents, KeepsEngine, HandsOn, GoesOnPerforming, GoesUpTo, GoesToNext, PlaysChange, ComesBefore, engine_behind, byte_with};
+    ghost use Rattle.cbm_host.specs.Performers.{IsBeforeEvents, KeepsEngine, HandsOn, GoesOnPerforming, GoesUpTo, GoesToNext, PlaysChange, ComesBefore, engine_after, byte_with};
     ghost use Rattle.cbm_iec.specs.declared.event.Event.{Event};
     ghost use Rattle.cbm_iec.specs.declared.lines.Change.{Change};
     ghost use Rattle.cbm_host.specs.declared.due.Due.TheVariants.{Makes, Waits, Hears};
@@ -182,7 +182,7 @@ impl<'a> Performer<'a> {
         requires { event.change.moment < 2 ^ 60 }
         ensures player { self.new.player ≡ self.old.player }
         ensures limit { self.new.limit ≡ self.old.limit }
-        ensures engine { self.new.engine ≡ engine_behind event.who event.change self.old.engine }
+        ensures engine { self.new.engine ≡ engine_after event.who event.change self.old.engine }
         ensures byte { self.new.byte ≡ byte_with event.who self.old.engine }
     {
         match event.who {

@@ -1,7 +1,7 @@
 //! What the host is at on the wires.
 
 ghost use Rattle.std.specs.Prelude.{◌≡◌, ◌^◌, ◌<◌};
-ghost use Rattle.cbm_host.specs.Stages.{commanding, releasing, leaving, pull_change, behind_pull, release_change, released, stage_due, stage_made, stage_seen, stage_passed};
+ghost use Rattle.cbm_host.specs.Stages.{commanding, releasing, leaving, pull_change, after_a_pull, release_change, released, stage_due, stage_made, stage_seen, stage_passed};
 
 use crate::commands::Commands;
 use crate::due::Due;
@@ -31,7 +31,7 @@ pub(crate) struct Sequence {
 
 /// What follows a byte.
 #[derive(Clone, Copy, Drop)]
-pub(crate) enum Behind {
+pub(crate) enum Afterwards {
     /// The bytes of an attention, if any, and what follows it.
     Commanded(Option<Commands>, Errand),
     /// Bytes for the listener.
@@ -78,7 +78,7 @@ pub(crate) enum Stage {
     /// A byte is sent.
     Framing {
         frame: Frame,
-        behind: Behind,
+        afterwards: Afterwards,
     },
     /// ATN is freed to a listener.
     Calling(u64),
@@ -111,8 +111,8 @@ impl Pulls {
     }
 
     /// What is still to be changed after it: only what isn't so already.
-    fn behind(self) -> Option<Pulls>
-        ensures { result ≡ behind_pull self }
+    fn afterwards(self) -> Option<Pulls>
+        ensures { result ≡ after_a_pull self }
     {
         match self {
             Pulls::PullAtn {
@@ -178,7 +178,7 @@ impl Stage {
                 byte: attention.commands.first(),
                 eoi: false,
             },
-            behind: Behind::Commanded(attention.commands.rest(), attention.errand),
+            afterwards: Afterwards::Commanded(attention.commands.rest(), attention.errand),
         }
     }
 
@@ -246,7 +246,7 @@ impl Stage {
                 attention,
                 ..
             } => {
-                match pull.behind() {
+                match pull.afterwards() {
                     Some(pull) => Stage::Attending {
                         at: moment,
                         pull,
@@ -255,9 +255,9 @@ impl Stage {
                     None => Stage::command(moment, attention),
                 }
             }
-            Stage::Framing { mut frame, behind } => {
+            Stage::Framing { mut frame, afterwards } => {
                 frame.make(moment);
-                Stage::Framing { frame, behind }
+                Stage::Framing { frame, afterwards }
             }
             Stage::Releasing { release, .. } => release.made(moment),
             Stage::Taking(take) => Stage::Taking(take.made(moment)),
@@ -271,9 +271,9 @@ impl Stage {
         ensures { result ≡ stage_seen change self }
     {
         match (self, change.line, change.way) {
-            (Stage::Framing { frame, behind }, _, _) => Stage::Framing {
+            (Stage::Framing { frame, afterwards }, _, _) => Stage::Framing {
                 frame: frame.seen(change),
-                behind,
+                afterwards,
             },
             (Stage::Turning(_), Line::Clock, Way::Pull) => Stage::Taking(Take::Awaiting),
             // It let go of CLOCK, and now of DATA: it has nothing to say.

@@ -20,5 +20,5 @@ owes (Said byte last) shown = not last && goes_on shown
 owes act shown = false
 
 -- WHAT A MACHINE SHOWS AFTER AN ACT, before which it showed this: a byte, or nothing to say; and after a byte that isn't the last there is another.
-abbrev pub IsShownBehind : Act → Option (ℕ × Bool) → Option (ℕ × Bool) → Type 0
-IsShownBehind act before now = IfSome now (λ s. s.0 < 256) × (owes act before ≡ true → IsSome now)
+abbrev pub IsShownAfter : Act → Option (ℕ × Bool) → Option (ℕ × Bool) → Type 0
+IsShownAfter act before now = IfSome now (λ s. s.0 < 256) × (owes act before ≡ true → IsSome now)

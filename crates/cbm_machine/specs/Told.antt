@@ -17,8 +17,8 @@ abbrev pub next_told : ToldStatus → Option (ℕ × Bool)
 next_told t = next_shown (drop t.told (status_line t.status))
 
 -- A byte was taken; after the last one the status is 00, reported from its beginning.
-abbrev pub behind_next : ToldStatus → ToldStatus
-behind_next t =
+abbrev pub after_the_next : ToldStatus → ToldStatus
+after_the_next t =
     if nat_lt (t.told + 1) (length (status_line t.status)) then record t { told = t.told + 1 }
     else record { status = plain Fine; told = 0 }
 

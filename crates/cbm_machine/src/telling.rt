@@ -1,5 +1,5 @@
 ghost use Rattle.std.specs.Prelude.{◌≡◌, ℕ};
-ghost use Rattle.cbm_machine.specs.Told.{next_told, behind_next, told_by, is_unread_error};
+ghost use Rattle.cbm_machine.specs.Told.{next_told, after_the_next, told_by, is_unread_error};
 ghost use Rattle.cbm_machine.specs.Machines.{Machine};
 ghost use Rattle.cbm_machine.specs.Talking.{peek, taken};
 
@@ -66,7 +66,7 @@ impl Telling {
 
     /// The byte that `peek` shows was sent. After the last one the status is 00.
     pub fn taken(&mut self)
-        ensures { self.new ≡ behind_next self.old }
+        ensures { self.new ≡ after_the_next self.old }
     {
         if self.told + 1 < self.line.len() {
             self.told += 1;
@@ -79,5 +79,5 @@ impl Telling {
 /// A law: channel 15 sends what the machine's channel 15 sends.
 pub fn tells_as_the_machine()
     ensures peek { (m : Machine) → peek 15 m ≡ next_told (told_by m) }
-    ensures taken { (m : Machine) → told_by (taken 15 m) ≡ behind_next (told_by m) }
+    ensures taken { (m : Machine) → told_by (taken 15 m) ≡ after_the_next (told_by m) }
 {}

@@ -86,7 +86,7 @@ stopped tracks content n a code nz (inr (inl w)) = follow_full tracks content n 
 stopped tracks content zero a code nz (inr (inr w)) = absurd (omega (arith, w.1))
 stopped tracks content (suc n) a code nz (inr (inr w)) = follow_fault tracks content (suc n) n a code nz w.0 refl w.2
 
--- one sector fewer behind, and one fewer allowed
+-- one sector fewer after it, and one fewer allowed
 one_less : (tracks : ℕ) (content : Content) (most n : ℕ) (p : Place) (code : ℕ) → Stops tracks content (suc most) (suc n) p code → Stops tracks content most n p code
 one_less tracks content most n p code (inl w) = inl w
 one_less tracks content most n p code (inr (inl w)) = inr (inl (w.0, w.1, omega (arith, w.2)))

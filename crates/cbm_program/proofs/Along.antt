@@ -24,16 +24,16 @@ module _ (M : Type 0) (step : M → Act → M) (says : M → Option (ℕ × Bool
   all_told c [] h = tt
   all_told c (s ∷ ss) h = (acts _ s.machine h.0, all_told c ss h.1)
 
-  reacts : (t : ℕ) (before : List (Station M)) (o : Station M) (behind : List (Station M)) (cs : List Change) → AllOf (before ++ o ∷ behind) → AllOf (map (λ s. hear_all M step says cs s) before ++ react M step says t o ∷ map (λ s. hear_all M step says cs s) behind)
-  reacts t [] o behind cs h = (acts _ o.machine h.0, all_heard behind h.1)
+  reacts : (t : ℕ) (before : List (Station M)) (o : Station M) (afterwards : List (Station M)) (cs : List Change) → AllOf (before ++ o ∷ afterwards) → AllOf (map (λ s. hear_all M step says cs s) before ++ react M step says t o ∷ map (λ s. hear_all M step says cs s) afterwards)
+  reacts t [] o afterwards cs h = (acts _ o.machine h.0, all_heard afterwards h.1)
     where
       all_heard : (ss : List (Station M)) → AllOf ss → AllOf (map (λ s. hear_all M step says cs s) ss)
       all_heard [] h = tt
       all_heard (s ∷ ss) h = (hears cs s h.0, all_heard ss h.1)
-  reacts t (s ∷ before) o behind cs h = (hears cs s h.0, reacts t before o behind cs h.1)
+  reacts t (s ∷ before) o afterwards cs h = (hears cs s h.0, reacts t before o afterwards cs h.1)
 
   -- ALONG A PLAY
   pub kept_along : {n n2 : ℕ} {ss ss2 : List (Station M)} {es : List Event} → Plays M step says n ss es n2 ss2 → AllOf ss → AllOf ss2
   kept_along (stays bytes none from same) h = subst AllOf (sym same) h
   kept_along {ss = ss} (change c more bytes later time e plays) h = kept_along plays (all_told c ss h)
-  kept_along (reaction t before o behind more bytes parts first e plays) h = kept_along plays (reacts t before o behind (shown M step says t o) (subst AllOf parts h))
+  kept_along (reaction t before o afterwards more bytes parts first e plays) h = kept_along plays (reacts t before o afterwards (shown M step says t o) (subst AllOf parts h))

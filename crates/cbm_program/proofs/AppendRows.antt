@@ -5,11 +5,11 @@ use Rattle.cbm_file.specs.declared.file_type.FileType.TheVariants.{Prg}
 use Rattle.cbm_machine.specs.Machines.{Machine}
 use Rattle.cbm_program.specs.declared.request.ScriptRequest.{ScriptRequest}
 use Rattle.cbm_program.specs.declared.request.ScriptRequest.TheVariants.{Fill, Get, Close, Status}
-use Rattle.cbm_program.proofs.Words.{open_by, put_by, formatted, powered, blank, prints, behind, summary, status_is, small_file}
+use Rattle.cbm_program.proofs.Words.{open_by, put_by, formatted, powered, blank, prints, afterwards, summary, status_is, small_file}
 use Rattle.cbm_program.proofs.ListingRows.{with_hello}
 use Rattle.cbm_program.proofs.NameRows.{code_after}
 
--- bytes are put behind those that are there; M reads as R does
+-- bytes are put after those that are there; M reads as R does
 abbrev pub appends : List ScriptRequest
 appends = open_by 2 (codes "E,S,W") ∷ put_by 2 (codes "AB") ∷ Close 2 ∷ open_by 2 (codes "E,S,A") ∷ put_by 2 (codes "C") ∷ Close 2 ∷ []
 
@@ -17,26 +17,26 @@ pub appended : prints (appends ++ open_by 2 (codes "E,S,M") ∷ Get 2 9 ∷ []) 
 unfolding digits
 appended = refl
 
-pub appended_disk : summary (behind appends blank) ≡ ((codes "E", 1, 1) ∷ [], 663)
+pub appended_disk : summary (afterwards appends blank) ≡ ((codes "E", 1, 1) ∷ [], 663)
 appended_disk = refl
 
--- a byte behind a full block takes another
-pub appended_block : summary (behind (open_by 2 (codes "F,S,W") ∷ Fill 2 254 65 ∷ Close 2 ∷ open_by 2 (codes "F,S,A") ∷ put_by 2 (codes "A") ∷ Close 2 ∷ []) blank)
+-- a byte after a full block takes another
+pub appended_block : summary (afterwards (open_by 2 (codes "F,S,W") ∷ Fill 2 254 65 ∷ Close 2 ∷ open_by 2 (codes "F,S,A") ∷ put_by 2 (codes "A") ∷ Close 2 ∷ []) blank)
     ≡ ((codes "F", 2, 2) ∷ [], 662)
 appended_block = refl
 
 -- a program of 255 bytes
 abbrev pub two_blocks : Machine
-two_blocks = behind (open_by 1 (codes "X") ∷ Fill 1 255 65 ∷ Close 1 ∷ []) blank
+two_blocks = afterwards (open_by 1 (codes "X") ∷ Fill 1 255 65 ∷ Close 1 ∷ []) blank
 
 -- while it is replaced, the old one stays
 abbrev pub replacing : Machine
-replacing = behind (open_by 1 (codes "@0:X") ∷ put_by 1 (codes "A") ∷ []) two_blocks
+replacing = afterwards (open_by 1 (codes "@0:X") ∷ put_by 1 (codes "A") ∷ []) two_blocks
 
 pub while_replacing : summary replacing ≡ ((codes "X", 2, 2) ∷ [], 661)
 while_replacing = refl
 
-pub replaced : summary (behind (Close 1 ∷ []) replacing) ≡ ((codes "X", 1, 1) ∷ [], 663)
+pub replaced : summary (afterwards (Close 1 ∷ []) replacing) ≡ ((codes "X", 1, 1) ∷ [], 663)
 replaced = refl
 
 -- a replacement that finds the disk full keeps the old file
@@ -46,11 +46,11 @@ one_free = powered (record two_blocks.disk { free = 1 })
 pub full_status : prints (open_by 1 (codes "@:X") ∷ Fill 1 255 0x42 ∷ Status ∷ []) one_free ≡ status_is (codes "72,DISK FULL")
 full_status = refl
 
-pub full_kept : summary (behind (open_by 1 (codes "@:X") ∷ Fill 1 255 0x42 ∷ Close 1 ∷ []) one_free) ≡ ((codes "X", 2, 2) ∷ [], 1)
+pub full_kept : summary (afterwards (open_by 1 (codes "@:X") ∷ Fill 1 255 0x42 ∷ Close 1 ∷ []) one_free) ≡ ((codes "X", 2, 2) ∷ [], 1)
 full_kept = refl
 
 -- a file that is being written
-pub while_written : map (code_after (behind (open_by 2 (codes "E,S,W") ∷ []) blank))
+pub while_written : map (code_after (afterwards (open_by 2 (codes "E,S,W") ∷ []) blank))
     (open_by 3 (codes "E") ∷ open_by 3 (codes "E,S,A") ∷ open_by 3 (codes "@:E,S,W") ∷ open_by 3 (codes "E,S,W") ∷ [])
     ≡ codes "60" ∷ codes "60" ∷ codes "60" ∷ codes "63" ∷ []
 while_written = refl

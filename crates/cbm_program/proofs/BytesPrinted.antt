@@ -16,7 +16,7 @@ use Rattle.cbm_program.specs.Output.{AppendsPart}
 use Rattle.cbm_program.specs.Scripts.{hex, eoi_mark, bytes_text, get_line}
 use Rattle.cbm_program.specs.Units.{unit_text, said_text, get_head, PrintsRest, PrintsRestPart}
 use Rattle.bus_traces.proofs.Appending.{appends-nothing, appends-more}
-use Rattle.cbm_program.proofs.OutputLemmas.{part_behind, part_before}
+use Rattle.cbm_program.proofs.OutputLemmas.{part_after, part_before}
 use Rattle.cbm_host.specs.KeptHostings.{KeptHosting}
 
 -- ---- texts
@@ -44,7 +44,7 @@ begins bytes false whole marked f = (
       ∙ ap (λ t. t ++ (flat_map hex f.more ++ eoi_mark marked)) (sym (append-nil (flat_map hex bytes))),
 )
 
--- behind the last byte none comes
+-- after the last byte none comes
 not_last : (bytes : List ℕ) (last : Bool) (b : ℕ) (l : Bool) (whole : List ℕ) (marked : Bool) → AreFirst bytes last whole marked → AreFirst (bytes ++ b ∷ []) l whole marked → last ≡ false
 not_last bytes false b l whole marked f g = refl
 not_last bytes true b l whole marked f g =
@@ -54,10 +54,10 @@ not_last bytes true b l whole marked f g =
     let three = length-append bytes (b ∷ []) in
     absurd (omega (arith, one, two, three))
 
--- ---- bytes behind the first
+-- ---- bytes after the first
 
 module _ {M : Type 0} (seen : M → Seen) where
-  -- these bytes came, and all that is printed of them behind the first ones was written
+  -- these bytes came, and all that is printed of them after the first ones was written
   pub record Gone (a b : Option (List ℕ)) (h : KeptHosting M) (p : Performing) (m : Machine) (request : asks.Request) (bytes : List ℕ) (last : Bool) : Type 0 where
     pub now : List ℕ
     pub mark : Bool
@@ -120,7 +120,7 @@ module _ {M : Type 0} (seen : M → Seen) where
         rest = (o.rest ++ unit_text (Some (byte, l))) ++ more.0;
         whole = more.1 ∙ ap (λ t. t ++ more.0) (one_more o.now byte l ∙ ap (λ v. said_text o.now v ++ unit_text (Some (byte, l))) (sym unmarked) ∙ ap (λ t. t ++ unit_text (Some (byte, l))) o.text ∙ append_assoc (said_text bytes last) o.rest (unit_text (Some (byte, l))))
             ∙ append_assoc (said_text bytes last) (o.rest ++ unit_text (Some (byte, l))) more.0;
-        written = part_before a c (o.rest ++ unit_text (Some (byte, l))) more.0 (part_behind a b c o.rest (unit_text (Some (byte, l))) o.written part);
+        written = part_before a c (o.rest ++ unit_text (Some (byte, l))) more.0 (part_after a b c o.rest (unit_text (Some (byte, l))) o.written part);
       }
 
   -- all bytes came
@@ -160,7 +160,7 @@ line_byte_part a b c ch x l said f head part =
     let more = begins (x ∷ []) l said.bytes said.marked f in
     subst (λ t. AppendsPart a c t) (sym (some_line ch said x f.more f.front))
     (part_before a c (get_head ch (codes " ") ++ said_text said.bytes said.marked) (codes "\n")
-    (part_behind a b c (get_head ch (codes " ")) (said_text said.bytes said.marked) head
+    (part_after a b c (get_head ch (codes " ")) (said_text said.bytes said.marked) head
     (subst (λ t. AppendsPart b c t) (ap (λ t. t ++ more.0) (unit_is x l) ∙ sym more.1) (part_before b c (unit_text (Some (x, l))) more.0 part))))
 
 pub line_rest_part : (a b c d : Option (List ℕ)) (ch x : ℕ) (l : Bool) (said : TalkSaid) → AreFirst (x ∷ []) l said.bytes said.marked → Appends a b (get_head ch (codes " ")) → Appends b c (unit_text (Some (x, l)))
@@ -168,10 +168,10 @@ pub line_rest_part : (a b c d : Option (List ℕ)) (ch x : ℕ) (l : Bool) (said
 line_rest_part a b c d ch x l said f head unit rest =
     subst (λ t. AppendsPart a d t) (sym (some_line ch said x f.more f.front))
     (part_before a d (get_head ch (codes " ") ++ said_text said.bytes said.marked) (codes "\n")
-    (part_behind a b d (get_head ch (codes " ")) (said_text said.bytes said.marked) head
-    (subst (λ t. AppendsPart b d t) (ap (λ t. t ++ rest.rest) (unit_is x l) ∙ sym rest.whole) (part_behind b c d (unit_text (Some (x, l))) rest.rest unit rest.written))))
+    (part_after a b d (get_head ch (codes " ")) (said_text said.bytes said.marked) head
+    (subst (λ t. AppendsPart b d t) (ap (λ t. t ++ rest.rest) (unit_is x l) ∙ sym rest.whole) (part_after b c d (unit_text (Some (x, l))) rest.rest unit rest.written))))
 
--- the bytes behind the first, of an answer at one pace as at another
+-- the bytes after the first, of an answer at one pace as at another
 pub rest_at : (a b : Option (List ℕ)) (x : ℕ) (l : Bool) (channel most : ℕ) (m : Machine) (e f : Pace) → e ≡ f → PrintsRest a b (x ∷ []) l (talked_at e channel most m) → PrintsRest a b (x ∷ []) l (talked_at f channel most m)
 rest_at a b x l channel most m e f same = subst (λ (v : Pace). PrintsRest a b (x ∷ []) l (talked_at v channel most m)) same
 
@@ -193,4 +193,4 @@ pub line_end_part : (a b c d e : Option (List ℕ)) (ch x : ℕ) (l : Bool) (sai
     → AppendsPart d e (codes "\n") → AppendsPart a e (get_line ch said)
 line_end_part a b c d e ch x l said f head unit rest part =
     subst (λ t. AppendsPart a e t) (sym (some_line ch said x f.more f.front))
-    (part_behind a d e (get_head ch (codes " ") ++ said_text said.bytes said.marked) (codes "\n") (all_bytes a b c d ch x l said head unit rest) part)
+    (part_after a d e (get_head ch (codes " ") ++ said_text said.bytes said.marked) (codes "\n") (all_bytes a b c d ch x l said head unit rest) part)

@@ -6,7 +6,7 @@ use Rattle.cbm_file.specs.Files.{lost}
 use Rattle.cbm_machine.specs.Machines.{Machine}
 use Rattle.cbm_machine.specs.Listings.{listing}
 use Rattle.cbm_program.specs.declared.request.ScriptRequest.TheVariants.{Get, Close, Status}
-use Rattle.cbm_program.proofs.Words.{open_by, put_by, formatted, powered, blank, prints, behind, summary, status_is, small_file}
+use Rattle.cbm_program.proofs.Words.{open_by, put_by, formatted, powered, blank, prints, afterwards, summary, status_is, small_file}
 use Rattle.cbm_program.proofs.ListingRows.{writes_hello, with_hello}
 use Rattle.cbm_program.proofs.NameRows.{code_after}
 
@@ -22,7 +22,7 @@ pub scratched : prints (put_by 15 (codes "S0:A*") ∷ Status ∷ put_by 15 (code
     ≡ codes "status 01, FILES SCRATCHED,02,00\nstatus 01, FILES SCRATCHED,00,00\n"
 scratched = refl
 
-pub scratched_disk : summary (behind (put_by 15 (codes "S0:A*") ∷ []) three_files) ≡ ((codes "A2", 1, 1) ∷ [], 663)
+pub scratched_disk : summary (afterwards (put_by 15 (codes "S0:A*") ∷ []) three_files) ≡ ((codes "A2", 1, 1) ∷ [], 663)
 scratched_disk = refl
 
 -- the files A and B
@@ -33,10 +33,10 @@ two_names = powered (record (formatted 35) { slots = Some (small_file Seq (codes
 pub rename_there : prints (put_by 15 (codes "R0:B=A") ∷ Status ∷ []) two_names ≡ status_is (codes "63,FILE EXISTS")
 rename_there = refl
 
-pub rename_changes_nothing : (behind (put_by 15 (codes "R0:B=A") ∷ []) two_names).disk ≡ two_names.disk
+pub rename_changes_nothing : (afterwards (put_by 15 (codes "R0:B=A") ∷ []) two_names).disk ≡ two_names.disk
 rename_changes_nothing = refl
 
-pub renamed : summary (behind (put_by 15 (codes "R0:C=0:A") ∷ []) two_names) ≡ ((codes "C", 1, 1) ∷ (codes "B", 1, 1) ∷ [], 662)
+pub renamed : summary (afterwards (put_by 15 (codes "R0:C=0:A") ∷ []) two_names) ≡ ((codes "C", 1, 1) ∷ (codes "B", 1, 1) ∷ [], 662)
 renamed = refl
 
 -- a command that isn't there, long texts, and other drives
@@ -54,7 +54,7 @@ other_drive = refl
 
 -- NEW without an id keeps the id and empties the disk
 abbrev pub next_disk : Machine
-next_disk = behind (put_by 15 (codes "N0:NEXT") ∷ []) with_hello
+next_disk = afterwards (put_by 15 (codes "N0:NEXT") ∷ []) with_hello
 
 pub next_title : slice_range (listing next_disk.disk (codes "*")) 8 32 ≡ codes "NEXT            \" AB 2A" ++ 0 ∷ []
 next_title = refl
@@ -64,12 +64,12 @@ next_files = refl
 
 -- two files of one byte
 abbrev pub two_bytes : Machine
-two_bytes = behind
+two_bytes = afterwards
     (open_by 2 (codes "A,S,W") ∷ put_by 2 (0x41 ∷ []) ∷ Close 2 ∷ open_by 2 (codes "C,S,W") ∷ put_by 2 (0x42 ∷ []) ∷ Close 2 ∷ [])
     blank
 
 -- COPY joins them into one block
-pub copied : summary (behind (put_by 15 (codes "C0:D=A,C") ∷ []) two_bytes) ≡ ((codes "A", 1, 1) ∷ (codes "C", 1, 1) ∷ (codes "D", 1, 1) ∷ [], 661)
+pub copied : summary (afterwards (put_by 15 (codes "C0:D=A,C") ∷ []) two_bytes) ≡ ((codes "A", 1, 1) ∷ (codes "C", 1, 1) ∷ (codes "D", 1, 1) ∷ [], 661)
 copied = refl
 
 pub copy_read : prints (put_by 15 (codes "C0:D=A,C") ∷ open_by 2 (codes "D,S") ∷ Get 2 9 ∷ []) two_bytes ≡ codes "get 2 4142 eoi\n"
@@ -81,7 +81,7 @@ five_sources = refl
 
 -- a disk on which a file was never closed, in a new run
 abbrev pub left_open : Machine
-left_open = powered (behind writes_hello blank).disk
+left_open = powered (afterwards writes_hello blank).disk
 
 pub left_open_free : left_open.disk.free ∷ lost left_open.disk ∷ [] ≡ 663 ∷ 1 ∷ []
 left_open_free = refl
@@ -89,14 +89,14 @@ left_open_free = refl
 pub validated_status : prints (put_by 15 (codes "V0") ∷ Status ∷ []) left_open ≡ status_is (codes "00, OK")
 validated_status = refl
 
-pub validated : summary (behind (put_by 15 (codes "V0") ∷ []) left_open) ≡ ([], 664)
+pub validated : summary (afterwards (put_by 15 (codes "V0") ∷ []) left_open) ≡ ([], 664)
 validated = refl
 
-pub nothing_lost : lost (behind (put_by 15 (codes "V0") ∷ []) left_open).disk ≡ 0
+pub nothing_lost : lost (afterwards (put_by 15 (codes "V0") ∷ []) left_open).disk ≡ 0
 nothing_lost = refl
 
 -- with a channel open, and P's refusals
-pub while_open : map (code_after (behind (open_by 0 (codes "$") ∷ []) two_bytes))
+pub while_open : map (code_after (afterwards (open_by 0 (codes "$") ∷ []) two_bytes))
     (put_by 15 (codes "V0") ∷ put_by 15 (codes "N0:A,BC") ∷ put_by 15 (80 ∷ 0x62 ∷ []) ∷ put_by 15 (80 ∷ 0x62 ∷ 1 ∷ 0 ∷ []) ∷ put_by 15 (80 ∷ 0 ∷ 1 ∷ 0 ∷ [])
     ∷ put_by 15 (80 ∷ 15 ∷ 1 ∷ 0 ∷ []) ∷ put_by 15 (codes "X") ∷ put_by 15 (codes "I0") ∷ [])
     ≡ codes "60" ∷ codes "60" ∷ codes "30" ∷ codes "70" ∷ codes "64" ∷ codes "70" ∷ codes "31" ∷ codes "00" ∷ []

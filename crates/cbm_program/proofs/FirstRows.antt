@@ -23,12 +23,12 @@ pub read_in_parts : prints (Get 0 3 ∷ open_by 0 (codes "HELLO") ∷ Get 0 2 �
 unfolding digits
 read_in_parts = refl
 
--- behind CLOSE there is nothing to say
+-- after CLOSE there is nothing to say
 pub closed_says_nothing : prints (open_by 0 (codes "HELLO") ∷ Close 0 ∷ Get 0 9 ∷ Status ∷ []) with_hello ≡ codes "get 0 none\n" ++ status_is (codes "61,FILE NOT OPEN")
 unfolding digits
 closed_says_nothing = refl
 
--- a missing file, and the status behind it
+-- a missing file, and the status after it
 pub missing_file : prints (open_by 0 (codes "NONE") ∷ Status ∷ Status ∷ []) with_hello ≡ status_is (codes "62,FILE NOT FOUND") ++ status_is (codes "00, OK")
 missing_file = refl
 
@@ -52,7 +52,7 @@ pub first_status_bytes : prints (Get 15 100 ∷ []) blank
 unfolding digits
 first_status_bytes = refl
 
--- a status is read in parts, and the next one begins behind its last byte
+-- a status is read in parts, and the next one begins after its last byte
 pub status_in_parts : prints (Get 15 4 ∷ Status ∷ Status ∷ []) blank ≡ codes "get 15 37332c43\nstatus BM DOS V2.6 1541,00,00\nstatus 00, OK,00,00\n"
 unfolding digits
 status_in_parts = refl

@@ -119,10 +119,10 @@ module _ (tracks : ℕ) (content : Content) (protected : Bool) (is : protected �
   holds m n s g = subst (λ (x : Disk). HoldsDisk tracks content x) (sym g.1) s.1
 
   -- what was held before, is held after the script
-  pub kept-behind : (pace : Pace) (checks : Bool) (a b x : Option (List ℕ)) (now : Machine → Type 0) → IsScriptServed pace checks x a b (StartsOn tracks content protected) now
+  pub kept-afterwards : (pace : Pace) (checks : Bool) (a b x : Option (List ℕ)) (now : Machine → Type 0) → IsScriptServed pace checks x a b (StartsOn tracks content protected) now
       → IsScriptServed pace checks x a b (StartsOn tracks content protected) (λ m. HoldsDisk tracks content m.disk)
-  kept-behind pace checks a b None now h = tt
-  kept-behind pace checks a b (Some xs) now h = λ m s. ((h m s).0, holds m (printed pace (script_of xs).requests m).machine s (all s.0 pace (script_of xs).requests m (starts m s)))
+  kept-afterwards pace checks a b None now h = tt
+  kept-afterwards pace checks a b (Some xs) now h = λ m s. ((h m s).0, holds m (printed pace (script_of xs).requests m).machine s (all s.0 pace (script_of xs).requests m (starts m s)))
 
   pub kept-trace : (text : List ℕ) (a b x : Option (List ℕ)) (now : Machine → Type 0) (drive : Party) → Left text a b x (StartsOn tracks content protected) now drive
       → Left text a b x (StartsOn tracks content protected) (λ m. HoldsDisk tracks content m.disk) drive

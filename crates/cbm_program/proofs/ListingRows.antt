@@ -5,7 +5,7 @@ use Rattle.cbm_machine.specs.Machines.{Machine, start}
 use Rattle.cbm_program.specs.declared.request.ScriptRequest.{ScriptRequest}
 use Rattle.cbm_program.specs.declared.request.ScriptRequest.TheVariants.{Get, Close}
 use Rattle.cbm_talk.specs.Talks.{talked}
-use Rattle.cbm_program.proofs.Words.{open_by, put_by, formatted, blank, prints, behind}
+use Rattle.cbm_program.proofs.Words.{open_by, put_by, formatted, blank, prints, afterwards}
 
 -- the listing of a formatted disk, 64 bytes
 pub listing_of_blank : prints (open_by 0 (codes "$") ∷ Get 0 5000 ∷ []) blank ≡ codes "get 0 "
@@ -20,11 +20,11 @@ writes_hello = open_by 1 (codes "HELLO") ∷ put_by 1 (1 ∷ 2 ∷ 3 ∷ []) ∷
 
 -- the bytes of the listing then
 abbrev pub listed : Machine → List ℕ
-listed m = (talked 0 5000 (behind (open_by 0 (codes "$") ∷ []) m)).bytes
+listed m = (talked 0 5000 (afterwards (open_by 0 (codes "$") ∷ []) m)).bytes
 
 -- it is closed
 abbrev pub with_hello : Machine
-with_hello = behind (Close 1 ∷ []) (behind writes_hello blank)
+with_hello = afterwards (Close 1 ∷ []) (afterwards writes_hello blank)
 
 pub listing_length : length (listed with_hello) ≡ 96
 listing_length = refl
@@ -33,11 +33,11 @@ pub hello_line : slice_range (listed with_hello) 32 64 ≡ 1 ∷ 1 ∷ 1 ∷ 0 �
 hello_line = refl
 
 -- while it is written
-pub unclosed_line : slice_range (listed (behind writes_hello blank)) 32 64 ≡ 1 ∷ 1 ∷ 0 ∷ 0 ∷ codes "   \"HELLO\"           *PRG  " ++ 0 ∷ []
+pub unclosed_line : slice_range (listed (afterwards writes_hello blank)) 32 64 ≡ 1 ∷ 1 ∷ 0 ∷ 0 ∷ codes "   \"HELLO\"           *PRG  " ++ 0 ∷ []
 unclosed_line = refl
 
 -- a pattern chooses the lines
-pub listing_of_pattern : length (talked 0 5000 (behind (open_by 0 (codes "$0:J*") ∷ []) with_hello)).bytes ≡ 64
+pub listing_of_pattern : length (talked 0 5000 (afterwards (open_by 0 (codes "$0:J*") ∷ []) with_hello)).bytes ≡ 64
 listing_of_pattern = refl
 
 -- on forty tracks 749 blocks are free

@@ -4,11 +4,11 @@ use Rattle.std.specs.Fmt.{digits}
 use Rattle.cbm_machine.specs.Machines.{Machine}
 use Rattle.cbm_program.specs.declared.request.ScriptRequest.{ScriptRequest}
 use Rattle.cbm_program.specs.declared.request.ScriptRequest.TheVariants.{Get, Close, Status}
-use Rattle.cbm_program.proofs.Words.{open_by, put_by, blank, prints, behind, status_is}
+use Rattle.cbm_program.proofs.Words.{open_by, put_by, blank, prints, afterwards, status_is}
 
 -- a sequential file AB and a program AC, each of one byte
 abbrev pub two_types : Machine
-two_types = behind
+two_types = afterwards
     (open_by 2 (codes "AB,S,W") ∷ put_by 2 (1 ∷ []) ∷ Close 2 ∷ open_by 2 (codes "AC,P,W") ∷ put_by 2 (2 ∷ []) ∷ Close 2 ∷ [])
     blank
 
@@ -27,9 +27,9 @@ program_asked = refl
 pub wrong_type : prints (open_by 0 (codes "AB") ∷ Status ∷ []) two_types ≡ status_is (codes "64,FILE TYPE MISMATCH")
 wrong_type = refl
 
--- the two digits of the status behind a request
+-- the two digits of the status after a request
 abbrev pub code_after : Machine → ScriptRequest → List ℕ
-code_after m request = slice_range (prints (Status ∷ []) (behind (request ∷ []) m)) 7 9
+code_after m request = slice_range (prints (Status ∷ []) (afterwards (request ∷ []) m)) 7 9
 
 pub refused_texts : map (code_after blank)
     (open_by 1 (codes "A*") ∷ open_by 2 (codes "0:") ∷ open_by 2 (codes "A,X") ∷ open_by 0 (codes "1:A") ∷ open_by 2 (codes "$") ∷ open_by 2 (codes "#") ∷ [])
@@ -38,7 +38,7 @@ refused_texts = refl
 
 -- the file A of one byte
 abbrev pub one_file : Machine
-one_file = behind (open_by 2 (codes "A,S,W") ∷ put_by 2 (65 ∷ []) ∷ Close 2 ∷ []) blank
+one_file = afterwards (open_by 2 (codes "A,S,W") ∷ put_by 2 (65 ∷ []) ∷ Close 2 ∷ []) blank
 
 -- a fourth channel is refused, and three still read
 pub three_channels : prints (open_by 2 (codes "A") ∷ open_by 3 (codes "A") ∷ open_by 4 (codes "A") ∷ open_by 5 (codes "A") ∷ Status

@@ -16,12 +16,12 @@ use Rattle.cbm_program.specs.Output.{AppendsPart, AppendsMore}
 use Rattle.cbm_program.specs.Running.{EndsAs, EndsBy, IsOfScript, IsOfWriting}
 use Rattle.cbm_program.specs.Starts.{IsRunRefusal}
 use Rattle.cbm_program.specs.Timetables.{of_requests, of_changes}
-use Rattle.cbm_program.specs.Traces.{WritesTrace, WritesBehind}
+use Rattle.cbm_program.specs.Traces.{WritesTrace, WritesAfter}
 use Rattle.cbm_program.proofs.LinePrints.{if_err}
 use Rattle.cbm_program.proofs.OutputLemmas.{grows_none, grows_on}
 use Rattle.cbm_program.proofs.RunLemmas.{outside}
-use Rattle.cbm_program.proofs.StartLemmas.{AreAmong, Said, ended-among, part-among, ended-behind, served-behind, part-behind, part-cut, nothing-part, ends-again, ends-any}
-use Rattle.cbm_program.proofs.TraceLemmas.{requests_are, no_changes, changes_are, no_requests, first-of, first-traced, first-wrote, traced-among, cut-among, cut-text, cut-nothing, traced-behind, left-behind, cut-behind, ends-map, err-map}
+use Rattle.cbm_program.proofs.StartLemmas.{AreAmong, Said, ended-among, part-among, ended-afterwards, served-afterwards, part-afterwards, part-cut, nothing-part, ends-again, ends-any}
+use Rattle.cbm_program.proofs.TraceLemmas.{requests_are, no_changes, changes_are, no_requests, first-of, first-traced, first-wrote, traced-among, cut-among, cut-text, cut-nothing, traced-afterwards, left-afterwards, cut-afterwards, ends-map, err-map}
 
 no-ok : {A : Type 0} (r : Result A RunFault) (f : RunFault) (P : A → Type 0) → r ≡ Err f → IfOk r P
 no-ok r f P e = subst (λ v. IfOk v P) (sym e) tt
@@ -40,14 +40,14 @@ module _ {A : Type 0} (r : Result A RunFault) (a b : Option (List ℕ)) (stood :
   plays-none drive checks = record { ended = ends-any r _ (λ bad. tt); disk = any-ok r; fault = if_err r tt }
 
   -- a trace, and no line of a check before it
-  writes-behind : (drive : Party) (input : Option (List ℕ)) → AppendsMore a b → EndsAs r (WritesTrace drive input a b) → EndsAs r (λ bad. WritesBehind drive false input a b bad)
-  writes-behind drive input grows w = ends-map r _ _ w (λ bad h. (a, (λ off. refl), grows_none a, h))
+  writes-afterwards : (drive : Party) (input : Option (List ℕ)) → AppendsMore a b → EndsAs r (WritesTrace drive input a b) → EndsAs r (λ bad. WritesAfter drive false input a b bad)
+  writes-afterwards drive input grows w = ends-map r _ _ w (λ bad h. (a, (λ off. refl), grows_none a, h))
 
   pub run-served : (pace : Pace) (device : ℕ) (x : Option (List ℕ)) → NotTimed x → ServesScript r stood holds pace false x a b → AppendsMore a b → IsRun r stood holds pace device false x a b
   run-served pace device x n s grows = record {
     served = subst (λ o. ServesScript r stood holds pace false o a b) (sym (requests_are x n)) s;
     played = subst (λ o. PlaysScript r stood holds (party_of pace device) false o a b) (sym (no_changes x n)) (plays-none (party_of pace device) false);
-    wrote = writes-behind (party_of pace device) (of_changes x) grows (ends-any r _ (λ bad. subst (λ o. WritesTrace (party_of pace device) o a b bad) (sym (no_changes x n)) tt));
+    wrote = writes-afterwards (party_of pace device) (of_changes x) grows (ends-any r _ (λ bad. subst (λ o. WritesTrace (party_of pace device) o a b bad) (sym (no_changes x n)) tt));
     grows = grows;
   }
 
@@ -56,7 +56,7 @@ module _ {A : Type 0} (r : Result A RunFault) (a b : Option (List ℕ)) (stood :
   run-played pace device x k t p w grows = record {
     served = subst (λ o. ServesScript r stood holds pace false o a b) (sym (no_requests x k t)) (serves-none pace false);
     played = subst (λ o. PlaysScript r stood holds (party_of pace device) false o a b) (sym (changes_are x k t)) p;
-    wrote = writes-behind (party_of pace device) (of_changes x) grows (subst (λ o. EndsAs r (WritesTrace (party_of pace device) o a b)) (sym (changes_are x k t)) w);
+    wrote = writes-afterwards (party_of pace device) (of_changes x) grows (subst (λ o. EndsAs r (WritesTrace (party_of pace device) o a b)) (sym (changes_are x k t)) w);
     grows = grows;
   }
 
@@ -74,24 +74,24 @@ run-first r f a y x k stood holds pace device same h e = record {
     disk = no-ok r f _ e;
     fault = if_err r (cut-nothing [] a (of_changes x) stood (party_of pace device));
   };
-  wrote = writes-behind r a a stood holds (party_of pace device) (of_changes x) (grows_none a) (first-wrote (party_of pace device) a y x k same r f h e);
+  wrote = writes-afterwards r a a stood holds (party_of pace device) (of_changes x) (grows_none a) (first-wrote (party_of pace device) a y x k same r f h e);
   grows = grows_none a;
 }
 
--- ---- behind the line of a check
+-- ---- after the line of a check
 
-pub run-behind : {A : Type 0} (r : Result A RunFault) (a b c x : Option (List ℕ)) (stood : Machine → Type 0) (holds : A → Machine → Type 0) (pace : Pace) (device : ℕ) (checks : Bool) → Said checks a b stood → (checks ≡ false → b ≡ a) → AppendsMore a b
+pub run-afterwards : {A : Type 0} (r : Result A RunFault) (a b c x : Option (List ℕ)) (stood : Machine → Type 0) (holds : A → Machine → Type 0) (pace : Pace) (device : ℕ) (checks : Bool) → Said checks a b stood → (checks ≡ false → b ≡ a) → AppendsMore a b
     → IsRun r stood holds pace device false x b c → IsRun r stood holds pace device checks x a c
-run-behind r a b c x stood holds pace device checks said none grows run = record {
+run-afterwards r a b c x stood holds pace device checks said none grows run = record {
   served = record {
-    ended = ends-map r _ _ run.served.ended (λ bad h. ended-behind pace checks a b c stood said (λ m. Unit {0}) (of_requests x) bad h);
-    disk = IfOk-weaker r _ _ (λ after h. served-behind pace checks a b c stood said (holds after) (of_requests x) h) run.served.disk;
-    fault = err-map r _ _ run.served.fault (λ h. part-behind pace checks a b c stood said (of_requests x) h);
+    ended = ends-map r _ _ run.served.ended (λ bad h. ended-afterwards pace checks a b c stood said (λ m. Unit {0}) (of_requests x) bad h);
+    disk = IfOk-weaker r _ _ (λ after h. served-afterwards pace checks a b c stood said (holds after) (of_requests x) h) run.served.disk;
+    fault = err-map r _ _ run.served.fault (λ h. part-afterwards pace checks a b c stood said (of_requests x) h);
   };
   played = record {
-    ended = ends-map r _ _ run.played.ended (λ bad h. traced-behind checks a b c (of_changes x) stood (λ m. Unit {0}) (party_of pace device) bad said h);
-    disk = IfOk-weaker r _ _ (λ after h. left-behind checks a b c (of_changes x) stood (holds after) (party_of pace device) said h) run.played.disk;
-    fault = err-map r _ _ run.played.fault (λ h. cut-behind checks a b c (of_changes x) stood (party_of pace device) said h);
+    ended = ends-map r _ _ run.played.ended (λ bad h. traced-afterwards checks a b c (of_changes x) stood (λ m. Unit {0}) (party_of pace device) bad said h);
+    disk = IfOk-weaker r _ _ (λ after h. left-afterwards checks a b c (of_changes x) stood (holds after) (party_of pace device) said h) run.played.disk;
+    fault = err-map r _ _ run.played.fault (λ h. cut-afterwards checks a b c (of_changes x) stood (party_of pace device) said h);
   };
   wrote = ends-map r _ _ run.wrote (λ bad h. (b, none, grows, subst (λ o. WritesTrace (party_of pace device) (of_changes x) o c bad) (h.1 refl) h.3));
   grows = grows_on a b c grows run.grows;

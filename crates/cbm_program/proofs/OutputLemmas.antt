@@ -11,8 +11,8 @@ grows_none o = ([], appends-nothing o)
 pub grows_on : (a b c : Option (List ℕ)) → AppendsMore a b → AppendsMore b c → AppendsMore a c
 grows_on a b c (xs, h) (ys, k) = (xs ++ ys, appends-more a b c xs ys h k)
 
-pub part_behind : (a b c : Option (List ℕ)) (xs ys : List ℕ) → Appends a b xs → AppendsPart b c ys → AppendsPart a c (xs ++ ys)
-part_behind a b c xs ys h (part, rest, k, e) =
+pub part_after : (a b c : Option (List ℕ)) (xs ys : List ℕ) → Appends a b xs → AppendsPart b c ys → AppendsPart a c (xs ++ ys)
+part_after a b c xs ys h (part, rest, k, e) =
     (xs ++ part, rest, appends-more a b c xs part h k, ap (λ t. xs ++ t) e ∙ sym (append_assoc xs part rest))
 
 pub part_before : (a b : Option (List ℕ)) (xs ys : List ℕ) → AppendsPart a b xs → AppendsPart a b (xs ++ ys)

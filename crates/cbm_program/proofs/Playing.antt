@@ -22,8 +22,8 @@ use Rattle.bus_traces.specs.Lines.{lines_of, TakesLine}
 use Rattle.cbm_program.specs.Output.{AppendsPart, AppendsMore}
 use Rattle.cbm_program.specs.Running.{EndsAs}
 use Rattle.cbm_program.specs.Staging.{IsAt, IsBorne, IsFresh, PlaysOn, PlaysPart, Ends, ReplaysOn, ReplaysTo, tracks_of_drives}
-use Rattle.cbm_program.specs.TimedReading.{ReadsTimed, LacksTimed, TimedRead, IsBadBehind, BehindRead}
-use Rattle.cbm_program.specs.Timetables.{Timetable, timetable_of, timetable_from, timed_meaning, with_timed, stopped_at, ended_at, latest_if, bad_behind}
+use Rattle.cbm_program.specs.TimedReading.{ReadsTimed, LacksTimed, TimedRead, IsBadAfter, AfterEndRead}
+use Rattle.cbm_program.specs.Timetables.{Timetable, timetable_of, timetable_from, timed_meaning, with_timed, stopped_at, ended_at, latest_if, bad_after}
 use Rattle.bus_traces.specs.Events.{trace_text}
 use Rattle.cbm_program.specs.Traces.{PrintsTrace, PrintsTracePart, trace_powered, replaying, HasWritten, WritesTrace}
 use Rattle.cbm_program.specs.declared.fault.RunFault.{RunFault}
@@ -31,15 +31,15 @@ use Rattle.cbm_program.specs.declared.fault.RunFault.TheVariants.{Script, Image,
 use Rattle.cbm_program.specs.declared.wires.timed.Timed.{Timed}
 use Rattle.cbm_program.specs.declared.wires.timed.Timed.TheVariants.{Skipped, Changes, Ends as EndsAt}
 use Rattle.bus_traces.proofs.Appending.{appends-more, appends-kept, text_on}
-use Rattle.cbm_program.proofs.OutputLemmas.{part_behind, whole_part}
+use Rattle.cbm_program.proofs.OutputLemmas.{part_after, whole_part}
 use Rattle.cbm_program.proofs.Staging.{hosts_on, made_then, made_kept, replays_none, replays_then, replays_kept}
 use Rattle.cbm_drive.specs.KeptDesks.{KeptDesk, DosStands}
 
 -- ---- the lines of a timetable
 
 -- changes in front of it
-abbrev behind : List Change → Timetable → Timetable
-behind done t = record { changes = done ++ t.changes; end = t.end; bad = t.bad }
+abbrev afterwards : List Change → Timetable → Timetable
+afterwards done t = record { changes = done ++ t.changes; end = t.end; bad = t.bad }
 
 changes_in : Timed → List Change
 changes_in Skipped = []
@@ -47,9 +47,9 @@ changes_in (Changes c) = c ∷ []
 changes_in (EndsAt end) = []
 
 at_line : (n from : ℕ) (bytes : List ℕ) (lines : List (List ℕ)) (timed : Option Timed) → timed_meaning n from bytes ≡ timed
-    → timetable_from n from (bytes ∷ lines) ≡ with_timed timed n (bad_behind (n + 1) lines) (timetable_from (n + 1) (latest_if from timed) lines)
+    → timetable_from n from (bytes ∷ lines) ≡ with_timed timed n (bad_after (n + 1) lines) (timetable_from (n + 1) (latest_if from timed) lines)
 unfolding timetable_from
-at_line n from bytes lines timed e = ap (λ o. with_timed o n (bad_behind (n + 1) lines) (timetable_from (n + 1) (latest_if from o) lines)) e
+at_line n from bytes lines timed e = ap (λ o. with_timed o n (bad_after (n + 1) lines) (timetable_from (n + 1) (latest_if from o) lines)) e
 
 at_end : (n from : ℕ) → timetable_from n from [] ≡ stopped_at n
 unfolding timetable_from
@@ -59,7 +59,7 @@ at_end n from = refl
 abbrev Follows : Option (List ℕ) → Option (List ℕ) → ℕ → ℕ → List Change → Type 0
 Follows None left n from done = Unit {0}
 Follows (Some xs) None n from done = ⊥
-Follows (Some xs) (Some ys) n from done = timetable_of xs ≡ behind done (timetable_from n from (lines_of ys))
+Follows (Some xs) (Some ys) n from done = timetable_of xs ≡ afterwards done (timetable_from n from (lines_of ys))
 
 follows_start : (x l : Option (List ℕ)) → TakesLine x l (codes "lines") → Follows x l 2 0 []
 follows_start None l t = tt
@@ -71,39 +71,39 @@ follows_skipped None l k n from done f t = tt
 follows_skipped (Some xs) None k n from done f t = absurd f
 follows_skipped (Some xs) (Some ys) None n from done f t = absurd t
 follows_skipped (Some xs) (Some ys) (Some zs) n from done f (bytes, e, means) =
-    f ∙ ap (behind done) (ap (timetable_from n from) e ∙ at_line n from bytes (lines_of zs) (Some Skipped) means)
+    f ∙ ap (afterwards done) (ap (timetable_from n from) e ∙ at_line n from bytes (lines_of zs) (Some Skipped) means)
 
 follows_change : (x l k : Option (List ℕ)) (n from : ℕ) (done : List Change) (c : Change) → Follows x l n from done → ReadsTimed l k n from (Changes c) → Follows x k (n + 1) c.moment (done ++ c ∷ [])
 follows_change None l k n from done c f t = tt
 follows_change (Some xs) None k n from done c f t = absurd f
 follows_change (Some xs) (Some ys) None n from done c f t = absurd t
 follows_change (Some xs) (Some ys) (Some zs) n from done c f (bytes, e, means) =
-    f ∙ (ap (behind done) (ap (timetable_from n from) e ∙ at_line n from bytes (lines_of zs) (Some (Changes c)) means)
+    f ∙ (ap (afterwards done) (ap (timetable_from n from) e ∙ at_line n from bytes (lines_of zs) (Some (Changes c)) means)
     ∙ ap (λ cs. let r : Timetable = record { changes = cs; end = (timetable_from (n + 1) c.moment (lines_of zs)).end; bad = (timetable_from (n + 1) c.moment (lines_of zs)).bad } in r)
     (sym (append_assoc done (c ∷ []) (timetable_from (n + 1) c.moment (lines_of zs)).changes)))
 
 -- the end was read
-abbrev EndsBehind : Option (List ℕ) → ℕ → Option ℕ → List Change → Type 0
-EndsBehind None end bad done = Unit {0}
-EndsBehind (Some xs) end bad done = timetable_of xs ≡ behind done (ended_at end bad)
+abbrev EndsAfter : Option (List ℕ) → ℕ → Option ℕ → List Change → Type 0
+EndsAfter None end bad done = Unit {0}
+EndsAfter (Some xs) end bad done = timetable_of xs ≡ afterwards done (ended_at end bad)
 
-ends_behind : (x l k : Option (List ℕ)) (n from end : ℕ) (bad : Option ℕ) (done : List Change) → Follows x l n from done → ReadsTimed l k n from (EndsAt end) → IsBadBehind k (n + 1) bad → EndsBehind x end bad done
-ends_behind None l k n from end bad done f t b = tt
-ends_behind (Some xs) None k n from end bad done f t b = absurd f
-ends_behind (Some xs) (Some ys) None n from end bad done f t b = absurd t
-ends_behind (Some xs) (Some ys) (Some zs) n from end bad done f (bytes, e, means) b =
-    f ∙ (ap (behind done) (ap (timetable_from n from) e ∙ at_line n from bytes (lines_of zs) (Some (EndsAt end)) means) ∙ ap (λ o. behind done (ended_at end o)) b)
+ends_after_it : (x l k : Option (List ℕ)) (n from end : ℕ) (bad : Option ℕ) (done : List Change) → Follows x l n from done → ReadsTimed l k n from (EndsAt end) → IsBadAfter k (n + 1) bad → EndsAfter x end bad done
+ends_after_it None l k n from end bad done f t b = tt
+ends_after_it (Some xs) None k n from end bad done f t b = absurd f
+ends_after_it (Some xs) (Some ys) None n from end bad done f t b = absurd t
+ends_after_it (Some xs) (Some ys) (Some zs) n from end bad done f (bytes, e, means) b =
+    f ∙ (ap (afterwards done) (ap (timetable_from n from) e ∙ at_line n from bytes (lines_of zs) (Some (EndsAt end)) means) ∙ ap (λ o. afterwards done (ended_at end o)) b)
 
 -- a line is refused, or missing
 abbrev StopsAt : Option (List ℕ) → ℕ → List Change → Type 0
 StopsAt None n done = Unit {0}
-StopsAt (Some xs) n done = timetable_of xs ≡ behind done (stopped_at n)
+StopsAt (Some xs) n done = timetable_of xs ≡ afterwards done (stopped_at n)
 
 stops_at : (x l : Option (List ℕ)) (n from : ℕ) (done : List Change) → Follows x l n from done → LacksTimed l n from → StopsAt x n done
 stops_at None l n from done f t = tt
 stops_at (Some xs) None n from done f t = absurd f
-stops_at (Some xs) (Some ys) n from done f (inl e) = f ∙ ap (behind done) (ap (λ zs. timetable_from n from (lines_of zs)) e ∙ at_end n from)
-stops_at (Some xs) (Some ys) n from done f (inr (bytes, lines, e, none)) = f ∙ ap (behind done) (ap (timetable_from n from) e ∙ at_line n from bytes lines None none)
+stops_at (Some xs) (Some ys) n from done f (inl e) = f ∙ ap (afterwards done) (ap (λ zs. timetable_from n from (lines_of zs)) e ∙ at_end n from)
+stops_at (Some xs) (Some ys) n from done f (inr (bytes, lines, e, none)) = f ∙ ap (afterwards done) (ap (timetable_from n from) e ∙ at_line n from bytes lines None none)
 
 latest_last : (t : ℕ) (xs : List Change) (c : Change) → latest t (xs ++ c ∷ []) ≡ c.moment
 latest_last t [] c = refl
@@ -180,7 +180,7 @@ module _ {M : Type 0} (seen : M → Seen) where
   Begun a b input drive p x = IfSome input (λ bytes. PrintsTracePart a b (λ m. IsAt seen p x (trace_powered drive m) []) drive [] (timetable_of bytes))
 
   -- of the first changes
-  begun : (a b : Option (List ℕ)) (xs : List ℕ) (drive : Party) (p : Turns) (x : Cabled (KeptDesk M)) (done : List Change) (t : Timetable) → timetable_of xs ≡ behind done t → PlaysPart seen a b done p x → Begun a b (Some xs) drive p x
+  begun : (a b : Option (List ℕ)) (xs : List ℕ) (drive : Party) (p : Turns) (x : Cabled (KeptDesk M)) (done : List Change) (t : Timetable) → timetable_of xs ≡ afterwards done t → PlaysPart seen a b done p x → Begun a b (Some xs) drive p x
   begun a b xs drive p x done t e part m at_ =
       let h = part (trace_powered drive m) [] at_ in (
         h.made,
@@ -220,7 +220,7 @@ module _ {M : Type 0} (seen : M → Seen) where
         stations = second.stations;
         plays = subst (λ (v : List Event). Plays (Desk Machine) desk_step desk_says 0 ss v second.from second.stations) (append_assoc es first.made second.made) second.plays;
         hosts = ap (λ v. v ++ second.rest) (hosts_on first.made second.made) ∙ (append_assoc (host_changes first.made) (host_changes second.made) second.rest ∙ (λ i. first.hosts i ++ second.hosts i));
-        written = subst (λ t. AppendsPart a c t) (sym (text_on first.made second.made)) (part_behind a b c (trace_text first.made) (trace_text second.made) first.written second.written);
+        written = subst (λ t. AppendsPart a c t) (sym (text_on first.made second.made)) (part_after a b c (trace_text first.made) (trace_text second.made) first.written second.written);
       }
 
   -- where the lines so far were played
@@ -287,7 +287,7 @@ module _ {M : Type 0} (seen : M → Seen) where
   Ended a b input drive p x y bad = IfSome input (λ bytes. ((timetable_of bytes).bad ≡ bad) × PrintsTrace a b (λ m. IsAt seen p x (trace_powered drive m) []) (IsBorne seen y) drive [] (timetable_of bytes))
 
   -- the input, up to its bad line
-  stopped : (a b : Option (List ℕ)) (xs : List ℕ) (n from : ℕ) (drive : Party) (done : List Change) (f : KeptDesk M → ℕ) (p q : Turns) (x y : Cabled (KeptDesk M)) → length (numbers f y.drives) ≡ 1 → timetable_of xs ≡ behind done (stopped_at n) → latest 0 done ≡ from
+  stopped : (a b : Option (List ℕ)) (xs : List ℕ) (n from : ℕ) (drive : Party) (done : List Change) (f : KeptDesk M → ℕ) (p q : Turns) (x y : Cabled (KeptDesk M)) → length (numbers f y.drives) ≡ 1 → timetable_of xs ≡ afterwards done (stopped_at n) → latest 0 done ≡ from
       → PlaysOn seen a b done p x q y → IsOpen q from → Ended a b (Some xs) drive p x y (Some n)
   stopped a b xs n from drive done f p q x y one e last on is_open = (
     ap (λ (o : Timetable). o.bad) e,
@@ -316,7 +316,7 @@ module _ {M : Type 0} (seen : M → Seen) where
 
   -- the input, whose end was read
   finished : (a b c : Option (List ℕ)) (xs : List ℕ) (end : ℕ) (drive : Party) (done : List Change) (f : KeptDesk M → ℕ) (p q r : Turns) (x y z : Cabled (KeptDesk M)) → IsDrive drive → length (numbers f z.drives) ≡ 1
-      → timetable_of xs ≡ behind done (ended_at end None) → PlaysOn seen a b done p x q y → Ends seen b c end q y r z → Ended a c (Some xs) drive p x z None
+      → timetable_of xs ≡ afterwards done (ended_at end None) → PlaysOn seen a b done p x q y → Ends seen b c end q y r z → Ended a c (Some xs) drive p x z None
   finished a b c xs end drive done f p q r x y z sits one e on ends = (
     ap (λ (o : Timetable). o.bad) e,
     subst (λ (o : Timetable). PrintsTrace a c (λ m. IsAt seen p x (trace_powered drive m) []) (IsBorne seen z) drive [] o) (sym e) (λ m at_.
@@ -344,26 +344,26 @@ module _ {M : Type 0} (seen : M → Seen) where
 
   -- and the lines after it are all skipped
   pub timing_ended : (a b c input l k : Option (List ℕ)) (n from end : ℕ) (drive : Party) (f : KeptDesk M → ℕ) (p q r : Turns) (x y z : Cabled (KeptDesk M)) → IsDrive drive → length (numbers f z.drives) ≡ 1
-      → Timing a b input l n from p x q y → ReadsTimed l k n from (EndsAt end) → Ends seen b c end q y r z → IsBadBehind k (n + 1) None → Ended a c input drive p x z None
-  timing_ended a b c input l k n from end drive f p q r x y z sits one t reads ends read = over input (ends_behind input l k n from end None t.done t.follows reads read)
+      → Timing a b input l n from p x q y → ReadsTimed l k n from (EndsAt end) → Ends seen b c end q y r z → IsBadAfter k (n + 1) None → Ended a c input drive p x z None
+  timing_ended a b c input l k n from end drive f p q r x y z sits one t reads ends read = over input (ends_after_it input l k n from end None t.done t.follows reads read)
     where
-      over : (o : Option (List ℕ)) → EndsBehind o end None t.done → Ended a c o drive p x z None
+      over : (o : Option (List ℕ)) → EndsAfter o end None t.done → Ended a c o drive p x z None
       over None h = tt
       over (Some xs) h = finished a b c xs end drive t.done f p q r x y z sits one h t.played ends
 
   -- a line after it can't be had, or is refused: what was played are the changes
-  pub behind_faulted : {A : Type 0} (a b input l k : Option (List ℕ)) (n from end : ℕ) (drive : Party) (result : Result A RunFault) (fault : RunFault) (f : KeptDesk M → ℕ) (p q : Turns) (x y : Cabled (KeptDesk M)) → length (numbers f y.drives) ≡ 1
-      → Timing a b input l n from p x q y → IsOpen q from → ReadsTimed l k n from (EndsAt end) → BehindRead k (n + 1) (Err fault) → result ≡ Err fault → EndsAs result (λ bad. Ended a b input drive p x y bad)
-  behind_faulted a b input l k n from end drive result (Script bad) f p q x y one t is_open reads h e =
-      subst (λ v. EndsAs v (λ o. Ended a b input drive p x y o)) (sym e) (over input (ends_behind input l k n from end (Some bad) t.done t.follows reads h))
+  pub after_faulted : {A : Type 0} (a b input l k : Option (List ℕ)) (n from end : ℕ) (drive : Party) (result : Result A RunFault) (fault : RunFault) (f : KeptDesk M → ℕ) (p q : Turns) (x y : Cabled (KeptDesk M)) → length (numbers f y.drives) ≡ 1
+      → Timing a b input l n from p x q y → IsOpen q from → ReadsTimed l k n from (EndsAt end) → AfterEndRead k (n + 1) (Err fault) → result ≡ Err fault → EndsAs result (λ bad. Ended a b input drive p x y bad)
+  after_faulted a b input l k n from end drive result (Script bad) f p q x y one t is_open reads h e =
+      subst (λ v. EndsAs v (λ o. Ended a b input drive p x y o)) (sym e) (over input (ends_after_it input l k n from end (Some bad) t.done t.follows reads h))
     where
-      over : (o : Option (List ℕ)) → EndsBehind o end (Some bad) t.done → Ended a b o drive p x y (Some bad)
+      over : (o : Option (List ℕ)) → EndsAfter o end (Some bad) t.done → Ended a b o drive p x y (Some bad)
       over None g = tt
       over (Some xs) g = stopped a b xs bad from drive t.done f p q x y one g t.last t.played is_open
-  behind_faulted a b input l k n from end drive result (Image number) f p q x y one t is_open reads h e = absurd h
-  behind_faulted a b input l k n from end drive result Memory f p q x y one t is_open reads h e = absurd h
-  behind_faulted a b input l k n from end drive result Reading f p q x y one t is_open reads h e = subst (λ v. EndsAs v (λ o. Ended a b input drive p x y o)) (sym e) tt
-  behind_faulted a b input l k n from end drive result Writing f p q x y one t is_open reads h e = absurd h
+  after_faulted a b input l k n from end drive result (Image number) f p q x y one t is_open reads h e = absurd h
+  after_faulted a b input l k n from end drive result Memory f p q x y one t is_open reads h e = absurd h
+  after_faulted a b input l k n from end drive result Reading f p q x y one t is_open reads h e = subst (λ v. EndsAs v (λ o. Ended a b input drive p x y o)) (sym e) tt
+  after_faulted a b input l k n from end drive result Writing f p q x y one t is_open reads h e = absurd h
 
   -- a line that can't be had, or is refused
   pub read_faulted : {A : Type 0} (a b input l k : Option (List ℕ)) (n from : ℕ) (drive : Party) (result : Result A RunFault) (fault : RunFault) (f : KeptDesk M → ℕ) (p q : Turns) (x y : Cabled (KeptDesk M)) → length (numbers f y.drives) ≡ 1 → Timing a b input l n from p x q y → IsOpen q from
@@ -397,7 +397,7 @@ module _ {D : Type 0} (shows : D → Shown) (drive : Party) where
       seated x sole (s ∷ t ∷ us) h = absurd h.1
 
   -- up to the bad line
-  pub wrote_stopped : (a b : Option (List ℕ)) (xs : List ℕ) (n from : ℕ) (done : List Change) (f : D → ℕ) (p q : Turns) (x y : Cabled D) → length (numbers f y.drives) ≡ 1 → IsFresh shows drive p x → timetable_of xs ≡ behind done (stopped_at n) → latest 0 done ≡ from
+  pub wrote_stopped : (a b : Option (List ℕ)) (xs : List ℕ) (n from : ℕ) (done : List Change) (f : D → ℕ) (p q : Turns) (x y : Cabled D) → length (numbers f y.drives) ≡ 1 → IsFresh shows drive p x → timetable_of xs ≡ afterwards done (stopped_at n) → latest 0 done ≡ from
       → ReplaysOn shows a b done p x q y → IsOpen q from → WritesTrace drive (Some xs) a b (Some n)
   wrote_stopped a b xs n from done f p q x y one fresh e last on is_open = (
     ap (λ (o : Timetable). o.bad) e,
@@ -424,7 +424,7 @@ module _ {D : Type 0} (shows : D → Shown) (drive : Party) where
   )
 
   -- the whole script
-  pub wrote_whole : (a b c : Option (List ℕ)) (xs : List ℕ) (end : ℕ) (done : List Change) (f : D → ℕ) (p q r : Turns) (x y z : Cabled D) → IsDrive drive → length (numbers f z.drives) ≡ 1 → IsFresh shows drive p x → timetable_of xs ≡ behind done (ended_at end None)
+  pub wrote_whole : (a b c : Option (List ℕ)) (xs : List ℕ) (end : ℕ) (done : List Change) (f : D → ℕ) (p q r : Turns) (x y z : Cabled D) → IsDrive drive → length (numbers f z.drives) ≡ 1 → IsFresh shows drive p x → timetable_of xs ≡ afterwards done (ended_at end None)
       → ReplaysOn shows a b done p x q y → ReplaysTo shows b c end q y r z → WritesTrace drive (Some xs) a c None
   wrote_whole a b c xs end done f p q r x y z sits one fresh e on ends = (
     ap (λ (o : Timetable). o.bad) e,
@@ -469,28 +469,28 @@ module _ {M : Type 0} (seen : M → Seen) (drive : Party) where
   wrote_read a b input l k n from result Writing f p q x y one fresh t is_open h e = absurd h
 
   -- a line after the end can't be had, or is refused
-  pub wrote_behind : {A : Type 0} (a b input l k : Option (List ℕ)) (n from end : ℕ) (result : Result A RunFault) (fault : RunFault) (f : KeptDesk M → ℕ) (p q : Turns) (x y : Cabled (KeptDesk M)) → length (numbers f y.drives) ≡ 1 → IsFresh desk_shows drive p x → Timing seen a b input l n from p x q y → IsOpen q from
-      → ReadsTimed l k n from (EndsAt end) → BehindRead k (n + 1) (Err fault) → result ≡ Err fault → EndsAs result (λ bad. WritesTrace drive input a b bad)
-  wrote_behind a b input l k n from end result (Script bad) f p q x y one fresh t is_open reads h e =
-      subst (λ v. EndsAs v (λ o. WritesTrace drive input a b o)) (sym e) (over input (ends_behind input l k n from end (Some bad) t.done t.follows reads h))
+  pub wrote_after_it : {A : Type 0} (a b input l k : Option (List ℕ)) (n from end : ℕ) (result : Result A RunFault) (fault : RunFault) (f : KeptDesk M → ℕ) (p q : Turns) (x y : Cabled (KeptDesk M)) → length (numbers f y.drives) ≡ 1 → IsFresh desk_shows drive p x → Timing seen a b input l n from p x q y → IsOpen q from
+      → ReadsTimed l k n from (EndsAt end) → AfterEndRead k (n + 1) (Err fault) → result ≡ Err fault → EndsAs result (λ bad. WritesTrace drive input a b bad)
+  wrote_after_it a b input l k n from end result (Script bad) f p q x y one fresh t is_open reads h e =
+      subst (λ v. EndsAs v (λ o. WritesTrace drive input a b o)) (sym e) (over input (ends_after_it input l k n from end (Some bad) t.done t.follows reads h))
     where
-      over : (o : Option (List ℕ)) → EndsBehind o end (Some bad) t.done → WritesTrace drive o a b (Some bad)
+      over : (o : Option (List ℕ)) → EndsAfter o end (Some bad) t.done → WritesTrace drive o a b (Some bad)
       over None g = tt
       over (Some xs) g = wrote_stopped desk_shows drive a b xs bad from t.done f p q x y one fresh g t.last t.wrote is_open
-  wrote_behind a b input l k n from end result (Image number) f p q x y one fresh t is_open reads h e = absurd h
-  wrote_behind a b input l k n from end result Memory f p q x y one fresh t is_open reads h e = absurd h
-  wrote_behind a b input l k n from end result Reading f p q x y one fresh t is_open reads h e = subst (λ v. EndsAs v (λ o. WritesTrace drive input a b o)) (sym e) tt
-  wrote_behind a b input l k n from end result Writing f p q x y one fresh t is_open reads h e = absurd h
+  wrote_after_it a b input l k n from end result (Image number) f p q x y one fresh t is_open reads h e = absurd h
+  wrote_after_it a b input l k n from end result Memory f p q x y one fresh t is_open reads h e = absurd h
+  wrote_after_it a b input l k n from end result Reading f p q x y one fresh t is_open reads h e = subst (λ v. EndsAs v (λ o. WritesTrace drive input a b o)) (sym e) tt
+  wrote_after_it a b input l k n from end result Writing f p q x y one fresh t is_open reads h e = absurd h
 
   -- all was read, and the end written
   pub wrote_ended : (a b c d input l k : Option (List ℕ)) (n from end : ℕ) (f : KeptDesk M → ℕ) (p q r : Turns) (x y z : Cabled (KeptDesk M)) → IsDrive drive → length (numbers f z.drives) ≡ 1 → IsFresh desk_shows drive p x → Timing seen a b input l n from p x q y → ReadsTimed l k n from (EndsAt end)
-      → ReplaysTo desk_shows b c end q y r z → Keeps c d → IsBadBehind k (n + 1) None → WritesTrace drive input a d None
-  wrote_ended a b c d input l k n from end f p q r x y z sits one fresh t reads ended kept read = over input (ends_behind input l k n from end None t.done t.follows reads read)
+      → ReplaysTo desk_shows b c end q y r z → Keeps c d → IsBadAfter k (n + 1) None → WritesTrace drive input a d None
+  wrote_ended a b c d input l k n from end f p q r x y z sits one fresh t reads ended kept read = over input (ends_after_it input l k n from end None t.done t.follows reads read)
     where
       kept_end : ReplaysTo desk_shows b d end q y r z
       kept_end = (ended.0, λ later ss es h. (let all = ended.1 later ss es h in record { made = all.made; now = all.now; hosts = all.hosts; written = appends-kept b c d (trace_text all.made) all.written kept }))
 
-      over : (o : Option (List ℕ)) → EndsBehind o end None t.done → WritesTrace drive o a d None
+      over : (o : Option (List ℕ)) → EndsAfter o end None t.done → WritesTrace drive o a d None
       over None g = tt
       over (Some xs) g = wrote_whole desk_shows drive a b d xs end t.done f p q r x y z sits one fresh g t.wrote kept_end
 

@@ -8,7 +8,7 @@ use Rattle.cbm_machine.specs.Calls.{put, end_put}
 use Rattle.cbm_program.specs.declared.request.ScriptRequest.{ScriptRequest}
 use Rattle.cbm_program.specs.declared.request.ScriptRequest.TheVariants.{Fill, Get, Status}
 use Rattle.cbm_program.specs.Scripts.{hex}
-use Rattle.cbm_program.proofs.Words.{open_by, put_by, formatted, blank, prints, behind, summary, status_is}
+use Rattle.cbm_program.proofs.Words.{open_by, put_by, formatted, blank, prints, afterwards, summary, status_is}
 
 -- the place: a record by its two bytes, low first, and a position
 abbrev pub place_by : ℕ → ℕ → ℕ → ScriptRequest
@@ -16,7 +16,7 @@ place_by low high p = put_by 15 (80 ∷ 0x62 ∷ low ∷ high ∷ p ∷ [])
 
 -- a new file of records of 100 bytes
 abbrev pub records_of_100 : Machine
-records_of_100 = behind (open_by 2 (codes "R,L," ++ 100 ∷ []) ∷ []) blank
+records_of_100 = afterwards (open_by 2 (codes "R,L," ++ 100 ∷ []) ∷ []) blank
 
 -- how many records the body has
 abbrev pub count_in : Body → ℕ
@@ -34,7 +34,7 @@ third_is_missing = refl
 
 -- the third record is written
 abbrev pub with_third : Machine
-with_third = behind (place_by 3 0 1 ∷ put_by 2 (codes "HI") ∷ []) records_of_100
+with_third = afterwards (place_by 3 0 1 ∷ put_by 2 (codes "HI") ∷ []) records_of_100
 
 pub third_blocks : summary with_third ≡ ((codes "R", 3, 3) ∷ [], 661)
 third_blocks = refl
@@ -59,7 +59,7 @@ overflow_read = refl
 pub costs_two : prints (open_by 2 (codes "R,L,d") ∷ open_by 3 (codes "S,S,W") ∷ open_by 4 (codes "T,S,W") ∷ Status ∷ []) blank ≡ status_is (codes "70,NO CHANNEL")
 costs_two = refl
 
--- a position behind the record's end: the place stays
+-- a position after the record's end: the place stays
 pub past_the_end : prints (place_by 3 0 0x65 ∷ Status ∷ Get 2 9 ∷ []) with_third ≡ status_is (codes "51,OVERFLOW IN RECORD") ++ codes "get 2 ff eoi\n"
 unfolding digits
 past_the_end = refl
@@ -78,30 +78,30 @@ dropped_text = refl
 
 -- a new file of them on a formatted disk of so many tracks
 abbrev pub records_of_254 : ℕ → Machine
-records_of_254 tracks = behind (open_by 2 (codes "R,L," ++ 254 ∷ []) ∷ []) (start (formatted tracks) false tracks)
+records_of_254 tracks = afterwards (open_by 2 (codes "R,L," ++ 254 ∷ []) ∷ []) (start (formatted tracks) false tracks)
 
 -- a byte is put into a record
 abbrev pub written_to : ℕ → ℕ → List ScriptRequest
 written_to low high = place_by low high 1 ∷ put_by 2 (codes "A") ∷ []
 
-pub record_121 : summary (behind (written_to 121 0) (records_of_254 35)) ≡ ((codes "R", 123, 123) ∷ [], 541)
+pub record_121 : summary (afterwards (written_to 121 0) (records_of_254 35)) ≡ ((codes "R", 123, 123) ∷ [], 541)
 record_121 = refl
 
-pub record_658 : summary (behind (written_to 0x92 2) (records_of_254 35)) ≡ ((codes "R", 664, 664) ∷ [], 0)
+pub record_658 : summary (afterwards (written_to 0x92 2) (records_of_254 35)) ≡ ((codes "R", 664, 664) ∷ [], 0)
 record_658 = refl
 
 pub record_659 : prints (written_to 0x93 2 ++ Status ∷ []) (records_of_254 35) ≡ status_is (codes "52,FILE TOO LARGE")
 record_659 = refl
 
-pub record_659_kept : summary (behind (written_to 0x93 2) (records_of_254 35)) ≡ ((codes "R", 2, 2) ∷ [], 662)
+pub record_659_kept : summary (afterwards (written_to 0x93 2) (records_of_254 35)) ≡ ((codes "R", 2, 2) ∷ [], 662)
 record_659_kept = refl
 
 -- on forty tracks six side sectors are the limit
-pub record_720 : summary (behind (written_to 0xd0 2) (records_of_254 40)) ≡ ((codes "R", 726, 726) ∷ [], 23)
+pub record_720 : summary (afterwards (written_to 0xd0 2) (records_of_254 40)) ≡ ((codes "R", 726, 726) ∷ [], 23)
 record_720 = refl
 
 pub record_721 : prints (written_to 0xd1 2 ++ Status ∷ []) (records_of_254 40) ≡ status_is (codes "52,FILE TOO LARGE")
 record_721 = refl
 
-pub record_721_kept : summary (behind (written_to 0xd1 2) (records_of_254 40)) ≡ ((codes "R", 2, 2) ∷ [], 747)
+pub record_721_kept : summary (afterwards (written_to 0xd1 2) (records_of_254 40)) ≡ ((codes "R", 2, 2) ∷ [], 747)
 record_721_kept = refl

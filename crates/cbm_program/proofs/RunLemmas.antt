@@ -17,9 +17,9 @@ use Rattle.cbm_program.specs.Outcome.{IsServedTo, IsServedPart}
 use Rattle.cbm_program.specs.Output.{AppendsPart, Prints, PrintsPart}
 use Rattle.cbm_program.specs.Running.{requests_in, meaning, Asked, refused_at, with_script_line, asked_from, script_of, ReadsLine, ComesBad, LineRead, LineIsInRange, EndsAs, IsOfWriting}
 use Rattle.bus_traces.proofs.Appending.{appends-nothing, appends-more}
-use Rattle.cbm_program.proofs.OutputLemmas.{part_behind, part_before, whole_part}
+use Rattle.cbm_program.proofs.OutputLemmas.{part_after, part_before, whole_part}
 
--- ---- requests behind requests
+-- ---- requests after requests
 
 text-append : (pace : Pace) (xs ys : List ScriptRequest) (m : Machine) → (printed pace (xs ++ ys) m).text ≡ (printed pace xs m).text ++ (printed pace ys (printed pace xs m).machine).text
 text-append pace [] ys m = refl
@@ -32,11 +32,11 @@ machine-append pace [] ys m = refl
 machine-append pace (r ∷ xs) ys m = machine-append pace xs ys (printed_by pace r m).machine
 
 -- requests in front of what is asked
-abbrev pub behind : List ScriptRequest → Asked → Asked
-behind done asked = record { requests = done ++ asked.requests; bad = asked.bad }
+abbrev pub afterwards : List ScriptRequest → Asked → Asked
+afterwards done asked = record { requests = done ++ asked.requests; bad = asked.bad }
 
-behind-append : (xs ys : List ScriptRequest) (a : Asked) → behind xs (behind ys a) ≡ behind (xs ++ ys) a
-behind-append xs ys a = ap (λ t. let r : Asked = record { requests = t; bad = a.bad } in r) (sym (append_assoc xs ys a.requests))
+afterwards-append : (xs ys : List ScriptRequest) (a : Asked) → afterwards xs (afterwards ys a) ≡ afterwards (xs ++ ys) a
+afterwards-append xs ys a = ap (λ t. let r : Asked = record { requests = t; bad = a.bad } in r) (sym (append_assoc xs ys a.requests))
 
 asked-end : (n : ℕ) → asked_from n [] ≡ refused_at None
 unfolding asked_from
@@ -46,12 +46,12 @@ asked-bad : (n : ℕ) (line : List ℕ) (lines : List (List ℕ)) → meaning n 
 unfolding asked_from
 asked-bad n line lines e = ap (λ o. with_script_line o n (asked_from (n + 1) lines)) e
 
-line-asks : (line : ScriptLine) (n : ℕ) (rest : Asked) → with_script_line (Some line) n rest ≡ behind (requests_in line) rest
+line-asks : (line : ScriptLine) (n : ℕ) (rest : Asked) → with_script_line (Some line) n rest ≡ afterwards (requests_in line) rest
 line-asks Skipped n rest = refl
 line-asks (Asks request) n rest = refl
 
 asked-line : (n : ℕ) (bytes : List ℕ) (lines : List (List ℕ)) (line : ScriptLine) → meaning n bytes ≡ Some line
-    → asked_from n (bytes ∷ lines) ≡ behind (requests_in line) (asked_from (n + 1) lines)
+    → asked_from n (bytes ∷ lines) ≡ afterwards (requests_in line) (asked_from (n + 1) lines)
 unfolding asked_from
 asked-line n bytes lines line e = ap (λ o. with_script_line o n (asked_from (n + 1) lines)) e ∙ line-asks line n (asked_from (n + 1) lines)
 
@@ -61,7 +61,7 @@ asked-line n bytes lines line e = ap (λ o. with_script_line o n (asked_from (n 
 abbrev pub Follows : Option (List ℕ) → Option (List ℕ) → ℕ → List ScriptRequest → Type 0
 Follows None left n done = Unit {0}
 Follows (Some xs) None n done = ⊥
-Follows (Some xs) (Some ys) n done = script_of xs ≡ behind done (asked_from n (lines_of ys))
+Follows (Some xs) (Some ys) n done = script_of xs ≡ afterwards done (asked_from n (lines_of ys))
 
 -- The requests so far are done, and what is left follows them.
 pub record Running (pace : Pace) (a b input left : Option (List ℕ)) (stood now : Machine → Type 0) (n : ℕ) : Type 0 where
@@ -86,8 +86,8 @@ follows-line None l k n done line f t = tt
 follows-line (Some xs) None k n done line f t = absurd f
 follows-line (Some xs) (Some ys) None n done line f t = absurd t
 follows-line (Some xs) (Some ys) (Some zs) n done line f (bytes, e, means) =
-    f ∙ (ap (λ o. behind done o) (ap (λ ls. asked_from n ls) e ∙ asked-line n bytes (lines_of zs) line means)
-    ∙ behind-append done (requests_in line) (asked_from (n + 1) (lines_of zs)))
+    f ∙ (ap (λ o. afterwards done o) (ap (λ ls. asked_from n ls) e ∙ asked-line n bytes (lines_of zs) line means)
+    ∙ afterwards-append done (requests_in line) (asked_from (n + 1) (lines_of zs)))
 
 -- one line more is done
 prints-line : (pace : Pace) (a b c : Option (List ℕ)) (stood now next : Machine → Type 0) (done requests : List ScriptRequest)
@@ -116,7 +116,7 @@ run-line pace a b c x l k stood now next n line r t p = record {
 abbrev pub Begun : Pace → Option (List ℕ) → Option (List ℕ) → Option (List ℕ) → (Machine → Type 0) → Type 0
 Begun pace a b x stood = IsServedPart pace false x a b stood
 
-begun : (pace : Pace) (a b : Option (List ℕ)) (stood : Machine → Type 0) (done : List ScriptRequest) (asked rest : Asked) → asked ≡ behind done rest
+begun : (pace : Pace) (a b : Option (List ℕ)) (stood : Machine → Type 0) (done : List ScriptRequest) (asked rest : Asked) → asked ≡ afterwards done rest
     → PrintsPart a b stood (printed pace done)
     → PrintsPart a b stood (printed pace asked.requests)
 begun pace a b stood done asked rest e p m s =
@@ -141,7 +141,7 @@ part-line : (pace : Pace) (a b c : Option (List ℕ)) (stood now : Machine → T
 part-line pace a b c stood now done requests p q m s =
     let first = p m s in
     subst (λ t. AppendsPart a c t) (sym (text-append pace done requests m))
-    (part_behind a b c (printed pace done m).text (printed pace requests (printed pace done m).machine).text first.0 (q (printed pace done m).machine first.1))
+    (part_after a b c (printed pace done m).text (printed pace requests (printed pace done m).machine).text first.0 (q (printed pace done m).machine first.1))
 
 -- the same where a line's own text broke off
 pub run-broken : (pace : Pace) (a b c x l k : Option (List ℕ)) (stood now : Machine → Type 0) (n : ℕ) (line : ScriptLine) → Running pace a b x l stood now n → ReadsLine l k n line
@@ -158,7 +158,7 @@ run-broken pace a b c (Some xs) (Some ys) (Some zs) stood now n line r t p =
 abbrev pub Ended : Pace → Option (List ℕ) → Option (List ℕ) → Option (List ℕ) → (Machine → Type 0) → (Machine → Type 0) → Option ℕ → Type 0
 Ended pace a b x stood now bad = IsServedTo pace false x a b stood now bad
 
-ended : (pace : Pace) (a b : Option (List ℕ)) (xs : List ℕ) (stood now : Machine → Type 0) (done : List ScriptRequest) (bad : Option ℕ) → script_of xs ≡ behind done (refused_at bad)
+ended : (pace : Pace) (a b : Option (List ℕ)) (xs : List ℕ) (stood now : Machine → Type 0) (done : List ScriptRequest) (bad : Option ℕ) → script_of xs ≡ afterwards done (refused_at bad)
     → Prints a b stood now (printed pace done) → Ended pace a b (Some xs) stood now bad
 ended pace a b xs stood now done bad e p = (
   ap (λ (o : Asked). o.bad) e,
@@ -169,13 +169,13 @@ pub run-end : (pace : Pace) (a b x l : Option (List ℕ)) (stood now : Machine �
 run-end pace a b None l stood now n r at = tt
 run-end pace a b (Some xs) None stood now n r at = absurd r.follows
 run-end pace a b (Some xs) (Some ys) stood now n r at =
-    ended pace a b xs stood now r.done None (r.follows ∙ ap (λ o. behind r.done o) (ap (λ t. asked_from n (lines_of t)) at ∙ asked-end n)) r.prints
+    ended pace a b xs stood now r.done None (r.follows ∙ ap (λ o. afterwards r.done o) (ap (λ t. asked_from n (lines_of t)) at ∙ asked-end n)) r.prints
 
 run-bad : (pace : Pace) (a b x l : Option (List ℕ)) (stood now : Machine → Type 0) (n : ℕ) → Running pace a b x l stood now n → ComesBad l n → Ended pace a b x stood now (Some n)
 run-bad pace a b None l stood now n r bad = tt
 run-bad pace a b (Some xs) None stood now n r bad = absurd r.follows
 run-bad pace a b (Some xs) (Some ys) stood now n r (line, lines, e, none) =
-    ended pace a b xs stood now r.done (Some n) (r.follows ∙ ap (λ o. behind r.done o) (ap (λ ls. asked_from n ls) e ∙ asked-bad n line lines none)) r.prints
+    ended pace a b xs stood now r.done (Some n) (r.follows ∙ ap (λ o. afterwards r.done o) (ap (λ ls. asked_from n ls) e ∙ asked-bad n line lines none)) r.prints
 
 -- a reading that gave no line: the fault that it gave ends the run as it should
 pub faulted : {A : Type 0} (pace : Pace) (a b x l k : Option (List ℕ)) (stood now : Machine → Type 0) (n : ℕ) (r : Result A RunFault) (f : RunFault) → Running pace a b x l stood now n
@@ -201,12 +201,12 @@ pub record RunningOn (pace : Pace) (a b input left : Option (List ℕ)) (stood n
 pub on-start : (pace : Pace) (a input left : Option (List ℕ)) (stood : Machine → Type 0) (next : Option ScriptLine) → LineRead input left 1 (Ok next) → RunningOn pace a a input left stood stood 1 next
 on-start pace a input left stood next r = record { before = input; running = run-start pace a input input stood refl; read = r }
 
--- it is carried out, and the one behind it was read
-pub on-line : (pace : Pace) (a b c input l k : Option (List ℕ)) (stood now next : Machine → Type 0) (n : ℕ) (line : ScriptLine) (behind-it : Option ScriptLine) → RunningOn pace a b input l stood now n (Some line) → Prints b c now next (printed pace (requests_in line))
-    → LineRead l k (n + 1) (Ok behind-it) → RunningOn pace a c input k stood next (n + 1) behind-it
-on-line pace a b c input l k stood now next n line behind-it r p read = record { before = l; running = run-line pace a b c input r.before l stood now next n line r.running r.read.0 p; read = read }
+-- it is carried out, and the one after it was read
+pub on-line : (pace : Pace) (a b c input l k : Option (List ℕ)) (stood now next : Machine → Type 0) (n : ℕ) (line : ScriptLine) (afterwards-it : Option ScriptLine) → RunningOn pace a b input l stood now n (Some line) → Prints b c now next (printed pace (requests_in line))
+    → LineRead l k (n + 1) (Ok afterwards-it) → RunningOn pace a c input k stood next (n + 1) afterwards-it
+on-line pace a b c input l k stood now next n line afterwards-it r p read = record { before = l; running = run-line pace a b c input r.before l stood now next n line r.running r.read.0 p; read = read }
 
--- it is carried out, and the one behind it can't be had
+-- it is carried out, and the one after it can't be had
 pub on-faulted : {A : Type 0} (pace : Pace) (a b c input l k : Option (List ℕ)) (stood now next : Machine → Type 0) (n : ℕ) (line : ScriptLine) (r : Result A RunFault) (f : RunFault) → RunningOn pace a b input l stood now n (Some line) → Prints b c now next (printed pace (requests_in line))
     → LineRead l k (n + 1) (Err f) → r ≡ Err f → EndsAs r (λ bad. Ended pace a c input stood next bad)
 on-faulted pace a b c input l k stood now next n line r f o p read e = faulted pace a c input l k stood next (n + 1) r f (run-line pace a b c input o.before l stood now next n line o.running o.read.0 p) read e

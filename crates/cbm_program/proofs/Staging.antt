@@ -32,7 +32,7 @@ use Rattle.cbm_program.specs.Staging.{HasMade, IsAt, HasPlayedOn, HasPlayedPart,
 use Rattle.bus_traces.specs.Events.{trace_text, event_text}
 use Rattle.cbm_program.specs.Traces.{trace_powered, replaying}
 use Rattle.bus_traces.proofs.Appending.{appends-nothing, appends-more, appends-kept, text_on, text_one}
-use Rattle.cbm_program.proofs.OutputLemmas.{part_behind, part_before}
+use Rattle.cbm_program.proofs.OutputLemmas.{part_after, part_before}
 use Rattle.cbm_drive.specs.KeptDesks.{KeptDesk}
 
 -- ---- the host's changes
@@ -228,7 +228,7 @@ module _ {M : Type 0} (seen : M → Seen) where
             (append_assoc (es ++ h.made) (e ∷ []) (pending r.second) ∙ append_assoc es h.made (e ∷ pending r.second)) after.plays;
         hosts = ap (λ v. v ++ rest) (hosts_on h.made (e ∷ pending r.second) ∙ ap (λ v. host_changes h.made ++ v) (hosts_on (e ∷ []) (pending r.second) ∙ ap (λ v. host_changes (e ∷ []) ++ v) (pending_hosts limit r.second given) ∙ append-nil (host_changes (e ∷ []))))
             ∙ append_assoc (host_changes h.made) (host_changes (e ∷ [])) rest ∙ (λ i. h.hosts i ++ hosts i);
-        written = subst (λ t. AppendsPart a c t) (sym (text_on h.made (e ∷ pending r.second))) (part_behind a b c (trace_text h.made) (trace_text (e ∷ pending r.second)) h.written (part_before b c (event_text e) (trace_text (pending r.second)) w));
+        written = subst (λ t. AppendsPart a c t) (sym (text_on h.made (e ∷ pending r.second))) (part_after a b c (trace_text h.made) (trace_text (e ∷ pending r.second)) h.written (part_before b c (event_text e) (trace_text (pending r.second)) w));
       }
 
   -- nothing more comes: all is over

@@ -13,14 +13,14 @@ use Rattle.cbm_image.specs.Images.{tracks_of, content_of, ImageHolds, IsOf}
 use Rattle.cbm_program.specs.declared.request.ScriptRequest.{ScriptRequest}
 use Rattle.cbm_program.specs.declared.fault.RunFault.{RunFault}
 use Rattle.cbm_program.specs.declared.fault.RunFault.TheVariants.{Script, Image, Memory, Reading, Writing}
-use Rattle.cbm_program.specs.Checking.{checked_text, IsCheckPrinted, IsCheckedFirst, printed_behind}
+use Rattle.cbm_program.specs.Checking.{checked_text, IsCheckPrinted, IsCheckedFirst, printed_after}
 use Rattle.cbm_program.specs.Outcome.{IsScriptServed, IsServedTo, IsServedPart}
 use Rattle.cbm_program.specs.Output.{AppendsPart, AppendsMore, Prints}
 use Rattle.cbm_program.specs.Running.{script_of, EndsAs, EndsBy}
 use Rattle.cbm_program.specs.Scripts.{printed}
 use Rattle.cbm_program.specs.Starts.{StartsOn, StartsFrom}
 use Rattle.bus_traces.proofs.Appending.{appends-nothing, appends-more}
-use Rattle.cbm_program.proofs.OutputLemmas.{part_behind, part_before, whole_part}
+use Rattle.cbm_program.proofs.OutputLemmas.{part_after, part_before, whole_part}
 
 -- each machine of one kind is one of the other
 abbrev pub AreAmong : (Machine → Type 0) → (Machine → Type 0) → Type 0
@@ -33,7 +33,7 @@ among-stands shows stands h m (d, holds, e) = subst (λ x. stands x) (sym e) (h 
 -- ---- the same machines
 
 module _ (pace : Pace) (checks : Bool) (a b : Option (List ℕ)) (some all now next : Machine → Type 0) (is : AreAmong some all) (then : AreAmong now next) where
-  prints-among : (script : List ScriptRequest) → Prints a b all now (printed_behind pace checks script) → Prints a b some next (printed_behind pace checks script)
+  prints-among : (script : List ScriptRequest) → Prints a b all now (printed_after pace checks script) → Prints a b some next (printed_after pace checks script)
   prints-among script p m s = let r = p m (is m s) in (r.0, then (printed pace script m).machine r.1)
 
   pub served-among : (x : Option (List ℕ)) → IsScriptServed pace checks x a b all now → IsScriptServed pace checks x a b some next
@@ -75,27 +75,27 @@ ends-any (Err Memory) P h = tt
 ends-any (Err Reading) P h = tt
 ends-any (Err Writing) P h = tt
 
--- ---- behind the line of a check
+-- ---- after the line of a check
 
 -- for each machine that stood, the check's line was printed
 abbrev pub Said : Bool → Option (List ℕ) → Option (List ℕ) → (Machine → Type 0) → Type 0
 Said checks a b stood = (m : Machine) → stood m → Appends a b (checked_text checks)
 
 module _ (pace : Pace) (checks : Bool) (a b c : Option (List ℕ)) (stood : Machine → Type 0) (said : Said checks a b stood) where
-  prints-behind : (now : Machine → Type 0) (script : List ScriptRequest) → Prints b c stood now (printed pace script) → Prints a c stood now (printed_behind pace checks script)
-  prints-behind now script p m s = let r = p m s in (appends-more a b c (checked_text checks) (printed pace script m).text (said m s) r.0, r.1)
+  prints-afterwards : (now : Machine → Type 0) (script : List ScriptRequest) → Prints b c stood now (printed pace script) → Prints a c stood now (printed_after pace checks script)
+  prints-afterwards now script p m s = let r = p m s in (appends-more a b c (checked_text checks) (printed pace script m).text (said m s) r.0, r.1)
 
-  pub ended-behind : (now : Machine → Type 0) (x : Option (List ℕ)) (bad : Option ℕ) → IsServedTo pace false x b c stood now bad → IsServedTo pace checks x a c stood now bad
-  ended-behind now None bad e = tt
-  ended-behind now (Some xs) bad e = (e.0, prints-behind now (script_of xs).requests e.1)
+  pub ended-afterwards : (now : Machine → Type 0) (x : Option (List ℕ)) (bad : Option ℕ) → IsServedTo pace false x b c stood now bad → IsServedTo pace checks x a c stood now bad
+  ended-afterwards now None bad e = tt
+  ended-afterwards now (Some xs) bad e = (e.0, prints-afterwards now (script_of xs).requests e.1)
 
-  pub served-behind : (now : Machine → Type 0) (x : Option (List ℕ)) → IsScriptServed pace false x b c stood now → IsScriptServed pace checks x a c stood now
-  served-behind now None e = tt
-  served-behind now (Some xs) e = prints-behind now (script_of xs).requests e
+  pub served-afterwards : (now : Machine → Type 0) (x : Option (List ℕ)) → IsScriptServed pace false x b c stood now → IsScriptServed pace checks x a c stood now
+  served-afterwards now None e = tt
+  served-afterwards now (Some xs) e = prints-afterwards now (script_of xs).requests e
 
-  pub part-behind : (x : Option (List ℕ)) → IsServedPart pace false x b c stood → IsServedPart pace checks x a c stood
-  part-behind None e = tt
-  part-behind (Some xs) e = λ m s. part_behind a b c (checked_text checks) (printed pace (script_of xs).requests m).text (said m s) (e m s)
+  pub part-afterwards : (x : Option (List ℕ)) → IsServedPart pace false x b c stood → IsServedPart pace checks x a c stood
+  part-afterwards None e = tt
+  part-afterwards (Some xs) e = λ m s. part_after a b c (checked_text checks) (printed pace (script_of xs).requests m).text (said m s) (e m s)
 
 -- a check of the disk that a machine at power up has
 pub said-start : (shows : Seen) (checks : Bool) (a b : Option (List ℕ)) → ((d : Disk) → HoldsDisk shows.tracks shows.content d → Appends a b (checked_text checks)) → Said checks a b (StartsFrom shows)
@@ -109,11 +109,11 @@ part-cut pace checks a b (Some xs) stood h = λ m s. part_before a b (checked_te
 -- what was printed whole is a beginning, and so is nothing
 pub served-part : (pace : Pace) (checks : Bool) (a b x : Option (List ℕ)) (stood now : Machine → Type 0) → IsScriptServed pace checks x a b stood now → IsServedPart pace checks x a b stood
 served-part pace checks a b None stood now e = tt
-served-part pace checks a b (Some xs) stood now e = λ m s. whole_part a b (printed_behind pace checks (script_of xs).requests m).text (e m s).0
+served-part pace checks a b (Some xs) stood now e = λ m s. whole_part a b (printed_after pace checks (script_of xs).requests m).text (e m s).0
 
 pub nothing-part : (pace : Pace) (checks : Bool) (a x : Option (List ℕ)) (stood : Machine → Type 0) → IsServedPart pace checks x a a stood
 nothing-part pace checks a None stood = tt
-nothing-part pace checks a (Some xs) stood = λ m s. ([], (printed_behind pace checks (script_of xs).requests m).text, appends-nothing a, refl)
+nothing-part pace checks a (Some xs) stood = λ m s. ([], (printed_after pace checks (script_of xs).requests m).text, appends-nothing a, refl)
 
 -- ---- the same of an image
 
@@ -141,7 +141,7 @@ pub checked-as : (kind other : Kind) (image : List ℕ) (tracks : ℕ) (content 
 checked-as kind other image tracks content a b same is h = rw same
     (subst (λ c. IsCheckedFirst (tracks_of kind image) c a b) (sym is.same_content) (subst (λ n. IsCheckedFirst n content a b) (sym is.same_tracks) h))
 
--- the check of a medium, and what was printed behind its line
+-- the check of a medium, and what was printed after its line
 pub checked-first : (tracks : ℕ) (content : Content) (a b c : Option (List ℕ)) → IsCheckPrinted tracks content a b → AppendsMore b c → IsCheckedFirst tracks content a c
 checked-first tracks content a b c h g = (b, h, g)
 

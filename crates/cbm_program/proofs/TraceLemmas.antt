@@ -16,7 +16,7 @@ use Rattle.cbm_program.specs.Traces.{IsTraceBegun, PrintsTrace, PrintsTracePart,
 use Rattle.cbm_program.specs.declared.fault.RunFault.{RunFault}
 use Rattle.cbm_program.specs.declared.fault.RunFault.TheVariants.{Script, Image, Memory, Reading, Writing}
 use Rattle.bus_traces.proofs.Appending.{appends-nothing, appends-more}
-use Rattle.cbm_program.proofs.OutputLemmas.{part_behind, part_before, whole_part}
+use Rattle.cbm_program.proofs.OutputLemmas.{part_after, part_before, whole_part}
 use Rattle.cbm_program.proofs.RunLemmas.{Ended, faulted, run-start}
 use Rattle.cbm_program.proofs.StartLemmas.{AreAmong, Said, ended-among}
 
@@ -92,19 +92,19 @@ cut-text text a b (Some xs) stood drive h = λ m s. ([], begun-none drive m (tim
 pub cut-nothing : (text : List ℕ) (a x : Option (List ℕ)) (stood : Machine → Type 0) (drive : Party) → Cut text a a x stood drive
 cut-nothing text a x stood drive = cut-text text a a x stood drive (λ m s. ([], text, appends-nothing a, refl))
 
--- ---- behind the line of a check
+-- ---- after the line of a check
 
-pub traced-behind : (checks : Bool) (a b c x : Option (List ℕ)) (stood now : Machine → Type 0) (drive : Party) (bad : Option ℕ) → Said checks a b stood → Traced [] b c x stood now drive bad → Traced (checked_text checks) a c x stood now drive bad
-traced-behind checks a b c None stood now drive bad said h = tt
-traced-behind checks a b c (Some xs) stood now drive bad said h = (h.0, λ m s. (let r = h.1 m s in (r.0, r.1, r.2, appends-more a b c (checked_text checks) (trace_text r.0) (said m s) r.3, r.4)))
+pub traced-afterwards : (checks : Bool) (a b c x : Option (List ℕ)) (stood now : Machine → Type 0) (drive : Party) (bad : Option ℕ) → Said checks a b stood → Traced [] b c x stood now drive bad → Traced (checked_text checks) a c x stood now drive bad
+traced-afterwards checks a b c None stood now drive bad said h = tt
+traced-afterwards checks a b c (Some xs) stood now drive bad said h = (h.0, λ m s. (let r = h.1 m s in (r.0, r.1, r.2, appends-more a b c (checked_text checks) (trace_text r.0) (said m s) r.3, r.4)))
 
-pub left-behind : (checks : Bool) (a b c x : Option (List ℕ)) (stood now : Machine → Type 0) (drive : Party) → Said checks a b stood → Left [] b c x stood now drive → Left (checked_text checks) a c x stood now drive
-left-behind checks a b c None stood now drive said h = tt
-left-behind checks a b c (Some xs) stood now drive said h = λ m s. (let r = h m s in (r.0, r.1, r.2, appends-more a b c (checked_text checks) (trace_text r.0) (said m s) r.3, r.4))
+pub left-afterwards : (checks : Bool) (a b c x : Option (List ℕ)) (stood now : Machine → Type 0) (drive : Party) → Said checks a b stood → Left [] b c x stood now drive → Left (checked_text checks) a c x stood now drive
+left-afterwards checks a b c None stood now drive said h = tt
+left-afterwards checks a b c (Some xs) stood now drive said h = λ m s. (let r = h m s in (r.0, r.1, r.2, appends-more a b c (checked_text checks) (trace_text r.0) (said m s) r.3, r.4))
 
-pub cut-behind : (checks : Bool) (a b c x : Option (List ℕ)) (stood : Machine → Type 0) (drive : Party) → Said checks a b stood → Cut [] b c x stood drive → Cut (checked_text checks) a c x stood drive
-cut-behind checks a b c None stood drive said h = tt
-cut-behind checks a b c (Some xs) stood drive said h = λ m s. (let r = h m s in (r.0, r.1, part_behind a b c (checked_text checks) (trace_text r.0) (said m s) r.2))
+pub cut-afterwards : (checks : Bool) (a b c x : Option (List ℕ)) (stood : Machine → Type 0) (drive : Party) → Said checks a b stood → Cut [] b c x stood drive → Cut (checked_text checks) a c x stood drive
+cut-afterwards checks a b c None stood drive said h = tt
+cut-afterwards checks a b c (Some xs) stood drive said h = λ m s. (let r = h m s in (r.0, r.1, part_after a b c (checked_text checks) (trace_text r.0) (said m s) r.2))
 
 -- ---- where the first line can't be had
 

@@ -21,7 +21,7 @@ put_by ch text = Put ch (record { items = text })
 abbrev pub zeros : Disk
 zeros = record { title = replicate 16 0; mark = replicate 5 0; slots = []; room = 0; free = 0; total = 664 }
 
--- a disk of so many tracks behind `N0:TEST,AB`
+-- a disk of so many tracks after `N0:TEST,AB`
 abbrev pub formatted : ℕ → Disk
 formatted tracks = new_disk tracks (codes "TEST") (Some (codes "AB")) zeros
 
@@ -44,9 +44,9 @@ prints script m = (printed Profile script m).text
 abbrev pub prints_for_kernal : List ScriptRequest → Machine → List ℕ
 prints_for_kernal script m = (printed Kernal script m).text
 
--- the machine behind a script
-abbrev pub behind : List ScriptRequest → Machine → Machine
-behind script m = (printed Profile script m).machine
+-- the machine after a script
+abbrev pub afterwards : List ScriptRequest → Machine → Machine
+afterwards script m = (printed Profile script m).machine
 
 -- a file's name, its blocks shown and its blocks held
 abbrev pub summary_of : File → List ℕ × ℕ × ℕ

@@ -54,5 +54,5 @@ abbrev pub IsCheckedFirst : ℕ → Content → Option (List ℕ) → Option (Li
 IsCheckedFirst tracks content old new = (between : Option (List ℕ)) × IsCheckPrinted tracks content old between × AppendsMore between new
 
 -- what a script prints, after the line of the check if one is asked for
-abbrev pub printed_behind : Pace → Bool → List ScriptRequest → Machine → Printed
-printed_behind pace checks script m = record { text = checked_text checks ++ (printed pace script m).text; machine = (printed pace script m).machine }
+abbrev pub printed_after : Pace → Bool → List ScriptRequest → Machine → Printed
+printed_after pace checks script m = record { text = checked_text checks ++ (printed pace script m).text; machine = (printed pace script m).machine }

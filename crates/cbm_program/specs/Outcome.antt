@@ -10,9 +10,9 @@ use Rattle.cbm_program.specs.declared.fault.RunFault.{RunFault}
 use Rattle.cbm_program.specs.declared.fault.RunFault.TheVariants.{Image, Memory}
 use Rattle.cbm_program.specs.Output.{AppendsMore, Prints, PrintsPart}
 use Rattle.cbm_program.specs.Running.{script_of, EndsAs}
-use Rattle.cbm_program.specs.Checking.{printed_behind, checked_text, IsCheckedFirst}
+use Rattle.cbm_program.specs.Checking.{printed_after, checked_text, IsCheckedFirst}
 use Rattle.cbm_program.specs.Timetables.{of_requests, of_changes, timetable_of}
-use Rattle.cbm_program.specs.Traces.{PrintsTrace, PrintsTracePart, WritesBehind}
+use Rattle.cbm_program.specs.Traces.{PrintsTrace, PrintsTracePart, WritesAfter}
 use Rattle.cbm_program.specs.Starts.{BeginsOn}
 
 -- ---- a script of requests, and one of line changes: what was written, where the machines that stood before are these
@@ -20,15 +20,15 @@ use Rattle.cbm_program.specs.Starts.{BeginsOn}
 module _ (pace : Pace) (checks : Bool) (input old new : Option (List ℕ)) (stood : Machine → Type 0) where
   -- what a script of requests prints, and the machine after it is one of these
   abbrev pub IsScriptServed : (Machine → Type 0) → Type 0
-  IsScriptServed stands = IfSome input (λ bytes. Prints old new stood stands (printed_behind pace checks (script_of bytes).requests))
+  IsScriptServed stands = IfSome input (λ bytes. Prints old new stood stands (printed_after pace checks (script_of bytes).requests))
 
   -- the same, and this is the number of its first bad line, or it has none
   abbrev pub IsServedTo : (Machine → Type 0) → Option ℕ → Type 0
-  IsServedTo stands bad = IfSome input (λ bytes. ((script_of bytes).bad ≡ bad) × Prints old new stood stands (printed_behind pace checks (script_of bytes).requests))
+  IsServedTo stands bad = IfSome input (λ bytes. ((script_of bytes).bad ≡ bad) × Prints old new stood stands (printed_after pace checks (script_of bytes).requests))
 
   -- a beginning of what it prints
   abbrev pub IsServedPart : Type 0
-  IsServedPart = IfSome input (λ bytes. PrintsPart old new stood (printed_behind pace checks (script_of bytes).requests))
+  IsServedPart = IfSome input (λ bytes. PrintsPart old new stood (printed_after pace checks (script_of bytes).requests))
 
 module _ (drive : Party) (checks : Bool) (input old new : Option (List ℕ)) (stood : Machine → Type 0) where
   -- the trace of a script of line changes, and the machine after it is one of these
@@ -70,7 +70,7 @@ pub record IsRun {A : Type 0} (result : Result A RunFault) (stood : Machine → 
   pub played : PlaysScript result stood holds (party_of pace device) checks (of_changes input) old new
   -- Of a script of line changes, on any disk, sound or not, a drive's trace was written after the line of the check, up to the script's end or its first
   -- bad line: of a drive above which a machine plays back what the DOS showed.
-  pub wrote : EndsAs result (λ bad. WritesBehind (party_of pace device) checks (of_changes input) old new bad)
+  pub wrote : EndsAs result (λ bad. WritesAfter (party_of pace device) checks (of_changes input) old new bad)
   -- All that is printed is added to what was written.
   pub grows : AppendsMore old new
 
@@ -91,7 +91,7 @@ module _ {A : Type 0} (result : Result A RunFault) (items : A → List ℕ) (ima
     pub script : PlaysScript result (BeginsOn image protected) (λ saved m. ImageHolds (kind_of image) (items saved) m.disk) drive checks (of_changes input) old new
     -- On any disk, sound or not, a drive's trace was written after the line of the check, up to the script's end or its first bad line: of a drive above which
     -- a machine plays back what the DOS showed.
-    pub wrote : EndsAs result (λ bad. WritesBehind drive checks (of_changes input) old new bad)
+    pub wrote : EndsAs result (λ bad. WritesAfter drive checks (of_changes input) old new bad)
     -- Memory is lacking for the disk, or for the new image, after the whole script; and at no other time.
     pub memory : result ≡ Err Memory → Keeps old new ⊎ IsTracedTo drive checks (of_changes input) old new (BeginsOn image protected) (λ _. Unit {0}) None
 

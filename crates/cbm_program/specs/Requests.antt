@@ -10,9 +10,9 @@ use Rattle.cbm_program.specs.declared.line.ScriptLine.{ScriptLine}
 use Rattle.cbm_program.specs.declared.line.ScriptLine.TheVariants.{Skipped, Asks}
 
 -- the text of an open or a put, which may be missing with its space
-abbrev pub text_behind : Option (List ℕ) → Option (List ℕ)
-text_behind None = Some []
-text_behind (Some text) = text_of text
+abbrev pub text_after : Option (List ℕ) → Option (List ℕ)
+text_after None = Some []
+text_after (Some text) = text_of text
 
 -- a fill of a count and a byte, where both are right
 abbrev pub fill_with : ℕ → Option ℕ → Option ℕ → Option ScriptRequest
@@ -42,8 +42,8 @@ status_of (Some _) = None
 -- what a request's first word asks of a channel
 abbrev pub asked_of : List ℕ → ℕ → Option (List ℕ) → Option ScriptRequest
 asked_of verb channel rest =
-    if bytes_eq verb (codes "open") then option_map (λ text. Open channel (record { items = text })) (text_behind rest)
-    else if bytes_eq verb (codes "put") then option_map (λ text. Put channel (record { items = text })) (text_behind rest)
+    if bytes_eq verb (codes "open") then option_map (λ text. Open channel (record { items = text })) (text_after rest)
+    else if bytes_eq verb (codes "put") then option_map (λ text. Put channel (record { items = text })) (text_after rest)
     else if bytes_eq verb (codes "fill") then fill_of channel rest
     else if bytes_eq verb (codes "get") then get_of channel rest
     else if bytes_eq verb (codes "close") then close_of channel rest

@@ -27,11 +27,11 @@ timed_of [] = Some Skipped
 timed_of (b ∷ bytes) = if b == 59 then Some Skipped else timed_asked (b ∷ bytes)
 
 -- Nothing comes before what came before it.
-abbrev pub timed_behind : ℕ → Option Timed → Option Timed
-timed_behind from None = None
-timed_behind from (Some Skipped) = Some Skipped
-timed_behind from (Some (Changes change)) = if nat_lt change.moment from then None else Some (Changes change)
-timed_behind from (Some (Ends end)) = if nat_lt end from then None else Some (Ends end)
+abbrev pub timed_after : ℕ → Option Timed → Option Timed
+timed_after from None = None
+timed_after from (Some Skipped) = Some Skipped
+timed_after from (Some (Changes change)) = if nat_lt change.moment from then None else Some (Changes change)
+timed_after from (Some (Ends end)) = if nat_lt end from then None else Some (Ends end)
 
 -- a line that is skipped, as one must be after the end
 abbrev pub is_skipped : Option Timed → Bool

@@ -2,7 +2,7 @@
 use Rattle.std.specs.Prelude.{◌≡◌, ◌<◌, ◌≤◌, ◌⊎◌, ℕ, List, [], ◌∷◌, Option, Some, None, Result, Ok, Err}
 use Rattle.bus_traces.specs.Lines.{lines_of}
 use Rattle.cbm_program.specs.Timed.{IsTimed, latest_timed}
-use Rattle.cbm_program.specs.Timetables.{timed_meaning, bad_behind}
+use Rattle.cbm_program.specs.Timetables.{timed_meaning, bad_after}
 use Rattle.cbm_program.specs.declared.fault.RunFault.{RunFault}
 use Rattle.cbm_program.specs.declared.fault.RunFault.TheVariants.{Script, Image, Memory, Reading, Writing}
 use Rattle.cbm_program.specs.declared.wires.timed.Timed.{Timed}
@@ -28,15 +28,15 @@ TimedRead old new n from (Err Reading) = Unit {0}
 TimedRead old new n from (Err Writing) = ⊥
 
 -- the first line after the end that may not stand there, from line n on
-abbrev pub IsBadBehind : Option (List ℕ) → ℕ → Option ℕ → Type 0
-IsBadBehind None n bad = Unit {0}
-IsBadBehind (Some xs) n bad = bad_behind n (lines_of xs) ≡ bad
+abbrev pub IsBadAfter : Option (List ℕ) → ℕ → Option ℕ → Type 0
+IsBadAfter None n bad = Unit {0}
+IsBadAfter (Some xs) n bad = bad_after n (lines_of xs) ≡ bad
 
 -- what the lines after the end came to: all are skipped, or one may not stand there, or they can't be read
-abbrev pub BehindRead : Option (List ℕ) → ℕ → Result (Unit {0}) RunFault → Type 0
-BehindRead old n (Ok _) = IsBadBehind old n None
-BehindRead old n (Err (Script bad)) = IsBadBehind old n (Some bad)
-BehindRead old n (Err (Image number)) = ⊥
-BehindRead old n (Err Memory) = ⊥
-BehindRead old n (Err Reading) = Unit {0}
-BehindRead old n (Err Writing) = ⊥
+abbrev pub AfterEndRead : Option (List ℕ) → ℕ → Result (Unit {0}) RunFault → Type 0
+AfterEndRead old n (Ok _) = IsBadAfter old n None
+AfterEndRead old n (Err (Script bad)) = IsBadAfter old n (Some bad)
+AfterEndRead old n (Err (Image number)) = ⊥
+AfterEndRead old n (Err Memory) = ⊥
+AfterEndRead old n (Err Reading) = Unit {0}
+AfterEndRead old n (Err Writing) = ⊥

@@ -4,7 +4,7 @@ use Rattle.std.specs.Str.{bytes_eq}
 use Rattle.cbm_iec.specs.declared.lines.Change.{Change}
 use Rattle.bus_traces.specs.Lines.{lines_of}
 use Rattle.cbm_program.specs.Running.{may_stand}
-use Rattle.cbm_program.specs.Timed.{timed_of, timed_behind, is_skipped, latest_timed}
+use Rattle.cbm_program.specs.Timed.{timed_of, timed_after, is_skipped, latest_timed}
 use Rattle.cbm_program.specs.declared.wires.timed.Timed.{Timed}
 use Rattle.cbm_program.specs.declared.wires.timed.Timed.TheVariants.{Skipped, Changes, Ends}
 
@@ -38,7 +38,7 @@ of_changes (Some bytes) = script_if true (is_timed bytes) bytes
 
 -- what a line is after a moment, where it may stand there
 abbrev pub timed_if : Bool → ℕ → List ℕ → Option Timed
-timed_if true from line = timed_behind from (timed_of line)
+timed_if true from line = timed_after from (timed_of line)
 timed_if false from line = None
 
 -- what line n is after a moment, None where it is refused
@@ -46,9 +46,9 @@ abbrev pub timed_meaning : ℕ → ℕ → List ℕ → Option Timed
 timed_meaning n from line = timed_if (may_stand n line) from line
 
 -- the first line after the end that may not stand there, from line n on
-unfoldable pub bad_behind : ℕ → List (List ℕ) → Option ℕ
-bad_behind n [] = None
-bad_behind n (line ∷ lines) = if is_skipped (timed_meaning n 0 line) then bad_behind (n + 1) lines else Some n
+unfoldable pub bad_after : ℕ → List (List ℕ) → Option ℕ
+bad_after n [] = None
+bad_after n (line ∷ lines) = if is_skipped (timed_meaning n 0 line) then bad_after (n + 1) lines else Some n
 
 -- the changes up to the end or the first bad line; the end, if no line is bad; and the number of the bad line
 pub record Timetable : Type 0 where
@@ -84,7 +84,7 @@ latest_if from (Some timed) = latest_timed from timed
 -- The lines from line n on, after a moment. Where no line is the end, the line that is missing is refused.
 unfoldable pub timetable_from : ℕ → ℕ → List (List ℕ) → Timetable
 timetable_from n from [] = stopped_at n
-timetable_from n from (line ∷ lines) = with_timed (timed_meaning n from line) n (bad_behind (n + 1) lines) (timetable_from (n + 1) (latest_if from (timed_meaning n from line)) lines)
+timetable_from n from (line ∷ lines) = with_timed (timed_meaning n from line) n (bad_after (n + 1) lines) (timetable_from (n + 1) (latest_if from (timed_meaning n from line)) lines)
 
 -- what follows the first line, `lines`
 abbrev pub timetable_of : List ℕ → Timetable

@@ -95,8 +95,8 @@ abbrev pub WritesTrace : Party → Option (List ℕ) → Option (List ℕ) → O
 WritesTrace drive input old new bad = IfSome input (λ bytes. ((timetable_of bytes).bad ≡ bad) × HasWritten drive old new (timetable_of bytes))
 
 -- the same after the line of a check, if one is asked for
-abbrev pub WritesBehind : Party → Bool → Option (List ℕ) → Option (List ℕ) → Option (List ℕ) → Option ℕ → Type 0
-WritesBehind drive checks input old new bad = (between : Option (List ℕ)) × (checks ≡ false → between ≡ old) × AppendsMore old between × WritesTrace drive input between new bad
+abbrev pub WritesAfter : Party → Bool → Option (List ℕ) → Option (List ℕ) → Option (List ℕ) → Option ℕ → Type 0
+WritesAfter drive checks input old new bad = (between : Option (List ℕ)) × (checks ≡ false → between ≡ old) × AppendsMore old between × WritesTrace drive input between new bad
 
 -- For each machine that was represented before, the trace of the script was written after this text, and the machine above the drive is represented now.
 abbrev pub PrintsTrace : Option (List ℕ) → Option (List ℕ) → (Machine → Type 0) → (Machine → Type 0) → Party → List ℕ → Timetable → Type 0

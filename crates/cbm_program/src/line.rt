@@ -1,7 +1,7 @@
 //! What a line of a script asks for.
 ghost use Rattle.std.specs.Prelude.{◌≡◌, ◌≤◌, length, option_map, IfSome};
 ghost use Rattle.std.specs.Option.{ForSome};
-ghost use Rattle.cbm_program.specs.Requests.{text_behind, fill_of, get_of, asked_of, request_of, line_of};
+ghost use Rattle.cbm_program.specs.Requests.{text_after, fill_of, get_of, asked_of, request_of, line_of};
 ghost use Rattle.cbm_program.specs.Running.{IsInRange, LineIsInRange};
 
 use crate::request::{ScriptRequest, Text};
@@ -17,9 +17,9 @@ pub enum ScriptLine {
     Asks(ScriptRequest),
 }
 
-fn text_behind(rest: Option<&[u8]>) -> Option<Text>
+fn text_after(rest: Option<&[u8]>) -> Option<Text>
     requires { ForSome rest (λ text. length text.now ≤ 1000) }
-    ensures { option_map (λ text. text.items) result ≡ text_behind (option_map (λ text. text.now) rest.entry) }
+    ensures { option_map (λ text. text.items) result ≡ text_after (option_map (λ text. text.now) rest.entry) }
 {
     match rest {
         None => Some(Text::new()),
@@ -51,9 +51,9 @@ fn asked(verb: &[u8], channel: u8, rest: Option<&[u8]>) -> Option<ScriptRequest>
     ensures value { result ≡ asked_of verb.now channel (option_map (λ text. text.now) rest.entry) }
 {
     if verb == b"open".as_slice() {
-        Some(ScriptRequest::Open(channel, text_behind(rest)?))
+        Some(ScriptRequest::Open(channel, text_after(rest)?))
     } else if verb == b"put".as_slice() {
-        Some(ScriptRequest::Put(channel, text_behind(rest)?))
+        Some(ScriptRequest::Put(channel, text_after(rest)?))
     } else if verb == b"fill".as_slice() {
         fill(channel, rest)
     } else if verb == b"get".as_slice() {

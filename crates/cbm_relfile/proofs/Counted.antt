@@ -3,10 +3,10 @@ use Rattle.std.proofs.Common.{◌≡◌, ◌≢◌, ℕ, ◌+◌, ◌-◌, ◌*�
 use Rattle.cbm_medium.specs.Place.{Place, Has}
 use Rattle.cbm_medium.specs.Content.{Cell, Content}
 use Rattle.cbm_medium.specs.Links.{bytes_at, or_nothing, link, Chain}
-use Rattle.cbm_relfile.specs.SideSectors.{named_in, sides_listed, sides_behind}
+use Rattle.cbm_relfile.specs.SideSectors.{named_in, sides_listed, sides_following}
 use Rattle.cbm_relfile.proofs.Listed.{at_bytes, list_none, list_some}
 
--- what is left of a chain behind so many of its blocks
+-- what is left of a chain after so many of its blocks
 pub record Walked (tracks : ℕ) (c : Content) (p : Place) (blocks : List Place) (passed : ℕ) : Type 0 where
   pub rest : List Place
   pub chain : Chain tracks c p rest
@@ -49,27 +49,27 @@ walked_all tracks c p blocks passed most h l e = omega (arith, h.count, l, e)
 
 -- ---- side sectors
 
-sides_none : (n : ℕ) (head : List ℕ) → n < 6 → get_or head (4 + 2 * n) 0 ≡ 0 → sides_behind n head ≡ []
-unfolding sides_behind
+sides_none : (n : ℕ) (head : List ℕ) → n < 6 → get_or head (4 + 2 * n) 0 ≡ 0 → sides_following n head ≡ []
+unfolding sides_following
 sides_none n head l e = list_none 6 4 n head l e
 
-pub behind_none : (n : ℕ) (head : List ℕ) → n + length (sides_behind n head) ≡ length (sides_behind 0 head) → n < 6 → get_or head (4 + 2 * n) 0 ≡ 0 → n ≡ length (sides_behind 0 head)
-behind_none n head h l e = omega (arith, h, ap (λ (ys : List Place). length ys) (sides_none n head l e))
+pub after_none_left : (n : ℕ) (head : List ℕ) → n + length (sides_following n head) ≡ length (sides_following 0 head) → n < 6 → get_or head (4 + 2 * n) 0 ≡ 0 → n ≡ length (sides_following 0 head)
+after_none_left n head h l e = omega (arith, h, ap (λ (ys : List Place). length ys) (sides_none n head l e))
 
-sides_some : (n : ℕ) (head : List ℕ) → n < 6 → get_or head (4 + 2 * n) 0 ≢ 0 → sides_behind n head ≡ at_bytes head (4 + 2 * n) ∷ sides_behind (n + 1) head
-unfolding sides_behind
+sides_some : (n : ℕ) (head : List ℕ) → n < 6 → get_or head (4 + 2 * n) 0 ≢ 0 → sides_following n head ≡ at_bytes head (4 + 2 * n) ∷ sides_following (n + 1) head
+unfolding sides_following
 sides_some n head l ne = list_some 6 4 n head l ne
 
-pub behind_more : (n : ℕ) (head : List ℕ) → n + length (sides_behind n head) ≡ length (sides_behind 0 head) → n < 6 → get_or head (4 + 2 * n) 0 ≢ 0 → n + 1 + length (sides_behind (n + 1) head) ≡ length (sides_behind 0 head)
-behind_more n head h l ne = omega (arith, h, ap (λ (ys : List Place). length ys) (sides_some n head l ne))
+pub after_some_more : (n : ℕ) (head : List ℕ) → n + length (sides_following n head) ≡ length (sides_following 0 head) → n < 6 → get_or head (4 + 2 * n) 0 ≢ 0 → n + 1 + length (sides_following (n + 1) head) ≡ length (sides_following 0 head)
+after_some_more n head h l ne = omega (arith, h, ap (λ (ys : List Place). length ys) (sides_some n head l ne))
 
-sides_end : (n : ℕ) (head : List ℕ) → 6 ≤ n → sides_behind n head ≡ []
-unfolding sides_behind
+sides_end : (n : ℕ) (head : List ℕ) → 6 ≤ n → sides_following n head ≡ []
+unfolding sides_following
 sides_end n head l = let end : 6 - n ≡ 0 = omega (arith, l) in ap (λ (m : ℕ). named_in m (drop (4 + 2 * n) head)) end
 
-pub behind_end : (n : ℕ) (head : List ℕ) → n + length (sides_behind n head) ≡ length (sides_behind 0 head) → 6 ≤ n → n ≡ length (sides_behind 0 head)
-behind_end n head h l = omega (arith, h, ap (λ (ys : List Place). length ys) (sides_end n head l))
+pub after_the_end : (n : ℕ) (head : List ℕ) → n + length (sides_following n head) ≡ length (sides_following 0 head) → 6 ≤ n → n ≡ length (sides_following 0 head)
+after_the_end n head h l = omega (arith, h, ap (λ (ys : List Place). length ys) (sides_end n head l))
 
-pub behind_all : (head : List ℕ) → sides_behind 0 head ≡ sides_listed head
-unfolding sides_behind
-behind_all head = refl
+pub after_all_of : (head : List ℕ) → sides_following 0 head ≡ sides_listed head
+unfolding sides_following
+after_all_of head = refl

@@ -1,4 +1,4 @@
--- The stretch behind another one of a chain's bytes, which may begin in the next block.
+-- The stretch after another one of a chain's bytes, which may begin in the next block.
 use Rattle.std.proofs.Common.{◌≡◌, ◌≢◌, ℕ, ◌+◌, ◌*◌, ◌≤◌, List, ◌∷◌, length, take, drop, Some, None, Ok, IsOk, refl, sym, ap, subst, ◌∙◌, arith, inl, inr}
 use Rattle.std.proofs.lemmas.Bool.{cases_lt}
 use Rattle.std.proofs.lemmas.List.{length-drop, drop-drop}

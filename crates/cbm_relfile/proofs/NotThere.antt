@@ -32,7 +32,7 @@ some_says {A = A} P o x is h = subst (λ (y : Option A). IfSome y P) is h
 
 -- a walk has come to track 0
 pub walk_ends : (tracks : ℕ) (c : Content) (first at : Place) (k number : ℕ) → WalksTo tracks c first at k → k ≤ number → at.track ≡ 0 → ChainEndsBy tracks c first number
-walk_ends tracks c first at k number w l z = inr (k, l, record { blocks = w.blocks; behind = at; number = w.number; leads = w.leads; ends = inl z })
+walk_ends tracks c first at k number w l z = inr (k, l, record { blocks = w.blocks; afterwards = at; number = w.number; leads = w.leads; ends = inl z })
 
 -- or goes on
 pub walk_leads : (tracks : ℕ) (c : Content) (first at : Place) (k number : ℕ) → WalksTo tracks c first at k → k ≡ number → at.track ≢ 0 → BlocksLeadTo tracks c first number at

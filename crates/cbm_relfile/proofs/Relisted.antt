@@ -50,7 +50,7 @@ named_same (suc n) base a b h = elim (cases_eq (get_or b base 0) 0) [
 
 -- ---- one side sector
 
--- the blocks of a chain that are listed so far, and what is behind them
+-- the blocks of a chain that are listed so far, and what is after them
 pub record Listing (tracks : ℕ) (c : Content) (blocks : List Place) (n : ℕ) (side : List ℕ) (at : Place) : Type 0 where
   pub most : n ≤ length blocks
   pub chain : Chain tracks c at (drop n blocks)
@@ -66,7 +66,7 @@ pub record Ahead (tracks : ℕ) (c : Content) (blocks : List Place) (n : ℕ) (a
   pub is : nth blocks n ≡ at
   pub has : Has tracks at
   pub reads : IsOk (c at)
-  pub behind : Chain tracks c (link (bytes_at c at)) (drop (suc n) blocks)
+  pub afterwards : Chain tracks c (link (bytes_at c at)) (drop (suc n) blocks)
 
 pub ahead : (tracks : ℕ) (c : Content) (blocks : List Place) (n : ℕ) (at : Place) → Chain tracks c at (drop n blocks) → at.track ≢ 0 → Ahead tracks c blocks n at
 ahead tracks c [] zero at h ne = absurd (ne h)
@@ -76,9 +76,9 @@ ahead tracks c (x ∷ xs) zero at h ne = record {
   is = sym h.0;
   has = subst (λ (p : Place). Has tracks p) (sym h.0) h.1;
   reads = subst (λ (p : Place). IsOk (c p)) (sym h.0) h.2;
-  behind = subst (λ (p : Place). Chain tracks c (link (bytes_at c p)) xs) (sym h.0) h.3;
+  afterwards = subst (λ (p : Place). Chain tracks c (link (bytes_at c p)) xs) (sym h.0) h.3;
 }
-ahead tracks c (x ∷ xs) (suc n) at h ne = let r = ahead tracks c xs n at h ne in record { there = omega (arith, r.there); is = r.is; has = r.has; reads = r.reads; behind = r.behind }
+ahead tracks c (x ∷ xs) (suc n) at h ne = let r = ahead tracks c xs n at h ne in record { there = omega (arith, r.there); is = r.is; has = r.has; reads = r.reads; afterwards = r.afterwards }
 
 -- one block more is listed
 pub listing_more : (tracks : ℕ) (c : Content) (blocks : List Place) (n : ℕ) (side : List ℕ) (at next : Place) (bytes : List ℕ) → length side ≡ 256 → n < 120 → Listing tracks c blocks n side at → at.track ≢ 0 → c at ≡ Ok bytes → next ≡ link bytes
@@ -89,7 +89,7 @@ listing_more tracks c blocks n side at next bytes long room h ne holds is =
     let size : length one ≡ 256 = length-set side (16 + 2 * n) at.track ∙ long in
     record {
       most = omega (arith, a.there);
-      chain = subst (λ (p : Place). Chain tracks c p (drop (n + 1) blocks)) (ap (λ (y : Cell). link (or_nothing y)) holds ∙ sym is) (let e : suc n ≡ n + 1 = omega arith in subst (λ (m : ℕ). Chain tracks c (link (bytes_at c at)) (drop m blocks)) e a.behind);
+      chain = subst (λ (p : Place). Chain tracks c p (drop (n + 1) blocks)) (ap (λ (y : Cell). link (or_nothing y)) holds ∙ sym is) (let e : suc n ≡ n + 1 = omega arith in subst (λ (m : ℕ). Chain tracks c (link (bytes_at c at)) (drop m blocks)) e a.afterwards);
       each = λ k l. elim (cases_eq k n) [
         | inl e ↦
             (let t : get_or (set one (16 + 2 * n + 1) at.sector) (16 + 2 * n) 0 ≡ at.track = get_or-set_other one (16 + 2 * n + 1) (16 + 2 * n) at.sector 0 (omega arith) ∙ get_or-set_same side (16 + 2 * n) at.track 0 (omega (arith, long, room)) in
@@ -148,11 +148,11 @@ listing_full tracks c blocks n old side new at h all whole ends same front zeros
   subst (λ (m : ℕ). Chain tracks c at (drop m blocks)) all h.chain,
 )
 
--- the bytes of a side sector behind one block more
+-- the bytes of a side sector after one block more
 pub record OneSet (new : List ℕ) (n a b : ℕ) : Type 0 where
   pub size : length (set (set new (16 + 2 * n) a) (16 + 2 * n + 1) b) ≡ length new
   pub before : (j : ℕ) → j < 16 + 2 * n → get_or (set (set new (16 + 2 * n) a) (16 + 2 * n + 1) b) j 0 ≡ get_or new j 0
-  pub behind : (j : ℕ) → 16 + 2 * (n + 1) ≤ j → get_or (set (set new (16 + 2 * n) a) (16 + 2 * n + 1) b) j 0 ≡ get_or new j 0
+  pub afterwards : (j : ℕ) → 16 + 2 * (n + 1) ≤ j → get_or (set (set new (16 + 2 * n) a) (16 + 2 * n + 1) b) j 0 ≡ get_or new j 0
 
 pub one_set : (new : List ℕ) (n a b : ℕ) → OneSet new n a b
 one_set new n a b =
@@ -160,7 +160,7 @@ one_set new n a b =
     record {
       size = length-set one (16 + 2 * n + 1) b ∙ length-set new (16 + 2 * n) a;
       before = λ j l. get_or-set_other one (16 + 2 * n + 1) j b 0 (omega (arith, l)) ∙ get_or-set_other new (16 + 2 * n) j a 0 (omega (arith, l));
-      behind = λ j l. get_or-set_other one (16 + 2 * n + 1) j b 0 (omega (arith, l)) ∙ get_or-set_other new (16 + 2 * n) j a 0 (omega (arith, l));
+      afterwards = λ j l. get_or-set_other one (16 + 2 * n + 1) j b 0 (omega (arith, l)) ∙ get_or-set_other new (16 + 2 * n) j a 0 (omega (arith, l));
     }
 
 -- ---- the side sectors one by one
@@ -340,13 +340,13 @@ relisted_step tracks old m c' file xs ss i list apart h l w joined =
 pub record Unlisting (tracks : ℕ) (old m : Content) (file : Relative) (xs ss : List Place) (left : ℕ) : Type 0 where
   pub relisted : IsRelisted tracks old m file xs ss
   pub before : (i : ℕ) → i < left → i < length ss → lists_at m ss i ≡ lists_at old ss i
-  pub behind : (i : ℕ) → left ≤ i → i < length ss → lists_at m ss i ≡ []
+  pub afterwards : (i : ℕ) → left ≤ i → i < length ss → lists_at m ss i ≡ []
 
 pub unlisting_begins : (tracks : ℕ) (old : Content) (file : Relative) (xs ss : List Place) (left : ℕ) → AllWhole old → IsLaid tracks old file xs ss → length ss ≤ left → Unlisting tracks old old file xs ss left
 unlisting_begins tracks old file xs ss left whole laid all = record {
   relisted = record { laid = laid; whole = whole; kept = λ i l. inl refl; others = λ p a. refl };
   before = λ i l k. refl;
-  behind = λ i l k. absurd (omega (arith, l, k, all));
+  afterwards = λ i l k. absurd (omega (arith, l, k, all));
 }
 
 pub unlisting_more : (tracks : ℕ) (old m c' : Content) (file : Relative) (xs ss : List Place) (left i : ℕ) → AreApart xs ss → IsLaid tracks old file xs ss → Unlisting tracks old m file xs ss left → left ≡ suc i → i < length ss → IsSideListed m c' (nth ss i) []
@@ -354,16 +354,16 @@ pub unlisting_more : (tracks : ℕ) (old m c' : Content) (file : Relative) (xs s
 unlisting_more tracks old m c' file xs ss left i apart laid h e l w =
     let done = side_done tracks m c' xs ss i [] apart l w in
     let before : (j : ℕ) → j < i → j < length ss → lists_at c' ss j ≡ lists_at old ss j = λ j a b. done.others j b (λ z. omega (arith, a, z)) ∙ h.before j (omega (arith, a, e)) b in
-    let behind : (j : ℕ) → i ≤ j → j < length ss → lists_at c' ss j ≡ [] = λ j a b. elim (cases_eq j i) [
+    let afterwards : (j : ℕ) → i ≤ j → j < length ss → lists_at c' ss j ≡ [] = λ j a b. elim (cases_eq j i) [
       | inl z ↦ ap (lists_at c' ss) z ∙ done.here
-      | inr ne ↦ done.others j b ne ∙ h.behind j (omega (arith, a, ne, e)) b
+      | inr ne ↦ done.others j b ne ∙ h.afterwards j (omega (arith, a, ne, e)) b
     ] in
-    let r = emptied_prefix old c' ss i before behind in
+    let r = emptied_prefix old c' ss i before afterwards in
     record {
       relisted = relisted_step tracks old m c' file xs ss i [] apart h.relisted l w
           (r.0 ++ laid.joined.0, sym (append_assoc (blocks_listed c' ss) r.0 laid.joined.0) ∙ ap (λ (ys : List Place). ys ++ laid.joined.0) r.1 ∙ laid.joined.1);
       before = before;
-      behind = behind;
+      afterwards = afterwards;
     }
 
 -- ---- and each side sector gets its blocks, from the first one up
@@ -371,14 +371,14 @@ unlisting_more tracks old m c' file xs ss left i apart laid h e l w =
 pub record Relisting (tracks : ℕ) (old m : Content) (file : Relative) (xs ss : List Place) (n : ℕ) (at : Place) : Type 0 where
   pub relisted : IsRelisted tracks old m file xs ss
   pub before : (i : ℕ) → i < n → i < length ss → lists_at m ss i ≡ take 120 (drop (120 * i) xs)
-  pub behind : (i : ℕ) → n ≤ i → i < length ss → lists_at m ss i ≡ []
+  pub afterwards : (i : ℕ) → n ≤ i → i < length ss → lists_at m ss i ≡ []
   pub chain : Chain tracks m at (drop (120 * n) xs)
 
 pub relisting_begins : (tracks : ℕ) (old : Content) (file : Relative) (xs ss : List Place) (at : Place) → AllWhole old → IsLaid tracks old file xs ss → at ≡ file.first → ((i : ℕ) → i < length ss → lists_at old ss i ≡ []) → Relisting tracks old old file xs ss 0 at
 relisting_begins tracks old file xs ss at whole laid e none = record {
   relisted = record { laid = laid; whole = whole; kept = λ i l. inl refl; others = λ p a. refl };
   before = λ i l k. absurd (omega (arith, l));
-  behind = λ i l k. none i k;
+  afterwards = λ i l k. none i k;
   chain = (let z : 0 ≡ 120 * 0 = omega arith in subst (λ (m : ℕ). Chain tracks old at (drop m xs)) z (subst (λ (p : Place). Chain tracks old p xs) (sym e) laid.chain));
 }
 
@@ -390,12 +390,12 @@ relisting_more tracks old m c' file xs ss n at next apart h l w chain =
       | inl z ↦ ap (lists_at c' ss) z ∙ done.here ∙ ap (λ (k : ℕ). take 120 (drop (120 * k) xs)) (sym z)
       | inr ne ↦ done.others j b ne ∙ h.before j (omega (arith, a, ne)) b
     ] in
-    let behind : (j : ℕ) → n + 1 ≤ j → j < length ss → lists_at c' ss j ≡ [] = λ j a b. done.others j b (λ z. omega (arith, a, z)) ∙ h.behind j (omega (arith, a)) b in
+    let afterwards : (j : ℕ) → n + 1 ≤ j → j < length ss → lists_at c' ss j ≡ [] = λ j a b. done.others j b (λ z. omega (arith, a, z)) ∙ h.afterwards j (omega (arith, a)) b in
     let far : drop 120 (drop (120 * n) xs) ≡ drop (120 * (n + 1)) xs = drop-drop 120 (120 * n) xs ∙ (let e : 120 * n + 120 ≡ 120 * (n + 1) = omega arith in ap (λ (k : ℕ). drop k xs) e) in
     record {
-      relisted = relisted_step tracks old m c' file xs ss n (take 120 (drop (120 * n) xs)) apart h.relisted l w (filled_prefix c' ss xs (n + 1) before behind);
+      relisted = relisted_step tracks old m c' file xs ss n (take 120 (drop (120 * n) xs)) apart h.relisted l w (filled_prefix c' ss xs (n + 1) before afterwards);
       before = before;
-      behind = behind;
+      afterwards = afterwards;
       chain = chain_apart tracks m c' (nth ss n) next (drop (120 * (n + 1)) xs) done.only (apart_drop (nth ss n) xs (120 * (n + 1)) (apart.apart n l)) (subst (λ (ys : List Place). Chain tracks m next ys) far chain);
     }
 
@@ -465,7 +465,7 @@ pub listed_one : (c : Content) (ss xs : List Place) (n : ℕ) (t : Place) (side 
 listed_one c ss xs n t side new is reads same these =
     ap (λ (p : Place). named_in 120 (drop 16 (bytes_at c p))) is ∙ ap (λ (x : Cell). named_in 120 (drop 16 (or_nothing x))) reads ∙ sym (named_same 120 16 new side (λ i l k. same i l (omega (arith, k)))) ∙ these.lists
 
--- the same list with zeros behind it is the same bytes
+-- the same list with zeros after it is the same bytes
 pub same_bytes : (a b : List ℕ) (ys : List Place) → named_in 120 (drop 16 a) ≡ ys → named_in 120 (drop 16 b) ≡ ys → ((i : ℕ) → 16 + 2 * length ys ≤ i → get_or a i 0 ≡ 0) → ((i : ℕ) → 16 + 2 * length ys ≤ i → get_or b i 0 ≡ 0)
     → (i : ℕ) → 16 ≤ i → get_or a i 0 ≡ get_or b i 0
 same_bytes a b ys ea eb za zb i low = by_place (cases_lt i (16 + 2 * length ys))
@@ -485,7 +485,7 @@ same_bytes a b ys ea eb za zb i low = by_place (cases_lt i (16 + 2 * length ys))
 
     by_place : (i < 16 + 2 * length ys) ⊎ (16 + 2 * length ys ≤ i) → get_or a i 0 ≡ get_or b i 0
     by_place (inl l) = by_byte ((i - 16) / 2) (omega (arith, l, low)) (odd_or_even ((i - 16) / 2) refl)
-    by_place (inr behind) = za i behind ∙ sym (zb i behind)
+    by_place (inr afterwards) = za i afterwards ∙ sym (zb i afterwards)
 
 -- the first side sector was read
 pub head_names : (tracks : ℕ) (c : Content) (file : Relative) (xs ss : List Place) (t : Place) (head : List ℕ) → IsLaid tracks c file xs ss → t ≡ file.side → c t ≡ Ok head → NamesSides head ss

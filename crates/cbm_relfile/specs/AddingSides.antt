@@ -13,7 +13,7 @@ pub record IsEmptySide (head : List ℕ) (k w : ℕ) (t : Place) (new : List ℕ
   pub others : (i : ℕ) → 4 ≤ i → i < 4 + 2 * k → slice_index new i ≡ slice_index head i
   pub itself : (slice_index new (4 + 2 * k) ≡ t.track) × (slice_index new (5 + 2 * k) ≡ t.sector)
   pub last : k < 5 → (slice_index new (6 + 2 * k) ≡ 0) × (slice_index new (7 + 2 * k) ≡ 0)
-  pub behind : (i : ℕ) → 8 + 2 * k ≤ i → i < 16 → slice_index new i ≡ slice_index head i
+  pub afterwards : (i : ℕ) → 8 + 2 * k ≤ i → i < 16 → slice_index new i ≡ slice_index head i
   pub zeros : (i : ℕ) → 16 ≤ i → slice_index new i ≡ 0
 
 -- it is claimed and written

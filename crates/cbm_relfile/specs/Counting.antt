@@ -7,10 +7,10 @@ use Rattle.cbm_medium.specs.Links.{LinksLead}
 -- FROM A FIRST BLOCK THIS MANY LINK each to the next one, and all read; there the chain ends, or the disk has no more sectors.
 pub record IsChainCounted (tracks : ℕ) (c : Content) (first : Place) (k : ℕ) : Type 0 where
   pub blocks : List Place
-  pub behind : Place
+  pub afterwards : Place
   pub number : length blocks ≡ k
-  pub leads : LinksLead tracks c first blocks behind
-  pub ends : (behind.track ≡ 0) ⊎ (k ≡ sector_count tracks)
+  pub leads : LinksLead tracks c first blocks afterwards
+  pub ends : (afterwards.track ≡ 0) ⊎ (k ≡ sector_count tracks)
 
 -- THE CHAIN ENDS BY THIS NUMBER: walked from its first block, it has no more blocks than this many; or the disk has no more sectors.
 abbrev pub ChainEndsBy : ℕ → Content → Place → ℕ → Type 0

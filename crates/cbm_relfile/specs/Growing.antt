@@ -83,7 +83,7 @@ pub record ListsSide (old : List ℕ) (k : ℕ) (t : Place) (follows : Bool) (ne
   pub sector : slice_index new (5 + 2 * k) ≡ t.sector
   pub last : k < 5 → slice_index new (6 + 2 * k) ≡ 0
   pub last_sector : k < 5 → slice_index new (7 + 2 * k) ≡ 0
-  pub behind : (i : ℕ) → 8 + 2 * k ≤ i → i < 16 → slice_index new i ≡ slice_index old i
+  pub afterwards : (i : ℕ) → 8 + 2 * k ≤ i → i < 16 → slice_index new i ≡ slice_index old i
   pub back : (i : ℕ) → 16 ≤ i → slice_index new i ≡ slice_index old i
 
 -- The side sector at this place, which is the one of number i, lists one side sector more after this many.
@@ -110,7 +110,7 @@ pub record IsNewSide (head : List ℕ) (k w : ℕ) (q t : Place) (new : List ℕ
   pub others : (i : ℕ) → 4 ≤ i → i < 4 + 2 * k → slice_index new i ≡ slice_index head i
   pub itself : (slice_index new (4 + 2 * k) ≡ t.track) × (slice_index new (5 + 2 * k) ≡ t.sector)
   pub last : k < 5 → (slice_index new (6 + 2 * k) ≡ 0) × (slice_index new (7 + 2 * k) ≡ 0)
-  pub behind : (i : ℕ) → 8 + 2 * k ≤ i → i < 16 → slice_index new i ≡ slice_index head i
+  pub afterwards : (i : ℕ) → 8 + 2 * k ≤ i → i < 16 → slice_index new i ≡ slice_index head i
   pub track : slice_index new 16 ≡ q.track
   pub sector : slice_index new 17 ≡ q.sector
   pub zeros : (i : ℕ) → 18 ≤ i → slice_index new i ≡ 0

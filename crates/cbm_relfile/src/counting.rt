@@ -6,7 +6,7 @@ ghost use Rattle.cbm_medium.specs.Links.{Chain};
 ghost use Rattle.cbm_medium.specs.Met.{MeetsTrouble};
 ghost use Rattle.cbm_relfile.specs.Counting.{IsChainCounted};
 ghost use Rattle.cbm_relfile.specs.OfFile.{IsOfFile};
-ghost use Rattle.cbm_relfile.specs.SideSectors.{sides_behind};
+ghost use Rattle.cbm_relfile.specs.SideSectors.{sides_following};
 
 use crate::relative::Relative;
 use crate::sectors::read_at;
@@ -42,7 +42,7 @@ fn block_count<M: Medium>(medium: &M, geometry: Geometry, first: Link) -> Result
 
 /// How many side sectors a first one lists: up to its first track 0.
 fn side_count(head: &[u8; 256]) -> u8
-    ensures value { result ≡ length (sides_behind 0 head.now) }
+    ensures value { result ≡ length (sides_following 0 head.now) }
     ensures most { result ≤ 6 }
 {
     for number in 0..6u8 {
@@ -63,11 +63,11 @@ pub fn extent_of<M: Medium>(
     ensures counted { let now = M.seen medium.now in (blocks : List Place) (head : List ℕ) →
         Chain geometry now.content file.first blocks → length blocks ≤ sector_count geometry →
         Has geometry file.side → now.content file.side ≡ Ok head →
-        IsOkAnd result (λ x. (x.blocks ≡ length blocks) × (x.sides ≡ length (sides_behind 0 head))) }
+        IsOkAnd result (λ x. (x.blocks ≡ length blocks) × (x.sides ≡ length (sides_following 0 head))) }
     // On any disk: the blocks were walked, and the first side sector was read.
     ensures walked { IfOk result (λ x. IsChainCounted geometry (M.seen medium.now).content file.first x.blocks) }
     ensures sides { IfOk result (λ x. IsOkAnd ((M.seen medium.now).content file.side)
-        (λ head. x.sides ≡ length (sides_behind 0 head))) }
+        (λ head. x.sides ≡ length (sides_following 0 head))) }
     ensures most { IfOk result (λ x. x.sides ≤ 6) }
     ensures err { MeetsTrouble geometry (M.seen medium.now).content (IsOfFile geometry (M.seen medium.now).content file) result }
 {

@@ -10,7 +10,7 @@ use Rattle.cbm_track.proofs.Firsts.{first_some}
 use Rattle.cbm_track.proofs.Steps.{next_some}
 use Rattle.cbm_track.proofs.Round.{clear_from, ten_ones_at, ten_ones_not}
 use Rattle.cbm_sector.specs.Decoding.{IsBytes, coded_at}
-use Rattle.cbm_sector.specs.Answer.{is_header, is_right, has_id, names, names_18, passes, is_crowded, header_at, header_of, block_at, block_after_header, behind_header, block_of, sector_shown, id_at, id_in, id_shown, data_block, xor_of}
+use Rattle.cbm_sector.specs.Answer.{is_header, is_right, has_id, names, names_18, passes, is_crowded, header_at, header_of, block_at, block_after_header, after_a_header, block_of, sector_shown, id_at, id_in, id_shown, data_block, xor_of}
 use Rattle.cbm_sector.specs.Fresh.{fresh, header_block, zero_bytes}
 use Rattle.cbm_sector.proofs.Coding.{code_in, no_ten_ones}
 use Rattle.cbm_sector.proofs.Stands.{coded_front}
@@ -101,7 +101,7 @@ header_first test only track id s f none own = first_some (header_at test (fresh
     (header_here test (fresh track id) (2896 * s + 40) true (header_begins track id s f) (sym (ap (passes test) (header_coded track id s f) ∙ own)))
     (none_before test only track id s f none)
 
--- ---- the data block behind a header
+-- ---- the data block after a header
 
 next_is_block : (track : ℕ) (id : List ℕ) (s : ℕ) → IsFresh track id s → next_block (fresh track id) (2896 * s + 40 + 1) ≡ Some (2896 * s + 232)
 next_is_block track id s f =
@@ -159,8 +159,8 @@ block_found track id s f =
     let t = fresh track id in
     let a : Place = record { track = track; sector = s } in
     let p = 2896 * s + 40 in
-    ap (λ (x : Bool). cond {A = Result ℕ ℕ} x (behind_header t id (header_of t a)) (Err 21)) (first_is_some track id s f)
-    ∙ ap (behind_header t id) (header_first (names a) (names_headers a) track id s f (λ q h. not_named track id s q h) (named track id s))
+    ap (λ (x : Bool). cond {A = Result ℕ ℕ} x (after_a_header t id (header_of t a)) (Err 21)) (first_is_some track id s f)
+    ∙ ap (after_a_header t id) (header_first (names a) (names_headers a) track id s f (λ q h. not_named track id s q h) (named track id s))
     ∙ ap (block_after_header t id p) (header_coded track id s f)
     ∙ ap (λ (x : Bool). cond {A = Result ℕ ℕ} x (cond (has_id id (header_block track id s)) (block_at t (next_block t (p + 1))) (Err 29)) (Err 27)) (right track id s)
     ∙ ap (λ (x : Bool). cond {A = Result ℕ ℕ} x (block_at t (next_block t (p + 1))) (Err 29)) (of_id track id s)

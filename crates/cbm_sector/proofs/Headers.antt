@@ -65,7 +65,7 @@ pub index_none : (t : List Bool) (number : ℕ) → IsIndexBelow t number 0 (rep
 unfolding first_below
 index_none t number s few = nones 21 s
 
--- the first block behind what was looked at, with the sector that its header names
+-- the first block after what was looked at, with the sector that its header names
 pub index_more : (t : List Bool) (number from p : ℕ) (old new : List (Option ℕ)) (sector : Option ℕ)
     → IsIndexBelow t number from old → from ≤ p → begins t p ≡ true → ((q : ℕ) → from ≤ q → q < p → begins t q ≡ false)
     → ((s : ℕ) → is_of sector s ≡ passes (names (record { track = number; sector = s })) (coded_at t p 8))
@@ -77,7 +77,7 @@ index_more t number from p old new sector below few here none names_it kept s h 
     ∙ ap (λ (o : Option ℕ). or_then o (some_if (is_of sector s) p)) (below s h)
     ∙ sym (ap (first_below f) {y = suc p} (omega arith) ∙ one_more f from p (is_of sector s) few (λ q l m. no_header_here (names (record { track = number; sector = s })) t q (none q l m)) (header_here (names (record { track = number; sector = s })) t p (is_of sector s) here (names_it s)))
 
--- no block begins behind what was looked at
+-- no block begins after what was looked at
 pub index_all : (t : List Bool) (number from : ℕ) (headers : List (Option ℕ)) → IsIndexBelow t number from headers → from ≤ length t → ((q : ℕ) → from ≤ q → q < length t → begins t q ≡ false) → IsIndex t number headers
 unfolding header_of
 index_all t number from headers below few none s h =

@@ -26,7 +26,7 @@ laid_begins t a v m h l = begins_here t (a + 40)
     (ap (circle_bit t) (omega arith) ∙ l.here 0 (omega (arith, l.some)) ∙ l.first)
     (λ k c. back t (a + 40) k (a + (30 + k)) h (omega arith) ∙ l.ones (30 + k) (omega arith))
 
--- no block begins in it but behind the ones
+-- no block begins in it but after the ones
 pub laid_quiet : (t : List Bool) (a : ℕ) (v : List ℕ) (m r : ℕ) → 5 ≤ length t → IsLaid t a v m → r < 40 + 10 * length v + m → r ≢ 40 → begins t (a + r) ≡ false
 laid_quiet t a v m r h l b ne = elim (cases_lt r 40) [
   | inl u ↦ begins_not_one t (a + r) (l.ones r u)

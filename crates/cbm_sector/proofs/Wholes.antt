@@ -5,7 +5,7 @@ use Rattle.std.proofs.lemmas.List.{length-take-le, length-drop}
 use Rattle.cbm_medium.specs.Place.{Place}
 use Rattle.cbm_medium.specs.Content.{IsWhole}
 use Rattle.cbm_sector.specs.Decoding.{coded_at}
-use Rattle.cbm_sector.specs.Answer.{xor_of, checked, block_data, data_at, data_behind, block_of, sector_shown}
+use Rattle.cbm_sector.specs.Answer.{xor_of, checked, block_data, data_at, data_following, block_of, sector_shown}
 use Rattle.cbm_sector.proofs.Stands.{coded_is}
 
 checked_whole : (o : Option (List ℕ)) → ((v : List ℕ) → o ≡ Some v → length v ≡ 260) → IsWhole (checked o)
@@ -28,10 +28,10 @@ at_whole : (track : List Bool) (p : ℕ) → IsWhole (data_at track p)
 unfolding data_at
 at_whole track p = data_whole (coded_at track p 4) (coded_at track p 260) (λ v e. (coded_is track p 260 v e).0)
 
-behind_whole : (track : List Bool) (r : Result ℕ ℕ) → IsWhole (data_behind track r)
-behind_whole track (Err code) = tt
-behind_whole track (Ok p) = at_whole track p
+after_the_whole : (track : List Bool) (r : Result ℕ ℕ) → IsWhole (data_following track r)
+after_the_whole track (Err code) = tt
+after_the_whole track (Ok p) = at_whole track p
 
 pub shown_whole : (track : List Bool) (id : List ℕ) (a : Place) → IsWhole (sector_shown track id a)
 unfolding sector_shown
-shown_whole track id a = behind_whole track (block_of track id a)
+shown_whole track id a = after_the_whole track (block_of track id a)

@@ -56,13 +56,13 @@ abbrev pub block_after_header : List Bool → List ℕ → ℕ → Option (List 
 block_after_header track id p None = Err 20
 block_after_header track id p (Some v) = if is_right v then (if has_id id v then block_at track (next_block track (p + 1)) else Err 29) else Err 27
 
-abbrev pub behind_header : List Bool → List ℕ → Option ℕ → Result ℕ ℕ
-behind_header track id None = Err 20
-behind_header track id (Some p) = block_after_header track id p (coded_at track p 8)
+abbrev pub after_a_header : List Bool → List ℕ → Option ℕ → Result ℕ ℕ
+after_a_header track id None = Err 20
+after_a_header track id (Some p) = block_after_header track id p (coded_at track p 8)
 
 -- where a sector's data block begins, or the fault of its header
 unfoldable pub block_of : List Bool → List ℕ → Place → Result ℕ ℕ
-block_of track id a = if is_some (next_block track 0) then behind_header track id (header_of track a) else Err 21
+block_of track id a = if is_some (next_block track 0) then after_a_header track id (header_of track a) else Err 21
 
 abbrev pub checked : Option (List ℕ) → Cell
 checked None = Err 24
@@ -76,13 +76,13 @@ block_data (Some v) block = if slice_index v 0 == 7 then checked block else Err 
 unfoldable pub data_at : List Bool → ℕ → Cell
 data_at track p = block_data (coded_at track p 4) (coded_at track p 260)
 
-abbrev pub data_behind : List Bool → Result ℕ ℕ → Cell
-data_behind track (Err code) = Err code
-data_behind track (Ok p) = data_at track p
+abbrev pub data_following : List Bool → Result ℕ ℕ → Cell
+data_following track (Err code) = Err code
+data_following track (Ok p) = data_at track p
 
 -- the answer for a sector on a track, under the disk's id
 unfoldable pub sector_shown : List Bool → List ℕ → Place → Cell
-sector_shown track id a = data_behind track (block_of track id a)
+sector_shown track id a = data_following track (block_of track id a)
 
 abbrev pub id_in : Option (List ℕ) → Option (List ℕ)
 id_in None = None

@@ -15,7 +15,7 @@ use cbm_medium::{Address, Fault};
 use cbm_track::Track;
 
 /// The first block that begins after a place, going all the way round.
-fn block_behind(track: &Track, place: u32) -> Option<u32>
+fn block_following(track: &Track, place: u32) -> Option<u32>
     requires { place < length track.now }
     ensures value { result ≡ next_block track.now (place + 1) }
     ensures below { IfSome result (λ p. p < length track.now) }
@@ -47,7 +47,7 @@ fn block_of(track: &Track, header: Option<u32>, at: Address, id: [u8; 2]) -> Res
     if header[ID_SECOND] != id[1] || header[ID_FIRST] != id[0] {
         return Err(DISK_ID_MISMATCH);
     }
-    let Some(block) = block_behind(track, place) else {
+    let Some(block) = block_following(track, place) else {
         return Err(NO_HEADER);
     };
     if begins_header(track, block) || !track.is_clear(block, 2600) {

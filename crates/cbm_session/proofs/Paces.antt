@@ -16,7 +16,7 @@ pub pulse_upto : (e : Pace) → eoi_pulse e ≤ 80
 pulse_upto Profile = omega arith
 pulse_upto Kernal = omega arith
 
--- CLOCK is freed behind ATN's release
+-- CLOCK is freed after ATN's release
 pub settle_from : (e : Pace) → 15 ≤ turn_settle e
 settle_from Profile = omega arith
 settle_from Kernal = omega arith

@@ -11,7 +11,7 @@ pub mod TalkSwap
 pub mod TalkParts
 pub mod TurnTwin
 pub mod TurnBus
-pub mod BehindBus
+pub mod AfterBus
 pub mod CutBus
 pub mod FrameBus
 pub mod TalkBus

@@ -36,14 +36,14 @@ counted Free zero = zero
 counted Free (suc n) = n
 
 -- what the rest holds after a change of another drive
-abbrev pub behind_other : Line → Way → Rest → Rest
-behind_other Atn way r = r
-behind_other Clock way r = record { host = r.host; clocks = counted way r.clocks; datas = r.datas }
-behind_other Data way r = record { host = r.host; clocks = r.clocks; datas = counted way r.datas }
+abbrev pub after_another : Line → Way → Rest → Rest
+after_another Atn way r = r
+after_another Clock way r = record { host = r.host; clocks = counted way r.clocks; datas = r.datas }
+after_another Data way r = record { host = r.host; clocks = r.clocks; datas = counted way r.datas }
 
 -- what the rest holds after a change of the host
-abbrev pub behind_host : Line → Way → Rest → Rest
-behind_host line way r = record { host = lines_after r.host line way; clocks = r.clocks; datas = r.datas }
+abbrev pub after_the_host : Line → Way → Rest → Rest
+after_the_host line way r = record { host = lines_after r.host line way; clocks = r.clocks; datas = r.datas }
 
 -- what drive d was told by a change is what counts with it for d
 abbrev pub CountsFor : ℕ → Mark → Option Act → Type 0
@@ -52,24 +52,24 @@ CountsFor d (ForEach act) told = told ≡ Some act
 CountsFor d (For o act) told = told ≡ (if nat_eq d o then Some act else None)
 
 -- the next change is none of the host at this moment or before, and none of another drive before it
-abbrev pub ComesBehind : ℕ → Who → ℕ → Type 0
-ComesBehind t Host moment = t < moment
-ComesBehind t (Drive o) moment = t ≤ moment
+abbrev pub ComesAfter : ℕ → Who → ℕ → Type 0
+ComesAfter t Host moment = t < moment
+ComesAfter t (Drive o) moment = t ≤ moment
 
 -- the same of the first of these steps
-abbrev pub IsBehind : ℕ → List Step → Type 0
-IsBehind t [] = Unit {0}
-IsBehind t (s ∷ ss) = ComesBehind t s.event.who (moment_of s)
+abbrev pub FirstIsAfter : ℕ → List Step → Type 0
+FirstIsAfter t [] = Unit {0}
+FirstIsAfter t (s ∷ ss) = ComesAfter t s.event.who (moment_of s)
 
 -- The drive follows these steps of a bus, from what the rest holds to what it holds then: it is in time for each change of the others, which counts
 -- what it was told, and its reaction is what comes when it is due.
 pub data FollowsAmong (peek : Option (ℕ × Bool)) : Rest → Port → List Step → Rest → Port → Type 0 where
   ends : {r r2 : Rest} {q q2 : Port} → r2 ≡ r → q2 ≡ q → FollowsAmong peek r q [] r2 q2
   tells : {r r2 : Rest} {q q2 : Port} {t : ℕ} {line : Line} {way : Way} {mark : Mark} {ss : List Step} → IsInTime t (port_due q)
-      → CountsFor q.party.device mark (told_act (wires_of (behind_host line way r)) q)
-      → FollowsAmong peek (behind_host line way r) (told t (wires_of (behind_host line way r)) q) ss r2 q2 → FollowsAmong peek r q (record { event = event_of Host t line way; mark = mark } ∷ ss) r2 q2
+      → CountsFor q.party.device mark (told_act (wires_of (after_the_host line way r)) q)
+      → FollowsAmong peek (after_the_host line way r) (told t (wires_of (after_the_host line way r)) q) ss r2 q2 → FollowsAmong peek r q (record { event = event_of Host t line way; mark = mark } ∷ ss) r2 q2
   hears : {r r2 : Rest} {q q2 : Port} {o t : ℕ} {line : Line} {way : Way} {mark : Mark} {ss : List Step} → nat_eq q.party.device o ≡ false → IsInTime t (port_due q)
-      → CountsFor q.party.device mark (told_act (wires_of (behind_other line way r)) q)
-      → FollowsAmong peek (behind_other line way r) (told t (wires_of (behind_other line way r)) q) ss r2 q2 → FollowsAmong peek r q (record { event = event_of (Drive o) t line way; mark = mark } ∷ ss) r2 q2
-  reacts : {r r2 : Rest} {q q2 : Port} {ss : List Step} (t : ℕ) (more : List Step) → port_due q ≡ Some t → ss ≡ reaction_steps t peek q ++ more → IsShown (reaction_steps t peek q) (reaction_act peek q) → IsBehind t more
+      → CountsFor q.party.device mark (told_act (wires_of (after_another line way r)) q)
+      → FollowsAmong peek (after_another line way r) (told t (wires_of (after_another line way r)) q) ss r2 q2 → FollowsAmong peek r q (record { event = event_of (Drive o) t line way; mark = mark } ∷ ss) r2 q2
+  reacts : {r r2 : Rest} {q q2 : Port} {ss : List Step} (t : ℕ) (more : List Step) → port_due q ≡ Some t → ss ≡ reaction_steps t peek q ++ more → IsShown (reaction_steps t peek q) (reaction_act peek q) → FirstIsAfter t more
       → FollowsAmong peek r (reacted t peek q) more r2 q2 → FollowsAmong peek r q ss r2 q2

@@ -19,7 +19,7 @@ use Rattle.cbm_iec.specs.declared.pace.Pace.{Pace}
 use Rattle.cbm_iec.specs.declared.party.Party.{Party}
 use Rattle.cbm_iec.specs.declared.party.Role.TheVariants.{Absent, Listener, Talker}
 use Rattle.cbm_iec.specs.declared.party.Role.{Role}
-use Rattle.cbm_session.specs.Among.{Rest, wires_of, behind_other, behind_host}
+use Rattle.cbm_session.specs.Among.{Rest, wires_of, after_another, after_the_host}
 use Rattle.cbm_session.specs.Answers.{Run}
 use Rattle.cbm_session.specs.Bits.{number_of}
 use Rattle.cbm_session.specs.Playing.{Station, nobody, AllLater, Plays, at_rest}
@@ -100,9 +100,9 @@ others_of d [] = []
 others_of d (e ∷ es) = unless_own d e.who e (others_of d es)
 
 -- what all others hold after an event of theirs
-abbrev pub rest_behind : Who → Line → Way → Rest → Rest
-rest_behind Host line way r = behind_host line way r
-rest_behind (Drive o) line way r = behind_other line way r
+abbrev pub rest_afterwards : Who → Line → Way → Rest → Rest
+rest_afterwards Host line way r = after_the_host line way r
+rest_afterwards (Drive o) line way r = after_another line way r
 
 -- whether it is one of these device numbers
 abbrev pub is_one_of : ℕ → List ℕ → Bool
@@ -151,8 +151,8 @@ heard_of (act ∷ acts) = if is_answer act then heard_of acts else act ∷ heard
 pub data Hands (later : List ℕ) (end : ℕ) : Hearer → List Event → List Act → Type 0 where
   ends : {h : Hearer} {es : List Event} {acts : List Act} → es ≡ [] → acts ≡ [] → IsNothingDue later end (ear_time h.ear) es → Hands later end h es acts
   tells : {h : Hearer} {es : List Event} {acts : List Act} (e : Event) (more : List Event) (rest : List Act) → es ≡ e ∷ more → IsNothingDue later end (ear_time h.ear) es
-      → acts ≡ with_act (atn_act (wires_of h.rest) (wires_of (rest_behind e.who e.change.line e.change.way h.rest))) rest
-      → Hands later end (hears e.change.moment (rest_behind e.who e.change.line e.change.way h.rest) h) more rest → Hands later end h es acts
+      → acts ≡ with_act (atn_act (wires_of h.rest) (wires_of (rest_afterwards e.who e.change.line e.change.way h.rest))) rest
+      → Hands later end (hears e.change.moment (rest_afterwards e.who e.change.line e.change.way h.rest) h) more rest → Hands later end h es acts
   reacts : {h : Hearer} {es : List Event} {acts : List Act} (t : ℕ) (rest : List Act) → ear_time h.ear ≡ Some t → comes_next later end t es ≡ true
       → acts ≡ with_act (ear_act h.party.pace (wires_of h.rest) h.ear) rest → Hands later end (moves t h) es rest → Hands later end h es acts
   answers : {h : Hearer} {es : List Event} {acts : List Act} (act : Act) (rest : List Act) → h.ear ≡ None → is_answer act ≡ true → acts ≡ act ∷ rest

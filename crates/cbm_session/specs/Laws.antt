@@ -9,7 +9,7 @@ use Rattle.cbm_iec.specs.declared.event.Who.{Who}
 use Rattle.cbm_iec.specs.declared.lines.Line.TheVariants.{Clock, Data}
 use Rattle.cbm_iec.specs.declared.lines.Way.TheVariants.{Pull, Free}
 use Rattle.cbm_iec.specs.declared.party.Party.{Party}
-use Rattle.cbm_session.specs.Among.{ComesBehind}
+use Rattle.cbm_session.specs.Among.{ComesAfter}
 use Rattle.cbm_session.specs.Bits.{where_held, cells_steps, held_after, byte_in_cells}
 use Rattle.cbm_session.specs.Frames.{Sent, wire, end_of, pulse_from, longest_lasting, pulse_to, pulse, SentFits}
 use Rattle.cbm_session.specs.Pieces.{Whole, Piece, Point, steps_of, Fits, whole_point, PullPiece, Command, Byte, ToListener, ToNobody, ToTalker, Nothing, Talk}
@@ -98,7 +98,7 @@ BytesGoInParts = (p : Point) (eoi : Bool) (f : Sent) → SeatsReact p.seats → 
 -- the second change isn't sooner than the first, and later where the first is a drive's and the second the host's
 abbrev pub NotSooner : Who → ℕ → Who → ℕ → Type 0
 NotSooner Host m w n = m ≤ n
-NotSooner (Drive o) m w n = ComesBehind m w n
+NotSooner (Drive o) m w n = ComesAfter m w n
 
 -- each of these steps comes so after a change
 abbrev pub AllAfter : Who → ℕ → List Step → Type 0

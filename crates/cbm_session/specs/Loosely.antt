@@ -149,11 +149,11 @@ module _ (M : Type 0) (step : M → Act → M) (peek : M → Option (ℕ × Bool
     tidies : {n m : ℕ} {ss ts : List (Station M)} {es fs : List Event} (c : Change) (tidied : List Event) → AllBytes M step peek ss → m ≤ c.moment → AllInTime M step peek c.moment ss
         → AllZip (λ s t. Ignores c.line t.rest.host.clock_low t.port.side) ss ts → fs ≡ host_event c ∷ tidied
         → Beside end n c.moment ss (map (λ s. tell M step peek c s) ts) es tidied → Beside end n m ss ts es fs
-    reacts : {n m : ℕ} {ss ts : List (Station M)} {es fs : List Event} (t : ℕ) (before : List (Station M)) (o : Station M) (behind before2 : List (Station M)) (o2 : Station M) (behind2 : List (Station M)) (more tidied : List Event)
-        → AllBytes M step peek ss → ss ≡ before ++ o ∷ behind → ts ≡ before2 ++ o2 ∷ behind2 → IsFirst M step peek t before o behind
-        → AllZip (λ s u. HeedsAll (shown M step peek t o) s u) before before2 → Heeds o o2 → AllZip (λ s u. HeedsAll (shown M step peek t o) s u) behind behind2
+    reacts : {n m : ℕ} {ss ts : List (Station M)} {es fs : List Event} (t : ℕ) (before : List (Station M)) (o : Station M) (afterwards before2 : List (Station M)) (o2 : Station M) (afterwards2 : List (Station M)) (more tidied : List Event)
+        → AllBytes M step peek ss → ss ≡ before ++ o ∷ afterwards → ts ≡ before2 ++ o2 ∷ afterwards2 → IsFirst M step peek t before o afterwards
+        → AllZip (λ s u. HeedsAll (shown M step peek t o) s u) before before2 → Heeds o o2 → AllZip (λ s u. HeedsAll (shown M step peek t o) s u) afterwards afterwards2
         → es ≡ drive_events o.port.party.device (shown M step peek t o) ++ more → fs ≡ drive_events o.port.party.device (shown M step peek t o) ++ tidied
-        → Beside end (suc t) (suc t) (reacting M step peek t before o behind) (reacting M step peek t before2 o2 behind2) more tidied → Beside end n m ss ts es fs
+        → Beside end (suc t) (suc t) (reacting M step peek t before o afterwards) (reacting M step peek t before2 o2 afterwards2) more tidied → Beside end n m ss ts es fs
 
   -- the trace from rest beside that of a tidy host
   abbrev pub IsBeside : List Party → (ℕ → M) → ℕ → List Event → List Event → Type 0

@@ -219,14 +219,14 @@ abbrev pub told_since : Party → Told → ℕ
 told_since b f = if is_last f then f.accept + b.reaction + 1 else f.accept
 
 -- the moment before which no pull of ATN comes, where a talker has nothing to say: just after its answer, or the host's release of DATA
-abbrev pub behind : ℕ → Option ℕ → ℕ
-behind answer None = answer + 1
-behind answer (Some at) = at
+abbrev pub afterwards : ℕ → Option ℕ → ℕ
+afterwards answer None = answer + 1
+afterwards answer (Some at) = at
 
 -- the same, and just after the releases of DATA of drives without a role, where ATN is freed at that moment
-abbrev pub behind_all : ℕ → ℕ → List Seat → ℕ
-behind_all at moment [] = moment
-behind_all at moment (s ∷ ss) = elim s.role [ Absent ↦ max (at + reaction s + 1) (behind_all at moment ss) | Listener ↦ behind_all at moment ss | Talker ↦ behind_all at moment ss ]
+abbrev pub after_all_of : ℕ → ℕ → List Seat → ℕ
+after_all_of at moment [] = moment
+after_all_of at moment (s ∷ ss) = elim s.role [ Absent ↦ max (at + reaction s + 1) (after_all_of at moment ss) | Listener ↦ after_all_of at moment ss | Talker ↦ after_all_of at moment ss ]
 
 -- whether there is no moment
 abbrev pub is_none : Option ℕ → Bool
@@ -259,7 +259,7 @@ whole_point p (ToTalker at clock) = record {
   pulled = p.pulled;
   released = None;
   accepted = p.accepted;
-  since = behind_all at (clock + (talker_of p.seats).reaction + 1) p.seats;
+  since = after_all_of at (clock + (talker_of p.seats).reaction + 1) p.seats;
 }
 whole_point p (Nothing at clock freed) = record {
   place = Open;
@@ -268,7 +268,7 @@ whole_point p (Nothing at clock freed) = record {
   pulled = p.pulled;
   released = None;
   accepted = p.accepted;
-  since = behind_all at (behind (silent_end (talker_of p.seats) clock) freed) p.seats;
+  since = after_all_of at (afterwards (silent_end (talker_of p.seats) clock) freed) p.seats;
 }
 whole_point p (Talk at f) = record {
   place = told_place f;

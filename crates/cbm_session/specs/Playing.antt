@@ -9,7 +9,7 @@ use Rattle.cbm_iec.specs.declared.event.Who.TheVariants.{Host, Drive}
 use Rattle.cbm_iec.specs.declared.lines.Change.{Change}
 use Rattle.cbm_iec.specs.declared.party.Party.{Party}
 use Rattle.cbm_iec.specs.declared.port.Port.{Port}
-use Rattle.cbm_session.specs.Among.{Rest, wires_of, behind_other, behind_host}
+use Rattle.cbm_session.specs.Among.{Rest, wires_of, after_another, after_the_host}
 use Rattle.cbm_session.specs.Answers.{Run, Allowed}
 use Rattle.cbm_session.specs.Following.{IsInTime}
 use Rattle.cbm_session.specs.Pieces.{Piece}
@@ -48,11 +48,11 @@ module _ (M : Type 0) (step : M → Act → M) (peek : M → Option (ℕ × Bool
 
   -- a drive after a change of the host
   abbrev pub tell : Change → Station M → Station M
-  tell c s = told_lines c.moment (behind_host c.line c.way s.rest) s
+  tell c s = told_lines c.moment (after_the_host c.line c.way s.rest) s
 
   -- a drive after a change of another drive
   abbrev pub hear : Change → Station M → Station M
-  hear c s = told_lines c.moment (behind_other c.line c.way s.rest) s
+  hear c s = told_lines c.moment (after_another c.line c.way s.rest) s
 
   -- a drive after changes of another drive, one after the other
   abbrev pub hear_all : List Change → Station M → Station M
@@ -78,14 +78,14 @@ module _ (M : Type 0) (step : M → Act → M) (peek : M → Option (ℕ × Bool
   AllLater t (s ∷ ss) = IsLaterDue t (port_due s.port) × AllLater t ss
 
   -- the reaction of this drive is due first: sooner than those of the drives before it, not later than those of the drives after it
-  pub record IsFirst (t : ℕ) (before : List (Station M)) (o : Station M) (behind : List (Station M)) : Type 0 where
+  pub record IsFirst (t : ℕ) (before : List (Station M)) (o : Station M) (afterwards : List (Station M)) : Type 0 where
     pub due : port_due o.port ≡ Some t
     pub later : AllLater t before
-    pub in_time : AllInTime t behind
+    pub in_time : AllInTime t afterwards
 
   -- the drives after the reaction of one of them: all others have heard its changes
   abbrev pub reacting : ℕ → List (Station M) → Station M → List (Station M) → List (Station M)
-  reacting t before o behind = map (λ s. hear_all (shown t o) s) before ++ react t o ∷ map (λ s. hear_all (shown t o) s) behind
+  reacting t before o afterwards = map (λ s. hear_all (shown t o) s) before ++ react t o ∷ map (λ s. hear_all (shown t o) s) afterwards
 
   -- a machine has a byte to say, or nothing
   abbrev pub IsByte : Option (ℕ × Bool) → Type 0
@@ -103,8 +103,8 @@ module _ (M : Type 0) (step : M → Act → M) (peek : M → Option (ℕ × Bool
     stays : {n n2 : ℕ} {ss ss2 : List (Station M)} {es : List Event} → AllBytes ss → es ≡ [] → n2 ≡ n → ss2 ≡ ss → Plays n ss es n2 ss2
     change : {n n2 : ℕ} {ss ss2 : List (Station M)} {es : List Event} (c : Change) (more : List Event) → AllBytes ss → n ≤ c.moment → AllInTime c.moment ss
         → es ≡ host_event c ∷ more → Plays c.moment (map (λ s. tell c s) ss) more n2 ss2 → Plays n ss es n2 ss2
-    reaction : {n n2 : ℕ} {ss ss2 : List (Station M)} {es : List Event} (t : ℕ) (before : List (Station M)) (o : Station M) (behind : List (Station M)) (more : List Event) → AllBytes ss → ss ≡ before ++ o ∷ behind
-        → IsFirst t before o behind → es ≡ drive_events o.port.party.device (shown t o) ++ more → Plays (suc t) (reacting t before o behind) more n2 ss2 → Plays n ss es n2 ss2
+    reaction : {n n2 : ℕ} {ss ss2 : List (Station M)} {es : List Event} (t : ℕ) (before : List (Station M)) (o : Station M) (afterwards : List (Station M)) (more : List Event) → AllBytes ss → ss ≡ before ++ o ∷ afterwards
+        → IsFirst t before o afterwards → es ≡ drive_events o.port.party.device (shown t o) ++ more → Plays (suc t) (reacting t before o afterwards) more n2 ss2 → Plays n ss es n2 ss2
 
   -- drives from rest: all lines are free, no drive has a role, nothing is due, and each has its machine
   abbrev pub at_rest : (ℕ → M) → List Party → List (Station M)

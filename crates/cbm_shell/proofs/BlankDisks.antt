@@ -173,5 +173,5 @@ blank_holds tracks c either z =
 
 -- nothing stops a call on a disk that isn't protected and never fails
 pub never_hindered : (old new : Seen) (t : Trouble) → old.protected ≡ false → old.failures ≡ 0 → new.failures ≡ 0 → IsHindered old new t → ⊥
-never_hindered old new t free before behind (inl p) = let z = sym free ∙ p.0 in cc
-never_hindered old new t free before behind (inr f) = omega (arith, before, behind, f)
+never_hindered old new t free before afterwards (inl p) = let z = sym free ∙ p.0 in cc
+never_hindered old new t free before afterwards (inr f) = omega (arith, before, afterwards, f)

@@ -11,7 +11,7 @@ use Rattle.cbm_bam.specs.Marks.{nothing}
 use Rattle.cbm_directory.specs.Entries.{first_block, first_side, first_directory}
 use Rattle.cbm_volume.specs.check.Claims.{is_inside, reads, wrong_at}
 use Rattle.cbm_volume.specs.check.SideLists.{are_records, sides_from}
-use Rattle.cbm_volume.specs.check.SlotWalk.{entries_behind}
+use Rattle.cbm_volume.specs.check.SlotWalk.{entries_after}
 use Rattle.cbm_volume.specs.check.WholeDisk.{only_head}
 use Rattle.cbm_volume.proofs.checked.SlotSteps.{entries_next, entries_end}
 use Rattle.cbm_directory.specs.Entries.{entry_of}
@@ -347,21 +347,21 @@ entries_walk-some slot tracks content claimed sector e es rest is = ap (λ (l : 
 
 -- an entry more of the eight of a sector
 pub entry_more : (whole : Walked) (slot n tracks : ℕ) (content : Content) (old claimed : Place → Bool) (at : Place) (sector e : List ℕ) (whose : Whose) (before now later : List DiskFlaw)
-    → Goes (entries_walk (slot + n) tracks content old at (entries_behind n sector)) whole before now → n < 8 → e ≡ entry_of sector n → whose ≡ File (slot + n)
+    → Goes (entries_walk (slot + n) tracks content old at (entries_after n sector)) whole before now → n < 8 → e ≡ entry_of sector n → whose ≡ File (slot + n)
     → HasWalked (entry_walk whose tracks content old at e) claimed now later
-    → Goes (entries_walk (slot + (n + 1)) tracks content claimed at (entries_behind (n + 1) sector)) whole before later
+    → Goes (entries_walk (slot + (n + 1)) tracks content claimed at (entries_after (n + 1) sector)) whole before later
 entry_more whole slot n tracks content old claimed at sector e whose before now later h few is file k =
-    goes_on_by (entries_walk (slot + n) tracks content old at (entries_behind n sector)) (entry_walk (File (slot + n)) tracks content old at e)
-    (entries_walk (slot + (n + 1)) tracks content claimed at (entries_behind (n + 1) sector)) whole (λ c. entries_walk (slot + n + 1) tracks content c at (entries_behind (n + 1) sector)) claimed before now later h
-    (entries_walk-some (slot + n) tracks content old at e (entries_behind n sector) (entries_behind (n + 1) sector) (entries_next n sector e few is))
+    goes_on_by (entries_walk (slot + n) tracks content old at (entries_after n sector)) (entry_walk (File (slot + n)) tracks content old at e)
+    (entries_walk (slot + (n + 1)) tracks content claimed at (entries_after (n + 1) sector)) whole (λ c. entries_walk (slot + n + 1) tracks content c at (entries_after (n + 1) sector)) claimed before now later h
+    (entries_walk-some (slot + n) tracks content old at e (entries_after n sector) (entries_after (n + 1) sector) (entries_next n sector e few is))
     (subst (λ (w : Whose). HasWalked (entry_walk w tracks content old at e) claimed now later) file k)
-    (ap (λ (m : ℕ). entries_walk m tracks content claimed at (entries_behind (n + 1) sector)) (let z : slot + (n + 1) ≡ slot + n + 1 = omega arith in z))
+    (ap (λ (m : ℕ). entries_walk m tracks content claimed at (entries_after (n + 1) sector)) (let z : slot + (n + 1) ≡ slot + n + 1 = omega arith in z))
 
 pub entries_over : (whole : Walked) (slot n tracks : ℕ) (content : Content) (claimed : Place → Bool) (at : Place) (sector : List ℕ) (before now : List DiskFlaw)
-    → Goes (entries_walk (slot + n) tracks content claimed at (entries_behind n sector)) whole before now → 8 ≤ n → HasWalked whole claimed before now
+    → Goes (entries_walk (slot + n) tracks content claimed at (entries_after n sector)) whole before now → 8 ≤ n → HasWalked whole claimed before now
 entries_over whole slot n tracks content claimed at sector before now h all =
-    gone (entries_walk (slot + n) tracks content claimed at (entries_behind n sector)) whole claimed before now h
-    (entries_walk-none (slot + n) tracks content claimed at (entries_behind n sector) (entries_end n sector all))
+    gone (entries_walk (slot + n) tracks content claimed at (entries_after n sector)) whole claimed before now h
+    (entries_walk-none (slot + n) tracks content claimed at (entries_after n sector) (entries_end n sector all))
 
 pub slots_walk-none : (slot tracks : ℕ) (content : Content) (claimed : Place → Bool) (bs : List Place) → bs ≡ [] → slots_walk slot tracks content claimed bs ≡ at_end claimed
 unfolding slots_walk

@@ -89,39 +89,39 @@ unfolding name_text
 text-none out target [] charset h r = sym (append-nil out) ∙ h
 text-none out target (x ∷ rest) charset h r = absurd (omega arith)
 
-pub text-next : (out new target rest behind : List ℕ) (charset : Charset) (code : ℕ) → out ++ name_text charset rest ≡ target → rest ≡ code ∷ behind
-    → new ≡ out ++ shown_as charset code → new ++ name_text charset behind ≡ target
+pub text-next : (out new target rest afterwards : List ℕ) (charset : Charset) (code : ℕ) → out ++ name_text charset rest ≡ target → rest ≡ code ∷ afterwards
+    → new ≡ out ++ shown_as charset code → new ++ name_text charset afterwards ≡ target
 unfolding name_text
-text-next out new target rest behind charset code h r e =
-    ap (λ t. t ++ name_text charset behind) e ∙ (append_assoc out (shown_as charset code) (name_text charset behind)
+text-next out new target rest afterwards charset code h r e =
+    ap (λ t. t ++ name_text charset afterwards) e ∙ (append_assoc out (shown_as charset code) (name_text charset afterwards)
     ∙ (sym (ap (λ t. out ++ name_text charset t) r) ∙ h))
 
 -- the codes so far before those of the rest
-abbrev pub behind : List ℕ → Option (List ℕ) → Option (List ℕ)
-behind out None = None
-behind out (Some codes) = Some (out ++ codes)
+abbrev pub afterwards : List ℕ → Option (List ℕ) → Option (List ℕ)
+afterwards out None = None
+afterwards out (Some codes) = Some (out ++ codes)
 
-behind-code : (out : List ℕ) (code : ℕ) (codes : Option (List ℕ)) → behind (out ++ code ∷ []) codes ≡ behind out (with_code (Some code) codes)
-behind-code out code None = refl
-behind-code out code (Some codes) = ap Some (append_assoc out (code ∷ []) codes)
+afterwards-code : (out : List ℕ) (code : ℕ) (codes : Option (List ℕ)) → afterwards (out ++ code ∷ []) codes ≡ afterwards out (with_code (Some code) codes)
+afterwards-code out code None = refl
+afterwards-code out code (Some codes) = ap Some (append_assoc out (code ∷ []) codes)
 
-pub codes-start : (codes : Option (List ℕ)) → behind [] codes ≡ codes
+pub codes-start : (codes : Option (List ℕ)) → afterwards [] codes ≡ codes
 codes-start None = refl
 codes-start (Some codes) = refl
 
 pub codes-next : (out new rest front after : List ℕ) (charset : Charset) (first code : ℕ) (target : Option (List ℕ))
-    → behind out (codes_of charset rest) ≡ target → rest ≡ first ∷ front
+    → afterwards out (codes_of charset rest) ≡ target → rest ≡ first ∷ front
     → codes_of charset (first ∷ front) ≡ with_code (Some code) (codes_of charset after) → new ≡ out ++ code ∷ []
-    → behind new (codes_of charset after) ≡ target
+    → afterwards new (codes_of charset after) ≡ target
 codes-next out new rest front after charset first code target h r e n =
-    ap (λ l. behind l (codes_of charset after)) n ∙ (behind-code out code (codes_of charset after)
-    ∙ (sym (ap (behind out) (ap (codes_of charset) r ∙ e)) ∙ h))
+    ap (λ l. afterwards l (codes_of charset after)) n ∙ (afterwards-code out code (codes_of charset after)
+    ∙ (sym (ap (afterwards out) (ap (codes_of charset) r ∙ e)) ∙ h))
 
 pub codes-refused : (out rest front : List ℕ) (charset : Charset) (first : ℕ) (target : Option (List ℕ))
-    → behind out (codes_of charset rest) ≡ target → rest ≡ first ∷ front → codes_of charset (first ∷ front) ≡ None → target ≡ None
-codes-refused out rest front charset first target h r e = sym h ∙ ap (behind out) (ap (codes_of charset) r ∙ e)
+    → afterwards out (codes_of charset rest) ≡ target → rest ≡ first ∷ front → codes_of charset (first ∷ front) ≡ None → target ≡ None
+codes-refused out rest front charset first target h r e = sym h ∙ ap (afterwards out) (ap (codes_of charset) r ∙ e)
 
-pub codes-end : (out rest : List ℕ) (charset : Charset) (target : Option (List ℕ)) → behind out (codes_of charset rest) ≡ target → length rest ≡ 0 → target ≡ Some out
+pub codes-end : (out rest : List ℕ) (charset : Charset) (target : Option (List ℕ)) → afterwards out (codes_of charset rest) ≡ target → length rest ≡ 0 → target ≡ Some out
 unfolding codes_of
 codes-end out [] charset target h r = sym h ∙ ap Some (append-nil out)
 codes-end out (x ∷ rest) charset target h r = absurd (omega arith)

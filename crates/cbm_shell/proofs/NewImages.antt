@@ -89,7 +89,7 @@ pub blank_if : {A : Type 0} (r : Result A AllocError) (items : A → List ℕ) (
 blank_if (Ok v) items form n kind size plain tracks h = blank_sectors form n (items v) kind size plain tracks h
 blank_if (Err e) items form n kind size plain tracks h = tt
 
--- ---- behind NEW
+-- ---- after NEW
 
 -- the image of a D64 that shows an empty disk
 pub new_sectors : (form : Form) (title id image : List ℕ) (disk : sectors.Image) → kind_in form ≡ D64 → IsImageSize (length disk.bytes) → image ≡ disk.bytes

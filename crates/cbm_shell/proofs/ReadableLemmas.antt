@@ -5,23 +5,23 @@ use Rattle.cbm_shell.specs.declared.texts.petscii.Charset.{Charset}
 use Rattle.cbm_shell.specs.Names.{shown_as}
 use Rattle.cbm_shell.specs.Readable.{opened_as, ends, readable_lines, opening, text}
 
--- a code that doesn't end its line, and what stands behind it
-pub text-more : (out new target rest behind : List ℕ) (charset : Charset) (left next code : ℕ) → out ++ text charset left rest ≡ target → rest ≡ code ∷ behind
-    → ends left code ≡ false → next ≡ left - 1 → new ≡ out ++ shown_as charset code → new ++ text charset next behind ≡ target
+-- a code that doesn't end its line, and what stands after it
+pub text-more : (out new target rest afterwards : List ℕ) (charset : Charset) (left next code : ℕ) → out ++ text charset left rest ≡ target → rest ≡ code ∷ afterwards
+    → ends left code ≡ false → next ≡ left - 1 → new ≡ out ++ shown_as charset code → new ++ text charset next afterwards ≡ target
 unfolding text
-text-more out new target rest behind charset left next code h r other n e =
-    ap (λ k. new ++ text charset k behind) n
-    ∙ (ap (λ t. t ++ text charset (left - 1) behind) e ∙ (append_assoc out (shown_as charset code) (text charset (left - 1) behind)
-    ∙ (sym (ap (λ (b : Bool). out ++ (if b then codes "\n" ++ readable_lines charset behind else shown_as charset code ++ text charset (left - 1) behind)) other)
+text-more out new target rest afterwards charset left next code h r other n e =
+    ap (λ k. new ++ text charset k afterwards) n
+    ∙ (ap (λ t. t ++ text charset (left - 1) afterwards) e ∙ (append_assoc out (shown_as charset code) (text charset (left - 1) afterwards)
+    ∙ (sym (ap (λ (b : Bool). out ++ (if b then codes "\n" ++ readable_lines charset afterwards else shown_as charset code ++ text charset (left - 1) afterwards)) other)
     ∙ (sym (ap (λ t. out ++ text charset left t) r) ∙ h))))
 
 -- the 0 of a line
-pub text-zero : (out new target rest behind after : List ℕ) (charset : Charset) (left code : ℕ) → out ++ text charset left rest ≡ target → rest ≡ code ∷ behind
-    → ends left code ≡ true → new ≡ out ++ codes "\n" → after ≡ behind → new ++ readable_lines charset after ≡ target
+pub text-zero : (out new target rest afterwards after : List ℕ) (charset : Charset) (left code : ℕ) → out ++ text charset left rest ≡ target → rest ≡ code ∷ afterwards
+    → ends left code ≡ true → new ≡ out ++ codes "\n" → after ≡ afterwards → new ++ readable_lines charset after ≡ target
 unfolding text
-text-zero out new target rest behind after charset left code h r zero e a =
-    ap (λ t. new ++ readable_lines charset t) a ∙ (ap (λ t. t ++ readable_lines charset behind) e ∙ (append_assoc out (codes "\n") (readable_lines charset behind)
-    ∙ (sym (ap (λ (b : Bool). out ++ (if b then codes "\n" ++ readable_lines charset behind else shown_as charset code ++ text charset (left - 1) behind)) zero)
+text-zero out new target rest afterwards after charset left code h r zero e a =
+    ap (λ t. new ++ readable_lines charset t) a ∙ (ap (λ t. t ++ readable_lines charset afterwards) e ∙ (append_assoc out (codes "\n") (readable_lines charset afterwards)
+    ∙ (sym (ap (λ (b : Bool). out ++ (if b then codes "\n" ++ readable_lines charset afterwards else shown_as charset code ++ text charset (left - 1) afterwards)) zero)
     ∙ (sym (ap (λ t. out ++ text charset left t) r) ∙ h))))
 
 -- a text that ends without a 0
@@ -32,11 +32,11 @@ text-end out new target [] after charset left h r e a = ap (λ t. new ++ readabl
 text-end out new target (x ∷ rest) after charset left h r e a = absurd (omega arith)
 
 -- a text's first code, and what is added of the rest
-pub opening-more : (out first new bytes behind after : List ℕ) (charset : Charset) (code : ℕ) → bytes ≡ code ∷ behind → first ≡ out ++ opened_as charset code
-    → new ++ readable_lines charset after ≡ first ++ text charset 24 behind → new ++ readable_lines charset after ≡ out ++ opening charset bytes
+pub opening-more : (out first new bytes afterwards after : List ℕ) (charset : Charset) (code : ℕ) → bytes ≡ code ∷ afterwards → first ≡ out ++ opened_as charset code
+    → new ++ readable_lines charset after ≡ first ++ text charset 24 afterwards → new ++ readable_lines charset after ≡ out ++ opening charset bytes
 unfolding opening
-opening-more out first new bytes behind after charset code r e h =
-    h ∙ (ap (λ t. t ++ text charset 24 behind) e ∙ (append_assoc out (opened_as charset code) (text charset 24 behind)
+opening-more out first new bytes afterwards after charset code r e h =
+    h ∙ (ap (λ t. t ++ text charset 24 afterwards) e ∙ (append_assoc out (opened_as charset code) (text charset 24 afterwards)
     ∙ sym (ap (λ t. out ++ opening charset t) r)))
 
 -- a text without a code

@@ -73,7 +73,7 @@ all_waiting [] h = refl
 all_waiting (x ∷ []) h = refl
 all_waiting (x ∷ y ∷ rest) h = absurd (omega arith)
 
--- the chain breaks off behind the byte that was taken and the one that waits
+-- the chain breaks off after the byte that was taken and the one that waits
 pub cut_off : (c : Content) (whole : RestOfFile) (out items after : List ℕ) (old new : Reading) (b : ℕ) (last : Bool) (t : Trouble) → whole ≡ with_front out (rest_of c old)
     → next_shown old.bytes ≡ Some (b, last) → items ≡ out ++ b ∷ [] → (rest_of c old).trouble ≡ Some t → new.bytes ≡ drop 1 (rest_of c old).bytes → length new.bytes ≤ 1
     → after ≡ items ++ waiting_bytes (next_shown new.bytes) → whole ≡ record { bytes = after; trouble = Some t }

@@ -60,7 +60,7 @@ high : (t : ℕ) → 36 ≤ t → count_index t ≡ 4 * t + 48
 unfolding count_index
 high t h = rw (le-ltb t 36 h) refl
 
--- a track's four bytes stand before the title, or behind it
+-- a track's four bytes stand before the title, or after it
 apart : (t i : ℕ) → count_index t ≤ i → i < count_index t + 4 → (i < 144) ⊎ (160 ≤ i)
 apart t i a b = elim (cases_lt t 36) [ inl h ↦ inl (omega (arith, low t h)) | inr h ↦ inr (omega (arith, high t h)) ]
 

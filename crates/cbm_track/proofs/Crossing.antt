@@ -41,10 +41,10 @@ in_back xs p b a z x y c i k e l =
     ∙ sym (alone y k (omega arith))
     ∙ c.back_new k l
 
-behind_back : (xs : List ℕ) (p b a z x y : ℕ) → IsCrossed xs p b a z x y → (i k : ℕ) → k < 8 → (i ≢ z) ⊎ (p % 8 ≤ k)
+after_back_bits : (xs : List ℕ) (p b a z x y : ℕ) → IsCrossed xs p b a z x y → (i k : ℕ) → k < 8 → (i ≢ z) ⊎ (p % 8 ≤ k)
     → bit_in (get_or (set (set xs a x) z y) i 0) k ≡ bit_in (get_or (set xs a x) i 0) k
-behind_back xs p b a z x y c i k l (inl ne) = ap (λ (v : ℕ). bit_in v k) (get_or-set_other (set xs a x) z i y 0 ne)
-behind_back xs p b a z x y c i k l (inr h) = elim (cases_eq i z) [
+after_back_bits xs p b a z x y c i k l (inl ne) = ap (λ (v : ℕ). bit_in v k) (get_or-set_other (set xs a x) z i y 0 ne)
+after_back_bits xs p b a z x y c i k l (inr h) = elim (cases_eq i z) [
   | inl e ↦ ap (λ (j : ℕ). bit_in (get_or (set (set xs a x) z y) j 0) k) e
       ∙ ap (λ (v : ℕ). bit_in v k) (get_or-set_same (set xs a x) z y 0 (omega (arith, last_in xs p b a z x y c, length-set xs a x)))
       ∙ sym (alone y k l)
@@ -90,7 +90,7 @@ crossed_here xs p b a z x y c q l = elim (cases_lt (p % 8 + q) 8) [
   | inl w ↦ (let f = c.first in
       let i = c.inside in
       bit_then xs a z x y (p + q) (p + q) (omega arith) (sym (mod-eq_of_lt (omega arith)))
-      ∙ behind_back xs p b a z x y c ((p + q) / 8) ((p + q) % 8) (omega arith) (inr (omega arith))
+      ∙ after_back_bits xs p b a z x y c ((p + q) / 8) ((p + q) % 8) (omega arith) (inr (omega arith))
       ∙ in_front xs p b a z x y c ((p + q) / 8) ((p + q) % 8) (omega arith) (omega arith) (omega arith)
       ∙ ap (λ (k : ℕ). get_or (circle_bits 8 b) k false) (omega arith))
   | inr w ↦ elim (cases_lt (a + 1) (length xs)) [
@@ -136,7 +136,7 @@ crossed_others xs p b a z x y c q h l = elim (cases_lt (p + q) (8 * length xs)) 
         → circle_bit (circle_bits_of (set (set xs a x) z y)) (p + q) ≡ circle_bit (circle_bits_of xs) (p + q)
     go r e u v =
         bit_then xs a z x y (p + q) r (omega arith) e
-        ∙ behind_back xs p b a z x y c (r / 8) (r % 8) (omega arith) u
+        ∙ after_back_bits xs p b a z x y c (r / 8) (r % 8) (omega arith) u
         ∙ before_front xs p b a z x y c (r / 8) (r % 8) (omega arith) v
         ∙ sym (bit_by xs (p + q) r (omega arith) e)
 

@@ -13,7 +13,7 @@ pub ten_from : (t : List Bool) (p : ℕ) → ((k : ℕ) → k < 10 → circle_bi
 unfolding ten_ones
 ten_from t p h = each_from (λ k. circle_bit t (p + k)) 10 h
 
--- what stands behind the place that a walk has come to
+-- what stands after the place that a walk has come to
 pub bit_walked : (xs : List ℕ) (a r k : ℕ) → r ≡ a % (8 * length xs) → 0 < length xs → circle_bit (circle_bits_of xs) (r + k) ≡ circle_bit (circle_bits_of xs) (a + k)
 bit_walked xs a r k e h =
     ap (λ (q : ℕ). circle_bit (circle_bits_of xs) (q + k)) (e ∙ sym (ap (λ (n : ℕ). a % n) (length-bits_of xs)))

@@ -181,7 +181,7 @@ leads t place word j w b l h =
     let one : bit_at word (63 - j) ≡ 1 = omega arith in
     sym (w j l) ∙ eq-eqb (bit_at word (63 - j)) 1 one
 
--- and the zero behind them
+-- and the zero after them
 pub ends : (t : List Bool) (place word : ℕ) → IsWindow t place word → word < 2 ^ 64 → leading_ones w64 word < 64 - place % 8 → circle_bit t (place + leading_ones w64 word) ≡ false
 ends t place word w b h =
     let top = leading_length 64 (bit_not w64 word) (omega arith) in
@@ -202,7 +202,7 @@ plain_word xs i word marks j z h e m n l =
     (λ k b. ap (λ (w : ℕ). bit_at w (63 - k) == 1) e ∙ eight_bit xs i k z h (omega arith))
     m (omega arith) n
 
--- two of them, one behind the other
+-- two of them, one after the other
 pub plain_two : (xs : List ℕ) (from i a b x y j : ℕ) → 0 < length xs → ((k : ℕ) → get_or xs k 0 < 256) → from ≤ i → ((k : ℕ) → k < 8 * (i - from) → ten_ones (circle_bits_of xs) (8 * from + k) ≡ false)
     → a ≡ number_from 0 (eight xs i) → b ≡ number_from 0 (eight xs (i + 7)) → Marks a x 9 → Marks b y 9 → bit_or x y ≡ 0 → j < 8 * (i + 14 - from) → ten_ones (circle_bits_of xs) (8 * from + j) ≡ false
 plain_two xs from i a b x y j z h f none e g m n o l = elim (cases_lt j (8 * (i - from))) [
@@ -224,10 +224,10 @@ plain_one xs from i word marks j z h f none e m n l = elim (cases_lt j (8 * (i -
       ∙ plain_word xs i word marks (j - 8 * (i - from)) z h e m n (omega arith)
 ]
 
--- places behind which bytes follow
-pub plain_behind : (t : List Bool) (place plain next bytes j : ℕ) → next ≡ place + plain → next % 8 ≡ 0 → ((k : ℕ) → k < plain → ten_ones t (place + k) ≡ false)
+-- places after which bytes follow
+pub plain_after : (t : List Bool) (place plain next bytes j : ℕ) → next ≡ place + plain → next % 8 ≡ 0 → ((k : ℕ) → k < plain → ten_ones t (place + k) ≡ false)
     → ((k : ℕ) → k < 8 * bytes → ten_ones t (8 * (next / 8) + k) ≡ false) → j < plain + 8 * bytes → ten_ones t (place + j) ≡ false
-plain_behind t place plain next bytes j e z none more l = elim (cases_lt j plain) [
+plain_after t place plain next bytes j e z none more l = elim (cases_lt j plain) [
   | inl old ↦ none j old
   | inr new ↦ (let q : place + j ≡ 8 * (next / 8) + (j - plain) = omega arith in ap (ten_ones t) q) ∙ more (j - plain) (omega arith)
 ]

@@ -39,9 +39,9 @@ pub record IsEmptied (tracks : ℕ) (title id : List ℕ) (old new : Content) : 
   pub written : new ≡ written (written old directory_head head) first_directory new_sector
 
 -- the id after NEW: the new one, or the one that 18/0 had
-abbrev pub id_behind : Option (List ℕ) → Content → List ℕ
-id_behind None old = slice_range (map_of old) 162 164
-id_behind (Some id) old = id
+abbrev pub id_after : Option (List ℕ) → Content → List ℕ
+id_after None old = slice_range (map_of old) 162 164
+id_after (Some id) old = id
 
 -- what these two sectors are written over: a disk that was formatted, or the old one
 abbrev pub content_under : Option (List ℕ) → Content → Content
@@ -51,7 +51,7 @@ content_under (Some id) old = blank
 -- WHERE NEW IS DONE, whatever the medium held, 18/0 and 18/1 are those of an empty disk; all other sectors are zeros where an id is given, and
 -- as they were where none is.
 abbrev pub EmptiesDisk : Result (Unit {0}) Trouble → List ℕ → Option (List ℕ) → Seen → Seen → Type 0
-EmptiesDisk result title id old new = OnOk result (IsEmptied old.tracks title (id_behind id old.content) (content_under id old.content) new.content)
+EmptiesDisk result title id old new = OnOk result (IsEmptied old.tracks title (id_after id old.content) (content_under id old.content) new.content)
 
 -- NEW changes at most what the sectors hold and, where one is given, the id in their headers, over zeros everywhere; a format that was refused
 -- leaves the old id.

@@ -34,7 +34,7 @@ pub record IsSwept (old new : Content) (directory : List Place) (k : ℕ) : Type
   pub links : (p : Place) → IsOk (old p) → IsOk (new p) × (link (bytes_at new p) ≡ link (bytes_at old p))
   pub writable : (p : Place) → IsCellWritable (old p) → IsCellWritable (new p)
   pub before : (n : ℕ) → n < 8 * length directory → n < k → IsSweptAs (entry_at old directory n) (entry_at new directory n)
-  pub behind : (n : ℕ) → n < 8 * length directory → k ≤ n → entry_at new directory n ≡ entry_at old directory n
+  pub afterwards : (n : ℕ) → n < 8 * length directory → k ≤ n → entry_at new directory n ≡ entry_at old directory n
 
 -- One slot is swept: it is closed or empty or none, and nothing changes; or it was never closed, and is cleared.
 abbrev pub SlotSwept : Content → Content → List Place → ℕ → Type 0

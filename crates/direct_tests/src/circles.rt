@@ -53,9 +53,9 @@ fn turned(alloc: Global, image: &[u8]) -> Result<Vec<u8>, Fail> {
     put(&mut copy, 0, image);
     let circle = image.get(SEVENTEEN..).ok_or("no track")?;
     for k in 0..LONG {
-        let behind = if k == LONG - 1 { 0 } else { k.wrapping_add(1) };
+        let afterwards = if k == LONG - 1 { 0 } else { k.wrapping_add(1) };
         let high = circle.get(k).ok_or("no byte")? << 3;
-        let low = circle.get(behind).ok_or("no byte")? >> 5;
+        let low = circle.get(afterwards).ok_or("no byte")? >> 5;
         put(&mut copy, SEVENTEEN.wrapping_add(k), &[high | low]);
     }
     Ok(copy)
@@ -82,7 +82,7 @@ fn prints(alloc: Global, image: &[u8], script: &str, text: &str) -> bool {
     }
 }
 
-/// The image behind a script that writes the program HELLO.
+/// The image after a script that writes the program HELLO.
 fn with_hello(alloc: Global, image: &[u8]) -> Option<Vec<u8>> {
     let options = Options {
         device: 8,

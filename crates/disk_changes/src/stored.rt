@@ -54,9 +54,9 @@ fn records_of(alloc: Global, bytes: &[u8], length: u8) -> Result<Vec<&[u8]>, All
         if rest.is_empty() {
             break;
         }
-        let (record, behind) = rest.split_at(usize::from(length).min(rest.len()));
+        let (record, afterwards) = rest.split_at(usize::from(length).min(rest.len()));
         records.push(record)?;
-        rest = behind;
+        rest = afterwards;
     }
     Ok(records)
 }

@@ -6,7 +6,7 @@ pub fn ones_before(track: &Track, bytes: &[u8], place: u32) -> u32 {
     let bits = track.bits();
     let mut ones: u32 = 0;
     for count in 1..bits {
-        if !is_one(bytes, behind(bits, place, count)) {
+        if !is_one(bytes, afterwards(bits, place, count)) {
             break;
         }
         ones = count;
@@ -15,7 +15,7 @@ pub fn ones_before(track: &Track, bytes: &[u8], place: u32) -> u32 {
 }
 
 /// The place this many bits before another one.
-pub fn behind(bits: u32, place: u32, count: u32) -> u32 {
+pub fn afterwards(bits: u32, place: u32, count: u32) -> u32 {
     if count <= place {
         place.wrapping_sub(count)
     } else {

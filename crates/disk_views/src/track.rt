@@ -1,6 +1,6 @@
 //! What stands on a track of a G64.
 use crate::block::{Block, Header, block_at};
-use crate::circle::{behind, distance, ones_before};
+use crate::circle::{afterwards, distance, ones_before};
 use cbm_track::Track;
 use std::alloc::{AllocError, Global};
 
@@ -107,7 +107,7 @@ fn part_at(track: &Track, bytes: &[u8], place: u32, next: u32) -> Part {
     };
     let room = to_next.saturating_sub(ones_before(track, bytes, next));
     Part {
-        from: behind(bits, place, ones),
+        from: afterwards(bits, place, ones),
         ones,
         block,
         gap: room.saturating_sub(block.bits()),

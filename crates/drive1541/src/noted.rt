@@ -42,7 +42,7 @@ fn ends_before(kept: &[u8; KEPT], count: usize) -> u32 {
 }
 
 /// The bytes after so many line feeds.
-fn behind(bytes: &[u8], lines: u32) -> &[u8] {
+fn afterwards(bytes: &[u8], lines: u32) -> &[u8] {
     let mut left = lines;
     let mut from: usize = 0;
     for (place, byte) in bytes.iter().enumerate() {
@@ -136,7 +136,7 @@ impl<R: Read> Noted<R> {
     /// The line of a number, from 1 on, if it is one of the last.
     pub fn line(&self, number: u32) -> &[u8] {
         let before = number.saturating_sub(1).saturating_sub(self.lines);
-        first_line(behind(self.bytes(), before))
+        first_line(afterwards(self.bytes(), before))
     }
 }
 

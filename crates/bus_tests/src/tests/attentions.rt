@@ -14,7 +14,7 @@ impl Session {
     // ATN's release, and what follows it up to the next attention; the moment from which ATN may be pulled after all
     // of that.
     pub fn release(&mut self, rt: &impl Abort, alloc: Global) -> u64 {
-        let first = self.behind_accepts();
+        let first = self.after_accepts();
         let moment = self.from(rt, Bound::Release, first, after(first, 80));
         self.released = moment;
         match (self.any(Role::Listener), self.any(Role::Talker)) {
@@ -38,14 +38,14 @@ impl Session {
                     self.frame(rt, alloc, false, byte, eoi, from);
                     ready = after(self.accepted, 100);
                 }
-                after(moment, self.pull_pause()).max(self.behind_accepts())
+                after(moment, self.pull_pause()).max(self.after_accepts())
             }
             (None, Some(talker)) => {
                 self.host(rt, moment, Data, Pull);
                 let freed = self.together(rt, moment);
                 self.host(rt, freed, Atn, Free);
                 self.each(rt, alloc, moment, Act::Released);
-                let behind = self.let_go(rt, alloc, moment);
+                let afterwards = self.let_go(rt, alloc, moment);
                 let turn = match talker.pace {
                     Pace::Profile => 20,
                     Pace::Kernal => 15,
@@ -53,7 +53,7 @@ impl Session {
                 let clock = self.from(rt, Bound::Turn, after(moment, turn), after(moment, 90));
                 self.host(rt, clock, Clock, Free);
                 let end = self.talk(rt, talker, after(clock, talker.reaction));
-                end.max(behind)
+                end.max(afterwards)
             }
         }
     }

@@ -20,7 +20,7 @@ pub fn owed_change(place: usize, moment: u64, line: Line, way: Way) -> Owed {
 impl Reading {
     /// A frame may be ready 100 after the last accept, and after ATN's pull or release.
     pub fn may_send(&self, moment: u64, changed: Option<u64>) -> bool {
-        self.is_clear() && is_behind(moment, 100, changed) && is_behind(moment, 100, self.accepted)
+        self.is_clear() && is_after(moment, 100, changed) && is_after(moment, 100, self.accepted)
     }
 
     /// CLOCK is free: each that hears frees DATA, and where the end is signalled it pulses from the moment at which

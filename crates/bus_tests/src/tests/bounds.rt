@@ -8,7 +8,7 @@ pub const BOUNDS: [Bound; 14] = [
     Bound::Attention,
     Bound::Ready,
     Bound::Start,
-    Bound::StartBehindPulse,
+    Bound::StartAfterPulse,
     Bound::Settled,
     Bound::Shown,
     Bound::Release,

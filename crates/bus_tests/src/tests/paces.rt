@@ -16,13 +16,13 @@ use std::process::Abort;
 #[derive(Clone, Copy, PartialEq, Eq, Drop)]
 enum Waits {
     // ATN's pull after its release, with nobody or a listener.
-    PullBehindNobody,
-    PullBehindListener,
+    PullAfterNobody,
+    PullAfterListener,
     // CLOCK's release after ATN's, with a talker.
     Turn,
     // ATN's release after a byte, and its pull after a byte to listeners.
     Release,
-    PullBehindByte,
+    PullAfterByte,
 }
 
 // The change, the drives' reactions and paces from device 8 on, the bytes in attention, the least reaction of those that
@@ -30,39 +30,39 @@ enum Waits {
 type Row = (Waits, &'static [(u8, Pace)], &'static [u8], u64, u64);
 
 const ROWS: [Row; 24] = [
-    (Waits::PullBehindNobody, &[(20, Profile)], &[0x3f], 20, 100),
-    (Waits::PullBehindNobody, &[(20, Kernal)], &[0x3f], 20, 61),
+    (Waits::PullAfterNobody, &[(20, Profile)], &[0x3f], 20, 100),
+    (Waits::PullAfterNobody, &[(20, Kernal)], &[0x3f], 20, 61),
     (
-        Waits::PullBehindNobody,
+        Waits::PullAfterNobody,
         &[(60, Kernal), (1, Kernal)],
         &[0x3f],
         1,
         61,
     ),
     (
-        Waits::PullBehindNobody,
+        Waits::PullAfterNobody,
         &[(20, Kernal), (30, Profile)],
         &[0x3f],
         20,
         100,
     ),
     (
-        Waits::PullBehindListener,
+        Waits::PullAfterListener,
         &[(20, Profile)],
         &[0x28],
         20,
         100,
     ),
-    (Waits::PullBehindListener, &[(20, Kernal)], &[0x28], 20, 61),
+    (Waits::PullAfterListener, &[(20, Kernal)], &[0x28], 20, 61),
     (
-        Waits::PullBehindListener,
+        Waits::PullAfterListener,
         &[(1, Kernal), (60, Kernal)],
         &[0x28],
         1,
         61,
     ),
     (
-        Waits::PullBehindListener,
+        Waits::PullAfterListener,
         &[(1, Profile), (60, Kernal)],
         &[0x28],
         1,
@@ -109,30 +109,30 @@ const ROWS: [Row; 24] = [
         1,
         60,
     ),
-    (Waits::PullBehindByte, &[(20, Kernal)], &[0x28], 20, 20),
+    (Waits::PullAfterByte, &[(20, Kernal)], &[0x28], 20, 20),
     (
-        Waits::PullBehindByte,
+        Waits::PullAfterByte,
         &[(10, Profile), (40, Profile)],
         &[0x28, 0x29],
         10,
         60,
     ),
     (
-        Waits::PullBehindByte,
+        Waits::PullAfterByte,
         &[(10, Kernal), (40, Kernal)],
         &[0x28, 0x29],
         10,
         31,
     ),
     (
-        Waits::PullBehindByte,
+        Waits::PullAfterByte,
         &[(10, Kernal), (60, Kernal)],
         &[0x28],
         10,
         20,
     ),
     (
-        Waits::PullBehindByte,
+        Waits::PullAfterByte,
         &[(10, Kernal), (60, Profile)],
         &[0x28],
         10,
@@ -178,12 +178,12 @@ fn host(rt: &impl Abort, changes: &mut Vec<Change>, row: &Row, wait: u64) -> u64
             return release;
         }
         Waits::Turn => add(rt, changes, at(last, Clock, Free)),
-        Waits::PullBehindListener => pull(rt, changes, last, false),
-        Waits::PullBehindNobody => {
+        Waits::PullAfterListener => pull(rt, changes, last, false),
+        Waits::PullAfterNobody => {
             add(rt, changes, at(release, Clock, Free));
             pull(rt, changes, last, true)
         }
-        Waits::PullBehindByte => {
+        Waits::PullAfterByte => {
             send(rt, changes, 0x41, after(release, 100), after(release, 180));
             let last = after(release, after(500, after(fastest, wait)));
             pull(rt, changes, last, false);

@@ -73,7 +73,7 @@ pub fn eight_bits(pace: Pace) -> u64 {
 }
 
 /// Whether a moment is so much after another, if there is one.
-pub fn is_behind(moment: u64, wait: u64, earlier: Option<u64>) -> bool {
+pub fn is_after(moment: u64, wait: u64, earlier: Option<u64>) -> bool {
     match earlier {
         Some(earlier) => after(earlier, wait) <= moment,
         None => true,
@@ -294,8 +294,8 @@ impl Reading {
         let several = self.seats.len() > 1 && !self.is_of_kernal();
         let gap = if several { 60 } else { 20 };
         self.accepted.is_some()
-            && is_behind(moment, gap, self.accepted)
-            && is_behind(moment, 1, self.answered)
+            && is_after(moment, gap, self.accepted)
+            && is_after(moment, 1, self.answered)
     }
 
     /// When the host's next change comes at the latest.

@@ -394,9 +394,9 @@ fn is_moved(rt: &impl Abort, alloc: Global, events: &[Event], place: usize) -> b
     let (is_late, keeps, begins) = judge_moved(rt, alloc, events, place, 0);
     let is_early = !is_late && keeps && !begins;
     let (is_late, keeps, _) = judge_moved(rt, alloc, events, place, 2);
-    let is_behind = is_late && keeps;
+    let is_after = is_late && keeps;
     let (is_late, keeps, _) = judge_moved(rt, alloc, events, place, 3);
-    is_early && is_behind && is_late && keeps
+    is_early && is_after && is_late && keeps
 }
 
 // How many changes of the drive are moved so.

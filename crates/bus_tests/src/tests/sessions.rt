@@ -113,7 +113,7 @@ impl Session {
     // A moment that is at least the first, often that or the last. Where this bound is to be broken it is 1 too
     // early, if it still comes after all others.
     pub fn from(&mut self, rt: &impl Abort, bound: Bound, first: u64, last: u64) -> u64 {
-        if self.is_flaw(rt, bound) && self.is_behind_all(first.wrapping_sub(1)) {
+        if self.is_flaw(rt, bound) && self.is_after_all(first.wrapping_sub(1)) {
             self.broken = Some((bound, first.wrapping_sub(1), false));
             return first.wrapping_sub(1);
         }
@@ -139,7 +139,7 @@ impl Session {
         moment
     }
 
-    pub fn is_behind_all(&self, moment: u64) -> bool {
+    pub fn is_after_all(&self, moment: u64) -> bool {
         match self.changes.last() {
             Some(change) => change.moment <= moment,
             None => false,
@@ -251,7 +251,7 @@ impl Session {
         let start = if eoi {
             self.from(
                 rt,
-                Bound::StartBehindPulse,
+                Bound::StartAfterPulse,
                 after(quiet, 1),
                 after(quiet, 300),
             )
@@ -342,7 +342,7 @@ impl Session {
     }
 
     // From which moment ATN may be changed after a byte.
-    pub fn behind_accepts(&self) -> u64 {
+    pub fn after_accepts(&self) -> u64 {
         if self.is_of_kernal() {
             return after(self.accepted, 20).max(after(self.answered, 1));
         }
@@ -358,7 +358,7 @@ impl Session {
     // Drives without a role let go of DATA.
     pub fn let_go(&mut self, rt: &impl Abort, alloc: Global, moment: u64) -> u64 {
         let seats = self.seats(rt, alloc);
-        let mut behind = moment;
+        let mut afterwards = moment;
         for member in &seats {
             if member.role == Role::Absent {
                 self.drive(
@@ -368,10 +368,10 @@ impl Session {
                     Data,
                     Free,
                 );
-                behind = behind.max(after(moment, member.reaction.wrapping_add(1)));
+                afterwards = afterwards.max(after(moment, member.reaction.wrapping_add(1)));
             }
         }
-        behind
+        afterwards
     }
 }
 

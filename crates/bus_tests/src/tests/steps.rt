@@ -126,11 +126,11 @@ impl Reading {
         let pause = self.pull_pause();
         match self.phase {
             Phase::Open => {
-                self.is_clear() && is_behind(moment, pause, self.released) && self.since <= moment
+                self.is_clear() && is_after(moment, pause, self.released) && self.since <= moment
             }
             Phase::Listening => {
                 self.is_clear()
-                    && is_behind(moment, pause, self.released)
+                    && is_after(moment, pause, self.released)
                     && self.is_accepted(moment)
             }
             Phase::Over if self.is_clear() => self.last <= moment,
@@ -223,7 +223,7 @@ impl Reading {
                 self.since = moment;
                 add(rt, next, self)
             }
-            Phase::Turned if is_behind(moment, self.turn(), self.released) => {
+            Phase::Turned if is_after(moment, self.turn(), self.released) => {
                 self.turned(rt, moment, next)
             }
             _ => {}
@@ -247,7 +247,7 @@ impl Reading {
                 add(rt, next, self)
             }
             Phase::Ready(frame, wire, quiet) => self.start(rt, moment, frame, wire, quiet, next),
-            Phase::Showing(frame, free) if is_behind(moment, 20, Some(free)) => {
+            Phase::Showing(frame, free) if is_after(moment, 20, Some(free)) => {
                 self.bit_over(rt, alloc, moment, frame, next)
             }
             _ => {}

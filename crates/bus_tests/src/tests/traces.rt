@@ -92,8 +92,8 @@ fn disturbed(
     let mut other = Vec::new(alloc);
     for (at, change) in changes.iter().enumerate() {
         let before = changes.get(at.wrapping_sub(1));
-        let behind = changes.get(at.wrapping_add(1));
-        match (how, behind, before) {
+        let afterwards = changes.get(at.wrapping_add(1));
+        match (how, afterwards, before) {
             (0, _, _) if at == place => {}
             (1, _, _) if at == place => {
                 add(rt, &mut other, *change);

@@ -10,7 +10,7 @@ ghost use Rattle.cbm_program.specs.Running.{EndsAs, IsOfScript};
 ghost use Rattle.cbm_drive.specs.Players.{IsOpen};
 ghost use Rattle.cbm_program.specs.Staging.{IsBorne, IsFresh, IsDriveSwitchedOn, StandsOn, tracks_of_drives};
 ghost use Rattle.cbm_program.specs.Starts.{IsDevice, StartsFrom, KeptBy};
-ghost use Rattle.cbm_program.specs.TimedReading.{TimedRead, BehindRead};
+ghost use Rattle.cbm_program.specs.TimedReading.{TimedRead, AfterEndRead};
 ghost use Rattle.cbm_program.specs.Traces.{WritesTrace};
 
 use super::staging::Stage;
@@ -40,13 +40,13 @@ fn read_timed<R: Read>(
 }
 
 /// Reads the lines after the end, from line `first` on: all of them are skipped.
-fn read_behind<R: Read>(
+fn read_after_end<R: Read>(
     lines: &mut Source<R>,
     bytes: &mut ArrayVec<u8, 1000>,
     first: u32,
 ) -> Result<(), RunFault>
     requires { first ≤ 1000001 }
-    ensures { BehindRead (source_bytes_left R.remaining lines.old) first result }
+    ensures { AfterEndRead (source_bytes_left R.remaining lines.old) first result }
 {
     let mut number = first;
     'lines: while next_line(lines, bytes, number)? {
@@ -97,7 +97,7 @@ fn play_on<M: Steady, R: Read, W: Write>(
                 from = change.moment;
             }
             Timed::Ends(end) => {
-                read_behind(lines, &mut bytes, number + 1)?;
+                read_after_end(lines, &mut bytes, number + 1)?;
                 stage.end(end, writer)?;
                 flush(writer)?;
                 return Ok(());

@@ -1,7 +1,7 @@
 //! What a line of a script of line changes asks for.
 ghost use Rattle.std.specs.Prelude.{◌≡◌, ◌≤◌, option_map, IfSome};
 ghost use Rattle.bus_traces.specs.Events.{host_event_of};
-ghost use Rattle.cbm_program.specs.Timed.{timed_change, timed_end, timed_of, timed_behind, is_skipped, IsTimed, latest_timed};
+ghost use Rattle.cbm_program.specs.Timed.{timed_change, timed_end, timed_of, timed_after, is_skipped, IsTimed, latest_timed};
 
 use bus_traces::{host_event_of, moment_of, split_word};
 use cbm_drive::Change;
@@ -50,7 +50,7 @@ fn parse_timed(bytes: &[u8]) -> Option<Timed>
 
 /// The same of a line that comes after a moment: what it asks for doesn't come before it.
 pub(crate) fn timed_from(bytes: &[u8], from: u64) -> Option<Timed>
-    ensures value { result ≡ timed_behind from (timed_of bytes.now) }
+    ensures value { result ≡ timed_after from (timed_of bytes.now) }
     ensures moment { IfSome result (λ timed. IsTimed timed × (from ≤ latest_timed from timed)) }
 {
     match parse_timed(bytes)? {
@@ -63,7 +63,7 @@ pub(crate) fn timed_from(bytes: &[u8], from: u64) -> Option<Timed>
 
 /// Whether a line is skipped.
 pub(crate) fn is_skipped(bytes: &[u8]) -> bool
-    ensures { result ≡ is_skipped (timed_behind 0 (timed_of bytes.now)) }
+    ensures { result ≡ is_skipped (timed_after 0 (timed_of bytes.now)) }
 {
     match timed_from(bytes, 0) {
         Some(Timed::Skipped) => true,

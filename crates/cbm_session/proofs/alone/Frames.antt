@@ -43,7 +43,7 @@ module _ (peek : Option (ℕ × Bool)) (b : Party) (role : Role) where
   shifted byte [] = byte
   shifted byte (c ∷ cs) = shifted (with_bit_read byte (not c.bit)) cs
 
-  -- behind the accept it is in hold again, with the role that the byte makes
+  -- after the accept it is in hold again, with the role that the byte makes
   abbrev pub accepted_role : Bool → ℕ → Role
   accepted_role atn byte = if atn then role_after b.device byte role else role
 

@@ -67,7 +67,7 @@ tail_is x y xs ys e = cc
 pub not_nil : (x : Step) (xs : List Step) → [] ≡ x ∷ xs → ⊥
 not_nil x xs e = cc
 
--- a reaction lies whole before the cut, or whole behind it
+-- a reaction lies whole before the cut, or whole after it
 pub parted : (c t : ℕ) (rs more front back : List Step) → AllAt t rs → rs ++ more ≡ front ++ back → AllBefore c front → NoneBefore c back
     → ((rest : List Step) × (front ≡ rs ++ rest) × (more ≡ rest ++ back)) ⊎ ((front ≡ []) × (c ≤ t))
 parted c t [] more front back a e f b = inl (front, refl, e)
@@ -102,17 +102,17 @@ follows_front peek c y ys n {q} (tells {t} {line} {way} {mark} {ss} i k g) (x �
 follows_front peek c y ys n {q} (reacts t more d e sh l g) front h f =
     elim (parted c t (reaction_steps t peek q) more front (y ∷ ys) (reaction_at t peek q) (sym e ∙ h) f n) [
       | inl z ↦ (
-          let r = follows_front peek c y ys n g z.0 z.2 (behind (reaction_steps t peek q) z.0 (subst (AllBefore c) z.1 f)) in
+          let r = follows_front peek c y ys n g z.0 z.2 (afterwards (reaction_steps t peek q) z.0 (subst (AllBefore c) z.1 f)) in
           (r.0, (reacts t z.0 d z.1 sh (later_front t more z.0 (y ∷ ys) z.2 l) r.1.0, r.1.1))
           )
       | inr z ↦ (q, (subst (λ (zs : List Step). Follows peek q zs q) (sym z.0) (ends refl), subst (IsInTime c) (sym d) z.1))
     ]
   where
-    behind : (xs zs : List Step) → AllBefore c (xs ++ zs) → AllBefore c zs
-    behind [] zs a = a
-    behind (x ∷ xs) zs a = behind xs zs a.1
+    afterwards : (xs zs : List Step) → AllBefore c (xs ++ zs) → AllBefore c zs
+    afterwards [] zs a = a
+    afterwards (x ∷ xs) zs a = afterwards xs zs a.1
 
--- where some step isn't before, the rest behind the cut isn't empty
+-- where some step isn't before, the rest after the cut isn't empty
 pub some_back : (c : ℕ) (ss : List Step) → AllBefore c ss → some_from c ss ≡ false
 some_back c [] a = refl
 some_back c (s ∷ ss) a = ap (λ (v : Bool). if v then true else some_from c ss) (lt-leb c (moment_of s) a.0) ∙ some_back c ss a.1

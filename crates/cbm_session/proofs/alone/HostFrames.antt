@@ -18,12 +18,12 @@ use Rattle.cbm_iec.specs.declared.port.Side.TheVariants.{Hearing}
 use Rattle.cbm_session.proofs.alone.Frames.{wires, stands, told_by, held_again}
 use Rattle.cbm_session.proofs.among.Bits.{quiet}
 use Rattle.cbm_session.proofs.among.Bytes.{frame_with_end}
-use Rattle.cbm_session.proofs.among.Frames.{in_hold, holds, behind_byte, frame_among}
+use Rattle.cbm_session.proofs.among.Frames.{in_hold, holds, after_a_byte, frame_among}
 use Rattle.cbm_session.proofs.joining.OneDrive.{one_frame}
 use Rattle.cbm_session.proofs.joining.Seating.{Sits}
 use Rattle.cbm_session.proofs.joining.Talkers.{true_false}
 use Rattle.cbm_session.specs.Among as among
-use Rattle.cbm_session.specs.Among.{Rest, wires_of, behind_host, CountsFor, ComesBehind, IsBehind, FollowsAmong}
+use Rattle.cbm_session.specs.Among.{Rest, wires_of, after_the_host, CountsFor, ComesAfter, FirstIsAfter, FollowsAmong}
 use Rattle.cbm_session.specs.Bits.{where_held, BitCell, cell_steps, cells_steps, held_after, byte_in_cells}
 use Rattle.cbm_session.specs.Following.{Counts, IsLaterBy, IsLater, reaction_steps, Follows, ends, tells, reacts}
 use Rattle.cbm_session.specs.Frames.{Sent, end_of, pulse, SentFits}
@@ -54,11 +54,11 @@ counts_alone d Plain act a c = c
 counts_alone d (ForEach x) act a c = c
 counts_alone d (For o x) act a c = c ∙ ap (λ (v : Bool). if v then Some x else None) a
 
-later_by : (t m : ℕ) (w : Who) → ComesBehind t w m → IsLaterBy t w m
+later_by : (t m : ℕ) (w : Who) → ComesAfter t w m → IsLaterBy t w m
 later_by t m Host h = h
 later_by t m (Drive o) h = tt
 
-later : (t : ℕ) (ss : List Step) → IsBehind t ss → IsLater t ss
+later : (t : ℕ) (ss : List Step) → FirstIsAfter t ss → IsLater t ss
 later t [] h = tt
 later t (s ∷ ss) h = later_by t (moment_of s) s.event.who h
 
@@ -67,8 +67,8 @@ module _ (peek : Option (ℕ × Bool)) where
   pub among_alone : {r r2 : Rest} {q q2 : Port} {ss : List Step} → FollowsAmong peek r q ss r2 q2 → r ≡ quiet q.others → AllAlone q.party.device ss → Follows peek q ss q2
   among_alone (among.ends a e) o h = ends e
   among_alone {r} {r2} {q} {q2} (among.tells {t} {line} {way} {mark} {ss} i k f) o h =
-      let heard : wires_of (behind_host line way r) ≡ lines_after q.others line way = ap (λ (x : Rest). wires_of (behind_host line way x)) o in
-      let next : behind_host line way r ≡ quiet (wires_of (behind_host line way r)) = ap (λ (x : Rest). behind_host line way x) o ∙ ap (λ (l : Lines). quiet l) (sym heard) in
+      let heard : wires_of (after_the_host line way r) ≡ lines_after q.others line way = ap (λ (x : Rest). wires_of (after_the_host line way x)) o in
+      let next : after_the_host line way r ≡ quiet (wires_of (after_the_host line way r)) = ap (λ (x : Rest). after_the_host line way x) o ∙ ap (λ (l : Lines). quiet l) (sym heard) in
       tells i (counts_alone q.party.device mark (told_act (lines_after q.others line way) q) h.0 (subst (λ (l : Lines). CountsFor q.party.device mark (told_act l q)) heard k))
       (subst (λ (l : Lines). Follows peek (told t l q) ss q2) heard (among_alone f next h.1))
   among_alone {r} {r2} {q} (among.hears {o} a i k f) e h = absurd (true_false (nat_eq q.party.device o) h.0 a)
@@ -123,7 +123,7 @@ module _ (peek : Option (ℕ × Bool)) (b : Party) (role : Role) (own : Held) (f
   frame_follows atn h =
       let k = frame_among peek alone_seat alone_seat [] atn f (some, prompt, tt) h sits in
       let none : k.0 ≡ zero = omega (arith, k.1) in
-      let all = subst (λ (n : ℕ). FollowsAmong peek (in_hold atn n) (holds peek b role false atn n) (one_frame (f.ready + b.reaction) alone_seat false (told_by peek b role atn (byte_in_cells f.cells) false) f) (in_hold atn n) (behind_byte peek b role false atn (byte_in_cells f.cells) n)) none k.2 in
+      let all = subst (λ (n : ℕ). FollowsAmong peek (in_hold atn n) (holds peek b role false atn n) (one_frame (f.ready + b.reaction) alone_seat false (told_by peek b role atn (byte_in_cells f.cells) false) f) (in_hold atn n) (after_a_byte peek b role false atn (byte_in_cells f.cells) n)) none k.2 in
       among_alone peek all refl (frame_alone (f.ready + b.reaction) alone_seat false (told_by peek b role atn (byte_in_cells f.cells) false) f)
 
   -- to a listener, with the end signalled

@@ -27,7 +27,7 @@ use Rattle.cbm_session.proofs.alone.Frames.{done_due, wires, stands, told_by, he
 use Rattle.cbm_session.proofs.alone.HostFrames.{frame_follows, last_frame_follows}
 use Rattle.cbm_session.proofs.alone.Talk.{said_port, told_follows}
 use Rattle.cbm_session.proofs.joining.Merging.{merge_here, merge_there}
-use Rattle.cbm_session.proofs.joining.OneDrive.{one_frame, StartsBehind, pull_is, told_is, frame_is}
+use Rattle.cbm_session.proofs.joining.OneDrive.{one_frame, StartsAfter, pull_is, told_is, frame_is}
 use Rattle.cbm_session.proofs.reading.PieceReadings.{seat, turn_first}
 use Rattle.cbm_session.specs.Bits.{where_held, where_free, number_of, byte_in_cells}
 use Rattle.cbm_session.specs.Following.{IsInTime, Follows, alone, in_attention, SideAt, LinesAt, StandsAt, Says, FollowsPieces, ends, tells, reacts}
@@ -134,7 +134,7 @@ pull_law s at p q peek h f y =
 pub is_commanding : {x : BusPlace} → IsCommanding x → (some : Bool) × (x ≡ Commanding some)
 is_commanding (commanding {some}) = (some, refl)
 
-starts_alone : (s : Seat) (eoi : Bool) (f : Sent) → SentFits (s ∷ []) eoi f → StartsBehind (f.ready + reaction s) s eoi f
+starts_alone : (s : Seat) (eoi : Bool) (f : Sent) → SentFits (s ∷ []) eoi f → StartsAfter (f.ready + reaction s) s eoi f
 starts_alone s true f h = let k = h.start in (omega arith, omega (arith, k))
 starts_alone s false f h = h.start.0
 

@@ -58,7 +58,7 @@ abbrev pub host_of : List Step → List Step
 host_of [] = []
 host_of (s ∷ ss) = keep_host s.event.who s (host_of ss)
 
--- the lines behind the host's changes
+-- the lines after the host's changes
 abbrev pub lines_by : Lines → List Step → Lines
 lines_by l [] = l
 lines_by l (s ∷ ss) = lines_by (lines_after l s.event.change.line s.event.change.way) ss
@@ -301,7 +301,7 @@ host_merge o (x ∷ xs) (y ∷ ys) a b = elim (leb_tells (moment_of x) (moment_o
   | inr e ↦ ap (λ (zs : List Step). host_of zs) (merge_there x xs y ys e.1) ∙ ap (λ (w : Who). keep_host w y (host_of (merge (x ∷ xs) ys))) b.0 ∙ host_merge o (x ∷ xs) ys a b.2
 ]
 
--- the host's lines behind its steps: those it holds, and ATN
+-- the host's lines after its steps: those it holds, and ATN
 abbrev atn_after : Bool → Line → Way → Bool
 atn_after a Atn way = is_pull way
 atn_after a Clock way = a
@@ -436,7 +436,7 @@ cut_silent p (Talk at f) s c k =
     (none_if (is_talker s.role) (telling (at_pace (talker_of p.seats).pace s.party) at f)
     (tt, no_append (bit_steps (at_pace (talker_of p.seats).pace s.party) (first_bit (at_pace (talker_of p.seats).pace s.party) f) false f.bits) (if is_last f then drive (device s) (f.accept + reaction s) Clock Free ∷ [] else []) (none_bits (at_pace (talker_of p.seats).pace s.party) (first_bit (at_pace (talker_of p.seats).pace s.party) f) false f.bits) (none_if (is_last f) (drive (device s) (f.accept + reaction s) Clock Free ∷ []) (tt, tt))))
 
--- behind a cut the drive stands as the session has it
+-- after a cut the drive stands as the session has it
 cut_stands : (p : Point) (s : Seat) (w : Whole) (c : ℕ) (q q2 : Port) (peek : Option (ℕ × Bool)) → StandsAt (alone p s) s q → Fits (alone p s) w → CutFits (alone p s) w c → Follows peek q (before c (steps_of (alone p s) w)) q2 → IsInTime c (port_due q2)
     → StandsAt (point_after (alone p s) (Cut w c)) (seat_with s.role (held_by s.own (before c (own_part (alone p s) w s))) s) q2
 cut_stands p s w c q q2 peek h f k g i =

@@ -122,7 +122,7 @@ module _ (peek : Option (ℕ × Bool)) (b : Party) where
           ap (λ (o : Held). stands b Talker o (wires false false false) (Speaking (half_mouth at byte last left half (nat_le 16 half) ((half % 2) == 0)))) own_is
           ∙ ap (λ (m : Mouth). stands b Talker (lines false held) (wires false false false) (Speaking m)) mouth_is
 
-  -- behind the last bit it waits
+  -- after the last bit it waits
   abbrev pub waits : ℕ → Bool → Port
   waits byte last = stands b Talker (lines true false) (wires false false false) (Speaking (Waiting byte last))
 

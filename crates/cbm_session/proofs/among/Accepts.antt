@@ -9,9 +9,9 @@ use Rattle.cbm_iec.specs.declared.party.Role.{Role}
 use Rattle.cbm_iec.specs.declared.port.Port.{Port}
 use Rattle.cbm_iec.specs.declared.port.Side.TheVariants.{Hearing}
 use Rattle.cbm_session.proofs.alone.Frames.{wires, stands, accepted_role, told_by}
-use Rattle.cbm_session.proofs.among.Changes.{Changes, none, other, own, own_behind}
+use Rattle.cbm_session.proofs.among.Changes.{Changes, none, other, own, own_after_it}
 use Rattle.cbm_session.proofs.joining.Merging.{NoneBefore, InOrder}
-use Rattle.cbm_session.specs.Among.{Rest, some, IsBehind, FollowsAmong, hears, reacts}
+use Rattle.cbm_session.specs.Among.{Rest, some, FirstIsAfter, FollowsAmong, hears, reacts}
 use Rattle.cbm_session.specs.Seats.{lines}
 use Rattle.cbm_session.specs.Steps.{Mark, Step, For}
 
@@ -47,17 +47,17 @@ module _ (peek : Option (ℕ × Bool)) (b : Party) (role : Role) (eoi : Bool) (b
   again_follows true at zero k (s ∷ ss) x f = elim x [ ]
   again_follows false at zero k (s ∷ ss) x f = elim x [ ]
 
-  later : (atn : Bool) (at m : ℕ) (ss : List Step) → Changes Pull (marked atn) b.device at ss m false → NoneBefore at ss → IsBehind at ys → IsBehind at (ss ++ ys)
+  later : (atn : Bool) (at m : ℕ) (ss : List Step) → Changes Pull (marked atn) b.device at ss m false → NoneBefore at ss → FirstIsAfter at ys → FirstIsAfter at (ss ++ ys)
   later atn at m [] none i l = l
   later atn at zero (s ∷ ss) x i l = elim x [ ]
   later atn at (suc m) (s ∷ ss) (other o t h rest) i l = i.0
 
-  pub accepting_follows : (atn : Bool) (at m k : ℕ) (ss : List Step) → Changes Pull (marked atn) b.device at ss m true → InOrder ss → IsBehind at ys → FollowsAmong peek (kept atn (up m k)) (again atn (up m k)) ys r2 q2
+  pub accepting_follows : (atn : Bool) (at m k : ℕ) (ss : List Step) → Changes Pull (marked atn) b.device at ss m true → InOrder ss → FirstIsAfter at ys → FollowsAmong peek (kept atn (up m k)) (again atn (up m k)) ys r2 q2
       → FollowsAmong peek (kept atn k) (accepting atn at k) (ss ++ ys) r2 q2
   accepting_follows atn at m k [] x i l f = elim x [ ]
-  accepting_follows true at (suc m) zero (s ∷ ss) (other o t h rest) i l f = hears h (own_behind Pull (marked true) b.device at t ss m rest i.0) (unmarked b.device o (told_by peek b role true byte eoi) h) (accepting_follows true at m 1 ss rest i.1 l f)
-  accepting_follows false at (suc m) zero (s ∷ ss) (other o t h rest) i l f = hears h (own_behind Pull (marked false) b.device at t ss m rest i.0) (unmarked b.device o (told_by peek b role false byte eoi) h) (accepting_follows false at m 1 ss rest i.1 l f)
-  accepting_follows true at (suc m) (suc k) (s ∷ ss) (other o t h rest) i l f = hears h (own_behind Pull (marked true) b.device at t ss m rest i.0) (unmarked b.device o (told_by peek b role true byte eoi) h) (accepting_follows true at m (suc (suc k)) ss rest i.1 l f)
-  accepting_follows false at (suc m) (suc k) (s ∷ ss) (other o t h rest) i l f = hears h (own_behind Pull (marked false) b.device at t ss m rest i.0) (unmarked b.device o (told_by peek b role false byte eoi) h) (accepting_follows false at m (suc (suc k)) ss rest i.1 l f)
+  accepting_follows true at (suc m) zero (s ∷ ss) (other o t h rest) i l f = hears h (own_after_it Pull (marked true) b.device at t ss m rest i.0) (unmarked b.device o (told_by peek b role true byte eoi) h) (accepting_follows true at m 1 ss rest i.1 l f)
+  accepting_follows false at (suc m) zero (s ∷ ss) (other o t h rest) i l f = hears h (own_after_it Pull (marked false) b.device at t ss m rest i.0) (unmarked b.device o (told_by peek b role false byte eoi) h) (accepting_follows false at m 1 ss rest i.1 l f)
+  accepting_follows true at (suc m) (suc k) (s ∷ ss) (other o t h rest) i l f = hears h (own_after_it Pull (marked true) b.device at t ss m rest i.0) (unmarked b.device o (told_by peek b role true byte eoi) h) (accepting_follows true at m (suc (suc k)) ss rest i.1 l f)
+  accepting_follows false at (suc m) (suc k) (s ∷ ss) (other o t h rest) i l f = hears h (own_after_it Pull (marked false) b.device at t ss m rest i.0) (unmarked b.device o (told_by peek b role false byte eoi) h) (accepting_follows false at m (suc (suc k)) ss rest i.1 l f)
   accepting_follows true at m k (s ∷ ss) (own rest) i l f = reacts at (ss ++ ys) refl refl tt (later true at m ss rest i.0 l) (again_follows true at m k ss rest f)
   accepting_follows false at m k (s ∷ ss) (own rest) i l f = reacts at (ss ++ ys) refl refl tt (later false at m ss rest i.0 l) (again_follows false at m k ss rest f)

@@ -20,12 +20,12 @@ use Rattle.cbm_session.proofs.alone.Fronts.{AllAt, reaction_at, in_time_le}
 use Rattle.cbm_session.proofs.among.Around.{NotHost, late_drive}
 use Rattle.cbm_session.proofs.among.Bits.{quiet}
 use Rattle.cbm_session.proofs.among.Calm.{Every}
-use Rattle.cbm_session.specs.Among.{CountsFor, IsBehind, FollowsAmong, ends, tells, reacts}
+use Rattle.cbm_session.specs.Among.{CountsFor, FirstIsAfter, FollowsAmong, ends, tells, reacts}
 use Rattle.cbm_session.specs.Following as alone
 use Rattle.cbm_session.specs.Following.{IsInTime, IsLater, Counts, own_steps, reaction_steps, Follows}
 use Rattle.cbm_session.specs.Steps.{Mark, Step, moment_of, Plain, ForEach, For}
 
--- Behind a reaction nothing is due before it.
+-- After a reaction nothing is due before it.
 hold_later : (r t : ℕ) (low : Bool) → IsInTime t (ear_due (after_hold r t low))
 hold_later r t true = tt
 hold_later r t false = omega arith
@@ -112,19 +112,19 @@ own_drives d (c ∷ e ∷ []) None = (tt, (tt, tt))
 own_drives d (c ∷ e ∷ []) (Some a) = (tt, (tt, tt))
 own_drives d (c ∷ e ∷ x ∷ cs) act = tt
 
-at_first : (t m : ℕ) (ss rs more : List Step) → t ≤ m → AllAt m rs → Every (λ s. NotHost s.event.who) rs → ss ≡ rs ++ more → IsLater t ss → (IsLater t more → IsBehind t more) → IsBehind t ss
-at_first t m ss [] more l a n e h f = subst (IsBehind t) (sym e) (f (subst (IsLater t) e h))
-at_first t m ss (r ∷ rs) more l a n e h f = let k = a.0 in subst (IsBehind t) (sym e) (late_drive t (moment_of r) r.event.who n.0 (omega (arith, k, l)))
+at_first : (t m : ℕ) (ss rs more : List Step) → t ≤ m → AllAt m rs → Every (λ s. NotHost s.event.who) rs → ss ≡ rs ++ more → IsLater t ss → (IsLater t more → FirstIsAfter t more) → FirstIsAfter t ss
+at_first t m ss [] more l a n e h f = subst (FirstIsAfter t) (sym e) (f (subst (IsLater t) e h))
+at_first t m ss (r ∷ rs) more l a n e h f = let k = a.0 in subst (FirstIsAfter t) (sym e) (late_drive t (moment_of r) r.event.who n.0 (omega (arith, k, l)))
 
 module _ (peek : Option (ℕ × Bool)) where
-  -- so what follows a moment at which nothing is overdue comes behind it
-  comes_behind : {q q2 : Port} {ss : List Step} → Follows peek q ss q2 → (t : ℕ) → IsInTime t (port_due q) → IsLater t ss → IsBehind t ss
-  comes_behind (alone.ends e) t i h = tt
-  comes_behind (alone.tells j k f) t i h = h
-  comes_behind {q} {q2} {ss} (alone.reacts m more d e sh l f) t i h =
+  -- so what follows a moment at which nothing is overdue comes after it
+  comes_after_it : {q q2 : Port} {ss : List Step} → Follows peek q ss q2 → (t : ℕ) → IsInTime t (port_due q) → IsLater t ss → FirstIsAfter t ss
+  comes_after_it (alone.ends e) t i h = tt
+  comes_after_it (alone.tells j k f) t i h = h
+  comes_after_it {q} {q2} {ss} (alone.reacts m more d e sh l f) t i h =
       let soon : t ≤ m = subst (IsInTime t) d i in
       at_first t m ss (reaction_steps m peek q) more soon (reaction_at m peek q) (own_drives q.party.device (reaction_changes m peek q) (reaction_act peek q)) e h
-      (λ (g : IsLater t more). comes_behind f t (in_time_le t m (port_due (reacted m peek q)) soon (side_later _ q.party.reaction m q.others peek q.side d)) g)
+      (λ (g : IsLater t more). comes_after_it f t (in_time_le t m (port_due (reacted m peek q)) soon (side_later _ q.party.reaction m q.others peek q.side d)) g)
 
 -- what counts there counts for this drive
 abbrev pub IsSolo : ℕ → Mark → Type 0
@@ -147,4 +147,4 @@ module _ (peek : Option (ℕ × Bool)) where
   alone_among {q} (alone.tells {t} {line} {way} {mark} i k f) a = tells i (counts_so q.party.device mark _ a.0 k) (alone_among f a.1)
   alone_among {q} (alone.reacts m more d e sh l f) a =
       let rest = solo_right q.party.device (reaction_steps m peek q) more (subst (Every (λ s. IsSolo q.party.device s.mark)) e a) in
-      reacts m more d e sh (comes_behind peek f m (side_later _ q.party.reaction m q.others peek q.side d) l) (alone_among f rest)
+      reacts m more d e sh (comes_after_it peek f m (side_later _ q.party.reaction m q.others peek q.side d) l) (alone_among f rest)

@@ -1,4 +1,4 @@
--- Each drive's own part of a piece goes by turns: it pulls a line that it leaves free and frees one that it holds, from what it holds at a point to what the session says behind the piece.
+-- Each drive's own part of a piece goes by turns: it pulls a line that it leaves free and frees one that it holds, from what it holds at a point to what the session says after the piece.
 use Rattle.cbm_iec.specs.declared.pace.Pace.TheVariants.{Profile, Kernal}
 use Rattle.cbm_iec.specs.declared.pace.Pace.{Pace}
 use Rattle.cbm_iec.specs.Profile.{bit_time}
@@ -155,7 +155,7 @@ part_makes p (Talk at f) o h =
     each (λ x. StandsSo (Leading at) x) (λ x. SeatMakes p (Talk at f) x) p.seats
     (λ x e. talk_makes p at f x.party x.role x.own e) (own_there p (Leading at) h.0 o)
 
--- The host's lines behind its part of a piece are those that the session says: a frame leaves CLOCK held and DATA free.
+-- The host's lines after its part of a piece are those that the session says: a frame leaves CLOCK held and DATA free.
 pub lines_append : (l : Lines) (xs ys : List Step) → lines_by l (xs ++ ys) ≡ lines_by (lines_by l xs) ys
 lines_append l [] ys = refl
 lines_append l (x ∷ xs) ys = lines_append (lines_after l x.event.change.line x.event.change.way) xs ys

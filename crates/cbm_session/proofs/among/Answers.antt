@@ -20,18 +20,18 @@ use Rattle.cbm_iec.specs.declared.port.Port.{Port}
 use Rattle.cbm_iec.specs.declared.port.Side.TheVariants.{Speaking}
 use Rattle.cbm_session.proofs.alone.Frames.{wires, stands}
 use Rattle.cbm_session.proofs.alone.Fronts.{AllAt}
-use Rattle.cbm_session.proofs.among.Around.{ForOthers, IsPart, IsLateBy, own_late, Around, around_drives, weave_late, merge_drives, every, is_behind}
+use Rattle.cbm_session.proofs.among.Around.{ForOthers, IsPart, IsLateBy, own_late, Around, around_drives, weave_late, merge_drives, every, is_after}
 use Rattle.cbm_session.proofs.among.Calm.{Every, IsOthers, ByAnother, KeepsClock, IsAside, InTime, passes_all, asides, aside_host, calm_turned, calm_answering, calm_led}
 use Rattle.cbm_session.proofs.among.Points.{commanding_rest, only_talker}
 use Rattle.cbm_session.proofs.among.Pulls.{in_time, never_due}
-use Rattle.cbm_session.proofs.among.Standing.{rest_next, rest_behind}
+use Rattle.cbm_session.proofs.among.Standing.{rest_next, rest_afterwards}
 use Rattle.cbm_session.proofs.among.Turns.{SeatLaw, drives_of, turned_rest, answering_rest, released, talking_turn, answering_turn, late_drives, from_role, part_untalked}
 use Rattle.cbm_session.proofs.joining.Merging.{merge_here, merge_there, NoneBefore}
 use Rattle.cbm_session.proofs.joining.OneDrive.{AllUpTo}
 use Rattle.cbm_session.proofs.joining.Showing.{merge_first}
 use Rattle.cbm_session.proofs.joining.Talkers.{talker_is}
 use Rattle.cbm_session.proofs.reading.PieceReadings.{seat, turn_first}
-use Rattle.cbm_session.specs.Among.{Rest, wires_of, behind_other, FollowsAmong, reacts}
+use Rattle.cbm_session.specs.Among.{Rest, wires_of, after_another, FollowsAmong, reacts}
 use Rattle.cbm_session.specs.Buses.{rest_at}
 use Rattle.cbm_session.specs.Joins.{NotBefore}
 use Rattle.cbm_session.specs.Laws.{SeatsReact}
@@ -39,7 +39,7 @@ use Rattle.cbm_session.specs.Pieces.{host_part, let_go, own_part, steps_of, ToTa
 use Rattle.cbm_session.specs.Seats.{at_pace, lines, Seat, device, reaction, is_talker, talker_of}
 use Rattle.cbm_session.specs.Steps.{Step, host, drive, for_each, moment_of, merge}
 
--- a host's step that comes into a front: what of the front is before it, and what behind
+-- a host's step that comes into a front: what of the front is before it, and what after it
 insert_host : (x : Step) (xs front rest : List Step) → NotBefore (moment_of x) rest → (a : List Step) × ((c : List Step) × ((front ≡ a ++ c) × (merge (x ∷ xs) (front ++ rest) ≡ a ++ x ∷ merge xs (c ++ rest))))
 insert_host x xs [] rest n = ([], ([], (refl, merge_first x xs rest n)))
 insert_host x xs (y ∷ front) rest n = elim (leb_tells (moment_of x) (moment_of y)) [
@@ -71,24 +71,24 @@ data_keeps held Data h = tt
 aside_keeps : (d : ℕ) (held : Bool) (s : Step) → IsAside d false s → IsAside d held s
 aside_keeps d held s h = record { who = h.who; counts = h.counts; line = data_keeps held s.event.change.line h.line }
 
-other_clocks : (line : Line) (way : Way) (r : Rest) → KeepsClock false line → (behind_other line way r).clocks ≡ r.clocks
+other_clocks : (line : Line) (way : Way) (r : Rest) → KeepsClock false line → (after_another line way r).clocks ≡ r.clocks
 other_clocks Atn way r h = elim h [ ]
 other_clocks Clock way r h = elim h [ ]
 other_clocks Data way r h = refl
 
 next_clocks : (d : ℕ) (who : Who) (line : Line) (way : Way) (r : Rest) → ByAnother d who → KeepsClock false line → (rest_next d who line way r).clocks ≡ r.clocks
 next_clocks d Host line way r w h = elim w [ ]
-next_clocks d (Drive o) line way r w h = ap (λ (v : Bool). (if v then r else behind_other line way r).clocks) w ∙ other_clocks line way r h
+next_clocks d (Drive o) line way r w h = ap (λ (v : Bool). (if v then r else after_another line way r).clocks) w ∙ other_clocks line way r h
 
-aside_clocks : (d : ℕ) (r : Rest) (ss : List Step) → Every (IsAside d false) ss → (rest_behind d r ss).clocks ≡ r.clocks
+aside_clocks : (d : ℕ) (r : Rest) (ss : List Step) → Every (IsAside d false) ss → (rest_afterwards d r ss).clocks ≡ r.clocks
 aside_clocks d r [] a = refl
 aside_clocks d r (s ∷ ss) a =
     aside_clocks d (rest_next d s.event.who s.event.change.line s.event.change.way r) ss a.1 ∙ next_clocks d s.event.who s.event.change.line s.event.change.way r a.0.who a.0.line
 
--- so behind others' changes of DATA the rest is known but for how many hold DATA
-rest_known : (d : ℕ) (l : Lines) (r : Rest) (ss : List Step) → r.host ≡ l → r.clocks ≡ zero → Every (IsAside d false) ss → rest_behind d r ss ≡ record { host = l; clocks = zero; datas = (rest_behind d r ss).datas }
+-- so after others' changes of DATA the rest is known but for how many hold DATA
+rest_known : (d : ℕ) (l : Lines) (r : Rest) (ss : List Step) → r.host ≡ l → r.clocks ≡ zero → Every (IsAside d false) ss → rest_afterwards d r ss ≡ record { host = l; clocks = zero; datas = (rest_afterwards d r ss).datas }
 rest_known d l r ss e c a =
-    let r2 = rest_behind d r ss in
+    let r2 = rest_afterwards d r ss in
     ap (λ (x : Lines). (record { host = x; clocks = r2.clocks; datas = r2.datas })) (aside_host d false r ss a ∙ e) ∙ ap (λ (n : ℕ). (record { host = l; clocks = n; datas = r2.datas })) (aside_clocks d r ss a ∙ c)
 
 -- the talker's way through a turnaround, up to its answer
@@ -99,7 +99,7 @@ module _ (peek : Option (ℕ × Bool)) (b : Party) (clock n : ℕ) (B : Step →
   abbrev answers : Rest → Port
   answers r = stands b Talker (lines false true) (wires_of r) (Speaking (Answering due))
 
-  -- from the answer on; tail comes behind all of it
+  -- from the answer on; tail comes after all of it
   pub answer_goes : (tail : List Step) → AllAt due mine → NoneBefore (due + 1) freed → Every B freed → Around due (IsAside b.device false) B mine ds
       → ((r : Rest) (back : List Step) → Every B back → Every (IsLateBy due) back → (r2 : Rest) × ((q2 : Port) × (FollowsAmong peek r (answers r) (mine ++ (back ++ tail)) r2 q2 × End q2 r2)))
       → (r2 : Rest) × ((q2 : Port) × (FollowsAmong peek (turned_rest n) (stands b Talker (lines false true) (wires_of (turned_rest n)) (Speaking Turned)) (merge (host clock Clock Free ∷ freed) ds ++ tail) r2 q2 × End q2 r2))
@@ -110,14 +110,14 @@ module _ (peek : Option (ℕ × Bool)) (b : Party) (clock n : ℕ) (B : Step →
       let i = insert_host free freed a.front rest (own_late due mine a.back clock (omega arith) m a.late) in
       let first : Every (IsAside d false) (i.0 ++ i.1.0) = subst (Every (IsAside d false)) i.1.1.0 a.first in
       let upto : AllUpTo due (i.0 ++ i.1.0) = subst (AllUpTo due) i.1.1.0 a.upto in
-      let there : Around due (IsAside d false) B mine (i.1.0 ++ rest) = record { front = i.1.0; back = a.back; is = refl; first = every_right (IsAside d false) i.0 i.1.0 first; upto = upto_right due i.0 i.1.0 upto; behind = a.behind; late = a.late } in
+      let there : Around due (IsAside d false) B mine (i.1.0 ++ rest) = record { front = i.1.0; back = a.back; is = refl; first = every_right (IsAside d false) i.0 i.1.0 first; upto = upto_right due i.0 i.1.0 upto; afterwards = a.afterwards; late = a.late } in
       let c = weave_late due (IsAside d false) B mine m freed (i.1.0 ++ rest) l fb there in
-      let r1 = rest_behind d (turned_rest n) i.0 in
+      let r1 = rest_afterwards d (turned_rest n) i.0 in
       let left = every_left (IsAside d false) i.0 i.1.0 first in
       let known = rest_known d (wires false true true) (turned_rest n) i.0 refl refl left in
       let r3 = answering_rest r1.datas in
-      let r4 = rest_behind d r3 c.front in
-      let all = more r4 c.back c.behind c.late in
+      let r4 = rest_afterwards d r3 c.front in
+      let all = more r4 c.back c.afterwards c.late in
       let later = merge freed (i.1.0 ++ rest) ++ tail in
       let answer = asides peek b Talker (lines false true) (Speaking (Answering due)) (calm_answering due) false r3 all.0 all.1.0 c.front (mine ++ (c.back ++ tail)) refl c.first (in_time (Speaking (Answering due)) due c.front refl c.upto) all.1.1.0 in
       let is : later ≡ c.front ++ (mine ++ (c.back ++ tail)) = ap (λ (zs : List Step). zs ++ tail) c.is ∙ append_assoc c.front (mine ++ c.back) tail ∙ ap (λ (zs : List Step). c.front ++ zs) (append_assoc mine c.back tail) in
@@ -129,7 +129,7 @@ module _ (peek : Option (ℕ × Bool)) (b : Party) (clock n : ℕ) (B : Step →
       ap (λ (zs : List Step). zs ++ tail) (ap (λ (zs : List Step). merge (free ∷ freed) zs) a.is ∙ i.1.1.1) ∙ append_assoc i.0 (free ∷ merge freed (i.1.0 ++ rest)) tail in
       (all.0, (all.1.0, (subst (λ (zs : List Step). FollowsAmong peek (turned_rest n) (stands b Talker (lines false true) (wires_of (turned_rest n)) (Speaking Turned)) zs all.0 all.1.0) (sym steps) whole, all.1.1.1)))
 
-  -- where nothing comes behind
+  -- where nothing comes after
   pub answer_follows : AllAt due mine → NoneBefore (due + 1) freed → Every B freed → Around due (IsAside b.device false) B mine ds
       → ((r : Rest) (back : List Step) → Every B back → Every (IsLateBy due) back → (r2 : Rest) × ((q2 : Port) × (FollowsAmong peek r (answers r) (mine ++ back) r2 q2 × End q2 r2)))
       → (r2 : Rest) × ((q2 : Port) × (FollowsAmong peek (turned_rest n) (stands b Talker (lines false true) (wires_of (turned_rest n)) (Speaking Turned)) (merge (host clock Clock Free ∷ freed) ds) r2 q2 × End q2 r2))
@@ -152,7 +152,7 @@ talk_parts d at answer (x ∷ xs) e r = (
 )
   where
     one : nat_eq d (device x) ≡ false → IsPart (IsAside d false) (Short d at) (let_go at x)
-    one h = let k = r.1 in record { order = (tt, tt); first = (record { who = h; counts = refl; line = tt }, tt); behind = ((record { who = h; counts = refl; line = refl }, omega (arith, k)), tt); drives = (tt, tt) }
+    one h = let k = r.1 in record { order = (tt, tt); first = (record { who = h; counts = refl; line = tt }, tt); afterwards = ((record { who = h; counts = refl; line = refl }, omega (arith, k)), tt); drives = (tt, tt) }
 
 pub short_others : (d at : ℕ) (s : Step) → Short d at s → IsOthers d s
 short_others d at s h = h.0
@@ -167,15 +167,15 @@ led_follows : (b : Party) (x : ℕ × Bool) (at clock : ℕ) → at ≤ clock �
     × (q2 ≡ stands b Talker (lines true false) (wires_of r2) (Speaking (Led (clock + b.reaction + 80))))))
 led_follows b x at clock l r back a late =
     let t = clock + b.reaction in
-    let r2 = rest_behind b.device r back in
+    let r2 = rest_afterwards b.device r back in
     let q2 = stands b Talker (lines true false) (wires_of r2) (Speaking (Led (t + 80))) in
     let more = passes_all (Some x) b Talker (lines true false) (Speaking (Led (t + 80))) (calm_led (t + 80)) r back (every (Short b.device at) (IsOthers b.device) back (short_others b.device at) a) (short_in_time b.device at (t + 80) back (omega (arith, l)) a) in
     (r2, (q2, (go b.pace more, refl)))
   where
-    go : (v : Pace) → FollowsAmong (Some x) r (stands (at_pace v b) Talker (lines true false) (wires_of r) (Speaking (Led (clock + b.reaction + 80)))) back (rest_behind b.device r back) (stands (at_pace v b) Talker (lines true false) (wires_of (rest_behind b.device r back)) (Speaking (Led (clock + b.reaction + 80))))
-        → FollowsAmong (Some x) r (stands (at_pace v b) Talker (lines false true) (wires_of r) (Speaking (Answering (clock + b.reaction)))) ((drive b.device (clock + b.reaction) Clock Pull ∷ drive b.device (clock + b.reaction) Data Free ∷ []) ++ back) (rest_behind b.device r back) (stands (at_pace v b) Talker (lines true false) (wires_of (rest_behind b.device r back)) (Speaking (Led (clock + b.reaction + 80))))
-    go Profile more = reacts (clock + b.reaction) back refl refl tt (is_behind (clock + b.reaction) back late) more
-    go Kernal more = reacts (clock + b.reaction) back refl refl tt (is_behind (clock + b.reaction) back late) more
+    go : (v : Pace) → FollowsAmong (Some x) r (stands (at_pace v b) Talker (lines true false) (wires_of r) (Speaking (Led (clock + b.reaction + 80)))) back (rest_afterwards b.device r back) (stands (at_pace v b) Talker (lines true false) (wires_of (rest_afterwards b.device r back)) (Speaking (Led (clock + b.reaction + 80))))
+        → FollowsAmong (Some x) r (stands (at_pace v b) Talker (lines false true) (wires_of r) (Speaking (Answering (clock + b.reaction)))) ((drive b.device (clock + b.reaction) Clock Pull ∷ drive b.device (clock + b.reaction) Data Free ∷ []) ++ back) (rest_afterwards b.device r back) (stands (at_pace v b) Talker (lines true false) (wires_of (rest_afterwards b.device r back)) (Speaking (Led (clock + b.reaction + 80))))
+    go Profile more = reacts (clock + b.reaction) back refl refl tt (is_after (clock + b.reaction) back late) more
+    go Kernal more = reacts (clock + b.reaction) back refl refl tt (is_after (clock + b.reaction) back late) more
 
 pub talker_law : (b : Party) (o : Held) (at clock : ℕ) → SeatLaw (ToTalker at clock) (seat b Talker o)
 talker_law b o at clock p q peek sound st f y =

@@ -1,4 +1,4 @@
--- Where one drive's steps of a moment lie in a join: what comes before them, and what behind.
+-- Where one drive's steps of a moment lie in a join: what comes before them, and what after.
 use Rattle.std.proofs.Common.{◌≡◌, ℕ, ◌+◌, ◌≤◌, ◌<◌, inl, inr, false, List, [], ◌∷◌, ◌++◌, map, ap, sym, ◌∙◌, subst, arith, refl}
 use Rattle.std.proofs.lemmas.Bool.Decides.{leb_tells}
 use Rattle.std.proofs.lemmas.List.{append-nil}
@@ -9,10 +9,10 @@ use Rattle.cbm_session.proofs.alone.Fronts.{AllAt}
 use Rattle.cbm_session.proofs.among.Calm.{Every}
 use Rattle.cbm_session.proofs.frames.Phases.{Each}
 use Rattle.cbm_session.proofs.joining.Merging.{merge_here, merge_there, merge_nil, NoneBefore, InOrder, by_head, order_merge, AllBefore}
-use Rattle.cbm_session.proofs.joining.OneDrive.{AllUpTo, merge_behind, merge_front}
+use Rattle.cbm_session.proofs.joining.OneDrive.{AllUpTo, merge_after_it, merge_front}
 use Rattle.cbm_session.proofs.joining.Seating.{Apart, Sits}
 use Rattle.cbm_session.proofs.joining.Showing.{merge_first}
-use Rattle.cbm_session.specs.Among.{ComesBehind, IsBehind}
+use Rattle.cbm_session.specs.Among.{ComesAfter, FirstIsAfter}
 use Rattle.cbm_session.specs.Joins.{NotBefore}
 use Rattle.cbm_session.specs.Seats.{Seat, device}
 use Rattle.cbm_session.specs.Steps.{Step, moment_of, merge, merge_all}
@@ -32,13 +32,13 @@ every P Q (x ∷ xs) f a = (f x a.0, every P Q xs f a.1)
 
 -- not before a reaction at t: a change of the host is later, one of another drive isn't sooner
 abbrev pub IsLateBy : ℕ → Step → Type 0
-IsLateBy t s = ComesBehind t s.event.who (moment_of s)
+IsLateBy t s = ComesAfter t s.event.who (moment_of s)
 
-later_by : (t m : ℕ) (w : Who) → t < m → ComesBehind t w m
+later_by : (t m : ℕ) (w : Who) → t < m → ComesAfter t w m
 later_by t m Host h = h
 later_by t m (Drive o) h = omega (arith, h)
 
-not_sooner : (t m : ℕ) (w : Who) → ComesBehind t w m → t ≤ m
+not_sooner : (t m : ℕ) (w : Who) → ComesAfter t w m → t ≤ m
 not_sooner t m Host h = omega (arith, h)
 not_sooner t m (Drive o) h = h
 
@@ -46,16 +46,16 @@ all_later : (t m : ℕ) (xs : List Step) → t < m → NoneBefore m xs → Every
 all_later t m [] h n = tt
 all_later t m (x ∷ xs) h n = let k = n.0 in (later_by t (moment_of x) x.event.who (omega (arith, h, k)), all_later t m xs h n.1)
 
-pub is_behind : (t : ℕ) (ss : List Step) → Every (IsLateBy t) ss → IsBehind t ss
-is_behind t [] h = tt
-is_behind t (s ∷ ss) h = h.0
+pub is_after : (t : ℕ) (ss : List Step) → Every (IsLateBy t) ss → FirstIsAfter t ss
+is_after t [] h = tt
+is_after t (s ∷ ss) h = h.0
 
 -- a change of a drive
 abbrev pub NotHost : Who → Type 0
 NotHost Host = ⊥
 NotHost (Drive o) = Unit {0}
 
-pub late_drive : (t m : ℕ) (w : Who) → NotHost w → t ≤ m → ComesBehind t w m
+pub late_drive : (t m : ℕ) (w : Who) → NotHost w → t ≤ m → ComesAfter t w m
 late_drive t m Host n h = elim n [ ]
 late_drive t m (Drive o) n h = h
 
@@ -70,7 +70,7 @@ pub record Around (t : ℕ) (F B : Step → Type 0) (own ss : List Step) : Type 
   pub is : ss ≡ front ++ (own ++ back)
   pub first : Every F front
   pub upto : AllUpTo t front
-  pub behind : Every B back
+  pub afterwards : Every B back
   pub late : Every (IsLateBy t) back
 
 pub own_late : (t : ℕ) (own back : List Step) (m : ℕ) → m ≤ t → AllAt t own → Every (IsLateBy t) back → NotBefore m (own ++ back)
@@ -89,11 +89,11 @@ own_upto t (o ∷ own) a = let k = a.0 in (omega (arith, k), own_upto t own a.1)
 module _ (t : ℕ) (F B : Step → Type 0) (own : List Step) (at : AllAt t own) where
   -- a step more in front
   one_more : (x : Step) (ss zs : List Step) → ss ≡ x ∷ zs → F x → moment_of x ≤ t → Around t F B own zs → Around t F B own ss
-  one_more x ss zs e f m a = record { front = x ∷ a.front; back = a.back; is = e ∙ ap (λ (us : List Step). x ∷ us) a.is; first = (f, a.first); upto = (m, a.upto); behind = a.behind; late = a.late }
+  one_more x ss zs e f m a = record { front = x ∷ a.front; back = a.back; is = e ∙ ap (λ (us : List Step). x ∷ us) a.is; first = (f, a.first); upto = (m, a.upto); afterwards = a.afterwards; late = a.late }
 
   -- a list joined from the left: what isn't later than the drive's own steps comes before them
   weave : (xs front back : List Step) → InOrder xs → Every F xs → Every B xs → Every F front → AllUpTo t front → Every B back → Every (IsLateBy t) back → Around t F B own (merge xs (front ++ (own ++ back)))
-  weave [] front back o f b c u g l = record { front = front; back = back; is = refl; first = c; upto = u; behind = g; late = l }
+  weave [] front back o f b c u g l = record { front = front; back = back; is = refl; first = c; upto = u; afterwards = g; late = l }
   weave (x ∷ xs) (y ∷ front) back o f b c u g l = elim (leb_tells (moment_of x) (moment_of y)) [
     | inl h ↦ one_more x (merge (x ∷ xs) (y ∷ (front ++ (own ++ back)))) (merge xs (y ∷ (front ++ (own ++ back)))) (merge_here x xs y (front ++ (own ++ back)) h.1) f.0 (omega (arith, h.1, u.0)) (weave xs (y ∷ front) back o.1 f.1 b.1 c u g l)
     | inr h ↦ one_more y (merge (x ∷ xs) (y ∷ (front ++ (own ++ back)))) (merge (x ∷ xs) (front ++ (own ++ back))) (merge_there x xs y (front ++ (own ++ back)) h.1) c.0 u.0 (weave (x ∷ xs) front back o f b c.1 u.1 g l)
@@ -103,27 +103,27 @@ module _ (t : ℕ) (F B : Step → Type 0) (own : List Step) (at : AllAt t own) 
     | inr h ↦ record {
       front = [];
       back = merge (x ∷ xs) back;
-      is = merge_behind x xs own back (own_before t (moment_of x) own h.1 at);
+      is = merge_after_it x xs own back (own_before t (moment_of x) own h.1 at);
       first = tt;
       upto = tt;
-      behind = every_merge B (x ∷ xs) back b g;
+      afterwards = every_merge B (x ∷ xs) back b g;
       late = every_merge (IsLateBy t) (x ∷ xs) back (later_by t (moment_of x) x.event.who h.1, all_later t (moment_of x) xs h.1 o.0) l;
     }
   ]
 
   pub weave_left : (xs ss : List Step) → InOrder xs → Every F xs → Every B xs → Around t F B own ss → Around t F B own (merge xs ss)
-  weave_left xs ss o f b a = subst (λ (zs : List Step). Around t F B own (merge xs zs)) (sym a.is) (weave xs a.front a.back o f b a.first a.upto a.behind a.late)
+  weave_left xs ss o f b a = subst (λ (zs : List Step). Around t F B own (merge xs zs)) (sym a.is) (weave xs a.front a.back o f b a.first a.upto a.afterwards a.late)
 
-  -- a list that is later comes behind
+  -- a list that is later comes after
   pub weave_late : (xs ss : List Step) → NoneBefore (t + 1) xs → Every B xs → Around t F B own ss → Around t F B own (merge xs ss)
   weave_late [] ss n b a = a
   weave_late (x ∷ xs) ss n b a = record {
     front = a.front;
     back = merge (x ∷ xs) a.back;
-    is = ap (λ (zs : List Step). merge (x ∷ xs) zs) a.is ∙ merge_behind x xs a.front (own ++ a.back) (front_before a.front a.upto) ∙ ap (λ (zs : List Step). a.front ++ zs) (merge_behind x xs own a.back (own_before t (moment_of x) own (omega (arith, n.0)) at));
+    is = ap (λ (zs : List Step). merge (x ∷ xs) zs) a.is ∙ merge_after_it x xs a.front (own ++ a.back) (front_before a.front a.upto) ∙ ap (λ (zs : List Step). a.front ++ zs) (merge_after_it x xs own a.back (own_before t (moment_of x) own (omega (arith, n.0)) at));
     first = a.first;
     upto = a.upto;
-    behind = every_merge B (x ∷ xs) a.back b a.behind;
+    afterwards = every_merge B (x ∷ xs) a.back b a.afterwards;
     late = every_merge (IsLateBy t) (x ∷ xs) a.back (all_later t (t + 1) (x ∷ xs) (omega arith) n) a.late;
   }
     where
@@ -133,9 +133,9 @@ module _ (t : ℕ) (F B : Step → Type 0) (own : List Step) (at : AllAt t own) 
 
   -- a list of drives joined from the right: what is sooner comes before
   pub weave_right : (ys : List Step) → InOrder ys → Every F ys → Every B ys → Every (λ s. NotHost s.event.who) ys → Around t F B own (merge own ys)
-  weave_right [] o f b d = record { front = []; back = []; is = merge_nil own ∙ sym (append-nil own); first = tt; upto = tt; behind = tt; late = tt }
+  weave_right [] o f b d = record { front = []; back = []; is = merge_nil own ∙ sym (append-nil own); first = tt; upto = tt; afterwards = tt; late = tt }
   weave_right (y ∷ ys) o f b d = elim (leb_tells t (moment_of y)) [
-    | inl h ↦ record { front = []; back = y ∷ ys; is = merge_front t own (y ∷ ys) (own_upto t own at) h.1; first = tt; upto = tt; behind = b; late = late_drives t (y ∷ ys) d (h.1, later ys h.1 o.0) }
+    | inl h ↦ record { front = []; back = y ∷ ys; is = merge_front t own (y ∷ ys) (own_upto t own at) h.1; first = tt; upto = tt; afterwards = b; late = late_drives t (y ∷ ys) d (h.1, later ys h.1 o.0) }
     | inr h ↦ one_more y (merge own (y ∷ ys)) (merge own ys) (over own at h.1) f.0 (omega (arith, h.1)) (weave_right ys o.1 f.1 b.1 d.1)
   ]
     where
@@ -151,14 +151,14 @@ module _ (t : ℕ) (F B : Step → Type 0) (own : List Step) (at : AllAt t own) 
 pub record IsPart (F B : Step → Type 0) (l : List Step) : Type 0 where
   pub order : InOrder l
   pub first : Every F l
-  pub behind : Every B l
+  pub afterwards : Every B l
   pub drives : Every (λ s. NotHost s.event.who) l
 
 part_merge : (F B : Step → Type 0) (xs ys : List Step) → IsPart F B xs → IsPart F B ys → IsPart F B (merge xs ys)
 part_merge F B xs ys a b = record {
   order = order_merge xs ys a.order b.order;
   first = every_merge F xs ys a.first b.first;
-  behind = every_merge B xs ys a.behind b.behind;
+  afterwards = every_merge B xs ys a.afterwards b.afterwards;
   drives = every_merge (λ s. NotHost s.event.who) xs ys a.drives b.drives;
 }
 
@@ -172,14 +172,14 @@ module _ (t : ℕ) (F B : Step → Type 0) (d : ℕ) (own : Seat → List Step) 
   parts l (x ∷ xs) e a h = part_merge F B l (merge_all (own x) (map own xs)) a (parts (own x) xs e.1 (e.0 h.0) h.1)
 
   around_seats : (x : Seat) (xs : List Seat) (s : Seat) → ForOthers d (λ y. IsPart F B (own y)) (x ∷ xs) → Sits d (x ∷ xs) s → AllAt t (own s) → Around t F B (own s) (merge_all (own x) (map own xs))
-  around_seats x [] s e (inl h) a = subst (λ (y : Seat). Around t F B (own s) (own y)) (sym h.0) (record { front = []; back = []; is = sym (append-nil (own s)); first = tt; upto = tt; behind = tt; late = tt })
+  around_seats x [] s e (inl h) a = subst (λ (y : Seat). Around t F B (own s) (own y)) (sym h.0) (record { front = []; back = []; is = sym (append-nil (own s)); first = tt; upto = tt; afterwards = tt; late = tt })
   around_seats x (y ∷ ys) s e (inl h) a =
       let all = parts (own y) ys e.1.1 (e.1.0 h.2.0) h.2.1 in
-      subst (λ (z : Seat). Around t F B (own s) (merge (own z) (merge_all (own y) (map own ys)))) (sym h.0) (weave_right t F B (own s) a (merge_all (own y) (map own ys)) all.order all.first all.behind all.drives)
+      subst (λ (z : Seat). Around t F B (own s) (merge (own z) (merge_all (own y) (map own ys)))) (sym h.0) (weave_right t F B (own s) a (merge_all (own y) (map own ys)) all.order all.first all.afterwards all.drives)
   around_seats x [] s e (inr h) a = absurd h.1
   around_seats x (y ∷ ys) s e (inr h) a =
       let k = e.0 h.0 in
-      weave_left t F B (own s) a (own x) (merge_all (own y) (map own ys)) k.order k.first k.behind (around_seats y ys s e.1 h.1 a)
+      weave_left t F B (own s) a (own x) (merge_all (own y) (map own ys)) k.order k.first k.afterwards (around_seats y ys s e.1 h.1 a)
 
   -- the drives' parts together
   pub around_drives : (seats : List Seat) (s : Seat) → ForOthers d (λ y. IsPart F B (own y)) seats → Sits d seats s → AllAt t (own s) → Around t F B (own s) (merge_all [] (map own seats))

@@ -13,7 +13,7 @@ use Rattle.cbm_session.proofs.alone.Frames.{wires, stands}
 use Rattle.cbm_session.proofs.among.Bits.{quiet}
 use Rattle.cbm_session.proofs.among.Changes.{Changes, all_change, in_order, none_ready, last_is}
 use Rattle.cbm_session.proofs.among.Frames.{in_hold, holds, body_follows, ready_follows, each_sits, frame_among}
-use Rattle.cbm_session.proofs.among.Pulses.{pulls, frees, all_free, frees_order, frees_late, all_pull, pulls_first, all_sooner, come_behind, pulls_follow, pulsing_follows, sharing, pulsing, noting}
+use Rattle.cbm_session.proofs.among.Pulses.{pulls, frees, all_free, frees_order, frees_late, all_pull, pulls_first, all_sooner, come_after, pulls_follow, pulsing_follows, sharing, pulsing, noting}
 use Rattle.cbm_session.proofs.among.Releases.{freeing_follows}
 use Rattle.cbm_session.proofs.frames.Accepted.{listen_react}
 use Rattle.cbm_session.proofs.frames.Phases.{ReactsBy, react_by, lasts_by, bytes_go_in_parts}
@@ -58,10 +58,10 @@ from_wire peek s x xs f r fits sits n e =
     tells tt refl (body_follows peek s.party s.role true false f.start n f.cells accs fits.eight its_accept (in_order Pull (λ o. For o act) (end_of f) x xs)) in
     let letting = pulsing_follows peek s.party s.role r2 q2 sent (t + 200 + lasting s) n (frees (x ∷ xs) t) its_free (frees_order t x xs) (omega (arith, over, lasts)) body in
     let sixty : t + 200 + lasting s ≡ t + 200 + reaction s + eoi_pulse s.party.pace = omega arith in
-    let behind = come_behind Free (λ o. Plain) (device s) (t + 200 + lasting s) (t + 200 + reaction s) n (frees (x ∷ xs) t) sent its_free
+    let afterwards = come_after Free (λ o. Plain) (device s) (t + 200 + lasting s) (t + 200 + reaction s) n (frees (x ∷ xs) t) sent its_free
     (none_sooner (t + 200 + reaction s) (t + 261) (frees (x ∷ xs) t) (omega (arith, most)) (frees_late (x ∷ xs) t r)) in
     pulls_follow peek s.party s.role r2 q2 rest (t + 200 + reaction s) n (pulls (x ∷ xs) t) its_pull (in_order Pull (λ o. Plain) (t + 200) x xs)
-    (all_sooner (t + 261) (t + 200 + reaction s + eoi_pulse s.party.pace) (pulls (x ∷ xs) t) (omega (arith, pulse_from s.party.pace, least)) (all_pull (x ∷ xs) t r)) behind
+    (all_sooner (t + 261) (t + 200 + reaction s + eoi_pulse s.party.pace) (pulls (x ∷ xs) t) (omega (arith, pulse_from s.party.pace, least)) (all_pull (x ∷ xs) t r)) afterwards
     (subst (λ (m : ℕ). FollowsAmong peek (sharing peek s.party s.role r2 q2 rest n) (pulsing peek s.party s.role r2 q2 rest m n) rest r2 q2) sixty letting)
 
 -- A frame with the end signalled: one of several listeners follows it, and then they all hold DATA again.
@@ -79,7 +79,7 @@ frame_with_end peek s x xs f r fits sits n e =
     let pull = all_change Pull (λ o. Plain) (t + 200) x xs s sits in
     let by = each_sits (ReactsBy (slowest (x ∷ xs))) (device s) (x ∷ xs) s (react_by (slowest (x ∷ xs)) (x ∷ xs) r (omega arith)) sits in
     let slow = by.2 in
-    let behind = come_behind Pull (λ o. Plain) (device s) (t + 200 + reaction s) (f.ready + reaction s) pull.0 (pulls (x ∷ xs) t) (frees (x ∷ xs) t ++ sent) pull.2
+    let afterwards = come_after Pull (λ o. Plain) (device s) (t + 200 + reaction s) (f.ready + reaction s) pull.0 (pulls (x ∷ xs) t) (frees (x ∷ xs) t ++ sent) pull.2
     (none_sooner (f.ready + reaction s) (t + 200) (pulls (x ∷ xs) t) (omega (arith, slow)) (none_ready Pull (λ o. Plain) (t + 200) x xs)) in
     let timed = subst (λ (m : ℕ). FollowsAmong peek (quiet (wires false false false)) (stands s.party s.role (lines false false) (wires false false false) (Hearing (Timed (m + 200 + s.party.reaction)))) rest r2 q2)
     (sym (last_is Free (λ o. Plain) f.ready x xs)) (from_wire peek s x xs f r fits sits n e) in
@@ -87,7 +87,7 @@ frame_with_end peek s x xs f r fits sits n e =
     ap (λ (zs : List Step). host f.ready Clock Free ∷ (releases (x ∷ xs) f ++ zs)) (ap (λ (zs : List Step). zs ++ sent) (pulls_first (x ∷ xs) t r) ∙ append_assoc (pulls (x ∷ xs) t) (frees (x ∷ xs) t) sent) in
     subst (λ (zs : List Step). FollowsAmong peek r2 q2 zs r2 q2) (sym parts)
     (ready_follows peek s.party s.role true false n f.ready (releases (x ∷ xs) f ++ rest) r2 q2
-    (freeing_follows peek s.party s.role r2 q2 rest false (f.ready + s.party.reaction) f.ready n (releases (x ∷ xs) f) its_release (in_order Free (λ o. Plain) f.ready x xs) behind timed))
+    (freeing_follows peek s.party s.role r2 q2 rest false (f.ready + s.party.reaction) f.ready n (releases (x ∷ xs) f) its_release (in_order Free (λ o. Plain) f.ready x xs) afterwards timed))
 
 -- with the end signalled or not, among those who listen
 among_listeners : (peek : Option (ℕ × Bool)) (hs : List Seat) (s : Seat) (n : ℕ) (eoi : Bool) (f : Sent) → SeatsReact hs → SentFits hs eoi f → Sits (device s) hs s → suc n ≡ length hs

@@ -22,9 +22,9 @@ use Rattle.cbm_iec.specs.declared.port.Port.{Port}
 use Rattle.cbm_iec.specs.declared.port.Side.TheVariants.{Hearing, Speaking}
 use Rattle.cbm_iec.specs.declared.port.Side.{Side}
 use Rattle.cbm_session.proofs.alone.Frames.{wires, stands}
-use Rattle.cbm_session.proofs.among.Standing.{rest_next, rest_behind}
+use Rattle.cbm_session.proofs.among.Standing.{rest_next, rest_afterwards}
 use Rattle.cbm_session.proofs.reading.OneReading.{is_atn}
-use Rattle.cbm_session.specs.Among.{Rest, some, wires_of, behind_other, behind_host, CountsFor, FollowsAmong, ends, tells, hears}
+use Rattle.cbm_session.specs.Among.{Rest, some, wires_of, after_another, after_the_host, CountsFor, FollowsAmong, ends, tells, hears}
 use Rattle.cbm_session.specs.Following.{IsInTime}
 use Rattle.cbm_session.specs.Steps.{Mark, Step, event_of, moment_of}
 
@@ -167,80 +167,80 @@ module _ (peek : Option (ℕ × Bool)) (b : Party) (role : Role) (own : Held) (s
   data_told h t false c u v = let k = h b.reaction t false c u v in (ap (λ (x : Side). stands b role own (wires false c v) x) k.0, k.1)
 
   host_told : Calm side → (t : ℕ) (r : Rest) (line : Line) (way : Way) → is_atn line ≡ false
-      → (told t (wires_of (behind_host line way r)) (beside r) ≡ beside (behind_host line way r)) × (told_act (wires_of (behind_host line way r)) (beside r) ≡ None)
+      → (told t (wires_of (after_the_host line way r)) (beside r) ≡ beside (after_the_host line way r)) × (told_act (wires_of (after_the_host line way r)) (beside r) ≡ None)
   host_told h t r Atn way e = absurd cc
-  host_told h t r Clock way e = same_told h t r.host.atn_low (wires_of r).clock_low (wires_of (behind_host Clock way r)).clock_low (wires_of r).data_low (wires_of r).data_low
-  host_told h t r Data way e = same_told h t r.host.atn_low (wires_of r).clock_low (wires_of r).clock_low (wires_of r).data_low (wires_of (behind_host Data way r)).data_low
+  host_told h t r Clock way e = same_told h t r.host.atn_low (wires_of r).clock_low (wires_of (after_the_host Clock way r)).clock_low (wires_of r).data_low (wires_of r).data_low
+  host_told h t r Data way e = same_told h t r.host.atn_low (wires_of r).clock_low (wires_of r).clock_low (wires_of r).data_low (wires_of (after_the_host Data way r)).data_low
 
   other_told : Calm side → (t : ℕ) (r : Rest) (line : Line) (way : Way) → is_atn line ≡ false
-      → (told t (wires_of (behind_other line way r)) (beside r) ≡ beside (behind_other line way r)) × (told_act (wires_of (behind_other line way r)) (beside r) ≡ None)
+      → (told t (wires_of (after_another line way r)) (beside r) ≡ beside (after_another line way r)) × (told_act (wires_of (after_another line way r)) (beside r) ≡ None)
   other_told h t r Atn way e = absurd cc
-  other_told h t r Clock way e = same_told h t r.host.atn_low (wires_of r).clock_low (wires_of (behind_other Clock way r)).clock_low (wires_of r).data_low (wires_of r).data_low
-  other_told h t r Data way e = same_told h t r.host.atn_low (wires_of r).clock_low (wires_of r).clock_low (wires_of r).data_low (wires_of (behind_other Data way r)).data_low
+  other_told h t r Clock way e = same_told h t r.host.atn_low (wires_of r).clock_low (wires_of (after_another Clock way r)).clock_low (wires_of r).data_low (wires_of r).data_low
+  other_told h t r Data way e = same_told h t r.host.atn_low (wires_of r).clock_low (wires_of r).clock_low (wires_of r).data_low (wires_of (after_another Data way r)).data_low
 
   -- it passes over a step that doesn't concern it
   pass : Calm side → (r r2 : Rest) (q2 : Port) (ss : List Step) (who : Who) (t : ℕ) (line : Line) (way : Way) (mark : Mark) → ByOthers b.device who → CountsFor b.device mark None → is_atn line ≡ false → IsInTime t (side_due side)
       → FollowsAmong peek (rest_next b.device who line way r) (beside (rest_next b.device who line way r)) ss r2 q2 → FollowsAmong peek r (beside r) (record { event = event_of who t line way; mark = mark } ∷ ss) r2 q2
   pass h r r2 q2 ss Host t line way mark w c e i f =
       let k = host_told h t r line way e in
-      tells i (subst (λ (x : Option Act). CountsFor b.device mark x) (sym k.1) c) (subst (λ (x : Port). FollowsAmong peek (behind_host line way r) x ss r2 q2) (sym k.0) f)
+      tells i (subst (λ (x : Option Act). CountsFor b.device mark x) (sym k.1) c) (subst (λ (x : Port). FollowsAmong peek (after_the_host line way r) x ss r2 q2) (sym k.0) f)
   pass h r r2 q2 ss (Drive o) t line way mark w c e i f =
       let k = other_told h t r line way e in
-      let g = subst (λ (v : Bool). FollowsAmong peek (if v then r else behind_other line way r) (beside (if v then r else behind_other line way r)) ss r2 q2) w f in
-      hears w i (subst (λ (x : Option Act). CountsFor b.device mark x) (sym k.1) c) (subst (λ (x : Port). FollowsAmong peek (behind_other line way r) x ss r2 q2) (sym k.0) g)
+      let g = subst (λ (v : Bool). FollowsAmong peek (if v then r else after_another line way r) (beside (if v then r else after_another line way r)) ss r2 q2) w f in
+      hears w i (subst (λ (x : Option Act). CountsFor b.device mark x) (sym k.1) c) (subst (λ (x : Port). FollowsAmong peek (after_another line way r) x ss r2 q2) (sym k.0) g)
 
   pub passes : Calm side → (r r2 : Rest) (q2 : Port) (ss ys : List Step) → Every (IsOthers b.device) ss → Every (InTime side) ss
-      → FollowsAmong peek (rest_behind b.device r ss) (beside (rest_behind b.device r ss)) ys r2 q2 → FollowsAmong peek r (beside r) (ss ++ ys) r2 q2
+      → FollowsAmong peek (rest_afterwards b.device r ss) (beside (rest_afterwards b.device r ss)) ys r2 q2 → FollowsAmong peek r (beside r) (ss ++ ys) r2 q2
   passes h r r2 q2 [] ys a i f = f
   passes h r r2 q2 (s ∷ ss) ys a i f =
       pass h r r2 q2 (ss ++ ys) s.event.who s.event.change.moment s.event.change.line s.event.change.way s.mark a.0.who a.0.counts a.0.line i.0
       (passes h (rest_next b.device s.event.who s.event.change.line s.event.change.way r) r2 q2 ss ys a.1 i.1 f)
 
-  pub passes_all : Calm side → (r : Rest) (ss : List Step) → Every (IsOthers b.device) ss → Every (InTime side) ss → FollowsAmong peek r (beside r) ss (rest_behind b.device r ss) (beside (rest_behind b.device r ss))
+  pub passes_all : Calm side → (r : Rest) (ss : List Step) → Every (IsOthers b.device) ss → Every (InTime side) ss → FollowsAmong peek r (beside r) ss (rest_afterwards b.device r ss) (beside (rest_afterwards b.device r ss))
   passes_all h r ss a i =
-      subst (λ (zs : List Step). FollowsAmong peek r (beside r) zs (rest_behind b.device r ss) (beside (rest_behind b.device r ss))) (append-nil ss)
-      (passes h r (rest_behind b.device r ss) (beside (rest_behind b.device r ss)) ss [] a i (ends refl refl))
+      subst (λ (zs : List Step). FollowsAmong peek r (beside r) zs (rest_afterwards b.device r ss) (beside (rest_afterwards b.device r ss))) (append-nil ss)
+      (passes h r (rest_afterwards b.device r ss) (beside (rest_afterwards b.device r ss)) ss [] a i (ends refl refl))
 
   -- where CLOCK's wire stays, it passes over the others' steps
   aside_told : CalmData side → (t : ℕ) (r : Rest) (held : Bool) (line : Line) (way : Way) → r.host.clock_low ≡ held → KeepsClock held line
-      → (told t (wires_of (behind_other line way r)) (beside r) ≡ beside (behind_other line way r)) × (told_act (wires_of (behind_other line way r)) (beside r) ≡ None)
+      → (told t (wires_of (after_another line way r)) (beside r) ≡ beside (after_another line way r)) × (told_act (wires_of (after_another line way r)) (beside r) ≡ None)
   aside_told h t r held Atn way e k = elim k [ ]
   aside_told h t r false Clock way e k = elim k [ ]
   aside_told h t r true Clock way e k =
       let was : (wires_of r).clock_low ≡ true = ap (λ (v : Bool). some r.clocks || v) e ∙ or_true r.clocks in
-      let now : (wires_of (behind_other Clock way r)).clock_low ≡ true = ap (λ (v : Bool). some (behind_other Clock way r).clocks || v) e ∙ or_true (behind_other Clock way r).clocks in
+      let now : (wires_of (after_another Clock way r)).clock_low ≡ true = ap (λ (v : Bool). some (after_another Clock way r).clocks || v) e ∙ or_true (after_another Clock way r).clocks in
       subst
-      (λ (x : Bool). (told t (wires r.host.atn_low (wires_of (behind_other Clock way r)).clock_low (wires_of r).data_low) (stands b role own (wires r.host.atn_low x (wires_of r).data_low) side) ≡ stands b role own (wires r.host.atn_low (wires_of (behind_other Clock way r)).clock_low (wires_of r).data_low) side)
-      × (told_act (wires r.host.atn_low (wires_of (behind_other Clock way r)).clock_low (wires_of r).data_low) (stands b role own (wires r.host.atn_low x (wires_of r).data_low) side) ≡ None))
-      (now ∙ sym was) (data_told h t r.host.atn_low (wires_of (behind_other Clock way r)).clock_low (wires_of r).data_low (wires_of r).data_low)
-  aside_told h t r held Data way e k = data_told h t r.host.atn_low (wires_of r).clock_low (wires_of r).data_low (wires_of (behind_other Data way r)).data_low
+      (λ (x : Bool). (told t (wires r.host.atn_low (wires_of (after_another Clock way r)).clock_low (wires_of r).data_low) (stands b role own (wires r.host.atn_low x (wires_of r).data_low) side) ≡ stands b role own (wires r.host.atn_low (wires_of (after_another Clock way r)).clock_low (wires_of r).data_low) side)
+      × (told_act (wires r.host.atn_low (wires_of (after_another Clock way r)).clock_low (wires_of r).data_low) (stands b role own (wires r.host.atn_low x (wires_of r).data_low) side) ≡ None))
+      (now ∙ sym was) (data_told h t r.host.atn_low (wires_of (after_another Clock way r)).clock_low (wires_of r).data_low (wires_of r).data_low)
+  aside_told h t r held Data way e k = data_told h t r.host.atn_low (wires_of r).clock_low (wires_of r).data_low (wires_of (after_another Data way r)).data_low
 
   aside : CalmData side → (r r2 : Rest) (q2 : Port) (ss : List Step) (held : Bool) (who : Who) (t : ℕ) (line : Line) (way : Way) (mark : Mark) → r.host.clock_low ≡ held → ByAnother b.device who → CountsFor b.device mark None → KeepsClock held line → IsInTime t (side_due side)
       → FollowsAmong peek (rest_next b.device who line way r) (beside (rest_next b.device who line way r)) ss r2 q2 → FollowsAmong peek r (beside r) (record { event = event_of who t line way; mark = mark } ∷ ss) r2 q2
   aside h r r2 q2 ss held Host t line way mark e w m c i f = elim w [ ]
   aside h r r2 q2 ss held (Drive o) t line way mark e w m c i f =
       let k = aside_told h t r held line way e c in
-      let g = subst (λ (v : Bool). FollowsAmong peek (if v then r else behind_other line way r) (beside (if v then r else behind_other line way r)) ss r2 q2) w f in
-      hears w i (subst (λ (x : Option Act). CountsFor b.device mark x) (sym k.1) m) (subst (λ (x : Port). FollowsAmong peek (behind_other line way r) x ss r2 q2) (sym k.0) g)
+      let g = subst (λ (v : Bool). FollowsAmong peek (if v then r else after_another line way r) (beside (if v then r else after_another line way r)) ss r2 q2) w f in
+      hears w i (subst (λ (x : Option Act). CountsFor b.device mark x) (sym k.1) m) (subst (λ (x : Port). FollowsAmong peek (after_another line way r) x ss r2 q2) (sym k.0) g)
 
 -- other drives change nothing of what the host holds
-other_host : (line : Line) (way : Way) (r : Rest) → (behind_other line way r).host ≡ r.host
+other_host : (line : Line) (way : Way) (r : Rest) → (after_another line way r).host ≡ r.host
 other_host Atn way r = refl
 other_host Clock way r = refl
 other_host Data way r = refl
 
 next_host : (d : ℕ) (who : Who) (line : Line) (way : Way) (r : Rest) → ByAnother d who → (rest_next d who line way r).host ≡ r.host
 next_host d Host line way r w = elim w [ ]
-next_host d (Drive o) line way r w = ap (λ (v : Bool). (if v then r else behind_other line way r).host) w ∙ other_host line way r
+next_host d (Drive o) line way r w = ap (λ (v : Bool). (if v then r else after_another line way r).host) w ∙ other_host line way r
 
-pub aside_host : (d : ℕ) (held : Bool) (r : Rest) (ss : List Step) → Every (IsAside d held) ss → (rest_behind d r ss).host ≡ r.host
+pub aside_host : (d : ℕ) (held : Bool) (r : Rest) (ss : List Step) → Every (IsAside d held) ss → (rest_afterwards d r ss).host ≡ r.host
 aside_host d held r [] a = refl
 aside_host d held r (s ∷ ss) a =
     aside_host d held (rest_next d s.event.who s.event.change.line s.event.change.way r) ss a.1 ∙ next_host d s.event.who s.event.change.line s.event.change.way r a.0.who
 
 module _ (peek : Option (ℕ × Bool)) (b : Party) (role : Role) (own : Held) (side : Side) where
   pub asides : CalmData side → (held : Bool) (r r2 : Rest) (q2 : Port) (ss ys : List Step) → r.host.clock_low ≡ held → Every (IsAside b.device held) ss → Every (InTime side) ss
-      → FollowsAmong peek (rest_behind b.device r ss) (beside peek b role own side (rest_behind b.device r ss)) ys r2 q2 → FollowsAmong peek r (beside peek b role own side r) (ss ++ ys) r2 q2
+      → FollowsAmong peek (rest_afterwards b.device r ss) (beside peek b role own side (rest_afterwards b.device r ss)) ys r2 q2 → FollowsAmong peek r (beside peek b role own side r) (ss ++ ys) r2 q2
   asides h held r r2 q2 [] ys e a i f = f
   asides h held r r2 q2 (s ∷ ss) ys e a i f =
       let next = rest_next b.device s.event.who s.event.change.line s.event.change.way r in
@@ -248,7 +248,7 @@ module _ (peek : Option (ℕ × Bool)) (b : Party) (role : Role) (own : Held) (s
       (asides h held next r2 q2 ss ys (ap (λ (l : Lines). l.clock_low) (next_host b.device s.event.who s.event.change.line s.event.change.way r a.0.who) ∙ e) a.1 i.1 f)
 
   pub asides_all : CalmData side → (held : Bool) (r : Rest) (ss : List Step) → r.host.clock_low ≡ held → Every (IsAside b.device held) ss → Every (InTime side) ss
-      → FollowsAmong peek r (beside peek b role own side r) ss (rest_behind b.device r ss) (beside peek b role own side (rest_behind b.device r ss))
+      → FollowsAmong peek r (beside peek b role own side r) ss (rest_afterwards b.device r ss) (beside peek b role own side (rest_afterwards b.device r ss))
   asides_all h held r ss e a i =
-      subst (λ (zs : List Step). FollowsAmong peek r (beside peek b role own side r) zs (rest_behind b.device r ss) (beside peek b role own side (rest_behind b.device r ss))) (append-nil ss)
-      (asides h held r (rest_behind b.device r ss) (beside peek b role own side (rest_behind b.device r ss)) ss [] e a i (ends refl refl))
+      subst (λ (zs : List Step). FollowsAmong peek r (beside peek b role own side r) zs (rest_afterwards b.device r ss) (beside peek b role own side (rest_afterwards b.device r ss))) (append-nil ss)
+      (asides h held r (rest_afterwards b.device r ss) (beside peek b role own side (rest_afterwards b.device r ss)) ss [] e a i (ends refl refl))

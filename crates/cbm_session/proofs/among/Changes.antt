@@ -1,4 +1,4 @@
--- Changes of DATA that several drives make, each its reaction behind a moment: how many there are, and which is the last.
+-- Changes of DATA that several drives make, each its reaction after a moment: how many there are, and which is the last.
 use Rattle.std.proofs.Common.{◌≡◌, ℕ, zero, suc, ◌+◌, ◌≤◌, max, Bool, true, false, List, [], ◌∷◌, length, map, inl, inr, ap, sym, ◌∙◌, subst, arith, refl}
 use Rattle.std.proofs.Math.Nat.{max-eq_left, max-eq_right}
 use Rattle.std.proofs.lemmas.Bool.Decides.{leb_tells}
@@ -40,7 +40,7 @@ insert_own way mark d at (y ∷ ys) (suc n) (other p v k rest) = elim (leb_tells
   | inr e ↦ subst (λ (zs : List Step). Changes way mark d at zs (suc n) true) (sym (merge_there (step way mark d at) [] (step way mark p v) ys e.1)) (other p v k (insert_own way mark d at ys n rest))
 ]
 
--- one of each of these drives, so long behind a moment
+-- one of each of these drives, so long after a moment
 abbrev pub part : Way → (ℕ → Mark) → ℕ → Seat → List Step
 part way mark ready s = step way mark (device s) (ready + reaction s) ∷ []
 
@@ -49,11 +49,11 @@ abbrev pub last_or : ℕ → List Step → ℕ
 last_or m [] = m
 last_or m (s ∷ ss) = last_or (moment_of s) ss
 
--- a drive's own release stands behind what comes before it
-pub own_behind : (way : Way) (mark : ℕ → Mark) (d at m : ℕ) (ss : List Step) (n : ℕ) → Changes way mark d at ss n true → NoneBefore m ss → m ≤ at
-own_behind way mark d at m [] n x k = elim x [ ]
-own_behind way mark d at m (s ∷ ss) (suc n) (other o t h rest) k = own_behind way mark d at m ss n rest k.1
-own_behind way mark d at m (s ∷ ss) n (own rest) k = k.0
+-- a drive's own release stands after what comes before it
+pub own_after_it : (way : Way) (mark : ℕ → Mark) (d at m : ℕ) (ss : List Step) (n : ℕ) → Changes way mark d at ss n true → NoneBefore m ss → m ≤ at
+own_after_it way mark d at m [] n x k = elim x [ ]
+own_after_it way mark d at m (s ∷ ss) (suc n) (other o t h rest) k = own_after_it way mark d at m ss n rest k.1
+own_after_it way mark d at m (s ∷ ss) n (own rest) k = k.0
 
 -- the releases of drives that are apart from d; and of drives among which d is
 pub others_change : (way : Way) (mark : ℕ → Mark) (d at ready : ℕ) (x : Seat) (xs : List Seat) → Apart d (x ∷ xs) → (n : ℕ) × (n ≡ length (x ∷ xs)) × Changes way mark d at (merge_all (part way mark ready x) (map (λ s. part way mark ready s) xs)) n false

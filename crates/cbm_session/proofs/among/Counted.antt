@@ -1,4 +1,4 @@
--- What the others hold is counted over the steps of a piece: behind it as many drives hold each line, and the host holds such lines, as the point there says.
+-- What the others hold is counted over the steps of a piece: after it as many drives hold each line, and the host holds such lines, as the point there says.
 use Rattle.std.proofs.Common.{◌≡◌, ℕ, zero, suc, ◌+◌, inl, inr, Bool, true, false, not, List, [], ◌∷◌, ◌++◌, map, ap, sym, ◌∙◌, subst, arith, refl}
 use Rattle.std.proofs.lemmas.Bool.Decides.{leb_tells}
 use Rattle.std.proofs.lemmas.Bool.{eqb-true}
@@ -16,7 +16,7 @@ use Rattle.cbm_iec.specs.declared.party.Party.{Party}
 use Rattle.cbm_session.proofs.alone.Frames.{wires}
 use Rattle.cbm_session.proofs.alone.Sessions.{keep_host, host_of, lines_by, held_one, lines_held, host_before, host_merge, AllHost, cut_atn}
 use Rattle.cbm_session.proofs.among.Alternating.{Alters, Makes, makes_front, SeatMakes, part_makes, host_lines, whole_lines}
-use Rattle.cbm_session.proofs.among.Standing.{IsSound, rest_next, rest_behind}
+use Rattle.cbm_session.proofs.among.Standing.{IsSound, rest_next, rest_afterwards}
 use Rattle.cbm_session.proofs.frames.Phases.{Each, each, before_merge, merge_split}
 use Rattle.cbm_session.proofs.joining.Merging.{merge_nil, by_head, InOrder, none_merge, order_merge, before_yes, before_no, cut_front, front_before, cut_is}
 use Rattle.cbm_session.proofs.joining.Orders.{host_order}
@@ -27,7 +27,7 @@ use Rattle.cbm_session.proofs.joining.Talkers.{standing_drives}
 use Rattle.cbm_session.proofs.reading.Decoding.{IsMine, IsAnothers, Shows}
 use Rattle.cbm_session.proofs.reading.OneReading.{piece_shows}
 use Rattle.cbm_session.proofs.reading.PieceReadings.{next_seat}
-use Rattle.cbm_session.specs.Among.{Rest, counted, behind_other}
+use Rattle.cbm_session.specs.Among.{Rest, counted, after_another}
 use Rattle.cbm_session.specs.Buses.{is_held, one_where, holding, rest_at}
 use Rattle.cbm_session.specs.Following.{in_attention}
 use Rattle.cbm_session.specs.Frames.{is_last}
@@ -35,7 +35,7 @@ use Rattle.cbm_session.specs.Pieces.{Whole, Piece, Point, host_part, own_part, s
 use Rattle.cbm_session.specs.Seats.{lines, Seat, device}
 use Rattle.cbm_session.specs.Steps.{Step, moment_of, merge, merge_all}
 
--- how many drives but d hold a line behind a change of some line, behind a step, and behind steps
+-- how many drives but d hold a line after a change of some line, after a step, and after steps
 abbrev pub count_line : Line → Line → Way → ℕ → ℕ
 count_line Atn changed way n = n
 count_line Clock Atn way n = n
@@ -57,7 +57,7 @@ abbrev pub rest_of : Lines → ℕ → ℕ → Rest
 rest_of host clocks datas = record { host = host; clocks = clocks; datas = datas }
 
 -- what the rest holds is these counts and the host's lines, each by itself
-pub rest_is : (d : ℕ) (r : Rest) (ss : List Step) → rest_behind d r ss ≡ rest_of (lines_by r.host (host_of ss)) (counted_by d Clock r.clocks ss) (counted_by d Data r.datas ss)
+pub rest_is : (d : ℕ) (r : Rest) (ss : List Step) → rest_afterwards d r ss ≡ rest_of (lines_by r.host (host_of ss)) (counted_by d Clock r.clocks ss) (counted_by d Data r.datas ss)
 rest_is d r [] = refl
 rest_is d r (s ∷ ss) = rest_is d (rest_next d s.event.who l y r) ss ∙ go s.event.who
   where
@@ -67,7 +67,7 @@ rest_is d r (s ∷ ss) = rest_is d (rest_next d s.event.who l y r) ss ∙ go s.e
     y : Way
     y = s.event.change.way
 
-    other : (v : Bool) (l : Line) → rest_of (lines_by (if v then r else behind_other l y r).host (host_of ss)) (counted_by d Clock (if v then r else behind_other l y r).clocks ss) (counted_by d Data (if v then r else behind_other l y r).datas ss)
+    other : (v : Bool) (l : Line) → rest_of (lines_by (if v then r else after_another l y r).host (host_of ss)) (counted_by d Clock (if v then r else after_another l y r).clocks ss) (counted_by d Data (if v then r else after_another l y r).datas ss)
         ≡ rest_of (lines_by r.host (host_of ss)) (counted_by d Clock (if v then r.clocks else count_line Clock l y r.clocks) ss) (counted_by d Data (if v then r.datas else count_line Data l y r.datas) ss)
     other true l = refl
     other false Atn = refl
@@ -101,8 +101,8 @@ beside_left k d line (s ∷ ss) a b h = (k + h.0, (λ n. moved n), beside_left k
     moved : (n : ℕ) → stepped d line s.event.who s.event.change.line s.event.change.way (k + a + n) ≡ k + h.0 + n
     moved n =
         let before_it : k + a + n ≡ a + (k + n) = omega arith in
-        let behind_it : h.0 + (k + n) ≡ k + h.0 + n = omega arith in
-        ap (λ (m : ℕ). stepped d line s.event.who s.event.change.line s.event.change.way m) before_it ∙ h.1 (k + n) ∙ behind_it
+        let after_that : h.0 + (k + n) ≡ k + h.0 + n = omega arith in
+        ap (λ (m : ℕ). stepped d line s.event.who s.event.change.line s.event.change.way m) before_it ∙ h.1 (k + n) ∙ after_that
 
 pub runs_subst : (d : ℕ) (line : Line) (ss : List Step) (a b a2 b2 : ℕ) → a ≡ a2 → b ≡ b2 → Runs d line ss a b → Runs d line ss a2 b2
 runs_subst d line ss a b a2 b2 e f h = subst (λ (m : ℕ). Runs d line ss a2 m) f (subst (λ (m : ℕ). Runs d line ss m b) e h)
@@ -121,14 +121,14 @@ runs_merge d line (x ∷ xs) (y ∷ ys) a b u v h g =
     here : (n : ℕ) → stepped d line x.event.who x.event.change.line x.event.change.way (a + u + n) ≡ h.0 + u + n
     here n =
         let before_it : a + u + n ≡ a + (u + n) = omega arith in
-        let behind_it : h.0 + (u + n) ≡ h.0 + u + n = omega arith in
-        ap (λ (m : ℕ). stepped d line x.event.who x.event.change.line x.event.change.way m) before_it ∙ h.1 (u + n) ∙ behind_it
+        let after_that : h.0 + (u + n) ≡ h.0 + u + n = omega arith in
+        ap (λ (m : ℕ). stepped d line x.event.who x.event.change.line x.event.change.way m) before_it ∙ h.1 (u + n) ∙ after_that
 
     there : (n : ℕ) → stepped d line y.event.who y.event.change.line y.event.change.way (a + u + n) ≡ a + g.0 + n
     there n =
         let before_it : a + u + n ≡ u + (a + n) = omega arith in
-        let behind_it : g.0 + (a + n) ≡ a + g.0 + n = omega arith in
-        ap (λ (m : ℕ). stepped d line y.event.who y.event.change.line y.event.change.way m) before_it ∙ g.1 (a + n) ∙ behind_it
+        let after_that : g.0 + (a + n) ≡ a + g.0 + n = omega arith in
+        ap (λ (m : ℕ). stepped d line y.event.who y.event.change.line y.event.change.way m) before_it ∙ g.1 (a + n) ∙ after_that
 
 -- steps of the host and of drive d count nothing
 pub runs_mine : (d : ℕ) (line : Line) (ss : List Step) → AllMine d ss → Runs d line ss zero zero
@@ -175,7 +175,7 @@ runs_makes d o line (s ∷ ss) h h2 e a m = (one_where (is_held line (held_one h
         ∙ ap (λ (v : Bool). if v then k else count_line line l y k) e
         ∙ altered line l y h n m.0
 
--- what is asked of each drive: its own steps, which go by turns from what it holds to what it holds behind them
+-- what is asked of each drive: its own steps, which go by turns from what it holds to what it holds after them
 abbrev pub Turns : (Seat → List Step) → (Seat → Seat) → Seat → Type 0
 Turns own next x = AllOwned (device x) (own x) × Makes x.own (own x) (next x).own
 
@@ -187,8 +187,8 @@ module _ (d : ℕ) (line : Line) (own : Seat → List Step) (next : Seat → Sea
   runs_all l a b [] h t = runs_subst d line l a b (a + 0) (b + 0) (omega arith) (omega arith) h
   runs_all l a b (x ∷ xs) h t = runs_merge d line l (merge_all (own x) (map own xs)) a b (holding line d (x ∷ xs)) (holding line d (map next (x ∷ xs))) h (go (nat_eq d (device x)) refl (λ n m k. runs_all (own x) n m xs k t.1))
     where
-      behind_it : (v : Bool) → nat_eq d (device x) ≡ v → holding line d (map next (x ∷ xs)) ≡ (if v then holding line d (map next xs) else one_where (is_held line (next x).own) + holding line d (map next xs))
-      behind_it v e = ap (λ (w : Bool). if w then holding line d (map next xs) else one_where (is_held line (next x).own) + holding line d (map next xs)) (ap (λ (o : ℕ). nat_eq d o) (keeps x) ∙ e)
+      after_that : (v : Bool) → nat_eq d (device x) ≡ v → holding line d (map next (x ∷ xs)) ≡ (if v then holding line d (map next xs) else one_where (is_held line (next x).own) + holding line d (map next xs))
+      after_that v e = ap (λ (w : Bool). if w then holding line d (map next xs) else one_where (is_held line (next x).own) + holding line d (map next xs)) (ap (λ (o : ℕ). nat_eq d o) (keeps x) ∙ e)
 
       before_it : (v : Bool) → nat_eq d (device x) ≡ v → holding line d (x ∷ xs) ≡ (if v then holding line d xs else one_where (is_held line x.own) + holding line d xs)
       before_it v e = ap (λ (w : Bool). if w then holding line d xs else one_where (is_held line x.own) + holding line d xs) e
@@ -198,13 +198,13 @@ module _ (d : ℕ) (line : Line) (own : Seat → List Step) (next : Seat → Sea
       go true e f =
           let here : 0 + holding line d xs ≡ holding line d xs = omega arith in
           let there : 0 + holding line d (map next xs) ≡ holding line d (map next xs) = omega arith in
-          runs_subst d line (merge_all (own x) (map own xs)) (0 + holding line d xs) (0 + holding line d (map next xs)) (holding line d (x ∷ xs)) (holding line d (map next (x ∷ xs))) (here ∙ sym (before_it true e)) (there ∙ sym (behind_it true e))
+          runs_subst d line (merge_all (own x) (map own xs)) (0 + holding line d xs) (0 + holding line d (map next xs)) (holding line d (x ∷ xs)) (holding line d (map next (x ∷ xs))) (here ∙ sym (before_it true e)) (there ∙ sym (after_that true e))
           (f 0 0 (runs_mine d line (own x) (owned_mine d (device x) (own x) e t.0.0)))
       go false e f =
-          runs_subst d line (merge_all (own x) (map own xs)) (one_where (is_held line x.own) + holding line d xs) (one_where (is_held line (next x).own) + holding line d (map next xs)) (holding line d (x ∷ xs)) (holding line d (map next (x ∷ xs))) (sym (before_it false e)) (sym (behind_it false e))
+          runs_subst d line (merge_all (own x) (map own xs)) (one_where (is_held line x.own) + holding line d xs) (one_where (is_held line (next x).own) + holding line d (map next xs)) (holding line d (x ∷ xs)) (holding line d (map next (x ∷ xs))) (sym (before_it false e)) (sym (after_that false e))
           (f (one_where (is_held line x.own)) (one_where (is_held line (next x).own)) (runs_makes d (device x) line (own x) x.own (next x).own e t.0.0 t.0.1))
 
-  -- As many hold the line behind the joined steps as the seats behind them say.
+  -- As many hold the line after the joined steps as the seats after them say.
   pub counts_all : (hs : List Step) (xs : List Seat) → AllMine d hs → Each (λ x. Turns own next x) xs → counted_by d line (holding line d xs) (merge_all hs (map own xs)) ≡ holding line d (map next xs)
   counts_all hs xs m t =
       let a = holding line d xs in
@@ -272,7 +272,7 @@ host_steps d p w s h t =
     shown_host d (steps_of p w) (merge (host_part p w) (own_part p w s)) (piece_shows d p w s h t)
     ∙ host_merge (device s) (host_part p w) (own_part p w s) (all_host (host_part p w) (host_mine 0 p w) (host_mine 1 p w)) (part_owned p w s)
 
--- the seats behind a whole piece
+-- the seats after a whole piece
 whole_seats : (p : Point) (w : Whole) → (whole_point p w).seats ≡ map (λ x. next_seat w x) p.seats
 whole_seats p (PullPiece at) = refl
 whole_seats p (Command f) = refl
@@ -296,7 +296,7 @@ next_device (Talk at f) x = ap (λ (b : Party). b.device) (standing_drives (line
 whole_turns : (p : Point) (w : Whole) (s : Seat) → IsSound p s → Fits p w → Each (λ x. Turns (λ y. own_part p w y) (λ y. next_seat w y) x) p.seats
 whole_turns p w s i h = each (λ x. SeatMakes p w x) (λ x. Turns (λ y. own_part p w y) (λ y. next_seat w y) x) p.seats (λ x m. (part_owned p w x, m)) (part_makes p w i.own h)
 
--- and behind a cut one
+-- and after a cut one
 abbrev kept : Point → Whole → ℕ → Seat → Seat
 kept p w c x = seat_with x.role (held_by x.own (before c (own_part p w x))) x
 
@@ -308,11 +308,11 @@ cut_turns p w c s i h = each (λ x. SeatMakes p w x) (λ x. Turns (λ y. before 
         let f = cut_front c (own_part p w x) (part_order p w h x) in
         makes_front x.own (next_seat w x).own (before c (own_part p w x)) f.0 (subst (λ (zs : List Step). Makes x.own zs (next_seat w x).own) f.1 m)
 
--- What the others hold behind all steps of a piece is what they hold at the point there.
+-- What the others hold after all steps of a piece is what they hold at the point there.
 same_rest : (l l2 : Lines) (a b u v : ℕ) → l ≡ l2 → a ≡ b → u ≡ v → rest_of l a u ≡ rest_of l2 b v
 same_rest l l2 a b u v e f g = ap (λ (x : Lines). rest_of x a u) e ∙ ap (λ (n : ℕ). rest_of l2 n u) f ∙ ap (λ (n : ℕ). rest_of l2 b n) g
 
-pub rest_after : (p : Point) (s : Seat) (k : Piece) → IsSound p s → PieceFits p k → rest_behind (device s) (rest_at (device s) p) (piece_steps p k) ≡ rest_at (device s) (point_after p k)
+pub rest_after : (p : Point) (s : Seat) (k : Piece) → IsSound p s → PieceFits p k → rest_afterwards (device s) (rest_at (device s) p) (piece_steps p k) ≡ rest_at (device s) (point_after p k)
 rest_after p s (Full w) i h =
     let d = device s in
     let ss = steps_of p w in
@@ -331,10 +331,10 @@ rest_after p s (Cut w c) i h =
     let p2 = point_after p (Cut w c) in
     rest_is d (rest_at d p) ss
     ∙ same_rest (lines_by (host_lines p) (host_of ss)) (host_lines p2) (counted_by d Clock (holding Clock d p.seats) ss) (holding Clock d p2.seats) (counted_by d Data (holding Data d p.seats) ss) (holding Data d p2.seats)
-    (ap (λ (zs : List Step). lines_by (host_lines p) zs) (host_before c (steps_of p w) ∙ ap (λ (zs : List Step). before c zs) (host_steps d p w s h.0 i.seated.sits)) ∙ behind_host) (count Clock) (count Data)
+    (ap (λ (zs : List Step). lines_by (host_lines p) zs) (host_before c (steps_of p w) ∙ ap (λ (zs : List Step). before c zs) (host_steps d p w s h.0 i.seated.sits)) ∙ after_the_host) (count Clock) (count Data)
   where
-    behind_host : lines_by (host_lines p) (before c (host_part p w)) ≡ wires false (held_by p.host (before c (host_part p w))).clock_low (held_by p.host (before c (host_part p w))).data_low
-    behind_host =
+    after_the_host : lines_by (host_lines p) (before c (host_part p w)) ≡ wires false (held_by p.host (before c (host_part p w))).clock_low (held_by p.host (before c (host_part p w))).data_low
+    after_the_host =
         lines_held (in_attention p.place) p.host (before c (host_part p w))
         ∙ ap (λ (v : Bool). wires v (held_by p.host (before c (host_part p w))).clock_low (held_by p.host (before c (host_part p w))).data_low) (cut_atn p w c h.1 h.0)
 

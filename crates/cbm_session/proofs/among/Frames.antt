@@ -38,44 +38,44 @@ abbrev pub in_hold : Bool → ℕ → Rest
 in_hold atn k = record { host = wires atn true false; clocks = zero; datas = k }
 
 module _ (peek : Option (ℕ × Bool)) (b : Party) (role : Role) (eoi : Bool) where
-  -- a drive in hold, and behind a byte
+  -- a drive in hold, and after a byte
   abbrev pub holds : Bool → ℕ → Port
   holds atn k = stands b role (lines false true) (wires atn true (some k)) (Hearing Holding)
 
-  abbrev pub behind_byte : Bool → ℕ → ℕ → Port
-  behind_byte atn byte k = stands b (accepted_role peek b role atn byte) (lines false true) (wires atn true (some k)) (Hearing Holding)
+  abbrev pub after_a_byte : Bool → ℕ → ℕ → Port
+  after_a_byte atn byte k = stands b (accepted_role peek b role atn byte) (lines false true) (wires atn true (some k)) (Hearing Holding)
 
   abbrev pub byte_mark : Bool → ℕ → ℕ → Mark
   byte_mark atn byte o = For o (told_by peek b role atn byte eoi)
 
   accepts_follow : (atn : Bool) (byte at m : ℕ) (ss : List Step) → Changes Pull (byte_mark atn byte) b.device (at + b.reaction) ss m true → InOrder ss
-      → FollowsAmong peek (in_hold atn zero) (stands b role (lines false false) (wires atn true false) (Hearing (Accepting (at + b.reaction) eoi byte))) ss (in_hold atn m) (behind_byte atn byte m)
+      → FollowsAmong peek (in_hold atn zero) (stands b role (lines false false) (wires atn true false) (Hearing (Accepting (at + b.reaction) eoi byte))) ss (in_hold atn m) (after_a_byte atn byte m)
   accepts_follow atn byte at m ss c i =
-      subst (λ (n : ℕ). FollowsAmong peek (in_hold atn zero) (stands b role (lines false false) (wires atn true false) (Hearing (Accepting (at + b.reaction) eoi byte))) ss (in_hold atn n) (behind_byte atn byte n)) (up_is m zero ∙ omega arith)
-      (subst (λ (zs : List Step). FollowsAmong peek (in_hold atn zero) (stands b role (lines false false) (wires atn true false) (Hearing (Accepting (at + b.reaction) eoi byte))) zs (in_hold atn (up m zero)) (behind_byte atn byte (up m zero))) (append-nil ss)
-      (accepting_follows peek b role eoi byte (in_hold atn (up m zero)) (behind_byte atn byte (up m zero)) [] atn (at + b.reaction) m zero ss c i tt (ends refl refl)))
+      subst (λ (n : ℕ). FollowsAmong peek (in_hold atn zero) (stands b role (lines false false) (wires atn true false) (Hearing (Accepting (at + b.reaction) eoi byte))) ss (in_hold atn n) (after_a_byte atn byte n)) (up_is m zero ∙ omega arith)
+      (subst (λ (zs : List Step). FollowsAmong peek (in_hold atn zero) (stands b role (lines false false) (wires atn true false) (Hearing (Accepting (at + b.reaction) eoi byte))) zs (in_hold atn (up m zero)) (after_a_byte atn byte (up m zero))) (append-nil ss)
+      (accepting_follows peek b role eoi byte (in_hold atn (up m zero)) (after_a_byte atn byte (up m zero)) [] atn (at + b.reaction) m zero ss c i tt (ends refl refl)))
 
   end_follows : (atn held : Bool) (byte at m : ℕ) (ss : List Step) → Changes Pull (byte_mark atn byte) b.device (at + b.reaction) ss m true → InOrder ss
-      → FollowsAmong peek (quiet (wires atn true held)) (stands b role (lines false false) (wires atn true held) (Hearing (Accepting (at + b.reaction) eoi byte))) (where_held held (host at Data Free) ++ ss) (in_hold atn m) (behind_byte atn byte m)
+      → FollowsAmong peek (quiet (wires atn true held)) (stands b role (lines false false) (wires atn true held) (Hearing (Accepting (at + b.reaction) eoi byte))) (where_held held (host at Data Free) ++ ss) (in_hold atn m) (after_a_byte atn byte m)
   end_follows true true byte at m ss c i = tells (omega arith) refl (accepts_follow true byte at m ss c i)
   end_follows false true byte at m ss c i = tells (omega arith) refl (accepts_follow false byte at m ss c i)
   end_follows atn false byte at m ss c i = accepts_follow atn byte at m ss c i
 
   -- from the first pull of CLOCK
   pub body_follows : (atn : Bool) (start m : ℕ) (cells : List BitCell) (ss : List Step) → length cells ≡ 8 → Changes Pull (byte_mark atn (byte_in_cells cells)) b.device (last_pull start cells + b.reaction) ss m true → InOrder ss
-      → FollowsAmong peek (quiet (wires atn true false)) (gathers b role atn false eoi 0 0) ((cells_steps false cells ++ where_held (held_after false cells) (host (last_pull start cells) Data Free)) ++ ss) (in_hold atn m) (behind_byte atn (byte_in_cells cells) m)
+      → FollowsAmong peek (quiet (wires atn true false)) (gathers b role atn false eoi 0 0) ((cells_steps false cells ++ where_held (held_after false cells) (host (last_pull start cells) Data Free)) ++ ss) (in_hold atn m) (after_a_byte atn (byte_in_cells cells) m)
   body_follows atn start m [] ss l c i = absurd (omega (arith, l))
   body_follows atn start m (c1 ∷ cells) ss l c i =
       let tail = where_held (held_after false (c1 ∷ cells)) (host (last_pull start (c1 ∷ cells)) Data Free) in
-      let end : FollowsAmong peek (quiet (wires atn true (held_after false (c1 ∷ cells)))) (stands b role (lines false false) (wires atn true (held_after false (c1 ∷ cells))) (Hearing (Accepting (last_pull 0 (c1 ∷ cells) + b.reaction) eoi (shifted peek b role 0 (c1 ∷ cells))))) (tail ++ ss) (in_hold atn m) (behind_byte atn (byte_in_cells (c1 ∷ cells)) m) =
-      subst (λ (n : ℕ). FollowsAmong peek (quiet (wires atn true (held_after false (c1 ∷ cells)))) (stands b role (lines false false) (wires atn true (held_after false (c1 ∷ cells))) (Hearing (Accepting (last_pull 0 (c1 ∷ cells) + b.reaction) eoi n))) (tail ++ ss) (in_hold atn m) (behind_byte atn (byte_in_cells (c1 ∷ cells)) m)) (sym (shifted_is peek b role (c1 ∷ cells) l))
+      let end : FollowsAmong peek (quiet (wires atn true (held_after false (c1 ∷ cells)))) (stands b role (lines false false) (wires atn true (held_after false (c1 ∷ cells))) (Hearing (Accepting (last_pull 0 (c1 ∷ cells) + b.reaction) eoi (shifted peek b role 0 (c1 ∷ cells))))) (tail ++ ss) (in_hold atn m) (after_a_byte atn (byte_in_cells (c1 ∷ cells)) m) =
+      subst (λ (n : ℕ). FollowsAmong peek (quiet (wires atn true (held_after false (c1 ∷ cells)))) (stands b role (lines false false) (wires atn true (held_after false (c1 ∷ cells))) (Hearing (Accepting (last_pull 0 (c1 ∷ cells) + b.reaction) eoi n))) (tail ++ ss) (in_hold atn m) (after_a_byte atn (byte_in_cells (c1 ∷ cells)) m)) (sym (shifted_is peek b role (c1 ∷ cells) l))
       (end_follows atn (held_after false (c1 ∷ cells)) (byte_in_cells (c1 ∷ cells)) (last_pull start (c1 ∷ cells)) m ss c i) in
-      subst (λ (zs : List Step). FollowsAmong peek (quiet (wires atn true false)) (gathers b role atn false eoi 0 0) zs (in_hold atn m) (behind_byte atn (byte_in_cells (c1 ∷ cells)) m)) (sym (append_assoc (cells_steps false (c1 ∷ cells)) tail ss))
-      (cells_follows peek b role (in_hold atn m) atn eoi false 0 0 c1 cells (tail ++ ss) (behind_byte atn (byte_in_cells (c1 ∷ cells)) m) (omega (arith, l)) end)
+      subst (λ (zs : List Step). FollowsAmong peek (quiet (wires atn true false)) (gathers b role atn false eoi 0 0) zs (in_hold atn m) (after_a_byte atn (byte_in_cells (c1 ∷ cells)) m)) (sym (append_assoc (cells_steps false (c1 ∷ cells)) tail ss))
+      (cells_follows peek b role (in_hold atn m) atn eoi false 0 0 c1 cells (tail ++ ss) (after_a_byte atn (byte_in_cells (c1 ∷ cells)) m) (omega (arith, l)) end)
 
-  -- the start, before 200 behind T
-  start_follows : (atn : Bool) (t start m : ℕ) (rest : List Step) (byte : ℕ) → start ≤ t + 199 → FollowsAmong peek (quiet (wires atn true false)) (gathers b role atn false false 0 0) rest (in_hold atn m) (behind_byte atn byte m)
-      → FollowsAmong peek (quiet (wires atn false false)) (stands b role (lines false false) (wires atn false false) (Hearing (Timed (t + 200 + b.reaction)))) (host start Clock Pull ∷ rest) (in_hold atn m) (behind_byte atn byte m)
+  -- the start, before 200 after T
+  start_follows : (atn : Bool) (t start m : ℕ) (rest : List Step) (byte : ℕ) → start ≤ t + 199 → FollowsAmong peek (quiet (wires atn true false)) (gathers b role atn false false 0 0) rest (in_hold atn m) (after_a_byte atn byte m)
+      → FollowsAmong peek (quiet (wires atn false false)) (stands b role (lines false false) (wires atn false false) (Hearing (Timed (t + 200 + b.reaction)))) (host start Clock Pull ∷ rest) (in_hold atn m) (after_a_byte atn byte m)
   start_follows true t start m rest byte l f = tells (omega (arith, l)) refl f
   start_follows false t start m rest byte l f = tells (omega (arith, l)) refl f
 
@@ -90,7 +90,7 @@ module _ (peek : Option (ℕ × Bool)) (b : Party) (role : Role) (eoi : Bool) wh
 
 -- A frame without the end signalled: one of several drives that hold DATA follows it, and then they all hold DATA again.
 pub frame_among : (peek : Option (ℕ × Bool)) (s x : Seat) (xs : List Seat) (atn : Bool) (f : Sent) → SeatsReact (x ∷ xs) → SentFits (x ∷ xs) false f → Sits (device s) (x ∷ xs) s
-    → (n : ℕ) × (suc n ≡ length (x ∷ xs)) × FollowsAmong peek (in_hold atn n) (holds peek s.party s.role false atn n) (frame_in_parts (x ∷ xs) false (told_by peek s.party s.role atn (byte_in_cells f.cells) false) f) (in_hold atn n) (behind_byte peek s.party s.role false atn (byte_in_cells f.cells) n)
+    → (n : ℕ) × (suc n ≡ length (x ∷ xs)) × FollowsAmong peek (in_hold atn n) (holds peek s.party s.role false atn n) (frame_in_parts (x ∷ xs) false (told_by peek s.party s.role atn (byte_in_cells f.cells) false) f) (in_hold atn n) (after_a_byte peek s.party s.role false atn (byte_in_cells f.cells) n)
 frame_among peek s x xs atn f r fits sits =
     let act = told_by peek s.party s.role atn (byte_in_cells f.cells) false in
     let rel = all_change Free (λ o. Plain) f.ready x xs s sits in
@@ -102,7 +102,7 @@ frame_among peek s x xs atn f r fits sits =
     let slow = by.2 in
     let accs = accepts (x ∷ xs) f act in
     let bits = cells_steps false f.cells ++ where_held (held_after false f.cells) (host (end_of f) Data Free) in
-    let goal : ℕ → List Step → Type 0 = λ t zs. FollowsAmong peek (quiet (wires atn false false)) (stands s.party s.role (lines false false) (wires atn false false) (Hearing (Timed (t + 200 + s.party.reaction)))) zs (in_hold atn rel.0) (behind_byte peek s.party s.role false atn (byte_in_cells f.cells) rel.0) in
+    let goal : ℕ → List Step → Type 0 = λ t zs. FollowsAmong peek (quiet (wires atn false false)) (stands s.party s.role (lines false false) (wires atn false false) (Hearing (Timed (t + 200 + s.party.reaction)))) zs (in_hold atn rel.0) (after_a_byte peek s.party s.role false atn (byte_in_cells f.cells) rel.0) in
     let body : goal (wire (x ∷ xs) f) (from_start f ++ accs) =
     start_follows peek s.party s.role false atn (wire (x ∷ xs) f) f.start rel.0 (bits ++ accs) (byte_in_cells f.cells) (omega (arith, soon))
     (body_follows peek s.party s.role false atn f.start rel.0 f.cells accs fits.eight (subst (λ (n : ℕ). Changes Pull (λ o. For o act) (device s) (end_of f + reaction s) accs n true) same acc.2) (in_order Pull (λ o. For o act) (end_of f) x xs)) in
@@ -111,9 +111,9 @@ frame_among peek s x xs atn f r fits sits =
     ap (λ (zs : List Step). host f.ready Clock Free ∷ (releases (x ∷ xs) f ++ (zs ++ (from_start f ++ accs)))) (none_joined [] (x ∷ xs)) in (
       rel.0,
       rel.1,
-      subst (λ (zs : List Step). FollowsAmong peek (in_hold atn rel.0) (holds peek s.party s.role false atn rel.0) zs (in_hold atn rel.0) (behind_byte peek s.party s.role false atn (byte_in_cells f.cells) rel.0)) (sym parts)
-          (ready_follows peek s.party s.role false atn rel.0 f.ready (releases (x ∷ xs) f ++ (from_start f ++ accs)) (in_hold atn rel.0) (behind_byte peek s.party s.role false atn (byte_in_cells f.cells) rel.0)
-          (freeing_follows peek s.party s.role (in_hold atn rel.0) (behind_byte peek s.party s.role false atn (byte_in_cells f.cells) rel.0) (from_start f ++ accs) atn (f.ready + s.party.reaction) f.ready rel.0 (releases (x ∷ xs) f) rel.2 (in_order Free (λ o. Plain) f.ready x xs) (omega (arith, begin, slow)) timed)),
+      subst (λ (zs : List Step). FollowsAmong peek (in_hold atn rel.0) (holds peek s.party s.role false atn rel.0) zs (in_hold atn rel.0) (after_a_byte peek s.party s.role false atn (byte_in_cells f.cells) rel.0)) (sym parts)
+          (ready_follows peek s.party s.role false atn rel.0 f.ready (releases (x ∷ xs) f ++ (from_start f ++ accs)) (in_hold atn rel.0) (after_a_byte peek s.party s.role false atn (byte_in_cells f.cells) rel.0)
+          (freeing_follows peek s.party s.role (in_hold atn rel.0) (after_a_byte peek s.party s.role false atn (byte_in_cells f.cells) rel.0) (from_start f ++ accs) atn (f.ready + s.party.reaction) f.ready rel.0 (releases (x ∷ xs) f) rel.2 (in_order Free (λ o. Plain) f.ready x xs) (omega (arith, begin, slow)) timed)),
     )
 
 -- in attention, in hold: the host holds ATN and CLOCK, the drive and so many others DATA

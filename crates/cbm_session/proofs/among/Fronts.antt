@@ -1,4 +1,4 @@
--- A drive among others: what the rest of the bus holds behind the steps that it follows, and that it follows a piece up to each cut.
+-- A drive among others: what the rest of the bus holds after the steps that it follows, and that it follows a piece up to each cut.
 use Rattle.std.proofs.Common.{append-nil, ◌≡◌, ℕ, suc, ◌≤◌, ◌<◌, inl, inr, Bool, true, false, List, [], ◌∷◌, ◌++◌, map, Option, Some, None, ap, sym, ◌∙◌, subst, arith, refl, eq-eqb}
 use Rattle.std.proofs.lemmas.Bool.Decides.{leb_tells}
 use Rattle.std.specs.Prelude.{if◌then◌else◌, nat_eq}
@@ -12,12 +12,12 @@ use Rattle.cbm_iec.specs.declared.party.Party.{Party}
 use Rattle.cbm_iec.specs.declared.port.Port.{Port}
 use Rattle.cbm_session.proofs.alone.Fronts.{reaction_at, in_time_le, head_is, tail_is, not_nil, parted, some_back}
 use Rattle.cbm_session.proofs.alone.Sessions.{keep_own, own_of, reaction_own, NoAttention, no_left, no_right, no_merge, no_before, reaction_role, AllHost, cut_host, cut_silent}
-use Rattle.cbm_session.proofs.among.Standing.{IsSound, Result, rest_behind}
+use Rattle.cbm_session.proofs.among.Standing.{IsSound, Result, rest_afterwards}
 use Rattle.cbm_session.proofs.joining.Merging.{merge_here, merge_there, merge_nil, NoneBefore, InOrder, by_head, order_merge, before_yes, before_no, cut_front, AllBefore, front_before}
 use Rattle.cbm_session.proofs.joining.Orders.{host_order}
 use Rattle.cbm_session.proofs.joining.Owning.{AllOwned, part_owned, part_order}
 use Rattle.cbm_session.proofs.joining.Seating.{Apart, Sits}
-use Rattle.cbm_session.specs.Among.{Rest, wires_of, behind_other, IsBehind, FollowsAmong, ends, tells, hears, reacts}
+use Rattle.cbm_session.specs.Among.{Rest, wires_of, after_another, FirstIsAfter, FollowsAmong, ends, tells, hears, reacts}
 use Rattle.cbm_session.specs.Buses.{rest_at, StandsAmong}
 use Rattle.cbm_session.specs.Following.{IsInTime, own_step, own_steps, reaction_steps}
 use Rattle.cbm_session.specs.Pieces.{Whole, Point, host_part, own_part, steps_of, before, Fits, CutFits, some_from, held_by, PieceFits, Cut}
@@ -25,27 +25,27 @@ use Rattle.cbm_session.specs.Seats.{Seat, device}
 use Rattle.cbm_session.specs.Steps.{Step, event_of, moment_of, merge, merge_all}
 
 -- the drive's own changes leave what the others hold
-own_leaves : (d : ℕ) (r : Rest) (c : Change) (act : Option Act) (more : List Step) → rest_behind d r (own_step d c act ∷ more) ≡ rest_behind d r more
-own_leaves d r c None more = ap (λ (v : Bool). rest_behind d (if v then r else behind_other c.line c.way r) more) (eq-eqb d d refl)
-own_leaves d r c (Some act) more = ap (λ (v : Bool). rest_behind d (if v then r else behind_other c.line c.way r) more) (eq-eqb d d refl)
+own_leaves : (d : ℕ) (r : Rest) (c : Change) (act : Option Act) (more : List Step) → rest_afterwards d r (own_step d c act ∷ more) ≡ rest_afterwards d r more
+own_leaves d r c None more = ap (λ (v : Bool). rest_afterwards d (if v then r else after_another c.line c.way r) more) (eq-eqb d d refl)
+own_leaves d r c (Some act) more = ap (λ (v : Bool). rest_afterwards d (if v then r else after_another c.line c.way r) more) (eq-eqb d d refl)
 
-reaction_leaves : (d : ℕ) (r : Rest) (cs : List Change) (act : Option Act) (more : List Step) → rest_behind d r (own_steps d cs act ++ more) ≡ rest_behind d r more
+reaction_leaves : (d : ℕ) (r : Rest) (cs : List Change) (act : Option Act) (more : List Step) → rest_afterwards d r (own_steps d cs act ++ more) ≡ rest_afterwards d r more
 reaction_leaves d r [] act more = refl
 reaction_leaves d r (c ∷ []) act more = own_leaves d r c act more
 reaction_leaves d r (c ∷ e ∷ []) act more = own_leaves d r c None (own_step d e act ∷ more) ∙ own_leaves d r e act more
 reaction_leaves d r (c ∷ e ∷ x ∷ cs) act more = refl
 
 module _ (peek : Option (ℕ × Bool)) where
-  -- what is followed leads to what the others hold behind it, with the lines told that they hold, and the drive stays the same
-  pub follows_rest : {r r2 : Rest} {q q2 : Port} {ss : List Step} → FollowsAmong peek r q ss r2 q2 → r2 ≡ rest_behind q.party.device r ss
+  -- what is followed leads to what the others hold after it, with the lines told that they hold, and the drive stays the same
+  pub follows_rest : {r r2 : Rest} {q q2 : Port} {ss : List Step} → FollowsAmong peek r q ss r2 q2 → r2 ≡ rest_afterwards q.party.device r ss
   follows_rest (ends a e) = a
   follows_rest (tells i k f) = follows_rest f
   follows_rest {r} {r2} {q} (hears {o} {t} {line} {way} {mark} {ss} h i k f) =
-      follows_rest f ∙ ap (λ (v : Bool). rest_behind q.party.device (if v then r else behind_other line way r) ss) (sym h)
+      follows_rest f ∙ ap (λ (v : Bool). rest_afterwards q.party.device (if v then r else after_another line way r) ss) (sym h)
   follows_rest {r} {r2} {q} (reacts t more d e sh l f) =
       follows_rest f
       ∙ sym (reaction_leaves q.party.device r (reaction_changes t peek q) (reaction_act peek q) more)
-      ∙ ap (λ (zs : List Step). rest_behind q.party.device r zs) (sym e)
+      ∙ ap (λ (zs : List Step). rest_afterwards q.party.device r zs) (sym e)
 
   pub follows_wires : {r r2 : Rest} {q q2 : Port} {ss : List Step} → FollowsAmong peek r q ss r2 q2 → q.others ≡ wires_of r → q2.others ≡ wires_of r2
   follows_wires (ends a e) h = ap (λ (x : Port). x.others) e ∙ h ∙ ap (λ (x : Rest). wires_of x) (sym a)
@@ -108,7 +108,7 @@ reaction_held d cs act more was now h =
     ∙ ap (λ (zs : List Step). held_by now zs) (mine_own d more)
 
 module _ (peek : Option (ℕ × Bool)) where
-  -- the drive's own lines behind what it follows
+  -- the drive's own lines after what it follows
   holds_by : {r r2 : Rest} {q q2 : Port} {ss : List Step} → FollowsAmong peek r q ss r2 q2 → q2.own ≡ held_by q.own (mine_of q.party.device ss)
   holds_by (ends a e) = ap (λ (x : Port). x.own) e
   holds_by (tells i k f) = holds_by f
@@ -171,12 +171,12 @@ mine_all d o [] e a = refl
 mine_all d o (s ∷ ss) e a = mine_kept d s ss (ap (λ (w : Who). is_own d w) a.0 ∙ e) ∙ ap (λ (zs : List Step). s ∷ zs) (mine_all d o ss e a.2)
 
 -- a join with steps of others shows the drive's alone
-mine_behind : (d : ℕ) (xs ys : List Step) → NoneOf d xs → mine_of d (merge xs ys) ≡ mine_of d ys
-mine_behind d [] ys a = refl
-mine_behind d (x ∷ xs) [] a = ap (λ (zs : List Step). mine_of d zs) (merge_nil (x ∷ xs)) ∙ mine_none d (x ∷ xs) a
-mine_behind d (x ∷ xs) (y ∷ ys) a = elim (leb_tells (moment_of x) (moment_of y)) [
-  | inl e ↦ ap (λ (zs : List Step). mine_of d zs) (merge_here x xs y ys e.1) ∙ mine_left d x (merge xs (y ∷ ys)) a.0 ∙ mine_behind d xs (y ∷ ys) a.1
-  | inr e ↦ ap (λ (zs : List Step). mine_of d zs) (merge_there x xs y ys e.1) ∙ ap (λ (zs : List Step). if is_own d y.event.who then y ∷ zs else zs) (mine_behind d (x ∷ xs) ys a)
+mine_after : (d : ℕ) (xs ys : List Step) → NoneOf d xs → mine_of d (merge xs ys) ≡ mine_of d ys
+mine_after d [] ys a = refl
+mine_after d (x ∷ xs) [] a = ap (λ (zs : List Step). mine_of d zs) (merge_nil (x ∷ xs)) ∙ mine_none d (x ∷ xs) a
+mine_after d (x ∷ xs) (y ∷ ys) a = elim (leb_tells (moment_of x) (moment_of y)) [
+  | inl e ↦ ap (λ (zs : List Step). mine_of d zs) (merge_here x xs y ys e.1) ∙ mine_left d x (merge xs (y ∷ ys)) a.0 ∙ mine_after d xs (y ∷ ys) a.1
+  | inr e ↦ ap (λ (zs : List Step). mine_of d zs) (merge_there x xs y ys e.1) ∙ ap (λ (zs : List Step). if is_own d y.event.who then y ∷ zs else zs) (mine_after d (x ∷ xs) ys a)
 ]
 
 mine_ahead : (d : ℕ) (xs ys : List Step) → NoneOf d ys → mine_of d (merge xs ys) ≡ mine_of d xs
@@ -200,11 +200,11 @@ module _ (own : Seat → List Step) (owned : (x : Seat) → AllOwned (device x) 
   mine_parts : (d : ℕ) (l : List Step) (xs : List Seat) (s : Seat) → NoneOf d l → Sits d xs s → mine_of d (merge_all l (map own xs)) ≡ own s
   mine_parts d l [] s a h = elim h [ ]
   mine_parts d l (x ∷ xs) s a (inl h) =
-      mine_behind d l (merge_all (own x) (map own xs)) a
+      mine_after d l (merge_all (own x) (map own xs)) a
       ∙ mine_first d (own x) xs h.2
       ∙ mine_all d (device x) (own x) h.1 (owned x)
       ∙ ap own h.0
-  mine_parts d l (x ∷ xs) s a (inr h) = mine_behind d l (merge_all (own x) (map own xs)) a ∙ mine_parts d (own x) xs s (none_of_other d (device x) (own x) h.0 (owned x)) h.1
+  mine_parts d l (x ∷ xs) s a (inr h) = mine_after d l (merge_all (own x) (map own xs)) a ∙ mine_parts d (own x) xs s (none_of_other d (device x) (own x) h.0 (owned x)) h.1
 
   pub all_in_order : ((x : Seat) → InOrder (own x)) → (l : List Step) (xs : List Seat) → InOrder l → InOrder (merge_all l (map own xs))
   all_in_order f l [] o = o
@@ -232,9 +232,9 @@ no_parts (x ∷ xs) (y ∷ ys) a = elim (leb_tells (moment_of x) (moment_of y)) 
 ]
 
 -- The front of what is followed is followed, and nothing is overdue there.
-behind_front : (t : ℕ) (more rest back : List Step) → more ≡ rest ++ back → IsBehind t more → IsBehind t rest
-behind_front t more [] back e l = tt
-behind_front t more (x ∷ rest) back e l = subst (λ (zs : List Step). IsBehind t zs) e l
+after_a_front : (t : ℕ) (more rest back : List Step) → more ≡ rest ++ back → FirstIsAfter t more → FirstIsAfter t rest
+after_a_front t more [] back e l = tt
+after_a_front t more (x ∷ rest) back e l = subst (λ (zs : List Step). FirstIsAfter t zs) e l
 
 among_front : (peek : Option (ℕ × Bool)) (c : ℕ) (y : Step) (ys : List Step) → NoneBefore c (y ∷ ys) → {r r2 : Rest} {q q2 : Port} {ss : List Step} → FollowsAmong peek r q ss r2 q2 → (front : List Step) → ss ≡ front ++ y ∷ ys → AllBefore c front
     → (r3 : Rest) × ((q3 : Port) × (FollowsAmong peek r q front r3 q3 × IsInTime c (port_due q3)))
@@ -257,17 +257,17 @@ among_front peek c y ys n {r} {r2} {q} (hears {o} {t} {line} {way} {mark} {ss} a
 among_front peek c y ys n {r} {r2} {q} (reacts t more d e sh l g) front h f =
     elim (parted c t (reaction_steps t peek q) more front (y ∷ ys) (reaction_at t peek q) (sym e ∙ h) f n) [
       | inl z ↦ (
-          let u = among_front peek c y ys n g z.0 z.2 (behind (reaction_steps t peek q) z.0 (subst (AllBefore c) z.1 f)) in
-          (u.0, (u.1.0, (reacts t z.0 d z.1 sh (behind_front t more z.0 (y ∷ ys) z.2 l) u.1.1.0, u.1.1.1)))
+          let u = among_front peek c y ys n g z.0 z.2 (afterwards (reaction_steps t peek q) z.0 (subst (AllBefore c) z.1 f)) in
+          (u.0, (u.1.0, (reacts t z.0 d z.1 sh (after_a_front t more z.0 (y ∷ ys) z.2 l) u.1.1.0, u.1.1.1)))
           )
       | inr z ↦ (r, (q, (subst (λ (zs : List Step). FollowsAmong peek r q zs r q) (sym z.0) (ends refl refl), subst (IsInTime c) (sym d) z.1)))
     ]
   where
-    behind : (xs zs : List Step) → AllBefore c (xs ++ zs) → AllBefore c zs
-    behind [] zs a = a
-    behind (x ∷ xs) zs a = behind xs zs a.1
+    afterwards : (xs zs : List Step) → AllBefore c (xs ++ zs) → AllBefore c zs
+    afterwards [] zs a = a
+    afterwards (x ∷ xs) zs a = afterwards xs zs a.1
 
--- what is followed in order, with some step at a moment or behind it, is followed up to that moment
+-- what is followed in order, with some step at a moment or after it, is followed up to that moment
 pub among_cut : (peek : Option (ℕ × Bool)) (c : ℕ) (r r2 : Rest) (q q2 : Port) (ss : List Step) → FollowsAmong peek r q ss r2 q2 → InOrder ss → some_from c ss ≡ true
     → (r3 : Rest) × ((q3 : Port) × (FollowsAmong peek r q (before c ss) r3 q3 × IsInTime c (port_due q3)))
 among_cut peek c r r2 q q2 ss g order e = let cut = cut_front c ss order in go cut.0 cut.1 cut.2

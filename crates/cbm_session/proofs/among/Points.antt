@@ -1,4 +1,4 @@
--- The points of a session of a bus: what stands behind a piece stands as it should, and what the others hold where the place says it.
+-- The points of a session of a bus: what stands after a piece stands as it should, and what the others hold where the place says it.
 use Rattle.std.proofs.Common.{◌≡◌, ℕ, zero, suc, ◌+◌, ◌≤◌, inl, inr, Bool, true, false, not, List, [], ◌∷◌, length, map, ap, sym, ◌∙◌, subst, arith, refl}
 use Rattle.std.specs.Prelude.{if◌then◌else◌, nat_eq}
 use Rattle.cbm_iec.specs.declared.lines.Line.TheVariants.{Atn, Clock, Data}
@@ -50,7 +50,7 @@ only_talker d (x ∷ xs) s o (inr h) e = (λ (k : nat_eq d (device x) ≡ false)
     go true k = absurd (true_false (is_talker s.role) e (silent_bus d xs s h.1 (o.0 k)))
     go false k = k
 
--- What a drive holds behind a piece is what it should at the place there.
+-- What a drive holds after a piece is what it should at the place there.
 each_map : (P : Seat → Type 0) (f : Seat → Seat) (ss : List Seat) → Each (λ x. P (f x)) ss → Each P (map f ss)
 each_map P f [] h = tt
 each_map P f (x ∷ xs) h = (h.0, each_map P f xs h.1)
@@ -115,7 +115,7 @@ told_host f = go (is_last f)
     go true = tt
     go false = refl
 
--- those who stand behind a piece, where something holds of each before it
+-- those who stand after a piece, where something holds of each before it
 stand_by : (P : Seat → Type 0) (place : BusPlace) (f : Seat → Seat) (ss : List Seat) → ((x : Seat) → P x → StandsSo place (f x)) → Each P ss → Each (StandsSo place) (map f ss)
 stand_by P place f ss g h = each_map (StandsSo place) f ss (each P (λ x. StandsSo place (f x)) ss g h)
 
@@ -175,7 +175,7 @@ next_party (ToTalker at clock) s = standing_drives (lines true false) s
 next_party (Nothing at clock freed) s = standing_drives (lines false false) s
 next_party (Talk at f) s = standing_drives (lines (not (is_last f)) false) s
 
--- A point behind a sound one is sound, and one behind a cut.
+-- A point after a sound one is sound, and one after a cut.
 pub whole_sound : (p : Point) (s : Seat) (w : Whole) → IsSound p s → Fits p w → IsSound (whole_point p w) (next_seat w s)
 whole_sound p s w g h =
     let same : device s ≡ device (next_seat w s) = ap (λ (b : Party). b.device) (sym (next_party w s)) in

@@ -22,14 +22,14 @@ use Rattle.cbm_iec.specs.declared.port.Side.{Side}
 use Rattle.cbm_session.proofs.alone.Frames.{done_due, wires, stands}
 use Rattle.cbm_session.proofs.alone.Fronts.{AllAt}
 use Rattle.cbm_session.proofs.alone.Pieces.{port_is, pull_out}
-use Rattle.cbm_session.proofs.among.Around.{ForOthers, IsPart, IsLateBy, around_drives, merge_drives, every_drives, every, is_behind, NotHost}
+use Rattle.cbm_session.proofs.among.Around.{ForOthers, IsPart, IsLateBy, around_drives, merge_drives, every_drives, every, is_after, NotHost}
 use Rattle.cbm_session.proofs.among.Calm.{or_true, Every, ByOthers, IsOthers, ByAnother, KeepsClock, IsAside, InTime, passes, asides_all, aside_host, calm_starting, calm_holding}
-use Rattle.cbm_session.proofs.among.Standing.{rest_behind, AmongLaw}
+use Rattle.cbm_session.proofs.among.Standing.{rest_afterwards, AmongLaw}
 use Rattle.cbm_session.proofs.frames.Phases.{Each}
 use Rattle.cbm_session.proofs.joining.OneDrive.{AllUpTo, merge_front}
 use Rattle.cbm_session.proofs.joining.Owning.{part_order}
 use Rattle.cbm_session.proofs.reading.OneReading.{is_atn}
-use Rattle.cbm_session.specs.Among.{Rest, some, wires_of, IsBehind, FollowsAmong, tells, reacts}
+use Rattle.cbm_session.specs.Among.{Rest, some, wires_of, FirstIsAfter, FollowsAmong, tells, reacts}
 use Rattle.cbm_session.specs.Bits.{where_held, where_free}
 use Rattle.cbm_session.specs.Buses.{rest_at, holding, SideAmong}
 use Rattle.cbm_session.specs.Following.{IsInTime}
@@ -113,8 +113,8 @@ host_upto at t true false h = tt
 host_upto at t false true h = (h, (h, tt))
 host_upto at t false false h = (h, tt)
 
--- behind the host's changes it holds CLOCK and not DATA
-host_holds : (d at k n : ℕ) (c e : Bool) → rest_behind d (record { host = wires true c e; clocks = k; datas = n }) (pull_host c e at) ≡ record { host = wires true true false; clocks = k; datas = n }
+-- after the host's changes it holds CLOCK and not DATA
+host_holds : (d at k n : ℕ) (c e : Bool) → rest_afterwards d (record { host = wires true c e; clocks = k; datas = n }) (pull_host c e at) ≡ record { host = wires true true false; clocks = k; datas = n }
 host_holds d at k n true true = refl
 host_holds d at k n true false = refl
 host_holds d at k n false true = refl
@@ -137,7 +137,7 @@ for_others d P (x ∷ xs) f = (f x, for_others d P xs f)
 
 module _ (peek : Option (ℕ × Bool)) (b : Party) (role : Role) where
   -- the reaction, with CLOCK held on the wire
-  starts : (oc od : Bool) (t : ℕ) (r r2 : Rest) (q2 : Port) (more : List Step) → (wires_of r).clock_low ≡ true → IsBehind t more → FollowsAmong peek r (stands b role (lines false true) (wires_of r) (Hearing Holding)) more r2 q2
+  starts : (oc od : Bool) (t : ℕ) (r r2 : Rest) (q2 : Port) (more : List Step) → (wires_of r).clock_low ≡ true → FirstIsAfter t more → FollowsAmong peek r (stands b role (lines false true) (wires_of r) (Hearing Holding)) more r2 q2
       → FollowsAmong peek r (stands b role (lines oc od) (wires_of r) (Hearing (Starting t))) (pull_own oc od b.device t ++ more) r2 q2
   starts oc od t r r2 q2 more e l f =
       go oc od (subst (λ (v : Bool). FollowsAmong peek r (stands b role (lines false true) (wires_of r) (Hearing (after_start b.pace b.reaction t v))) more r2 q2) (sym e) (subst (λ (v : Ear). FollowsAmong peek r (stands b role (lines false true) (wires_of r) (Hearing v)) more r2 q2) (sym (started b.pace b.reaction t)) f))
@@ -158,11 +158,11 @@ module _ (peek : Option (ℕ × Bool)) (b : Party) (role : Role) where
       let d = b.device in
       let r1 : Rest = record { host = wires true c e; clocks = k; datas = n } in
       let held : Rest = record { host = wires true true false; clocks = k; datas = n } in
-      let low : (rest_behind d held front).host.clock_low ≡ true = ap (λ (l : Lines). l.clock_low) (aside_host d true held front f) in
-      let r2 = rest_behind d (rest_behind d held front) back in
+      let low : (rest_afterwards d held front).host.clock_low ≡ true = ap (λ (l : Lines). l.clock_low) (aside_host d true held front f) in
+      let r2 = rest_afterwards d (rest_afterwards d held front) back in
       let q2 = stands b role (lines false true) (wires_of r2) (Hearing Holding) in
-      let behind = asides_all peek b role (lines false true) (Hearing Holding) calm_holding true (rest_behind d held front) back low a (never_due (Hearing Holding) back refl) in
-      let own = starts oc od t (rest_behind d held front) r2 q2 back (clock_held (rest_behind d held front) low) (is_behind t back l) behind in
+      let afterwards = asides_all peek b role (lines false true) (Hearing Holding) calm_holding true (rest_afterwards d held front) back low a (never_due (Hearing Holding) back refl) in
+      let own = starts oc od t (rest_afterwards d held front) r2 q2 back (clock_held (rest_afterwards d held front) low) (is_after t back l) afterwards in
       let first = passes peek b role (lines oc od) (Hearing (Starting t)) (calm_starting t) held r2 q2 front (pull_own oc od d t ++ back) (every (IsAside d true) (IsOthers d) front (aside_others d true) f) (in_time (Hearing (Starting t)) t front refl u) own in
       let all = passes peek b role (lines oc od) (Hearing (Starting t)) (calm_starting t) r1 r2 q2 (pull_host c e at) (front ++ (pull_own oc od d t ++ back)) (host_others d at c e) (in_time (Hearing (Starting t)) t (pull_host c e at) refl (host_upto at t c e (omega arith)))
       (subst (λ (r : Rest). FollowsAmong peek r (stands b role (lines oc od) (wires_of r) (Hearing (Starting t))) (front ++ (pull_own oc od d t ++ back)) r2 q2) (sym (host_holds d at k n c e)) first) in
@@ -199,13 +199,13 @@ pull_among at p s q peek sound st f y =
     let parts : ForOthers d (λ x. IsPart (IsAside d true) (IsAside d true) (own x)) p.seats = for_others d (λ x. IsPart (IsAside d true) (IsAside d true) (own x)) p.seats (λ (x : Seat) (h : nat_eq d (device x) ≡ false). record {
       order = part_order p (PullPiece at) f x;
       first = own_asides d (device x) (at + reaction x) x.own.clock_low x.own.data_low h;
-      behind = own_asides d (device x) (at + reaction x) x.own.clock_low x.own.data_low h;
+      afterwards = own_asides d (device x) (at + reaction x) x.own.clock_low x.own.data_low h;
       drives = own_drives (device x) (at + reaction x) x.own.clock_low x.own.data_low;
     }) in
     let a = around_drives t (IsAside d true) (IsAside d true) d own p.seats s parts sound.seated.sits (own_part_at s.own.clock_low s.own.data_low d t) in
     let steps : steps_of p (PullPiece at) ≡ host_own ++ (a.front ++ (own s ++ a.back)) = pull_steps p at ∙ ap (λ (zs : List Step). host_own ++ zs) a.is in
     let out : rest_at d p ≡ r = ap (λ (v : Bool). record { host = wires v c e; clocks = k; datas = n }) (pull_out p at p.place f) in
-    let all = pulled_follows peek b s.role c e s.own.clock_low s.own.data_low k n at q.side a.front a.back (pull_in_time p at p.place s.role q.side st.side f) a.first a.upto a.behind a.late in
+    let all = pulled_follows peek b s.role c e s.own.clock_low s.own.data_low k n at q.side a.front a.back (pull_in_time p at p.place s.role q.side st.side f) a.first a.upto a.afterwards a.late in
     let same : q ≡ stands b s.role s.own (wires_of r) q.side = port_is q b s.role s.own (wires_of r) q.side st.party st.role st.own (st.others ∙ ap (λ (x : Rest). wires_of x) out) refl in
     let q2 = stands b s.role (lines false true) (wires_of all.0) (Hearing Holding) in
     record {

@@ -13,11 +13,11 @@ use Rattle.cbm_iec.specs.declared.port.Port.{Port}
 use Rattle.cbm_iec.specs.declared.port.Side.TheVariants.{Hearing}
 use Rattle.cbm_session.proofs.alone.Frames.{wires, stands}
 use Rattle.cbm_session.proofs.among.Accepts.{up}
-use Rattle.cbm_session.proofs.among.Changes.{Changes, none, other, own, own_behind, part, all_change, in_order}
+use Rattle.cbm_session.proofs.among.Changes.{Changes, none, other, own, own_after_it, part, all_change, in_order}
 use Rattle.cbm_session.proofs.among.Frames.{up_is}
 use Rattle.cbm_session.proofs.frames.Phases.{Each, each, before_all, none_all, split_all, ReactsBy, react_by}
 use Rattle.cbm_session.proofs.joining.Merging.{NoneBefore, AllBefore, InOrder}
-use Rattle.cbm_session.specs.Among.{Rest, some, IsBehind, FollowsAmong, hears, reacts}
+use Rattle.cbm_session.specs.Among.{Rest, some, FirstIsAfter, FollowsAmong, hears, reacts}
 use Rattle.cbm_session.specs.Laws.{SeatsReact, pulses}
 use Rattle.cbm_session.specs.Seats.{Seat, lines, device, slowest}
 use Rattle.cbm_session.specs.Steps.{Mark, Step, Plain, merge_all}
@@ -39,7 +39,7 @@ pulls hs t = merge_all [] (map (λ s. pull_part t s) hs)
 abbrev pub frees : List Seat → ℕ → List Step
 frees hs t = merge_all [] (map (λ s. free_part t s) hs)
 
--- reactions lie between 1 and 60, so 261 behind that moment parts them
+-- reactions lie between 1 and 60, so 261 after that moment parts them
 pulls_before : (hs : List Seat) (t : ℕ) → SeatsReact hs → Each (λ s. AllBefore (t + 261) (pull_part t s)) hs
 pulls_before hs t r = each (ReactsBy (slowest hs)) (λ s. AllBefore (t + 261) (pull_part t s)) hs (λ s h. let a = h.1 in (omega (arith, a), tt)) (react_by (slowest hs) hs r (omega arith))
 
@@ -88,16 +88,16 @@ pub all_sooner : (m n : ℕ) (ss : List Step) → m ≤ n → AllBefore m ss →
 all_sooner m n [] h k = tt
 all_sooner m n (s ∷ ss) h k = (omega (arith, h, k.0), all_sooner m n ss h k.1)
 
--- changes of drives that aren't before a moment come behind it; with one of them at least, whatever comes then
-comes_behind : (way : Way) (mark : ℕ → Mark) (d at t n : ℕ) (ss ys : List Step) → Changes way mark d at ss n false → NoneBefore t ss → IsBehind t ys → IsBehind t (ss ++ ys)
-comes_behind way mark d at t n [] ys none i l = l
-comes_behind way mark d at t zero (s ∷ ss) ys c i l = elim c [ ]
-comes_behind way mark d at t (suc n) (s ∷ ss) ys (other o v h rest) i l = i.0
+-- changes of drives that aren't before a moment come after it; with one of them at least, whatever comes then
+comes_after_it : (way : Way) (mark : ℕ → Mark) (d at t n : ℕ) (ss ys : List Step) → Changes way mark d at ss n false → NoneBefore t ss → FirstIsAfter t ys → FirstIsAfter t (ss ++ ys)
+comes_after_it way mark d at t n [] ys none i l = l
+comes_after_it way mark d at t zero (s ∷ ss) ys c i l = elim c [ ]
+comes_after_it way mark d at t (suc n) (s ∷ ss) ys (other o v h rest) i l = i.0
 
-pub come_behind : (way : Way) (mark : ℕ → Mark) (d at t n : ℕ) (ss ys : List Step) → Changes way mark d at ss n true → NoneBefore t ss → IsBehind t (ss ++ ys)
-come_behind way mark d at t n [] ys c i = elim c [ ]
-come_behind way mark d at t (suc n) (s ∷ ss) ys (other o v h rest) i = i.0
-come_behind way mark d at t n (s ∷ ss) ys (own rest) i = i.0
+pub come_after : (way : Way) (mark : ℕ → Mark) (d at t n : ℕ) (ss ys : List Step) → Changes way mark d at ss n true → NoneBefore t ss → FirstIsAfter t (ss ++ ys)
+come_after way mark d at t n [] ys c i = elim c [ ]
+come_after way mark d at t (suc n) (s ∷ ss) ys (other o v h rest) i = i.0
+come_after way mark d at t n (s ∷ ss) ys (own rest) i = i.0
 
 module _ (peek : Option (ℕ × Bool)) (b : Party) (role : Role) (r2 : Rest) (q2 : Port) (ys : List Step) where
   -- the host holds nothing, so many drives DATA
@@ -113,7 +113,7 @@ module _ (peek : Option (ℕ × Bool)) (b : Party) (role : Role) (r2 : Rest) (q2
   abbrev pub noting : ℕ → Port
   noting k = stands b role (lines false false) (wires false false (some k)) (Hearing EoiNoted)
 
-  -- behind its own pull the others pull too, before its release is due
+  -- after its own pull the others pull too, before its release is due
   beside_follows : (at m k : ℕ) (ss : List Step) → Changes Pull (λ o. Plain) b.device at ss m false → AllBefore (at + eoi_pulse b.pace) ss → FollowsAmong peek (sharing (up m k)) (pulsing (at + eoi_pulse b.pace) (up m k)) ys r2 q2
       → FollowsAmong peek (sharing k) (pulsing (at + eoi_pulse b.pace) k) (ss ++ ys) r2 q2
   beside_follows at m k [] none e f = f
@@ -122,21 +122,21 @@ module _ (peek : Option (ℕ × Bool)) (b : Party) (role : Role) (r2 : Rest) (q2
   beside_follows at zero k (s ∷ ss) x e f = elim x [ ]
 
   -- before its own pull it lets the others pull
-  timing_follows : (at m k : ℕ) (ss : List Step) → Changes Pull (λ o. Plain) b.device at ss m true → InOrder ss → AllBefore (at + eoi_pulse b.pace) ss → IsBehind at ys → FollowsAmong peek (sharing (up m k)) (pulsing (at + eoi_pulse b.pace) (up m k)) ys r2 q2
+  timing_follows : (at m k : ℕ) (ss : List Step) → Changes Pull (λ o. Plain) b.device at ss m true → InOrder ss → AllBefore (at + eoi_pulse b.pace) ss → FirstIsAfter at ys → FollowsAmong peek (sharing (up m k)) (pulsing (at + eoi_pulse b.pace) (up m k)) ys r2 q2
       → FollowsAmong peek (sharing k) (timing at k) (ss ++ ys) r2 q2
   timing_follows at m k [] x i e l f = elim x [ ]
-  timing_follows at (suc m) zero (s ∷ ss) (other o t h rest) i e l f = hears h (own_behind Pull (λ o. Plain) b.device at t ss m rest i.0) refl (timing_follows at m 1 ss rest i.1 e.1 l f)
-  timing_follows at (suc m) (suc k) (s ∷ ss) (other o t h rest) i e l f = hears h (own_behind Pull (λ o. Plain) b.device at t ss m rest i.0) refl (timing_follows at m (suc (suc k)) ss rest i.1 e.1 l f)
-  timing_follows at m k (s ∷ ss) (own rest) i e l f = reacts at (ss ++ ys) refl refl tt (comes_behind Pull (λ o. Plain) b.device at at m ss ys rest i.0 l) (beside_follows at m k ss rest e.1 f)
+  timing_follows at (suc m) zero (s ∷ ss) (other o t h rest) i e l f = hears h (own_after_it Pull (λ o. Plain) b.device at t ss m rest i.0) refl (timing_follows at m 1 ss rest i.1 e.1 l f)
+  timing_follows at (suc m) (suc k) (s ∷ ss) (other o t h rest) i e l f = hears h (own_after_it Pull (λ o. Plain) b.device at t ss m rest i.0) refl (timing_follows at m (suc (suc k)) ss rest i.1 e.1 l f)
+  timing_follows at m k (s ∷ ss) (own rest) i e l f = reacts at (ss ++ ys) refl refl tt (comes_after_it Pull (λ o. Plain) b.device at at m ss ys rest i.0 l) (beside_follows at m k ss rest e.1 f)
 
   -- all pull DATA, which none held
-  pub pulls_follow : (at m : ℕ) (ss : List Step) → Changes Pull (λ o. Plain) b.device at ss m true → InOrder ss → AllBefore (at + eoi_pulse b.pace) ss → IsBehind at ys → FollowsAmong peek (sharing m) (pulsing (at + eoi_pulse b.pace) m) ys r2 q2
+  pub pulls_follow : (at m : ℕ) (ss : List Step) → Changes Pull (λ o. Plain) b.device at ss m true → InOrder ss → AllBefore (at + eoi_pulse b.pace) ss → FirstIsAfter at ys → FollowsAmong peek (sharing m) (pulsing (at + eoi_pulse b.pace) m) ys r2 q2
       → FollowsAmong peek (sharing zero) (timing at zero) (ss ++ ys) r2 q2
   pulls_follow at m ss c i e l f =
       let same : m ≡ up m zero = let k = up_is m zero in omega (arith, k) in
       timing_follows at m zero ss c i e l (subst (λ (n : ℕ). FollowsAmong peek (sharing n) (pulsing (at + eoi_pulse b.pace) n) ys r2 q2) same f)
 
-  -- behind its own release the others let go
+  -- after its own release the others let go
   noting_follows : (at n : ℕ) (ss : List Step) → Changes Free (λ o. Plain) b.device at ss n false → FollowsAmong peek (sharing zero) (noting zero) ys r2 q2 → FollowsAmong peek (sharing n) (noting n) (ss ++ ys) r2 q2
   noting_follows at n [] none f = f
   noting_follows at zero (s ∷ ss) x f = elim x [ ]
@@ -144,9 +144,9 @@ module _ (peek : Option (ℕ × Bool)) (b : Party) (role : Role) (r2 : Rest) (q2
   noting_follows at (suc (suc n)) (s ∷ ss) (other o t h rest) f = hears h tt refl (noting_follows at (suc n) ss rest f)
 
   -- all let go, and the end is noted
-  pub pulsing_follows : (at n : ℕ) (ss : List Step) → Changes Free (λ o. Plain) b.device at ss n true → InOrder ss → IsBehind at ys → FollowsAmong peek (sharing zero) (noting zero) ys r2 q2
+  pub pulsing_follows : (at n : ℕ) (ss : List Step) → Changes Free (λ o. Plain) b.device at ss n true → InOrder ss → FirstIsAfter at ys → FollowsAmong peek (sharing zero) (noting zero) ys r2 q2
       → FollowsAmong peek (sharing n) (pulsing at n) (ss ++ ys) r2 q2
   pulsing_follows at n [] x i l f = elim x [ ]
-  pulsing_follows at (suc zero) (s ∷ ss) (other o t h rest) i l f = hears h (own_behind Free (λ o. Plain) b.device at t ss zero rest i.0) refl (pulsing_follows at zero ss rest i.1 l f)
-  pulsing_follows at (suc (suc n)) (s ∷ ss) (other o t h rest) i l f = hears h (own_behind Free (λ o. Plain) b.device at t ss (suc n) rest i.0) refl (pulsing_follows at (suc n) ss rest i.1 l f)
-  pulsing_follows at n (s ∷ ss) (own rest) i l f = reacts at (ss ++ ys) refl refl tt (comes_behind Free (λ o. Plain) b.device at at n ss ys rest i.0 l) (noting_follows at n ss rest f)
+  pulsing_follows at (suc zero) (s ∷ ss) (other o t h rest) i l f = hears h (own_after_it Free (λ o. Plain) b.device at t ss zero rest i.0) refl (pulsing_follows at zero ss rest i.1 l f)
+  pulsing_follows at (suc (suc n)) (s ∷ ss) (other o t h rest) i l f = hears h (own_after_it Free (λ o. Plain) b.device at t ss (suc n) rest i.0) refl (pulsing_follows at (suc n) ss rest i.1 l f)
+  pulsing_follows at n (s ∷ ss) (own rest) i l f = reacts at (ss ++ ys) refl refl tt (comes_after_it Free (λ o. Plain) b.device at at n ss ys rest i.0 l) (noting_follows at n ss rest f)

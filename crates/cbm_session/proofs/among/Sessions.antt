@@ -17,7 +17,7 @@ use Rattle.cbm_session.proofs.among.Frames.{each_sits}
 use Rattle.cbm_session.proofs.among.Fronts.{steps_order, among_cut, follows_rest, follows_wires, follows_drive, cut_among}
 use Rattle.cbm_session.proofs.among.Points.{none_listen, next_party, whole_sound, cut_sound, AllSound, rest_sound}
 use Rattle.cbm_session.proofs.among.Pulls.{pull_among}
-use Rattle.cbm_session.proofs.among.Standing.{IsSound, rest_behind, AmongLaw}
+use Rattle.cbm_session.proofs.among.Standing.{IsSound, rest_afterwards, AmongLaw}
 use Rattle.cbm_session.proofs.among.Talks.{command_law, byte_law, absent_byte_law, absent_talk_law, talk_law, side_there}
 use Rattle.cbm_session.proofs.among.Turns.{SeatLaw, with_role, listener_law, absent_law, nobody_law, absent_turn_law, absent_nothing_law}
 use Rattle.cbm_session.proofs.joining.Merging.{NoneBefore, InOrder, cut_front}
@@ -80,9 +80,9 @@ says_whole Absent w c peek y = tt
 says_whole Listener w c peek y = tt
 says_whole Talker w c peek y = y
 
--- what is left of the others is what the point behind says
+-- what is left of the others is what the point after it says
 pub left_is : (p : Point) (s : Seat) (q q2 : Port) (k : Piece) (r2 : Rest) (peek : Option (ℕ × Bool)) → IsSound p s → StandsAmong p s q → PieceFits p k → FollowsAmong peek (rest_at (device s) p) q (piece_steps p k) r2 q2 → r2 ≡ rest_at (device s) (point_after p k)
-left_is p s q q2 k r2 peek h t f g = follows_rest peek g ∙ ap (λ (b : Party). rest_behind b.device (rest_at (device s) p) (piece_steps p k)) t.party ∙ rest_after p s k h f
+left_is p s q q2 k r2 peek h t f g = follows_rest peek g ∙ ap (λ (b : Party). rest_afterwards b.device (rest_at (device s) p) (piece_steps p k)) t.party ∙ rest_after p s k h f
 
 -- and the drive is told so
 followed : (p : Point) (s : Seat) (q q2 : Port) (k : Piece) (r2 : Rest) (peek : Option (ℕ × Bool)) → IsSound p s → StandsAmong p s q → PieceFits p k → FollowsAmong peek (rest_at (device s) p) q (piece_steps p k) r2 q2

@@ -16,17 +16,17 @@ use Rattle.cbm_iec.specs.declared.port.Port.{Port}
 use Rattle.cbm_iec.specs.declared.port.Side.TheVariants.{Speaking}
 use Rattle.cbm_session.proofs.alone.Frames.{stands}
 use Rattle.cbm_session.proofs.among.Answers.{Short, answer_follows, answer_goes, talk_parts, short_others, short_in_time}
-use Rattle.cbm_session.proofs.among.Around.{ForOthers, IsPart, IsLateBy, around_drives, merge_drives, every, is_behind, with_own}
+use Rattle.cbm_session.proofs.among.Around.{ForOthers, IsPart, IsLateBy, around_drives, merge_drives, every, is_after, with_own}
 use Rattle.cbm_session.proofs.among.Calm.{Every, IsOthers, IsAside, passes, passes_all, calm_mute, calm_over}
 use Rattle.cbm_session.proofs.among.Points.{commanding_rest, only_talker, sits_only}
 use Rattle.cbm_session.proofs.among.Pulls.{never_due}
-use Rattle.cbm_session.proofs.among.Standing.{rest_behind}
+use Rattle.cbm_session.proofs.among.Standing.{rest_afterwards}
 use Rattle.cbm_session.proofs.among.Turns.{SeatLaw, drives_of, released, talking_turn, late_drives, from_role, freed_others, silent_sooner}
 use Rattle.cbm_session.proofs.frames.Phases.{Each, merge_split, before_all, split_all}
 use Rattle.cbm_session.proofs.joining.Merging.{merge_there, NoneBefore, AllBefore}
 use Rattle.cbm_session.proofs.joining.Talkers.{talker_is}
 use Rattle.cbm_session.proofs.reading.PieceReadings.{seat, turn_first}
-use Rattle.cbm_session.specs.Among.{Rest, wires_of, FollowsAmong, IsBehind, reacts}
+use Rattle.cbm_session.specs.Among.{Rest, wires_of, FollowsAmong, FirstIsAfter, reacts}
 use Rattle.cbm_session.specs.Buses.{rest_at}
 use Rattle.cbm_session.specs.Laws.{SeatsReact}
 use Rattle.cbm_session.specs.Pieces.{silent_end, silent_part, FreedFits, freed_steps, host_part, let_go, own_part, steps_of, Nothing}
@@ -49,15 +49,15 @@ module _ (clock : ℕ) (b : Party) where
       → (r2 : Rest) × ((q2 : Port) × (FollowsAmong None r (stands at_once Talker (lines false true) (wires_of r) (Speaking (Answering answered))) ((for_one b.device Silent (drive b.device answered Data Free) ∷ []) ++ back) r2 q2
       × (q2 ≡ stands at_once Talker (lines false false) (wires_of r2) (Speaking Over))))
   lets_go r back a late =
-      let r2 = rest_behind b.device r back in
+      let r2 = rest_afterwards b.device r back in
       let q2 = stands at_once Talker (lines false false) (wires_of r2) (Speaking Over) in
       let more = passes_all None at_once Talker (lines false false) (Speaking Over) calm_over r back a (never_due (Speaking Over) back refl) in
-      (r2, (q2, (reacts answered back refl refl tt (is_behind answered back late) more, refl)))
+      (r2, (q2, (reacts answered back refl refl tt (is_after answered back late) more, refl)))
 
 part_others : (d at : ℕ) (seats : List Seat) (own : Seat → List Step) → ForOthers d (λ x. IsPart (IsAside d false) (Short d at) (own x)) seats → ForOthers d (λ x. IsPart (IsAside d false) (IsOthers d) (own x)) seats
 part_others d at [] own e = tt
 part_others d at (x ∷ xs) own e = (
-  λ (h : nat_eq d (device x) ≡ false). let k = e.0 h in record { order = k.order; first = k.first; behind = every (Short d at) (IsOthers d) (own x) (short_others d at) k.behind; drives = k.drives },
+  λ (h : nat_eq d (device x) ≡ false). let k = e.0 h in record { order = k.order; first = k.first; afterwards = every (Short d at) (IsOthers d) (own x) (short_others d at) k.afterwards; drives = k.drives },
   part_others d at xs own e.1,
 )
 
@@ -95,13 +95,13 @@ at_once_law v o at clock freed p q peek sound st f y =
 abbrev held_back : ℕ → ℕ → List Step
 held_back d t = drive d (t + mute) Clock Free ∷ for_one d Silent (drive d (t + mute) Data Free) ∷ []
 
-behind_drive : (t m d : ℕ) (back tail : List Step) → t ≤ m → Every (IsLateBy t) back → IsBehind t (back ++ drive d m Clock Free ∷ tail)
-behind_drive t m d [] tail h l = h
-behind_drive t m d (x ∷ back) tail h l = l.0
+after_a_drive : (t m d : ℕ) (back tail : List Step) → t ≤ m → Every (IsLateBy t) back → FirstIsAfter t (back ++ drive d m Clock Free ∷ tail)
+after_a_drive t m d [] tail h l = h
+after_a_drive t m d (x ∷ back) tail h l = l.0
 
-behind_freed : (t : ℕ) (freed : Option ℕ) → FreedFits t freed → IsBehind t (freed_steps freed)
-behind_freed t None h = tt
-behind_freed t (Some g) h = omega (arith, h)
+after_freed : (t : ℕ) (freed : Option ℕ) → FreedFits t freed → FirstIsAfter t (freed_steps freed)
+after_freed t None h = tt
+after_freed t (Some g) h = omega (arith, h)
 
 module _ (at clock : ℕ) (b : Party) (gap : at ≤ clock) (freed : Option ℕ) (fits : FreedFits (clock + b.reaction + mute) freed) where
   abbrev slow : Party
@@ -118,13 +118,13 @@ module _ (at clock : ℕ) (b : Party) (gap : at ≤ clock) (freed : Option ℕ) 
       × (q2 ≡ stands slow Talker (lines false false) (wires_of r2) (Speaking Over))))
   holds_back r back a late =
       let d = b.device in
-      let r1 = rest_behind d r back in
-      let r2 = rest_behind d r1 (freed_steps freed) in
+      let r1 = rest_afterwards d r back in
+      let r2 = rest_afterwards d r1 (freed_steps freed) in
       let q2 = stands slow Talker (lines false false) (wires_of r2) (Speaking Over) in
       let over = passes_all None slow Talker (lines false false) (Speaking Over) calm_over r1 (freed_steps freed) (freed_others d freed) (never_due (Speaking Over) (freed_steps freed) refl) in
-      let silent : FollowsAmong None r1 (stands slow Talker (lines true true) (wires_of r1) (Speaking (Mute (turned + mute)))) tail r2 q2 = reacts (turned + mute) (freed_steps freed) refl refl tt (behind_freed (turned + mute) freed fits) over in
+      let silent : FollowsAmong None r1 (stands slow Talker (lines true true) (wires_of r1) (Speaking (Mute (turned + mute)))) tail r2 q2 = reacts (turned + mute) (freed_steps freed) refl refl tt (after_freed (turned + mute) freed fits) over in
       let holding = passes None slow Talker (lines true true) (Speaking (Mute (turned + mute))) (calm_mute (turned + mute)) r r2 q2 back tail (every (Short d at) (IsOthers d) back (short_others d at) a) (short_in_time d at (turned + mute) back (omega (arith, gap)) a) silent in
-      (r2, (q2, (reacts turned (back ++ tail) refl refl tt (behind_drive turned (turned + mute) d back (for_one d Silent (drive d (turned + mute) Data Free) ∷ freed_steps freed) (omega arith) late) holding, refl)))
+      (r2, (q2, (reacts turned (back ++ tail) refl refl tt (after_a_drive turned (turned + mute) d back (for_one d Silent (drive d (turned + mute) Data Free) ∷ freed_steps freed) (omega arith) late) holding, refl)))
 
   -- CLOCK's pull with what the others do, then the rest of it
   abbrev pull : Seat → List Step

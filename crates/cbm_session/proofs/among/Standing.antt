@@ -10,7 +10,7 @@ use Rattle.cbm_iec.specs.declared.port.Port.{Port}
 use Rattle.cbm_session.proofs.frames.Phases.{Each}
 use Rattle.cbm_session.proofs.reading.OneReading.{IsSeated}
 use Rattle.cbm_session.proofs.reading.PieceReadings.{next_seat}
-use Rattle.cbm_session.specs.Among.{Rest, behind_other, behind_host, FollowsAmong}
+use Rattle.cbm_session.specs.Among.{Rest, after_another, after_the_host, FollowsAmong}
 use Rattle.cbm_session.specs.Buses.{rest_at, SaysAs, SideAmong, OwnAt, StandsAmong}
 use Rattle.cbm_session.specs.Laws.{SeatsReact}
 use Rattle.cbm_session.specs.Pieces.{Whole, BusPlace, Point, steps_of, Fits, whole_point, Full, Open, Commanding, Listening, Leading, Cutting}
@@ -33,16 +33,16 @@ pub record IsSound (p : Point) (s : Seat) : Type 0 where
   pub own : Each (λ x. OwnAt p.place x.role x.own) p.seats
   pub host : HostAt p.place p.host
 
--- what drive d's others hold behind a step, and behind steps
+-- what drive d's others hold after a step, and after steps
 abbrev pub rest_next : ℕ → Who → Line → Way → Rest → Rest
-rest_next d Host line way r = behind_host line way r
-rest_next d (Drive o) line way r = if nat_eq d o then r else behind_other line way r
+rest_next d Host line way r = after_the_host line way r
+rest_next d (Drive o) line way r = if nat_eq d o then r else after_another line way r
 
-abbrev pub rest_behind : ℕ → Rest → List Step → Rest
-rest_behind d r [] = r
-rest_behind d r (s ∷ ss) = rest_behind d (rest_next d s.event.who s.event.change.line s.event.change.way r) ss
+abbrev pub rest_afterwards : ℕ → Rest → List Step → Rest
+rest_afterwards d r [] = r
+rest_afterwards d r (s ∷ ss) = rest_afterwards d (rest_next d s.event.who s.event.change.line s.event.change.way r) ss
 
--- the drive follows a whole piece, and has the role, lines and side that the session has behind it
+-- the drive follows a whole piece, and has the role, lines and side that the session has after it
 pub record Result (p : Point) (s : Seat) (w : Whole) (q : Port) (peek : Option (ℕ × Bool)) : Type 0 where
   pub rest : Rest
   pub port : Port

@@ -30,7 +30,7 @@ use Rattle.cbm_session.proofs.among.Calm.{Every, ByOthers, IsOthers, passes_all,
 use Rattle.cbm_session.proofs.among.Frames.{in_hold, holds, each_sits, held_rest, held_port, follows_commands}
 use Rattle.cbm_session.proofs.among.Points.{commanding_rest, listening_rest, leading_rest, leading_alone}
 use Rattle.cbm_session.proofs.among.Pulls.{never_due, for_others}
-use Rattle.cbm_session.proofs.among.Standing.{IsSound, rest_behind}
+use Rattle.cbm_session.proofs.among.Standing.{IsSound, rest_afterwards}
 use Rattle.cbm_session.proofs.among.Turns.{SeatLaw, commanding_port}
 use Rattle.cbm_session.proofs.joining.OneDrive.{told_is}
 use Rattle.cbm_session.proofs.joining.Owning.{MarkOf, AllOwned, owned_telling, part_owned}
@@ -104,7 +104,7 @@ idle_passes : (peek : Option (ℕ × Bool)) (p : Point) (b : Party) (o : Held) (
     → (r2 : Rest) × FollowsAmong peek (rest_at b.device p) q (steps_of p w) r2 (stands b Absent (lines false false) (wires_of r2) (Hearing Idle))
 idle_passes peek p b o w q st own side all =
     let r = rest_at b.device p in
-    let r2 = rest_behind b.device r (steps_of p w) in
+    let r2 = rest_afterwards b.device r (steps_of p w) in
     let q2 = stands b Absent (lines false false) (wires_of r2) (Hearing Idle) in
     let same = port_is q b Absent (lines false false) (wires_of r) (Hearing Idle) st.party st.role (st.own ∙ own) st.others side in (
       r2,

@@ -19,12 +19,12 @@ use Rattle.cbm_session.proofs.alone.Frames.{wires, stands}
 use Rattle.cbm_session.proofs.alone.Fronts.{AllAt}
 use Rattle.cbm_session.proofs.alone.Pieces.{port_is}
 use Rattle.cbm_session.proofs.among.Accepts.{unmarked}
-use Rattle.cbm_session.proofs.among.Around.{IsPart, Around, around_drives, weave_left, merge_drives, every_drives, is_behind, with_own}
+use Rattle.cbm_session.proofs.among.Around.{IsPart, Around, around_drives, weave_left, merge_drives, every_drives, is_after, with_own}
 use Rattle.cbm_session.proofs.among.Calm.{Every, IsOthers, IsAside, passes, passes_all, asides_all, calm_leaving, calm_idle, calm_holding}
 use Rattle.cbm_session.proofs.among.Frames.{in_hold, each_sits}
 use Rattle.cbm_session.proofs.among.Points.{commanding_rest}
 use Rattle.cbm_session.proofs.among.Pulls.{in_time, never_due, not_before, for_others}
-use Rattle.cbm_session.proofs.among.Standing.{IsSound, rest_behind, Result}
+use Rattle.cbm_session.proofs.among.Standing.{IsSound, rest_afterwards, Result}
 use Rattle.cbm_session.proofs.frames.Phases.{Each}
 use Rattle.cbm_session.proofs.joining.Merging.{InOrder}
 use Rattle.cbm_session.proofs.joining.Showing.{merge_first}
@@ -60,13 +60,13 @@ by_role P Talker a b x y = y
 
 part_by_role : (F B : Step → Type 0) (r : Role) (a b : List Step) → IsPart F B a → IsPart F B b → IsPart F B (elim r as (λ q. List Step) [ Absent ↦ a | Listener ↦ [] | Talker ↦ b ])
 part_by_role F B Absent a b x y = x
-part_by_role F B Listener a b x y = record { order = tt; first = tt; behind = tt; drives = tt }
+part_by_role F B Listener a b x y = record { order = tt; first = tt; afterwards = tt; drives = tt }
 part_by_role F B Talker a b x y = y
 
 -- where nobody else talks
 pub part_untalked : (F B : Step → Type 0) (r : Role) (a b : List Step) → is_talker r ≡ false → IsPart F B a → IsPart F B (elim r as (λ q. List Step) [ Absent ↦ a | Listener ↦ [] | Talker ↦ b ])
 part_untalked F B Absent a b e x = x
-part_untalked F B Listener a b e x = record { order = tt; first = tt; behind = tt; drives = tt }
+part_untalked F B Listener a b e x = record { order = tt; first = tt; afterwards = tt; drives = tt }
 part_untalked F B Talker a b e x = absurd cc
 
 each_of : (P : Seat → Type 0) (seats : List Seat) → ((x : Seat) → P x) → Each P seats
@@ -75,7 +75,7 @@ each_of P (x ∷ xs) f = (f x, each_of P xs f)
 
 -- what a drive without a role does
 let_go_part : (d at : ℕ) (x : Seat) → nat_eq d (device x) ≡ false → IsPart (IsOthers d) (IsOthers d) (let_go at x)
-let_go_part d at x h = record { order = (tt, tt); first = (record { who = h; counts = refl; line = refl }, tt); behind = (record { who = h; counts = refl; line = refl }, tt); drives = (tt, tt) }
+let_go_part d at x h = record { order = (tt, tt); first = (record { who = h; counts = refl; line = refl }, tt); afterwards = (record { who = h; counts = refl; line = refl }, tt); drives = (tt, tt) }
 
 pub from_role : (m : ℕ) (r : Role) (a b : List Step) → Every (λ s. m ≤ moment_of s) a → Every (λ s. m ≤ moment_of s) b → Every (λ s. m ≤ moment_of s) (elim r as (λ q. List Step) [ Absent ↦ a | Listener ↦ [] | Talker ↦ b ])
 from_role m r a b x y = by_role (λ s. m ≤ moment_of s) r a b x y
@@ -88,11 +88,11 @@ leaves : (peek : Option (ℕ × Bool)) (b : Party) (t : ℕ) (r : Rest) (ss : Li
     → (r2 : Rest) × FollowsAmong peek r (stands b Absent (lines false true) (wires_of r) (Hearing (Leaving t))) ss r2 (stands b Absent (lines false false) (wires_of r2) (Hearing Idle))
 leaves peek b t r ss a =
     let d = b.device in
-    let r1 = rest_behind d r a.front in
-    let r2 = rest_behind d r1 a.back in
+    let r1 = rest_afterwards d r a.front in
+    let r2 = rest_afterwards d r1 a.back in
     let q2 = stands b Absent (lines false false) (wires_of r2) (Hearing Idle) in
-    let behind = passes_all peek b Absent (lines false false) (Hearing Idle) calm_idle r1 a.back a.behind (never_due (Hearing Idle) a.back refl) in
-    let own : FollowsAmong peek r1 (stands b Absent (lines false true) (wires_of r1) (Hearing (Leaving t))) (drive d t Data Free ∷ a.back) r2 q2 = reacts t a.back refl refl tt (is_behind t a.back a.late) behind in
+    let afterwards = passes_all peek b Absent (lines false false) (Hearing Idle) calm_idle r1 a.back a.afterwards (never_due (Hearing Idle) a.back refl) in
+    let own : FollowsAmong peek r1 (stands b Absent (lines false true) (wires_of r1) (Hearing (Leaving t))) (drive d t Data Free ∷ a.back) r2 q2 = reacts t a.back refl refl tt (is_after t a.back a.late) afterwards in
     let all = passes peek b Absent (lines false true) (Hearing (Leaving t)) (calm_leaving t) r r2 q2 a.front (drive d t Data Free ∷ a.back) a.first (in_time (Hearing (Leaving t)) t a.front refl a.upto) own in
     (r2, subst (λ (zs : List Step). FollowsAmong peek r (stands b Absent (lines false true) (wires_of r) (Hearing (Leaving t))) zs r2 q2) (sym a.is) all)
 
@@ -115,7 +115,7 @@ listener_steps p at =
     ∙ merge_first (for_each Released (host at Atn Free)) [] (drives_of p (ToListener at)) (late_drives at (λ x. own_part p (ToListener at) x) p.seats (λ (x : Seat). from_role at x.role (let_go at x) [] (omega arith, tt) tt))
 
 pub no_part : (F B : Step → Type 0) → IsPart F B []
-no_part F B = record { order = tt; first = tt; behind = tt; drives = tt }
+no_part F B = record { order = tt; first = tt; afterwards = tt; drives = tt }
 
 pub listener_law : (b : Party) (o : Held) (at : ℕ) → SeatLaw (ToListener at) (seat b Listener o)
 listener_law b o at p q peek sound st f y =
@@ -126,7 +126,7 @@ listener_law b o at p q peek sound st f y =
     let r1 : Rest = record { host = wires false true false; clocks = zero; datas = k.0 } in
     let aside = every_drives (IsAside d true) (λ x. own_part p w x) p.seats (with_own (λ x. Every (IsAside d true) (own_part p w x)) d p.seats s sound.seated.sits
     (for_others d (λ x. Every (IsAside d true) (own_part p w x)) p.seats (λ (x : Seat) (h : nat_eq d (device x) ≡ false). by_role (IsAside d true) x.role (let_go at x) [] (record { who = h; counts = refl; line = tt }, tt) tt)) tt) in
-    let r2 = rest_behind d r1 (drives_of p w) in
+    let r2 = rest_afterwards d r1 (drives_of p w) in
     let q2 = stands b Listener (lines false true) (wires_of r2) (Hearing Holding) in
     let more = asides_all peek b Listener (lines false true) (Hearing Holding) calm_holding true r1 (drives_of p w) refl aside (never_due (Hearing Holding) (drives_of p w) refl) in
     record {
@@ -239,7 +239,7 @@ answer_part : (d t : ℕ) (x : Seat) → nat_eq d (device x) ≡ false → IsPar
 answer_part d t x h = record {
   order = ((omega arith, tt), (tt, tt));
   first = (record { who = h; counts = refl; line = refl }, (record { who = h; counts = refl; line = refl }, tt));
-  behind = (record { who = h; counts = refl; line = refl }, (record { who = h; counts = refl; line = refl }, tt));
+  afterwards = (record { who = h; counts = refl; line = refl }, (record { who = h; counts = refl; line = refl }, tt));
   drives = (tt, (tt, tt));
 }
 
@@ -247,11 +247,11 @@ silence_part : (d t : ℕ) (x : Seat) → nat_eq d (device x) ≡ false → IsPa
 silence_part d t x h = go x.party.pace
   where
     go : (e : Pace) → IsPart (IsOthers d) (IsOthers d) (silent_part e (device x) t)
-    go Profile = record { order = (tt, tt); first = (record { who = h; counts = unmarked d (device x) Silent h; line = refl }, tt); behind = (record { who = h; counts = unmarked d (device x) Silent h; line = refl }, tt); drives = (tt, tt) }
+    go Profile = record { order = (tt, tt); first = (record { who = h; counts = unmarked d (device x) Silent h; line = refl }, tt); afterwards = (record { who = h; counts = unmarked d (device x) Silent h; line = refl }, tt); drives = (tt, tt) }
     go Kernal = record {
       order = silent_order Kernal (device x) t;
       first = (record { who = h; counts = refl; line = refl }, (record { who = h; counts = refl; line = refl }, (record { who = h; counts = unmarked d (device x) Silent h; line = refl }, tt)));
-      behind = (record { who = h; counts = refl; line = refl }, (record { who = h; counts = refl; line = refl }, (record { who = h; counts = unmarked d (device x) Silent h; line = refl }, tt)));
+      afterwards = (record { who = h; counts = refl; line = refl }, (record { who = h; counts = refl; line = refl }, (record { who = h; counts = unmarked d (device x) Silent h; line = refl }, tt)));
       drives = (tt, (tt, (tt, tt)));
     }
 

@@ -15,12 +15,12 @@ use Rattle.cbm_session.specs.Laws.{SeatsReact, begin_of, AllAccepted, ListenersA
 use Rattle.cbm_session.specs.Pieces.{Whole, Point, gap_at, gap, Fits, obeying, standing, whole_point, PullPiece, Command, Byte, ToListener, ToNobody, ToTalker, Nothing, Talk}
 use Rattle.cbm_session.specs.Seats.{lines, Seat, reaction, is_listener, listeners, slowest, fastest, spread, bus_pace}
 
--- all have accepted 61 behind the end, as no reaction is longer than 60
+-- all have accepted 61 after the end, as no reaction is longer than 60
 all_accepted : (hs : List Seat) (f : Sent) (m : ℕ) → SeatsReact hs → end_of f + 61 ≤ m → AllAccepted hs f m
 all_accepted [] f m h l = tt
 all_accepted (s ∷ ss) f m h l = (omega (arith, h.1, l), all_accepted ss f m h.2 l)
 
--- behind the first accept and the gap of the bus, at the pace Profile
+-- after the first accept and the gap of the bus, at the pace Profile
 gap_20 : (hs seats : List Seat) → 20 ≤ gap_at Profile hs seats
 gap_20 hs [] = omega arith
 gap_20 hs (x ∷ []) = omega arith
@@ -66,7 +66,7 @@ listen_few (s ∷ ss) =
     let k = listen_few ss in
     elim (is_listener s.role) as (λ v. length (if v then s ∷ listeners ss else listeners ss) ≤ length (s ∷ ss)) [ true ↦ omega (arith, k) | false ↦ omega (arith, k) ]
 
--- what is behind a piece has the same drives
+-- what is after a piece has the same drives
 slowest_same : (f : Seat → Seat) (ss : List Seat) → KeepsDrives f → slowest (map f ss) ≡ slowest ss
 slowest_same f [] k = refl
 slowest_same f (s ∷ []) k = ap (λ (b : Party). b.reaction) (k s)
@@ -107,23 +107,23 @@ heard_same talking seats =
     let stands = λ (s : Seat). standing talking s in
     ap (λ (hs : List Seat). gap hs (map stands seats)) (listeners_same stands seats (standing_roles talking)) ∙ gap_same stands (listeners seats) seats (standing_drives talking)
 
-behind_byte : (p : Point) (eoi : Bool) (f : Sent) (next : Whole) → SeatsReact p.seats → Fits (whole_point p (Byte eoi f)) next
+after_a_byte : (p : Point) (eoi : Bool) (f : Sent) (next : Whole) → SeatsReact p.seats → Fits (whole_point p (Byte eoi f)) next
     → AllAccepted (listeners p.seats) f (begin_of next)
-behind_byte p eoi f (PullPiece at) r h =
+after_a_byte p eoi f (PullPiece at) r h =
     accepted (listeners p.seats) p.seats f at (listen_react p.seats r) (listen_few p.seats)
     (subst (λ (n : ℕ). accept_of (listeners p.seats) f + n ≤ at) (heard_same (lines false false) p.seats) h.1)
-behind_byte p eoi f (Command g) r h = elim h.0 [ ]
-behind_byte p eoi f (Byte e g) r h = at_100 (listeners p.seats) f g.ready (listen_react p.seats r) h.2
-behind_byte p eoi f (ToListener at) r h = absurd cc
-behind_byte p eoi f (ToNobody at clock) r h = absurd cc
-behind_byte p eoi f (ToTalker at clock) r h = absurd cc
-behind_byte p eoi f (Nothing at clock freed) r h = absurd cc
-behind_byte p eoi f (Talk at g) r h = absurd cc
+after_a_byte p eoi f (Command g) r h = elim h.0 [ ]
+after_a_byte p eoi f (Byte e g) r h = at_100 (listeners p.seats) f g.ready (listen_react p.seats r) h.2
+after_a_byte p eoi f (ToListener at) r h = absurd cc
+after_a_byte p eoi f (ToNobody at clock) r h = absurd cc
+after_a_byte p eoi f (ToTalker at clock) r h = absurd cc
+after_a_byte p eoi f (Nothing at clock freed) r h = absurd cc
+after_a_byte p eoi f (Talk at g) r h = absurd cc
 
 pub listeners_accepted : ListenersAccepted
-listeners_accepted p eoi f next r h k = behind_byte p eoi f next r k
+listeners_accepted p eoi f next r h k = after_a_byte p eoi f next r k
 
--- a change of ATN behind a byte of attention
+-- a change of ATN after a byte of attention
 release_waits : (f : Sent) (at : ℕ) (seats : List Seat) (g : Seat → Seat) → SeatsReact seats → KeepsDrives g → accept_of seats f + gap (map g seats) (map g seats) ≤ at → AllAccepted seats f at
 release_waits f at seats g r k h = accepted seats seats f at r (omega arith) (subst (λ (n : ℕ). accept_of seats f + n ≤ at) (gap_same g seats seats k) h)
 

@@ -40,7 +40,7 @@ max_is a b = elim (leb_tells b a) [ inl x ↦ inl (max-eq_left x.1) | inr x ↦ 
 sooner : (t m r f : ℕ) → r ≤ 60 → t + 200 + min r f ≤ m → m < t + 200 + r → t + 200 + f ≤ m
 sooner t m r f h a b = elim (min_is r f) [ inl x ↦ absurd (omega (arith, x, a, b)) | inr x ↦ omega (arith, x, a, b) ]
 
--- behind it: another is the slowest
+-- after it: another is the slowest
 later : (t m r l : ℕ) → m < t + 200 + max r l → t + 200 + r ≤ m → m < t + 200 + l
 later t m r l a b = elim (max_is r l) [ inl x ↦ absurd (omega (arith, x, a, b)) | inr x ↦ omega (arith, x, a, b) ]
 

@@ -90,7 +90,7 @@ lasts_by n (s ∷ u ∷ us) l =
     let b = le-max_right (lasting s) (longest_lasting (u ∷ us)) in
     (omega (arith, a, l), lasts_by n (u ∷ us) (omega (arith, b, l)))
 
--- a drive's part behind its release, by what bounds it
+-- a drive's part after its release, by what bounds it
 tail_none : (c t : ℕ) (eoi : Bool) (act : Act) (f : Sent) (s : Seat) → c ≤ t + 200 + reaction s → c ≤ end_of f + reaction s
     → NoneBefore c (pulse t eoi s ++ for_one (device s) act (drive (device s) (end_of f + reaction s) Data Pull) ∷ [])
 tail_none c t true act f s a b = (a, (omega (arith, a), (b, tt)))
@@ -147,7 +147,7 @@ module _ (hs : List Seat) (eoi : Bool) (act : Act) (f : Sent) (r : SeatsReact hs
   abbrev own : Seat → List Step
   own s = hearing (wire hs f) eoi act f s
 
-  -- how far behind each part of a drive lies
+  -- how late each part of a drive lies
   own_none : Each (λ s. NoneBefore (f.ready + 1) (own s)) hs
   own_none = each (ReactsBy (slowest hs)) (λ s. NoneBefore (f.ready + 1) (own s)) hs
       (λ s h. let a = h.0 in let x = start in let y = last in (omega (arith, a), tail_none (f.ready + 1) (wire hs f) eoi act f s (omega (arith, a)) (omega (arith, a, x, y)))) by

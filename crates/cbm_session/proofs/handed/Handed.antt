@@ -16,12 +16,12 @@ module _ (M : Type 0) (step : M → Act → M) (peek : M → Option (ℕ × Bool
   plays_parties : {n n2 : ℕ} {ss ss2 : List (Station M)} {es : List Event} → Plays M step peek n ss es n2 ss2 → parties M step peek ss2 ≡ parties M step peek ss
   plays_parties (stays y e k f) = ap (λ (l : List (Station M)). parties M step peek l) f
   plays_parties {n} {n2} {ss} (change c more y l i e f) = plays_parties f ∙ party_map M step peek (λ s. tell M step peek c s) ss (λ s. refl)
-  plays_parties {n} {n2} {ss} (reaction t before o behind more y e i k f) =
+  plays_parties {n} {n2} {ss} (reaction t before o afterwards more y e i k f) =
       plays_parties f
-      ∙ map-append (λ s. s.port.party) (map (λ s. hear_all M step peek (shown M step peek t o) s) before) (react M step peek t o ∷ map (λ s. hear_all M step peek (shown M step peek t o) s) behind)
-      ∙ ap (λ (l : List Party). l ++ o.port.party ∷ parties M step peek (map (λ s. hear_all M step peek (shown M step peek t o) s) behind)) (party_map M step peek (λ s. hear_all M step peek (shown M step peek t o) s) before (λ s. party_heard M step peek (shown M step peek t o) s))
-      ∙ ap (λ (l : List Party). parties M step peek before ++ o.port.party ∷ l) (party_map M step peek (λ s. hear_all M step peek (shown M step peek t o) s) behind (λ s. party_heard M step peek (shown M step peek t o) s))
-      ∙ sym (map-append (λ s. s.port.party) before (o ∷ behind))
+      ∙ map-append (λ s. s.port.party) (map (λ s. hear_all M step peek (shown M step peek t o) s) before) (react M step peek t o ∷ map (λ s. hear_all M step peek (shown M step peek t o) s) afterwards)
+      ∙ ap (λ (l : List Party). l ++ o.port.party ∷ parties M step peek (map (λ s. hear_all M step peek (shown M step peek t o) s) afterwards)) (party_map M step peek (λ s. hear_all M step peek (shown M step peek t o) s) before (λ s. party_heard M step peek (shown M step peek t o) s))
+      ∙ ap (λ (l : List Party). parties M step peek before ++ o.port.party ∷ l) (party_map M step peek (λ s. hear_all M step peek (shown M step peek t o) s) afterwards (λ s. party_heard M step peek (shown M step peek t o) s))
+      ∙ sym (map-append (λ s. s.port.party) before (o ∷ afterwards))
       ∙ ap (λ (l : List (Station M)). parties M step peek l) (sym e)
 
   rest_parties : (ms : ℕ → M) (bs : List Party) → parties M step peek (at_rest M step peek ms bs) ≡ bs
@@ -50,5 +50,5 @@ module _ (M : Type 0) (step : M → Act → M) (peek : M → Option (ℕ × Bool
           (λ s g. record { acts = g.acts; hands = g.hands; says = g.says; ran = g.ran })
           (handed M step peek end b pa pb (subst (λ (l : List Party). AllUnlike l) e unlike) (subst (λ (l : List Party). AllReact l) e swift) plays
           (at_rest M step peek ms pa) (AtRest ms b) (at_rest M step peek ms pb) quiet_voice
-          (record { all = ap (λ (l : List Party). at_rest M step peek ms l) e ∙ map-append (AtRest ms) pa (b ∷ pb); before = rest_parties ms pa; own = refl; behind = rest_parties ms pb })
+          (record { all = ap (λ (l : List Party). at_rest M step peek ms l) e ∙ map-append (AtRest ms) pa (b ∷ pb); before = rest_parties ms pa; own = refl; afterwards = rest_parties ms pb })
           (record { wired = refl; knows = tt }) (record { atn = refl; low = refl; bits = tt }) m z)

@@ -16,7 +16,7 @@ use Rattle.cbm_iec.specs.declared.port.Side.{Side}
 use Rattle.cbm_iec.specs.Ports.{side_due}
 use Rattle.cbm_session.proofs.handed.Hearers.{ear_of, IsSettled, told_settled, react_settled, IsVoiced, told_voice, told_voiced, own_voice, own_voiced, Goes, goes_told, goes_react}
 use Rattle.cbm_session.proofs.handed.Later.{told_kept, reacted_later}
-use Rattle.cbm_session.specs.Among.{Rest, behind_host, behind_other}
+use Rattle.cbm_session.specs.Among.{Rest, after_the_host, after_another}
 use Rattle.cbm_session.specs.Following.{IsInTime}
 use Rattle.cbm_session.specs.Handed.{Voice, over, ear_time, others_of, is_one_of, is_before, comes_next, IsNothingDue, ends, AllReact}
 use Rattle.cbm_session.specs.Playing.{IsByte, AllBytes, IsLaterDue, Station, host_event, drive_events, told_lines, tell, hear, hear_all, react, shown, AllInTime, AllLater, reacting, Plays, stays, change, reaction}
@@ -24,32 +24,32 @@ use Rattle.cbm_session.specs.Sessions.{Unlike, AllUnlike}
 
 -- ---- two places in one list
 
-pub data Beside {A : Type 0} (as_ : List A) (x : A) (bs before : List A) (o : A) (behind : List A) : Type 0 where
-  here : as_ ≡ before → x ≡ o → bs ≡ behind → Beside as_ x bs before o behind
-  ahead : (mid : List A) → before ≡ as_ ++ x ∷ mid → bs ≡ mid ++ o ∷ behind → Beside as_ x bs before o behind
-  later : (mid : List A) → as_ ≡ before ++ o ∷ mid → behind ≡ mid ++ x ∷ bs → Beside as_ x bs before o behind
+pub data Beside {A : Type 0} (as_ : List A) (x : A) (bs before : List A) (o : A) (afterwards : List A) : Type 0 where
+  here : as_ ≡ before → x ≡ o → bs ≡ afterwards → Beside as_ x bs before o afterwards
+  ahead : (mid : List A) → before ≡ as_ ++ x ∷ mid → bs ≡ mid ++ o ∷ afterwards → Beside as_ x bs before o afterwards
+  later : (mid : List A) → as_ ≡ before ++ o ∷ mid → afterwards ≡ mid ++ x ∷ bs → Beside as_ x bs before o afterwards
 
-pub where_is : {A : Type 0} (as_ : List A) (x : A) (bs before : List A) (o : A) (behind : List A) → as_ ++ x ∷ bs ≡ before ++ o ∷ behind → Beside as_ x bs before o behind
-where_is {A} [] x bs [] o behind e = let f : x ≡ o = cc in let g : bs ≡ behind = cc in here refl f g
-where_is {A} [] x bs (c ∷ before) o behind e =
+pub where_is : {A : Type 0} (as_ : List A) (x : A) (bs before : List A) (o : A) (afterwards : List A) → as_ ++ x ∷ bs ≡ before ++ o ∷ afterwards → Beside as_ x bs before o afterwards
+where_is {A} [] x bs [] o afterwards e = let f : x ≡ o = cc in let g : bs ≡ afterwards = cc in here refl f g
+where_is {A} [] x bs (c ∷ before) o afterwards e =
     let f : c ≡ x = cc in
-    let g : bs ≡ before ++ o ∷ behind = cc in
+    let g : bs ≡ before ++ o ∷ afterwards = cc in
     ahead before (ap (λ (y : A). y ∷ before) f) g
-where_is {A} (a ∷ as_) x bs [] o behind e =
+where_is {A} (a ∷ as_) x bs [] o afterwards e =
     let f : a ≡ o = cc in
-    let g : behind ≡ as_ ++ x ∷ bs = cc in
+    let g : afterwards ≡ as_ ++ x ∷ bs = cc in
     later as_ (ap (λ (y : A). y ∷ as_) f) g
-where_is {A} (a ∷ as_) x bs (c ∷ before) o behind e = let f : as_ ++ x ∷ bs ≡ before ++ o ∷ behind = cc in go (where_is as_ x bs before o behind f)
+where_is {A} (a ∷ as_) x bs (c ∷ before) o afterwards e = let f : as_ ++ x ∷ bs ≡ before ++ o ∷ afterwards = cc in go (where_is as_ x bs before o afterwards f)
   where
     heads : a ≡ c
     heads = cc
 
-    go : Beside as_ x bs before o behind → Beside (a ∷ as_) x bs (c ∷ before) o behind
+    go : Beside as_ x bs before o afterwards → Beside (a ∷ as_) x bs (c ∷ before) o afterwards
     go (here f g h) = here (ap (λ (l : List A). a ∷ l) f ∙ ap (λ (y : A). y ∷ before) heads) g h
     go (ahead mid f g) = ahead mid (ap (λ (l : List A). c ∷ l) f ∙ ap (λ (y : A). y ∷ (as_ ++ x ∷ mid)) (sym heads)) g
     go (later mid f g) = later mid (ap (λ (l : List A). a ∷ l) f ∙ ap (λ (y : A). y ∷ (before ++ o ∷ mid)) heads) g
 
--- what stands in a list at the place behind another one
+-- what stands in a list at the place after another one
 abbrev pub Under : {A B : Type 0} → List A → (B → Type 0) → List B → Type 0
 Under [] P [] = ⊥
 Under [] P (y ∷ ys) = P y
@@ -131,14 +131,14 @@ later_in_time t u None l h = tt
 later_in_time t u (Some v) l h = omega (arith, l, h)
 
 -- the reaction of drive o at t, in the order of ties: this drive's is later than it, or else not before it
-abbrev IsBehindTie : Bool → ℕ → Option ℕ → Type 0
-IsBehindTie true t due = IsLaterDue t due
-IsBehindTie false t due = IsInTime t due
+abbrev IsAfterTie : Bool → ℕ → Option ℕ → Type 0
+IsAfterTie true t due = IsLaterDue t due
+IsAfterTie false t due = IsInTime t due
 
 not_less : (a b : ℕ) → b ≤ a → nat_lt a b ≡ false
 not_less a b l = lt-leb (suc a) b (omega (arith, l))
 
-tie_quiet : (v : Bool) (t m u : ℕ) → m ≡ t → IsBehindTie v t (Some u) → (if v then nat_le u m else nat_lt u m) ≡ false
+tie_quiet : (v : Bool) (t m u : ℕ) → m ≡ t → IsAfterTie v t (Some u) → (if v then nat_le u m else nat_lt u m) ≡ false
 tie_quiet true t m u e h = lt-leb u m (omega (arith, e, h))
 tie_quiet false t m u e h = not_less u m (omega (arith, e, h))
 
@@ -172,11 +172,11 @@ module _ (M : Type 0) (step : M → Act → M) (peek : M → Option (ℕ × Bool
 
   later_heard : (t u : ℕ) (cs : List Change) (s : Station M) → AllAt t cs → 1 ≤ s.port.party.reaction → u ≤ t → IsLaterDue u (Due s) → IsLaterDue u (Due (hear_all M step peek cs s))
   later_heard t u [] s a w l h = h
-  later_heard t u (c ∷ cs) s a w l h = let e = a.0 in later_heard t u cs (hear M step peek c s) a.1 w l (later_told c.moment u (behind_other c.line c.way s.rest) s w (omega (arith, e, l)) h)
+  later_heard t u (c ∷ cs) s a w l h = let e = a.0 in later_heard t u cs (hear M step peek c s) a.1 w l (later_told c.moment u (after_another c.line c.way s.rest) s w (omega (arith, e, l)) h)
 
   pub in_time_heard : (t u : ℕ) (cs : List Change) (s : Station M) → AllAt t cs → 1 ≤ s.port.party.reaction → u ≤ t → IsInTime u (Due s) → IsInTime u (Due (hear_all M step peek cs s))
   in_time_heard t u [] s a w l h = h
-  in_time_heard t u (c ∷ cs) s a w l h = let e = a.0 in in_time_heard t u cs (hear M step peek c s) a.1 w l (in_time_told c.moment u (behind_other c.line c.way s.rest) s w (omega (arith, e, l)) h)
+  in_time_heard t u (c ∷ cs) s a w l h = let e = a.0 in in_time_heard t u cs (hear M step peek c s) a.1 w l (in_time_told c.moment u (after_another c.line c.way s.rest) s w (omega (arith, e, l)) h)
 
   all_later_heard : (t u : ℕ) (cs : List Change) (ss : List (Station M)) → AllAt t cs → AllReact (parties ss) → u ≤ t → AllLater M step peek u ss → AllLater M step peek u (map (λ s. hear_all M step peek cs s) ss)
   all_later_heard t u cs [] a w l h = tt
@@ -211,7 +211,7 @@ module _ (M : Type 0) (step : M → Act → M) (peek : M → Option (ℕ × Bool
   -- a station that settled stays so
   heard_settled : (cs : List Change) (s : Station M) → IsSettled M step peek s → IsSettled M step peek (hear_all M step peek cs s)
   heard_settled [] s g = g
-  heard_settled (c ∷ cs) s g = heard_settled cs (hear M step peek c s) (told_settled M step peek c.moment (behind_other c.line c.way s.rest) s g)
+  heard_settled (c ∷ cs) s g = heard_settled cs (hear M step peek c s) (told_settled M step peek c.moment (after_another c.line c.way s.rest) s g)
 
   -- ---- one drive of the bus
 
@@ -221,7 +221,7 @@ module _ (M : Type 0) (step : M → Act → M) (peek : M → Option (ℕ × Bool
       pub all : ss ≡ as_ ++ x ∷ bs
       pub before : parties as_ ≡ pa
       pub own : x.port.party ≡ b
-      pub behind : parties bs ≡ pb
+      pub afterwards : parties bs ≡ pb
 
     abbrev heard_from : ℕ → Station M → Station M → Station M
     heard_from t o s = hear_all M step peek (shown M step peek t o) s
@@ -235,42 +235,42 @@ module _ (M : Type 0) (step : M → Act → M) (peek : M → Option (ℕ × Bool
     swift_of : {as_ : List (Station M)} {x : Station M} {bs ss : List (Station M)} → Stands as_ x bs ss → AllReact (parties as_) × (1 ≤ x.port.party.reaction) × AllReact (parties bs)
     swift_of {as_} {x} {bs} {ss} s =
         let k = all_react_at pa b pb swift in
-        (subst (λ (l : List Party). AllReact l) (sym s.before) k.0, subst (λ (p : Party). 1 ≤ p.reaction) (sym s.own) k.1, subst (λ (l : List Party). AllReact l) (sym s.behind) k.2)
+        (subst (λ (l : List Party). AllReact l) (sym s.before) k.0, subst (λ (p : Party). 1 ≤ p.reaction) (sym s.own) k.1, subst (λ (l : List Party). AllReact l) (sym s.afterwards) k.2)
 
     swift_at : (xs : List (Station M)) (x : Station M) (ys : List (Station M)) → AllReact (parties (xs ++ x ∷ ys)) → AllReact (parties xs) × (1 ≤ x.port.party.reaction) × AllReact (parties ys)
     swift_at xs x ys h = all_react_at (parties xs) x.port.party (parties ys) (subst (λ (l : List Party). AllReact l) (parties_at xs x ys) h)
 
-    -- where it stands behind a change of the host, and behind a reaction
+    -- where it stands after a change of the host, and after a reaction
     told_stands : {as_ : List (Station M)} {x : Station M} {bs ss : List (Station M)} (c : Change) → Stands as_ x bs ss
         → Stands (map (λ s. tell M step peek c s) as_) (tell M step peek c x) (map (λ s. tell M step peek c s) bs) (map (λ s. tell M step peek c s) ss)
     told_stands {as_} {x} {bs} {ss} c s = record {
       all = ap (λ (l : List (Station M)). map (λ z. tell M step peek c z) l) s.all ∙ map-append (λ z. tell M step peek c z) as_ (x ∷ bs);
       before = party_map (λ z. tell M step peek c z) as_ (λ z. refl) ∙ s.before;
       own = s.own;
-      behind = party_map (λ z. tell M step peek c z) bs (λ z. refl) ∙ s.behind;
+      afterwards = party_map (λ z. tell M step peek c z) bs (λ z. refl) ∙ s.afterwards;
     }
 
-    here_stands : (t : ℕ) (before : List (Station M)) (o : Station M) (behind : List (Station M)) {ss : List (Station M)} → Stands before o behind ss
-        → Stands (map (heard_from t o) before) (react M step peek t o) (map (heard_from t o) behind) (reacting M step peek t before o behind)
-    here_stands t before o behind s = record {
+    here_stands : (t : ℕ) (before : List (Station M)) (o : Station M) (afterwards : List (Station M)) {ss : List (Station M)} → Stands before o afterwards ss
+        → Stands (map (heard_from t o) before) (react M step peek t o) (map (heard_from t o) afterwards) (reacting M step peek t before o afterwards)
+    here_stands t before o afterwards s = record {
       all = refl;
       before = party_map (heard_from t o) before (λ z. party_heard (shown M step peek t o) z) ∙ s.before;
       own = s.own;
-      behind = party_map (heard_from t o) behind (λ z. party_heard (shown M step peek t o) z) ∙ s.behind;
+      afterwards = party_map (heard_from t o) afterwards (λ z. party_heard (shown M step peek t o) z) ∙ s.afterwards;
     }
 
-    ahead_stands : (t : ℕ) (as_ : List (Station M)) (x : Station M) (mid : List (Station M)) (o : Station M) (behind : List (Station M)) {ss : List (Station M)} → Stands as_ x (mid ++ o ∷ behind) ss
-        → Stands (map (heard_from t o) as_) (heard_from t o x) (map (heard_from t o) mid ++ react M step peek t o ∷ map (heard_from t o) behind) (reacting M step peek t (as_ ++ x ∷ mid) o behind)
-    ahead_stands t as_ x mid o behind s = record {
-      all = ap (λ (l : List (Station M)). l ++ react M step peek t o ∷ map (heard_from t o) behind) (map-append (heard_from t o) as_ (x ∷ mid))
-          ∙ append_assoc (map (heard_from t o) as_) (heard_from t o x ∷ map (heard_from t o) mid) (react M step peek t o ∷ map (heard_from t o) behind);
+    ahead_stands : (t : ℕ) (as_ : List (Station M)) (x : Station M) (mid : List (Station M)) (o : Station M) (afterwards : List (Station M)) {ss : List (Station M)} → Stands as_ x (mid ++ o ∷ afterwards) ss
+        → Stands (map (heard_from t o) as_) (heard_from t o x) (map (heard_from t o) mid ++ react M step peek t o ∷ map (heard_from t o) afterwards) (reacting M step peek t (as_ ++ x ∷ mid) o afterwards)
+    ahead_stands t as_ x mid o afterwards s = record {
+      all = ap (λ (l : List (Station M)). l ++ react M step peek t o ∷ map (heard_from t o) afterwards) (map-append (heard_from t o) as_ (x ∷ mid))
+          ∙ append_assoc (map (heard_from t o) as_) (heard_from t o x ∷ map (heard_from t o) mid) (react M step peek t o ∷ map (heard_from t o) afterwards);
       before = party_map (heard_from t o) as_ (λ z. party_heard (shown M step peek t o) z) ∙ s.before;
       own = party_heard (shown M step peek t o) x ∙ s.own;
-      behind = parties_at (map (heard_from t o) mid) (react M step peek t o) (map (heard_from t o) behind)
-          ∙ ap (λ (l : List Party). l ++ o.port.party ∷ parties (map (heard_from t o) behind)) (party_map (heard_from t o) mid (λ z. party_heard (shown M step peek t o) z))
-          ∙ ap (λ (l : List Party). parties mid ++ o.port.party ∷ l) (party_map (heard_from t o) behind (λ z. party_heard (shown M step peek t o) z))
-          ∙ sym (parties_at mid o behind)
-          ∙ s.behind;
+      afterwards = parties_at (map (heard_from t o) mid) (react M step peek t o) (map (heard_from t o) afterwards)
+          ∙ ap (λ (l : List Party). l ++ o.port.party ∷ parties (map (heard_from t o) afterwards)) (party_map (heard_from t o) mid (λ z. party_heard (shown M step peek t o) z))
+          ∙ ap (λ (l : List Party). parties mid ++ o.port.party ∷ l) (party_map (heard_from t o) afterwards (λ z. party_heard (shown M step peek t o) z))
+          ∙ sym (parties_at mid o afterwards)
+          ∙ s.afterwards;
     }
 
     later_stands : (t : ℕ) (before : List (Station M)) (o : Station M) (mid : List (Station M)) (x : Station M) (bs : List (Station M)) {ss : List (Station M)} → Stands (before ++ o ∷ mid) x bs ss
@@ -284,16 +284,16 @@ module _ (M : Type 0) (step : M → Act → M) (peek : M → Option (ℕ × Bool
           ∙ sym (parties_at before o mid)
           ∙ s.before;
       own = party_heard (shown M step peek t o) x ∙ s.own;
-      behind = party_map (heard_from t o) bs (λ z. party_heard (shown M step peek t o) z) ∙ s.behind;
+      afterwards = party_map (heard_from t o) bs (λ z. party_heard (shown M step peek t o) z) ∙ s.afterwards;
     }
 
-    -- another drive isn't this one; and those listed behind are those of the list
-    ahead_unlike : {as_ : List (Station M)} {x : Station M} (mid : List (Station M)) (o : Station M) (behind : List (Station M)) {ss : List (Station M)} → Stands as_ x (mid ++ o ∷ behind) ss
+    -- another drive isn't this one; and those listed after are those of the list
+    ahead_unlike : {as_ : List (Station M)} {x : Station M} (mid : List (Station M)) (o : Station M) (afterwards : List (Station M)) {ss : List (Station M)} → Stands as_ x (mid ++ o ∷ afterwards) ss
         → (b.device ≡ o.port.party.device → ⊥) × (is_one_of o.port.party.device (devices pb) ≡ true)
-    ahead_unlike mid o behind s =
-        let e = sym s.behind ∙ parties_at mid o behind in (
-          (unlike_in b.device (parties mid) o.port.party (parties behind) (subst (λ (l : List Party). Unlike b.device l) e (unlike_at pa b pb unlike))).0,
-          ap (λ (l : List Party). is_one_of o.port.party.device (devices l)) e ∙ one_of (parties mid) o.port.party (parties behind),
+    ahead_unlike mid o afterwards s =
+        let e = sym s.afterwards ∙ parties_at mid o afterwards in (
+          (unlike_in b.device (parties mid) o.port.party (parties afterwards) (subst (λ (l : List Party). Unlike b.device l) e (unlike_at pa b pb unlike))).0,
+          ap (λ (l : List Party). is_one_of o.port.party.device (devices l)) e ∙ one_of (parties mid) o.port.party (parties afterwards),
         )
 
     later_unlike : (before : List (Station M)) (o : Station M) (mid : List (Station M)) {x : Station M} {bs ss : List (Station M)} → Stands (before ++ o ∷ mid) x bs ss
@@ -309,13 +309,13 @@ module _ (M : Type 0) (step : M → Act → M) (peek : M → Option (ℕ × Bool
     record IsPast (t : ℕ) (as_ : List (Station M)) (x : Station M) (bs : List (Station M)) : Type 0 where
       before : AllLater M step peek t as_
       own : IsLaterDue t (Due x)
-      behind : AllInTime M step peek t bs
+      afterwards : AllInTime M step peek t bs
 
-    -- what another drive shows at u comes behind it
-    shows_behind : (t u o : ℕ) (cs : List Change) (es : List Event) → (b.device ≡ o → ⊥) → AllAt u cs → (is_before (devices pb) t (Drive o) u ≡ true) → comes_next (devices pb) end t (others_of b.device es) ≡ true
+    -- what another drive shows at u comes after it
+    shows_after : (t u o : ℕ) (cs : List Change) (es : List Event) → (b.device ≡ o → ⊥) → AllAt u cs → (is_before (devices pb) t (Drive o) u ≡ true) → comes_next (devices pb) end t (others_of b.device es) ≡ true
         → comes_next (devices pb) end t (others_of b.device (drive_events o cs ++ es)) ≡ true
-    shows_behind t u o [] es n a w h = h
-    shows_behind t u o (c ∷ cs) es n a w h =
+    shows_after t u o [] es n a w h = h
+    shows_after t u o (c ∷ cs) es n a w h =
         ap (λ (l : List Event). comes_next (devices pb) end t l) (others_stay b.device o (c ∷ cs) es n) ∙ ap (λ (m : ℕ). is_before (devices pb) t (Drive o) m) a.0 ∙ w
 
     tie_before : (v : Bool) (t u : ℕ) → v ≡ true → t ≤ u → (if v then nat_le t u else nat_lt t u) ≡ true
@@ -341,8 +341,8 @@ module _ (M : Type 0) (step : M → Act → M) (peek : M → Option (ℕ × Bool
         → Stands as_ x bs ss → t < n → n2 ≤ suc end → IsPast t as_ x bs → comes_next (devices pb) end t (others_of b.device es) ≡ true
     comes_first {n} {n2} {t} (stays y e k f) as_ x bs s l m p = ap (λ (v : List Event). comes_next (devices pb) end t (others_of b.device v)) e ∙ le-leb t end (omega (arith, k, l, m))
     comes_first {n} {n2} {t} (change c more y i j e f) as_ x bs s l m p = ap (λ (v : List Event). comes_next (devices pb) end t (others_of b.device v)) e ∙ le-leb (suc t) c.moment (omega (arith, l, i))
-    comes_first {n} {n2} {t} {ss} {ss2} {es} (reaction u before o behind more y e i k f) as_ x bs s l m p =
-        ap (λ (v : List Event). comes_next (devices pb) end t (others_of b.device v)) k ∙ elim (where_is as_ x bs before o behind (sym s.all ∙ e)) [
+    comes_first {n} {n2} {t} {ss} {ss2} {es} (reaction u before o afterwards more y e i k f) as_ x bs s l m p =
+        ap (λ (v : List Event). comes_next (devices pb) end t (others_of b.device v)) k ∙ elim (where_is as_ x bs before o afterwards (sym s.all ∙ e)) [
           | here ea ex eb ↦ (
               let s2 = restand ea ex eb s in
               let p2 = repast t ea ex eb p in
@@ -351,26 +351,26 @@ module _ (M : Type 0) (step : M → Act → M) (peek : M → Option (ℕ × Bool
               let own = ap (λ (q : Party). q.device) s2.own in
               ap (λ (d : ℕ). comes_next (devices pb) end t (others_of b.device (drive_events d (shown M step peek u o) ++ more))) own
               ∙ ap (λ (v : List Event). comes_next (devices pb) end t v) (own_removed b.device (shown M step peek u o) more)
-              ∙ comes_first f (map (heard_from u o) before) (react M step peek u o) (map (heard_from u o) behind) (here_stands u before o behind s2) (omega (arith, l2)) m (record {
+              ∙ comes_first f (map (heard_from u o) before) (react M step peek u o) (map (heard_from u o) afterwards) (here_stands u before o afterwards s2) (omega (arith, l2)) m (record {
                 before = all_later_heard u t (shown M step peek u o) before (shown_at u o) w.0 (omega (arith, l2)) p2.before;
                 own = react_later u t o w.1 (omega (arith, l2)) i.due;
-                behind = all_in_time_heard u t (shown M step peek u o) behind (shown_at u o) w.2 (omega (arith, l2)) p2.behind;
+                afterwards = all_in_time_heard u t (shown M step peek u o) afterwards (shown_at u o) w.2 (omega (arith, l2)) p2.afterwards;
               })
               )
           | ahead mid ea eb ↦ (
               let s2 = restand refl refl eb s in
               let p2 = repast t refl refl eb p in
               let w = swift_of s2 in
-              let w2 = swift_at mid o behind w.2 in
-              let q = in_time_at t mid o behind p2.behind in
+              let w2 = swift_at mid o afterwards w.2 in
+              let q = in_time_at t mid o afterwards p2.afterwards in
               let l2 = due_from t u (Due o) i.due q.1 in
-              let n2 = ahead_unlike mid o behind s2 in
-              let s3 = subst (λ (v : List (Station M)). Stands (map (heard_from u o) as_) (heard_from u o x) (map (heard_from u o) mid ++ react M step peek u o ∷ map (heard_from u o) behind) (reacting M step peek u v o behind)) (sym ea) (ahead_stands u as_ x mid o behind s2) in
-              shows_behind t u o.port.party.device (shown M step peek u o) more n2.0 (shown_at u o) (tie_before (is_one_of o.port.party.device (devices pb)) t u n2.1 l2)
-              (comes_first f (map (heard_from u o) as_) (heard_from u o x) (map (heard_from u o) mid ++ react M step peek u o ∷ map (heard_from u o) behind) s3 (omega (arith, l2)) m (record {
+              let n2 = ahead_unlike mid o afterwards s2 in
+              let s3 = subst (λ (v : List (Station M)). Stands (map (heard_from u o) as_) (heard_from u o x) (map (heard_from u o) mid ++ react M step peek u o ∷ map (heard_from u o) afterwards) (reacting M step peek u v o afterwards)) (sym ea) (ahead_stands u as_ x mid o afterwards s2) in
+              shows_after t u o.port.party.device (shown M step peek u o) more n2.0 (shown_at u o) (tie_before (is_one_of o.port.party.device (devices pb)) t u n2.1 l2)
+              (comes_first f (map (heard_from u o) as_) (heard_from u o x) (map (heard_from u o) mid ++ react M step peek u o ∷ map (heard_from u o) afterwards) s3 (omega (arith, l2)) m (record {
                 before = all_later_heard u t (shown M step peek u o) as_ (shown_at u o) w.0 l2 p2.before;
                 own = later_heard u t (shown M step peek u o) x (shown_at u o) w.1 l2 p2.own;
-                behind = in_time_join t (map (heard_from u o) mid) (react M step peek u o) (map (heard_from u o) behind) (all_in_time_heard u t (shown M step peek u o) mid (shown_at u o) w2.0 l2 q.0) (react_in_time u t o w2.1 l2 i.due) (all_in_time_heard u t (shown M step peek u o) behind (shown_at u o) w2.2 l2 q.2);
+                afterwards = in_time_join t (map (heard_from u o) mid) (react M step peek u o) (map (heard_from u o) afterwards) (all_in_time_heard u t (shown M step peek u o) mid (shown_at u o) w2.0 l2 q.0) (react_in_time u t o w2.1 l2 i.due) (all_in_time_heard u t (shown M step peek u o) afterwards (shown_at u o) w2.2 l2 q.2);
               }))
               )
           | later mid ea eb ↦ (
@@ -382,11 +382,11 @@ module _ (M : Type 0) (step : M → Act → M) (peek : M → Option (ℕ × Bool
               let l2 = due_after t u (Due o) i.due q.1 in
               let n2 = later_unlike before o mid s2 in
               let s3 = subst (λ (v : List (Station M)). Stands (map (heard_from u o) before ++ react M step peek u o ∷ map (heard_from u o) mid) (heard_from u o x) (map (heard_from u o) bs) (reacting M step peek u before o v)) (sym eb) (later_stands u before o mid x bs s2) in
-              shows_behind t u o.port.party.device (shown M step peek u o) more n2.0 (shown_at u o) (less_before (is_one_of o.port.party.device (devices pb)) t u l2)
+              shows_after t u o.port.party.device (shown M step peek u o) more n2.0 (shown_at u o) (less_before (is_one_of o.port.party.device (devices pb)) t u l2)
               (comes_first f (map (heard_from u o) before ++ react M step peek u o ∷ map (heard_from u o) mid) (heard_from u o x) (map (heard_from u o) bs) s3 (omega (arith, l2)) m (record {
                 before = later_join t (map (heard_from u o) before) (react M step peek u o) (map (heard_from u o) mid) (all_later_heard u t (shown M step peek u o) before (shown_at u o) w2.0 (omega (arith, l2)) q.0) (react_later u t o w2.1 (omega (arith, l2)) i.due) (all_later_heard u t (shown M step peek u o) mid (shown_at u o) w2.2 (omega (arith, l2)) q.2);
                 own = later_heard u t (shown M step peek u o) x (shown_at u o) w.1 (omega (arith, l2)) p2.own;
-                behind = all_in_time_heard u t (shown M step peek u o) bs (shown_at u o) w.2 (omega (arith, l2)) p2.behind;
+                afterwards = all_in_time_heard u t (shown M step peek u o) bs (shown_at u o) w.2 (omega (arith, l2)) p2.afterwards;
               }))
               )
         ]
@@ -408,7 +408,7 @@ module _ (M : Type 0) (step : M → Act → M) (peek : M → Option (ℕ × Bool
         go None k = tt
         go (Some u) k = k u refl
 
-    -- what its lines have shown, behind another drive's changes
+    -- what its lines have shown, after another drive's changes
     abbrev voice_all : ℕ → List Change → Station M → Voice → Voice
     voice_all o [] s v = v
     voice_all o (c ∷ cs) s v = voice_all o cs (hear M step peek c s) (told_voice M step peek (Drive o) c.line c.way s v)
@@ -416,21 +416,21 @@ module _ (M : Type 0) (step : M → Act → M) (peek : M → Option (ℕ × Bool
     voiced_all : (o : ℕ) (cs : List Change) (s : Station M) (v : Voice) → IsSettled M step peek s → IsVoiced M step peek s v → (s.port.party.device ≡ o → ⊥) → IsVoiced M step peek (hear_all M step peek cs s) (voice_all o cs s v)
     voiced_all o [] s v g h n = h
     voiced_all o (c ∷ cs) s v g h n =
-        voiced_all o cs (hear M step peek c s) (told_voice M step peek (Drive o) c.line c.way s v) (told_settled M step peek c.moment (behind_other c.line c.way s.rest) s g) (told_voiced M step peek (Drive o) c.moment c.line c.way s v g h n) n
+        voiced_all o cs (hear M step peek c s) (told_voice M step peek (Drive o) c.line c.way s v) (told_settled M step peek c.moment (after_another c.line c.way s.rest) s g) (told_voiced M step peek (Drive o) c.moment c.line c.way s v g h n) n
 
     goes_heard : (o t : ℕ) (cs : List Change) (es full : List Event) (s s2 : Station M) (v : Voice) → AllAt t cs → IsSettled M step peek s → IsVoiced M step peek s v → (s.port.party.device ≡ o → ⊥) → 1 ≤ s.port.party.reaction
-        → IsBehindTie (is_one_of o (devices pb)) t (Due s) → Goes M step peek (devices pb) end (hear_all M step peek cs s) (voice_all o cs s v) es full s2 → Goes M step peek (devices pb) end s v (drive_events o cs ++ es) (drive_events o cs ++ full) s2
+        → IsAfterTie (is_one_of o (devices pb)) t (Due s) → Goes M step peek (devices pb) end (hear_all M step peek cs s) (voice_all o cs s v) es full s2 → Goes M step peek (devices pb) end s v (drive_events o cs ++ es) (drive_events o cs ++ full) s2
     goes_heard o t [] es full s s2 v a g i n w h f = f
     goes_heard o t (c ∷ cs) es full s s2 v a g i n w h f =
         goes_told M step peek (devices pb) end (record { who = Drive o; change = c }) (drive_events o cs ++ es) (drive_events o cs ++ full) s s2 v g i n (side_quiet s.port.side (record { who = Drive o; change = c } ∷ (drive_events o cs ++ es)) quiet)
-        (goes_heard o t cs es full (hear M step peek c s) s2 (told_voice M step peek (Drive o) c.line c.way s v) a.1 (told_settled M step peek c.moment (behind_other c.line c.way s.rest) s g) (told_voiced M step peek (Drive o) c.moment c.line c.way s v g i n) n w (tied (is_one_of o (devices pb)) h) f)
+        (goes_heard o t cs es full (hear M step peek c s) s2 (told_voice M step peek (Drive o) c.line c.way s v) a.1 (told_settled M step peek c.moment (after_another c.line c.way s.rest) s g) (told_voiced M step peek (Drive o) c.moment c.line c.way s v g i n) n w (tied (is_one_of o (devices pb)) h) f)
       where
         quiet : (u : ℕ) → Due s ≡ Some u → comes_next (devices pb) end u (record { who = Drive o; change = c } ∷ (drive_events o cs ++ es)) ≡ false
-        quiet u e = tie_quiet (is_one_of o (devices pb)) t c.moment u a.0 (subst (λ (x : Option ℕ). IsBehindTie (is_one_of o (devices pb)) t x) e h)
+        quiet u e = tie_quiet (is_one_of o (devices pb)) t c.moment u a.0 (subst (λ (x : Option ℕ). IsAfterTie (is_one_of o (devices pb)) t x) e h)
 
-        tied : (v : Bool) → IsBehindTie v t (Due s) → IsBehindTie v t (Due (hear M step peek c s))
-        tied true k = let e = a.0 in later_told c.moment t (behind_other c.line c.way s.rest) s w (omega (arith, e)) k
-        tied false k = let e = a.0 in in_time_told c.moment t (behind_other c.line c.way s.rest) s w (omega (arith, e)) k
+        tied : (v : Bool) → IsAfterTie v t (Due s) → IsAfterTie v t (Due (hear M step peek c s))
+        tied true k = let e = a.0 in later_told c.moment t (after_another c.line c.way s.rest) s w (omega (arith, e)) k
+        tied false k = let e = a.0 in in_time_told c.moment t (after_another c.line c.way s.rest) s w (omega (arith, e)) k
 
     abbrev Ends : Station M → Voice → List Event → Station M → Type 0
     Ends x v es y = Goes M step peek (devices pb) end x v (others_of b.device es) es y
@@ -460,19 +460,19 @@ module _ (M : Type 0) (step : M → Act → M) (peek : M → Option (ℕ × Bool
         let told = told_voice M step peek Host c.line c.way x voice in
         subst (λ (v : List Event). Under pa (λ w. Ends x voice v w) ss2) (sym e)
         (under_map pa (λ w. Ends (tell M step peek c x) told more w) (λ w. Ends x voice (host_event c ∷ more) w) ss2 (λ w k. goes_told M step peek (devices pb) end (host_event c) (others_of b.device more) more x w voice g iv tt still k)
-        (handed f (map (λ v. tell M step peek c v) as_) (tell M step peek c x) (map (λ v. tell M step peek c v) bs) told (told_stands c s) (told_settled M step peek c.moment (behind_host c.line c.way x.rest) x g) (told_voiced M step peek Host c.moment c.line c.way x voice g iv tt) m z))
-    handed {n} {n2} {ss} {ss2} {es} (reaction u before o behind more y e i k f) as_ x bs voice s g iv m z =
-        subst (λ (v : List Event). Under pa (λ w. Ends x voice v w) ss2) (sym k) (elim (where_is as_ x bs before o behind (sym s.all ∙ e)) [
+        (handed f (map (λ v. tell M step peek c v) as_) (tell M step peek c x) (map (λ v. tell M step peek c v) bs) told (told_stands c s) (told_settled M step peek c.moment (after_the_host c.line c.way x.rest) x g) (told_voiced M step peek Host c.moment c.line c.way x voice g iv tt) m z))
+    handed {n} {n2} {ss} {ss2} {es} (reaction u before o afterwards more y e i k f) as_ x bs voice s g iv m z =
+        subst (λ (v : List Event). Under pa (λ w. Ends x voice v w) ss2) (sym k) (elim (where_is as_ x bs before o afterwards (sym s.all ∙ e)) [
           | here ea ex eb ↦ (
               let s2 = restand ea ex eb s in
               let w = swift_of s2 in
               let go = subst (λ (v : Station M). IsSettled M step peek v) ex g in
               let io = subst (λ (v : Station M). IsVoiced M step peek v voice) ex iv in
-              let byte = bytes_at before o behind (subst (λ (v : List (Station M)). AllBytes M step peek v) e y) in
-              let next = comes_first f (map (heard_from u o) before) (react M step peek u o) (map (heard_from u o) behind) (here_stands u before o behind s2) (omega arith) m (record {
+              let byte = bytes_at before o afterwards (subst (λ (v : List (Station M)). AllBytes M step peek v) e y) in
+              let next = comes_first f (map (heard_from u o) before) (react M step peek u o) (map (heard_from u o) afterwards) (here_stands u before o afterwards s2) (omega arith) m (record {
                 before = all_later_heard u u (shown M step peek u o) before (shown_at u o) w.0 (omega arith) i.later;
                 own = react_later u u o w.1 (omega arith) i.due;
-                behind = all_in_time_heard u u (shown M step peek u o) behind (shown_at u o) w.2 (omega arith) i.in_time;
+                afterwards = all_in_time_heard u u (shown M step peek u o) afterwards (shown_at u o) w.2 (omega arith) i.in_time;
               }) in
               let own = ap (λ (d : ℕ). others_of b.device (drive_events d (shown M step peek u o) ++ more)) (ap (λ (q : Party). q.device) s2.own) ∙ own_removed b.device (shown M step peek u o) more in
               let full = drive_events o.port.party.device (shown M step peek u o) ++ more in
@@ -480,21 +480,21 @@ module _ (M : Type 0) (step : M → Act → M) (peek : M → Option (ℕ × Bool
               (subst (λ (v : List Event). Under pa (λ w2. Goes M step peek (devices pb) end o voice v (drive_events o.port.party.device (shown M step peek u o) ++ more) w2) ss2) (sym own)
               (under_map pa (λ w2. Ends (react M step peek u o) (own_voice M step peek o voice) more w2) (λ w2. Goes M step peek (devices pb) end o voice (others_of b.device more) (drive_events o.port.party.device (shown M step peek u o) ++ more) w2) ss2
               (λ w2 j. goes_react M step peek (devices pb) end u (others_of b.device more) more o w2 voice go io byte i.due next j)
-              (handed f (map (heard_from u o) before) (react M step peek u o) (map (heard_from u o) behind) (own_voice M step peek o voice) (here_stands u before o behind s2) (react_settled M step peek u o go) (own_voiced M step peek u o voice go io byte i.due) m z)))
+              (handed f (map (heard_from u o) before) (react M step peek u o) (map (heard_from u o) afterwards) (own_voice M step peek o voice) (here_stands u before o afterwards s2) (react_settled M step peek u o go) (own_voiced M step peek u o voice go io byte i.due) m z)))
               )
           | ahead mid ea eb ↦ (
               let s2 = restand refl refl eb s in
               let w = swift_of s2 in
-              let n2 = ahead_unlike mid o behind s2 in
+              let n2 = ahead_unlike mid o afterwards s2 in
               let apart = not_own x o s.own n2.0 in
               let q = later_at u as_ x mid (subst (λ (v : List (Station M)). AllLater M step peek u v) ea i.later) in
-              let tie = subst (λ (v : Bool). IsBehindTie v u (Due x)) (sym n2.1) q.1 in
-              let s3 = subst (λ (v : List (Station M)). Stands (map (heard_from u o) as_) (heard_from u o x) (map (heard_from u o) mid ++ react M step peek u o ∷ map (heard_from u o) behind) (reacting M step peek u v o behind)) (sym ea) (ahead_stands u as_ x mid o behind s2) in
+              let tie = subst (λ (v : Bool). IsAfterTie v u (Due x)) (sym n2.1) q.1 in
+              let s3 = subst (λ (v : List (Station M)). Stands (map (heard_from u o) as_) (heard_from u o x) (map (heard_from u o) mid ++ react M step peek u o ∷ map (heard_from u o) afterwards) (reacting M step peek u v o afterwards)) (sym ea) (ahead_stands u as_ x mid o afterwards s2) in
               let told = voice_all o.port.party.device (shown M step peek u o) x voice in
               subst (λ (v : List Event). Under pa (λ w2. Goes M step peek (devices pb) end x voice v (drive_events o.port.party.device (shown M step peek u o) ++ more) w2) ss2) (sym (others_stay b.device o.port.party.device (shown M step peek u o) more n2.0))
               (under_map pa (λ w2. Ends (heard_from u o x) told more w2) (λ w2. Goes M step peek (devices pb) end x voice (drive_events o.port.party.device (shown M step peek u o) ++ others_of b.device more) (drive_events o.port.party.device (shown M step peek u o) ++ more) w2) ss2
               (λ w2 j. goes_heard o.port.party.device u (shown M step peek u o) (others_of b.device more) more x w2 voice (shown_at u o) g iv apart w.1 tie j)
-              (handed f (map (heard_from u o) as_) (heard_from u o x) (map (heard_from u o) mid ++ react M step peek u o ∷ map (heard_from u o) behind) told s3 (heard_settled (shown M step peek u o) x g) (voiced_all o.port.party.device (shown M step peek u o) x voice g iv apart) m z))
+              (handed f (map (heard_from u o) as_) (heard_from u o x) (map (heard_from u o) mid ++ react M step peek u o ∷ map (heard_from u o) afterwards) told s3 (heard_settled (shown M step peek u o) x g) (voiced_all o.port.party.device (shown M step peek u o) x voice g iv apart) m z))
               )
           | later mid ea eb ↦ (
               let s2 = restand ea refl refl s in
@@ -502,7 +502,7 @@ module _ (M : Type 0) (step : M → Act → M) (peek : M → Option (ℕ × Bool
               let n2 = later_unlike before o mid s2 in
               let apart = not_own x o s.own n2.0 in
               let q = in_time_at u mid x bs (subst (λ (v : List (Station M)). AllInTime M step peek u v) eb i.in_time) in
-              let tie = subst (λ (v : Bool). IsBehindTie v u (Due x)) (sym n2.1) q.1 in
+              let tie = subst (λ (v : Bool). IsAfterTie v u (Due x)) (sym n2.1) q.1 in
               let s3 = subst (λ (v : List (Station M)). Stands (map (heard_from u o) before ++ react M step peek u o ∷ map (heard_from u o) mid) (heard_from u o x) (map (heard_from u o) bs) (reacting M step peek u before o v)) (sym eb) (later_stands u before o mid x bs s2) in
               let told = voice_all o.port.party.device (shown M step peek u o) x voice in
               subst (λ (v : List Event). Under pa (λ w2. Goes M step peek (devices pb) end x voice v (drive_events o.port.party.device (shown M step peek u o) ++ more) w2) ss2) (sym (others_stay b.device o.port.party.device (shown M step peek u o) more n2.0))

@@ -32,9 +32,9 @@ use Rattle.cbm_iec.specs.declared.port.Side.{Side}
 use Rattle.cbm_session.proofs.handed.Spelling.{Spells, IsBound, bits_after, WasShown, turned_spells, lines_spell, reaction_spells}
 use Rattle.cbm_session.proofs.handed.Voices.{reaction_passes, freed_bits}
 use Rattle.cbm_session.proofs.handed.Knowing.{SideKnows, run_with, told_knows, reacted_knows}
-use Rattle.cbm_session.specs.Among.{Rest, wires_of, behind_other}
+use Rattle.cbm_session.specs.Among.{Rest, wires_of, after_another}
 use Rattle.cbm_session.specs.Answers.{Run}
-use Rattle.cbm_session.specs.Handed.{Voice, voiced, cut_by, voice_by, said_of, HasSaid, passes, says, Hearer, ear_time, ear_freed, ear_lined, ear_told, hears, moves, rest_behind, comes_next, IsNothingDue, with_act, is_answer, Hands, tells, reacts, answers}
+use Rattle.cbm_session.specs.Handed.{Voice, voiced, cut_by, voice_by, said_of, HasSaid, passes, says, Hearer, ear_time, ear_freed, ear_lined, ear_told, hears, moves, rest_afterwards, comes_next, IsNothingDue, with_act, is_answer, Hands, tells, reacts, answers}
 use Rattle.cbm_session.specs.Playing.{Station, IsByte, drive_events, shown, told_lines, react}
 
 abbrev pub ear_of : Side → Option Ear
@@ -171,7 +171,7 @@ module _ (M : Type 0) (step : M → Act → M) (peek : M → Option (ℕ × Bool
   voice_then act v = record { atn = v.atn; low = v.low; bits = bits_after act v.bits }
 
   abbrev pub told_voice : Who → Line → Way → Station M → Voice → Voice
-  told_voice who line way s v = voice_then (told_act (wires_of (rest_behind who line way s.rest)) s.port) (voice_by s.port.party.device who line way v)
+  told_voice who line way s v = voice_then (told_act (wires_of (rest_afterwards who line way s.rest)) s.port) (voice_by s.port.party.device who line way v)
 
   abbrev own_voice_shown : Station M → Voice → Voice
   own_voice_shown s v = record {
@@ -220,17 +220,17 @@ module _ (M : Type 0) (step : M → Act → M) (peek : M → Option (ℕ × Bool
       go a false o true h k = absurd cc
 
   voice_heard : (who : Who) (line : Line) (way : Way) (s : Station M) (v : Voice) → IsSettled s → IsVoiced s v → IsOthers s.port.party.device who
-      → IsHeard (wires_of (rest_behind who line way s.rest)) s v (voice_by s.port.party.device who line way v)
-  voice_heard Host Atn way s v g h n = let k = atn_heard (wires_of (rest_behind Host Atn way s.rest)) s v way h.atn refl in record { atn = k.0; low = k.1; bits = k.2 }
-  voice_heard Host Clock way s v g h n = unchanged (wires_of (rest_behind Host Clock way s.rest)) s v h.atn (ap (λ (l : Lines). l.atn_low) g.wired)
-  voice_heard Host Data way s v g h n = unchanged (wires_of (rest_behind Host Data way s.rest)) s v h.atn (ap (λ (l : Lines). l.atn_low) g.wired)
+      → IsHeard (wires_of (rest_afterwards who line way s.rest)) s v (voice_by s.port.party.device who line way v)
+  voice_heard Host Atn way s v g h n = let k = atn_heard (wires_of (rest_afterwards Host Atn way s.rest)) s v way h.atn refl in record { atn = k.0; low = k.1; bits = k.2 }
+  voice_heard Host Clock way s v g h n = unchanged (wires_of (rest_afterwards Host Clock way s.rest)) s v h.atn (ap (λ (l : Lines). l.atn_low) g.wired)
+  voice_heard Host Data way s v g h n = unchanged (wires_of (rest_afterwards Host Data way s.rest)) s v h.atn (ap (λ (l : Lines). l.atn_low) g.wired)
   voice_heard (Drive o) line way s v g h n =
-      subst (λ (b : Bool). IsHeard (wires_of (behind_other line way s.rest)) s v (if b then voiced line way v else v)) (sym (ne_eqb s.port.party.device o n)) (by_line line)
+      subst (λ (b : Bool). IsHeard (wires_of (after_another line way s.rest)) s v (if b then voiced line way v else v)) (sym (ne_eqb s.port.party.device o n)) (by_line line)
     where
-      by_line : (l : Line) → IsHeard (wires_of (behind_other l way s.rest)) s v v
-      by_line Atn = unchanged (wires_of (behind_other Atn way s.rest)) s v h.atn (ap (λ (x : Lines). x.atn_low) g.wired)
-      by_line Clock = unchanged (wires_of (behind_other Clock way s.rest)) s v h.atn (ap (λ (x : Lines). x.atn_low) g.wired)
-      by_line Data = unchanged (wires_of (behind_other Data way s.rest)) s v h.atn (ap (λ (x : Lines). x.atn_low) g.wired)
+      by_line : (l : Line) → IsHeard (wires_of (after_another l way s.rest)) s v v
+      by_line Atn = unchanged (wires_of (after_another Atn way s.rest)) s v h.atn (ap (λ (x : Lines). x.atn_low) g.wired)
+      by_line Clock = unchanged (wires_of (after_another Clock way s.rest)) s v h.atn (ap (λ (x : Lines). x.atn_low) g.wired)
+      by_line Data = unchanged (wires_of (after_another Data way s.rest)) s v h.atn (ap (λ (x : Lines). x.atn_low) g.wired)
 
   freed_spelled : (r t : ℕ) (low : Bool) (role : Role) (side : Side) (own : Held) → SideSpells (freed_side r t low role side) own None
   freed_spelled r t low Absent side own = tt
@@ -259,21 +259,21 @@ module _ (M : Type 0) (step : M → Act → M) (peek : M → Option (ℕ × Bool
       go false = turned now.atn_low
 
   told_shows : (who : Who) (t : ℕ) (line : Line) (way : Way) (s : Station M) (v : Voice) → IsSettled s → IsVoiced s v → IsOthers s.port.party.device who
-      → WasShown (told_act (wires_of (rest_behind who line way s.rest)) s.port) (voice_by s.port.party.device who line way v).bits × IsVoiced (told_lines M step peek t (rest_behind who line way s.rest) s) (told_voice who line way s v)
+      → WasShown (told_act (wires_of (rest_afterwards who line way s.rest)) s.port) (voice_by s.port.party.device who line way v).bits × IsVoiced (told_lines M step peek t (rest_afterwards who line way s.rest) s) (told_voice who line way s v)
   told_shows who t line way s v g h n =
-      let now : Lines = wires_of (rest_behind who line way s.rest) in
+      let now : Lines = wires_of (rest_afterwards who line way s.rest) in
       let k = voice_heard who line way s v g h n in
-      let w = told_spells t (wires_of (rest_behind who line way s.rest)) s.port v.bits h.bits in (
-        subst (λ (b : Option (List Bool)). WasShown (told_act (wires_of (rest_behind who line way s.rest)) s.port) b) (sym k.bits) w.0,
+      let w = told_spells t (wires_of (rest_afterwards who line way s.rest)) s.port v.bits h.bits in (
+        subst (λ (b : Option (List Bool)). WasShown (told_act (wires_of (rest_afterwards who line way s.rest)) s.port) b) (sym k.bits) w.0,
         record {
           atn = k.atn;
           low = k.low ∙ h.low;
-          bits = subst (λ (b : Option (List Bool)). SideSpells (told t (wires_of (rest_behind who line way s.rest)) s.port).side s.port.own (bits_after (told_act (wires_of (rest_behind who line way s.rest)) s.port) b)) (sym k.bits) w.1;
+          bits = subst (λ (b : Option (List Bool)). SideSpells (told t (wires_of (rest_afterwards who line way s.rest)) s.port).side s.port.own (bits_after (told_act (wires_of (rest_afterwards who line way s.rest)) s.port) b)) (sym k.bits) w.1;
         },
       )
 
   pub told_voiced : (who : Who) (t : ℕ) (line : Line) (way : Way) (s : Station M) (v : Voice) → IsSettled s → IsVoiced s v → IsOthers s.port.party.device who
-      → IsVoiced (told_lines M step peek t (rest_behind who line way s.rest) s) (told_voice who line way s v)
+      → IsVoiced (told_lines M step peek t (rest_afterwards who line way s.rest) s) (told_voice who line way s v)
   told_voiced who t line way s v g h n = (told_shows who t line way s v g h n).1
 
   -- its own reaction
@@ -359,7 +359,7 @@ module _ (M : Type 0) (step : M → Act → M) (peek : M → Option (ℕ × Bool
   -- TOLD an event of the host or of another drive
   pub goes_told : (later : List ℕ) (end : ℕ) (e : Event) (es full : List Event) (s s2 : Station M) (v : Voice) → IsSettled s → IsVoiced s v → IsOthers s.port.party.device e.who
       → IsNothingDue later end (ear_time (ear_of s.port.side)) (e ∷ es)
-      → Goes later end (told_lines M step peek e.change.moment (rest_behind e.who e.change.line e.change.way s.rest) s) (told_voice e.who e.change.line e.change.way s v) es full s2 → Goes later end s v (e ∷ es) (e ∷ full) s2
+      → Goes later end (told_lines M step peek e.change.moment (rest_afterwards e.who e.change.line e.change.way s.rest) s) (told_voice e.who e.change.line e.change.way s v) es full s2 → Goes later end s v (e ∷ es) (e ∷ full) s2
   goes_told later end e es full s s2 v g h o q f = record {
     acts = with_act (told_act (wires_of r) s.port) f.acts;
     hands = subst (λ (l : Lines). Hands later end (hearer s) (e ∷ es) (with_act (told_act (wires_of r) (Seeing l)) f.acts)) (sym g.wired) (by_side s.port.side next q);
@@ -368,7 +368,7 @@ module _ (M : Type 0) (step : M → Act → M) (peek : M → Option (ℕ × Bool
   }
     where
       r : Rest
-      r = rest_behind e.who e.change.line e.change.way s.rest
+      r = rest_afterwards e.who e.change.line e.change.way s.rest
 
       Seeing : Lines → Port
       Seeing l = record { party = s.port.party; role = s.port.role; own = s.port.own; others = l; side = s.port.side }
@@ -406,16 +406,16 @@ module _ (M : Type 0) (step : M → Act → M) (peek : M → Option (ℕ × Bool
       At : Side → Hearer
       At side = record { party = s.port.party; role = s.port.role; rest = s.rest; ear = ear_of side }
 
-      Behind : Side → Hearer
-      Behind side = record { party = s.port.party; role = side_role s.port.party.device s.port.others.atn_low s.port.role side; rest = s.rest; ear = ear_of (side_after s.port.party.pace s.port.party.reaction t s.port.others (peek s.machine) side) }
+      Afterwards : Side → Hearer
+      Afterwards side = record { party = s.port.party; role = side_role s.port.party.device s.port.others.atn_low s.port.role side; rest = s.rest; ear = ear_of (side_after s.port.party.pace s.port.party.reaction t s.port.others (peek s.machine) side) }
 
-      ear_behind : (ear : Ear) → Behind (Hearing ear) ≡ moves t (At (Hearing ear))
-      ear_behind ear =
+      ear_after : (ear : Ear) → Afterwards (Hearing ear) ≡ moves t (At (Hearing ear))
+      ear_after ear =
           ap (λ (x : Role). (record { party = s.port.party; role = x; rest = s.rest; ear = Some ((ear_row s.port.party.pace ear).next s.port.party.reaction t s.port.others) })) (ear_role _ s.port.party.device s.port.others s.port.role ear)
           ∙ ap (λ (l : Lines). (record { party = s.port.party; role = role_with s.port.party.device ((ear_row s.port.party.pace ear).act l) s.port.role; rest = s.rest; ear = Some ((ear_row s.port.party.pace ear).next s.port.party.reaction t l) })) g.wired
 
-      by_side : (side : Side) → side_due side ≡ Some t → Hands later end (Behind side) es f.acts → Hands later end (At side) es (with_act (side_act s.port.party.pace (peek s.machine) s.port.others side) f.acts)
+      by_side : (side : Side) → side_due side ≡ Some t → Hands later end (Afterwards side) es f.acts → Hands later end (At side) es (with_act (side_act s.port.party.pace (peek s.machine) s.port.others side) f.acts)
       by_side (Hearing ear) e k =
-          reacts t f.acts e n (ap (λ (l : Lines). with_act ((ear_row s.port.party.pace ear).act l) f.acts) g.wired) (subst (λ (h : Hearer). Hands later end h es f.acts) (ear_behind ear) k)
+          reacts t f.acts e n (ap (λ (l : Lines). with_act ((ear_row s.port.party.pace ear).act l) f.acts) g.wired) (subst (λ (h : Hearer). Hands later end h es f.acts) (ear_after ear) k)
       by_side (Speaking mouth) e k =
           answered later end (At (Speaking mouth)) es ((mouth_row s.port.party.pace (peek s.machine) mouth).act s.port.others) f.acts refl (said_is _ s.port.others (peek s.machine) mouth) k

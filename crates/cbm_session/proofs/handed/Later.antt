@@ -1,4 +1,4 @@
--- What is due behind a change is due later than it, or was due before; what is due behind a reaction is due later.
+-- What is due after a change is due later than it, or was due before; what is due after a reaction is due later.
 use Rattle.cbm_iec.specs.Profile.{half_bit}
 use Rattle.cbm_iec.specs.declared.pace.Pace.TheVariants.{Profile, Kernal}
 use Rattle.cbm_iec.specs.declared.pace.Pace.{Pace}
@@ -252,7 +252,7 @@ turned_kept t others p h = by_low others.atn_low
     by_low true = inr (omega (arith, h))
     by_low false = freed_later p.party.reaction t others.clock_low p.role p.side h
 
--- WHAT IS DUE BEHIND A CHANGE of the others
+-- WHAT IS DUE AFTER A CHANGE of the others
 pub told_kept : (t : ℕ) (others : Lines) (p : Port) → 1 ≤ p.party.reaction → IsKeptDue t (port_due p) (port_due (told t others p))
 told_kept t others p h = by_same (is_same p.others.atn_low others.atn_low)
   where
@@ -260,7 +260,7 @@ told_kept t others p h = by_same (is_same p.others.atn_low others.atn_low)
     by_same true = lined_kept p.party.reaction t p.others others p.side h
     by_same false = turned_kept t others p h
 
--- WHAT IS DUE BEHIND THE REACTION
+-- WHAT IS DUE AFTER THE REACTION
 pub reacted_later : (t : ℕ) (peek : Option (ℕ × Bool)) (p : Port) → 1 ≤ p.party.reaction → port_due p ≡ Some t → IsLaterDue t (port_due (reacted t peek p))
 reacted_later t peek p h due = by_side p.side due
   where

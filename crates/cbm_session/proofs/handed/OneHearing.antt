@@ -4,13 +4,13 @@ use Rattle.std.specs.Prelude.{if◌then◌else◌}
 use Rattle.cbm_iec.specs.declared.machine.Act.{Act}
 use Rattle.cbm_iec.specs.declared.event.Event.{Event}
 use Rattle.cbm_session.specs.Among.{wires_of}
-use Rattle.cbm_session.specs.Handed.{Hearer, ear_time, hears, moves, atn_act, ear_act, rest_behind, comes_next, IsNothingDue, with_act, is_answer, heard_of, Hands, ends, tells, reacts, answers}
+use Rattle.cbm_session.specs.Handed.{Hearer, ear_time, hears, moves, atn_act, ear_act, rest_afterwards, comes_next, IsNothingDue, with_act, is_answer, heard_of, Hands, ends, tells, reacts, answers}
 
 -- an answer isn't heard
 answer_unheard : (act : Act) (rest : List Act) → is_answer act ≡ true → heard_of (act ∷ rest) ≡ heard_of rest
 answer_unheard act rest e = ap (λ (v : Bool). if v then heard_of rest else act ∷ heard_of rest) e
 
--- nor does what is heard with an act change by what comes behind it
+-- nor does what is heard with an act change by what comes after it
 with_heard : (o : Option Act) (xs ys : List Act) → heard_of xs ≡ heard_of ys → heard_of (with_act o xs) ≡ heard_of (with_act o ys)
 with_heard None xs ys e = e
 with_heard (Some act) xs ys e = ap (λ (l : List Act). if is_answer act then l else act ∷ l) e
@@ -34,10 +34,10 @@ hears_one later end h es xs ys (tells x more l e q a f) (ends e2 a2 q2) = absurd
 hears_one later end h es xs ys (tells x more l e q a f) (tells x2 more2 l2 e2 q2 a2 f2) =
     let ex : x2 ≡ x = cc in
     let em : more2 ≡ more = cc in
-    let o = λ (y : Event). atn_act (wires_of h.rest) (wires_of (rest_behind y.who y.change.line y.change.way h.rest)) in
-    let g = subst (λ (y : Event). Hands later end (hears y.change.moment (rest_behind y.who y.change.line y.change.way h.rest) h) more l2) ex (subst (λ (z : List Event). Hands later end (hears x2.change.moment (rest_behind x2.who x2.change.line x2.change.way h.rest) h) z l2) em f2) in
+    let o = λ (y : Event). atn_act (wires_of h.rest) (wires_of (rest_afterwards y.who y.change.line y.change.way h.rest)) in
+    let g = subst (λ (y : Event). Hands later end (hears y.change.moment (rest_afterwards y.who y.change.line y.change.way h.rest) h) more l2) ex (subst (λ (z : List Event). Hands later end (hears x2.change.moment (rest_afterwards x2.who x2.change.line x2.change.way h.rest) h) z l2) em f2) in
     ap heard_of a
-    ∙ with_heard (o x) l l2 (hears_one later end (hears x.change.moment (rest_behind x.who x.change.line x.change.way h.rest) h) more l l2 f g)
+    ∙ with_heard (o x) l l2 (hears_one later end (hears x.change.moment (rest_afterwards x.who x.change.line x.change.way h.rest) h) more l l2 f g)
     ∙ ap (λ (y : Event). heard_of (with_act (o y) l2)) (sym ex)
     ∙ ap heard_of (sym a2)
 hears_one later end h es xs ys (tells x more l e q a f) (reacts t l2 e2 n a2 f2) = absurd (quiet_not_next later end t (ear_time h.ear) es e2 q n)

@@ -221,9 +221,9 @@ freed_pulled false low bits = refl
 freed_now : (v low : Bool) (bits : Option (List Bool)) → v ≡ true → freed_bits v false low bits ≡ clocked low bits
 freed_now v low bits e = ap (λ (w : Bool). freed_bits w false low bits) e
 
--- the lines behind it, and the bits
-abbrev Behind : TableRow Mouth → ℕ → ℕ → Lines → Held → Bool → Option (List Bool) → Type 0
-Behind row r t others own low bits = Led_to (row.next r t others) (row.act others) (row.held own).clock_low (row.held own).data_low (freed_bits own.clock_low (row.held own).clock_low low bits)
+-- the lines after it, and the bits
+abbrev Afterwards : TableRow Mouth → ℕ → ℕ → Lines → Held → Bool → Option (List Bool) → Type 0
+Afterwards row r t others own low bits = Led_to (row.next r t others) (row.act others) (row.held own).clock_low (row.held own).data_low (freed_bits own.clock_low (row.held own).clock_low low bits)
 
 -- the byte is a byte
 abbrev pub IsBound : Mouth → Type 0
@@ -240,7 +240,7 @@ IsBound (Ending at_) = Unit {0}
 IsBound Over = Unit {0}
 
 sending_spells : (e : Pace) → (r t : ℕ) (others : Lines) (byte : ℕ) (last : Bool) (left half : ℕ) (own : Held) (low : Bool) (bits : Option (List Bool)) → byte < 256 → low ≡ own.data_low
-    → IsSending byte left half own.clock_low own.data_low bits → Behind (half_row e byte last left half) r t others own low bits
+    → IsSending byte left half own.clock_low own.data_low bits → Afterwards (half_row e byte last left half) r t others own low bits
 sending_spells v r t others byte last left half own low bits bound e s = elim (leb_tells 16 half) [
   | inl x ↦ (let l = x.1 in let f = s.few in over x.0 (omega (arith, l, f)))
   | inr x ↦ elim (eqb_tells (half % 2) 0) [
@@ -253,7 +253,7 @@ sending_spells v r t others byte last left half own low bits bound e s = elim (l
     row w u = if w then end_frame_row byte last else (if u then set_bit_row v byte last left half else show_bit_row v byte last left half)
 
     Goal : Bool → Bool → Type 0
-    Goal v u = Behind (row v u) r t others own low bits
+    Goal v u = Afterwards (row v u) r t others own low bits
 
     whole : half ≡ 16 → IsShown byte bits
     whole h =
@@ -308,7 +308,7 @@ sending_spells v r t others byte last left half own low bits bound e s = elim (l
         ))
 
 pub reaction_spells : (e : Pace) → (r t : ℕ) (others : Lines) (p : Option (ℕ × Bool)) (mouth : Mouth) (own : Held) (low : Bool) (bits : Option (List Bool)) → IsBound mouth → low ≡ own.data_low
-    → Spells mouth own.clock_low own.data_low bits → mouth_due mouth ≡ Some t → Behind (mouth_row e p mouth) r t others own low bits
+    → Spells mouth own.clock_low own.data_low bits → mouth_due mouth ≡ Some t → Afterwards (mouth_row e p mouth) r t others own low bits
 reaction_spells v r t others p Turned own low bits b e h d = absurd cc
 reaction_spells Profile r t others None (Answering at_) own low bits b e h d = (tt, tt)
 reaction_spells Kernal r t others None (Answering at_) own low bits b e h d = (tt, tt)

@@ -56,7 +56,7 @@ module _ (M : Type 0) (step : M → Act → M) (peek : M → Option (ℕ × Bool
   bytes_first (change c more y l i e f) = y
   bytes_first (reaction t b o h more y e i k f) = y
 
-  -- behind a cut nothing is due before it
+  -- after a cut nothing is due before it
   pub cut_due : (p : Point) (c : ℕ) → p.place ≡ Cutting c → (ss : List Seat) (xs : List (Station M)) → Stood M step peek place p ss xs → AllInTime M step peek c xs
   cut_due p c e [] [] h = tt
   cut_due p c e [] (x ∷ xs) h = elim h [ ]
@@ -67,9 +67,9 @@ module _ (M : Type 0) (step : M → Act → M) (peek : M → Option (ℕ × Bool
   pub first_late : {n n2 : ℕ} {xs ss2 : List (Station M)} {es : List Event} → Plays M step peek n xs es n2 ss2 → (c : ℕ) → AllInTime M step peek c xs → AllShow M step peek mute place xs → (es ≡ [] → ⊥) → (rest : List Event) → FirstLate c (es ++ rest)
   first_late (stays y e k f) c i s n rest = absurd (n e)
   first_late (change d more y l j e f) c i s n rest = subst (λ (v : List Event). FirstLate c (v ++ rest)) (sym e) (inl refl)
-  first_late (reaction t before o behind more y u f e p) c i s n rest =
-      let soon = in_time_at c t (port_due o.port) (among_time M step peek c before o behind (subst (λ (v : List (Station M)). AllInTime M step peek c v) u i)) f.due in
-      let shows = show_among M step peek mute place before o behind (subst (λ (v : List (Station M)). AllShow M step peek mute place v) u s) t f.due in
+  first_late (reaction t before o afterwards more y u f e p) c i s n rest =
+      let soon = in_time_at c t (port_due o.port) (among_time M step peek c before o afterwards (subst (λ (v : List (Station M)). AllInTime M step peek c v) u i)) f.due in
+      let shows = show_among M step peek mute place before o afterwards (subst (λ (v : List (Station M)). AllShow M step peek mute place v) u s) t f.due in
       let ds = drive_events o.port.party.device (shown M step peek t o) in
       let at : AllAtMoment t ds = changes_at o.port.party.device t o.port.own.clock_low (next_held (peek o.machine) o.port).clock_low o.port.own.data_low (next_held (peek o.machine) o.port).data_low in
       subst (λ (v : List Event). FirstLate c (v ++ rest)) (sym e) (first_at c t ds more rest soon at (λ k. shows (none_shown o.port.party.device (shown M step peek t o) k)))
@@ -145,8 +145,8 @@ module _ (M : Type 0) (step : M → Act → M) (peek : M → Option (ℕ × Bool
         let z = the_seat M step peek place p p.seats xs here.stand (here.leads at fits.0).talker in
         end_talk M step peek place machine p ms xs zs here z.0 z.1.0 z.1.1 at f fits answer t front beyond parts late same ran bytes
 
-    -- a piece behind which a session may end
-    pub stops_behind : (w : Whole) → Fits p w → IsAnswer M step peek (ms (talker_of p.seats).device) w → RunEach M step peek p.seats ms (steps_of p w) → MayEnd (whole_point p w).place → (t : ℕ) (front beyond : List Step) → steps_of p w ≡ front ++ beyond → HostFrom t beyond → (es : List Event) → events_of front ≡ es
+    -- a piece after which a session may end
+    pub stops_after : (w : Whole) → Fits p w → IsAnswer M step peek (ms (talker_of p.seats).device) w → RunEach M step peek p.seats ms (steps_of p w) → MayEnd (whole_point p w).place → (t : ℕ) (front beyond : List Step) → steps_of p w ≡ front ++ beyond → HostFrom t beyond → (es : List Event) → events_of front ≡ es
         → Continues M step peek p ms es t
-    stops_behind w fits answer runs m t front beyond parts late es e =
+    stops_after w fits answer runs m t front beyond parts late es e =
         subst (λ (l : List Event). Continues M step peek p ms l t) e (whole_then M step peek p ms w t front beyond fits answer runs parts late (ends_there M step peek place machine (whole_point p w) (run_each M step peek ms (steps_of p w)) t m))

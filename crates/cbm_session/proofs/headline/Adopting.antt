@@ -5,7 +5,7 @@ use Rattle.cbm_iec.specs.declared.event.Event.{Event}
 use Rattle.cbm_iec.specs.declared.event.Who.TheVariants.{Host}
 use Rattle.cbm_session.proofs.among.Fronts.{steps_order}
 use Rattle.cbm_session.proofs.among.Pulls.{pull_steps}
-use Rattle.cbm_session.proofs.headline.AdoptParts.{host_events, cut_due, first_late, all_sit, runs_before, rest_late, answer_runs, answered, ended, stops_behind}
+use Rattle.cbm_session.proofs.headline.AdoptParts.{host_events, cut_due, first_late, all_sit, runs_before, rest_late, answer_runs, answered, ended, stops_after}
 use Rattle.cbm_session.proofs.headline.Answering.{Answered}
 use Rattle.cbm_session.proofs.headline.CutHost.{same_cut}
 use Rattle.cbm_session.proofs.headline.CutTwin.{cut_safe, cut_same, none_from, no_pass, before_events, pull_late}
@@ -16,8 +16,8 @@ use Rattle.cbm_session.proofs.headline.Keeping.{HostFrom}
 use Rattle.cbm_session.proofs.headline.Lawful.{host_front}
 use Rattle.cbm_session.proofs.headline.LeftOver.{HostSafe, twin_safe}
 use Rattle.cbm_session.proofs.headline.Meeting.{Compat}
-use Rattle.cbm_session.proofs.headline.Onward.{here_behind}
-use Rattle.cbm_session.proofs.headline.PieceBus.{Inside, Behind, bytes_last}
+use Rattle.cbm_session.proofs.headline.Onward.{here_after}
+use Rattle.cbm_session.proofs.headline.PieceBus.{Inside, Afterwards, bytes_last}
 use Rattle.cbm_session.proofs.headline.TalkSwap.{HostNext, twin_compat, twin_cut}
 use Rattle.cbm_session.proofs.headline.Unasked.{AsksNothing, each_runs, runs_unasked, steps_unasked}
 use Rattle.cbm_session.proofs.headline.Walk.{left_of, same_front, first_events, cut_talks, devs_play, react_of, pull_next}
@@ -30,11 +30,11 @@ use Rattle.cbm_session.specs.Sessions.{MayEnd, Linked, session_steps}
 use Rattle.cbm_session.specs.Steps.{Step, moment_of, events_of}
 use Rattle.cbm_session.specs.Timing.{is_host}
 
--- behind a cut a session pulls ATN at once
+-- after a cut a session pulls ATN at once
 pub record PullsAt (c : ℕ) (s : List Step) : Type 0 where
   pub first : Step
-  pub behind : List Step
-  pub is : s ≡ first ∷ behind
+  pub afterwards : List Step
+  pub is : s ≡ first ∷ afterwards
   pub who : first.event.who ≡ Host
   pub moment : moment_of first ≡ c
 
@@ -43,7 +43,7 @@ pulls_at p w c [] l = elim l [ ]
 pulls_at p w c (Full (PullPiece at) ∷ ks) l =
     let p2 = point_after p (Cut w c) in
     let is = ap (λ (ss : List Step). ss ++ session_steps (whole_point p2 (PullPiece at)) ks) (pull_steps p2 at) in
-    record { first = _; behind = _; is = is; who = refl; moment = l.0 }
+    record { first = _; afterwards = _; is = is; who = refl; moment = l.0 }
 pulls_at p w c (Full (Command f) ∷ ks) l = elim l.0.0 [ ]
 pulls_at p w c (Full (Byte eoi f) ∷ ks) l = let k = l.0.0 in absurd cc
 pulls_at p w c (Full (ToListener at) ∷ ks) l = let k = l.0.commanding in absurd cc
@@ -70,9 +70,9 @@ front_of c (x ∷ xs) ys a = (a.0, front_of c xs ys a.1)
 module _ (M : Type 0) (step : M → Act → M) (peek : M → Option (ℕ × Bool)) (place : ℕ → ℕ) (machine : IsMachine M step peek) where
   module _ (p : Point) (ms : ℕ → M) (xs : List (Station M)) (here : Here M step peek place p ms xs) (t : ℕ) (s done more : List Step) (es : List Event) (n2 : ℕ) (ss2 : List (Station M)) (shown_so : events_of done ≡ es) (late : HostFrom t more) where
     abbrev Gone : Whole → Type 0
-    Gone w = Behind M step peek place (whole_point p w) xs (steps_of p w) es n2 ss2
+    Gone w = Afterwards M step peek place (whole_point p w) xs (steps_of p w) es n2 ss2
 
-    -- what follows behind a piece
+    -- what follows a piece
     abbrev Follows : Whole → Type 0
     Follows w = (b : Gone w) (d2 : List Step) → s ≡ d2 ++ more → events_of d2 ≡ b.more → Continues M step peek (whole_point p w) (run_each M step peek ms (steps_of p w)) b.more t
 
@@ -81,12 +81,12 @@ module _ (M : Type 0) (step : M → Act → M) (peek : M → Option (ℕ × Bool
         let whole : front ++ (beyond ++ s) ≡ done ++ more = sym (append_assoc front beyond s) ∙ ap (λ (l : List Step). l ++ s) (sym parts) ∙ e in
         let same = same_front front (beyond ++ s) done more whole (shown ∙ sym shown_so) in
         let runs = each_runs M step peek p.seats ms (steps_of p w) (λ d. runs_unasked M step peek d (ms d) (steps_of p w) (steps_unasked p w a)) in
-        stops_behind M step peek place machine p ms xs here w fits answer runs m t front beyond parts (host_front M step peek t beyond s (subst (HostFrom t) (sym same.1) late)) es shown
+        stops_after M step peek place machine p ms xs here w fits answer runs m t front beyond parts (host_front M step peek t beyond s (subst (HostFrom t) (sym same.1) late)) es shown
 
     passed : (w : Whole) → Fits p w → IsAnswer M step peek (ms (talker_of p.seats).device) w → RunEach M step peek p.seats ms (steps_of p w) → steps_of p w ++ s ≡ done ++ more → Gone w → Follows w → Continues M step peek p ms es t
     passed w fits answer runs e b next =
         let left = left_of (steps_of p w) s done more b.more e (shown_so ∙ b.shown_so) in
-        subst (λ (l : List Event). Continues M step peek p ms l t) (sym b.shown_so) (piece_then M step peek p ms (Full w) t b.more fits answer runs (next b left.behind left.left left.shown))
+        subst (λ (l : List Event). Continues M step peek p ms l t) (sym b.shown_so) (piece_then M step peek p ms (Full w) t b.more fits answer runs (next b left.afterwards left.left left.shown))
 
     -- a piece of the host
     host_on : (w : Whole) → Fits p w → IsAnswer M step peek (ms (talker_of p.seats).device) w → AsksNothing w → MayEnd (whole_point p w).place → steps_of p w ++ s ≡ done ++ more → Out M step peek place p ms xs here (Full w) es n2 ss2 → Follows w → Continues M step peek p ms es t
@@ -123,13 +123,13 @@ module _ (M : Type 0) (step : M → Act → M) (peek : M → Option (ℕ × Bool
               let k : IsAnswer M step peek (ms (talker_of p.seats).device) w × Gone w = subst (λ (v : Whole). IsAnswer M step peek (ms (talker_of p.seats).device) v × Gone v) same (a.answer, b) in
               passed w fits k.0 (answer_runs M step peek place machine p ms xs here w talks fits k.0) e k.1 (next k.0)
 
-  -- A cut of a piece of a talking drive, and the session's pull behind it.
+  -- A cut of a piece of a talking drive, and the session's pull after it.
   module _ (p : Point) (ms : ℕ → M) (xs : List (Station M)) (here : Here M step peek place p ms xs) (t : ℕ) (w : Whole) (c : ℕ) (ks : List Piece) (done more : List Step) (es : List Event) (n2 : ℕ) (ss2 : List (Station M)) (shown_so : events_of done ≡ es) (late : HostFrom t more) where
     abbrev after_cut : Whole → List Step
     after_cut v = session_steps (point_after p (Cut v c)) ks
 
     abbrev CutGone : Whole → Type 0
-    CutGone v = Behind M step peek place (point_after p (Cut v c)) xs (before c (steps_of p v)) es n2 ss2
+    CutGone v = Afterwards M step peek place (point_after p (Cut v c)) xs (before c (steps_of p v)) es n2 ss2
 
     abbrev FollowsCut : Type 0
     FollowsCut = (v : Whole) → point_after p (Cut v c) ≡ point_after p (Cut w c) → PieceFits p (Cut v c) → IsAnswer M step peek (ms (talker_of p.seats).device) v → (b : CutGone v) (d2 : List Step) → after_cut v ≡ d2 ++ more → events_of d2 ≡ b.more
@@ -166,7 +166,7 @@ module _ (M : Type 0) (step : M → Act → M) (peek : M → Option (ℕ × Bool
       -- the pull is still to come where only what is before it was played
       pull_to_come : (front : List Step) → events_of front ≡ es → AllBefore c front → t ≤ c
       pull_to_come front k a =
-          pull_late c t (before c (steps_of p w)) pull.first pull.behind done more (ap (λ (l : List Step). before c (steps_of p w) ++ l) (sym pull.is) ∙ e) (before_events c done front (shown_so ∙ sym k) a) late (ap is_host pull.who) pull.moment
+          pull_late c t (before c (steps_of p w)) pull.first pull.afterwards done more (ap (λ (l : List Step). before c (steps_of p w) ++ l) (sym pull.is) ∙ e) (before_events c done front (shown_so ∙ sym k) a) late (ap is_host pull.who) pull.moment
 
       cut_run : RunEach M step peek p.seats ms (before c mine)
       cut_run =
@@ -188,7 +188,7 @@ module _ (M : Type 0) (step : M → Act → M) (peek : M → Option (ℕ × Bool
           let fits2 : PieceFits p (Cut own.piece c) = (own.fits, own.cuts c fits.1, some) in
           let left = left_of (before c (steps_of p w)) (after_cut w) done more b.more e (shown_so ∙ b.shown_so ∙ ap (λ (l : List Event). l ++ b.more) same) in
           let rest = ap (λ (q : Point). session_steps q ks) point ∙ left.left in
-          subst (λ (l : List Event). Continues M step peek p ms l t) (sym b.shown_so) (piece_then M step peek p ms (Cut own.piece c) t b.more fits2 own.answer cut_run (next own.piece point fits2 own.answer b left.behind rest left.shown))
+          subst (λ (l : List Event). Continues M step peek p ms l t) (sym b.shown_so) (piece_then M step peek p ms (Cut own.piece c) t b.more fits2 own.answer cut_run (next own.piece point fits2 own.answer b left.afterwards rest left.shown))
 
       by_more : (some : some_from c mine ≡ true) (b : CutGone own.piece) (l : List Event) → b.more ≡ l → Continues M step peek p ms es t
       by_more some b [] m = stops_cut some (before c mine) [] (sym (append-nil (before c mine))) (sym (b.shown_so ∙ ap (λ (l : List Event). events_of (before c mine) ++ l) m ∙ append-nil (events_of (before c mine)))) tt
@@ -219,7 +219,7 @@ module _ (M : Type 0) (step : M → Act → M) (peek : M → Option (ℕ × Bool
               let is : before c mine ≡ mine = ap (λ (l : List Step). before c l) (sym (append-nil mine)) ∙ cut_is c mine [] a tt in
               whole_within is a (talkers_out M step peek place p ms xs here own.piece None own.talks own.fits own.answer plays (events_of more) (subst (λ (l : List Step). Compat l (es ++ events_of more)) is meets))
 
-  -- From a point on: an allowed session that begins as the play did, with no change of the host before t behind it.
+  -- From a point on: an allowed session that begins as the play did, with no change of the host before t after it.
   pub adopt : (ks : List Piece) (p : Point) (ms : ℕ → M) (xs : List (Station M)) → Here M step peek place p ms xs → Linked p ks → {n n2 : ℕ} {ss2 : List (Station M)} {es : List Event} → Plays M step peek n xs es n2 ss2 → (done more : List Step) → session_steps p ks ≡ done ++ more → events_of done ≡ es
       → (t : ℕ) → AllInTime M step peek t ss2 → HostFrom t more → Continues M step peek p ms es t
   adopt [] p ms xs here l plays [] more e h t time late = subst (λ (v : List Event). Continues M step peek p ms v t) h (ends_there M step peek place machine p ms t l)
@@ -229,39 +229,39 @@ module _ (M : Type 0) (step : M → Act → M) (peek : M → Option (ℕ × Bool
       let s = session_steps (whole_point p (PullPiece at)) ks in
       let host = pull_next M step peek place p at (react_of M step peek place p p.seats xs refl here.stand) ks l.1 in
       let out = pull_out M step peek place p ms xs here at l.0 plays (events_of more) (events_of s) (first_events (steps_of p w) s done more es e h) host in
-      pull_on p ms xs here t s done more es n2 ss2 h late at l.0 e out (λ b d2 g k. adopt ks (whole_point p w) (run_each M step peek ms (steps_of p w)) b.there (here_behind M step peek place machine p ms xs here (Full w) l.0 tt b) l.1 b.plays d2 more g k t time late)
+      pull_on p ms xs here t s done more es n2 ss2 h late at l.0 e out (λ b d2 g k. adopt ks (whole_point p w) (run_each M step peek ms (steps_of p w)) b.there (here_after M step peek place machine p ms xs here (Full w) l.0 tt b) l.1 b.plays d2 more g k t time late)
   adopt (Full (Command f) ∷ ks) p ms xs here l {n2 = n2} {ss2 = ss2} {es = es} plays done more e h t time late =
       let w = Command f in
       let s = session_steps (whole_point p (Command f)) ks in
       let out = hosts_out M step peek place p ms xs here w tt l.0 plays (events_of more) (events_of s) (first_events (steps_of p w) s done more es e h) in
-      host_on p ms xs here t s done more es n2 ss2 h late w l.0 tt tt tt e out (λ b d2 g k. adopt ks (whole_point p w) (run_each M step peek ms (steps_of p w)) b.there (here_behind M step peek place machine p ms xs here (Full w) l.0 tt b) l.1 b.plays d2 more g k t time late)
+      host_on p ms xs here t s done more es n2 ss2 h late w l.0 tt tt tt e out (λ b d2 g k. adopt ks (whole_point p w) (run_each M step peek ms (steps_of p w)) b.there (here_after M step peek place machine p ms xs here (Full w) l.0 tt b) l.1 b.plays d2 more g k t time late)
   adopt (Full (Byte eoi f) ∷ ks) p ms xs here l {n2 = n2} {ss2 = ss2} {es = es} plays done more e h t time late =
       let w = Byte eoi f in
       let s = session_steps (whole_point p (Byte eoi f)) ks in
       let out = hosts_out M step peek place p ms xs here w tt l.0 plays (events_of more) (events_of s) (first_events (steps_of p w) s done more es e h) in
-      host_on p ms xs here t s done more es n2 ss2 h late w l.0 tt tt tt e out (λ b d2 g k. adopt ks (whole_point p w) (run_each M step peek ms (steps_of p w)) b.there (here_behind M step peek place machine p ms xs here (Full w) l.0 tt b) l.1 b.plays d2 more g k t time late)
+      host_on p ms xs here t s done more es n2 ss2 h late w l.0 tt tt tt e out (λ b d2 g k. adopt ks (whole_point p w) (run_each M step peek ms (steps_of p w)) b.there (here_after M step peek place machine p ms xs here (Full w) l.0 tt b) l.1 b.plays d2 more g k t time late)
   adopt (Full (ToListener at) ∷ ks) p ms xs here l {n2 = n2} {ss2 = ss2} {es = es} plays done more e h t time late =
       let w = ToListener at in
       let s = session_steps (whole_point p (ToListener at)) ks in
       let out = hosts_out M step peek place p ms xs here w tt l.0 plays (events_of more) (events_of s) (first_events (steps_of p w) s done more es e h) in
-      host_on p ms xs here t s done more es n2 ss2 h late w l.0 tt tt tt e out (λ b d2 g k. adopt ks (whole_point p w) (run_each M step peek ms (steps_of p w)) b.there (here_behind M step peek place machine p ms xs here (Full w) l.0 tt b) l.1 b.plays d2 more g k t time late)
+      host_on p ms xs here t s done more es n2 ss2 h late w l.0 tt tt tt e out (λ b d2 g k. adopt ks (whole_point p w) (run_each M step peek ms (steps_of p w)) b.there (here_after M step peek place machine p ms xs here (Full w) l.0 tt b) l.1 b.plays d2 more g k t time late)
   adopt (Full (ToNobody at clock) ∷ ks) p ms xs here l {n2 = n2} {ss2 = ss2} {es = es} plays done more e h t time late =
       let w = ToNobody at clock in
       let s = session_steps (whole_point p (ToNobody at clock)) ks in
       let out = hosts_out M step peek place p ms xs here w tt l.0 plays (events_of more) (events_of s) (first_events (steps_of p w) s done more es e h) in
-      host_on p ms xs here t s done more es n2 ss2 h late w l.0 tt tt tt e out (λ b d2 g k. adopt ks (whole_point p w) (run_each M step peek ms (steps_of p w)) b.there (here_behind M step peek place machine p ms xs here (Full w) l.0 tt b) l.1 b.plays d2 more g k t time late)
+      host_on p ms xs here t s done more es n2 ss2 h late w l.0 tt tt tt e out (λ b d2 g k. adopt ks (whole_point p w) (run_each M step peek ms (steps_of p w)) b.there (here_after M step peek place machine p ms xs here (Full w) l.0 tt b) l.1 b.plays d2 more g k t time late)
   adopt (Full (ToTalker at clock) ∷ ks) p ms xs here l {n2 = n2} {ss2 = ss2} {es = es} plays done more e h t time late =
       let w = ToTalker at clock in
       talk_on p ms xs here t (session_steps (whole_point p (ToTalker at clock)) ks) done more es n2 ss2 h late plays time w tt l.0 e
-      (λ answer b d2 g k. adopt ks (whole_point p w) (run_each M step peek ms (steps_of p w)) b.there (here_behind M step peek place machine p ms xs here (Full w) l.0 answer b) l.1 b.plays d2 more g k t time late)
+      (λ answer b d2 g k. adopt ks (whole_point p w) (run_each M step peek ms (steps_of p w)) b.there (here_after M step peek place machine p ms xs here (Full w) l.0 answer b) l.1 b.plays d2 more g k t time late)
   adopt (Full (Nothing at clock freed) ∷ ks) p ms xs here l {n2 = n2} {ss2 = ss2} {es = es} plays done more e h t time late =
       let w = Nothing at clock freed in
       talk_on p ms xs here t (session_steps (whole_point p (Nothing at clock freed)) ks) done more es n2 ss2 h late plays time w tt l.0 e
-      (λ answer b d2 g k. adopt ks (whole_point p w) (run_each M step peek ms (steps_of p w)) b.there (here_behind M step peek place machine p ms xs here (Full w) l.0 answer b) l.1 b.plays d2 more g k t time late)
+      (λ answer b d2 g k. adopt ks (whole_point p w) (run_each M step peek ms (steps_of p w)) b.there (here_after M step peek place machine p ms xs here (Full w) l.0 answer b) l.1 b.plays d2 more g k t time late)
   adopt (Full (Talk at f) ∷ ks) p ms xs here l {n2 = n2} {ss2 = ss2} {es = es} plays done more e h t time late =
       let w = Talk at f in
       talk_on p ms xs here t (session_steps (whole_point p (Talk at f)) ks) done more es n2 ss2 h late plays time w tt l.0 e
-      (λ answer b d2 g k. adopt ks (whole_point p w) (run_each M step peek ms (steps_of p w)) b.there (here_behind M step peek place machine p ms xs here (Full w) l.0 answer b) l.1 b.plays d2 more g k t time late)
+      (λ answer b d2 g k. adopt ks (whole_point p w) (run_each M step peek ms (steps_of p w)) b.there (here_after M step peek place machine p ms xs here (Full w) l.0 answer b) l.1 b.plays d2 more g k t time late)
   adopt (Cut w c ∷ ks) p ms xs here l {n2 = n2} {ss2 = ss2} {es = es} plays done more e h t time late =
       cut_on p ms xs here t w c ks done more es n2 ss2 h late plays time l.0 l.1 e
-      (λ v same fits answer b d2 g k. adopt ks (point_after p (Cut v c)) (run_each M step peek ms (before c (steps_of p v))) b.there (here_behind M step peek place machine p ms xs here (Cut v c) fits answer b) (subst (λ (q : Point). Linked q ks) (sym same) l.1) b.plays d2 more g k t time late)
+      (λ v same fits answer b d2 g k. adopt ks (point_after p (Cut v c)) (run_each M step peek ms (before c (steps_of p v))) b.there (here_after M step peek place machine p ms xs here (Cut v c) fits answer b) (subst (λ (q : Point). Linked q ks) (sym same) l.1) b.plays d2 more g k t time late)

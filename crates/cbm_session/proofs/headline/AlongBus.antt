@@ -19,12 +19,12 @@ use Rattle.cbm_iec.specs.declared.port.Side.{Side}
 use Rattle.cbm_session.proofs.headline.BusActs.{HasRun, AllRan, run_on, run_other, mark_acted, own_acted, ran_before, ran_joined, RanOn, ran_then, ran_stays}
 use Rattle.cbm_session.proofs.headline.BusStep.{Goes, tells, hears, reacts, own_first, not_mine, another, host_drive, Tied, reacts_next, first_due}
 use Rattle.cbm_session.proofs.headline.Keeping.{HostFrom, events_append}
-use Rattle.cbm_session.proofs.headline.Meeting.{Meets, Compat, compat_skip, SaysOpen, LastSaid, AsksFor, FirstIs, first_append, first_shown, reaction_events, host_first, last_behind, last_open, noatn_behind, in_time_at, same_reacted, same_changes, no_steps}
+use Rattle.cbm_session.proofs.headline.Meeting.{Meets, Compat, compat_skip, SaysOpen, LastSaid, AsksFor, FirstIs, first_append, first_shown, reaction_events, host_first, last_after_it, last_open, noatn_after, in_time_at, same_reacted, same_changes, no_steps}
 use Rattle.cbm_session.proofs.headline.SideStates.{SideHolds, SideAsks, side_lines, side_react, side_same_after, side_same_act, side_lines_ask, side_said_asks, side_react_asks, side_acted_asks}
 use Rattle.cbm_session.proofs.headline.TalkStates.{NoneSaid}
 use Rattle.cbm_session.proofs.joining.Merging.{NoneBefore, InOrder, AllBefore, none_sooner}
 use Rattle.cbm_session.proofs.reading.OneReading.{is_atn, NoAtn}
-use Rattle.cbm_session.specs.Among.{Rest, wires_of, behind_other, behind_host, CountsFor}
+use Rattle.cbm_session.specs.Among.{Rest, wires_of, after_another, after_the_host, CountsFor}
 use Rattle.cbm_session.specs.Answers.{run_acts}
 use Rattle.cbm_session.specs.Following.{IsInTime, own_steps, reaction_steps}
 use Rattle.cbm_session.specs.Laws.{AllAfter, GoesOn}
@@ -35,12 +35,12 @@ same_same : (v : Bool) → is_same v v ≡ true
 same_same true = refl
 same_same false = refl
 
-pub other_atn : (line : Line) (way : Way) (r : Rest) → (wires_of (behind_other line way r)).atn_low ≡ (wires_of r).atn_low
+pub other_atn : (line : Line) (way : Way) (r : Rest) → (wires_of (after_another line way r)).atn_low ≡ (wires_of r).atn_low
 other_atn Atn way r = refl
 other_atn Clock way r = refl
 other_atn Data way r = refl
 
-pub host_atn : (line : Line) (way : Way) (r : Rest) → is_atn line ≡ false → (wires_of (behind_host line way r)).atn_low ≡ (wires_of r).atn_low
+pub host_atn : (line : Line) (way : Way) (r : Rest) → is_atn line ≡ false → (wires_of (after_the_host line way r)).atn_low ≡ (wires_of r).atn_low
 host_atn Atn way r h = absurd cc
 host_atn Clock way r h = refl
 host_atn Data way r h = refl
@@ -64,9 +64,9 @@ none_said_for d (For e a) act o c = subst NoneSaid (sym c) (go (nat_eq d e))
     go true = o
     go false = tt
 
-host_behind_drive : (d t : ℕ) (ss : List Step) → AllAfter (Drive d) t ss → HostFrom (suc t) ss
-host_behind_drive d t [] a = tt
-host_behind_drive d t (s ∷ ss) a = (go s.event.who a.0, host_behind_drive d t ss a.1)
+host_after_drive : (d t : ℕ) (ss : List Step) → AllAfter (Drive d) t ss → HostFrom (suc t) ss
+host_after_drive d t [] a = tt
+host_after_drive d t (s ∷ ss) a = (go s.event.who a.0, host_after_drive d t ss a.1)
   where
     go : (w : Who) → Rattle.cbm_session.specs.Laws.NotSooner (Drive d) t w (moment_of s) → Rattle.cbm_session.specs.Timing.is_host w ≡ true → suc t ≤ moment_of s
     go Host n k = omega (arith, n)
@@ -79,7 +79,7 @@ module _ (M : Type 0) (step : M → Act → M) (peek : M → Option (ℕ × Bool
     pub asks : AsksFor ys s.port.side (peek s.machine ≡ says s.port.party.device)
     pub holds : SideHolds s.port.side s.port.own
     pub seen : s.port.others ≡ wires_of s.rest
-    -- what is due behind these steps is later than all of them
+    -- what is due after these steps is later than all of them
     pub end : (t : ℕ) → port_due e.1 ≡ Some t → AllBefore t ys
 
   abbrev pub AllGo : List (Station M) → List Step → List (Rest × Port) → Type 0
@@ -96,13 +96,13 @@ module _ (M : Type 0) (step : M → Act → M) (peek : M → Option (ℕ × Bool
   devs [] = []
   devs (s ∷ ss) = dev s ∷ devs ss
 
-  abbrev pub AllBehindIn : ℕ → List ℕ → Type 0
-  AllBehindIn d [] = Unit {0}
-  AllBehindIn d (e ∷ es) = ((place d < place e) × (nat_eq d e ≡ false) × (nat_eq e d ≡ false)) × AllBehindIn d es
+  abbrev pub AllComeAfterIn : ℕ → List ℕ → Type 0
+  AllComeAfterIn d [] = Unit {0}
+  AllComeAfterIn d (e ∷ es) = ((place d < place e) × (nat_eq d e ≡ false) × (nat_eq e d ≡ false)) × AllComeAfterIn d es
 
   abbrev pub RisingIn : List ℕ → Type 0
   RisingIn [] = Unit {0}
-  RisingIn (d ∷ ds) = AllBehindIn d ds × RisingIn ds
+  RisingIn (d ∷ ds) = AllComeAfterIn d ds × RisingIn ds
 
   abbrev pub OthersIn : ℕ → List ℕ → Type 0
   OthersIn d [] = Unit {0}
@@ -112,8 +112,8 @@ module _ (M : Type 0) (step : M → Act → M) (peek : M → Option (ℕ × Bool
   SitsIn d [] = ⊥
   SitsIn d (e ∷ es) = (e ≡ d) ⊎ SitsIn d es
 
-  abbrev pub AllBehind : ℕ → List (Station M) → Type 0
-  AllBehind d ss = AllBehindIn d (devs ss)
+  abbrev pub AllComeAfter : ℕ → List (Station M) → Type 0
+  AllComeAfter d ss = AllComeAfterIn d (devs ss)
 
   abbrev pub Rising : List (Station M) → Type 0
   Rising ss = RisingIn (devs ss)
@@ -176,64 +176,64 @@ module _ (M : Type 0) (step : M → Act → M) (peek : M → Option (ℕ × Bool
       later (Some u) a b = let h : u ≡ moment_of y = cc in omega (arith, a, h)
   sitting_later d (s ∷ ss) y ys (e ∷ es) g w (inr i) t k = sitting_later d ss y ys es g.1 w i t k.1
 
-  pub sits_split : (d : ℕ) (before : List (Station M)) (o : Station M) (behind : List (Station M)) → SitsAmong d (before ++ o ∷ behind) → SitsAmong d before ⊎ ((dev o ≡ d) ⊎ SitsAmong d behind)
-  sits_split d [] o behind (inl i) = inr (inl i)
-  sits_split d [] o behind (inr i) = inr (inr i)
-  sits_split d (b ∷ before) o behind (inl i) = inl (inl i)
-  sits_split d (b ∷ before) o behind (inr i) = elim (sits_split d before o behind i) [
+  pub sits_split : (d : ℕ) (before : List (Station M)) (o : Station M) (afterwards : List (Station M)) → SitsAmong d (before ++ o ∷ afterwards) → SitsAmong d before ⊎ ((dev o ≡ d) ⊎ SitsAmong d afterwards)
+  sits_split d [] o afterwards (inl i) = inr (inl i)
+  sits_split d [] o afterwards (inr i) = inr (inr i)
+  sits_split d (b ∷ before) o afterwards (inl i) = inl (inl i)
+  sits_split d (b ∷ before) o afterwards (inr i) = elim (sits_split d before o afterwards i) [
     | inl k ↦ inl (inr k)
     | inr k ↦ inr k
   ]
 
   -- the parts of what all go with
-  pub record Parted (before : List (Station M)) (o : Station M) (behind : List (Station M)) (ys : List Step) (es : List (Rest × Port)) : Type 0 where
+  pub record Parted (before : List (Station M)) (o : Station M) (afterwards : List (Station M)) (ys : List Step) (es : List (Rest × Port)) : Type 0 where
     pub first : List (Rest × Port)
     pub own : Rest × Port
     pub last : List (Rest × Port)
     pub is : es ≡ first ++ own ∷ last
     pub go_first : AllGo before ys first
     pub go : GoesSo o ys own
-    pub go_last : AllGo behind ys last
+    pub go_last : AllGo afterwards ys last
 
-  part : (before : List (Station M)) (o : Station M) (behind : List (Station M)) (ys : List Step) (es : List (Rest × Port)) → AllGo (before ++ o ∷ behind) ys es → Parted before o behind ys es
-  part [] o behind ys [] g = elim g [ ]
-  part [] o behind ys (e ∷ es) g = record { first = []; own = e; last = es; is = refl; go_first = tt; go = g.0; go_last = g.1 }
-  part (b ∷ before) o behind ys [] g = elim g [ ]
-  part (b ∷ before) o behind ys (e ∷ es) g =
-      let k = part before o behind ys es g.1 in
+  part : (before : List (Station M)) (o : Station M) (afterwards : List (Station M)) (ys : List Step) (es : List (Rest × Port)) → AllGo (before ++ o ∷ afterwards) ys es → Parted before o afterwards ys es
+  part [] o afterwards ys [] g = elim g [ ]
+  part [] o afterwards ys (e ∷ es) g = record { first = []; own = e; last = es; is = refl; go_first = tt; go = g.0; go_last = g.1 }
+  part (b ∷ before) o afterwards ys [] g = elim g [ ]
+  part (b ∷ before) o afterwards ys (e ∷ es) g =
+      let k = part before o afterwards ys es g.1 in
       record { first = e ∷ k.first; own = k.own; last = k.last; is = ap (λ (v : List (Rest × Port)). e ∷ v) k.is; go_first = (g.0, k.go_first); go = k.go; go_last = k.go_last }
 
-  joined : (before : List (Station M)) (o : Station M) (behind : List (Station M)) (ys : List Step) (first last : List (Rest × Port)) (own : Rest × Port) → AllGo before ys first → GoesSo o ys own → AllGo behind ys last → AllGo (before ++ o ∷ behind) ys (first ++ own ∷ last)
-  joined [] o behind ys [] last own a b c = (b, c)
-  joined [] o behind ys (f ∷ first) last own a b c = elim a [ ]
-  joined (x ∷ before) o behind ys [] last own a b c = elim a [ ]
-  joined (x ∷ before) o behind ys (f ∷ first) last own a b c = (a.0, joined before o behind ys first last own a.1 b c)
+  joined : (before : List (Station M)) (o : Station M) (afterwards : List (Station M)) (ys : List Step) (first last : List (Rest × Port)) (own : Rest × Port) → AllGo before ys first → GoesSo o ys own → AllGo afterwards ys last → AllGo (before ++ o ∷ afterwards) ys (first ++ own ∷ last)
+  joined [] o afterwards ys [] last own a b c = (b, c)
+  joined [] o afterwards ys (f ∷ first) last own a b c = elim a [ ]
+  joined (x ∷ before) o afterwards ys [] last own a b c = elim a [ ]
+  joined (x ∷ before) o afterwards ys (f ∷ first) last own a b c = (a.0, joined before o afterwards ys first last own a.1 b c)
 
-  pub rising_first : (before : List (Station M)) (o : Station M) (behind : List (Station M)) → Rising (before ++ o ∷ behind) → AllBehind (dev o) behind
-  rising_first [] o behind r = r.0
-  rising_first (b ∷ before) o behind r = rising_first before o behind r.1
+  pub rising_first : (before : List (Station M)) (o : Station M) (afterwards : List (Station M)) → Rising (before ++ o ∷ afterwards) → AllComeAfter (dev o) afterwards
+  rising_first [] o afterwards r = r.0
+  rising_first (b ∷ before) o afterwards r = rising_first before o afterwards r.1
 
   -- who stands before o is another
-  pub others_before : (before : List (Station M)) (o : Station M) (behind : List (Station M)) → Rising (before ++ o ∷ behind) → Others (dev o) before
-  others_before [] o behind r = tt
-  others_before (b ∷ before) o behind r = (one before r.0, others_before before o behind r.1)
+  pub others_before : (before : List (Station M)) (o : Station M) (afterwards : List (Station M)) → Rising (before ++ o ∷ afterwards) → Others (dev o) before
+  others_before [] o afterwards r = tt
+  others_before (b ∷ before) o afterwards r = (one before r.0, others_before before o afterwards r.1)
     where
-      one : (before : List (Station M)) → AllBehind (dev b) (before ++ o ∷ behind) → nat_eq (dev b) (dev o) ≡ false
+      one : (before : List (Station M)) → AllComeAfter (dev b) (before ++ o ∷ afterwards) → nat_eq (dev b) (dev o) ≡ false
       one [] h = h.0.1
       one (x ∷ before) h = one before h.1
 
-  pub others_behind : (d : ℕ) (ss : List (Station M)) → AllBehind d ss → Others d ss
-  others_behind d [] h = tt
-  others_behind d (s ∷ ss) h = (h.0.2, others_behind d ss h.1)
+  pub others_after : (d : ℕ) (ss : List (Station M)) → AllComeAfter d ss → Others d ss
+  others_after d [] h = tt
+  others_after d (s ∷ ss) h = (h.0.2, others_after d ss h.1)
 
-  pub sits_behind : (d e : ℕ) (ss : List (Station M)) → AllBehind d ss → SitsAmong e ss → place d < place e
-  sits_behind d e [] h i = elim i [ ]
-  sits_behind d e (s ∷ ss) h (inl i) = subst (λ (v : ℕ). place d < place v) i h.0.0
-  sits_behind d e (s ∷ ss) h (inr i) = sits_behind d e ss h.1 i
+  pub sits_after : (d e : ℕ) (ss : List (Station M)) → AllComeAfter d ss → SitsAmong e ss → place d < place e
+  sits_after d e [] h i = elim i [ ]
+  sits_after d e (s ∷ ss) h (inl i) = subst (λ (v : ℕ). place d < place v) i h.0.0
+  sits_after d e (s ∷ ss) h (inr i) = sits_after d e ss h.1 i
 
-  before_behind : (t : ℕ) (xs ys : List Step) → AllBefore t (xs ++ ys) → AllBefore t ys
-  before_behind t [] ys h = h
-  before_behind t (x ∷ xs) ys h = before_behind t xs ys h.1
+  before_after : (t : ℕ) (xs ys : List Step) → AllBefore t (xs ++ ys) → AllBefore t ys
+  before_after t [] ys h = h
+  before_after t (x ∷ xs) ys h = before_after t xs ys h.1
 
   -- what shows of a step of the host
   tells_next : {s : Station M} {e : Rest × Port} {y : Step} {ys : List Step} → GoesSo s (y ∷ ys) e → (c : Change) → y.event ≡ host_event c → is_atn c.line ≡ false → SaysIfMore y ys → GoesSo (tell M step peek c s) ys e
@@ -241,13 +241,13 @@ module _ (M : Type 0) (step : M → Act → M) (peek : M → Option (ℕ × Bool
     where
       go : {y : Step} → Goes (says s.port.party.device) s.rest s.port (y ∷ ys) e.0 e.1 → y.event ≡ host_event c → ((t : ℕ) → port_due e.1 ≡ Some t → AllBefore t (y ∷ ys)) → SaysIfMore y ys → GoesSo (tell M step peek c s) ys e
       go (tells {t} {line} {way} {mark} i k f) h end left =
-          let r = behind_host c.line c.way s.rest in
-          let port : told t (wires_of (behind_host line way s.rest)) s.port ≡ told c.moment (wires_of r) s.port = ap (λ (v : Event). told v.change.moment (wires_of (behind_host v.change.line v.change.way s.rest)) s.port) h in
-          let act : told_act (wires_of (behind_host line way s.rest)) s.port ≡ told_act (wires_of r) s.port = ap (λ (v : Event). told_act (wires_of (behind_host v.change.line v.change.way s.rest)) s.port) h in
-          let rest : behind_host line way s.rest ≡ r = ap (λ (v : Event). behind_host v.change.line v.change.way s.rest) h in
+          let r = after_the_host c.line c.way s.rest in
+          let port : told t (wires_of (after_the_host line way s.rest)) s.port ≡ told c.moment (wires_of r) s.port = ap (λ (v : Event). told v.change.moment (wires_of (after_the_host v.change.line v.change.way s.rest)) s.port) h in
+          let act : told_act (wires_of (after_the_host line way s.rest)) s.port ≡ told_act (wires_of r) s.port = ap (λ (v : Event). told_act (wires_of (after_the_host v.change.line v.change.way s.rest)) s.port) h in
+          let rest : after_the_host line way s.rest ≡ r = ap (λ (v : Event). after_the_host v.change.line v.change.way s.rest) h in
           let out = told_out s.port c.moment s.rest r g.seen (host_atn c.line c.way s.rest atn) in
           record {
-            goes = subst (λ (v : Rest). Goes (says s.port.party.device) v (told c.moment (wires_of r) s.port) ys e.0 e.1) rest (subst (λ (v : Port). Goes (says s.port.party.device) (behind_host line way s.rest) v ys e.0 e.1) port f);
+            goes = subst (λ (v : Rest). Goes (says s.port.party.device) v (told c.moment (wires_of r) s.port) ys e.0 e.1) rest (subst (λ (v : Port). Goes (says s.port.party.device) (after_the_host line way s.rest) v ys e.0 e.1) port f);
             asks = subst (λ (v : Side). AsksFor ys v (peek (acted M step (told_act (wires_of r) s.port) s.machine) ≡ says s.port.party.device)) (sym out.0)
                 (asks_told s c.moment (wires_of r) (record { event = event_of Host t line way; mark = mark }) ys g.asks out.1 (if_more s.port.party.device (told_act (wires_of r) s.port) (event_of Host t line way) mark ys left (subst (λ (o : Option Act). CountsFor s.port.party.device mark o) act k)));
             holds = subst (λ (v : Side). SideHolds v s.port.own) (sym out.0) (side_lines s.port.party.reaction c.moment s.port.others (wires_of r) s.port.side s.port.own g.holds);
@@ -259,11 +259,11 @@ module _ (M : Type 0) (step : M → Act → M) (peek : M → Option (ℕ × Bool
           absurd (not_mine (dev s) u Host y ys (reaction_steps u (says (dev s)) s.port) more (ap (λ (v : Event). v.who) h) (host_drive (dev s)) (own_first (says (dev s)) s.port u sh) x)
 
   -- which counts what it is told
-  pub told_counts : {s : Station M} {e : Rest × Port} {y : Step} {ys : List Step} → GoesSo s (y ∷ ys) e → (c : Change) → y.event ≡ host_event c → CountsFor (dev s) y.mark (told_act (wires_of (behind_host c.line c.way s.rest)) s.port)
+  pub told_counts : {s : Station M} {e : Rest × Port} {y : Step} {ys : List Step} → GoesSo s (y ∷ ys) e → (c : Change) → y.event ≡ host_event c → CountsFor (dev s) y.mark (told_act (wires_of (after_the_host c.line c.way s.rest)) s.port)
   told_counts {s} {e} {y} {ys} g c same = go g.goes same
     where
-      go : {y : Step} → Goes (says (dev s)) s.rest s.port (y ∷ ys) e.0 e.1 → y.event ≡ host_event c → CountsFor (dev s) y.mark (told_act (wires_of (behind_host c.line c.way s.rest)) s.port)
-      go (tells {t} {line} {way} {mark} i k f) h = subst (λ (v : Event). CountsFor (dev s) mark (told_act (wires_of (behind_host v.change.line v.change.way s.rest)) s.port)) h k
+      go : {y : Step} → Goes (says (dev s)) s.rest s.port (y ∷ ys) e.0 e.1 → y.event ≡ host_event c → CountsFor (dev s) y.mark (told_act (wires_of (after_the_host c.line c.way s.rest)) s.port)
+      go (tells {t} {line} {way} {mark} i k f) h = subst (λ (v : Event). CountsFor (dev s) mark (told_act (wires_of (after_the_host v.change.line v.change.way s.rest)) s.port)) h k
       go (hears {o} {t} {line} {way} a i y k f) h = let w : Drive o ≡ Host = ap (λ (v : Event). v.who) h in absurd cc
       go {y} (reacts u more d x sh l f) h =
           absurd (not_mine (dev s) u Host y ys (reaction_steps u (says (dev s)) s.port) more (ap (λ (v : Event). v.who) h) (host_drive (dev s)) (own_first (says (dev s)) s.port u sh) x)
@@ -274,27 +274,27 @@ module _ (M : Type 0) (step : M → Act → M) (peek : M → Option (ℕ × Bool
   hear_next {s} {e} {ys} o c mark g other none = go g.goes
     where
       r : Rest
-      r = behind_other c.line c.way s.rest
+      r = after_another c.line c.way s.rest
 
-      out : ((told c.moment (wires_of (behind_other c.line c.way s.rest)) s.port).side ≡ lined_side s.port.party.reaction c.moment s.port.others (wires_of (behind_other c.line c.way s.rest)) s.port.side) × (told_act (wires_of (behind_other c.line c.way s.rest)) s.port ≡ lined_act s.port.others (wires_of (behind_other c.line c.way s.rest)) s.port.side)
-      out = told_out s.port c.moment s.rest (behind_other c.line c.way s.rest) g.seen (other_atn c.line c.way s.rest)
+      out : ((told c.moment (wires_of (after_another c.line c.way s.rest)) s.port).side ≡ lined_side s.port.party.reaction c.moment s.port.others (wires_of (after_another c.line c.way s.rest)) s.port.side) × (told_act (wires_of (after_another c.line c.way s.rest)) s.port ≡ lined_act s.port.others (wires_of (after_another c.line c.way s.rest)) s.port.side)
+      out = told_out s.port c.moment s.rest (after_another c.line c.way s.rest) g.seen (other_atn c.line c.way s.rest)
 
       quiet_act : (zs : List Step) (act : Option Act) → act ≡ None → SaidIfMore act zs
       quiet_act [] act k = tt
       quiet_act (z ∷ zs) act k = subst (λ (v : Option Act). NoneSaid v) (sym k) tt
 
-      with_act : CountsFor (dev s) mark (told_act (wires_of (behind_other c.line c.way s.rest)) s.port) → Goes (says (dev s)) (behind_other c.line c.way s.rest) (told c.moment (wires_of (behind_other c.line c.way s.rest)) s.port) ys e.0 e.1
+      with_act : CountsFor (dev s) mark (told_act (wires_of (after_another c.line c.way s.rest)) s.port) → Goes (says (dev s)) (after_another c.line c.way s.rest) (told c.moment (wires_of (after_another c.line c.way s.rest)) s.port) ys e.0 e.1
           → GoesSo (hear M step peek c s) ys e × ((hear M step peek c s).machine ≡ s.machine)
       with_act k f = (
         record {
           goes = f;
-          asks = subst (λ (v : Side). AsksFor ys v (peek (acted M step (told_act (wires_of (behind_other c.line c.way s.rest)) s.port) s.machine) ≡ says (dev s))) (sym out.0)
-              (asks_told s c.moment (wires_of (behind_other c.line c.way s.rest)) (record { event = event_of (Drive o) c.moment c.line c.way; mark = mark }) ys g.asks out.1 (quiet_act ys (told_act (wires_of (behind_other c.line c.way s.rest)) s.port) (none (told_act (wires_of (behind_other c.line c.way s.rest)) s.port) k)));
-          holds = subst (λ (v : Side). SideHolds v s.port.own) (sym out.0) (side_lines s.port.party.reaction c.moment s.port.others (wires_of (behind_other c.line c.way s.rest)) s.port.side s.port.own g.holds);
+          asks = subst (λ (v : Side). AsksFor ys v (peek (acted M step (told_act (wires_of (after_another c.line c.way s.rest)) s.port) s.machine) ≡ says (dev s))) (sym out.0)
+              (asks_told s c.moment (wires_of (after_another c.line c.way s.rest)) (record { event = event_of (Drive o) c.moment c.line c.way; mark = mark }) ys g.asks out.1 (quiet_act ys (told_act (wires_of (after_another c.line c.way s.rest)) s.port) (none (told_act (wires_of (after_another c.line c.way s.rest)) s.port) k)));
+          holds = subst (λ (v : Side). SideHolds v s.port.own) (sym out.0) (side_lines s.port.party.reaction c.moment s.port.others (wires_of (after_another c.line c.way s.rest)) s.port.side s.port.own g.holds);
           seen = refl;
           end = λ t k. (g.end t k).1;
         },
-        ap (λ (v : Option Act). acted M step v s.machine) (none (told_act (wires_of (behind_other c.line c.way s.rest)) s.port) k),
+        ap (λ (v : Option Act). acted M step v s.machine) (none (told_act (wires_of (after_another c.line c.way s.rest)) s.port) k),
       )
 
       go : Goes (says (dev s)) s.rest s.port (record { event = event_of (Drive o) c.moment c.line c.way; mark = mark } ∷ ys) e.0 e.1 → GoesSo (hear M step peek c s) ys e × ((hear M step peek c s).machine ≡ s.machine)
@@ -340,7 +340,7 @@ module _ (M : Type 0) (step : M → Act → M) (peek : M → Option (ℕ × Bool
   ran_tell ms done c y ys [] es g h r = tt
   ran_tell ms done c y ys (s ∷ ss) [] g h r = elim g [ ]
   ran_tell ms done c y ys (s ∷ ss) (e ∷ es) g h r =
-      let act = told_act (wires_of (behind_host c.line c.way s.rest)) s.port in
+      let act = told_act (wires_of (after_the_host c.line c.way s.rest)) s.port in
       let k = told_counts g.0 c h in
       (run_on M step peek s.machine (ms (dev s)) (dev s) done (y ∷ []) act r.0 (λ x. mark_acted M step peek (dev s) y.mark act x k), ran_tell ms done c y ys ss es g.1 h r.1)
 
@@ -365,21 +365,21 @@ module _ (M : Type 0) (step : M → Act → M) (peek : M → Option (ℕ × Bool
   devs_append [] ys = refl
   devs_append (x ∷ xs) ys = ap (λ (v : List ℕ). dev x ∷ v) (devs_append xs ys)
 
-  pub devs_react : (t : ℕ) (before : List (Station M)) (o : Station M) (behind : List (Station M)) → devs (reacting M step peek t before o behind) ≡ devs (before ++ o ∷ behind)
-  devs_react t before o behind =
+  pub devs_react : (t : ℕ) (before : List (Station M)) (o : Station M) (afterwards : List (Station M)) → devs (reacting M step peek t before o afterwards) ≡ devs (before ++ o ∷ afterwards)
+  devs_react t before o afterwards =
       let cs = shown M step peek t o in
-      devs_append (map (λ s. hear_all M step peek cs s) before) (react M step peek t o ∷ map (λ s. hear_all M step peek cs s) behind)
-      ∙ ap (λ (v : List ℕ). v ++ dev o ∷ devs (map (λ s. hear_all M step peek cs s) behind)) (devs_hear cs before)
-      ∙ ap (λ (v : List ℕ). devs before ++ dev o ∷ v) (devs_hear cs behind)
-      ∙ sym (devs_append before (o ∷ behind))
+      devs_append (map (λ s. hear_all M step peek cs s) before) (react M step peek t o ∷ map (λ s. hear_all M step peek cs s) afterwards)
+      ∙ ap (λ (v : List ℕ). v ++ dev o ∷ devs (map (λ s. hear_all M step peek cs s) afterwards)) (devs_hear cs before)
+      ∙ ap (λ (v : List ℕ). devs before ++ dev o ∷ v) (devs_hear cs afterwards)
+      ∙ sym (devs_append before (o ∷ afterwards))
 
-  pub all_in_time : (t : ℕ) (before : List (Station M)) (o : Station M) (behind : List (Station M)) → IsFirst M step peek t before o behind → AllInTime M step peek t (before ++ o ∷ behind)
-  all_in_time t [] o behind f = (due (port_due o.port) f.due, f.in_time)
+  pub all_in_time : (t : ℕ) (before : List (Station M)) (o : Station M) (afterwards : List (Station M)) → IsFirst M step peek t before o afterwards → AllInTime M step peek t (before ++ o ∷ afterwards)
+  all_in_time t [] o afterwards f = (due (port_due o.port) f.due, f.in_time)
     where
       due : (x : Option ℕ) → x ≡ Some t → IsInTime t x
       due None e = tt
       due (Some u) e = let k : u ≡ t = cc in omega (arith, k)
-  all_in_time t (b ∷ before) o behind f = (one (port_due b.port) f.later.0, all_in_time t before o behind (record { due = f.due; later = f.later.1; in_time = f.in_time }))
+  all_in_time t (b ∷ before) o afterwards f = (one (port_due b.port) f.later.0, all_in_time t before o afterwards (record { due = f.due; later = f.later.1; in_time = f.in_time }))
     where
       one : (x : Option ℕ) → IsLaterDue t x → IsInTime t x
       one None k = tt
@@ -390,25 +390,25 @@ module _ (M : Type 0) (step : M → Act → M) (peek : M → Option (ℕ × Bool
   host_weaken t u (s ∷ ss) l h = (λ k. let a = h.0 k in omega (arith, l, a), host_weaken t u ss l h.1)
 
   -- The reaction that is due first, where a drive's step comes next: it is that step, and all go on.
-  pub record Reacted (t : ℕ) (before : List (Station M)) (o : Station M) (behind : List (Station M)) (ys : List Step) (es : List (Rest × Port)) : Type 0 where
+  pub record Reacted (t : ℕ) (before : List (Station M)) (o : Station M) (afterwards : List (Station M)) (ys : List Step) (es : List (Rest × Port)) : Type 0 where
     pub own : List Step
     pub more : List Step
     pub steps : ys ≡ own ++ more
     pub events : events_of own ≡ drive_events (dev o) (shown M step peek t o)
-    pub goes : AllGo (reacting M step peek t before o behind) more es
-    pub ran : RanOn M step peek (before ++ o ∷ behind) own (reacting M step peek t before o behind)
+    pub goes : AllGo (reacting M step peek t before o afterwards) more es
+    pub ran : RanOn M step peek (before ++ o ∷ afterwards) own (reacting M step peek t before o afterwards)
 
-  reaction_goes : (t : ℕ) (before : List (Station M)) (o : Station M) (behind : List (Station M)) (y : Step) (ys : List Step) (es : List (Rest × Port)) (d : ℕ) → AllGo (before ++ o ∷ behind) (y ∷ ys) es → IsFirst M step peek t before o behind
-      → y.event.who ≡ Drive d → Rising (before ++ o ∷ behind) → LastSaid (y ∷ ys) → GoesOn (y ∷ ys) → InOrder (y ∷ ys) → Tied place (y ∷ ys) → OwnedIn (devs (before ++ o ∷ behind)) (y ∷ ys) → Reacted t before o behind (y ∷ ys) es
-  reaction_goes t before o behind y ys es d g f w rising last goes order tied owned =
-      let k = part before o behind (y ∷ ys) es g in
+  reaction_goes : (t : ℕ) (before : List (Station M)) (o : Station M) (afterwards : List (Station M)) (y : Step) (ys : List Step) (es : List (Rest × Port)) (d : ℕ) → AllGo (before ++ o ∷ afterwards) (y ∷ ys) es → IsFirst M step peek t before o afterwards
+      → y.event.who ≡ Drive d → Rising (before ++ o ∷ afterwards) → LastSaid (y ∷ ys) → GoesOn (y ∷ ys) → InOrder (y ∷ ys) → Tied place (y ∷ ys) → OwnedIn (devs (before ++ o ∷ afterwards)) (y ∷ ys) → Reacted t before o afterwards (y ∷ ys) es
+  reaction_goes t before o afterwards y ys es d g f w rising last goes order tied owned =
+      let k = part before o afterwards (y ∷ ys) es g in
       let q = o.port in
       let m = o.machine in
       let a = says (dev o) in
-      let late : t ≤ moment_of y = sitting_due d (before ++ o ∷ behind) y ys es g w (owned.0 d w) t (all_in_time t before o behind f) in
+      let late : t ≤ moment_of y = sitting_due d (before ++ o ∷ afterwards) y ys es g w (owned.0 d w) t (all_in_time t before o afterwards f) in
       let none : NoneBefore t (y ∷ ys) = (late, none_sooner t (moment_of y) ys late order.0) in
-      let behind_it : HostFrom (suc (moment_of y)) ys = host_behind_drive d (moment_of y) ys (subst (λ (v : Who). AllAfter v (moment_of y) ys) w goes.0) in
-      let host : HostFrom (suc t) (y ∷ ys) = (not_host, host_weaken (suc t) (suc (moment_of y)) ys (omega (arith, late)) behind_it) in
+      let after_that : HostFrom (suc (moment_of y)) ys = host_after_drive d (moment_of y) ys (subst (λ (v : Who). AllAfter v (moment_of y) ys) w goes.0) in
+      let host : HostFrom (suc t) (y ∷ ys) = (not_host, host_weaken (suc t) (suc (moment_of y)) ys (omega (arith, late)) after_that) in
       let x = reacts_next a place k.go.goes t f.due (λ e. let b = (k.go.end t e).0 in absurd (omega (arith, b, late))) host none tied (first_place k.first k.go_first) in
       let vis = side_react _ q.party.reaction t q.others a q.side q.own f.due k.go.holds in
       let act_of = reaction_act a q in
@@ -423,26 +423,26 @@ module _ (M : Type 0) (step : M → Act → M) (peek : M → Option (ℕ × Bool
         asks = go_asks x.more asked l2 some;
         holds = (side_react _ q.party.reaction t q.others (peek m) q.side q.own f.due k.go.holds).0;
         seen = k.go.seen;
-        end = λ u e. before_behind u (reaction_steps t a q) x.more (subst (λ (v : List Step). AllBefore u v) x.steps (k.go.end u e));
+        end = λ u e. before_after u (reaction_steps t a q) x.more (subst (λ (v : List Step). AllBefore u v) x.steps (k.go.end u e));
       } in
       record {
         own = reaction_steps t a q;
         more = x.more;
         steps = x.steps;
         events = reaction_events a t q ∙ ap (λ (cs : List Change). drive_events (dev o) cs) changes;
-        goes = subst (λ (v : List (Rest × Port)). AllGo (reacting M step peek t before o behind) x.more v) (sym k.is)
-            (joined (map (λ s. hear_all M step peek (shown M step peek t o) s) before) (react M step peek t o) (map (λ s. hear_all M step peek (shown M step peek t o) s) behind) x.more k.first k.last k.own
-            (hears_all before k.first k.go_first (others_before before o behind rising)) own (hears_all behind k.last k.go_last (others_behind (dev o) behind (rising_first before o behind rising))));
+        goes = subst (λ (v : List (Rest × Port)). AllGo (reacting M step peek t before o afterwards) x.more v) (sym k.is)
+            (joined (map (λ s. hear_all M step peek (shown M step peek t o) s) before) (react M step peek t o) (map (λ s. hear_all M step peek (shown M step peek t o) s) afterwards) x.more k.first k.last k.own
+            (hears_all before k.first k.go_first (others_before before o afterwards rising)) own (hears_all afterwards k.last k.go_last (others_after (dev o) afterwards (rising_first before o afterwards rising))));
         ran = record {
           runs = λ ms done h.
-              let parts = ran_before M step peek ms done before o behind h in
+              let parts = ran_before M step peek ms done before o afterwards h in
               let same : reaction_act (peek m) q ≡ act_of = side_same_act _ q.others (peek m) a q.side asked in
               let mine : HasRun M step peek ms (done ++ reaction_steps t a q) (react M step peek t o) =
               ap (λ (v : Option Act). acted M step v m) same ∙ run_on M step peek m (ms (dev o)) (dev o) done (reaction_steps t a q) act_of parts.1 (λ x. own_acted M step peek (dev o) (reaction_changes t a q) act_of x some) in
               let hear : (ss : List (Station M)) (fs : List (Rest × Port)) → AllGo ss (y ∷ ys) fs → Others (dev o) ss → AllRan M step peek ms done ss → AllRan M step peek ms (done ++ reaction_steps t a q) (map (λ s. hear_all M step peek (shown M step peek t o) s) ss) =
               λ ss fs g2 n r. subst (λ (cs : List Change). AllRan M step peek ms (done ++ reaction_steps t a q) (map (λ s. hear_all M step peek cs s) ss)) changes (ran_hear ms done (dev o) (reaction_changes t a q) act_of x.more ss fs (subst (λ (v : List Step). AllGo ss v fs) x.steps g2) n some r) in
-              ran_joined M step peek ms (done ++ reaction_steps t a q) (map (λ s. hear_all M step peek (shown M step peek t o) s) before) (react M step peek t o) (map (λ s. hear_all M step peek (shown M step peek t o) s) behind)
-              (hear before k.first k.go_first (others_before before o behind rising) parts.0) mine (hear behind k.last k.go_last (others_behind (dev o) behind (rising_first before o behind rising)) parts.2);
+              ran_joined M step peek ms (done ++ reaction_steps t a q) (map (λ s. hear_all M step peek (shown M step peek t o) s) before) (react M step peek t o) (map (λ s. hear_all M step peek (shown M step peek t o) s) afterwards)
+              (hear before k.first k.go_first (others_before before o afterwards rising) parts.0) mine (hear afterwards k.last k.go_last (others_after (dev o) afterwards (rising_first before o afterwards rising)) parts.2);
         };
       }
     where
@@ -454,11 +454,11 @@ module _ (M : Type 0) (step : M → Act → M) (peek : M → Option (ℕ × Bool
           let is : y ≡ s = cc in
           let who : y.event.who ≡ Drive e = ap (λ (v : Step). v.event.who) is ∙ u in
           let now : moment_of y ≡ t = ap (λ (v : Step). moment_of v) is ∙ at in
-          elim (sits_split e before o behind (owned.0 e who)) [
+          elim (sits_split e before o afterwards (owned.0 e who)) [
             | inl i ↦ (let l = sitting_later e before y ys first g1 who i t f.later in absurd (omega (arith, l, now)))
             | inr i ↦ elim i [
               | inl j ↦ (let yes : nat_eq (dev o) e ≡ true = eq-eqb (dev o) e j in let no : true ≡ false = sym yes ∙ other in absurd cc)
-              | inr j ↦ sits_behind (dev o) e behind (rising_first before o behind rising) j
+              | inr j ↦ sits_after (dev o) e afterwards (rising_first before o afterwards rising) j
             ]
           ]
 
@@ -518,21 +518,21 @@ module _ (M : Type 0) (step : M → Act → M) (peek : M → Option (ℕ × Bool
   says_left y [] l = tt
   says_left y (z ∷ ys) l = l.0
 
-  tied_behind : (xs ys : List Step) → Tied place (xs ++ ys) → Tied place ys
-  tied_behind [] ys h = h
-  tied_behind (x ∷ xs) ys h = tied_behind xs ys h.1
+  tied_after : (xs ys : List Step) → Tied place (xs ++ ys) → Tied place ys
+  tied_after [] ys h = h
+  tied_after (x ∷ xs) ys h = tied_after xs ys h.1
 
-  order_behind : (xs ys : List Step) → InOrder (xs ++ ys) → InOrder ys
-  order_behind [] ys h = h
-  order_behind (x ∷ xs) ys h = order_behind xs ys h.1
+  order_after : (xs ys : List Step) → InOrder (xs ++ ys) → InOrder ys
+  order_after [] ys h = h
+  order_after (x ∷ xs) ys h = order_after xs ys h.1
 
-  goes_behind : (xs ys : List Step) → GoesOn (xs ++ ys) → GoesOn ys
-  goes_behind [] ys h = h
-  goes_behind (x ∷ xs) ys h = goes_behind xs ys h.1
+  goes_after : (xs ys : List Step) → GoesOn (xs ++ ys) → GoesOn ys
+  goes_after [] ys h = h
+  goes_after (x ∷ xs) ys h = goes_after xs ys h.1
 
-  owned_behind : (ds : List ℕ) (xs ys : List Step) → OwnedIn ds (xs ++ ys) → OwnedIn ds ys
-  owned_behind ds [] ys h = h
-  owned_behind ds (x ∷ xs) ys h = owned_behind ds xs ys h.1
+  owned_after : (ds : List ℕ) (xs ys : List Step) → OwnedIn ds (xs ++ ys) → OwnedIn ds ys
+  owned_after ds [] ys h = h
+  owned_after ds (x ∷ xs) ys h = owned_after ds xs ys h.1
 
   -- what is asked of a piece: no change of ATN, a byte that isn't the last is said at its end alone, in order, also of ties, and by drives of the bus
   pub record IsPlain (ds : List ℕ) (ys : List Step) : Type 0 where
@@ -543,8 +543,8 @@ module _ (M : Type 0) (step : M → Act → M) (peek : M → Option (ℕ × Bool
     pub tied : Tied place ys
     pub owned : OwnedIn ds ys
 
-  pub plain_behind : (ds : List ℕ) (xs ys : List Step) → IsPlain ds (xs ++ ys) → IsPlain ds ys
-  plain_behind ds xs ys h = record { noatn = noatn_behind xs ys h.noatn; last = last_behind xs ys h.last; goes_on = goes_behind xs ys h.goes_on; order = order_behind xs ys h.order; tied = tied_behind xs ys h.tied; owned = owned_behind ds xs ys h.owned }
+  pub plain_after : (ds : List ℕ) (xs ys : List Step) → IsPlain ds (xs ++ ys) → IsPlain ds ys
+  plain_after ds xs ys h = record { noatn = noatn_after xs ys h.noatn; last = last_after_it xs ys h.last; goes_on = goes_after xs ys h.goes_on; order = order_after xs ys h.order; tied = tied_after xs ys h.tied; owned = owned_after ds xs ys h.owned }
 
   pub along_bus : {n n2 : ℕ} {ss ss2 : List (Station M)} {es : List Event} → Plays M step peek n ss es n2 ss2 → (ys : List Step) (fin : List (Rest × Port)) → AllGo ss ys fin → Rising ss → IsPlain (devs ss) ys → (rest : List Event) → Compat ys (es ++ rest)
       → WithinAll ss ys fin es rest ss2 ⊎ PassedAll ss ys fin es n2 ss2
@@ -556,7 +556,7 @@ module _ (M : Type 0) (step : M → Act → M) (peek : M → Option (ℕ × Bool
       let keep = devs_tell x ss in
       let next : (same : y.event ≡ host_event x) → WithinAll (map (λ s. tell M step peek x s) ss) ys fin more rest ss2 ⊎ PassedAll (map (λ s. tell M step peek x s) ss) ys fin more n2 ss2 =
       λ same. along_bus p ys fin (tell_list x y ys ss fin g same (ap (λ (v : Event). is_atn v.change.line) (sym same) ∙ a.noatn.0) (says_left y ys a.last)) (subst RisingIn (sym keep) r)
-      (subst (λ (v : List ℕ). IsPlain v ys) (sym keep) (plain_behind (devs ss) (y ∷ []) ys a)) rest (c2.1 same) in
+      (subst (λ (v : List ℕ). IsPlain v ys) (sym keep) (plain_after (devs ss) (y ∷ []) ys a)) rest (c2.1 same) in
       by_who y.event.who refl c2 next
     where
       ran_first : y.event ≡ host_event x → RanOn M step peek ss (y ∷ []) (map (λ s. tell M step peek x s) ss)
@@ -573,18 +573,18 @@ module _ (M : Type 0) (step : M → Act → M) (peek : M → Option (ℕ × Bool
           let soon : moment_of y < x.moment = subst (λ (v : Who). Meets v (moment_of y) Host x.moment (y.event ≡ host_event x)) w d.0 in
           let late = sitting_due o ss y ys fin g w (a.owned.0 o w) x.moment i in
           absurd (omega (arith, soon, late))
-  along_bus {n} {n2} {ss} {ss2} {es} (reaction t before o behind more b u f e p) (y ∷ ys) fin g r a rest c =
-      let g2 : AllGo (before ++ o ∷ behind) (y ∷ ys) fin = subst (λ (v : List (Station M)). AllGo v (y ∷ ys) fin) u g in
-      let r2 : Rising (before ++ o ∷ behind) = subst (λ (v : List (Station M)). Rising v) u r in
-      let a2 : IsPlain (devs (before ++ o ∷ behind)) (y ∷ ys) = subst (λ (v : List (Station M)). IsPlain (devs v) (y ∷ ys)) u a in
-      let keep = devs_react t before o behind in
-      let next : (x : Reacted t before o behind (y ∷ ys) fin) → WithinAll (reacting M step peek t before o behind) x.more fin more rest ss2 ⊎ PassedAll (reacting M step peek t before o behind) x.more fin more n2 ss2 =
-      λ x. along_bus p x.more fin x.goes (subst RisingIn (sym keep) r2) (subst (λ (v : List ℕ). IsPlain v x.more) (sym keep) (plain_behind (devs (before ++ o ∷ behind)) x.own x.more (subst (λ (v : List Step). IsPlain (devs (before ++ o ∷ behind)) v) x.steps a2))) rest
+  along_bus {n} {n2} {ss} {ss2} {es} (reaction t before o afterwards more b u f e p) (y ∷ ys) fin g r a rest c =
+      let g2 : AllGo (before ++ o ∷ afterwards) (y ∷ ys) fin = subst (λ (v : List (Station M)). AllGo v (y ∷ ys) fin) u g in
+      let r2 : Rising (before ++ o ∷ afterwards) = subst (λ (v : List (Station M)). Rising v) u r in
+      let a2 : IsPlain (devs (before ++ o ∷ afterwards)) (y ∷ ys) = subst (λ (v : List (Station M)). IsPlain (devs v) (y ∷ ys)) u a in
+      let keep = devs_react t before o afterwards in
+      let next : (x : Reacted t before o afterwards (y ∷ ys) fin) → WithinAll (reacting M step peek t before o afterwards) x.more fin more rest ss2 ⊎ PassedAll (reacting M step peek t before o afterwards) x.more fin more n2 ss2 =
+      λ x. along_bus p x.more fin x.goes (subst RisingIn (sym keep) r2) (subst (λ (v : List ℕ). IsPlain v x.more) (sym keep) (plain_after (devs (before ++ o ∷ afterwards)) x.own x.more (subst (λ (v : List Step). IsPlain (devs (before ++ o ∷ afterwards)) v) x.steps a2))) rest
       (compat_skip x.own x.more (more ++ rest) (subst (λ (v : List Event). Compat (x.own ++ x.more) v) (ap (λ (v : List Event). v ++ rest) e ∙ append_assoc (drive_events (dev o) (shown M step peek t o)) more rest ∙ ap (λ (v : List Event). v ++ (more ++ rest)) (sym x.events))
       (subst (λ (v : List Step). Compat v (es ++ rest)) x.steps c))) in
       by_who y.event.who refl g2 r2 a2 next
     where
-      joined_so : (x : Reacted t before o behind (y ∷ ys) fin) → WithinAll (reacting M step peek t before o behind) x.more fin more rest ss2 ⊎ PassedAll (reacting M step peek t before o behind) x.more fin more n2 ss2 → WithinAll ss (y ∷ ys) fin es rest ss2 ⊎ PassedAll ss (y ∷ ys) fin es n2 ss2
+      joined_so : (x : Reacted t before o afterwards (y ∷ ys) fin) → WithinAll (reacting M step peek t before o afterwards) x.more fin more rest ss2 ⊎ PassedAll (reacting M step peek t before o afterwards) x.more fin more n2 ss2 → WithinAll ss (y ∷ ys) fin es rest ss2 ⊎ PassedAll ss (y ∷ ys) fin es n2 ss2
       joined_so x (inl w) = inl (record {
         front = x.own ++ w.front;
         back = w.back;
@@ -602,32 +602,32 @@ module _ (M : Type 0) (step : M → Act → M) (peek : M → Option (ℕ × Bool
             ∙ sym (append_assoc (events_of x.own) (events_of x.more) w.more) ∙ ap (λ (v : List Event). v ++ w.more) (sym (events_append x.own x.more)) ∙ ap (λ (v : List Step). events_of v ++ w.more) (sym x.steps);
         plays = w.plays;
         goes = w.goes;
-        ran = subst (λ (v : List (Station M)). RanOn M step peek v (y ∷ ys) w.there) (sym u) (subst (λ (v : List Step). RanOn M step peek (before ++ o ∷ behind) v w.there) (sym x.steps) (ran_then M step peek x.ran w.ran));
+        ran = subst (λ (v : List (Station M)). RanOn M step peek v (y ∷ ys) w.there) (sym u) (subst (λ (v : List Step). RanOn M step peek (before ++ o ∷ afterwards) v w.there) (sym x.steps) (ran_then M step peek x.ran w.ran));
       })
 
-      by_who : (w : Who) → y.event.who ≡ w → AllGo (before ++ o ∷ behind) (y ∷ ys) fin → Rising (before ++ o ∷ behind) → IsPlain (devs (before ++ o ∷ behind)) (y ∷ ys)
-          → ((x : Reacted t before o behind (y ∷ ys) fin) → WithinAll (reacting M step peek t before o behind) x.more fin more rest ss2 ⊎ PassedAll (reacting M step peek t before o behind) x.more fin more n2 ss2) → WithinAll ss (y ∷ ys) fin es rest ss2 ⊎ PassedAll ss (y ∷ ys) fin es n2 ss2
+      by_who : (w : Who) → y.event.who ≡ w → AllGo (before ++ o ∷ afterwards) (y ∷ ys) fin → Rising (before ++ o ∷ afterwards) → IsPlain (devs (before ++ o ∷ afterwards)) (y ∷ ys)
+          → ((x : Reacted t before o afterwards (y ∷ ys) fin) → WithinAll (reacting M step peek t before o afterwards) x.more fin more rest ss2 ⊎ PassedAll (reacting M step peek t before o afterwards) x.more fin more n2 ss2) → WithinAll ss (y ∷ ys) fin es rest ss2 ⊎ PassedAll ss (y ∷ ys) fin es n2 ss2
       by_who Host w g2 r2 a2 next =
-          let k = part before o behind (y ∷ ys) fin g2 in
+          let k = part before o afterwards (y ∷ ys) fin g2 in
           let vis = side_react _ o.port.party.reaction t o.port.others (peek o.machine) o.port.side o.port.own f.due k.go.holds in
           let first = first_shown (dev o) t o.port.own (next_held (peek o.machine) o.port) vis.1 in
           let all = first_append (dev o) t (drive_events (dev o) (shown M step peek t o)) more first in
           let whole = first_append (dev o) t es rest (subst (λ (v : List Event). FirstIs (dev o) t v) (sym e) all) in
           absurd (host_first (dev o) t y ys (es ++ rest) w (in_time_at (moment_of y) t (port_due o.port) (host_in_time k.go w) f.due) whole c)
-      by_who (Drive d) w g2 r2 a2 next = let x = reaction_goes t before o behind y ys fin d g2 f w r2 a2.last a2.goes_on a2.order a2.tied a2.owned in joined_so x (next x)
+      by_who (Drive d) w g2 r2 a2 next = let x = reaction_goes t before o afterwards y ys fin d g2 f w r2 a2.last a2.goes_on a2.order a2.tied a2.owned in joined_so x (next x)
 
   -- Inside a piece whose host changes nothing up to t, the reaction that is due first at t comes next.
-  pub next_inside : (t : ℕ) (before : List (Station M)) (o : Station M) (behind : List (Station M)) (y : Step) (ys : List Step) (fin : List (Rest × Port)) → AllGo (before ++ o ∷ behind) (y ∷ ys) fin → IsFirst M step peek t before o behind
-      → HostFrom (suc t) (y ∷ ys) → Rising (before ++ o ∷ behind) → LastSaid (y ∷ ys) → GoesOn (y ∷ ys) → InOrder (y ∷ ys) → Tied place (y ∷ ys) → OwnedIn (devs (before ++ o ∷ behind)) (y ∷ ys) → Reacted t before o behind (y ∷ ys) fin
-  next_inside t before o behind y ys fin g f h rising last goes_on order tied owned = by_who y.event.who refl
+  pub next_inside : (t : ℕ) (before : List (Station M)) (o : Station M) (afterwards : List (Station M)) (y : Step) (ys : List Step) (fin : List (Rest × Port)) → AllGo (before ++ o ∷ afterwards) (y ∷ ys) fin → IsFirst M step peek t before o afterwards
+      → HostFrom (suc t) (y ∷ ys) → Rising (before ++ o ∷ afterwards) → LastSaid (y ∷ ys) → GoesOn (y ∷ ys) → InOrder (y ∷ ys) → Tied place (y ∷ ys) → OwnedIn (devs (before ++ o ∷ afterwards)) (y ∷ ys) → Reacted t before o afterwards (y ∷ ys) fin
+  next_inside t before o afterwards y ys fin g f h rising last goes_on order tied owned = by_who y.event.who refl
     where
-      by_who : (w : Who) → y.event.who ≡ w → Reacted t before o behind (y ∷ ys) fin
+      by_who : (w : Who) → y.event.who ≡ w → Reacted t before o afterwards (y ∷ ys) fin
       by_who Host w =
-          let k = part before o behind (y ∷ ys) fin g in
+          let k = part before o afterwards (y ∷ ys) fin g in
           let soon = in_time_at (moment_of y) t (port_due o.port) (host_in_time k.go w) f.due in
           let late = h.0 (ap (λ (v : Who). Rattle.cbm_session.specs.Timing.is_host v) w) in
           absurd (omega (arith, soon, late))
-      by_who (Drive d) w = reaction_goes t before o behind y ys fin d g f w rising last goes_on order tied owned
+      by_who (Drive d) w = reaction_goes t before o afterwards y ys fin d g f w rising last goes_on order tied owned
 
   -- and no drive's change comes before what is due
   pub soon_inside : (d t : ℕ) (ss : List (Station M)) (y : Step) (ys : List Step) (fin : List (Rest × Port)) → AllGo ss (y ∷ ys) fin → AllInTime M step peek t ss → IsPlain (devs ss) (y ∷ ys) → y.event.who ≡ Drive d → t ≤ moment_of y

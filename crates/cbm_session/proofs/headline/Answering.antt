@@ -65,13 +65,13 @@ module _ (M : Type 0) (step : M → Act → M) (peek : M → Option (ℕ × Bool
     pub same : (gs hs : List Event) → events_of (steps_of p piece) ++ gs ≡ events_of (steps_of p w) ++ hs → piece ≡ w
     pub cuts : (c : ℕ) → CutFits p w c → CutFits p piece c
 
-  -- a turnaround by what there is to say behind ATN's release
-  behind_turn : (at : ℕ) (ys zs : List Step) (gs hs : List Event) → events_of (turn_begins at ys) ++ gs ≡ events_of (turn_begins at zs) ++ hs → events_of ys ++ gs ≡ events_of zs ++ hs
-  behind_turn at ys zs gs hs e = cc
+  -- a turnaround by what there is to say after ATN's release
+  after_a_turn : (at : ℕ) (ys zs : List Step) (gs hs : List Event) → events_of (turn_begins at ys) ++ gs ≡ events_of (turn_begins at zs) ++ hs → events_of ys ++ gs ≡ events_of zs ++ hs
+  after_a_turn at ys zs gs hs e = cc
 
   turn_differs : (p : Point) (at d m n : ℕ) (w w2 : Whole) (ys zs : List Step) → steps_of p w ≡ turn_begins at ys → steps_of p w2 ≡ turn_begins at zs → Parts d m n ys zs → (gs hs : List Event) → events_of (steps_of p w) ++ gs ≡ events_of (steps_of p w2) ++ hs → ⊥
   turn_differs p at d m n w w2 ys zs is is2 parts gs hs e =
-      parts_differ d m n ys zs gs hs parts (behind_turn at ys zs gs hs (ap (λ (l : List Step). events_of l ++ gs) (sym is) ∙ e ∙ ap (λ (l : List Step). events_of l ++ hs) is2))
+      parts_differ d m n ys zs gs hs parts (after_a_turn at ys zs gs hs (ap (λ (l : List Step). events_of l ++ gs) (sym is) ∙ e ∙ ap (λ (l : List Step). events_of l ++ hs) is2))
 
   turn_twin : (t : ℕ) (p : Point) (at d m n : ℕ) (w w2 : Whole) (ys zs : List Step) → steps_of p w ≡ turn_begins at ys → steps_of p w2 ≡ turn_begins at zs → Parts d m n ys zs → Twin t (steps_of p w) (steps_of p w2)
   turn_twin t p at d m n w w2 ys zs is is2 parts =

@@ -42,12 +42,12 @@ acts_none d [] a = refl
 acts_none d (x ∷ xs) a = a.0 (acts_for d xs) ∙ acts_none d xs a.1
 
 -- in a join such steps are passed over
-acts_behind : (d : ℕ) (xs ys : List Step) → Every (Skips d) xs → acts_for d (merge xs ys) ≡ acts_for d ys
-acts_behind d [] ys a = refl
-acts_behind d (x ∷ xs) [] a = ap (λ (l : List Step). acts_for d l) (merge_nil (x ∷ xs)) ∙ acts_none d (x ∷ xs) a
-acts_behind d (x ∷ xs) (y ∷ ys) a = elim (leb_tells (moment_of x) (moment_of y)) [
-  | inl e ↦ ap (λ (l : List Step). acts_for d l) (merge_here x xs y ys e.1) ∙ a.0 (acts_for d (merge xs (y ∷ ys))) ∙ acts_behind d xs (y ∷ ys) a.1
-  | inr e ↦ ap (λ (l : List Step). acts_for d l) (merge_there x xs y ys e.1) ∙ ap (λ (l : List Act). with_mark d y.mark l) (acts_behind d (x ∷ xs) ys a)
+acts_after : (d : ℕ) (xs ys : List Step) → Every (Skips d) xs → acts_for d (merge xs ys) ≡ acts_for d ys
+acts_after d [] ys a = refl
+acts_after d (x ∷ xs) [] a = ap (λ (l : List Step). acts_for d l) (merge_nil (x ∷ xs)) ∙ acts_none d (x ∷ xs) a
+acts_after d (x ∷ xs) (y ∷ ys) a = elim (leb_tells (moment_of x) (moment_of y)) [
+  | inl e ↦ ap (λ (l : List Step). acts_for d l) (merge_here x xs y ys e.1) ∙ a.0 (acts_for d (merge xs (y ∷ ys))) ∙ acts_after d xs (y ∷ ys) a.1
+  | inr e ↦ ap (λ (l : List Step). acts_for d l) (merge_there x xs y ys e.1) ∙ ap (λ (l : List Act). with_mark d y.mark l) (acts_after d (x ∷ xs) ys a)
 ]
 
 acts_ahead : (d : ℕ) (xs ys : List Step) → Every (Skips d) ys → acts_for d (merge xs ys) ≡ acts_for d xs
@@ -66,12 +66,12 @@ module _ (own : Seat → List Step) (d : ℕ) (skips : (x : Seat) → nat_eq d (
 
   own_acts : (l : List Step) (xs : List Seat) (s : Seat) → Every (Skips d) l → Sits d xs s → acts_for d (merge_all l (map own xs)) ≡ acts_for d (own s)
   own_acts l [] s a h = elim h [ ]
-  own_acts l (x ∷ xs) s a (inl h) = acts_behind d l (merge_all (own x) (map own xs)) a ∙ first xs h.2 ∙ ap (λ (y : Seat). acts_for d (own y)) h.0
+  own_acts l (x ∷ xs) s a (inl h) = acts_after d l (merge_all (own x) (map own xs)) a ∙ first xs h.2 ∙ ap (λ (y : Seat). acts_for d (own y)) h.0
     where
       first : (ys : List Seat) → Apart d ys → acts_for d (merge_all (own x) (map own ys)) ≡ acts_for d (own x)
       first [] k = refl
       first (y ∷ ys) k = acts_ahead d (own x) (merge_all (own y) (map own ys)) (skips_all (own y) ys (skips y k.0) k.1)
-  own_acts l (x ∷ xs) s a (inr h) = acts_behind d l (merge_all (own x) (map own xs)) a ∙ own_acts (own x) xs s (skips x h.0) h.1
+  own_acts l (x ∷ xs) s a (inr h) = acts_after d l (merge_all (own x) (map own xs)) a ∙ own_acts (own x) xs s (skips x h.0) h.1
 
 -- what a silence counts
 nothing_skips : (p : Point) (at clock : ℕ) (freed : Option ℕ) (d : ℕ) (x : Seat) → nat_eq d (device x) ≡ false → Every (Skips d) (own_part p (Nothing at clock freed) x)

@@ -79,13 +79,13 @@ module _ (M : Type 0) (step : M → Act → M) (peek : M → Option (ℕ × Bool
       h ∙ ap (λ (v : List Act). run_acts M step peek m0 v)
       (sym (append-nil (acts_for d done)) ∙ ap (λ (v : List Act). acts_for d done ++ v) (sym (other_acts d o cs act n)) ∙ sym (acts_append d done (own_steps o cs act)))
 
-  pub ran_before : (ms : ℕ → M) (done : List Step) (before : List (Station M)) (o : Station M) (behind : List (Station M)) → AllRan ms done (before ++ o ∷ behind) → AllRan ms done before × HasRun ms done o × AllRan ms done behind
-  ran_before ms done [] o behind h = (tt, h.0, h.1)
-  ran_before ms done (b ∷ before) o behind h = let k = ran_before ms done before o behind h.1 in ((h.0, k.0), k.1, k.2)
+  pub ran_before : (ms : ℕ → M) (done : List Step) (before : List (Station M)) (o : Station M) (afterwards : List (Station M)) → AllRan ms done (before ++ o ∷ afterwards) → AllRan ms done before × HasRun ms done o × AllRan ms done afterwards
+  ran_before ms done [] o afterwards h = (tt, h.0, h.1)
+  ran_before ms done (b ∷ before) o afterwards h = let k = ran_before ms done before o afterwards h.1 in ((h.0, k.0), k.1, k.2)
 
-  pub ran_joined : (ms : ℕ → M) (done : List Step) (before : List (Station M)) (o : Station M) (behind : List (Station M)) → AllRan ms done before → HasRun ms done o → AllRan ms done behind → AllRan ms done (before ++ o ∷ behind)
-  ran_joined ms done [] o behind a b c = (b, c)
-  ran_joined ms done (x ∷ before) o behind a b c = (a.0, ran_joined ms done before o behind a.1 b c)
+  pub ran_joined : (ms : ℕ → M) (done : List Step) (before : List (Station M)) (o : Station M) (afterwards : List (Station M)) → AllRan ms done before → HasRun ms done o → AllRan ms done afterwards → AllRan ms done (before ++ o ∷ afterwards)
+  ran_joined ms done [] o afterwards a b c = (b, c)
+  ran_joined ms done (x ∷ before) o afterwards a b c = (a.0, ran_joined ms done before o afterwards a.1 b c)
 
   ran_nothing : (ms : ℕ → M) (done : List Step) (ss : List (Station M)) → AllRan ms done ss → AllRan ms (done ++ []) ss
   ran_nothing ms done ss h = subst (λ (v : List Step). AllRan ms v ss) (sym (append-nil done)) h

@@ -20,7 +20,7 @@ use Rattle.cbm_iec.specs.declared.port.Side.{Side}
 use Rattle.cbm_session.proofs.headline.Keeping.{HostFrom}
 use Rattle.cbm_session.proofs.headline.Meeting.{FirstIs, first_shown, reaction_events}
 use Rattle.cbm_session.proofs.joining.Merging.{NoneBefore}
-use Rattle.cbm_session.specs.Among.{Rest, wires_of, behind_other, behind_host, IsBehind, CountsFor}
+use Rattle.cbm_session.specs.Among.{Rest, wires_of, after_another, after_the_host, FirstIsAfter, CountsFor}
 use Rattle.cbm_session.specs.Following.{IsInTime, reaction_steps}
 use Rattle.cbm_session.specs.Steps.{Mark, Step, moment_of, events_of, event_of}
 
@@ -64,15 +64,15 @@ Shows t says q = reaction_changes t says q ≡ [] → ⊥
 pub data Goes (says : Option (ℕ × Bool)) : Rest → Port → List Step → Rest → Port → Type 0 where
   ends : {r r2 : Rest} {q q2 : Port} → r2 ≡ r → q2 ≡ q → Goes says r q [] r2 q2
   tells : {r r2 : Rest} {q q2 : Port} {t : ℕ} {line : Line} {way : Way} {mark : Mark} {ss : List Step} → IsInTime t (port_due q)
-      → CountsFor q.party.device mark (told_act (wires_of (behind_host line way r)) q)
-      → Goes says (behind_host line way r) (told t (wires_of (behind_host line way r)) q) ss r2 q2 → Goes says r q (record { event = event_of Host t line way; mark = mark } ∷ ss) r2 q2
-  hears : {r r2 : Rest} {q q2 : Port} {o t : ℕ} {line : Line} {way : Way} {mark : Mark} {ss : List Step} → nat_eq q.party.device o ≡ false → IsInTime t (port_due q) → Steady t (wires_of (behind_other line way r)) q
-      → CountsFor q.party.device mark (told_act (wires_of (behind_other line way r)) q)
-      → Goes says (behind_other line way r) (told t (wires_of (behind_other line way r)) q) ss r2 q2 → Goes says r q (record { event = event_of (Drive o) t line way; mark = mark } ∷ ss) r2 q2
-  reacts : {r r2 : Rest} {q q2 : Port} {ss : List Step} (t : ℕ) (more : List Step) → port_due q ≡ Some t → ss ≡ reaction_steps t says q ++ more → Shows t says q → IsBehind t more
+      → CountsFor q.party.device mark (told_act (wires_of (after_the_host line way r)) q)
+      → Goes says (after_the_host line way r) (told t (wires_of (after_the_host line way r)) q) ss r2 q2 → Goes says r q (record { event = event_of Host t line way; mark = mark } ∷ ss) r2 q2
+  hears : {r r2 : Rest} {q q2 : Port} {o t : ℕ} {line : Line} {way : Way} {mark : Mark} {ss : List Step} → nat_eq q.party.device o ≡ false → IsInTime t (port_due q) → Steady t (wires_of (after_another line way r)) q
+      → CountsFor q.party.device mark (told_act (wires_of (after_another line way r)) q)
+      → Goes says (after_another line way r) (told t (wires_of (after_another line way r)) q) ss r2 q2 → Goes says r q (record { event = event_of (Drive o) t line way; mark = mark } ∷ ss) r2 q2
+  reacts : {r r2 : Rest} {q q2 : Port} {ss : List Step} (t : ℕ) (more : List Step) → port_due q ≡ Some t → ss ≡ reaction_steps t says q ++ more → Shows t says q → FirstIsAfter t more
       → Goes says r (reacted t says q) more r2 q2 → Goes says r q ss r2 q2
 
--- it comes later: a step of a drive at this moment, behind others of it
+-- it comes later: a step of a drive at this moment, after others of it
 pub data Comes (d t : ℕ) : List Step → Type 0 where
   here : {s : Step} {ss : List Step} → s.event.who ≡ Drive d → moment_of s ≡ t → Comes d t (s ∷ ss)
   there : {s : Step} {ss : List Step} → Comes d t ss → Comes d t (s ∷ ss)
@@ -94,7 +94,7 @@ comes_at says {r} {r2} {q} (hears {o} {t = u} {line} {way} a i y k g) t e n h b 
     let not_before = b.0 in
     let at : u ≡ t = omega (arith, soon, not_before) in
     let due : port_due q ≡ Some u = e ∙ ap (λ (v : ℕ). Some v) (sym at) in
-    let same : port_due (told u (wires_of (behind_other line way r)) q) ≡ Some t = ap (λ (x : Side). side_due x) (y due) ∙ e in
+    let same : port_due (told u (wires_of (after_another line way r)) q) ≡ Some t = ap (λ (x : Side). side_due x) (y due) ∙ e in
     there (comes_at says g t same n h.1 b.1)
 comes_at says {r} {r2} {q} {q2} {ss} (reacts u more d e sh l g) t f n h b =
     let at : u ≡ t = (let k : Some u ≡ Some t = sym d ∙ f in cc) in
@@ -143,18 +143,18 @@ reacts_next says place {r} {r2} {q} (hears {o} {t = u} {line} {way} {mark} {ss} 
     let not_before = b.0 in
     let at : u ≡ t = omega (arith, soon, not_before) in
     let due : port_due q ≡ Some u = e ∙ ap (λ (v : ℕ). Some v) (sym at) in
-    let same : port_due (told u (wires_of (behind_other line way r)) q) ≡ Some t = ap (λ (x : Side). side_due x) (y due) ∙ e in
+    let same : port_due (told u (wires_of (after_another line way r)) q) ≡ Some t = ap (λ (x : Side). side_due x) (y due) ∙ e in
     let comes : Comes q.party.device t ss = comes_at says g t same n h.1 b.1 in
-    let behind = w.0 o refl q.party.device (subst (λ (v : ℕ). Comes q.party.device v ss) (sym at) comes) in
+    let afterwards = w.0 o refl q.party.device (subst (λ (v : ℕ). Comes q.party.device v ss) (sym at) comes) in
     let before = f (record { event = event_of (Drive o) u line way; mark = mark }) ss o refl refl a at in
-    absurd (omega (arith, behind, before))
+    absurd (omega (arith, afterwards, before))
 reacts_next says place {r} {r2} {q} {q2} {ss} (reacts u more d e sh l g) t f n h b w z =
     let at : u ≡ t = (let k : Some u ≡ Some t = sym d ∙ f in cc) in
     subst (λ (v : ℕ). Next says v r q ss r2 q2) at (record { more = more; steps = e; goes = g })
 
 -- Another drive hears the changes of the reaction, one after the other, and goes on.
 pub hears_next : (says : Option (ℕ × Bool)) {r r2 : Rest} {q q2 : Port} {o t : ℕ} {line : Line} {way : Way} {mark : Mark} {ss : List Step} → nat_eq q.party.device o ≡ false → Goes says r q (record { event = event_of (Drive o) t line way; mark = mark } ∷ ss) r2 q2
-    → Goes says (behind_other line way r) (told t (wires_of (behind_other line way r)) q) ss r2 q2
+    → Goes says (after_another line way r) (told t (wires_of (after_another line way r)) q) ss r2 q2
 hears_next says n (hears a i y k g) = g
 hears_next says {r} {r2} {q} {q2} {o} {t} {line} {way} {mark} {ss} n (reacts u more d e sh l g) =
     let first = first_shown q.party.device u q.own (next_held says q) sh in

@@ -15,7 +15,7 @@ use Rattle.cbm_session.proofs.headline.Meeting.{LastSaid, AsksFor, Compat, First
 use Rattle.cbm_session.proofs.headline.TalkSwap.{none_cut}
 use Rattle.cbm_session.proofs.joining.Merging.{NoneBefore, InOrder, AllBefore, before_yes, cut_front, front_before}
 use Rattle.cbm_session.proofs.reading.OneReading.{NoAtn}
-use Rattle.cbm_session.specs.Among.{Rest, wires_of, behind_other, behind_host, IsBehind}
+use Rattle.cbm_session.specs.Among.{Rest, wires_of, after_another, after_the_host, FirstIsAfter}
 use Rattle.cbm_session.specs.Following.{IsInTime, reaction_steps}
 use Rattle.cbm_session.specs.Laws.{AllAfter, GoesOn}
 use Rattle.cbm_session.specs.Pieces.{before}
@@ -87,26 +87,26 @@ goes_up_to says c {r} {r2} {q} {q2} (tells {t} {line} {way} {mark} {ss} i k f) o
     s : Step
     s = record { event = Rattle.cbm_session.specs.Steps.event_of Host t line way; mark = mark }
 
-    go : GoesUpTo says c (behind_host line way r) (told t (wires_of (behind_host line way r)) q) ss → GoesUpTo says c r q (record { event = Rattle.cbm_session.specs.Steps.event_of Host t line way; mark = mark } ∷ ss)
+    go : GoesUpTo says c (after_the_host line way r) (told t (wires_of (after_the_host line way r)) q) ss → GoesUpTo says c r q (record { event = Rattle.cbm_session.specs.Steps.event_of Host t line way; mark = mark } ∷ ss)
     go x = elim (leb_tells (suc t) c) [
       | inl u ↦ (let l = u.1 in record { rest = x.rest; port = x.port; goes = subst (λ (v : List Step). Goes says r q v x.rest x.port) (sym (before_yes c (record { event = Rattle.cbm_session.specs.Steps.event_of Host t line way; mark = mark }) ss (omega (arith, l)))) (tells i k x.goes); in_time = x.in_time })
       | inr u ↦ (let l = u.1 in record { rest = r; port = q; goes = subst (λ (v : List Step). Goes says r q v r q) (sym (none_cut c (record { event = Rattle.cbm_session.specs.Steps.event_of Host t line way; mark = mark }) ss o (omega (arith, l)))) (ends refl refl); in_time = in_time_from c t (port_due q) (omega (arith, l)) i })
     ]
 goes_up_to says c {r} {r2} {q} {q2} (hears {o} {t} {line} {way} {mark} {ss} a i y k f) order last = go (goes_up_to says c f order.1 last)
   where
-    go : GoesUpTo says c (behind_other line way r) (told t (wires_of (behind_other line way r)) q) ss → GoesUpTo says c r q (record { event = Rattle.cbm_session.specs.Steps.event_of (Drive o) t line way; mark = mark } ∷ ss)
+    go : GoesUpTo says c (after_another line way r) (told t (wires_of (after_another line way r)) q) ss → GoesUpTo says c r q (record { event = Rattle.cbm_session.specs.Steps.event_of (Drive o) t line way; mark = mark } ∷ ss)
     go x = elim (leb_tells (suc t) c) [
       | inl u ↦ (let l = u.1 in record { rest = x.rest; port = x.port; goes = subst (λ (v : List Step). Goes says r q v x.rest x.port) (sym (before_yes c (record { event = Rattle.cbm_session.specs.Steps.event_of (Drive o) t line way; mark = mark }) ss (omega (arith, l)))) (hears a i y k x.goes); in_time = x.in_time })
       | inr u ↦ (let l = u.1 in record { rest = r; port = q; goes = subst (λ (v : List Step). Goes says r q v r q) (sym (none_cut c (record { event = Rattle.cbm_session.specs.Steps.event_of (Drive o) t line way; mark = mark }) ss order (omega (arith, l)))) (ends refl refl); in_time = in_time_from c t (port_due q) (omega (arith, l)) i })
     ]
 goes_up_to says c {r} {r2} {q} {q2} {ss} (reacts t more d e sh l f) o last = go (goes_up_to says c f (order_rest (reaction_steps t says q) more (subst InOrder e o)) last)
   where
-    behind_c : IsBehind t more → IsBehind t (before c more)
-    behind_c b = front_behind (before c more) (cut_front c more (order_rest (reaction_steps t says q) more (subst InOrder e o))).0 (subst (IsBehind t) (cut_front c more (order_rest (reaction_steps t says q) more (subst InOrder e o))).1 b)
+    first_after_c : FirstIsAfter t more → FirstIsAfter t (before c more)
+    first_after_c b = front_after (before c more) (cut_front c more (order_rest (reaction_steps t says q) more (subst InOrder e o))).0 (subst (FirstIsAfter t) (cut_front c more (order_rest (reaction_steps t says q) more (subst InOrder e o))).1 b)
       where
-        front_behind : (xs ys : List Step) → IsBehind t (xs ++ ys) → IsBehind t xs
-        front_behind [] ys b = tt
-        front_behind (x ∷ xs) ys b = b
+        front_after : (xs ys : List Step) → FirstIsAfter t (xs ++ ys) → FirstIsAfter t xs
+        front_after [] ys b = tt
+        front_after (x ∷ xs) ys b = b
 
     late : (zs : List Step) → ss ≡ zs → zs ≡ reaction_steps t says q ++ more → c ≤ t → before c zs ≡ []
     late [] k h n = refl
@@ -121,7 +121,7 @@ goes_up_to says c {r} {r2} {q} {q2} {ss} (reacts t more d e sh l f) o last = go 
       | inl u ↦ (
           let n = u.1 in
           let is : before c ss ≡ reaction_steps t says q ++ before c more = ap (λ (v : List Step). before c v) e ∙ all_before c t (reaction_steps t says q) more (reaction_at t says q) (omega (arith, n)) in
-          record { rest = x.rest; port = x.port; goes = reacts t (before c more) d is sh (behind_c l) x.goes; in_time = x.in_time }
+          record { rest = x.rest; port = x.port; goes = reacts t (before c more) d is sh (first_after_c l) x.goes; in_time = x.in_time }
           )
       | inr u ↦ (
           let n = u.1 in
@@ -150,7 +150,7 @@ module _ (M : Type 0) (step : M → Act → M) (peek : M → Option (ℕ × Bool
       go [] = tt
       go (y ∷ ys) = a
 
-  -- So all that go with a piece go with it up to c, if nothing of theirs is due before c behind it.
+  -- So all that go with a piece go with it up to c, if nothing of theirs is due before c after it.
   pub all_up_to : (c : ℕ) (xs : List (Station M)) (ys : List Step) (fin : List (Rest × Port)) → AllGo M step peek says place xs ys fin → InOrder ys → AllWait c fin → (fin2 : List (Rest × Port)) × (AllGo M step peek says place xs (before c ys) fin2 × AllWait c fin2)
   all_up_to c [] ys [] g o w = ([], (tt, tt))
   all_up_to c [] ys (e ∷ fin) g o w = elim g [ ]

@@ -1,4 +1,4 @@
--- Of two cuts whose events are the same the host holds the same lines, and the point behind them is the same.
+-- Of two cuts whose events are the same the host holds the same lines, and the point after them is the same.
 use Rattle.std.proofs.Common.{◌≡◌, ℕ, suc, ◌≤◌, ◌<◌, inl, inr, Bool, true, false, List, [], ◌∷◌, map, None, ap, sym, ◌∙◌, arith, refl}
 use Rattle.std.proofs.lemmas.Bool.Decides.{leb_tells}
 use Rattle.std.specs.Prelude.{if◌then◌else◌}
@@ -91,7 +91,7 @@ same_host p w w2 c e = side w2 ∙ ap (λ (l : List Event). host_events p.host l
         ∙ ap (λ (l : List Step). held_by p.host l) (sym (hosts_before c (steps_of p v)))
         ∙ held_hosts p.host (before c (steps_of p v))
 
--- So the point behind a cut is told by its events.
+-- So the point after a cut is told by its events.
 pub same_cut : (p : Point) (w w2 : Whole) (c : ℕ) → CutFits p w c → CutFits p w2 c → Each (λ x. Sits (device x) p.seats x) p.seats → events_of (before c (steps_of p w2)) ≡ events_of (before c (steps_of p w)) → point_after p (Cut w2 c) ≡ point_after p (Cut w c)
 same_cut p w w2 c k k2 sits e =
     ap (λ (l : List Seat). record { place = Cutting c; seats = l; host = held_by p.host (before c (host_part p w2)); pulled = p.pulled; released = None; accepted = p.accepted; since = c }) (seats p.seats sits)

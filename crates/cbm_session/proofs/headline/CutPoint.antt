@@ -11,7 +11,7 @@ use Rattle.cbm_session.specs.Pieces.{Whole, Point, own_part, steps_of, before, C
 use Rattle.cbm_session.specs.Seats.{Seat, device}
 use Rattle.cbm_session.specs.Steps.{Step, events_of}
 
--- the lines that a drive holds behind events
+-- the lines that a drive holds after events
 abbrev pub held_next : Held → Event → Held
 held_next h e = elim e.change.line as (λ l. Held) [ Atn ↦ h | Clock ↦ record h { clock_low = is_pull e.change.way } | Data ↦ record h { data_low = is_pull e.change.way } ]
 

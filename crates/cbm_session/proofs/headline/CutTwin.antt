@@ -6,7 +6,7 @@ use Rattle.std.specs.Prelude.{if◌then◌else◌}
 use Rattle.cbm_iec.specs.declared.event.Event.{Event}
 use Rattle.cbm_iec.specs.declared.event.Who.TheVariants.{Host, Drive}
 use Rattle.cbm_iec.specs.declared.event.Who.{Who}
-use Rattle.cbm_session.proofs.headline.Keeping.{HostFrom, host_behind}
+use Rattle.cbm_session.proofs.headline.Keeping.{HostFrom, host_after_it}
 use Rattle.cbm_session.proofs.headline.LeftOver.{HostSafe, apart_late}
 use Rattle.cbm_session.proofs.headline.TalkSwap.{Apart, Twin, HostNext, none_cut}
 use Rattle.cbm_session.proofs.joining.Merging.{InOrder, AllBefore, before_yes}
@@ -23,9 +23,9 @@ pull_differs c y m (x ∷ rest) l h e =
     let late = h.1 in
     absurd (omega (arith, l, late, at))
 
-safe_behind : (t c : ℕ) (y : Step) (ys : List Step) (rest : List Event) → HostNext c rest → moment_of y < c → (is_host y.event.who ≡ true → t ≤ moment_of y) → HostSafe t (y ∷ ys) rest
-safe_behind t c y ys [] h l k = k
-safe_behind t c y ys (x ∷ rest) h l k = (inr k, λ e. absurd (pull_differs c y.event rest (x ∷ rest) l h (ap (λ (v : Event). v ∷ rest) e)))
+safe_after_it : (t c : ℕ) (y : Step) (ys : List Step) (rest : List Event) → HostNext c rest → moment_of y < c → (is_host y.event.who ≡ true → t ≤ moment_of y) → HostSafe t (y ∷ ys) rest
+safe_after_it t c y ys [] h l k = k
+safe_after_it t c y ys (x ∷ rest) h l k = (inr k, λ e. absurd (pull_differs c y.event rest (x ∷ rest) l h (ap (λ (v : Event). v ∷ rest) e)))
 
 -- the host's next change in a cut of the one is that in a cut of the other, or not before t
 pub cut_safe : (t c : ℕ) (ys xs : List Step) (rest : List Event) → Twin t ys xs → InOrder ys → InOrder xs → HostNext c rest → HostSafe t (before c ys) (events_of (before c xs) ++ rest)
@@ -44,7 +44,7 @@ cut_safe t c (y ∷ ys) (x ∷ xs) rest w o p h = elim (leb_tells (suc (moment_o
         let late : is_host y.event.who ≡ true → t ≤ moment_of y = λ k. apart_late t y.event.who (moment_of y) x.event.who (moment_of x) w.0 k in
         elim (leb_tells (suc (moment_of x)) c) [
           | inl u ↦ (let k = u.1 in subst (λ (v : List Step). HostSafe t (y ∷ before c ys) (events_of v ++ rest)) (sym (before_yes c x xs (omega (arith, k)))) (inr late, λ e. absurd (w.1 e)))
-          | inr u ↦ (let k = u.1 in subst (λ (v : List Step). HostSafe t (y ∷ before c ys) (events_of v ++ rest)) (sym (none_cut c x xs p (omega (arith, k)))) (safe_behind t c y (before c ys) rest h l late))
+          | inr u ↦ (let k = u.1 in subst (λ (v : List Step). HostSafe t (y ∷ before c ys) (events_of v ++ rest)) (sym (none_cut c x xs p (omega (arith, k)))) (safe_after_it t c y (before c ys) rest h l late))
         ]
 
 -- the first of some events is the host's, or not before c
@@ -58,7 +58,7 @@ apart_first t c Host m Host n a l k (inl e) = elim a [ ]
 apart_first t c (Drive o) m Host n a l k (inl e) = absurd (omega (arith, a, l, k))
 apart_first t c u m (Drive d) n a l k (inl e) = absurd cc
 
--- Where more is played behind a cut, both cuts show the same.
+-- Where more is played after a cut, both cuts show the same.
 pub cut_same : (t c : ℕ) (ys xs : List Step) (m rest : List Event) → Twin t ys xs → InOrder ys → InOrder xs → HostNext c rest → FirstLate c m → events_of (before c ys) ++ m ≡ events_of (before c xs) ++ rest → events_of (before c ys) ≡ events_of (before c xs)
 cut_same t c [] [] m rest w o p h f e = refl
 cut_same t c [] (x ∷ xs) m rest w o p h f e = elim w [ ]
@@ -133,9 +133,9 @@ before_events c (x ∷ xs) (y ∷ ys) e a =
     let tail : events_of xs ≡ events_of ys = cc in
     (omega (arith, at, l), before_events c xs ys tail a.1)
 
--- Where only what is before c was played, a change of the host at c is still to come, and so t isn't behind it.
+-- Where only what is before c was played, a change of the host at c is still to come, and so t isn't after it.
 pub pull_late : (c t : ℕ) (xs : List Step) (h : Step) (ys done more : List Step) → xs ++ h ∷ ys ≡ done ++ more → AllBefore c done → HostFrom t more → is_host h.event.who ≡ true → moment_of h ≡ c → t ≤ c
-pull_late c t xs h ys [] more e a f who at = let l = (host_behind t xs (h ∷ ys) (subst (HostFrom t) (sym e) f)).0 who in omega (arith, l, at)
+pull_late c t xs h ys [] more e a f who at = let l = (host_after_it t xs (h ∷ ys) (subst (HostFrom t) (sym e) f)).0 who in omega (arith, l, at)
 pull_late c t [] h ys (d ∷ done) more e a f who at =
     let same : h ≡ d = cc in
     let now : moment_of h ≡ moment_of d = ap (λ (v : Step). moment_of v) same in

@@ -1,4 +1,4 @@
--- How an allowed session ends behind a play: with a piece whole, with a cut of it and a pull of ATN, or, where a drive leads, with the beginning of a frame and a pull.
+-- How an allowed session ends after a play: with a piece whole, with a cut of it and a pull of ATN, or, where a drive leads, with the beginning of a frame and a pull.
 use Rattle.std.proofs.Common.{◌≡◌, ℕ, zero, ◌+◌, ◌≤◌, ◌<◌, Bool, true, false, List, [], ◌∷◌, ◌++◌, append_assoc, append-nil, Option, Some, None, ap, sym, ◌∙◌, subst, arith, refl}
 use Rattle.std.proofs.lemmas.Bool.{le-leb}
 use Rattle.std.specs.Prelude.{if◌then◌else◌}
@@ -42,7 +42,7 @@ some_there c (x ∷ xs) h ys l = go (Rattle.std.specs.Prelude.nat_le c (moment_o
     go true k = refl
     go false k = k
 
--- a frame behind the host's first answer
+-- a frame after the host's first answer
 abbrev told_rest : Party → Told → List Step
 told_rest b f =
     signal_steps f.signal
@@ -55,7 +55,7 @@ pull_host_from t c p fits l =
     subst (HostFrom t) (sym (pull_steps p c)) (λ k. l, all_host_from t _ (none_sooner t c _ l o.0))
 
 module _ (M : Type 0) (step : M → Act → M) (peek : M → Option (ℕ × Bool)) where
-  -- from a point on an allowed session begins with these events, with no change of the host before t behind them
+  -- from a point on an allowed session begins with these events, with no change of the host before t after them
   pub record Continues (p : Point) (ms : ℕ → M) (es : List Event) (t : ℕ) : Type 0 where
     pub pieces : List Piece
     pub done : List Step
@@ -66,7 +66,7 @@ module _ (M : Type 0) (step : M → Act → M) (peek : M → Option (ℕ × Bool
     pub allowed : Allowed M step peek p ms pieces
     pub host : HostFrom t more
 
-  -- a whole piece, and what comes behind it
+  -- a whole piece, and what comes after it
   pub whole_then : (p : Point) (ms : ℕ → M) (w : Whole) (t : ℕ) (front beyond : List Step) → Fits p w → IsAnswer M step peek (ms (talker_of p.seats).device) w → RunEach M step peek p.seats ms (steps_of p w) → steps_of p w ≡ front ++ beyond → HostFrom t beyond
       → Continues (whole_point p w) (run_each M step peek ms (steps_of p w)) [] t → Continues p ms (events_of front) t
   whole_then p ms w t front beyond fits answer runs parts late k = record {

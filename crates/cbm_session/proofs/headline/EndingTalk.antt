@@ -18,8 +18,8 @@ use Rattle.cbm_session.proofs.headline.AnswersRun.{talk_runs}
 use Rattle.cbm_session.proofs.headline.BusActs.{AllRan}
 use Rattle.cbm_session.proofs.headline.Ending.{Continues, some_there, whole_then, cut_then, tail}
 use Rattle.cbm_session.proofs.headline.Here.{Here}
-use Rattle.cbm_session.proofs.headline.Keeping.{HostFrom, host_behind}
-use Rattle.cbm_session.proofs.headline.Onward.{leads_behind, talker_same}
+use Rattle.cbm_session.proofs.headline.Keeping.{HostFrom, host_after_it}
+use Rattle.cbm_session.proofs.headline.Onward.{leads_after, talker_same}
 use Rattle.cbm_session.proofs.headline.Premises.{mute}
 use Rattle.cbm_session.proofs.headline.TalkBus.{frame_steps}
 use Rattle.cbm_session.proofs.headline.TalkParts.{AllPlain, told_front, told_back, front_plain, front_back}
@@ -45,11 +45,11 @@ pub record BeforeIt (xs front beyond bs : List Step) (h : Step) : Type 0 where
 
 pub record HasIt (bs beyond : List Step) : Type 0 where
   pub left : List Step
-  pub behind_is : bs ≡ left ++ beyond
+  pub afterwards_is : bs ≡ left ++ beyond
 
 pub before_or_has : (front beyond xs : List Step) (h : Step) (bs : List Step) → front ++ beyond ≡ xs ++ h ∷ bs → BeforeIt xs front beyond bs h ⊎ HasIt bs beyond
 before_or_has [] beyond xs h bs e = inl (record { left = xs; front_is = refl; beyond_is = e })
-before_or_has (f ∷ front) beyond [] h bs e = inr (record { left = front; behind_is = (let k : front ++ beyond ≡ bs = cc in sym k) })
+before_or_has (f ∷ front) beyond [] h bs e = inr (record { left = front; afterwards_is = (let k : front ++ beyond ≡ bs = cc in sym k) })
 before_or_has (f ∷ front) beyond (x ∷ xs) h bs e =
     let tail_is : front ++ beyond ≡ xs ++ h ∷ bs = cc in
     let same : x ≡ f = cc in
@@ -70,7 +70,7 @@ before_both : (m : ℕ) (xs ys : List Step) → AllBefore m xs → AllBefore m y
 before_both m [] ys a b = b
 before_both m (x ∷ xs) ys a b = (a.0, before_both m xs ys a.1 b)
 
--- all of a frame but its accept and what comes behind is before the accept
+-- all of a frame but its accept and what comes after is before the accept
 front_early : (b : Party) (at : ℕ) (f : Told) → ToldFits b at f → AllBefore f.accept (told_front b at f)
 front_early b at f h =
     let free = h.free in
@@ -92,9 +92,9 @@ module _ (M : Type 0) (step : M → Act → M) (peek : M → Option (ℕ × Bool
   pub end_talk : (p : Point) (ms : ℕ → M) (xs zs : List (Station M)) → Here M step peek place p ms xs → (s : Seat) → IsSound p s → s.role ≡ Talker → (at : ℕ) (g : Told) (fits : Fits p (Talk at g)) → IsAnswer M step peek (ms (talker_of p.seats).device) (Talk at g) → (t : ℕ) (front beyond : List Step)
       → steps_of p (Talk at g) ≡ front ++ beyond → HostFrom t beyond → devs M step peek mute place zs ≡ devs M step peek mute place xs → AllRan M step peek ms front zs → AllBytes M step peek zs → Continues M step peek p ms (events_of front) t
   end_talk p ms xs zs here s sound talks at g fits answer t front beyond parts late same ran bytes =
-      elim (before_or_has front beyond (told_front s.party at g) accept behind (sym parts ∙ is ∙ sym (front_back s.party at g))) [
+      elim (before_or_has front beyond (told_front s.party at g) accept afterwards (sym parts ∙ is ∙ sym (front_back s.party at g))) [
         | inl k ↦ cut_then M step peek p ms w g.accept t front k.left (fits, since_early, some) answer (subst (Every IsUnasked) (sym cut) (plain_unasked (told_front s.party at g) (front_plain s.party at g))) (cut ∙ k.front_is)
-            (host_front t k.left (accept ∷ behind) (subst (HostFrom t) k.beyond_is late)) ((host_behind t k.left (accept ∷ behind) (subst (HostFrom t) k.beyond_is late)).0 refl)
+            (host_front t k.left (accept ∷ afterwards) (subst (HostFrom t) k.beyond_is late)) ((host_after_it t k.left (accept ∷ afterwards) (subst (HostFrom t) k.beyond_is late)).0 refl)
         | inr k ↦ whole_then M step peek p ms w t front beyond fits answer (talk_runs M step peek p ms s sound talks at g fits answer) parts late (next (is_last g) refl k)
       ]
     where
@@ -110,8 +110,8 @@ module _ (M : Type 0) (step : M → Act → M) (peek : M → Option (ℕ × Bool
       accept : Step
       accept = for_one s.party.device (Said (number_of g.bits) (is_last g)) (host g.accept Data Pull)
 
-      behind : List Step
-      behind = if is_last g then drive s.party.device (g.accept + s.party.reaction) Clock Free ∷ [] else []
+      afterwards : List Step
+      afterwards = if is_last g then drive s.party.device (g.accept + s.party.reaction) Clock Free ∷ [] else []
 
       is : steps_of p (Talk at g) ≡ one_told s.party at g
       is = frame_steps M step peek mute place p at s sound talks g fits
@@ -139,14 +139,14 @@ module _ (M : Type 0) (step : M → Act → M) (peek : M → Option (ℕ × Bool
       none_left [] r e = sym e
       none_left (x ∷ l) r e = absurd cc
 
-      next : (v : Bool) → is_last g ≡ v → HasIt behind beyond → Continues M step peek (whole_point p (Talk at g)) (run_each M step peek ms (steps_of p (Talk at g))) [] t
+      next : (v : Bool) → is_last g ≡ v → HasIt afterwards beyond → Continues M step peek (whole_point p (Talk at g)) (run_each M step peek ms (steps_of p (Talk at g))) [] t
       next true l k = ends_there (whole_point p (Talk at g)) (run_each M step peek ms (steps_of p (Talk at g))) t (subst MayEnd (sym (ap (λ (v : Bool). if v then Open else Leading (g.accept + 100)) l)) tt)
       next false l k =
           let p2 = whole_point p (Talk at g) in
           let ms2 = run_each M step peek ms (steps_of p (Talk at g)) in
           let there : p2.place ≡ Leading (g.accept + 100) = ap (λ (v : Bool). if v then Open else Leading (g.accept + 100)) l in
-          let lead = leads_behind M step peek place machine p ms xs here (Full (Talk at g)) fits answer (g.accept + 100) there in
-          let empty : beyond ≡ [] = none_left k.left beyond (ap (λ (v : Bool). if v then drive s.party.device (g.accept + s.party.reaction) Clock Free ∷ [] else []) (sym l) ∙ k.behind_is) in
+          let lead = leads_after M step peek place machine p ms xs here (Full (Talk at g)) fits answer (g.accept + 100) there in
+          let empty : beyond ≡ [] = none_left k.left beyond (ap (λ (v : Bool). if v then drive s.party.device (g.accept + s.party.reaction) Clock Free ∷ [] else []) (sym l) ∙ k.afterwards_is) in
           let whole : front ≡ steps_of p (Talk at g) = sym (parts ∙ ap (λ (r : List Step). front ++ r) empty ∙ append-nil front) in
           let byte = talker_byte M step peek place p ms front p.seats xs zs here.stand same ran bytes (here.leads at fits.0).talker in
           let keep = standing (Rattle.cbm_session.specs.Seats.lines (Rattle.std.specs.Prelude.not (is_last g)) false) in

@@ -15,11 +15,11 @@ use Rattle.cbm_session.proofs.among.Fronts.{steps_order, all_in_order}
 use Rattle.cbm_session.proofs.headline.Ending.{Continues, some_there, cut_then}
 use Rattle.cbm_session.proofs.headline.EndingTalk.{BeforeIt, order_rest}
 use Rattle.cbm_session.proofs.headline.FrameBus.{each_seat}
-use Rattle.cbm_session.proofs.headline.Keeping.{HostFrom, host_behind}
+use Rattle.cbm_session.proofs.headline.Keeping.{HostFrom, host_after_it}
 use Rattle.cbm_session.proofs.headline.TurnTwin.{turn_begins, leads, mutes, lead_steps, mute_steps}
 use Rattle.cbm_session.proofs.headline.Unasked.{IsUnasked}
 use Rattle.cbm_session.proofs.joining.Merging.{NoneBefore, InOrder, before_yes, before_no, cut_front, front_before, cut_is}
-use Rattle.cbm_session.proofs.joining.OneDrive.{merge_behind}
+use Rattle.cbm_session.proofs.joining.OneDrive.{merge_after_it}
 use Rattle.cbm_session.proofs.joining.Owning.{part_owned, part_order}
 use Rattle.cbm_session.proofs.joining.Showing.{merge_first}
 use Rattle.cbm_session.specs.Answers.{IsAnswer}
@@ -33,8 +33,8 @@ abbrev pub turn_drives : Point → Whole → List Step
 turn_drives p w = merge_all [] (map (λ x. own_part p w x) p.seats)
 
 pub record AroundClock (p : Point) (w : Whole) (at clock : ℕ) : Type 0 where
-  pub behind : List Step
-  pub is : steps_of p w ≡ turn_begins at (before clock (turn_drives p w)) ++ host clock Clock Free ∷ behind
+  pub afterwards : List Step
+  pub is : steps_of p w ≡ turn_begins at (before clock (turn_drives p w)) ++ host clock Clock Free ∷ afterwards
 
 not_before : (c : ℕ) (xs : List Step) → NoneBefore c xs → NotBefore c xs
 not_before c [] n = tt
@@ -47,14 +47,14 @@ around_clock p w at clock hs ys fits steps is =
     let k = cut_front clock ds order in
     let h = host clock Clock Free in
     record {
-      behind = merge hs k.0;
+      afterwards = merge hs k.0;
       is =
           steps
           ∙ ap (λ (l : List Step). turn_begins at l)
           (is
           ∙ merge_drives (λ x. own_part p w x) (h ∷ hs) p.seats
           ∙ ap (λ (l : List Step). merge (h ∷ hs) l) k.1
-          ∙ merge_behind h hs (before clock ds) k.0 (front_before clock ds)
+          ∙ merge_after_it h hs (before clock ds) k.0 (front_before clock ds)
           ∙ ap (λ (l : List Step). before clock ds ++ l) (merge_first h hs k.0 (not_before clock k.0 k.2)));
     }
 
@@ -106,21 +106,21 @@ module _ (M : Type 0) (step : M → Act → M) (peek : M → Option (ℕ × Bool
 
   -- with CLOCK's release to come the turnaround is cut there
   cut_turn : (p : Point) (ms : ℕ → M) (w : Whole) (at clock t : ℕ) (front beyond : List Step) → Fits p w → CutFits p w clock → at + 1 ≤ clock → IsAnswer M step peek (ms (talker_of p.seats).device) w → (a : AroundClock p w at clock) → Every (AskedLate clock) (turn_drives p w) → HostFrom t beyond
-      → BeforeIt (turn_begins at (before clock (turn_drives p w))) front beyond a.behind (host clock Clock Free) → Continues M step peek p ms (events_of front) t
+      → BeforeIt (turn_begins at (before clock (turn_drives p w))) front beyond a.afterwards (host clock Clock Free) → Continues M step peek p ms (events_of front) t
   cut_turn p ms w at clock t front beyond fits cuts late answer a quiet from k =
       let h = host clock Clock Free in
       let early = turn_begins at (before clock (turn_drives p w)) in
-      let order = order_rest early (h ∷ a.behind) (subst InOrder a.is (steps_order p w fits)) in
-      let cut : before clock (steps_of p w) ≡ early = ap (λ (l : List Step). before clock l) a.is ∙ cut_is clock early (h ∷ a.behind) (omega (arith, late), (omega (arith, late), front_before clock (turn_drives p w))) (omega arith, order.0) in
-      let some : some_from clock (steps_of p w) ≡ true = ap (λ (l : List Step). some_from clock l) a.is ∙ some_there clock early h a.behind (omega arith) in
+      let order = order_rest early (h ∷ a.afterwards) (subst InOrder a.is (steps_order p w fits)) in
+      let cut : before clock (steps_of p w) ≡ early = ap (λ (l : List Step). before clock l) a.is ∙ cut_is clock early (h ∷ a.afterwards) (omega (arith, late), (omega (arith, late), front_before clock (turn_drives p w))) (omega arith, order.0) in
+      let some : some_from clock (steps_of p w) ≡ true = ap (λ (l : List Step). some_from clock l) a.is ∙ some_there clock early h a.afterwards (omega arith) in
       let left = subst (HostFrom t) k.beyond_is from in
-      cut_then M step peek p ms w clock t front k.left (fits, cuts, some) answer (subst (Every IsUnasked) (sym cut) (tt, (tt, early_unasked clock (turn_drives p w) quiet))) (cut ∙ k.front_is) (host_front t k.left (h ∷ a.behind) left) ((host_behind t k.left (h ∷ a.behind) left).0 refl)
+      cut_then M step peek p ms w clock t front k.left (fits, cuts, some) answer (subst (Every IsUnasked) (sym cut) (tt, (tt, early_unasked clock (turn_drives p w) quiet))) (cut ∙ k.front_is) (host_front t k.left (h ∷ a.afterwards) left) ((host_after_it t k.left (h ∷ a.afterwards) left).0 refl)
 
   pub cut_lead : (p : Point) (ms : ℕ → M) (at clock t : ℕ) (front beyond : List Step) (fits : Fits p (ToTalker at clock)) → IsAnswer M step peek (ms (talker_of p.seats).device) (ToTalker at clock) → HostFrom t beyond
-      → BeforeIt (turn_begins at (before clock (turn_drives p (ToTalker at clock)))) front beyond (lead_around p at clock fits).behind (host clock Clock Free) → Continues M step peek p ms (events_of front) t
+      → BeforeIt (turn_begins at (before clock (turn_drives p (ToTalker at clock)))) front beyond (lead_around p at clock fits).afterwards (host clock Clock Free) → Continues M step peek p ms (events_of front) t
   cut_lead p ms at clock t front beyond fits answer from k = let late = fits.1 in let some = settle_from (talker_of p.seats).pace in let soon : at + 1 ≤ clock = omega (arith, late, some) in cut_turn p ms (ToTalker at clock) at clock t front beyond fits soon soon answer (lead_around p at clock fits) (lead_quiet p at clock) from k
 
   pub cut_mute : (p : Point) (ms : ℕ → M) (at clock : ℕ) (freed : Option ℕ) (t : ℕ) (front beyond : List Step) (fits : Fits p (Nothing at clock freed)) → IsAnswer M step peek (ms (talker_of p.seats).device) (Nothing at clock freed) → HostFrom t beyond
-      → BeforeIt (turn_begins at (before clock (turn_drives p (Nothing at clock freed)))) front beyond (mute_around p at clock freed fits).behind (host clock Clock Free) → Continues M step peek p ms (events_of front) t
+      → BeforeIt (turn_begins at (before clock (turn_drives p (Nothing at clock freed)))) front beyond (mute_around p at clock freed fits).afterwards (host clock Clock Free) → Continues M step peek p ms (events_of front) t
   cut_mute p ms at clock freed t front beyond fits answer from k =
       let late = fits.1 in let some = settle_from (talker_of p.seats).pace in let soon : at + 1 ≤ clock = omega (arith, late, some) in cut_turn p ms (Nothing at clock freed) at clock t front beyond fits soon soon answer (mute_around p at clock freed fits) (mute_quiet p at clock freed) from k

@@ -1,4 +1,4 @@
--- A frame of the host to the drives of a bus: what they do is a front of it, and where it was played to its end they stand behind it.
+-- A frame of the host to the drives of a bus: what they do is a front of it, and where it was played to its end they stand after it.
 use Rattle.std.proofs.Common.{◌≡◌, ℕ, zero, ◌⊎◌, inl, inr, Bool, true, false, not, List, [], ◌∷◌, ◌++◌, map, Option, Some, None, ap, sym, ◌∙◌, subst, refl}
 use Rattle.std.specs.Prelude.{if◌then◌else◌}
 use Rattle.cbm_iec.specs.Ports.{side_due, port_due}
@@ -136,19 +136,19 @@ module _ (M : Type 0) (step : M → Act → M) (peek : M → Option (ℕ × Bool
   AllStand p (s ∷ ss) [] = ⊥
   AllStand p (s ∷ ss) (x ∷ xs) = StandsSo p s x × AllStand p ss xs
 
-  -- the ends of what they go with, where the seats stand behind the piece
+  -- the ends of what they go with, where the seats stand after the piece
   abbrev pub AllEnd : Point → List Seat → List (Rest × Port) → Type 0
   AllEnd p [] [] = Unit {0}
   AllEnd p [] (e ∷ es) = ⊥
   AllEnd p (s ∷ ss) [] = ⊥
   AllEnd p (s ∷ ss) (e ∷ es) = (IsSound p s × StandsAmong p s e.1 × (e.0 ≡ rest_at (device s) p)) × AllEnd p ss es
 
-  -- what holds of a drive in hold, and behind a frame
+  -- what holds of a drive in hold, and after a frame
   abbrev HeldThere : Point → Whole → Type 0
   HeldThere p w = (s : Seat) (q : Port) → IsSound p s → StandsAmong p s q → SideHolds q.side q.own × ((ear : Ear) × (q.side ≡ Hearing ear))
 
-  abbrev QuietBehind : Point → Whole → Type 0
-  QuietBehind p w = (s : Seat) (q : Port) → StandsAmong (whole_point p w) (next_seat w s) q → port_due q ≡ None
+  abbrev QuietAfter : Point → Whole → Type 0
+  QuietAfter p w = (s : Seat) (q : Port) → StandsAmong (whole_point p w) (next_seat w s) q → port_due q ≡ None
 
   -- of each station something more is known
   abbrev pub AllWith : (Seat → Station M → Type 0) → List Seat → List (Station M) → Type 0
@@ -199,7 +199,7 @@ module _ (M : Type 0) (step : M → Act → M) (peek : M → Option (ℕ × Bool
       ((z.rest, z.port) ∷ more.0, ((go, more.1.0), ((whole_sound p s w h.0.sound fits, there, left ∙ ap (λ (b : Party). rest_at b.device p2) (sym same)), more.1.1)))
 
   -- of a frame of the host
-  frame_turns : (p : Point) (w : Whole) → Every OfFrame (steps_of p w) → HeldThere p w → QuietBehind p w → Turns p w (λ s x. Unit {0})
+  frame_turns : (p : Point) (w : Whole) → Every OfFrame (steps_of p w) → HeldThere p w → QuietAfter p w → Turns p w (λ s x. Unit {0})
   frame_turns p w frame held quiet s x h a r2 q2 f there =
       let q = x.port in
       let d = q.party.device in
@@ -283,7 +283,7 @@ module _ (M : Type 0) (step : M → Act → M) (peek : M → Option (ℕ × Bool
           let own : OwnAt (Commanding c.0) s.role s.own = subst (λ (x : BusPlace). OwnAt x s.role s.own) c.1 (each_sits (λ x. OwnAt p.place x.role x.own) (device s) p.seats s sound.own sound.seated.sits) in
           (subst (λ (x : Side). SideHolds x q.own) (sym side) (ap (λ (h : Held). h.data_low) (st.own ∙ own)), (Holding, side))
 
-      quiet : QuietBehind p (Command f)
+      quiet : QuietAfter p (Command f)
       quiet s q st = ap (λ (x : Side). side_due x) st.side
 
       says_any : SaidSo p (Command f)
@@ -316,7 +316,7 @@ module _ (M : Type 0) (step : M → Act → M) (peek : M → Option (ℕ × Bool
       idle_due Listener side h = ap (λ (x : Side). side_due x) h
       idle_due Talker side h = elim h [ ]
 
-      quiet : QuietBehind p (Byte eoi f)
+      quiet : QuietAfter p (Byte eoi f)
       quiet s q st = idle_due (next_seat (Byte eoi f) s).role q.side st.side
 
       says_any : SaidSo p (Byte eoi f)

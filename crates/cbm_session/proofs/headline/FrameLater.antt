@@ -16,7 +16,7 @@ use Rattle.cbm_session.proofs.headline.FrameStarts.{offer, offer_due}
 use Rattle.cbm_session.proofs.headline.AlongBus.{AllGo}
 use Rattle.cbm_session.proofs.headline.Here.{Out, IsHosts, Here, hosts_out}
 use Rattle.cbm_session.proofs.headline.Keeping.{events_append}
-use Rattle.cbm_session.proofs.headline.LaterCells.{fresh, fresh_length, fresh_fits, cells_whole, later_cells, behind_data}
+use Rattle.cbm_session.proofs.headline.LaterCells.{fresh, fresh_length, fresh_fits, cells_whole, later_cells, after_the_data}
 use Rattle.cbm_session.proofs.headline.SomeDue.{SomeDue, quiet_due, goes_first, data_first}
 use Rattle.cbm_session.proofs.headline.Walk.{same_front, react_of, quiet_stays, end_quiet}
 use Rattle.cbm_session.proofs.joining.Merging.{NoneBefore}
@@ -38,7 +38,7 @@ use Rattle.cbm_session.specs.Steps.{Step, moment_of, events_of, host, drive, for
 abbrev pub OfDrive : Step → Type 0
 OfDrive s = s.event.who ≡ Host → ⊥
 
--- a change of the host stands behind the drives' that come before it
+-- a change of the host stands after the drives' that come before it
 pub past_drives : (ds r front : List Step) (s : Step) (others : List Step) → Every OfDrive ds → ds ++ r ≡ front ++ s ∷ others → s.event.who ≡ Host → (l : List Step) × ((front ≡ ds ++ l) × (r ≡ l ++ s ∷ others))
 past_drives [] r front s others a e w = (front, (refl, e))
 past_drives (d ∷ ds) r [] s others a e w = let same : d ≡ s = cc in absurd (a.0 (ap (λ (v : Step). v.event.who) same ∙ w))
@@ -48,7 +48,7 @@ past_drives (d ∷ ds) r (x ∷ front) s others a e w =
     let k = past_drives ds r front s others a.1 tail w in
     (k.0, (ap (λ (v : Step). v ∷ front) (sym same) ∙ ap (λ (l : List Step). d ∷ l) k.1.0, k.1.1))
 
--- and before those that come behind it
+-- and before those that come after it
 no_host : (ds front : List Step) (s : Step) (others : List Step) → Every OfDrive ds → ds ≡ front ++ s ∷ others → s.event.who ≡ Host → ⊥
 no_host [] [] s others a e w = cc
 no_host [] (x ∷ front) s others a e w = cc
@@ -103,7 +103,7 @@ first_late : (m : ℕ) (xs : List Step) (z : Step) (zs : List Step) → NoneBefo
 first_late m [] z zs a l = (z, (zs, (refl, l)))
 first_late m (x ∷ xs) z zs a l = (x, (xs ++ z ∷ zs, (refl, a.0)))
 
--- the pulses come behind the time of EOI
+-- the pulses come after the time of EOI
 pulses_late : (hs : List Seat) (t m : ℕ) (eoi : Bool) → m ≤ t + 200 → NoneBefore m (pulses hs t eoi)
 pulses_late hs t m eoi l = every_none m (pulses hs t eoi) (every_drives (λ s. m ≤ moment_of s) (λ (s : Seat). pulse t eoi s) hs (each_seat (λ x. Every (λ s. m ≤ moment_of s) (pulse t eoi x)) hs (λ (x : Seat). go x eoi)))
   where
@@ -213,7 +213,7 @@ module _ (M : Type 0) (step : M → Act → M) (peek : M → Option (ℕ × Bool
         by_line Atn k a = cc
         by_line Data k a =
             let end = whole_upto false f.start f.cells pre s post sent.cells e in
-            let late = behind_data false f.start f.cells pre s post sent.cells e k in
+            let late = after_the_data false f.start f.cells pre s post sent.cells e k in
             data_never (w f) (hosts f) whole front s (post ++ acc) steps shown who k at (none_append (suc t) post acc (subst (λ (m : ℕ). NoneBefore (suc m) post) at late) (accepts_late hs f (act f) t r (omega (arith, at, end))))
         by_line Clock k a =
             let z = later_cells false f.start f.cells pre s post sent.cells e k in

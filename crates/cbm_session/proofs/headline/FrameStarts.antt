@@ -1,4 +1,4 @@
--- Behind DATA's release by all drives, in attention, the next reaction is due 200 later at the earliest: none is due where the host may still begin its bits.
+-- After DATA's release by all drives, in attention, the next reaction is due 200 later at the earliest: none is due where the host may still begin its bits.
 use Rattle.std.proofs.Common.{◌≡◌, ℕ, zero, suc, ◌+◌, ◌≤◌, ◌<◌, inl, inr, Bool, true, false, List, [], ◌∷◌, ◌++◌, map, append-nil, length, Option, Some, ap, sym, ◌∙◌, subst, arith, refl}
 use Rattle.cbm_iec.specs.Ports.{port_due}
 use Rattle.cbm_iec.specs.declared.machine.Act.{Act}
@@ -96,7 +96,7 @@ held_port : (says : Option (ℕ × Bool)) (s : Seat) (n : ℕ) → stands s.part
 held_port says s zero = refl
 held_port says s (suc n) = refl
 
--- what is due behind these is due late
+-- what is due after these is due late
 abbrev pub AllLate : ℕ → List (Rest × Port) → Type 0
 AllLate m [] = Unit {0}
 AllLate m (e ∷ es) = ((u : ℕ) → port_due e.1 ≡ Some u → m ≤ u) × AllLate m es
@@ -122,18 +122,18 @@ module _ (M : Type 0) (step : M → Act → M) (peek : M → Option (ℕ × Bool
   late_due m t (z ∷ zs) (e ∷ fin) g l (inl k) = l.0 t (ap (λ (v : Port). port_due v) (goes_none (mute z.port.party.device) g.0.goes) ∙ k)
   late_due m t (z ∷ zs) (e ∷ fin) g l (inr d) = late_due m t zs fin g.1 l.1 d
 
-  holds_among : (before : List (Station M)) (o : Station M) (behind : List (Station M)) (ys : List Step) (fin : List (Rest × Port)) → AllGo M step peek mute place (before ++ o ∷ behind) ys fin → SideHolds o.port.side o.port.own
-  holds_among [] o behind ys [] g = elim g [ ]
-  holds_among [] o behind ys (e ∷ fin) g = g.0.holds
-  holds_among (b ∷ before) o behind ys [] g = elim g [ ]
-  holds_among (b ∷ before) o behind ys (e ∷ fin) g = holds_among before o behind ys fin g.1
+  holds_among : (before : List (Station M)) (o : Station M) (afterwards : List (Station M)) (ys : List Step) (fin : List (Rest × Port)) → AllGo M step peek mute place (before ++ o ∷ afterwards) ys fin → SideHolds o.port.side o.port.own
+  holds_among [] o afterwards ys [] g = elim g [ ]
+  holds_among [] o afterwards ys (e ∷ fin) g = g.0.holds
+  holds_among (b ∷ before) o afterwards ys [] g = elim g [ ]
+  holds_among (b ∷ before) o afterwards ys (e ∷ fin) g = holds_among before o afterwards ys fin g.1
 
   -- where nothing shows nothing was done
   still : {n n2 : ℕ} {zs ss2 : List (Station M)} {es : List Event} → Plays M step peek n zs es n2 ss2 → es ≡ [] → (fin : List (Rest × Port)) → AllGo M step peek mute place zs [] fin → ss2 ≡ zs
   still (stays b e k f) none fin g = f
   still (change c more b l i e f) none fin g = absurd cc
-  still (reaction t before o behind more b u f e p) none fin g =
-      let holds = holds_among before o behind [] fin (subst (λ (v : List (Station M)). AllGo M step peek mute place v [] fin) u g) in
+  still (reaction t before o afterwards more b u f e p) none fin g =
+      let holds = holds_among before o afterwards [] fin (subst (λ (v : List (Station M)). AllGo M step peek mute place v [] fin) u g) in
       let shows = side_react _ o.port.party.reaction t o.port.others (peek o.machine) o.port.side o.port.own f.due holds in
       absurd (shows.1 (none_shown o.port.party.device (shown M step peek t o) more (sym e ∙ none)))
 

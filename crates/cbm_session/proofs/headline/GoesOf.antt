@@ -20,10 +20,10 @@ use Rattle.cbm_iec.specs.declared.port.Side.{Side}
 use Rattle.cbm_session.proofs.headline.AlongBus.{told_out, other_atn, host_atn}
 use Rattle.cbm_session.proofs.headline.BusStep as bus
 use Rattle.cbm_session.proofs.headline.BusStep.{ear_undisturbed, mouth_undisturbed, Steady, Shows, Goes}
-use Rattle.cbm_session.proofs.headline.Meeting.{noatn_behind}
+use Rattle.cbm_session.proofs.headline.Meeting.{noatn_after}
 use Rattle.cbm_session.proofs.headline.SideStates.{SideHolds, side_lines, side_react}
 use Rattle.cbm_session.proofs.reading.OneReading.{NoAtn}
-use Rattle.cbm_session.specs.Among.{Rest, wires_of, behind_other, behind_host, FollowsAmong, ends, tells, hears, reacts}
+use Rattle.cbm_session.specs.Among.{Rest, wires_of, after_another, after_the_host, FollowsAmong, ends, tells, hears, reacts}
 use Rattle.cbm_session.specs.Following.{reaction_steps}
 use Rattle.cbm_session.specs.Steps.{Step}
 
@@ -59,31 +59,31 @@ abbrev pub OthersData : ℕ → List Step → Type 0
 OthersData d [] = Unit {0}
 OthersData d (s ∷ ss) = DataOf d s.event.who s.event.change.line × OthersData d ss
 
-others_behind : (d : ℕ) (xs ys : List Step) → OthersData d (xs ++ ys) → OthersData d ys
-others_behind d [] ys h = h
-others_behind d (x ∷ xs) ys h = others_behind d xs ys h.1
+others_after : (d : ℕ) (xs ys : List Step) → OthersData d (xs ++ ys) → OthersData d ys
+others_after d [] ys h = h
+others_after d (x ∷ xs) ys h = others_after d xs ys h.1
 
-steady_of : (q : Port) (o t : ℕ) (r : Rest) (line : Line) (way : Way) → q.others ≡ wires_of r → nat_eq q.party.device o ≡ false → DataOf q.party.device (Drive o) line → Steady t (wires_of (behind_other line way r)) q
+steady_of : (q : Port) (o t : ℕ) (r : Rest) (line : Line) (way : Way) → q.others ≡ wires_of r → nat_eq q.party.device o ≡ false → DataOf q.party.device (Drive o) line → Steady t (wires_of (after_another line way r)) q
 steady_of q o t r Atn way seen n d = elim d [ ]
 steady_of q o t r Clock way seen n d = let k : true ≡ false = sym d ∙ n in absurd cc
 steady_of q o t r Data way seen n d = λ e.
-    let out = told_out q t r (behind_other Data way r) seen (other_atn Data way r) in
-    let clock : is_same q.others.clock_low (wires_of (behind_other Data way r)).clock_low ≡ true = ap (λ (l : Lines). is_same l.clock_low (wires_of r).clock_low) seen ∙ same_same (wires_of r).clock_low in
-    out.0 ∙ data_steady q.party.reaction t t q.others (wires_of (behind_other Data way r)) q.side clock e
+    let out = told_out q t r (after_another Data way r) seen (other_atn Data way r) in
+    let clock : is_same q.others.clock_low (wires_of (after_another Data way r)).clock_low ≡ true = ap (λ (l : Lines). is_same l.clock_low (wires_of r).clock_low) seen ∙ same_same (wires_of r).clock_low in
+    out.0 ∙ data_steady q.party.reaction t t q.others (wires_of (after_another Data way r)) q.side clock e
 
 -- Out of a change of ATN, where the other drives change no CLOCK: every drive that hears, and a talker.
 pub goes_of : (says : Option (ℕ × Bool)) {r r2 : Rest} {q q2 : Port} {ss : List Step} → FollowsAmong says r q ss r2 q2 → SideHolds q.side q.own → q.others ≡ wires_of r → NoAtn ss → OthersData q.party.device ss → Goes says r q ss r2 q2
 goes_of says (ends a e) h seen n d = bus.ends a e
 goes_of says {r} {r2} {q} (tells {t} {line} {way} {mark} {ss} i k f) h seen n d =
-    let out = told_out q t r (behind_host line way r) seen (host_atn line way r n.0) in
-    bus.tells i k (goes_of says f (subst (λ (x : Side). SideHolds x q.own) (sym out.0) (side_lines q.party.reaction t q.others (wires_of (behind_host line way r)) q.side q.own h)) refl n.1 d.1)
+    let out = told_out q t r (after_the_host line way r) seen (host_atn line way r n.0) in
+    bus.tells i k (goes_of says f (subst (λ (x : Side). SideHolds x q.own) (sym out.0) (side_lines q.party.reaction t q.others (wires_of (after_the_host line way r)) q.side q.own h)) refl n.1 d.1)
 goes_of says {r} {r2} {q} (hears {o} {t} {line} {way} {mark} {ss} a i k f) h seen n d =
-    let out = told_out q t r (behind_other line way r) seen (other_atn line way r) in
+    let out = told_out q t r (after_another line way r) seen (other_atn line way r) in
     bus.hears a i (steady_of q o t r line way seen a d.0) k
-    (goes_of says f (subst (λ (x : Side). SideHolds x q.own) (sym out.0) (side_lines q.party.reaction t q.others (wires_of (behind_other line way r)) q.side q.own h)) refl n.1 d.1)
+    (goes_of says f (subst (λ (x : Side). SideHolds x q.own) (sym out.0) (side_lines q.party.reaction t q.others (wires_of (after_another line way r)) q.side q.own h)) refl n.1 d.1)
 goes_of says {r} {r2} {q} (reacts t more e x sh l f) h seen n d =
     let vis = side_react _ q.party.reaction t q.others says q.side q.own e h in
-    bus.reacts t more e x vis.1 l (goes_of says f vis.0 seen (noatn_behind (reaction_steps t says q) more (subst NoAtn x n)) (others_behind q.party.device (reaction_steps t says q) more (subst (OthersData q.party.device) x d)))
+    bus.reacts t more e x vis.1 l (goes_of says f vis.0 seen (noatn_after (reaction_steps t says q) more (subst NoAtn x n)) (others_after q.party.device (reaction_steps t says q) more (subst (OthersData q.party.device) x d)))
 
 -- And a drive without a role beside a talker: it lets go of DATA, or does nothing, whatever the others do.
 abbrev IsCalm : Side → Type 0
@@ -119,13 +119,13 @@ lets_react v r t others says side (leaving at e) = idle (ap (λ (x : Side). Ratt
 pub goes_idle : (says : Option (ℕ × Bool)) {r r2 : Rest} {q q2 : Port} {ss : List Step} → FollowsAmong says r q ss r2 q2 → Lets q.side → SideHolds q.side q.own → q.others ≡ wires_of r → NoAtn ss → Goes says r q ss r2 q2
 goes_idle says (ends a e) c h seen n = bus.ends a e
 goes_idle says {r} {r2} {q} (tells {t} {line} {way} {mark} {ss} i k f) c h seen n =
-    let out = told_out q t r (behind_host line way r) seen (host_atn line way r n.0) in
-    let same = out.0 ∙ lets_calm q.side c q.party.reaction t q.others (wires_of (behind_host line way r)) in
+    let out = told_out q t r (after_the_host line way r) seen (host_atn line way r n.0) in
+    let same = out.0 ∙ lets_calm q.side c q.party.reaction t q.others (wires_of (after_the_host line way r)) in
     bus.tells i k (goes_idle says f (subst Lets (sym same) c) (subst (λ (x : Side). SideHolds x q.own) (sym same) h) refl n.1)
 goes_idle says {r} {r2} {q} (hears {o} {t} {line} {way} {mark} {ss} a i k f) c h seen n =
-    let out = told_out q t r (behind_other line way r) seen (other_atn line way r) in
-    let same = out.0 ∙ lets_calm q.side c q.party.reaction t q.others (wires_of (behind_other line way r)) in
+    let out = told_out q t r (after_another line way r) seen (other_atn line way r) in
+    let same = out.0 ∙ lets_calm q.side c q.party.reaction t q.others (wires_of (after_another line way r)) in
     bus.hears a i (λ e. same) k (goes_idle says f (subst Lets (sym same) c) (subst (λ (x : Side). SideHolds x q.own) (sym same) h) refl n.1)
 goes_idle says {r} {r2} {q} (reacts t more e x sh l f) c h seen n =
     let vis = side_react _ q.party.reaction t q.others says q.side q.own e h in
-    bus.reacts t more e x vis.1 l (goes_idle says f (lets_react _ q.party.reaction t q.others says q.side c) vis.0 seen (noatn_behind (reaction_steps t says q) more (subst NoAtn x n)))
+    bus.reacts t more e x vis.1 l (goes_idle says f (lets_react _ q.party.reaction t q.others says q.side c) vis.0 seen (noatn_after (reaction_steps t says q) more (subst NoAtn x n)))

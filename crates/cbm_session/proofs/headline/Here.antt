@@ -1,4 +1,4 @@
--- The stations of a bus at a point of a session that they have played so far, and the next piece: the play is in it, or behind it at the next point.
+-- The stations of a bus at a point of a session that they have played so far, and the next piece: the play is in it, or after it at the next point.
 use Rattle.cbm_session.proofs.alone.Frames.{done_due}
 use Rattle.std.proofs.Common.{◌≡◌, ℕ, ◌+◌, ◌≤◌, ◌⊎◌, inl, inr, Bool, true, List, [], ◌∷◌, ◌++◌, map, Option, Some, None, ap, sym, ◌∙◌, subst, refl, arith}
 use Rattle.std.specs.Prelude.{if◌then◌else◌}
@@ -12,11 +12,11 @@ use Rattle.cbm_iec.specs.declared.party.Role.{Role}
 use Rattle.cbm_iec.specs.declared.port.Side.{Side}
 use Rattle.cbm_session.proofs.among.Standing.{IsSound}
 use Rattle.cbm_session.proofs.headline.AlongBus.{RisingIn}
-use Rattle.cbm_session.proofs.headline.BehindBus.{stand_so}
+use Rattle.cbm_session.proofs.headline.AfterBus.{stand_so}
 use Rattle.cbm_session.proofs.headline.BusActs.{AllRan}
 use Rattle.cbm_session.proofs.headline.FrameBus.{AllWith, command_on_bus, byte_on_bus}
 use Rattle.cbm_session.proofs.headline.Meeting.{Compat, LastSaid}
-use Rattle.cbm_session.proofs.headline.PieceBus.{whole_of, upto, upto_fits, piece_tidy, Inside, Behind, bytes_last, come_to}
+use Rattle.cbm_session.proofs.headline.PieceBus.{whole_of, upto, upto_fits, piece_tidy, Inside, Afterwards, bytes_last, come_to}
 use Rattle.cbm_session.proofs.headline.Premises.{mute, Rises, rises_placed, Stood, restand}
 use Rattle.cbm_session.proofs.headline.PullBus.{NextHost, PullWithin}
 use Rattle.cbm_session.proofs.headline.PullPlayed.{AllShow, pull_on_bus}
@@ -100,7 +100,7 @@ module _ (M : Type 0) (step : M → Act → M) (peek : M → Option (ℕ × Bool
 
   module _ (place : ℕ → ℕ) (p : Point) (ms : ℕ → M) (xs : List (Station M)) (here : Here place p ms xs) where
     abbrev pub Out : Piece → List Event → ℕ → List (Station M) → Type 0
-    Out k es n2 ss2 = Inside M step peek place xs (piece_steps p k) es ss2 ⊎ Behind M step peek place (point_after p k) xs (piece_steps p k) es n2 ss2
+    Out k es n2 ss2 = Inside M step peek place xs (piece_steps p k) es ss2 ⊎ Afterwards M step peek place (point_after p k) xs (piece_steps p k) es n2 ss2
 
     -- a piece of the host
     pub hosts_out : (w : Whole) → IsHosts w → Fits p w → {n n2 : ℕ} {ss2 : List (Station M)} {es : List Event} → Plays M step peek n xs es n2 ss2 → (rest more : List Event) → es ++ rest ≡ events_of (steps_of p w) ++ more → Out (Full w) es n2 ss2
@@ -175,13 +175,13 @@ module _ (M : Type 0) (step : M → Act → M) (peek : M → Option (ℕ × Bool
         let k = talk_on_bus M step peek says place p at t.0 t.1.0 t.1.1 f o fits (ap (λ (b : Party). says b.device) (sym t.1.2) ∙ answer) placed here.rises xs (restand M step peek says place p p.seats xs here.stand) telling plays rest meets in
         come_to M step peek place (bytes_last M step peek place plays) says p (upto o w) xs k.0 es rest n2 k.1.0 here.rises (piece_tidy M step peek place p (upto o w) fits placed (whole_last o w (subst LastSaid (sym is) (told_last t.0.party at f)))) k.1.1
 
-    -- ATN's pull: the host's next change is at its moment, or all have still to answer; or all are behind it.
+    -- ATN's pull: the host's next change is at its moment, or all have still to answer; or all are after it.
     pub record PullInside (at : ℕ) (es : List Event) (ss2 : List (Station M)) : Type 0 where
       pub fin : List (Rattle.cbm_session.specs.Among.Rest × Rattle.cbm_iec.specs.declared.port.Port.Port)
       pub so : PullWithin M step peek mute place at xs (steps_of p (PullPiece at)) fin es ss2
 
     pub pull_out : (at : ℕ) → Fits p (PullPiece at) → {n n2 : ℕ} {ss2 : List (Station M)} {es : List Event} → Plays M step peek n xs es n2 ss2 → (rest more : List Event) → es ++ rest ≡ events_of (steps_of p (PullPiece at)) ++ more → NextHost (at + 60) more
-        → PullInside at es ss2 ⊎ Behind M step peek place (whole_point p (PullPiece at)) xs (steps_of p (PullPiece at)) es n2 ss2
+        → PullInside at es ss2 ⊎ Afterwards M step peek place (whole_point p (PullPiece at)) xs (steps_of p (PullPiece at)) es n2 ss2
     pull_out at fits {n2 = n2} {ss2 = ss2} {es = es} plays rest more e next =
         let show = all_showing p.place refl in
         let k = pull_on_bus M step peek mute place p at fits here.rises xs here.stand show plays rest more e next in

@@ -35,9 +35,9 @@ pub host_any : (ss : List Step) → HostFrom zero ss
 host_any [] = tt
 host_any (s ∷ ss) = (λ k. omega arith, host_any ss)
 
-pub host_behind : (t : ℕ) (xs ys : List Step) → HostFrom t (xs ++ ys) → HostFrom t ys
-host_behind t [] ys h = h
-host_behind t (x ∷ xs) ys h = host_behind t xs ys h.1
+pub host_after_it : (t : ℕ) (xs ys : List Step) → HostFrom t (xs ++ ys) → HostFrom t ys
+host_after_it t [] ys h = h
+host_after_it t (x ∷ xs) ys h = host_after_it t xs ys h.1
 
 pub events_append : (xs ys : List Step) → events_of (xs ++ ys) ≡ events_of xs ++ events_of ys
 events_append [] ys = refl
@@ -66,7 +66,7 @@ pub changes_at : (d t : ℕ) (c c2 e e2 : Bool) → AllAtMoment t (drive_events 
 changes_at d t c c2 e e2 = at_append d t (changed t Clock c c2) (changed t Data e e2) (one_at d t Clock c c2) (one_at d t Data e e2)
 
 module _ (M : Type 0) (step : M → Act → M) (peek : M → Option (ℕ × Bool)) where
-  -- one play behind another
+  -- one play after another
   pub plays_then : {n n2 n3 : ℕ} {ss ss2 ss3 : List (Station M)} {es es2 : List Event} → Plays M step peek n ss es n2 ss2 → Plays M step peek n2 ss2 es2 n3 ss3 → Plays M step peek n ss (es ++ es2) n3 ss3
   plays_then {n} {n2} {n3} {ss} {ss2} {ss3} {es} {es2} (stays y e k f) g =
       subst (λ (v : List Event). Plays M step peek n ss (v ++ es2) n3 ss3) (sym e) (subst (λ (v : List (Station M)). Plays M step peek n v es2 n3 ss3) f (subst (λ (v : ℕ). Plays M step peek v ss2 es2 n3 ss3) k g))
@@ -105,8 +105,8 @@ module _ (M : Type 0) (step : M → Act → M) (peek : M → Option (ℕ × Bool
     -- Soon: no drive's change comes before what is due. Ran: the machines ran what counts. Order: a session's moments never go back.
     pub record Laws : Type 0 where
       pub adopts : (es : List Event) (ss : List (Station M)) (t : ℕ) (ks : List Piece) (done more : List Step) → Played es ss → AllInTime M step peek t ss → Splits bs ks done more → events_of done ≡ es → HostFrom t more → Adopted es t
-      pub postpones : (es : List Event) (t : ℕ) (before : List (Station M)) (o : Station M) (behind : List (Station M)) → Adopted es t → Played es (before ++ o ∷ behind) → IsFirst M step peek t before o behind → IsShowing (shown M step peek t o) → Adopted es (suc t)
-      pub next : (es : List Event) (t : ℕ) (before : List (Station M)) (o : Station M) (behind : List (Station M)) (a : Adopted es (suc t)) → Played es (before ++ o ∷ behind) → IsFirst M step peek t before o behind
+      pub postpones : (es : List Event) (t : ℕ) (before : List (Station M)) (o : Station M) (afterwards : List (Station M)) → Adopted es t → Played es (before ++ o ∷ afterwards) → IsFirst M step peek t before o afterwards → IsShowing (shown M step peek t o) → Adopted es (suc t)
+      pub next : (es : List Event) (t : ℕ) (before : List (Station M)) (o : Station M) (afterwards : List (Station M)) (a : Adopted es (suc t)) → Played es (before ++ o ∷ afterwards) → IsFirst M step peek t before o afterwards
           → (rs : List Step) × ((more : List Step) × ((a.more ≡ rs ++ more) × (events_of rs ≡ drive_events o.port.party.device (shown M step peek t o))))
       pub soon : (es : List Event) (ss : List (Station M)) (t : ℕ) (ks : List Piece) (done more : List Step) (s : Step) → Played es ss → AllInTime M step peek t ss → Splits bs ks done (s ∷ more) → events_of done ≡ es → IsAllowed ks → HostFrom t (s ∷ more)
           → is_host s.event.who ≡ false → t ≤ moment_of s
@@ -211,7 +211,7 @@ module _ (M : Type 0) (step : M → Act → M) (peek : M → Option (ℕ × Bool
                   | inr u ↦ inr (u.0, (let g = u.1 in cc))
                 ]
 
-        -- behind a drive's change of this very moment nothing is owed before it
+        -- after a drive's change of this very moment nothing is owed before it
         split_last : (done : List Step) (es : List Event) (y : Event) → events_of done ≡ es ++ y ∷ [] → (d : List Step) × ((s : Step) × ((done ≡ d ++ s ∷ []) × (s.event ≡ y)))
         split_last [] [] y e = absurd cc
         split_last [] (x ∷ es) y e = absurd cc
@@ -230,8 +230,8 @@ module _ (M : Type 0) (step : M → Act → M) (peek : M → Option (ℕ × Bool
             sooner (Drive o) m (Drive u) n h = h
         last_order (y ∷ d) s x more g = last_order d s x more g.1
 
-        owes_behind : (es : List Event) (y : Event) (e : ℕ) → e < y.change.moment → IsLateAt bs among (es ++ y ∷ []) e → ⊥
-        owes_behind es y e l late =
+        owes_after : (es : List Event) (y : Event) (e : ℕ) → e < y.change.moment → IsLateAt bs among (es ++ y ∷ []) e → ⊥
+        owes_after es y e l late =
             let q = late.some in
             let k = q.1.1.1.1 in
             let last = split_last q.1.0 es y k.shown in
@@ -256,7 +256,7 @@ module _ (M : Type 0) (step : M → Act → M) (peek : M → Option (ℕ × Bool
             rest_of [] es x m a n = subst NotLateYet (sym (append-nil (es ++ x ∷ []))) n
             rest_of (y ∷ ds) es x m a n =
                 let k = a.0 in
-                let one = not_late_more (es ++ x ∷ []) y n (λ e l late. owes_behind es x e (omega (arith, l, m, k)) late) in
+                let one = not_late_more (es ++ x ∷ []) y n (λ e l late. owes_after es x e (omega (arith, l, m, k)) late) in
                 subst NotLateYet (append_assoc (es ++ x ∷ []) (y ∷ []) ds) (rest_of ds (es ++ x ∷ []) y k a.1 one)
 
       -- the changes of a reaction have its moment
@@ -266,23 +266,23 @@ module _ (M : Type 0) (step : M → Act → M) (peek : M → Option (ℕ × Bool
       begins_here : (es : List Event) (ks : List Piece) (done more : List Step) → Splits bs ks done more → events_of done ≡ es → IsBeginning bs es
       begins_here es ks done more sp e = (acts_of bs done, (ks, (done, (more, (sp, e, refl)))))
 
-      first_in_time : (t : ℕ) (before : List (Station M)) (o : Station M) (behind : List (Station M)) → IsFirst M step peek t before o behind → AllInTime M step peek t (before ++ o ∷ behind)
-      first_in_time t [] o behind f = (due (port_due o.port) f.due, f.in_time)
+      first_in_time : (t : ℕ) (before : List (Station M)) (o : Station M) (afterwards : List (Station M)) → IsFirst M step peek t before o afterwards → AllInTime M step peek t (before ++ o ∷ afterwards)
+      first_in_time t [] o afterwards f = (due (port_due o.port) f.due, f.in_time)
         where
           due : (x : Option ℕ) → x ≡ Some t → IsInTime t x
           due None e = tt
           due (Some u) e = let k : u ≡ t = cc in omega (arith, k)
-      first_in_time t (b ∷ before) o behind f = (one (port_due b.port) f.later.0, first_in_time t before o behind (record { due = f.due; later = f.later.1; in_time = f.in_time }))
+      first_in_time t (b ∷ before) o afterwards f = (one (port_due b.port) f.later.0, first_in_time t before o afterwards (record { due = f.due; later = f.later.1; in_time = f.in_time }))
         where
           one : (x : Option ℕ) → IsLaterDue t x → IsInTime t x
           one None k = tt
           one (Some u) k = omega (arith, k)
 
       -- of the events of a reaction the trace with them begins a session too
-      reaction_begins : (es : List Event) (t : ℕ) (before : List (Station M)) (o : Station M) (behind : List (Station M)) → Played es (before ++ o ∷ behind) → IsFirst M step peek t before o behind
+      reaction_begins : (es : List Event) (t : ℕ) (before : List (Station M)) (o : Station M) (afterwards : List (Station M)) → Played es (before ++ o ∷ afterwards) → IsFirst M step peek t before o afterwards
           → Adopted es (suc t) → IsBeginning bs (es ++ drive_events o.port.party.device (shown M step peek t o))
-      reaction_begins es t before o behind g f a =
-          let x = laws.next es t before o behind a g f in
+      reaction_begins es t before o afterwards g f a =
+          let x = laws.next es t before o afterwards a g f in
           let rs = x.0 in
           let more = x.1.0 in
           let sp : Splits bs a.pieces (a.done ++ rs) more = record {
@@ -307,13 +307,13 @@ module _ (M : Type 0) (step : M → Act → M) (peek : M → Option (ℕ × Bool
           starts [] a = elim a [ ]
           starts (d ∷ ds) a = let m = a in omega (arith, m)
 
-      begins_more : (es ds more : List Event) (t end : ℕ) (before : List (Station M)) (o : Station M) (behind : List (Station M)) → Played es (before ++ o ∷ behind) → IsFirst M step peek t before o behind
+      begins_more : (es ds more : List Event) (t end : ℕ) (before : List (Station M)) (o : Station M) (afterwards : List (Station M)) → Played es (before ++ o ∷ afterwards) → IsFirst M step peek t before o afterwards
           → IsBeginning bs es → NotLateYet any gives_any es → HostKeeps bs (es ++ (ds ++ more)) end → ds ≡ drive_events o.port.party.device (shown M step peek t o) → AllAtMoment t ds → IsBeginning bs (es ++ ds)
-      begins_more es [] more t end before o behind g f b n k e a = subst (λ (v : List Event). IsBeginning bs v) (sym (append-nil es)) b
-      begins_more es (d ∷ ds) more t end before o behind g f b n k e a =
-          let x = adopted es (d ∷ ds) more (before ++ o ∷ behind) t end g (first_in_time t before o behind f) b n k a.0 in
-          let later = laws.postpones es t before o behind x g f (showing (shown M step peek t o) e) in
-          subst (λ (v : List Event). IsBeginning bs (es ++ v)) (sym e) (reaction_begins es t before o behind g f later)
+      begins_more es [] more t end before o afterwards g f b n k e a = subst (λ (v : List Event). IsBeginning bs v) (sym (append-nil es)) b
+      begins_more es (d ∷ ds) more t end before o afterwards g f b n k e a =
+          let x = adopted es (d ∷ ds) more (before ++ o ∷ afterwards) t end g (first_in_time t before o afterwards f) b n k a.0 in
+          let later = laws.postpones es t before o afterwards x g f (showing (shown M step peek t o) e) in
+          subst (λ (v : List Event). IsBeginning bs (es ++ v)) (sym e) (reaction_begins es t before o afterwards g f later)
         where
           showing : (cs : List Change) → d ∷ ds ≡ drive_events o.port.party.device cs → IsShowing cs
           showing [] e = absurd cc
@@ -348,20 +348,20 @@ module _ (M : Type 0) (step : M → Act → M) (peek : M → Option (ℕ × Bool
           let na3 = not_late_more IsAllowed gives_allowed es x na (λ e2 l z. prompt_at IsAllowed gives_allowed es ss e2 played (in_time_all (suc e2) c.moment ss (omega (arith, l)) i) z) in
           subst (λ (v : List Event). IsKept M step peek bs ms v end ss2) (sym same)
           (kept p end over (es ++ x ∷ []) g2 b2 n3 na3 (subst (λ (v : List Event). HostKeeps bs v end) same k))
-      kept {n} {n2} {ss} {ss2} {es2} (reaction t before o behind more y u f e p) end over es g b nl na k =
+      kept {n} {n2} {ss} {ss2} {es2} (reaction t before o afterwards more y u f e p) end over es g b nl na k =
           let ds = drive_events o.port.party.device (shown M step peek t o) in
           let at = change_at_all o.port.party.device t o in
           let same : es ++ es2 ≡ (es ++ ds) ++ more = ap (λ (v : List Event). es ++ v) e ∙ sym (append_assoc es ds more) in
-          let gu : Plays M step peek zero from_rest es n (before ++ o ∷ behind) = subst (λ (v : List (Station M)). Plays M step peek zero from_rest es n v) u g in
-          let played : Played es (before ++ o ∷ behind) = (n, gu) in
-          let i = first_in_time t before o behind f in
+          let gu : Plays M step peek zero from_rest es n (before ++ o ∷ afterwards) = subst (λ (v : List (Station M)). Plays M step peek zero from_rest es n v) u g in
+          let played : Played es (before ++ o ∷ afterwards) = (n, gu) in
+          let i = first_in_time t before o afterwards f in
           let k1 = subst (λ (v : List Event). HostKeeps bs (es ++ v) end) e k in
-          let b2 = begins_more es ds more t end before o behind played f b nl k1 refl at in
-          let one : Plays M step peek n (before ++ o ∷ behind) (ds ++ []) (suc t) (reacting M step peek t before o behind) =
-          reaction t before o behind [] (subst (λ (v : List (Station M)). AllBytes M step peek v) u y) refl f refl (stays (bytes_first p) refl refl refl) in
-          let g2 = subst (λ (v : List Event). Plays M step peek zero from_rest (es ++ v) (suc t) (reacting M step peek t before o behind)) (append-nil ds) (plays_then gu one) in
-          let n3 = not_late_reaction any gives_any es (before ++ o ∷ behind) t ds played i at nl in
-          let na3 = not_late_reaction IsAllowed gives_allowed es (before ++ o ∷ behind) t ds played i at na in
+          let b2 = begins_more es ds more t end before o afterwards played f b nl k1 refl at in
+          let one : Plays M step peek n (before ++ o ∷ afterwards) (ds ++ []) (suc t) (reacting M step peek t before o afterwards) =
+          reaction t before o afterwards [] (subst (λ (v : List (Station M)). AllBytes M step peek v) u y) refl f refl (stays (bytes_first p) refl refl refl) in
+          let g2 = subst (λ (v : List Event). Plays M step peek zero from_rest (es ++ v) (suc t) (reacting M step peek t before o afterwards)) (append-nil ds) (plays_then gu one) in
+          let n3 = not_late_reaction any gives_any es (before ++ o ∷ afterwards) t ds played i at nl in
+          let na3 = not_late_reaction IsAllowed gives_allowed es (before ++ o ∷ afterwards) t ds played i at na in
           subst (λ (v : List Event). IsKept M step peek bs ms v end ss2) (sym same)
           (kept p end over (es ++ ds) g2 b2 n3 na3 (subst (λ (v : List Event). HostKeeps bs v end) same k))
 

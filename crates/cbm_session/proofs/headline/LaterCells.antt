@@ -1,4 +1,4 @@
--- The bits of a frame of the host put off: from one of CLOCK's changes on all may come later; and behind a change of DATA nothing comes at its moment.
+-- The bits of a frame of the host put off: from one of CLOCK's changes on all may come later; and after a change of DATA nothing comes at its moment.
 use Rattle.std.proofs.Common.{◌≡◌, ℕ, zero, suc, ◌+◌, ◌≤◌, ◌⊎◌, inl, inr, Bool, true, false, not, List, [], ◌∷◌, ◌++◌, length, ap, sym, ◌∙◌, subst, append_assoc, arith, refl}
 use Rattle.cbm_iec.specs.declared.lines.Line.TheVariants.{Clock, Data}
 use Rattle.cbm_iec.specs.declared.lines.Way.TheVariants.{Pull, Free}
@@ -7,7 +7,7 @@ use Rattle.cbm_session.proofs.joining.Merging.{NoneBefore}
 use Rattle.cbm_session.specs.Bits.{where_held, BitCell, CellsFit, SetFits, data_for, cell_steps, cells_steps, held_after, last_pull}
 use Rattle.cbm_session.specs.Steps.{Step, moment_of, host}
 
--- so many bits behind a pull of CLOCK, DATA left as it is
+-- so many bits after a pull of CLOCK, DATA left as it is
 abbrev pub fresh : Bool → ℕ → ℕ → List BitCell
 fresh held zero pull = []
 fresh held (suc n) pull = (record { bit = not held; set = pull; free = pull + 20; pull = pull + 40 }) ∷ fresh held n (pull + 40)
@@ -28,7 +28,7 @@ fresh_fits held (suc n) pull = (record { set = fits held; free = omega arith; se
     again true h = h
     again false h = h
 
--- a list of bits with what comes behind the last one
+-- a list of bits with what comes after the last one
 abbrev pub cells_whole : Bool → ℕ → List BitCell → List Step
 cells_whole held pull cs = cells_steps held cs ++ where_held (held_after held cs) (host (last_pull pull cs) Data Free)
 
@@ -86,7 +86,7 @@ whole_is held pull c cs = go held c.bit
     go true false = refl
     go false false = refl
 
--- where a change of CLOCK stands in a bit, or behind it
+-- where a change of CLOCK stands in a bit, or after it
 abbrev AtClock : List Step → Step → Step → List Step → List Step → Step → List Step → Type 0
 AtClock ds f p rest pre s post = ((pre ≡ ds) × (s ≡ f)) ⊎ (((pre ≡ ds ++ f ∷ []) × (s ≡ p)) ⊎ ((l : List Step) × ((pre ≡ ds ++ f ∷ p ∷ l) × (rest ≡ l ++ s ∷ post))))
 
@@ -126,7 +126,7 @@ later_cells held pull (c ∷ cs) pre s post h e k = elim (at_clock (set_steps he
   | inl x ↦ subst (λ (v : Step). LaterCells held pull (c ∷ cs) pre (moment_of v)) (sym x.1) (subst (λ (l : List Step). LaterCells held pull (c ∷ cs) l c.free) (sym x.0) at_free)
   | inr x ↦ elim x [
     | inl x ↦ subst (λ (v : Step). LaterCells held pull (c ∷ cs) pre (moment_of v)) (sym x.1) (subst (λ (l : List Step). LaterCells held pull (c ∷ cs) l c.pull) (sym x.0) at_pull)
-    | inr x ↦ subst (λ (l : List Step). LaterCells held pull (c ∷ cs) l (moment_of s)) (sym x.1.0) (behind_it x.0 (later_cells (not c.bit) c.pull cs x.0 s post h.1 x.1.1 k))
+    | inr x ↦ subst (λ (l : List Step). LaterCells held pull (c ∷ cs) l (moment_of s)) (sym x.1.0) (after_that x.0 (later_cells (not c.bit) c.pull cs x.0 s post h.1 x.1.1 k))
   ]
 ]
   where
@@ -170,8 +170,8 @@ later_cells held pull (c ∷ cs) pre s post h e k = elim (at_clock (set_steps he
           late = (omega arith, cells_from (not c.bit) (c.pull + 1) (suc c.pull) more (fresh_fits (not c.bit) (length cs) (c.pull + 1)) (omega arith));
         }
 
-    behind_it : (l : List Step) → LaterCells (not c.bit) c.pull cs l (moment_of s) → LaterCells held pull (c ∷ cs) (set_steps held c ++ f ∷ p ∷ l) (moment_of s)
-    behind_it l z = record {
+    after_that : (l : List Step) → LaterCells (not c.bit) c.pull cs l (moment_of s) → LaterCells held pull (c ∷ cs) (set_steps held c ++ f ∷ p ∷ l) (moment_of s)
+    after_that l z = record {
       cells = c ∷ z.cells;
       fits = (h.0, z.fits);
       same = ap (λ (n : ℕ). suc n) z.same;
@@ -181,7 +181,7 @@ later_cells held pull (c ∷ cs) pre s post h e k = elim (at_clock (set_steps he
       late = z.late;
     }
 
--- Behind a change of DATA among them all comes later.
+-- After a change of DATA among them all comes later.
 data_alone : (held : Bool) (pull : ℕ) (pre : List Step) (s : Step) (post : List Step) → where_held held (host pull Data Free) ≡ pre ++ s ∷ post → NoneBefore (suc (moment_of s)) post
 data_alone true pull [] s [] e = tt
 data_alone true pull [] s (x ∷ post) e = absurd cc
@@ -190,9 +190,9 @@ data_alone true pull (x ∷ y ∷ pre) s post e = absurd cc
 data_alone false pull [] s post e = absurd cc
 data_alone false pull (x ∷ pre) s post e = absurd cc
 
-pub behind_data : (held : Bool) (pull : ℕ) (cs : List BitCell) (pre : List Step) (s : Step) (post : List Step) → CellsFit held pull cs → cells_whole held pull cs ≡ pre ++ s ∷ post → s.event.change.line ≡ Data → NoneBefore (suc (moment_of s)) post
-behind_data held pull [] pre s post h e k = data_alone held pull pre s post e
-behind_data held pull (c ∷ cs) pre s post h e k = go held c.bit h.0.settled (λ l e2. behind_data (not c.bit) c.pull cs l s post h.1 e2 k) pre (sym (whole_is held pull c cs) ∙ e)
+pub after_the_data : (held : Bool) (pull : ℕ) (cs : List BitCell) (pre : List Step) (s : Step) (post : List Step) → CellsFit held pull cs → cells_whole held pull cs ≡ pre ++ s ∷ post → s.event.change.line ≡ Data → NoneBefore (suc (moment_of s)) post
+after_the_data held pull [] pre s post h e k = data_alone held pull pre s post e
+after_the_data held pull (c ∷ cs) pre s post h e k = go held c.bit h.0.settled (λ l e2. after_the_data (not c.bit) c.pull cs l s post h.1 e2 k) pre (sym (whole_is held pull c cs) ∙ e)
   where
     f : Step
     f = host c.free Clock Free

@@ -13,7 +13,7 @@ use Rattle.cbm_session.proofs.headline.FrameBus.{steps_owned}
 use Rattle.cbm_session.proofs.headline.Here.{Here, PullInside}
 use Rattle.cbm_session.proofs.headline.Keeping.{HostFrom}
 use Rattle.cbm_session.proofs.headline.Meeting.{in_time_at}
-use Rattle.cbm_session.proofs.headline.PieceBus.{devices_behind, steps_tied, tied_behind, owned_behind}
+use Rattle.cbm_session.proofs.headline.PieceBus.{devices_after, steps_tied, tied_after, owned_after}
 use Rattle.cbm_session.proofs.headline.Premises.{mute, place_in, devices, bus_rises, bus_stands, bus_ran, rest_devices, Rises, rises_placed}
 use Rattle.cbm_session.proofs.headline.PullBus.{NextHost, HostNext, Pulled, AllOf}
 use Rattle.cbm_session.proofs.headline.PullNow.{pulled_due, next_answer}
@@ -48,7 +48,7 @@ module _ (M : Type 0) (step : M → Act → M) (peek : M → Option (ℕ × Bool
   allowed_runs [] p ms d al i = refl
   allowed_runs (k ∷ ks) p ms d al i =
       let ys = piece_steps p k in
-      let more = allowed_runs ks (point_after p k) (run_each M step peek ms ys) d al.2 (subst (λ (l : List ℕ). SitsIn M step peek mute anywhere d l) (sym (devices_behind p k)) i) in
+      let more = allowed_runs ks (point_after p k) (run_each M step peek ms ys) d al.2 (subst (λ (l : List ℕ). SitsIn M step peek mute anywhere d l) (sym (devices_after p k)) i) in
       subst (λ (l : List Act). Runs M step peek (ms d) l) (sym (acts_append d ys (session_steps (point_after p k) ks))) (runs_then M step peek (ms d) (acts_for d ys) (acts_for d (session_steps (point_after p k) ks)) (seat_runs ms ys p.seats d i al.1) more)
 
   ran_each : (ms : ℕ → M) (done : List Step) (ds : List ℕ) (ss : List (Station M)) → ((d : ℕ) → SitsIn M step peek mute anywhere d ds → Runs M step peek (ms d) (acts_for d done)) → ((d : ℕ) → SitsIn M step peek mute anywhere d (devs M step peek mute anywhere ss) → SitsIn M step peek mute anywhere d ds) → AllRan M step peek ms done ss
@@ -62,9 +62,9 @@ module _ (M : Type 0) (step : M → Act → M) (peek : M → Option (ℕ × Bool
   host_front t [] ys h = tt
   host_front t (x ∷ xs) ys h = (h.0, host_front t xs ys h.1)
 
-  pub among_time : (t : ℕ) (before : List (Station M)) (o : Station M) (behind : List (Station M)) → AllInTime M step peek t (before ++ o ∷ behind) → IsInTime t (port_due o.port)
-  among_time t [] o behind h = h.0
-  among_time t (b ∷ before) o behind h = among_time t before o behind h.1
+  pub among_time : (t : ℕ) (before : List (Station M)) (o : Station M) (afterwards : List (Station M)) → AllInTime M step peek t (before ++ o ∷ afterwards) → IsInTime t (port_due o.port)
+  among_time t [] o afterwards h = h.0
+  among_time t (b ∷ before) o afterwards h = among_time t before o afterwards h.1
 
   -- of a pull that is under way
   module _ (place : ℕ → ℕ) (p : Point) (ms : ℕ → M) (xs : List (Station M)) (now : Here M step peek place p ms xs) (at : ℕ) (es : List Event) (ss : List (Station M)) (i : PullInside M step peek place p ms xs now at es ss) (fits : Fits p (PullPiece at))
@@ -72,10 +72,10 @@ module _ (M : Type 0) (step : M → Act → M) (peek : M → Option (ℕ × Bool
     back_owned : OwnedIn M step peek mute place (devs M step peek mute place ss) i.so.back
     back_owned =
         subst (λ (l : List ℕ). OwnedIn M step peek mute place l i.so.back) (sym ds)
-        (owned_behind M step peek place (map (λ s. device s) p.seats) i.so.front i.so.back (subst (OwnedIn M step peek mute place (map (λ s. device s) p.seats)) i.so.parts (steps_owned M step peek mute place p (PullPiece at))))
+        (owned_after M step peek place (map (λ s. device s) p.seats) i.so.front i.so.back (subst (OwnedIn M step peek mute place (map (λ s. device s) p.seats)) i.so.parts (steps_owned M step peek mute place p (PullPiece at))))
 
     back_tied : Tied place i.so.back
-    back_tied = tied_behind M step peek place i.so.front i.so.back (subst (Tied place) i.so.parts (steps_tied place p (Full (PullPiece at)) fits (rises_placed M step peek place p.seats now.rises)))
+    back_tied = tied_after M step peek place i.so.front i.so.back (subst (Tied place) i.so.parts (steps_tied place p (Full (PullPiece at)) fits (rises_placed M step peek place p.seats now.rises)))
 
     back_rises : Rises M step peek place (devs M step peek mute place ss)
     back_rises = subst (λ (l : List ℕ). Rises M step peek place l) (sym ds) now.rises
@@ -107,13 +107,13 @@ module _ (M : Type 0) (step : M → Act → M) (peek : M → Option (ℕ × Bool
   abbrev pub ComesNext : List Step → ℕ → Station M → Type 0
   ComesNext more t o = (rs : List Step) × ((left : List Step) × ((more ≡ rs ++ left) × (events_of rs ≡ drive_events o.port.party.device (shown M step peek t o))))
 
-  next_now : (place : ℕ → ℕ) (t : ℕ) (more : List Step) (before : List (Station M)) (o : Station M) (behind : List (Station M)) → IsFirst M step peek t before o behind → HostFrom (suc t) more → (ss : List (Station M)) → ss ≡ before ++ o ∷ behind → Now M step peek place more ss → ComesNext more t o
-  next_now place t more before o behind f h ss is (going y ys tail e g) =
+  next_now : (place : ℕ → ℕ) (t : ℕ) (more : List Step) (before : List (Station M)) (o : Station M) (afterwards : List (Station M)) → IsFirst M step peek t before o afterwards → HostFrom (suc t) more → (ss : List (Station M)) → ss ≡ before ++ o ∷ afterwards → Now M step peek place more ss → ComesNext more t o
+  next_now place t more before o afterwards f h ss is (going y ys tail e g) =
       let goes = subst (λ (v : List (Station M)). AllGo M step peek g.says place v (y ∷ ys) g.fin) is g.goes in
-      let k = next_inside M step peek g.says place t before o behind y ys g.fin goes f (host_front (suc t) (y ∷ ys) tail (subst (HostFrom (suc t)) e h)) (subst (λ (v : List (Station M)). Rises M step peek place (devs M step peek mute place v)) is g.rises) g.tidy.last g.tidy.goes_on g.tidy.order g.tidy.tied
+      let k = next_inside M step peek g.says place t before o afterwards y ys g.fin goes f (host_front (suc t) (y ∷ ys) tail (subst (HostFrom (suc t)) e h)) (subst (λ (v : List (Station M)). Rises M step peek place (devs M step peek mute place v)) is g.rises) g.tidy.last g.tidy.goes_on g.tidy.order g.tidy.tied
       (subst (λ (v : List (Station M)). OwnedIn M step peek mute place (devs M step peek mute place v) (y ∷ ys)) is g.tidy.owned) in
       (k.own, (k.more ++ tail, (e ∙ ap (λ (l : List Step). l ++ tail) k.steps ∙ append_assoc k.own k.more tail, k.events)))
-  next_now place t more before o behind f h ss is (pulling p ms xs now at es tail i fits e host ds) = by_state i.so.state
+  next_now place t more before o afterwards f h ss is (pulling p ms xs now at es tail i fits e host ds) = by_state i.so.state
     where
       left : HostFrom (suc t) i.so.back
       left = host_front (suc t) i.so.back tail (subst (HostFrom (suc t)) e h)
@@ -121,15 +121,15 @@ module _ (M : Type 0) (step : M → Act → M) (peek : M → Option (ℕ × Bool
       by_state : HostNext M step peek mute place at i.so.back ss ⊎ AllOf M step peek mute place at (λ x e. Pulled M step peek mute place at x i.so.back e) ss i.fin → ComesNext more t o
       by_state (inl n) =
           let late = (subst (HostFrom (suc t)) n.is left).0 (ap is_host n.who) in
-          let soon = in_time_at at t (port_due o.port) (among_time at before o behind (subst (λ (v : List (Station M)). AllInTime M step peek at v) is n.in_time)) f.due in
+          let soon = in_time_at at t (port_due o.port) (among_time at before o afterwards (subst (λ (v : List (Station M)). AllInTime M step peek at v) is n.in_time)) f.due in
           let m = n.moment in
           absurd (omega (arith, late, soon, m))
       by_state (inr a) =
-          let k = next_answer M step peek mute place at t before o behind i.so.back i.fin (subst (λ (v : List (Station M)). AllOf M step peek mute place at (λ x e. Pulled M step peek mute place at x i.so.back e) v i.fin) is a) f left
+          let k = next_answer M step peek mute place at t before o afterwards i.so.back i.fin (subst (λ (v : List (Station M)). AllOf M step peek mute place at (λ x e. Pulled M step peek mute place at x i.so.back e) v i.fin) is a) f left
           (subst (λ (v : List (Station M)). Rises M step peek place (devs M step peek mute place v)) is (back_rises place p ms xs now at es ss i fits ds)) (back_tied place p ms xs now at es ss i fits ds)
           (subst (λ (v : List (Station M)). OwnedIn M step peek mute place (devs M step peek mute place v) i.so.back) is (back_owned place p ms xs now at es ss i fits ds)) in
           (k.own, (k.more ++ tail, (e ∙ ap (λ (l : List Step). l ++ tail) k.steps ∙ append_assoc k.own k.more tail, k.events)))
-  next_now place t more before o behind f h ss is (over e q) = absurd (quiet_first M step peek mute place t before o behind (subst (λ (v : List (Station M)). AllQuiet M step peek mute place v) is q) f.due)
+  next_now place t more before o afterwards f h ss is (over e q) = absurd (quiet_first M step peek mute place t before o afterwards (subst (λ (v : List (Station M)). AllQuiet M step peek mute place v) is q) f.due)
 
   module _ (bs : List Party) (ms : ℕ → M) (is_bus : IsBus bs) (machine : IsMachine M step peek) where
     -- all stand at rest
@@ -166,6 +166,6 @@ module _ (M : Type 0) (step : M → Act → M) (peek : M → Option (ℕ × Bool
         by_who (Drive d) w = soon_now (place_in bs) d t s more ss w time (at_now plays ks done (s ∷ more) sp e al).now
 
     -- Where the host changes nothing up to t, the reaction that is due first at t comes next.
-    pub next_law : {n : ℕ} {es : List Event} (t : ℕ) (before : List (Station M)) (o : Station M) (behind : List (Station M)) → Plays M step peek 0 (playing.at_rest M step peek ms bs) es n (before ++ o ∷ behind) → IsFirst M step peek t before o behind → (ks : List Piece) (done more : List Step) → Splits bs ks done more → events_of done ≡ es
+    pub next_law : {n : ℕ} {es : List Event} (t : ℕ) (before : List (Station M)) (o : Station M) (afterwards : List (Station M)) → Plays M step peek 0 (playing.at_rest M step peek ms bs) es n (before ++ o ∷ afterwards) → IsFirst M step peek t before o afterwards → (ks : List Piece) (done more : List Step) → Splits bs ks done more → events_of done ≡ es
         → Allowed M step peek (rest bs) ms ks → HostFrom (suc t) more → ComesNext more t o
-    next_law t before o behind plays f ks done more sp e al h = next_now (place_in bs) t more before o behind f h (before ++ o ∷ behind) refl (at_now plays ks done more sp e al).now
+    next_law t before o afterwards plays f ks done more sp e al h = next_now (place_in bs) t more before o afterwards f h (before ++ o ∷ afterwards) refl (at_now plays ks done more sp e al).now

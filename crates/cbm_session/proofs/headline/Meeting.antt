@@ -33,7 +33,7 @@ pub compat_skip : (xs ys : List Step) (bs : List Event) → Compat (xs ++ ys) (e
 compat_skip [] ys bs c = c
 compat_skip (x ∷ xs) ys bs c = compat_skip xs ys bs (c.1 refl)
 
--- behind a byte that was said and isn't the last the piece is over
+-- after a byte that was said and isn't the last the piece is over
 abbrev pub SaysOpen : Mark → Type 0
 SaysOpen Plain = Unit {0}
 SaysOpen (ForEach act) = NoneSaid (Some act)
@@ -120,11 +120,11 @@ host_first d t y ys (x ∷ bs) w l f c =
     let at = f.1 in
     absurd (omega (arith, k, l, at))
 
-pub last_behind : (xs ys : List Step) → LastSaid (xs ++ ys) → LastSaid ys
-last_behind [] ys l = l
-last_behind (x ∷ []) [] l = tt
-last_behind (x ∷ []) (y ∷ ys) l = l.1
-last_behind (x ∷ x2 ∷ xs) ys l = last_behind (x2 ∷ xs) ys l.1
+pub last_after_it : (xs ys : List Step) → LastSaid (xs ++ ys) → LastSaid ys
+last_after_it [] ys l = l
+last_after_it (x ∷ []) [] l = tt
+last_after_it (x ∷ []) (y ∷ ys) l = l.1
+last_after_it (x ∷ x2 ∷ xs) ys l = last_after_it (x2 ∷ xs) ys l.1
 
 pub last_open : (d : ℕ) (cs : List Change) (act : Option Act) (y : Step) (ys : List Step) → LastSaid (own_steps d cs act ++ y ∷ ys) → (own_steps d cs act ≡ [] → ⊥) → NoneSaid act
 last_open d [] act y ys l n = absurd (n refl)
@@ -134,9 +134,9 @@ last_open d (c ∷ e ∷ []) None y ys l n = tt
 last_open d (c ∷ e ∷ []) (Some a) y ys l n = l.1.0
 last_open d (c ∷ e ∷ x ∷ cs) act y ys l n = absurd (n refl)
 
-pub noatn_behind : (xs ys : List Step) → NoAtn (xs ++ ys) → NoAtn ys
-noatn_behind [] ys h = h
-noatn_behind (x ∷ xs) ys h = noatn_behind xs ys h.1
+pub noatn_after : (xs ys : List Step) → NoAtn (xs ++ ys) → NoAtn ys
+noatn_after [] ys h = h
+noatn_after (x ∷ xs) ys h = noatn_after xs ys h.1
 
 pub in_time_at : (t u : ℕ) (o : Option ℕ) → IsInTime t o → o ≡ Some u → t ≤ u
 in_time_at t u None i e = absurd cc

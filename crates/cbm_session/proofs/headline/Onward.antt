@@ -1,4 +1,4 @@
--- Behind a piece that was played the stations stand at the next point of the session.
+-- After a piece that was played the stations stand at the next point of the session.
 use Rattle.std.proofs.Common.{◌≡◌, ℕ, ◌+◌, ◌≤◌, Bool, true, false, not, List, [], ◌∷◌, ◌++◌, map, Option, Some, ap, sym, ◌∙◌, subst, arith, refl, eq-eqb}
 use Rattle.std.specs.Prelude.{if◌then◌else◌}
 use Rattle.cbm_iec.specs.declared.machine.Act.TheVariants.{Released, Said}
@@ -14,11 +14,11 @@ use Rattle.cbm_session.proofs.among.Calm.{Every}
 use Rattle.cbm_session.proofs.headline.BusActs.{acts_append}
 use Rattle.cbm_session.proofs.headline.FrameBus.{each_seat}
 use Rattle.cbm_session.proofs.headline.Here.{LeadsThere, Here, ran_on, the_seat}
-use Rattle.cbm_session.proofs.headline.PieceBus.{devices_behind, Behind}
+use Rattle.cbm_session.proofs.headline.PieceBus.{devices_after, Afterwards}
 use Rattle.cbm_session.proofs.headline.Premises.{mute, Rises}
 use Rattle.cbm_session.proofs.headline.TalkBus.{frame_steps}
 use Rattle.cbm_session.proofs.headline.TalkParts.{AllPlain, told_front, told_back, front_plain, front_back}
-use Rattle.cbm_session.proofs.headline.TurnBus.{behind_below}
+use Rattle.cbm_session.proofs.headline.TurnBus.{after_below}
 use Rattle.cbm_session.proofs.headline.TurnTwin.{leads, lead_steps}
 use Rattle.cbm_session.proofs.joining.OneDrive.{one_told}
 use Rattle.cbm_session.proofs.joining.Talkers.{KeepsDrives, KeepsRoles, standing_drives, standing_roles}
@@ -78,22 +78,22 @@ told_acts b at f =
     go false = refl
 
 module _ (M : Type 0) (step : M → Act → M) (peek : M → Option (ℕ × Bool)) (place : ℕ → ℕ) (machine : IsMachine M step peek) where
-  -- where a drive leads behind a piece, its machine has a byte to say
-  pub leads_behind : (p : Point) (ms : ℕ → M) (xs : List (Station M)) → Here M step peek place p ms xs → (k : Piece) → PieceFits p k → PieceAnswers M step peek (ms (talker_of p.seats).device) k → (t : ℕ) → (point_after p k).place ≡ Leading t
+  -- where a drive leads after a piece, its machine has a byte to say
+  pub leads_after : (p : Point) (ms : ℕ → M) (xs : List (Station M)) → Here M step peek place p ms xs → (k : Piece) → PieceFits p k → PieceAnswers M step peek (ms (talker_of p.seats).device) k → (t : ℕ) → (point_after p k).place ≡ Leading t
       → LeadsThere M step peek (point_after p k) (run_each M step peek ms (piece_steps p k)) t
-  leads_behind p ms xs here (Cut w c) fits answer t e = absurd cc
-  leads_behind p ms xs here (Full (PullPiece at)) fits answer t e = absurd cc
-  leads_behind p ms xs here (Full (Command f)) fits answer t e = absurd cc
-  leads_behind p ms xs here (Full (Byte eoi f)) fits answer t e = absurd cc
-  leads_behind p ms xs here (Full (ToListener at)) fits answer t e = absurd cc
-  leads_behind p ms xs here (Full (ToNobody at clock)) fits answer t e = absurd cc
-  leads_behind p ms xs here (Full (Nothing at clock freed)) fits answer t e = absurd cc
-  leads_behind p ms xs here (Full (ToTalker at clock)) fits answer t e =
+  leads_after p ms xs here (Cut w c) fits answer t e = absurd cc
+  leads_after p ms xs here (Full (PullPiece at)) fits answer t e = absurd cc
+  leads_after p ms xs here (Full (Command f)) fits answer t e = absurd cc
+  leads_after p ms xs here (Full (Byte eoi f)) fits answer t e = absurd cc
+  leads_after p ms xs here (Full (ToListener at)) fits answer t e = absurd cc
+  leads_after p ms xs here (Full (ToNobody at clock)) fits answer t e = absurd cc
+  leads_after p ms xs here (Full (Nothing at clock freed)) fits answer t e = absurd cc
+  leads_after p ms xs here (Full (ToTalker at clock)) fits answer t e =
       let f = λ (x : Seat). standing (lines true false) x in
       let is : t ≡ clock + (talker_of p.seats).reaction + 80 = cc in
       let z = the_seat M step peek place p p.seats xs here.stand fits.0.talker in
       let late = fits.1 in
-      let below = behind_below at (clock + (talker_of p.seats).reaction + 1) t p.seats z.1.0.react (omega (arith, is)) (omega (arith, is, late)) in
+      let below = after_below at (clock + (talker_of p.seats).reaction + 1) t p.seats z.1.0.react (omega (arith, is)) (omega (arith, is, late)) in
       let same = talker_same f p.seats (standing_roles (lines true false)) (standing_drives (lines true false)) in
       let d = (talker_of p.seats).device in
       record {
@@ -106,7 +106,7 @@ module _ (M : Type 0) (step : M → Act → M) (peek : M → Option (ℕ × Bool
               ∙ answer.1,
         );
       }
-  leads_behind p ms xs here (Full (Talk at f)) fits answer t e = go (is_last f) refl
+  leads_after p ms xs here (Full (Talk at f)) fits answer t e = go (is_last f) refl
     where
       go : (v : Bool) → is_last f ≡ v → LeadsThere M step peek (point_after p (Full (Talk at f))) (run_each M step peek ms (steps_of p (Talk at f))) t
       go true l = let k : Open ≡ Leading t = sym (ap (λ (v : Bool). if v then Open else Leading (f.accept + 100)) l) ∙ e in absurd cc
@@ -135,12 +135,12 @@ module _ (M : Type 0) (step : M → Act → M) (peek : M → Option (ℕ × Bool
           }
 
   -- So all stand at the next point.
-  pub here_behind : (p : Point) (ms : ℕ → M) (xs : List (Station M)) → Here M step peek place p ms xs → (k : Piece) → PieceFits p k → PieceAnswers M step peek (ms (talker_of p.seats).device) k → {es : List Event} {n2 : ℕ} {ss2 : List (Station M)}
-      → (b : Behind M step peek place (point_after p k) xs (piece_steps p k) es n2 ss2) → Here M step peek place (point_after p k) (run_each M step peek ms (piece_steps p k)) b.there
-  here_behind p ms xs here k fits answer b = record {
+  pub here_after : (p : Point) (ms : ℕ → M) (xs : List (Station M)) → Here M step peek place p ms xs → (k : Piece) → PieceFits p k → PieceAnswers M step peek (ms (talker_of p.seats).device) k → {es : List Event} {n2 : ℕ} {ss2 : List (Station M)}
+      → (b : Afterwards M step peek place (point_after p k) xs (piece_steps p k) es n2 ss2) → Here M step peek place (point_after p k) (run_each M step peek ms (piece_steps p k)) b.there
+  here_after p ms xs here k fits answer b = record {
     stand = b.stand;
     show = λ c e. b.show;
     ran = ran_on M step peek ms (piece_steps p k) b.there (b.ran.runs ms [] here.ran);
-    rises = subst (λ (l : List ℕ). Rises M step peek place l) (sym (devices_behind p k)) here.rises;
-    leads = leads_behind p ms xs here k fits answer;
+    rises = subst (λ (l : List ℕ). Rises M step peek place l) (sym (devices_after p k)) here.rises;
+    leads = leads_after p ms xs here k fits answer;
   }

@@ -1,4 +1,4 @@
--- A piece of a session, whole or cut, on a bus: how each drive follows it and stands behind it, and what a play that keeps to it comes to.
+-- A piece of a session, whole or cut, on a bus: how each drive follows it and stands after it, and what a play that keeps to it comes to.
 use Rattle.std.proofs.Common.{◌≡◌, ℕ, suc, ◌≤◌, ◌⊎◌, inl, inr, Bool, List, [], ◌∷◌, ◌++◌, map, append-nil, Option, Some, None, ap, sym, ◌∙◌, subst, arith, refl}
 use Rattle.std.proofs.lemmas.Bool.Decides.{leb_tells}
 use Rattle.cbm_iec.specs.declared.machine.Act.{Act}
@@ -13,13 +13,13 @@ use Rattle.cbm_session.proofs.among.Points.{next_party, whole_sound, cut_sound}
 use Rattle.cbm_session.proofs.among.Sessions.{piece_among, left_is}
 use Rattle.cbm_session.proofs.among.Standing.{IsSound}
 use Rattle.cbm_session.proofs.headline.AlongBus.{GoesSo, AllGo, devs, OwnedIn, IsPlain, WithinAll, PassedAll}
-use Rattle.cbm_session.proofs.headline.BehindBus.{next_seats, stand_so, all_there, all_show}
+use Rattle.cbm_session.proofs.headline.AfterBus.{next_seats, stand_so, all_there, all_show}
 use Rattle.cbm_session.proofs.headline.BusActs.{RanOn}
 use Rattle.cbm_session.proofs.headline.BusStep as bus
 use Rattle.cbm_session.proofs.headline.BusStep.{Goes, Tied}
 use Rattle.cbm_session.proofs.headline.CutBus.{last_front, goes_front, order_front, tied_front, owned_front}
 use Rattle.cbm_session.proofs.headline.FrameBus.{StandsSo, AllStand, AllEnd, AllWith, steps_owned}
-use Rattle.cbm_session.proofs.headline.Meeting.{LastSaid, last_behind}
+use Rattle.cbm_session.proofs.headline.Meeting.{LastSaid, last_after_it}
 use Rattle.cbm_session.proofs.headline.Premises.{mute, Rises, Stood, stood}
 use Rattle.cbm_session.proofs.headline.PullPlayed.{AllShow}
 use Rattle.cbm_session.proofs.headline.Ties.{Placed, tied_all}
@@ -46,38 +46,38 @@ abbrev pub upto : Option ℕ → Whole → Piece
 upto None w = Full w
 upto (Some c) w = Cut w c
 
--- a seat behind a piece
-abbrev pub seat_behind : Point → Piece → Seat → Seat
-seat_behind p (Full w) s = next_seat w s
-seat_behind p (Cut w c) s = seat_with s.role (held_by s.own (before c (own_part p w s))) s
+-- a seat after a piece
+abbrev pub seat_afterwards : Point → Piece → Seat → Seat
+seat_afterwards p (Full w) s = next_seat w s
+seat_afterwards p (Cut w c) s = seat_with s.role (held_by s.own (before c (own_part p w s))) s
 
-pub seats_behind : (p : Point) (k : Piece) → (point_after p k).seats ≡ map (λ s. seat_behind p k s) p.seats
-seats_behind p (Full w) = next_seats p w
-seats_behind p (Cut w c) = refl
+pub seats_afterwards : (p : Point) (k : Piece) → (point_after p k).seats ≡ map (λ s. seat_afterwards p k s) p.seats
+seats_afterwards p (Full w) = next_seats p w
+seats_afterwards p (Cut w c) = refl
 
 pub whole_fits : (p : Point) (k : Piece) → PieceFits p k → Fits p (whole_of k)
 whole_fits p (Full w) f = f
 whole_fits p (Cut w c) f = f.0
 
-pub party_behind : (p : Point) (k : Piece) (s : Seat) → (seat_behind p k s).party ≡ s.party
-party_behind p (Full w) s = next_party w s
-party_behind p (Cut w c) s = refl
+pub party_after : (p : Point) (k : Piece) (s : Seat) → (seat_afterwards p k s).party ≡ s.party
+party_after p (Full w) s = next_party w s
+party_after p (Cut w c) s = refl
 
-pub devices_behind : (p : Point) (k : Piece) → map (λ s. device s) (point_after p k).seats ≡ map (λ s. device s) p.seats
-devices_behind p k = ap (λ (l : List Seat). map (λ s. device s) l) (seats_behind p k) ∙ go p.seats
+pub devices_after : (p : Point) (k : Piece) → map (λ s. device s) (point_after p k).seats ≡ map (λ s. device s) p.seats
+devices_after p k = ap (λ (l : List Seat). map (λ s. device s) l) (seats_afterwards p k) ∙ go p.seats
   where
-    go : (ss : List Seat) → map (λ s. device s) (map (λ s. seat_behind p k s) ss) ≡ map (λ s. device s) ss
+    go : (ss : List Seat) → map (λ s. device s) (map (λ s. seat_afterwards p k s) ss) ≡ map (λ s. device s) ss
     go [] = refl
-    go (s ∷ ss) = ap (λ (b : Party). b.device ∷ map (λ x. device x) (map (λ x. seat_behind p k x) ss)) (party_behind p k s) ∙ ap (λ (l : List ℕ). device s ∷ l) (go ss)
+    go (s ∷ ss) = ap (λ (b : Party). b.device ∷ map (λ x. device x) (map (λ x. seat_afterwards p k x) ss)) (party_after p k s) ∙ ap (λ (l : List ℕ). device s ∷ l) (go ss)
 
--- A drive that stands at a point follows a piece and stands behind it, whole or cut.
+-- A drive that stands at a point follows a piece and stands after it, whole or cut.
 pub record Followed (p : Point) (k : Piece) (s : Seat) (q : Port) (peek : Option (ℕ × Bool)) : Type 0 where
   pub rest : Rest
   pub port : Port
   pub follows : FollowsAmong peek (rest_at (device s) p) q (piece_steps p k) rest port
-  pub there : StandsAmong (point_after p k) (seat_behind p k s) port
-  pub sound : IsSound (point_after p k) (seat_behind p k s)
-  pub is : rest ≡ rest_at (device (seat_behind p k s)) (point_after p k)
+  pub there : StandsAmong (point_after p k) (seat_afterwards p k s) port
+  pub sound : IsSound (point_after p k) (seat_afterwards p k s)
+  pub is : rest ≡ rest_at (device (seat_afterwards p k s)) (point_after p k)
 
 pub follow : (p : Point) (k : Piece) (s : Seat) (q : Port) (peek : Option (ℕ × Bool)) → IsSound p s → StandsAmong p s q → PieceFits p k → SaysAs s.role k peek → Followed p k s q peek
 follow p (Full w) s q peek h st fits said =
@@ -181,24 +181,24 @@ module _ (M : Type 0) (step : M → Act → M) (peek : M → Option (ℕ × Bool
   pub piece_tidy : (p : Point) (k : Piece) → PieceFits p k → Placed place p.seats → LastSaid (steps_of p (whole_of k)) → IsTidy (map (λ s. device s) p.seats) (piece_steps p k)
   piece_tidy p k f placed last = record { last = steps_last p k f last; goes_on = steps_go p k f; order = piece_order p k f; tied = steps_tied place p k f placed; owned = steps_sit p k f }
 
-  pub tied_behind : (xs ys : List Step) → Tied place (xs ++ ys) → Tied place ys
-  tied_behind [] ys h = h
-  tied_behind (x ∷ xs) ys h = tied_behind xs ys h.1
+  pub tied_after : (xs ys : List Step) → Tied place (xs ++ ys) → Tied place ys
+  tied_after [] ys h = h
+  tied_after (x ∷ xs) ys h = tied_after xs ys h.1
 
-  order_behind : (xs ys : List Step) → InOrder (xs ++ ys) → InOrder ys
-  order_behind [] ys h = h
-  order_behind (x ∷ xs) ys h = order_behind xs ys h.1
+  order_after : (xs ys : List Step) → InOrder (xs ++ ys) → InOrder ys
+  order_after [] ys h = h
+  order_after (x ∷ xs) ys h = order_after xs ys h.1
 
-  goes_behind : (xs ys : List Step) → GoesOn (xs ++ ys) → GoesOn ys
-  goes_behind [] ys h = h
-  goes_behind (x ∷ xs) ys h = goes_behind xs ys h.1
+  goes_after : (xs ys : List Step) → GoesOn (xs ++ ys) → GoesOn ys
+  goes_after [] ys h = h
+  goes_after (x ∷ xs) ys h = goes_after xs ys h.1
 
-  pub owned_behind : (ds : List ℕ) (xs ys : List Step) → OwnedIn M step peek mute place ds (xs ++ ys) → OwnedIn M step peek mute place ds ys
-  owned_behind ds [] ys h = h
-  owned_behind ds (x ∷ xs) ys h = owned_behind ds xs ys h.1
+  pub owned_after : (ds : List ℕ) (xs ys : List Step) → OwnedIn M step peek mute place ds (xs ++ ys) → OwnedIn M step peek mute place ds ys
+  owned_after ds [] ys h = h
+  owned_after ds (x ∷ xs) ys h = owned_after ds xs ys h.1
 
-  pub tidy_behind : (ds : List ℕ) (xs ys : List Step) → IsTidy ds (xs ++ ys) → IsTidy ds ys
-  tidy_behind ds xs ys h = record { last = last_behind xs ys h.last; goes_on = goes_behind xs ys h.goes_on; order = order_behind xs ys h.order; tied = tied_behind xs ys h.tied; owned = owned_behind ds xs ys h.owned }
+  pub tidy_after_it : (ds : List ℕ) (xs ys : List Step) → IsTidy ds (xs ++ ys) → IsTidy ds ys
+  tidy_after_it ds xs ys h = record { last = last_after_it xs ys h.last; goes_on = goes_after xs ys h.goes_on; order = order_after xs ys h.order; tied = tied_after xs ys h.tied; owned = owned_after ds xs ys h.owned }
 
   pub tidy_plain : (says : ℕ → Option (ℕ × Bool)) (ds : List ℕ) (ys : List Step) → IsTidy ds ys → NoAtn ys → IsPlain M step peek says place ds ys
   tidy_plain says ds ys h n = record { noatn = n; last = h.last; goes_on = h.goes_on; order = h.order; tied = h.tied; owned = h.owned }
@@ -211,7 +211,7 @@ module _ (M : Type 0) (step : M → Act → M) (peek : M → Option (ℕ × Bool
     pub tidy : IsTidy (devs M step peek mute place ss) back
     pub rises : Rises M step peek place (devs M step peek mute place ss)
 
-  -- What came of a piece: the play is in it, or behind it with all as the session has them.
+  -- What came of a piece: the play is in it, or after it with all as the session has them.
   pub record Inside (from : List (Station M)) (ys : List Step) (es : List Event) (ss : List (Station M)) : Type 0 where
     pub front : List Step
     pub next : Step
@@ -221,7 +221,7 @@ module _ (M : Type 0) (step : M → Act → M) (peek : M → Option (ℕ × Bool
     pub going : Going (next ∷ others) ss
     pub ran : RanOn M step peek from front ss
 
-  pub record Behind (p : Point) (from : List (Station M)) (ys : List Step) (es : List Event) (n2 : ℕ) (ss2 : List (Station M)) : Type 0 where
+  pub record Afterwards (p : Point) (from : List (Station M)) (ys : List Step) (es : List Event) (n2 : ℕ) (ss2 : List (Station M)) : Type 0 where
     pub more : List Event
     pub now : ℕ
     pub there : List (Station M)
@@ -248,36 +248,36 @@ module _ (M : Type 0) (step : M → Act → M) (peek : M → Option (ℕ × Bool
   bytes_last (change c more y l i e f) = bytes_last f
   bytes_last (reaction t b o h more y e i k f) = bytes_last f
 
-  behind_with : (says : ℕ → Option (ℕ × Bool)) (p : Point) (k : Piece) (from : List (Station M)) (fin : List (Rest × Port)) (es : List Event) (n2 : ℕ) (ss2 : List (Station M)) → AllEnd M step peek says place (point_after p k) (map (λ s. seat_behind p k s) p.seats) fin
-      → PassedAll M step peek says place from (piece_steps p k) fin es n2 ss2 → Behind (point_after p k) from (piece_steps p k) es n2 ss2
-  behind_with says p k from fin es n2 ss2 ends w =
+  after_with : (says : ℕ → Option (ℕ × Bool)) (p : Point) (k : Piece) (from : List (Station M)) (fin : List (Rest × Port)) (es : List Event) (n2 : ℕ) (ss2 : List (Station M)) → AllEnd M step peek says place (point_after p k) (map (λ s. seat_afterwards p k s) p.seats) fin
+      → PassedAll M step peek says place from (piece_steps p k) fin es n2 ss2 → Afterwards (point_after p k) from (piece_steps p k) es n2 ss2
+  after_with says p k from fin es n2 ss2 ends w =
       let p2 = point_after p k in
-      let there = stand_so M step peek says place p2 (map (λ s. seat_behind p k s) p.seats) fin w.there ends (all_there M step peek says place w.there fin w.goes) in
+      let there = stand_so M step peek says place p2 (map (λ s. seat_afterwards p k s) p.seats) fin w.there ends (all_there M step peek says place w.there fin w.goes) in
       record {
         more = w.more;
         now = w.now;
         there = w.there;
         shown_so = w.shown_so;
         plays = w.plays;
-        stand = stood M step peek says place p2 p2.seats w.there (subst (λ (l : List Seat). AllStand M step peek says place p2 l w.there) (sym (seats_behind p k)) there);
+        stand = stood M step peek says place p2 p2.seats w.there (subst (λ (l : List Seat). AllStand M step peek says place p2 l w.there) (sym (seats_afterwards p k)) there);
         show = all_show M step peek says place w.there [] fin w.goes;
         ran = w.ran;
       }
 
   -- So what along_bus gives is one of the two.
   pub come_to : {ss2 : List (Station M)} → AllBytes M step peek ss2 → (says : ℕ → Option (ℕ × Bool)) (p : Point) (k : Piece) (from : List (Station M)) (fin : List (Rest × Port)) (es rest : List Event) (n2 : ℕ)
-      → AllEnd M step peek says place (point_after p k) (map (λ s. seat_behind p k s) p.seats) fin → Rises M step peek place (map (λ s. device s) p.seats) → IsTidy (map (λ s. device s) p.seats) (piece_steps p k)
+      → AllEnd M step peek says place (point_after p k) (map (λ s. seat_afterwards p k s) p.seats) fin → Rises M step peek place (map (λ s. device s) p.seats) → IsTidy (map (λ s. device s) p.seats) (piece_steps p k)
       → WithinAll M step peek says place from (piece_steps p k) fin es rest ss2 ⊎ PassedAll M step peek says place from (piece_steps p k) fin es n2 ss2
-      → Inside from (piece_steps p k) es ss2 ⊎ Behind (point_after p k) from (piece_steps p k) es n2 ss2
+      → Inside from (piece_steps p k) es ss2 ⊎ Afterwards (point_after p k) from (piece_steps p k) es n2 ss2
   come_to {ss2} bytes says p k from fin es rest n2 ends rises tidy (inl w) = go w.back w.parts w.goes
     where
       ds : List ℕ
       ds = map (λ s. device s) p.seats
 
-      go : (back : List Step) → piece_steps p k ≡ w.front ++ back → AllGo M step peek says place ss2 back fin → Inside from (piece_steps p k) es ss2 ⊎ Behind (point_after p k) from (piece_steps p k) es n2 ss2
+      go : (back : List Step) → piece_steps p k ≡ w.front ++ back → AllGo M step peek says place ss2 back fin → Inside from (piece_steps p k) es ss2 ⊎ Afterwards (point_after p k) from (piece_steps p k) es n2 ss2
       go [] e g =
           let all : piece_steps p k ≡ w.front = e ∙ append-nil w.front in
-          inr (behind_with says p k from fin es n2 ss2 ends (record {
+          inr (after_with says p k from fin es n2 ss2 ends (record {
             more = [];
             now = n2;
             there = ss2;
@@ -287,8 +287,8 @@ module _ (M : Type 0) (step : M → Act → M) (peek : M → Option (ℕ × Bool
             ran = subst (λ (l : List Step). RanOn M step peek from l ss2) (sym all) w.ran;
           }))
       go (y ∷ ys) e g =
-          let same = same_devs says (point_after p k) (map (λ s. seat_behind p k s) p.seats) fin ss2 (y ∷ ys) ends g ∙ ap (λ (l : List Seat). map (λ s. device s) l) (sym (seats_behind p k)) ∙ devices_behind p k in
-          let left = tidy_behind (map (λ s. device s) p.seats) w.front (y ∷ ys) (subst (IsTidy (map (λ s. device s) p.seats)) e tidy) in
+          let same = same_devs says (point_after p k) (map (λ s. seat_afterwards p k s) p.seats) fin ss2 (y ∷ ys) ends g ∙ ap (λ (l : List Seat). map (λ s. device s) l) (sym (seats_afterwards p k)) ∙ devices_after p k in
+          let left = tidy_after_it (map (λ s. device s) p.seats) w.front (y ∷ ys) (subst (IsTidy (map (λ s. device s) p.seats)) e tidy) in
           inl (record {
             front = w.front;
             next = y;
@@ -298,16 +298,16 @@ module _ (M : Type 0) (step : M → Act → M) (peek : M → Option (ℕ × Bool
             going = record { says = says; fin = fin; goes = g; tidy = subst (λ (l : List ℕ). IsTidy l (y ∷ ys)) (sym same) left; rises = subst (λ (l : List ℕ). Rises M step peek place l) (sym same) rises };
             ran = w.ran;
           })
-  come_to {ss2} bytes says p k from fin es rest n2 ends rises tidy (inr w) = inr (behind_with says p k from fin es n2 ss2 ends w)
+  come_to {ss2} bytes says p k from fin es rest n2 ends rises tidy (inr w) = inr (after_with says p k from fin es n2 ss2 ends w)
 
   -- How each drive goes with a piece, from how it follows it.
   module _ (says : ℕ → Option (ℕ × Bool)) where
     abbrev pub TurnsSo : Point → Piece → (Seat → Station M → Type 0) → Type 0
-    TurnsSo p k A = (s : Seat) (x : Station M) → StandsSo M step peek says place p s x → A s x → (r2 : Rest) (q2 : Port) → FollowsAmong (says x.port.party.device) x.rest x.port (piece_steps p k) r2 q2 → StandsAmong (point_after p k) (seat_behind p k s) q2
+    TurnsSo p k A = (s : Seat) (x : Station M) → StandsSo M step peek says place p s x → A s x → (r2 : Rest) (q2 : Port) → FollowsAmong (says x.port.party.device) x.rest x.port (piece_steps p k) r2 q2 → StandsAmong (point_after p k) (seat_afterwards p k s) q2
         → GoesSo M step peek says place x (piece_steps p k) (r2, q2)
 
     pub all_go_with : (p : Point) (k : Piece) (A : Seat → Station M → Type 0) → PieceFits p k → TurnsSo p k A → ((s : Seat) → IsSound p s → SaysAs s.role k (says (device s))) → (ss : List Seat) (xs : List (Station M)) → AllStand M step peek says place p ss xs
-        → AllWith M step peek says place A ss xs → (es : List (Rest × Port)) × (AllGo M step peek says place xs (piece_steps p k) es × AllEnd M step peek says place (point_after p k) (map (λ s. seat_behind p k s) ss) es)
+        → AllWith M step peek says place A ss xs → (es : List (Rest × Port)) × (AllGo M step peek says place xs (piece_steps p k) es × AllEnd M step peek says place (point_after p k) (map (λ s. seat_afterwards p k s) ss) es)
     all_go_with p k A fits turn said [] [] h a = ([], (tt, tt))
     all_go_with p k A fits turn said [] (x ∷ xs) h a = elim h [ ]
     all_go_with p k A fits turn said (s ∷ ss) [] h a = elim h [ ]

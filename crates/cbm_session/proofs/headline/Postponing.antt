@@ -21,8 +21,8 @@ use Rattle.cbm_session.proofs.headline.Ending.{Continues, piece_then}
 use Rattle.cbm_session.proofs.headline.FrameBus.{devs_are}
 use Rattle.cbm_session.proofs.headline.FrameLater.{every_at, quiet_never, command_never, byte_never}
 use Rattle.cbm_session.proofs.headline.Here.{IsTalkers, Here, Out, hosts_out, talkers_out, PullInside, pull_out}
-use Rattle.cbm_session.proofs.headline.Onward.{here_behind}
-use Rattle.cbm_session.proofs.headline.PieceBus.{Inside, Behind, bytes_last, devices_behind}
+use Rattle.cbm_session.proofs.headline.Onward.{here_after}
+use Rattle.cbm_session.proofs.headline.PieceBus.{Inside, Afterwards, bytes_last, devices_after}
 use Rattle.cbm_session.proofs.headline.Premises.{mute}
 use Rattle.cbm_session.proofs.headline.PullBus.{NextHost, HostNext, Pulled, Starts, Shows, Rests, AllOf}
 use Rattle.cbm_session.proofs.headline.PutOff.{first_only, listener_never, nobody_off, before_off, inside_off}
@@ -59,7 +59,7 @@ pull_first p at (x ∷ hf) s ho e k =
     absurd ((every_at (λ v. (moment_of v ≡ at) × (v.event.change.line ≡ Atn → ⊥)) hf s ho (subst (Every (λ v. (moment_of v ≡ at) × (v.event.change.line ≡ Atn → ⊥))) left (pull_rest p.host.clock_low p.host.data_low at))).1 k)
 
 module _ (M : Type 0) (step : M → Act → M) (peek : M → Option (ℕ × Bool)) (place : ℕ → ℕ) where
-  -- an answer to a pull is due behind it, and not long
+  -- an answer to a pull is due after it, and not long
   starts_due : (at t u : ℕ) (x : Station M) → Starts M step peek mute place at x u → port_due x.port ≡ Some t → (at < t) × (t ≤ at + 60)
   starts_due at t u x k e =
       let same : Some t ≡ Some u = sym e ∙ ap (λ (v : Side). side_due v) k.side in
@@ -160,16 +160,16 @@ module _ (M : Type 0) (step : M → Act → M) (peek : M → Option (ℕ × Bool
       Off = Continues M step peek p ms es (suc t)
 
       abbrev Gone : Piece → Type 0
-      Gone k = Behind M step peek place (point_after p k) xs (piece_steps p k) es n2 ss2
+      Gone k = Afterwards M step peek place (point_after p k) xs (piece_steps p k) es n2 ss2
 
-      -- what follows behind a piece
+      -- what follows a piece
       abbrev Follows : Piece → Type 0
       Follows k = (b : Gone k) (d2 : List Step) → tail ≡ d2 ++ s ∷ more → events_of d2 ≡ b.more → Continues M step peek (point_after p k) (run_each M step peek ms (piece_steps p k)) b.more (suc t)
 
       passed : (k : Piece) → PieceFits p k → PieceAnswers M step peek (ms (talker_of p.seats).device) k → RunEach M step peek p.seats ms (piece_steps p k) → piece_steps p k ++ tail ≡ done ++ s ∷ more → Gone k → Follows k → Off
       passed k fits answer runs e b next =
           let left = left_of (piece_steps p k) tail done (s ∷ more) b.more e (shown ∙ b.shown_so) in
-          subst (λ (l : List Event). Continues M step peek p ms l (suc t)) (sym b.shown_so) (piece_then M step peek p ms k (suc t) b.more fits answer runs (next b left.behind left.left left.shown))
+          subst (λ (l : List Event). Continues M step peek p ms l (suc t)) (sym b.shown_so) (piece_then M step peek p ms k (suc t) b.more fits answer runs (next b left.afterwards left.left left.shown))
 
       -- where a piece is under way its next step is the host's
       next_is : (k : Piece) → piece_steps p k ++ tail ≡ done ++ s ∷ more → (i : Inside M step peek place xs (piece_steps p k) es ss2) → i.next ≡ s
@@ -208,14 +208,14 @@ module _ (M : Type 0) (step : M → Act → M) (peek : M → Option (ℕ × Bool
       pull = pulls_at p w c ks linked
 
       -- the pull comes next: another cut, or the piece to its end
-      pull_next_off : IsAnswer M step peek (ms (talker_of p.seats).device) w → (b : Behind M step peek place (point_after p (Cut w c)) xs (before c (steps_of p w)) es n2 ss2) → b.more ≡ [] → (d2 : List Step) → session_steps (point_after p (Cut w c)) ks ≡ d2 ++ s ∷ more → events_of d2 ≡ [] → Continues M step peek p ms es (suc t)
+      pull_next_off : IsAnswer M step peek (ms (talker_of p.seats).device) w → (b : Afterwards M step peek place (point_after p (Cut w c)) xs (before c (steps_of p w)) es n2 ss2) → b.more ≡ [] → (d2 : List Step) → session_steps (point_after p (Cut w c)) ks ≡ d2 ++ s ∷ more → events_of d2 ≡ [] → Continues M step peek p ms es (suc t)
       pull_next_off answer b none (x ∷ d2) e k = absurd cc
       pull_next_off answer b none [] e k =
-          let list : pull.first ∷ pull.behind ≡ s ∷ more = sym pull.is ∙ e in
+          let list : pull.first ∷ pull.afterwards ≡ s ∷ more = sym pull.is ∙ e in
           let same : pull.first ≡ s = cc in
           let at : c ≡ t = sym pull.moment ∙ ap (λ (v : Step). moment_of v) same ∙ now in
           let k = Cut w c in
-          let whose = devs_are M step peek mute place (point_after p k) (point_after p k).seats b.there b.stand ∙ devices_behind p k ∙ sym (devs_are M step peek mute place p p.seats xs here.stand) in
+          let whose = devs_are M step peek mute place (point_after p k) (point_after p k).seats b.there b.stand ∙ devices_after p k ∙ sym (devs_are M step peek mute place p p.seats xs here.stand) in
           before_off M step peek place machine p ms xs here plays t due w (cut_talks p c w fits.1) fits.0 answer (subst (λ (v : ℕ). Rattle.cbm_session.specs.Pieces.CutFits p w v) at fits.1)
           (ap (λ (v : ℕ). events_of (before v (steps_of p w))) (sym at) ∙ sym (append-nil (events_of (before c (steps_of p w)))) ∙ ap (λ (l : List Event). events_of (before c (steps_of p w)) ++ l) (sym none) ∙ sym b.shown_so)
           b.there whose (subst (λ (v : ℕ). AllRan M step peek ms (before v (steps_of p w)) b.there) at (b.ran.runs ms [] here.ran)) (bytes_first M step peek place b.plays)
@@ -229,7 +229,7 @@ module _ (M : Type 0) (step : M → Act → M) (peek : M → Option (ℕ × Bool
           (rest.1 ∙ ap (λ (l : List Step). l ++ rest.0) parts ∙ append_assoc i.front (s ∷ i.others) rest.0)
 
       cut_on : IsAnswer M step peek (ms (talker_of p.seats).device) w → RunEach M step peek p.seats ms (before c (steps_of p w)) → before c (steps_of p w) ++ session_steps (point_after p (Cut w c)) ks ≡ done ++ s ∷ more → Out M step peek place p ms xs here (Cut w c) es n2 ss2
-          → ((b : Behind M step peek place (point_after p (Cut w c)) xs (before c (steps_of p w)) es n2 ss2) → NotCut (point_after p (Cut w c)) b.more → (d2 : List Step) → session_steps (point_after p (Cut w c)) ks ≡ d2 ++ s ∷ more → events_of d2 ≡ b.more
+          → ((b : Afterwards M step peek place (point_after p (Cut w c)) xs (before c (steps_of p w)) es n2 ss2) → NotCut (point_after p (Cut w c)) b.more → (d2 : List Step) → session_steps (point_after p (Cut w c)) ks ≡ d2 ++ s ∷ more → events_of d2 ≡ b.more
           → Continues M step peek (point_after p (Cut w c)) (run_each M step peek ms (before c (steps_of p w))) b.more (suc t)) → Continues M step peek p ms es (suc t)
       cut_on answer runs e (inl i) next = cut_inside answer e i
       cut_on answer runs e (inr b) next = by_more b.more refl
@@ -237,11 +237,11 @@ module _ (M : Type 0) (step : M → Act → M) (peek : M → Option (ℕ × Bool
           by_more : (l : List Event) → b.more ≡ l → Continues M step peek p ms es (suc t)
           by_more [] m =
               let left = left_of (before c (steps_of p w)) (session_steps (point_after p (Cut w c)) ks) done (s ∷ more) b.more e (shown ∙ b.shown_so) in
-              pull_next_off answer b m left.behind left.left (left.shown ∙ m)
+              pull_next_off answer b m left.afterwards left.left (left.shown ∙ m)
           by_more (y ∷ ys) m =
               let left = left_of (before c (steps_of p w)) (session_steps (point_after p (Cut w c)) ks) done (s ∷ more) b.more e (shown ∙ b.shown_so) in
               subst (λ (l : List Event). Continues M step peek p ms l (suc t)) (sym b.shown_so)
-              (piece_then M step peek p ms (Cut w c) (suc t) b.more fits answer runs (next b (λ v h none. (let k : y ∷ ys ≡ [] = sym m ∙ none in cc)) left.behind left.left left.shown))
+              (piece_then M step peek p ms (Cut w c) (suc t) b.more fits answer runs (next b (λ v h none. (let k : y ∷ ys ≡ [] = sym m ∙ none in cc)) left.afterwards left.left left.shown))
 
     -- From a point on: an allowed session that begins as the play did, and has the host's next change later.
     pub postpone : (ks : List Piece) (p : Point) (ms : ℕ → M) (xs : List (Station M)) → Here M step peek place p ms xs → Linked p ks → Allowed M step peek p ms ks → {n n2 : ℕ} {ss2 : List (Station M)} {es : List Event} → Plays M step peek n xs es n2 ss2 → (done : List Step) (s : Step) (more : List Step)
@@ -254,51 +254,51 @@ module _ (M : Type 0) (step : M → Act → M) (peek : M → Option (ℕ × Bool
         let host = pull_next M step peek place p at (react_of M step peek place p p.seats xs refl here.stand) ks l.1 in
         let out = pull_out M step peek place p ms xs here at l.0 plays (events_of (s ∷ more)) (events_of tail) (first_events (steps_of p w) tail done (s ∷ more) es e h) host in
         pull_on p ms xs here plays t due tail done s more h who now at l.0 al.1 cut host e out
-        (λ b d2 f g. postpone ks (whole_point p w) (run_each M step peek ms (steps_of p w)) b.there (here_behind M step peek place machine p ms xs here (Full w) l.0 tt b) l.1 al.2 b.plays d2 s more f g who t now due (whole_not_cut p w b.more))
+        (λ b d2 f g. postpone ks (whole_point p w) (run_each M step peek ms (steps_of p w)) b.there (here_after M step peek place machine p ms xs here (Full w) l.0 tt b) l.1 al.2 b.plays d2 s more f g who t now due (whole_not_cut p w b.more))
     postpone (Full (Command f) ∷ ks) p ms xs here l al {n2 = n2} {ss2 = ss2} {es = es} plays done s more e h who t now due cut =
         let w = Command f in
         let tail = session_steps (whole_point p (Command f)) ks in
         let out = hosts_out M step peek place p ms xs here w tt l.0 plays (events_of (s ∷ more)) (events_of tail) (first_events (steps_of p w) tail done (s ∷ more) es e h) in
         host_on p ms xs here plays t due tail done s more h who now w l.0 tt al.1 e (λ front others is shown. absurd (command_never M step peek place p ms xs here plays t due f l.0 front s others is shown who now)) out
-        (λ b d2 f2 g. postpone ks (whole_point p w) (run_each M step peek ms (steps_of p w)) b.there (here_behind M step peek place machine p ms xs here (Full w) l.0 tt b) l.1 al.2 b.plays d2 s more f2 g who t now due (whole_not_cut p w b.more))
+        (λ b d2 f2 g. postpone ks (whole_point p w) (run_each M step peek ms (steps_of p w)) b.there (here_after M step peek place machine p ms xs here (Full w) l.0 tt b) l.1 al.2 b.plays d2 s more f2 g who t now due (whole_not_cut p w b.more))
     postpone (Full (Byte eoi f) ∷ ks) p ms xs here l al {n2 = n2} {ss2 = ss2} {es = es} plays done s more e h who t now due cut =
         let w = Byte eoi f in
         let tail = session_steps (whole_point p (Byte eoi f)) ks in
         let out = hosts_out M step peek place p ms xs here w tt l.0 plays (events_of (s ∷ more)) (events_of tail) (first_events (steps_of p w) tail done (s ∷ more) es e h) in
         host_on p ms xs here plays t due tail done s more h who now w l.0 tt al.1 e (λ front others is shown. absurd (byte_never M step peek place p ms xs here plays t due eoi f l.0 front s others is shown who now)) out
-        (λ b d2 f2 g. postpone ks (whole_point p w) (run_each M step peek ms (steps_of p w)) b.there (here_behind M step peek place machine p ms xs here (Full w) l.0 tt b) l.1 al.2 b.plays d2 s more f2 g who t now due (whole_not_cut p w b.more))
+        (λ b d2 f2 g. postpone ks (whole_point p w) (run_each M step peek ms (steps_of p w)) b.there (here_after M step peek place machine p ms xs here (Full w) l.0 tt b) l.1 al.2 b.plays d2 s more f2 g who t now due (whole_not_cut p w b.more))
     postpone (Full (ToListener at) ∷ ks) p ms xs here l al {n2 = n2} {ss2 = ss2} {es = es} plays done s more e h who t now due cut =
         let w = ToListener at in
         let tail = session_steps (whole_point p (ToListener at)) ks in
         let out = hosts_out M step peek place p ms xs here w tt l.0 plays (events_of (s ∷ more)) (events_of tail) (first_events (steps_of p w) tail done (s ∷ more) es e h) in
         host_on p ms xs here plays t due tail done s more h who now w l.0 tt al.1 e (λ front others is shown. absurd (listener_never M step peek place machine p ms xs here plays t due at l.0 front s others is shown who)) out
-        (λ b d2 f2 g. postpone ks (whole_point p w) (run_each M step peek ms (steps_of p w)) b.there (here_behind M step peek place machine p ms xs here (Full w) l.0 tt b) l.1 al.2 b.plays d2 s more f2 g who t now due (whole_not_cut p w b.more))
+        (λ b d2 f2 g. postpone ks (whole_point p w) (run_each M step peek ms (steps_of p w)) b.there (here_after M step peek place machine p ms xs here (Full w) l.0 tt b) l.1 al.2 b.plays d2 s more f2 g who t now due (whole_not_cut p w b.more))
     postpone (Full (ToNobody at clock) ∷ ks) p ms xs here l al {n2 = n2} {ss2 = ss2} {es = es} plays done s more e h who t now due cut =
         let w = ToNobody at clock in
         let tail = session_steps (whole_point p (ToNobody at clock)) ks in
         let out = hosts_out M step peek place p ms xs here w tt l.0 plays (events_of (s ∷ more)) (events_of tail) (first_events (steps_of p w) tail done (s ∷ more) es e h) in
         host_on p ms xs here plays t due tail done s more h who now w l.0 tt al.1 e (λ front others is shown. nobody_off M step peek place machine p ms xs here plays t due at clock l.0 front s others is shown who now) out
-        (λ b d2 f2 g. postpone ks (whole_point p w) (run_each M step peek ms (steps_of p w)) b.there (here_behind M step peek place machine p ms xs here (Full w) l.0 tt b) l.1 al.2 b.plays d2 s more f2 g who t now due (whole_not_cut p w b.more))
+        (λ b d2 f2 g. postpone ks (whole_point p w) (run_each M step peek ms (steps_of p w)) b.there (here_after M step peek place machine p ms xs here (Full w) l.0 tt b) l.1 al.2 b.plays d2 s more f2 g who t now due (whole_not_cut p w b.more))
     postpone (Full (ToTalker at clock) ∷ ks) p ms xs here l al {n2 = n2} {ss2 = ss2} {es = es} plays done s more e h who t now due cut =
         let w = ToTalker at clock in
         let tail = session_steps (whole_point p (ToTalker at clock)) ks in
         let out = talkers_out M step peek place p ms xs here w None tt l.0 al.0 plays (events_of (s ∷ more)) (self_compat M step peek place machine (steps_of p w) (events_of tail) es (events_of (s ∷ more)) (first_events (steps_of p w) tail done (s ∷ more) es e h)) in
         talk_on p ms xs here plays t due tail done s more h who now w tt l.0 al.0 al.1 e out
-        (λ b d2 f2 g. postpone ks (whole_point p w) (run_each M step peek ms (steps_of p w)) b.there (here_behind M step peek place machine p ms xs here (Full w) l.0 al.0 b) l.1 al.2 b.plays d2 s more f2 g who t now due (whole_not_cut p w b.more))
+        (λ b d2 f2 g. postpone ks (whole_point p w) (run_each M step peek ms (steps_of p w)) b.there (here_after M step peek place machine p ms xs here (Full w) l.0 al.0 b) l.1 al.2 b.plays d2 s more f2 g who t now due (whole_not_cut p w b.more))
     postpone (Full (Nothing at clock freed) ∷ ks) p ms xs here l al {n2 = n2} {ss2 = ss2} {es = es} plays done s more e h who t now due cut =
         let w = Nothing at clock freed in
         let tail = session_steps (whole_point p (Nothing at clock freed)) ks in
         let out = talkers_out M step peek place p ms xs here w None tt l.0 al.0 plays (events_of (s ∷ more)) (self_compat M step peek place machine (steps_of p w) (events_of tail) es (events_of (s ∷ more)) (first_events (steps_of p w) tail done (s ∷ more) es e h)) in
         talk_on p ms xs here plays t due tail done s more h who now w tt l.0 al.0 al.1 e out
-        (λ b d2 f2 g. postpone ks (whole_point p w) (run_each M step peek ms (steps_of p w)) b.there (here_behind M step peek place machine p ms xs here (Full w) l.0 al.0 b) l.1 al.2 b.plays d2 s more f2 g who t now due (whole_not_cut p w b.more))
+        (λ b d2 f2 g. postpone ks (whole_point p w) (run_each M step peek ms (steps_of p w)) b.there (here_after M step peek place machine p ms xs here (Full w) l.0 al.0 b) l.1 al.2 b.plays d2 s more f2 g who t now due (whole_not_cut p w b.more))
     postpone (Full (Talk at f) ∷ ks) p ms xs here l al {n2 = n2} {ss2 = ss2} {es = es} plays done s more e h who t now due cut =
         let w = Talk at f in
         let tail = session_steps (whole_point p (Talk at f)) ks in
         let out = talkers_out M step peek place p ms xs here w None tt l.0 al.0 plays (events_of (s ∷ more)) (self_compat M step peek place machine (steps_of p w) (events_of tail) es (events_of (s ∷ more)) (first_events (steps_of p w) tail done (s ∷ more) es e h)) in
         talk_on p ms xs here plays t due tail done s more h who now w tt l.0 al.0 al.1 e out
-        (λ b d2 f2 g. postpone ks (whole_point p w) (run_each M step peek ms (steps_of p w)) b.there (here_behind M step peek place machine p ms xs here (Full w) l.0 al.0 b) l.1 al.2 b.plays d2 s more f2 g who t now due (whole_not_cut p w b.more))
+        (λ b d2 f2 g. postpone ks (whole_point p w) (run_each M step peek ms (steps_of p w)) b.there (here_after M step peek place machine p ms xs here (Full w) l.0 al.0 b) l.1 al.2 b.plays d2 s more f2 g who t now due (whole_not_cut p w b.more))
     postpone (Cut w c ∷ ks) p ms xs here l al {n2 = n2} {ss2 = ss2} {es = es} plays done s more e h who t now due cut =
         let tail = session_steps (point_after p (Cut w c)) ks in
         let out = talkers_out M step peek place p ms xs here w (Some c) (cut_talks p c w l.0.1) l.0 al.0 plays (events_of (s ∷ more)) (self_compat M step peek place machine (before c (steps_of p w)) (events_of tail) es (events_of (s ∷ more)) (first_events (before c (steps_of p w)) tail done (s ∷ more) es e h)) in
         cut_on p ms xs here plays t due w c ks l.0 l.1 done s more h who now al.0 al.1 e out
-        (λ b fresh d2 f2 g. postpone ks (point_after p (Cut w c)) (run_each M step peek ms (before c (steps_of p w))) b.there (here_behind M step peek place machine p ms xs here (Cut w c) l.0 al.0 b) l.1 al.2 b.plays d2 s more f2 g who t now due fresh)
+        (λ b fresh d2 f2 g. postpone ks (point_after p (Cut w c)) (run_each M step peek ms (before c (steps_of p w))) b.there (here_after M step peek place machine p ms xs here (Cut w c) l.0 al.0 b) l.1 al.2 b.plays d2 s more f2 g who t now due fresh)

@@ -6,7 +6,7 @@ use Rattle.cbm_iec.specs.declared.machine.Act.{Act}
 use Rattle.cbm_iec.specs.declared.party.Party.{Party}
 use Rattle.cbm_session.proofs.among.Points.{AllSound, rest_sound}
 use Rattle.cbm_session.proofs.among.Sessions.{at_rest}
-use Rattle.cbm_session.proofs.headline.AlongBus.{AllBehindIn, RisingIn}
+use Rattle.cbm_session.proofs.headline.AlongBus.{AllComeAfterIn, RisingIn}
 use Rattle.cbm_session.proofs.headline.BusActs.{AllRan}
 use Rattle.cbm_session.proofs.headline.FrameBus.{AllStand}
 use Rattle.cbm_session.proofs.headline.Ties.{PlacedFrom, Placed}
@@ -40,35 +40,35 @@ module _ (M : Type 0) (step : M → Act → M) (peek : M → Option (ℕ × Bool
   own_place : (b : Party) (bs : List Party) → place_in (b ∷ bs) b.device ≡ zero
   own_place b bs = ap (λ (v : Bool). if v then zero else suc (place_in bs b.device)) (eq-eqb b.device b.device refl)
 
-  behind_first : (b : Party) (bs cs : List Party) → Unlike b.device cs → AllBehindIn M step peek mute (place_in (b ∷ bs)) b.device (devices cs)
-  behind_first b bs [] u = tt
-  behind_first b bs (c ∷ cs) u =
+  after_the_first : (b : Party) (bs cs : List Party) → Unlike b.device cs → AllComeAfterIn M step peek mute (place_in (b ∷ bs)) b.device (devices cs)
+  after_the_first b bs [] u = tt
+  after_the_first b bs (c ∷ cs) u =
       let here = own_place b bs in
       let there = other_place b bs c.device (ne_eqb c.device b.device (λ (e : c.device ≡ b.device). u.0 (sym e))) in
-      ((omega (arith, here, there), ne_eqb b.device c.device u.0, ne_eqb c.device b.device (λ (e : c.device ≡ b.device). u.0 (sym e))), behind_first b bs cs u.1)
+      ((omega (arith, here, there), ne_eqb b.device c.device u.0, ne_eqb c.device b.device (λ (e : c.device ≡ b.device). u.0 (sym e))), after_the_first b bs cs u.1)
 
-  behind_more : (b : Party) (bs : List Party) (d : ℕ) (cs : List Party) → nat_eq d b.device ≡ false → Unlike b.device cs → AllBehindIn M step peek mute (place_in bs) d (devices cs) → AllBehindIn M step peek mute (place_in (b ∷ bs)) d (devices cs)
-  behind_more b bs d [] n u h = tt
-  behind_more b bs d (c ∷ cs) n u h =
+  after_some_more : (b : Party) (bs : List Party) (d : ℕ) (cs : List Party) → nat_eq d b.device ≡ false → Unlike b.device cs → AllComeAfterIn M step peek mute (place_in bs) d (devices cs) → AllComeAfterIn M step peek mute (place_in (b ∷ bs)) d (devices cs)
+  after_some_more b bs d [] n u h = tt
+  after_some_more b bs d (c ∷ cs) n u h =
       let one = other_place b bs d n in
       let two = other_place b bs c.device (ne_eqb c.device b.device (λ (e : c.device ≡ b.device). u.0 (sym e))) in
       let under = h.0.0 in
-      ((omega (arith, one, two, under), h.0.1, h.0.2), behind_more b bs d cs n u.1 h.1)
+      ((omega (arith, one, two, under), h.0.1, h.0.2), after_some_more b bs d cs n u.1 h.1)
 
   rises_more : (b : Party) (bs cs : List Party) → Unlike b.device cs → Rises (place_in bs) (devices cs) → Rises (place_in (b ∷ bs)) (devices cs)
   rises_more b bs [] u r = tt
-  rises_more b bs (c ∷ cs) u r = (behind_more b bs c.device cs (ne_eqb c.device b.device (λ (e : c.device ≡ b.device). u.0 (sym e))) u.1 r.0, rises_more b bs cs u.1 r.1)
+  rises_more b bs (c ∷ cs) u r = (after_some_more b bs c.device cs (ne_eqb c.device b.device (λ (e : c.device ≡ b.device). u.0 (sym e))) u.1 r.0, rises_more b bs cs u.1 r.1)
 
   pub bus_rises : (bs : List Party) → AllUnlike bs → Rises (place_in bs) (devices bs)
   bus_rises [] u = tt
-  bus_rises (b ∷ bs) u = (behind_first b bs bs u.0, rises_more b bs bs u.0 (bus_rises bs u.1))
+  bus_rises (b ∷ bs) u = (after_the_first b bs bs u.0, rises_more b bs bs u.0 (bus_rises bs u.1))
 
   -- seats of such devices are placed
   pub rises_placed : (place : ℕ → ℕ) (seats : List Seat) → Rises place (map (λ s. device s) seats) → Placed place seats
   rises_placed place [] r = tt
   rises_placed place (s ∷ ss) r = (from ss r.0, rises_placed place ss r.1)
     where
-      from : (xs : List Seat) → AllBehindIn M step peek mute place (device s) (map (λ s. device s) xs) → PlacedFrom place (place (device s)) xs
+      from : (xs : List Seat) → AllComeAfterIn M step peek mute place (device s) (map (λ s. device s) xs) → PlacedFrom place (place (device s)) xs
       from [] h = tt
       from (x ∷ xs) h = let under = h.0.0 in (omega (arith, under), from xs h.1)
 

@@ -24,14 +24,14 @@ use Rattle.cbm_session.proofs.among.Around.{NotHost}
 use Rattle.cbm_session.proofs.among.Calm.{Every}
 use Rattle.cbm_session.proofs.among.Fronts.{follows_rest}
 use Rattle.cbm_session.proofs.among.Pulls.{clock_held}
-use Rattle.cbm_session.proofs.headline.AlongBus.{other_atn, host_atn, devs, OthersIn, Rising, others_before, others_behind, rising_first, devs_tell, devs_react}
+use Rattle.cbm_session.proofs.headline.AlongBus.{other_atn, host_atn, devs, OthersIn, Rising, others_before, others_after, rising_first, devs_tell, devs_react}
 use Rattle.cbm_session.proofs.headline.BusActs.{HasRun, AllRan, run_on, run_other, mark_acted, own_acted, ran_before, ran_joined, RanOn, ran_then, ran_stays}
 use Rattle.cbm_session.proofs.headline.BusStep.{another}
 use Rattle.cbm_session.proofs.headline.Keeping.{events_append}
 use Rattle.cbm_session.proofs.headline.Meeting.{FirstIs, first_append, first_shown, reaction_events, no_steps}
 use Rattle.cbm_session.proofs.headline.PullSettled.{starting_told, holding_told, held, told_held, start_changes, start_act, start_held, no_change, holds_data_alone, not_own, among_told, other_low, host_stays, settled}
 use Rattle.cbm_session.proofs.reading.OneReading.{is_atn}
-use Rattle.cbm_session.specs.Among.{Rest, wires_of, behind_other, behind_host, CountsFor, FollowsAmong, ends, tells, hears, reacts}
+use Rattle.cbm_session.specs.Among.{Rest, wires_of, after_another, after_the_host, CountsFor, FollowsAmong, ends, tells, hears, reacts}
 use Rattle.cbm_session.specs.Answers.{run_acts}
 use Rattle.cbm_session.specs.Following.{IsInTime, own_steps, reaction_steps}
 use Rattle.cbm_session.specs.Playing.{IsLaterDue, Station, host_event, drive_events, tell, hear, hear_all, react, shown, AllInTime, AllLater, reacting, Plays, stays, change, reaction}
@@ -52,14 +52,14 @@ NextHost m (x ∷ xs) = (x.who ≡ Host) × (m < x.change.moment)
 host_no_drive : (d : ℕ) (w : Who) → w ≡ Host → w ≡ Drive d → ⊥
 host_no_drive d w h k = let e : Host ≡ Drive d = sym h ∙ k in cc
 
--- what is left behind events that two lists have in common
-pub same_behind : (l a b : List Event) → l ++ a ≡ l ++ b → a ≡ b
-same_behind [] a b e = e
-same_behind (x ∷ l) a b e = same_behind l a b (event_tail x x (l ++ a) (l ++ b) e)
+-- what is left after events that two lists have in common
+pub same_after_it : (l a b : List Event) → l ++ a ≡ l ++ b → a ≡ b
+same_after_it [] a b e = e
+same_after_it (x ∷ l) a b e = same_after_it l a b (event_tail x x (l ++ a) (l ++ b) e)
 
 -- the next step of what is followed, where it is another drive's and the drive's own reaction would show; and where it is its own
 heard_next : (says : Option (ℕ × Bool)) {r r2 : Rest} {q q2 : Port} {o t : ℕ} {line : Line} {way : Way} {mark : Mark} {ss : List Step} → FollowsAmong says r q (record { event = event_of (Drive o) t line way; mark = mark } ∷ ss) r2 q2 → nat_eq q.party.device o ≡ false
-    → ((u : ℕ) → port_due q ≡ Some u → reaction_steps u says q ≡ [] → ⊥) → FollowsAmong says (behind_other line way r) (told t (wires_of (behind_other line way r)) q) ss r2 q2
+    → ((u : ℕ) → port_due q ≡ Some u → reaction_steps u says q ≡ [] → ⊥) → FollowsAmong says (after_another line way r) (told t (wires_of (after_another line way r)) q) ss r2 q2
 heard_next says (hears a i k f) n some = f
 heard_next says {q = q} {o = o} {t = t} {line = line} {way = way} {mark = mark} {ss = ss} (reacts u more d e sh l f) n some =
     let s : Step = record { event = event_of (Drive o) t line way; mark = mark } in
@@ -133,28 +133,28 @@ module _ (M : Type 0) (step : M → Act → M) (peek : M → Option (ℕ × Bool
   AllOf P (x ∷ xs) [] = ⊥
   AllOf P (x ∷ xs) (e ∷ es) = P x e × AllOf P xs es
 
-  pub record PartsOf (P : Station M → Rest × Port → Type 0) (before : List (Station M)) (o : Station M) (behind : List (Station M)) (es : List (Rest × Port)) : Type 0 where
+  pub record PartsOf (P : Station M → Rest × Port → Type 0) (before : List (Station M)) (o : Station M) (afterwards : List (Station M)) (es : List (Rest × Port)) : Type 0 where
     pub first : List (Rest × Port)
     pub own : Rest × Port
     pub last : List (Rest × Port)
     pub is : es ≡ first ++ own ∷ last
     pub all_first : AllOf P before first
     pub one : P o own
-    pub all_last : AllOf P behind last
+    pub all_last : AllOf P afterwards last
 
-  pub parts_of : (P : Station M → Rest × Port → Type 0) (before : List (Station M)) (o : Station M) (behind : List (Station M)) (es : List (Rest × Port)) → AllOf P (before ++ o ∷ behind) es → PartsOf P before o behind es
-  parts_of P [] o behind [] h = elim h [ ]
-  parts_of P [] o behind (e ∷ es) h = record { first = []; own = e; last = es; is = refl; all_first = tt; one = h.0; all_last = h.1 }
-  parts_of P (b ∷ before) o behind [] h = elim h [ ]
-  parts_of P (b ∷ before) o behind (e ∷ es) h =
-      let k = parts_of P before o behind es h.1 in
+  pub parts_of : (P : Station M → Rest × Port → Type 0) (before : List (Station M)) (o : Station M) (afterwards : List (Station M)) (es : List (Rest × Port)) → AllOf P (before ++ o ∷ afterwards) es → PartsOf P before o afterwards es
+  parts_of P [] o afterwards [] h = elim h [ ]
+  parts_of P [] o afterwards (e ∷ es) h = record { first = []; own = e; last = es; is = refl; all_first = tt; one = h.0; all_last = h.1 }
+  parts_of P (b ∷ before) o afterwards [] h = elim h [ ]
+  parts_of P (b ∷ before) o afterwards (e ∷ es) h =
+      let k = parts_of P before o afterwards es h.1 in
       record { first = e ∷ k.first; own = k.own; last = k.last; is = ap (λ (v : List (Rest × Port)). e ∷ v) k.is; all_first = (h.0, k.all_first); one = k.one; all_last = k.all_last }
 
-  all_joined : (P : Station M → Rest × Port → Type 0) (before : List (Station M)) (o : Station M) (behind : List (Station M)) (first last : List (Rest × Port)) (own : Rest × Port) → AllOf P before first → P o own → AllOf P behind last → AllOf P (before ++ o ∷ behind) (first ++ own ∷ last)
-  all_joined P [] o behind [] last own a b c = (b, c)
-  all_joined P [] o behind (f ∷ first) last own a b c = elim a [ ]
-  all_joined P (x ∷ before) o behind [] last own a b c = elim a [ ]
-  all_joined P (x ∷ before) o behind (f ∷ first) last own a b c = (a.0, all_joined P before o behind first last own a.1 b c)
+  all_joined : (P : Station M → Rest × Port → Type 0) (before : List (Station M)) (o : Station M) (afterwards : List (Station M)) (first last : List (Rest × Port)) (own : Rest × Port) → AllOf P before first → P o own → AllOf P afterwards last → AllOf P (before ++ o ∷ afterwards) (first ++ own ∷ last)
+  all_joined P [] o afterwards [] last own a b c = (b, c)
+  all_joined P [] o afterwards (f ∷ first) last own a b c = elim a [ ]
+  all_joined P (x ∷ before) o afterwards [] last own a b c = elim a [ ]
+  all_joined P (x ∷ before) o afterwards (f ∷ first) last own a b c = (a.0, all_joined P before o afterwards first last own a.1 b c)
 
   all_map : (P Q : Station M → Rest × Port → Type 0) (f : Station M → Station M) (xs : List (Station M)) (es : List (Rest × Port)) → ((x : Station M) (e : Rest × Port) → P x e → Q (f x) e) → AllOf P xs es → AllOf Q (map f xs) es
   all_map P Q f [] [] g h = tt
@@ -174,19 +174,19 @@ module _ (M : Type 0) (step : M → Act → M) (peek : M → Option (ℕ × Bool
   unheard [] = refl
   unheard (x ∷ xs) = ap (λ (v : List (Station M)). x ∷ v) (unheard xs)
 
-  silent_reacting : (t : ℕ) (before : List (Station M)) (o : Station M) (behind : List (Station M)) → shown M step peek t o ≡ [] → reacting M step peek t before o behind ≡ before ++ react M step peek t o ∷ behind
-  silent_reacting t before o behind e =
-      ap (λ (cs : List Change). map (λ x. hear_all M step peek cs x) before ++ react M step peek t o ∷ map (λ x. hear_all M step peek cs x) behind) e
-      ∙ ap (λ (v : List (Station M)). v ++ react M step peek t o ∷ map (λ x. hear_all M step peek [] x) behind) (unheard before)
-      ∙ ap (λ (v : List (Station M)). before ++ react M step peek t o ∷ v) (unheard behind)
+  silent_reacting : (t : ℕ) (before : List (Station M)) (o : Station M) (afterwards : List (Station M)) → shown M step peek t o ≡ [] → reacting M step peek t before o afterwards ≡ before ++ react M step peek t o ∷ afterwards
+  silent_reacting t before o afterwards e =
+      ap (λ (cs : List Change). map (λ x. hear_all M step peek cs x) before ++ react M step peek t o ∷ map (λ x. hear_all M step peek cs x) afterwards) e
+      ∙ ap (λ (v : List (Station M)). v ++ react M step peek t o ∷ map (λ x. hear_all M step peek [] x) afterwards) (unheard before)
+      ∙ ap (λ (v : List (Station M)). before ++ react M step peek t o ∷ v) (unheard afterwards)
 
   -- where its reaction has no act the machine stays
-  silent_ran : (t : ℕ) (before : List (Station M)) (o : Station M) (behind : List (Station M)) → (reaction_act (peek o.machine) o.port ≡ None) → RanOn M step peek (before ++ o ∷ behind) [] (before ++ react M step peek t o ∷ behind)
-  silent_ran t before o behind none = record {
+  silent_ran : (t : ℕ) (before : List (Station M)) (o : Station M) (afterwards : List (Station M)) → (reaction_act (peek o.machine) o.port ≡ None) → RanOn M step peek (before ++ o ∷ afterwards) [] (before ++ react M step peek t o ∷ afterwards)
+  silent_ran t before o afterwards none = record {
     runs = λ ms done h.
-        let k = ran_before M step peek ms done before o behind h in
+        let k = ran_before M step peek ms done before o afterwards h in
         let same : (react M step peek t o).machine ≡ o.machine = ap (λ (v : Option Act). acted M step v o.machine) none in
-        subst (λ (v : List Step). AllRan M step peek ms v (before ++ react M step peek t o ∷ behind)) (sym (no_end done)) (ran_joined M step peek ms done before (react M step peek t o) behind k.0 (same ∙ k.1) k.2);
+        subst (λ (v : List Step). AllRan M step peek ms v (before ++ react M step peek t o ∷ afterwards)) (sym (no_end done)) (ran_joined M step peek ms done before (react M step peek t o) afterwards k.0 (same ∙ k.1) k.2);
   }
     where
       no_end : (l : List Step) → l ++ [] ≡ l
@@ -203,25 +203,25 @@ module _ (M : Type 0) (step : M → Act → M) (peek : M → Option (ℕ × Bool
   hear_pulled o c mark ys x e n h = by h.stand
     where
       now : Rest
-      now = behind_other c.line c.way x.rest
+      now = after_another c.line c.way x.rest
 
-      low2 : (behind_other c.line c.way x.rest).host.clock_low ≡ true
+      low2 : (after_another c.line c.way x.rest).host.clock_low ≡ true
       low2 = other_low c.line c.way x.rest h.low
 
-      same_atn : (wires_of (behind_other c.line c.way x.rest)).atn_low ≡ (wires_of x.rest).atn_low
+      same_atn : (wires_of (after_another c.line c.way x.rest)).atn_low ≡ (wires_of x.rest).atn_low
       same_atn = other_atn c.line c.way x.rest
 
       side_rests : (x.port.side ≡ Hearing Holding) ⊎ ((u : ℕ) × Starts x u)
-          → (((told c.moment (wires_of (behind_other c.line c.way x.rest)) x.port).side ≡ Hearing Holding) ⊎ ((u : ℕ) × Starts (hear M step peek c x) u)) × (told_act (wires_of (behind_other c.line c.way x.rest)) x.port ≡ None)
-      side_rests (inl k) = let t = holding_told c.moment x.rest (behind_other c.line c.way x.rest) x.port h.seen same_atn (clock_held x.rest h.low) (clock_held (behind_other c.line c.way x.rest) low2) k in (inl t.0, t.1)
+          → (((told c.moment (wires_of (after_another c.line c.way x.rest)) x.port).side ≡ Hearing Holding) ⊎ ((u : ℕ) × Starts (hear M step peek c x) u)) × (told_act (wires_of (after_another c.line c.way x.rest)) x.port ≡ None)
+      side_rests (inl k) = let t = holding_told c.moment x.rest (after_another c.line c.way x.rest) x.port h.seen same_atn (clock_held x.rest h.low) (clock_held (after_another c.line c.way x.rest) low2) k in (inl t.0, t.1)
       side_rests (inr k) =
-          let t = starting_told c.moment k.0 x.rest (behind_other c.line c.way x.rest) x.port h.seen same_atn k.1.side in
+          let t = starting_told c.moment k.0 x.rest (after_another c.line c.way x.rest) x.port h.seen same_atn k.1.side in
           (inr (k.0, record { side = t.0; later = k.1.later; soon = k.1.soon }), t.1)
 
       by : Shows x (record { event = event_of (Drive o) c.moment c.line c.way; mark = mark } ∷ ys) e ⊎ Rests x (record { event = event_of (Drive o) c.moment c.line c.way; mark = mark } ∷ ys) e
           → Pulled (hear M step peek c x) ys e × ((hear M step peek c x).machine ≡ x.machine)
       by (inl k) =
-          let t = starting_told c.moment k.due x.rest (behind_other c.line c.way x.rest) x.port h.seen same_atn k.starts.side in
+          let t = starting_told c.moment k.due x.rest (after_another c.line c.way x.rest) x.port h.seen same_atn k.starts.side in
           let some : (u : ℕ) → port_due x.port ≡ Some u → reaction_steps u (says (device_of x)) x.port ≡ [] → ⊥ = λ u d. no_steps u (says (device_of x)) x.port (some_shown u k.due (says (device_of x)) x.port k.starts.side k.other) in (
             record {
               seen = refl;
@@ -234,12 +234,12 @@ module _ (M : Type 0) (step : M → Act → M) (peek : M → Option (ℕ × Bool
       by (inr k) =
           let t = side_rests k.side in
           let f = heard_next (says (device_of x)) k.follows n (λ u d. absurd cc) in
-          let two = told_held c.moment x.rest (behind_other c.line c.way x.rest) x.port h.seen same_atn (clock_held x.rest h.low) (clock_held (behind_other c.line c.way x.rest) low2) in (
+          let two = told_held c.moment x.rest (after_another c.line c.way x.rest) x.port h.seen same_atn (clock_held x.rest h.low) (clock_held (after_another c.line c.way x.rest) low2) in (
             record {
               seen = refl;
               low = low2;
               end = h.end;
-              stand = inr (record { side = t.0; own = k.own; follows = subst (λ (v : Port). FollowsAmong (says (device_of x)) (behind_other c.line c.way x.rest) v ys e.0 e.1) two.0 f });
+              stand = inr (record { side = t.0; own = k.own; follows = subst (λ (v : Port). FollowsAmong (says (device_of x)) (after_another c.line c.way x.rest) v ys e.0 e.1) two.0 f });
             },
             ap (λ (v : Option Act). acted M step v x.machine) t.1,
           )
@@ -297,7 +297,7 @@ module _ (M : Type 0) (step : M → Act → M) (peek : M → Option (ℕ × Bool
     pub ends : AllOf (λ x e. (x.rest ≡ e.0) × (x.port ≡ e.1)) there fin
     pub ran : RanOn M step peek from ys there
 
-  -- behind all answers each stands where it should, once nothing is due before a later change of the host
+  -- after all answers each stands where it should, once nothing is due before a later change of the host
   all_ended : (m : ℕ) (xs : List (Station M)) (es : List (Rest × Port)) → AllOf (λ x e. Pulled x [] e) xs es → AllInTime M step peek m xs → at + 60 < m → AllOf (λ x e. (x.rest ≡ e.0) × (x.port ≡ e.1)) xs es
   all_ended m [] [] h i l = tt
   all_ended m [] (e ∷ es) h i l = elim h [ ]
@@ -397,63 +397,63 @@ module _ (M : Type 0) (step : M → Act → M) (peek : M → Option (ℕ × Bool
   no_host_first d t m [] n f = f
   no_host_first d t m (x ∷ xs) n f = host_no_drive d x.who n.0 f.0
 
-  drives_behind : (xs ys : List Step) → Every (λ s. NotHost s.event.who) (xs ++ ys) → Every (λ s. NotHost s.event.who) ys
-  drives_behind [] ys a = a
-  drives_behind (x ∷ xs) ys a = drives_behind xs ys a.1
+  drives_following : (xs ys : List Step) → Every (λ s. NotHost s.event.who) (xs ++ ys) → Every (λ s. NotHost s.event.who) ys
+  drives_following [] ys a = a
+  drives_following (x ∷ xs) ys a = drives_following xs ys a.1
 
   not_host_drive : (w : Who) → NotHost w → w ≡ Host → ⊥
   not_host_drive Host n e = n
   not_host_drive (Drive o) n e = cc
 
-  -- behind a reaction: what all stand like, and that the devices still rise
-  record Reacting (t : ℕ) (before : List (Station M)) (o : Station M) (behind : List (Station M)) (ys : List Step) (es : List (Rest × Port)) : Type 0 where
+  -- after a reaction: what all stand like, and that the devices still rise
+  record Reacting (t : ℕ) (before : List (Station M)) (o : Station M) (afterwards : List (Station M)) (ys : List Step) (es : List (Rest × Port)) : Type 0 where
     own : List Step
     more : List Step
     steps : ys ≡ own ++ more
     events : events_of own ≡ drive_events (device_of o) (shown M step peek t o)
-    pulled : AllOf (λ x e. Pulled x more e) (reacting M step peek t before o behind) es
-    ran : RanOn M step peek (before ++ o ∷ behind) own (reacting M step peek t before o behind)
+    pulled : AllOf (λ x e. Pulled x more e) (reacting M step peek t before o afterwards) es
+    ran : RanOn M step peek (before ++ o ∷ afterwards) own (reacting M step peek t before o afterwards)
 
-  reacts_silent : (t : ℕ) (before : List (Station M)) (o : Station M) (behind : List (Station M)) (ys : List Step) (es : List (Rest × Port)) → port_due o.port ≡ Some t → (k : PartsOf (λ x e. Pulled x ys e) before o behind es) → Rests o ys k.own → Reacting t before o behind ys es
-  reacts_silent t before o behind ys es d k r =
+  reacts_silent : (t : ℕ) (before : List (Station M)) (o : Station M) (afterwards : List (Station M)) (ys : List Step) (es : List (Rest × Port)) → port_due o.port ≡ Some t → (k : PartsOf (λ x e. Pulled x ys e) before o afterwards es) → Rests o ys k.own → Reacting t before o afterwards ys es
+  reacts_silent t before o afterwards ys es d k r =
       let a = answered t o ys k.own k.one r d in
-      let is = silent_reacting t before o behind a.0 in
+      let is = silent_reacting t before o afterwards a.0 in
       record {
         own = [];
         more = ys;
         steps = refl;
         events = ap (λ (v : List Change). drive_events (device_of o) v) (sym a.0);
         pulled = subst (λ (v : List (Station M)). AllOf (λ x e. Pulled x ys e) v es) (sym is)
-            (subst (λ (v : List (Rest × Port)). AllOf (λ x e. Pulled x ys e) (before ++ react M step peek t o ∷ behind) v) (sym k.is) (all_joined (λ x e. Pulled x ys e) before (react M step peek t o) behind k.first k.last k.own k.all_first a.2 k.all_last));
-        ran = subst (λ (v : List (Station M)). RanOn M step peek (before ++ o ∷ behind) [] v) (sym is) (silent_ran t before o behind a.1);
+            (subst (λ (v : List (Rest × Port)). AllOf (λ x e. Pulled x ys e) (before ++ react M step peek t o ∷ afterwards) v) (sym k.is) (all_joined (λ x e. Pulled x ys e) before (react M step peek t o) afterwards k.first k.last k.own k.all_first a.2 k.all_last));
+        ran = subst (λ (v : List (Station M)). RanOn M step peek (before ++ o ∷ afterwards) [] v) (sym is) (silent_ran t before o afterwards a.1);
       }
 
-  reacts_shown : (t : ℕ) (before : List (Station M)) (o : Station M) (behind : List (Station M)) (ys : List Step) (es : List (Rest × Port)) → Rising M step peek says place (before ++ o ∷ behind) → (k : PartsOf (λ x e. Pulled x ys e) before o behind es) → Answers t o ys k.own → Reacting t before o behind ys es
-  reacts_shown t before o behind ys es rising k a =
+  reacts_shown : (t : ℕ) (before : List (Station M)) (o : Station M) (afterwards : List (Station M)) (ys : List Step) (es : List (Rest × Port)) → Rising M step peek says place (before ++ o ∷ afterwards) → (k : PartsOf (λ x e. Pulled x ys e) before o afterwards es) → Answers t o ys k.own → Reacting t before o afterwards ys es
+  reacts_shown t before o afterwards ys es rising k a =
       let d = device_of o in
       let cs = shown M step peek t o in
       let own = own_steps d cs None in
-      let before_o = others_before M step peek says place before o behind rising in
-      let behind_o = others_behind M step peek says place d behind (rising_first M step peek says place before o behind rising) in
+      let before_o = others_before M step peek says place before o afterwards rising in
+      let after_o = others_after M step peek says place d afterwards (rising_first M step peek says place before o afterwards rising) in
       let first : AllOf (λ x e. Pulled x (own ++ a.more) e) before k.first = subst (λ (v : List Step). AllOf (λ x e. Pulled x v e) before k.first) a.steps k.all_first in
-      let last : AllOf (λ x e. Pulled x (own ++ a.more) e) behind k.last = subst (λ (v : List Step). AllOf (λ x e. Pulled x v e) behind k.last) a.steps k.all_last in
+      let last : AllOf (λ x e. Pulled x (own ++ a.more) e) afterwards k.last = subst (λ (v : List Step). AllOf (λ x e. Pulled x v e) afterwards k.last) a.steps k.all_last in
       let hear = λ (x : Station M) (e : Rest × Port) (n : nat_eq (device_of x) d ≡ false) (h : Pulled x (own ++ a.more) e). (hear_steps d cs a.more x e a.some n h).0 in
       record {
         own = own;
         more = a.more;
         steps = a.steps;
         events = a.events;
-        pulled = subst (λ (v : List (Rest × Port)). AllOf (λ x e. Pulled x a.more e) (reacting M step peek t before o behind) v) (sym k.is)
-            (all_joined (λ x e. Pulled x a.more e) (map (λ x. hear_all M step peek cs x) before) (react M step peek t o) (map (λ x. hear_all M step peek cs x) behind) k.first k.last k.own
+        pulled = subst (λ (v : List (Rest × Port)). AllOf (λ x e. Pulled x a.more e) (reacting M step peek t before o afterwards) v) (sym k.is)
+            (all_joined (λ x e. Pulled x a.more e) (map (λ x. hear_all M step peek cs x) before) (react M step peek t o) (map (λ x. hear_all M step peek cs x) afterwards) k.first k.last k.own
             (all_others (λ x e. Pulled x (own ++ a.more) e) (λ x e. Pulled x a.more e) (λ x. hear_all M step peek cs x) d before k.first hear before_o first) a.there
-            (all_others (λ x e. Pulled x (own ++ a.more) e) (λ x e. Pulled x a.more e) (λ x. hear_all M step peek cs x) d behind k.last hear behind_o last));
+            (all_others (λ x e. Pulled x (own ++ a.more) e) (λ x e. Pulled x a.more e) (λ x. hear_all M step peek cs x) d afterwards k.last hear after_o last));
         ran = record {
           runs = λ ms done h.
-              let r = ran_before M step peek ms done before o behind h in
+              let r = ran_before M step peek ms done before o afterwards h in
               let mine : HasRun M step peek ms (done ++ own) (react M step peek t o) =
               ap (λ (v : Option Act). acted M step v o.machine) a.silent ∙ run_on M step peek o.machine (ms d) d done own None r.1 (λ x. own_acted M step peek d cs None x a.some) in
-              ran_joined M step peek ms (done ++ own) (map (λ x. hear_all M step peek cs x) before) (react M step peek t o) (map (λ x. hear_all M step peek cs x) behind)
-              (heard_ran ms done d cs a.more before k.first a.some before_o first r.0) mine (heard_ran ms done d cs a.more behind k.last a.some behind_o last r.2);
+              ran_joined M step peek ms (done ++ own) (map (λ x. hear_all M step peek cs x) before) (react M step peek t o) (map (λ x. hear_all M step peek cs x) afterwards)
+              (heard_ran ms done d cs a.more before k.first a.some before_o first r.0) mine (heard_ran ms done d cs a.more afterwards k.last a.some after_o last r.2);
         };
       }
 
@@ -469,19 +469,19 @@ module _ (M : Type 0) (step : M → Act → M) (peek : M → Option (ℕ × Bool
   along_drives {n} {n2} {ss} {ss2} {es} (change c moreE b l i e p) (y ∷ ys) fin g a r rest more j next =
       let same : host_event c ∷ (moreE ++ rest) ≡ y.event ∷ (events_of ys ++ more) = sym (ap (λ (v : List Event). v ++ rest) e) ∙ j in
       absurd (not_host_drive y.event.who a.0 (ap (λ (v : Event). v.who) (sym (event_head (host_event c) y.event (moreE ++ rest) (events_of ys ++ more) same))))
-  along_drives {n} {n2} {ss} {ss2} {es} (reaction t before o behind moreE b u f e p) ys fin g a r rest more j next =
-      let g2 : AllOf (λ x e. Pulled x ys e) (before ++ o ∷ behind) fin = subst (λ (v : List (Station M)). AllOf (λ x e. Pulled x ys e) v fin) u g in
-      let r2 : Rising M step peek says place (before ++ o ∷ behind) = subst (λ (v : List (Station M)). Rising M step peek says place v) u r in
-      let k = parts_of (λ x e. Pulled x ys e) before o behind fin g2 in
-      let keep = devs_react M step peek says place t before o behind in
+  along_drives {n} {n2} {ss} {ss2} {es} (reaction t before o afterwards moreE b u f e p) ys fin g a r rest more j next =
+      let g2 : AllOf (λ x e. Pulled x ys e) (before ++ o ∷ afterwards) fin = subst (λ (v : List (Station M)). AllOf (λ x e. Pulled x ys e) v fin) u g in
+      let r2 : Rising M step peek says place (before ++ o ∷ afterwards) = subst (λ (v : List (Station M)). Rising M step peek says place v) u r in
+      let k = parts_of (λ x e. Pulled x ys e) before o afterwards fin g2 in
+      let keep = devs_react M step peek says place t before o afterwards in
       let same : drive_events (device_of o) (shown M step peek t o) ++ (moreE ++ rest) ≡ events_of ys ++ more = sym (append_assoc (drive_events (device_of o) (shown M step peek t o)) moreE rest) ∙ sym (ap (λ (v : List Event). v ++ rest) e) ∙ j in
-      let go : (z : Reacting t before o behind ys fin) → PullWithin (reacting M step peek t before o behind) z.more fin moreE ss2 ⊎ PullPassed (reacting M step peek t before o behind) z.more fin moreE n2 ss2 =
-      λ z. along_drives p z.more fin z.pulled (drives_behind z.own z.more (subst (λ (v : List Step). Every (λ s. NotHost s.event.who) v) z.steps a)) (subst (λ (v : List ℕ). Rattle.cbm_session.proofs.headline.AlongBus.RisingIn M step peek says place v) (sym keep) r2) rest more
-      (same_behind (drive_events (device_of o) (shown M step peek t o)) (moreE ++ rest) (events_of z.more ++ more) (same ∙ ap (λ (v : List Step). events_of v ++ more) z.steps ∙ ap (λ (v : List Event). v ++ more) (events_append z.own z.more) ∙ append_assoc (events_of z.own) (events_of z.more) more ∙ ap (λ (v : List Event). v ++ (events_of z.more ++ more)) z.events)) next in
+      let go : (z : Reacting t before o afterwards ys fin) → PullWithin (reacting M step peek t before o afterwards) z.more fin moreE ss2 ⊎ PullPassed (reacting M step peek t before o afterwards) z.more fin moreE n2 ss2 =
+      λ z. along_drives p z.more fin z.pulled (drives_following z.own z.more (subst (λ (v : List Step). Every (λ s. NotHost s.event.who) v) z.steps a)) (subst (λ (v : List ℕ). Rattle.cbm_session.proofs.headline.AlongBus.RisingIn M step peek says place v) (sym keep) r2) rest more
+      (same_after_it (drive_events (device_of o) (shown M step peek t o)) (moreE ++ rest) (events_of z.more ++ more) (same ∙ ap (λ (v : List Step). events_of v ++ more) z.steps ∙ ap (λ (v : List Event). v ++ more) (events_append z.own z.more) ∙ append_assoc (events_of z.own) (events_of z.more) more ∙ ap (λ (v : List Event). v ++ (events_of z.more ++ more)) z.events)) next in
       let z = next_of ys k same f.due r2 next in
       joined z (go z)
     where
-      joined : (z : Reacting t before o behind ys fin) → PullWithin (reacting M step peek t before o behind) z.more fin moreE ss2 ⊎ PullPassed (reacting M step peek t before o behind) z.more fin moreE n2 ss2 → PullWithin ss ys fin es ss2 ⊎ PullPassed ss ys fin es n2 ss2
+      joined : (z : Reacting t before o afterwards ys fin) → PullWithin (reacting M step peek t before o afterwards) z.more fin moreE ss2 ⊎ PullPassed (reacting M step peek t before o afterwards) z.more fin moreE n2 ss2 → PullWithin ss ys fin es ss2 ⊎ PullPassed ss ys fin es n2 ss2
       joined z (inl w) = inl (record {
         front = z.own ++ w.front;
         back = w.back;
@@ -498,21 +498,21 @@ module _ (M : Type 0) (step : M → Act → M) (peek : M → Option (ℕ × Bool
             ∙ sym (append_assoc (events_of z.own) (events_of z.more) w.more) ∙ ap (λ (v : List Event). v ++ w.more) (sym (events_append z.own z.more)) ∙ ap (λ (v : List Step). events_of v ++ w.more) (sym z.steps);
         plays = w.plays;
         ends = w.ends;
-        ran = subst (λ (v : List (Station M)). RanOn M step peek v ys w.there) (sym u) (subst (λ (v : List Step). RanOn M step peek (before ++ o ∷ behind) v w.there) (sym z.steps) (ran_then M step peek z.ran w.ran));
+        ran = subst (λ (v : List (Station M)). RanOn M step peek v ys w.there) (sym u) (subst (λ (v : List Step). RanOn M step peek (before ++ o ∷ afterwards) v w.there) (sym z.steps) (ran_then M step peek z.ran w.ran));
       })
 
-      by_stand : (ys : List Step) (k : PartsOf (λ x e. Pulled x ys e) before o behind fin) → FirstIs (device_of o) t (events_of ys ++ more) → port_due o.port ≡ Some t → Rising M step peek says place (before ++ o ∷ behind) → NextHost (at + 60) more → Shows o ys k.own → Reacting t before o behind ys fin
+      by_stand : (ys : List Step) (k : PartsOf (λ x e. Pulled x ys e) before o afterwards fin) → FirstIs (device_of o) t (events_of ys ++ more) → port_due o.port ≡ Some t → Rising M step peek says place (before ++ o ∷ afterwards) → NextHost (at + 60) more → Shows o ys k.own → Reacting t before o afterwards ys fin
       by_stand [] k first d rising n s = absurd (no_host_first (device_of o) t (at + 60) more n first)
-      by_stand (y ∷ ys) k first d rising n s = reacts_shown t before o behind (y ∷ ys) fin rising k (shows_next t o y ys k.own k.one s d (own_step_first (device_of o) t y ys more first))
+      by_stand (y ∷ ys) k first d rising n s = reacts_shown t before o afterwards (y ∷ ys) fin rising k (shows_next t o y ys k.own k.one s d (own_step_first (device_of o) t y ys more first))
 
-      next_of : (ys : List Step) (k : PartsOf (λ x e. Pulled x ys e) before o behind fin) → drive_events (device_of o) (shown M step peek t o) ++ (moreE ++ rest) ≡ events_of ys ++ more → port_due o.port ≡ Some t → Rising M step peek says place (before ++ o ∷ behind) → NextHost (at + 60) more → Reacting t before o behind ys fin
+      next_of : (ys : List Step) (k : PartsOf (λ x e. Pulled x ys e) before o afterwards fin) → drive_events (device_of o) (shown M step peek t o) ++ (moreE ++ rest) ≡ events_of ys ++ more → port_due o.port ≡ Some t → Rising M step peek says place (before ++ o ∷ afterwards) → NextHost (at + 60) more → Reacting t before o afterwards ys fin
       next_of ys k same d rising n = go k.one.stand
         where
-          go : Shows o ys k.own ⊎ Rests o ys k.own → Reacting t before o behind ys fin
+          go : Shows o ys k.own ⊎ Rests o ys k.own → Reacting t before o afterwards ys fin
           go (inl s) =
               let some : shown M step peek t o ≡ [] → ⊥ = some_shown t s.due (peek o.machine) o.port s.starts.side s.other in
               by_stand ys k (subst (λ (v : List Event). FirstIs (device_of o) t v) same (shows_own t o (moreE ++ rest) some)) d rising n s
-          go (inr s) = reacts_silent t before o behind ys fin d k s
+          go (inr s) = reacts_silent t before o afterwards ys fin d k s
 
   -- A drive that the pull reached, also where the host's other changes of that moment don't come.
   abbrev pub Reached : Station M → Type 0
@@ -578,13 +578,13 @@ module _ (M : Type 0) (step : M → Act → M) (peek : M → Option (ℕ × Bool
       let changes : shown M step peek t x ≡ changes_between t q.own (lines q.own.clock_low false) = ap (λ (v : Side). changes_between t q.own (side_held q.party.pace (peek x.machine) q.own v)) k.1.0 in
       absurd (freeing_shows t q.own k.1.2 (sym changes ∙ e))
 
-  reached_parts : (before : List (Station M)) (o : Station M) (behind : List (Station M)) → AllReached (before ++ o ∷ behind) → AllReached before × Reached o × AllReached behind
-  reached_parts [] o behind h = (tt, h.0, h.1)
-  reached_parts (b ∷ before) o behind h = let k = reached_parts before o behind h.1 in ((h.0, k.0), k.1, k.2)
+  reached_parts : (before : List (Station M)) (o : Station M) (afterwards : List (Station M)) → AllReached (before ++ o ∷ afterwards) → AllReached before × Reached o × AllReached afterwards
+  reached_parts [] o afterwards h = (tt, h.0, h.1)
+  reached_parts (b ∷ before) o afterwards h = let k = reached_parts before o afterwards h.1 in ((h.0, k.0), k.1, k.2)
 
-  reached_joined : (before : List (Station M)) (o : Station M) (behind : List (Station M)) → AllReached before → Reached o → AllReached behind → AllReached (before ++ o ∷ behind)
-  reached_joined [] o behind a b c = (b, c)
-  reached_joined (x ∷ before) o behind a b c = (a.0, reached_joined before o behind a.1 b c)
+  reached_joined : (before : List (Station M)) (o : Station M) (afterwards : List (Station M)) → AllReached before → Reached o → AllReached afterwards → AllReached (before ++ o ∷ afterwards)
+  reached_joined [] o afterwards a b c = (b, c)
+  reached_joined (x ∷ before) o afterwards a b c = (a.0, reached_joined before o afterwards a.1 b c)
 
   -- Where a change of the host at the pull's moment is the next one and that moment is over, nothing more shows.
   pub no_more : {n n2 : ℕ} {ss ss2 : List (Station M)} {es : List Event} → Plays M step peek n ss es n2 ss2 → at < n → AllReached ss → (x : Event) (tail rest : List Event) → x.who ≡ Host → x.change.moment ≡ at → es ++ rest ≡ x ∷ tail
@@ -594,8 +594,8 @@ module _ (M : Type 0) (step : M → Act → M) (peek : M → Option (ℕ × Bool
       let same : host_event c ∷ (more ++ rest) ≡ x ∷ tail = sym (ap (λ (v : List Event). v ++ rest) e) ∙ j in
       let now : c.moment ≡ at = ap (λ (v : Event). v.change.moment) (event_head (host_event c) x (more ++ rest) tail same) ∙ m in
       absurd (omega (arith, late, l, now))
-  no_more {ss = ss} {ss2 = ss2} {es = es} (reaction t before o behind more b u f e p) l g x tail rest w m j =
-      let g2 = reached_parts before o behind (subst (λ (v : List (Station M)). AllReached v) u g) in
+  no_more {ss = ss} {ss2 = ss2} {es = es} (reaction t before o afterwards more b u f e p) l g x tail rest w m j =
+      let g2 = reached_parts before o afterwards (subst (λ (v : List (Station M)). AllReached v) u g) in
       let go : (cs : List Change) → shown M step peek t o ≡ cs → (es ≡ []) × AllReached ss2 × RanOn M step peek ss [] ss2 = by_changes g2 (λ i s. no_more p (late_now g2.1 f.due) i x tail rest w m s) in
       go (shown M step peek t o) refl
     where
@@ -604,14 +604,14 @@ module _ (M : Type 0) (step : M → Act → M) (peek : M → Option (ℕ × Bool
       late_now (inr (inl k)) d = let c : Some t ≡ None = sym d ∙ k in absurd cc
       late_now (inr (inr k)) d = let s : Some t ≡ Some k.0 = sym d ∙ ap (λ (v : Side). side_due v) k.1.0 in let n : t ≡ k.0 = cc in let a = k.1.1 in omega (arith, n, a)
 
-      by_changes : AllReached before × Reached o × AllReached behind → (AllReached (reacting M step peek t before o behind) → more ++ rest ≡ x ∷ tail → (more ≡ []) × AllReached ss2 × RanOn M step peek (reacting M step peek t before o behind) [] ss2)
+      by_changes : AllReached before × Reached o × AllReached afterwards → (AllReached (reacting M step peek t before o afterwards) → more ++ rest ≡ x ∷ tail → (more ≡ []) × AllReached ss2 × RanOn M step peek (reacting M step peek t before o afterwards) [] ss2)
           → (cs : List Change) → shown M step peek t o ≡ cs → (es ≡ []) × AllReached ss2 × RanOn M step peek ss [] ss2
       by_changes g next [] k =
           let a = silent_reached t o g.1 f.due k in
-          let is = silent_reacting t before o behind k in
+          let is = silent_reacting t before o afterwards k in
           let e2 : es ≡ more = e ∙ ap (λ (v : List Change). drive_events (device_of o) v ++ more) k in
-          let z = next (subst (λ (v : List (Station M)). AllReached v) (sym is) (reached_joined before (react M step peek t o) behind g.0 a.1 g.2)) (sym (ap (λ (v : List Event). v ++ rest) e2) ∙ j) in
-          let ran : RanOn M step peek (before ++ o ∷ behind) [] (reacting M step peek t before o behind) = subst (λ (v : List (Station M)). RanOn M step peek (before ++ o ∷ behind) [] v) (sym is) (silent_ran t before o behind a.0) in
+          let z = next (subst (λ (v : List (Station M)). AllReached v) (sym is) (reached_joined before (react M step peek t o) afterwards g.0 a.1 g.2)) (sym (ap (λ (v : List Event). v ++ rest) e2) ∙ j) in
+          let ran : RanOn M step peek (before ++ o ∷ afterwards) [] (reacting M step peek t before o afterwards) = subst (λ (v : List (Station M)). RanOn M step peek (before ++ o ∷ afterwards) [] v) (sym is) (silent_ran t before o afterwards a.0) in
           (e2 ∙ z.0, z.1, subst (λ (v : List (Station M)). RanOn M step peek v [] ss2) (sym u) (ran_then M step peek ran z.2))
       by_changes g next (c ∷ cs) k =
           let same : (record { who = Drive (device_of o); change = c }) ∷ (drive_events (device_of o) cs ++ (more ++ rest)) ≡ x ∷ tail =
@@ -623,18 +623,18 @@ module _ (M : Type 0) (step : M → Act → M) (peek : M → Option (ℕ × Bool
   OfHost s = (s.event.who ≡ Host) × (moment_of s ≡ at) × (is_atn s.event.change.line ≡ false)
 
   waits_told : (c : Change) (y : Step) (ys : List Step) (x : Station M) (e : Rest × Port) → y.event ≡ host_event c → c.moment ≡ at → is_atn c.line ≡ false → Waits x (y ∷ ys) e
-      → Waits (tell M step peek c x) ys e × CountsFor (device_of x) y.mark (told_act (wires_of (behind_host c.line c.way x.rest)) x.port)
+      → Waits (tell M step peek c x) ys e × CountsFor (device_of x) y.mark (told_act (wires_of (after_the_host c.line c.way x.rest)) x.port)
   waits_told c y ys x e h m atn w =
       let f : FollowsAmong (says (device_of x)) x.rest x.port (record { event = event_of Host c.moment c.line c.way; mark = y.mark } ∷ ys) e.0 e.1 =
       subst (λ (v : Event). FollowsAmong (says (device_of x)) x.rest x.port (record { event = v; mark = y.mark } ∷ ys) e.0 e.1) h w.follows in
       let later = w.starts.later in
       let soon : c.moment ≤ w.due = omega (arith, later, m) in
       let g = among_told (says (device_of x)) f (subst (λ (o : Option ℕ). IsInTime c.moment o) (sym (ap (λ (v : Side). side_due v) w.starts.side)) soon) in
-      let side = starting_told c.moment w.due x.rest (behind_host c.line c.way x.rest) x.port w.seen (host_atn c.line c.way x.rest atn) w.starts.side in
+      let side = starting_told c.moment w.due x.rest (after_the_host c.line c.way x.rest) x.port w.seen (host_atn c.line c.way x.rest atn) w.starts.side in
       (record { due = w.due; starts = record { side = side.0; later = w.starts.later; soon = w.starts.soon }; seen = refl; follows = g.1; end = w.end; end_low = w.end_low }, g.0)
 
   all_told : (c : Change) (y : Step) (ys : List Step) (xs : List (Station M)) (es : List (Rest × Port)) → y.event ≡ host_event c → c.moment ≡ at → is_atn c.line ≡ false → AllOf (λ x e. Waits x (y ∷ ys) e) xs es
-      → AllOf (λ x e. Waits x ys e) (map (λ x. tell M step peek c x) xs) es × AllOf (λ x e. CountsFor (device_of x) y.mark (told_act (wires_of (behind_host c.line c.way x.rest)) x.port)) xs es
+      → AllOf (λ x e. Waits x ys e) (map (λ x. tell M step peek c x) xs) es × AllOf (λ x e. CountsFor (device_of x) y.mark (told_act (wires_of (after_the_host c.line c.way x.rest)) x.port)) xs es
   all_told c y ys [] [] h m atn a = (tt, tt)
   all_told c y ys [] (e ∷ es) h m atn a = elim a [ ]
   all_told c y ys (x ∷ xs) [] h m atn a = elim a [ ]
@@ -644,15 +644,15 @@ module _ (M : Type 0) (step : M → Act → M) (peek : M → Option (ℕ × Bool
       ((one.0, more.0), (one.1, more.1))
 
   -- what the machines run with a change of the host
-  pub counted_ran : (c : Change) (y : Step) (xs : List (Station M)) (es : List (Rest × Port)) → AllOf (λ x e. CountsFor (device_of x) y.mark (told_act (wires_of (behind_host c.line c.way x.rest)) x.port)) xs es → RanOn M step peek xs (y ∷ []) (map (λ x. tell M step peek c x) xs)
+  pub counted_ran : (c : Change) (y : Step) (xs : List (Station M)) (es : List (Rest × Port)) → AllOf (λ x e. CountsFor (device_of x) y.mark (told_act (wires_of (after_the_host c.line c.way x.rest)) x.port)) xs es → RanOn M step peek xs (y ∷ []) (map (λ x. tell M step peek c x) xs)
   counted_ran c y xs es a = record { runs = λ ms done h. go ms done xs es a h }
     where
-      go : (ms : ℕ → M) (done : List Step) (xs : List (Station M)) (es : List (Rest × Port)) → AllOf (λ x e. CountsFor (device_of x) y.mark (told_act (wires_of (behind_host c.line c.way x.rest)) x.port)) xs es → AllRan M step peek ms done xs
+      go : (ms : ℕ → M) (done : List Step) (xs : List (Station M)) (es : List (Rest × Port)) → AllOf (λ x e. CountsFor (device_of x) y.mark (told_act (wires_of (after_the_host c.line c.way x.rest)) x.port)) xs es → AllRan M step peek ms done xs
           → AllRan M step peek ms (done ++ y ∷ []) (map (λ x. tell M step peek c x) xs)
       go ms done [] es a h = tt
       go ms done (x ∷ xs) [] a h = elim a [ ]
       go ms done (x ∷ xs) (e ∷ es) a h =
-          (run_on M step peek x.machine (ms (device_of x)) (device_of x) done (y ∷ []) (told_act (wires_of (behind_host c.line c.way x.rest)) x.port) h.0 (λ m. mark_acted M step peek (device_of x) y.mark (told_act (wires_of (behind_host c.line c.way x.rest)) x.port) m a.0), go ms done xs es a.1 h.1)
+          (run_on M step peek x.machine (ms (device_of x)) (device_of x) done (y ∷ []) (told_act (wires_of (after_the_host c.line c.way x.rest)) x.port) h.0 (λ m. mark_acted M step peek (device_of x) y.mark (told_act (wires_of (after_the_host c.line c.way x.rest)) x.port) m a.0), go ms done xs es a.1 h.1)
 
   waits_reached : (ys : List Step) (xs : List (Station M)) (es : List (Rest × Port)) → AllOf (λ x e. Waits x ys e) xs es → AllReached xs
   waits_reached ys [] [] a = tt
@@ -660,7 +660,7 @@ module _ (M : Type 0) (step : M → Act → M) (peek : M → Option (ℕ × Bool
   waits_reached ys (x ∷ xs) [] a = elim a [ ]
   waits_reached ys (x ∷ xs) (e ∷ es) a = (inl (a.0.due, (a.0.starts.side, a.0.starts.later)), waits_reached ys xs es a.1)
 
-  -- behind the host's part
+  -- after the host's part
   waits_pulled : (ds : List Step) (xs : List (Station M)) (es : List (Rest × Port)) → Every (λ s. NotHost s.event.who) ds → AllOf (λ x e. Waits x ds e) xs es → AllOf (λ x e. Pulled x ds e) xs es
   waits_pulled ds [] [] n a = tt
   waits_pulled ds [] (e ∷ es) n a = elim a [ ]
@@ -730,7 +730,7 @@ module _ (M : Type 0) (step : M → Act → M) (peek : M → Option (ℕ × Bool
         | inl w ↦ inl (host_first_within y c same e ran w)
         | inr w ↦ inr (host_first_passed y c same e ran w)
       ]
-  along_host {ss = ss} {ss2 = ss2} {es = es} (reaction t before o behind moreE b u f e p) (y ∷ hs) ds fin g h n r rest more j next =
+  along_host {ss = ss} {ss2 = ss2} {es = es} (reaction t before o afterwards moreE b u f e p) (y ∷ hs) ds fin g h n r rest more j next =
       let x = no_more_from (waits_reached (y ∷ (hs ++ ds)) ss fin g) in
       inl (record {
         front = [];
@@ -742,4 +742,4 @@ module _ (M : Type 0) (step : M → Act → M) (peek : M → Option (ℕ × Bool
       })
     where
       no_more_from : AllReached ss → (es ≡ []) × AllReached ss2 × RanOn M step peek ss [] ss2
-      no_more_from a = no_more {n = suc at} (reaction t before o behind moreE b u f e p) (omega arith) a y.event (events_of (hs ++ ds) ++ more) rest h.0.0 h.0.1 j
+      no_more_from a = no_more {n = suc at} (reaction t before o afterwards moreE b u f e p) (omega arith) a y.event (events_of (hs ++ ds) ++ more) rest h.0.0 h.0.1 j

@@ -9,13 +9,13 @@ use Rattle.cbm_iec.specs.declared.event.Who.{Who}
 use Rattle.cbm_iec.specs.declared.port.Port.{Port}
 use Rattle.cbm_iec.specs.declared.port.Side.TheVariants.{Hearing}
 use Rattle.cbm_iec.specs.declared.port.Side.{Side}
-use Rattle.cbm_session.proofs.headline.AlongBus.{devs, SitsIn, OwnedIn, RisingIn, other_atn, sits_split, sits_behind, rising_first, all_in_time}
+use Rattle.cbm_session.proofs.headline.AlongBus.{devs, SitsIn, OwnedIn, RisingIn, other_atn, sits_split, sits_after, rising_first, all_in_time}
 use Rattle.cbm_session.proofs.headline.BusStep.{Comes, here, there, Tied, own_first, not_mine, another, host_drive}
 use Rattle.cbm_session.proofs.headline.Keeping.{HostFrom}
 use Rattle.cbm_session.proofs.headline.Meeting.{FirstIs, in_time_at, no_steps}
 use Rattle.cbm_session.proofs.headline.PullBus.{some_shown, ended, Shows, Rests, Pulled, AllOf, PartsOf, parts_of, answered, shows_next}
 use Rattle.cbm_session.proofs.headline.PullSettled.{starting_told}
-use Rattle.cbm_session.specs.Among.{Rest, wires_of, behind_other, FollowsAmong, ends, tells, hears, reacts}
+use Rattle.cbm_session.specs.Among.{Rest, wires_of, after_another, FollowsAmong, ends, tells, hears, reacts}
 use Rattle.cbm_session.specs.Following.{IsInTime, reaction_steps}
 use Rattle.cbm_session.specs.Playing.{IsLaterDue, Station, drive_events, shown, AllInTime, AllLater, IsFirst}
 use Rattle.cbm_session.specs.Seats.{lines}
@@ -54,7 +54,7 @@ module _ (M : Type 0) (step : M → Act → M) (peek : M → Option (ℕ × Bool
       let soon = in_time_at u t (port_due q) i (ap (λ (v : Side). Rattle.cbm_iec.specs.Ports.side_due v) side) in
       absurd (omega (arith, late, soon))
   answer_comes p t {r = r} {q = q} (hears {t = u} {line = line} {way = way} a i k f) seen side own end h =
-      there (answer_comes p t f refl (starting_told u t r (behind_other line way r) q seen (other_atn line way r) side).0 own end h.1)
+      there (answer_comes p t f refl (starting_told u t r (after_another line way r) q seen (other_atn line way r) side).0 own end h.1)
   answer_comes p t {q = q} {ss = ss} (reacts u more d e s l f) seen side own end h =
       let is : u ≡ t = (let k : Some u ≡ Some t = sym d ∙ ap (λ (v : Side). Rattle.cbm_iec.specs.Ports.side_due v) side in cc) in
       let first = own_first p q u (some_shown M step peek says place at u t p q side own) in
@@ -93,10 +93,10 @@ module _ (M : Type 0) (step : M → Act → M) (peek : M → Option (ℕ × Bool
     pub steps : ys ≡ own ++ more
     pub events : events_of own ≡ drive_events o.port.party.device (shown M step peek t o)
 
-  pub next_answer : (t : ℕ) (before : List (Station M)) (o : Station M) (behind : List (Station M)) (ys : List Step) (es : List (Rest × Port)) → AllOf M step peek says place at (λ x e. Pulled M step peek says place at x ys e) (before ++ o ∷ behind) es → IsFirst M step peek t before o behind
-      → HostFrom (suc t) ys → RisingIn M step peek says place (devs M step peek says place (before ++ o ∷ behind)) → Tied place ys → OwnedIn M step peek says place (devs M step peek says place (before ++ o ∷ behind)) ys → NextAnswer t o ys
-  next_answer t before o behind ys es all f h rising tied owned =
-      let k = parts_of M step peek says place at (λ x e. Pulled M step peek says place at x ys e) before o behind es all in
+  pub next_answer : (t : ℕ) (before : List (Station M)) (o : Station M) (afterwards : List (Station M)) (ys : List Step) (es : List (Rest × Port)) → AllOf M step peek says place at (λ x e. Pulled M step peek says place at x ys e) (before ++ o ∷ afterwards) es → IsFirst M step peek t before o afterwards
+      → HostFrom (suc t) ys → RisingIn M step peek says place (devs M step peek says place (before ++ o ∷ afterwards)) → Tied place ys → OwnedIn M step peek says place (devs M step peek says place (before ++ o ∷ afterwards)) ys → NextAnswer t o ys
+  next_answer t before o afterwards ys es all f h rising tied owned =
+      let k = parts_of M step peek says place at (λ x e. Pulled M step peek says place at x ys e) before o afterwards es all in
       by_stand k k.one.stand
     where
       d : ℕ
@@ -105,7 +105,7 @@ module _ (M : Type 0) (step : M → Act → M) (peek : M → Option (ℕ × Bool
       P : Option (ℕ × Bool)
       P = says o.port.party.device
 
-      by_stand : (k : PartsOf M step peek says place at (λ x e. Pulled M step peek says place at x ys e) before o behind es) → Shows M step peek says place at o ys k.own ⊎ Rests M step peek says place at o ys k.own → NextAnswer t o ys
+      by_stand : (k : PartsOf M step peek says place at (λ x e. Pulled M step peek says place at x ys e) before o afterwards es) → Shows M step peek says place at o ys k.own ⊎ Rests M step peek says place at o ys k.own → NextAnswer t o ys
       by_stand k (inr r) =
           let a = answered M step peek says place at t o ys k.own k.one r f.due in
           record { own = []; more = ys; steps = refl; events = ap (λ v. drive_events o.port.party.device v) (sym a.0) }
@@ -146,19 +146,19 @@ module _ (M : Type 0) (step : M → Act → M) (peek : M → Option (ℕ × Bool
                       let a = shows_next M step peek says place at t o y zs k.own one (subst (λ (l : List Step). Shows M step peek says place at o l k.own) e s) f.due v in
                       record { own = Rattle.cbm_session.specs.Following.own_steps o.port.party.device (shown M step peek t o) None; more = a.more; steps = e ∙ a.steps; events = a.events }
 
-                  behind_it : (y.event.who ≡ Drive o.port.party.device → ⊥) → Comes o.port.party.device (moment_of y) (y ∷ zs) → Comes o.port.party.device (moment_of y) zs
-                  behind_it n (here w m) = absurd (n w)
-                  behind_it n (there c) = c
+                  after_that : (y.event.who ≡ Drive o.port.party.device → ⊥) → Comes o.port.party.device (moment_of y) (y ∷ zs) → Comes o.port.party.device (moment_of y) zs
+                  after_that n (here w m) = absurd (n w)
+                  after_that n (there c) = c
 
                   theirs : (u : ℕ) → y.event.who ≡ Drive u → (o.port.party.device ≡ u → ⊥) → ⊥
                   theirs u w n =
                       let not_own : y.event.who ≡ Drive o.port.party.device → ⊥ = λ v. (let c : Drive u ≡ Drive o.port.party.device = sym w ∙ v in let same : o.port.party.device ≡ u = cc in n same) in
                       let early = soon not_own in
-                      let all2 = subst (λ (l : List Step). AllOf M step peek says place at (λ x e. Pulled M step peek says place at x l e) (before ++ o ∷ behind) es) e all in
-                      let sits = (subst (OwnedIn M step peek says place (devs M step peek says place (before ++ o ∷ behind))) e owned).0 u w in
-                      let late = pulled_due u t (before ++ o ∷ behind) y zs es all2 w sits (all_in_time M step peek says place t before o behind f) in
+                      let all2 = subst (λ (l : List Step). AllOf M step peek says place at (λ x e. Pulled M step peek says place at x l e) (before ++ o ∷ afterwards) es) e all in
+                      let sits = (subst (OwnedIn M step peek says place (devs M step peek says place (before ++ o ∷ afterwards))) e owned).0 u w in
+                      let late = pulled_due u t (before ++ o ∷ afterwards) y zs es all2 w sits (all_in_time M step peek says place t before o afterwards f) in
                       let now : moment_of y ≡ t = omega (arith, early, late) in
-                      elim (sits_split M step peek says place u before o behind sits) [
+                      elim (sits_split M step peek says place u before o afterwards sits) [
                         | inl i ↦ (
                             let first = subst (λ (l : List Step). AllOf M step peek says place at (λ x e. Pulled M step peek says place at x l e) before k.first) e k.all_first in
                             let after = pulled_later u t before y zs k.first first w i f.later in
@@ -167,10 +167,10 @@ module _ (M : Type 0) (step : M → Act → M) (peek : M → Option (ℕ × Bool
                         | inr i ↦ elim i [
                           | inl j ↦ n j
                           | inr j ↦ (
-                              let under = sits_behind M step peek says place o.port.party.device u behind (rising_first M step peek says place before o behind rising) j in
+                              let under = sits_after M step peek says place o.port.party.device u afterwards (rising_first M step peek says place before o afterwards rising) j in
                               let comes : Comes o.port.party.device t (y ∷ zs) =
                               answer_comes (says o.port.party.device) t follows k.one.seen (subst (λ (v : ℕ). o.port.side ≡ Hearing (Starting v)) is_due s.starts.side) s.other k.one.end (subst (HostFrom (suc t)) e h) in
-                              let over = (subst (Tied place) e tied).0 u w o.port.party.device (behind_it not_own (subst (λ (v : ℕ). Comes o.port.party.device v (y ∷ zs)) (sym now) comes)) in
+                              let over = (subst (Tied place) e tied).0 u w o.port.party.device (after_that not_own (subst (λ (v : ℕ). Comes o.port.party.device v (y ∷ zs)) (sym now) comes)) in
                               omega (arith, under, over)
                               )
                         ]

@@ -1,4 +1,4 @@
--- ATN's pull on a bus, from a point of a session at which it may come: the play is in the pull, or behind it with each drive as the session has it.
+-- ATN's pull on a bus, from a point of a session at which it may come: the play is in the pull, or after it with each drive as the session has it.
 use Rattle.std.proofs.Common.{◌≡◌, ℕ, ◌+◌, ◌≤◌, ◌⊎◌, inl, inr, Bool, true, false, List, [], ◌∷◌, ◌++◌, map, append_assoc, Option, Some, ap, sym, ◌∙◌, subst, arith, refl}
 use Rattle.std.specs.Prelude.{if◌then◌else◌}
 use Rattle.cbm_iec.specs.Hearing.{is_same}
@@ -31,7 +31,7 @@ use Rattle.cbm_session.proofs.headline.PullBus.{event_head, event_tail, NextHost
 use Rattle.cbm_session.proofs.headline.PullSettled.{among_told}
 use Rattle.cbm_session.proofs.joining.Seating.{Sits}
 use Rattle.cbm_session.proofs.reading.PieceReadings.{next_seat}
-use Rattle.cbm_session.specs.Among.{Rest, wires_of, behind_host, CountsFor, FollowsAmong}
+use Rattle.cbm_session.specs.Among.{Rest, wires_of, after_the_host, CountsFor, FollowsAmong}
 use Rattle.cbm_session.specs.Buses.{rest_at, SaysAs, StandsAmong}
 use Rattle.cbm_session.specs.Following.{IsInTime}
 use Rattle.cbm_session.specs.Laws.{SeatsReact}
@@ -51,9 +51,9 @@ module _ (M : Type 0) (step : M → Act → M) (peek : M → Option (ℕ × Bool
   AllShow [] = Unit {0}
   AllShow (x ∷ xs) = ((t : ℕ) → port_due x.port ≡ Some t → shown M step peek t x ≡ [] → ⊥) × AllShow xs
 
-  pub show_among : (before : List (Station M)) (o : Station M) (behind : List (Station M)) → AllShow (before ++ o ∷ behind) → (t : ℕ) → port_due o.port ≡ Some t → shown M step peek t o ≡ [] → ⊥
-  show_among [] o behind h = h.0
-  show_among (b ∷ before) o behind h = show_among before o behind h.1
+  pub show_among : (before : List (Station M)) (o : Station M) (afterwards : List (Station M)) → AllShow (before ++ o ∷ afterwards) → (t : ℕ) → port_due o.port ≡ Some t → shown M step peek t o ≡ [] → ⊥
+  show_among [] o afterwards h = h.0
+  show_among (b ∷ before) o afterwards h = show_among before o afterwards h.1
 
   module _ (p : Point) (at : ℕ) (fits : Fits p (PullPiece at)) where
     abbrev the_pull : Change
@@ -85,7 +85,7 @@ module _ (M : Type 0) (step : M → Act → M) (peek : M → Option (ℕ × Bool
     -- told of the pull, each waits to answer it
     all_pulled : (ss : List Seat) (xs : List (Station M)) → AllStand M step peek says place p ss xs
         → (es : List (Rest × Port)) × (AllOf M step peek says place at (λ x e. Waits M step peek says place at x (hosts ++ drives) e) (map (λ x. tell M step peek the_pull x) xs) es
-        × AllOf M step peek says place at (λ x e. CountsFor x.port.party.device first.mark (told_act (wires_of (behind_host Atn Pull x.rest)) x.port)) xs es
+        × AllOf M step peek says place at (λ x e. CountsFor x.port.party.device first.mark (told_act (wires_of (after_the_host Atn Pull x.rest)) x.port)) xs es
         × AllEnd M step peek says place (whole_point p (PullPiece at)) (map (λ s. next_seat (PullPiece at) s) ss) es × AllInTime M step peek at xs)
     all_pulled [] [] h = ([], (tt, tt, tt, tt))
     all_pulled [] (x ∷ xs) h = elim h [ ]
@@ -110,7 +110,7 @@ module _ (M : Type 0) (step : M → Act → M) (peek : M → Option (ℕ × Bool
         let in_time : IsInTime at (port_due q) = pull_in_time p at p.place s.role q.side st.side fits in
         let f : FollowsAmong (says d) x.rest q (first ∷ (hosts ++ drives)) z.rest z.port = subst (λ (v : List Step). FollowsAmong (says d) x.rest q v z.rest z.port) (pull_steps p at) (subst (λ (r : Rest). FollowsAmong (says d) r q (steps_of p w) z.rest z.port) (sym h.0.rest) z.follows) in
         let g = among_told (says d) f in_time in
-        let now = wires_of (behind_host Atn Pull x.rest) in
+        let now = wires_of (after_the_host Atn Pull x.rest) in
         let free : q.others.atn_low ≡ false = ap (λ (v : Lines). v.atn_low) st.others ∙ pull_out p at p.place fits in
         let side : (told at now q).side ≡ Hearing (Starting (at + q.party.reaction)) = ap (λ (v : Bool). if is_same v true then lined_side q.party.reaction at q.others now q.side else turned_side at now q) free in
         let react = sits_react (device s) p.seats s sound.seated.sits sound.react in
@@ -157,7 +157,7 @@ module _ (M : Type 0) (step : M → Act → M) (peek : M → Option (ℕ × Bool
         }
       where
         by_play : {n : ℕ} → Plays M step peek n xs es n2 ss2 → (fin : List (Rest × Port)) → AllOf M step peek says place at (λ x e. Waits M step peek says place at x (hosts ++ drives) e) (map (λ x. tell M step peek the_pull x) xs) fin
-            → AllOf M step peek says place at (λ x e. CountsFor x.port.party.device first.mark (told_act (wires_of (behind_host Atn Pull x.rest)) x.port)) xs fin → AllInTime M step peek at xs → RisingIn M step peek says place (devs M step peek says place xs) → AllShow xs
+            → AllOf M step peek says place at (λ x e. CountsFor x.port.party.device first.mark (told_act (wires_of (after_the_host Atn Pull x.rest)) x.port)) xs fin → AllInTime M step peek at xs → RisingIn M step peek says place (devs M step peek says place xs) → AllShow xs
             → es ++ rest ≡ first.event ∷ (events_of (hosts ++ drives) ++ more) → PullWithin M step peek says place at xs (first ∷ (hosts ++ drives)) fin es ss2 ⊎ PullPassed M step peek says place at xs (first ∷ (hosts ++ drives)) fin es n2 ss2
         by_play (stays b k l f) fin w c i r s j =
             inl (record {
@@ -173,7 +173,7 @@ module _ (M : Type 0) (step : M → Act → M) (peek : M → Option (ℕ × Bool
             let same : first.event ≡ host_event x = sym (event_head (host_event x) first.event (moreE ++ rest) (events_of (hosts ++ drives) ++ more) whole) in
             let is : the_pull ≡ x = ap (λ (v : Event). v.change) same in
             let w2 = subst (λ (v : Change). AllOf M step peek says place at (λ x e. Waits M step peek says place at x (hosts ++ drives) e) (map (λ z. tell M step peek v z) xs) fin) is w in
-            let c2 = subst (λ (v : Change). AllOf M step peek says place at (λ z e. CountsFor z.port.party.device first.mark (told_act (wires_of (behind_host v.line v.way z.rest)) z.port)) xs fin) is c in
+            let c2 = subst (λ (v : Change). AllOf M step peek says place at (λ z e. CountsFor z.port.party.device first.mark (told_act (wires_of (after_the_host v.line v.way z.rest)) z.port)) xs fin) is c in
             let keep = devs_tell M step peek says place x xs in
             let ran = counted_ran M step peek says place at x first xs fin c2 in
             let go = along_host M step peek says place at q hosts drives fin w2 hosts_only (pull_drives p at) (subst (λ (v : List ℕ). RisingIn M step peek says place v) (sym keep) r) rest more (event_tail (host_event x) first.event (moreE ++ rest) (events_of (hosts ++ drives) ++ more) whole) next in
@@ -181,8 +181,8 @@ module _ (M : Type 0) (step : M → Act → M) (peek : M → Option (ℕ × Bool
               | inl v ↦ inl (host_first_within M step peek says place at first x same k ran v)
               | inr v ↦ inr (host_first_passed M step peek says place at first x same k ran v)
             ]
-        by_play (reaction t before o behind moreE b u f k q) fin w c i r s j =
-            let some = show_among before o behind (subst AllShow u s) t f.due in
+        by_play (reaction t before o afterwards moreE b u f k q) fin w c i r s j =
+            let some = show_among before o afterwards (subst AllShow u s) t f.due in
             let d = o.port.party.device in
             let mine = first_append d t (drive_events d (shown M step peek t o)) (moreE ++ rest) (first_shown d t o.port.own (Rattle.cbm_iec.specs.Ports.next_held (peek o.machine) o.port) some) in
             let whole : drive_events d (shown M step peek t o) ++ (moreE ++ rest) ≡ first.event ∷ (events_of (hosts ++ drives) ++ more) = sym (append_assoc (drive_events d (shown M step peek t o)) moreE rest) ∙ sym (ap (λ (v : List Event). v ++ rest) k) ∙ j in

@@ -21,9 +21,9 @@ use Rattle.cbm_iec.specs.declared.port.Side.{Side}
 use Rattle.cbm_session.proofs.among.Around.{NotHost}
 use Rattle.cbm_session.proofs.among.Calm.{Every}
 use Rattle.cbm_session.proofs.among.Pulls.{clock_held}
-use Rattle.cbm_session.proofs.among.Standing.{rest_next, rest_behind}
+use Rattle.cbm_session.proofs.among.Standing.{rest_next, rest_afterwards}
 use Rattle.cbm_session.proofs.headline.AlongBus.{other_atn, told_out}
-use Rattle.cbm_session.specs.Among.{Rest, wires_of, behind_other, behind_host, CountsFor, IsBehind, FollowsAmong, ends, tells, hears, reacts}
+use Rattle.cbm_session.specs.Among.{Rest, wires_of, after_another, after_the_host, CountsFor, FirstIsAfter, FollowsAmong, ends, tells, hears, reacts}
 use Rattle.cbm_session.specs.Following.{IsInTime, own_step, own_steps, reaction_steps}
 use Rattle.cbm_session.specs.Seats.{lines}
 use Rattle.cbm_session.specs.Steps.{Mark, Step, event_of}
@@ -119,33 +119,33 @@ not_own d (c ∷ x ∷ y ∷ cs) act more ss s n e = (refl, e)
 
 -- A drive goes on by the host, where nothing is due before.
 pub among_told : (says : Option (ℕ × Bool)) {r r2 : Rest} {q q2 : Port} {t : ℕ} {line : Line} {way : Way} {mark : Mark} {ss : List Step} → FollowsAmong says r q (record { event = event_of Host t line way; mark = mark } ∷ ss) r2 q2 → IsInTime t (port_due q)
-    → CountsFor q.party.device mark (told_act (wires_of (behind_host line way r)) q) × FollowsAmong says (behind_host line way r) (told t (wires_of (behind_host line way r)) q) ss r2 q2
+    → CountsFor q.party.device mark (told_act (wires_of (after_the_host line way r)) q) × FollowsAmong says (after_the_host line way r) (told t (wires_of (after_the_host line way r)) q) ss r2 q2
 among_told says (tells i k f) n = (k, f)
 among_told says {q = q} {t = t} {line = line} {way = way} {mark = mark} {ss = ss} (reacts u more d e sh l f) n =
     let s : Step = record { event = event_of Host t line way; mark = mark } in
     let k = not_own q.party.device (reaction_changes u says q) (reaction_act says q) more ss s (λ w. cc) e in
-    let late : u < t = subst (IsBehind u) (sym k.1) l in
+    let late : u < t = subst (FirstIsAfter u) (sym k.1) l in
     let soon : t ≤ u = subst (λ (o : Option ℕ). IsInTime t o) d n in
     absurd (omega (arith, late, soon))
 
 -- Steps of drives leave what the host holds.
-other_host : (line : Line) (way : Way) (r : Rest) → (behind_other line way r).host ≡ r.host
+other_host : (line : Line) (way : Way) (r : Rest) → (after_another line way r).host ≡ r.host
 other_host Atn way r = refl
 other_host Clock way r = refl
 other_host Data way r = refl
 
-pub other_low : (line : Line) (way : Way) (r : Rest) → r.host.clock_low ≡ true → (behind_other line way r).host.clock_low ≡ true
+pub other_low : (line : Line) (way : Way) (r : Rest) → r.host.clock_low ≡ true → (after_another line way r).host.clock_low ≡ true
 other_low line way r h = ap (λ (l : Lines). l.clock_low) (other_host line way r) ∙ h
 
-pub host_stays : (d : ℕ) (r : Rest) (ss : List Step) → Every (λ s. NotHost s.event.who) ss → (rest_behind d r ss).host ≡ r.host
+pub host_stays : (d : ℕ) (r : Rest) (ss : List Step) → Every (λ s. NotHost s.event.who) ss → (rest_afterwards d r ss).host ≡ r.host
 host_stays d r [] a = refl
 host_stays d r (s ∷ ss) a = go s.event.who a.0 (λ x. host_stays d x ss a.1)
   where
-    by : (v : Bool) → ((x : Rest) → (rest_behind d x ss).host ≡ x.host) → (rest_behind d (if v then r else behind_other s.event.change.line s.event.change.way r) ss).host ≡ r.host
+    by : (v : Bool) → ((x : Rest) → (rest_afterwards d x ss).host ≡ x.host) → (rest_afterwards d (if v then r else after_another s.event.change.line s.event.change.way r) ss).host ≡ r.host
     by true k = k r
-    by false k = k (behind_other s.event.change.line s.event.change.way r) ∙ other_host s.event.change.line s.event.change.way r
+    by false k = k (after_another s.event.change.line s.event.change.way r) ∙ other_host s.event.change.line s.event.change.way r
 
-    go : (w : Who) → NotHost w → ((x : Rest) → (rest_behind d x ss).host ≡ x.host) → (rest_behind d (rest_next d w s.event.change.line s.event.change.way r) ss).host ≡ r.host
+    go : (w : Who) → NotHost w → ((x : Rest) → (rest_afterwards d x ss).host ≡ x.host) → (rest_afterwards d (rest_next d w s.event.change.line s.event.change.way r) ss).host ≡ r.host
     go Host n k = elim n [ ]
     go (Drive o) n k = by (nat_eq d o) k
 
@@ -155,7 +155,7 @@ pub settled : (says : Option (ℕ × Bool)) (u : ℕ) {r r2 : Rest} {q q2 : Port
 settled says u {q = q} {q2 = q2} (ends i j) a seen low side own end = let k : Hearing Holding ≡ Hearing (Starting u) = sym end ∙ ap (λ (v : Port). v.side) j ∙ side in absurd cc
 settled says u (tells i k f) a seen low side own end = elim a.0 [ ]
 settled says u {r} {r2} {q} {q2} (hears {o} {t} {line} {way} {mark} {ss} n i k f) a seen low side own end =
-    let now = behind_other line way r in
+    let now = after_another line way r in
     let low2 = other_low line way r low in
     let one = starting_told t u r now q seen (other_atn line way r) side in
     let two = told_held t r now q seen (other_atn line way r) (clock_held r low) (clock_held now low2) in

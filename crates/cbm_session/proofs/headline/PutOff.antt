@@ -18,7 +18,7 @@ use Rattle.cbm_iec.specs.declared.port.Side.{Side}
 use Rattle.cbm_session.proofs.among.Fronts.{steps_order}
 use Rattle.cbm_session.proofs.among.Points.{commanding_rest}
 use Rattle.cbm_session.proofs.among.Turns.{commanding_port, listener_steps}
-use Rattle.cbm_session.proofs.headline.AdoptParts.{ended, stops_behind}
+use Rattle.cbm_session.proofs.headline.AdoptParts.{ended, stops_after}
 use Rattle.cbm_session.proofs.headline.AlongBus.{devs}
 use Rattle.cbm_session.proofs.headline.BusActs.{AllRan}
 use Rattle.cbm_session.proofs.headline.CutHost.{hosts_of}
@@ -38,7 +38,7 @@ use Rattle.cbm_session.proofs.headline.TurnTwin.{turn_begins, leads, mutes, lead
 use Rattle.cbm_session.proofs.headline.Unasked.{each_runs, runs_unasked, steps_unasked}
 use Rattle.cbm_session.proofs.headline.Walk.{quiet_stays, end_quiet}
 use Rattle.cbm_session.proofs.joining.Merging.{NoneBefore, InOrder, AllBefore, cut_front}
-use Rattle.cbm_session.specs.Among.{Rest, wires_of, behind_host}
+use Rattle.cbm_session.specs.Among.{Rest, wires_of, after_the_host}
 use Rattle.cbm_session.specs.Answers.{IsAnswer}
 use Rattle.cbm_session.specs.Laws.{NotSooner, AllAfter, GoesOn}
 use Rattle.cbm_session.specs.Pieces.{silent_end, Whole, Point, host_part, steps_of, before, freed_steps, Fits, Full, PullPiece, Command, Byte, ToListener, ToNobody, ToTalker, Nothing, Talk, Commanding}
@@ -94,9 +94,9 @@ in_turn (x ∷ y ∷ l) s ho a b rest e =
 pub host_now : (t : ℕ) (s : Step) (ss : List Step) → GoesOn (s ∷ ss) → HostFrom t (s ∷ ss) → (is_host s.event.who ≡ false → t ≤ moment_of s) → HostFrom (suc t) (s ∷ ss) ⊎ ((s.event.who ≡ Host) × (moment_of s ≡ t))
 host_now t s ss g h late = by_who s.event.who refl
   where
-    behind : (w : Who) (m : ℕ) (ys : List Step) → AllAfter w m ys → (w ≡ Host → suc t ≤ m) → t ≤ m → HostFrom (suc t) ys
-    behind w m [] a k l = tt
-    behind w m (y ∷ ys) a k l = (λ e. go w y.event.who a.0 k e, behind w m ys a.1 k l)
+    afterwards : (w : Who) (m : ℕ) (ys : List Step) → AllAfter w m ys → (w ≡ Host → suc t ≤ m) → t ≤ m → HostFrom (suc t) ys
+    afterwards w m [] a k l = tt
+    afterwards w m (y ∷ ys) a k l = (λ e. go w y.event.who a.0 k e, afterwards w m ys a.1 k l)
       where
         go : (w v : Who) → NotSooner w m v (moment_of y) → (w ≡ Host → suc t ≤ m) → is_host v ≡ true → suc t ≤ moment_of y
         go Host v b k e = let c = k refl in omega (arith, b, c)
@@ -105,11 +105,11 @@ host_now t s ss g h late = by_who s.event.who refl
 
     by_who : (w : Who) → s.event.who ≡ w → HostFrom (suc t) (s ∷ ss) ⊎ ((s.event.who ≡ Host) × (moment_of s ≡ t))
     by_who Host e = elim (leb_tells (suc t) (moment_of s)) [
-      | inl k ↦ (let l = k.1 in inl (λ w. omega (arith, l), behind Host (moment_of s) ss (subst (λ (v : Who). AllAfter v (moment_of s) ss) e g.0) (λ w. omega (arith, l)) (omega (arith, l))))
+      | inl k ↦ (let l = k.1 in inl (λ w. omega (arith, l), afterwards Host (moment_of s) ss (subst (λ (v : Who). AllAfter v (moment_of s) ss) e g.0) (λ w. omega (arith, l)) (omega (arith, l))))
       | inr k ↦ (let l = k.1 in let a = h.0 (ap is_host e) in inr (e, omega (arith, l, a)))
     ]
     by_who (Drive d) e =
-        inl (λ w. (let k : is_host (Drive d) ≡ true = subst (λ (v : Who). is_host v ≡ true) e w in absurd cc), behind (Drive d) (moment_of s) ss (subst (λ (v : Who). AllAfter v (moment_of s) ss) e g.0) (λ w. absurd cc) (late (ap is_host e)))
+        inl (λ w. (let k : is_host (Drive d) ≡ true = subst (λ (v : Who). is_host v ≡ true) e w in absurd cc), afterwards (Drive d) (moment_of s) ss (subst (λ (v : Who). AllAfter v (moment_of s) ss) e g.0) (λ w. absurd cc) (late (ap is_host e)))
 
 now_or_late : (t : ℕ) (ss : List Step) → GoesOn ss → NoneBefore t ss → HostFrom (suc t) ss ⊎ ((s : Step) × ((others : List Step) × ((ss ≡ s ∷ others) × ((s.event.who ≡ Host) × (moment_of s ≡ t)))))
 now_or_late t [] g n = inl tt
@@ -133,14 +133,14 @@ module _ (M : Type 0) (step : M → Act → M) (peek : M → Option (ℕ × Bool
       let port = commanding_port p s z.port some k.0 h.0.sound h.0.stands e k.2 in
       let rest = h.0.rest ∙ k.2 in
       let seen : z.port.others ≡ wires_of z.rest = h.0.stands.others ∙ ap (λ (r : Rest). wires_of r) (sym h.0.rest) in
-      let told = holding_told at z.rest (behind_host Data Pull z.rest) z.port seen (Rattle.cbm_session.proofs.headline.AlongBus.host_atn Data Pull z.rest refl)
-      (ap (λ (r : Rest). (wires_of r).clock_low) rest ∙ low k.0) (ap (λ (r : Rest). (wires_of (behind_host Data Pull r)).clock_low) rest ∙ low2 k.0) (ap (λ (v : Port). v.side) port) in
+      let told = holding_told at z.rest (after_the_host Data Pull z.rest) z.port seen (Rattle.cbm_session.proofs.headline.AlongBus.host_atn Data Pull z.rest refl)
+      (ap (λ (r : Rest). (wires_of r).clock_low) rest ∙ low k.0) (ap (λ (r : Rest). (wires_of (after_the_host Data Pull r)).clock_low) rest ∙ low2 k.0) (ap (λ (v : Port). v.side) port) in
       (ap (λ (v : Side). side_due v) told.0, once_quiet p some e at ss zs h.1)
     where
       low : (n : ℕ) → (wires_of (Rattle.cbm_session.proofs.among.Frames.in_hold true n)).clock_low ≡ true
       low n = refl
 
-      low2 : (n : ℕ) → (wires_of (behind_host Data Pull (Rattle.cbm_session.proofs.among.Frames.in_hold true n))).clock_low ≡ true
+      low2 : (n : ℕ) → (wires_of (after_the_host Data Pull (Rattle.cbm_session.proofs.among.Frames.in_hold true n))).clock_low ≡ true
       low2 n = refl
 
   once_stays : {n n2 : ℕ} {xs ss2 : List (Station M)} {es : List Event} → Plays M step peek n xs es n2 ss2 → (c : Change) → AllQuiet M step peek mute place xs → AllQuiet M step peek mute place (map (λ x. tell M step peek c x) xs) → es ≡ host_event c ∷ [] → ss2 ≡ map (λ x. tell M step peek c x) xs
@@ -150,7 +150,7 @@ module _ (M : Type 0) (step : M → Act → M) (peek : M → Option (ℕ × Bool
       let none : more ≡ [] = cc in
       let is : x ≡ c = ap (λ (v : Event). v.change) same in
       quiet_stays M step peek place (subst (λ (v : Change). Plays M step peek v.moment (map (λ z. tell M step peek v z) xs) more n2 ss2) is f) r none
-  once_stays (reaction t before o behind more b u f e p) c q r i = absurd (quiet_first M step peek mute place t before o behind (subst (λ (v : List (Station M)). AllQuiet M step peek mute place v) u q) f.due)
+  once_stays (reaction t before o afterwards more b u f e p) c q r i = absurd (quiet_first M step peek mute place t before o afterwards (subst (λ (v : List (Station M)). AllQuiet M step peek mute place v) u q) f.due)
 
   module _ (machine : IsMachine M step peek) (p : Point) (ms : ℕ → M) (xs : List (Station M)) (here : Here M step peek place p ms xs) {n n2 : ℕ} {ss2 : List (Station M)} {es : List Event} (plays : Plays M step peek n xs es n2 ss2) (t : ℕ) (due : SomeDue M step peek t ss2) where
     abbrev Off : Type 0
@@ -180,7 +180,7 @@ module _ (M : Type 0) (step : M → Act → M) (peek : M → Option (ℕ × Bool
     nobody_ends : (at clock : ℕ) → (fits : Fits p (ToNobody at clock)) → (front : List Step) → Later p (ToNobody at clock) t front → events_of front ≡ es → Off
     nobody_ends at clock fits front later shown =
         let w = ToNobody at clock in
-        stops_behind M step peek place machine p ms xs here w fits tt (each_runs M step peek p.seats ms (steps_of p w) (λ d. runs_unasked M step peek d (ms d) (steps_of p w) (steps_unasked p w tt))) tt (suc t) front later.back later.is later.late es shown
+        stops_after M step peek place machine p ms xs here w fits tt (each_runs M step peek p.seats ms (steps_of p w) (λ d. runs_unasked M step peek d (ms d) (steps_of p w) (steps_unasked p w tt))) tt (suc t) front later.back later.is later.late es shown
 
     pub nobody_off : (at clock : ℕ) → (fits : Fits p (ToNobody at clock)) → (front : List Step) (s : Step) (others : List Step) → steps_of p (ToNobody at clock) ≡ front ++ s ∷ others → events_of front ≡ es → s.event.who ≡ Host → moment_of s ≡ t → Off
     nobody_off at clock fits front s others e shown who now = by_hosts (hosts_of front) refl
@@ -277,7 +277,7 @@ module _ (M : Type 0) (step : M → Act → M) (peek : M → Option (ℕ × Bool
       -- a turnaround, by where the host's change stands in it
       turn_off : (w : Whole) → IsTalkers w → (fits : Fits p w) → IsAnswer M step peek (ms (talker_of p.seats).device) w → p.place ≡ Commanding true → (at : ℕ) (rest ys : List Step) → host_part p w ≡ host at Data Pull ∷ for_each Released (host at Atn Free) ∷ rest → steps_of p w ≡ turn_begins at ys
           → ((l : List Step) → rest ≡ l ++ s ∷ hosts_of others → (at < t) × AllBefore t l) → (at + 1 ≤ t → Rattle.cbm_session.specs.Pieces.CutFits p w t) → steps_of p w ≡ front ++ s ∷ others → Off
-      turn_off w a fits answer attention at rest ys hosts steps behind cut e = elim (in_turn (hosts_of front) s (hosts_of others) (host at Data Pull) (for_each Released (host at Atn Free)) rest (host_parts p w front s others e who ∙ hosts)) [
+      turn_off w a fits answer attention at rest ys hosts steps afterwards cut e = elim (in_turn (hosts_of front) s (hosts_of others) (host at Data Pull) (for_each Released (host at Atn Free)) rest (host_parts p w front s others e who ∙ hosts)) [
         | inl k ↦ absurd (none_front (commands attention) front shown (first_only (host at Data Pull) (for_each Released (host at Atn Free) ∷ ys) front s others refl (sym steps ∙ e) k))
         | inr k ↦ elim k [
           | inl k ↦ (
@@ -285,7 +285,7 @@ module _ (M : Type 0) (step : M → Act → M) (peek : M → Option (ℕ × Bool
               absurd (once_never attention at (ap (λ (l : List Step). events_of l) (sym one) ∙ shown))
               )
           | inr k ↦ (
-              let z = behind k.0 k.1.1 in
+              let z = afterwards k.0 k.1.1 in
               let early = z.0 in
               let l : AllBefore t (hosts_of front) = subst (AllBefore t) (sym k.1.0) (early, (early, z.1)) in
               cut_here w a fits answer (cut (omega (arith, early))) (front_is p w t fits front s others e who now l)
@@ -299,29 +299,29 @@ module _ (M : Type 0) (step : M → Act → M) (peek : M → Option (ℕ × Bool
       inside_off (Byte eoi f) a fits answer e = elim a [ ]
       inside_off (ToListener at) a fits answer e = elim a [ ]
       inside_off (ToNobody at clock) a fits answer e = elim a [ ]
-      inside_off (ToTalker at clock) a fits answer e = turn_off (ToTalker at clock) tt fits answer fits.0.commanding at (host clock Clock Free ∷ []) (leads p at clock) refl (lead_steps p at clock (omega (arith, fits.1))) behind (λ l. l) e
+      inside_off (ToTalker at clock) a fits answer e = turn_off (ToTalker at clock) tt fits answer fits.0.commanding at (host clock Clock Free ∷ []) (leads p at clock) refl (lead_steps p at clock (omega (arith, fits.1))) afterwards (λ l. l) e
         where
-          behind : (l : List Step) → host clock Clock Free ∷ [] ≡ l ++ s ∷ hosts_of others → (at < t) × AllBefore t l
-          behind [] k =
+          afterwards : (l : List Step) → host clock Clock Free ∷ [] ≡ l ++ s ∷ hosts_of others → (at < t) × AllBefore t l
+          afterwards [] k =
               let is : host clock Clock Free ≡ s = cc in
               let at_s : clock ≡ moment_of s = ap (λ (v : Step). moment_of v) is in
               let gap = fits.1 in
               let some = settle_from (talker_of p.seats).pace in
               (omega (arith, gap, some, at_s, now), tt)
-          behind (x ∷ []) k = absurd cc
-          behind (x ∷ y ∷ l) k = absurd cc
-      inside_off (Nothing at clock freed) a fits answer e = turn_off (Nothing at clock freed) tt fits answer fits.0.commanding at (host clock Clock Free ∷ freed_steps freed) (mutes p at clock freed) refl (mute_steps p at clock freed (omega (arith, fits.1))) (behind freed fits.2) (λ l. l) e
+          afterwards (x ∷ []) k = absurd cc
+          afterwards (x ∷ y ∷ l) k = absurd cc
+      inside_off (Nothing at clock freed) a fits answer e = turn_off (Nothing at clock freed) tt fits answer fits.0.commanding at (host clock Clock Free ∷ freed_steps freed) (mutes p at clock freed) refl (mute_steps p at clock freed (omega (arith, fits.1))) (afterwards freed fits.2) (λ l. l) e
         where
-          behind : (o : Option ℕ) → Rattle.cbm_session.specs.Pieces.FreedFits (silent_end (talker_of p.seats) clock) o → (l : List Step) → host clock Clock Free ∷ freed_steps o ≡ l ++ s ∷ hosts_of others → (at < t) × AllBefore t l
-          behind o h [] k =
+          afterwards : (o : Option ℕ) → Rattle.cbm_session.specs.Pieces.FreedFits (silent_end (talker_of p.seats) clock) o → (l : List Step) → host clock Clock Free ∷ freed_steps o ≡ l ++ s ∷ hosts_of others → (at < t) × AllBefore t l
+          afterwards o h [] k =
               let is : host clock Clock Free ≡ s = cc in
               let at_s : clock ≡ moment_of s = ap (λ (v : Step). moment_of v) is in
               let gap = fits.1 in
               let some = settle_from (talker_of p.seats).pace in
               (omega (arith, gap, some, at_s, now), tt)
-          behind None h (x ∷ []) k = absurd cc
-          behind None h (x ∷ y ∷ l) k = absurd cc
-          behind (Some g) h (x ∷ []) k =
+          afterwards None h (x ∷ []) k = absurd cc
+          afterwards None h (x ∷ y ∷ l) k = absurd cc
+          afterwards (Some g) h (x ∷ []) k =
               let first : host clock Clock Free ≡ x = cc in
               let is : host g Data Free ≡ s = cc in
               let at_s : g ≡ moment_of s = ap (λ (v : Step). moment_of v) is in
@@ -329,6 +329,6 @@ module _ (M : Type 0) (step : M → Act → M) (peek : M → Option (ℕ × Bool
               let gap = fits.1 in
               let some = settle_from (talker_of p.seats).pace in
               (omega (arith, silent_from (talker_of p.seats) clock, gap, some, h, at_s, now), (omega (arith, silent_from (talker_of p.seats) clock, h, at_s, at_x, now), tt))
-          behind (Some g) h (x ∷ y ∷ []) k = absurd cc
-          behind (Some g) h (x ∷ y ∷ z ∷ l) k = absurd cc
+          afterwards (Some g) h (x ∷ y ∷ []) k = absurd cc
+          afterwards (Some g) h (x ∷ y ∷ z ∷ l) k = absurd cc
       inside_off (Talk at f) a fits answer e = absurd (talk_never M step peek place p ms xs here plays t due at f fits answer front s others e shown who now)

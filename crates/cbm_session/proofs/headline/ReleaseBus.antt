@@ -46,7 +46,7 @@ use Rattle.cbm_session.proofs.joining.Talkers.{silent_bus}
 use Rattle.cbm_session.proofs.reading.OneReading.{NoAtn}
 use Rattle.cbm_session.proofs.reading.PieceReadings.{next_seat}
 use Rattle.cbm_session.proofs.timing.SessionOrder.{part_host, piece_goes}
-use Rattle.cbm_session.specs.Among.{Rest, wires_of, behind_host, CountsFor, FollowsAmong, tells, reacts}
+use Rattle.cbm_session.specs.Among.{Rest, wires_of, after_the_host, CountsFor, FollowsAmong, tells, reacts}
 use Rattle.cbm_session.specs.Buses.{rest_at, SaysAs, SideAmong, StandsAmong}
 use Rattle.cbm_session.specs.Following.{IsInTime}
 use Rattle.cbm_session.specs.Laws.{GoesOn}
@@ -57,7 +57,7 @@ use Rattle.cbm_session.specs.Steps.{Mark, Step, events_of, event_of, host, for_e
 
 -- a drive that has nothing due goes on by the host
 pub among_host : (says : Option (ℕ × Bool)) {r r2 : Rest} {q q2 : Port} {t : ℕ} {line : Line} {way : Way} {mark : Mark} {ss : List Step} → FollowsAmong says r q (record { event = event_of Host t line way; mark = mark } ∷ ss) r2 q2 → port_due q ≡ None
-    → CountsFor q.party.device mark (told_act (wires_of (behind_host line way r)) q) × FollowsAmong says (behind_host line way r) (told t (wires_of (behind_host line way r)) q) ss r2 q2
+    → CountsFor q.party.device mark (told_act (wires_of (after_the_host line way r)) q) × FollowsAmong says (after_the_host line way r) (told t (wires_of (after_the_host line way r)) q) ss r2 q2
 among_host says (tells i k f) n = (k, f)
 among_host says (reacts t more d e sh l f) n = let k : Some t ≡ None = sym d ∙ n in absurd cc
 
@@ -67,39 +67,39 @@ module _ (M : Type 0) (step : M → Act → M) (peek : M → Option (ℕ × Bool
   AllQuiet [] = Unit {0}
   AllQuiet (x ∷ xs) = (port_due x.port ≡ None) × AllQuiet xs
 
-  pub quiet_first : (t : ℕ) (before : List (Station M)) (o : Station M) (behind : List (Station M)) → AllQuiet (before ++ o ∷ behind) → port_due o.port ≡ Some t → ⊥
-  quiet_first t [] o behind h e = let k : Some t ≡ None = sym e ∙ h.0 in cc
-  quiet_first t (b ∷ before) o behind h e = quiet_first t before o behind h.1 e
+  pub quiet_first : (t : ℕ) (before : List (Station M)) (o : Station M) (afterwards : List (Station M)) → AllQuiet (before ++ o ∷ afterwards) → port_due o.port ≡ Some t → ⊥
+  quiet_first t [] o afterwards h e = let k : Some t ≡ None = sym e ∙ h.0 in cc
+  quiet_first t (b ∷ before) o afterwards h e = quiet_first t before o afterwards h.1 e
 
-  -- Where nothing is due the next event is the host's, and `more` is what comes of the play behind it.
+  -- Where nothing is due the next event is the host's, and `more` is what comes of the play after it.
   pub peel : {n n2 : ℕ} {xs ss2 : List (Station M)} {es : List Event} → Plays M step peek n xs es n2 ss2 → AllQuiet xs → (y : Step) (ys : List Step) (c : Change) (fin : List (Rest × Port)) → y.event ≡ host_event c → AllGo M step peek says place xs (y ∷ ys) fin
       → (rest : List Event) → Compat (y ∷ ys) (es ++ rest)
       → ((more : List Event) → Plays M step peek c.moment (map (λ x. tell M step peek c x) xs) more n2 ss2 → Compat ys (more ++ rest) → WithinAll M step peek says place (map (λ x. tell M step peek c x) xs) ys fin more rest ss2 ⊎ PassedAll M step peek says place (map (λ x. tell M step peek c x) xs) ys fin more n2 ss2)
       → WithinAll M step peek says place xs (y ∷ ys) fin es rest ss2 ⊎ PassedAll M step peek says place xs (y ∷ ys) fin es n2 ss2
-  peel {n} {n2} {xs} {ss2} {es} (stays b e k f) quiet y ys c fin same first rest meets behind =
+  peel {n} {n2} {xs} {ss2} {es} (stays b e k f) quiet y ys c fin same first rest meets afterwards =
       inl (record { front = []; back = y ∷ ys; parts = refl; shown_so = sym e; goes = subst (λ (v : List (Station M)). AllGo M step peek says place v (y ∷ ys) fin) (sym f) first; meets = subst (λ (v : List Event). Compat (y ∷ ys) (v ++ rest)) e meets; ran = ran_stays M step peek f })
-  peel {n} {n2} {xs} {ss2} {es} (change x more b l i e p) quiet y ys c fin same first rest meets behind =
+  peel {n} {n2} {xs} {ss2} {es} (change x more b l i e p) quiet y ys c fin same first rest meets afterwards =
       let d : Compat (y ∷ ys) (host_event x ∷ (more ++ rest)) = subst (λ (v : List Event). Compat (y ∷ ys) (v ++ rest)) e meets in
       let met : host_event c ≡ host_event x = subst (λ (w : Event). Meets w.who w.change.moment Host x.moment (w ≡ host_event x)) same d.0 in
       let is : y.event ≡ host_event x = same ∙ met in
       let equal : c ≡ x = ap (λ (v : Event). v.change) met in
       let p2 : Plays M step peek c.moment (map (λ z. tell M step peek c z) xs) more n2 ss2 = subst (λ (v : Change). Plays M step peek v.moment (map (λ z. tell M step peek v z) xs) more n2 ss2) (sym equal) p in
-      elim (behind more p2 (d.1 is)) [
+      elim (afterwards more p2 (d.1 is)) [
         | inl w ↦ inl (record { front = y ∷ w.front; back = w.back; parts = ap (λ (v : List Step). y ∷ v) w.parts; shown_so = ap (λ (v : Event). v ∷ events_of w.front) is ∙ ap (λ (v : List Event). host_event x ∷ v) w.shown_so ∙ sym e; goes = w.goes; meets = w.meets; ran = ran_then M step peek (record { runs = λ ms done h. ran_tell M step peek says place ms done c y ys xs fin first same h }) w.ran })
         | inr w ↦ inr (record { more = w.more; now = w.now; there = w.there; shown_so = e ∙ ap (λ (v : List Event). host_event x ∷ v) w.shown_so ∙ ap (λ (v : Event). v ∷ (events_of ys ++ w.more)) (sym is); plays = w.plays; goes = w.goes; ran = ran_then M step peek (record { runs = λ ms done h. ran_tell M step peek says place ms done c y ys xs fin first same h }) w.ran })
       ]
-  peel {n} {n2} {xs} {ss2} {es} (reaction t before o behind more b u f e p) quiet y ys c fin same first rest meets next =
-      absurd (quiet_first t before o behind (subst AllQuiet u quiet) f.due)
+  peel {n} {n2} {xs} {ss2} {es} (reaction t before o afterwards more b u f e p) quiet y ys c fin same first rest meets next =
+      absurd (quiet_first t before o afterwards (subst AllQuiet u quiet) f.due)
 
 -- a drive in hold to which ATN is freed, and that doesn't talk: it stays, or will let go of DATA
 release_side : (b : Party) (at n : ℕ) (r : Role) → is_talker r ≡ false
-    → (ear : Ear) × (((told at (wires_of (behind_host Atn Free (in_hold true n))) (stands b r (lines false true) (wires_of (in_hold true n)) (Hearing Holding))).side ≡ Hearing ear) × EarHolds ear (lines false true))
+    → (ear : Ear) × (((told at (wires_of (after_the_host Atn Free (in_hold true n))) (stands b r (lines false true) (wires_of (in_hold true n)) (Hearing Holding))).side ≡ Hearing ear) × EarHolds ear (lines false true))
 release_side b at n Absent h = (Leaving (at + b.reaction), (refl, refl))
 release_side b at n Listener h = (Holding, (refl, refl))
 release_side b at n Talker h = absurd cc
 
 module _ (M : Type 0) (step : M → Act → M) (peek : M → Option (ℕ × Bool)) (says : ℕ → Option (ℕ × Bool)) (place : ℕ → ℕ) where
-  -- both ways that a station goes: with the whole piece, and behind the host's change with the rest
+  -- both ways that a station goes: with the whole piece, and after the host's change with the rest
   module _ (p : Point) (w : Whole) (at : ℕ) (ys : List Step) (fits : Fits p w) (attention : p.place ≡ Commanding true) (steps : steps_of p w ≡ for_each Released (host at Atn Free) ∷ ys)
       (quiet : (s : Seat) (q : Port) → StandsAmong (whole_point p w) (next_seat w s) q → port_due q ≡ None) (noatn : NoAtn ys) (mild : (d : ℕ) → OthersData d ys)
       (silent : (s : Seat) → IsSound p s → is_talker s.role ≡ false) (any : (s : Seat) (d : ℕ) → SaysAs s.role (Full w) (says d)) where
@@ -121,10 +121,10 @@ module _ (M : Type 0) (step : M → Act → M) (peek : M → Option (ℕ × Bool
         let f2 : FollowsAmong (says d) x.rest q (for_each Released (host at Atn Free) ∷ ys) r2 q2 = subst (λ (v : List Step). FollowsAmong (says d) x.rest q v r2 q2) steps f in
         let g = among_host (says d) f2 due in
         let z = release_side s.party at k.0 s.role (silent s h.sound) in
-        let same : told at (wires_of (behind_host Atn Free x.rest)) q ≡ told at (wires_of (behind_host Atn Free (in_hold true k.0))) (stands s.party s.role (lines false true) (wires_of (in_hold true k.0)) (Hearing Holding)) =
-        ap (λ (v : Rest). told at (wires_of (behind_host Atn Free v)) q) rest ∙ ap (λ (v : Port). told at (wires_of (behind_host Atn Free (in_hold true k.0))) v) port in
-        let now : (told at (wires_of (behind_host Atn Free x.rest)) q).side ≡ Hearing z.0 = ap (λ (v : Port). v.side) same ∙ z.1.0 in
-        let holds : SideHolds (told at (wires_of (behind_host Atn Free x.rest)) q).side q.own = subst (λ (v : Side). SideHolds v q.own) (sym now) (subst (λ (v : Held). EarHolds z.0 v) (sym own) z.1.1) in
+        let same : told at (wires_of (after_the_host Atn Free x.rest)) q ≡ told at (wires_of (after_the_host Atn Free (in_hold true k.0))) (stands s.party s.role (lines false true) (wires_of (in_hold true k.0)) (Hearing Holding)) =
+        ap (λ (v : Rest). told at (wires_of (after_the_host Atn Free v)) q) rest ∙ ap (λ (v : Port). told at (wires_of (after_the_host Atn Free (in_hold true k.0))) v) port in
+        let now : (told at (wires_of (after_the_host Atn Free x.rest)) q).side ≡ Hearing z.0 = ap (λ (v : Port). v.side) same ∙ z.1.0 in
+        let holds : SideHolds (told at (wires_of (after_the_host Atn Free x.rest)) q).side q.own = subst (λ (v : Side). SideHolds v q.own) (sym now) (subst (λ (v : Held). EarHolds z.0 v) (sym own) z.1.1) in
         let end : (t : ℕ) (zs : List Step) → port_due q2 ≡ Some t → AllBefore t zs = λ t zs e. (let none = quiet s q2 there in let c : Some t ≡ None = sym e ∙ none in absurd cc) in
         let goes = goes_of (says d) g.1 holds refl noatn (mild d) in (
           record {

@@ -17,7 +17,7 @@ use Rattle.cbm_session.proofs.headline.Meeting.{FirstIs}
 use Rattle.cbm_session.proofs.headline.ReleaseBus.{AllQuiet}
 use Rattle.cbm_session.proofs.headline.Premises.{mute}
 use Rattle.cbm_session.proofs.joining.Merging.{NoneBefore, AllBefore}
-use Rattle.cbm_session.specs.Among.{Rest, wires_of, behind_host}
+use Rattle.cbm_session.specs.Among.{Rest, wires_of, after_the_host}
 use Rattle.cbm_session.specs.Following.{IsInTime, reaction_steps}
 use Rattle.cbm_session.specs.Playing.{Station, IsLaterDue, AllLater}
 use Rattle.cbm_session.specs.Steps.{Step, moment_of, events_of}
@@ -54,9 +54,9 @@ module _ (M : Type 0) (step : M → Act → M) (peek : M → Option (ℕ × Bool
   SomeDue t [] = ⊥
   SomeDue t (s ∷ ss) = (port_due s.port ≡ Some t) ⊎ SomeDue t ss
 
-  pub due_among : (t : ℕ) (before : List (Station M)) (o : Station M) (behind : List (Station M)) → port_due o.port ≡ Some t → SomeDue t (before ++ o ∷ behind)
-  due_among t [] o behind e = inl e
-  due_among t (b ∷ before) o behind e = inr (due_among t before o behind e)
+  pub due_among : (t : ℕ) (before : List (Station M)) (o : Station M) (afterwards : List (Station M)) → port_due o.port ≡ Some t → SomeDue t (before ++ o ∷ afterwards)
+  due_among t [] o afterwards e = inl e
+  due_among t (b ∷ before) o afterwards e = inr (due_among t before o afterwards e)
 
   pub quiet_due : (place : ℕ → ℕ) (t : ℕ) (ss : List (Station M)) → AllQuiet M step peek mute place ss → SomeDue t ss → ⊥
   quiet_due place t [] q d = d
@@ -75,24 +75,24 @@ module _ (M : Type 0) (step : M → Act → M) (peek : M → Option (ℕ × Bool
     goes_first t (s ∷ ss) z zs (e ∷ fin) g (inl k) = first_by (says s.port.party.device) g.0.goes t k
     goes_first t (s ∷ ss) z zs (e ∷ fin) g (inr d) = goes_first t ss z zs fin g.1 d
 
-    clock_same : (way : Way) (r : Rest) (q : Port) → q.others ≡ wires_of r → is_same q.others.clock_low (wires_of (behind_host Data way r)).clock_low ≡ true
+    clock_same : (way : Way) (r : Rest) (q : Port) → q.others ≡ wires_of r → is_same q.others.clock_low (wires_of (after_the_host Data way r)).clock_low ≡ true
     clock_same way r q seen = ap (λ (l : Lines). is_same l.clock_low (wires_of r).clock_low) seen ∙ same (wires_of r).clock_low
       where
         same : (v : Bool) → is_same v v ≡ true
         same true = refl
         same false = refl
 
-    -- Behind a change of DATA at that moment what is due is still due, so a drive's step has to come then.
-    data_behind : (t : ℕ) (s : Station M) (w : Way) (y : Step) (others : List Step) (r2 : Rest) (q2 : Port) → s.port.others ≡ wires_of s.rest → port_due s.port ≡ Some t → moment_of y ≡ t → NoneBefore (suc t) others → ((u : ℕ) → port_due q2 ≡ Some u → AllBefore u (y ∷ others))
-        → Goes (says s.port.party.device) (behind_host Data w s.rest) (told t (wires_of (behind_host Data w s.rest)) s.port) others r2 q2 → ⊥
-    data_behind t s w y others r2 q2 seen due at none end g = by_list others none end g
+    -- After a change of DATA at that moment what is due is still due, so a drive's step has to come then.
+    data_following : (t : ℕ) (s : Station M) (w : Way) (y : Step) (others : List Step) (r2 : Rest) (q2 : Port) → s.port.others ≡ wires_of s.rest → port_due s.port ≡ Some t → moment_of y ≡ t → NoneBefore (suc t) others → ((u : ℕ) → port_due q2 ≡ Some u → AllBefore u (y ∷ others))
+        → Goes (says s.port.party.device) (after_the_host Data w s.rest) (told t (wires_of (after_the_host Data w s.rest)) s.port) others r2 q2 → ⊥
+    data_following t s w y others r2 q2 seen due at none end g = by_list others none end g
       where
-        still : port_due (told t (wires_of (behind_host Data w s.rest)) s.port) ≡ Some t
+        still : port_due (told t (wires_of (after_the_host Data w s.rest)) s.port) ≡ Some t
         still =
-            let out = told_out s.port t s.rest (behind_host Data w s.rest) seen (host_atn Data w s.rest refl) in
-            ap (λ (v : Side). side_due v) (out.0 ∙ data_steady s.port.party.reaction t t s.port.others (wires_of (behind_host Data w s.rest)) s.port.side (clock_same w s.rest s.port seen) due) ∙ due
+            let out = told_out s.port t s.rest (after_the_host Data w s.rest) seen (host_atn Data w s.rest refl) in
+            ap (λ (v : Side). side_due v) (out.0 ∙ data_steady s.port.party.reaction t t s.port.others (wires_of (after_the_host Data w s.rest)) s.port.side (clock_same w s.rest s.port seen) due) ∙ due
 
-        by_list : (zs : List Step) → NoneBefore (suc t) zs → ((u : ℕ) → port_due q2 ≡ Some u → AllBefore u (y ∷ zs)) → Goes (says s.port.party.device) (behind_host Data w s.rest) (told t (wires_of (behind_host Data w s.rest)) s.port) zs r2 q2 → ⊥
+        by_list : (zs : List Step) → NoneBefore (suc t) zs → ((u : ℕ) → port_due q2 ≡ Some u → AllBefore u (y ∷ zs)) → Goes (says s.port.party.device) (after_the_host Data w s.rest) (told t (wires_of (after_the_host Data w s.rest)) s.port) zs r2 q2 → ⊥
         by_list [] n end g3 =
             let stays = goes_none (says s.port.party.device) g3 in
             let late = (end t (ap (λ (v : Port). port_due v) stays ∙ still)).0 in
@@ -107,9 +107,9 @@ module _ (M : Type 0) (step : M → Act → M) (peek : M → Option (ℕ × Bool
       where
         by_goes : {z : Step} → Goes (says s.port.party.device) s.rest s.port (z ∷ others) e.0 e.1 → z.event.who ≡ Host → z.event.change.line ≡ Data → moment_of z ≡ t → ((u : ℕ) → port_due e.1 ≡ Some u → AllBefore u (z ∷ others)) → ⊥
         by_goes {z} (tells {t = u} {line = l} {way = w} i k f) h d m end =
-            let f2 = subst (λ (v : Line). Goes (says s.port.party.device) (behind_host v w s.rest) (told u (wires_of (behind_host v w s.rest)) s.port) others e.0 e.1) d f in
-            let f3 = subst (λ (v : ℕ). Goes (says s.port.party.device) (behind_host Data w s.rest) (told v (wires_of (behind_host Data w s.rest)) s.port) others e.0 e.1) m f2 in
-            data_behind t s w z others e.0 e.1 g.seen due m none end f3
+            let f2 = subst (λ (v : Line). Goes (says s.port.party.device) (after_the_host v w s.rest) (told u (wires_of (after_the_host v w s.rest)) s.port) others e.0 e.1) d f in
+            let f3 = subst (λ (v : ℕ). Goes (says s.port.party.device) (after_the_host Data w s.rest) (told v (wires_of (after_the_host Data w s.rest)) s.port) others e.0 e.1) m f2 in
+            data_following t s w z others e.0 e.1 g.seen due m none end f3
         by_goes (hears {o} a i y2 k f) h d m end = absurd (host_drive o (sym h))
         by_goes {z} (reacts u more x2 x sh l f) h d m end =
             let dev = s.port.party.device in

@@ -1,4 +1,4 @@
--- A frame of the talker on a bus: under way it is the frame of the byte that the talker's machine has to say; played to its end it says that byte, and all stand behind it.
+-- A frame of the talker on a bus: under way it is the frame of the byte that the talker's machine has to say; played to its end it says that byte, and all stand after it.
 use Rattle.cbm_session.proofs.alone.Frames.{done_due}
 use Rattle.cbm_iec.specs.Profile.{bit_time}
 use Rattle.std.proofs.Common.{◌≡◌, ℕ, suc, ◌+◌, ◌≤◌, ◌<◌, ◌⊎◌, inl, inr, Bool, true, false, List, [], ◌∷◌, ◌++◌, map, Option, Some, None, ap, sym, ◌∙◌, subst, arith, refl, eq-eqb}
@@ -31,7 +31,7 @@ use Rattle.cbm_session.proofs.headline.FrameBus.{ear_asks, StandsSo, AllStand, A
 use Rattle.cbm_session.proofs.headline.CutBus.{noatn_front}
 use Rattle.cbm_session.proofs.headline.GoesOf.{OthersData, goes_of, goes_idle, idle}
 use Rattle.cbm_session.proofs.headline.Meeting.{Compat, LastSaid, AsksFor}
-use Rattle.cbm_session.proofs.headline.PieceBus.{whole_of, upto, seat_behind, all_sooner, upto_fits, piece_tidy, tidy_plain, all_go_with}
+use Rattle.cbm_session.proofs.headline.PieceBus.{whole_of, upto, seat_afterwards, all_sooner, upto_fits, piece_tidy, tidy_plain, all_go_with}
 use Rattle.cbm_session.proofs.headline.SideStates.{SideHolds}
 use Rattle.cbm_session.proofs.headline.TalkParts.{told_last, told_noatn}
 use Rattle.cbm_session.proofs.headline.Ties.{Placed}
@@ -162,7 +162,7 @@ module _ (M : Type 0) (step : M → Act → M) (peek : M → Option (ℕ × Bool
               end = end;
             }
 
-    -- behind a frame nothing is due before its last step, and behind a cut nothing before it
+    -- after a frame nothing is due before its last step, and after a cut nothing before it
     whole_end : (f : Told) (fits : Fits p (Talk at f)) (x : Seat) (q2 : Port) → StandsAmong (whole_point p (Talk at f)) (next_seat (Talk at f) x) q2 → (t : ℕ) → port_due q2 ≡ Some t → AllBefore t (steps_of p (Talk at f))
     whole_end f fits x q2 there t e = go (is_last f) refl (next_seat (Talk at f) x).role there.side
       where
@@ -179,7 +179,7 @@ module _ (M : Type 0) (step : M → Act → M) (peek : M → Option (ℕ × Bool
             let soon = since_accept (talker_of p.seats) f false l refl in
             done_before (told_since (talker_of p.seats) f) t (steps_of p (Talk at f)) (omega (arith, late, soon)) done
 
-    frame_end : (f : Told) (o : Option ℕ) (fits : PieceFits p (upto o (Talk at f))) (x : Seat) (q2 : Port) → StandsAmong (point_after p (upto o (Talk at f))) (seat_behind p (upto o (Talk at f)) x) q2 → (t : ℕ) → port_due q2 ≡ Some t → AllBefore t (piece_steps p (upto o (Talk at f)))
+    frame_end : (f : Told) (o : Option ℕ) (fits : PieceFits p (upto o (Talk at f))) (x : Seat) (q2 : Port) → StandsAmong (point_after p (upto o (Talk at f))) (seat_afterwards p (upto o (Talk at f)) x) q2 → (t : ℕ) → port_due q2 ≡ Some t → AllBefore t (piece_steps p (upto o (Talk at f)))
     frame_end f None fits x q2 there t e = whole_end f fits x q2 there t e
     frame_end f (Some c) fits x q2 there t e = let late : c ≤ t = subst (λ (v : Option ℕ). IsInTime c v) e there.side in all_sooner c t (before c (steps_of p (Talk at f))) late (front_before c (steps_of p (Talk at f)))
 
@@ -212,7 +212,7 @@ module _ (M : Type 0) (step : M → Act → M) (peek : M → Option (ℕ × Bool
     -- A frame that says the machine's byte, whole or cut, on a bus, as far as the host does the same.
     pub talk_on_bus : (f : Told) (o : Option ℕ) → PieceFits p (upto o (Talk at f)) → says (device s) ≡ Some (number_of f.bits, is_last f) → Placed place p.seats → RisingIn M step peek says place (map (λ x. device x) p.seats) → (xs : List (Station M)) → AllStand M step peek says place p p.seats xs
         → AllWith M step peek says place Telling p.seats xs → {n1 n2 : ℕ} {ss2 : List (Station M)} {es : List Event} → Plays M step peek n1 xs es n2 ss2 → (rest : List Event) → Compat (piece_steps p (upto o (Talk at f))) (es ++ rest)
-        → (fin : List (Rest × Port)) × (AllEnd M step peek says place (point_after p (upto o (Talk at f))) (map (λ x. seat_behind p (upto o (Talk at f)) x) p.seats) fin
+        → (fin : List (Rest × Port)) × (AllEnd M step peek says place (point_after p (upto o (Talk at f))) (map (λ x. seat_afterwards p (upto o (Talk at f)) x) p.seats) fin
         × (WithinAll M step peek says place xs (piece_steps p (upto o (Talk at f))) fin es rest ss2 ⊎ PassedAll M step peek says place xs (piece_steps p (upto o (Talk at f))) fin es n2 ss2))
     talk_on_bus f o fits said placed rising xs stand tells plays rest meets =
         let w = Talk at f in

@@ -33,7 +33,7 @@ use Rattle.cbm_session.specs.Playing.{Station, Plays}
 use Rattle.cbm_session.specs.Seats.{device, talker_of}
 use Rattle.cbm_session.specs.Steps.{Step, moment_of, events_of, host, drive, for_one}
 
--- a change of the host is one of DATA, and all behind it comes later
+-- a change of the host is one of DATA, and all after it comes later
 abbrev OfHost : Step → List Step → Type 0
 OfHost s ss = s.event.who ≡ Host → (s.event.change.line ≡ Data) × NoneBefore (suc (moment_of s)) ss
 
@@ -45,9 +45,9 @@ strict_at : (front : List Step) (s : Step) (others : List Step) → Strict (fron
 strict_at [] s others h = h.0
 strict_at (x ∷ front) s others h = strict_at front s others h.1
 
-strict_behind : (xs ys : List Step) → Every OfDrive xs → Strict ys → Strict (xs ++ ys)
-strict_behind [] ys a s = s
-strict_behind (x ∷ xs) ys a s = (λ w. absurd (a.0 w), strict_behind xs ys a.1 s)
+strict_after : (xs ys : List Step) → Every OfDrive xs → Strict ys → Strict (xs ++ ys)
+strict_after [] ys a s = s
+strict_after (x ∷ xs) ys a s = (λ w. absurd (a.0 w), strict_after xs ys a.1 s)
 
 bits_of_drive : (b : Party) (at : ℕ) (held : Bool) (bits : List Bool) → Every OfDrive (bit_steps b at held bits)
 bits_of_drive b at true [] = (not_host b.device, (not_host b.device, tt))
@@ -80,7 +80,7 @@ told_strict b at f h some order = (λ w. absurd (not_host b.device w), by_signal
         go false = (λ w. (refl, tt), tt)
 
     bits : (first : ℕ) → Strict (bit_steps b first false f.bits ++ for_one b.device (Said (number_of f.bits) (is_last f)) (host f.accept Data Pull) ∷ (if is_last f then drive b.device (f.accept + b.reaction) Clock Free ∷ [] else []))
-    bits first = strict_behind (bit_steps b first false f.bits) (for_one b.device (Said (number_of f.bits) (is_last f)) (host f.accept Data Pull) ∷ (if is_last f then drive b.device (f.accept + b.reaction) Clock Free ∷ [] else [])) (bits_of_drive b first false f.bits) accepted
+    bits first = strict_after (bit_steps b first false f.bits) (for_one b.device (Said (number_of f.bits) (is_last f)) (host f.accept Data Pull) ∷ (if is_last f then drive b.device (f.accept + b.reaction) Clock Free ∷ [] else [])) (bits_of_drive b first false f.bits) accepted
 
     by_signal : (x : Option (ℕ × ℕ)) → f.signal ≡ x → SignalFits f.free x
         → InOrder (host f.free Data Free ∷ (signal_steps f.signal ++ (bit_steps b (first_bit b f) false f.bits ++ for_one b.device (Said (number_of f.bits) (is_last f)) (host f.accept Data Pull) ∷ (if is_last f then drive b.device (f.accept + b.reaction) Clock Free ∷ [] else []))))

@@ -182,7 +182,7 @@ sending_holds e r t others peek at byte last left half own h = elim (leb_tells 1
     odd : nat_le 16 half ≡ false → ((half % 2) == 0) ≡ false → own.clock_low ≡ true → clock_before (half + 1) ≡ false → Goal (nat_le 16 half) ((half % 2) == 0)
     odd e f o n = subst (λ (v : Bool). Goal v ((half % 2) == 0)) (sym e) (subst (λ (u : Bool). Goal false u) (sym f) (sym n, λ k. nothing_clock t true own.data_low own.data_low own o k))
 
--- Behind its reaction it holds what it should, and the reaction shows.
+-- After its reaction it holds what it should, and the reaction shows.
 pub react_holds : (e : Pace) → (r t : ℕ) (others : Lines) (peek : Option (ℕ × Bool)) (mouth : Mouth) (own : Held) → mouth_due mouth ≡ Some t → Holds mouth own
     → Holds ((mouth_row e peek mouth).next r t others) ((mouth_row e peek mouth).held own) × (changes_between t own ((mouth_row e peek mouth).held own) ≡ [] → ⊥)
 react_holds v r t others peek Turned own e h = absurd cc
@@ -273,7 +273,7 @@ NoneSaid (Some Released) = Unit {0}
 NoneSaid (Some (Attention n)) = Unit {0}
 NoneSaid (Some (Heard n eoi)) = Unit {0}
 
--- told of a change of CLOCK or DATA, and behind its reaction, it asks for the same byte, unless one that isn't the last was said
+-- told of a change of CLOCK or DATA, and after its reaction, it asks for the same byte, unless one that isn't the last was said
 turn_asks : (A : Type 0) (r m : ℕ) (low : Bool) → A → Asks (after_turn r m low) A
 turn_asks A r m true a = a
 turn_asks A r m false a = a

@@ -91,7 +91,7 @@ twin_compat t (y ∷ ys) [] rest w = elim w [ ]
 twin_compat t (y ∷ ys) (x ∷ xs) rest (inl w) = (same_meets y x.event w.0, λ e. twin_compat t ys xs rest w.1)
 twin_compat t (y ∷ ys) (x ∷ xs) rest (inr w) = (apart_meets t y.event.who (moment_of y) x.event.who (moment_of x) (y.event ≡ x.event) w.0, λ e. absurd (w.1 e))
 
--- and cut at a moment, behind which the host comes next
+-- and cut at a moment, after which the host comes next
 abbrev pub HostNext : ℕ → List Event → Type 0
 HostNext c [] = Unit {0}
 HostNext c (x ∷ xs) = (x.who ≡ Host) × (c ≤ x.change.moment)

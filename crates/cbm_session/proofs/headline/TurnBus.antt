@@ -38,7 +38,7 @@ use Rattle.cbm_session.proofs.headline.BusStep.{Tied}
 use Rattle.cbm_session.proofs.headline.FrameBus.{ear_asks, StandsSo, AllStand, AllEnd, AllWith, devs_are}
 use Rattle.cbm_session.proofs.headline.GoesOf.{DataOf, OthersData, goes_of, goes_idle, leaving}
 use Rattle.cbm_session.proofs.headline.Meeting.{Compat, AsksFor, LastSaid, SaysOpen}
-use Rattle.cbm_session.proofs.headline.PieceBus.{upto, seat_behind, follow, piece_order, steps_go, steps_tied, steps_sit, every_before, all_sooner, upto_fits}
+use Rattle.cbm_session.proofs.headline.PieceBus.{upto, seat_afterwards, follow, piece_order, steps_go, steps_tied, steps_sit, every_before, all_sooner, upto_fits}
 use Rattle.cbm_session.proofs.headline.PullSettled.{holding_told, among_told}
 use Rattle.cbm_session.proofs.headline.ReleaseBus.{AllQuiet, peel}
 use Rattle.cbm_session.proofs.headline.SideStates.{SideHolds, SideAsks}
@@ -50,16 +50,16 @@ use Rattle.cbm_session.proofs.joining.Talkers.{talker_is}
 use Rattle.cbm_session.proofs.reading.OneReading.{is_atn, NoAtn}
 use Rattle.cbm_session.proofs.reading.PieceReadings.{next_seat}
 use Rattle.cbm_session.proofs.timing.SessionOrder.{steps_done, end_by}
-use Rattle.cbm_session.specs.Among.{Rest, wires_of, behind_host, FollowsAmong}
+use Rattle.cbm_session.specs.Among.{Rest, wires_of, after_the_host, FollowsAmong}
 use Rattle.cbm_session.specs.Buses.{SaysAs, SideAmong, StandsAmong}
 use Rattle.cbm_session.specs.Following.{IsInTime, Says}
 use Rattle.cbm_session.specs.Laws.{SeatsReact, GoesOn}
-use Rattle.cbm_session.specs.Pieces.{silent_part, Whole, Piece, Point, own_part, steps_of, before, piece_steps, let_go, freed_steps, behind_all, Fits, CutFits, PieceFits, whole_point, point_after, Full, Cut, ToTalker, Nothing, Commanding, Leading}
+use Rattle.cbm_session.specs.Pieces.{silent_part, Whole, Piece, Point, own_part, steps_of, before, piece_steps, let_go, freed_steps, after_all_of, Fits, CutFits, PieceFits, whole_point, point_after, Full, Cut, ToTalker, Nothing, Commanding, Leading}
 use Rattle.cbm_session.specs.Playing.{Station, tell, Plays}
 use Rattle.cbm_session.specs.Seats.{lines, Seat, device, is_listener, is_talker, has_listener, talker_of}
 use Rattle.cbm_session.specs.Steps.{Step, host, drive, for_each}
 
--- a step behind ATN's release: no change of ATN, no byte said, and of the drives only the talker changes CLOCK
+-- a step after ATN's release: no change of ATN, no byte said, and of the drives only the talker changes CLOCK
 abbrev pub OfTurn : ℕ → Step → Type 0
 OfTurn d s = (is_atn s.event.change.line ≡ false) × SaysOpen s.mark × DataOf d s.event.who s.event.change.line
 
@@ -113,12 +113,12 @@ module _ (p : Point) (s : Seat) (sound : IsSound p s) (talks : s.role ≡ Talker
   mute_turn freed = every_each (OfTurn (device s)) (λ (x : Seat). own_part p (Nothing at clock freed) x) (host clock Clock Free ∷ freed_steps freed) p.seats ((refl, tt, tt), freed_turn (device s) freed)
       (each (λ x. nat_eq (device s) (device x) ≡ false → is_talker x.role ≡ false) (λ x. Every (OfTurn (device s)) (own_part p (Nothing at clock freed) x)) p.seats (λ x k. mute_own freed x k) (only_talker (device s) p.seats s sound.seated.one sound.seated.sits (ap is_talker talks)))
 
--- what stands behind all releases is before the talker's next frame
-pub behind_below : (at m k : ℕ) (seats : List Seat) → SeatsReact seats → m < k → at + 61 < k → behind_all at m seats < k
-behind_below at m k [] r l h = l
-behind_below at m k (x ∷ xs) r l h = go x.role (behind_below at m k xs r.2 l h)
+-- what stands after all releases is before the talker's next frame
+pub after_below : (at m k : ℕ) (seats : List Seat) → SeatsReact seats → m < k → at + 61 < k → after_all_of at m seats < k
+after_below at m k [] r l h = l
+after_below at m k (x ∷ xs) r l h = go x.role (after_below at m k xs r.2 l h)
   where
-    go : (q : Role) → behind_all at m xs < k → (elim q as (λ u. ℕ) [ Absent ↦ max (at + x.party.reaction + 1) (behind_all at m xs) | Listener ↦ behind_all at m xs | Talker ↦ behind_all at m xs ]) < k
+    go : (q : Role) → after_all_of at m xs < k → (elim q as (λ u. ℕ) [ Absent ↦ max (at + x.party.reaction + 1) (after_all_of at m xs) | Listener ↦ after_all_of at m xs | Talker ↦ after_all_of at m xs ]) < k
     go Absent b = let few = r.1 in omega (arith, b, h, few)
     go Listener b = b
     go Talker b = b
@@ -135,20 +135,20 @@ freed_told t r r2 q seen low free =
           ∙ ap (λ (v : Bool). if v then lined_act q.others now q.side else Some (if v then Pulled else Released)) free,
     )
 
--- a cut behind ATN's release
+-- a cut after ATN's release
 turn_cut : (at c : ℕ) (ys : List Step) → at + 1 ≤ c → before c (turn_begins at ys) ≡ turn_begins at (before c ys)
 turn_cut at c ys l =
     before_yes c (host at Data Pull) (for_each Released (host at Atn Free) ∷ ys) (omega (arith, l))
     ∙ ap (λ (zs : List Step). host at Data Pull ∷ zs) (before_yes c (for_each Released (host at Atn Free)) ys (omega (arith, l)))
 
 module _ (M : Type 0) (step : M → Act → M) (peek : M → Option (ℕ × Bool)) (says : ℕ → Option (ℕ × Bool)) (place : ℕ → ℕ) where
-  -- what the machine of the talker has to say behind ATN's release
+  -- what the machine of the talker has to say after ATN's release
   abbrev pub Answers : Seat → Station M → Type 0
   Answers x z = x.role ≡ Talker → peek (step z.machine Released) ≡ says z.port.party.device
 
-  -- A turnaround that fits, with what comes behind ATN's release.
+  -- A turnaround that fits, with what comes after ATN's release.
   module _ (p : Point) (piece : Piece) (at : ℕ) (ys : List Step) (s : Seat) (sound : IsSound p s) (talks : s.role ≡ Talker) (fits : PieceFits p piece) (attention : p.place ≡ Commanding true) (deaf : has_listener p.seats ≡ false) (steps : piece_steps p piece ≡ turn_begins at ys)
-      (kind : Every (OfTurn (device s)) ys) (later : (x : Seat) (q : Port) → StandsAmong (point_after p piece) (seat_behind p piece x) q → (t : ℕ) → port_due q ≡ Some t → AllBefore t (turn_begins at ys))
+      (kind : Every (OfTurn (device s)) ys) (later : (x : Seat) (q : Port) → StandsAmong (point_after p piece) (seat_afterwards p piece x) q → (t : ℕ) → port_due q ≡ Some t → AllBefore t (turn_begins at ys))
       (said : (x : Seat) → IsSound p x → (d : ℕ) → device x ≡ d → SaysAs x.role piece (says d)) where
     abbrev pulled : Change
     pulled = (host at Data Pull).event.change
@@ -176,7 +176,7 @@ module _ (M : Type 0) (step : M → Act → M) (peek : M → Option (ℕ × Bool
       pub still : port_due (once x).port ≡ None
 
     one_turned : (x : Seat) (z : Station M) → StandsSo M step peek says place p x z → (x.role ≡ Talker → peek (step z.machine Released) ≡ says z.port.party.device) → (r2 : Rest) (q2 : Port) → FollowsAmong (says z.port.party.device) z.rest z.port (piece_steps p piece) r2 q2
-        → StandsAmong (point_after p piece) (seat_behind p piece x) q2 → Turned3 z (r2, q2)
+        → StandsAmong (point_after p piece) (seat_afterwards p piece x) q2 → Turned3 z (r2, q2)
     one_turned x z h answer r2 q2 f there =
         let q = z.port in
         let d = q.party.device in
@@ -188,7 +188,7 @@ module _ (M : Type 0) (step : M → Act → M) (peek : M → Option (ℕ × Bool
         let seen : q.others ≡ wires_of z.rest = h.stands.others ∙ ap (λ (r : Rest). wires_of r) (sym h.rest) in
         let host_low : z.rest.host.clock_low ≡ true = ap (λ (r : Rest). r.host.clock_low) rest in
         let atn : (wires_of z.rest).atn_low ≡ true = ap (λ (r : Rest). r.host.atn_low) rest in
-        let r1 = behind_host Data Pull z.rest in
+        let r1 = after_the_host Data Pull z.rest in
         let q1 = told at (wires_of r1) q in
         let low = clock_held z.rest host_low in
         let low1 = clock_held r1 host_low in
@@ -198,7 +198,7 @@ module _ (M : Type 0) (step : M → Act → M) (peek : M → Option (ℕ × Bool
         let f0 : FollowsAmong (says d) z.rest q (turn_begins at ys) r2 q2 = subst (λ (v : List Step). FollowsAmong (says d) z.rest q v r2 q2) steps f in
         let g1 = among_told (says d) f0 (subst (λ (o : Option ℕ). IsInTime at o) (sym due) tt) in
         let g2 = among_told (says d) g1.1 (subst (λ (o : Option ℕ). IsInTime at o) (sym due1) tt) in
-        let rf = behind_host Atn Free r1 in
+        let rf = after_the_host Atn Free r1 in
         let two = freed_told at r1 rf q1 refl atn refl in
         let now : (twice z).port.side ≡ freed_side q.party.reaction at true x.role (Hearing Holding) =
         two.0 ∙ ap (λ (v : Bool). freed_side q.party.reaction at v q.role q1.side) (clock_held rf host_low) ∙ ap (λ (v : Role). freed_side q.party.reaction at true v q1.side) h.stands.role ∙ ap (λ (v : Side). freed_side q.party.reaction at true x.role v) one.0 in
@@ -259,7 +259,7 @@ module _ (M : Type 0) (step : M → Act → M) (peek : M → Option (ℕ × Bool
     all_turned : (ss : List Seat) (xs : List (Station M)) → AllStand M step peek says place p ss xs → AllWith M step peek says place Answers ss xs
         → (es : List (Rest × Port)) × (AllGo M step peek says place xs (turn_begins at ys) es × AllGo M step peek says place (map (λ x. once x) xs) (for_each Released (host at Atn Free) ∷ ys) es
         × AllGo M step peek says place (map (λ x. tell M step peek freed x) (map (λ x. once x) xs)) ys es
-        × AllEnd M step peek says place (point_after p piece) (map (λ x. seat_behind p piece x) ss) es × AllQuiet M step peek says place xs × AllQuiet M step peek says place (map (λ x. once x) xs))
+        × AllEnd M step peek says place (point_after p piece) (map (λ x. seat_afterwards p piece x) ss) es × AllQuiet M step peek says place xs × AllQuiet M step peek says place (map (λ x. once x) xs))
     all_turned [] [] h a = ([], (tt, tt, tt, tt, tt, tt))
     all_turned [] (z ∷ xs) h a = elim h [ ]
     all_turned (x ∷ ss) [] h a = elim h [ ]
@@ -279,7 +279,7 @@ module _ (M : Type 0) (step : M → Act → M) (peek : M → Option (ℕ × Bool
     -- The turnaround as the drives of a bus play it, as far as the host does the same.
     pub turned_on_bus : Placed place p.seats → RisingIn M step peek says place (map (λ x. device x) p.seats) → (xs : List (Station M)) → AllStand M step peek says place p p.seats xs → AllWith M step peek says place Answers p.seats xs → {n n2 : ℕ} {ss2 : List (Station M)} {es : List Event} → Plays M step peek n xs es n2 ss2
         → (rest : List Event) → Compat (turn_begins at ys) (es ++ rest)
-        → (fin : List (Rest × Port)) × (AllEnd M step peek says place (point_after p piece) (map (λ x. seat_behind p piece x) p.seats) fin × (WithinAll M step peek says place xs (piece_steps p piece) fin es rest ss2 ⊎ PassedAll M step peek says place xs (piece_steps p piece) fin es n2 ss2))
+        → (fin : List (Rest × Port)) × (AllEnd M step peek says place (point_after p piece) (map (λ x. seat_afterwards p piece x) p.seats) fin × (WithinAll M step peek says place xs (piece_steps p piece) fin es rest ss2 ⊎ PassedAll M step peek says place xs (piece_steps p piece) fin es n2 ss2))
     turned_on_bus placed rising xs stand answer {n} {n2} {ss2} {es} plays rest meets =
         let all = all_turned p.seats xs stand answer in
         let ds = devs_are M step peek says place p p.seats xs stand in
@@ -305,7 +305,7 @@ module _ (M : Type 0) (step : M → Act → M) (peek : M → Option (ℕ × Bool
     talker : talker_of p.seats ≡ s.party
     talker = talker_is (device s) p.seats s sound.seated.one sound.seated.sits (ap is_talker talks)
 
-    -- behind the answer of a talker that leads all is done before its next frame
+    -- after the answer of a talker that leads all is done before its next frame
     lead_later : Fits p (ToTalker at clock) → (x : Seat) (q : Port) → StandsAmong (whole_point p (ToTalker at clock)) (next_seat (ToTalker at clock) x) q → (t : ℕ) → port_due q ≡ Some t → AllBefore t (turn_begins at (leads p at clock))
     lead_later fits x q st t e = go (next_seat (ToTalker at clock) x).role st.side
       where
@@ -316,7 +316,7 @@ module _ (M : Type 0) (step : M → Act → M) (peek : M → Option (ℕ × Bool
             let k : Some t ≡ Some (clock + (talker_of p.seats).reaction + 80) = sym e ∙ ap (λ (v : Side). side_due v) h in
             let is : t ≡ clock + (talker_of p.seats).reaction + 80 = cc in
             let late = fits.1 in
-            let below = behind_below at (clock + (talker_of p.seats).reaction + 1) t p.seats sound.react (omega (arith, is)) (omega (arith, is, late)) in
+            let below = after_below at (clock + (talker_of p.seats).reaction + 1) t p.seats sound.react (omega (arith, is)) (omega (arith, is, late)) in
             subst (AllBefore t) (lead_steps p at clock (omega (arith, fits.1))) (done_before (end_by p (ToTalker at clock)) t (steps_of p (ToTalker at clock)) below (steps_done p s (ToTalker at clock) sound fits))
 
     -- what it has to say is what the piece has
@@ -336,13 +336,13 @@ module _ (M : Type 0) (step : M → Act → M) (peek : M → Option (ℕ × Bool
 
     module _ (placed : Placed place p.seats) (rising : RisingIn M step peek says place (map (λ x. device x) p.seats)) (xs : List (Station M)) (stand : AllStand M step peek says place p p.seats xs) (answer : AllWith M step peek says place Answers p.seats xs) where
       -- of a cut nothing is due before it
-      cut_later : (w : Whole) (c : ℕ) (ys : List Step) → before c (steps_of p w) ≡ turn_begins at ys → (x : Seat) (q : Port) → StandsAmong (point_after p (Cut w c)) (seat_behind p (Cut w c) x) q → (t : ℕ) → port_due q ≡ Some t → AllBefore t (turn_begins at ys)
+      cut_later : (w : Whole) (c : ℕ) (ys : List Step) → before c (steps_of p w) ≡ turn_begins at ys → (x : Seat) (q : Port) → StandsAmong (point_after p (Cut w c)) (seat_afterwards p (Cut w c) x) q → (t : ℕ) → port_due q ≡ Some t → AllBefore t (turn_begins at ys)
       cut_later w c ys e x q st t d = let late : c ≤ t = subst (λ (o : Option ℕ). IsInTime c o) d st.side in all_sooner c t (turn_begins at ys) late (subst (AllBefore c) e (front_before c (steps_of p w)))
 
       turn_on_bus : (w : Whole) (o : Option ℕ) (ys : List Step) → PieceFits p (upto o w) → p.place ≡ Commanding true → has_listener p.seats ≡ false → steps_of p w ≡ turn_begins at ys → ((c : ℕ) → CutFits p w c → at + 1 ≤ c) → Every (OfTurn (device s)) ys
           → ((x : Seat) (q : Port) → StandsAmong (whole_point p w) (next_seat w x) q → (t : ℕ) → port_due q ≡ Some t → AllBefore t (turn_begins at ys)) → Says w (says (device s))
           → {n n2 : ℕ} {ss2 : List (Station M)} {es : List Event} → Plays M step peek n xs es n2 ss2 → (rest : List Event) → Compat (piece_steps p (upto o w)) (es ++ rest)
-          → (fin : List (Rest × Port)) × (AllEnd M step peek says place (point_after p (upto o w)) (map (λ x. seat_behind p (upto o w) x) p.seats) fin
+          → (fin : List (Rest × Port)) × (AllEnd M step peek says place (point_after p (upto o w)) (map (λ x. seat_afterwards p (upto o w) x) p.seats) fin
           × (WithinAll M step peek says place xs (piece_steps p (upto o w)) fin es rest ss2 ⊎ PassedAll M step peek says place xs (piece_steps p (upto o w)) fin es n2 ss2))
       turn_on_bus w None ys fits attention deaf steps cut kind later k {es = es} plays rest meets =
           turned_on_bus p (Full w) at ys s sound talks fits attention deaf steps kind later (said_so w None k) placed rising xs stand answer plays rest (subst (λ (l : List Step). Compat l (es ++ rest)) steps meets)
@@ -351,14 +351,14 @@ module _ (M : Type 0) (step : M → Act → M) (peek : M → Option (ℕ × Bool
           turned_on_bus p (Cut w c) at (before c ys) s sound talks fits attention deaf is (every_before (OfTurn (device s)) c ys kind) (cut_later w c (before c ys) is) (said_so w (Some c) k) placed rising xs stand answer plays rest (subst (λ (l : List Step). Compat l (es ++ rest)) is meets)
 
       pub to_talker_on_bus : (o : Option ℕ) → PieceFits p (upto o (ToTalker at clock)) → Says (ToTalker at clock) (says (device s)) → {n n2 : ℕ} {ss2 : List (Station M)} {es : List Event} → Plays M step peek n xs es n2 ss2 → (rest : List Event) → Compat (piece_steps p (upto o (ToTalker at clock))) (es ++ rest)
-          → (fin : List (Rest × Port)) × (AllEnd M step peek says place (point_after p (upto o (ToTalker at clock))) (map (λ x. seat_behind p (upto o (ToTalker at clock)) x) p.seats) fin
+          → (fin : List (Rest × Port)) × (AllEnd M step peek says place (point_after p (upto o (ToTalker at clock))) (map (λ x. seat_afterwards p (upto o (ToTalker at clock)) x) p.seats) fin
           × (WithinAll M step peek says place xs (piece_steps p (upto o (ToTalker at clock))) fin es rest ss2 ⊎ PassedAll M step peek says place xs (piece_steps p (upto o (ToTalker at clock))) fin es n2 ss2))
       to_talker_on_bus o fits k plays rest meets =
           let whole : Fits p (ToTalker at clock) = upto_fits p o (ToTalker at clock) fits in
           turn_on_bus (ToTalker at clock) o (leads p at clock) fits whole.0.commanding whole.0.listener (lead_steps p at clock (omega (arith, whole.1))) (λ c f. f) (lead_turn p s sound talks at clock) (lead_later whole) k plays rest meets
 
       pub nothing_on_bus : (freed : Option ℕ) (o : Option ℕ) → PieceFits p (upto o (Nothing at clock freed)) → Says (Nothing at clock freed) (says (device s)) → {n n2 : ℕ} {ss2 : List (Station M)} {es : List Event} → Plays M step peek n xs es n2 ss2 → (rest : List Event) → Compat (piece_steps p (upto o (Nothing at clock freed))) (es ++ rest)
-          → (fin : List (Rest × Port)) × (AllEnd M step peek says place (point_after p (upto o (Nothing at clock freed))) (map (λ x. seat_behind p (upto o (Nothing at clock freed)) x) p.seats) fin
+          → (fin : List (Rest × Port)) × (AllEnd M step peek says place (point_after p (upto o (Nothing at clock freed))) (map (λ x. seat_afterwards p (upto o (Nothing at clock freed)) x) p.seats) fin
           × (WithinAll M step peek says place xs (piece_steps p (upto o (Nothing at clock freed))) fin es rest ss2 ⊎ PassedAll M step peek says place xs (piece_steps p (upto o (Nothing at clock freed))) fin es n2 ss2))
       nothing_on_bus freed o fits k plays rest meets =
           let whole : Fits p (Nothing at clock freed) = upto_fits p o (Nothing at clock freed) fits in

@@ -43,9 +43,9 @@ elsewhere_late t (s ∷ ss) n a = (λ k. go (a.0 (host_is s.event.who k)), elsew
     go (inl l) = let early = n.0 in absurd (omega (arith, l, early))
     go (inr l) = l
 
-every_behind : (P : Step → Type 0) (xs ys : List Step) → Every P (xs ++ ys) → Every P ys
-every_behind P [] ys a = a
-every_behind P (x ∷ xs) ys a = every_behind P xs ys a.1
+every_after : (P : Step → Type 0) (xs ys : List Step) → Every P (xs ++ ys) → Every P ys
+every_after P [] ys a = a
+every_after P (x ∷ xs) ys a = every_after P xs ys a.1
 
 owned_elsewhere : (t o : ℕ) (ss : List Step) → AllOwned o ss → Every (Elsewhere t) ss
 owned_elsewhere t o [] a = tt
@@ -75,7 +75,7 @@ moved p w w2 t fits fits2 hosts owns away =
     record {
       back = k.0;
       is = k.1 ∙ ap (λ (l : List Step). l ++ k.0) (sym same);
-      late = elsewhere_late t k.0 k.2 (every_behind (Elsewhere t) (before t (steps_of p w2)) k.0 (subst (Every (Elsewhere t)) k.1 all));
+      late = elsewhere_late t k.0 k.2 (every_after (Elsewhere t) (before t (steps_of p w2)) k.0 (subst (Every (Elsewhere t)) k.1 all));
     }
 
 -- what stands before a change of the host is before it, where the host's is
@@ -117,7 +117,7 @@ hosts_split (x ∷ front) s others w = go (is_host x.event.who) (hosts_split fro
 pub host_parts : (p : Point) (w : Whole) (front : List Step) (s : Step) (others : List Step) → steps_of p w ≡ front ++ s ∷ others → s.event.who ≡ Host → hosts_of front ++ s ∷ hosts_of others ≡ host_part p w
 host_parts p w front s others e who = sym (hosts_split front s others who) ∙ ap (λ (l : List Step). hosts_of l) (sym e) ∙ hosts_part p w
 
--- the host's part of a turnaround, cut behind ATN's release
+-- the host's part of a turnaround, cut after ATN's release
 turn_front : (t at : ℕ) (hs : List Step) → at < t → before t (host at Data Pull ∷ for_each Released (host at Atn Free) ∷ hs) ≡ host at Data Pull ∷ for_each Released (host at Atn Free) ∷ before t hs
 turn_front t at hs l = before_yes t (host at Data Pull) (for_each Released (host at Atn Free) ∷ hs) l ∙ ap (λ (zs : List Step). host at Data Pull ∷ zs) (before_yes t (for_each Released (host at Atn Free)) hs l)
 

@@ -45,7 +45,7 @@ Parts d m n [] ys = ⊥
 Parts d m n (x ∷ xs) [] = ⊥
 Parts d m n (x ∷ xs) (y ∷ ys) = ((x ≡ y) × (moment_of x ≤ m) × Parts d m n xs ys) ⊎ ((moment_of x ≡ m) × (m ≤ moment_of y) × (moment_of y ≤ n) × IsOwn d x.event.who × NotHost y.event.who × (x.event ≡ y.event → ⊥))
 
--- two lists that are the same but for what the second has behind n
+-- two lists that are the same but for what the second has after n
 abbrev pub Alike : ℕ → ℕ → ℕ → List Step → List Step → Type 0
 Alike d m n [] [] = Unit {0}
 Alike d m n [] (y ∷ ys) = n < moment_of y
@@ -105,7 +105,7 @@ parts_differ d m n (x ∷ xs) [] us vs p e = p
 parts_differ d m n (x ∷ xs) (y ∷ ys) us vs (inl p) e = parts_differ d m n xs ys us vs p.2 cc
 parts_differ d m n (x ∷ xs) (y ∷ ys) us vs (inr p) e = let k : x.event ≡ y.event = cc in p.5 k
 
--- the second joined with a list that stands behind n
+-- the second joined with a list that stands after n
 one_late : (d m n : ℕ) (b : Step) (bs xs ys : List Step) → m ≤ n → n < moment_of b → Parts d m n xs ys → Parts d m n xs (merge (b ∷ bs) ys)
 one_late d m n b bs [] ys w l p = elim p [ ]
 one_late d m n b bs (x ∷ xs) [] w l p = elim p [ ]
@@ -169,11 +169,11 @@ parts_first d m n (f ∷ fs) (g ∷ gs) xs ys w a p = subst (λ (v : Step). Part
         is_foreign (inl h) l = absurd (omega (arith, h, l))
         is_foreign (inr h) l = h
 
--- and with other drives' steps that stand behind both
-pub parts_behind : (d m n : ℕ) (xs ys bs : List Step) → Every (Foreign d) bs → Parts d m n xs ys → Parts d m n (merge xs bs) (merge ys bs)
-parts_behind d m n [] ys bs o p = elim p [ ]
-parts_behind d m n (x ∷ xs) [] bs o p = elim p [ ]
-parts_behind d m n (x ∷ xs) (y ∷ ys) bs o p = go bs o p (λ cs w q. parts_behind d m n xs ys cs w q)
+-- and with other drives' steps that stand after both
+pub parts_after : (d m n : ℕ) (xs ys bs : List Step) → Every (Foreign d) bs → Parts d m n xs ys → Parts d m n (merge xs bs) (merge ys bs)
+parts_after d m n [] ys bs o p = elim p [ ]
+parts_after d m n (x ∷ xs) [] bs o p = elim p [ ]
+parts_after d m n (x ∷ xs) (y ∷ ys) bs o p = go bs o p (λ cs w q. parts_after d m n xs ys cs w q)
   where
     go : (bs : List Step) → Every (Foreign d) bs → Parts d m n (x ∷ xs) (y ∷ ys) → ((cs : List Step) → Every (Foreign d) cs → Parts d m n xs ys → Parts d m n (merge xs cs) (merge ys cs)) → Parts d m n (merge (x ∷ xs) bs) (merge (y ∷ ys) bs)
     go [] o (inl p) next = inl (p.0, p.1, next [] tt p.2)
@@ -222,7 +222,7 @@ same_lists d own own2 [] h a = refl
 same_lists d own own2 (x ∷ xs) h a = ap (λ (l : List Step). l ∷ map own xs) (h.0 a.0) ∙ ap (λ (l : List (List Step)). own2 x ∷ l) (same_lists d own own2 xs h.1 a.1)
 
 parts_rest : (d m n : ℕ) (fs gs : List Step) (ls : List Step) → Every (Foreign d) ls → Parts d m n fs gs → Parts d m n (merge fs ls) (merge gs ls)
-parts_rest d m n fs gs ls o p = parts_behind d m n fs gs ls o p
+parts_rest d m n fs gs ls o p = parts_after d m n fs gs ls o p
 
 foreign_all : (d : ℕ) (own : Seat → List Step) (l : List Step) (xs : List Seat) → Every (Foreign d) l → ForOthers d (λ x. Every (Foreign d) (own x)) xs → Apart d xs → Every (Foreign d) (merge_all l (map own xs))
 foreign_all d own l [] a h p = a
@@ -241,7 +241,7 @@ parts_of_bus m n d own own2 fs gs (x ∷ xs) s w a h o (inr i) p =
     parts_first d m n fs gs (merge_all (own x) (map own xs)) (merge_all (own2 x) (map own2 xs)) w a
     (parts_of_bus m n d own own2 (own x) (own2 x) xs s w (subst (λ (l : List Step). Alike d m n (own x) l) (h.0 i.0) (alike d m n (own x) (o.0 i.0))) h.1 o.1 i.1 p)
 
--- The turnaround of a bus: the host's two changes, and what comes behind them.
+-- The turnaround of a bus: the host's two changes, and what comes after them.
 abbrev pub turn_begins : ℕ → List Step → List Step
 turn_begins at ys = host at Data Pull ∷ for_each Released (host at Atn Free) ∷ ys
 

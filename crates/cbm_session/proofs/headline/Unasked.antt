@@ -155,7 +155,7 @@ module _ (M : Type 0) (step : M → Act → M) (peek : M → Option (ℕ × Bool
       go (ForEach act) n more = one act n more true
       go (For o act) n more = one act n more (nat_eq d o)
 
-  -- one list behind another, and the front of one
+  -- one list after another, and the front of one
   pub runs_then : (m : M) (xs ys : List Act) → Runs m xs → Runs (run_acts M step peek m xs) ys → Runs m (xs ++ ys)
   runs_then m [] ys a b = b
   runs_then m (x ∷ xs) ys a b = (a.0, runs_then (step m x) xs ys a.1 b)

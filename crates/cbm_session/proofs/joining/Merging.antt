@@ -54,7 +54,7 @@ order_merge (x ∷ xs) (y ∷ ys) a b =
     (λ h. (none_merge (moment_of x) xs (y ∷ ys) a.0 (h, none_sooner (moment_of x) (moment_of y) ys h b.0), order_merge xs (y ∷ ys) a.1 b))
     (λ h. (none_merge (moment_of y) (x ∷ xs) ys (omega (arith, h), none_sooner (moment_of y) (moment_of x) xs (omega (arith, h)) a.0) b.0, order_merge (x ∷ xs) ys a b.1))
 
--- The steps of a list in order before a moment are its front, and none behind it is before.
+-- The steps of a list in order before a moment are its front, and none after it is before.
 all_from : (at : ℕ) (ss : List Step) → NoneBefore at ss → before at ss ≡ []
 all_from at [] h = refl
 all_from at (s ∷ ss) h = let k = all_from at ss h.1 in rw (lt-leb (suc (moment_of s)) at (omega (arith, h.0)), k)
@@ -90,7 +90,7 @@ front_before at (s ∷ ss) = elim (leb_tells (suc (moment_of s)) at) [
   | inr x ↦ subst (AllBefore at) (sym (before_no at s ss (omega (arith, x.1)))) (front_before at ss)
 ]
 
--- a list that is before up to a place, and isn't before behind it, is cut there
+-- a list that is before up to a place, and isn't after that place, is cut there
 pub cut_is : (at : ℕ) (front back : List Step) → AllBefore at front → NoneBefore at back → before at (front ++ back) ≡ front
 cut_is at [] back a b = all_from at back b
 cut_is at (s ∷ front) back a b = let k = cut_is at front back a.1 b in rw (le-leb (suc (moment_of s)) at (omega (arith, a.0)), k)

@@ -70,9 +70,9 @@ one_frame t s eoi act f =
     ++ for_one (device s) act (drive (device s) (end_of f + reaction s) Data Pull) ∷ []))
 
 -- the drive has let go of DATA, and its pulse is over, before the start
-abbrev pub StartsBehind : ℕ → Seat → Bool → Sent → Type 0
-StartsBehind t s true f = (f.ready + reaction s ≤ t) × (t + 200 + lasting s + 1 ≤ f.start)
-StartsBehind t s false f = f.ready + reaction s + 1 ≤ f.start
+abbrev pub StartsAfter : ℕ → Seat → Bool → Sent → Type 0
+StartsAfter t s true f = (f.ready + reaction s ≤ t) × (t + 200 + lasting s + 1 ≤ f.start)
+StartsAfter t s false f = f.ready + reaction s + 1 ≤ f.start
 
 held_upto : (m at : ℕ) (held : Bool) → at ≤ m → AllUpTo m (where_held held (host at Data Free))
 held_upto m at true h = (h, tt)
@@ -105,7 +105,7 @@ module _ (t : ℕ) (s : Seat) (act : Act) (f : Sent) where
             (held_upto (end_of f + reaction s) (end_of f) (held_after false f.cells) (omega arith)),
       )
 
-  pub frame_is : (eoi : Bool) → StartsBehind t s eoi f → CellsFit false f.start f.cells → merge (sending f) (hearing t eoi act f s) ≡ one_frame t s eoi act f
+  pub frame_is : (eoi : Bool) → StartsAfter t s eoi f → CellsFit false f.start f.cells → merge (sending f) (hearing t eoi act f s) ≡ one_frame t s eoi act f
   frame_is false early cells =
       merge_here (host f.ready Clock Free) (start ∷ tail) freed (accept ∷ []) (omega arith)
       ∙ ap (λ (zs : List Step). host f.ready Clock Free ∷ zs)
@@ -128,10 +128,10 @@ merge_front m [] ys a b = refl
 merge_front m (x ∷ xs) [] a b = ap (λ (zs : List Step). x ∷ zs) (merge_front m xs [] a.1 b)
 merge_front m (x ∷ xs) (y ∷ ys) a b = merge_here x xs y ys (omega (arith, a.0, b)) ∙ ap (λ (zs : List Step). x ∷ zs) (merge_front m xs (y ∷ ys) a.1 b)
 
--- and behind one that is sooner
-pub merge_behind : (x : Step) (xs ys zs : List Step) → AllBefore (moment_of x) ys → merge (x ∷ xs) (ys ++ zs) ≡ ys ++ merge (x ∷ xs) zs
-merge_behind x xs [] zs a = refl
-merge_behind x xs (y ∷ ys) zs a = merge_there x xs y (ys ++ zs) a.0 ∙ ap (λ (us : List Step). y ∷ us) (merge_behind x xs ys zs a.1)
+-- and after one that is sooner
+pub merge_after_it : (x : Step) (xs ys zs : List Step) → AllBefore (moment_of x) ys → merge (x ∷ xs) (ys ++ zs) ≡ ys ++ merge (x ∷ xs) zs
+merge_after_it x xs [] zs a = refl
+merge_after_it x xs (y ∷ ys) zs a = merge_there x xs y (ys ++ zs) a.0 ∙ ap (λ (us : List Step). y ∷ us) (merge_after_it x xs ys zs a.1)
 
 -- a pull: the host's changes, then the drive's
 pub upto_free : (m : ℕ) (held : Bool) (s : Step) → moment_of s ≤ m → AllUpTo m (where_free held s)
@@ -214,5 +214,5 @@ told_is b at f h =
     ∙ ap (λ (zs : List Step). drive b.device at Clock Free ∷ zs)
     (merge_over (first_bit b f) (host f.free Data Free ∷ signal_steps f.signal) (accept ∷ []) (bits ++ last) (signal_upto b.reaction f.free f.signal h.signal) (bits_first b (first_bit b f) false f.bits last)
     ∙ ap (λ (zs : List Step). host f.free Data Free ∷ (signal_steps f.signal ++ zs))
-    (merge_behind accept [] bits last (bits_before b (first_bit b f) f.accept false f.bits (omega (arith, eight, taken, by_eight b.pace eight)))
+    (merge_after_it accept [] bits last (bits_before b (first_bit b f) f.accept false f.bits (omega (arith, eight, taken, by_eight b.pace eight)))
     ∙ ap (λ (zs : List Step). bits ++ zs) (last_is accept (is_last f) (drive b.device (f.accept + b.reaction) Clock Free) (omega arith))))

@@ -177,7 +177,7 @@ bits_none m b at false (true ∷ bits) h = (omega (arith, h), (omega (arith, h),
 bits_none m b at true (false ∷ bits) h = (omega (arith, h), (omega (arith, h), bits_none m b (at + bit_time b.pace) true bits (omega (arith, h))))
 bits_none m b at false (false ∷ bits) h = (omega (arith, h), (omega (arith, h), (omega (arith, h), bits_none m b (at + bit_time b.pace) true bits (omega (arith, h)))))
 
--- the bits, and one more step behind them
+-- the bits, and one more step after them
 order_bits : (b : Party) (at : ℕ) (held : Bool) (bits : List Bool) (more : List Step) → InOrder more → NoneBefore (at + bit_time b.pace * length bits) more → InOrder (bit_steps b at held bits ++ more)
 order_bits b at held bits more o n = go at held bits n
   where

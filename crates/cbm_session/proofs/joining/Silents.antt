@@ -11,7 +11,7 @@ pub silent_late : (e : Pace) (t : ℕ) → t ≤ silent_at e t
 silent_late Profile t = omega arith
 silent_late Kernal t = omega arith
 
--- it ends a reaction behind CLOCK's release, or later
+-- it ends a reaction after CLOCK's release, or later
 pub silent_from : (b : Party) (clock : ℕ) → clock + b.reaction ≤ silent_end b clock
 silent_from b clock = silent_late b.pace (clock + b.reaction)
 

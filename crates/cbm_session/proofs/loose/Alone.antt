@@ -23,7 +23,7 @@ use Rattle.cbm_iec.specs.declared.port.Side.{Side}
 use Rattle.cbm_session.proofs.loose.Sides.{Sees, either, ear_calm, by_data, calm, lined_sees, WaitAlike, same, early}
 use Rattle.cbm_session.proofs.loose.Stations.{Alike, same_self, told_lined}
 use Rattle.cbm_session.proofs.loose.Wires.{on_wires, or_true}
-use Rattle.cbm_session.specs.Among.{Rest, some, wires_of, behind_host}
+use Rattle.cbm_session.specs.Among.{Rest, some, wires_of, after_the_host}
 use Rattle.cbm_session.specs.Loosely.{Ignores, MayStray}
 use Rattle.cbm_session.specs.Playing.{Station, told_lines, tell}
 
@@ -101,22 +101,22 @@ atn_stays Data way h side g = refl
 module _ (M : Type 0) (step : M → Act → M) (peek : M → Option (ℕ × Bool)) where
   -- a drive that ignores a change of its host's is where it was
   record IsStill (c : Change) (s : Station M) : Type 0 where
-    pub side : (told c.moment (wires_of (behind_host c.line c.way s.rest)) s.port).side ≡ s.port.side
-    pub act : told_act (wires_of (behind_host c.line c.way s.rest)) s.port ≡ None
+    pub side : (told c.moment (wires_of (after_the_host c.line c.way s.rest)) s.port).side ≡ s.port.side
+    pub act : told_act (wires_of (after_the_host c.line c.way s.rest)) s.port ≡ None
     pub atn : (lines_after s.rest.host c.line c.way).atn_low ≡ s.rest.host.atn_low
 
   still : (c : Change) (s : Station M) → s.port.others ≡ wires_of s.rest → Ignores c.line s.rest.host.clock_low s.port.side → Sees s.port.side (wires_of s.rest).clock_low → IsStill c s
   still c s e g v =
       let a = atn_stays c.line c.way s.rest.host s.port.side g in
-      let k = told_lined c.moment (wires_of s.rest) (wires_of (behind_host c.line c.way s.rest)) s.port e (sym a) in
+      let k = told_lined c.moment (wires_of s.rest) (wires_of (after_the_host c.line c.way s.rest)) s.port e (sym a) in
       let w = stays c.line c.way s.port.party.reaction c.moment s.rest.clocks s.rest.datas s.rest.host s.port.side g v in
       record { side = k.0 ∙ w.0; act = k.1 ∙ w.1; atn = a }
 
   seen_after : (c : Change) (s : Station M) → s.port.others ≡ wires_of s.rest → (lines_after s.rest.host c.line c.way).atn_low ≡ s.rest.host.atn_low → Sees s.port.side (wires_of s.rest).clock_low
-      → Sees (told c.moment (wires_of (behind_host c.line c.way s.rest)) s.port).side (wires_of (behind_host c.line c.way s.rest)).clock_low
+      → Sees (told c.moment (wires_of (after_the_host c.line c.way s.rest)) s.port).side (wires_of (after_the_host c.line c.way s.rest)).clock_low
   seen_after c s e a v =
-      let k = told_lined c.moment (wires_of s.rest) (wires_of (behind_host c.line c.way s.rest)) s.port e (sym a) in
-      subst (λ (x : Side). Sees x (wires_of (behind_host c.line c.way s.rest)).clock_low) (sym k.0) (lined_sees s.port.party.reaction c.moment (wires_of s.rest) (wires_of (behind_host c.line c.way s.rest)) s.port.side v)
+      let k = told_lined c.moment (wires_of s.rest) (wires_of (after_the_host c.line c.way s.rest)) s.port e (sym a) in
+      subst (λ (x : Side). Sees x (wires_of (after_the_host c.line c.way s.rest)).clock_low) (sym k.0) (lined_sees s.port.party.reaction c.moment (wires_of s.rest) (wires_of (after_the_host c.line c.way s.rest)) s.port.side v)
 
   -- THE TIDY HOST MAKES A CHANGE ALONE
   pub tidied_alike : (c : Change) (s t : Station M) → Alike M step peek s t → Ignores c.line t.rest.host.clock_low t.port.side → Alike M step peek s (tell M step peek c t)
@@ -137,8 +137,8 @@ module _ (M : Type 0) (step : M → Act → M) (peek : M → Option (ℕ × Bool
         saw = seen_after c t a.tidied k.atn a.saw;
       }
 
-  strayed : (c : Change) (s t : Station M) → Alike M step peek s t → told_act (wires_of (behind_host c.line c.way s.rest)) s.port ≡ None → (lines_after s.rest.host c.line c.way).atn_low ≡ s.rest.host.atn_low
-      → WaitAlike (told c.moment (wires_of (behind_host c.line c.way s.rest)) s.port).side t.port.side → Alike M step peek (tell M step peek c s) t
+  strayed : (c : Change) (s t : Station M) → Alike M step peek s t → told_act (wires_of (after_the_host c.line c.way s.rest)) s.port ≡ None → (lines_after s.rest.host c.line c.way).atn_low ≡ s.rest.host.atn_low
+      → WaitAlike (told c.moment (wires_of (after_the_host c.line c.way s.rest)) s.port).side t.port.side → Alike M step peek (tell M step peek c s) t
   strayed c s t a act atn w = record {
     party = a.party;
     role = a.role;
@@ -160,12 +160,12 @@ module _ (M : Type 0) (step : M → Act → M) (peek : M → Option (ℕ × Bool
   called : (m : ℕ) (s t : Station M) → Alike M step peek s t → s.port.side ≡ Hearing Await → t.port.side ≡ Hearing Holding → Alike M step peek (tell M step peek (record { moment = m; line = Clock; way = Pull }) s) t
   called m s t a e f =
       let c : Change = record { moment = m; line = Clock; way = Pull } in
-      let k = told_lined m (wires_of s.rest) (wires_of (behind_host Clock Pull s.rest)) s.port a.wired refl in
+      let k = told_lined m (wires_of s.rest) (wires_of (after_the_host Clock Pull s.rest)) s.port a.wired refl in
       let free : (some s.rest.clocks || s.rest.host.clock_low) ≡ false = subst (λ (x : Side). Sees x (wires_of s.rest).clock_low) e a.sees in
-      let side : (told m (wires_of (behind_host Clock Pull s.rest)) s.port).side ≡ Hearing Holding =
-      k.0 ∙ ap (λ (x : Side). lined_side s.port.party.reaction m (wires_of s.rest) (wires_of (behind_host Clock Pull s.rest)) x) e
+      let side : (told m (wires_of (after_the_host Clock Pull s.rest)) s.port).side ≡ Hearing Holding =
+      k.0 ∙ ap (λ (x : Side). lined_side s.port.party.reaction m (wires_of s.rest) (wires_of (after_the_host Clock Pull s.rest)) x) e
       ∙ ap (λ (x : Ear). Hearing x) (pulls s.port.party.reaction m s.rest.clocks s.rest.datas s.rest.host free) in
-      strayed c s t a (k.1 ∙ ap (λ (x : Side). lined_act (wires_of s.rest) (wires_of (behind_host Clock Pull s.rest)) x) e) refl (same (f ∙ sym side))
+      strayed c s t a (k.1 ∙ ap (λ (x : Side). lined_act (wires_of s.rest) (wires_of (after_the_host Clock Pull s.rest)) x) e) refl (same (f ∙ sym side))
 
   -- THE HOST MAKES A CHANGE ALONE
   pub strayed_alike : (c : Change) (s t : Station M) → Alike M step peek s t → MayStray c.line c.way s.rest.host.clock_low s.port.side t.port.side → Alike M step peek (tell M step peek c s) t

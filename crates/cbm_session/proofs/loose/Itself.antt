@@ -64,10 +64,10 @@ module _ (M : Type 0) (step : M → Act → M) (peek : M → Option (ℕ × Bool
   beside_itself end (stays y e k f) l z = over y e e (omega (arith, k, l)) (subst (λ (v : List (Station M)). AllLater M step peek end v) f z)
   beside_itself end {ss = ss} (change c more y m i e p) l z =
       both c more more y m m i (zip_itself (λ s t. MayMake M step peek c.line c.way s t) (makes_itself c.line c.way) ss) e e (beside_itself end p l z)
-  beside_itself end (reaction t before o behind more y e i k p) l z =
-      reacts t before o behind before o behind more more y e e i (zip_itself (λ s u. HeedsAll M step peek (shown M step peek t o) s u) (hears_itself (shown M step peek t o)) before)
+  beside_itself end (reaction t before o afterwards more y e i k p) l z =
+      reacts t before o afterwards before o afterwards more more y e e i (zip_itself (λ s u. HeedsAll M step peek (shown M step peek t o) s u) (hears_itself (shown M step peek t o)) before)
       (heeds_itself o.port.party.pace o.rest.clocks o.rest.host o.port.side)
-      (zip_itself (λ s u. HeedsAll M step peek (shown M step peek t o) s u) (hears_itself (shown M step peek t o)) behind) k k (beside_itself end p l z)
+      (zip_itself (λ s u. HeedsAll M step peek (shown M step peek t o) s u) (hears_itself (shown M step peek t o)) afterwards) k k (beside_itself end p l z)
 
   pub tidy_is_loose : TidyIsLoose M step peek
   tidy_is_loose bs ms n end trace ss plays before later h = (trace, (beside_itself end plays before later, h))

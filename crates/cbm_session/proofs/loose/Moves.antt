@@ -23,7 +23,7 @@ use Rattle.cbm_session.proofs.loose.Reactions.{after_alike, act_alike}
 use Rattle.cbm_session.proofs.loose.Sides.{Sees, freed_sees, after_sees, WaitAlike, same, early}
 use Rattle.cbm_session.proofs.loose.Stations.{Alike, told_atn, heeding, lined_both, both_told}
 use Rattle.cbm_session.proofs.loose.Wires.{on_wires}
-use Rattle.cbm_session.specs.Among.{Rest, some, wires_of, behind_host}
+use Rattle.cbm_session.specs.Among.{Rest, some, wires_of, after_the_host}
 use Rattle.cbm_session.specs.Loosely.{HeedsAlike, Heeds, HeedsAfter, MayMake}
 use Rattle.cbm_session.specs.Playing.{Station, told_lines, tell, react, shown}
 
@@ -34,13 +34,13 @@ module _ (M : Type 0) (step : M → Act → M) (peek : M → Option (ℕ × Bool
 
   -- a change of CLOCK or DATA
   lined_alike : (m : ℕ) (line : Line) (way : Way) (s t : Station M) → Alike M step peek s t → (lines_after s.rest.host line way).atn_low ≡ s.rest.host.atn_low → (lines_after t.rest.host line way).atn_low ≡ t.rest.host.atn_low
-      → Heeds M step peek s t → HeedsAfter M step peek line way s t → Alike M step peek (told_lines M step peek m (behind_host line way s.rest) s) (told_lines M step peek m (behind_host line way t.rest) t)
+      → Heeds M step peek s t → HeedsAfter M step peek line way s t → Alike M step peek (told_lines M step peek m (after_the_host line way s.rest) s) (told_lines M step peek m (after_the_host line way t.rest) t)
   lined_alike m line way s t a n n2 f g =
       let k = heeding M step peek m s.rest.clocks s.rest.datas (lines_after s.rest.host line way) (lines_after t.rest.host line way) s t a f g in
       let like = tidy_wires (lines_after t.rest.host line way) s t a in
-      lined_both M step peek m (behind_host line way s.rest) (behind_host line way t.rest) s t a a.clocks a.datas (sym n) (sym n2)
-      (subst (λ (l : Lines). WaitAlike (lined_side s.port.party.reaction m (wires_of s.rest) (wires_of (behind_host line way s.rest)) s.port.side) (lined_side s.port.party.reaction m (wires_of t.rest) l t.port.side)) like k.0)
-      (subst (λ (l : Lines). lined_act (wires_of t.rest) l t.port.side ≡ lined_act (wires_of s.rest) (wires_of (behind_host line way s.rest)) s.port.side) like k.1)
+      lined_both M step peek m (after_the_host line way s.rest) (after_the_host line way t.rest) s t a a.clocks a.datas (sym n) (sym n2)
+      (subst (λ (l : Lines). WaitAlike (lined_side s.port.party.reaction m (wires_of s.rest) (wires_of (after_the_host line way s.rest)) s.port.side) (lined_side s.port.party.reaction m (wires_of t.rest) l t.port.side)) like k.0)
+      (subst (λ (l : Lines). lined_act (wires_of t.rest) l t.port.side ≡ lined_act (wires_of s.rest) (wires_of (after_the_host line way s.rest)) s.port.side) like k.1)
 
   -- a change of ATN
   abbrev turned_to : ℕ → ℕ → Bool → Bool → Role → Side → Side
@@ -48,10 +48,10 @@ module _ (M : Type 0) (step : M → Act → M) (peek : M → Option (ℕ × Bool
 
   atn_alike : (m : ℕ) (way : Way) (s t : Station M) → Alike M step peek s t
       → WaitAlike (turned_to s.port.party.reaction m (is_pull way) (wires_of s.rest).clock_low s.port.role s.port.side) (turned_to t.port.party.reaction m (is_pull way) (wires_of t.rest).clock_low t.port.role t.port.side)
-      → Alike M step peek (told_lines M step peek m (behind_host Atn way s.rest) s) (told_lines M step peek m (behind_host Atn way t.rest) t)
+      → Alike M step peek (told_lines M step peek m (after_the_host Atn way s.rest) s) (told_lines M step peek m (after_the_host Atn way t.rest) t)
   atn_alike m way s t a w =
-      both_told M step peek m (behind_host Atn way s.rest) (behind_host Atn way t.rest) s t a a.clocks a.datas refl
-      (subst (λ (x : Side). WaitAlike x (told m (wires_of (behind_host Atn way t.rest)) t.port).side) (sym k.0) (subst (λ (x : Side). WaitAlike side x) (sym (k2.0 ∙ as_one)) waits))
+      both_told M step peek m (after_the_host Atn way s.rest) (after_the_host Atn way t.rest) s t a a.clocks a.datas refl
+      (subst (λ (x : Side). WaitAlike x (told m (wires_of (after_the_host Atn way t.rest)) t.port).side) (sym k.0) (subst (λ (x : Side). WaitAlike side x) (sym (k2.0 ∙ as_one)) waits))
       (k2.1 ∙ ap (λ (v : Bool). if is_same v low then None else Some (if low then Pulled else Released)) a.atn ∙ sym k.1)
       (subst (λ (x : Side). Sees x (wires_of s.rest).clock_low) (sym k.0) (seen (is_same s.rest.host.atn_low low) low s.port.party.reaction (wires_of s.rest).clock_low s.port.role s.port.side a.sees))
       (subst (λ (x : Side). Sees x (wires_of t.rest).clock_low) (sym k2.0) (seen (is_same t.rest.host.atn_low low) low t.port.party.reaction (wires_of t.rest).clock_low t.port.role t.port.side a.saw))
@@ -65,10 +65,10 @@ module _ (M : Type 0) (step : M → Act → M) (peek : M → Option (ℕ × Bool
       side : Side
       side = goes (is_same s.rest.host.atn_low low) s
 
-      k : ((told m (wires_of (behind_host Atn way s.rest)) s.port).side ≡ goes (is_same s.rest.host.atn_low low) s) × (told_act (wires_of (behind_host Atn way s.rest)) s.port ≡ (if is_same s.rest.host.atn_low low then None else Some (if low then Pulled else Released)))
+      k : ((told m (wires_of (after_the_host Atn way s.rest)) s.port).side ≡ goes (is_same s.rest.host.atn_low low) s) × (told_act (wires_of (after_the_host Atn way s.rest)) s.port ≡ (if is_same s.rest.host.atn_low low then None else Some (if low then Pulled else Released)))
       k = told_atn m (wires_of s.rest) (is_pull way) s.port a.wired
 
-      k2 : ((told m (wires_of (behind_host Atn way t.rest)) t.port).side ≡ goes (is_same t.rest.host.atn_low low) t) × (told_act (wires_of (behind_host Atn way t.rest)) t.port ≡ (if is_same t.rest.host.atn_low low then None else Some (if low then Pulled else Released)))
+      k2 : ((told m (wires_of (after_the_host Atn way t.rest)) t.port).side ≡ goes (is_same t.rest.host.atn_low low) t) × (told_act (wires_of (after_the_host Atn way t.rest)) t.port ≡ (if is_same t.rest.host.atn_low low then None else Some (if low then Pulled else Released)))
       k2 = told_atn m (wires_of t.rest) (is_pull way) t.port a.tidied
 
       as_one : goes (is_same t.rest.host.atn_low low) t ≡ goes (is_same s.rest.host.atn_low low) t
@@ -86,10 +86,10 @@ module _ (M : Type 0) (step : M → Act → M) (peek : M → Option (ℕ × Bool
       seen false true r clock role x e = tt
       seen false false r clock role x e = freed_sees r m clock role x e
 
-  pulled : (m : ℕ) (s t : Station M) → Alike M step peek s t → Alike M step peek (told_lines M step peek m (behind_host Atn Pull s.rest) s) (told_lines M step peek m (behind_host Atn Pull t.rest) t)
+  pulled : (m : ℕ) (s t : Station M) → Alike M step peek s t → Alike M step peek (told_lines M step peek m (after_the_host Atn Pull s.rest) s) (told_lines M step peek m (after_the_host Atn Pull t.rest) t)
   pulled m s t a = atn_alike m Pull s t a (same (ap (λ (b : Party). Hearing (Starting (m + b.reaction))) a.party))
 
-  freed : (m : ℕ) (s t : Station M) → Alike M step peek s t → s.rest.host.clock_low ≡ t.rest.host.clock_low → Heeds M step peek s t → Alike M step peek (told_lines M step peek m (behind_host Atn Free s.rest) s) (told_lines M step peek m (behind_host Atn Free t.rest) t)
+  freed : (m : ℕ) (s t : Station M) → Alike M step peek s t → s.rest.host.clock_low ≡ t.rest.host.clock_low → Heeds M step peek s t → Alike M step peek (told_lines M step peek m (after_the_host Atn Free s.rest) s) (told_lines M step peek m (after_the_host Atn Free t.rest) t)
   freed m s t a e f = atn_alike m Free s t a (by_waits s.port.side t.port.side a.waits f)
     where
       clocks : (wires_of t.rest).clock_low ≡ (wires_of s.rest).clock_low
@@ -113,7 +113,7 @@ module _ (M : Type 0) (step : M → Act → M) (peek : M → Option (ℕ × Bool
   pub made_alike : (c : Change) (s t : Station M) → Alike M step peek s t → MayMake M step peek c.line c.way s t → Alike M step peek (tell M step peek c s) (tell M step peek c t)
   made_alike c s t a g = by_line c.line c.way g
     where
-      by_line : (line : Line) (way : Way) → MayMake M step peek line way s t → Alike M step peek (told_lines M step peek c.moment (behind_host line way s.rest) s) (told_lines M step peek c.moment (behind_host line way t.rest) t)
+      by_line : (line : Line) (way : Way) → MayMake M step peek line way s t → Alike M step peek (told_lines M step peek c.moment (after_the_host line way s.rest) s) (told_lines M step peek c.moment (after_the_host line way t.rest) t)
       by_line Atn Pull h = pulled c.moment s t a
       by_line Atn Free h = freed c.moment s t a h.0 h.1
       by_line Clock way h = lined_alike c.moment Clock way s t a refl refl h.0 h.1

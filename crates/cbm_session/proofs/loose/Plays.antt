@@ -63,10 +63,10 @@ module _ (M : Type 0) (step : M → Act → M) (peek : M → Option (ℕ × Bool
       zip_both (λ s. hear_all M step peek cs s) (λ s. hear_all M step peek cs s) (λ s t. Alike M step peek s t) (λ s t. HeedsAll M step peek cs s t) (λ s t. Alike M step peek s t) (λ s t p q. hear_all_alike M step peek cs s t p q) ss ts a h
 
   -- the reaction that is due first is due first under both
-  first_too : (t : ℕ) (before : List (Station M)) (o : Station M) (behind before2 : List (Station M)) (o2 : Station M) (behind2 : List (Station M)) → AreAlike before before2 → Alike M step peek o o2 → AreAlike behind behind2
-      → IsFirst M step peek t before o behind → IsFirst M step peek t before2 o2 behind2
-  first_too t before o behind before2 o2 behind2 a b c f =
-      record { due = due_alike M step peek o o2 b ∙ f.due; later = later_too t before before2 a f.later; in_time = in_time_too t behind behind2 c f.in_time }
+  first_too : (t : ℕ) (before : List (Station M)) (o : Station M) (afterwards before2 : List (Station M)) (o2 : Station M) (afterwards2 : List (Station M)) → AreAlike before before2 → Alike M step peek o o2 → AreAlike afterwards afterwards2
+      → IsFirst M step peek t before o afterwards → IsFirst M step peek t before2 o2 afterwards2
+  first_too t before o afterwards before2 o2 afterwards2 a b c f =
+      record { due = due_alike M step peek o o2 b ∙ f.due; later = later_too t before before2 a f.later; in_time = in_time_too t afterwards afterwards2 c f.in_time }
 
   pub plays_beside : (end : ℕ) {n m : ℕ} {ss ts : List (Station M)} {es fs : List Event} → AreAlike ss ts → Beside M step peek end n m ss ts es fs → ArePlays end n m ss ts es fs
   plays_beside end {n} {m} {ss} {ts} {es} {fs} a (over y e f l z) = record {
@@ -123,14 +123,14 @@ module _ (M : Type 0) (step : M → Act → M) (peek : M → Option (ℕ × Bool
         later = k.later;
         drives = ap (λ (l : List Event). drives_of l) f ∙ k.drives;
       }
-  plays_beside end {n} {m} {ss} {ts} {es} {fs} a (reacts t before o behind before2 o2 behind2 more tidied y e e2 i g h j f f2 b) =
-      let parts = zip_split (λ s t. Alike M step peek s t) (λ s u. HeedsAll M step peek (shown M step peek t o) s u) before o behind before2 o2 behind2
-      (subst (λ (l : List (Station M)). AreAlike l (before2 ++ o2 ∷ behind2)) e (subst (λ (l : List (Station M)). AreAlike ss l) e2 a)) g in
+  plays_beside end {n} {m} {ss} {ts} {es} {fs} a (reacts t before o afterwards before2 o2 afterwards2 more tidied y e e2 i g h j f f2 b) =
+      let parts = zip_split (λ s t. Alike M step peek s t) (λ s u. HeedsAll M step peek (shown M step peek t o) s u) before o afterwards before2 o2 afterwards2
+      (subst (λ (l : List (Station M)). AreAlike l (before2 ++ o2 ∷ afterwards2)) e (subst (λ (l : List (Station M)). AreAlike ss l) e2 a)) g in
       let r : ReactsAlike M step peek t o o2 = reacts_alike M step peek t o o2 parts.1 i.due h in
-      let k = plays_beside end (subst (λ (cs : List Change). AreAlike (reacting M step peek t before o behind) (map (λ s. hear_all M step peek cs s) before2 ++ react M step peek t o2 ∷ map (λ s. hear_all M step peek cs s) behind2)) (sym r.shows)
-      (zip_join (λ s t. Alike M step peek s t) (map (λ s. hear_all M step peek (shown M step peek t o) s) before) (react M step peek t o) (map (λ s. hear_all M step peek (shown M step peek t o) s) behind)
-      (map (λ s. hear_all M step peek (shown M step peek t o) s) before2) (react M step peek t o2) (map (λ s. hear_all M step peek (shown M step peek t o) s) behind2)
-      (heard (shown M step peek t o) before before2 parts.0 g) r.alike (heard (shown M step peek t o) behind behind2 parts.2 j))) b in
+      let k = plays_beside end (subst (λ (cs : List Change). AreAlike (reacting M step peek t before o afterwards) (map (λ s. hear_all M step peek cs s) before2 ++ react M step peek t o2 ∷ map (λ s. hear_all M step peek cs s) afterwards2)) (sym r.shows)
+      (zip_join (λ s t. Alike M step peek s t) (map (λ s. hear_all M step peek (shown M step peek t o) s) before) (react M step peek t o) (map (λ s. hear_all M step peek (shown M step peek t o) s) afterwards)
+      (map (λ s. hear_all M step peek (shown M step peek t o) s) before2) (react M step peek t o2) (map (λ s. hear_all M step peek (shown M step peek t o) s) afterwards2)
+      (heard (shown M step peek t o) before before2 parts.0 g) r.alike (heard (shown M step peek t o) afterwards afterwards2 parts.2 j))) b in
       let theirs : fs ≡ drive_events o2.port.party.device (shown M step peek t o2) ++ tidied =
       f2 ∙ ap (λ (p : Party). drive_events p.device (shown M step peek t o) ++ tidied) (sym parts.1.party) ∙ ap (λ (cs : List Change). drive_events o2.port.party.device cs ++ tidied) (sym r.shows) in
       record {
@@ -138,8 +138,8 @@ module _ (M : Type 0) (step : M → Act → M) (peek : M → Option (ℕ × Bool
         now = k.now;
         tidy_from = k.tidy_from;
         tidy_now = k.tidy_now;
-        plays = reaction t before o behind more y e i f k.plays;
-        tidy = reaction t before2 o2 behind2 tidied (bytes_too ss ts a y) e2 (first_too t before o behind before2 o2 behind2 parts.0 parts.1 parts.2 i) theirs k.tidy;
+        plays = reaction t before o afterwards more y e i f k.plays;
+        tidy = reaction t before2 o2 afterwards2 tidied (bytes_too ss ts a y) e2 (first_too t before o afterwards before2 o2 afterwards2 parts.0 parts.1 parts.2 i) theirs k.tidy;
         alike = k.alike;
         before = k.before;
         later = k.later;

@@ -28,7 +28,7 @@ use Rattle.cbm_iec.specs.declared.port.Side.{Side}
 use Rattle.cbm_session.proofs.loose.Reactions.{after_alike, act_alike, role_alike}
 use Rattle.cbm_session.proofs.loose.Sides.{Sees, Heard, lined_alike, lined_act_alike, lined_sees, freed_sees, after_sees, WaitAlike, same, early}
 use Rattle.cbm_session.proofs.loose.Wires.{on_wires, or_true, or_right, is_heard, await_lines, holding_lines}
-use Rattle.cbm_session.specs.Among.{Rest, some, wires_of, counted, behind_other, behind_host}
+use Rattle.cbm_session.specs.Among.{Rest, some, wires_of, counted, after_another, after_the_host}
 use Rattle.cbm_session.specs.Loosely.{HeedsAlike, Ignores, MayStray, Heeds, HeedsAfter, MayMake, HeedsAll}
 use Rattle.cbm_session.specs.Playing.{Station, told_lines, tell, hear, hear_all, react, shown}
 
@@ -204,10 +204,10 @@ module _ (M : Type 0) (step : M → Act → M) (peek : M → Option (ℕ × Bool
           (subst (λ (l : Lines). WaitAlike (lined_side s.port.party.reaction c.moment (wires_of s.rest) (wires_of r) s.port.side) (lined_side s.port.party.reaction c.moment (wires_of t.rest) l t.port.side)) like k.0)
           (subst (λ (l : Lines). lined_act (wires_of t.rest) l t.port.side ≡ lined_act (wires_of s.rest) (wires_of r) s.port.side) like k.1)
 
-      by_line : (line : Line) → Alike (told_lines M step peek c.moment (behind_other line c.way s.rest) s) (told_lines M step peek c.moment (behind_other line c.way t.rest) t)
-      by_line Atn = moved (behind_other Atn c.way s.rest) (behind_other Atn c.way t.rest) refl refl a.clocks a.datas
-      by_line Clock = moved (behind_other Clock c.way s.rest) (behind_other Clock c.way t.rest) refl refl (ap (λ (v : ℕ). counted c.way v) a.clocks) a.datas
-      by_line Data = moved (behind_other Data c.way s.rest) (behind_other Data c.way t.rest) refl refl a.clocks (ap (λ (v : ℕ). counted c.way v) a.datas)
+      by_line : (line : Line) → Alike (told_lines M step peek c.moment (after_another line c.way s.rest) s) (told_lines M step peek c.moment (after_another line c.way t.rest) t)
+      by_line Atn = moved (after_another Atn c.way s.rest) (after_another Atn c.way t.rest) refl refl a.clocks a.datas
+      by_line Clock = moved (after_another Clock c.way s.rest) (after_another Clock c.way t.rest) refl refl (ap (λ (v : ℕ). counted c.way v) a.clocks) a.datas
+      by_line Data = moved (after_another Data c.way s.rest) (after_another Data c.way t.rest) refl refl a.clocks (ap (λ (v : ℕ). counted c.way v) a.datas)
 
   -- and several, one after another
   pub hear_all_alike : (cs : List Change) (s t : Station M) → Alike s t → HeedsAll M step peek cs s t → Alike (hear_all M step peek cs s) (hear_all M step peek cs t)

@@ -16,7 +16,7 @@ use Rattle.cbm_iec.specs.declared.party.Role.{Role}
 use Rattle.cbm_session.specs.Bits.{number_of}
 use Rattle.cbm_session.specs.Steps.{Mark, Step, events_of, with_mark, acts_for, Plain, ForEach, For}
 
--- the byte under way: of the host, as long as bits are left (with the end noted, DATA as the host holds it); behind ATN's release to the talker; and of the talker
+-- the byte under way: of the host, as long as bits are left (with the end noted, DATA as the host holds it); after ATN's release to the talker; and of the talker
 pub data Under : Type 0 where
   Off : Under
   Readied : (eoi : Bool) → Under
@@ -36,7 +36,7 @@ pub record Known : Type 0 where
 abbrev pub known : Role → Bool → Under → Known
 known role atn under = record { role = role; atn = atn; under = under }
 
--- behind ATN's release
+-- after ATN's release
 abbrev pub freed_under : Role → Under
 freed_under Absent = Off
 freed_under Listener = Off

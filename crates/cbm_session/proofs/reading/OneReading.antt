@@ -155,7 +155,7 @@ turn_cut d c at r atn u more own k3 l h n o p a b q =
     let x = cut_reads d c (known r false (freed_under r)) (merge more own) k3 refl (order_merge more own o p) (noatn_merge more own a b) q in
     (x.0, (x.1.0, subst (λ (zs : List Step). ReadsOwn d (known r atn u) zs (known r x.1.0 x.0)) (sym same) (calm_said u h, (refl, x.1.1))))
 
--- what a reading of the whole turnaround says of its steps behind the first two
+-- what a reading of the whole turnaround says of its steps after the first two
 turn_rest : (d at : ℕ) (r : Role) (atn : Bool) (u : Under) (more own : List Step) (k3 : Known) → NotBefore at own → ReadsOwn d (known r atn u) (merge (host at Data Pull ∷ for_each Released (host at Atn Free) ∷ more) own) k3
     → ReadsOwn d (known r false (freed_under r)) (merge more own) k3
 turn_rest d at r atn u more own k3 n q = (subst (λ (zs : List Step). ReadsOwn d (known r atn u) zs k3) (turn_first at more own n) q).1.1

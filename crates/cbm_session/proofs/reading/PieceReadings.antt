@@ -1,4 +1,4 @@
--- By each piece the decoder goes from what stands at its point to what stands at the point behind it.
+-- By each piece the decoder goes from what stands at its point to what stands at the point after it.
 use Rattle.cbm_iec.specs.declared.pace.Pace.TheVariants.{Profile, Kernal}
 use Rattle.cbm_iec.specs.declared.pace.Pace.{Pace}
 use Rattle.cbm_session.proofs.joining.Silents.{silent_head}
@@ -15,7 +15,7 @@ use Rattle.cbm_iec.specs.declared.party.Party.{Party}
 use Rattle.cbm_iec.specs.declared.party.Role.TheVariants.{Absent, Listener, Talker}
 use Rattle.cbm_iec.specs.declared.party.Role.{Role}
 use Rattle.cbm_session.proofs.joining.Merging.{merge_here, merge_there, merge_nil}
-use Rattle.cbm_session.proofs.joining.OneDrive.{StartsBehind, told_is, frame_is}
+use Rattle.cbm_session.proofs.joining.OneDrive.{StartsAfter, told_is, frame_is}
 use Rattle.cbm_session.proofs.joining.Seating.{Sits}
 use Rattle.cbm_session.proofs.joining.Showing.{merge_first}
 use Rattle.cbm_session.proofs.joining.Talkers.{silent_bus, OneTalker, talker_is, other_talker, most, most_lasting, sits_listeners, standing_roles}
@@ -47,16 +47,16 @@ seat b r o = record { party = b; role = r; own = o }
 pub is_commanding : {q : BusPlace} → IsCommanding q → (some : Bool) × (q ≡ Commanding some)
 is_commanding (commanding {some}) = (some, refl)
 
-starts_behind : (hs : List Seat) (s : Seat) (f : Sent) (eoi : Bool) → (reaction s ≤ slowest hs) × (lasting s ≤ longest_lasting hs) → StartFits hs eoi f → StartsBehind (wire hs f) s eoi f
-starts_behind hs s f true l h = (omega (arith, l.0), omega (arith, l.1, h))
-starts_behind hs s f false l h = let k = h.0 in omega (arith, l.0, k)
+starts_after : (hs : List Seat) (s : Seat) (f : Sent) (eoi : Bool) → (reaction s ≤ slowest hs) × (lasting s ≤ longest_lasting hs) → StartFits hs eoi f → StartsAfter (wire hs f) s eoi f
+starts_after hs s f true l h = (omega (arith, l.0), omega (arith, l.1, h))
+starts_after hs s f false l h = let k = h.0 in omega (arith, l.0, k)
 
 -- a frame that this drive hears, and one that it doesn't
 heard_goes : (d : ℕ) (hs : List Seat) (s : Seat) (atn eoi : Bool) (u : Under) (f : Sent) → nat_eq d (device s) ≡ true → (reaction s ≤ slowest hs) × (lasting s ≤ longest_lasting hs) → Calm u → SentFits hs eoi f
     → ReadsOwn d (known s.role atn u) (merge (sending f) (hearing (wire hs f) eoi (frame_act atn eoi f) f s)) (known (frame_role d atn s.role f) atn (Counting eoi false zero (bits_in_cells f.cells)))
 heard_goes d hs s atn eoi u f e l c h =
     subst (λ (ss : List Step). ReadsOwn d (known s.role atn u) ss (known (frame_role d atn s.role f) atn (Counting eoi false zero (bits_in_cells f.cells))))
-    (sym (frame_is (wire hs f) s (frame_act atn eoi f) f eoi (starts_behind hs s f eoi l h.start) h.cells)) (frame_reads d s atn eoi u (wire hs f) f e c h.eight)
+    (sym (frame_is (wire hs f) s (frame_act atn eoi f) f eoi (starts_after hs s f eoi l h.start) h.cells)) (frame_reads d s atn eoi u (wire hs f) f e c h.eight)
 
 byte_goes : (d : ℕ) (hs : List Seat) (s : Seat) (eoi : Bool) (u : Under) (f : Sent) (v : Bool) → nat_eq d (device s) ≡ true → (v ≡ true → (reaction s ≤ slowest hs) × (lasting s ≤ longest_lasting hs)) → Calm u → SentFits hs eoi f
     → Goes d (known s.role false u) (merge (sending f) (if v then hearing (wire hs f) eoi (Heard (byte_in_cells f.cells) eoi) f s else [])) Listening s.role
@@ -244,7 +244,7 @@ talk_goes d t s atn u at f false n e same other h q =
       ),
     )
 
--- the seat of a drive behind a piece
+-- the seat of a drive after a piece
 abbrev pub next_seat : Whole → Seat → Seat
 next_seat (PullPiece at) s = seat_with s.role (lines false true) s
 next_seat (Command f) s = obeying (byte_in_cells f.cells) s

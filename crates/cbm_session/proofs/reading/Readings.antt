@@ -59,7 +59,7 @@ cells_reads d role atn eoi held (c ∷ cs) bits =
     (subst (λ (l : List Bool). ReadsOwn d (known role atn (Counting eoi (not c.bit) (length cs) (bits ++ c.bit ∷ []))) (cells_steps (not c.bit) cs) (known role atn (Counting eoi (held_after (not c.bit) cs) zero l)))
     (append_assoc bits (c.bit ∷ []) (bits_in_cells cs)) (cells_reads d role atn eoi (not c.bit) cs (bits ++ c.bit ∷ [])))
 
--- DATA is freed behind the last bit
+-- DATA is freed after the last bit
 freed_reads : (d : ℕ) (role : Role) (atn eoi held : Bool) (at : ℕ) (bits : List Bool)
     → ReadsOwn d (known role atn (Counting eoi held zero bits)) (where_held held (host at Data Free)) (known role atn (Counting eoi false zero bits))
 freed_reads d role atn eoi true at bits = (refl, refl)
@@ -154,7 +154,7 @@ signal_reads : (d : ℕ) (role : Role) (x : Option (ℕ × ℕ)) → ReadsOwn d 
 signal_reads d role None = refl
 signal_reads d role (Some (pull, free)) = (refl, (refl, refl))
 
--- behind the accept: the talker leads again, or frees CLOCK behind the last byte
+-- after the accept: the talker leads again, or frees CLOCK after the last byte
 abbrev pub told_under : Bool → Under
 told_under true = Saying false false 8 []
 told_under false = Leads

@@ -33,7 +33,7 @@ parted (s ∷ ss) (x ∷ front) back e =
     let h = event_head s.event x (events_of ss) (front ++ back) e in
     record { done = s ∷ k.done; more = k.more; steps = ap (λ (zs : List Step). s ∷ zs) k.steps; shown = (let a = k.shown in cc); left = k.left }
 
--- what comes behind is not sooner
+-- what comes after is not sooner
 not_sooner : (w : Who) (m : ℕ) (v : Who) (n : ℕ) → NotSooner w m v n → m ≤ n
 not_sooner Host m v n h = h
 not_sooner (Drive o) m Host n h = omega (arith, h)

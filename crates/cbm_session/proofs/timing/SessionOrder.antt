@@ -37,7 +37,7 @@ use Rattle.cbm_session.specs.Bits.{where_held, where_free, cells_steps, held_aft
 use Rattle.cbm_session.specs.Frames.{Sent, Told, wire, end_of, accept_of, hearing, sending, SentFits, is_last, signal_steps, first_bit, bit_steps, telling, taking, SignalFits, ToldFits}
 use Rattle.cbm_session.specs.Joins.{NotBefore}
 use Rattle.cbm_session.specs.Laws.{SeatsReact, AllAccepted, NotSooner, AllAfter, GoesOn, SessionsGoOn}
-use Rattle.cbm_session.specs.Pieces.{silent_part, silent_end, Whole, Piece, BusPlace, Point, freed_steps, host_part, let_go, own_part, steps_of, before, AtLeast, gap_at, gap, MayRelease, PullFits, FreedFits, IsCommanding, Fits, CutFits, held_by, told_place, told_since, behind, behind_all, seat_with, obeying, standing, whole_point, point_after, PullPiece, Command, Byte, ToListener, ToNobody, ToTalker, Nothing, Talk, Full, Cut, Open, Commanding, Listening, Leading, Cutting}
+use Rattle.cbm_session.specs.Pieces.{silent_part, silent_end, Whole, Piece, BusPlace, Point, freed_steps, host_part, let_go, own_part, steps_of, before, AtLeast, gap_at, gap, MayRelease, PullFits, FreedFits, IsCommanding, Fits, CutFits, held_by, told_place, told_since, afterwards, after_all_of, seat_with, obeying, standing, whole_point, point_after, PullPiece, Command, Byte, ToListener, ToNobody, ToTalker, Nothing, Talk, Full, Cut, Open, Commanding, Listening, Leading, Cutting}
 use Rattle.cbm_session.specs.Seats.{at_pace, lines, Seat, device, reaction, slowest, is_listener, is_talker, talker_of, listeners, spread, bus_pace}
 use Rattle.cbm_session.specs.Sessions.{rest, Linked, session_steps}
 use Rattle.cbm_session.specs.Steps.{Step, host, drive, for_one, moment_of, merge, merge_all}
@@ -226,25 +226,25 @@ end_by p (Command f) = accept_of p.seats f + gap p.seats p.seats
 end_by p (Byte eoi f) = accept_of (listeners p.seats) f + gap (listeners p.seats) p.seats
 end_by p (ToListener at) = at + 61
 end_by p (ToNobody at clock) = max (at + 61) clock
-end_by p (ToTalker at clock) = behind_all at (clock + (talker_of p.seats).reaction + 1) p.seats
-end_by p (Nothing at clock freed) = behind_all at (behind (silent_end (talker_of p.seats) clock) freed) p.seats
+end_by p (ToTalker at clock) = after_all_of at (clock + (talker_of p.seats).reaction + 1) p.seats
+end_by p (Nothing at clock freed) = after_all_of at (afterwards (silent_end (talker_of p.seats) clock) freed) p.seats
 end_by p (Talk at f) = told_since (talker_of p.seats) f
 
--- it isn't before the last moment that is given, and is behind each release of DATA by a drive without a role
-behind_base : (at m : ℕ) (ss : List Seat) → m ≤ behind_all at m ss
-behind_base at m [] = omega arith
-behind_base at m (x ∷ xs) = go x.role (behind_base at m xs)
+-- it isn't before the last moment that is given, and is after each release of DATA by a drive without a role
+after_base : (at m : ℕ) (ss : List Seat) → m ≤ after_all_of at m ss
+after_base at m [] = omega arith
+after_base at m (x ∷ xs) = go x.role (after_base at m xs)
   where
-    go : (r : Role) → m ≤ behind_all at m xs → m ≤ (elim r as (λ q. ℕ) [ Absent ↦ max (at + reaction x + 1) (behind_all at m xs) | Listener ↦ behind_all at m xs | Talker ↦ behind_all at m xs ])
-    go Absent k = let l = le-max_right (at + reaction x + 1) (behind_all at m xs) in omega (arith, k, l)
+    go : (r : Role) → m ≤ after_all_of at m xs → m ≤ (elim r as (λ q. ℕ) [ Absent ↦ max (at + reaction x + 1) (after_all_of at m xs) | Listener ↦ after_all_of at m xs | Talker ↦ after_all_of at m xs ])
+    go Absent k = let l = le-max_right (at + reaction x + 1) (after_all_of at m xs) in omega (arith, k, l)
     go Listener k = k
     go Talker k = k
 
-behind_more : (at m : ℕ) (x : Seat) (xs : List Seat) → behind_all at m xs ≤ behind_all at m (x ∷ xs)
-behind_more at m x xs = go x.role
+after_some_more : (at m : ℕ) (x : Seat) (xs : List Seat) → after_all_of at m xs ≤ after_all_of at m (x ∷ xs)
+after_some_more at m x xs = go x.role
   where
-    go : (r : Role) → behind_all at m xs ≤ (elim r as (λ q. ℕ) [ Absent ↦ max (at + reaction x + 1) (behind_all at m xs) | Listener ↦ behind_all at m xs | Talker ↦ behind_all at m xs ])
-    go Absent = le-max_right (at + reaction x + 1) (behind_all at m xs)
+    go : (r : Role) → after_all_of at m xs ≤ (elim r as (λ q. ℕ) [ Absent ↦ max (at + reaction x + 1) (after_all_of at m xs) | Listener ↦ after_all_of at m xs | Talker ↦ after_all_of at m xs ])
+    go Absent = le-max_right (at + reaction x + 1) (after_all_of at m xs)
     go Listener = omega arith
     go Talker = omega arith
 
@@ -254,27 +254,27 @@ GoneBy at n x = x.role ≡ Absent → at + reaction x < n
 gone_later : (at m n : ℕ) (ss : List Seat) → m ≤ n → Each (GoneBy at m) ss → Each (GoneBy at n) ss
 gone_later at m n ss h g = each (GoneBy at m) (GoneBy at n) ss (λ (x : Seat) (k : GoneBy at m x) (e : x.role ≡ Absent). let a = k e in omega (arith, h, a)) g
 
-behind_each : (at m : ℕ) (ss : List Seat) → Each (GoneBy at (behind_all at m ss)) ss
-behind_each at m [] = tt
-behind_each at m (x ∷ xs) = (λ (e : x.role ≡ Absent). go x.role e, gone_later at (behind_all at m xs) (behind_all at m (x ∷ xs)) xs (behind_more at m x xs) (behind_each at m xs))
+after_each : (at m : ℕ) (ss : List Seat) → Each (GoneBy at (after_all_of at m ss)) ss
+after_each at m [] = tt
+after_each at m (x ∷ xs) = (λ (e : x.role ≡ Absent). go x.role e, gone_later at (after_all_of at m xs) (after_all_of at m (x ∷ xs)) xs (after_some_more at m x xs) (after_each at m xs))
   where
-    go : (r : Role) → r ≡ Absent → at + reaction x < (elim r as (λ q. ℕ) [ Absent ↦ max (at + reaction x + 1) (behind_all at m xs) | Listener ↦ behind_all at m xs | Talker ↦ behind_all at m xs ])
-    go Absent e = let l = le-max_left (at + reaction x + 1) (behind_all at m xs) in omega (arith, l)
+    go : (r : Role) → r ≡ Absent → at + reaction x < (elim r as (λ q. ℕ) [ Absent ↦ max (at + reaction x + 1) (after_all_of at m xs) | Listener ↦ after_all_of at m xs | Talker ↦ after_all_of at m xs ])
+    go Absent e = let l = le-max_left (at + reaction x + 1) (after_all_of at m xs) in omega (arith, l)
     go Listener e = cc
     go Talker e = cc
 
-behind_upto : (at m n : ℕ) (ss : List Seat) → SeatsReact ss → at + 61 ≤ n → m ≤ n → behind_all at m ss ≤ n
-behind_upto at m n [] r a b = b
-behind_upto at m n (x ∷ xs) r a b = go x.role (behind_upto at m n xs r.2 a b)
+after_upto : (at m n : ℕ) (ss : List Seat) → SeatsReact ss → at + 61 ≤ n → m ≤ n → after_all_of at m ss ≤ n
+after_upto at m n [] r a b = b
+after_upto at m n (x ∷ xs) r a b = go x.role (after_upto at m n xs r.2 a b)
   where
-    go : (q : Role) → behind_all at m xs ≤ n → (elim q as (λ u. ℕ) [ Absent ↦ max (at + reaction x + 1) (behind_all at m xs) | Listener ↦ behind_all at m xs | Talker ↦ behind_all at m xs ]) ≤ n
+    go : (q : Role) → after_all_of at m xs ≤ n → (elim q as (λ u. ℕ) [ Absent ↦ max (at + reaction x + 1) (after_all_of at m xs) | Listener ↦ after_all_of at m xs | Talker ↦ after_all_of at m xs ]) ≤ n
     go Absent k = let l = r.1 in max-le (omega (arith, a, l)) k
     go Listener k = k
     go Talker k = k
 
-behind_answer : (n : ℕ) (freed : Option ℕ) → FreedFits n freed → n < behind n freed
-behind_answer n None h = omega arith
-behind_answer n (Some g) h = omega (arith, h)
+after_an_answer : (n : ℕ) (freed : Option ℕ) → FreedFits n freed → n < afterwards n freed
+after_an_answer n None h = omega arith
+after_an_answer n (Some g) h = omega (arith, h)
 
 -- the host's part
 sending_upto : (m : ℕ) (f : Sent) → f.ready ≤ f.start → CellsFit false f.start f.cells → end_of f ≤ m → AllUpTo m (sending f)
@@ -290,7 +290,7 @@ taking_upto m b at f h l = go f.signal h.signal h.accept
     go None g a = (omega (arith, a, l), (l, tt))
     go (Some (pull, again)) g a = let x = g.0 in let y = g.1 in (omega (arith, a, l, x, y), (omega (arith, a, l, y), (omega (arith, a, l), (l, tt))))
 
-freed_by : (m n : ℕ) (freed : Option ℕ) → behind n freed ≤ m → AllUpTo m (freed_steps freed)
+freed_by : (m n : ℕ) (freed : Option ℕ) → afterwards n freed ≤ m → AllUpTo m (freed_steps freed)
 freed_by m n None h = tt
 freed_by m n (Some g) h = (h, tt)
 
@@ -312,15 +312,15 @@ part_upto p (ToListener at) h = (omega arith, tt)
 part_upto p (ToNobody at clock) h = let k = h.1 in let l = le-max_right (at + 61) clock in (omega (arith, k, l), (l, tt))
 part_upto p (ToTalker at clock) h =
     let k = h.1 in
-    let l = behind_base at (clock + (talker_of p.seats).reaction + 1) p.seats in
+    let l = after_base at (clock + (talker_of p.seats).reaction + 1) p.seats in
     (omega (arith, k, l), (omega (arith, k, l), (omega (arith, l), tt)))
 part_upto p (Nothing at clock freed) h =
     let k = h.1 in
     let n = silent_end (talker_of p.seats) clock in
-    let a = behind_answer n freed h.2 in
-    let l = behind_base at (behind n freed) p.seats in
+    let a = after_an_answer n freed h.2 in
+    let l = after_base at (afterwards n freed) p.seats in
     let e = silent_from (talker_of p.seats) clock in
-    (omega (arith, k, a, l, e), (omega (arith, k, a, l, e), (omega (arith, a, l, e), freed_by (behind_all at (behind n freed) p.seats) n freed l)))
+    (omega (arith, k, a, l, e), (omega (arith, k, a, l, e), (omega (arith, a, l, e), freed_by (after_all_of at (afterwards n freed) p.seats) n freed l)))
 part_upto p (Talk at f) h = taking_upto (told_since (talker_of p.seats) f) (talker_of p.seats) at f h.1 (told_late (talker_of p.seats) f)
 
 -- so a piece begins before it
@@ -444,7 +444,7 @@ parts_before p w r o = go w
     known : Each (Known b) p.seats
     known = all_known b p.seats r (talkers_are p.seats o)
 
-    -- with a drive that answers behind CLOCK's release
+    -- with a drive that answers after CLOCK's release
     answering : (at m n : ℕ) (x : Seat) → Known b x → x.role ≡ Talker → n + b.reaction < m → n + reaction x < m
     answering at m n x k e h = subst (λ (c : Party). n + c.reaction < m) (k.talks (ap is_talker e)) h
 
@@ -464,20 +464,20 @@ parts_before p w r o = go w
         each (Known b) (λ x. AllBefore m (own_part p (ToNobody at clock) x)) p.seats (λ x k. let l = k.prompt in (omega (arith, l, n), tt)) known
     go (ToTalker at clock) h =
         let last = clock + b.reaction + 1 in
-        let m = behind_all at last p.seats in
-        let n : clock + b.reaction < m = let l = behind_base at last p.seats in omega (arith, l) in
+        let m = after_all_of at last p.seats in
+        let n : clock + b.reaction < m = let l = after_base at last p.seats in omega (arith, l) in
         both (Known b) (GoneBy at m) (λ x. AllBefore m (own_part p (ToTalker at clock) x)) p.seats
         (λ x k g. before_role m x.role (let_go at x) (drive (device x) (clock + reaction x) Clock Pull ∷ drive (device x) (clock + reaction x) Data Free ∷ []) (λ (e : x.role ≡ Absent). (g e, tt))
         (λ (e : x.role ≡ Talker). (answering at m clock x k e n, (answering at m clock x k e n, tt))))
-        known (behind_each at last p.seats)
+        known (after_each at last p.seats)
     go (Nothing at clock freed) h =
-        let last = behind (silent_end b clock) freed in
-        let m = behind_all at last p.seats in
-        let a = behind_answer (silent_end b clock) freed h.2 in
-        let n : silent_end b clock < m = let l = behind_base at last p.seats in omega (arith, l, a) in
+        let last = afterwards (silent_end b clock) freed in
+        let m = after_all_of at last p.seats in
+        let a = after_an_answer (silent_end b clock) freed h.2 in
+        let n : silent_end b clock < m = let l = after_base at last p.seats in omega (arith, l, a) in
         both (Known b) (GoneBy at m) (λ x. AllBefore m (own_part p (Nothing at clock freed) x)) p.seats
         (λ x k g. before_role m x.role (let_go at x) (silent_part x.party.pace (device x) (clock + reaction x)) (λ (e : x.role ≡ Absent). (g e, tt)) (λ (e : x.role ≡ Talker). silent_before x.party.pace (device x) m (clock + reaction x) (subst (λ (c : Party). silent_end c clock < m) (k.talks (ap is_talker e)) n)))
-        known (behind_each at last p.seats)
+        known (after_each at last p.seats)
     go (Talk at f) h =
         let m = told_since b f in
         each (Known b) (λ x. AllBefore m (own_part p (Talk at f) x)) p.seats
@@ -534,7 +534,7 @@ waits_cut q m (Byte eoi g) c h f k = elim k [ ]
 waits_cut q m (ToListener at) c h f k = elim k [ ]
 waits_cut q m (ToNobody at clock) c h f k = elim k [ ]
 
--- behind a piece all waits for the end of its steps
+-- after a piece all waits for the end of its steps
 spread_60 : (hs : List Seat) → SeatsReact hs → spread hs ≤ 60
 spread_60 [] r = omega arith
 spread_60 (x ∷ xs) r = let k = bounds x xs r in let l = k.3 in omega (arith, l)
@@ -579,8 +579,8 @@ whole_waits p (ToNobody at clock) r h =
     let stood = map (λ x. standing (lines false false) x) p.seats in
     let k = pause_from (bus_pace stood) in
     λ (n : ℕ) (a : at + pull_pause (bus_pace stood) ≤ n) (b : clock ≤ n). max-le (omega (arith, a, k)) b
-whole_waits p (ToTalker at clock) r h = let k = h.1 in (behind_upto at (clock + (talker_of p.seats).reaction + 1) (clock + (talker_of p.seats).reaction + 80) p.seats r (omega (arith, k)) (omega arith), omega arith)
-whole_waits p (Nothing at clock freed) r h = λ (n : ℕ) (a : Unit {0}) (b : behind_all at (behind (silent_end (talker_of p.seats) clock) freed) p.seats ≤ n). b
+whole_waits p (ToTalker at clock) r h = let k = h.1 in (after_upto at (clock + (talker_of p.seats).reaction + 1) (clock + (talker_of p.seats).reaction + 80) p.seats r (omega (arith, k)) (omega arith), omega arith)
+whole_waits p (Nothing at clock freed) r h = λ (n : ℕ) (a : Unit {0}) (b : after_all_of at (afterwards (silent_end (talker_of p.seats) clock) freed) p.seats ≤ n). b
 whole_waits p (Talk at f) r h = told_waits f (talker_of p.seats).reaction (whole_point p (Talk at f)) refl
 
 -- A session goes on, and nothing of it comes before what it waits for.

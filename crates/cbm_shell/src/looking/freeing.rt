@@ -96,11 +96,11 @@ fn is_any(held: &SectorSet, places: &[Address]) -> bool
     ensures { result ≡ is_any (is_marked held.now) places.now }
 {
     let mut rest = places;
-    'sectors: while let Some((first, behind)) = rest.split_first() {
+    'sectors: while let Some((first, afterwards)) = rest.split_first() {
         if held.has(*first) {
             return true;
         }
-        rest = behind;
+        rest = afterwards;
     }
     false
 }

@@ -50,9 +50,9 @@ pub fn name_text(alloc: Global, charset: Charset, name: &[u8]) -> Result<String,
 {
     let mut text = String::new(alloc);
     let mut rest = name;
-    'codes: while let Some((code, behind)) = rest.split_first() {
+    'codes: while let Some((code, afterwards)) = rest.split_first() {
         add_code(&mut text, charset, *code)?;
-        rest = behind;
+        rest = afterwards;
     }
     Ok(text)
 }
@@ -101,8 +101,8 @@ fn codes_in(alloc: Global, charset: Charset, text: &[char]) -> Result<Option<Vec
 {
     let mut codes = Vec::new(alloc);
     let mut rest = text;
-    'codes: while let Some((first, behind)) = rest.split_first() {
-        let Some((code, after)) = next_code(charset, *first, behind) else {
+    'codes: while let Some((first, afterwards)) = rest.split_first() {
+        let Some((code, after)) = next_code(charset, *first, afterwards) else {
             return Ok(None);
         };
         codes.push(code).map_err(AllocError::from)?;

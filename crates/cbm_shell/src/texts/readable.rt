@@ -31,11 +31,11 @@ fn ends(left: u8, code: u8) -> bool
 }
 
 /// Adds a new line, and returns what follows the line.
-fn end_line<'a>(out: &mut String, behind: &'a [u8]) -> Result<&'a [u8], AllocError>
-    ensures { IfOk result (λ rest. (string_bytes out.new ≡ string_bytes out.old ++ codes "\n") × (rest.now ≡ behind.now)) }
+fn end_line<'a>(out: &mut String, afterwards: &'a [u8]) -> Result<&'a [u8], AllocError>
+    ensures { IfOk result (λ rest. (string_bytes out.new ≡ string_bytes out.old ++ codes "\n") × (rest.now ≡ afterwards.now)) }
 {
     out.push_str("\n")?;
-    Ok(behind)
+    Ok(afterwards)
 }
 
 /// Adds the text of a line from after its first code up to its 0, and a new line. Returns what follows the 0.
@@ -46,13 +46,13 @@ fn add_text<'a>(out: &mut String, charset: Charset, bytes: &'a [u8]) -> Result<&
 {
     let mut rest = bytes;
     let mut left = SURE;
-    'codes: while let Some((code, behind)) = rest.split_first() {
+    'codes: while let Some((code, afterwards)) = rest.split_first() {
         if ends(left, *code) {
-            return end_line(out, behind);
+            return end_line(out, afterwards);
         }
         add_code(out, charset, *code)?;
         left = left.saturating_sub(1);
-        rest = behind;
+        rest = afterwards;
     }
     end_line(out, rest)
 }
@@ -63,11 +63,11 @@ fn add_line<'a>(out: &mut String, charset: Charset, bytes: &'a [u8]) -> Result<&
         string_bytes out.new ++ readable_lines charset rest.now ≡ string_bytes out.old ++ opening charset bytes.now) }
     ensures shorter { IfOk result (λ rest. length rest.now ≤ length bytes.now) }
 {
-    let Some((code, behind)) = bytes.split_first() else {
+    let Some((code, afterwards)) = bytes.split_first() else {
         return end_line(out, bytes);
     };
     open_line(out, charset, *code)?;
-    add_text(out, charset, behind)
+    add_text(out, charset, afterwards)
 }
 
 /// The number of the next line, and what follows it; None where the lines end.
@@ -107,9 +107,9 @@ pub fn readable_listing(
 {
     let mut out = String::new(alloc);
     let mut rest = bytes.get(2..).unwrap_or(&[]);
-    'lines: while let Some((number, behind)) = next_line(charset, rest) {
+    'lines: while let Some((number, afterwards)) = next_line(charset, rest) {
         add_number(&mut out, number)?;
-        rest = add_line(&mut out, charset, behind)?;
+        rest = add_line(&mut out, charset, afterwards)?;
     }
     Ok(out.into_bytes())
 }

@@ -40,14 +40,14 @@ renamed_alike : (old new name : List ℕ) → IsRenamedAs old new name → Leads
 renamed_alike old new name says =
     let t : slice_index old 1 ≡ slice_index new 1 = sym (says.before 1 (omega arith)) in
     let s : slice_index old 2 ≡ slice_index new 2 = sym (says.before 2 (omega arith)) in
-    let u : slice_index old 19 ≡ slice_index new 19 = sym (says.behind 19 (omega arith)) in
-    let v : slice_index old 20 ≡ slice_index new 20 = sym (says.behind 20 (omega arith)) in
+    let u : slice_index old 19 ≡ slice_index new 19 = sym (says.afterwards 19 (omega arith)) in
+    let v : slice_index old 20 ≡ slice_index new 20 = sym (says.afterwards 20 (omega arith)) in
     record {
       closed = ap (λ (n : ℕ). bit_of n 7) (says.before 0 (omega arith));
       relative = ap (λ (n : ℕ). n % 16 == 4) (says.before 0 (omega arith));
       first = λ i. record { track = t i; sector = s i };
       side = λ i. record { track = u i; sector = v i };
-      width = sym (says.behind 21 (omega arith));
+      width = sym (says.afterwards 21 (omega arith));
     }
 
 lies_named : (x y : Bool) (tracks : ℕ) (c : Content) (old new name : List ℕ) (b : Blocks) → IsRenamedAs old new name → LiesAs x y tracks c old b → LiesAs x y tracks c new b
@@ -65,12 +65,12 @@ unfolding file_of
 named_file bytes old new name b f says s =
     let was = some_file bytes old b f s in
     let t : type_byte new ≡ type_byte old = says.before 0 (omega arith) in
-    let width : width_of new ≡ width_of old = says.behind 21 (omega arith) in
+    let width : width_of new ≡ width_of old = says.afterwards 21 (omega arith) in
     let some : (type_byte new == 0) ≡ false = ap (λ (n : ℕ). n == 0) t ∙ was.0 in
     let k : type_of_number (type_byte new % 16) ≡ f.kind = ap (λ (n : ℕ). type_of_number (n % 16)) t ∙ ap (λ (x : File). x.kind) was.1 in
     let c : is_closed new ≡ f.closed = ap (λ (n : ℕ). bit_of n 7) t ∙ ap (λ (x : File). x.closed) was.1 in
     let lo : bit_of (type_byte new) 6 ≡ f.locked = ap (λ (n : ℕ). bit_of n 6) t ∙ ap (λ (x : File). x.locked) was.1 in
-    let sh : slice_index new 28 + 256 * slice_index new 29 ≡ f.shown = omega (arith, says.behind 28 (omega arith), says.behind 29 (omega arith), ap (λ (x : File). x.shown) was.1) in
+    let sh : slice_index new 28 + 256 * slice_index new 29 ≡ f.shown = omega (arith, says.afterwards 28 (omega arith), says.afterwards 29 (omega arith), ap (λ (x : File). x.shown) was.1) in
     let he : length b.data_blocks + length b.sides ≡ f.held = ap (λ (x : File). x.held) was.1 in
     let y : body_as (is_closed new && is_relative new) bytes new b ≡ f.body = ap (λ (n : ℕ). body_as (bit_of n 7 && (n % 16 == 4)) bytes new b) t
     ∙ same_body (is_closed old && is_relative old) bytes old new b width ∙ ap (λ (x : File). x.body) was.1 in

@@ -12,7 +12,7 @@ use Rattle.cbm_volume.specs.Layouts.{Layout, Sound, IsCellWritable}
 use Rattle.cbm_volume.specs.check.SlotWalk as checked
 use Rattle.cbm_volume.specs.check.Claims.{reads, wrong_at, ClaimsChain, MeetsFault}
 use Rattle.cbm_volume.specs.check.SideLists.{ClaimsEach, MeetsAmong, sides_from, are_records, SidesFault}
-use Rattle.cbm_volume.specs.check.SlotWalk.{RelativeFault, ClaimsFile, FileFault, ClaimsEntry, EntryFault, ClaimsEntries, EntriesFault, entries_behind, entries_in, SlotsFault}
+use Rattle.cbm_volume.specs.check.SlotWalk.{RelativeFault, ClaimsFile, FileFault, ClaimsEntry, EntryFault, ClaimsEntries, EntriesFault, entries_after, entries_in, SlotsFault}
 use Rattle.cbm_volume.specs.check.MapCounts.{IsMapRight, IsMapFault}
 use Rattle.cbm_volume.specs.check.Headers.{is_bad_header}
 use Rattle.cbm_volume.specs.check.WholeDisk.{only_head, ClaimsDisk, ClaimsInto, DiskFault}
@@ -115,7 +115,7 @@ file_clean true true tracks c claimed e b after u h (inr g) = relative_clean tra
 
 -- ---- entries
 
--- the slots of some entries, and of those behind them
+-- the slots of some entries, and of those after them
 slots_join : (tracks : ℕ) (c : Content) (claimed : Place → Bool) (es fs : List (List ℕ)) (bs ds : List Blocks) (middle after : Place → Bool) → ClaimsSlots tracks c claimed es bs middle → ClaimsSlots tracks c middle fs ds after
     → ClaimsSlots tracks c claimed (es ++ fs) (bs ++ ds) after
 slots_join tracks c claimed [] fs [] ds middle after h g = subst (λ (m : Place → Bool). ClaimsSlots tracks c m fs ds after) h g
@@ -160,7 +160,7 @@ entries_clean tracks c claimed sector (e ∷ es) fs (b ∷ bs) after u h (inr g)
 -- ---- the sectors of the directory
 
 eight : (sector : List ℕ) → entries_in sector ≡ entries_from 8 sector 0
-unfolding entries_behind
+unfolding entries_after
 eight sector = refl
 
 slots_claimed : (tracks : ℕ) (c : Content) (met claimed : Place → Bool) (a : Place) (xs : List Place) (after : Place → Bool) → checked.ClaimsSlots tracks c met claimed a xs after

@@ -24,7 +24,7 @@ before_cases q t s h ne = grind arith
 before_here : (q : Place) (t s : ℕ) → comes_before q (at t s) ≡ true → q.track ≡ t → q.sector < s
 before_here q t s h e = grind arith
 
--- the first on its track, behind tracks without a fault, is the first of all
+-- the first on its track, after tracks without a fault, is the first of all
 pub first_bad : (tracks : ℕ) (content : Content) (t s : ℕ) → 0 < t → t ≤ tracks → UpTo tracks content t → s < sectors_on t → is_bad_header (content (at t s)) ≡ true
     → ((r : ℕ) → r < s → IsCellWritable (content (at t r))) → IsFirstBad tracks content (at t s)
 first_bad tracks content t s some few h l bad k = record {

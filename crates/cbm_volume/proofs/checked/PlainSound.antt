@@ -132,11 +132,11 @@ module _ (tracks : ℕ) (c : Content) (l : Layout) (s : Sound tracks c l) where
       let sides = sides_right (is_closed e) (is_relative e) n e (l.files n) (s.lies n lt) (s.owned.sides n lt) in
       let more = blocks_in (blocks_from tracks c l s (n + 1) k) in
       let rest = files_right (n + 1) k (omega (arith, room)) in
-      let behind = distinct_join l.owner (SideOf n) (l.files n).sides more (s.owned.sides n lt) (λ p is. apart_files p (SideOf n) (n + 1) k (omega (arith, room)) is (λ m h. side_before n m h)) sides.0 rest.distinct in
+      let afterwards = distinct_join l.owner (SideOf n) (l.files n).sides more (s.owned.sides n lt) (λ p is. apart_files p (SideOf n) (n + 1) k (omega (arith, room)) is (λ m h. side_before n m h)) sides.0 rest.distinct in
       record {
         distinct = distinct_join l.owner (DataOf n) (l.files n).data_blocks ((l.files n).sides ++ more) (s.owned.blocks n lt)
             (λ p is. apart_join p (l.files n).sides more (apart_owned l.owner p (DataOf n) (SideOf n) (l.files n).sides is (λ z. absurd (cc)) (s.owned.sides n lt))
-            (apart_files p (DataOf n) (n + 1) k (omega (arith, room)) is (λ m h. data_before n m h))) chained.0 behind;
+            (apart_files p (DataOf n) (n + 1) k (omega (arith, room)) is (λ m h. data_before n m h))) chained.0 afterwards;
         taken = taken_join c (l.files n).data_blocks ((l.files n).sides ++ more) chained.1 (taken_join c (l.files n).sides more sides.1 rest.taken);
         off = off_join (l.files n).data_blocks ((l.files n).sides ++ more) (data_off n (l.files n).data_blocks (s.owned.blocks n lt)) (off_join (l.files n).sides more (side_off n (l.files n).sides (s.owned.sides n lt)) rest.off);
       }

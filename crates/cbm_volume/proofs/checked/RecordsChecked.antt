@@ -13,7 +13,7 @@ use Rattle.cbm_relfile.specs.SideSectors.{named_in, sides_listed, blocks_listed,
 use Rattle.cbm_directory.specs.Entries.{first_block, first_side, width_of}
 use Rattle.cbm_volume.specs.Blocks.{Blocks, HasRecords}
 use Rattle.cbm_volume.specs.check.Claims.{reads}
-use Rattle.cbm_volume.specs.check.SideLists.{ClaimsEach, behind_first, sides_from, step_along, along, listed_at, listed_blocks, side_along, side_found, sides_along, all_along, are_records}
+use Rattle.cbm_volume.specs.check.SideLists.{ClaimsEach, after_the_first, sides_from, step_along, along, listed_at, listed_blocks, side_along, side_found, sides_along, all_along, are_records}
 use Rattle.cbm_volume.specs.declared.check.unsound.Part.TheVariants.{OfFile}
 use Rattle.cbm_volume.proofs.checked.ClaimedSound.{is_right, inside_has}
 use Rattle.cbm_volume.proofs.checked.SidesListed.{named_some}
@@ -165,7 +165,7 @@ records_right tracks c claimed after e xs some_link h k t =
       some_block = some_block_of xs h some_link;
       some_width = ltb-true 0 (width_of e) w.0;
       width = below (ltb-true (width_of e) 255 v.0);
-      first = (behind_first first, refl);
+      first = (after_the_first first, refl);
       listed = sym (listed ∙ ap (λ ys. first_side e ∷ ys) (sym (ap (drop 1) listed)));
       numbered = sided.numbered;
       joined = (sided.rest, sided.joined);
@@ -191,17 +191,17 @@ records_right tracks c claimed after e xs some_link h k t =
     first_sided bytes is q g has_s ok = by_first (side_along tracks c (width_of e) 0 bytes (first_block e)) refl g
       where
         by_first : (o : Option Place) → side_along tracks c (width_of e) 0 bytes (first_block e) ≡ o
-            → (elim o [ Some b ↦ sides_along tracks c (width_of e) 1 (behind_first bytes) b | None ↦ None ]) ≡ Some q → Sided tracks c (width_of e) 0 (sides_from c (first_side e)) xs
+            → (elim o [ Some b ↦ sides_along tracks c (width_of e) 1 (after_the_first bytes) b | None ↦ None ]) ≡ Some q → Sided tracks c (width_of e) 0 (sides_from c (first_side e)) xs
         by_first None o g2 = absurd (cc)
         by_first (Some b) o g2 =
-            one_sided tracks c (width_of e) 0 (first_side e) (behind_first (bytes_at c (first_side e))) xs (first_block e) b has_s ok h
+            one_sided tracks c (width_of e) 0 (first_side e) (after_the_first (bytes_at c (first_side e))) xs (first_block e) b has_s ok h
             (ap (λ ys. side_along tracks c (width_of e) 0 ys (first_block e)) is ∙ o)
-            (λ z f. all_sided tracks c (with_bit claimed (first_side e) true) after (width_of e) 1 (behind_first (bytes_at c (first_side e))) z b q k.1 f
-            (ap (λ ys. sides_along tracks c (width_of e) 1 (behind_first ys) b) is ∙ g2))
+            (λ z f. all_sided tracks c (with_bit claimed (first_side e) true) after (width_of e) 1 (after_the_first (bytes_at c (first_side e))) z b q k.1 f
+            (ap (λ ys. sides_along tracks c (width_of e) 1 (after_the_first ys) b) is ∙ g2))
 
 all_is : (tracks : ℕ) (c : Content) (width : ℕ) (first a : Place) → Has tracks first → all_along tracks c width (bytes_at c first) a ≡ sides_along tracks c width 0 (sides_from c first) a
 all_is tracks c width first a h =
-    sym (ap (λ (t : Bool). elim (if t then side_along tracks c width 0 (bytes_at c first) a else None) [ Some b ↦ sides_along tracks c width 1 (behind_first (bytes_at c first)) b | None ↦ None ]) (has_true tracks first h))
+    sym (ap (λ (t : Bool). elim (if t then side_along tracks c width 0 (bytes_at c first) a else None) [ Some b ↦ sides_along tracks c width 1 (after_the_first (bytes_at c first)) b | None ↦ None ]) (has_true tracks first h))
 
 head_of : Place → List Place → Place
 head_of p [] = p

@@ -9,19 +9,19 @@ use Rattle.cbm_directory.specs.Slots.{entries_from}
 use Rattle.cbm_volume.specs.declared.check.unsound.Part.TheVariants.{OfDirectory}
 use Rattle.cbm_volume.specs.declared.check.unsound.Unsound.{Unsound}
 use Rattle.cbm_volume.specs.check.Claims.{wrong_at, fault_at}
-use Rattle.cbm_volume.specs.check.SlotWalk.{ClaimsEntry, EntryFault, ClaimsEntries, EntriesFault, entries_behind, entries_in, ClaimsSlots, SlotsFault}
+use Rattle.cbm_volume.specs.check.SlotWalk.{ClaimsEntry, EntryFault, ClaimsEntries, EntriesFault, entries_after, entries_in, ClaimsSlots, SlotsFault}
 
-entries_some : (n : ℕ) (sector : List ℕ) → n < 8 → entries_behind n sector ≡ entry_of sector n ∷ entries_behind (n + 1) sector
-unfolding entries_behind
+entries_some : (n : ℕ) (sector : List ℕ) → n < 8 → entries_after n sector ≡ entry_of sector n ∷ entries_after (n + 1) sector
+unfolding entries_after
 entries_some n sector l =
     let more : 8 - n ≡ suc (8 - (n + 1)) = omega arith in
     ap (λ (m : ℕ). entries_from m sector n) more
 
-pub entries_next : (n : ℕ) (sector e : List ℕ) → n < 8 → e ≡ entry_of sector n → entries_behind n sector ≡ e ∷ entries_behind (n + 1) sector
-entries_next n sector e l is = entries_some n sector l ∙ ap (λ (x : List ℕ). x ∷ entries_behind (n + 1) sector) (sym is)
+pub entries_next : (n : ℕ) (sector e : List ℕ) → n < 8 → e ≡ entry_of sector n → entries_after n sector ≡ e ∷ entries_after (n + 1) sector
+entries_next n sector e l is = entries_some n sector l ∙ ap (λ (x : List ℕ). x ∷ entries_after (n + 1) sector) (sym is)
 
-pub entries_end : (n : ℕ) (sector : List ℕ) → 8 ≤ n → entries_behind n sector ≡ []
-unfolding entries_behind
+pub entries_end : (n : ℕ) (sector : List ℕ) → 8 ≤ n → entries_after n sector ≡ []
+unfolding entries_after
 entries_end n sector l =
     let end : 8 - n ≡ 0 = omega arith in
     ap (λ (m : ℕ). entries_from m sector n) end

@@ -123,10 +123,10 @@ some_waits tracks c l d n byte r left k settled e =
     nothing (x ∷ []) e = absurd (cc)
     nothing (x ∷ y ∷ xs) e = absurd (cc)
 
--- the reader goes along behind a byte that was put
-pub read_behind : (medium : ℕ) (c : Content) (l : Layout) (d : Disk) (uses : ℕ → Use) (ch n byte : ℕ) (now : Content) (s : State) (bytes left : List ℕ) (old new : Reading) → new.tracks ≡ old.tracks → GoesAlong now old new → rest_of now new ≡ one_less (rest_of now old)
+-- the reader goes along after a byte that was put
+pub read_after_end : (medium : ℕ) (c : Content) (l : Layout) (d : Disk) (uses : ℕ → Use) (ch n byte : ℕ) (now : Content) (s : State) (bytes left : List ℕ) (old new : Reading) → new.tracks ≡ old.tracks → GoesAlong now old new → rest_of now new ≡ one_less (rest_of now old)
     → Making medium c l d uses ch now s bytes (Reads n old (byte ∷ left)) → Making medium c l d uses ch now s bytes (Reads n new left)
-read_behind medium c l d uses ch n byte now s bytes left old new same goes less_one k = record {
+read_after_end medium c l d uses ch n byte now s bytes left old new same goes less_one k = record {
   idle = k.idle;
   places = k.places;
   reached = k.reached;
@@ -140,7 +140,7 @@ read_behind medium c l d uses ch n byte now s bytes left old new same goes less_
 pub reader_goes : (old new : Seen) (c : Content) (l : Layout) (d : Disk) (uses : ℕ → Use) (ch n byte : ℕ) (s : State) (bytes left : List ℕ) (r r' : Reading) (res : Result (Unit {0}) Trouble) → r'.tracks ≡ r.tracks → OnOk res (GoesAlong new.content r r') → OnOk res (rest_of new.content r' ≡ one_less (rest_of new.content r))
     → IfErr res (λ t. ((rest_of new.content r).trouble ≡ Some t) × (r'.bytes ≡ drop 1 (rest_of new.content r).bytes)) → Making old.tracks c l d uses ch new.content s bytes (Reads n r (byte ∷ left))
     → MatchResult res (λ x. Making old.tracks c l d uses ch new.content s bytes (Reads n r' left)) (IsCopyCut old new c l d uses)
-reader_goes old new c l d uses ch n byte s bytes left r r' (Ok x) same goes less_one bad k = read_behind old.tracks c l d uses ch n byte new.content s bytes left r r' same goes less_one k
+reader_goes old new c l d uses ch n byte s bytes left r r' (Ok x) same goes less_one bad k = read_after_end old.tracks c l d uses ch n byte new.content s bytes left r r' same goes less_one k
 reader_goes old new c l d uses ch n byte s bytes left r r' (Err t) same goes less_one bad k = absurd (let z = sym bad.0 ∙ ap (λ (x : RestOfFile). x.trouble) (rest_is new.content r k.reads.blocks k.reads.followed) in (cc))
 
 -- ---- the bytes of a reader

@@ -98,7 +98,7 @@ made_last medium c l d uses ch now now' s bytes u k ends = by_places k.places k.
           counted = omega (arith, wrote.count, few);
         }
 
--- the entry was refused behind it
+-- the entry was refused after it
 pub made_refused : (medium : ℕ) (c : Content) (l : Layout) (d : Disk) (uses : ℕ → Use) (ch : ℕ) (now : Content) (s : State) (bytes : List ℕ) → IsLastOf medium c l d uses ch now s bytes → SlotLost medium c l now d uses
 made_refused medium c l d uses ch now s bytes k = record { disk = less (length (k.b ∷ k.rest)) d; reached = k.reached; slots = same_files_less d (length (k.b ∷ k.rest)) }
 

@@ -1,4 +1,4 @@
--- Behind NEW the medium holds the empty disk.
+-- After NEW the medium holds the empty disk.
 use Rattle.std.proofs.Common.{◌≡◌, ◌≢◌, ◌⊎◌, ℕ, ◌/◌, ◌%◌, ◌<◌, ◌≤◌, List, [], ◌∷◌, take, drop, get_or, Bool, true, false, Ok, Err, IsOk, refl, sym, ap, subst, ◌∙◌, arith, inl, inr, Option, Some, None, Result}
 use Rattle.std.specs.Prelude.{if◌then◌else◌, not, slice_range, OnOk, IfErr, IsErr}
 use Rattle.std.proofs.lemmas.Bool.{cases_lt, eq-eqb}
@@ -19,7 +19,7 @@ use Rattle.cbm_volume.specs.Blocks.{no_blocks, LiesAs, file_of}
 use Rattle.cbm_chain.specs.Data.{chain_bytes}
 use Rattle.cbm_volume.specs.Holding.{HoldsDisk}
 use Rattle.cbm_volume.specs.Layouts.{Owner, Nobody, TheMap, Directory, DataOf, SideOf, Layout, IsCellWritable, HasLayout, Means, own}
-use Rattle.cbm_volume.specs.NewDisks.{used_by_new, IsEmptied, OnlyNew, id_behind, content_under}
+use Rattle.cbm_volume.specs.NewDisks.{used_by_new, IsEmptied, OnlyNew, id_after, content_under}
 use Rattle.cbm_volume.specs.Writers.{Use, Idle, IsUsed, HoldsNow, writes_slot}
 use Rattle.cbm_medium.proofs.Places.{place_decide}
 use Rattle.cbm_volume.proofs.layouts.Listing.{geometry_size}
@@ -68,7 +68,7 @@ free_is_nobodys p h = elim (owner_cases p) [
   | inr (inr e) ↦ e
 ]
 
--- ---- the content behind NEW
+-- ---- the content after NEW
 
 abbrev free_in_new : Place → Bool
 free_in_new p = not (used_by_new p)
@@ -230,17 +230,17 @@ no_id (Some id) h = absurd (h id refl)
 
 -- ---- on any content
 
--- what stands in the two sectors behind NEW without an id
+-- what stands in the two sectors after NEW without an id
 pub emptied_short : (r : Result (Unit {0}) Trouble) (old : Seen) (new : Content) (title id : List ℕ) (o : Option (List ℕ)) → o ≡ None → id ≡ slice_range (map_of old.content) 162 164 → OnOk r (IsEmptied old.tracks title id old.content new)
-    → OnOk r (IsEmptied old.tracks title (id_behind o old.content) (content_under o old.content) new)
+    → OnOk r (IsEmptied old.tracks title (id_after o old.content) (content_under o old.content) new)
 emptied_short r old new title id o none is h =
-    subst (λ (y : Option (List ℕ)). OnOk r (IsEmptied old.tracks title (id_behind y old.content) (content_under y old.content) new)) (sym none) (subst (λ (i : List ℕ). OnOk r (IsEmptied old.tracks title i old.content new)) is h)
+    subst (λ (y : Option (List ℕ)). OnOk r (IsEmptied old.tracks title (id_after y old.content) (content_under y old.content) new)) (sym none) (subst (λ (i : List ℕ). OnOk r (IsEmptied old.tracks title i old.content new)) is h)
 
 -- and with one
 pub emptied_long : (r : Result (Unit {0}) Trouble) (old mid : Seen) (new : Content) (title id : List ℕ) (o : Option (List ℕ)) → mid ≡ formatted_as id (with_content blank old) → o ≡ Some id → OnOk r (IsEmptied mid.tracks title id mid.content new)
-    → OnOk r (IsEmptied old.tracks title (id_behind o old.content) (content_under o old.content) new)
+    → OnOk r (IsEmptied old.tracks title (id_after o old.content) (content_under o old.content) new)
 emptied_long r old mid new title id o was some h =
-    subst (λ (y : Option (List ℕ)). OnOk r (IsEmptied old.tracks title (id_behind y old.content) (content_under y old.content) new)) (sym some) (subst (λ (m : Seen). OnOk r (IsEmptied m.tracks title id m.content new)) was h)
+    subst (λ (y : Option (List ℕ)). OnOk r (IsEmptied old.tracks title (id_after y old.content) (content_under y old.content) new)) (sym some) (subst (λ (m : Seen). OnOk r (IsEmptied m.tracks title id m.content new)) was h)
 
 -- what else the medium shows after NEW without an id
 pub only_short : (r : Result (Unit {0}) Trouble) (o : Option (List ℕ)) (old new : Seen) → o ≡ None → OnlyContent 18 r old new → OnlyNew r o old new

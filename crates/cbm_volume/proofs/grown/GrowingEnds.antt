@@ -27,7 +27,7 @@ use Rattle.cbm_volume.proofs.layouts.Refusals.{hindered_since}
 
 -- ---- the other files
 
--- behind a stop, and behind the whole
+-- after a stop, and after the whole
 pub stopped_untouched : (old new : Seen) (l0 : Layout) (d : Disk) (uses : ℕ → Use) (n w : ℕ) (rs : List (List ℕ)) (t : Trouble) → Sound (geometry_of old.tracks old.content) old.content l0 → IsGrowthStopped old new old.content l0 d uses n w rs t
     → LeavesClosed (geometry_of old.tracks old.content) old.content new.content (λ m. m == n) (λ m. m == n)
 stopped_untouched old new l0 d uses n w rs t s k =

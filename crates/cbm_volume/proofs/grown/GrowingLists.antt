@@ -174,7 +174,7 @@ refused_hindered : (size : ℕ) (mid new : Seen) (l : Layout) (t : Trouble) → 
 refused_hindered size mid new l t s (inl (p, has, refused)) = write_hindered size mid new l p t s has (inl refused)
 refused_hindered size mid new l t s (inr failed) = inr failed
 
--- A CLAIM OR A WRITE BEHIND IT WAS REFUSED, at a sector of the file that reads
+-- A CLAIM OR A WRITE AFTER IT WAS REFUSED, at a sector of the file that reads
 pub begun_cut : (old new : Seen) (c0 : Content) (d : Disk) (uses : ℕ → Use) (n w b s : ℕ) (rs : List (List ℕ)) (o : HasRecordsOpen old.tracks c0 d uses n w b s rs) (l : Layout) (j b1 s1 free : ℕ) (p : Place) (t : Trouble)
     → Stage old.tracks c0 o.holds.layout d uses n o.file w old.content l (rs ++ replicate j (fresh_record w)) b1 s1 free → l.owner p ≢ TheMap → l.owner p ≢ Nobody → IsOk (old.content p) → IsLengthenStopped (geometry_of old.tracks c0) old new p t.code → IsGrowthStopped old new c0 o.holds.layout d uses n w rs t
 begun_cut old new c0 d uses n w b s rs o l j b1 s1 free p t h nm ne reads k =

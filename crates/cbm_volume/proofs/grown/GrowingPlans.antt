@@ -8,8 +8,8 @@ use Rattle.cbm_file.specs.Records.{blocks_for}
 use Rattle.cbm_bam.specs.Map.{geometry_of}
 use Rattle.cbm_directory.specs.Entries.{entry_at, first_block, first_side, width_of}
 use Rattle.cbm_relfile.specs.Records.{Relative}
-use Rattle.cbm_relfile.specs.SideSectors.{sides_behind, sides_listed}
-use Rattle.cbm_relfile.proofs.Counted.{behind_all}
+use Rattle.cbm_relfile.specs.SideSectors.{sides_following, sides_listed}
+use Rattle.cbm_relfile.proofs.Counted.{after_all_of}
 use Rattle.cbm_volume.specs.Growth.{IsTooLarge}
 use Rattle.cbm_volume.specs.Growing.{IsPlanned, is_too_large}
 use Rattle.cbm_volume.specs.Layouts.{Layout}
@@ -24,7 +24,7 @@ use Rattle.cbm_volume.proofs.held.RecordsRead.{relative_of}
 
 -- what the call that counts blocks and side sectors says, of each chain and each first side sector
 abbrev pub CountsBy : ℕ → Content → Relative → (ℕ → ℕ → Type 0) → Type 0
-CountsBy geometry c file says = (blocks : List Place) (head : List ℕ) → Chain geometry c file.first blocks → length blocks ≤ sector_count geometry → Has geometry file.side → c file.side ≡ Ok head → says (length blocks) (length (sides_behind 0 head))
+CountsBy geometry c file says = (blocks : List Place) (head : List ℕ) → Chain geometry c file.first blocks → length blocks ≤ sector_count geometry → Has geometry file.side → c file.side ≡ Ok head → says (length blocks) (length (sides_following 0 head))
 
 module _ (medium : ℕ) (c : Content) (d : Disk) (uses : ℕ → Use) (n w b s : ℕ) (rs : List (List ℕ)) (o : HasRecordsOpen medium c d uses n w b s rs) (geometry : ℕ) (file : Relative) (entry : List ℕ)
     (same : geometry ≡ geometry_of medium c) (is : file ≡ relative_of entry) (at : IsWrittenAt (geometry_of medium c) c o.holds.layout d n o.file w b s rs entry) where
@@ -47,11 +47,11 @@ module _ (medium : ℕ) (c : Content) (d : Disk) (uses : ℕ → Use) (n w b s :
   pub counted : (says : ℕ → ℕ → Type 0) → CountsBy geometry c file says → says b s
   counted says k =
       let first : FirstSide tracks c (first_side e) = first_reads tracks c l n w rs b s lies in
-      let sides : length (sides_behind 0 first.reads.bytes) ≡ s = ap (λ (ys : List Place). length ys) (behind_all first.reads.bytes ∙ ap (λ (x : Cell). sides_listed (or_nothing x)) (sym first.reads.is) ∙ sym lies.records.listed) ∙ sym lies.sides in
+      let sides : length (sides_following 0 first.reads.bytes) ≡ s = ap (λ (ys : List Place). length ys) (after_all_of first.reads.bytes ∙ ap (λ (x : Cell). sides_listed (or_nothing x)) (sym first.reads.is) ∙ sym lies.records.listed) ∙ sym lies.sides in
       let here = subst (λ (m : ℕ). CountsBy m c file says) same k in
       let there = subst (λ (r : Relative). CountsBy tracks c r says) named here in
       let answer = there (l.files n).data_blocks first.reads.bytes lies.chain (file_length tracks c l n (first_block e) (l.files n).data_blocks (geometry_size medium c) o.holds.so.stands.sound lies.chain (o.holds.so.stands.sound.owned.blocks n at.there)) first.has first.reads.is in
-      subst (λ (m : ℕ). says b m) sides (subst (λ (m : ℕ). says m (length (sides_behind 0 first.reads.bytes))) (sym lies.blocks) answer)
+      subst (λ (m : ℕ). says b m) sides (subst (λ (m : ℕ). says m (length (sides_following 0 first.reads.bytes))) (sym lies.blocks) answer)
 
   width_is : file.width ≡ w
   width_is = ap (λ (r : Relative). r.width) named ∙ sym at.width

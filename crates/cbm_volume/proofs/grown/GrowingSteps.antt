@@ -1,4 +1,4 @@
--- A relative file grows: behind each write the medium holds a disk on which all channels go on, and only the slot's file is another.
+-- A relative file grows: after each write the medium holds a disk on which all channels go on, and only the slot's file is another.
 use Rattle.std.proofs.Common.{◌≡◌, ◌≢◌, ℕ, ◌+◌, ◌-◌, ◌<◌, List, ◌++◌, length, true, false, Some, None, refl, sym, ap, subst, ◌∙◌, arith, inl, inr}
 use Rattle.std.specs.Prelude.{◌==◌, replicate}
 use Rattle.std.proofs.lemmas.Bool.{cases_eq, eq-eqb, ne_eqb}

@@ -11,7 +11,7 @@ use Rattle.cbm_directory.specs.Growth.{IsFullDirectory}
 use Rattle.cbm_volume.specs.Layouts.{Layout, Owner, Nobody, TheMap, Directory, OwnedBy, Sound, HasLayout}
 use Rattle.cbm_volume.proofs.layouts.Chained.{chain_distinct, chain_settled}
 
--- each of these is on track 18, is not free, and stands nowhere behind itself
+-- each of these is on track 18, is not free, and stands nowhere after itself
 abbrev AreTaken18 : (Place → Bool) → List Place → Type 0
 AreTaken18 f [] = Unit {0}
 AreTaken18 f (p ∷ rest) = (p.track ≡ 18) × (p.sector < 19) × (with_freed f rest p ≡ false) × AreTaken18 f rest

@@ -75,7 +75,7 @@ last_hindered old new w t r is cause = λ d uses ch bytes blocks h e.
     by_current l s None f k = absurd k
     by_current l s (Some p) f k = write_hindered (geometry_of old.tracks old.content) old new l p t s f.0 k
 
--- the geometry that a call reads before or behind the write of its last block: both are one
+-- the geometry that a call reads before or after the write of its last block: both are one
 abbrev pub IsSized : ℕ → ℕ → Content → Content → Type 0
 IsSized tracks medium c c1 = (tracks ≡ geometry_of medium c) ⊎ (tracks ≡ geometry_of medium c1)
 
@@ -87,7 +87,7 @@ one_size tracks medium c c1 (inr e) same = sym (e ∙ same)
 abbrev pub EntryRefused : ℕ → Seen → Seen → ℕ → ℕ → Type 0
 EntryRefused tracks mid new n code = (directory : List Place) → Chain tracks mid.content first_directory directory → n < 8 * length directory → HasCause mid new (sector_of directory n) code
 
--- the entry is written behind the last block
+-- the entry is written after the last block
 pub closing_hindered : (old mid new : Seen) (w : Filling) (tracks : ℕ) (t : Trouble) (r : Result (Unit {0}) Trouble) → IsErrAnd r (λ x. x ≡ t) → IsSized tracks old.tracks old.content mid.content → EndsChain old.content mid.content w.chain.current w.chain.waiting
     → mid.protected ≡ old.protected → old.failures ≤ mid.failures → EntryRefused tracks mid new w.slot t.code → Hinders (Unit {0}) old new w r
 closing_hindered old mid new w tracks t r is size ends protected counted cause = λ d uses ch bytes blocks h e.

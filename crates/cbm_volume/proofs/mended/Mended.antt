@@ -1,4 +1,4 @@
--- VALIDATE on any disk, and on a sound one: what the medium holds behind each of its steps.
+-- VALIDATE on any disk, and on a sound one: what the medium holds after each of its steps.
 use Rattle.std.proofs.Common.{◌≡◌, ◌⊎◌, ℕ, ◌+◌, ◌-◌, ◌*◌, ◌/◌, ◌<◌, ◌≤◌, List, length, get_or, Bool, true, false, IsOk, refl, sym, ap, subst, ◌∙◌, arith, inl, inr, Option, Some, None, Result, Ok, Err, IfErr}
 use Rattle.std.specs.Prelude.{not, map, sum_by, slice_range, slice_index, OnOk, OnErr}
 use Rattle.std.proofs.lemmas.Bool.{cases_lt}
@@ -189,7 +189,7 @@ swept_sweeps tracks c c1 l k s w = record {
   links = λ p e ok. w.links p ok;
   entries = λ n h. elim (cases_lt n k) [
     | inl b ↦ swept_may (entry_at c l.directory n) (entry_at c1 l.directory n) (w.before n h b)
-    | inr b ↦ same_may (entry_at c l.directory n) (entry_at c1 l.directory n) (w.behind n h b)
+    | inr b ↦ same_may (entry_at c l.directory n) (entry_at c1 l.directory n) (w.afterwards n h b)
   ];
 }
 

@@ -26,7 +26,7 @@ swept_files medium c c1 d uses h swept = record {
     links = λ i k. (w.1.links (get_or h.layout.directory i directory_head) (chain_reads (geometry_of medium c) c first_directory h.layout.directory i directory_head h.so.stands.sound.directory (omega arith))).1;
     entries = λ m k e z. leads_same (entry_at c h.layout.directory m) (entry_at c1 h.layout.directory m) (elim (cases_lt m w.0) [
       | inl before ↦ (w.1.before m k before).closed z
-      | inr behind ↦ w.1.behind m k behind
+      | inr afterwards ↦ w.1.afterwards m k afterwards
     ]);
   };
 }

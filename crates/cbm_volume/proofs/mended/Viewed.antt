@@ -207,17 +207,17 @@ unfolding swept
 swept_link zero xs = refl
 swept_link (suc n) xs = clear_link n (swept n xs) ∙ swept_link n xs
 
-swept_behind : (n k : ℕ) (xs : List ℕ) → n ≤ k → entry_of (swept n xs) k ≡ entry_of xs k
+swept_after : (n k : ℕ) (xs : List ℕ) → n ≤ k → entry_of (swept n xs) k ≡ entry_of xs k
 unfolding swept
-swept_behind zero k xs h = refl
-swept_behind (suc n) k xs h = clear_other n k (swept n xs) (λ e. omega (arith, e, h)) ∙ swept_behind n k xs (omega (arith, h))
+swept_after zero k xs h = refl
+swept_after (suc n) k xs h = clear_other n k (swept n xs) (λ e. omega (arith, e, h)) ∙ swept_after n k xs (omega (arith, h))
 
 swept_before : (n k : ℕ) (xs : List ℕ) → length xs ≡ 256 → n ≤ 8 → k < n → IsSweptAs (entry_of xs k) (entry_of (swept n xs) k)
 unfolding swept
 swept_before zero k xs l m h = absurd (omega (arith, h))
 swept_before (suc n) k xs l m h = elim (cases_eq k n) [
   | inl e ↦ subst (λ (j : ℕ). IsSweptAs (entry_of xs j) (entry_of (clear_open n (swept n xs)) j)) (sym e)
-      (subst (λ (x : List ℕ). IsSweptAs x (entry_of (clear_open n (swept n xs)) n)) (swept_behind n n xs (omega arith)) (clear_here n (swept n xs) (swept_length n xs ∙ l) (omega (arith, m))))
+      (subst (λ (x : List ℕ). IsSweptAs x (entry_of (clear_open n (swept n xs)) n)) (swept_after n n xs (omega arith)) (clear_here n (swept n xs) (swept_length n xs ∙ l) (omega (arith, m))))
   | inr ne ↦ subst (λ (x : List ℕ). IsSweptAs (entry_of xs k) x) (sym (clear_other n k (swept n xs) ne)) (swept_before n k xs l (omega (arith, m)) (omega (arith, h, ne)))
 ]
 

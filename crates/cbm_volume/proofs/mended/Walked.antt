@@ -89,7 +89,7 @@ none_swept c xs = record {
   links = λ p ok. (ok, refl);
   writable = λ p w. w;
   before = λ n k l. absurd (omega (arith, l));
-  behind = λ n k l. refl;
+  afterwards = λ n k l. refl;
 }
 
 -- the directory lies where it lay
@@ -108,10 +108,10 @@ stays_swept c c' xs n s h = record {
   writable = s.writable;
   before = λ m k l. elim (cases_eq m n) [
     | inl e ↦ subst (λ (i : ℕ). IsSweptAs (entry_at c xs i) (entry_at c' xs i)) (sym e)
-        (subst (λ (x : List ℕ). IsSweptAs x (entry_at c' xs n)) (s.behind n (omega (arith, k, e)) (omega arith)) (h (omega (arith, k, e))))
+        (subst (λ (x : List ℕ). IsSweptAs x (entry_at c' xs n)) (s.afterwards n (omega (arith, k, e)) (omega arith)) (h (omega (arith, k, e))))
     | inr ne ↦ s.before m k (omega (arith, l, ne))
   ];
-  behind = λ m k l. s.behind m k (omega (arith, l));
+  afterwards = λ m k l. s.afterwards m k (omega (arith, l));
 }
 
 entry_others : (tracks : ℕ) (c : Content) (xs : List Place) (n m : ℕ) (new entry : List ℕ) → Chain tracks c first_directory xs → n < 8 * length xs → m < 8 * length xs → m ≢ n
@@ -145,12 +145,12 @@ clears_swept tracks c c1 c2 xs n h s k open_ z = subst (λ (x : Content). IsSwep
   before = λ m l b. elim (cases_eq m n) [
     | inl e ↦ subst (λ (i : ℕ). IsSweptAs (entry_at c xs i) (entry_at (written c1 at z.sector) xs i)) (sym e)
         (record {
-          closed = λ y. absurd (let x = sym y ∙ ap is_closed (sym (s.behind n k (omega arith))) ∙ open_ in cc);
+          closed = λ y. absurd (let x = sym y ∙ ap is_closed (sym (s.afterwards n k (omega arith))) ∙ open_ in cc);
           unclosed = λ _. ap type_byte (ap (λ (x : Cell). entry_of (bytes_at (λ q. x) directory_head) (n % 8)) (written_there c1 at z.sector) ∙ z.has.here) ∙ cleared_type (entry_of (bytes_at c1 at) (n % 8));
         })
     | inr ne ↦ subst (λ (x : List ℕ). IsSweptAs (entry_at c xs m) x) (sym (entry_others tracks c1 xs n m z.sector _ there k l ne z.has)) (s.before m l (omega (arith, b, ne)))
   ];
-  behind = λ m l b. entry_others tracks c1 xs n m z.sector _ there k l (λ e. omega (arith, b, e)) z.has ∙ s.behind m l (omega (arith, b));
+  afterwards = λ m l b. entry_others tracks c1 xs n m z.sector _ there k l (λ e. omega (arith, b, e)) z.has ∙ s.afterwards m l (omega (arith, b));
 })
   where
     at : Place

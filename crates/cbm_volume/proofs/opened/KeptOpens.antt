@@ -6,7 +6,7 @@ use Rattle.cbm_bam.proofs.Counts.{number_none}
 use Rattle.cbm_directory.specs.Empties.{TakesSlot}
 use Rattle.cbm_directory.proofs.KeptBits.{bits_kept}
 
--- no block is left behind a slot that was taken: the directory didn't grow for it, as a growth takes none of the blocks of files
+-- no block is left after a slot that was taken: the directory didn't grow for it, as a growth takes none of the blocks of files
 pub nothing_claimed : (tracks : ℕ) (c c1 c2 : Content) (n free : ℕ) → TakesSlot tracks c c1 (Some n) → free ≡ number tracks (is_free_in (map_of c)) → free ≢ 0 → IsFull tracks (map_of c1) → c2 ≡ c1 → c2 ≡ c
 nothing_claimed tracks c c1 c2 n free (inl stays) e some full same = same ∙ stays.1
 nothing_claimed tracks c c1 c2 n free (inr grown) e some full same =

@@ -47,7 +47,7 @@ stays medium c c1 d uses h e = record {
   later = λ p f. f;
 }
 
--- the same, where a write was refused behind it
+-- the same, where a write was refused after it
 pub reached_same : (medium : ℕ) (c : Content) (l : Layout) (c1 c2 : Content) (d1 : Disk) (uses : ℕ → Use) → c2 ≡ c1 → Reached medium c l c1 d1 uses → Reached medium c l c2 d1 uses
 reached_same medium c l c1 c2 d1 uses e r = subst (λ (x : Content). Reached medium c l x d1 uses) (sym e) r
 
@@ -76,13 +76,13 @@ record Ends (xs : List Place) (p : Place) : Type 0 where
   is : xs ≡ first ∷ rest
   last : last_of first rest ≡ p
 
-last_behind : (b : Place) (xs : List Place) (p : Place) → last_of b (xs ++ p ∷ []) ≡ p
-last_behind b [] p = refl
-last_behind b (x ∷ xs) p = last_behind x xs p
+last_after_it : (b : Place) (xs : List Place) (p : Place) → last_of b (xs ++ p ∷ []) ≡ p
+last_after_it b [] p = refl
+last_after_it b (x ∷ xs) p = last_after_it x xs p
 
 ends : (xs : List Place) (p : Place) → Ends (xs ++ p ∷ []) p
 ends [] p = record { first = p; rest = []; is = refl; last = refl }
-ends (x ∷ xs) p = record { first = x; rest = xs ++ p ∷ []; is = refl; last = last_behind x xs p }
+ends (x ∷ xs) p = record { first = x; rest = xs ++ p ∷ []; is = refl; last = last_after_it x xs p }
 
 pub blank_entry : (k : ℕ) → k < 8 → type_byte (entry_of new_sector k) ≡ 0
 blank_entry zero h = refl

@@ -47,7 +47,7 @@ use Rattle.cbm_volume.proofs.relative.Longer.{LiesRelative, lies_so}
 
 -- ---- the bytes of the block
 
--- a full last block: all behind the link
+-- a full last block: all after the link
 full_data : (w : ℕ) (bytes : List ℕ) → IsFreshBlock w bytes → data_of bytes ≡ slice_range bytes 2 256
 full_data w bytes f =
     let first : data_end bytes ≡ slice_index bytes 1 + 1 = ap (λ (n : ℕ). if n == 0 then slice_index bytes 1 + 1 else 256) f.last in
@@ -64,22 +64,22 @@ room_for w s = left_over (254 / w * w) (254 % w) w (div-add-mod' 254 w) (mod-lt 
 sum_is : (x y a : ℕ) → x ≡ a → y ≡ 254 - a → a ≤ 254 → x + y ≡ 254
 sum_is x y a e f l = omega arith
 
--- the bytes of the block are fresh records, and zeros behind them
+-- the bytes of the block are fresh records, and zeros after them
 block_bytes : (w : ℕ) (bytes : List ℕ) → 0 < w → IsFreshBlock w bytes → data_of bytes ≡ joined (replicate (254 / w) (fresh w)) ++ replicate (254 - 254 / w * w) 0
 block_bytes w bytes s f =
     let j : ℕ = 254 / w in
     let tail : List ℕ = replicate (254 - j * w) 0 in
     let all : List ℕ = joined (replicate j (fresh w)) ++ tail in
-    let behind : List ℕ = drop 2 bytes in
-    let long : length behind ≡ 254 = length-drop 2 bytes ∙ (let z : length bytes - 2 ≡ 254 = omega (arith, f.whole) in z) in
-    let here : length (take 254 behind) ≡ 254 = length-take-le 254 behind (omega (arith, long)) in
+    let afterwards : List ℕ = drop 2 bytes in
+    let long : length afterwards ≡ 254 = length-drop 2 bytes ∙ (let z : length bytes - 2 ≡ 254 = omega (arith, f.whole) in z) in
+    let here : length (take 254 afterwards) ≡ 254 = length-take-le 254 afterwards (omega (arith, long)) in
     let front : length (joined (replicate j (fresh w))) ≡ j * w = joined_length w (replicate j (fresh w)) (all_fresh w j s) ∙ ap (λ (n : ℕ). n * w) (length-replicate j (fresh w)) in
     let back : length tail ≡ 254 - j * w = length-replicate {A = ℕ} (254 - j * w) 0 in
     let there : length all ≡ 254 = length-append (joined (replicate j (fresh w))) tail ∙ sum_is (length (joined (replicate j (fresh w)))) (length tail) (j * w) front back (room_for w s).0 in
     full_data w bytes f
-    ∙ same_number_lists (take 254 behind) all (here ∙ sym there)
+    ∙ same_number_lists (take 254 afterwards) all (here ∙ sym there)
     (λ k h. let below : k < 254 = omega (arith, here) in
-    get_or-take 254 behind k 0 below ∙ get_or-drop 2 bytes k 0 ∙ f.each k below ∙ sym (fresh_at w j (254 - j * w) k s))
+    get_or-take 254 afterwards k 0 below ∙ get_or-drop 2 bytes k 0 ∙ f.each k below ∙ sym (fresh_at w j (254 - j * w) k s))
 
 -- ITS RECORDS ARE FRESH
 new_slices : (w : ℕ) (bytes : List ℕ) → 0 < w → IsFreshBlock w bytes → slices (length (data_of bytes)) w (data_of bytes) ≡ replicate (record_count w 1) (fresh_record w)

@@ -210,7 +210,7 @@ bytes_there tracks c l d n f w b s k rs entry g some long =
 
 -- ---- in one block
 
--- what stands behind a write of the record: the disk with other bytes in its place, in a layout with the same owners
+-- what stands after a write of the record: the disk with other bytes in its place, in a layout with the same owners
 pub record Over (tracks : ℕ) (c' : Content) (l : Layout) (d : Disk) (n : ℕ) (f : File) (w k : ℕ) (rs : List (List ℕ)) (rec : List ℕ) : Type 0 where
   pub layout : Layout
   pub owner : layout.owner ≡ l.owner
@@ -242,7 +242,7 @@ in_one_block tracks c c' l d n f w b s k rs entry at sector rec place g some lie
 
 -- ---- over two blocks
 
--- the block behind one that a record doesn't end in
+-- the block after one that a record doesn't end in
 pub record NextBlock (tracks : ℕ) (c : Content) (blocks : List Place) (i : ℕ) (sector : List ℕ) : Type 0 where
   pub there : suc i < length blocks
   pub is : get_or blocks (suc i) directory_head ≡ link sector
@@ -333,7 +333,7 @@ inside_only c c' owner n at bytes own e o ne = written_keeps c c' at bytes owner
 
 -- ---- a stop between the two writes
 
--- a part of a stretch that is put, and behind it what was there
+-- a part of a stretch that is put, and after it what was there
 part_put : (xs : List ℕ) (a w : ℕ) (ys : List ℕ) → a + w ≤ length xs → length ys ≤ w → put_into xs a ys ≡ put_into xs a (ys ++ drop (length ys) (take w (drop a xs)))
 part_put xs a w ys room few =
     let zs : List ℕ = drop (length ys) (take w (drop a xs)) in
@@ -347,7 +347,7 @@ part_put xs a w ys room few =
     let all : a + length (ys ++ zs) ≡ a + w = omega (arith, length-append ys zs, size, few) in
     sym (ap (λ (us : List ℕ). take a xs ++ us) (append_assoc ys zs (drop (a + length (ys ++ zs)) xs) ∙ (λ i. ys ++ (zs ++ drop (all i) xs)) ∙ ap (λ (us : List ℕ). ys ++ us) rest))
 
--- THE RECORD HAS A BEGINNING OF ITS NEW BYTES behind the first of two writes
+-- THE RECORD HAS A BEGINNING OF ITS NEW BYTES after the first of two writes
 pub half_over : (tracks : ℕ) (c m : Content) (l : Layout) (d : Disk) (n : ℕ) (f : File) (w b s k : ℕ) (rs : List (List ℕ)) (entry : List ℕ) (at : Place) (sector rec : List ℕ) (place : ℕ) → IsWrittenAt tracks c l d n f w b s rs entry → 1 ≤ k
     → LiesFrom c (l.files n).data_blocks w k at sector place → length rec ≡ w → IsHalfRewritten c m at sector place rec → Over tracks m l d n f w k rs (take (254 - place) rec ++ drop (254 - place) (get_or rs (k - 1) []))
 half_over tracks c m l d n f w b s k rs entry at sector rec place g some lies size (more, short, holds, fits, e) =
@@ -556,7 +556,7 @@ module _ (old new : Seen) (d : Disk) (uses : ℕ → Use) (n w b s k p : ℕ) (r
       let bodies : Records w2 rs2 b2 s2 ≡ body = sym is ∙ ap (λ (y : File). y.body) same_file in
       cc
 
-  -- THE RECORD BEHIND IT is what it was
+  -- THE RECORD AFTER IT is what it was
   next_stays : (cut : Bool) (e : Disk) (f : File) (w2 b2 s2 : ℕ) (rs2 : List (List ℕ)) → new.tracks ≡ old.tracks → IsRecordPut old.tracks old.content new.content d uses n w b s rs k p bytes (Some cut) → HoldsDisk new.tracks new.content e → file_at e n ≡ Some f
       → f.body ≡ Records w2 rs2 b2 s2 → record_in w (chain_bytes old.content blocks) (k + 1) ≡ slice_get rs2 k
   next_stays cut e f w2 b2 s2 rs2 same there holds at is =

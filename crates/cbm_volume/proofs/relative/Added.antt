@@ -81,7 +81,7 @@ pub record CanAdd (tracks : ℕ) (c c' : Content) (l : Layout) (n : ℕ) (xs : L
   pub blocks : (l.files n).data_blocks ≡ xs ++ q ∷ []
   pub listed : IsListed c (l.files n).sides xs
   pub full : length xs ≡ 120 * length (l.files n).sides
-  -- the new side sector lists the one block behind those
+  -- the new side sector lists the one block after those
   pub taken : IsTaken tracks c l t
   pub holds : c t ≡ Ok side
   pub its_number : get_or side 2 0 ≡ length (l.files n).sides

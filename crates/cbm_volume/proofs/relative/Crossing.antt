@@ -25,7 +25,7 @@ use Rattle.cbm_volume.proofs.relative.GrownFile.{with_records, slot_grown}
 use Rattle.cbm_volume.proofs.relative.Longer.{LiesRelative, lies_open}
 use Rattle.cbm_volume.proofs.relative.Rewritten.{DataPut, data_put}
 
--- one part behind another
+-- one part after another
 pub put_put : (xs : List ℕ) (a : ℕ) (ys zs : List ℕ) → a ≤ length xs → put_into (put_into xs a ys) (a + length ys) zs ≡ put_into xs a (ys ++ zs)
 put_put xs a ys zs h =
     let front : length (take a xs ++ ys) ≡ a + length ys = omega (arith, length-append (take a xs) ys, length-take-le a xs h) in
@@ -59,7 +59,7 @@ pub record IsCrossing (tracks : ℕ) (c m c' : Content) (l : Layout) (d : Disk) 
   pub second : c' ≡ written m (get_or (l.files n).data_blocks (suc i) directory_head) (put_into more (2 + 0) zs)
 
 pub record Crossed (tracks : ℕ) (c m c' : Content) (l : Layout) (d : Disk) (n i k : ℕ) (sector : List ℕ) (place : ℕ) (ys zs : List ℕ) (f : File) (w : ℕ) (rs : List (List ℕ)) : Type 0 where
-  -- behind the first write, and behind the second
+  -- after the first write, and after the second
   pub between : HasLayout tracks m (with_file l n (l.files n) l.owner) (with_slot d n (slot_of m (entry_at c l.directory n) (l.files n)))
   pub bytes_between : chain_bytes m (l.files n).data_blocks ≡ put_into (chain_bytes c (l.files n).data_blocks) (254 * i + place) ys
   pub layout : Layout

@@ -1,4 +1,4 @@
--- A file whose last bytes are those of fresh records: it has its records, and fresh ones behind them.
+-- A file whose last bytes are those of fresh records: it has its records, and fresh ones after them.
 use Rattle.std.proofs.Common.{◌≡◌, ℕ, zero, suc, ◌+◌, ◌-◌, ◌*◌, ◌/◌, ◌%◌, ◌<◌, ◌≤◌, List, ◌++◌, length, take, drop, get_or, refl, sym, ap, subst, ◌∙◌, arith, inl, inr}
 use Rattle.std.specs.Prelude.{replicate, if◌then◌else◌, ◌==◌}
 use Rattle.std.proofs.lemmas.Bool.{cases_lt}
@@ -12,7 +12,7 @@ use Rattle.cbm_relfile.specs.Fresh.{fresh_in}
 use Rattle.cbm_relfile.specs.Filling.{fresh_begin}
 use Rattle.cbm_volume.specs.Blocks.{slices}
 use Rattle.cbm_volume.proofs.held.Slices.{joined}
-use Rattle.cbm_volume.proofs.relative.Fresh.{inside, behind, fresh_at}
+use Rattle.cbm_volume.proofs.relative.Fresh.{inside, afterwards, fresh_at}
 use Rattle.cbm_volume.proofs.relative.Grown.{fresh, short_one, one_more, all_fresh, joined_length, records_grown}
 
 -- how many whole records there are
@@ -34,7 +34,7 @@ fresh_from w j k o = elim (cases_lt o (k * w)) [
   | inl l ↦ inside w (j + k) (j * w + o) (omega (arith, l, add-mul j k w))
       ∙ ap (λ (m : ℕ). if m == 0 then 255 else 0) ((let e : j * w + o ≡ o + j * w = omega arith in ap (λ (m : ℕ). m % w) e) ∙ add-mul-mod_self_right o j w)
       ∙ sym (inside w k o l)
-  | inr past ↦ behind w (j + k) (j * w + o) (omega (arith, past, add-mul j k w)) ∙ sym (behind w k o past)
+  | inr past ↦ afterwards w (j + k) (j * w + o) (omega (arith, past, add-mul j k w)) ∙ sym (afterwards w k o past)
 ]
 
 -- the records of a file, and how far they go
@@ -80,7 +80,7 @@ filled_records w b bytes bytes' s few full front back =
     (λ k h. get_or-drop n bytes' k 0 ∙ back (n + k) (omega (arith, at)) (omega (arith, h, rest)) ∙ ap (λ (m : ℕ). fresh_byte w m (n + k)) (sym all) ∙ fresh_from w r j k ∙ sym (fresh_at w j tail k s)))
     (omega (arith, zeros_long, close))
 
--- another tail behind the last whole record changes no record
+-- another tail after the last whole record changes no record
 pub same_records : (w : ℕ) (bytes bytes' : List ℕ) → 0 < w → length bytes' ≡ length bytes → ((o : ℕ) → o < fresh_begin w (length bytes) → get_or bytes' o 0 ≡ get_or bytes o 0) → slices (length bytes') w bytes' ≡ slices (length bytes) w bytes
 same_records w bytes bytes' s same front =
     let r : ℕ = length (slices (length bytes) w bytes) in

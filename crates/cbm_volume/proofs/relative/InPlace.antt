@@ -23,11 +23,11 @@ use Rattle.cbm_volume.proofs.relative.Sides.{OnlyAt}
 use Rattle.cbm_volume.proofs.relative.Put.{put, put_front, put_back}
 
 -- a chain without the sector is as it was
-same_behind : (tracks : ℕ) (c c' : Content) (t a : Place) (xs : List Place) → OnlyAt c c' t → IsApart t xs → Chain tracks c a xs → Chain tracks c' a xs × (chain_bytes c' xs ≡ chain_bytes c xs)
-same_behind tracks c c' t a [] o p h = (h, refl)
-same_behind tracks c c' t a (x ∷ xs) o p h =
+same_after_it : (tracks : ℕ) (c c' : Content) (t a : Place) (xs : List Place) → OnlyAt c c' t → IsApart t xs → Chain tracks c a xs → Chain tracks c' a xs × (chain_bytes c' xs ≡ chain_bytes c xs)
+same_after_it tracks c c' t a [] o p h = (h, refl)
+same_after_it tracks c c' t a (x ∷ xs) o p h =
     let e : c' x ≡ c x = o x p.0 in
-    let rest = same_behind tracks c c' t (link (bytes_at c x)) xs o p.1 h.3 in (
+    let rest = same_after_it tracks c c' t (link (bytes_at c x)) xs o p.1 h.3 in (
       (h.0, h.1, subst (λ (y : Cell). IsOk y) (sym e) h.2, subst (λ (q : Place). Chain tracks c' q xs) (sym (ap (λ (y : Cell). link (or_nothing y)) e)) rest.0),
       (λ i. data_of (or_nothing (e i)) ++ rest.1 i),
     )
@@ -47,7 +47,7 @@ pub chain_written : (tracks : ℕ) (c c' : Content) (a : Place) (xs : List Place
 chain_written tracks c c' a [] i new w h l o n k = absurd (omega arith)
 chain_written tracks c c' a (x ∷ xs) zero new w h l o n k =
     let apart : IsApart x xs = apart_by_index x xs directory_head (λ j m e. let z = chain_distinct tracks c a (x ∷ xs) (suc j) 0 directory_head h (omega arith) (omega arith) e in omega arith) in
-    let rest = same_behind tracks c c' x (link (bytes_at c x)) xs o apart h.3 in
+    let rest = same_after_it tracks c c' x (link (bytes_at c x)) xs o apart h.3 in
     let is : bytes_at c' x ≡ new = ap or_nothing n in
     record {
       chain = (h.0, h.1, subst (λ (y : Cell). IsOk y) (sym n) refl, subst (λ (q : Place). Chain tracks c' q xs) (sym (ap link is ∙ k)) rest.0);

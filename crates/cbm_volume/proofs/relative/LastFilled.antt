@@ -1,4 +1,4 @@
--- The last data block of a relative file is filled up: the file has fresh records behind its own, and all else is as it was.
+-- The last data block of a relative file is filled up: the file has fresh records after its own, and all else is as it was.
 use Rattle.std.proofs.Common.{◌≡◌, ◌≢◌, ◌⊎◌, ℕ, zero, suc, ◌+◌, ◌-◌, ◌*◌, ◌/◌, ◌%◌, ◌<◌, ◌≤◌, List, [], ◌∷◌, ◌++◌, length, drop, get_or, Ok, IsOk, refl, sym, ap, subst, ◌∙◌, arith, inl, inr}
 use Rattle.std.specs.Prelude.{slice_range, if◌then◌else◌, Bool}
 use Rattle.std.proofs.lemmas.Bool.{cases_lt, cases_eq, eq-eqb}
@@ -129,7 +129,7 @@ last_rewrote tracks c m c' a xs w i place whole chain there same r =
 
 -- ---- the bytes of the file
 
--- what stands behind the first of the two writes: the same bytes up to the end of the last whole record, and fresh ones in the block before the last
+-- what stands after the first of the two writes: the same bytes up to the end of the last whole record, and fresh ones in the block before the last
 pub record TailDone (tracks : ℕ) (c m : Content) (a : Place) (xs : List Place) (w from : ℕ) : Type 0 where
   pub chain : Chain tracks m a xs
   pub whole : AllWhole m
@@ -209,7 +209,7 @@ tail_done tracks c m a xs w from whole chain some late (inr (near, r)) =
       fresh = λ o h l. rewrote_fresh tracks c m a xs w i (from - 254 * i) o rw (omega (arith, two)) (omega (arith, h, late)) (omega (arith, l, two));
     }
 
--- what stands behind both: the bytes up to the end of the last whole record, and fresh ones up to the end of the last block
+-- what stands after both: the bytes up to the end of the last whole record, and fresh ones up to the end of the last block
 pub record EndDone (tracks : ℕ) (c c' : Content) (a : Place) (xs : List Place) (w from : ℕ) : Type 0 where
   pub chain : Chain tracks c' a xs
   pub whole : AllWhole c'

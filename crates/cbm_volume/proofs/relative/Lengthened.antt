@@ -70,7 +70,7 @@ filled_records w b bytes bytes' rs some sl size few front back =
     (records_grown w j bytes bytes' (replicate m 0) some (subst (λ (xs : List (List ℕ)). take (length xs * w) bytes' ≡ take (length xs * w) bytes) (sym sl) begins)
     (subst (λ (xs : List (List ℕ)). drop (length xs * w) bytes' ≡ fresh ++ replicate m 0) (sym sl) ends) short)
 
--- what is left behind the whole records is less than one
+-- what is left after the whole records is less than one
 slices_rest : (n w : ℕ) (bytes : List ℕ) → 0 < w → length bytes ≤ n → length (drop (length (slices n w bytes) * w) bytes) < w
 slices_rest zero w bytes s h = omega (arith, s, h, length-drop (0 * w) bytes)
 slices_rest (suc n) w bytes s h = elim (cases_lt (length bytes) w) [
@@ -173,7 +173,7 @@ more_records w b front sector linked fresh q rs some most blocks size data_size 
     let more : length rs ≤ record_count w (b + 1) = subst (λ (x : ℕ). x ≤ record_count w (b + 1)) (sym count) (le-div (record_count w b) (254 * (b + 1)) w some (omega (arith, parts))) in (
       long,
       filled_records w (b + 1) (front ++ data_of sector) all rs some sl long more
-          (λ k h. in_front k (omega (arith, h, place)) h l s place) (λ k h g. behind k h g l f two place),
+          (λ k h. in_front k (omega (arith, h, place)) h l s place) (λ k h g. afterwards k h g l f two place),
     )
   where
     all : List ℕ
@@ -197,8 +197,8 @@ more_records w b front sector linked fresh q rs some most blocks size data_size 
               ∙ sym (get_or-append_right front (data_of sector) (254 * (b - 1)) k 0 size past))
         ])
 
-    behind : (k : ℕ) → length rs * w ≤ k → k < 254 * (b + 1) → FullData linked → FullData fresh → length (front ++ data_of linked) ≡ 254 * b → length rs * w ≡ 254 * (b - 1) + fresh_place w b → get_or all k 0 ≡ fresh_in w (b + 1) k
-    behind k h g l f two place = elim (cases_lt k (254 * b)) [
+    afterwards : (k : ℕ) → length rs * w ≤ k → k < 254 * (b + 1) → FullData linked → FullData fresh → length (front ++ data_of linked) ≡ 254 * b → length rs * w ≡ 254 * (b - 1) + fresh_place w b → get_or all k 0 ≡ fresh_in w (b + 1) k
+    afterwards k h g l f two place = elim (cases_lt k (254 * b)) [
       | inl in_last ↦
           (let o : ℕ = k - 254 * (b - 1) in
           let at : 254 * (b - 1) + o ≡ k = omega (arith, h, place) in

@@ -1,4 +1,4 @@
--- The places that bytes name: the same bytes name the same, and one place more is named behind them.
+-- The places that bytes name: the same bytes name the same, and one place more is named after them.
 use Rattle.std.proofs.Common.{◌≡◌, ◌≢◌, ℕ, zero, suc, ◌+◌, ◌-◌, ◌*◌, ◌/◌, ◌%◌, ◌<◌, List, [], ◌∷◌, ◌++◌, length, drop, get_or, Bool, refl, sym, ap, ◌∙◌, arith, inl, inr}
 use Rattle.std.specs.Prelude.{if◌then◌else◌, ◌==◌}
 use Rattle.std.proofs.lemmas.Bool.{cases_eq, cases_lt, eq-eqb, ne_eqb}
@@ -28,7 +28,7 @@ named_ends : (n : ℕ) (xs : List ℕ) → (0 < n → get_or xs 0 0 ≡ 0) → n
 named_ends zero xs h = refl
 named_ends (suc n) xs h = named_none n xs (h (omega arith))
 
--- ONE PLACE MORE behind those that are named
+-- ONE PLACE MORE after those that are named
 pub named_push : (n k : ℕ) (xs ys : List ℕ) (q : Place) → length (named_in n xs) ≡ k → k < n → q.track ≢ 0 → ((i : ℕ) → i < 2 * k → get_or ys i 0 ≡ get_or xs i 0) → get_or ys (2 * k) 0 ≡ q.track → get_or ys (2 * k + 1) 0 ≡ q.sector
     → (k + 1 < n → get_or ys (2 * k + 2) 0 ≡ 0) → named_in n ys ≡ named_in n xs ++ q ∷ []
 named_push zero k xs ys q size room some front track sector last = absurd (omega (arith, room))

@@ -1,4 +1,4 @@
--- One block more, from the claim to the list: four writes, and behind each of them a sound disk.
+-- One block more, from the claim to the list: four writes, and after each of them a sound disk.
 use Rattle.std.proofs.Common.{◌≡◌, ◌≢◌, ℕ, ◌*◌, ◌/◌, ◌<◌, ◌≤◌, List, [], ◌∷◌, ◌++◌, length, get_or, drop, true, false, refl, sym, ap, subst, ◌∙◌}
 use Rattle.cbm_medium.specs.Place.{Place, directory_head}
 use Rattle.cbm_medium.specs.Content.{Cell, Content, written}
@@ -45,7 +45,7 @@ pub record IsOneMore (tracks : ℕ) (c0 c1 c2 c3 c4 : Content) (l : Layout) (n :
   pub more : named_in 120 (drop 16 side) ≡ listed_by c3 t ++ q ∷ []
   pub side_sector : c4 ≡ written c3 t side
 
--- what stands behind each of them
+-- what stands after each of them
 pub record OneMore (tracks : ℕ) (c0 c1 c2 c3 c4 : Content) (l : Layout) (d : Disk) (n : ℕ) (q : Place) : Type 0 where
   pub claimed : HasLayout tracks c1 l (one_less d)
   pub written_first : HasLayout tracks c2 l (one_less d)

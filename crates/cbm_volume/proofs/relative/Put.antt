@@ -9,7 +9,7 @@ use Rattle.cbm_volume.proofs.relative.Grown.{one_more}
 abbrev pub put : List ℕ → ℕ → List ℕ → List ℕ
 put xs a ys = take a xs ++ (ys ++ drop (a + length ys) xs)
 
--- behind a front
+-- after a front
 pub put_front : (front xs : List ℕ) (a : ℕ) (ys : List ℕ) → put (front ++ xs) (length front + a) ys ≡ front ++ put xs a ys
 put_front front xs a ys =
     (λ i. take-append-add front xs a i ++ (ys ++ ((let e : length front + a + length ys ≡ length front + (a + length ys) = omega arith in ap (λ (k : ℕ). drop k (front ++ xs)) e) ∙ drop-append-add front xs (a + length ys)) i))

@@ -1,4 +1,4 @@
--- A byte is put: what stands behind it.
+-- A byte is put: what stands after it.
 use Rattle.std.proofs.Common.{◌≡◌, ◌≢◌, ℕ, ◌+◌, ◌*◌, ◌<◌, ◌≤◌, length, drop, arith, List, [], ◌∷◌, ◌++◌, true, false, refl, sym, ap, subst, ◌∙◌, inl, inr, Some, None}
 use Rattle.std.specs.Prelude.{◌==◌, nat_lt, slice_index}
 use Rattle.std.proofs.lemmas.Bool.{eq-eqb, le-ltb, ne_eqb}

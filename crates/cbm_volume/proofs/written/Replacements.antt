@@ -1,4 +1,4 @@
--- CLOSE of a replacement: what the medium holds behind each of its steps.
+-- CLOSE of a replacement: what the medium holds after each of its steps.
 use Rattle.std.proofs.Common.{◌≡◌, ◌≢◌, ℕ, ◌+◌, ◌*◌, ◌%◌, ◌<◌, length, arith, List, [], ◌∷◌, Bool, true, false, IsOk, refl, sym, ap, subst, ◌∙◌, inl, inr, Option, Some, None, Result, Ok, Err}
 use Rattle.std.specs.Prelude.{OnOk, OnErr}
 use Rattle.cbm_medium.specs.Place.{Place, directory_head, sector_count}

@@ -73,7 +73,7 @@ byte_spared medium c c' w byte s r put stop = λ d uses ch bytes blocks h e.
 abbrev pub EntryPut : ℕ → Content → Content → ℕ → List ℕ → Result (Unit {0}) Trouble → Type 0
 EntryPut tracks c1 c2 n body r = (directory : List Place) → Chain tracks c1 first_directory directory → n < 8 * length directory → OnOk r (Enters c1 c2 (sector_of directory n) (n % 8) body)
 
--- the last block, and the entry behind it
+-- the last block, and the entry after it
 pub closing_keeps : (medium tracks : ℕ) (c c1 c2 : Content) (l : Layout) (d : Disk) (uses : ℕ → Use) (ch : ℕ) (w : Filling) (bytes : List ℕ) (blocks : ℕ) (body : List ℕ) (r : Result (Unit {0}) Trouble) → HoldsAt (geometry_of medium c) c l d uses → uses ch ≡ Writes w bytes blocks
     → IsSized tracks medium c c1 → EndsChain c c1 w.chain.current w.chain.waiting → EntryPut tracks c1 c2 w.slot body r → OnErr r (c2 ≡ c1) → KeepsClosed l c c2 (λ m. m == w.slot)
 closing_keeps medium tracks c c1 c2 l d uses ch w bytes blocks body r h e size ends put err =
@@ -113,7 +113,7 @@ SparedReplacing medium c c' w = (d : Disk) (uses : ℕ → Use) (ch : ℕ) (byte
 pub also_spared : (medium : ℕ) (c c' : Content) (w : Filling) → Spared medium c c' w (λ m. m == w.slot) → SparedReplacing medium c c' w
 also_spared medium c c' w spared = λ d uses ch bytes blocks h e k. spared d uses ch bytes blocks h e
 
--- the map is written behind the entry
+-- the map is written after the entry
 pub release_spared : (medium tracks : ℕ) (c c1 c2 c3 : Content) (w : Filling) (body freed : List ℕ) (r : Result (Unit {0}) Trouble) → IsSized tracks medium c c1 → EndsChain c c1 w.chain.current w.chain.waiting → EntryPut tracks c1 c2 w.slot body (Ok tt)
     → OnOk r (c3 ≡ written c2 directory_head freed) → OnErr r (c3 ≡ c2) → SparedReplacing medium c c3 w
 release_spared medium tracks c c1 c2 c3 w body freed r size ends put ok err = λ d uses ch bytes blocks h e k.

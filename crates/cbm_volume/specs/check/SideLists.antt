@@ -24,12 +24,12 @@ MeetsAmong part tracks content claimed (p ∷ rest) u =
     ⊎ ((wrong_at part tracks content claimed p ≡ None) × MeetsAmong part tracks content (with_bit claimed p true) rest u)
 
 -- the side sectors of a relative file that a sector lists after the first
-abbrev pub behind_first : List ℕ → List Place
-behind_first bytes = drop 1 (sides_listed bytes)
+abbrev pub after_the_first : List ℕ → List Place
+after_the_first bytes = drop 1 (sides_listed bytes)
 
 -- the side sectors of a relative file: the first, and those that it lists after itself
 abbrev pub sides_from : Content → Place → List Place
-sides_from content first = first ∷ behind_first (bytes_at content first)
+sides_from content first = first ∷ after_the_first (bytes_at content first)
 
 -- where a chain goes on after a place, if this is the place and a sector of the disk
 abbrev pub step_along : ℕ → Content → Place → Place → Option Place
@@ -63,7 +63,7 @@ sides_along tracks content width n (s ∷ rest) a = elim (side_found tracks cont
 
 -- the same of the first one with these bytes, and those that it lists after itself
 abbrev pub all_along : ℕ → Content → ℕ → List ℕ → Place → Option Place
-all_along tracks content width first a = elim (side_along tracks content width 0 first a) [ Some b ↦ sides_along tracks content width 1 (behind_first first) b | None ↦ None ]
+all_along tracks content width first a = elim (side_along tracks content width 0 first a) [ Some b ↦ sides_along tracks content width 1 (after_the_first first) b | None ↦ None ]
 
 -- The records of a relative file: of 1 to 254 bytes, with a first side sector that lists itself first, and side sectors whose
 -- lists are the beginning of the chain.

@@ -65,11 +65,11 @@ EntriesFault tracks content claimed sector (e ∷ rest) u =
     EntryFault tracks content claimed sector e u ⊎ ((between : Place → Bool) × (ClaimsEntry tracks content claimed e between × EntriesFault tracks content between sector rest u))
 
 -- the eight entries of a sector of the directory, from one on
-unfoldable pub entries_behind : ℕ → List ℕ → List (List ℕ)
-entries_behind n sector = entries_from (8 - n) sector n
+unfoldable pub entries_after : ℕ → List ℕ → List (List ℕ)
+entries_after n sector = entries_from (8 - n) sector n
 
 abbrev pub entries_in : List ℕ → List (List ℕ)
-entries_in sector = entries_behind 0 sector
+entries_in sector = entries_after 0 sector
 
 -- From a these are the sectors of the directory, and the entries in them are claimed. The sectors that are met go in a set of their own.
 abbrev pub ClaimsSlots : ℕ → Content → (Place → Bool) → (Place → Bool) → Place → List Place → (Place → Bool) → Type 0

@@ -1,7 +1,7 @@
 ghost use Rattle.std.specs.Prelude.{◌≡◌, OnOk, IfErr, IfOk, Ok};
 ghost use Rattle.cbm_volume.specs.declared.check.unsound.Part.TheVariants.{OfFile};
 ghost use Rattle.cbm_bam.specs.Marks.{is_marked};
-ghost use Rattle.cbm_volume.specs.check.SideLists.{ClaimsEach, MeetsAmong, behind_first, sides_from};
+ghost use Rattle.cbm_volume.specs.check.SideLists.{ClaimsEach, MeetsAmong, after_the_first, sides_from};
 ghost use Rattle.cbm_volume.specs.check.Claims.{HasMap};
 
 use crate::check::claims::claim;
@@ -19,8 +19,8 @@ fn claim_listed<M: Medium>(
 ) -> Result<(), Unsound>
     requires map { HasMap geometry (M.seen medium.now) }
     ensures ok { OnOk result (ClaimsEach OfFile geometry (M.seen medium.now).content (is_marked claimed.old)
-        (behind_first first.now) (is_marked claimed.new)) }
-    ensures err { IfErr result (MeetsAmong OfFile geometry (M.seen medium.now).content (is_marked claimed.old) (behind_first first.now)) }
+        (after_the_first first.now) (is_marked claimed.new)) }
+    ensures err { IfErr result (MeetsAmong OfFile geometry (M.seen medium.now).content (is_marked claimed.old) (after_the_first first.now)) }
 {
     if first[SIDES] == 0 {
         return Ok(());

@@ -18,7 +18,7 @@ pub const HELLO: &[u8] = b"\x01\x08HELLO, BUS\x00\xff\xaa\x55";
 /// How many bytes it has.
 const LENGTH: u8 = 16;
 
-/// The listing's first line, behind the load address: the disk's name and id.
+/// The listing's first line, after the load address: the disk's name and id.
 pub const TITLE: &[u8] = b"\x01\x04\x01\x01\x00\x00\x12\"TEST            \" AB 2A\x00";
 
 /// The line of HELLO, which has one block.
@@ -28,7 +28,7 @@ pub const LINE: &[u8] = b"\x01\x01\x01\x00   \"HELLO\"            PRG  \x00";
 pub const LAST: &[u8] = b"\x01\x01\x97\x02BLOCKS FREE.             \x00\x00\x00";
 
 /// A disk with the program HELLO on track 17, sector 0 (the D64 format; Inside Commodore DOS): in the map one sector of the track
-/// is taken, in the directory stand its type, place, name and blocks, and the sector has its bytes behind the count of them.
+/// is taken, in the directory stand its type, place, name and blocks, and the sector has its bytes after the count of them.
 pub fn image_with_hello(rt: &impl Abort, alloc: Global) -> Vec<u8> {
     let mut image = empty_image(alloc).ok().expect(rt, "memory");
     let entry = place(18, 1);

@@ -8,7 +8,7 @@ const BYTES: u8 = 0x60;
 /// The one that closes channel 0.
 const CLOSED: u8 = 0xe0;
 
-/// The one behind which the name of an OPEN of channel 0 comes.
+/// The one after which the name of an OPEN of channel 0 comes.
 const NAMED: u8 = 0xf0;
 
 /// The channel of commands and the status.

@@ -31,7 +31,7 @@ const LOOK_TO_START: u64 = 28;
 /// From CLOCK's first pull to the look before a bit: RTS, LDA, STA, LDA.
 const START_TO_LOOK: u64 = 15;
 
-/// From CLOCK's pull behind a bit to the look before the next one: DEC, BNE, LDA.
+/// From CLOCK's pull after a bit to the look before the next one: DEC, BNE, LDA.
 const BIT_TO_LOOK: u64 = 12;
 
 /// From that look to DATA's pull for a 0: BNE, ASL, BCC, ROR, BCS, DATALO.
@@ -116,7 +116,7 @@ impl Host {
         true
     }
 
-    /// One bit, from the look before it to CLOCK's pull behind it.
+    /// One bit, from the look before it to CLOCK's pull after it.
     fn send_bit(&mut self, one: bool) {
         if one {
             self.store(LOOK_TO_ONE, Data, Free);

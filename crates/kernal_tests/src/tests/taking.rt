@@ -43,7 +43,7 @@ const END_TO_BIT: u64 = 18;
 /// From the look that saw the last bit's end to DATA's pull, the accept: BNE, ASL, BMI, DEC, BNE, DATALO.
 const END_TO_ACCEPT: u64 = 29;
 
-/// Behind a byte with EOI from the accept to CLOCK's release: RTS, BIT, BVC, JSR, a loop of ten, CLKHI.
+/// After a byte with EOI from the accept to CLOCK's release: RTS, BIT, BVC, JSR, a loop of ten, CLKHI.
 const ACCEPT_TO_CLOCK: u64 = 88;
 
 /// From there to DATA's release: RTS, JMP, LDA, AND, STA. So it comes 107 after the accept.

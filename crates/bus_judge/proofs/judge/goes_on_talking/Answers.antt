@@ -9,7 +9,7 @@ not-false : (b : Bool) → not b ≡ false → b ≡ true
 not-false true h = refl
 not-false false h = absurd cc
 
--- behind the last byte the talk is over
+-- after the last byte the talk is over
 pub returns-in-Talk : goal.returns-in-Talk
 returns-in-Talk c = λ h.
     let t : is_last (told_of c.in-Talk.frame) ≡ true = sym c.is_last.ensures ∙ not-false c.is_last.result h in

@@ -5,7 +5,7 @@ use Rattle.cbm_session.specs.Frames.{is_last}
 use Rattle.cbm_session.specs.Pieces.{Open, Leading}
 use Rattle.bus_judge.proofs.point.told_place.Goals as goal
 
--- the next frame comes so long behind the accept
+-- the next frame comes so long after the accept
 pub returns : goal.returns
 returns c =
     let e : is_last (told_of c.args.frame.now) ≡ false = sym c.is_last.ensures ∙ c.if-is_last.false in

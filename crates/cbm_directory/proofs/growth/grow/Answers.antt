@@ -23,7 +23,7 @@ returns-in_err-write-clause-cause g c =
     rw (p.1, p.2) (inr (refused_before c.args.geometry (g.M.Medium.seen c.args.medium.now) (g.M.Medium.seen c.claim_directory.new.medium) (g.M.Medium.seen c.write.new.self) directory_head c.in-Some.at claims.remaps.map c.in_err-write.field-0.0.code
     claims.has claims.remaps.written c.in_ok-at.ensures.only.protected c.in_ok-at.ensures.only.counted c.in_err-write.ensures.err.1.cause))
 
--- and the last sector's, behind both
+-- and the last sector's, after both
 claims : (g : Over) (c : goal.After-from_residual-in_err-write-2 g) → ClaimsOn18 c.args.geometry (g.M.Medium.seen c.args.medium.now).content (g.M.Medium.seen c.claim_directory.new.medium).content c.in-Some.at
 claims g c =
     let old : Content = (g.M.Medium.seen c.args.medium.now).content in

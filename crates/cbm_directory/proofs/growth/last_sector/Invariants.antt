@@ -4,7 +4,7 @@ use Rattle.cbm_medium.specs.Links.{Chain, follow}
 use Rattle.cbm_directory.specs.Entries.{first_directory}
 use Rattle.cbm_directory.proofs.growth.last_sector.Given as goal
 
--- what leads on from here is a directory behind the sectors before, and breaks off as the whole does
+-- what leads on from here is a directory after the sectors before, and breaks off as the whole does
 abbrev pub invariant-loop-bytes : goal.invariant-loop-bytes
 invariant-loop-bytes g l = record {
   going : l.at.track ≢ 0;

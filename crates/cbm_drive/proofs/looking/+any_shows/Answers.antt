@@ -18,7 +18,7 @@ returns-then-shows_before-clause-recorded g t c =
     (subst (λ (b : Bool). ShowsAll g.D.Machine.shows c.args.limit b (first ∷ c.in-Some.rest.now)) (sym c.if-shows_before.true)
     (shows_first g.D.Machine.shows c.args.limit first c.in-Some.rest.now (subst (λ (b : Bool). Foretold c.args.limit (g.D.Machine.shows first.machine) b first.port) c.if-shows_before.true c.shows_before.ensures.shows)))
 
--- it is one of those behind it, or none
+-- it is one of those after it, or none
 pub returns-else-shows_before-clause-recorded : goal.returns-else-shows_before-clause-recorded
 returns-else-shows_before-clause-recorded g t c =
     let first = c.in-Some.first.now in

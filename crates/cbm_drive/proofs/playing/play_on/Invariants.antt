@@ -5,7 +5,7 @@ use Rattle.cbm_drive.specs.Players.{IsOpen, HasAdded}
 use Rattle.cbm_drive.specs.Seats.{IsBusAt, Unfailed, AreCarried}
 use Rattle.cbm_drive.proofs.playing.play_on.Given as goal
 
--- the changes so far were played, and those left are in order behind them
+-- the changes so far were played, and those left are in order after them
 abbrev pub invariant-loop-change : goal.invariant-loop-change
 invariant-loop-change g l =
     let before = latest 0 (take l.change-index l.changes) in record {

@@ -45,10 +45,10 @@ returns-in-Ok-clause-moments g c = λ u ss bus.
     record {
       made = h.made;
       added = h.added;
-      behind = h.behind;
+      afterwards = h.afterwards;
       runs = h.runs;
-      over = over_then g.D.Machine.State g.D.Machine.step g.D.Machine.says c.run.new.performer.player c.run.new.performer.limit c.over.result 0 ss h.made h.behind c.run.new.performer.engine h.goes_on stops c.over.ensures.end c.over.ensures.late c.over.ensures.given_up
-          ∙ ap (λ (l : ℕ). over_at l h.behind.stage) h.until;
+      over = over_then g.D.Machine.State g.D.Machine.step g.D.Machine.says c.run.new.performer.player c.run.new.performer.limit c.over.result 0 ss h.made h.afterwards c.run.new.performer.engine h.goes_on stops c.over.ensures.end c.over.ensures.late c.over.ensures.given_up
+          ∙ ap (λ (l : ℕ). over_at l h.afterwards.stage) h.until;
     }
 
 pub returns-in-Err-clause-memory : goal.returns-in-Err-clause-memory

@@ -21,6 +21,6 @@ invariant-events g l = record {
       → IsPerformingBack g.D.Machine.shows later e limit l.performer l.bus old l.events.items l.done.bytes.items l.done.last ss);
 }
 
--- less is left to come behind each event
+-- less is left to come after each event
 abbrev pub decreases-events : goal.decreases-events
 decreases-events g l = left_of l.performer l.bus

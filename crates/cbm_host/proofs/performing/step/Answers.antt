@@ -1,5 +1,5 @@
 use Rattle.std.proofs.Common.{◌++◌, refl, ap, ◌∙◌}
-use Rattle.cbm_host.proofs.Performed.{if_err, added_none, added_one, cut_before, cut_behind, performing_on, performing_still, match_err}
+use Rattle.cbm_host.proofs.Performed.{if_err, added_none, added_one, cut_before, cut_after_it, performing_on, performing_still, match_err}
 use Rattle.cbm_host.proofs.performing.step.Goals as goal
 use Rattle.cbm_host.specs.Performed.{taken_with, last_with}
 use Rattle.cbm_drive.specs.Playback.{Playback, played_says, played_step, IsPlayedBack}
@@ -21,7 +21,7 @@ returns-in_err-push-clause-memory g c = λ u e limit old ss p.
 
 pub returns-in_err-take-clause-memory : goal.returns-in_err-take-clause-memory
 returns-in_err-take-clause-memory g c = λ u e limit old ss p.
-    if_err c.from_residual-in_err-take.result _ (λ x. cut_behind _ g.D.Machine.State g.D.Machine.stands g.D.Machine.stands g.D.Machine.step g.D.Machine.says e limit c.args.performer.now c.next.new.self c.args.bus.now c.next.new.bus old c.args.events.now.items c.push.new.self.items c.args.done.now.bytes.items c.args.done.now.last ss
+    if_err c.from_residual-in_err-take.result _ (λ x. cut_after_it _ g.D.Machine.State g.D.Machine.stands g.D.Machine.stands g.D.Machine.step g.D.Machine.says e limit c.args.performer.now c.next.new.self c.args.bus.now c.next.new.bus old c.args.events.now.items c.push.new.self.items c.args.done.now.bytes.items c.args.done.now.last ss
     c.in-Some.event p (c.in-Some.ensures.next u 0 ss p.made p.going) c.in_ok-push.ensures.items)
 
 -- the event was added, or none
@@ -76,6 +76,6 @@ returns-in_err-take-clause-recorded g c =
     let next = c.in-Some.ensures.recorded in (
       next.0,
       λ later e limit old ss p.
-          match_err c.from_residual-in_err-take.result _ _ _ c.from_residual-in_err-take.ensures.1 (λ x. cut_behind _ Playback (IsPlayedBack shows (next.0 ++ later)) (IsPlayedBack shows later) played_step played_says e limit c.args.performer.now c.next.new.self c.args.bus.now c.next.new.bus old c.args.events.now.items c.push.new.self.items c.args.done.now.bytes.items
+          match_err c.from_residual-in_err-take.result _ _ _ c.from_residual-in_err-take.ensures.1 (λ x. cut_after_it _ Playback (IsPlayedBack shows (next.0 ++ later)) (IsPlayedBack shows later) played_step played_says e limit c.args.performer.now c.next.new.self c.args.bus.now c.next.new.bus old c.args.events.now.items c.push.new.self.items c.args.done.now.bytes.items
           c.args.done.now.last ss c.in-Some.event p (next.1 later 0 ss p.made p.going) c.in_ok-push.ensures.items),
     )

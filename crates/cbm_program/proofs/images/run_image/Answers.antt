@@ -8,7 +8,7 @@ use Rattle.cbm_program.specs.Starts.{BeginsOn, StartsFrom, KeptBy}
 use Rattle.cbm_program.specs.Timetables.{of_requests, of_changes}
 use Rattle.cbm_program.proofs.LinePrints.{if_err}
 use Rattle.cbm_program.proofs.OutputLemmas.{grows_none}
-use Rattle.cbm_program.proofs.GuardedRuns.{by_protection, kept-behind, kept-trace}
+use Rattle.cbm_program.proofs.GuardedRuns.{by_protection, kept-afterwards, kept-trace}
 use Rattle.cbm_program.proofs.Outcomes.{run-again, run-refused, refused-ends, refused-again, not-lacking}
 use Rattle.cbm_program.proofs.TraceLemmas.{traced-among, left-among, cut-among, cut-left, ends-saved}
 use Rattle.cbm_program.proofs.StartLemmas.{keeps-same, ended-among, ends-again, ends-any, checked-as, served-among, part-among, served-part, starts-as, holds-as, tracks-as}
@@ -95,7 +95,7 @@ returns-clause-requests g c =
     let checks = c.args.options.now.check in
     let guarded = c.args.options.now.protected in
     let before = g.W.Write.contents c.args.writer.now in
-    let behind = g.W.Write.contents c.run_with.new.writer in
+    let afterwards = g.W.Write.contents c.run_with.new.writer in
     let asked = of_requests (g.R.Read.remaining c.args.reader) in
     let first = c.in_ok-disk.ensures.ok in
     let starts = BeginsOn image guarded in
@@ -105,16 +105,16 @@ returns-clause-requests g c =
     let among = starts-as g.I.DiskImage.kind (kind_of image) image (seen disk).tracks (seen disk).content guarded (seen disk).protected c.requires.kind first.0 first.1 in
     record {
       script = record {
-        ended = ends-saved c.image_after.result _ c.image_after.ensures.err (ended-among pace checks before behind starts all (λ m. Unit {0}) (λ m. Unit {0}) among (λ m s. s) asked _ run.served.ended);
-        disk = by_protection guarded (λ free. IfOk-weaker c.image_after.result _ _ (λ saved is. served-among pace checks before behind starts all kept (λ m. ImageHolds (kind_of image) saved.items m.disk) among
+        ended = ends-saved c.image_after.result _ c.image_after.ensures.err (ended-among pace checks before afterwards starts all (λ m. Unit {0}) (λ m. Unit {0}) among (λ m s. s) asked _ run.served.ended);
+        disk = by_protection guarded (λ free. IfOk-weaker c.image_after.result _ _ (λ saved is. served-among pace checks before afterwards starts all kept (λ m. ImageHolds (kind_of image) saved.items m.disk) among
             (holds-as g.I.DiskImage.kind (kind_of image) saved.items (seen after).tracks (seen after).content c.requires.kind is) asked run.served.disk) (c.image_after.ensures.written free))
-            (λ kept_so. IfOk-weaker c.image_after.result _ _ (λ saved same. subst (λ (l : List ℕ). IsScriptServed pace checks asked before behind starts (λ m. ImageHolds (kind_of image) l m.disk)) (sym same)
-            (kept-behind (tracks_of (kind_of image) image) (content_of (kind_of image) image) guarded kept_so pace checks before behind asked (λ m. Unit {0})
-            (served-among pace checks before behind starts all kept (λ m. Unit {0}) among (λ m s. tt) asked run.served.disk)))
+            (λ kept_so. IfOk-weaker c.image_after.result _ _ (λ saved same. subst (λ (l : List ℕ). IsScriptServed pace checks asked before afterwards starts (λ m. ImageHolds (kind_of image) l m.disk)) (sym same)
+            (kept-afterwards (tracks_of (kind_of image) image) (content_of (kind_of image) image) guarded kept_so pace checks before afterwards asked (λ m. Unit {0})
+            (served-among pace checks before afterwards starts all kept (λ m. Unit {0}) among (λ m s. tt) asked run.served.disk)))
             (c.image_after.ensures.given kept_so));
-        fault = if_err c.image_after.result (part-among pace checks before behind asked starts all among (served-part pace checks before behind asked all kept run.served.disk));
+        fault = if_err c.image_after.result (part-among pace checks before afterwards asked starts all among (served-part pace checks before afterwards asked all kept run.served.disk));
       };
-      memory = λ e. inr (ended-among pace checks before behind starts all (λ m. Unit {0}) (λ m. Unit {0}) among (λ m s. s) asked _ run.served.ended);
+      memory = λ e. inr (ended-among pace checks before afterwards starts all (λ m. Unit {0}) (λ m. Unit {0}) among (λ m s. s) asked _ run.served.ended);
     }
 
 pub returns-clause-changes : goal.returns-clause-changes
@@ -128,7 +128,7 @@ returns-clause-changes g c =
     let guarded = c.args.options.now.protected in
     let drive = party_of pace c.args.options.now.device in
     let before = g.W.Write.contents c.args.writer.now in
-    let behind = g.W.Write.contents c.run_with.new.writer in
+    let afterwards = g.W.Write.contents c.run_with.new.writer in
     let timed = of_changes (g.R.Read.remaining c.args.reader) in
     let first = c.in_ok-disk.ensures.ok in
     let starts = BeginsOn image guarded in
@@ -138,17 +138,17 @@ returns-clause-changes g c =
     let among = starts-as g.I.DiskImage.kind (kind_of image) image (seen disk).tracks (seen disk).content guarded (seen disk).protected c.requires.kind first.0 first.1 in
     record {
       script = record {
-        ended = ends-saved c.image_after.result _ c.image_after.ensures.err (traced-among (checked_text checks) before behind timed starts all (λ m. Unit {0}) (λ m. Unit {0}) drive _ among (λ m s. s) run.played.ended);
-        disk = by_protection guarded (λ free. IfOk-weaker c.image_after.result _ _ (λ saved is. left-among (checked_text checks) before behind timed starts all kept (λ m. ImageHolds (kind_of image) saved.items m.disk) drive among
+        ended = ends-saved c.image_after.result _ c.image_after.ensures.err (traced-among (checked_text checks) before afterwards timed starts all (λ m. Unit {0}) (λ m. Unit {0}) drive _ among (λ m s. s) run.played.ended);
+        disk = by_protection guarded (λ free. IfOk-weaker c.image_after.result _ _ (λ saved is. left-among (checked_text checks) before afterwards timed starts all kept (λ m. ImageHolds (kind_of image) saved.items m.disk) drive among
             (holds-as g.I.DiskImage.kind (kind_of image) saved.items (seen after).tracks (seen after).content c.requires.kind is) run.played.disk) (c.image_after.ensures.written free))
-            (λ kept_so. IfOk-weaker c.image_after.result _ _ (λ saved same. subst (λ (l : List ℕ). IsTraced drive checks timed before behind starts (λ m. ImageHolds (kind_of image) l m.disk)) (sym same)
-            (kept-trace (tracks_of (kind_of image) image) (content_of (kind_of image) image) guarded kept_so (checked_text checks) before behind timed (λ m. Unit {0}) drive
-            (left-among (checked_text checks) before behind timed starts all kept (λ m. Unit {0}) drive among (λ m s. tt) run.played.disk)))
+            (λ kept_so. IfOk-weaker c.image_after.result _ _ (λ saved same. subst (λ (l : List ℕ). IsTraced drive checks timed before afterwards starts (λ m. ImageHolds (kind_of image) l m.disk)) (sym same)
+            (kept-trace (tracks_of (kind_of image) image) (content_of (kind_of image) image) guarded kept_so (checked_text checks) before afterwards timed (λ m. Unit {0}) drive
+            (left-among (checked_text checks) before afterwards timed starts all kept (λ m. Unit {0}) drive among (λ m s. tt) run.played.disk)))
             (c.image_after.ensures.given kept_so));
-        fault = if_err c.image_after.result (cut-among (checked_text checks) before behind timed starts all drive among (cut-left (checked_text checks) before behind timed all kept drive run.played.disk));
+        fault = if_err c.image_after.result (cut-among (checked_text checks) before afterwards timed starts all drive among (cut-left (checked_text checks) before afterwards timed all kept drive run.played.disk));
       };
       wrote = ends-saved c.image_after.result _ c.image_after.ensures.err run.wrote;
-      memory = λ e. inr (traced-among (checked_text checks) before behind timed starts all (λ m. Unit {0}) (λ m. Unit {0}) drive _ among (λ m s. s) run.played.ended);
+      memory = λ e. inr (traced-among (checked_text checks) before afterwards timed starts all (λ m. Unit {0}) (λ m. Unit {0}) drive _ among (λ m s. s) run.played.ended);
     }
 
 pub returns-clause-outcome : goal.returns-clause-outcome

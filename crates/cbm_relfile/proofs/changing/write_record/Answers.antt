@@ -114,7 +114,7 @@ returns-clause-laid g c = λ blocks sides w laid short.
       cut_is = (let room : c.len.result - (c.args.position - 1) ≡ c.args.file.width + 1 - c.args.position = omega (arith, c.len.ensures.value, size, c.requires.position.0, c.requires.position.1) in ap (λ (n : ℕ). nat_lt n (length c.args.bytes.now)) room);
     }
 
--- the record behind it is read where this one lies
+-- the record after it is read where this one lies
 pub returns-clause-next : goal.returns-clause-next
 returns-clause-next g c = λ blocks sides w laid short.
     let from : ℕ = (c.args.number - 1) * c.length.result in

@@ -29,12 +29,12 @@ pub returns-clause-chain : goal.returns-clause-chain
 returns-clause-chain g c = λ blocks h short. walked_all c.args.geometry (g.M.Medium.seen c.args.medium.now).content c.loop-passed.at blocks c.loop-passed.passed c.sectors-sectors.result (c.loop-passed.invariant.0 blocks h) (subst (λ (m : ℕ). length blocks ≤ m) (sym c.sectors-sectors.ensures) short) c.loop-passed-test.false
 
 pub returns-then-is_end-clause-walked : goal.returns-then-is_end-clause-walked
-returns-then-is_end-clause-walked g c = let w = c.loop-passed.invariant.1 in record { blocks = w.blocks; behind = c.loop-passed.at; number = w.number; leads = w.leads; ends = inl (c.if-is_end.ensures.0 refl) }
+returns-then-is_end-clause-walked g c = let w = c.loop-passed.invariant.1 in record { blocks = w.blocks; afterwards = c.loop-passed.at; number = w.number; leads = w.leads; ends = inl (c.if-is_end.ensures.0 refl) }
 
 pub returns-clause-walked : goal.returns-clause-walked
 returns-clause-walked g c =
     let w = c.loop-passed.invariant.1 in
-    record { blocks = w.blocks; behind = c.loop-passed.at; number = omega (arith, w.number, c.loop-passed-test.false, c.loop-passed.auto.passed-end); leads = w.leads; ends = inr c.sectors-sectors.ensures }
+    record { blocks = w.blocks; afterwards = c.loop-passed.at; number = omega (arith, w.number, c.loop-passed-test.false, c.loop-passed.auto.passed-end); leads = w.leads; ends = inr c.sectors-sectors.ensures }
 
 pub returns-in_err-bytes-clause-err : goal.returns-in_err-bytes-clause-err
 returns-in_err-bytes-clause-err g c =

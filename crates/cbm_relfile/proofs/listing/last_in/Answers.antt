@@ -2,7 +2,7 @@ use Rattle.std.proofs.Common.{rules, ◌≡◌, ◌≢◌, ◌≤◌, ◌<◌, �
 use Rattle.cbm_medium.specs.Place.{Has}
 use Rattle.cbm_medium.specs.Links.{place_in}
 use Rattle.cbm_medium.specs.Met.{IsMetFrom}
-use Rattle.cbm_relfile.specs.SideSectors.{listed_behind, sides_listed, blocks_listed, Numbered, IsNear}
+use Rattle.cbm_relfile.specs.SideSectors.{listed_following, sides_listed, blocks_listed, Numbered, IsNear}
 use Rattle.cbm_relfile.proofs.listing.last_in.Goals as goal
 
 pub returns-then-count-eq0-clause-none : goal.returns-then-count-eq0-clause-none

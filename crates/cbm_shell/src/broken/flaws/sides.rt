@@ -2,7 +2,7 @@
 ghost use Rattle.std.specs.Prelude.{◌≡◌, ◌≤◌, ◌++◌, ◌&&◌, not, IfOk, OnOk};
 ghost use Rattle.cbm_directory.specs.Entries.{first_side};
 ghost use Rattle.cbm_bam.specs.Map.{geometry_of};
-ghost use Rattle.cbm_volume.specs.check.SideLists.{are_records, behind_first, sides_from};
+ghost use Rattle.cbm_volume.specs.check.SideLists.{are_records, after_the_first, sides_from};
 ghost use Rattle.cbm_bam.specs.Marks.{is_marked};
 ghost use Rattle.cbm_shell.specs.Flaws.{among, flawed, flaw_if, sides_walk};
 ghost use Rattle.cbm_shell.specs.FlawSteps.{HasWalked, IsWalked};
@@ -29,7 +29,7 @@ fn walk_listed<M: Medium>(
     out: &mut Vec<DiskFlaw>,
 ) -> Result<bool, AllocError>
     requires { geometry ≤ (M.seen medium.now).tracks }
-    ensures { let w = among whose geometry (M.seen medium.now).content (is_marked claimed.old) (behind_first first.now) in
+    ensures { let w = among whose geometry (M.seen medium.now).content (is_marked claimed.old) (after_the_first first.now) in
         IfOk result (IsWalked w (is_marked claimed.new) out.old.items out.new.items) }
 {
     if first[SIDES] == 0 {

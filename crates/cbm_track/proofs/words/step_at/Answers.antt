@@ -2,7 +2,7 @@ use Rattle.std.proofs.Common.{arith, refl, ap, ◌∙◌, ◌+◌, ◌-◌, ◌�
 use Rattle.cbm_track.specs.Circle.{circle_bits_of, circle_bit}
 use Rattle.cbm_track.proofs.Tens.{ten_from}
 use Rattle.cbm_track.proofs.Round.{ten_ones_not}
-use Rattle.cbm_track.proofs.Windows.{plain_behind}
+use Rattle.cbm_track.proofs.Windows.{plain_after}
 use Rattle.cbm_track.proofs.words.step_at.Goals as goal
 
 pub returns-then-ones-ge10-clause-none : goal.returns-then-ones-ge10-clause-none
@@ -17,4 +17,4 @@ returns-clause-some c = (
 )
 
 pub returns-then-next-eq0-clause-some : goal.returns-then-next-eq0-clause-some
-returns-then-next-eq0-clause-some c = (omega arith, omega arith, λ j l. plain_behind (circle_bits_of c.args.track.now) c.args.place c.plain_at-plain.result (c.args.place + c.plain_at-plain.result) c.plain_bytes.result j refl c.if-next-eq0.true c.plain_at-plain.ensures.none c.plain_bytes.ensures.none l)
+returns-then-next-eq0-clause-some c = (omega arith, omega arith, λ j l. plain_after (circle_bits_of c.args.track.now) c.args.place c.plain_at-plain.result (c.args.place + c.plain_at-plain.result) c.plain_bytes.result j refl c.if-next-eq0.true c.plain_at-plain.ensures.none c.plain_bytes.ensures.none l)

@@ -18,6 +18,6 @@ returns-in-Ok-clause-stands c = λ bs done s.
     let busy : JudgeStandsAt bs p (Some c.args.whole.now) j.steps.items j.seen done = subst (λ (w : Option OwnWhole). JudgeStandsAt bs p w j.steps.items j.seen done) c.requires s in
     let more = subst (λ (xs : List OwnStep). some_from cut (steps_shown xs) ≡ true) c.deref-2.ensures.0 c.in_default.ensures.some in
     let front = subst (λ (xs : List OwnStep). before cut (steps_shown xs) ≡ steps_shown (take j.seen xs)) c.deref.ensures.0 (c.is_cut.ensures c.if-not-is_cut.false) in
-    let behind = stands_cut bs p c.args.whole.now cut q j.steps.items j.seen done busy c.in_default.ensures.may more front c.in-Ok.ensures in
+    let afterwards = stands_cut bs p c.args.whole.now cut q j.steps.items j.seen done busy c.in_default.ensures.may more front c.in-Ok.ensures in
     c.begin.ensures.stands bs done
-    (stands_cleared bs q (point_of k.point) k.whole k.steps.items k.seen done behind (ap point_of c.clear.ensures.point) c.clear.ensures.whole c.clear.ensures.steps c.clear.ensures.seen)
+    (stands_cleared bs q (point_of k.point) k.whole k.steps.items k.seen done afterwards (ap point_of c.clear.ensures.point) c.clear.ensures.whole c.clear.ensures.steps c.clear.ensures.seen)

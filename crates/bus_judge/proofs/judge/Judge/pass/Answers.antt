@@ -13,5 +13,5 @@ returns-clause-stands c = λ bs done s.
     let q = point_of c.in_ok-self.field-0 in
     let k = c.clear.new.self in
     let busy : JudgeStandsAt bs p (Some c.args.whole.now) j.steps.items j.seen done = subst (λ (w : Option OwnWhole). JudgeStandsAt bs p w j.steps.items j.seen done) c.requires.under_way s in
-    let behind = stands_passed bs p c.args.whole.now q j.steps.items j.seen done busy c.requires.over c.in_ok-self.ensures in
-    stands_cleared bs q (point_of k.point) k.whole k.steps.items k.seen done behind (ap point_of c.clear.ensures.point) c.clear.ensures.whole c.clear.ensures.steps c.clear.ensures.seen
+    let afterwards = stands_passed bs p c.args.whole.now q j.steps.items j.seen done busy c.requires.over c.in_ok-self.ensures in
+    stands_cleared bs q (point_of k.point) k.whole k.steps.items k.seen done afterwards (ap point_of c.clear.ensures.point) c.clear.ensures.whole c.clear.ensures.steps c.clear.ensures.seen

@@ -5,7 +5,7 @@ use Rattle.cbm_file.specs.Waiting.{next_shown}
 use Rattle.cbm_chain.proofs.Showing.{shown_next}
 use Rattle.cbm_chain.proofs.reader.ChainReader.peek.Goals as goal
 
--- what is shown is the byte that waits, with what its sector holds behind it
+-- what is shown is the byte that waits, with what its sector holds after it
 pub returns-in-Some : goal.returns-in-Some
 returns-in-Some c =
     sym (shown_next c.in-Some.byte c.self.inside.sector c.self.inside.from c.self.inside.to (omega arith) (omega arith))

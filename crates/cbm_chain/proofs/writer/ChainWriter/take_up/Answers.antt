@@ -8,7 +8,7 @@ use Rattle.cbm_bam.specs.Map.{map_of, IsFull, Claims}
 use Rattle.cbm_bam.specs.Causes.{HasCause}
 use Rattle.cbm_chain.specs.Data.{data_of}
 use Rattle.cbm_chain.specs.GivenUp.{IsGivenBack}
-use Rattle.cbm_chain.specs.Writing.{State, has_no_byte, IsForFiles, with_byte, begun_at, gone_on, IsBlock, Fills, GoesOnWriting, Puts, IsFullFor, IsWriteStopped, IsRefusedFor, EndsChain, end_link, IsZeroBehind, place_or_none, taken_up, StandsAfter, Wrote}
+use Rattle.cbm_chain.specs.Writing.{State, has_no_byte, IsForFiles, with_byte, begun_at, gone_on, IsBlock, Fills, GoesOnWriting, Puts, IsFullFor, IsWriteStopped, IsRefusedFor, EndsChain, end_link, IsZeroAfter, place_or_none, taken_up, StandsAfter, Wrote}
 use Rattle.cbm_chain.proofs.writer.ChainWriter.take_up.Goals as goal
 
 pub returns : goal.returns

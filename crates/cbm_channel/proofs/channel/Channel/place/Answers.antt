@@ -12,7 +12,7 @@ returns-in-Closed-clause-well g c = λ d uses ch x h e s w. place_closed _ _ d u
 pub returns-in_default-clause-well : goal.returns-in_default-clause-well
 returns-in_default-clause-well g c = λ d uses ch x h e s w. place_plain _ _ d uses ch c.args.number c.args.position x _ c.in_default.not-Closed c.in_default.not-Records h e s w
 
--- the place lies behind the record
+-- the place lies after the record
 pub returns-then-position-length-clause-well : goal.returns-then-position-length-clause-well
 returns-then-position-length-clause-well g c = λ d uses ch x h e s w.
     place_beyond _ _ d uses ch c.args.number c.args.position x _ c.in-Records.on c.in-Records.is (omega (arith, c.length.ensures, c.if-position-length.true)) h e s w

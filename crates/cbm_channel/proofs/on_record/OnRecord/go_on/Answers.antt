@@ -14,7 +14,7 @@ returns-clause-well c = λ now reads d f b s rs h at shut is.
     let slot = ap (λ (r : Placed). r.slot) c.self.view_is in
     let width = ap (λ (r : Placed). r.width) c.self.view_is in
     let number = ap (λ (r : Placed). r.number) c.self.view_is in
-    let behind : c.args.self.now.number ≡ c.self.inside.number + 1 - 1 = omega (arith, number) in
+    let afterwards : c.args.self.now.number ≡ c.self.inside.number + 1 - 1 = omega (arith, number) in
     let read = rw c.in_ok-next.was at (reads d f c.args.self.now.width b s rs h at is) in (
       refl,
       record {
@@ -25,6 +25,6 @@ returns-clause-well c = λ now reads d f b s rs h at shut is.
         blocks = b;
         sides = s;
         body = is ∙ ap (λ w. Records w rs b s) (sym width);
-        waits = waits_is c.self.inside.length b s (c.self.inside.number + 1) rs _ (λ z. omega (arith, z)) (c.waiting_of-self-inside.ensures.same ∙ read ∙ ap (slice_get rs) behind) c.waiting_of-self-inside.ensures.whole;
+        waits = waits_is c.self.inside.length b s (c.self.inside.number + 1) rs _ (λ z. omega (arith, z)) (c.waiting_of-self-inside.ensures.same ∙ read ∙ ap (slice_get rs) afterwards) c.waiting_of-self-inside.ensures.whole;
       },
     )

@@ -72,7 +72,7 @@ returns-in-None-clause-put g c = λ d uses b s rs can.
     let new : Seen = g.M.Medium.seen c.write-2.new.volume in
     absurd (store_there old mid d uses c.args.self.now b s rs c.args.bytes.now can c.write.ensures.only.tracks c.write.ensures.only.protected c.write.ensures.only.counted missing more grows c.grow.ensures.call.medium.tracks c.grow.ensures.call.medium.protected c.grow.ensures.call.medium.counted (λ (x : Bool). x) new (λ d2 uses2 b2 s2 rs2 can2. rw c.in-None.is at ((c.in_ok-written-2.ensures.put d2 uses2 b2 s2 rs2 can2).put)))
 
--- the record behind it was read
+-- the record after it was read
 pub returns-in-Some-clause-next : goal.returns-in-Some-clause-next
 returns-in-Some-clause-next g c = λ d uses b s rs can. rw c.in-Some.is at ((c.in_ok-written.ensures.put d uses b s rs can).next)
 

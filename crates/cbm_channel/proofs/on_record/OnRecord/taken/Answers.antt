@@ -3,7 +3,7 @@ use Rattle.cbm_channel.specs.Placed.{Placed, IsPlacedAt, is_last_filled, record_
 use Rattle.cbm_channel.proofs.OnRecords.{next_record}
 use Rattle.cbm_channel.proofs.on_record.OnRecord.taken.Goals as goal
 
--- behind the last byte
+-- after the last byte
 pub returns-then-is_last-clause-well : goal.returns-then-is_last-clause-well
 returns-then-is_last-clause-well g c = λ d h on.
     let next = c.go-then-is_last.ensures.well d on.file on.blocks on.sides on.records h on.in_slot on.closed on.body in

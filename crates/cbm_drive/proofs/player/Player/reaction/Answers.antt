@@ -3,11 +3,11 @@ use Rattle.cbm_drive.specs.Playback.{Playback, IsPlayedBack, played_says, played
 use Rattle.cbm_drive.proofs.Alone.{byte_of}
 use Rattle.std.specs.Prelude.{◌<◌, IfSome}
 use Rattle.cbm_iec.specs.declared.event.Event.{Event}
-use Rattle.cbm_drive.proofs.Players.{waits_past, waits_behind, some_match, shown_next}
+use Rattle.cbm_drive.proofs.Players.{waits_past, waits_after, some_match, shown_next}
 use Rattle.cbm_drive.proofs.player.Player.reaction.Goals as goal
 
 pub give-requires-clause-waiting : goal.give-requires-clause-waiting
-give-requires-clause-waiting g c = waits_behind c.in_ok-moment.moment (c.args.upto + 1) c.args.self.now.waiting c.in_ok-moment.ensures.first.before c.requires.turn.waiting
+give-requires-clause-waiting g c = waits_after c.in_ok-moment.moment (c.args.upto + 1) c.args.self.now.waiting c.in_ok-moment.ensures.first.before c.requires.turn.waiting
 
 pub returns-clause-gives : goal.returns-clause-gives
 returns-clause-gives g c = record {

@@ -9,7 +9,7 @@ use Rattle.cbm_host.specs.Progress.{left_of}
 pub events-init : goal.events-init
 events-init g c = record { taking = λ u e limit bytes last ss t. t; carried = carried_none c.args.bus.now.drives; fewer = omega arith; limit = refl; recorded = ([], λ later e limit bytes last ss t. t) }
 
--- an event, and the halves of bits behind it
+-- an event, and the halves of bits after it
 pub events-preserved : goal.events-preserved
 events-preserved g c =
     let less : left_of c.next.new.self c.next.new.bus < left_of c.events.self c.events.bus = c.in-Some.ensures.fewer in

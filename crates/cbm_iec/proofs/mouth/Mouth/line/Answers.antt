@@ -1,7 +1,7 @@
 use Rattle.std.proofs.Common.{rules}
 use Rattle.cbm_iec.proofs.mouth.Mouth.line.Goals as goal
 
--- DATA is told behind CLOCK
+-- DATA is told after CLOCK
 pub returns-then-was-now : goal.returns-then-was-now
 returns-then-was-now c = search rules
 

@@ -1,10 +1,10 @@
 use Rattle.std.proofs.Common.{rules}
 use Rattle.cbm_iec.proofs.mouth.Mouth.taken.Goals as goal
 
--- behind a byte the next one is led
+-- after a byte the next one is led
 pub returns-else-last : goal.returns-else-last
 returns-else-last c = search rules
 
--- behind the last one the talk ends
+-- after the last one the talk ends
 pub returns-then-last : goal.returns-then-last
 returns-then-last c = search rules

@@ -6,7 +6,7 @@ use Rattle.bus_traces.specs.Lines.{source_bytes_left}
 use Rattle.cbm_program.specs.declared.wires.staging.Stage.{Stage}
 use Rattle.cbm_program.proofs.LinePrints.{if_err}
 use Rattle.cbm_program.proofs.OutputLemmas.{grows_none, grows_on, grows_kept}
-use Rattle.cbm_program.proofs.Playing.{Loops, joined, timing_start, timing_skipped, timing_change, timing_begun, timing_ended, change_begun, end_begun, ended_part, ends_kept, behind_faulted, read_faulted, wrote_read, wrote_behind, wrote_ended}
+use Rattle.cbm_program.proofs.Playing.{Loops, joined, timing_start, timing_skipped, timing_change, timing_begun, timing_ended, change_begun, end_begun, ended_part, ends_kept, after_faulted, read_faulted, wrote_read, wrote_after_it, wrote_ended}
 use Rattle.cbm_program.proofs.Staging.{none_played}
 use Rattle.cbm_program.proofs.wires.playing.play_on.Goals.{in-Skipped, in-Changes+in_ok-change-in-Changes+in_ok-flush-in-Changes}
 use Rattle.cbm_program.proofs.wires.playing.play_on.Goals as goal
@@ -78,30 +78,30 @@ pub returns-in_err-flush-in-Ends-clause-grows : goal.returns-in_err-flush-in-End
 returns-in_err-flush-in-Ends-clause-grows g c = grows_kept _ _ _ (grows_on _ _ _ c.lines.invariant.grown c.in_ok-end-in-Ends.ensures.staged.grows) c.flush-in-Ends.ensures.bytes
 
 -- a line after the end can't be had, or is refused
-pub returns-in_err-read_behind-in-Ends-clause-ended : goal.returns-in_err-read_behind-in-Ends-clause-ended
-returns-in_err-read_behind-in-Ends-clause-ended g c = λ input t.
+pub returns-in_err-read_after_end-in-Ends-clause-ended : goal.returns-in_err-read_after_end-in-Ends-clause-ended
+returns-in_err-read_after_end-in-Ends-clause-ended g c = λ input t.
     let read = rw c.in-Ends.is at c.in_ok-read_timed.ensures in
-    let p = err_from_is_err_and c.from_residual-in_err-read_behind-in-Ends.result c.from_residual-in_err-read_behind-in-Ends.ensures.1 in
-    behind_faulted g.M.Medium.seen _ _ input (source_bytes_left g.R.Read.remaining c.lines.lines) (source_bytes_left g.R.Read.remaining c.read_timed.new.lines) c.lines.number c.lines.from c.in-Ends.end (party_of c.args.pace c.args.device) c.from_residual-in_err-read_behind-in-Ends.result _ _
-    c.args.stage.now.player c.lines.stage.player c.args.stage.now.bus c.lines.stage.bus (ap length c.lines.invariant.tracks ∙ c.requires.one) (c.lines.invariant.timing input t) c.lines.invariant.opened read.0 c.in_err-read_behind-in-Ends.ensures (p.1 ∙ ap Err p.2)
+    let p = err_from_is_err_and c.from_residual-in_err-read_after_end-in-Ends.result c.from_residual-in_err-read_after_end-in-Ends.ensures.1 in
+    after_faulted g.M.Medium.seen _ _ input (source_bytes_left g.R.Read.remaining c.lines.lines) (source_bytes_left g.R.Read.remaining c.read_timed.new.lines) c.lines.number c.lines.from c.in-Ends.end (party_of c.args.pace c.args.device) c.from_residual-in_err-read_after_end-in-Ends.result _ _
+    c.args.stage.now.player c.lines.stage.player c.args.stage.now.bus c.lines.stage.bus (ap length c.lines.invariant.tracks ∙ c.requires.one) (c.lines.invariant.timing input t) c.lines.invariant.opened read.0 c.in_err-read_after_end-in-Ends.ensures (p.1 ∙ ap Err p.2)
 
-pub returns-in_err-read_behind-in-Ends-clause-fault : goal.returns-in_err-read_behind-in-Ends-clause-fault
-returns-in_err-read_behind-in-Ends-clause-fault g c = λ input t.
-    if_err c.from_residual-in_err-read_behind-in-Ends.result (timing_begun g.M.Medium.seen _ _ input (source_bytes_left g.R.Read.remaining c.lines.lines) c.lines.number c.lines.from (party_of c.args.pace c.args.device) c.args.stage.now.player c.lines.stage.player c.args.stage.now.bus c.lines.stage.bus (c.lines.invariant.timing input t) c.lines.invariant.opened.second)
+pub returns-in_err-read_after_end-in-Ends-clause-fault : goal.returns-in_err-read_after_end-in-Ends-clause-fault
+returns-in_err-read_after_end-in-Ends-clause-fault g c = λ input t.
+    if_err c.from_residual-in_err-read_after_end-in-Ends.result (timing_begun g.M.Medium.seen _ _ input (source_bytes_left g.R.Read.remaining c.lines.lines) c.lines.number c.lines.from (party_of c.args.pace c.args.device) c.args.stage.now.player c.lines.stage.player c.args.stage.now.bus c.lines.stage.bus (c.lines.invariant.timing input t) c.lines.invariant.opened.second)
 
-pub returns-in_err-read_behind-in-Ends-clause-wrote : goal.returns-in_err-read_behind-in-Ends-clause-wrote
-returns-in_err-read_behind-in-Ends-clause-wrote g c = λ input fresh t.
+pub returns-in_err-read_after_end-in-Ends-clause-wrote : goal.returns-in_err-read_after_end-in-Ends-clause-wrote
+returns-in_err-read_after_end-in-Ends-clause-wrote g c = λ input fresh t.
     let read = rw c.in-Ends.is at c.in_ok-read_timed.ensures in
-    let p = err_from_is_err_and c.from_residual-in_err-read_behind-in-Ends.result c.from_residual-in_err-read_behind-in-Ends.ensures.1 in
-    wrote_behind g.M.Medium.seen (party_of c.args.pace c.args.device) _ _ input (source_bytes_left g.R.Read.remaining c.lines.lines) (source_bytes_left g.R.Read.remaining c.read_timed.new.lines) c.lines.number c.lines.from c.in-Ends.end c.from_residual-in_err-read_behind-in-Ends.result _ _
-    c.args.stage.now.player c.lines.stage.player c.args.stage.now.bus c.lines.stage.bus (ap length c.lines.invariant.tracks ∙ c.requires.one) fresh (c.lines.invariant.timing input t) c.lines.invariant.opened read.0 c.in_err-read_behind-in-Ends.ensures (p.1 ∙ ap Err p.2)
+    let p = err_from_is_err_and c.from_residual-in_err-read_after_end-in-Ends.result c.from_residual-in_err-read_after_end-in-Ends.ensures.1 in
+    wrote_after_it g.M.Medium.seen (party_of c.args.pace c.args.device) _ _ input (source_bytes_left g.R.Read.remaining c.lines.lines) (source_bytes_left g.R.Read.remaining c.read_timed.new.lines) c.lines.number c.lines.from c.in-Ends.end c.from_residual-in_err-read_after_end-in-Ends.result _ _
+    c.args.stage.now.player c.lines.stage.player c.args.stage.now.bus c.lines.stage.bus (ap length c.lines.invariant.tracks ∙ c.requires.one) fresh (c.lines.invariant.timing input t) c.lines.invariant.opened read.0 c.in_err-read_after_end-in-Ends.ensures (p.1 ∙ ap Err p.2)
 
 -- all was read
 pub returns-in-Ends-clause-wrote : goal.returns-in-Ends-clause-wrote
 returns-in-Ends-clause-wrote g c = λ input fresh t.
     let read = rw c.in-Ends.is at c.in_ok-read_timed.ensures in
     wrote_ended g.M.Medium.seen (party_of c.args.pace c.args.device) _ _ _ _ input (source_bytes_left g.R.Read.remaining c.lines.lines) (source_bytes_left g.R.Read.remaining c.read_timed.new.lines) c.lines.number c.lines.from c.in-Ends.end _
-    c.args.stage.now.player c.lines.stage.player c.end.new.self.player c.args.stage.now.bus c.lines.stage.bus c.end.new.self.bus (is_drive c.args.pace c.args.device c.requires.device.0 c.requires.device.1) (ap length (c.in_ok-end-in-Ends.ensures.staged.tracks ∙ c.lines.invariant.tracks) ∙ c.requires.one) fresh (c.lines.invariant.timing input t) read.0 c.in_ok-end-in-Ends.ensures.wrote c.flush-in-Ends.ensures.bytes c.in_ok-read_behind-in-Ends.ensures
+    c.args.stage.now.player c.lines.stage.player c.end.new.self.player c.args.stage.now.bus c.lines.stage.bus c.end.new.self.bus (is_drive c.args.pace c.args.device c.requires.device.0 c.requires.device.1) (ap length (c.in_ok-end-in-Ends.ensures.staged.tracks ∙ c.lines.invariant.tracks) ∙ c.requires.one) fresh (c.lines.invariant.timing input t) read.0 c.in_ok-end-in-Ends.ensures.wrote c.flush-in-Ends.ensures.bytes c.in_ok-read_after_end-in-Ends.ensures
 
 pub returns-in-Ends-clause-ended : goal.returns-in-Ends-clause-ended
 returns-in-Ends-clause-ended g c = λ input t.
@@ -109,7 +109,7 @@ returns-in-Ends-clause-ended g c = λ input t.
     let seen = g.M.Medium.seen in
     timing_ended seen _ _ _ input (source_bytes_left g.R.Read.remaining c.lines.lines) (source_bytes_left g.R.Read.remaining c.read_timed.new.lines) c.lines.number c.lines.from c.in-Ends.end (party_of c.args.pace c.args.device) _ c.args.stage.now.player c.lines.stage.player c.end.new.self.player
     c.args.stage.now.bus c.lines.stage.bus c.end.new.self.bus (is_drive c.args.pace c.args.device c.requires.device.0 c.requires.device.1) (ap length (c.in_ok-end-in-Ends.ensures.staged.tracks ∙ c.lines.invariant.tracks) ∙ c.requires.one) (c.lines.invariant.timing input t) read.0
-    (ends_kept seen _ _ _ c.in-Ends.end c.lines.stage.player c.end.new.self.player c.lines.stage.bus c.end.new.self.bus c.in_ok-end-in-Ends.ensures.ok c.flush-in-Ends.ensures.bytes) c.in_ok-read_behind-in-Ends.ensures
+    (ends_kept seen _ _ _ c.in-Ends.end c.lines.stage.player c.end.new.self.player c.lines.stage.bus c.end.new.self.bus c.in_ok-end-in-Ends.ensures.ok c.flush-in-Ends.ensures.bytes) c.in_ok-read_after_end-in-Ends.ensures
 
 pub returns-in-Ends-clause-grows : goal.returns-in-Ends-clause-grows
 returns-in-Ends-clause-grows g c = grows_kept _ _ _ (grows_on _ _ _ c.lines.invariant.grown c.in_ok-end-in-Ends.ensures.staged.grows) c.flush-in-Ends.ensures.bytes

@@ -57,7 +57,7 @@ pub returns-in_err-new-clause-form : goal.returns-in_err-new-clause-form
 returns-in_err-new-clause-form g c = λ file xs ss laid first names l form.
     absurd (c.in_err-new.ensures.chain (drop (120 * c.loop-number.number) xs) (c.loop-number.invariant file xs ss laid first names l).1)
 
--- what would be listed is listed, with zeros behind it
+-- what would be listed is listed, with zeros after it
 pub returns-then-not-is_same_list-clause-form : goal.returns-then-not-is_same_list-clause-form
 returns-then-not-is_same_list-clause-form g c = λ file xs ss laid first names l form.
     let now : Content = (g.M.Medium.seen c.args.medium.now).content in

@@ -34,7 +34,7 @@ loop-number-preserved g c =
     let s = one_set new n c.track.result c.sector.result in (
       s.size ∙ i.0,
       λ j l. s.before j (omega (arith, l)) ∙ i.1 j l,
-      λ j l. s.behind j l ∙ i.2 j (omega (arith, l)),
+      λ j l. s.afterwards j l ∙ i.2 j (omega (arith, l)),
       λ blocks h. subst (λ (a : ℕ). Listing c.args.geometry now blocks (n + 1) (set (set new (16 + 2 * n) a) (16 + 2 * n + 1) c.sector.result) c.of-at.result) (sym c.track.ensures)
           (subst (λ (b : ℕ). Listing c.args.geometry now blocks (n + 1) (set (set new (16 + 2 * n) c.loop-number.at.track) (16 + 2 * n + 1) b) c.of-at.result) (sym c.sector.ensures)
           (listing_more c.args.geometry now blocks n new c.loop-number.at c.of-at.result c.in_ok-bytes.bytes i.0 c.loop-number-test.true (i.3 blocks h) (λ z. let f = c.if-is_end.ensures.1 z in cc) c.in_ok-bytes.ensures.ok c.of-at.ensures)),

@@ -41,7 +41,7 @@ loop-passed-preserved g c =
 pub returns-clause-unlisted : goal.returns-clause-unlisted
 returns-clause-unlisted g c = λ file xs ss whole laid apart names l.
     let h = c.loop-passed.invariant.1 file xs ss whole laid apart names l in
-    (h.relisted, λ i k. h.behind i (omega (arith, c.loop-passed-test.false)) k)
+    (h.relisted, λ i k. h.afterwards i (omega (arith, c.loop-passed-test.false)) k)
 
 pub returns-in_err-write_side-clause-only : goal.returns-in_err-write_side-clause-only
 returns-in_err-write_side-clause-only g c =

@@ -9,7 +9,7 @@ codes-init c = ap (λ t. t ++ name_text c.args.charset c.args.name.now) c.new-te
 
 pub codes-preserved : goal.codes-preserved
 codes-preserved c =
-    text-next (string_bytes c.codes.text) _ _ c.codes.rest.now c.in-Some.behind.now c.args.charset _ c.codes.invariant c.in-Some.ensures.cases.0 c.in_ok-add_code.ensures
+    text-next (string_bytes c.codes.text) _ _ c.codes.rest.now c.in-Some.afterwards.now c.args.charset _ c.codes.invariant c.in-Some.ensures.cases.0 c.in_ok-add_code.ensures
 
 pub returns-clause-shown : goal.returns-clause-shown
 returns-clause-shown c = text-none (string_bytes c.codes.text) _ c.codes.rest.now c.args.charset c.codes.invariant c.in_default.ensures.cases

@@ -10,5 +10,5 @@ returns-in_default-clause-text c = IfOk-weaker c.end_line.result _ _ (λ rest e.
 
 pub returns-clause-text : goal.returns-clause-text
 returns-clause-text c = IfOk-weaker c.add_text.result _ _ (λ rest e.
-    opening-more (string_bytes c.args.out.now) _ _ c.args.bytes.now c.in-Some.behind.now rest.now c.args.charset _ c.in-Some.ensures.cases.0 c.in_ok-open_line.ensures e)
+    opening-more (string_bytes c.args.out.now) _ _ c.args.bytes.now c.in-Some.afterwards.now rest.now c.args.charset _ c.in-Some.ensures.cases.0 c.in_ok-open_line.ensures e)
     c.add_text.ensures.text

@@ -9,7 +9,7 @@ use Rattle.cbm_directory.specs.Entries.{first_directory}
 use Rattle.cbm_directory.specs.Growth.{new_sector}
 use Rattle.cbm_volume.specs.Holding.{HoldsDisk}
 use Rattle.cbm_volume.specs.Layouts.{IsCellWritable}
-use Rattle.cbm_volume.specs.NewDisks.{used_by_new, new_label, around_map, IsNewHead, IsEmptied, id_behind, content_under}
+use Rattle.cbm_volume.specs.NewDisks.{used_by_new, new_label, around_map, IsNewHead, IsEmptied, id_after, content_under}
 use Rattle.cbm_volume.specs.Opens.{IsHindered}
 use Rattle.cbm_volume.specs.Writers.{Use, Idle, HoldsNow}
 use Rattle.cbm_volume.proofs.disk.formatting.write_new.Goals as goal

@@ -45,7 +45,7 @@ returns-in_err-entry-clause-only g c =
     (rw (p.1, p.2) (λ is. absurd (directory_never_26 c.geometry-geometry.result (g.M.Medium.seen c.args.medium.now).content c.in_err-entry.field-0.0 (λ q. g.met.M.Medium.codes c.args.medium.now q) c.in_err-entry.ensures.1 is)))
     (rw (p.1, p.2) (directory_shown c.geometry-geometry.result (g.M.Medium.seen c.args.medium.now) c.in_err-entry.field-0.0 c.in_err-entry.ensures.1))
 
--- the record behind it stays
+-- the record after it stays
 pub returns-clause-put : goal.returns-clause-put
 returns-clause-put g c = λ d uses w b s rs o few.
     record {

@@ -244,7 +244,7 @@ returns-clause-only g c =
 pub returns-in_default-clause-kept : goal.returns-in_default-clause-kept
 returns-in_default-clause-kept g c = (none g c).2
 
--- no block is free behind the slot, though one was before
+-- no block is free after the slot, though one was before
 pub returns-in_default-2-clause-kept : goal.returns-in_default-2-clause-kept
 returns-in_default-2-clause-kept g c =
     let before : Content = (g.M.Medium.seen c.self.inside.medium).content in

@@ -5,7 +5,7 @@ use Rattle.cbm_medium.specs.Seen.{Seen, with_content, formatted_as, OnlyContent}
 use Rattle.cbm_file.specs.Files.{Disk}
 use Rattle.cbm_file.specs.Changes.{new_disk}
 use Rattle.cbm_volume.specs.Holding.{HoldsDisk}
-use Rattle.cbm_volume.specs.NewDisks.{IsEmptied, id_behind, content_under}
+use Rattle.cbm_volume.specs.NewDisks.{IsEmptied, id_after, content_under}
 use Rattle.cbm_volume.specs.Opens.{IsHindered}
 use Rattle.cbm_volume.specs.Writers.{Use, Idle, HoldsNow}
 use Rattle.cbm_volume.proofs.formatted.NewDisks.{no_id, emptied_short, emptied_long, made_short, made_long, made_idle, head_writable, first_writable, only_short, only_stopped, only_long}
@@ -32,7 +32,7 @@ returns-in_default-clause-cause g c =
 is_formatted : (g : Over) (c : goal.After-write_new-2 g) → g.M.Medium.seen c.format.new.self ≡ formatted_as c.in-Some.id (with_content blank (g.M.Medium.seen c.args.self.now))
 is_formatted g c = c.in_ok-format.ensures.ok ∙ ap (λ m. formatted_as c.in-Some.id (with_content blank (g.M.Medium.seen m))) c.self.view_is
 
--- behind a format the medium holds the disk, whatever it held
+-- after a format the medium holds the disk, whatever it held
 formatted : (g : Over) (c : goal.After-write_new-2 g) → (d : Disk)
     → OnOk c.write_new-2.result (HoldsDisk (g.M.Medium.seen c.args.self.now).tracks (g.M.Medium.seen c.write_new-2.new.medium).content (new_disk (g.M.Medium.seen c.args.self.now).tracks c.args.title.now c.args.id d))
 formatted g c =
@@ -49,7 +49,7 @@ returns-clause-formatted g c = λ some d. formatted g c d
 
 pub returns-in_default-clause-emptied : goal.returns-in_default-clause-emptied
 returns-in_default-clause-emptied g c =
-    subst (λ (s : Seen). OnOk c.write_new.result (IsEmptied s.tracks c.args.title.now (id_behind c.args.id s.content) (content_under c.args.id s.content) (g.M.Medium.seen c.write_new.new.medium).content)) (found g c)
+    subst (λ (s : Seen). OnOk c.write_new.result (IsEmptied s.tracks c.args.title.now (id_after c.args.id s.content) (content_under c.args.id s.content) (g.M.Medium.seen c.write_new.new.medium).content)) (found g c)
     (emptied_short c.write_new.result (g.M.Medium.seen c.self.inside.medium) (g.M.Medium.seen c.write_new.new.medium).content c.args.title.now c.in_ok-id.id c.args.id
     (no_id c.args.id c.in_default.not-Some) c.in_ok-id.ensures.ok c.write_new.ensures.emptied)
 

@@ -12,7 +12,7 @@ pub returns-clause-turn : goal.returns-clause-turn
 returns-clause-turn g c = some_of c.next.result (λ e h. turn_of e.who e.change _ _ h) c.next.ensures.event.turn
 
 pub returns-clause-from : goal.returns-clause-from
-returns-clause-from g c = some_of c.next.result (λ e h. from_of e.who e.change _ h) c.next.ensures.event.behind
+returns-clause-from g c = some_of c.next.result (λ e h. from_of e.who e.change _ h) c.next.ensures.event.afterwards
 
 pub returns-clause-fewer : goal.returns-clause-fewer
 returns-clause-fewer g c = some_of c.next.result (λ e h d limit l. h (drives_in e.who d) limit (omega (arith, l))) c.next.ensures.event.fewer

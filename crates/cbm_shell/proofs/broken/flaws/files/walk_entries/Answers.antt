@@ -1,13 +1,13 @@
 use Rattle.std.proofs.Common.{◌+◌, ◌≡◌, refl, arith, ap, sym}
 use Rattle.cbm_bam.specs.Marks.{is_marked}
-use Rattle.cbm_volume.specs.check.SlotWalk.{entries_behind, entries_in}
+use Rattle.cbm_volume.specs.check.SlotWalk.{entries_after, entries_in}
 use Rattle.cbm_shell.specs.Flaws.{entries_walk}
 use Rattle.cbm_shell.proofs.FlawLemmas.{going, entry_more, entries_over}
 use Rattle.cbm_shell.proofs.broken.flaws.files.walk_entries.Goals as goal
 
 pub loop-number-init : goal.loop-number-init
 loop-number-init g c =
-    going (entries_walk (c.args.slot + 0) c.args.geometry (g.M.Medium.seen c.args.volume.now).content (is_marked c.args.claimed.now) c.args.at (entries_behind 0 c.args.sector.now)) _ c.args.out.now.items
+    going (entries_walk (c.args.slot + 0) c.args.geometry (g.M.Medium.seen c.args.volume.now).content (is_marked c.args.claimed.now) c.args.at (entries_after 0 c.args.sector.now)) _ c.args.out.now.items
     (ap (λ m. entries_walk m c.args.geometry (g.M.Medium.seen c.args.volume.now).content (is_marked c.args.claimed.now) c.args.at (entries_in c.args.sector.now)) (let z : c.args.slot + 0 ≡ c.args.slot = omega arith in z))
 
 pub loop-number-preserved : goal.loop-number-preserved

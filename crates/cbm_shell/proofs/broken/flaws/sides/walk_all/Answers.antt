@@ -2,7 +2,7 @@ use Rattle.std.proofs.Common.{◌∷◌, subst, refl, sym, ap, false}
 use Rattle.cbm_medium.specs.Links.{bytes_at}
 use Rattle.cbm_bam.specs.Marks.{is_marked}
 use Rattle.cbm_volume.specs.check.Claims.{wrong_at}
-use Rattle.cbm_volume.specs.check.SideLists.{behind_first, sides_from}
+use Rattle.cbm_volume.specs.check.SideLists.{after_the_first, sides_from}
 use Rattle.cbm_shell.specs.Flaws.{among, part_of, flawed, flaws_for}
 use Rattle.cbm_shell.specs.FlawSteps.{IsStep}
 use Rattle.cbm_shell.proofs.FlawLemmas.{stopped, went, among-on, among-off, only, before_walk}
@@ -16,7 +16,7 @@ returns-in_default g c =
     let s = stopped wrong flaw content c.args.first (is_marked c.args.claimed.now) (is_marked c.step.new.claimed) c.args.out.now.items c.step.new.out.items
     (subst (λ o. IsStep wrong flaw content c.args.first (is_marked c.args.claimed.now) (is_marked c.step.new.claimed) c.args.out.now.items c.step.new.out.items o) c.in_default.is c.in_ok-bytes.ensures) in
     only _ c.args.out.now.items c.step.new.out.items (flaws_for wrong flaw) (is_marked c.step.new.claimed) false
-    (among-off c.args.whose c.args.geometry content (is_marked c.args.claimed.now) (is_marked c.step.new.claimed) c.args.first (sides_from content c.args.first) (behind_first (bytes_at content c.args.first)) refl s.0 s.1)
+    (among-off c.args.whose c.args.geometry content (is_marked c.args.claimed.now) (is_marked c.step.new.claimed) c.args.first (sides_from content c.args.first) (after_the_first (bytes_at content c.args.first)) refl s.0 s.1)
     c.in_ok-bytes.ensures.adds
 
 pub returns : goal.returns
@@ -26,8 +26,8 @@ returns g c =
     let flaw = flawed c.args.whose 0 c.args.first in
     let w = went wrong flaw content c.args.first (is_marked c.args.claimed.now) (is_marked c.step.new.claimed) c.args.out.now.items c.step.new.out.items c.in-Some.bytes
     (subst (λ o. IsStep wrong flaw content c.args.first (is_marked c.args.claimed.now) (is_marked c.step.new.claimed) c.args.out.now.items c.step.new.out.items o) c.in-Some.is c.in_ok-bytes.ensures) in
-    before_walk c.walk_listed.result (among c.args.whose c.args.geometry content (is_marked c.step.new.claimed) (behind_first c.in-Some.bytes)) _ (flaws_for wrong flaw) c.args.out.now.items c.step.new.out.items
+    before_walk c.walk_listed.result (among c.args.whose c.args.geometry content (is_marked c.step.new.claimed) (after_the_first c.in-Some.bytes)) _ (flaws_for wrong flaw) c.args.out.now.items c.step.new.out.items
     c.walk_listed.new.out.items c.args.first (is_marked c.walk_listed.new.claimed)
-    (among-on c.args.whose c.args.geometry content (is_marked c.args.claimed.now) (is_marked c.step.new.claimed) c.args.first (sides_from content c.args.first) (behind_first c.in-Some.bytes)
-    (ap (λ b. c.args.first ∷ behind_first b) (sym w.1)) w.0 w.2)
+    (among-on c.args.whose c.args.geometry content (is_marked c.args.claimed.now) (is_marked c.step.new.claimed) c.args.first (sides_from content c.args.first) (after_the_first c.in-Some.bytes)
+    (ap (λ b. c.args.first ∷ after_the_first b) (sym w.1)) w.0 w.2)
     c.in_ok-bytes.ensures.adds c.walk_listed.ensures

@@ -2,7 +2,7 @@ use Rattle.std.proofs.Common.{◌≡◌, ◌+◌, ◌-◌, ◌*◌, [], List, dr
 use Rattle.cbm_medium.specs.Place.{Place}
 use Rattle.cbm_relfile.specs.SideSectors.{named_in}
 use Rattle.cbm_bam.specs.Marks.{is_marked}
-use Rattle.cbm_volume.specs.check.SideLists.{behind_first}
+use Rattle.cbm_volume.specs.check.SideLists.{after_the_first}
 use Rattle.cbm_volume.proofs.checked.SidesListed.{sides_none, sides_some}
 use Rattle.cbm_volume.specs.check.Claims.{wrong_at}
 use Rattle.cbm_shell.specs.Flaws.{among, part_of, flawed, flaws_for}
@@ -11,9 +11,9 @@ use Rattle.cbm_shell.proofs.broken.flaws.sides.walk_listed.Goals as goal
 
 pub returns-then-first-eq0 : goal.returns-then-first-eq0
 returns-then-first-eq0 g c =
-    let none : behind_first c.args.first.now ≡ [] = ap (λ (xs : List Place). drop 1 xs) (sides_none 0 c.args.first.now (omega arith) c.if-first-eq0.true) in
-    only (among c.args.whose c.args.geometry (g.M.Medium.seen c.args.medium.now).content (is_marked c.args.claimed.now) (behind_first c.args.first.now)) c.args.out.now.items c.args.out.now.items [] (is_marked c.args.claimed.now) true
-    (among-none c.args.whose c.args.geometry (g.M.Medium.seen c.args.medium.now).content (is_marked c.args.claimed.now) (behind_first c.args.first.now) none) (sym (append-nil c.args.out.now.items))
+    let none : after_the_first c.args.first.now ≡ [] = ap (λ (xs : List Place). drop 1 xs) (sides_none 0 c.args.first.now (omega arith) c.if-first-eq0.true) in
+    only (among c.args.whose c.args.geometry (g.M.Medium.seen c.args.medium.now).content (is_marked c.args.claimed.now) (after_the_first c.args.first.now)) c.args.out.now.items c.args.out.now.items [] (is_marked c.args.claimed.now) true
+    (among-none c.args.whose c.args.geometry (g.M.Medium.seen c.args.medium.now).content (is_marked c.args.claimed.now) (after_the_first c.args.first.now) none) (sym (append-nil c.args.out.now.items))
 
 pub returns-then-is_end : goal.returns-then-is_end
 returns-then-is_end g c =

@@ -1,7 +1,7 @@
 use Rattle.std.proofs.Common.{◌∙◌, ap, arith, ℕ, ◌+◌, ◌%◌}
 use Rattle.cbm_track.specs.Circle.{next_block}
 use Rattle.cbm_track.proofs.Round.{next_wrapped}
-use Rattle.cbm_sector.proofs.sector.block_behind.Goals as goal
+use Rattle.cbm_sector.proofs.sector.block_following.Goals as goal
 
 pub returns-clause-value : goal.returns-clause-value
 returns-clause-value c =

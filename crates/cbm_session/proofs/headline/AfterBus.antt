@@ -1,11 +1,11 @@
--- Behind a piece that the drives of a bus have played, and in one: how they stand for the next, and that none of the host's changes that are left comes too soon.
+-- After a piece that the drives of a bus have played, and in one: how they stand for the next, and that none of the host's changes that are left comes too soon.
 use Rattle.std.proofs.Common.{◌≡◌, ℕ, ◌≤◌, Bool, List, [], ◌∷◌, ◌++◌, map, Option, ap, sym, ◌∙◌, subst, refl}
 use Rattle.cbm_iec.specs.declared.machine.Act.{Act}
 use Rattle.cbm_iec.specs.declared.event.Event.{Event}
 use Rattle.cbm_iec.specs.declared.event.Who.TheVariants.{Host, Drive}
 use Rattle.cbm_iec.specs.declared.event.Who.{Who}
 use Rattle.cbm_iec.specs.declared.port.Port.{Port}
-use Rattle.cbm_session.proofs.headline.AlongBus.{AllGo, devs, IsPlain, plain_behind, soon_inside}
+use Rattle.cbm_session.proofs.headline.AlongBus.{AllGo, devs, IsPlain, plain_after, soon_inside}
 use Rattle.cbm_session.proofs.headline.BusStep.{goes_unique, ends}
 use Rattle.cbm_session.proofs.headline.FrameBus.{AllStand, AllEnd}
 use Rattle.cbm_session.proofs.headline.Keeping.{HostFrom}
@@ -24,7 +24,7 @@ use Rattle.cbm_session.specs.Seats.{Seat}
 use Rattle.cbm_session.specs.Steps.{Step, moment_of, events_of}
 use Rattle.cbm_session.specs.Timing.{is_host}
 
--- the seats behind a piece, one by one
+-- the seats after a piece, one by one
 pub next_seats : (p : Point) (w : Whole) → (whole_point p w).seats ≡ map (λ s. next_seat w s) p.seats
 next_seats p (PullPiece at) = refl
 next_seats p (Command f) = refl
@@ -36,7 +36,7 @@ next_seats p (Nothing at clock freed) = refl
 next_seats p (Talk at f) = refl
 
 module _ (M : Type 0) (step : M → Act → M) (peek : M → Option (ℕ × Bool)) (says : ℕ → Option (ℕ × Bool)) (place : ℕ → ℕ) where
-  -- Where each station is what its seat's drive goes to, all stand at the point behind.
+  -- Where each station is what its seat's drive goes to, all stand at the point after it.
   pub stand_so : (p : Point) (ss : List Seat) (es : List (Rest × Port)) (xs : List (Station M)) → AllEnd M step peek says place p ss es → AllOf M step peek says place 0 (λ x e. (x.rest ≡ e.0) × (x.port ≡ e.1)) xs es → AllStand M step peek says place p ss xs
   stand_so p [] [] [] a h = tt
   stand_so p [] [] (x ∷ xs) a h = elim h [ ]
@@ -46,9 +46,9 @@ module _ (M : Type 0) (step : M → Act → M) (peek : M → Option (ℕ × Bool
   stand_so p (s ∷ ss) (e ∷ es) (x ∷ xs) a h =
       (record { sound = a.0.0; stands = subst (λ (v : Port). StandsAmong p s v) (sym h.0.1) a.0.1; rest = h.0.0 ∙ a.0.2 }, stand_so p ss es xs a.1 h.1)
 
-  pub stand_behind : (p : Point) (w : Whole) (fin : List (Rest × Port)) (xs : List (Station M)) → AllEnd M step peek says place (whole_point p w) (map (λ s. next_seat w s) p.seats) fin → AllOf M step peek says place 0 (λ x e. (x.rest ≡ e.0) × (x.port ≡ e.1)) xs fin
+  pub stand_after : (p : Point) (w : Whole) (fin : List (Rest × Port)) (xs : List (Station M)) → AllEnd M step peek says place (whole_point p w) (map (λ s. next_seat w s) p.seats) fin → AllOf M step peek says place 0 (λ x e. (x.rest ≡ e.0) × (x.port ≡ e.1)) xs fin
       → AllStand M step peek says place (whole_point p w) (whole_point p w).seats xs
-  stand_behind p w fin xs a h = subst (λ (v : List Seat). AllStand M step peek says place (whole_point p w) v xs) (sym (next_seats p w)) (stand_so (whole_point p w) (map (λ s. next_seat w s) p.seats) fin xs a h)
+  stand_after p w fin xs a h = subst (λ (v : List Seat). AllStand M step peek says place (whole_point p w) v xs) (sym (next_seats p w)) (stand_so (whole_point p w) (map (λ s. next_seat w s) p.seats) fin xs a h)
 
   -- who goes with nothing more is there
   pub all_there : (xs : List (Station M)) (fin : List (Rest × Port)) → AllGo M step peek says place xs [] fin → AllOf M step peek says place 0 (λ x e. (x.rest ≡ e.0) × (x.port ≡ e.1)) xs fin
@@ -68,7 +68,7 @@ module _ (M : Type 0) (step : M → Act → M) (peek : M → Option (ℕ × Bool
       → Twin t (front ++ back) xs → events_of front ++ rest ≡ events_of xs ++ more → HostEvents t rest → HostFrom t back
   left_from t front [] xs rest more ss fin g i plain w e h = tt
   left_from t front (y ∷ back) xs rest more ss fin g i plain w e h =
-      let left = plain_behind M step peek says place (devs M step peek says place ss) front (y ∷ back) plain in
+      let left = plain_after M step peek says place (devs M step peek says place ss) front (y ∷ back) plain in
       let first : t ≤ moment_of y = go y.event.who refl left in
       all_host_from t (y ∷ back) (first, none_sooner t (moment_of y) back first left.order.0)
     where
