@@ -19,9 +19,9 @@ use Rattle.cbm_channel.specs.Moved.{code_placed, placed_on}
 use Rattle.cbm_channel.specs.Standing.{ChannelStands, FitsTracks, IsSameFile, Kept, Stands, WaitsFor, use_of}
 use Rattle.cbm_channel.specs.Written.{is_lost, channel_put, disk_put, disk_closed, IsCutOff}
 
--- A call of several on the medium, whatever sectors they changed: tracks, protection and id stay, and no sector becomes unreadable. It makes no write after one that the
--- medium refused by itself: failures go up by one at most, only where it answers Err, and then that is what the medium refused last. It
--- answers the code 26 only where the medium is protected, and each trouble has its ground.
+-- WHAT CALLS ON THE MEDIUM KEEP, whatever sectors they changed: tracks, protection and id stay, and no sector becomes unreadable.
+-- No write comes after one that the medium refused by itself: failures go up by one at most, only where the answer is Err, and then that is
+-- what the medium refused last. The code 26 is answered only where the medium is protected, and each trouble has its ground.
 pub record KeepsElse {A : Type 0} (result : Result A Trouble) (old new : Seen) : Type 0 where
   pub tracks : new.tracks ≡ old.tracks
   pub protected : new.protected ≡ old.protected

@@ -6,7 +6,8 @@ use Rattle.cbm_file.specs.Changes.{with_finished, with_replaced}
 use Rattle.cbm_volume.specs.Writers.{Filling, Idle, HoldsNow, with_use, IsStored, IsFullDisk, Stopped}
 use Rattle.cbm_volume.specs.Calls.{OfWriter, IsCall, IsChange}
 
--- A BYTE IS PUT, or the disk is full and nothing has changed; where a write was refused, the disk is as it was and the channel is idle.
+-- A BYTE IS STORED: the channel's file has it as its last one. Where the disk is full, nothing has changed; where a write was refused, the
+-- disk is as it was and the channel is idle.
 abbrev pub StoresByte : Result Bool Trouble → Seen → Seen → Filling → Filling → ℕ → Type 0
 StoresByte result old new before after byte =
     OfWriter old before (λ d uses ch bytes blocks. IsCall result old new

@@ -20,7 +20,7 @@ use Rattle.cbm_volume.proofs.grown.GrowingTurns.{FileLies, file_lies}
 use Rattle.cbm_volume.proofs.layouts.Lengths.{file_length}
 use Rattle.cbm_volume.proofs.layouts.Listing.{geometry_size}
 use Rattle.cbm_volume.proofs.records_made.RecordsPut.{IsWrittenAt}
-use Rattle.cbm_volume.proofs.held.RecordsRead.{relative_of}
+use Rattle.cbm_volume.specs.RecordFaults.{relative_of}
 
 -- what the call that counts blocks and side sectors says, of each chain and each first side sector
 abbrev pub CountsBy : ℕ → Content → Relative → (ℕ → ℕ → Type 0) → Type 0

@@ -11,6 +11,7 @@ use Rattle.cbm_chain.specs.Data.{chain_bytes}
 use Rattle.cbm_relfile.specs.Records.{AllWhole, IsLaid, Relative, record_in}
 use Rattle.cbm_directory.specs.Entries.{entry_at, first_block, first_side, is_closed, is_relative, type_byte, width_of}
 use Rattle.cbm_directory.specs.Slots.{Answers, directory_of}
+use Rattle.cbm_volume.specs.RecordFaults.{relative_of}
 use Rattle.cbm_volume.specs.Blocks.{Blocks, LiesAs, HasRecords, file_of, body_as, slices}
 use Rattle.cbm_volume.specs.Layouts.{Layout, slot_count, HasLayout}
 use Rattle.cbm_volume.specs.check.SideLists.{are_records}
@@ -39,10 +40,6 @@ pub lies_so : (cl r : Bool) (tracks : ℕ) (c : Content) (e : List ℕ) (b : Blo
 lies_so true true tracks c e b h k x = x
 lies_so true false tracks c e b h k x = absurd (cc)
 lies_so false r tracks c e b h k x = absurd (cc)
-
--- the file of an entry
-abbrev pub relative_of : List ℕ → Relative
-relative_of e = record { first = first_block e; side = first_side e; width = width_of e }
 
 -- where the records of an entry's file are
 pub record RecordsAt (tracks : ℕ) (c : Content) (entry : List ℕ) (w : ℕ) (rs : List (List ℕ)) : Type 0 where

@@ -43,7 +43,8 @@ use Rattle.cbm_directory.specs.Slots.{Answers, directory_of}
 use Rattle.cbm_volume.specs.Blocks.{slices}
 use Rattle.cbm_volume.proofs.layouts.OneSlot.{with_file}
 use Rattle.cbm_volume.proofs.layouts.Lengths.{file_length}
-use Rattle.cbm_volume.proofs.held.RecordsRead.{relative_of, records_lie, both, no_slot}
+use Rattle.cbm_volume.specs.RecordFaults.{relative_of}
+use Rattle.cbm_volume.proofs.held.RecordsRead.{records_lie, both, no_slot}
 use Rattle.cbm_volume.proofs.layouts.Listing.{geometry_size, slot_shown}
 use Rattle.cbm_volume.proofs.held.Slices.{record_slice}
 use Rattle.cbm_volume.proofs.relative.Crossing.{Crossed, stands_crossed}

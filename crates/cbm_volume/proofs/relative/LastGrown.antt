@@ -33,7 +33,8 @@ use Rattle.cbm_volume.proofs.layouts.Listing.{geometry_size, body_of}
 use Rattle.cbm_volume.proofs.layouts.Loose.{entry_kept}
 use Rattle.cbm_volume.proofs.layouts.OneSlot.{with_file, blocks_here, blocks_other}
 use Rattle.cbm_volume.proofs.records_made.RecordsPut.{HasBlocks, has_blocks, inside_only}
-use Rattle.cbm_volume.proofs.held.RecordsRead.{IsBody, is_body, both, relative_of, lies_so}
+use Rattle.cbm_volume.specs.RecordFaults.{relative_of}
+use Rattle.cbm_volume.proofs.held.RecordsRead.{IsBody, is_body, both, lies_so}
 use Rattle.cbm_volume.proofs.layouts.Refusals.{write_hindered}
 use Rattle.cbm_volume.proofs.layouts.Steps.{extends_itself}
 use Rattle.cbm_volume.proofs.written.Storing.{geometry_elsewhere}

@@ -2,6 +2,7 @@
 
 ghost use Rattle.std.specs.Prelude.{◌≤◌, ◌<◌, ◌==◌, ◌^◌, None};
 ghost use Rattle.cbm_volume.specs.RecordWrites.{PutsRecord};
+ghost use Rattle.cbm_volume.specs.RecordFaults.{NoneLacksRecord};
 ghost use Rattle.cbm_volume.specs.Calls.{OnlyOnDisk};
 ghost use Rattle.cbm_relfile.specs.Written.{IsRecordWrite};
 
@@ -27,6 +28,7 @@ impl<M: Medium> Volume<M> {
         ensures put { PutsRecord result (M.seen self.old) (M.seen self.new) slot number position bytes.now }
         ensures write { IsRecordWrite result (M.seen self.old) (M.seen self.new) number }
         ensures only { OnlyOnDisk result (M.seen self.old) (M.seen self.new) }
+        ensures missing { NoneLacksRecord result (M.seen self.old) slot number position }
     {
         write_in_slot(&mut self.medium, slot, number, position, bytes)
     }
@@ -45,6 +47,7 @@ fn write_in_slot<M: Medium>(
     ensures put { PutsRecord result (M.seen medium.old) (M.seen medium.new) slot number position bytes.now }
     ensures write { IsRecordWrite result (M.seen medium.old) (M.seen medium.new) number }
     ensures only { OnlyOnDisk result (M.seen medium.old) (M.seen medium.new) }
+    ensures missing { NoneLacksRecord result (M.seen medium.old) slot number position }
 {
     let geometry = cbm_bam::geometry(medium);
     let Some(entry) = cbm_directory::slot(medium, geometry, slot)? else {

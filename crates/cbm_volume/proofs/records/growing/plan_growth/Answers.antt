@@ -6,7 +6,7 @@ use Rattle.cbm_volume.proofs.copied.CopySteps.{no_trouble}
 use Rattle.cbm_volume.proofs.grown.GrowingPlans.{counted, good_width, is_planned, no_block, too_large}
 use Rattle.cbm_volume.proofs.records_made.RecordsPut.{open_at, open_there}
 use Rattle.cbm_volume.proofs.held.FileMet.{entry_there, met_in_file}
-use Rattle.cbm_volume.proofs.held.RecordsRead.{relative_of}
+use Rattle.cbm_volume.specs.RecordFaults.{relative_of}
 use Rattle.cbm_volume.proofs.records.growing.plan_growth.Goals as goal
 
 -- the directory of a sound disk is whole

@@ -1,4 +1,4 @@
-use Rattle.std.proofs.Common.{rules, ◌≡◌, ap, ◌∙◌}
+use Rattle.std.proofs.Common.{rules, ◌≡◌, ap, refl, ◌∙◌}
 use Rattle.std.specs.Prelude.{option_map, IsOkAnd}
 use Rattle.std.proofs.lemmas.Result.{err_from_is_err_and}
 use Rattle.cbm_medium.proofs.Sequences.{only_nothing}
@@ -7,6 +7,7 @@ use Rattle.cbm_bam.specs.Map.{geometry_of}
 use Rattle.cbm_directory.specs.Entries.{width_of}
 use Rattle.cbm_directory.proofs.Codes.{directory_never_26, directory_shown}
 use Rattle.cbm_volume.proofs.copied.CopySteps.{no_trouble}
+use Rattle.cbm_volume.proofs.held.FileMet.{entry_there, no_entry, bad_width, file_lacks, no_place}
 use Rattle.cbm_volume.proofs.records_made.RecordsPut.{open_at, open_there, bad_place, laid_means, put_means, put_untouched, next_means}
 use Rattle.cbm_volume.proofs.records.writing.write_in_slot.Goals as goal
 
@@ -74,3 +75,20 @@ returns-clause-put g c = λ d uses w b s rs o few.
           (laid_means old new d uses c.args.slot w b s c.args.number c.args.position rs c.args.bytes.now c.in-Some.entry o at c.requires.number.0 c.requires.position few (λ r. r.cut) c.geometry-geometry.result c.new-file.result c.write_record.result c.geometry-geometry.ensures.value
           (c.new-file.ensures ∙ (λ i. record { first = c.first_block.ensures i; side = c.first_side.ensures i; width = c.record_length-length.ensures i })) c.write_record.ensures.laid);
     }
+
+-- None says that the record isn't there
+pub returns-in_default-clause-missing : goal.returns-in_default-clause-missing
+returns-in_default-clause-missing g c = no_entry c.geometry-geometry.result c.args.slot c.args.number c.args.position (g.M.Medium.seen c.args.medium.now) c.in_ok-entry.field-0 c.geometry-geometry.ensures.value c.in_default.is c.in_ok-entry.ensures
+
+pub returns-then-length-eq0-clause-missing : goal.returns-then-length-eq0-clause-missing
+returns-then-length-eq0-clause-missing g c =
+    let now = g.M.Medium.seen c.args.medium.now in
+    bad_width c.args.slot c.args.number c.args.position c.record_length-length.result now c.in-Some.entry
+    (entry_there (geometry_of now.tracks now.content) c.geometry-geometry.result c.args.slot now.content _ c.in-Some.entry c.geometry-geometry.ensures.value c.in-Some.is c.in_ok-entry.ensures) c.record_length-length.ensures (no_place _ _ c.requires.position c.then-length-eq0.either)
+
+pub returns-clause-missing : goal.returns-clause-missing
+returns-clause-missing g c =
+    let now = g.M.Medium.seen c.args.medium.now in
+    file_lacks c.geometry-geometry.result c.args.slot c.args.number c.args.position now now.content c.in-Some.entry c.new-file.result c.write_record.result c.geometry-geometry.ensures.value refl
+    (entry_there (geometry_of now.tracks now.content) c.geometry-geometry.result c.args.slot now.content _ c.in-Some.entry c.geometry-geometry.ensures.value c.in-Some.is c.in_ok-entry.ensures)
+    (c.new-file.ensures ∙ (λ i. record { first = c.first_block.ensures i; side = c.first_side.ensures i; width = c.record_length-length.ensures i })) c.write_record.ensures.missing
