@@ -141,7 +141,7 @@ unentered g c d uses h =
 pub returns-in_err-put_slot-clause-call : goal.returns-in_err-put_slot-clause-call
 returns-in_err-put_slot-clause-call g c = λ d uses h.
     record {
-      done = (search rules);
+      done = rw (err_from_is_err_and c.from_residual-in_err-put_slot.result c.from_residual-in_err-put_slot.ensures.1).1 tt;
       stopped = on_err c.from_residual-in_err-put_slot.result (λ ne plain. stopped_at (g.M.Medium.seen c.args.self.now).tracks (g.M.Medium.seen c.args.self.now).content h.layout (g.M.Medium.seen c.put_slot.new.medium).content d (one_less (grown d)) _ uses h (unentered g c d uses h) (same_files_grown d));
       cause =
           let p = err_from_is_err_and c.from_residual-in_err-put_slot.result c.from_residual-in_err-put_slot.ensures.1 in
