@@ -46,7 +46,7 @@ all_errors (Err t) P Q h p = h t p
 pub no_entry : (geometry n number position : ℕ) (now : Seen) (o : Option (List ℕ)) → geometry ≡ seen_tracks now → o ≡ None → Answers (directory_of geometry now.content) n (Ok o) → SlotLacksRecord now n number position
 no_entry geometry n number position now o same is a =
     inl (subst (λ (k : ℕ). (length (directory_of k now.content).entries ≤ n) × ((directory_of k now.content).trouble ≡ None)) same
-      (subst (λ (x : Option (List ℕ)). Answers (directory_of geometry now.content) n (Ok x)) is a))
+    (subst (λ (x : Option (List ℕ)). Answers (directory_of geometry now.content) n (Ok x)) is a))
 
 -- the length of the records is none, or too short
 pub bad_width : (n number position width : ℕ) (now : Seen) (entry : List ℕ) → slice_get (seen_directory now).entries n ≡ Some entry → width ≡ width_of entry → (width < position) ⊎ (width ≡ 255) → SlotLacksRecord now n number position
