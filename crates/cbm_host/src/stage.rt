@@ -255,7 +255,10 @@ impl Stage {
                     None => Stage::command(moment, attention),
                 }
             }
-            Stage::Framing { mut frame, afterwards } => {
+            Stage::Framing {
+                mut frame,
+                afterwards,
+            } => {
                 frame.make(moment);
                 Stage::Framing { frame, afterwards }
             }

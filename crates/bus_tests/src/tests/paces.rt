@@ -46,13 +46,7 @@ const ROWS: [Row; 24] = [
         20,
         100,
     ),
-    (
-        Waits::PullAfterListener,
-        &[(20, Profile)],
-        &[0x28],
-        20,
-        100,
-    ),
+    (Waits::PullAfterListener, &[(20, Profile)], &[0x28], 20, 100),
     (Waits::PullAfterListener, &[(20, Kernal)], &[0x28], 20, 61),
     (
         Waits::PullAfterListener,
