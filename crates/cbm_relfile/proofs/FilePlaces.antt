@@ -8,21 +8,26 @@ use Rattle.cbm_medium.specs.Met.{IsNamed, MeetsTrouble, place_of}
 use Rattle.cbm_medium.specs.declared.fault.Trouble.{Trouble}
 use Rattle.cbm_medium.proofs.Named.{StartsAmong, named_more}
 use Rattle.cbm_relfile.specs.Records.{Relative}
-use Rattle.cbm_relfile.specs.OfFile.{IsSide, IsOfFile}
+use Rattle.cbm_relfile.specs.OfFile.{IsSide, IsOfFile, IsNamedBlock}
 
 -- the first side sector lists it among the side sectors
 pub side_listed : (tracks : ℕ) (c : Content) (side first q : Place) (head : List ℕ) (n : ℕ) → first ≡ side → Has tracks first → c first ≡ Ok head → n < 6 → q ≡ place_in head (4 + 2 * n) → IsSide tracks c side q
 side_listed tracks c side first q head n is h e l at = subst (λ (p : Place). IsSide tracks c p q) is (inr (head, n, h, e, l, at))
 
 -- a side sector lists it among the blocks
-pub block_listed : (tracks : ℕ) (c : Content) (file : Relative) (p q : Place) (side : List ℕ) (n : ℕ) → IsSide tracks c file.side p → Has tracks p → c p ≡ Ok side → n < 120 → q ≡ place_in side (16 + 2 * n) → IsOfFile tracks c file q
-block_listed tracks c file p q side n s h e l at = inr (inr (p, side, n, s, h, e, l, at))
+pub block_listed : (tracks : ℕ) (c : Content) (file : Relative) (p q : Place) (side : List ℕ) (n : ℕ) → IsSide tracks c file.side p → Has tracks p → c p ≡ Ok side → n < 120 → q ≡ place_in side (16 + 2 * n) → IsNamedBlock tracks c file q
+block_listed tracks c file p q side n s h e l at = inr (p, side, n, s, h, e, l, at)
 
 -- the last one that it lists, or the one before where it lists none
 pub last_listed : (tracks : ℕ) (c : Content) (file : Relative) (p before q : Place) (side : List ℕ) (count : ℕ) → IsSide tracks c file.side p → Has tracks p → c p ≡ Ok side → count ≤ 120
-    → (count ≡ 0 → q ≡ before) → (0 < count → q ≡ place_in side (16 + 2 * (count - 1))) → IsOfFile tracks c file before → IsOfFile tracks c file q
-last_listed tracks c file p before q side zero s h e l none last b = subst (λ (x : Place). IsOfFile tracks c file x) (sym (none refl)) b
+    → (count ≡ 0 → q ≡ before) → (0 < count → q ≡ place_in side (16 + 2 * (count - 1))) → IsNamedBlock tracks c file before → IsNamedBlock tracks c file q
+last_listed tracks c file p before q side zero s h e l none last b = subst (λ (x : Place). IsNamedBlock tracks c file x) (sym (none refl)) b
 last_listed tracks c file p before q side (suc n) s h e l none last b = block_listed tracks c file p q side n s h e (omega (arith, l)) (last (omega arith) ∙ ap (λ (k : ℕ). place_in side (16 + 2 * k)) (omega arith))
+
+-- it is a place of the file
+pub named_of : (tracks : ℕ) (c : Content) (file : Relative) (q : Place) → IsNamedBlock tracks c file q → IsOfFile tracks c file q
+named_of tracks c file q (inl first) = inl first
+named_of tracks c file q (inr listed) = inr (inr listed)
 
 -- no more blocks are left to the block that is wanted than before
 pub last_left : (count left before after number : ℕ) → (count ≡ 0 → after ≡ before) → (0 < count → after ≡ left - (count - 1)) → left ≤ number → before ≤ number → after ≤ number

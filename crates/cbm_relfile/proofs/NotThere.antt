@@ -8,7 +8,7 @@ use Rattle.cbm_medium.specs.declared.fault.Trouble.{Trouble}
 use Rattle.cbm_medium.proofs.Passed.{WalksTo}
 use Rattle.cbm_relfile.specs.Records.{Relative, EndsBefore}
 use Rattle.cbm_relfile.specs.Counting.{ChainEndsBy, BlocksLeadTo}
-use Rattle.cbm_relfile.specs.OfFile.{IsOfFile}
+use Rattle.cbm_relfile.specs.OfFile.{IsNamedBlock}
 use Rattle.cbm_relfile.specs.Missing.{IsBlockMissing, IsBlockReached, IsStretchMissing, IsRecordMissing, IsNextMissing}
 
 -- what a None says says more
@@ -42,7 +42,7 @@ ends_within : (tracks : ℕ) (c : Content) (q : Place) (k number : ℕ) → k �
 ends_within tracks c q k number l (inl s) = inl (omega (arith, l, s))
 ends_within tracks c q k number l (inr e) = inr (e.0, omega (arith, l, e.1), e.2)
 
-pub missing_from : (tracks : ℕ) (c : Content) (file : Relative) (q : Place) (k number : ℕ) → IsOfFile tracks c file q → k ≤ number → ChainEndsBy tracks c q k → IsBlockMissing tracks c file number
+pub missing_from : (tracks : ℕ) (c : Content) (file : Relative) (q : Place) (k number : ℕ) → IsNamedBlock tracks c file q → k ≤ number → ChainEndsBy tracks c q k → IsBlockMissing tracks c file number
 missing_from tracks c file q k number of l e = (q, of, ends_within tracks c q k number l e)
 
 -- the block in which it begins is missing

@@ -5,15 +5,15 @@ use Rattle.cbm_medium.specs.Content.{Content}
 use Rattle.cbm_medium.specs.Links.{link}
 use Rattle.cbm_relfile.specs.Records.{Relative, EndsBefore}
 use Rattle.cbm_relfile.specs.Counting.{ChainEndsBy, BlocksLeadTo}
-use Rattle.cbm_relfile.specs.OfFile.{IsOfFile}
+use Rattle.cbm_relfile.specs.OfFile.{IsNamedBlock}
 
--- A BLOCK IS MISSING: from a place of the file the chain ends by this block's number.
+-- A BLOCK IS MISSING: from a block that the file names the chain ends by this block's number.
 abbrev pub IsBlockMissing : ℕ → Content → Relative → ℕ → Type 0
-IsBlockMissing tracks c file number = (q : Place) × IsOfFile tracks c file q × ChainEndsBy tracks c q number
+IsBlockMissing tracks c file number = (q : Place) × IsNamedBlock tracks c file q × ChainEndsBy tracks c q number
 
--- A BLOCK IS REACHED: from a place of the file at most as many blocks lead to it as its number says.
+-- A BLOCK IS REACHED: from a block that the file names at most as many blocks lead to it as its number says.
 abbrev pub IsBlockReached : ℕ → Content → Relative → ℕ → Place → Type 0
-IsBlockReached tracks c file number at = (q : Place) × (k : ℕ) × IsOfFile tracks c file q × (k ≤ number) × BlocksLeadTo tracks c q k at
+IsBlockReached tracks c file number at = (q : Place) × (k : ℕ) × IsNamedBlock tracks c file q × (k ≤ number) × BlocksLeadTo tracks c q k at
 
 -- A STRETCH IS MISSING, of so many bytes from a place on, counted from the data of a block: in the block where it would begin, this one or
 -- the next, the chain ends before the stretch does; or there is no next block.

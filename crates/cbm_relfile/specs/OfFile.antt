@@ -19,3 +19,7 @@ IsListedBlock tracks c first q =
 -- A PLACE OF A FILE: its first block, one of its side sectors, or a block that one of these lists.
 abbrev pub IsOfFile : ℕ → Content → Relative → Place → Type 0
 IsOfFile tracks c file q = (q ≡ file.first) ⊎ (IsSide tracks c file.side q ⊎ IsListedBlock tracks c file.side q)
+
+-- A BLOCK THAT A FILE NAMES: its first block, or one that a side sector of the file lists.
+abbrev pub IsNamedBlock : ℕ → Content → Relative → Place → Type 0
+IsNamedBlock tracks c file q = (q ≡ file.first) ⊎ IsListedBlock tracks c file.side q

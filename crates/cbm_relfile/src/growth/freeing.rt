@@ -29,6 +29,7 @@ pub fn free_sides<M: Medium>(
     ensures goes { OfSector geometry (M.seen medium.now).content first (λ head.
         AllHave geometry (sides_listed head) → IsOk result) }
     ensures err { MeetsTrouble geometry (M.seen medium.now).content (IsSide geometry (M.seen medium.now).content first) result }
+    ensures reads { OnOk result (IsOk ((M.seen medium.now).content first)) }
 {
     let head = read_at(medium, geometry, first)?;
     for n in 0..6usize {

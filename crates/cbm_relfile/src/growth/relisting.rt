@@ -1,6 +1,6 @@
 // The side sectors of a file are written anew, so that each lists its next 120 blocks.
 
-ghost use Rattle.std.specs.Prelude.{◌≡◌, ◌≢◌, ◌≤◌, ◌<◌, ◌+◌, ◌*◌, ℕ, List, [], true, length, take, drop, slice_index, Ok, IsOk, IfErr, IfOk, IsOkAnd, MatchResult};
+ghost use Rattle.std.specs.Prelude.{◌≡◌, ◌≢◌, ◌≤◌, ◌<◌, ◌+◌, ◌*◌, ℕ, List, [], true, length, take, drop, slice_index, Ok, IsOk, OnOk, IfErr, IfOk, IsOkAnd, MatchResult};
 ghost use Rattle.cbm_medium.specs.Place.{Place, Has, sector_count};
 ghost use Rattle.cbm_medium.specs.Links.{Chain, place_in};
 ghost use Rattle.cbm_medium.specs.Seen.{ShowsGround, OnlyContent};
@@ -209,6 +209,7 @@ pub fn list_anew<M: Medium>(
         IsLaid geometry old.content file xs ss → length ss ≡ sides → AreInForm old.content ss xs →
         IsOk result × ((M.seen medium.new).content ≡ old.content) }
     ensures only { OnlyContent geometry result (M.seen medium.old) (M.seen medium.new) }
+    ensures reads { OnOk result (IsOk ((M.seen medium.old).content file.side)) }
 {
     let head = read_at(medium, geometry, file.side())?;
     if are_listed(medium, geometry, &head, sides, file.first())? {

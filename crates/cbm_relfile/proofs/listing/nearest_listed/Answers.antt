@@ -6,7 +6,7 @@ use Rattle.cbm_relfile.specs.OfFile.{IsOfFile}
 use Rattle.cbm_relfile.specs.SideSectors.{sides_listed, blocks_listed, Numbered, IsNear}
 use Rattle.cbm_relfile.specs.declared.listing.Near.{Near}
 use Rattle.cbm_relfile.proofs.Listed.{near_none, near_ends, next_side, near_here, near_next, same_ok}
-use Rattle.cbm_relfile.proofs.FilePlaces.{side_listed, block_listed, last_listed, last_left}
+use Rattle.cbm_relfile.proofs.FilePlaces.{side_listed, block_listed, last_listed, last_left, named_of}
 use Rattle.cbm_relfile.proofs.listing.nearest_listed.Goals as goal
 
 -- no side sector is left
@@ -60,8 +60,8 @@ returns-clause-listed g c = λ head has at num.
     subst (λ (h : List ℕ). IsNear c.args.file.first (blocks_listed (g.M.Medium.seen c.args.medium.now).content (sides_listed h)) c.args.number c.loop-n.near.at c.loop-n.near.left) same
     (near_ends c.args.geometry (g.M.Medium.seen c.args.medium.now).content c.args.file.width c.args.file.first c.in_ok-head.head c.loop-n.n c.loop-n.left c.args.number c.loop-n.near.at c.loop-n.near.left now c.loop-n-test.false)
 
-pub returns-then-left-count-clause-place : goal.returns-then-left-count-clause-place
-returns-then-left-count-clause-place g c =
+pub returns-then-left-count-clause-block : goal.returns-then-left-count-clause-block
+returns-then-left-count-clause-block g c =
     block_listed c.args.geometry (g.M.Medium.seen c.args.medium.now).content c.args.file c.new-at.result c.block_in.result c.in_ok-side.side c.loop-n.left
     (side_listed c.args.geometry (g.M.Medium.seen c.args.medium.now).content c.args.file.side c.side-first.result c.new-at.result c.in_ok-head.head c.loop-n.n c.side-first.ensures c.in_ok-head.ensures.has c.in_ok-head.ensures.ok c.loop-n-test.true c.new-at.ensures)
     (c.in_ok-side.ensures.has c.in_ok-head.ensures.has) c.in_ok-side.ensures.ok (omega (arith, c.if-left-count.true, c.listed_count-count.ensures.most)) c.block_in.ensures
@@ -83,3 +83,18 @@ returns-then-is_end-clause-left g c = c.loop-n.invariant.near_few
 
 pub returns-clause-left : goal.returns-clause-left
 returns-clause-left g c = c.loop-n.invariant.near_few
+
+pub returns-then-is_end-clause-place : goal.returns-then-is_end-clause-place
+returns-then-is_end-clause-place g c = named_of c.args.geometry (g.M.Medium.seen c.args.medium.now).content c.args.file c.loop-n.near.at c.loop-n.invariant.place
+
+pub returns-then-left-count-clause-place : goal.returns-then-left-count-clause-place
+returns-then-left-count-clause-place g c = named_of c.args.geometry (g.M.Medium.seen c.args.medium.now).content c.args.file c.block_in.result (returns-then-left-count-clause-block g c)
+
+pub returns-clause-place : goal.returns-clause-place
+returns-clause-place g c = named_of c.args.geometry (g.M.Medium.seen c.args.medium.now).content c.args.file c.loop-n.near.at c.loop-n.invariant.place
+
+pub returns-then-is_end-clause-block : goal.returns-then-is_end-clause-block
+returns-then-is_end-clause-block g c = c.loop-n.invariant.place
+
+pub returns-clause-block : goal.returns-clause-block
+returns-clause-block g c = c.loop-n.invariant.place
