@@ -1,5 +1,5 @@
 -- How many blocks a walk along a chain has counted, and where it has come to.
-use Rattle.std.specs.Prelude.{ℕ, ◌≤◌, ◌≡◌, ◌≢◌, ◌⊎◌, List, length}
+use Rattle.std.specs.Prelude.{ℕ, ◌≤◌, ◌≡◌, ◌≢◌, ◌⊎◌, List, length, IsOk}
 use Rattle.cbm_medium.specs.Place.{Place, sector_count}
 use Rattle.cbm_medium.specs.Content.{Content}
 use Rattle.cbm_medium.specs.Links.{LinksLead}
@@ -22,3 +22,7 @@ pub record BlocksLeadTo (tracks : ℕ) (c : Content) (first : Place) (number : �
   pub count : length blocks ≡ number
   pub leads : LinksLead tracks c first blocks at
   pub going : at.track ≢ 0
+
+-- A BLOCK IS THERE by its number, counted from 0: so many blocks lead to its place, and it reads.
+abbrev pub IsBlockThere : ℕ → Content → Place → ℕ → Type 0
+IsBlockThere tracks c first number = (at : Place) × BlocksLeadTo tracks c first number at × IsOk (c at)

@@ -6,7 +6,8 @@ ghost use Rattle.cbm_medium.specs.Links.{link, Chain};
 ghost use Rattle.cbm_medium.specs.Met.{IsMetFrom, place_of};
 ghost use Rattle.cbm_medium.specs.Seen.{ShowsGround, OnlyContent};
 ghost use Rattle.cbm_chain.specs.Data.{chain_bytes};
-ghost use Rattle.cbm_relfile.specs.Records.{AllWhole, IsLaid};
+ghost use Rattle.cbm_relfile.specs.Records.{OfRelative};
+ghost use Rattle.cbm_relfile.specs.Counting.{BlocksLeadTo, IsBlockThere};
 ghost use Rattle.cbm_relfile.specs.Filling.{IsTailFilled, IsFilledUp, IsFillStopped};
 ghost use Rattle.cbm_relfile.specs.Changing.{IsWriteRefused};
 
@@ -35,6 +36,7 @@ fn block_there<M: Medium>(
         ((t.code ≡ 71) × (place_of t ≡ first))) }
     ensures never_26 { IfErr result (λ t. t.code ≢ 26) }
     ensures shown { IfErr result (ShowsGround (M.seen medium.now)) }
+    ensures led { IfOk result (λ r. BlocksLeadTo geometry (M.seen medium.now).content first number r.0) }
 {
     let Some(at) = nth_block(medium, geometry, first, number)? else {
         return Err(first.trouble(ENDLESS_CHAIN));
@@ -64,6 +66,9 @@ fn fill_tail<M: Medium>(
         MatchResult result (λ x. IsTailFilled old.content new.content xs file.width from)
         (λ t. (new.content ≡ old.content) × IsWriteRefused geometry old new t.code) }
     ensures only { OnlyContent geometry result (M.seen medium.old) (M.seen medium.new) }
+    // No fresh record begins in the block before, or it is there.
+    ensures reads { OnOk result ((254 * (blocks - 1) ≤ from) ⊎
+        IsBlockThere geometry (M.seen medium.old).content file.first (blocks - 2)) }
 {
     if 254 * (blocks as u32 - 1) <= from {
         return Ok(());
@@ -89,19 +94,16 @@ pub fn fill_up<M: Medium>(
     requires tracks { geometry ≤ (M.seen medium.old).tracks }
     requires length { (1 ≤ file.width) × (file.width ≤ 254) }
     requires some { 1 ≤ blocks }
-    ensures laid { let old = M.seen medium.old in let new = M.seen medium.new in (xs sides : List Place) →
-        AllWhole old.content → IsLaid geometry old.content file xs sides → length xs ≤ sector_count geometry →
-        length xs ≡ blocks →
-        MatchResult result
-        (λ at. (at ≡ slice_index_or xs (blocks - 1) directory_head) ×
-        IsFilledUp old.content new.content xs file.width)
-        (λ t. IsFillStopped geometry old new xs file.width t.code) }
-    ensures full { let old = M.seen medium.old in (xs sides : List Place) →
-        AllWhole old.content → IsLaid geometry old.content file xs sides → length xs ≤ sector_count geometry →
-        length xs ≡ blocks → length (chain_bytes old.content xs) ≡ 254 * blocks →
-        IsOk result × ((M.seen medium.new).content ≡ old.content) }
+    ensures laid { let old = M.seen medium.old in let new = M.seen medium.new in
+        OfRelative geometry old.content file (λ xs sides. length xs ≡ blocks → MatchResult result
+        (λ at. (at ≡ slice_index_or xs (blocks - 1) directory_head) × IsFilledUp old.content new.content xs file.width)
+        (λ t. IsFillStopped geometry old new xs file.width t.code)) }
+    ensures full { let old = M.seen medium.old in OfRelative geometry old.content file (λ xs sides. length xs ≡ blocks →
+        length (chain_bytes old.content xs) ≡ 254 * blocks →
+        IsOk result × ((M.seen medium.new).content ≡ old.content)) }
     ensures bound { IfOk result (λ at. Has geometry at) }
     ensures only { OnlyContent geometry result (M.seen medium.old) (M.seen medium.new) }
+    ensures led { IfOk result (BlocksLeadTo geometry (M.seen medium.old).content file.first (blocks - 1)) }
 {
     let number = blocks - 1;
     let (at, sector) = block_there(medium, geometry, file.first(), number as u32)?;
