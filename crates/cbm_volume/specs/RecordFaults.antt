@@ -46,6 +46,6 @@ SlotLacksRecord now slot number position =
     ((length (seen_directory now).entries ≤ slot) × ((seen_directory now).trouble ≡ None))
     ⊎ ((entry : List ℕ) × (slice_get (seen_directory now).entries slot ≡ Some entry) × LacksRecord (seen_tracks now) now.content entry number position)
 
--- None says so.
+-- THAT THE RECORD ISN'T THERE is answered only where the slot has no such record.
 abbrev pub NoneLacksRecord : {A : Type 0} → Result (Option A) Trouble → Seen → ℕ → ℕ → ℕ → Type 0
 NoneLacksRecord result now slot number position = IfOk result (λ o. IfNone o (SlotLacksRecord now slot number position))
