@@ -1,5 +1,6 @@
 -- From the disk of an image to the image, where an entry is cleared.
-use Rattle.std.proofs.Common.{◌≡◌, ℕ, List, sym, subst}
+use Rattle.std.proofs.Common.{◌≡◌, ℕ, List, Ok, Err, sym, subst}
+use Rattle.std.specs.Prelude.{Result, IfOk}
 use Rattle.cbm_medium.specs.Content.{Content}
 use Rattle.cbm_medium.specs.Seen.{Seen}
 use Rattle.cbm_bam.specs.Map.{geometry_of}
@@ -8,7 +9,8 @@ use Rattle.cbm_volume.specs.declared.Unsound.{Unsound}
 use Rattle.cbm_directory.specs.EntryChanges.{ClearsLed}
 use Rattle.cbm_image.specs.declared.kind.Kind.{Kind}
 use Rattle.cbm_image.specs.Images.{kind_of, tracks_of, content_of}
-use Rattle.cbm_shell.specs.Images.{IsImageOpened}
+use Rattle.cbm_shell.specs.declared.fault.ShellFault.{ShellFault}
+use Rattle.cbm_shell.specs.Images.{IsImageOpened, IsSaved}
 use Rattle.cbm_shell.specs.Forgetting.{IsForgotten}
 use Rattle.cbm_shell.proofs.ImageLemmas.{of_image}
 
@@ -18,3 +20,9 @@ pub forgot : (image new : List ℕ) (seen : Seen) (kind : Kind) (slot : ℕ) (u 
 forgot image new seen kind slot u opened same fault cleared =
     subst (λ (k : Kind). IsForgotten (geometry_of (tracks_of (kind_of image) image) (content_of (kind_of image) image)) (content_of (kind_of image) image) (content_of k new) slot) (sym same)
     (of_image (λ (n : ℕ) (c : Content). IsForgotten (geometry_of n c) c (content_of kind new) slot) image seen opened (record { fault = u; unsound = fault; cleared = cleared }))
+
+-- the image of the disk that is left
+pub image_cleared : {A : Type 0} (items : A → List ℕ) (kind : Kind) (tracks slot : ℕ) (old : Content) (seen : Seen) (r : Result A ShellFault) → IfOk r (λ v. IsSaved kind (items v) seen) → ClearsLed tracks old seen.content slot
+    → IfOk r (λ v. ClearsLed tracks old (content_of kind (items v)) slot)
+image_cleared items kind tracks slot old seen (Ok v) s h = subst (λ c. ClearsLed tracks old c slot) s.same_content h
+image_cleared items kind tracks slot old seen (Err f) s h = tt
