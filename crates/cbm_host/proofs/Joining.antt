@@ -12,7 +12,7 @@ use Rattle.cbm_iec.specs.declared.lines.Change.{Change}
 use Rattle.cbm_iec.specs.declared.party.Party.{Party}
 use Rattle.cbm_session.proofs.headline.Keeping.{HostFrom, Adopted, AllAtMoment, changes_at, events_append}
 use Rattle.cbm_session.proofs.headline.LawsMet.{next_met, soon_met}
-use Rattle.cbm_session.proofs.headline.PutOff.{goes_rest}
+use Rattle.cbm_session.proofs.joining.Merging.{goes_after}
 use Rattle.cbm_session.proofs.timing.SessionOrder.{goes_on}
 use Rattle.cbm_session.specs.Answers.{Allowed}
 use Rattle.cbm_session.specs.Following.{IsInTime}
@@ -48,10 +48,6 @@ after_the_host t s ss w l g = (λ k. omega (arith, l), from_host (suc t) (moment
 
 pub after_a_drive : (t d : ℕ) (s : Step) (ss : List Step) → s.event.who ≡ Drive d → t ≤ moment_of s → GoesOn (s ∷ ss) → HostFrom (suc t) (s ∷ ss)
 after_a_drive t d s ss w l g = (λ k. (let no : is_host (Drive d) ≡ true = ap is_host (sym w) ∙ k in absurd cc), from_drive (suc t) d (moment_of s) ss (omega (arith, l)) (subst (λ (v : Who). AllAfter v (moment_of s) ss) w g.0))
-
--- a session is ordered after any front of it
-pub front_goes : (xs ys : List Step) → GoesOn (xs ++ ys) → GoesOn ys
-front_goes xs ys g = goes_rest xs ys g
 
 -- a list of steps that ends where its events do
 pub split_steps : (done : List Step) (f1 f2 : List Event) → events_of done ≡ f1 ++ f2 → (d1 : List Step) × (d2 : List Step) × (done ≡ d1 ++ d2) × (events_of d1 ≡ f1) × (events_of d2 ≡ f2)
@@ -128,7 +124,7 @@ module _ (M : Type 0) (step : M → Act → M) (peek : M → Option (ℕ × Bool
     all_steps = session_steps (rest (b ∷ [])) ks
 
     pub order : (done more : List Step) → all_steps ≡ done ++ more → GoesOn more
-    order done more e = goes_rest done more (subst GoesOn e (goes_on (b ∷ []) ks is_bus linked))
+    order done more e = goes_after done more (subst GoesOn e (goes_on (b ∷ []) ks is_bus linked))
 
     -- where nothing is due before a moment, the session's next change of the drive isn't before it either
     pub no_sooner : (done : List Step) (s : Step) (more : List Step) (d n u : ℕ) (ss : List (Station M)) → all_steps ≡ done ++ s ∷ more → s.event.who ≡ Drive d → Plays M step peek zero ss0 (events_of done) n ss → AllInTime M step peek u ss → u ≤ moment_of s

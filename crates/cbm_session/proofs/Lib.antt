@@ -8,3 +8,4 @@ pub mod headline
 pub mod handed
 pub mod loose
 mod Paces
+mod Truths

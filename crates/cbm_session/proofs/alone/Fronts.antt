@@ -8,7 +8,7 @@ use Rattle.cbm_iec.specs.declared.event.Who.TheVariants.{Host}
 use Rattle.cbm_iec.specs.declared.lines.Line.TheVariants.{Clock, Data}
 use Rattle.cbm_iec.specs.declared.port.Port.{Port}
 use Rattle.cbm_session.proofs.alone.Pieces.{follows_pieces}
-use Rattle.cbm_session.proofs.joining.Merging.{NoneBefore, InOrder, order_merge, cut_front, AllBefore, front_before}
+use Rattle.cbm_session.proofs.joining.Merging.{NoneBefore, InOrder, order_merge, cut_front, AllBefore, front_before, before_after}
 use Rattle.cbm_session.proofs.joining.Orders.{host_order}
 use Rattle.cbm_session.proofs.joining.Owning.{part_order}
 use Rattle.cbm_session.specs.Following.{IsInTime, IsLater, own_steps, reaction_steps, Follows, alone, FollowsFronts, ends, tells, reacts}
@@ -102,15 +102,11 @@ follows_front peek c y ys n {q} (tells {t} {line} {way} {mark} {ss} i k g) (x �
 follows_front peek c y ys n {q} (reacts t more d e sh l g) front h f =
     elim (parted c t (reaction_steps t peek q) more front (y ∷ ys) (reaction_at t peek q) (sym e ∙ h) f n) [
       | inl z ↦ (
-          let r = follows_front peek c y ys n g z.0 z.2 (afterwards (reaction_steps t peek q) z.0 (subst (AllBefore c) z.1 f)) in
+          let r = follows_front peek c y ys n g z.0 z.2 (before_after c (reaction_steps t peek q) z.0 (subst (AllBefore c) z.1 f)) in
           (r.0, (reacts t z.0 d z.1 sh (later_front t more z.0 (y ∷ ys) z.2 l) r.1.0, r.1.1))
           )
       | inr z ↦ (q, (subst (λ (zs : List Step). Follows peek q zs q) (sym z.0) (ends refl), subst (IsInTime c) (sym d) z.1))
     ]
-  where
-    afterwards : (xs zs : List Step) → AllBefore c (xs ++ zs) → AllBefore c zs
-    afterwards [] zs a = a
-    afterwards (x ∷ xs) zs a = afterwards xs zs a.1
 
 -- where some step isn't before, the rest after the cut isn't empty
 pub some_back : (c : ℕ) (ss : List Step) → AllBefore c ss → some_from c ss ≡ false

@@ -50,11 +50,11 @@ insert_host x xs (y ∷ front) rest n = elim (leb_tells (moment_of x) (moment_of
       )
 ]
 
-every_left : (P : Step → Type 0) (xs ys : List Step) → Every P (xs ++ ys) → Every P xs
+pub every_left : (P : Step → Type 0) (xs ys : List Step) → Every P (xs ++ ys) → Every P xs
 every_left P [] ys a = tt
 every_left P (x ∷ xs) ys a = (a.0, every_left P xs ys a.1)
 
-every_right : (P : Step → Type 0) (xs ys : List Step) → Every P (xs ++ ys) → Every P ys
+pub every_right : (P : Step → Type 0) (xs ys : List Step) → Every P (xs ++ ys) → Every P ys
 every_right P [] ys a = a
 every_right P (x ∷ xs) ys a = every_right P xs ys a.1
 

@@ -13,11 +13,11 @@ use Rattle.cbm_session.proofs.alone.Frames.{wires, stands}
 use Rattle.cbm_session.proofs.among.Bits.{quiet}
 use Rattle.cbm_session.proofs.among.Changes.{Changes, all_change, in_order, none_ready, last_is}
 use Rattle.cbm_session.proofs.among.Frames.{in_hold, holds, body_follows, ready_follows, each_sits, frame_among}
-use Rattle.cbm_session.proofs.among.Pulses.{pulls, frees, all_free, frees_order, frees_late, all_pull, pulls_first, all_sooner, come_after, pulls_follow, pulsing_follows, sharing, pulsing, noting}
+use Rattle.cbm_session.proofs.among.Pulses.{pulls, frees, all_free, frees_order, frees_late, all_pull, pulls_first, come_after, pulls_follow, pulsing_follows, sharing, pulsing, noting}
 use Rattle.cbm_session.proofs.among.Releases.{freeing_follows}
 use Rattle.cbm_session.proofs.frames.Accepted.{listen_react}
 use Rattle.cbm_session.proofs.frames.Phases.{ReactsBy, react_by, lasts_by, bytes_go_in_parts}
-use Rattle.cbm_session.proofs.joining.Merging.{none_sooner}
+use Rattle.cbm_session.proofs.joining.Merging.{none_sooner, all_sooner}
 use Rattle.cbm_session.proofs.joining.Seating.{Sits}
 use Rattle.cbm_session.proofs.joining.Talkers.{sits_listeners}
 use Rattle.cbm_session.specs.Among.{FollowsAmong, tells}

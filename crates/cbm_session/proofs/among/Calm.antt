@@ -43,7 +43,7 @@ CalmData side = (r m : ℕ) (a c u v : Bool) → (lined_side r m (wires a c u) (
 pub calm_data : (side : Side) → Calm side → CalmData side
 calm_data side h r m a c u v = h r m a c c u v
 
-either : (v : Bool) (x y : Ear) → x ≡ y → (if v then y else x) ≡ y
+pub either : (v : Bool) (x y : Ear) → x ≡ y → (if v then y else x) ≡ y
 either true x y e = refl
 either false x y e = e
 
@@ -224,7 +224,7 @@ module _ (peek : Option (ℕ × Bool)) (b : Party) (role : Role) (own : Held) (s
       hears w i (subst (λ (x : Option Act). CountsFor b.device mark x) (sym k.1) m) (subst (λ (x : Port). FollowsAmong peek (after_another line way r) x ss r2 q2) (sym k.0) g)
 
 -- other drives change nothing of what the host holds
-other_host : (line : Line) (way : Way) (r : Rest) → (after_another line way r).host ≡ r.host
+pub other_host : (line : Line) (way : Way) (r : Rest) → (after_another line way r).host ≡ r.host
 other_host Atn way r = refl
 other_host Clock way r = refl
 other_host Data way r = refl

@@ -18,15 +18,15 @@ use Rattle.cbm_session.proofs.alone.Sessions.{keep_host, host_of, lines_by, held
 use Rattle.cbm_session.proofs.among.Alternating.{Alters, Makes, makes_front, SeatMakes, part_makes, host_lines, whole_lines}
 use Rattle.cbm_session.proofs.among.Standing.{IsSound, rest_next, rest_afterwards}
 use Rattle.cbm_session.proofs.frames.Phases.{Each, each, before_merge, merge_split}
-use Rattle.cbm_session.proofs.joining.Merging.{merge_nil, by_head, InOrder, none_merge, order_merge, before_yes, before_no, cut_front, front_before, cut_is}
+use Rattle.cbm_session.proofs.joining.Merging.{merge_nil, by_head, InOrder, none_merge, before_yes, before_no, cut_front, front_before, cut_is}
 use Rattle.cbm_session.proofs.joining.Orders.{host_order}
 use Rattle.cbm_session.proofs.joining.Owning.{AllOwned, part_owned, part_order, owned_mine, host_mine}
 use Rattle.cbm_session.proofs.joining.Seating.{Sits}
-use Rattle.cbm_session.proofs.joining.Showing.{AllMine}
+use Rattle.cbm_session.proofs.joining.Showing.{AllMine, order_all}
 use Rattle.cbm_session.proofs.joining.Talkers.{standing_drives}
 use Rattle.cbm_session.proofs.reading.Decoding.{IsMine, IsAnothers, Shows}
 use Rattle.cbm_session.proofs.reading.OneReading.{piece_shows}
-use Rattle.cbm_session.proofs.reading.PieceReadings.{next_seat}
+use Rattle.cbm_session.proofs.reading.PieceReadings.{next_seat, next_seats}
 use Rattle.cbm_session.specs.Among.{Rest, counted, after_another}
 use Rattle.cbm_session.specs.Buses.{is_held, one_where, holding, rest_at}
 use Rattle.cbm_session.specs.Following.{in_attention}
@@ -222,10 +222,6 @@ cut_merge c xs ys a b =
     ∙ ap (λ (zs : List Step). before c zs) (merge_split c (before c xs) x.0 (before c ys) y.0 (front_before c xs) x.2 (front_before c ys) y.2)
     ∙ cut_is c (merge (before c xs) (before c ys)) (merge x.0 y.0) (before_merge c (before c xs) (before c ys) (front_before c xs) (front_before c ys)) (none_merge c x.0 y.0 x.2 y.2)
 
-pub order_all : (own : Seat → List Step) → ((x : Seat) → InOrder (own x)) → (l : List Step) (xs : List Seat) → InOrder l → InOrder (merge_all l (map own xs))
-order_all own f l [] o = o
-order_all own f l (x ∷ xs) o = order_merge l (merge_all (own x) (map own xs)) o (order_all own f (own x) xs (f x))
-
 pub cut_all : (c : ℕ) (own : Seat → List Step) → ((x : Seat) → InOrder (own x)) → (l : List Step) (xs : List Seat) → InOrder l → before c (merge_all l (map own xs)) ≡ merge_all (before c l) (map (λ x. before c (own x)) xs)
 cut_all c own f l [] o = refl
 cut_all c own f l (x ∷ xs) o =
@@ -272,17 +268,6 @@ host_steps d p w s h t =
     shown_host d (steps_of p w) (merge (host_part p w) (own_part p w s)) (piece_shows d p w s h t)
     ∙ host_merge (device s) (host_part p w) (own_part p w s) (all_host (host_part p w) (host_mine 0 p w) (host_mine 1 p w)) (part_owned p w s)
 
--- the seats after a whole piece
-whole_seats : (p : Point) (w : Whole) → (whole_point p w).seats ≡ map (λ x. next_seat w x) p.seats
-whole_seats p (PullPiece at) = refl
-whole_seats p (Command f) = refl
-whole_seats p (Byte eoi f) = refl
-whole_seats p (ToListener at) = refl
-whole_seats p (ToNobody at clock) = refl
-whole_seats p (ToTalker at clock) = refl
-whole_seats p (Nothing at clock freed) = refl
-whole_seats p (Talk at f) = refl
-
 next_device : (w : Whole) → KeepsDevices (λ x. next_seat w x)
 next_device (PullPiece at) x = refl
 next_device (Command f) x = refl
@@ -324,7 +309,7 @@ rest_after p s (Full w) i h =
     count : (line : Line) → counted_by (device s) line (holding line (device s) p.seats) (steps_of p w) ≡ holding line (device s) (whole_point p w).seats
     count line =
         counts_all (device s) line (λ x. own_part p w x) (λ x. next_seat w x) (next_device w) (host_part p w) p.seats (host_mine (device s) p w) (whole_turns p w s i h)
-        ∙ ap (λ (xs : List Seat). holding line (device s) xs) (sym (whole_seats p w))
+        ∙ ap (λ (xs : List Seat). holding line (device s) xs) (sym (next_seats p w))
 rest_after p s (Cut w c) i h =
     let d = device s in
     let ss = before c (steps_of p w) in

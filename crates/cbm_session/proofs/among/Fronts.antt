@@ -13,10 +13,11 @@ use Rattle.cbm_iec.specs.declared.port.Port.{Port}
 use Rattle.cbm_session.proofs.alone.Fronts.{reaction_at, in_time_le, head_is, tail_is, not_nil, parted, some_back}
 use Rattle.cbm_session.proofs.alone.Sessions.{keep_own, own_of, reaction_own, NoAttention, no_left, no_right, no_merge, no_before, reaction_role, AllHost, cut_host, cut_silent}
 use Rattle.cbm_session.proofs.among.Standing.{IsSound, Result, rest_afterwards}
-use Rattle.cbm_session.proofs.joining.Merging.{merge_here, merge_there, merge_nil, NoneBefore, InOrder, by_head, order_merge, before_yes, before_no, cut_front, AllBefore, front_before}
+use Rattle.cbm_session.proofs.joining.Merging.{merge_here, merge_there, merge_nil, NoneBefore, InOrder, by_head, before_yes, before_no, cut_front, AllBefore, front_before, before_after}
 use Rattle.cbm_session.proofs.joining.Orders.{host_order}
 use Rattle.cbm_session.proofs.joining.Owning.{AllOwned, part_owned, part_order}
 use Rattle.cbm_session.proofs.joining.Seating.{Apart, Sits}
+use Rattle.cbm_session.proofs.joining.Showing.{order_all}
 use Rattle.cbm_session.specs.Among.{Rest, wires_of, after_another, FirstIsAfter, FollowsAmong, ends, tells, hears, reacts}
 use Rattle.cbm_session.specs.Buses.{rest_at, StandsAmong}
 use Rattle.cbm_session.specs.Following.{IsInTime, own_step, own_steps, reaction_steps}
@@ -206,10 +207,6 @@ module _ (own : Seat → List Step) (owned : (x : Seat) → AllOwned (device x) 
       ∙ ap own h.0
   mine_parts d l (x ∷ xs) s a (inr h) = mine_after d l (merge_all (own x) (map own xs)) a ∙ mine_parts d (own x) xs s (none_of_other d (device x) (own x) h.0 (owned x)) h.1
 
-  pub all_in_order : ((x : Seat) → InOrder (own x)) → (l : List Step) (xs : List Seat) → InOrder l → InOrder (merge_all l (map own xs))
-  all_in_order f l [] o = o
-  all_in_order f l (x ∷ xs) o = order_merge l (merge_all (own x) (map own xs)) o (all_in_order f (own x) xs (f x))
-
   no_all : ((x : Seat) → NoAttention (own x)) → (l : List Step) (xs : List Seat) → NoAttention l → NoAttention (merge_all l (map own xs))
   no_all f l [] a = a
   no_all f l (x ∷ xs) a = no_merge l (merge_all (own x) (map own xs)) a (no_all f (own x) xs (f x))
@@ -257,15 +254,11 @@ among_front peek c y ys n {r} {r2} {q} (hears {o} {t} {line} {way} {mark} {ss} a
 among_front peek c y ys n {r} {r2} {q} (reacts t more d e sh l g) front h f =
     elim (parted c t (reaction_steps t peek q) more front (y ∷ ys) (reaction_at t peek q) (sym e ∙ h) f n) [
       | inl z ↦ (
-          let u = among_front peek c y ys n g z.0 z.2 (afterwards (reaction_steps t peek q) z.0 (subst (AllBefore c) z.1 f)) in
+          let u = among_front peek c y ys n g z.0 z.2 (before_after c (reaction_steps t peek q) z.0 (subst (AllBefore c) z.1 f)) in
           (u.0, (u.1.0, (reacts t z.0 d z.1 sh (after_a_front t more z.0 (y ∷ ys) z.2 l) u.1.1.0, u.1.1.1)))
           )
       | inr z ↦ (r, (q, (subst (λ (zs : List Step). FollowsAmong peek r q zs r q) (sym z.0) (ends refl refl), subst (IsInTime c) (sym d) z.1)))
     ]
-  where
-    afterwards : (xs zs : List Step) → AllBefore c (xs ++ zs) → AllBefore c zs
-    afterwards [] zs a = a
-    afterwards (x ∷ xs) zs a = afterwards xs zs a.1
 
 -- what is followed in order, with some step at a moment or after it, is followed up to that moment
 pub among_cut : (peek : Option (ℕ × Bool)) (c : ℕ) (r r2 : Rest) (q q2 : Port) (ss : List Step) → FollowsAmong peek r q ss r2 q2 → InOrder ss → some_from c ss ≡ true
@@ -289,7 +282,7 @@ pub record CutResult (p : Point) (s : Seat) (w : Whole) (c : ℕ) (q : Port) (pe
   pub side : IsInTime c (port_due port)
 
 pub steps_order : (p : Point) (w : Whole) → Fits p w → InOrder (steps_of p w)
-steps_order p w f = all_in_order (λ x. own_part p w x) (part_owned p w) (part_order p w f) (host_part p w) p.seats (host_order p w f)
+steps_order p w f = order_all (λ x. own_part p w x) (part_order p w f) (host_part p w) p.seats (host_order p w f)
 
 steps_silent : (p : Point) (w : Whole) (s : Seat) (c : ℕ) → CutFits p w c → NoAttention (steps_of p w)
 steps_silent p w s c k =

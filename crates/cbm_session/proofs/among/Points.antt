@@ -55,9 +55,9 @@ each_map : (P : Seat → Type 0) (f : Seat → Seat) (ss : List Seat) → Each (
 each_map P f [] h = tt
 each_map P f (x ∷ xs) h = (h.0, each_map P f xs h.1)
 
-pub every_seat : (P : Seat → Type 0) (ss : List Seat) → ((x : Seat) → P x) → Each P ss
-every_seat P [] f = tt
-every_seat P (x ∷ xs) f = (f x, every_seat P xs f)
+pub each_seat : (P : Seat → Type 0) (ss : List Seat) → ((x : Seat) → P x) → Each P ss
+each_seat P [] f = tt
+each_seat P (x ∷ xs) f = (f x, each_seat P xs f)
 
 pub both_each : (P Q : Seat → Type 0) (ss : List Seat) → Each P ss → Each Q ss → Each (λ x. P x × Q x) ss
 both_each P Q [] a b = tt
@@ -120,8 +120,8 @@ stand_by : (P : Seat → Type 0) (place : BusPlace) (f : Seat → Seat) (ss : Li
 stand_by P place f ss g h = each_map (StandsSo place) f ss (each P (λ x. StandsSo place (f x)) ss g h)
 
 whole_own : (p : Point) (w : Whole) → Each (StandsSo p.place) p.seats → Fits p w → Each (StandsSo (whole_point p w).place) (whole_point p w).seats
-whole_own p (PullPiece at) o h = each_map (StandsSo (Commanding false)) (λ x. seat_with x.role (lines false true) x) p.seats (every_seat (λ x. StandsSo (Commanding false) (seat_with x.role (lines false true) x)) p.seats (λ (x : Seat). refl))
-whole_own p (Command f) o h = each_map (StandsSo (Commanding true)) (λ x. obeying (byte_in_cells f.cells) x) p.seats (every_seat (λ x. StandsSo (Commanding true) (obeying (byte_in_cells f.cells) x)) p.seats (λ (x : Seat). refl))
+whole_own p (PullPiece at) o h = each_map (StandsSo (Commanding false)) (λ x. seat_with x.role (lines false true) x) p.seats (each_seat (λ x. StandsSo (Commanding false) (seat_with x.role (lines false true) x)) p.seats (λ (x : Seat). refl))
+whole_own p (Command f) o h = each_map (StandsSo (Commanding true)) (λ x. obeying (byte_in_cells f.cells) x) p.seats (each_seat (λ x. StandsSo (Commanding true) (obeying (byte_in_cells f.cells) x)) p.seats (λ (x : Seat). refl))
 whole_own p (Byte eoi f) o h =
     stand_by (StandsSo Listening) Listening (λ x. standing (lines false false) x) p.seats (λ (x : Seat) (k : StandsSo Listening x). listening_own x (hears_own x.role x.own k))
     (subst (λ (q : BusPlace). Each (StandsSo q) p.seats) h.0 o)
@@ -195,7 +195,7 @@ cut_sound p s w c g h =
       seated = record { sits = k.0; one = k.1; apart = k.2 };
       some = g.some;
       react = react_map kept p.seats (λ (x : Seat). refl) g.react;
-      own = each_map (StandsSo (Cutting c)) kept p.seats (every_seat (λ x. StandsSo (Cutting c) (kept x)) p.seats (λ (x : Seat). tt));
+      own = each_map (StandsSo (Cutting c)) kept p.seats (each_seat (λ x. StandsSo (Cutting c) (kept x)) p.seats (λ (x : Seat). tt));
       host = tt;
     }
 

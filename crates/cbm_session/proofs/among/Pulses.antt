@@ -3,7 +3,7 @@ use Rattle.cbm_session.specs.Frames.{lasting}
 use Rattle.cbm_session.proofs.Paces.{pulse_from}
 use Rattle.cbm_session.proofs.joining.Seating.{Apart, Sits}
 use Rattle.cbm_iec.specs.Profile.{eoi_pulse}
-use Rattle.std.proofs.Common.{◌≡◌, ℕ, zero, suc, ◌+◌, ◌≤◌, Bool, true, false, List, [], ◌∷◌, ◌++◌, length, map, inl, inr, Option, ap, ◌∙◌, subst, arith, refl}
+use Rattle.std.proofs.Common.{◌≡◌, ℕ, zero, suc, ◌+◌, Bool, true, false, List, [], ◌∷◌, ◌++◌, length, map, inl, inr, Option, ap, ◌∙◌, subst, arith, refl}
 use Rattle.cbm_iec.specs.declared.ear.Ear.TheVariants.{Timed, Pulsing, EoiNoted}
 use Rattle.cbm_iec.specs.declared.lines.Way.TheVariants.{Pull, Free}
 use Rattle.cbm_iec.specs.declared.lines.Way.{Way}
@@ -83,10 +83,6 @@ frees_order t x xs = subst InOrder (late_frees t x xs) (in_order Free (λ o. Pla
 
 pub frees_late : (hs : List Seat) (t : ℕ) → SeatsReact hs → NoneBefore (t + 261) (frees hs t)
 frees_late hs t r = none_all (t + 261) [] (λ s. free_part t s) hs tt (frees_none hs t r)
-
-pub all_sooner : (m n : ℕ) (ss : List Step) → m ≤ n → AllBefore m ss → AllBefore n ss
-all_sooner m n [] h k = tt
-all_sooner m n (s ∷ ss) h k = (omega (arith, h, k.0), all_sooner m n ss h k.1)
 
 -- changes of drives that aren't before a moment come after it; with one of them at least, whatever comes then
 comes_after_it : (way : Way) (mark : ℕ → Mark) (d at t n : ℕ) (ss ys : List Step) → Changes way mark d at ss n false → NoneBefore t ss → FirstIsAfter t ys → FirstIsAfter t (ss ++ ys)

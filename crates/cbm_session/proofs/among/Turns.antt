@@ -22,10 +22,9 @@ use Rattle.cbm_session.proofs.among.Accepts.{unmarked}
 use Rattle.cbm_session.proofs.among.Around.{IsPart, Around, around_drives, weave_left, merge_drives, every_drives, is_after, with_own}
 use Rattle.cbm_session.proofs.among.Calm.{Every, IsOthers, IsAside, passes, passes_all, asides_all, calm_leaving, calm_idle, calm_holding}
 use Rattle.cbm_session.proofs.among.Frames.{in_hold, each_sits}
-use Rattle.cbm_session.proofs.among.Points.{commanding_rest}
+use Rattle.cbm_session.proofs.among.Points.{commanding_rest, each_seat}
 use Rattle.cbm_session.proofs.among.Pulls.{in_time, never_due, not_before, for_others}
 use Rattle.cbm_session.proofs.among.Standing.{IsSound, rest_afterwards, Result}
-use Rattle.cbm_session.proofs.frames.Phases.{Each}
 use Rattle.cbm_session.proofs.joining.Merging.{InOrder}
 use Rattle.cbm_session.proofs.joining.Showing.{merge_first}
 use Rattle.cbm_session.proofs.reading.OneReading.{freed_order}
@@ -69,10 +68,6 @@ part_untalked F B Absent a b e x = x
 part_untalked F B Listener a b e x = record { order = tt; first = tt; afterwards = tt; drives = tt }
 part_untalked F B Talker a b e x = absurd cc
 
-each_of : (P : Seat → Type 0) (seats : List Seat) → ((x : Seat) → P x) → Each P seats
-each_of P [] f = tt
-each_of P (x ∷ xs) f = (f x, each_of P xs f)
-
 -- what a drive without a role does
 let_go_part : (d at : ℕ) (x : Seat) → nat_eq d (device x) ≡ false → IsPart (IsOthers d) (IsOthers d) (let_go at x)
 let_go_part d at x h = record { order = (tt, tt); first = (record { who = h; counts = refl; line = refl }, tt); afterwards = (record { who = h; counts = refl; line = refl }, tt); drives = (tt, tt) }
@@ -81,7 +76,7 @@ pub from_role : (m : ℕ) (r : Role) (a b : List Step) → Every (λ s. m ≤ mo
 from_role m r a b x y = by_role (λ s. m ≤ moment_of s) r a b x y
 
 pub late_drives : (m : ℕ) (own : Seat → List Step) (seats : List Seat) → ((x : Seat) → Every (λ s. m ≤ moment_of s) (own x)) → NotBefore m (merge_all [] (map own seats))
-late_drives m own seats f = not_before m (merge_all [] (map own seats)) (every_drives (λ s. m ≤ moment_of s) own seats (each_of (λ x. Every (λ s. m ≤ moment_of s) (own x)) seats f))
+late_drives m own seats f = not_before m (merge_all [] (map own seats)) (every_drives (λ s. m ≤ moment_of s) own seats (each_seat (λ x. Every (λ s. m ≤ moment_of s) (own x)) seats f))
 
 -- A drive without a role lets go of DATA, whatever the others do.
 leaves : (peek : Option (ℕ × Bool)) (b : Party) (t : ℕ) (r : Rest) (ss : List Step) → Around t (IsOthers b.device) (IsOthers b.device) (drive b.device t Data Free ∷ []) ss

@@ -104,7 +104,7 @@ upto_before : (m : ℕ) (ss : List Step) → AllUpTo m ss → AllBefore (m + 1) 
 upto_before m [] h = tt
 upto_before m (s ∷ ss) h = (omega (arith, h.0), upto_before m ss h.1)
 
-freed_upto : (held : Bool) (m : ℕ) → AllUpTo m (where_held held (host m Data Free))
+pub freed_upto : (held : Bool) (m : ℕ) → AllUpTo m (where_held held (host m Data Free))
 freed_upto true m = (omega arith, tt)
 freed_upto false m = tt
 

@@ -14,6 +14,7 @@ use Rattle.cbm_iec.specs.declared.party.Party.{Party}
 use Rattle.cbm_iec.specs.declared.port.Side.TheVariants.{Hearing, Speaking}
 use Rattle.cbm_iec.specs.declared.port.Side.{Side}
 use Rattle.cbm_iec.specs.Ports.{side_due}
+use Rattle.cbm_session.proofs.Truths.{or_there}
 use Rattle.cbm_session.proofs.handed.Hearers.{ear_of, IsSettled, told_settled, react_settled, IsVoiced, told_voice, told_voiced, own_voice, own_voiced, Goes, goes_told, goes_react}
 use Rattle.cbm_session.proofs.handed.Later.{told_kept, reacted_later}
 use Rattle.cbm_session.specs.Among.{Rest, after_the_host, after_another}
@@ -81,11 +82,7 @@ devices bs = map (λ x. x.device) bs
 
 one_of : (xs : List Party) (p : Party) (ys : List Party) → is_one_of p.device (devices (xs ++ p ∷ ys)) ≡ true
 one_of [] p ys = ap (λ (v : Bool). v || is_one_of p.device (devices ys)) (eq-eqb p.device p.device refl)
-one_of (x ∷ xs) p ys = ap (λ (v : Bool). nat_eq p.device x.device || v) (one_of xs p ys) ∙ or_true (nat_eq p.device x.device)
-  where
-    or_true : (v : Bool) → (v || true) ≡ true
-    or_true true = refl
-    or_true false = refl
+one_of (x ∷ xs) p ys = ap (λ (v : Bool). nat_eq p.device x.device || v) (one_of xs p ys) ∙ or_there (nat_eq p.device x.device)
 
 none_of : (d : ℕ) (ys : List Party) → Unlike d ys → is_one_of d (devices ys) ≡ false
 none_of d [] h = refl

@@ -103,7 +103,7 @@ lines_know r t was now mouth p h = go (is_same was.data_low now.data_low)
     go false = data_knows r t now.data_low (talk_clocked r t was now mouth) p (clocked_knows r t was now mouth p h)
 
 -- where a byte was taken, nothing is known of the next one
-waits : (r t byte : ℕ) (last : Bool) (was now : Lines) → talk_clocked r t was now (Waiting byte last) ≡ Waiting byte last
+pub waits : (r t byte : ℕ) (last : Bool) (was now : Lines) → talk_clocked r t was now (Waiting byte last) ≡ Waiting byte last
 waits r t byte last was now = go (is_same was.clock_low now.clock_low)
   where
     go : (v : Bool) → (if v then Waiting byte last else Waiting byte last) ≡ Waiting byte last

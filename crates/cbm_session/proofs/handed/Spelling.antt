@@ -15,6 +15,8 @@ use Rattle.cbm_iec.specs.declared.lines.Held.{Held}
 use Rattle.cbm_iec.specs.declared.lines.Lines.{Lines}
 use Rattle.cbm_iec.specs.declared.mouth.Mouth.TheVariants.{Turned, Answering, Mute, Led, Offering, EoiOffered, EoiPulsed, Sending, Waiting, Ending, Over}
 use Rattle.cbm_iec.specs.declared.mouth.Mouth.{Mouth}
+use Rattle.cbm_session.proofs.Truths.{or_there}
+use Rattle.cbm_session.proofs.handed.Knowing.{waits}
 use Rattle.cbm_session.proofs.handed.Voices.{spelled, spelled_whole, spelled_on, nothing_left, freed_bits}
 use Rattle.cbm_session.specs.Bits.{number_of}
 use Rattle.cbm_session.specs.Handed.{clocked}
@@ -173,13 +175,6 @@ plainly r t was now mouth clock low bits n h = go (is_same was.data_low now.data
 abbrev Led_to : Mouth → Option Act → Bool → Bool → Option (List Bool) → Type 0
 Led_to mouth act clock low bits = WasShown act bits × Spells mouth clock low (bits_after act bits)
 
-waits : (r t byte : ℕ) (last : Bool) (was now : Lines) → talk_clocked r t was now (Waiting byte last) ≡ Waiting byte last
-waits r t byte last was now = go (is_same was.clock_low now.clock_low)
-  where
-    go : (v : Bool) → (if v then Waiting byte last else Waiting byte last) ≡ Waiting byte last
-    go true = refl
-    go false = refl
-
 -- TOLD A CHANGE of CLOCK or DATA
 pub lines_spell : (r t : ℕ) (was now : Lines) (mouth : Mouth) (clock low : Bool) (bits : Option (List Bool)) → Spells mouth clock low bits → Led_to (talk_lines r t was now mouth) (taken_act was now mouth) clock low bits
 lines_spell r t was now (Waiting byte last) clock low bits h =
@@ -205,10 +200,6 @@ lines_spell r t was now (Ending at_) clock low bits h = (tt, plainly r t was now
 lines_spell r t was now Over clock low bits h = (tt, plainly r t was now Over clock low bits tt h)
 
 -- ---- its own reaction
-
-or_there : (v : Bool) → (v || true) ≡ true
-or_there true = refl
-or_there false = refl
 
 freed_there : (v low : Bool) (bits : Option (List Bool)) → freed_bits v (v || true) low bits ≡ bits
 freed_there true low bits = refl

@@ -12,8 +12,7 @@ use Rattle.cbm_session.proofs.headline.CutTwin.{cut_safe, cut_same, none_from, n
 use Rattle.cbm_session.proofs.headline.Ending.{Continues, piece_then, cut_runs}
 use Rattle.cbm_session.proofs.headline.EndingTalk.{ends_there}
 use Rattle.cbm_session.proofs.headline.Here.{IsTalkers, Here, Out, hosts_out, talkers_out, PullInside, pull_out}
-use Rattle.cbm_session.proofs.headline.Keeping.{HostFrom}
-use Rattle.cbm_session.proofs.headline.Lawful.{host_front}
+use Rattle.cbm_session.proofs.headline.Keeping.{HostFrom, host_front}
 use Rattle.cbm_session.proofs.headline.LeftOver.{HostSafe, twin_safe}
 use Rattle.cbm_session.proofs.headline.Meeting.{Compat}
 use Rattle.cbm_session.proofs.headline.Onward.{here_after}
@@ -81,7 +80,7 @@ module _ (M : Type 0) (step : M → Act → M) (peek : M → Option (ℕ × Bool
         let whole : front ++ (beyond ++ s) ≡ done ++ more = sym (append_assoc front beyond s) ∙ ap (λ (l : List Step). l ++ s) (sym parts) ∙ e in
         let same = same_front front (beyond ++ s) done more whole (shown ∙ sym shown_so) in
         let runs = each_runs M step peek p.seats ms (steps_of p w) (λ d. runs_unasked M step peek d (ms d) (steps_of p w) (steps_unasked p w a)) in
-        stops_after M step peek place machine p ms xs here w fits answer runs m t front beyond parts (host_front M step peek t beyond s (subst (HostFrom t) (sym same.1) late)) es shown
+        stops_after M step peek place machine p ms xs here w fits answer runs m t front beyond parts (host_front t beyond s (subst (HostFrom t) (sym same.1) late)) es shown
 
     passed : (w : Whole) → Fits p w → IsAnswer M step peek (ms (talker_of p.seats).device) w → RunEach M step peek p.seats ms (steps_of p w) → steps_of p w ++ s ≡ done ++ more → Gone w → Follows w → Continues M step peek p ms es t
     passed w fits answer runs e b next =

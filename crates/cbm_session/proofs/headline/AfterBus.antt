@@ -15,25 +15,14 @@ use Rattle.cbm_session.proofs.headline.SideStates.{side_react}
 use Rattle.cbm_session.proofs.headline.TalkParts.{HostEvents, back_host, all_host_from}
 use Rattle.cbm_session.proofs.headline.TalkSwap.{Twin}
 use Rattle.cbm_session.proofs.joining.Merging.{none_sooner}
-use Rattle.cbm_session.proofs.reading.PieceReadings.{next_seat}
+use Rattle.cbm_session.proofs.reading.PieceReadings.{next_seat, next_seats}
 use Rattle.cbm_session.specs.Among.{Rest}
 use Rattle.cbm_session.specs.Buses.{StandsAmong}
-use Rattle.cbm_session.specs.Pieces.{Whole, Point, whole_point, PullPiece, Command, Byte, ToListener, ToNobody, ToTalker, Nothing, Talk}
+use Rattle.cbm_session.specs.Pieces.{Whole, Point, whole_point}
 use Rattle.cbm_session.specs.Playing.{Station, AllInTime}
 use Rattle.cbm_session.specs.Seats.{Seat}
 use Rattle.cbm_session.specs.Steps.{Step, moment_of, events_of}
 use Rattle.cbm_session.specs.Timing.{is_host}
-
--- the seats after a piece, one by one
-pub next_seats : (p : Point) (w : Whole) → (whole_point p w).seats ≡ map (λ s. next_seat w s) p.seats
-next_seats p (PullPiece at) = refl
-next_seats p (Command f) = refl
-next_seats p (Byte eoi f) = refl
-next_seats p (ToListener at) = refl
-next_seats p (ToNobody at clock) = refl
-next_seats p (ToTalker at clock) = refl
-next_seats p (Nothing at clock freed) = refl
-next_seats p (Talk at f) = refl
 
 module _ (M : Type 0) (step : M → Act → M) (peek : M → Option (ℕ × Bool)) (says : ℕ → Option (ℕ × Bool)) (place : ℕ → ℕ) where
   -- Where each station is what its seat's drive goes to, all stand at the point after it.

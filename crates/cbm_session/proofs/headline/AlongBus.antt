@@ -16,13 +16,14 @@ use Rattle.cbm_iec.specs.declared.lines.Way.{Way}
 use Rattle.cbm_iec.specs.declared.lines.Lines.{Lines}
 use Rattle.cbm_iec.specs.declared.port.Port.{Port}
 use Rattle.cbm_iec.specs.declared.port.Side.{Side}
+use Rattle.cbm_session.proofs.Truths.{same_self}
 use Rattle.cbm_session.proofs.headline.BusActs.{HasRun, AllRan, run_on, run_other, mark_acted, own_acted, ran_before, ran_joined, RanOn, ran_then, ran_stays}
-use Rattle.cbm_session.proofs.headline.BusStep.{Goes, tells, hears, reacts, own_first, not_mine, another, host_drive, Tied, reacts_next, first_due}
-use Rattle.cbm_session.proofs.headline.Keeping.{HostFrom, events_append}
+use Rattle.cbm_session.proofs.headline.BusStep.{Goes, tells, hears, reacts, own_first, not_mine, another, host_drive, Tied, reacts_next, first_due, tied_after}
+use Rattle.cbm_session.proofs.headline.Keeping.{HostFrom, events_append, all_in_time}
 use Rattle.cbm_session.proofs.headline.Meeting.{Meets, Compat, compat_skip, SaysOpen, LastSaid, AsksFor, FirstIs, first_append, first_shown, reaction_events, host_first, last_after_it, last_open, noatn_after, in_time_at, same_reacted, same_changes, no_steps}
 use Rattle.cbm_session.proofs.headline.SideStates.{SideHolds, SideAsks, side_lines, side_react, side_same_after, side_same_act, side_lines_ask, side_said_asks, side_react_asks, side_acted_asks}
 use Rattle.cbm_session.proofs.headline.TalkStates.{NoneSaid}
-use Rattle.cbm_session.proofs.joining.Merging.{NoneBefore, InOrder, AllBefore, none_sooner}
+use Rattle.cbm_session.proofs.joining.Merging.{NoneBefore, InOrder, AllBefore, none_sooner, order_after, goes_after, before_after}
 use Rattle.cbm_session.proofs.reading.OneReading.{is_atn, NoAtn}
 use Rattle.cbm_session.specs.Among.{Rest, wires_of, after_another, after_the_host, CountsFor}
 use Rattle.cbm_session.specs.Answers.{run_acts}
@@ -30,10 +31,6 @@ use Rattle.cbm_session.specs.Following.{IsInTime, own_steps, reaction_steps}
 use Rattle.cbm_session.specs.Laws.{AllAfter, GoesOn}
 use Rattle.cbm_session.specs.Playing.{IsLaterDue, Station, host_event, drive_events, tell, hear, hear_all, react, shown, AllInTime, AllLater, IsFirst, reacting, Plays, stays, change, reaction}
 use Rattle.cbm_session.specs.Steps.{Mark, Step, moment_of, events_of, event_of, acts_for, Plain, ForEach, For}
-
-same_same : (v : Bool) → is_same v v ≡ true
-same_same true = refl
-same_same false = refl
 
 pub other_atn : (line : Line) (way : Way) (r : Rest) → (wires_of (after_another line way r)).atn_low ≡ (wires_of r).atn_low
 other_atn Atn way r = refl
@@ -50,7 +47,7 @@ pub told_out : (q : Port) (t : ℕ) (r now : Rest) → q.others ≡ wires_of r �
     → ((told t (wires_of now) q).side ≡ lined_side q.party.reaction t q.others (wires_of now) q.side) × (told_act (wires_of now) q ≡ lined_act q.others (wires_of now) q.side)
 told_out q t r now seen same =
     let atn : q.others.atn_low ≡ (wires_of now).atn_low = ap (λ (l : Lines). l.atn_low) seen ∙ sym same in
-    let out : is_same q.others.atn_low (wires_of now).atn_low ≡ true = ap (λ (v : Bool). is_same q.others.atn_low v) (sym atn) ∙ same_same q.others.atn_low in (
+    let out : is_same q.others.atn_low (wires_of now).atn_low ≡ true = ap (λ (v : Bool). is_same q.others.atn_low v) (sym atn) ∙ same_self q.others.atn_low in (
       ap (λ (v : Bool). if v then lined_side q.party.reaction t q.others (wires_of now) q.side else turned_side t (wires_of now) q) out,
       ap (λ (v : Bool). if v then lined_act q.others (wires_of now) q.side else Some (if (wires_of now).atn_low then Pulled else Released)) out,
     )
@@ -231,10 +228,6 @@ module _ (M : Type 0) (step : M → Act → M) (peek : M → Option (ℕ × Bool
   sits_after d e (s ∷ ss) h (inl i) = subst (λ (v : ℕ). place d < place v) i h.0.0
   sits_after d e (s ∷ ss) h (inr i) = sits_after d e ss h.1 i
 
-  before_after : (t : ℕ) (xs ys : List Step) → AllBefore t (xs ++ ys) → AllBefore t ys
-  before_after t [] ys h = h
-  before_after t (x ∷ xs) ys h = before_after t xs ys h.1
-
   -- what shows of a step of the host
   tells_next : {s : Station M} {e : Rest × Port} {y : Step} {ys : List Step} → GoesSo s (y ∷ ys) e → (c : Change) → y.event ≡ host_event c → is_atn c.line ≡ false → SaysIfMore y ys → GoesSo (tell M step peek c s) ys e
   tells_next {s} {e} {y} {ys} g c same atn left = go g.goes same g.end left
@@ -373,18 +366,6 @@ module _ (M : Type 0) (step : M → Act → M) (peek : M → Option (ℕ × Bool
       ∙ ap (λ (v : List ℕ). devs before ++ dev o ∷ v) (devs_hear cs afterwards)
       ∙ sym (devs_append before (o ∷ afterwards))
 
-  pub all_in_time : (t : ℕ) (before : List (Station M)) (o : Station M) (afterwards : List (Station M)) → IsFirst M step peek t before o afterwards → AllInTime M step peek t (before ++ o ∷ afterwards)
-  all_in_time t [] o afterwards f = (due (port_due o.port) f.due, f.in_time)
-    where
-      due : (x : Option ℕ) → x ≡ Some t → IsInTime t x
-      due None e = tt
-      due (Some u) e = let k : u ≡ t = cc in omega (arith, k)
-  all_in_time t (b ∷ before) o afterwards f = (one (port_due b.port) f.later.0, all_in_time t before o afterwards (record { due = f.due; later = f.later.1; in_time = f.in_time }))
-    where
-      one : (x : Option ℕ) → IsLaterDue t x → IsInTime t x
-      one None k = tt
-      one (Some u) k = omega (arith, k)
-
   host_weaken : (t u : ℕ) (ss : List Step) → t ≤ u → HostFrom u ss → HostFrom t ss
   host_weaken t u [] l h = tt
   host_weaken t u (s ∷ ss) l h = (λ k. let a = h.0 k in omega (arith, l, a), host_weaken t u ss l h.1)
@@ -405,7 +386,7 @@ module _ (M : Type 0) (step : M → Act → M) (peek : M → Option (ℕ × Bool
       let q = o.port in
       let m = o.machine in
       let a = says (dev o) in
-      let late : t ≤ moment_of y = sitting_due d (before ++ o ∷ afterwards) y ys es g w (owned.0 d w) t (all_in_time t before o afterwards f) in
+      let late : t ≤ moment_of y = sitting_due d (before ++ o ∷ afterwards) y ys es g w (owned.0 d w) t (all_in_time M step peek t before o afterwards f) in
       let none : NoneBefore t (y ∷ ys) = (late, none_sooner t (moment_of y) ys late order.0) in
       let after_that : HostFrom (suc (moment_of y)) ys = host_after_drive d (moment_of y) ys (subst (λ (v : Who). AllAfter v (moment_of y) ys) w goes.0) in
       let host : HostFrom (suc t) (y ∷ ys) = (not_host, host_weaken (suc t) (suc (moment_of y)) ys (omega (arith, late)) after_that) in
@@ -518,19 +499,7 @@ module _ (M : Type 0) (step : M → Act → M) (peek : M → Option (ℕ × Bool
   says_left y [] l = tt
   says_left y (z ∷ ys) l = l.0
 
-  tied_after : (xs ys : List Step) → Tied place (xs ++ ys) → Tied place ys
-  tied_after [] ys h = h
-  tied_after (x ∷ xs) ys h = tied_after xs ys h.1
-
-  order_after : (xs ys : List Step) → InOrder (xs ++ ys) → InOrder ys
-  order_after [] ys h = h
-  order_after (x ∷ xs) ys h = order_after xs ys h.1
-
-  goes_after : (xs ys : List Step) → GoesOn (xs ++ ys) → GoesOn ys
-  goes_after [] ys h = h
-  goes_after (x ∷ xs) ys h = goes_after xs ys h.1
-
-  owned_after : (ds : List ℕ) (xs ys : List Step) → OwnedIn ds (xs ++ ys) → OwnedIn ds ys
+  pub owned_after : (ds : List ℕ) (xs ys : List Step) → OwnedIn ds (xs ++ ys) → OwnedIn ds ys
   owned_after ds [] ys h = h
   owned_after ds (x ∷ xs) ys h = owned_after ds xs ys h.1
 
@@ -544,7 +513,7 @@ module _ (M : Type 0) (step : M → Act → M) (peek : M → Option (ℕ × Bool
     pub owned : OwnedIn ds ys
 
   pub plain_after : (ds : List ℕ) (xs ys : List Step) → IsPlain ds (xs ++ ys) → IsPlain ds ys
-  plain_after ds xs ys h = record { noatn = noatn_after xs ys h.noatn; last = last_after_it xs ys h.last; goes_on = goes_after xs ys h.goes_on; order = order_after xs ys h.order; tied = tied_after xs ys h.tied; owned = owned_after ds xs ys h.owned }
+  plain_after ds xs ys h = record { noatn = noatn_after xs ys h.noatn; last = last_after_it xs ys h.last; goes_on = goes_after xs ys h.goes_on; order = order_after xs ys h.order; tied = tied_after place xs ys h.tied; owned = owned_after ds xs ys h.owned }
 
   pub along_bus : {n n2 : ℕ} {ss ss2 : List (Station M)} {es : List Event} → Plays M step peek n ss es n2 ss2 → (ys : List Step) (fin : List (Rest × Port)) → AllGo ss ys fin → Rising ss → IsPlain (devs ss) ys → (rest : List Event) → Compat ys (es ++ rest)
       → WithinAll ss ys fin es rest ss2 ⊎ PassedAll ss ys fin es n2 ss2

@@ -77,7 +77,7 @@ pub data Comes (d t : ℕ) : List Step → Type 0 where
   here : {s : Step} {ss : List Step} → s.event.who ≡ Drive d → moment_of s ≡ t → Comes d t (s ∷ ss)
   there : {s : Step} {ss : List Step} → Comes d t ss → Comes d t (s ∷ ss)
 
-comes_first : (d t : ℕ) (rs more : List Step) → FirstIs d t (events_of rs) → Comes d t (rs ++ more)
+pub comes_first : (d t : ℕ) (rs more : List Step) → FirstIs d t (events_of rs) → Comes d t (rs ++ more)
 comes_first d t [] more f = elim f [ ]
 comes_first d t (r ∷ rs) more f = here f.0 f.1
 
@@ -110,6 +110,15 @@ abbrev pub Tied : (ℕ → ℕ) → List Step → Type 0
 Tied place [] = Unit {0}
 Tied place (s ∷ ss) = ((d : ℕ) → s.event.who ≡ Drive d → NoneEarlier place d (moment_of s) ss) × Tied place ss
 
+pub tied_after : (place : ℕ → ℕ) (xs ys : List Step) → Tied place (xs ++ ys) → Tied place ys
+tied_after place [] ys h = h
+tied_after place (x ∷ xs) ys h = tied_after place xs ys h.1
+
+-- the first step of a reaction that shows has its moment
+pub moment_at : (d u : ℕ) (y : Step) (ys rs more : List Step) → FirstIs d u (events_of rs) → y ∷ ys ≡ rs ++ more → moment_of y ≡ u
+moment_at d u y ys [] more f e = elim f [ ]
+moment_at d u y ys (x ∷ rs) more f e = let same : y ≡ x = cc in ap (λ (v : Step). moment_of v) same ∙ f.1
+
 -- the drive whose step comes first has its reaction due then
 pub first_due : (says : Option (ℕ × Bool)) {r r2 : Rest} {q q2 : Port} {s : Step} {ss : List Step} → Goes says r q (s ∷ ss) r2 q2 → s.event.who ≡ Drive q.party.device → (port_due q ≡ Some (moment_of s))
 first_due says (tells i k g) e = absurd cc
@@ -121,11 +130,7 @@ first_due says {r} {r2} {q} (hears {o} a i y k g) e =
 first_due says {r} {r2} {q} {q2} {s} {ss} (reacts u more d e sh l g) f =
     let first = first_shown q.party.device u q.own (next_held says q) sh in
     let own = subst (λ (v : List Event). FirstIs q.party.device u v) (sym (reaction_events says u q)) first in
-    d ∙ ap (λ (v : ℕ). Some v) (sym (moment_at (reaction_steps u says q) more own e))
-  where
-    moment_at : (rs more : List Step) → FirstIs q.party.device u (events_of rs) → s ∷ ss ≡ rs ++ more → moment_of s ≡ u
-    moment_at [] more f e = elim f [ ]
-    moment_at (x ∷ rs) more f e = let same : s ≡ x = cc in ap (λ (v : Step). moment_of v) same ∙ f.1
+    d ∙ ap (λ (v : ℕ). Some v) (sym (moment_at q.party.device u s ss (reaction_steps u says q) more own e))
 
 -- So of a drive o that is due at t, and no other due before it, nor one that stands before it at t, the next step is its own: it reacts.
 pub record Next (says : Option (ℕ × Bool)) (t : ℕ) (r : Rest) (q : Port) (ss : List Step) (r2 : Rest) (q2 : Port) : Type 0 where

@@ -1,5 +1,5 @@
 -- A piece on a bus up to a moment at which a pull cuts it: all drives of the bus go so far, and nothing of theirs is due before that moment.
-use Rattle.std.proofs.Common.{◌≡◌, ℕ, suc, ◌≤◌, ◌<◌, ◌⊎◌, inl, inr, Bool, List, [], ◌∷◌, ◌++◌, Option, Some, None, ap, sym, ◌∙◌, subst, arith, refl}
+use Rattle.std.proofs.Common.{◌≡◌, ℕ, suc, ◌≤◌, ◌<◌, ◌⊎◌, inl, inr, Bool, List, [], ◌∷◌, ◌++◌, Option, Some, ap, sym, ◌∙◌, subst, arith, refl}
 use Rattle.std.proofs.lemmas.Bool.Decides.{leb_tells}
 use Rattle.cbm_iec.specs.Ports.{port_due, told, reacted}
 use Rattle.cbm_iec.specs.declared.machine.Act.{Act}
@@ -8,13 +8,13 @@ use Rattle.cbm_iec.specs.declared.event.Who.TheVariants.{Host, Drive}
 use Rattle.cbm_iec.specs.declared.event.Who.{Who}
 use Rattle.cbm_iec.specs.declared.port.Port.{Port}
 use Rattle.cbm_iec.specs.declared.port.Side.{Side}
-use Rattle.cbm_session.proofs.alone.Fronts.{AllAt, reaction_at}
+use Rattle.cbm_session.proofs.alone.Fronts.{AllAt, reaction_at, in_time_le}
 use Rattle.cbm_session.proofs.headline.AlongBus.{GoesSo, AllGo, devs, OwnedIn, RisingIn, IsPlain, WithinAll, PassedAll, along_bus}
 use Rattle.cbm_session.proofs.headline.BusStep.{Goes, ends, tells, hears, reacts, own_first, Comes, here, there, Tied}
 use Rattle.cbm_session.proofs.headline.Meeting.{LastSaid, AsksFor, Compat, FirstIs}
 use Rattle.cbm_session.proofs.headline.TalkSwap.{none_cut}
-use Rattle.cbm_session.proofs.joining.Merging.{NoneBefore, InOrder, AllBefore, before_yes, cut_front, front_before}
-use Rattle.cbm_session.proofs.reading.OneReading.{NoAtn}
+use Rattle.cbm_session.proofs.joining.Merging.{NoneBefore, InOrder, AllBefore, before_yes, cut_front, front_before, order_after}
+use Rattle.cbm_session.proofs.reading.OneReading.{noatn_front}
 use Rattle.cbm_session.specs.Among.{Rest, wires_of, after_another, after_the_host, FirstIsAfter}
 use Rattle.cbm_session.specs.Following.{IsInTime, reaction_steps}
 use Rattle.cbm_session.specs.Laws.{AllAfter, GoesOn}
@@ -23,10 +23,6 @@ use Rattle.cbm_session.specs.Playing.{Station, Plays}
 use Rattle.cbm_session.specs.Steps.{Step, moment_of, events_of}
 
 -- the front of a list has what the list has
-pub noatn_front : (xs ys : List Step) → NoAtn (xs ++ ys) → NoAtn xs
-noatn_front [] ys h = tt
-noatn_front (x ∷ xs) ys h = (h.0, noatn_front xs ys h.1)
-
 pub last_front : (xs ys : List Step) → LastSaid (xs ++ ys) → LastSaid xs
 last_front [] ys h = tt
 last_front (x ∷ []) ys h = tt
@@ -48,10 +44,6 @@ pub order_front : (xs ys : List Step) → InOrder (xs ++ ys) → InOrder xs
 order_front [] ys h = tt
 order_front (x ∷ xs) ys h = (none_front (moment_of x) xs ys h.0, order_front xs ys h.1)
 
-order_rest : (xs ys : List Step) → InOrder (xs ++ ys) → InOrder ys
-order_rest [] ys h = h
-order_rest (x ∷ xs) ys h = order_rest xs ys h.1
-
 comes_longer : (d t : ℕ) (xs ys : List Step) → Comes d t xs → Comes d t (xs ++ ys)
 comes_longer d t [] ys c = elim c [ ]
 comes_longer d t (x ∷ xs) ys (here w e) = here w e
@@ -65,10 +57,6 @@ tied_front place (x ∷ xs) ys h = (λ d w e c. h.0 d w e (comes_longer e (momen
 all_before : (c t : ℕ) (rs more : List Step) → AllAt t rs → t < c → before c (rs ++ more) ≡ rs ++ before c more
 all_before c t [] more a l = refl
 all_before c t (r ∷ rs) more a l = let now = a.0 in before_yes c r (rs ++ more) (omega (arith, now, l)) ∙ ap (λ (v : List Step). r ∷ v) (all_before c t rs more a.1 l)
-
-in_time_from : (c t : ℕ) (o : Option ℕ) → c ≤ t → IsInTime t o → IsInTime c o
-in_time_from c t None l i = tt
-in_time_from c t (Some u) l i = omega (arith, l, i)
 
 in_time_due : (c t : ℕ) (o : Option ℕ) → c ≤ t → o ≡ Some t → IsInTime c o
 in_time_due c t o l e = subst (λ (v : Option ℕ). IsInTime c v) (sym e) l
@@ -90,19 +78,19 @@ goes_up_to says c {r} {r2} {q} {q2} (tells {t} {line} {way} {mark} {ss} i k f) o
     go : GoesUpTo says c (after_the_host line way r) (told t (wires_of (after_the_host line way r)) q) ss → GoesUpTo says c r q (record { event = Rattle.cbm_session.specs.Steps.event_of Host t line way; mark = mark } ∷ ss)
     go x = elim (leb_tells (suc t) c) [
       | inl u ↦ (let l = u.1 in record { rest = x.rest; port = x.port; goes = subst (λ (v : List Step). Goes says r q v x.rest x.port) (sym (before_yes c (record { event = Rattle.cbm_session.specs.Steps.event_of Host t line way; mark = mark }) ss (omega (arith, l)))) (tells i k x.goes); in_time = x.in_time })
-      | inr u ↦ (let l = u.1 in record { rest = r; port = q; goes = subst (λ (v : List Step). Goes says r q v r q) (sym (none_cut c (record { event = Rattle.cbm_session.specs.Steps.event_of Host t line way; mark = mark }) ss o (omega (arith, l)))) (ends refl refl); in_time = in_time_from c t (port_due q) (omega (arith, l)) i })
+      | inr u ↦ (let l = u.1 in record { rest = r; port = q; goes = subst (λ (v : List Step). Goes says r q v r q) (sym (none_cut c (record { event = Rattle.cbm_session.specs.Steps.event_of Host t line way; mark = mark }) ss o (omega (arith, l)))) (ends refl refl); in_time = in_time_le c t (port_due q) (omega (arith, l)) i })
     ]
 goes_up_to says c {r} {r2} {q} {q2} (hears {o} {t} {line} {way} {mark} {ss} a i y k f) order last = go (goes_up_to says c f order.1 last)
   where
     go : GoesUpTo says c (after_another line way r) (told t (wires_of (after_another line way r)) q) ss → GoesUpTo says c r q (record { event = Rattle.cbm_session.specs.Steps.event_of (Drive o) t line way; mark = mark } ∷ ss)
     go x = elim (leb_tells (suc t) c) [
       | inl u ↦ (let l = u.1 in record { rest = x.rest; port = x.port; goes = subst (λ (v : List Step). Goes says r q v x.rest x.port) (sym (before_yes c (record { event = Rattle.cbm_session.specs.Steps.event_of (Drive o) t line way; mark = mark }) ss (omega (arith, l)))) (hears a i y k x.goes); in_time = x.in_time })
-      | inr u ↦ (let l = u.1 in record { rest = r; port = q; goes = subst (λ (v : List Step). Goes says r q v r q) (sym (none_cut c (record { event = Rattle.cbm_session.specs.Steps.event_of (Drive o) t line way; mark = mark }) ss order (omega (arith, l)))) (ends refl refl); in_time = in_time_from c t (port_due q) (omega (arith, l)) i })
+      | inr u ↦ (let l = u.1 in record { rest = r; port = q; goes = subst (λ (v : List Step). Goes says r q v r q) (sym (none_cut c (record { event = Rattle.cbm_session.specs.Steps.event_of (Drive o) t line way; mark = mark }) ss order (omega (arith, l)))) (ends refl refl); in_time = in_time_le c t (port_due q) (omega (arith, l)) i })
     ]
-goes_up_to says c {r} {r2} {q} {q2} {ss} (reacts t more d e sh l f) o last = go (goes_up_to says c f (order_rest (reaction_steps t says q) more (subst InOrder e o)) last)
+goes_up_to says c {r} {r2} {q} {q2} {ss} (reacts t more d e sh l f) o last = go (goes_up_to says c f (order_after (reaction_steps t says q) more (subst InOrder e o)) last)
   where
     first_after_c : FirstIsAfter t more → FirstIsAfter t (before c more)
-    first_after_c b = front_after (before c more) (cut_front c more (order_rest (reaction_steps t says q) more (subst InOrder e o))).0 (subst (FirstIsAfter t) (cut_front c more (order_rest (reaction_steps t says q) more (subst InOrder e o))).1 b)
+    first_after_c b = front_after (before c more) (cut_front c more (order_after (reaction_steps t says q) more (subst InOrder e o))).0 (subst (FirstIsAfter t) (cut_front c more (order_after (reaction_steps t says q) more (subst InOrder e o))).1 b)
       where
         front_after : (xs ys : List Step) → FirstIsAfter t (xs ++ ys) → FirstIsAfter t xs
         front_after [] ys b = tt

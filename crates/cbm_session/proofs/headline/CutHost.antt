@@ -8,9 +8,9 @@ use Rattle.cbm_iec.specs.declared.lines.Held.{Held}
 use Rattle.cbm_session.proofs.alone.Sessions.{AllHost}
 use Rattle.cbm_session.proofs.among.Around.{merge_drives, every_drives}
 use Rattle.cbm_session.proofs.among.Calm.{Every}
+use Rattle.cbm_session.proofs.among.Points.{each_seat}
 use Rattle.cbm_session.proofs.frames.Phases.{Each}
 use Rattle.cbm_session.proofs.headline.CutPoint.{held_next, same_held}
-use Rattle.cbm_session.proofs.headline.FrameBus.{each_seat}
 use Rattle.cbm_session.proofs.joining.Merging.{merge_here, merge_there, merge_nil, before_yes, before_no}
 use Rattle.cbm_session.proofs.joining.Owning.{AllOwned, part_owned}
 use Rattle.cbm_session.proofs.joining.Seating.{Sits}

@@ -18,16 +18,17 @@ use Rattle.cbm_session.proofs.headline.AnswersRun.{talk_runs}
 use Rattle.cbm_session.proofs.headline.BusActs.{AllRan}
 use Rattle.cbm_session.proofs.headline.Ending.{Continues, some_there, whole_then, cut_then, tail}
 use Rattle.cbm_session.proofs.headline.Here.{Here}
-use Rattle.cbm_session.proofs.headline.Keeping.{HostFrom, host_after_it}
+use Rattle.cbm_session.proofs.headline.Keeping.{HostFrom, host_after_it, host_front}
 use Rattle.cbm_session.proofs.headline.Onward.{leads_after, talker_same}
 use Rattle.cbm_session.proofs.headline.Premises.{mute}
 use Rattle.cbm_session.proofs.headline.TalkBus.{frame_steps}
 use Rattle.cbm_session.proofs.headline.TalkParts.{AllPlain, told_front, told_back, front_plain, front_back}
 use Rattle.cbm_session.proofs.headline.Unasked.{IsUnasked}
-use Rattle.cbm_session.proofs.joining.Merging.{AllBefore, InOrder, cut_is}
+use Rattle.cbm_session.proofs.joining.Merging.{AllBefore, InOrder, cut_is, order_after}
 use Rattle.cbm_session.proofs.joining.OneDrive.{one_told, bits_before}
 use Rattle.cbm_session.proofs.joining.Talkers.{talker_is, standing_drives, standing_roles}
 use Rattle.cbm_session.proofs.reading.PieceReadings.{next_seat}
+use Rattle.cbm_session.proofs.timing.SessionOrder.{both_before}
 use Rattle.cbm_session.specs.Answers.{IsAnswer, run_acts, run_each}
 use Rattle.cbm_session.specs.Bits.{number_of}
 use Rattle.cbm_session.specs.Frames.{Told, is_last, signal_steps, first_bit, bit_steps, SignalFits, ToldFits}
@@ -62,14 +63,6 @@ plain_unasked : (ss : List Step) → AllPlain ss → Every IsUnasked ss
 plain_unasked [] a = tt
 plain_unasked (s ∷ ss) a = (subst Rattle.cbm_session.proofs.headline.Unasked.UnaskedMark (sym a.0) tt, plain_unasked ss a.1)
 
-pub order_rest : (xs ys : List Step) → InOrder (xs ++ ys) → InOrder ys
-order_rest [] ys o = o
-order_rest (x ∷ xs) ys o = order_rest xs ys o.1
-
-before_both : (m : ℕ) (xs ys : List Step) → AllBefore m xs → AllBefore m ys → AllBefore m (xs ++ ys)
-before_both m [] ys a b = b
-before_both m (x ∷ xs) ys a b = (a.0, before_both m xs ys a.1 b)
-
 -- all of a frame but its accept and what comes after is before the accept
 front_early : (b : Party) (at : ℕ) (f : Told) → ToldFits b at f → AllBefore f.accept (told_front b at f)
 front_early b at f h =
@@ -78,7 +71,7 @@ front_early b at f h =
     let eight = h.eight in
     let soon = by_signal f.signal h.signal in
     let early = soon.0 in
-    (omega (arith, free, accept, early), (omega (arith, accept, early), before_both f.accept (signal_steps f.signal) (bit_steps b (first_bit b f) false f.bits) (soon.1 f.accept (omega (arith, accept))) (bits_before b (first_bit b f) f.accept false f.bits (omega (arith, accept, eight, by_eight b.pace eight)))))
+    (omega (arith, free, accept, early), (omega (arith, accept, early), both_before f.accept (signal_steps f.signal) (bit_steps b (first_bit b f) false f.bits) (soon.1 f.accept (omega (arith, accept))) (bits_before b (first_bit b f) f.accept false f.bits (omega (arith, accept, eight, by_eight b.pace eight)))))
   where
     by_signal : (x : Option (ℕ × ℕ)) → SignalFits f.free x → (f.free ≤ (elim x as (λ y. ℕ) [ None ↦ f.free | Some y ↦ y.1 ])) × ((m : ℕ) → (elim x as (λ y. ℕ) [ None ↦ f.free | Some y ↦ y.1 ]) + b.reaction < m → AllBefore m (signal_steps x))
     by_signal None g = (omega arith, λ m l. tt)
@@ -117,7 +110,7 @@ module _ (M : Type 0) (step : M → Act → M) (peek : M → Option (ℕ × Bool
       is = frame_steps M step peek mute place p at s sound talks g fits
 
       order : InOrder (for_one s.party.device (Said (number_of g.bits) (is_last g)) (host g.accept Data Pull) ∷ (if is_last g then drive s.party.device (g.accept + s.party.reaction) Clock Free ∷ [] else []))
-      order = order_rest (told_front s.party at g) (told_back s.party g (number_of g.bits) (is_last g)) (subst InOrder (is ∙ sym (front_back s.party at g)) (steps_order p (Talk at g) fits))
+      order = order_after (told_front s.party at g) (told_back s.party g (number_of g.bits) (is_last g)) (subst InOrder (is ∙ sym (front_back s.party at g)) (steps_order p (Talk at g) fits))
 
       early : AllBefore g.accept (told_front s.party at g)
       early = front_early s.party at g told
@@ -130,10 +123,6 @@ module _ (M : Type 0) (step : M → Act → M) (peek : M → Option (ℕ × Bool
 
       since_early : p.since ≤ g.accept
       since_early = let a = (here.leads at fits.0).since in let b = early.0 in omega (arith, a, b)
-
-      host_front : (t : ℕ) (xs ys : List Step) → HostFrom t (xs ++ ys) → HostFrom t xs
-      host_front t [] ys h = tt
-      host_front t (x ∷ xs) ys h = (h.0, host_front t xs ys h.1)
 
       none_left : (l r : List Step) → [] ≡ l ++ r → r ≡ []
       none_left [] r e = sym e

@@ -11,17 +11,17 @@ use Rattle.cbm_iec.specs.declared.party.Role.TheVariants.{Absent, Listener, Talk
 use Rattle.cbm_iec.specs.declared.party.Role.{Role}
 use Rattle.cbm_session.proofs.among.Around.{every_each, merge_drives}
 use Rattle.cbm_session.proofs.among.Calm.{Every}
-use Rattle.cbm_session.proofs.among.Fronts.{steps_order, all_in_order}
+use Rattle.cbm_session.proofs.among.Fronts.{steps_order}
+use Rattle.cbm_session.proofs.among.Points.{each_seat}
 use Rattle.cbm_session.proofs.headline.Ending.{Continues, some_there, cut_then}
-use Rattle.cbm_session.proofs.headline.EndingTalk.{BeforeIt, order_rest}
-use Rattle.cbm_session.proofs.headline.FrameBus.{each_seat}
-use Rattle.cbm_session.proofs.headline.Keeping.{HostFrom, host_after_it}
+use Rattle.cbm_session.proofs.headline.EndingTalk.{BeforeIt}
+use Rattle.cbm_session.proofs.headline.Keeping.{HostFrom, host_after_it, host_front}
 use Rattle.cbm_session.proofs.headline.TurnTwin.{turn_begins, leads, mutes, lead_steps, mute_steps}
 use Rattle.cbm_session.proofs.headline.Unasked.{IsUnasked}
-use Rattle.cbm_session.proofs.joining.Merging.{NoneBefore, InOrder, before_yes, before_no, cut_front, front_before, cut_is}
+use Rattle.cbm_session.proofs.joining.Merging.{NoneBefore, InOrder, before_yes, before_no, cut_front, front_before, cut_is, order_after}
 use Rattle.cbm_session.proofs.joining.OneDrive.{merge_after_it}
-use Rattle.cbm_session.proofs.joining.Owning.{part_owned, part_order}
-use Rattle.cbm_session.proofs.joining.Showing.{merge_first}
+use Rattle.cbm_session.proofs.joining.Owning.{part_order}
+use Rattle.cbm_session.proofs.joining.Showing.{merge_first, order_all}
 use Rattle.cbm_session.specs.Answers.{IsAnswer}
 use Rattle.cbm_session.specs.Joins.{NotBefore}
 use Rattle.cbm_session.specs.Pieces.{silent_part, Whole, Point, own_part, steps_of, before, let_go, freed_steps, Fits, CutFits, some_from, ToTalker, Nothing}
@@ -43,7 +43,7 @@ not_before c (x ∷ xs) n = n.0
 around_clock : (p : Point) (w : Whole) (at clock : ℕ) (hs ys : List Step) → Fits p w → steps_of p w ≡ turn_begins at ys → ys ≡ merge_all (host clock Clock Free ∷ hs) (map (λ x. own_part p w x) p.seats) → AroundClock p w at clock
 around_clock p w at clock hs ys fits steps is =
     let ds = turn_drives p w in
-    let order = all_in_order (λ x. own_part p w x) (part_owned p w) (part_order p w fits) [] p.seats tt in
+    let order = order_all (λ x. own_part p w x) (part_order p w fits) [] p.seats tt in
     let k = cut_front clock ds order in
     let h = host clock Clock Free in
     record {
@@ -100,17 +100,13 @@ mute_quiet p at clock freed = every_each (AskedLate clock) (λ (x : Seat). own_p
         by_pace Kernal = (inl tt, (inl tt, (inr (omega arith), tt)))
 
 module _ (M : Type 0) (step : M → Act → M) (peek : M → Option (ℕ × Bool)) where
-  host_front : (t : ℕ) (xs ys : List Step) → HostFrom t (xs ++ ys) → HostFrom t xs
-  host_front t [] ys h = tt
-  host_front t (x ∷ xs) ys h = (h.0, host_front t xs ys h.1)
-
   -- with CLOCK's release to come the turnaround is cut there
   cut_turn : (p : Point) (ms : ℕ → M) (w : Whole) (at clock t : ℕ) (front beyond : List Step) → Fits p w → CutFits p w clock → at + 1 ≤ clock → IsAnswer M step peek (ms (talker_of p.seats).device) w → (a : AroundClock p w at clock) → Every (AskedLate clock) (turn_drives p w) → HostFrom t beyond
       → BeforeIt (turn_begins at (before clock (turn_drives p w))) front beyond a.afterwards (host clock Clock Free) → Continues M step peek p ms (events_of front) t
   cut_turn p ms w at clock t front beyond fits cuts late answer a quiet from k =
       let h = host clock Clock Free in
       let early = turn_begins at (before clock (turn_drives p w)) in
-      let order = order_rest early (h ∷ a.afterwards) (subst InOrder a.is (steps_order p w fits)) in
+      let order = order_after early (h ∷ a.afterwards) (subst InOrder a.is (steps_order p w fits)) in
       let cut : before clock (steps_of p w) ≡ early = ap (λ (l : List Step). before clock l) a.is ∙ cut_is clock early (h ∷ a.afterwards) (omega (arith, late), (omega (arith, late), front_before clock (turn_drives p w))) (omega arith, order.0) in
       let some : some_from clock (steps_of p w) ≡ true = ap (λ (l : List Step). some_from clock l) a.is ∙ some_there clock early h a.afterwards (omega arith) in
       let left = subst (HostFrom t) k.beyond_is from in

@@ -20,11 +20,11 @@ use Rattle.cbm_iec.specs.declared.port.Port.{Port}
 use Rattle.cbm_iec.specs.declared.port.Side.TheVariants.{Hearing}
 use Rattle.cbm_iec.specs.declared.port.Side.{Side}
 use Rattle.cbm_session.proofs.alone.Sessions.{AllHost}
-use Rattle.cbm_session.proofs.among.Around.{every_each}
+use Rattle.cbm_session.proofs.among.Around.{every_each, every_append}
 use Rattle.cbm_session.proofs.among.Calm.{Every}
 use Rattle.cbm_session.proofs.among.Frames.{each_sits}
 use Rattle.cbm_session.proofs.among.Fronts.{steps_order, follows_drive, follows_wires}
-use Rattle.cbm_session.proofs.among.Points.{next_party, whole_sound}
+use Rattle.cbm_session.proofs.among.Points.{next_party, whole_sound, each_seat}
 use Rattle.cbm_session.proofs.among.Sessions.{piece_among, left_is}
 use Rattle.cbm_session.proofs.among.Standing.{IsSound}
 use Rattle.cbm_session.proofs.frames.Phases.{Each}
@@ -57,10 +57,6 @@ DataStep (Drive o) line = line ≡ Data
 abbrev pub OfFrame : Step → Type 0
 OfFrame s = (is_atn s.event.change.line ≡ false) × SaysOpen s.mark × DataStep s.event.who s.event.change.line
 
-every_append : (P : Step → Type 0) (xs ys : List Step) → Every P xs → Every P ys → Every P (xs ++ ys)
-every_append P [] ys a b = b
-every_append P (x ∷ xs) ys a b = (a.0, every_append P xs ys a.1 b)
-
 cells_frame : (held : Bool) (cs : List BitCell) → Every OfFrame (cells_steps held cs)
 cells_frame held [] = tt
 cells_frame held (c ∷ cs) = every_append OfFrame (cell_steps held c) (cells_steps (not c.bit) cs) (one held c.bit c.set c.free c.pull) (cells_frame (not c.bit) cs)
@@ -82,9 +78,11 @@ hearing_frame : (t : ℕ) (eoi : Bool) (act : Act) (f : Sent) (s : Seat) → Non
 hearing_frame t true act f s n = ((refl, tt, refl), ((refl, tt, refl), ((refl, tt, refl), ((refl, n, refl), tt))))
 hearing_frame t false act f s n = ((refl, tt, refl), ((refl, n, refl), tt))
 
-pub each_seat : (P : Seat → Type 0) (ss : List Seat) → ((x : Seat) → P x) → Each P ss
-each_seat P [] f = tt
-each_seat P (x ∷ xs) f = (f x, each_seat P xs f)
+-- a drive that listens, or has no role, has nothing due
+pub listening_due : (r : Role) (side : Side) → SideAmong Listening r side → side_due side ≡ None
+listening_due Absent side h = ap (λ (x : Side). side_due x) h
+listening_due Listener side h = ap (λ (x : Side). side_due x) h
+listening_due Talker side h = elim h [ ]
 
 pub command_frame : (p : Point) (f : Sent) → Every OfFrame (steps_of p (Command f))
 command_frame p f = every_each OfFrame (λ (x : Seat). own_part p (Command f) x) (sending f) p.seats (sending_frame f) (each_seat (λ x. Every OfFrame (own_part p (Command f) x)) p.seats (λ (x : Seat). hearing_frame (wire p.seats f) false (Attention (byte_in_cells f.cells)) f x tt))
@@ -311,13 +309,8 @@ module _ (M : Type 0) (step : M → Act → M) (peek : M → Option (ℕ × Bool
           let own : OwnAt Listening s.role s.own = subst (λ (x : BusPlace). OwnAt x s.role s.own) fits.0 (each_sits (λ x. OwnAt p.place x.role x.own) (device s) p.seats s sound.own sound.seated.sits) in
           by_role s.role s q side own st.own
 
-      idle_due : (r : Role) (side : Side) → SideAmong Listening r side → side_due side ≡ None
-      idle_due Absent side h = ap (λ (x : Side). side_due x) h
-      idle_due Listener side h = ap (λ (x : Side). side_due x) h
-      idle_due Talker side h = elim h [ ]
-
       quiet : QuietAfter p (Byte eoi f)
-      quiet s q st = idle_due (next_seat (Byte eoi f) s).role q.side st.side
+      quiet s q st = listening_due (next_seat (Byte eoi f) s).role q.side st.side
 
       says_any : SaidSo p (Byte eoi f)
       says_any s sound = go s.role

@@ -9,9 +9,10 @@ use Rattle.cbm_iec.specs.declared.lines.Line.{Line}
 use Rattle.cbm_iec.specs.declared.lines.Way.TheVariants.{Pull, Free}
 use Rattle.cbm_session.proofs.among.Around.{every_drives}
 use Rattle.cbm_session.proofs.among.Calm.{Every}
+use Rattle.cbm_session.proofs.among.Points.{each_seat}
 use Rattle.cbm_session.proofs.frames.Accepted.{listen_react}
-use Rattle.cbm_session.proofs.frames.Phases.{each, ReactsBy, react_by, commands_go_in_parts, bytes_go_in_parts, none_joined}
-use Rattle.cbm_session.proofs.headline.FrameBus.{OfFrame, command_frame, byte_frame, each_seat}
+use Rattle.cbm_session.proofs.frames.Phases.{each, ReactsBy, react_by, commands_go_in_parts, bytes_go_in_parts, none_joined, freed_upto}
+use Rattle.cbm_session.proofs.headline.FrameBus.{OfFrame, command_frame, byte_frame}
 use Rattle.cbm_session.proofs.headline.FrameStarts.{offer, offer_due}
 use Rattle.cbm_session.proofs.headline.AlongBus.{AllGo}
 use Rattle.cbm_session.proofs.headline.Here.{Out, IsHosts, Here, hosts_out}
@@ -21,6 +22,7 @@ use Rattle.cbm_session.proofs.headline.SomeDue.{SomeDue, quiet_due, goes_first, 
 use Rattle.cbm_session.proofs.headline.Walk.{same_front, react_of, quiet_stays, end_quiet}
 use Rattle.cbm_session.proofs.joining.Merging.{NoneBefore}
 use Rattle.cbm_session.proofs.joining.OneDrive.{AllUpTo, cells_upto}
+use Rattle.cbm_session.proofs.joining.Owning.{none_append}
 use Rattle.cbm_session.proofs.reading.OneReading.{is_atn}
 use Rattle.cbm_session.proofs.reading.PieceReadings.{is_commanding}
 use Rattle.cbm_iec.specs.declared.port.Port.{Port}
@@ -88,10 +90,6 @@ every_none : (m : ℕ) (ss : List Step) → Every (λ s. m ≤ moment_of s) ss �
 every_none m [] a = tt
 every_none m (s ∷ ss) a = (a.0, every_none m ss a.1)
 
-none_append : (m : ℕ) (xs ys : List Step) → NoneBefore m xs → NoneBefore m ys → NoneBefore m (xs ++ ys)
-none_append m [] ys a b = b
-none_append m (x ∷ xs) ys a b = (a.0, none_append m xs ys a.1 b)
-
 -- the accepts come later than all bits
 accepts_late : (hs : List Seat) (f : Sent) (act : Act) (t : ℕ) → SeatsReact hs → t ≤ end_of f → NoneBefore (suc t) (accepts hs f act)
 accepts_late hs f act t r l =
@@ -115,12 +113,8 @@ pulses_late hs t m eoi l = every_none m (pulses hs t eoi) (every_drives (λ s. m
 whole_upto : (held : Bool) (pull : ℕ) (cs : List BitCell) (pre : List Step) (s : Step) (post : List Step) → CellsFit held pull cs → cells_whole held pull cs ≡ pre ++ s ∷ post → moment_of s ≤ last_pull pull cs
 whole_upto held pull cs pre s post h e = in_it pre (cells_whole held pull cs) e (both (cells_steps held cs) (cells_upto (last_pull pull cs) held pull cs h (omega arith)))
   where
-    abbrev_last : (v : Bool) (m : ℕ) → AllUpTo m (where_held v (host m Data Free))
-    abbrev_last true m = (omega arith, tt)
-    abbrev_last false m = tt
-
     both : (xs : List Step) → AllUpTo (last_pull pull cs) xs → AllUpTo (last_pull pull cs) (xs ++ where_held (held_after held cs) (host (last_pull pull cs) Data Free))
-    both [] a = abbrev_last (held_after held cs) (last_pull pull cs)
+    both [] a = freed_upto (held_after held cs) (last_pull pull cs)
     both (x ∷ xs) a = (a.0, both xs a.1)
 
     in_it : (pre xs : List Step) → xs ≡ pre ++ s ∷ post → AllUpTo (last_pull pull cs) xs → moment_of s ≤ last_pull pull cs

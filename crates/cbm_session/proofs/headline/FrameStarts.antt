@@ -11,6 +11,7 @@ use Rattle.cbm_iec.specs.declared.lines.Held.{Held}
 use Rattle.cbm_iec.specs.declared.port.Port.{Port}
 use Rattle.cbm_iec.specs.declared.port.Side.TheVariants.{Hearing}
 use Rattle.cbm_iec.specs.declared.port.Side.{Side}
+use Rattle.cbm_session.proofs.among.Answers.{every_left}
 use Rattle.cbm_session.proofs.among.Around.{every_drives}
 use Rattle.cbm_session.proofs.among.Calm.{Every}
 use Rattle.cbm_session.proofs.among.Changes.{Changes, all_change, in_order, last_or, last_is}
@@ -30,7 +31,7 @@ use Rattle.cbm_session.proofs.headline.Premises.{mute, Rises, Stood, rises_place
 use Rattle.cbm_session.proofs.headline.SideStates.{SideHolds, side_react}
 use Rattle.cbm_session.proofs.headline.SomeDue.{SomeDue, goes_none}
 use Rattle.cbm_session.proofs.headline.TalkSwap.{twin_compat}
-use Rattle.cbm_session.proofs.joining.Merging.{AllBefore}
+use Rattle.cbm_session.proofs.joining.Merging.{AllBefore, all_sooner}
 use Rattle.cbm_session.proofs.joining.Seating.{Sits}
 use Rattle.cbm_session.proofs.reading.PieceReadings.{is_commanding}
 use Rattle.cbm_session.proofs.among.Fronts.{steps_order}
@@ -46,17 +47,9 @@ use Rattle.cbm_session.specs.Steps.{Step, Plain, moment_of, events_of, host, dri
 abbrev pub offer : List Seat → Sent → List Step
 offer hs f = host f.ready Clock Free ∷ releases hs f
 
-every_front : (P : Step → Type 0) (xs ys : List Step) → Every P (xs ++ ys) → Every P xs
-every_front P [] ys a = tt
-every_front P (x ∷ xs) ys a = (a.0, every_front P xs ys a.1)
-
 every_early : (m : ℕ) (ss : List Step) → Every (λ s. moment_of s < m) ss → AllBefore m ss
 every_early m [] a = tt
 every_early m (s ∷ ss) a = (a.0, every_early m ss a.1)
-
-early_more : (m n : ℕ) (ss : List Step) → m ≤ n → AllBefore m ss → AllBefore n ss
-early_more m n [] l a = tt
-early_more m n (s ∷ ss) l a = let k = a.0 in (omega (arith, k, l), early_more m n ss l a.1)
 
 offer_early : (hs : List Seat) (f : Sent) → SeatsReact hs → AllBefore (wire hs f + 1) (offer hs f)
 offer_early hs f r = (
@@ -169,7 +162,7 @@ module _ (M : Type 0) (step : M → Act → M) (peek : M → Option (ℕ × Bool
                 asks = subst (λ (v : Side). AsksFor (offer p.seats f) v (peek x.machine ≡ mute d)) (sym side) (ear_asks (peek x.machine ≡ mute d) Holding (offer p.seats f));
                 holds = holds;
                 seen = seen;
-                end = λ u e. (let is = late u e in early_more (wire p.seats f + 1) u (offer p.seats f) (omega (arith, is)) (offer_early p.seats f r));
+                end = λ u e. (let is = late u e in all_sooner (wire p.seats f + 1) u (offer p.seats f) (omega (arith, is)) (offer_early p.seats f r));
               },
               more.1.0,
             ),
@@ -185,7 +178,7 @@ module _ (M : Type 0) (step : M → Act → M) (peek : M → Option (ℕ × Bool
         let steps : steps_of p (Command f) ≡ offer p.seats f ++ rest = commands_go_in_parts p f r fits ∙ parts p.seats in
         let placed = rises_placed M step peek place p.seats rises in
         let w = Command f in
-        let frame = every_front OfFrame (offer p.seats f) rest (subst (Every OfFrame) steps (command_frame p f)) in
+        let frame = every_left OfFrame (offer p.seats f) rest (subst (Every OfFrame) steps (command_frame p f)) in
         let all = all_offered r frame p.seats xs stand in
         let ds = devs_are M step peek mute place p p.seats xs stand in
         let plain : IsPlain M step peek mute place (map (λ s. device s) p.seats) (offer p.seats f) = record {

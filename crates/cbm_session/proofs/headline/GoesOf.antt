@@ -17,6 +17,8 @@ use Rattle.cbm_iec.specs.declared.mouth.Mouth.{Mouth}
 use Rattle.cbm_iec.specs.declared.port.Port.{Port}
 use Rattle.cbm_iec.specs.declared.port.Side.TheVariants.{Hearing, Speaking}
 use Rattle.cbm_iec.specs.declared.port.Side.{Side}
+use Rattle.cbm_session.proofs.Truths.{same_self}
+use Rattle.cbm_session.proofs.among.Calm.{either}
 use Rattle.cbm_session.proofs.headline.AlongBus.{told_out, other_atn, host_atn}
 use Rattle.cbm_session.proofs.headline.BusStep as bus
 use Rattle.cbm_session.proofs.headline.BusStep.{ear_undisturbed, mouth_undisturbed, Steady, Shows, Goes}
@@ -26,10 +28,6 @@ use Rattle.cbm_session.proofs.reading.OneReading.{NoAtn}
 use Rattle.cbm_session.specs.Among.{Rest, wires_of, after_another, after_the_host, FollowsAmong, ends, tells, hears, reacts}
 use Rattle.cbm_session.specs.Following.{reaction_steps}
 use Rattle.cbm_session.specs.Steps.{Step}
-
-same_same : (v : Bool) → is_same v v ≡ true
-same_same true = refl
-same_same false = refl
 
 -- a change of DATA alone leaves a side with something due
 pub data_steady : (r m t : ℕ) (was now : Lines) (side : Side) → is_same was.clock_low now.clock_low ≡ true → side_due side ≡ Some t → lined_side r m was now side ≡ side
@@ -68,7 +66,7 @@ steady_of q o t r Atn way seen n d = elim d [ ]
 steady_of q o t r Clock way seen n d = let k : true ≡ false = sym d ∙ n in absurd cc
 steady_of q o t r Data way seen n d = λ e.
     let out = told_out q t r (after_another Data way r) seen (other_atn Data way r) in
-    let clock : is_same q.others.clock_low (wires_of (after_another Data way r)).clock_low ≡ true = ap (λ (l : Lines). is_same l.clock_low (wires_of r).clock_low) seen ∙ same_same (wires_of r).clock_low in
+    let clock : is_same q.others.clock_low (wires_of (after_another Data way r)).clock_low ≡ true = ap (λ (l : Lines). is_same l.clock_low (wires_of r).clock_low) seen ∙ same_self (wires_of r).clock_low in
     out.0 ∙ data_steady q.party.reaction t t q.others (wires_of (after_another Data way r)) q.side clock e
 
 -- Out of a change of ATN, where the other drives change no CLOCK: every drive that hears, and a talker.
@@ -88,10 +86,6 @@ goes_of says {r} {r2} {q} (reacts t more e x sh l f) h seen n d =
 -- And a drive without a role beside a talker: it lets go of DATA, or does nothing, whatever the others do.
 abbrev IsCalm : Side → Type 0
 IsCalm side = (r m : ℕ) (was now : Lines) → lined_side r m was now side ≡ side
-
-either : (v : Bool) (x y : Ear) → x ≡ y → (if v then y else x) ≡ y
-either true x y e = refl
-either false x y e = e
 
 idle_calm : IsCalm (Hearing Idle)
 idle_calm r m was now =

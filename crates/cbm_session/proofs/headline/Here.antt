@@ -14,9 +14,9 @@ use Rattle.cbm_session.proofs.among.Standing.{IsSound}
 use Rattle.cbm_session.proofs.headline.AlongBus.{RisingIn}
 use Rattle.cbm_session.proofs.headline.AfterBus.{stand_so}
 use Rattle.cbm_session.proofs.headline.BusActs.{AllRan}
-use Rattle.cbm_session.proofs.headline.FrameBus.{AllWith, command_on_bus, byte_on_bus}
+use Rattle.cbm_session.proofs.headline.FrameBus.{AllWith, command_on_bus, byte_on_bus, listening_due}
 use Rattle.cbm_session.proofs.headline.Meeting.{Compat, LastSaid}
-use Rattle.cbm_session.proofs.headline.PieceBus.{whole_of, upto, upto_fits, piece_tidy, Inside, Afterwards, bytes_last, come_to}
+use Rattle.cbm_session.proofs.headline.PieceBus.{upto, upto_fits, piece_tidy, Inside, Afterwards, bytes_last, come_to, upto_last}
 use Rattle.cbm_session.proofs.headline.Premises.{mute, Rises, rises_placed, Stood, restand}
 use Rattle.cbm_session.proofs.headline.PullBus.{NextHost, PullWithin}
 use Rattle.cbm_session.proofs.headline.PullPlayed.{AllShow, pull_on_bus}
@@ -129,10 +129,6 @@ module _ (M : Type 0) (step : M → Act → M) (peek : M → Option (ℕ × Bool
     hosts_out (Nothing at clock freed) a fits plays rest more e = elim a [ ]
     hosts_out (Talk at f) a fits plays rest more e = elim a [ ]
 
-    whole_last : (o : Option ℕ) (w : Whole) → LastSaid (steps_of p w) → LastSaid (steps_of p (whole_of (upto o w)))
-    whole_last None w l = l
-    whole_last (Some c) w l = l
-
     -- A piece of a talking drive, whole or cut, that its machine answers.
     pub talkers_out : (w : Whole) (o : Option ℕ) → IsTalkers w → PieceFits p (upto o w) → IsAnswer M step peek (ms (talker_of p.seats).device) w → {n n2 : ℕ} {ss2 : List (Station M)} {es : List Event} → Plays M step peek n xs es n2 ss2 → (rest : List Event) → Compat (piece_steps p (upto o w)) (es ++ rest)
         → Out (upto o w) es n2 ss2
@@ -149,7 +145,7 @@ module _ (M : Type 0) (step : M → Act → M) (peek : M → Option (ℕ × Bool
         let t = the_seat place p p.seats xs here.stand whole.0.talker in
         let answered = all_with place ms (turns.Answers M step peek says place) (λ s x e r. ap (λ (m : M). peek (step m Released)) e) p p.seats xs here.stand here.ran in
         let k = to_talker_on_bus M step peek says place p t.0 t.1.0 t.1.1 at clock placed here.rises xs (restand M step peek says place p p.seats xs here.stand) answered o fits (answer.0, ap (λ (b : Party). says b.device) (sym t.1.2) ∙ answer.1) plays rest meets in
-        come_to M step peek place (bytes_last M step peek place plays) says p (upto o w) xs k.0 es rest n2 k.1.0 here.rises (piece_tidy M step peek place p (upto o w) fits placed (whole_last o w (unasked_last (steps_of p w) (steps_unasked p w tt)))) k.1.1
+        come_to M step peek place (bytes_last M step peek place plays) says p (upto o w) xs k.0 es rest n2 k.1.0 here.rises (piece_tidy M step peek place p (upto o w) fits placed (upto_last p o w (unasked_last (steps_of p w) (steps_unasked p w tt)))) k.1.1
     talkers_out (Nothing at clock freed) o a fits answer {n2 = n2} {ss2 = ss2} {es = es} plays rest meets =
         let w = Nothing at clock freed in
         let whole = upto_fits p o w fits in
@@ -159,7 +155,7 @@ module _ (M : Type 0) (step : M → Act → M) (peek : M → Option (ℕ × Bool
         let answered = all_with place ms (turns.Answers M step peek says place) (λ s x e r. ap (λ (m : M). peek (step m Released)) e) p p.seats xs here.stand here.ran in
         let last : LastSaid (turn_begins at (mutes p at clock freed)) = begins_last at (mutes p at clock freed) (turn_last (device t.0) (mutes p at clock freed) (mute_turn p t.0 t.1.0 t.1.1 at clock freed)) in
         let k = nothing_on_bus M step peek says place p t.0 t.1.0 t.1.1 at clock placed here.rises xs (restand M step peek says place p p.seats xs here.stand) answered freed o fits (ap (λ (b : Party). says b.device) (sym t.1.2) ∙ answer) plays rest meets in
-        come_to M step peek place (bytes_last M step peek place plays) says p (upto o w) xs k.0 es rest n2 k.1.0 here.rises (piece_tidy M step peek place p (upto o w) fits placed (whole_last o w (subst LastSaid (sym (mute_steps p at clock freed (omega (arith, whole.1)))) last))) k.1.1
+        come_to M step peek place (bytes_last M step peek place plays) says p (upto o w) xs k.0 es rest n2 k.1.0 here.rises (piece_tidy M step peek place p (upto o w) fits placed (upto_last p o w (subst LastSaid (sym (mute_steps p at clock freed (omega (arith, whole.1)))) last))) k.1.1
       where
         begins_last : (at : ℕ) (ys : List Step) → LastSaid ys → LastSaid (turn_begins at ys)
         begins_last at [] l = (tt, tt)
@@ -173,7 +169,7 @@ module _ (M : Type 0) (step : M → Act → M) (peek : M → Option (ℕ × Bool
         let telling = all_with place ms (Telling M step peek says place) (λ s x e r. ap peek e) p p.seats xs here.stand here.ran in
         let is = frame_steps M step peek says place p at t.0 t.1.0 t.1.1 f whole in
         let k = talk_on_bus M step peek says place p at t.0 t.1.0 t.1.1 f o fits (ap (λ (b : Party). says b.device) (sym t.1.2) ∙ answer) placed here.rises xs (restand M step peek says place p p.seats xs here.stand) telling plays rest meets in
-        come_to M step peek place (bytes_last M step peek place plays) says p (upto o w) xs k.0 es rest n2 k.1.0 here.rises (piece_tidy M step peek place p (upto o w) fits placed (whole_last o w (subst LastSaid (sym is) (told_last t.0.party at f)))) k.1.1
+        come_to M step peek place (bytes_last M step peek place plays) says p (upto o w) xs k.0 es rest n2 k.1.0 here.rises (piece_tidy M step peek place p (upto o w) fits placed (upto_last p o w (subst LastSaid (sym is) (told_last t.0.party at f)))) k.1.1
 
     -- ATN's pull: the host's next change is at its moment, or all have still to answer; or all are after it.
     pub record PullInside (at : ℕ) (es : List Event) (ss2 : List (Station M)) : Type 0 where
@@ -208,14 +204,9 @@ module _ (M : Type 0) (step : M → Act → M) (peek : M → Option (ℕ × Bool
         in_hold (s ∷ ss) [] h = elim h [ ]
         in_hold (s ∷ ss) (z ∷ zs) h = (quiet_shows z (ap (λ (v : Side). side_due v) h.0.stands.side), in_hold ss zs h.1)
 
-        listening : (r : Role) (side : Side) → SideAmong Listening r side → side_due side ≡ None
-        listening Absent side h = ap (λ (v : Side). side_due v) h
-        listening Listener side h = ap (λ (v : Side). side_due v) h
-        listening Talker side h = elim h [ ]
-
         all_showing : (q : BusPlace) → p.place ≡ q → AllShow M step peek mute place xs
         all_showing Open e = open_show p.seats xs here.stand (λ r side h. done_due side (subst (λ (v : BusPlace). SideAmong v r side) e h))
         all_showing (Commanding some) e = absurd (subst (λ (v : BusPlace). Rattle.cbm_session.specs.Pieces.PullFits p at v) e fits)
-        all_showing Listening e = open_show p.seats xs here.stand (λ r side h. listening r side (subst (λ (v : BusPlace). SideAmong v r side) e h))
+        all_showing Listening e = open_show p.seats xs here.stand (λ r side h. listening_due r side (subst (λ (v : BusPlace). SideAmong v r side) e h))
         all_showing (Leading t) e = absurd (subst (λ (v : BusPlace). Rattle.cbm_session.specs.Pieces.PullFits p at v) e fits)
         all_showing (Cutting c) e = here.show c e

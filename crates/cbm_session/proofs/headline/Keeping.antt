@@ -39,6 +39,10 @@ pub host_after_it : (t : ℕ) (xs ys : List Step) → HostFrom t (xs ++ ys) → 
 host_after_it t [] ys h = h
 host_after_it t (x ∷ xs) ys h = host_after_it t xs ys h.1
 
+pub host_front : (t : ℕ) (xs ys : List Step) → HostFrom t (xs ++ ys) → HostFrom t xs
+host_front t [] ys h = tt
+host_front t (x ∷ xs) ys h = (h.0, host_front t xs ys h.1)
+
 pub events_append : (xs ys : List Step) → events_of (xs ++ ys) ≡ events_of xs ++ events_of ys
 events_append [] ys = refl
 events_append (x ∷ xs) ys = ap (λ (zs : List Event). x.event ∷ zs) (events_append xs ys)
@@ -74,6 +78,19 @@ module _ (M : Type 0) (step : M → Act → M) (peek : M → Option (ℕ × Bool
   plays_then {n} {n2} {n3} {ss} {ss2} {ss3} {es} {es2} (reaction t b o h more y e i k f) g =
       let ds = drive_events o.port.party.device (shown M step peek t o) in
       reaction t b o h (more ++ es2) y e i (ap (λ (v : List Event). v ++ es2) k ∙ append_assoc ds more es2) (plays_then f g)
+
+  -- where a reaction is the first that is due, nothing is due sooner
+  pub all_in_time : (t : ℕ) (before : List (Station M)) (o : Station M) (afterwards : List (Station M)) → IsFirst M step peek t before o afterwards → AllInTime M step peek t (before ++ o ∷ afterwards)
+  all_in_time t [] o afterwards f = (due (port_due o.port) f.due, f.in_time)
+    where
+      due : (x : Option ℕ) → x ≡ Some t → IsInTime t x
+      due None e = tt
+      due (Some u) e = let k : u ≡ t = cc in omega (arith, k)
+  all_in_time t (b ∷ before) o afterwards f = (one (port_due b.port) f.later.0, all_in_time t before o afterwards (record { due = f.due; later = f.later.1; in_time = f.in_time }))
+    where
+      one : (x : Option ℕ) → IsLaterDue t x → IsInTime t x
+      one None k = tt
+      one (Some u) k = omega (arith, k)
 
   module _ (bs : List Party) (ms : ℕ → M) where
     abbrev from_rest : List (Station M)
@@ -266,18 +283,6 @@ module _ (M : Type 0) (step : M → Act → M) (peek : M → Option (ℕ × Bool
       begins_here : (es : List Event) (ks : List Piece) (done more : List Step) → Splits bs ks done more → events_of done ≡ es → IsBeginning bs es
       begins_here es ks done more sp e = (acts_of bs done, (ks, (done, (more, (sp, e, refl)))))
 
-      first_in_time : (t : ℕ) (before : List (Station M)) (o : Station M) (afterwards : List (Station M)) → IsFirst M step peek t before o afterwards → AllInTime M step peek t (before ++ o ∷ afterwards)
-      first_in_time t [] o afterwards f = (due (port_due o.port) f.due, f.in_time)
-        where
-          due : (x : Option ℕ) → x ≡ Some t → IsInTime t x
-          due None e = tt
-          due (Some u) e = let k : u ≡ t = cc in omega (arith, k)
-      first_in_time t (b ∷ before) o afterwards f = (one (port_due b.port) f.later.0, first_in_time t before o afterwards (record { due = f.due; later = f.later.1; in_time = f.in_time }))
-        where
-          one : (x : Option ℕ) → IsLaterDue t x → IsInTime t x
-          one None k = tt
-          one (Some u) k = omega (arith, k)
-
       -- of the events of a reaction the trace with them begins a session too
       reaction_begins : (es : List Event) (t : ℕ) (before : List (Station M)) (o : Station M) (afterwards : List (Station M)) → Played es (before ++ o ∷ afterwards) → IsFirst M step peek t before o afterwards
           → Adopted es (suc t) → IsBeginning bs (es ++ drive_events o.port.party.device (shown M step peek t o))
@@ -311,7 +316,7 @@ module _ (M : Type 0) (step : M → Act → M) (peek : M → Option (ℕ × Bool
           → IsBeginning bs es → NotLateYet any gives_any es → HostKeeps bs (es ++ (ds ++ more)) end → ds ≡ drive_events o.port.party.device (shown M step peek t o) → AllAtMoment t ds → IsBeginning bs (es ++ ds)
       begins_more es [] more t end before o afterwards g f b n k e a = subst (λ (v : List Event). IsBeginning bs v) (sym (append-nil es)) b
       begins_more es (d ∷ ds) more t end before o afterwards g f b n k e a =
-          let x = adopted es (d ∷ ds) more (before ++ o ∷ afterwards) t end g (first_in_time t before o afterwards f) b n k a.0 in
+          let x = adopted es (d ∷ ds) more (before ++ o ∷ afterwards) t end g (all_in_time t before o afterwards f) b n k a.0 in
           let later = laws.postpones es t before o afterwards x g f (showing (shown M step peek t o) e) in
           subst (λ (v : List Event). IsBeginning bs (es ++ v)) (sym e) (reaction_begins es t before o afterwards g f later)
         where
@@ -354,7 +359,7 @@ module _ (M : Type 0) (step : M → Act → M) (peek : M → Option (ℕ × Bool
           let same : es ++ es2 ≡ (es ++ ds) ++ more = ap (λ (v : List Event). es ++ v) e ∙ sym (append_assoc es ds more) in
           let gu : Plays M step peek zero from_rest es n (before ++ o ∷ afterwards) = subst (λ (v : List (Station M)). Plays M step peek zero from_rest es n v) u g in
           let played : Played es (before ++ o ∷ afterwards) = (n, gu) in
-          let i = first_in_time t before o afterwards f in
+          let i = all_in_time t before o afterwards f in
           let k1 = subst (λ (v : List Event). HostKeeps bs (es ++ v) end) e k in
           let b2 = begins_more es ds more t end before o afterwards played f b nl k1 refl at in
           let one : Plays M step peek n (before ++ o ∷ afterwards) (ds ++ []) (suc t) (reacting M step peek t before o afterwards) =

@@ -6,14 +6,14 @@ use Rattle.cbm_iec.specs.declared.event.Event.{Event}
 use Rattle.cbm_iec.specs.declared.event.Who.TheVariants.{Host, Drive}
 use Rattle.cbm_iec.specs.declared.event.Who.{Who}
 use Rattle.cbm_iec.specs.declared.party.Party.{Party}
-use Rattle.cbm_session.proofs.headline.AlongBus.{AllGo, devs, SitsIn, OwnedIn, sitting_due, next_inside}
+use Rattle.cbm_session.proofs.headline.AlongBus.{AllGo, devs, SitsIn, OwnedIn, sitting_due, next_inside, owned_after}
 use Rattle.cbm_session.proofs.headline.BusActs.{AllRan, acts_append}
-use Rattle.cbm_session.proofs.headline.BusStep.{Tied}
+use Rattle.cbm_session.proofs.headline.BusStep.{Tied, tied_after}
 use Rattle.cbm_session.proofs.headline.FrameBus.{steps_owned}
 use Rattle.cbm_session.proofs.headline.Here.{Here, PullInside}
-use Rattle.cbm_session.proofs.headline.Keeping.{HostFrom}
+use Rattle.cbm_session.proofs.headline.Keeping.{HostFrom, host_front}
 use Rattle.cbm_session.proofs.headline.Meeting.{in_time_at}
-use Rattle.cbm_session.proofs.headline.PieceBus.{devices_after, steps_tied, tied_after, owned_after}
+use Rattle.cbm_session.proofs.headline.PieceBus.{devices_after, steps_tied}
 use Rattle.cbm_session.proofs.headline.Premises.{mute, place_in, devices, bus_rises, bus_stands, bus_ran, rest_devices, Rises, rises_placed}
 use Rattle.cbm_session.proofs.headline.PullBus.{NextHost, HostNext, Pulled, AllOf}
 use Rattle.cbm_session.proofs.headline.PullNow.{pulled_due, next_answer}
@@ -58,10 +58,6 @@ module _ (M : Type 0) (step : M → Act → M) (peek : M → Option (ℕ × Bool
       let d = s.port.party.device in
       (subst (λ (m : M). Run M step peek (ms d) (acts_for d done) m) (sym r.0) (f d (g d (inl refl))), ran_each ms done ds ss f (λ e i. g e (inr i)) r.1)
 
-  pub host_front : (t : ℕ) (xs ys : List Step) → HostFrom t (xs ++ ys) → HostFrom t xs
-  host_front t [] ys h = tt
-  host_front t (x ∷ xs) ys h = (h.0, host_front t xs ys h.1)
-
   pub among_time : (t : ℕ) (before : List (Station M)) (o : Station M) (afterwards : List (Station M)) → AllInTime M step peek t (before ++ o ∷ afterwards) → IsInTime t (port_due o.port)
   among_time t [] o afterwards h = h.0
   among_time t (b ∷ before) o afterwards h = among_time t before o afterwards h.1
@@ -72,10 +68,10 @@ module _ (M : Type 0) (step : M → Act → M) (peek : M → Option (ℕ × Bool
     back_owned : OwnedIn M step peek mute place (devs M step peek mute place ss) i.so.back
     back_owned =
         subst (λ (l : List ℕ). OwnedIn M step peek mute place l i.so.back) (sym ds)
-        (owned_after M step peek place (map (λ s. device s) p.seats) i.so.front i.so.back (subst (OwnedIn M step peek mute place (map (λ s. device s) p.seats)) i.so.parts (steps_owned M step peek mute place p (PullPiece at))))
+        (owned_after M step peek mute place (map (λ s. device s) p.seats) i.so.front i.so.back (subst (OwnedIn M step peek mute place (map (λ s. device s) p.seats)) i.so.parts (steps_owned M step peek mute place p (PullPiece at))))
 
     back_tied : Tied place i.so.back
-    back_tied = tied_after M step peek place i.so.front i.so.back (subst (Tied place) i.so.parts (steps_tied place p (Full (PullPiece at)) fits (rises_placed M step peek place p.seats now.rises)))
+    back_tied = tied_after place i.so.front i.so.back (subst (Tied place) i.so.parts (steps_tied place p (Full (PullPiece at)) fits (rises_placed M step peek place p.seats now.rises)))
 
     back_rises : Rises M step peek place (devs M step peek mute place ss)
     back_rises = subst (λ (l : List ℕ). Rises M step peek place l) (sym ds) now.rises

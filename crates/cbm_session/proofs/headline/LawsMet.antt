@@ -5,13 +5,13 @@ use Rattle.cbm_iec.specs.declared.event.Event.{Event}
 use Rattle.cbm_iec.specs.declared.event.Who.TheVariants.{Host}
 use Rattle.cbm_iec.specs.declared.party.Party.{Party}
 use Rattle.cbm_session.proofs.headline.Adopting.{adopt}
-use Rattle.cbm_session.proofs.headline.AlongBus.{all_in_time}
-use Rattle.cbm_session.proofs.headline.Keeping.{HostFrom, Played, Adopted, keeps_from}
+use Rattle.cbm_session.proofs.headline.Keeping.{HostFrom, Played, Adopted, keeps_from, all_in_time}
 use Rattle.cbm_session.proofs.headline.Lawful.{rest_here, ran_law, soon_law, next_law}
 use Rattle.cbm_session.proofs.headline.Postponing.{postpone}
-use Rattle.cbm_session.proofs.headline.Premises.{mute, place_in}
-use Rattle.cbm_session.proofs.headline.PutOff.{host_now, goes_rest}
+use Rattle.cbm_session.proofs.headline.Premises.{place_in}
+use Rattle.cbm_session.proofs.headline.PutOff.{host_now}
 use Rattle.cbm_session.proofs.headline.SomeDue.{due_among}
+use Rattle.cbm_session.proofs.joining.Merging.{goes_after}
 use Rattle.cbm_session.proofs.timing.SessionOrder.{goes_on}
 use Rattle.cbm_session.specs.Answers.{Allowed}
 use Rattle.cbm_session.specs.Laws.{GoesOn}
@@ -59,9 +59,9 @@ module _ (M : Type 0) (step : M → Act → M) (peek : M → Option (ℕ × Bool
       by_more (s ∷ more) e =
           let order = subst GoesOn (ap (λ (l : List Step). a.done ++ l) e) (order_met a.pieces a.done a.more a.splits) in
           let from = subst (HostFrom t) e a.host in
-          let late : is_host s.event.who ≡ false → t ≤ moment_of s = λ n. soon_law M step peek bs ms is_bus machine g.1 t a.pieces a.done more s (all_in_time M step peek mute (place_in bs) t before o afterwards f)
+          let late : is_host s.event.who ≡ false → t ≤ moment_of s = λ n. soon_law M step peek bs ms is_bus machine g.1 t a.pieces a.done more s (all_in_time M step peek t before o afterwards f)
           (record { linked = a.splits.linked; steps = a.splits.steps ∙ ap (λ (l : List Step). a.done ++ l) e }) a.events a.allowed n in
-          elim (host_now t s more (goes_rest a.done (s ∷ more) order) from late) [
+          elim (host_now t s more (goes_after a.done (s ∷ more) order) from late) [
             | inl h ↦ later (subst (HostFrom (suc t)) (sym e) h)
             | inr k ↦ put_off s more e k.0 k.1
           ]

@@ -11,8 +11,8 @@ use Rattle.cbm_iec.specs.declared.party.Role.TheVariants.{Absent, Listener, Talk
 use Rattle.cbm_iec.specs.declared.party.Role.{Role}
 use Rattle.cbm_session.proofs.among.Around.{every_each}
 use Rattle.cbm_session.proofs.among.Calm.{Every}
+use Rattle.cbm_session.proofs.among.Points.{each_seat}
 use Rattle.cbm_session.proofs.headline.BusActs.{acts_append}
-use Rattle.cbm_session.proofs.headline.FrameBus.{each_seat}
 use Rattle.cbm_session.proofs.headline.Here.{LeadsThere, Here, ran_on, the_seat}
 use Rattle.cbm_session.proofs.headline.PieceBus.{devices_after, Afterwards}
 use Rattle.cbm_session.proofs.headline.Premises.{mute, Rises}

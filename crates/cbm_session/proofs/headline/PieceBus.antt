@@ -1,5 +1,5 @@
 -- A piece of a session, whole or cut, on a bus: how each drive follows it and stands after it, and what a play that keeps to it comes to.
-use Rattle.std.proofs.Common.{◌≡◌, ℕ, suc, ◌≤◌, ◌⊎◌, inl, inr, Bool, List, [], ◌∷◌, ◌++◌, map, append-nil, Option, Some, None, ap, sym, ◌∙◌, subst, arith, refl}
+use Rattle.std.proofs.Common.{◌≡◌, ℕ, suc, ◌⊎◌, inl, inr, Bool, List, [], ◌∷◌, ◌++◌, map, append-nil, Option, Some, None, ap, sym, ◌∙◌, subst, arith, refl}
 use Rattle.std.proofs.lemmas.Bool.Decides.{leb_tells}
 use Rattle.cbm_iec.specs.declared.machine.Act.{Act}
 use Rattle.cbm_iec.specs.declared.event.Event.{Event}
@@ -12,22 +12,22 @@ use Rattle.cbm_session.proofs.among.Fronts.{steps_order, cut_among, follows_driv
 use Rattle.cbm_session.proofs.among.Points.{next_party, whole_sound, cut_sound}
 use Rattle.cbm_session.proofs.among.Sessions.{piece_among, left_is}
 use Rattle.cbm_session.proofs.among.Standing.{IsSound}
-use Rattle.cbm_session.proofs.headline.AlongBus.{GoesSo, AllGo, devs, OwnedIn, IsPlain, WithinAll, PassedAll}
-use Rattle.cbm_session.proofs.headline.AfterBus.{next_seats, stand_so, all_there, all_show}
+use Rattle.cbm_session.proofs.headline.AlongBus.{GoesSo, AllGo, devs, OwnedIn, IsPlain, WithinAll, PassedAll, owned_after}
+use Rattle.cbm_session.proofs.headline.AfterBus.{stand_so, all_there, all_show}
 use Rattle.cbm_session.proofs.headline.BusActs.{RanOn}
 use Rattle.cbm_session.proofs.headline.BusStep as bus
-use Rattle.cbm_session.proofs.headline.BusStep.{Goes, Tied}
+use Rattle.cbm_session.proofs.headline.BusStep.{Goes, Tied, tied_after}
 use Rattle.cbm_session.proofs.headline.CutBus.{last_front, goes_front, order_front, tied_front, owned_front}
 use Rattle.cbm_session.proofs.headline.FrameBus.{StandsSo, AllStand, AllEnd, AllWith, steps_owned}
 use Rattle.cbm_session.proofs.headline.Meeting.{LastSaid, last_after_it}
 use Rattle.cbm_session.proofs.headline.Premises.{mute, Rises, Stood, stood}
 use Rattle.cbm_session.proofs.headline.PullPlayed.{AllShow}
 use Rattle.cbm_session.proofs.headline.Ties.{Placed, tied_all}
-use Rattle.cbm_session.proofs.joining.Merging.{InOrder, AllBefore, before_yes, before_no, cut_front}
+use Rattle.cbm_session.proofs.joining.Merging.{InOrder, before_yes, before_no, cut_front, order_after, goes_after}
 use Rattle.cbm_session.proofs.joining.Orders.{host_order}
 use Rattle.cbm_session.proofs.joining.Owning.{part_owned, part_order}
 use Rattle.cbm_session.proofs.reading.OneReading.{NoAtn}
-use Rattle.cbm_session.proofs.reading.PieceReadings.{next_seat}
+use Rattle.cbm_session.proofs.reading.PieceReadings.{next_seat, next_seats}
 use Rattle.cbm_session.proofs.timing.SessionOrder.{part_host, piece_goes}
 use Rattle.cbm_session.specs.Among.{Rest, wires_of, FollowsAmong}
 use Rattle.cbm_session.specs.Buses.{rest_at, SaysAs, StandsAmong}
@@ -148,13 +148,13 @@ every_before P c (y ∷ ys) a = elim (leb_tells (suc (moment_of y)) c) [
   | inr x ↦ (let l = x.1 in subst (Every P) (sym (before_no c y ys (omega (arith, l)))) (every_before P c ys a.1))
 ]
 
-pub all_sooner : (c t : ℕ) (ys : List Step) → c ≤ t → AllBefore c ys → AllBefore t ys
-all_sooner c t [] l a = tt
-all_sooner c t (y ∷ ys) l a = let b = a.0 in (omega (arith, b, l), all_sooner c t ys l a.1)
-
 pub upto_fits : (p : Point) (o : Option ℕ) (w : Whole) → PieceFits p (upto o w) → Fits p w
 upto_fits p None w f = f
 upto_fits p (Some c) w f = f.0
+
+pub upto_last : (p : Point) (o : Option ℕ) (w : Whole) → LastSaid (steps_of p w) → LastSaid (steps_of p (whole_of (upto o w)))
+upto_last p None w l = l
+upto_last p (Some c) w l = l
 
 -- who goes with steps stays who it is
 goes_party : (says : Option (ℕ × Bool)) {r r2 : Rest} {q q2 : Port} {ss : List Step} → Goes says r q ss r2 q2 → q2.party ≡ q.party
@@ -181,24 +181,8 @@ module _ (M : Type 0) (step : M → Act → M) (peek : M → Option (ℕ × Bool
   pub piece_tidy : (p : Point) (k : Piece) → PieceFits p k → Placed place p.seats → LastSaid (steps_of p (whole_of k)) → IsTidy (map (λ s. device s) p.seats) (piece_steps p k)
   piece_tidy p k f placed last = record { last = steps_last p k f last; goes_on = steps_go p k f; order = piece_order p k f; tied = steps_tied place p k f placed; owned = steps_sit p k f }
 
-  pub tied_after : (xs ys : List Step) → Tied place (xs ++ ys) → Tied place ys
-  tied_after [] ys h = h
-  tied_after (x ∷ xs) ys h = tied_after xs ys h.1
-
-  order_after : (xs ys : List Step) → InOrder (xs ++ ys) → InOrder ys
-  order_after [] ys h = h
-  order_after (x ∷ xs) ys h = order_after xs ys h.1
-
-  goes_after : (xs ys : List Step) → GoesOn (xs ++ ys) → GoesOn ys
-  goes_after [] ys h = h
-  goes_after (x ∷ xs) ys h = goes_after xs ys h.1
-
-  pub owned_after : (ds : List ℕ) (xs ys : List Step) → OwnedIn M step peek mute place ds (xs ++ ys) → OwnedIn M step peek mute place ds ys
-  owned_after ds [] ys h = h
-  owned_after ds (x ∷ xs) ys h = owned_after ds xs ys h.1
-
   pub tidy_after_it : (ds : List ℕ) (xs ys : List Step) → IsTidy ds (xs ++ ys) → IsTidy ds ys
-  tidy_after_it ds xs ys h = record { last = last_after_it xs ys h.last; goes_on = goes_after xs ys h.goes_on; order = order_after xs ys h.order; tied = tied_after xs ys h.tied; owned = owned_after ds xs ys h.owned }
+  tidy_after_it ds xs ys h = record { last = last_after_it xs ys h.last; goes_on = goes_after xs ys h.goes_on; order = order_after xs ys h.order; tied = tied_after place xs ys h.tied; owned = owned_after M step peek mute place ds xs ys h.owned }
 
   pub tidy_plain : (says : ℕ → Option (ℕ × Bool)) (ds : List ℕ) (ys : List Step) → IsTidy ds ys → NoAtn ys → IsPlain M step peek says place ds ys
   tidy_plain says ds ys h n = record { noatn = n; last = h.last; goes_on = h.goes_on; order = h.order; tied = h.tied; owned = h.owned }

@@ -9,10 +9,10 @@ use Rattle.cbm_iec.specs.declared.event.Who.{Who}
 use Rattle.cbm_iec.specs.declared.port.Port.{Port}
 use Rattle.cbm_iec.specs.declared.port.Side.TheVariants.{Hearing}
 use Rattle.cbm_iec.specs.declared.port.Side.{Side}
-use Rattle.cbm_session.proofs.headline.AlongBus.{devs, SitsIn, OwnedIn, RisingIn, other_atn, sits_split, sits_after, rising_first, all_in_time}
-use Rattle.cbm_session.proofs.headline.BusStep.{Comes, here, there, Tied, own_first, not_mine, another, host_drive}
-use Rattle.cbm_session.proofs.headline.Keeping.{HostFrom}
-use Rattle.cbm_session.proofs.headline.Meeting.{FirstIs, in_time_at, no_steps}
+use Rattle.cbm_session.proofs.headline.AlongBus.{devs, SitsIn, OwnedIn, RisingIn, other_atn, sits_split, sits_after, rising_first}
+use Rattle.cbm_session.proofs.headline.BusStep.{Comes, here, there, Tied, own_first, not_mine, another, host_drive, comes_first, moment_at}
+use Rattle.cbm_session.proofs.headline.Keeping.{HostFrom, all_in_time}
+use Rattle.cbm_session.proofs.headline.Meeting.{in_time_at, no_steps}
 use Rattle.cbm_session.proofs.headline.PullBus.{some_shown, ended, Shows, Rests, Pulled, AllOf, PartsOf, parts_of, answered, shows_next}
 use Rattle.cbm_session.proofs.headline.PullSettled.{starting_told}
 use Rattle.cbm_session.specs.Among.{Rest, wires_of, after_another, FollowsAmong, ends, tells, hears, reacts}
@@ -25,10 +25,6 @@ use Rattle.cbm_session.specs.Steps.{Step, moment_of, events_of}
 abbrev pub ShowsAll : Option (ℕ × Bool) → Port → Type 0
 ShowsAll says q = (u : ℕ) → port_due q ≡ Some u → reaction_changes u says q ≡ [] → ⊥
 
-moment_at : (d u : ℕ) (y : Step) (ys rs more : List Step) → FirstIs d u (events_of rs) → y ∷ ys ≡ rs ++ more → moment_of y ≡ u
-moment_at d u y ys [] more f e = elim f [ ]
-moment_at d u y ys (x ∷ rs) more f e = let same : y ≡ x = cc in ap (λ (v : Step). moment_of v) same ∙ f.1
-
 -- whose step comes first has its reaction due then, and for a step of another, or of the host, it is in time
 pub own_due : (says : Option (ℕ × Bool)) {r r2 : Rest} {q q2 : Port} {y : Step} {ys : List Step} → FollowsAmong says r q (y ∷ ys) r2 q2 → y.event.who ≡ Drive q.party.device → ShowsAll says q → port_due q ≡ Some (moment_of y)
 own_due says (tells i k f) w sh = absurd cc
@@ -40,10 +36,6 @@ pub first_in_time : (says : Option (ℕ × Bool)) {r r2 : Rest} {q q2 : Port} {y
 first_in_time says (tells i k f) w sh = i
 first_in_time says (hears a i k f) w sh = i
 first_in_time says {q = q} {y = y} {ys = ys} (reacts u more d e s l f) w sh = absurd (not_mine q.party.device u y.event.who y ys (reaction_steps u says q) more refl w (own_first says q u (sh u d)) e)
-
-comes_first : (d t : ℕ) (rs more : List Step) → FirstIs d t (events_of rs) → Comes d t (rs ++ more)
-comes_first d t [] more f = elim f [ ]
-comes_first d t (r ∷ rs) more f = here f.0 f.1
 
 module _ (M : Type 0) (step : M → Act → M) (peek : M → Option (ℕ × Bool)) (says : ℕ → Option (ℕ × Bool)) (place : ℕ → ℕ) (at : ℕ) where
   -- an answer that shows and is due at t comes, where the host changes nothing up to t
@@ -156,7 +148,7 @@ module _ (M : Type 0) (step : M → Act → M) (peek : M → Option (ℕ × Bool
                       let early = soon not_own in
                       let all2 = subst (λ (l : List Step). AllOf M step peek says place at (λ x e. Pulled M step peek says place at x l e) (before ++ o ∷ afterwards) es) e all in
                       let sits = (subst (OwnedIn M step peek says place (devs M step peek says place (before ++ o ∷ afterwards))) e owned).0 u w in
-                      let late = pulled_due u t (before ++ o ∷ afterwards) y zs es all2 w sits (all_in_time M step peek says place t before o afterwards f) in
+                      let late = pulled_due u t (before ++ o ∷ afterwards) y zs es all2 w sits (all_in_time M step peek t before o afterwards f) in
                       let now : moment_of y ≡ t = omega (arith, early, late) in
                       elim (sits_split M step peek says place u before o afterwards sits) [
                         | inl i ↦ (

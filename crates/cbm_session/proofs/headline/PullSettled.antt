@@ -10,7 +10,6 @@ use Rattle.cbm_iec.specs.declared.ear.Ear.{Ear}
 use Rattle.cbm_iec.specs.declared.event.Who.TheVariants.{Host, Drive}
 use Rattle.cbm_iec.specs.declared.event.Who.{Who}
 use Rattle.cbm_iec.specs.declared.lines.Change.{Change}
-use Rattle.cbm_iec.specs.declared.lines.Line.TheVariants.{Atn, Clock, Data}
 use Rattle.cbm_iec.specs.declared.lines.Line.{Line}
 use Rattle.cbm_iec.specs.declared.lines.Way.{Way}
 use Rattle.cbm_iec.specs.declared.lines.Held.{Held}
@@ -19,7 +18,7 @@ use Rattle.cbm_iec.specs.declared.port.Port.{Port}
 use Rattle.cbm_iec.specs.declared.port.Side.TheVariants.{Hearing}
 use Rattle.cbm_iec.specs.declared.port.Side.{Side}
 use Rattle.cbm_session.proofs.among.Around.{NotHost}
-use Rattle.cbm_session.proofs.among.Calm.{Every}
+use Rattle.cbm_session.proofs.among.Calm.{Every, other_host}
 use Rattle.cbm_session.proofs.among.Pulls.{clock_held}
 use Rattle.cbm_session.proofs.among.Standing.{rest_next, rest_afterwards}
 use Rattle.cbm_session.proofs.headline.AlongBus.{other_atn, told_out}
@@ -127,12 +126,6 @@ among_told says {q = q} {t = t} {line = line} {way = way} {mark = mark} {ss = ss
     let late : u < t = subst (FirstIsAfter u) (sym k.1) l in
     let soon : t ≤ u = subst (λ (o : Option ℕ). IsInTime t o) d n in
     absurd (omega (arith, late, soon))
-
--- Steps of drives leave what the host holds.
-other_host : (line : Line) (way : Way) (r : Rest) → (after_another line way r).host ≡ r.host
-other_host Atn way r = refl
-other_host Clock way r = refl
-other_host Data way r = refl
 
 pub other_low : (line : Line) (way : Way) (r : Rest) → r.host.clock_low ≡ true → (after_another line way r).host.clock_low ≡ true
 other_low line way r h = ap (λ (l : Lines). l.clock_low) (other_host line way r) ∙ h

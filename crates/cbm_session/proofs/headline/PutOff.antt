@@ -37,7 +37,7 @@ use Rattle.cbm_session.proofs.headline.TurnLater.{Later, lead_later, mute_later,
 use Rattle.cbm_session.proofs.headline.TurnTwin.{turn_begins, leads, mutes, lead_steps, mute_steps}
 use Rattle.cbm_session.proofs.headline.Unasked.{each_runs, runs_unasked, steps_unasked}
 use Rattle.cbm_session.proofs.headline.Walk.{quiet_stays, end_quiet}
-use Rattle.cbm_session.proofs.joining.Merging.{NoneBefore, InOrder, AllBefore, cut_front}
+use Rattle.cbm_session.proofs.joining.Merging.{NoneBefore, InOrder, AllBefore, cut_front, goes_after}
 use Rattle.cbm_session.specs.Among.{Rest, wires_of, after_the_host}
 use Rattle.cbm_session.specs.Answers.{IsAnswer}
 use Rattle.cbm_session.specs.Laws.{NotSooner, AllAfter, GoesOn}
@@ -117,10 +117,6 @@ now_or_late t (s ∷ ss) g n = elim (host_now t s ss g (all_host_from t (s ∷ s
   | inl h ↦ inl h
   | inr h ↦ inr (s, (ss, (refl, h)))
 ]
-
-pub goes_rest : (xs ys : List Step) → GoesOn (xs ++ ys) → GoesOn ys
-goes_rest [] ys g = g
-goes_rest (x ∷ xs) ys g = goes_rest xs ys g.1
 
 module _ (M : Type 0) (step : M → Act → M) (peek : M → Option (ℕ × Bool)) (place : ℕ → ℕ) where
   -- the host's pull of DATA before ATN's release leaves nothing due
@@ -263,7 +259,7 @@ module _ (M : Type 0) (step : M → Act → M) (peek : M → Option (ℕ × Bool
     before_off (Talk at f) a fits answer cut shown zs same ran bytes =
         let w = Talk at f in
         let k = cut_front t (steps_of p w) (steps_order p w fits) in
-        let goes = goes_rest (before t (steps_of p w)) k.0 (subst GoesOn k.1 (steps_go p (Full w) fits)) in
+        let goes = goes_after (before t (steps_of p w)) k.0 (subst GoesOn k.1 (steps_go p (Full w) fits)) in
         elim (now_or_late t k.0 goes k.2) [
           | inl late ↦ subst (λ (l : List Event). Continues M step peek p ms l (suc t)) shown (ended M step peek place machine p ms xs here zs w tt fits answer (suc t) (before t (steps_of p w)) k.0 k.1 late same ran bytes)
           | inr h ↦ absurd (talk_never M step peek place p ms xs here plays t due at f fits answer (before t (steps_of p w)) h.0 h.1.0 (k.1 ∙ ap (λ (l : List Step). before t (steps_of p w) ++ l) h.1.1.0) shown h.1.1.1.0 h.1.1.1.1)

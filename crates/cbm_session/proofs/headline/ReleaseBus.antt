@@ -24,7 +24,7 @@ use Rattle.cbm_session.proofs.among.Around.{every_merge, every_each, merge_drive
 use Rattle.cbm_session.proofs.among.Calm.{Every}
 use Rattle.cbm_session.proofs.among.Frames.{in_hold}
 use Rattle.cbm_session.proofs.among.Fronts.{steps_order, follows_drive, follows_wires}
-use Rattle.cbm_session.proofs.among.Points.{next_party, whole_sound, commanding_rest}
+use Rattle.cbm_session.proofs.among.Points.{next_party, whole_sound, commanding_rest, each_seat}
 use Rattle.cbm_session.proofs.among.Sessions.{piece_among, left_is}
 use Rattle.cbm_session.proofs.among.Standing.{IsSound}
 use Rattle.cbm_session.proofs.among.Turns.{commanding_port, drives_of, late_drives, listener_steps}
@@ -32,7 +32,7 @@ use Rattle.cbm_session.proofs.headline.AlongBus.{GoesSo, AllGo, OwnedIn, devs_te
 use Rattle.cbm_session.proofs.headline.BusActs.{ran_then, ran_stays}
 use Rattle.cbm_session.proofs.headline.BusStep as bus
 use Rattle.cbm_session.proofs.headline.BusStep.{Tied}
-use Rattle.cbm_session.proofs.headline.FrameBus.{ear_asks, StandsSo, AllStand, AllEnd, OfFrame, each_seat, frame_noatn, frame_last, frame_others, devs_are, steps_owned, twin_self}
+use Rattle.cbm_session.proofs.headline.FrameBus.{ear_asks, StandsSo, AllStand, AllEnd, OfFrame, frame_noatn, frame_last, frame_others, devs_are, steps_owned, twin_self, listening_due}
 use Rattle.cbm_session.proofs.headline.GoesOf.{OthersData, goes_of}
 use Rattle.cbm_session.proofs.headline.Meeting.{Meets, Compat, AsksFor}
 use Rattle.cbm_session.proofs.headline.SideStates.{EarHolds, SideHolds, SideAsks}
@@ -47,10 +47,10 @@ use Rattle.cbm_session.proofs.reading.OneReading.{NoAtn}
 use Rattle.cbm_session.proofs.reading.PieceReadings.{next_seat}
 use Rattle.cbm_session.proofs.timing.SessionOrder.{part_host, piece_goes}
 use Rattle.cbm_session.specs.Among.{Rest, wires_of, after_the_host, CountsFor, FollowsAmong, tells, reacts}
-use Rattle.cbm_session.specs.Buses.{rest_at, SaysAs, SideAmong, StandsAmong}
+use Rattle.cbm_session.specs.Buses.{rest_at, SaysAs, StandsAmong}
 use Rattle.cbm_session.specs.Following.{IsInTime}
 use Rattle.cbm_session.specs.Laws.{GoesOn}
-use Rattle.cbm_session.specs.Pieces.{Whole, Point, let_go, host_part, own_part, steps_of, Fits, whole_point, Full, ToListener, ToNobody, Commanding, Listening}
+use Rattle.cbm_session.specs.Pieces.{Whole, Point, let_go, host_part, own_part, steps_of, Fits, whole_point, Full, ToListener, ToNobody, Commanding}
 use Rattle.cbm_session.specs.Playing.{Station, host_event, tell, Plays, stays, change, reaction}
 use Rattle.cbm_session.specs.Seats.{lines, Seat, device, is_talker, has_talker}
 use Rattle.cbm_session.specs.Steps.{Mark, Step, events_of, event_of, host, for_each, merge}
@@ -198,11 +198,6 @@ module _ (M : Type 0) (step : M → Act → M) (peek : M → Option (ℕ × Bool
   let_go_frame at x Absent = ((refl, tt, refl), tt)
   let_go_frame at x Listener = tt
   let_go_frame at x Talker = tt
-
-  listening_due : (r : Role) (side : Side) → SideAmong Listening r side → side_due side ≡ None
-  listening_due Absent side h = ap (λ (x : Side). side_due x) h
-  listening_due Listener side h = ap (λ (x : Side). side_due x) h
-  listening_due Talker side h = elim h [ ]
 
   pub to_listener_on_bus : (p : Point) (at : ℕ) → Fits p (ToListener at) → Placed place p.seats → RisingIn M step peek says place (map (λ s. device s) p.seats) → (xs : List (Station M)) → AllStand M step peek says place p p.seats xs
       → {n n2 : ℕ} {ss2 : List (Station M)} {es : List Event} → Plays M step peek n xs es n2 ss2 → (rest more : List Event) → es ++ rest ≡ events_of (steps_of p (ToListener at)) ++ more

@@ -1,5 +1,5 @@
 -- A drive of a bus has its reaction due at a moment: what that leaves for the next step of a piece that all go with.
-use Rattle.std.proofs.Common.{◌≡◌, ℕ, suc, ◌≤◌, ◌<◌, ◌⊎◌, inl, inr, Bool, true, false, List, [], ◌∷◌, ◌++◌, Option, Some, None, ap, sym, ◌∙◌, subst, arith, refl}
+use Rattle.std.proofs.Common.{◌≡◌, ℕ, suc, ◌≤◌, ◌<◌, ◌⊎◌, inl, inr, Bool, true, List, [], ◌∷◌, ◌++◌, Option, Some, None, ap, sym, ◌∙◌, subst, arith, refl}
 use Rattle.cbm_iec.specs.Hearing.{is_same}
 use Rattle.cbm_iec.specs.Ports.{side_due, port_due, told}
 use Rattle.cbm_iec.specs.declared.machine.Act.{Act}
@@ -10,8 +10,9 @@ use Rattle.cbm_iec.specs.declared.lines.Way.{Way}
 use Rattle.cbm_iec.specs.declared.lines.Lines.{Lines}
 use Rattle.cbm_iec.specs.declared.port.Port.{Port}
 use Rattle.cbm_iec.specs.declared.port.Side.{Side}
+use Rattle.cbm_session.proofs.Truths.{same_self}
 use Rattle.cbm_session.proofs.headline.AlongBus.{GoesSo, AllGo, told_out, host_atn}
-use Rattle.cbm_session.proofs.headline.BusStep.{Goes, ends, tells, hears, reacts, own_first, not_mine, host_drive}
+use Rattle.cbm_session.proofs.headline.BusStep.{Goes, ends, tells, hears, reacts, own_first, not_mine, host_drive, moment_at}
 use Rattle.cbm_session.proofs.headline.GoesOf.{data_steady}
 use Rattle.cbm_session.proofs.headline.Meeting.{FirstIs}
 use Rattle.cbm_session.proofs.headline.ReleaseBus.{AllQuiet}
@@ -25,11 +26,6 @@ use Rattle.cbm_session.specs.Steps.{Step, moment_of, events_of}
 same_moment : (t u : ℕ) (o : Option ℕ) → IsInTime t o → o ≡ Some u → t ≤ u
 same_moment t u o i e = subst (λ (v : Option ℕ). IsInTime t v) e i
 
--- the first step of a reaction that shows has its moment
-reaction_first : (d u : ℕ) (z : Step) (zs rs more : List Step) → FirstIs d u (events_of rs) → z ∷ zs ≡ rs ++ more → moment_of z ≡ u
-reaction_first d u z zs [] more f e = elim f [ ]
-reaction_first d u z zs (r ∷ rs) more f e = let same : z ≡ r = cc in ap (λ (s : Step). moment_of s) same ∙ f.1
-
 reaction_some : (d u : ℕ) (rs more : List Step) → FirstIs d u (events_of rs) → [] ≡ rs ++ more → ⊥
 reaction_some d u [] more f e = elim f [ ]
 reaction_some d u (r ∷ rs) more f e = cc
@@ -40,7 +36,7 @@ first_by says {q = q} (tells {t = u} i k g) t e = same_moment u t (port_due q) i
 first_by says {q = q} (hears {t = u} a i y k g) t e = same_moment u t (port_due q) i e
 first_by says {q = q} {z = z} {zs = zs} (reacts u more d x sh l g) t e =
     let at : u ≡ t = (let k : Some u ≡ Some t = sym d ∙ e in cc) in
-    let first = reaction_first q.party.device u z zs (reaction_steps u says q) more (own_first says q u sh) x in
+    let first = moment_at q.party.device u z zs (reaction_steps u says q) more (own_first says q u sh) x in
     omega (arith, at, first)
 
 -- and where it goes with nothing it stays
@@ -76,11 +72,7 @@ module _ (M : Type 0) (step : M → Act → M) (peek : M → Option (ℕ × Bool
     goes_first t (s ∷ ss) z zs (e ∷ fin) g (inr d) = goes_first t ss z zs fin g.1 d
 
     clock_same : (way : Way) (r : Rest) (q : Port) → q.others ≡ wires_of r → is_same q.others.clock_low (wires_of (after_the_host Data way r)).clock_low ≡ true
-    clock_same way r q seen = ap (λ (l : Lines). is_same l.clock_low (wires_of r).clock_low) seen ∙ same (wires_of r).clock_low
-      where
-        same : (v : Bool) → is_same v v ≡ true
-        same true = refl
-        same false = refl
+    clock_same way r q seen = ap (λ (l : Lines). is_same l.clock_low (wires_of r).clock_low) seen ∙ same_self (wires_of r).clock_low
 
     -- After a change of DATA at that moment what is due is still due, so a drive's step has to come then.
     data_following : (t : ℕ) (s : Station M) (w : Way) (y : Step) (others : List Step) (r2 : Rest) (q2 : Port) → s.port.others ≡ wires_of s.rest → port_due s.port ≡ Some t → moment_of y ≡ t → NoneBefore (suc t) others → ((u : ℕ) → port_due q2 ≡ Some u → AllBefore u (y ∷ others))

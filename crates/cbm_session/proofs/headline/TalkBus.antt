@@ -28,17 +28,16 @@ use Rattle.cbm_session.proofs.among.Points.{leading_alone}
 use Rattle.cbm_session.proofs.among.Standing.{IsSound}
 use Rattle.cbm_session.proofs.headline.AlongBus.{GoesSo, RisingIn, IsPlain, WithinAll, PassedAll, along_bus}
 use Rattle.cbm_session.proofs.headline.FrameBus.{ear_asks, StandsSo, AllStand, AllEnd, AllWith, devs_are}
-use Rattle.cbm_session.proofs.headline.CutBus.{noatn_front}
 use Rattle.cbm_session.proofs.headline.GoesOf.{OthersData, goes_of, goes_idle, idle}
 use Rattle.cbm_session.proofs.headline.Meeting.{Compat, LastSaid, AsksFor}
-use Rattle.cbm_session.proofs.headline.PieceBus.{whole_of, upto, seat_afterwards, all_sooner, upto_fits, piece_tidy, tidy_plain, all_go_with}
+use Rattle.cbm_session.proofs.headline.PieceBus.{upto, seat_afterwards, upto_fits, piece_tidy, tidy_plain, all_go_with, upto_last}
 use Rattle.cbm_session.proofs.headline.SideStates.{SideHolds}
 use Rattle.cbm_session.proofs.headline.TalkParts.{told_last, told_noatn}
 use Rattle.cbm_session.proofs.headline.Ties.{Placed}
-use Rattle.cbm_session.proofs.joining.Merging.{AllBefore, before_yes, before_no, front_before, cut_front}
+use Rattle.cbm_session.proofs.joining.Merging.{AllBefore, before_yes, before_no, front_before, cut_front, all_sooner}
 use Rattle.cbm_session.proofs.joining.OneDrive.{one_told, told_is}
 use Rattle.cbm_session.proofs.joining.Talkers.{talker_is}
-use Rattle.cbm_session.proofs.reading.OneReading.{NoAtn}
+use Rattle.cbm_session.proofs.reading.OneReading.{NoAtn, noatn_front}
 use Rattle.cbm_session.proofs.reading.PieceReadings.{next_seat}
 use Rattle.cbm_session.proofs.timing.SessionOrder.{steps_done, Done, DoneBy}
 use Rattle.cbm_session.specs.Among.{Rest, wires_of, FollowsAmong}
@@ -191,10 +190,6 @@ module _ (M : Type 0) (step : M → Act → M) (peek : M → Option (ℕ × Bool
     upto_data None w d h = h
     upto_data (Some c) w d h = data_before d c (steps_of p w) h
 
-    upto_last : (o : Option ℕ) (w : Whole) → LastSaid (steps_of p w) → LastSaid (steps_of p (whole_of (upto o w)))
-    upto_last None w l = l
-    upto_last (Some c) w l = l
-
     upto_says : (f : Told) (o : Option ℕ) → says (device s) ≡ Some (number_of f.bits, is_last f) → (x : Seat) → IsSound p x → SaysAs x.role (upto o (Talk at f)) (says (device x))
     upto_says f o k x h = go o x.role refl
       where
@@ -224,6 +219,6 @@ module _ (M : Type 0) (step : M → Act → M) (peek : M → Option (ℕ × Bool
         let mild = upto_data o w s.party.device (subst (λ (v : List Step). OthersData s.party.device v) (sym is) (told_data s.party at f)) in
         let all = all_go_with M step peek place says p k Telling fits (λ x z h t r2 q2 g there. talk_goes (piece_steps p k) noatn mild whole.0 x z h t r2 q2 g (frame_end f o fits x q2 there)) (λ x h. upto_says f o said x h) p.seats xs stand tells in
         let ds = devs_are M step peek says place p p.seats xs stand in
-        let tidy = piece_tidy M step peek place p k fits placed (upto_last o w (subst LastSaid (sym is) (told_last s.party at f))) in
+        let tidy = piece_tidy M step peek place p k fits placed (upto_last p o w (subst LastSaid (sym is) (told_last s.party at f))) in
         let plain = tidy_plain M step peek place says (map (λ x. device x) p.seats) (piece_steps p k) tidy noatn in
         (all.0, (all.1.1, along_bus M step peek says place plays (piece_steps p k) all.0 all.1.0 (subst (λ (v : List ℕ). RisingIn M step peek says place v) (sym ds) rising) (subst (λ (v : List ℕ). IsPlain M step peek says place v (piece_steps p k)) (sym ds) plain) rest meets))

@@ -10,7 +10,6 @@ use Rattle.cbm_iec.specs.declared.lines.Line.TheVariants.{Clock, Data}
 use Rattle.cbm_iec.specs.declared.lines.Way.TheVariants.{Pull, Free}
 use Rattle.cbm_iec.specs.declared.party.Party.{Party}
 use Rattle.cbm_session.proofs.among.Fronts.{steps_order}
-use Rattle.cbm_session.proofs.headline.EndingTalk.{order_rest}
 use Rattle.cbm_session.proofs.headline.FrameBus.{twin_self}
 use Rattle.cbm_session.proofs.headline.FrameLater.{OfDrive, too_long, not_host}
 use Rattle.cbm_session.proofs.headline.Here.{Here, Out, talkers_out, the_seat}
@@ -22,7 +21,7 @@ use Rattle.cbm_session.proofs.headline.SomeDue.{SomeDue, data_first}
 use Rattle.cbm_session.proofs.headline.TalkBus.{frame_steps}
 use Rattle.cbm_session.proofs.headline.TalkSwap.{twin_compat}
 use Rattle.cbm_session.proofs.headline.Walk.{same_front}
-use Rattle.cbm_session.proofs.joining.Merging.{NoneBefore, InOrder, none_sooner}
+use Rattle.cbm_session.proofs.joining.Merging.{NoneBefore, InOrder, none_sooner, order_after}
 use Rattle.cbm_session.proofs.joining.OneDrive.{one_told}
 use Rattle.cbm_session.proofs.among.Calm.{Every}
 use Rattle.cbm_session.specs.Answers.{IsAnswer}
@@ -88,13 +87,13 @@ told_strict b at f h some order = (λ w. absurd (not_host b.device w), by_signal
     by_signal None e g o =
         let first : first_bit b f ≡ f.free + b.reaction = ap (λ (x : Option (ℕ × ℕ)). (elim x as (λ y. ℕ) [ None ↦ f.free | Some y ↦ y.1 ]) + b.reaction) e in
         let tail = bit_steps b (first_bit b f) false f.bits ++ for_one b.device (Said (number_of f.bits) (is_last f)) (host f.accept Data Pull) ∷ (if is_last f then drive b.device (f.accept + b.reaction) Clock Free ∷ [] else []) in
-        let o2 : InOrder tail = order_rest (host f.free Data Free ∷ signal_steps f.signal) tail o in
+        let o2 : InOrder tail = order_after (host f.free Data Free ∷ signal_steps f.signal) tail o in
         let late : NoneBefore (suc f.free) tail = bits_from b (first_bit b f) (suc f.free) f.bits (for_one b.device (Said (number_of f.bits) (is_last f)) (host f.accept Data Pull) ∷ (if is_last f then drive b.device (f.accept + b.reaction) Clock Free ∷ [] else [])) o2 (omega (arith, first, some)) in
         subst (λ (x : Option (ℕ × ℕ)). Strict (host f.free Data Free ∷ (signal_steps x ++ tail))) (sym e) (λ w. (refl, late), bits (first_bit b f))
     by_signal (Some (pull, again)) e g o =
         let first : first_bit b f ≡ again + b.reaction = ap (λ (x : Option (ℕ × ℕ)). (elim x as (λ y. ℕ) [ None ↦ f.free | Some y ↦ y.1 ]) + b.reaction) e in
         let tail = bit_steps b (first_bit b f) false f.bits ++ for_one b.device (Said (number_of f.bits) (is_last f)) (host f.accept Data Pull) ∷ (if is_last f then drive b.device (f.accept + b.reaction) Clock Free ∷ [] else []) in
-        let o2 : InOrder tail = order_rest (host f.free Data Free ∷ signal_steps f.signal) tail o in
+        let o2 : InOrder tail = order_after (host f.free Data Free ∷ signal_steps f.signal) tail o in
         let late : NoneBefore (suc again) tail = bits_from b (first_bit b f) (suc again) f.bits (for_one b.device (Said (number_of f.bits) (is_last f)) (host f.accept Data Pull) ∷ (if is_last f then drive b.device (f.accept + b.reaction) Clock Free ∷ [] else [])) o2 (omega (arith, first, some)) in
         let a = g.0 in
         let c = g.1 in

@@ -15,6 +15,7 @@ use Rattle.cbm_iec.specs.declared.lines.Held.{Held}
 use Rattle.cbm_iec.specs.declared.lines.Lines.{Lines}
 use Rattle.cbm_iec.specs.declared.mouth.Mouth.TheVariants.{Turned, Answering, Mute, Led, Offering, EoiOffered, EoiPulsed, Sending, Waiting, Ending, Over}
 use Rattle.cbm_iec.specs.declared.mouth.Mouth.{Mouth}
+use Rattle.cbm_session.proofs.Truths.{or_there}
 
 -- whether CLOCK is held before this half of a bit
 abbrev pub clock_before : ℕ → Bool
@@ -105,10 +106,6 @@ lines_hold r m was now mouth own h = second (is_same was.data_low now.data_low) 
     second : (v : Bool) (x : Mouth) → Holds x own → Holds (if v then x else talk_data r m now.data_low x) own
     second true x k = k
     second false x k = data_holds r m now.data_low x own k
-
-or_there : (v : Bool) → (v || true) ≡ true
-or_there true = refl
-or_there false = refl
 
 even_next : (half : ℕ) → half < 16 → half % 2 ≡ 0 → clock_before (half + 1) ≡ true
 even_next half l e = rw (lt-leb 16 (half + 1) (omega (arith, l, e)), nat_ne half e)

@@ -13,7 +13,7 @@ use Rattle.cbm_iec.specs.declared.lines.Way.TheVariants.{Pull, Free}
 use Rattle.cbm_iec.specs.declared.lines.Way.{Way}
 use Rattle.cbm_iec.specs.declared.party.Party.{Party}
 use Rattle.cbm_session.proofs.headline.Meeting.{Meets, Compat}
-use Rattle.cbm_session.proofs.joining.Merging.{NoneBefore, InOrder, none_sooner, before_yes, before_no}
+use Rattle.cbm_session.proofs.joining.Merging.{InOrder, none_sooner, before_yes, all_from}
 use Rattle.cbm_session.proofs.joining.OneDrive.{one_told}
 use Rattle.cbm_session.specs.Bits.{number_of}
 use Rattle.cbm_session.specs.Frames.{Told, is_last, signal_steps, first_bit, bit_steps, SignalFits, ToldFits}
@@ -96,12 +96,8 @@ abbrev pub HostNext : ℕ → List Event → Type 0
 HostNext c [] = Unit {0}
 HostNext c (x ∷ xs) = (x.who ≡ Host) × (c ≤ x.change.moment)
 
-none_left : (c : ℕ) (ss : List Step) → NoneBefore c ss → before c ss ≡ []
-none_left c [] n = refl
-none_left c (s ∷ ss) n = before_no c s ss n.0 ∙ none_left c ss n.1
-
 pub none_cut : (c : ℕ) (s : Step) (ss : List Step) → InOrder (s ∷ ss) → c ≤ moment_of s → before c (s ∷ ss) ≡ []
-none_cut c s ss o h = none_left c (s ∷ ss) (h, none_sooner c (moment_of s) ss h o.0)
+none_cut c s ss o h = all_from c (s ∷ ss) (h, none_sooner c (moment_of s) ss h o.0)
 
 drive_meets : (c : ℕ) (y : Step) (ys : List Step) (rest : List Event) → HostNext c rest → moment_of y < c → (y.event.who ≡ Host → ⊥) → Compat (y ∷ ys) rest
 drive_meets c y ys [] h l n = tt

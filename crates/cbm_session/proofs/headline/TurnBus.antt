@@ -38,14 +38,14 @@ use Rattle.cbm_session.proofs.headline.BusStep.{Tied}
 use Rattle.cbm_session.proofs.headline.FrameBus.{ear_asks, StandsSo, AllStand, AllEnd, AllWith, devs_are}
 use Rattle.cbm_session.proofs.headline.GoesOf.{DataOf, OthersData, goes_of, goes_idle, leaving}
 use Rattle.cbm_session.proofs.headline.Meeting.{Compat, AsksFor, LastSaid, SaysOpen}
-use Rattle.cbm_session.proofs.headline.PieceBus.{upto, seat_afterwards, follow, piece_order, steps_go, steps_tied, steps_sit, every_before, all_sooner, upto_fits}
+use Rattle.cbm_session.proofs.headline.PieceBus.{upto, seat_afterwards, follow, piece_order, steps_go, steps_tied, steps_sit, every_before, upto_fits}
 use Rattle.cbm_session.proofs.headline.PullSettled.{holding_told, among_told}
 use Rattle.cbm_session.proofs.headline.ReleaseBus.{AllQuiet, peel}
 use Rattle.cbm_session.proofs.headline.SideStates.{SideHolds, SideAsks}
 use Rattle.cbm_session.proofs.headline.TalkBus.{done_before}
 use Rattle.cbm_session.proofs.headline.Ties.{Placed}
 use Rattle.cbm_session.proofs.headline.TurnTwin.{turn_begins, leads, mutes, lead_steps, mute_steps}
-use Rattle.cbm_session.proofs.joining.Merging.{AllBefore, InOrder, before_yes, front_before}
+use Rattle.cbm_session.proofs.joining.Merging.{AllBefore, InOrder, before_yes, front_before, all_sooner}
 use Rattle.cbm_session.proofs.joining.Talkers.{talker_is}
 use Rattle.cbm_session.proofs.reading.OneReading.{is_atn, NoAtn}
 use Rattle.cbm_session.proofs.reading.PieceReadings.{next_seat}

@@ -1,4 +1,6 @@
 -- A release of ATN under way whose next change of the host is put off: the piece that begins the same and goes on later.
+use Rattle.cbm_session.proofs.among.Answers.{every_right}
+use Rattle.cbm_session.proofs.among.Points.{each_seat}
 use Rattle.cbm_session.proofs.joining.Silents.{silent_from, silent_none}
 use Rattle.std.proofs.Common.{◌≡◌, ℕ, suc, ◌+◌, ◌≤◌, ◌<◌, ◌⊎◌, inl, inr, Bool, true, false, List, [], ◌∷◌, ◌++◌, map, Option, Some, None, ap, sym, ◌∙◌, subst, arith, refl}
 use Rattle.std.specs.Prelude.{if◌then◌else◌}
@@ -15,10 +17,9 @@ use Rattle.cbm_session.proofs.among.Calm.{Every}
 use Rattle.cbm_session.proofs.among.Counted.{cut_all}
 use Rattle.cbm_session.proofs.among.Fronts.{steps_order}
 use Rattle.cbm_session.proofs.headline.CutHost.{hosts_of, hosts_part}
-use Rattle.cbm_session.proofs.headline.FrameBus.{each_seat}
 use Rattle.cbm_session.proofs.headline.Keeping.{HostFrom}
 use Rattle.cbm_session.proofs.headline.PieceBus.{steps_go}
-use Rattle.cbm_session.proofs.joining.Merging.{NoneBefore, InOrder, AllBefore, cut_front, cut_is, before_yes, before_no}
+use Rattle.cbm_session.proofs.joining.Merging.{NoneBefore, InOrder, AllBefore, cut_front, cut_is, before_yes, before_no, all_from}
 use Rattle.cbm_session.proofs.joining.Orders.{host_order}
 use Rattle.cbm_session.proofs.joining.Owning.{AllOwned, part_owned, part_order}
 use Rattle.cbm_session.specs.Laws.{NotSooner, AllAfter, GoesOn}
@@ -42,10 +43,6 @@ elsewhere_late t (s ∷ ss) n a = (λ k. go (a.0 (host_is s.event.who k)), elsew
     go : (moment_of s < t) ⊎ (suc t ≤ moment_of s) → suc t ≤ moment_of s
     go (inl l) = let early = n.0 in absurd (omega (arith, l, early))
     go (inr l) = l
-
-every_after : (P : Step → Type 0) (xs ys : List Step) → Every P (xs ++ ys) → Every P ys
-every_after P [] ys a = a
-every_after P (x ∷ xs) ys a = every_after P xs ys a.1
 
 owned_elsewhere : (t o : ℕ) (ss : List Step) → AllOwned o ss → Every (Elsewhere t) ss
 owned_elsewhere t o [] a = tt
@@ -75,7 +72,7 @@ moved p w w2 t fits fits2 hosts owns away =
     record {
       back = k.0;
       is = k.1 ∙ ap (λ (l : List Step). l ++ k.0) (sym same);
-      late = elsewhere_late t k.0 k.2 (every_after (Elsewhere t) (before t (steps_of p w2)) k.0 (subst (Every (Elsewhere t)) k.1 all));
+      late = elsewhere_late t k.0 k.2 (every_right (Elsewhere t) (before t (steps_of p w2)) k.0 (subst (Every (Elsewhere t)) k.1 all));
     }
 
 -- what stands before a change of the host is before it, where the host's is
@@ -121,10 +118,6 @@ host_parts p w front s others e who = sym (hosts_split front s others who) ∙ a
 turn_front : (t at : ℕ) (hs : List Step) → at < t → before t (host at Data Pull ∷ for_each Released (host at Atn Free) ∷ hs) ≡ host at Data Pull ∷ for_each Released (host at Atn Free) ∷ before t hs
 turn_front t at hs l = before_yes t (host at Data Pull) (for_each Released (host at Atn Free) ∷ hs) l ∙ ap (λ (zs : List Step). host at Data Pull ∷ zs) (before_yes t (for_each Released (host at Atn Free)) hs l)
 
-none_of : (t : ℕ) (ss : List Step) → NoneBefore t ss → before t ss ≡ []
-none_of t [] n = refl
-none_of t (s ∷ ss) n = before_no t s ss n.0 ∙ none_of t ss n.1
-
 -- A turnaround whose talker leads, with CLOCK's release put off where it isn't before t.
 pub record LeadLater (p : Point) (at clock t : ℕ) : Type 0 where
   pub clock2 : ℕ
@@ -155,8 +148,8 @@ lead_later p at clock t fits l = elim (leb_tells (suc clock) t) [
         owns x Absent = refl
         owns x Listener = refl
         owns x Talker =
-            none_of t (drive (device x) (clock + reaction x) Clock Pull ∷ drive (device x) (clock + reaction x) Data Free ∷ []) (omega (arith, late), (omega (arith, late), tt))
-            ∙ sym (none_of t (drive (device x) (suc clock + reaction x) Clock Pull ∷ drive (device x) (suc clock + reaction x) Data Free ∷ []) (omega (arith, late), (omega (arith, late), tt)))
+            all_from t (drive (device x) (clock + reaction x) Clock Pull ∷ drive (device x) (clock + reaction x) Data Free ∷ []) (omega (arith, late), (omega (arith, late), tt))
+            ∙ sym (all_from t (drive (device x) (suc clock + reaction x) Clock Pull ∷ drive (device x) (suc clock + reaction x) Data Free ∷ []) (omega (arith, late), (omega (arith, late), tt)))
 
 -- And one whose talker has nothing to say.
 pub record MuteLater (p : Point) (at clock : ℕ) (freed : Option ℕ) (t : ℕ) : Type 0 where
@@ -200,7 +193,7 @@ mute_later p at clock freed t fits l = elim (leb_tells (suc clock) t) [
           fits = fits2;
           later = moved p (Nothing at clock freed) (Nothing at (suc clock) None) t fits fits2
               (turn_front t at (host clock Clock Free ∷ freed_steps freed) l
-              ∙ ap (λ (zs : List Step). host at Data Pull ∷ for_each Released (host at Atn Free) ∷ zs) (none_of t (host clock Clock Free ∷ freed_steps freed) (late, freed_late freed fits.2) ∙ sym (before_no t (host (suc clock) Clock Free) [] (omega (arith, late))))
+              ∙ ap (λ (zs : List Step). host at Data Pull ∷ for_each Released (host at Atn Free) ∷ zs) (all_from t (host clock Clock Free ∷ freed_steps freed) (late, freed_late freed fits.2) ∙ sym (before_no t (host (suc clock) Clock Free) [] (omega (arith, late))))
               ∙ sym (turn_front t at (host (suc clock) Clock Free ∷ []) l))
               (λ x. owns x x.role) (λ w. inl l, (λ w. inl l, (λ w. inr (omega (arith, late)), tt)));
         }
@@ -215,8 +208,8 @@ mute_later p at clock freed t fits l = elim (leb_tells (suc clock) t) [
         owns x Absent = refl
         owns x Listener = refl
         owns x Talker =
-            none_of t (silent_part x.party.pace (device x) (clock + reaction x)) (silent_none x.party.pace (device x) t (clock + reaction x) (omega (arith, late)))
-            ∙ sym (none_of t (silent_part x.party.pace (device x) (suc clock + reaction x)) (silent_none x.party.pace (device x) t (suc clock + reaction x) (omega (arith, late))))
+            all_from t (silent_part x.party.pace (device x) (clock + reaction x)) (silent_none x.party.pace (device x) t (clock + reaction x) (omega (arith, late)))
+            ∙ sym (all_from t (silent_part x.party.pace (device x) (suc clock + reaction x)) (silent_none x.party.pace (device x) t (suc clock + reaction x) (omega (arith, late))))
 
 -- ATN's release to nobody, with CLOCK's put off.
 pub nobody_later : (p : Point) (at clock t : ℕ) → (fits : Fits p (ToNobody at clock)) → at < t → t ≤ clock → Fits p (ToNobody at (suc clock)) × Later p (ToNobody at (suc clock)) t (before t (steps_of p (ToNobody at clock)))

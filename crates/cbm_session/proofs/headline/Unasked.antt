@@ -9,7 +9,7 @@ use Rattle.cbm_iec.specs.declared.party.Role.TheVariants.{Absent, Listener, Talk
 use Rattle.cbm_iec.specs.declared.party.Role.{Role}
 use Rattle.cbm_session.proofs.among.Around.{every_append, every_each}
 use Rattle.cbm_session.proofs.among.Calm.{Every}
-use Rattle.cbm_session.proofs.headline.FrameBus.{each_seat}
+use Rattle.cbm_session.proofs.among.Points.{each_seat}
 use Rattle.cbm_session.proofs.headline.Meeting.{SaysOpen, LastSaid}
 use Rattle.cbm_session.proofs.headline.TalkStates.{NoneSaid}
 use Rattle.cbm_session.specs.Answers.{AnswersAct, Run, run_acts, RunEach}

@@ -4,7 +4,6 @@ use Rattle.std.proofs.Common.{◌≡◌, ℕ, ◌+◌, ◌⊎◌, inl, inr, Bool
 use Rattle.cbm_iec.specs.Ports.{side_due}
 use Rattle.cbm_iec.specs.declared.machine.Act.{Act}
 use Rattle.cbm_iec.specs.declared.event.Event.{Event}
-use Rattle.cbm_iec.specs.declared.party.Role.TheVariants.{Absent, Listener, Talker}
 use Rattle.cbm_iec.specs.declared.party.Role.{Role}
 use Rattle.cbm_iec.specs.declared.port.Side.{Side}
 use Rattle.cbm_session.proofs.among.Points.{whole_react}
@@ -14,7 +13,7 @@ use Rattle.cbm_session.proofs.headline.BusActs.{AllRan, acts_append, run_append}
 use Rattle.cbm_session.proofs.headline.Here.{IsTalkers, Here, Out, hosts_out, talkers_out, PullInside, pull_out}
 use Rattle.cbm_session.proofs.headline.Keeping.{events_append}
 use Rattle.cbm_session.proofs.headline.Meeting.{Compat}
-use Rattle.cbm_session.proofs.headline.FrameBus.{twin_self, devs_are}
+use Rattle.cbm_session.proofs.headline.FrameBus.{twin_self, devs_are, listening_due}
 use Rattle.cbm_session.proofs.headline.Onward.{here_after}
 use Rattle.cbm_session.proofs.headline.PieceBus.{Going, Afterwards}
 use Rattle.cbm_session.proofs.headline.Premises.{mute, Stood}
@@ -96,11 +95,6 @@ module _ (M : Type 0) (step : M → Act → M) (peek : M → Option (ℕ × Bool
   quiet_stays (stays b e k f) q z = f
   quiet_stays (change c more b l i e p) q z = absurd cc
   quiet_stays (reaction t before o afterwards more b u f e p) q z = absurd (quiet_first M step peek mute place t before o afterwards (subst (λ (v : List (Station M)). AllQuiet M step peek mute place v) u q) f.due)
-
-  listening_due : (r : Role) (side : Side) → SideAmong Listening r side → side_due side ≡ None
-  listening_due Absent side h = ap (λ (v : Side). side_due v) h
-  listening_due Listener side h = ap (λ (v : Side). side_due v) h
-  listening_due Talker side h = elim h [ ]
 
   -- where a session may end nothing is due
   end_due : (q : BusPlace) → MayEnd q → (r : Role) (side : Side) → SideAmong q r side → side_due side ≡ None

@@ -3,6 +3,7 @@ use Rattle.std.proofs.Common.{◌≡◌, ℕ, ◌≤◌, ◌<◌, inl, inr, Bool
 use Rattle.std.proofs.lemmas.Bool.Decides.{leb_tells}
 use Rattle.std.proofs.lemmas.Bool.{le-leb, lt-leb}
 use Rattle.std.specs.Prelude.{if◌then◌else◌}
+use Rattle.cbm_session.specs.Laws.{GoesOn}
 use Rattle.cbm_session.specs.Pieces.{before}
 use Rattle.cbm_session.specs.Steps.{Step, moment_of, merging, merge}
 
@@ -32,6 +33,15 @@ pub none_sooner : (m n : ℕ) (ss : List Step) → m ≤ n → NoneBefore n ss �
 none_sooner m n [] h k = tt
 none_sooner m n (s ∷ ss) h k = (omega (arith, h, k.0), none_sooner m n ss h k.1)
 
+-- what comes after a front of steps in order is in order, and it goes on as they do
+pub order_after : (xs ys : List Step) → InOrder (xs ++ ys) → InOrder ys
+order_after [] ys h = h
+order_after (x ∷ xs) ys h = order_after xs ys h.1
+
+pub goes_after : (xs ys : List Step) → GoesOn (xs ++ ys) → GoesOn ys
+goes_after [] ys h = h
+goes_after (x ∷ xs) ys h = goes_after xs ys h.1
+
 -- the two ways that a join goes on
 pub by_head : (P : List Step → Type 0) (x : Step) (xs : List Step) (y : Step) (ys : List Step) → (moment_of x ≤ moment_of y → P (x ∷ merge xs (y ∷ ys)))
     → (moment_of y < moment_of x → P (y ∷ merge (x ∷ xs) ys)) → P (merge (x ∷ xs) (y ∷ ys))
@@ -55,7 +65,7 @@ order_merge (x ∷ xs) (y ∷ ys) a b =
     (λ h. (none_merge (moment_of y) (x ∷ xs) ys (omega (arith, h), none_sooner (moment_of y) (moment_of x) xs (omega (arith, h)) a.0) b.0, order_merge (x ∷ xs) ys a b.1))
 
 -- The steps of a list in order before a moment are its front, and none after it is before.
-all_from : (at : ℕ) (ss : List Step) → NoneBefore at ss → before at ss ≡ []
+pub all_from : (at : ℕ) (ss : List Step) → NoneBefore at ss → before at ss ≡ []
 all_from at [] h = refl
 all_from at (s ∷ ss) h = let k = all_from at ss h.1 in rw (lt-leb (suc (moment_of s)) at (omega (arith, h.0)), k)
 
@@ -89,6 +99,14 @@ front_before at (s ∷ ss) = elim (leb_tells (suc (moment_of s)) at) [
   | inl x ↦ subst (AllBefore at) (sym (before_yes at s ss (omega (arith, x.1)))) (omega (arith, x.1), front_before at ss)
   | inr x ↦ subst (AllBefore at) (sym (before_no at s ss (omega (arith, x.1)))) (front_before at ss)
 ]
+
+pub all_sooner : (m n : ℕ) (ss : List Step) → m ≤ n → AllBefore m ss → AllBefore n ss
+all_sooner m n [] h k = tt
+all_sooner m n (s ∷ ss) h k = (omega (arith, h, k.0), all_sooner m n ss h k.1)
+
+pub before_after : (m : ℕ) (xs ys : List Step) → AllBefore m (xs ++ ys) → AllBefore m ys
+before_after m [] ys h = h
+before_after m (x ∷ xs) ys h = before_after m xs ys h.1
 
 -- a list that is before up to a place, and isn't after that place, is cut there
 pub cut_is : (at : ℕ) (front back : List Step) → AllBefore at front → NoneBefore at back → before at (front ++ back) ≡ front

@@ -16,7 +16,7 @@ use Rattle.cbm_iec.specs.declared.lines.Way.{Way}
 use Rattle.cbm_iec.specs.declared.party.Party.{Party}
 use Rattle.cbm_iec.specs.declared.party.Role.TheVariants.{Absent, Listener, Talker}
 use Rattle.cbm_iec.specs.declared.party.Role.{Role}
-use Rattle.cbm_session.proofs.joining.Merging.{NoneBefore, InOrder}
+use Rattle.cbm_session.proofs.joining.Merging.{NoneBefore, InOrder, none_sooner}
 use Rattle.cbm_session.proofs.joining.OneDrive.{last_after, pulse_within}
 use Rattle.cbm_session.proofs.joining.Showing.{AllForeign, AllMine}
 use Rattle.cbm_session.proofs.reading.Decoding.{when_mine, mark_act, IsMine, IsAnothers}
@@ -181,36 +181,37 @@ bits_none m b at false (false ∷ bits) h = (omega (arith, h), (omega (arith, h)
 order_bits : (b : Party) (at : ℕ) (held : Bool) (bits : List Bool) (more : List Step) → InOrder more → NoneBefore (at + bit_time b.pace * length bits) more → InOrder (bit_steps b at held bits ++ more)
 order_bits b at held bits more o n = go at held bits n
   where
-    late : (m k : ℕ) (ss : List Step) → m ≤ k → NoneBefore k ss → NoneBefore m ss
-    late m k [] h x = tt
-    late m k (s ∷ ss) h x = (omega (arith, h, x.0), late m k ss h x.1)
-
     tail : (m : ℕ) (at : ℕ) (held : Bool) (bits : List Bool) → m ≤ at → NoneBefore (at + bit_time b.pace * length bits) more → NoneBefore m (bit_steps b at held bits ++ more)
-    tail m at held bits h x = none_append m (bit_steps b at held bits) more (bits_none m b at held bits h) (late m (at + bit_time b.pace * length bits) more (omega (arith, h)) x)
+    tail m at held bits h x = none_append m (bit_steps b at held bits) more (bits_none m b at held bits h) (none_sooner m (at + bit_time b.pace * length bits) more (omega (arith, h)) x)
 
     go : (at : ℕ) (held : Bool) (bits : List Bool) → NoneBefore (at + bit_time b.pace * length bits) more → InOrder (bit_steps b at held bits ++ more)
-    go at true [] x = ((omega arith, late at (at + bit_time b.pace * 0) more (omega arith) x), (late at (at + bit_time b.pace * 0) more (omega arith) x, o))
-    go at false [] x = (late at (at + bit_time b.pace * 0) more (omega arith) x, o)
+    go at true [] x = ((omega arith, none_sooner at (at + bit_time b.pace * 0) more (omega arith) x), (none_sooner at (at + bit_time b.pace * 0) more (omega arith) x, o))
+    go at false [] x = (none_sooner at (at + bit_time b.pace * 0) more (omega arith) x, o)
     go at true (true ∷ bits) x =
-        let y : NoneBefore (at + bit_time b.pace + bit_time b.pace * length bits) more = late (at + bit_time b.pace + bit_time b.pace * length bits) (at + bit_time b.pace * length (true ∷ bits)) more (omega arith) x in
+        let y : NoneBefore (at + bit_time b.pace + bit_time b.pace * length bits) more = none_sooner (at + bit_time b.pace + bit_time b.pace * length bits) (at + bit_time b.pace * length (true ∷ bits)) more (omega arith) x in
         let z = tail at (at + bit_time b.pace) false bits (omega arith) y in
         let u = tail (at + half_bit b.pace) (at + bit_time b.pace) false bits (omega arith) y in
         ((omega arith, (omega arith, z)), ((omega arith, z), (u, go (at + bit_time b.pace) false bits y)))
     go at false (true ∷ bits) x =
-        let y : NoneBefore (at + bit_time b.pace + bit_time b.pace * length bits) more = late (at + bit_time b.pace + bit_time b.pace * length bits) (at + bit_time b.pace * length (true ∷ bits)) more (omega arith) x in
+        let y : NoneBefore (at + bit_time b.pace + bit_time b.pace * length bits) more = none_sooner (at + bit_time b.pace + bit_time b.pace * length bits) (at + bit_time b.pace * length (true ∷ bits)) more (omega arith) x in
         let z = tail at (at + bit_time b.pace) false bits (omega arith) y in
         let u = tail (at + half_bit b.pace) (at + bit_time b.pace) false bits (omega arith) y in
         ((omega arith, z), (u, go (at + bit_time b.pace) false bits y))
     go at true (false ∷ bits) x =
-        let y : NoneBefore (at + bit_time b.pace + bit_time b.pace * length bits) more = late (at + bit_time b.pace + bit_time b.pace * length bits) (at + bit_time b.pace * length (false ∷ bits)) more (omega arith) x in
+        let y : NoneBefore (at + bit_time b.pace + bit_time b.pace * length bits) more = none_sooner (at + bit_time b.pace + bit_time b.pace * length bits) (at + bit_time b.pace * length (false ∷ bits)) more (omega arith) x in
         let z = tail at (at + bit_time b.pace) true bits (omega arith) y in
         let u = tail (at + half_bit b.pace) (at + bit_time b.pace) true bits (omega arith) y in
         ((omega arith, z), (u, go (at + bit_time b.pace) true bits y))
     go at false (false ∷ bits) x =
-        let y : NoneBefore (at + bit_time b.pace + bit_time b.pace * length bits) more = late (at + bit_time b.pace + bit_time b.pace * length bits) (at + bit_time b.pace * length (false ∷ bits)) more (omega arith) x in
+        let y : NoneBefore (at + bit_time b.pace + bit_time b.pace * length bits) more = none_sooner (at + bit_time b.pace + bit_time b.pace * length bits) (at + bit_time b.pace * length (false ∷ bits)) more (omega arith) x in
         let z = tail at (at + bit_time b.pace) true bits (omega arith) y in
         let u = tail (at + half_bit b.pace) (at + bit_time b.pace) true bits (omega arith) y in
         ((omega arith, (omega arith, z)), ((omega arith, z), (u, go (at + bit_time b.pace) true bits y)))
+
+-- a signal of EOI isn't over before it begins
+pub signal_from : (free : ℕ) (x : Option (ℕ × ℕ)) → SignalFits free x → free ≤ (elim x as (λ y. ℕ) [ None ↦ free | Some y ↦ y.1 ])
+signal_from free None h = omega arith
+signal_from free (Some (pull, again)) h = omega (arith, h.0, h.1)
 
 told_order : (b : Party) (at : ℕ) (f : Told) → at + 1 ≤ f.free → SignalFits f.free f.signal → length f.bits ≡ 8 → first_bit b f + first_accept b.pace ≤ f.accept + b.reaction → InOrder (telling b at f)
 told_order b at f l g e a = (
@@ -221,12 +222,8 @@ told_order b at f l g e a = (
     last : List Step
     last = if is_last f then drive b.device (f.accept + b.reaction) Clock Free ∷ [] else []
 
-    from : (x : Option (ℕ × ℕ)) → SignalFits f.free x → f.free ≤ (elim x as (λ y. ℕ) [ None ↦ f.free | Some y ↦ y.1 ])
-    from None h = omega arith
-    from (Some (pull, again)) h = omega (arith, h.0, h.1)
-
     early : at ≤ first_bit b f
-    early = let k = from f.signal g in omega (arith, l, k)
+    early = let k = signal_from f.free f.signal g in omega (arith, l, k)
 
     last_none : (v : Bool) → NoneBefore at (if v then drive b.device (f.accept + b.reaction) Clock Free ∷ [] else [])
     last_none true = let k = early in (omega (arith, k, a), tt)

@@ -94,6 +94,11 @@ shows_before d at (s ∷ ss) m (inr h) = elim (leb_tells (suc (moment_of s)) at)
       (subst (λ (q : List Step). Shows d (before at ss) q) (sym (ap (λ (q : List Step). before at q) h.1 ∙ before_no at s h.0 (omega (arith, x.1)))) (shows_before d at ss h.0 h.3))
 ]
 
+-- lists in order joined are in order
+pub order_all : (own : Seat → List Step) → ((x : Seat) → InOrder (own x)) → (l : List Step) (xs : List Seat) → InOrder l → InOrder (merge_all l (map own xs))
+order_all own f l [] o = o
+order_all own f l (x ∷ xs) o = order_merge l (merge_all (own x) (map own xs)) o (order_all own f (own x) xs (f x))
+
 -- the parts of the drives
 module _ (d : ℕ) (own : Seat → List Step) (mine : (x : Seat) → nat_eq d (device x) ≡ true → AllMine d (own x)) (foreign : (x : Seat) → nat_eq d (device x) ≡ false → AllForeign d (own x)) where
   foreign_join : (l : List Step) (xs : List Seat) → AllForeign d l → Apart d xs → Shows d (merge_all l (map own xs)) []
@@ -109,11 +114,7 @@ module _ (d : ℕ) (own : Seat → List Step) (mine : (x : Seat) → nat_eq d (d
   shown_parts x [] s (inr h) = absurd h.1
   shown_parts x (y ∷ ys) s (inr h) = merge_foreign d (own x) (merge_all (own y) (map own ys)) (own s) (foreign x h.0) (shown_parts y ys s h.1)
 
-  all_ordered : ((x : Seat) → InOrder (own x)) → (l : List Step) (xs : List Seat) → InOrder l → InOrder (merge_all l (map own xs))
-  all_ordered f l [] o = o
-  all_ordered f l (x ∷ xs) o = order_merge l (merge_all (own x) (map own xs)) o (all_ordered f (own x) xs (f x))
-
   -- So the drive sees the host's part joined with its own.
   pub shows_all : ((x : Seat) → InOrder (own x)) → (hs : List Step) (seats : List Seat) (s : Seat) → AllMine d hs → Sits d seats s → Shows d (merge_all hs (map own seats)) (merge hs (own s))
   shows_all f hs [] s a h = absurd h
-  shows_all f hs (x ∷ xs) s a h = merge_host d hs (merge_all (own x) (map own xs)) (own s) a (all_ordered f (own x) xs (f x)) (shown_parts x xs s h)
+  shows_all f hs (x ∷ xs) s a h = merge_host d hs (merge_all (own x) (map own xs)) (own s) a (order_all own f (own x) xs (f x)) (shown_parts x xs s h)

@@ -20,8 +20,9 @@ use Rattle.cbm_iec.specs.declared.mouth.Mouth.TheVariants.{Turned, Answering, Mu
 use Rattle.cbm_iec.specs.declared.mouth.Mouth.{Mouth}
 use Rattle.cbm_iec.specs.declared.port.Side.TheVariants.{Hearing, Speaking}
 use Rattle.cbm_iec.specs.declared.port.Side.{Side}
+use Rattle.cbm_session.proofs.Truths.{same_self}
 use Rattle.cbm_session.proofs.loose.Sides.{Sees, either, ear_calm, by_data, calm, lined_sees, WaitAlike, same, early}
-use Rattle.cbm_session.proofs.loose.Stations.{Alike, same_self, told_lined}
+use Rattle.cbm_session.proofs.loose.Stations.{Alike, told_lined}
 use Rattle.cbm_session.proofs.loose.Wires.{on_wires, or_true}
 use Rattle.cbm_session.specs.Among.{Rest, some, wires_of, after_the_host}
 use Rattle.cbm_session.specs.Loosely.{Ignores, MayStray}

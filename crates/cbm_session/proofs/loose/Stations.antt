@@ -25,6 +25,7 @@ use Rattle.cbm_iec.specs.declared.party.Role.{Role}
 use Rattle.cbm_iec.specs.declared.port.Port.{Port}
 use Rattle.cbm_iec.specs.declared.port.Side.TheVariants.{Hearing, Speaking}
 use Rattle.cbm_iec.specs.declared.port.Side.{Side}
+use Rattle.cbm_session.proofs.Truths.{same_self}
 use Rattle.cbm_session.proofs.loose.Reactions.{after_alike, act_alike, role_alike}
 use Rattle.cbm_session.proofs.loose.Sides.{Sees, Heard, lined_alike, lined_act_alike, lined_sees, freed_sees, after_sees, WaitAlike, same, early}
 use Rattle.cbm_session.proofs.loose.Wires.{on_wires, or_true, or_right, is_heard, await_lines, holding_lines}
@@ -33,10 +34,6 @@ use Rattle.cbm_session.specs.Loosely.{HeedsAlike, Ignores, MayStray, Heeds, Heed
 use Rattle.cbm_session.specs.Playing.{Station, told_lines, tell, hear, hear_all, react, shown}
 
 -- ---- a change of a line, as a port is told it
-
-pub same_self : (v : Bool) → is_same v v ≡ true
-same_self true = refl
-same_self false = refl
 
 -- ATN stands as it stood
 pub told_lined : (m : ℕ) (was now : Lines) (q : Port) → q.others ≡ was → was.atn_low ≡ now.atn_low

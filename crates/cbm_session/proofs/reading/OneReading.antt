@@ -82,7 +82,7 @@ pub noatn_append : (xs ys : List Step) → NoAtn xs → NoAtn ys → NoAtn (xs +
 noatn_append [] ys a b = b
 noatn_append (x ∷ xs) ys a b = (a.0, noatn_append xs ys a.1 b)
 
-noatn_front : (xs ys : List Step) → NoAtn (xs ++ ys) → NoAtn xs
+pub noatn_front : (xs ys : List Step) → NoAtn (xs ++ ys) → NoAtn xs
 noatn_front [] ys a = tt
 noatn_front (x ∷ xs) ys a = (a.0, noatn_front xs ys a.1)
 

@@ -2,7 +2,7 @@
 use Rattle.cbm_iec.specs.declared.pace.Pace.TheVariants.{Profile, Kernal}
 use Rattle.cbm_iec.specs.declared.pace.Pace.{Pace}
 use Rattle.cbm_session.proofs.joining.Silents.{silent_head}
-use Rattle.std.proofs.Common.{◌≡◌, ℕ, zero, suc, not, ◌+◌, ◌≤◌, inl, inr, Bool, true, false, List, [], ◌∷◌, Option, Some, None, ap, sym, ◌∙◌, subst, arith, refl}
+use Rattle.std.proofs.Common.{◌≡◌, ℕ, zero, suc, not, ◌+◌, ◌≤◌, inl, inr, Bool, true, false, List, [], ◌∷◌, map, Option, Some, None, ap, sym, ◌∙◌, subst, arith, refl}
 use Rattle.std.proofs.lemmas.Bool.Decides.{leb_tells}
 use Rattle.std.proofs.lemmas.Bool.{eqb-true}
 use Rattle.std.specs.Prelude.{if◌then◌else◌, nat_eq}
@@ -254,6 +254,17 @@ next_seat (ToNobody at clock) s = standing (lines false false) s
 next_seat (ToTalker at clock) s = standing (lines true false) s
 next_seat (Nothing at clock freed) s = standing (lines false false) s
 next_seat (Talk at f) s = standing (lines (not (is_last f)) false) s
+
+-- the seats after a whole piece, one by one
+pub next_seats : (p : Point) (w : Whole) → (whole_point p w).seats ≡ map (λ s. next_seat w s) p.seats
+next_seats p (PullPiece at) = refl
+next_seats p (Command f) = refl
+next_seats p (Byte eoi f) = refl
+next_seats p (ToListener at) = refl
+next_seats p (ToNobody at clock) = refl
+next_seats p (ToTalker at clock) = refl
+next_seats p (Nothing at clock freed) = refl
+next_seats p (Talk at f) = refl
 
 sits_self : (d : ℕ) (ss : List Seat) (s : Seat) → Sits d ss s → nat_eq d (device s) ≡ true
 sits_self d [] s h = elim h [ ]

@@ -4,6 +4,7 @@ use Rattle.cbm_iec.specs.declared.event.Event.{Event}
 use Rattle.cbm_iec.specs.declared.event.Who.TheVariants.{Host, Drive}
 use Rattle.cbm_iec.specs.declared.event.Who.{Who}
 use Rattle.cbm_iec.specs.declared.party.Party.{Party}
+use Rattle.cbm_session.proofs.joining.Merging.{goes_after}
 use Rattle.cbm_session.proofs.timing.SessionOrder.{goes_on}
 use Rattle.cbm_session.specs.Laws.{NotSooner, AllAfter, GoesOn, FrontsKeep, InTimeAmong, FrontsInTime}
 use Rattle.cbm_session.specs.Pieces.{Piece}
@@ -43,10 +44,6 @@ all_later : (e : ℕ) (w : Who) (m : ℕ) (ss : List Step) → e < m → AllAfte
 all_later e w m [] l h = tt
 all_later e w m (s ∷ ss) l h = let k = not_sooner w m s.event.who (moment_of s) h.0 in (λ i. omega (arith, l, k), all_later e w m ss l h.1)
 
-goes_right : (xs ys : List Step) → GoesOn (xs ++ ys) → GoesOn ys
-goes_right [] ys g = g
-goes_right (x ∷ xs) ys g = goes_right xs ys g.1
-
 earlier_host : (e end : ℕ) (ss : List Step) → e ≤ end → LaterHost end ss → LaterHost e ss
 earlier_host e end [] l h = tt
 earlier_host e end (s ∷ ss) l h = (λ i. (let k = h.0 i in omega (arith, l, k)), earlier_host e end ss l h.1)
@@ -77,7 +74,7 @@ module _ (bs : List Party) (ks : List Piece) (done more : List Step) (end : ℕ)
 
   quiet_at : (front back : List Event) (e : ℕ) (k : Parted done front back) → StartsLater e end back → IsQuiet bs front e ks k.done (k.more ++ more)
   quiet_at front back e k s =
-      let g = goes_right k.done (k.more ++ more) (subst GoesOn (split front back k) (goes_on bs ks bus sp.linked)) in
+      let g = goes_after k.done (k.more ++ more) (subst GoesOn (split front back k) (goes_on bs ks bus sp.linked)) in
       record { splits = record { linked = sp.linked; steps = split front back k }; shown = k.shown; quiet = later_host e end k.more more (subst (StartsLater e end) (sym k.left) s) late g }
 
 pub fronts_keep : FrontsKeep

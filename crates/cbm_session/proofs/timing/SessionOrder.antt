@@ -1,4 +1,5 @@
 -- A session's moments never go back, and at one moment the host's changes come before the drives'.
+use Rattle.cbm_session.proofs.joining.Showing.{order_all}
 use Rattle.cbm_session.proofs.joining.Silents.{silent_from, silent_head, silent_before}
 use Rattle.cbm_session.proofs.Paces.{pause_from, by_eight}
 use Rattle.cbm_iec.specs.Profile.{bit_time, first_accept, pull_pause}
@@ -20,8 +21,8 @@ use Rattle.cbm_iec.specs.declared.party.Role.{Role}
 use Rattle.cbm_session.proofs.alone.Sessions.{AllHost}
 use Rattle.cbm_session.proofs.among.Around.{NotHost, merge_drives, every_each, every_drives}
 use Rattle.cbm_session.proofs.among.Calm.{Every}
-use Rattle.cbm_session.proofs.among.Counted.{order_all, all_host}
-use Rattle.cbm_session.proofs.among.Points.{none_talk, every_seat, whole_sound, cut_sound, AllSound, rest_sound}
+use Rattle.cbm_session.proofs.among.Counted.{all_host}
+use Rattle.cbm_session.proofs.among.Points.{none_talk, each_seat, whole_sound, cut_sound, AllSound, rest_sound}
 use Rattle.cbm_session.proofs.among.Standing.{IsSound}
 use Rattle.cbm_session.proofs.frames.Accepted.{accepted, listen_react, listen_few, gap_same, heard_same}
 use Rattle.cbm_session.proofs.frames.OnePulse.{bounds}
@@ -29,7 +30,7 @@ use Rattle.cbm_session.proofs.frames.Phases.{none_all, Each, each, ReactsBy, rea
 use Rattle.cbm_session.proofs.joining.Merging.{merge_nil, NoneBefore, InOrder, none_sooner, by_head, none_merge, before_yes, before_no, AllBefore, front_before}
 use Rattle.cbm_session.proofs.joining.OneDrive.{AllUpTo, upto_append, last_after, pulse_within, cells_upto, upto_free, upto_held}
 use Rattle.cbm_session.proofs.joining.Orders.{starts_late, host_order}
-use Rattle.cbm_session.proofs.joining.Owning.{AllOwned, part_owned, part_order, host_mine, none_append}
+use Rattle.cbm_session.proofs.joining.Owning.{AllOwned, part_owned, part_order, host_mine, none_append, signal_from}
 use Rattle.cbm_session.proofs.joining.Talkers.{true_false, OneTalker}
 use Rattle.cbm_session.proofs.reading.OneReading.{late_by_role, seat_of}
 use Rattle.cbm_session.proofs.reading.PieceReadings.{next_seat}
@@ -162,7 +163,7 @@ piece_goes p w f =
     let drives = merge_all [] (map own p.seats) in
     let order : InOrder drives = order_all own (part_order p w f) [] p.seats tt in
     let all : Every (λ s. NotHost s.event.who) drives =
-    every_drives (λ s. NotHost s.event.who) own p.seats (every_seat (λ x. Every (λ s. NotHost s.event.who) (own x)) p.seats (λ (x : Seat). owned_drives (device x) (own x) (part_owned p w x))) in
+    every_drives (λ s. NotHost s.event.who) own p.seats (each_seat (λ x. Every (λ s. NotHost s.event.who) (own x)) p.seats (λ (x : Seat). owned_drives (device x) (own x) (part_owned p w x))) in
     subst GoesOn (sym (merge_drives own (host_part p w) p.seats)) (goes_merge (host_part p w) drives (part_host p w) (host_order p w f) order (goes_drives drives all order))
 
 -- the moment of a piece's first step
@@ -217,7 +218,7 @@ own_head p (Talk at f) h x = head_if at (is_talker x.role) (telling (at_pace (ta
 steps_from : (p : Point) (w : Whole) → Fits p w → NoneBefore (first_of w) (steps_of p w)
 steps_from p w f =
     none_all (first_of w) (host_part p w) (λ x. own_part p w x) p.seats (none_first (first_of w) (host_part p w) (host_order p w f) (host_head p w f))
-    (every_seat (λ x. NoneBefore (first_of w) (own_part p w x)) p.seats (λ (x : Seat). none_first (first_of w) (own_part p w x) (part_order p w f x) (own_head p w f x)))
+    (each_seat (λ x. NoneBefore (first_of w) (own_part p w x)) p.seats (λ (x : Seat). none_first (first_of w) (own_part p w x) (part_order p w f x) (own_head p w f x)))
 
 -- The moment by which all steps of a piece are done.
 abbrev pub end_by : Point → Whole → ℕ
@@ -411,7 +412,7 @@ bits_before m b at false (true ∷ bits) h = (omega (arith, h), (omega (arith, h
 bits_before m b at true (false ∷ bits) h = (omega (arith, h), (omega (arith, h), bits_before m b (at + bit_time b.pace) true bits (omega (arith, h))))
 bits_before m b at false (false ∷ bits) h = (omega (arith, h), (omega (arith, h), (omega (arith, h), bits_before m b (at + bit_time b.pace) true bits (omega (arith, h)))))
 
-both_before : (m : ℕ) (xs ys : List Step) → AllBefore m xs → AllBefore m ys → AllBefore m (xs ++ ys)
+pub both_before : (m : ℕ) (xs ys : List Step) → AllBefore m xs → AllBefore m ys → AllBefore m (xs ++ ys)
 both_before m [] ys a b = b
 both_before m (x ∷ xs) ys a b = (a.0, both_before m xs ys a.1 b)
 
@@ -420,17 +421,13 @@ telling_before b at f h =
     let l = told_late b f in
     let e = h.eight in
     let a = h.accept in
-    let k = from f.signal h.signal in
+    let k = signal_from f.free f.signal h.signal in
     let g = h.free in
     let m = told_since b f in (
       omega (arith, l, a, k, g),
       both_before m (bit_steps b (first_bit b f) false f.bits) (if is_last f then drive b.device (f.accept + b.reaction) Clock Free ∷ [] else []) (bits_before m b (first_bit b f) false f.bits (omega (arith, l, e, a, by_eight b.pace e))) (last (is_last f)),
     )
   where
-    from : (x : Option (ℕ × ℕ)) → SignalFits f.free x → f.free ≤ (elim x as (λ y. ℕ) [ None ↦ f.free | Some y ↦ y.1 ])
-    from None h = omega arith
-    from (Some (pull, again)) h = omega (arith, h.0, h.1)
-
     last : (v : Bool) → AllBefore (if v then f.accept + b.reaction + 1 else f.accept) (if v then drive b.device (f.accept + b.reaction) Clock Free ∷ [] else [])
     last true = (omega arith, tt)
     last false = tt
