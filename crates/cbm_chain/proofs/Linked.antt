@@ -5,9 +5,9 @@ use Rattle.cbm_medium.specs.Place.{Place, Has, has, directory_head}
 use Rattle.cbm_medium.specs.Content.{Cell, Content, written}
 use Rattle.cbm_medium.specs.declared.fault.Trouble.{Trouble}
 use Rattle.cbm_medium.specs.Links.{Followed, ended, cut_at, with_block, followed_after, link, or_nothing}
-use Rattle.cbm_medium.specs.Met.{IsNamed, IsMetFrom}
+use Rattle.cbm_medium.specs.Met.{IsReached, IsMetFrom}
 use Rattle.cbm_medium.proofs.Walks.{has_true, true_has, bool_cases}
-use Rattle.cbm_medium.proofs.Named.{linked_by}
+use Rattle.cbm_medium.proofs.Reached.{reached_on}
 use Rattle.cbm_bam.specs.Map.{IsGiven, Frees}
 use Rattle.cbm_chain.specs.Writing.{State, Part, Wrote}
 use Rattle.cbm_chain.specs.GivenUp.{linked_blocks, IsGivenBack}
@@ -51,29 +51,29 @@ part_linked tracks c b (b' ∷ rest) h = go (c b) refl h.3 h.4 (part_linked trac
 -- ---- what cuts them off: a link that names no sector, or a block that doesn't read
 
 cut_met : (tracks : ℕ) (c : Content) (starts : Place → Type 0) (p : Place) (code : ℕ) (f : Followed) (t : Trouble) → f ≡ cut_at code p → f.trouble ≡ Some t
-    → ((code ≡ 66) × (has tracks p ≡ false) × IsNamed tracks c starts p) ⊎ (Has tracks p × (c p ≡ Err code)) → IsMetFrom tracks c starts t
-cut_met tracks c starts p code f t cut e h =
+    → IsReached tracks c starts p → ((code ≡ 66) × (has tracks p ≡ false)) ⊎ (Has tracks p × (c p ≡ Err code)) → IsMetFrom tracks c starts t
+cut_met tracks c starts p code f t cut e r h =
     let z : Some (record { code = code; track = p.track; sector = p.sector }) ≡ Some t = sym (ap (λ (x : Followed). x.trouble) cut) ∙ e in
     let same : record { code = code; track = p.track; sector = p.sector } ≡ t = some_same z in
-    subst (λ (x : Trouble). IsMetFrom tracks c starts x) same h
+    subst (λ (x : Trouble). IsMetFrom tracks c starts x) same (r, h)
   where
     some_same : {x y : Trouble} → Some x ≡ Some y → x ≡ y
     some_same k = cc
 
-met_on : (tracks : ℕ) (c : Content) (starts : Place → Type 0) (n : ℕ) (p : Place) (t : Trouble) → Has tracks p → (linked_blocks tracks c (suc n) p).trouble ≡ Some t
-    → (cell : Cell) → c p ≡ cell → ((q : Place) → IsNamed tracks c starts q → (linked_blocks tracks c n q).trouble ≡ Some t → IsMetFrom tracks c starts t) → IsMetFrom tracks c starts t
-met_on tracks c starts n p t h e (Ok bytes) z more =
-    more (link bytes) (linked_by tracks c starts p (link bytes) bytes h z refl) (sym (ap (λ (f : Followed). f.trouble) (linked_next tracks c n p bytes h z)) ∙ e)
-met_on tracks c starts n p t h e (Err code) z more = cut_met tracks c starts p code (linked_blocks tracks c (suc n) p) t (linked_fault tracks c n p code h z) e (inr (h, z))
+met_on : (tracks : ℕ) (c : Content) (starts : Place → Type 0) (n : ℕ) (p : Place) (t : Trouble) → IsReached tracks c starts p → Has tracks p → (linked_blocks tracks c (suc n) p).trouble ≡ Some t
+    → (cell : Cell) → c p ≡ cell → ((q : Place) → IsReached tracks c starts q → (linked_blocks tracks c n q).trouble ≡ Some t → IsMetFrom tracks c starts t) → IsMetFrom tracks c starts t
+met_on tracks c starts n p t r h e (Ok bytes) z more =
+    more (link bytes) (reached_on tracks c starts p (link bytes) bytes r h z refl) (sym (ap (λ (f : Followed). f.trouble) (linked_next tracks c n p bytes h z)) ∙ e)
+met_on tracks c starts n p t r h e (Err code) z more = cut_met tracks c starts p code (linked_blocks tracks c (suc n) p) t (linked_fault tracks c n p code h z) e r (inr (h, z))
 
-pub linked_met : (tracks : ℕ) (c : Content) (starts : Place → Type 0) (n : ℕ) (p : Place) (t : Trouble) → IsNamed tracks c starts p → (linked_blocks tracks c n p).trouble ≡ Some t → IsMetFrom tracks c starts t
-linked_met tracks c starts zero p t named e = elim (bool_cases (has tracks p)) [
-  | inr off ↦ cut_met tracks c starts p 66 (linked_blocks tracks c 0 p) t (linked_off tracks c 0 p off) e (inl (refl, off, named))
+pub linked_met : (tracks : ℕ) (c : Content) (starts : Place → Type 0) (n : ℕ) (p : Place) (t : Trouble) → IsReached tracks c starts p → (linked_blocks tracks c n p).trouble ≡ Some t → IsMetFrom tracks c starts t
+linked_met tracks c starts zero p t r e = elim (bool_cases (has tracks p)) [
+  | inr off ↦ cut_met tracks c starts p 66 (linked_blocks tracks c 0 p) t (linked_off tracks c 0 p off) e r (inl (refl, off))
   | inl here ↦ absurd (let z = sym (ap (λ (f : Followed). f.trouble) (linked_last tracks c p (true_has tracks p here))) ∙ e in (cc))
 ]
-linked_met tracks c starts (suc n) p t named e = elim (bool_cases (has tracks p)) [
-  | inr off ↦ cut_met tracks c starts p 66 (linked_blocks tracks c (suc n) p) t (linked_off tracks c (suc n) p off) e (inl (refl, off, named))
-  | inl here ↦ met_on tracks c starts n p t (true_has tracks p here) e (c p) refl (λ q m k. linked_met tracks c starts n q t m k)
+linked_met tracks c starts (suc n) p t r e = elim (bool_cases (has tracks p)) [
+  | inr off ↦ cut_met tracks c starts p 66 (linked_blocks tracks c (suc n) p) t (linked_off tracks c (suc n) p off) e r (inl (refl, off))
+  | inl here ↦ met_on tracks c starts n p t r (true_has tracks p here) e (c p) refl (λ q m k. linked_met tracks c starts n q t m k)
 ]
 
 -- ---- given back, one after another

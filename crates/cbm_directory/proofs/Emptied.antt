@@ -1,8 +1,8 @@
 -- The first empty slot: the first entry of type byte 0, before or after a growth of the directory.
-use Rattle.std.proofs.Common.{◌≡◌, ℕ, ◌+◌, List, [], ◌∷◌, Bool, true, false, ap, subst, inr, Option, Some, None, Result, Ok, Err}
-use Rattle.std.specs.Prelude.{◌==◌, if◌then◌else◌, option_map, IfOk, IfErr, OnOk}
+use Rattle.std.proofs.Common.{◌≡◌, ℕ, ◌+◌, List, [], ◌∷◌, Bool, true, false, ap, inr, Option, Some, None, Result, Ok, Err}
+use Rattle.std.specs.Prelude.{◌==◌, if◌then◌else◌, option_map, IfOk, IfErr}
 use Rattle.cbm_medium.specs.Content.{Content}
-use Rattle.cbm_medium.specs.Seen.{Seen, OnlyContent}
+use Rattle.cbm_medium.specs.Seen.{Seen}
 use Rattle.cbm_medium.specs.declared.fault.Trouble.{Trouble}
 use Rattle.cbm_directory.specs.Entries.{type_byte}
 use Rattle.cbm_directory.specs.Slots.{directory_of, first_from}

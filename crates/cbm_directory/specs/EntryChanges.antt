@@ -45,10 +45,10 @@ abbrev pub ClearsLed : ℕ → Content → Content → ℕ → Type 0
 ClearsLed tracks old new n =
     MatchOption (led_to tracks old (n / 8) first_directory) ((new ≡ old) × DirectoryLeadsOff tracks old) (λ p. Clears old new p (n % 8))
 
--- Why an entry isn't written, on any content: a link on the way to it meets this, or its sector refuses.
+-- Why an entry isn't written, on any content: the directory's links meet this from 18/1 on, or its sector refuses.
 abbrev pub IsEntryRefused : ℕ → Seen → Seen → ℕ → Trouble → Type 0
 IsEntryRefused tracks old new n t =
-    IsMetFrom tracks old.content (λ q. ⊥) t
+    IsMetFrom tracks old.content (λ q. q ≡ first_directory) t
     ⊎ ((p : Place) × (led_to tracks old.content (n / 8) first_directory ≡ Some p) × HasCause old new p t.code)
 
 -- The entry under another name.

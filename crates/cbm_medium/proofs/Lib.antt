@@ -3,5 +3,5 @@ pub mod Sequences
 pub mod Walks
 pub mod FaultCodes
 pub mod Shown
-pub mod Named
+pub mod Reached
 pub mod Passed

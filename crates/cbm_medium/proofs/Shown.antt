@@ -9,7 +9,7 @@ use Rattle.cbm_medium.proofs.Walks.{followed_cut}
 
 -- a link
 pub met_shown : (tracks : ℕ) (starts : Place → Type 0) (s : Seen) (t : Trouble) → IsMetFrom tracks s.content starts t → ShowsGround s t
-met_shown tracks starts s t h = elim h [ inl off ↦ inl (inl off.0) | inr on ↦ inr (inl on.1) ]
+met_shown tracks starts s t h = elim h.1 [ inl off ↦ inl (inl off.0) | inr on ↦ inr (inl on.1) ]
 
 -- a walk
 pub cut_shown : (tracks : ℕ) (s : Seen) (n : ℕ) (a : Place) (t : Trouble) → (follow tracks s.content n a).trouble ≡ Some t → ShowsGround s t

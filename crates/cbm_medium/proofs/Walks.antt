@@ -23,6 +23,13 @@ true_has tracks p h =
     let t : p.track ≤ tracks = grind arith in
     (on_a_track p s, t, s)
 
+pub has_none : (tracks : ℕ) (p : Place) → (Has tracks p → ⊥) → has tracks p ≡ false
+has_none tracks p h = by_test (has tracks p) refl
+  where
+    by_test : (b : Bool) → has tracks p ≡ b → has tracks p ≡ false
+    by_test false e = e
+    by_test true e = absurd (h (true_has tracks p e))
+
 -- true or false, as a choice that keeps the equation
 pub bool_cases : (b : Bool) → (b ≡ true) ⊎ (b ≡ false)
 bool_cases true = inl refl

@@ -1,27 +1,23 @@
 -- What a link meets on any content.
-use Rattle.std.specs.Prelude.{ℕ, ◌≡◌, ◌≢◌, ◌⊎◌, ◌-◌, ◌<◌, false, List, [], Option, Some, None, Result, Ok, Err, IfOk, IfErr, OnOk}
+use Rattle.std.specs.Prelude.{ℕ, ◌≡◌, ◌≢◌, ◌⊎◌, ◌-◌, ◌<◌, false, List, [], Option, Some, None, Result, Err, IfOk, IfErr, OnOk}
 use Rattle.cbm_medium.specs.Place.{Place, has, Has}
 use Rattle.cbm_medium.specs.Content.{Content}
-use Rattle.cbm_medium.specs.Links.{link, follow, with_block}
+use Rattle.cbm_medium.specs.Links.{LinksLead, follow, with_block}
 use Rattle.cbm_medium.specs.declared.fault.Trouble.{Trouble}
 
 -- the sector or the link that a trouble names
 abbrev pub place_of : Trouble → Place
 place_of t = record { track = t.track; sector = t.sector }
 
--- A SECTOR LINKS THERE: some sector of the disk reads, and its first two bytes name the place.
-abbrev pub IsLinked : ℕ → Content → Place → Type 0
-IsLinked tracks content q = (p : Place) × (bytes : List ℕ) × Has tracks p × (content p ≡ Ok bytes) × (link bytes ≡ q)
+-- THE PLACE IS REACHED: it is one of those where a walk may start, or the links of sectors that read lead from one of those to it.
+abbrev pub IsReached : ℕ → Content → (Place → Type 0) → Place → Type 0
+IsReached tracks content starts q = (p : Place) × (blocks : List Place) × starts p × LinksLead tracks content p blocks q
 
--- THE PLACE IS NAMED: it is one of those where a walk may start, or a sector links there.
-abbrev pub IsNamed : ℕ → Content → (Place → Type 0) → Place → Type 0
-IsNamed tracks content starts q = starts q ⊎ IsLinked tracks content q
-
--- THE CONTENT SHOWS THE TROUBLE: a place that is named is no sector of the disk (66), or a sector doesn't read, with its fault.
+-- THE CONTENT SHOWS THE TROUBLE where it is reached: the place is no sector of the disk (66), or one that doesn't read, with its fault.
 abbrev pub IsMetFrom : ℕ → Content → (Place → Type 0) → Trouble → Type 0
 IsMetFrom tracks content starts t =
-    ((t.code ≡ 66) × (has tracks (place_of t) ≡ false) × IsNamed tracks content starts (place_of t))
-    ⊎ (Has tracks (place_of t) × (content (place_of t) ≡ Err t.code))
+    let at = place_of t in
+    IsReached tracks content starts at × (((t.code ≡ 66) × (has tracks at ≡ false)) ⊎ (Has tracks at × (content at ≡ Err t.code)))
 
 -- A REFUSAL TO READ: the content shows the trouble, and it isn't 26.
 pub record MeetsTrouble {A : Type 0} (tracks : ℕ) (content : Content) (starts : Place → Type 0) (result : Result A Trouble) : Type 0 where

@@ -1,7 +1,4 @@
-use Rattle.std.proofs.Common.{rules, ◌≡◌, ◌≢◌, ◌≤◌, ◌<◌, ◌+◌, ◌++◌, [], length, drop, slice_range, option_to_list, Some, None, OnOk, OnErr, IfOk, IfErr, IfNone, ℕ, ◌-◌, ◌*◌, ◌/◌, ◌%◌, Bool, true, false, nat_eq, nat_lt, List, ◌∷◌, slice_index_or, slice_set, bit_and, bit_or, Fits, w8, w32, w64, Bor, MutBor}
-use Rattle.cbm_medium.specs.Place.{sector_count}
-use Rattle.cbm_file.specs.Waiting.{next_shown}
-use Rattle.cbm_chain.specs.Reading.{held_from, rest_of, one_less, IsSettled, BeginsAt, GoesAlong}
+use Rattle.std.proofs.Common.{rules}
 use Rattle.cbm_chain.proofs.reader.ChainReader.open.Goals as goal
 
 pub returns-then-is_end-clause-err : goal.returns-then-is_end-clause-err

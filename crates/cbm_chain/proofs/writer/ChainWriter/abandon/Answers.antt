@@ -6,6 +6,7 @@ use Rattle.cbm_medium.specs.Met.{IsMetFrom}
 use Rattle.cbm_bam.specs.Map.{Frees}
 use Rattle.cbm_chain.specs.Writing.{State}
 use Rattle.cbm_chain.specs.GivenUp.{linked_blocks}
+use Rattle.cbm_medium.proofs.Reached.{starts_there}
 use Rattle.cbm_chain.proofs.Linked.{linked_met, not_cut, all_given_back}
 use Rattle.cbm_chain.proofs.writer.ChainWriter.abandon.Goals as goal
 
@@ -16,7 +17,7 @@ returns-in_err-give_linked-clause-cause g c =
     let starts : Place → Type 0 = λ q. c.args.self.now.first ≡ Some q in
     let first : c.args.self.now.first ≡ Some c.from.result = sym (ap (λ (s : State). s.first) c.self.view_is) ∙ c.in-Some.is ∙ ap (λ (p : Place). Some p) (sym c.from.ensures) in
     rw (p.1, p.2) (inl (subst (λ (n : ℕ). IsMetFrom n content starts c.in_err-give_linked.field-0.0) (ap (λ (s : State). s.tracks) c.self.view_is)
-    (linked_met c.self.inside.geometry content starts c.saturating_sub-more.result c.from.result c.in_err-give_linked.field-0.0 (inl first) c.in_err-give_linked.ensures.walk.cut)))
+    (linked_met c.self.inside.geometry content starts c.saturating_sub-more.result c.from.result c.in_err-give_linked.field-0.0 (starts_there c.self.inside.geometry content starts c.from.result first) c.in_err-give_linked.ensures.walk.cut)))
 
 -- the blocks that were written are linked
 pub returns-in_err-give_linked-clause-linked : goal.returns-in_err-give_linked-clause-linked
