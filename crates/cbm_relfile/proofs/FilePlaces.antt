@@ -1,14 +1,16 @@
 -- The places that a relative file names, as they are read.
-use Rattle.std.proofs.Common.{◌≡◌, ℕ, suc, zero, ◌+◌, ◌-◌, ◌*◌, ◌<◌, ◌≤◌, List, Option, Some, None, Ok, Err, refl, sym, subst, ◌∙◌, ap, arith, inl, inr}
+use Rattle.std.proofs.Common.{◌≡◌, ℕ, suc, zero, ◌+◌, ◌-◌, ◌*◌, ◌<◌, ◌≤◌, List, Some, Ok, Err, refl, sym, subst, ◌∙◌, ap, arith, inl, inr}
 use Rattle.cbm_medium.specs.Place.{Place, Has, has}
 use Rattle.cbm_medium.specs.Content.{Content}
-use Rattle.std.specs.Prelude.{false, Result, IfOk, IfSome, IsErrAnd}
+use Rattle.std.specs.Prelude.{◌⊎◌, false, Result, IfErr, IsErrAnd}
 use Rattle.cbm_medium.specs.Links.{place_in}
-use Rattle.cbm_medium.specs.Met.{IsNamed, MeetsTrouble, place_of}
+use Rattle.cbm_medium.specs.Met.{IsReached, IsMetFrom, MeetsTrouble, place_of}
 use Rattle.cbm_medium.specs.declared.fault.Trouble.{Trouble}
-use Rattle.cbm_medium.proofs.Named.{StartsAmong, named_more}
-use Rattle.cbm_relfile.specs.Records.{Relative}
+use Rattle.cbm_medium.specs.Seen.{Seen, HasFailed, write_refusal}
+use Rattle.cbm_medium.proofs.Reached.{StartsAmong, starts_there, met_more}
+use Rattle.cbm_relfile.specs.Records.{Relative, IsRecordRefused}
 use Rattle.cbm_relfile.specs.OfFile.{IsSide, IsOfFile, IsNamedBlock}
+use Rattle.cbm_relfile.specs.Missing.{IsBlockReached}
 
 -- the first side sector lists it among the side sectors
 pub side_listed : (tracks : ℕ) (c : Content) (side first q : Place) (head : List ℕ) (n : ℕ) → first ≡ side → Has tracks first → c first ≡ Ok head → n < 6 → q ≡ place_in head (4 + 2 * n) → IsSide tracks c side q
@@ -29,25 +31,32 @@ pub named_of : (tracks : ℕ) (c : Content) (file : Relative) (q : Place) → Is
 named_of tracks c file q (inl first) = inl first
 named_of tracks c file q (inr listed) = inr (inr listed)
 
--- no more blocks are left to the block that is wanted than before
-pub last_left : (count left before after number : ℕ) → (count ≡ 0 → after ≡ before) → (0 < count → after ≡ left - (count - 1)) → left ≤ number → before ≤ number → after ≤ number
-last_left zero left before after number none last l b = omega (arith, none refl, b)
-last_left (suc n) left before after number none last l b = omega (arith, last (omega arith), l)
+-- a block that is reached is reached from the places of the file
+pub block_reached : (tracks : ℕ) (c : Content) (file : Relative) (number : ℕ) (at : Place) → IsBlockReached tracks c file number at → IsReached tracks c (IsOfFile tracks c file) at
+block_reached tracks c file number at b = (b.0, b.3.blocks, named_of tracks c file b.0 b.2.named, b.3.leads)
 
--- a block that is found is named from more starts, too
-pub found_more : (tracks : ℕ) (c : Content) (starts others : Place → Type 0) (r : Result (Option Place) Trouble) → StartsAmong tracks c starts others → IfOk r (λ o. IfSome o (IsNamed tracks c starts)) → IfOk r (λ o. IfSome o (IsNamed tracks c others))
-found_more tracks c starts others (Err t) more h = tt
-found_more tracks c starts others (Ok None) more h = tt
-found_more tracks c starts others (Ok (Some q)) more h = named_more tracks c starts others more q h
+-- a place that is reached and is no sector of the disk
+pub off_met : (tracks : ℕ) (c : Content) (starts : Place → Type 0) (t : Trouble) (at : Place) → IsReached tracks c starts at → place_of t ≡ at → t.code ≡ 66 → has tracks (place_of t) ≡ false → IsMetFrom tracks c starts t
+off_met tracks c starts t at r e is off = (subst (IsReached tracks c starts) (sym e) r, inl (is, off))
 
--- the one that is found is named
-pub found_named : (tracks : ℕ) (c : Content) (starts : Place → Type 0) (o : Option Place) (q : Place) → o ≡ Some q → IfSome o (IsNamed tracks c starts) → IsNamed tracks c starts q
-found_named tracks c starts o q is h = subst (λ (x : Option Place). IfSome x (IsNamed tracks c starts)) is h
+-- or is one that doesn't read
+pub fault_met : (tracks : ℕ) (c : Content) (starts : Place → Type 0) (t : Trouble) (at : Place) → IsReached tracks c starts at → place_of t ≡ at → Has tracks at → c at ≡ Err t.code → IsMetFrom tracks c starts t
+fault_met tracks c starts t at r e here fault = (subst (IsReached tracks c starts) (sym e) r, inr (subst (λ (p : Place). Has tracks p) (sym e) here, ap c e ∙ fault))
 
--- a place that is named and is no sector of the disk
-pub off_on : {B : Type 0} (tracks : ℕ) (c : Content) (starts : Place → Type 0) (t : Trouble) (s : Result B Trouble) (at : Place) → t.code ≡ 66 → has tracks (place_of t) ≡ false → place_of t ≡ at → IsNamed tracks c starts at → IsErrAnd s (λ e. e ≡ t)
+pub off_on : {B : Type 0} (tracks : ℕ) (c : Content) (starts : Place → Type 0) (t : Trouble) (s : Result B Trouble) (at : Place) → t.code ≡ 66 → has tracks (place_of t) ≡ false → place_of t ≡ at → IsReached tracks c starts at → IsErrAnd s (λ e. e ≡ t)
     → MeetsTrouble tracks c starts s
 off_on tracks c starts t (Ok x) at is off e n on = absurd on
 off_on {B = B} tracks c starts t (Err u) at is off e n on =
-    let named : IsNamed tracks c starts (place_of t) = subst (IsNamed tracks c starts) (sym e) n in
-    subst (λ (x : Trouble). MeetsTrouble {A = B} tracks c starts (Err x)) (sym on) (record { shown = inl (is, off, named); never_26 = λ k. omega (arith, is, k) })
+    subst (λ (x : Trouble). MeetsTrouble {A = B} tracks c starts (Err x)) (sym on) (record { shown = off_met tracks c starts t at n e is off; never_26 = λ k. omega (arith, is, k) })
+
+-- what a step meets on a walk, or something else
+pub met_or : {A : Type 0} (tracks : ℕ) (c : Content) (starts others : Place → Type 0) (more : Trouble → Type 0) (r : Result A Trouble) → StartsAmong tracks c starts others → IfErr r (IsMetFrom tracks c starts) → IfErr r (λ t. IsMetFrom tracks c others t ⊎ more t)
+met_or tracks c starts others more (Ok x) among h = tt
+met_or tracks c starts others more (Err t) among h = inl (met_more tracks c starts others among t h)
+
+-- what a write of a part of a sector is refused for
+pub part_refused : (tracks : ℕ) (starts : Place → Type 0) (old new : Seen) (at : Place) (t : Trouble) → starts at
+    → ((t.code ≡ 66) × (has tracks (place_of t) ≡ false) × (place_of t ≡ at)) ⊎ ((write_refusal old at ≡ Some t.code) ⊎ HasFailed old new) → IsRecordRefused tracks starts old new t
+part_refused tracks starts old new at t s (inl off) = inl (off_met tracks old.content starts t at (starts_there tracks old.content starts at s) off.2 off.0 off.1)
+part_refused tracks starts old new at t s (inr (inl w)) = inr (inl (at, w))
+part_refused tracks starts old new at t s (inr (inr failed)) = inr (inr failed)

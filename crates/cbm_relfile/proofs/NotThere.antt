@@ -1,5 +1,5 @@
 -- A None that is handed on, and what it says.
-use Rattle.std.proofs.Common.{◌≡◌, ◌≢◌, ℕ, ◌+◌, ◌-◌, ◌*◌, ◌/◌, ◌%◌, ◌≤◌, ◌<◌, List, Option, Some, None, Ok, Err, sym, ap, subst, ◌∙◌, arith, inl, inr}
+use Rattle.std.proofs.Common.{◌≡◌, ◌≢◌, ℕ, zero, suc, ◌+◌, ◌-◌, ◌*◌, ◌/◌, ◌%◌, ◌≤◌, ◌<◌, List, Option, Some, None, Ok, Err, sym, ap, subst, ◌∙◌, arith, inl, inr}
 use Rattle.std.specs.Prelude.{Result, IfOk, IfNone, IfSome}
 use Rattle.cbm_medium.specs.Place.{Place, Has}
 use Rattle.cbm_medium.specs.Content.{Content}
@@ -8,7 +8,6 @@ use Rattle.cbm_medium.specs.declared.fault.Trouble.{Trouble}
 use Rattle.cbm_medium.proofs.Passed.{WalksTo}
 use Rattle.cbm_relfile.specs.Records.{Relative, EndsBefore}
 use Rattle.cbm_relfile.specs.Counting.{ChainEndsBy, BlocksLeadTo}
-use Rattle.cbm_relfile.specs.OfFile.{IsNamedBlock}
 use Rattle.cbm_relfile.specs.Missing.{IsBlockMissing, IsBlockReached, IsStretchMissing, IsRecordMissing, IsNextMissing}
 
 -- what a None says says more
@@ -37,13 +36,6 @@ walk_ends tracks c first at k number w l z = inr (k, l, record { blocks = w.bloc
 -- or goes on
 pub walk_leads : (tracks : ℕ) (c : Content) (first at : Place) (k number : ℕ) → WalksTo tracks c first at k → k ≡ number → at.track ≢ 0 → BlocksLeadTo tracks c first number at
 walk_leads tracks c first at k number w e ne = record { blocks = w.blocks; count = w.number ∙ e; leads = w.leads; going = ne }
-
-ends_within : (tracks : ℕ) (c : Content) (q : Place) (k number : ℕ) → k ≤ number → ChainEndsBy tracks c q k → ChainEndsBy tracks c q number
-ends_within tracks c q k number l (inl s) = inl (omega (arith, l, s))
-ends_within tracks c q k number l (inr e) = inr (e.0, omega (arith, l, e.1), e.2)
-
-pub missing_from : (tracks : ℕ) (c : Content) (file : Relative) (q : Place) (k number : ℕ) → IsNamedBlock tracks c file q → k ≤ number → ChainEndsBy tracks c q k → IsBlockMissing tracks c file number
-missing_from tracks c file q k number of l e = (q, of, ends_within tracks c q k number l e)
 
 -- the block in which it begins is missing
 pub record_missing : (tracks : ℕ) (c : Content) (file : Relative) (number width : ℕ) → width ≡ file.width → IsBlockMissing tracks c file ((number - 1) * width / 254) → IsRecordMissing tracks c file number
@@ -74,3 +66,14 @@ pub next_missing : (tracks : ℕ) (c : Content) (file : Relative) (number width 
     → IsStretchMissing c sector ((number - 1) * width % 254 + count) count → IsNextMissing tracks c file number
 next_missing tracks c file number width count at sector e f reached has holds none =
     (at, sector, subst (λ (w : ℕ). IsBlockReached tracks c file ((number - 1) * w / 254) at) e reached, has, holds, subst (λ (x : ℕ × ℕ). IsStretchMissing c sector (x.0 % 254 + x.1) x.1) (λ i. ((number - 1) * e i, f i)) none)
+
+-- ---- 768 blocks have at most so many records
+
+few_number : (n w : ℕ) → 1 ≤ w → (n - 1) * w / 254 < 768 → n ≤ 195072
+few_number n zero l h = absurd (omega (arith, l))
+few_number n (suc k) l h = omega (arith, h)
+
+pub few_records : {A B : Type 0} (n w : ℕ) (o : Option A) (at : A) (r : Result (Option B) Trouble) → o ≡ Some at → IfSome o (λ x. (n - 1) * w / 254 < 768) → 1 ≤ w → IfOk r (λ x. IfSome x (λ y. n ≤ 195072))
+few_records n w o at (Err t) is h l = tt
+few_records n w o at (Ok None) is h l = tt
+few_records n w o at (Ok (Some y)) is h l = few_number n w l (some_says (λ x. (n - 1) * w / 254 < 768) o at is h)

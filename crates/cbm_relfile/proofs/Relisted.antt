@@ -1,6 +1,6 @@
 -- Side sectors that are written anew: what each of them lists, and that the file lies where it lay.
 use Rattle.std.proofs.Common.{◌≡◌, ◌≢◌, ℕ, zero, suc, ◌+◌, ◌-◌, ◌*◌, ◌/◌, ◌⊎◌, ◌<◌, ◌≤◌, List, [], ◌∷◌, ◌++◌, length, take, drop, set, get_or, Bool, true, false, Some, Result, Ok, Err, IsOk, refl, sym, ap, subst, ◌∙◌, arith, inl, inr}
-use Rattle.std.specs.Prelude.{MatchResult}
+use Rattle.std.specs.Prelude.{◌&&◌, MatchResult, IsOkAnd, OnOk}
 use Rattle.std.proofs.lemmas.Bool.{cases_eq, cases_lt}
 use Rattle.std.proofs.lemmas.List.{length-drop, length-take-le, length-set, get_or-take, get_or-set_same, get_or-set_other, take_all, drop_all, drop-drop, append_assoc, take-append-drop}
 use Rattle.cbm_medium.specs.Place.{Place, Has, directory_head}
@@ -8,13 +8,39 @@ use Rattle.cbm_medium.specs.Content.{Cell, Content, IsWhole}
 use Rattle.cbm_medium.specs.Links.{bytes_at, or_nothing, link, place_in, Chain, IsApart}
 use Rattle.cbm_medium.proofs.Places.{place_decide, written_there, written_elsewhere}
 use Rattle.cbm_medium.specs.Content.{refusal}
-use Rattle.cbm_medium.specs.Seen.{Seen, OnlyContent}
+use Rattle.cbm_medium.specs.Seen.{Seen}
 use Rattle.cbm_medium.specs.declared.fault.Trouble.{Trouble}
 use Rattle.cbm_relfile.specs.Making.{IsNotWritten}
 use Rattle.cbm_relfile.specs.Records.{AllWhole, Relative, IsLaid}
-use Rattle.cbm_relfile.specs.Relisting.{ListsThese, IsSideListed, lists_at, NamesSides, IsSideRefused, AreApart, IsSideKept, IsRelisted}
-use Rattle.cbm_relfile.specs.SideSectors.{named_in, sides_listed, blocks_listed, Numbered, IsEnded}
+use Rattle.cbm_relfile.specs.Relisting.{SidesRead, HaveSides, ListsThese, IsSideListed, lists_at, NamesSides, IsSideRefused, AreApart, IsSideKept, IsRelisted}
+use Rattle.cbm_relfile.specs.SideSectors.{named_in, listed_side, sides_listed, blocks_listed, Numbered, IsEnded}
 use Rattle.cbm_relfile.proofs.Listed.{at_bytes, named_none, named_some}
+
+-- ---- which side sectors read
+
+pub sides_read_on : (c : Content) (head : List ℕ) (n : ℕ) (side : Place) (bytes : List ℕ) → SidesRead c head n → side ≡ listed_side head n → c side ≡ Ok bytes → SidesRead c head (n + 1)
+sides_read_on c head n side bytes before is holds = λ i l. elim (cases_eq i n) [
+  | inl e ↦ subst (λ (x : Cell). IsOk x) (sym holds ∙ ap c (is ∙ ap (listed_side head) (sym e))) refl
+  | inr ne ↦ before i (omega (arith, l, ne))
+]
+
+-- those that the first one names
+pub read_listed : (c : Content) (file : Relative) (side : Place) (head : List ℕ) (sides : ℕ) → side ≡ file.side → c side ≡ Ok head → SidesRead c head sides → HaveSides c file.side sides
+read_listed c file side head sides is holds read = subst (λ (x : Cell). IsOkAnd x (λ h. SidesRead c h sides)) (sym holds ∙ ap c is) read
+
+pub all_oks : {A : Type 0} {P : Type 0} (r : Result A Trouble) → P → OnOk r P
+all_oks (Ok x) p = p
+all_oks (Err t) p = tt
+
+pub both_true : (a b : Bool) → (a && b) ≡ true → (a ≡ true) × (b ≡ true)
+both_true true true e = (refl, refl)
+both_true true false e = absurd (cc)
+both_true false b e = absurd (cc)
+
+pub true_both : (a b : Bool) → a ≡ true → b ≡ true → (a && b) ≡ true
+true_both true true e f = refl
+true_both true false e f = absurd (cc)
+true_both false b e f = absurd (cc)
 
 abbrev pub nth : List Place → ℕ → Place
 nth xs i = get_or xs i directory_head

@@ -14,7 +14,7 @@ apart : (c : Content) (p q : Place) (bytes : List ℕ) (code : ℕ) → c p ≡ 
 apart c p q bytes code reads fault same = let no = sym reads ∙ ap c same ∙ fault in absurd (cc)
 
 still_met : (tracks : ℕ) (starts : Place → Type 0) (old new : Seen) (at : Place) (sector : List ℕ) (place : ℕ) (bytes : List ℕ) (t : Trouble) → old.content at ≡ Ok sector → IsRewritten old.content new.content at sector place bytes → IsMetFrom tracks old.content starts t → ShowsGround new t
-still_met tracks starts old new at sector place bytes t reads w h = elim h [
+still_met tracks starts old new at sector place bytes t reads w h = elim h.1 [
   | inl off ↦ inl (inl off.0)
   | inr on ↦ inr (inl (elim w [
     | inl one ↦ ap (λ (c : Content). c (place_of t)) one.1 ∙ written_elsewhere old.content at (place_of t) _ (apart old.content at (place_of t) sector t.code reads on.1) ∙ on.1

@@ -10,7 +10,7 @@ use Rattle.cbm_bam.specs.Orders.{next_order}
 use Rattle.cbm_bam.specs.Causes.{HasCause}
 use Rattle.cbm_relfile.specs.Changing.{IsWriteRefused}
 use Rattle.cbm_relfile.specs.Fresh.{IsFilledFrom, full_end}
-use Rattle.cbm_relfile.specs.SideSectors.{IsEnded}
+use Rattle.cbm_relfile.specs.SideSectors.{blocks_begin, IsEnded}
 
 -- where in the last of this many full data blocks the first fresh record begins: after its last whole record
 abbrev pub fresh_place : ℕ → ℕ → ℕ
@@ -48,8 +48,8 @@ pub record IsLengthenStopped (tracks : ℕ) (old new : Seen) (last : Place) (cod
 pub record ListsMore (old : List ℕ) (k : ℕ) (q : Place) (new : List ℕ) : Type 0 where
   pub whole : length new ≡ 256
   pub ended : IsEnded old (k + 1) new
-  pub front : (i : ℕ) → 2 ≤ i → i < 16 + 2 * k → slice_index new i ≡ slice_index old i
-  pub track : slice_index new (16 + 2 * k) ≡ q.track
+  pub front : (i : ℕ) → 2 ≤ i → i < blocks_begin + 2 * k → slice_index new i ≡ slice_index old i
+  pub track : slice_index new (blocks_begin + 2 * k) ≡ q.track
   pub sector : slice_index new (17 + 2 * k) ≡ q.sector
   pub zeros : (i : ℕ) → 18 + 2 * k ≤ i → slice_index new i ≡ 0
 
@@ -83,8 +83,8 @@ pub record ListsSide (old : List ℕ) (k : ℕ) (t : Place) (follows : Bool) (ne
   pub sector : slice_index new (5 + 2 * k) ≡ t.sector
   pub last : k < 5 → slice_index new (6 + 2 * k) ≡ 0
   pub last_sector : k < 5 → slice_index new (7 + 2 * k) ≡ 0
-  pub afterwards : (i : ℕ) → 8 + 2 * k ≤ i → i < 16 → slice_index new i ≡ slice_index old i
-  pub back : (i : ℕ) → 16 ≤ i → slice_index new i ≡ slice_index old i
+  pub afterwards : (i : ℕ) → 8 + 2 * k ≤ i → i < blocks_begin → slice_index new i ≡ slice_index old i
+  pub back : (i : ℕ) → blocks_begin ≤ i → slice_index new i ≡ slice_index old i
 
 -- The side sector at this place, which is the one of number i, lists one side sector more after this many.
 pub record IsSideLinked (old new : Content) (at : Place) (i k : ℕ) (t : Place) : Type 0 where
@@ -110,8 +110,8 @@ pub record IsNewSide (head : List ℕ) (k w : ℕ) (q t : Place) (new : List ℕ
   pub others : (i : ℕ) → 4 ≤ i → i < 4 + 2 * k → slice_index new i ≡ slice_index head i
   pub itself : (slice_index new (4 + 2 * k) ≡ t.track) × (slice_index new (5 + 2 * k) ≡ t.sector)
   pub last : k < 5 → (slice_index new (6 + 2 * k) ≡ 0) × (slice_index new (7 + 2 * k) ≡ 0)
-  pub afterwards : (i : ℕ) → 8 + 2 * k ≤ i → i < 16 → slice_index new i ≡ slice_index head i
-  pub track : slice_index new 16 ≡ q.track
+  pub afterwards : (i : ℕ) → 8 + 2 * k ≤ i → i < blocks_begin → slice_index new i ≡ slice_index head i
+  pub track : slice_index new blocks_begin ≡ q.track
   pub sector : slice_index new 17 ≡ q.sector
   pub zeros : (i : ℕ) → 18 ≤ i → slice_index new i ≡ 0
 

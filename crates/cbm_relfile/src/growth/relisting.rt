@@ -1,13 +1,13 @@
 // The side sectors of a file are written anew, so that each lists its next 120 blocks.
 
-ghost use Rattle.std.specs.Prelude.{◌≡◌, ◌≢◌, ◌≤◌, ◌<◌, ◌+◌, ◌*◌, ℕ, List, [], true, length, take, drop, slice_index, Ok, IsOk, OnOk, IfErr, IfOk, IsOkAnd, MatchResult};
+ghost use Rattle.std.specs.Prelude.{◌≡◌, ◌≢◌, ◌≤◌, ◌<◌, ◌+◌, ◌*◌, ◌⊎◌, ℕ, List, [], true, length, take, drop, slice_index, Ok, IsOk, OnOk, IfErr, IfOk, IsOkAnd, MatchResult};
 ghost use Rattle.cbm_medium.specs.Place.{Place, Has, sector_count};
 ghost use Rattle.cbm_medium.specs.Links.{Chain, place_in};
 ghost use Rattle.cbm_medium.specs.Seen.{ShowsGround, OnlyContent};
 ghost use Rattle.cbm_relfile.specs.Making.{IsNotWritten};
 ghost use Rattle.cbm_relfile.specs.Records.{AllWhole, Relative, IsLaid};
 ghost use Rattle.cbm_relfile.specs.SideSectors.{IsEnded};
-ghost use Rattle.cbm_relfile.specs.Relisting.{ListsThese, IsSideListed, lists_at, NamesSides, IsSideRefused, AreListed, AreInForm, AreApart, IsRelisted};
+ghost use Rattle.cbm_relfile.specs.Relisting.{SidesRead, HaveSides, ListsThese, IsSideListed, lists_at, NamesSides, IsSideRefused, AreListed, AreInForm, AreApart, IsRelisted};
 
 use crate::growth::growing::cut_at;
 use crate::relative::Relative;
@@ -106,7 +106,8 @@ fn is_same_list(one: &[u8; 256], other: &[u8; 256]) -> bool
     true
 }
 
-/// Whether each side sector lists its next 120 blocks, with zeros after them.
+/// Whether each side sector lists its next 120 blocks, with zeros after them. All of them are read, also after one that
+/// doesn't.
 fn are_listed<M: Medium>(
     medium: &M,
     geometry: Geometry,
@@ -123,19 +124,19 @@ fn are_listed<M: Medium>(
     ensures form { let now = M.seen medium.now in (file : Relative) (xs ss : List Place) →
         IsLaid geometry now.content file xs ss → first ≡ file.first →
         NamesSides head.now ss → length ss ≡ sides → AreInForm now.content ss xs → result ≡ Ok true }
+    ensures reads { OnOk result (SidesRead (M.seen medium.now).content head.now sides) }
     ensures never_26 { IfErr result (λ t. t.code ≢ 26) }
     ensures shown { IfErr result (ShowsGround (M.seen medium.now)) }
 {
     let mut at = first;
+    let mut same = true;
     for number in 0..sides {
         let side = read_at(medium, geometry, side_named(head, number))?;
         let (new, next) = listed_from(medium, geometry, &side, at)?;
-        if !is_same_list(&new, &side) {
-            return Ok(false);
-        }
+        same &= is_same_list(&new, &side);
         at = next;
     }
-    Ok(true)
+    Ok(same)
 }
 
 /// Takes the lists of blocks away, from the last side sector down to the first.
@@ -192,7 +193,7 @@ fn relist<M: Medium>(
 /// Brings the side sectors of a file into the drive's form, in which each lists its next 120 blocks: their lists
 /// are taken away, from the last one down, and then each gets its own, from the first one up, so that the file is sound
 /// after each write. Nothing is written where each lists its blocks, with zeros after them. An `Err` is why a side
-/// sector isn't written: the file lies where it lay.
+/// sector or a block doesn't read, and then nothing is written; or why one isn't written: the file lies where it lay.
 pub fn list_anew<M: Medium>(
     medium: &mut M,
     geometry: Geometry,
@@ -209,7 +210,10 @@ pub fn list_anew<M: Medium>(
         IsLaid geometry old.content file xs ss → length ss ≡ sides → AreInForm old.content ss xs →
         IsOk result × ((M.seen medium.new).content ≡ old.content) }
     ensures only { OnlyContent geometry result (M.seen medium.old) (M.seen medium.new) }
-    ensures reads { OnOk result (IsOk ((M.seen medium.old).content file.side)) }
+    // Nothing is written where a side sector doesn't read.
+    ensures reads { OnOk result (HaveSides (M.seen medium.old).content file.side sides) }
+    ensures spares { ((M.seen medium.new).content ≡ (M.seen medium.old).content) ⊎
+        HaveSides (M.seen medium.old).content file.side sides }
 {
     let head = read_at(medium, geometry, file.side())?;
     if are_listed(medium, geometry, &head, sides, file.first())? {

@@ -1,5 +1,9 @@
 use Rattle.std.proofs.Common.{rules, ◌≡◌, ◌⊎◌, ℕ, length, ◌+◌, ◌-◌, ◌*◌, ◌/◌, ◌%◌, List, ◌∷◌, Option, refl, sym, ap, ◌∙◌, subst, arith, inl}
 use Rattle.std.specs.Prelude.{option_map, nat_lt, Bool, IsOkAnd, MatchBool}
+use Rattle.std.proofs.lemmas.Result.{err_from_is_err_and}
+use Rattle.cbm_medium.specs.Links.{link}
+use Rattle.cbm_medium.proofs.Sequences.{only_nothing}
+use Rattle.cbm_medium.proofs.Shown.{met_shown}
 use Rattle.cbm_file.specs.Records.{with_bytes}
 use Rattle.cbm_medium.specs.Content.{refusal}
 use Rattle.cbm_medium.specs.Seen.{Seen}
@@ -169,3 +173,19 @@ returns-clause-misses_next g c =
     none_more (IsStretchMissing (g.M.Medium.seen c.args.medium.now).content c.in_ok-sector.sector ((c.args.number - 1) * c.length.result % 254 + c.length-3.result) c.length-3.result) (IsNextMissing c.args.geometry (g.M.Medium.seen c.args.medium.now).content c.args.file c.args.number) c.next_stretch-next.result
     (next_missing c.args.geometry (g.M.Medium.seen c.args.medium.now).content c.args.file c.args.number c.length.result c.length-3.result c.in-Some.at c.in_ok-sector.sector c.length.ensures c.length-3.ensures
     (some_says (IsBlockReached c.args.geometry (g.M.Medium.seen c.args.medium.now).content c.args.file ((c.args.number - 1) * c.length.result / 254)) _ c.in-Some.at c.in-Some.is c.in_ok-at.ensures.reached) c.in_ok-sector.ensures.has c.in_ok-sector.ensures.ok) c.next_stretch-next.ensures.missing
+
+-- ---- what doesn't read is shown
+
+pub returns-in_err-sector-clause-only : goal.returns-in_err-sector-clause-only
+returns-in_err-sector-clause-only g c =
+    let old : Seen = g.M.Medium.seen c.args.medium.now in
+    let p = err_from_is_err_and c.from_residual-in_err-sector.result c.from_residual-in_err-sector.ensures.1 in
+    let e = c.in_err-sector.ensures.err in
+    only_nothing c.from_residual-in_err-sector.result old old (λ i. old) (rw (p.1, p.2) (λ is. absurd (e.never_26 is))) (rw (p.1, p.2) (met_shown c.args.geometry (λ q. q ≡ c.in-Some.at) old c.in_err-sector.field-0.0 e.shown))
+
+pub returns-in_err-old-clause-only : goal.returns-in_err-old-clause-only
+returns-in_err-old-clause-only g c =
+    let old : Seen = g.M.Medium.seen c.args.medium.now in
+    let p = err_from_is_err_and c.from_residual-in_err-old.result c.from_residual-in_err-old.ensures.1 in
+    let e = c.in_err-old.ensures.err in
+    only_nothing c.from_residual-in_err-old.result old old (λ i. old) (rw (p.1, p.2) (λ is. absurd (e.never_26 is))) (rw (p.1, p.2) (met_shown c.args.geometry (λ q. q ≡ link c.in_ok-sector.sector) old c.in_err-old.field-0.0 e.shown))

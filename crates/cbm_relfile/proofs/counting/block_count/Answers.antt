@@ -1,11 +1,11 @@
 use Rattle.std.proofs.Common.{◌≡◌, ℕ, ◌≤◌, length, refl, sym, subst, arith, inl, inr}
-use Rattle.cbm_medium.proofs.Named.{linked_by, one_start, meets_on}
+use Rattle.cbm_medium.proofs.Reached.{walked_there, one_start, meets_on}
 use Rattle.cbm_medium.proofs.Passed.{walks_none, walks_more}
 use Rattle.cbm_relfile.proofs.Counted.{walked_none, walked_end, walked_on, walked_more, walked_all}
 use Rattle.cbm_relfile.proofs.counting.block_count.Goals as goal
 
 pub loop-passed-init : goal.loop-passed-init
-loop-passed-init g c = (λ blocks h. walked_none c.args.geometry (g.M.Medium.seen c.args.medium.now).content c.args.first blocks h, walks_none c.args.geometry (g.M.Medium.seen c.args.medium.now).content c.args.first, inl refl)
+loop-passed-init g c = (λ blocks h. walked_none c.args.geometry (g.M.Medium.seen c.args.medium.now).content c.args.first blocks h, walks_none c.args.geometry (g.M.Medium.seen c.args.medium.now).content c.args.first)
 
 pub returns-then-is_end-clause-chain : goal.returns-then-is_end-clause-chain
 returns-then-is_end-clause-chain g c = λ blocks h short. walked_end c.args.geometry (g.M.Medium.seen c.args.medium.now).content c.loop-passed.at blocks c.loop-passed.passed (c.loop-passed.invariant.0 blocks h) (c.if-is_end.ensures.0 refl)
@@ -22,7 +22,6 @@ loop-passed-preserved g c = (
       walked_more c.args.geometry (g.M.Medium.seen c.args.medium.now).content c.loop-passed.at c.of-at.result blocks c.loop-passed.passed c.in_ok-bytes.bytes
       (c.loop-passed.invariant.0 blocks h) (λ z. let f = c.if-is_end.ensures.1 z in cc) c.in_ok-bytes.ensures.ok c.of-at.ensures,
   walks_more c.args.geometry (g.M.Medium.seen c.args.medium.now).content c.args.first c.loop-passed.at c.of-at.result c.loop-passed.passed c.in_ok-bytes.bytes c.loop-passed.invariant.1 c.in_ok-bytes.ensures.has c.in_ok-bytes.ensures.ok c.of-at.ensures,
-  linked_by c.args.geometry (g.M.Medium.seen c.args.medium.now).content (λ q. q ≡ c.args.first) c.loop-passed.at c.of-at.result c.in_ok-bytes.bytes c.in_ok-bytes.ensures.has c.in_ok-bytes.ensures.ok c.of-at.ensures,
 )
 
 pub returns-clause-chain : goal.returns-clause-chain
@@ -39,4 +38,4 @@ returns-clause-walked g c =
 pub returns-in_err-bytes-clause-err : goal.returns-in_err-bytes-clause-err
 returns-in_err-bytes-clause-err g c =
     meets_on c.args.geometry (g.M.Medium.seen c.args.medium.now).content (λ q. q ≡ c.loop-passed.at) (λ q. q ≡ c.args.first) _ c.in_err-bytes.field-0.0 c.from_residual.result refl c.from_residual.ensures.1
-    (one_start c.args.geometry (g.M.Medium.seen c.args.medium.now).content (λ q. q ≡ c.args.first) c.loop-passed.at c.loop-passed.invariant.2) c.in_err-bytes.ensures.err
+    (one_start c.args.geometry (g.M.Medium.seen c.args.medium.now).content (λ q. q ≡ c.args.first) c.loop-passed.at (walked_there c.args.geometry (g.M.Medium.seen c.args.medium.now).content (λ q. q ≡ c.args.first) c.args.first c.loop-passed.at c.loop-passed.passed refl c.loop-passed.invariant.1)) c.in_err-bytes.ensures.err

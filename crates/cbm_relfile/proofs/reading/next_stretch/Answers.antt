@@ -1,8 +1,8 @@
-use Rattle.std.proofs.Common.{◌≡◌, ◌+◌, ◌-◌, ℕ, List, Option, refl, sym, ap, ◌∙◌, subst, arith, inl}
+use Rattle.std.proofs.Common.{◌≡◌, ◌+◌, ◌-◌, ℕ, List, Option, refl, sym, ap, ◌∙◌, subst, arith}
 use Rattle.std.specs.Prelude.{IsOkAnd, option_map}
 use Rattle.cbm_medium.specs.Place.{Place}
 use Rattle.cbm_medium.specs.Links.{link}
-use Rattle.cbm_medium.proofs.Named.{linked_by, one_start, meets_more, meets_on}
+use Rattle.cbm_medium.proofs.Reached.{starts_there, reached_on, one_of, one_start, meets_more, meets_on}
 use Rattle.cbm_relfile.specs.Records.{EndsBefore}
 use Rattle.cbm_relfile.specs.Missing.{IsStretchMissing}
 use Rattle.cbm_relfile.proofs.NotThere.{none_more, none_here, none_after, none_next}
@@ -34,12 +34,12 @@ returns-clause-chain g c = λ x xs w h k.
 pub returns-in_err-more-clause-err : goal.returns-in_err-more-clause-err
 returns-in_err-more-clause-err g c =
     meets_on c.args.geometry (g.M.Medium.seen c.args.medium.now).content (λ q. q ≡ c.of-next.result) (λ q. q ≡ link c.args.bytes.now) _ c.in_err-more.field-0.0 c.from_residual.result refl c.from_residual.ensures.1
-    (one_start c.args.geometry (g.M.Medium.seen c.args.medium.now).content (λ q. q ≡ link c.args.bytes.now) c.of-next.result (inl c.of-next.ensures)) c.in_err-more.ensures.err
+    (one_of c.args.geometry (g.M.Medium.seen c.args.medium.now).content (λ q. q ≡ link c.args.bytes.now) c.of-next.result c.of-next.ensures) c.in_err-more.ensures.err
 
 pub returns-clause-err : goal.returns-clause-err
 returns-clause-err g c =
     meets_more c.args.geometry (g.M.Medium.seen c.args.medium.now).content (λ q. q ≡ link c.in_ok-more.more) (λ q. q ≡ link c.args.bytes.now) c.stretch-2.result
-    (one_start c.args.geometry (g.M.Medium.seen c.args.medium.now).content (λ q. q ≡ link c.args.bytes.now) (link c.in_ok-more.more) (linked_by c.args.geometry (g.M.Medium.seen c.args.medium.now).content (λ q. q ≡ link c.args.bytes.now) c.of-next.result (link c.in_ok-more.more) c.in_ok-more.more c.in_ok-more.ensures.has c.in_ok-more.ensures.ok refl)) c.stretch-2.ensures.err
+    (one_start c.args.geometry (g.M.Medium.seen c.args.medium.now).content (λ q. q ≡ link c.args.bytes.now) (link c.in_ok-more.more) (reached_on c.args.geometry (g.M.Medium.seen c.args.medium.now).content (λ q. q ≡ link c.args.bytes.now) c.of-next.result (link c.in_ok-more.more) c.in_ok-more.more (starts_there c.args.geometry (g.M.Medium.seen c.args.medium.now).content (λ q. q ≡ link c.args.bytes.now) c.of-next.result c.of-next.ensures) c.in_ok-more.ensures.has c.in_ok-more.ensures.ok refl)) c.stretch-2.ensures.err
 
 -- ---- when the chain ends before
 

@@ -1,12 +1,13 @@
-use Rattle.std.proofs.Common.{◌≡◌, ◌⊎◌, Err, ap, sym, ◌∙◌, inl, inr}
+use Rattle.std.proofs.Common.{◌≡◌, ◌⊎◌, Err, refl, ap, sym, ◌∙◌, inl, inr}
 use Rattle.std.proofs.lemmas.Result.{err_from_is_err_and}
 use Rattle.cbm_medium.proofs.Sequences.{only_after, only_refused}
 use Rattle.cbm_medium.specs.Place.{Place}
 use Rattle.cbm_medium.specs.Links.{link}
 use Rattle.cbm_medium.specs.Seen.{Seen}
-use Rattle.cbm_medium.proofs.Named.{one_start, met_more}
+use Rattle.cbm_medium.proofs.Reached.{one_of, met_more}
 use Rattle.cbm_relfile.specs.Records.{IsRecordRefused}
 use Rattle.cbm_relfile.specs.Changing.{IsWriteRefused}
+use Rattle.cbm_relfile.proofs.FilePlaces.{part_refused}
 use Rattle.cbm_relfile.proofs.Changed.{handed, back_refused}
 use Rattle.cbm_relfile.proofs.writing.rewrite.Goals as goal
 use Rattle.cbm_relfile.proofs.writing.rewrite.Given.{Over}
@@ -17,7 +18,7 @@ returns-in_err-more-clause-cause g c =
     let old : Seen = g.M.Medium.seen c.args.medium.now in
     let starts : Place → Type 0 = λ q. (q ≡ c.args.at) ⊎ (q ≡ link c.args.sector.now) in
     handed c.from_residual-in_err-more.result c.in_err-more.field-0.0 (IsRecordRefused c.args.geometry starts old old) c.from_residual-in_err-more.ensures.1
-    (inl (met_more c.args.geometry old.content (λ q. q ≡ c.of-next.result) starts (one_start c.args.geometry old.content starts c.of-next.result (inl (inr c.of-next.ensures))) c.in_err-more.field-0.0 c.in_err-more.ensures.err.shown))
+    (inl (met_more c.args.geometry old.content (λ q. q ≡ c.of-next.result) starts (one_of c.args.geometry old.content starts c.of-next.result (inr c.of-next.ensures)) c.in_err-more.field-0.0 c.in_err-more.ensures.err.shown))
 
 -- the second sector was read before the first one was written
 back : (g : Over) (c : goal.After-from_residual-in_err-put_part-3 g) → IsWriteRefused c.args.geometry (g.M.Medium.seen c.args.medium.now) (g.M.Medium.seen c.put_part-3.new.medium) c.in_err-put_part-3.field-0.0.code
@@ -50,3 +51,19 @@ returns-in_err-put_part-3-clause-only g c =
     let p = err_from_is_err_and c.from_residual-in_err-put_part-3.result c.from_residual-in_err-put_part-3.ensures.1 in
     only_refused c.put_part-3.result c.from_residual-in_err-put_part-3.result p.0 old new (c.in_err-put_part-3.was ∙ ap Err (sym p.2)) p.1
     (only_after c.put_part-2.result c.in_ok-put_part-2.field-0 c.put_part-3.result old mid new c.in_ok-put_part-2.was c.put_part-2.ensures.only c.put_part-3.ensures.only)
+
+pub returns-in_err-put_part-clause-cause : goal.returns-in_err-put_part-clause-cause
+returns-in_err-put_part-clause-cause g c =
+    let old : Seen = g.M.Medium.seen c.args.medium.now in
+    let new : Seen = g.M.Medium.seen c.put_part.new.medium in
+    let starts : Place → Type 0 = λ q. (q ≡ c.args.at) ⊎ (q ≡ link c.args.sector.now) in
+    handed c.from_residual.result c.in_err-put_part.field-0.0 (IsRecordRefused c.args.geometry starts old new) c.from_residual.ensures.1
+    (part_refused c.args.geometry starts old new c.args.at c.in_err-put_part.field-0.0 (inl refl) c.in_err-put_part.ensures.cause)
+
+pub returns-in_err-put_part-2-clause-cause : goal.returns-in_err-put_part-2-clause-cause
+returns-in_err-put_part-2-clause-cause g c =
+    let old : Seen = g.M.Medium.seen c.args.medium.now in
+    let new : Seen = g.M.Medium.seen c.put_part-2.new.medium in
+    let starts : Place → Type 0 = λ q. (q ≡ c.args.at) ⊎ (q ≡ link c.args.sector.now) in
+    handed c.from_residual-in_err-put_part-2.result c.in_err-put_part-2.field-0.0 (IsRecordRefused c.args.geometry starts old new) c.from_residual-in_err-put_part-2.ensures.1
+    (part_refused c.args.geometry starts old new c.args.at c.in_err-put_part-2.field-0.0 (inl refl) c.in_err-put_part-2.ensures.cause)

@@ -1,7 +1,7 @@
 use Rattle.std.proofs.Common.{◌≡◌, ◌≢◌, ℕ, List, refl, sym, ap, subst, ◌∙◌, inl}
 use Rattle.cbm_medium.specs.Place.{Place}
 use Rattle.cbm_medium.specs.Links.{or_nothing}
-use Rattle.cbm_medium.proofs.Named.{one_start, meets_on}
+use Rattle.cbm_medium.proofs.Reached.{starts_there, one_of, meets_on}
 use Rattle.cbm_bam.specs.Map.{Frees}
 use Rattle.cbm_relfile.specs.OfFile.{IsSide}
 use Rattle.cbm_relfile.specs.SideSectors.{AllHave, sides_listed}
@@ -42,11 +42,11 @@ returns-clause-freed g c =
 pub returns-in_err-head-clause-err : goal.returns-in_err-head-clause-err
 returns-in_err-head-clause-err g c =
     meets_on c.args.geometry (g.M.Medium.seen c.args.medium.now).content (λ q. q ≡ c.args.first) (IsSide c.args.geometry (g.M.Medium.seen c.args.medium.now).content c.args.first) _ c.in_err-head.field-0.0 c.from_residual.result refl c.from_residual.ensures.1
-    (one_start c.args.geometry (g.M.Medium.seen c.args.medium.now).content (IsSide c.args.geometry (g.M.Medium.seen c.args.medium.now).content c.args.first) c.args.first (inl (inl refl))) c.in_err-head.ensures.err
+    (one_of c.args.geometry (g.M.Medium.seen c.args.medium.now).content (IsSide c.args.geometry (g.M.Medium.seen c.args.medium.now).content c.args.first) c.args.first (inl refl)) c.in_err-head.ensures.err
 
 pub returns-in_err-give_named-clause-err : goal.returns-in_err-give_named-clause-err
 returns-in_err-give_named-clause-err g c =
     let t = c.in_err-give_named.field-0.0 in
     let e = c.in_err-give_named.ensures in
     let listed = side_listed c.args.geometry (g.M.Medium.seen c.args.medium.now).content c.args.first c.args.first c.new-at.result c.in_ok-head.head c.loop-n.n refl c.in_ok-head.ensures.has c.in_ok-head.ensures.ok c.loop-n-test.true c.new-at.ensures in
-    off_on c.args.geometry (g.M.Medium.seen c.args.medium.now).content (IsSide c.args.geometry (g.M.Medium.seen c.args.medium.now).content c.args.first) t c.from_residual-in_err-give_named.result c.new-at.result e.code e.off e.place (inl listed) c.from_residual-in_err-give_named.ensures.1
+    off_on c.args.geometry (g.M.Medium.seen c.args.medium.now).content (IsSide c.args.geometry (g.M.Medium.seen c.args.medium.now).content c.args.first) t c.from_residual-in_err-give_named.result c.new-at.result e.code e.off e.place (starts_there c.args.geometry (g.M.Medium.seen c.args.medium.now).content (IsSide c.args.geometry (g.M.Medium.seen c.args.medium.now).content c.args.first) c.new-at.result listed) c.from_residual-in_err-give_named.ensures.1

@@ -1,8 +1,4 @@
-use Rattle.std.proofs.Common.{rules, ◌≡◌, ◌≢◌, ◌≤◌, ◌<◌, ◌/◌, ◌%◌, ◌+◌, ◌-◌, ◌*◌, ℕ, List, true, length, slice_index, Ok, IsOk, IfErr, IfOk, IfSome, MatchOption, MatchResult, Bool, false, nat_eq, nat_lt, [], ◌∷◌, ◌++◌, slice_index_or, slice_set, bit_and, bit_or, Fits, w8, w32, w64, Bor, MutBor}
-use Rattle.cbm_medium.specs.Place.{Has}
-use Rattle.cbm_medium.specs.Seen.{OnlyContent}
-use Rattle.cbm_bam.specs.Map.{IsFull, map_of}
-use Rattle.cbm_relfile.specs.Growing.{fresh_place, IsLengthened, IsLengthenStopped, ListsMore, IsBlockListed, IsListStopped, side_at, ListsSide, IsSideLinked, IsNewSide, IsSideBegun}
+use Rattle.std.proofs.Common.{rules}
 use Rattle.cbm_relfile.proofs.growth.growing.link_side.Goals as goal
 
 pub returns-in_err-head-clause-linked : goal.returns-in_err-head-clause-linked

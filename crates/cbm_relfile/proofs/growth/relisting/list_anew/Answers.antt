@@ -1,8 +1,8 @@
-use Rattle.std.proofs.Common.{refl, inl}
+use Rattle.std.proofs.Common.{refl, inl, inr}
 use Rattle.cbm_medium.specs.Seen.{Seen}
 use Rattle.cbm_relfile.specs.Relisting.{IsSideRefused, AreListed}
 use Rattle.cbm_relfile.proofs.Changed.{refused_by}
-use Rattle.cbm_relfile.proofs.Relisted.{head_names, relisted_then, later_refused}
+use Rattle.cbm_relfile.proofs.Relisted.{read_listed, all_oks, head_names, relisted_then, later_refused}
 use Rattle.cbm_medium.proofs.Sequences.{only_after}
 use Rattle.cbm_relfile.proofs.growth.relisting.list_anew.Goals as goal
 
@@ -64,3 +64,17 @@ returns-clause-only g c =
     let mid : Seen = g.M.Medium.seen c.unlist.new.medium in
     let new : Seen = g.M.Medium.seen c.relist.new.medium in
     only_after c.unlist.result c.in_ok-unlist.field-0 c.relist.result old mid new c.in_ok-unlist.was c.unlist.ensures.only c.relist.ensures.only
+
+-- ---- which side sectors read
+
+pub returns-then-branch-clause-reads : goal.returns-then-branch-clause-reads
+returns-then-branch-clause-reads g c = read_listed (g.M.Medium.seen c.args.medium.now).content c.args.file c.side.result c.in_ok-head.head c.args.sides c.side.ensures c.in_ok-head.ensures.ok c.in_ok-are_listed.ensures.reads
+
+pub returns-in_err-unlist-clause-spares : goal.returns-in_err-unlist-clause-spares
+returns-in_err-unlist-clause-spares g c = inr (read_listed (g.M.Medium.seen c.args.medium.now).content c.args.file c.side.result c.in_ok-head.head c.args.sides c.side.ensures c.in_ok-head.ensures.ok c.in_ok-are_listed.ensures.reads)
+
+pub returns-clause-reads : goal.returns-clause-reads
+returns-clause-reads g c = all_oks _ (read_listed (g.M.Medium.seen c.args.medium.now).content c.args.file c.side.result c.in_ok-head.head c.args.sides c.side.ensures c.in_ok-head.ensures.ok c.in_ok-are_listed.ensures.reads)
+
+pub returns-clause-spares : goal.returns-clause-spares
+returns-clause-spares g c = inr (read_listed (g.M.Medium.seen c.args.medium.now).content c.args.file c.side.result c.in_ok-head.head c.args.sides c.side.ensures c.in_ok-head.ensures.ok c.in_ok-are_listed.ensures.reads)

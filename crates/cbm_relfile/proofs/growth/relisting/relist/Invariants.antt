@@ -1,7 +1,6 @@
 use Rattle.std.proofs.Common.{◌≡◌, ℕ, ◌<◌, List, [], length, Ok}
 use Rattle.cbm_medium.specs.Place.{Place}
 use Rattle.cbm_medium.specs.Seen.{OnlyContent}
-use Rattle.cbm_medium.specs.declared.fault.Trouble.{Trouble}
 use Rattle.cbm_relfile.specs.Records.{AllWhole, Relative, IsLaid}
 use Rattle.cbm_relfile.specs.Relisting.{lists_at, NamesSides, AreApart}
 use Rattle.cbm_relfile.proofs.Relisted.{Relisting}
