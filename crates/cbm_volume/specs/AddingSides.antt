@@ -5,7 +5,7 @@ use Rattle.cbm_medium.specs.Content.{Content}
 use Rattle.cbm_file.specs.Files.{Disk}
 use Rattle.cbm_bam.specs.Map.{geometry_of, is_free_in, map_of}
 use Rattle.cbm_relfile.specs.Records.{Relative}
-use Rattle.cbm_relfile.specs.SideSectors.{named_in}
+use Rattle.cbm_relfile.specs.SideSectors.{blocks_of_side}
 use Rattle.cbm_directory.specs.Entries.{entry_at, first_block, first_side}
 use Rattle.cbm_volume.specs.Layouts.{Nobody, Layout, slot_count}
 use Rattle.cbm_volume.specs.Writers.{Use, HoldsAt}
@@ -41,4 +41,4 @@ pub record HasEmptySide (medium : ℕ) (c0 : Content) (d : Disk) (uses : ℕ →
   pub side_holds : c t ≡ Ok side
   pub side_number : slice_index side 2 ≡ s1
   pub side_width : slice_index side 3 ≡ w
-  pub side_lists : named_in 120 (drop 16 side) ≡ []
+  pub side_lists : blocks_of_side side ≡ []

@@ -11,7 +11,7 @@ use Rattle.cbm_bam.specs.Map.{geometry_of, is_free_in, map_of}
 use Rattle.cbm_chain.specs.Data.{chain_bytes}
 use Rattle.cbm_relfile.specs.Records.{Relative}
 use Rattle.cbm_relfile.specs.Relisting.{AreInForm}
-use Rattle.cbm_relfile.specs.SideSectors.{named_in}
+use Rattle.cbm_relfile.specs.SideSectors.{most_blocks, blocks_of_side}
 use Rattle.cbm_directory.specs.Entries.{entry_at, first_block, first_side}
 use Rattle.cbm_volume.specs.Layouts.{Owner, Nobody, TheMap, DataOf, SideOf, Layout, slot_count}
 use Rattle.cbm_volume.specs.Reaches.{KeepsEntries}
@@ -21,12 +21,12 @@ use Rattle.cbm_volume.specs.Growth.{filled_up, more_blocks, IsGrowthCut}
 
 -- the blocks that a side sector lists
 abbrev pub listed_by : Content → Place → List Place
-listed_by c s = named_in 120 (drop 16 (bytes_at c s))
+listed_by c s = blocks_of_side (bytes_at c s)
 
 -- THE DRIVE'S FORM: each side sector lists the next 120 blocks, the last one what is left.
 abbrev pub IsListed : Content → List Place → List Place → Type 0
 IsListed c [] blocks = blocks ≡ []
-IsListed c (s ∷ ss) blocks = (listed_by c s ≡ take 120 blocks) × IsListed c ss (drop 120 blocks)
+IsListed c (s ∷ ss) blocks = (listed_by c s ≡ take most_blocks blocks) × IsListed c ss (drop most_blocks blocks)
 
 -- THE FILE GROWS AS IT LIES: its side sectors are as the drive leaves them, and its b data blocks are full.
 pub record IsReadyToGrow (c : Content) (sides blocks : List Place) (b : ℕ) : Type 0 where
@@ -111,7 +111,7 @@ pub record HasSide (medium : ℕ) (c0 : Content) (d : Disk) (uses : ℕ → Use)
   pub side_holds : c t ≡ Ok side
   pub side_number : slice_index side 2 ≡ s1
   pub side_width : slice_index side 3 ≡ w
-  pub side_lists : named_in 120 (drop 16 side) ≡ q ∷ []
+  pub side_lists : blocks_of_side side ≡ q ∷ []
 
 -- A growth was refused on its way, and what it leaves alone is as it was when the growth began.
 abbrev pub IsGrowthStopped : Seen → Seen → Content → Layout → Disk → (ℕ → Use) → ℕ → ℕ → List (List ℕ) → Trouble → Type 0

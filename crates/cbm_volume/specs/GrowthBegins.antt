@@ -7,6 +7,7 @@ use Rattle.cbm_file.specs.Records.{sides_for}
 use Rattle.cbm_relfile.specs.Records.{Relative}
 use Rattle.cbm_volume.specs.declared.records.growing_blocks.Reach.{Reach}
 use Rattle.cbm_volume.specs.Calls.{IsLeftAlone}
+use Rattle.cbm_relfile.specs.SideSectors.{most_blocks}
 use Rattle.cbm_volume.specs.Layouts.{Layout}
 use Rattle.cbm_volume.specs.Growth.{IsGrowthCut}
 use Rattle.cbm_volume.specs.Growing.{IsListed, HasGrown, IsReadyToGrow, IsGrowthStopped, OfSized}
@@ -23,7 +24,7 @@ FillsLast result old new geometry r blocks =
 -- is full, and is answered; or a write was refused.
 abbrev pub BeginsListed : Result Place Trouble → Seen → Seen → ℕ → Relative → ℕ → ℕ → Type 0
 BeginsListed result old new geometry r blocks sides =
-    (n : ℕ) → OfSized geometry old r n blocks sides (λ d uses w rs o. blocks ≤ 120 * sides → MatchResult result
+    (n : ℕ) → OfSized geometry old r n blocks sides (λ d uses w rs o. blocks ≤ most_blocks * sides → MatchResult result
     (λ at. HasGrown old.tracks old.content d uses n w blocks sides rs o r new.content blocks sides at)
     (IsGrowthStopped old new old.content o.holds.layout d uses n w rs))
 

@@ -1,6 +1,5 @@
 -- What is wrong with a relative file: with its side sectors, as OPEN reports it, and with its links.
 use Rattle.std.specs.Prelude.{ℕ, ◌≡◌, ◌≤◌, ◌<◌, ◌⊎◌, List, length, slice_get, false, Some, None, Option, Result, IfOk, IfNone}
-use Rattle.std.specs.List.{Contains}
 use Rattle.cbm_medium.specs.Place.{Place}
 use Rattle.cbm_medium.specs.Content.{Content}
 use Rattle.cbm_medium.specs.Seen.{Seen}
@@ -29,10 +28,15 @@ relative_of entry = record { first = first_block entry; side = first_side entry;
 abbrev pub IsOfEntry : ℕ → Content → List ℕ → Place → Type 0
 IsOfEntry tracks c entry q = IsOfFile tracks c (relative_of entry) q
 
--- A FILE MEETS THE TROUBLE: a place of the file of an entry of the directory, or a place to which a sector links, is no sector of the disk
--- (66), or a sector doesn't read, with its fault.
-abbrev pub IsMetInFile : ℕ → Content → Trouble → Type 0
-IsMetInFile tracks c t = (entry : List ℕ) × Contains (directory_of tracks c).entries entry × IsMetFrom tracks c (IsOfEntry tracks c entry) t
+-- THE FILE OF A SLOT MEETS THE TROUBLE: a place of its file, or one to which the links from there lead, is no sector of the disk (66), or one
+-- that doesn't read, with its fault.
+abbrev pub IsMetInSlot : ℕ → Content → ℕ → Trouble → Type 0
+IsMetInSlot tracks c slot t =
+    (entry : List ℕ) × (slice_get (directory_of tracks c).entries slot ≡ Some entry) × IsMetFrom tracks c (IsOfEntry tracks c entry) t
+
+-- THE FILE OF A SLOT IS HIDDEN by this trouble: the directory breaks off with it, or the file meets it.
+abbrev pub HidesSlot : Seen → ℕ → Trouble → Type 0
+HidesSlot now slot t = ((seen_directory now).trouble ≡ Some t) ⊎ IsMetInSlot (seen_tracks now) now.content slot t
 
 -- AN ENTRY HAS NO SUCH RECORD, on any disk: its records are shorter than this position, which counts from 1, or have 255 bytes, or its file
 -- has no record of this number.

@@ -6,6 +6,7 @@ use Rattle.cbm_medium.specs.declared.fault.Trouble.{Trouble}
 use Rattle.cbm_file.specs.Files.{Disk}
 use Rattle.cbm_bam.specs.Map.{geometry_of}
 use Rattle.cbm_relfile.specs.Records.{Relative}
+use Rattle.cbm_relfile.specs.SideSectors.{most_blocks}
 use Rattle.cbm_volume.specs.Layouts.{Layout}
 use Rattle.cbm_volume.specs.Writers.{Use, HoldsAt}
 use Rattle.cbm_volume.specs.Opens.{IsHindered}
@@ -23,4 +24,4 @@ abbrev pub ListsAnew : Result (Unit {0}) Trouble → Seen → Seen → ℕ → R
 ListsAnew result old new geometry r sides =
     (n b : ℕ) → OfSized geometry old r n b sides (λ d uses w rs o. let l = o.holds.layout in
     IsSameDisk old.tracks old.content new.content l d uses n × MatchResult result
-    (λ x. b ≤ 120 * sides → IsListed new.content (l.files n).sides (l.files n).data_blocks) (IsHindered old new))
+    (λ x. b ≤ most_blocks * sides → IsListed new.content (l.files n).sides (l.files n).data_blocks) (IsHindered old new))

@@ -5,7 +5,7 @@ use Rattle.cbm_medium.specs.Content.{Content}
 use Rattle.cbm_medium.specs.Links.{bytes_at, place_in, link}
 use Rattle.cbm_bam.specs.Map.{with_bit}
 use Rattle.cbm_directory.specs.Entries.{first_block, first_side, width_of}
-use Rattle.cbm_relfile.specs.SideSectors.{sides_listed, named_in}
+use Rattle.cbm_relfile.specs.SideSectors.{most_blocks, blocks_begin, sides_listed, named_in}
 use Rattle.cbm_volume.specs.declared.check.unsound.Part.{Part}
 use Rattle.cbm_volume.specs.declared.check.unsound.Part.TheVariants.{OfFile}
 use Rattle.cbm_volume.specs.declared.check.unsound.Unsound.{Unsound}
@@ -42,7 +42,7 @@ along tracks content (p ∷ rest) a = elim (step_along tracks content p a) [ Som
 
 -- the blocks that a side sector lists in its 120 places, from a place on
 unfoldable pub listed_at : ℕ → List ℕ → List Place
-listed_at n side = named_in (120 - n) (drop (16 + 2 * n) side)
+listed_at n side = named_in (most_blocks - n) (drop (blocks_begin + 2 * n) side)
 
 abbrev pub listed_blocks : List ℕ → List Place
 listed_blocks side = listed_at 0 side

@@ -9,7 +9,7 @@ ghost use Rattle.cbm_volume.specs.Growth.{IsGrowth};
 ghost use Rattle.cbm_volume.specs.GrowthPlans.{PlansGrowth, GrowsFile};
 ghost use Rattle.cbm_volume.specs.Growing.{is_too_large};
 ghost use Rattle.cbm_volume.specs.RecordWrites.{OfOpen};
-ghost use Rattle.cbm_volume.specs.RecordFaults.{IsMetInFile};
+ghost use Rattle.cbm_volume.specs.RecordFaults.{HidesSlot};
 ghost use Rattle.cbm_volume.specs.Calls.{OnlyOnDisk, KeepsProtected, IsSameOn};
 
 use crate::records::beginning_growth::begin_growth;
@@ -71,9 +71,7 @@ pub fn plan_growth<M: Medium>(
     ensures planned { PlansGrowth result (M.seen medium.now) slot number free }
     ensures bound { IfOk result (λ x. IfSome x (λ p. (1 ≤ p.file.width) × (p.file.width ≤ 254) ×
         (1 ≤ p.extent.blocks) × (p.extent.blocks ≤ p.blocks) × (p.blocks ≤ 720) × (p.extent.sides ≤ 6))) }
-    // The directory breaks off before the slot, or a link of the file meets the fault.
-    ensures cause { let now = M.seen medium.now in let tracks = geometry_of now.tracks now.content in
-        IfErr result (λ t. ((directory_of tracks now.content).trouble ≡ Some t) ⊎ IsMetInFile tracks now.content t) }
+    ensures cause { IfErr result (HidesSlot (M.seen medium.now) slot) }
     ensures never_26 { IfErr result (λ t. t.code ≢ 26) }
     ensures shown { IfErr result (ShowsGround (M.seen medium.now)) }
 {

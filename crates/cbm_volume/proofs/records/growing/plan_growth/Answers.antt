@@ -5,7 +5,7 @@ use Rattle.cbm_directory.proofs.Codes.{directory_never_26, directory_shown}
 use Rattle.cbm_volume.proofs.copied.CopySteps.{no_trouble}
 use Rattle.cbm_volume.proofs.grown.GrowingPlans.{counted, good_width, is_planned, no_block, too_large}
 use Rattle.cbm_volume.proofs.records_made.RecordsPut.{open_at, open_there}
-use Rattle.cbm_volume.proofs.held.FileMet.{entry_there, met_in_file}
+use Rattle.cbm_volume.proofs.held.FileMet.{entry_there, met_in_slot}
 use Rattle.cbm_volume.specs.RecordFaults.{relative_of}
 use Rattle.cbm_volume.proofs.records.growing.plan_growth.Goals as goal
 
@@ -58,5 +58,5 @@ pub returns-in_err-extent-clause-cause : goal.returns-in_err-extent-clause-cause
 returns-in_err-extent-clause-cause g c =
     let now = g.M.Medium.seen c.args.medium.now in
     let p = err_from_is_err_and c.from_residual-in_err-extent.result c.from_residual-in_err-extent.ensures.1 in
-    rw (p.1, p.2) (inr (met_in_file (geometry_of now.tracks now.content) c.geometry-geometry.result now.content now.content c.args.slot c.in-Some.entry c.new-file.result c.in_err-extent.field-0.0 c.geometry-geometry.ensures.value refl
+    rw (p.1, p.2) (inr (met_in_slot (geometry_of now.tracks now.content) c.geometry-geometry.result now.content now.content c.args.slot c.in-Some.entry c.new-file.result c.in_err-extent.field-0.0 c.geometry-geometry.ensures.value refl
     (entry_there (geometry_of now.tracks now.content) c.geometry-geometry.result c.args.slot now.content c.in_ok-entry.field-0 c.in-Some.entry c.geometry-geometry.ensures.value c.in-Some.is c.in_ok-entry.ensures) (c.new-file.ensures ∙ (λ i. record { first = c.first_block.ensures i; side = c.first_side.ensures i; width = c.record_length-length.ensures i })) c.in_err-extent.ensures.err.shown))
