@@ -19,6 +19,7 @@ use Rattle.cbm_channel.specs.declared.on_record.Waiting.{Waiting}
 use Rattle.cbm_channel.specs.declared.on_record.Waiting.TheVariants as waits
 use Rattle.cbm_channel.specs.Placed.{record_of, is_broken, is_absent}
 use Rattle.cbm_channel.proofs.OnRecords.{record_on}
+use Rattle.cbm_channel.proofs.Uses.{by_kind}
 use Rattle.cbm_machine.specs.declared.code.Code.{Code}
 use Rattle.cbm_channel.specs.Shown.{talk_refused, is_written, has_records}
 
@@ -28,12 +29,7 @@ below_15 ch lt = ne_eqb ch 15 (λ e. absurd (omega (arith, e, lt)))
 -- ---- a channel by itself
 
 listen_of : (x : Channel) (y : machine.Channel) → ChannelStands x y → listen_refusal y ≡ (if is_written x then None else Some FileNotOpen)
-listen_of code.Closed y h = ap listen_refusal h
-listen_of (code.Listing l) y h = ap listen_refusal h
-listen_of (code.File s r) y h = ap listen_refusal h.1
-listen_of (code.Writing w full) y h = ap listen_refusal h.2
-listen_of (code.Stopped s) y h = ap listen_refusal h
-listen_of (code.Records r) y h = ap listen_refusal h
+listen_of = by_kind (λ x y. listen_refusal y ≡ (if is_written x then None else Some FileNotOpen)) refl (λ l. refl) (λ slot r left. refl) (λ w full bytes blocks. refl) (λ slot. refl) (λ r. refl)
 
 missing_as : (w : Waiting) → is_broken w ≡ false → (if is_some (record_of w) then None else Some NoRecord) ≡ (if is_absent w then Some NoRecord else None)
 missing_as (waits.Record r) h = refl
@@ -50,12 +46,7 @@ talk_of d (code.Records r) y h w =
     ap (talk_refusal d) h ∙ ap (λ (o : Option (List ℕ)). if is_some o then None else Some NoRecord) (record_on d r w) ∙ missing_as r.waiting w.waits.whole
 
 pub relative_of : (x : Channel) (y : machine.Channel) → ChannelStands x y → is_relative_channel y ≡ has_records x
-relative_of code.Closed y h = ap is_relative_channel h
-relative_of (code.Listing l) y h = ap is_relative_channel h
-relative_of (code.File s r) y h = ap is_relative_channel h.1
-relative_of (code.Writing w full) y h = ap is_relative_channel h.2
-relative_of (code.Stopped s) y h = ap is_relative_channel h
-relative_of (code.Records r) y h = ap is_relative_channel h
+relative_of = by_kind (λ x y. is_relative_channel y ≡ has_records x) refl (λ l. refl) (λ slot r left. refl) (λ w full bytes blocks. refl) (λ slot. refl) (λ r. refl)
 
 -- a text changes nothing of a channel that has no records
 pub record_of_none : (ch : ℕ) (text : List ℕ) (m : Machine) (y : machine.Channel) → is_relative_channel y ≡ false → write_record ch y text m ≡ m

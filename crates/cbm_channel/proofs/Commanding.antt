@@ -31,16 +31,12 @@ use Rattle.cbm_channel.specs.Commanded.{all_scratched, AreSlotsGoing, IsRenamabl
 use Rattle.cbm_channel.proofs.DiskSteps.{KeepsOpen, with_other_disk, changed_keeps, known_keeps}
 use Rattle.cbm_channel.proofs.Scratches.{open_stays, still_in_use, scratch_done}
 use Rattle.cbm_channel.proofs.Stands.{past_end, zip_at}
+use Rattle.cbm_channel.proofs.Uses.{by_kind}
 
 -- ---- where nothing is open
 
 idle_use : (x : kept.Channel) (y : Channel) → ChannelStands x y → is_open y ≡ false → use_of x y ≡ usage.Idle
-idle_use code.Closed y h e = refl
-idle_use (code.Listing l) y h e = refl
-idle_use (code.File slot r) y h e = absurd (let z = sym e ∙ ap is_open h.1 in (cc))
-idle_use (code.Writing w full) y h e = absurd (let z = sym e ∙ ap is_open h.2 in (cc))
-idle_use (code.Stopped slot) y h e = refl
-idle_use (code.Records r) y h e = absurd (let z = sym e ∙ ap is_open h in (cc))
+idle_use = by_kind (λ x y. is_open y ≡ false → use_of x y ≡ usage.Idle) (λ e. refl) (λ l e. refl) (λ slot r left e. absurd (cc)) (λ w full bytes blocks e. absurd (cc)) (λ slot e. refl) (λ r e. absurd (cc))
 
 -- where nothing is open, no channel uses the disk
 pub all_idle : (xs : List kept.Channel) (ys : List Channel) → AllZip ChannelStands xs ys → list_any is_open ys ≡ false → (k : ℕ) → uses_of xs ys k ≡ usage.Idle
@@ -70,6 +66,22 @@ module _ (t : ℕ) (c c' : Content) (p : Bool) (chs : List kept.Channel) (told :
     fault = (trouble, e);
   }
 
+  -- a command was stopped on the way to a disk
+  pub stopped_on : (after : Machine) (d' : Disk) → after.disk ≡ d' → (stop : usage.Stopped t c' m.disk d' (uses_of chs m.channels)) → KeepsOpen m.disk stop.disk m.channels
+      → (n : Machine) × ((trouble : Trouble) (status : Status) → length chs ≡ 15 → status ≡ trouble_status trouble → IsStopped 15 m after (with_status status n)) × StandsBy c' t p chs told text n
+  stopped_on after d' same stop keeps = (
+    with_disk stop.disk m,
+    (λ trouble status count e. record {
+      either = λ n. subst (λ (y : Disk). IsEither m.disk y stop.disk n) (sym same) (stop.either n);
+      same_tracks = refl;
+      same_protection = refl;
+      own = inl (none_at_15 count);
+      others = λ k ne. refl;
+      fault = (trouble, e);
+    }),
+    with_other_disk t c c' p chs told text m stop.disk st stop.holds keeps,
+  )
+
   -- ---- R
 
   module _ (new old : List ℕ) (slot : ℕ) (is : IsRenamable m new old slot) where
@@ -91,23 +103,11 @@ module _ (t : ℕ) (c c' : Content) (p : Bool) (chs : List kept.Channel) (told :
 
     pub scratch_cut : usage.Stopped t c' m.disk (all_scratched m.disk slots) (uses_of chs m.channels)
         → (n : Machine) × ((trouble : Trouble) (status : Status) → length chs ≡ 15 → status ≡ trouble_status trouble → IsStopped 15 m (answered m (scratch ps m)) (with_status status n)) × StandsBy c' t p chs told text n
-    scratch_cut stop =
-        let same : (answered m (scratch ps m)).disk ≡ all_scratched m.disk slots = ap (λ (y : Machine). y.disk) (scratch_done m ps slots is) in (
-          with_disk stop.disk m,
-          (λ trouble status count e. record {
-            either = λ n. subst (λ (y : Disk). IsEither m.disk y stop.disk n) (sym same) (stop.either n);
-            same_tracks = refl;
-            same_protection = refl;
-            own = inl (none_at_15 count);
-            others = λ k ne. refl;
-            fault = (trouble, e);
-          }),
-          with_other_disk t c c' p chs told text m stop.disk st stop.holds (known_keeps m.disk stop.disk m.channels
-              (λ k slot u. elim (stop.either slot) [
-                | inl e ↦ e
-                | inr e ↦ e ∙ ap known (open_stays m ps slots slot is.all (still_in_use m k slot u))
-              ])),
-        )
+    scratch_cut stop = stopped_on (answered m (scratch ps m)) (all_scratched m.disk slots) (ap (λ (y : Machine). y.disk) (scratch_done m ps slots is)) stop
+        (known_keeps m.disk stop.disk m.channels (λ k slot u. elim (stop.either slot) [
+          | inl e ↦ e
+          | inr e ↦ e ∙ ap known (open_stays m ps slots slot is.all (still_in_use m k slot u))
+        ]))
 
   -- ---- V
 
@@ -126,19 +126,7 @@ module _ (t : ℕ) (c c' : Content) (p : Bool) (chs : List kept.Channel) (told :
 
     pub validate_cut : m.protected ≡ false → usage.Stopped t c' m.disk (validated m.disk) (uses_of chs m.channels)
         → (n : Machine) × ((trouble : Trouble) (status : Status) → length chs ≡ 15 → status ≡ trouble_status trouble → IsStopped 15 m (answered m (run Validate m)) (with_status status n)) × StandsBy c' t p chs told text n
-    validate_cut unprotected stop =
-        let same : (answered m (run Validate m)).disk ≡ validated m.disk = ap (λ (y : Machine). y.disk) (validate_done unprotected) in (
-          with_disk stop.disk m,
-          (λ trouble status count e. record {
-            either = λ n. subst (λ (y : Disk). IsEither m.disk y stop.disk n) (sym same) (stop.either n);
-            same_tracks = refl;
-            same_protection = refl;
-            own = inl (none_at_15 count);
-            others = λ k ne. refl;
-            fault = (trouble, e);
-          }),
-          with_other_disk t c c' p chs told text m stop.disk st stop.holds (none_open stop.disk),
-        )
+    validate_cut unprotected stop = stopped_on (answered m (run Validate m)) (validated m.disk) (ap (λ (y : Machine). y.disk) (validate_done unprotected)) stop (none_open stop.disk)
 
     -- ---- N
 

@@ -1,6 +1,6 @@
 -- C: its sources are the machine's, and what it leaves.
 use Rattle.std.proofs.Common.{◌≡◌, ◌≢◌, ℕ, ◌+◌, ◌<◌, ◌≤◌, Bool, true, false, List, [], ◌∷◌, ◌++◌, length, drop, refl, sym, ap, ◌∙◌, subst, inl, inr, Option, Some, None, Result, Ok, Err, IsErrAnd, arith}
-use Rattle.std.specs.Prelude.{◌==◌, ◌||◌, if◌then◌else◌, not, nat_lt, max, flat_map, slice_index_or}
+use Rattle.std.specs.Prelude.{◌||◌, not, nat_lt, max, flat_map, slice_index_or}
 use Rattle.std.specs.List.{AllZip}
 use Rattle.std.proofs.lemmas.Bool.{cases_lt}
 use Rattle.std.proofs.lemmas.Bool.Decides.{nat_tests}
@@ -18,9 +18,8 @@ use Rattle.cbm_volume.specs.Copies.{AreCopied, HasNoRoomFor}
 use Rattle.cbm_volume.specs.Writers.{Use, HoldsNow, known, IsEither}
 use Rattle.cbm_volume.specs.Writers as usage
 use Rattle.cbm_machine.specs.declared.code.Code.{Code}
-use Rattle.cbm_machine.specs.declared.code.Code.TheVariants.{Fine, WrongType, WriteFileOpen, DiskFull, WriteProtected, WriteFailed, EndlessChain}
+use Rattle.cbm_machine.specs.declared.code.Code.TheVariants.{Fine, WrongType, WriteFileOpen, DiskFull, WriteProtected}
 use Rattle.cbm_machine.specs.declared.status.Status.{Status}
-use Rattle.cbm_machine.specs.Codes.{code_number, code_of_fault}
 use Rattle.cbm_machine.specs.Statuses.{plain, trouble_status}
 use Rattle.cbm_machine.specs.Machines.{Machine, Channel, answered, say, with_status, with_disk}
 use Rattle.cbm_machine.specs.Finding.{is_there, found}
@@ -32,10 +31,9 @@ use Rattle.cbm_channel.specs.declared.finding.Found.{Found}
 use Rattle.cbm_channel.specs.declared.dos.copying.Source.{Source}
 use Rattle.cbm_channel.specs.Standing.{StandsBy, uses_of}
 use Rattle.cbm_channel.specs.Going.{IsStopped}
-use Rattle.cbm_channel.specs.Grounds.{is_fault_number}
 use Rattle.cbm_channel.specs.Planned.{FoundAs}
 use Rattle.cbm_channel.specs.Joined.{IsSource, SourceAs, AddsSources, IsCopying, RefusesCopy}
-use Rattle.cbm_channel.proofs.Commanding.{none_at_15}
+use Rattle.cbm_channel.proofs.Commanding.{stopped_on}
 use Rattle.cbm_channel.proofs.DiskSteps.{KeepsOpen, with_other_disk}
 use Rattle.cbm_channel.proofs.Opens.{new_else, new_empty, either_stays, idle_at, not_del}
 use Rattle.cbm_channel.proofs.Orders.{known_is}
@@ -316,48 +314,5 @@ module _ (m : Machine) (new : List ℕ) (olds : List (List ℕ)) (kind : FileTyp
     pub copy_cut : (nat_lt m.disk.free (copy_blocks m.disk slots) || not (has_slot m.disk)) ≡ false → m.protected ≡ false → usage.Stopped t c' m.disk (with_copy m.disk kind new slots) (uses_of chs m.channels)
         → (n : Machine) × ((trouble : Trouble) (status : Status) → length chs ≡ 15 → status ≡ trouble_status trouble → IsStopped 15 m (answered m (copy new olds m)) (with_status status n)) × StandsBy c' t p chs told text n
     copy_cut room unprotected stop =
-        let same : (answered m (copy new olds m)).disk ≡ with_copy m.disk kind new slots = ap (λ (y : Machine). y.disk) (copy_done room unprotected) in (
-          with_disk stop.disk m,
-          (λ trouble status count e. record {
-            either = λ n. subst (λ (y : Disk). IsEither m.disk y stop.disk n) (sym same) (stop.either n);
-            same_tracks = refl;
-            same_protection = refl;
-            own = inl (none_at_15 t c c' p chs told text m st count);
-            others = λ k ne. refl;
-            fault = (trouble, e);
-          }),
-          with_other_disk t c c' p chs told text m stop.disk st stop.holds
-              (cut_keeps m.disk stop.disk (closed_file kind new (copy_blocks m.disk slots) (Bytes (joined m.disk slots))) (copy_blocks m.disk slots) m.channels stop.either),
-        )
-
--- ---- what is told
-
-either_way : (P : Code → Type 0) (b : Bool) (x y : Code) → P x → P y → P (if b then x else y)
-either_way P true x y p q = p
-either_way P false x y p q = q
-
-abbrev IsFault : Code → Type 0
-IsFault code = is_fault_number (code_number code) ≡ true
-
-fault_code : (n : ℕ) → IsFault (code_of_fault n)
-fault_code n =
-    either_way IsFault (n == 20) _ _ refl
-    (either_way IsFault (n == 21) _ _ refl
-    (either_way IsFault (n == 22) _ _ refl
-    (either_way IsFault (n == 23) _ _ refl
-    (either_way IsFault (n == 24) _ _ refl
-    (either_way IsFault (n == 25) _ _ refl
-    (either_way IsFault (n == 26) _ _ refl
-    (either_way IsFault (n == 27) _ _ refl
-    (either_way IsFault (n == 28) _ _ refl
-    (either_way IsFault (n == 29) _ _ refl
-    (either_way IsFault (n == 66) _ _ refl
-    (either_way IsFault (n == 71) EndlessChain WriteFailed refl refl)))))))))))
-
--- a trouble of the disk is told by a fault's number
-pub trouble_told : (t : Trouble) (s : Status) → s ≡ trouble_status t → is_fault_number (code_number s.code) ≡ true
-trouble_told t s e = ap (λ (x : Status). is_fault_number (code_number x.code)) e ∙ by_test (t.code == 26)
-  where
-    by_test : (b : Bool) → IsFault ((if b then plain WriteProtected else record { code = code_of_fault t.code; first = t.track; second = t.sector }).code)
-    by_test true = refl
-    by_test false = fault_code t.code
+        stopped_on t c c' p chs told text m st (answered m (copy new olds m)) (with_copy m.disk kind new slots) (ap (λ (y : Machine). y.disk) (copy_done room unprotected)) stop
+        (cut_keeps m.disk stop.disk (closed_file kind new (copy_blocks m.disk slots) (Bytes (joined m.disk slots))) (copy_blocks m.disk slots) m.channels stop.either)

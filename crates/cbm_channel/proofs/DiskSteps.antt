@@ -16,7 +16,7 @@ use Rattle.cbm_channel.specs.ChannelCalls.{KeepsElse}
 use Rattle.cbm_channel.specs.Standing.{AreFit, StandsBy, uses_of}
 use Rattle.cbm_channel.specs.declared.channel.Channel.TheVariants as code
 use Rattle.cbm_channel.proofs.Elses.{else_after, else_refused}
-use Rattle.cbm_channel.proofs.Orders.{known_is}
+use Rattle.cbm_channel.proofs.Orders.{known_is, place_there, read_there}
 use Rattle.cbm_channel.proofs.Stands.{waits_on, zip_at}
 use Rattle.std.specs.Prelude.{slice_index_or}
 
@@ -29,23 +29,12 @@ orderly_on d d' p channels o keeps = record {
   reading = λ k slot left e.
       let was : IsReadFrom d slot left = o.reading k slot left e in
       let kept = keeps k slot was.file (ap (still_uses slot) e ∙ eq-eqb slot slot refl) was.in_slot was.closed in
-      record { file = kept.0; in_slot = kept.1; closed = kept.2 ∙ was.closed; bytes = was.bytes; body = kept.3 ∙ was.body; taken = was.taken; rest = was.rest };
+      read_there d d' slot left was kept.0 kept.1 kept.2 kept.3;
   alone = o.alone;
   relative = λ k slot number q e.
       let was : IsPlace d slot number q = o.relative k slot number q e in
       let kept = keeps k slot was.file (ap (still_uses slot) e ∙ eq-eqb slot slot refl) was.in_slot was.closed in
-      record {
-        file = kept.0;
-        in_slot = kept.1;
-        closed = kept.2 ∙ was.closed;
-        record_length = was.record_length;
-        records = was.records;
-        blocks = was.blocks;
-        sides = was.sides;
-        body = kept.3 ∙ was.body;
-        number = was.number;
-        inside = was.inside;
-      };
+      place_there d d' slot number q number q was kept.0 kept.1 kept.2 kept.3 was.number was.inside;
   writable = o.writable;
 }
 

@@ -19,6 +19,7 @@ use Rattle.cbm_machine.specs.Statuses.{plain}
 use Rattle.cbm_channel.specs.Planned.{FoundAs}
 use Rattle.cbm_machine.specs.Finding.{of_kind, is_there, first_or, found}
 use Rattle.cbm_channel.specs.Sought.{is_meant, is_sought}
+use Rattle.cbm_channel.proofs.Kept.{number_of, bytes_of}
 
 -- the type that an entry tells is the one that is meant where the file's is
 meant_kind : (k : Option FileType) (f : File) → is_meant k (Some f.kind) ≡ of_kind k f
@@ -30,14 +31,6 @@ sought_file p k f e s = (λ i. not (s.used i) && is_match p (s.name i) && is_mea
 
 pub sought_empty : (p : List ℕ) (k : Option FileType) (e : List ℕ) → (type_byte e == 0) ≡ true → is_sought p k e ≡ false
 sought_empty p k e h = λ i. not (h i) && is_match p (name_in e) && is_meant k (type_with (type_byte e % 16))
-
-abbrev number_of : Option (ℕ × List ℕ) → ℕ
-number_of None = 0
-number_of (Some t) = t.0
-
-abbrev entry_of : Option (ℕ × List ℕ) → List ℕ
-entry_of None = []
-entry_of (Some t) = t.1
 
 module _ (p : List ℕ) (k : Option FileType) (code : Code) where
   -- the first of these that matches and is of the type
@@ -92,7 +85,7 @@ module _ (p : List ℕ) (k : Option FileType) (code : Code) where
       here : (is_match p f.name && of_kind k f) ≡ true → ◌≡◌ {A = Option (ℕ × List ℕ)} (Some (n, x)) (Some (j, e)) → Hit n (Some f ∷ slots) (x ∷ entries) j e
       here t same =
           let number : n ≡ j = ap number_of same in
-          let entry_same : x ≡ e = ap entry_of same in
+          let entry_same : x ≡ e = ap bytes_of same in
           let none : j - n ≡ 0 = omega (arith, number) in
           record {
             file = f;

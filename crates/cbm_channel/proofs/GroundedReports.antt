@@ -28,7 +28,7 @@ trouble_shown tracks s t (inl e) = inr (inl e)
 trouble_shown tracks s t (inr (inl e)) = directory_shown tracks s t e
 trouble_shown tracks s t (inr (inr (inl (entry, there, e)))) = cut_shown tracks s _ _ t e
 trouble_shown tracks s t (inr (inr (inr (inl (entry, there, m))))) = inl (inr m.code)
-trouble_shown tracks s t (inr (inr (inr (inr (entry, there, m))))) = met_shown tracks (IsOfEntry tracks s.content entry) s t m
+trouble_shown tracks s t (inr (inr (inr (inr (slot, (entry, there, m)))))) = met_shown tracks (IsOfEntry tracks s.content entry) s t m
 
 -- why the records of an entry can't be opened
 pub opening_shown : (tracks : ℕ) (starts : Place → Type 0) (s : Seen) (e : List ℕ) (t : Trouble) → IsMetFrom tracks s.content starts t ⊎ IsMislisted tracks s.content e t → ShowsGround s t
@@ -37,8 +37,8 @@ opening_shown tracks starts s e t (inr m) = inl (inr m.code)
 
 -- why a record can't be read
 pub hidden_shown : (s : Seen) (t : Trouble) → HidesRecords s t → ShowsGround s t
-hidden_shown s t (inl e) = directory_shown (geometry_of s.tracks s.content) s t e
-hidden_shown s t (inr (entry, there, m)) = let tracks = geometry_of s.tracks s.content in met_shown tracks (IsOfEntry tracks s.content entry) s t m
+hidden_shown s t (slot, inl e) = directory_shown (geometry_of s.tracks s.content) s t e
+hidden_shown s t (slot, inr (entry, there, m)) = let tracks = geometry_of s.tracks s.content in met_shown tracks (IsOfEntry tracks s.content entry) s t m
 
 -- the same was shown before a call that made no sector unreadable
 pub shown_before : (old new : Seen) (t : Trouble) → new.protected ≡ old.protected → KeepsReadable old.content new.content → ShowsGround new t → ShowsGround old t

@@ -1,5 +1,5 @@
 -- The first bytes of a text, of which no more than so many are kept.
-use Rattle.std.proofs.Common.{◌≡◌, ℕ, zero, suc, ◌<◌, ◌≤◌, List, [], ◌∷◌, ◌++◌, length, take, refl, ap, arith}
+use Rattle.std.proofs.Common.{◌≡◌, ℕ, zero, suc, ◌<◌, ◌≤◌, List, [], ◌∷◌, ◌++◌, length, take, refl, ap, arith, Option, Some, None}
 
 -- all of them
 pub take_all : (n : ℕ) (xs : List ℕ) → length xs ≤ n → take n xs ≡ xs
@@ -30,3 +30,12 @@ take_more (suc n) (x ∷ xs) ys = ap (λ zs. x ∷ zs) (take_more n xs ys)
 -- two pairs of the same
 pub same_pair : {a b : ℕ} {xs ys : List ℕ} → a ≡ b → xs ≡ ys → ◌≡◌ {A = ℕ × List ℕ} (a, xs) (b, ys)
 same_pair e f = λ i. (e i, f i)
+
+-- the parts of one that may be there
+abbrev pub number_of : Option (ℕ × List ℕ) → ℕ
+number_of None = 0
+number_of (Some t) = t.0
+
+abbrev pub bytes_of : Option (ℕ × List ℕ) → List ℕ
+bytes_of None = []
+bytes_of (Some t) = t.1

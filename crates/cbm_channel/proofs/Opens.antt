@@ -37,8 +37,9 @@ use Rattle.cbm_channel.specs.declared.plan.Plan as plan
 use Rattle.cbm_channel.specs.declared.plan.Plan.TheVariants as planned
 use Rattle.cbm_channel.specs.Standing.{ChannelStands, use_of, uses_of, StandsBy}
 use Rattle.cbm_channel.specs.Planned.{PlannedAs, IsOpened, IsMakeable, IsRelatable, opened_by, disk_opened, appended_to, reopened_at}
-use Rattle.cbm_channel.proofs.Orders.{FitsIn, writes_uses, closed_fits, reads_file}
+use Rattle.cbm_channel.proofs.Orders.{FitsIn, writes_uses, closed_fits, not_so, place_as, reads_file}
 use Rattle.cbm_channel.proofs.Planning.{none_passes}
+use Rattle.cbm_channel.proofs.Uses.{by_kind}
 use Rattle.cbm_channel.proofs.Places.{relative_unused}
 use Rattle.cbm_volume.proofs.held.RecordUses.{of_records, relates_now}
 use Rattle.cbm_channel.specs.declared.finding.Found.{Found}
@@ -48,12 +49,7 @@ use Rattle.cbm_channel.proofs.Stands.{zip_at, zip_length, means_of, moved, with_
 -- ---- what the channels still use
 
 uses_alike : (n : ℕ) (x : kept.Channel) (y : Channel) → ChannelStands x y → still_uses n y ≡ usage.uses_slot n (use_of x y)
-uses_alike n code.Closed y h = ap (still_uses n) h
-uses_alike n (code.Listing l) y h = ap (still_uses n) h
-uses_alike n (code.File slot r) y h = ap (still_uses n) h.1
-uses_alike n (code.Writing w full) y h = ap (still_uses n) h.2
-uses_alike n (code.Stopped slot) y h = ap (still_uses n) h
-uses_alike n (code.Records r) y h = ap (still_uses n) h
+uses_alike n = by_kind (λ x y. still_uses n y ≡ usage.uses_slot n (use_of x y)) refl (λ l. refl) (λ slot r left. refl) (λ w full bytes blocks. refl) (λ slot. refl) (λ r. refl)
 
 uses_still : (n : ℕ) (y : Channel) → machine.uses n y ≡ false → still_uses n y ≡ false
 uses_still n Closed h = refl
@@ -79,10 +75,6 @@ unused_at n chs m each none k =
 pub can_be : (n : ℕ) (chs : List kept.Channel) (m : Machine) (f : File) → AllZip ChannelStands chs m.channels → file_at m.disk n ≡ Some f → f.closed ≡ true → is_same_type Rel f.kind ≡ false → in_use m n ≡ false
     → CanBeWritten m.disk (uses_of chs m.channels) n f
 can_be n chs m f each at closed plain none = record { in_slot = at; closed = closed; plain = plain; unused = unused_at n chs m each none }
-
-not_so : (b : Bool) → (b ≡ true → ⊥) → b ≡ false
-not_so true h = absurd (h refl)
-not_so false h = refl
 
 -- ---- the channel that writes, among the others
 
@@ -230,18 +222,6 @@ act_is t c ch m (MakeRecords a b) x h = refl
 
 -- ---- what a plan opens fits among the channels
 
-abbrev place_slot : Channel → ℕ
-place_slot (Relative s k p) = s
-place_slot _ = 0
-
-abbrev place_number : Channel → ℕ
-place_number (Relative s k p) = k
-place_number _ = 0
-
-abbrev place_position : Channel → ℕ
-place_position (Relative s k p) = p
-place_position _ = 0
-
 abbrev slot_in : Channel → ℕ
 slot_in (Writing s bytes blocks full replaces) = s
 slot_in _ = 0
@@ -346,7 +326,7 @@ opened_fits t c c' p chs told text m ch (OpenRecords s) (planned.OpenRecords q) 
       stays = λ k slot ne u. refl;
       alone = λ k slot ne w. ap (λ (n : ℕ). still_uses n (channel_in m.channels k)) (sym (eqb-true s slot w)) ∙ unused k;
       unwritten = λ k slot ne u. not_so (still_writes slot (channel_in m.channels k)) (λ w. (let z = sym (unused k) ∙ ap (λ (n : ℕ). still_uses n (channel_in m.channels k)) (eqb-true s slot u) ∙ writes_uses (channel_in m.channels k) slot w in absurd (cc)));
-      place = λ slot k p e. subst (λ (x : ℕ). IsPlace m.disk x k p) (ap place_slot e) (subst (λ (y : ℕ). IsPlace m.disk s y p) (ap place_number e) (subst (λ (z : ℕ). IsPlace m.disk s 1 z) (ap place_position e) now));
+      place = place_as m.disk s 1 1 now;
       writable = λ slot bytes blocks full replaces e. absurd (cc);
     }
 opened_fits t c c' p chs told text m ch (OpenRecords s) (planned.MakeRecords n l) k st h is = absurd h
@@ -361,7 +341,7 @@ opened_fits t c c' p chs told text m ch (MakeRecords name len) (planned.MakeReco
   stays = λ k slot ne u. ap known (new_else m.disk (made_file name len) 2 slot (used_else t c p chs told text m st k slot u));
   alone = λ k slot ne w. new_unused slot w k;
   unwritten = λ k slot ne u. not_so (still_writes slot (channel_in m.channels k)) (λ w. (let z = sym (new_unused slot u k) ∙ writes_uses (channel_in m.channels k) slot w in absurd (cc)));
-  place = λ slot k p e. subst (λ (x : ℕ). IsPlace (with_new_records m.disk name len) x k p) (ap place_slot e) (subst (λ (y : ℕ). IsPlace (with_new_records m.disk name len) (new_slot m.disk) y p) (ap place_number e) (subst (λ (z : ℕ). IsPlace (with_new_records m.disk name len) (new_slot m.disk) 1 z) (ap place_position e) now));
+  place = place_as (with_new_records m.disk name len) (new_slot m.disk) 1 1 now;
   writable = λ slot bytes blocks full replaces e. absurd (cc);
 }
   where

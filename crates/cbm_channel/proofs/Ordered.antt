@@ -1,45 +1,24 @@
 -- What V changes, on any disk.
-use Rattle.std.proofs.Common.{◌≡◌, ◌≢◌, ◌⊎◌, ℕ, Bool, true, false, sym, ap, subst, ◌∙◌, inl, inr}
-use Rattle.std.specs.Prelude.{if◌then◌else◌, ◌==◌, List, Option, Some, None, IfSome}
+use Rattle.std.proofs.Common.{◌≡◌, ◌≢◌, ◌⊎◌, ℕ, true, sym, ap, subst, ◌∙◌, inl, inr}
+use Rattle.std.specs.Prelude.{◌==◌, List, Option, Some, None, IfSome}
 use Rattle.std.proofs.lemmas.Bool.{and_parts, eqb-true}
 use Rattle.cbm_medium.specs.Seen.{Seen}
 use Rattle.cbm_medium.specs.declared.fault.Trouble.{Trouble}
 use Rattle.cbm_bam.specs.Map.{geometry_of}
 use Rattle.cbm_volume.specs.Sweeps.{IsPutInOrder, IsPartlyInOrder}
 use Rattle.cbm_machine.specs.declared.code.Code.{Code}
-use Rattle.cbm_machine.specs.declared.code.Code.TheVariants.{Fine, WriteProtected, WriteFailed, EndlessChain}
+use Rattle.cbm_machine.specs.declared.code.Code.TheVariants.{Fine}
 use Rattle.cbm_machine.specs.declared.status.Status.{Status}
-use Rattle.cbm_machine.specs.Codes.{code_of_fault}
+use Rattle.cbm_machine.specs.Codes.{code_number}
 use Rattle.cbm_machine.specs.Statuses.{plain, trouble_status}
 use Rattle.cbm_machine.specs.Told.{ToldStatus}
 use Rattle.cbm_channel.specs.Commanded.{end_validates}
-use Rattle.cbm_channel.proofs.Refused.{either_way}
+use Rattle.cbm_channel.specs.Grounds.{is_fault_number}
+use Rattle.cbm_channel.proofs.Refused.{trouble_told}
 
 -- no fault is told as 00
-abbrev IsNotFine : Code → Type 0
-IsNotFine code = code ≡ Fine → ⊥
-
-fault_not_fine : (n : ℕ) → IsNotFine (code_of_fault n)
-fault_not_fine n =
-    either_way IsNotFine (n == 20) _ _ (λ e. absurd cc)
-    (either_way IsNotFine (n == 21) _ _ (λ e. absurd cc)
-    (either_way IsNotFine (n == 22) _ _ (λ e. absurd cc)
-    (either_way IsNotFine (n == 23) _ _ (λ e. absurd cc)
-    (either_way IsNotFine (n == 24) _ _ (λ e. absurd cc)
-    (either_way IsNotFine (n == 25) _ _ (λ e. absurd cc)
-    (either_way IsNotFine (n == 26) _ _ (λ e. absurd cc)
-    (either_way IsNotFine (n == 27) _ _ (λ e. absurd cc)
-    (either_way IsNotFine (n == 28) _ _ (λ e. absurd cc)
-    (either_way IsNotFine (n == 29) _ _ (λ e. absurd cc)
-    (either_way IsNotFine (n == 66) _ _ (λ e. absurd cc)
-    (either_way IsNotFine (n == 71) EndlessChain WriteFailed (λ e. absurd cc) (λ e. absurd cc))))))))))))
-
-not_fine : (b : Bool) (t : Trouble) → (if b then plain WriteProtected else record { code = code_of_fault t.code; first = t.track; second = t.sector }).code ≡ Fine → ⊥
-not_fine true t e = absurd cc
-not_fine false t e = fault_not_fine t.code e
-
 pub trouble_not_fine : (t : Trouble) (s : Status) → s ≡ trouble_status t → s.code ≡ Fine → ⊥
-trouble_not_fine t s e f = not_fine (t.code == 26) t (sym (ap (λ (x : Status). x.code) e) ∙ f)
+trouble_not_fine t s e f = let z = sym (ap (λ (x : Code). is_fault_number (code_number x)) f) ∙ trouble_told t s e in absurd (cc)
 
 -- the same over the parts that it speaks of
 abbrev pub OrdersFor : {M : Type 0} → (M → Seen) → M → M → ToldStatus → Type 0

@@ -1,5 +1,5 @@
 -- The channels stay in order where one of them is set, and the disk with it.
-use Rattle.std.proofs.Common.{◌≡◌, ◌≢◌, ℕ, ◌+◌, ◌<◌, Bool, true, false, List, [], drop, length, refl, sym, ap, ◌∙◌, subst, inl, inr}
+use Rattle.std.proofs.Common.{◌≡◌, ◌≢◌, ℕ, ◌+◌, ◌<◌, ◌≤◌, Bool, true, false, List, [], drop, length, refl, sym, ap, ◌∙◌, subst, inl, inr}
 use Rattle.std.specs.Prelude.{Option, Some, None, slice_set}
 use Rattle.std.proofs.lemmas.List.{drop-drop, get_or-set_same, get_or-set_other}
 use Rattle.std.proofs.lemmas.Bool.{eq-eqb}
@@ -20,9 +20,44 @@ abbrev left_of : Channel → List ℕ
 left_of (Reading s left) = left
 left_of _ = []
 
+abbrev place_slot : Channel → ℕ
+place_slot (Relative s k p) = s
+place_slot _ = 0
+
+abbrev place_number : Channel → ℕ
+place_number (Relative s k p) = k
+place_number _ = 0
+
+abbrev place_position : Channel → ℕ
+place_position (Relative s k p) = p
+place_position _ = 0
+
+-- the place of a channel that is the same one
+pub place_as : (d : Disk) (s k p : ℕ) → IsPlace d s k p → (slot j i : ℕ) → Relative s k p ≡ Relative slot j i → IsPlace d slot j i
+place_as d s k p is slot j i h =
+    subst (λ (x : ℕ). IsPlace d x j i) (ap place_slot h) (subst (λ (y : ℕ). IsPlace d s y i) (ap place_number h) (subst (λ (z : ℕ). IsPlace d s k z) (ap place_position h) is))
+
 -- what a channel reads is there
 abbrev pub ReadsWell : Disk → Channel → Type 0
 ReadsWell d c = (slot : ℕ) (left : List ℕ) → c ≡ Reading (Some slot) left → IsReadFrom d slot left
+
+-- what is read, and what a place lies in, is there where the file is one with the same bytes
+pub read_there : (d d' : Disk) (slot : ℕ) (left : List ℕ) (was : IsReadFrom d slot left) (f : File) → file_at d' slot ≡ Some f → f.closed ≡ was.file.closed → f.body ≡ was.file.body → IsReadFrom d' slot left
+read_there d d' slot left was f at shut same = record { file = f; in_slot = at; closed = shut ∙ was.closed; bytes = was.bytes; body = same ∙ was.body; taken = was.taken; rest = was.rest }
+
+pub place_there : (d d' : Disk) (slot n q k p : ℕ) (was : IsPlace d slot n q) (f : File) → file_at d' slot ≡ Some f → f.closed ≡ was.file.closed → f.body ≡ was.file.body → 1 ≤ k → (1 ≤ p) × (p ≤ was.record_length) → IsPlace d' slot k p
+place_there d d' slot n q k p was f at shut same number inside = record {
+  file = f;
+  in_slot = at;
+  closed = shut ∙ was.closed;
+  record_length = was.record_length;
+  records = was.records;
+  blocks = was.blocks;
+  sides = was.sides;
+  body = same ∙ was.body;
+  number = number;
+  inside = inside;
+}
 
 -- ---- one channel is set
 
@@ -55,34 +90,19 @@ module _ (d d' : Disk) (protected : Bool) (channels : List Channel) (ch : ℕ) (
   there : (k : ℕ) → k ≢ ch → channel_in (slice_set channels ch y) k ≡ channel_in channels k
   there k ne = get_or-set_other channels ch k y Closed ne
 
+  -- what another channel has open stays
+  still_there : (k slot : ℕ) (x : Channel) (g : File) → k ≢ ch → channel_in channels k ≡ x → still_uses slot x ≡ true → file_at d slot ≡ Some g → g.closed ≡ true → file_at d' slot ≡ Some g
+  still_there k slot x g ne e u at shut = known_is (file_at d slot) (file_at d' slot) g (f.stays k slot ne (ap (still_uses slot) e ∙ u)) at shut
+
   read_kept : (k slot : ℕ) (left : List ℕ) → k ≢ ch → channel_in channels k ≡ Reading (Some slot) left → IsReadFrom d' slot left
   read_kept k slot left ne e =
       let was : IsReadFrom d slot left = old.reading k slot left e in
-      record {
-        file = was.file;
-        in_slot = known_is (file_at d slot) (file_at d' slot) was.file (f.stays k slot ne (ap (still_uses slot) e ∙ eq-eqb slot slot refl)) was.in_slot was.closed;
-        closed = was.closed;
-        bytes = was.bytes;
-        body = was.body;
-        taken = was.taken;
-        rest = was.rest;
-      }
+      read_there d d' slot left was was.file (still_there k slot (Reading (Some slot) left) was.file ne e (eq-eqb slot slot refl) was.in_slot was.closed) refl refl
 
   place_kept : (k slot number p : ℕ) → k ≢ ch → channel_in channels k ≡ Relative slot number p → IsPlace d' slot number p
   place_kept k slot number p ne e =
       let was : IsPlace d slot number p = old.relative k slot number p e in
-      record {
-        file = was.file;
-        in_slot = known_is (file_at d slot) (file_at d' slot) was.file (f.stays k slot ne (ap (still_uses slot) e ∙ eq-eqb slot slot refl)) was.in_slot was.closed;
-        closed = was.closed;
-        record_length = was.record_length;
-        records = was.records;
-        blocks = was.blocks;
-        sides = was.sides;
-        body = was.body;
-        number = was.number;
-        inside = was.inside;
-      }
+      place_there d d' slot number p number p was was.file (still_there k slot (Relative slot number p) was.file ne e (eq-eqb slot slot refl) was.in_slot was.closed) refl refl was.number was.inside
 
   pub orderly_set : IsOrderly d' protected (slice_set channels ch y)
   orderly_set = record {

@@ -19,21 +19,9 @@ use Rattle.cbm_command.specs.declared.command.Command.TheVariants.{Position}
 use Rattle.cbm_machine.specs.Talking.{taken_on}
 use Rattle.cbm_channel.specs.Moved.{code_placed, placed_on}
 use Rattle.cbm_channel.proofs.OnRecords.{body_there, taken_as}
-use Rattle.cbm_channel.proofs.Orders.{FitsIn, less_fits, taken_fits}
+use Rattle.cbm_channel.proofs.Orders.{FitsIn, less_fits, place_as, place_there, taken_fits}
 use Rattle.cbm_channel.proofs.Planning.{none_passes}
 use Rattle.cbm_channel.proofs.Stores.{same_fits, same_machine}
-
-abbrev slot_in : Channel → ℕ
-slot_in (Relative s k p) = s
-slot_in _ = 0
-
-abbrev number_in : Channel → ℕ
-number_in (Relative s k p) = k
-number_in _ = 0
-
-abbrev position_in : Channel → ℕ
-position_in (Relative s k p) = p
-position_in _ = 0
 
 -- the same file at another place
 relative_fits : (d : Disk) (protected : Bool) (channels : List Channel) (ch s n q k p : ℕ) → channel_in channels ch ≡ Relative s n q → 1 ≤ k → 1 ≤ p → p ≤ record_length_in (body_at d s) → IsOrderly d protected channels
@@ -41,20 +29,9 @@ relative_fits : (d : Disk) (protected : Bool) (channels : List Channel) (ch s n 
 relative_fits d protected channels ch s n q k p e some first inside old =
     let was : IsPlace d s n q = old.relative ch s n q e in
     let width : record_length_in (body_at d s) ≡ was.record_length = ap record_length_in (body_there d s was.file was.in_slot ∙ was.body) in
-    let now : IsPlace d s k p = record {
-      file = was.file;
-      in_slot = was.in_slot;
-      closed = was.closed;
-      record_length = was.record_length;
-      records = was.records;
-      blocks = was.blocks;
-      sides = was.sides;
-      body = was.body;
-      number = some;
-      inside = (first, omega (arith, inside, width));
-    } in
+    let now : IsPlace d s k p = place_there d d s n q k p was was.file was.in_slot refl refl some (first, omega (arith, inside, width)) in
     less_fits d d protected channels ch (Relative s k p) old (record { has = λ slot h. ap (still_uses slot) e ∙ h; wrote = λ slot h. ap (still_writes slot) e ∙ h }) (λ slot left h. absurd (cc)) (λ j slot ne h. refl)
-    (λ slot j i h. subst (λ (x : ℕ). IsPlace d x j i) (ap slot_in h) (subst (λ (y : ℕ). IsPlace d s y i) (ap number_in h) (subst (λ (z : ℕ). IsPlace d s k z) (ap position_in h) now)))
+    (place_as d s k p now)
     (λ slot bytes blocks full replaces h. absurd (cc))
 
 -- ---- a byte is taken

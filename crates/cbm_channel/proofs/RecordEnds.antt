@@ -35,7 +35,7 @@ use Rattle.cbm_channel.proofs.RecordPuts.{IsSameBut, but_itself, but_record, but
 use Rattle.cbm_channel.specs.Standing.{AreFit, ChannelStands, StandsBy, WaitsFor, use_of, uses_of}
 use Rattle.cbm_channel.proofs.Kept.{take_all}
 use Rattle.cbm_channel.proofs.OnRecords.{body_there}
-use Rattle.cbm_channel.proofs.Orders.{FitsIn, less_fits, not_so}
+use Rattle.cbm_channel.proofs.Orders.{FitsIn, less_fits, not_so, place_as}
 use Rattle.cbm_channel.proofs.Stands.{any_default, stands_at, with_step, zip_at, zip_length}
 use Rattle.cbm_channel.proofs.Stores.{same_machine, set_same}
 use Rattle.cbm_volume.proofs.held.RecordUses.{records_most}
@@ -141,18 +141,6 @@ module _ (ch s k p l b sides : ℕ) (rs : List (List ℕ)) (bytes : List ℕ) (m
 
 -- ---- the drive's channel
 
-abbrev slot_in : Channel → ℕ
-slot_in (Relative s k p) = s
-slot_in _ = 0
-
-abbrev number_in : Channel → ℕ
-number_in (Relative s k p) = k
-number_in _ = 0
-
-abbrev position_in : Channel → ℕ
-position_in (Relative s k p) = p
-position_in _ = 0
-
 abbrev file_in : File → Option File → File
 file_in f None = f
 file_in f (Some g) = g
@@ -217,7 +205,7 @@ module _ (t : ℕ) (c c' : Content) (protected : Bool) (chs : List kept.Channel)
         wrote = λ slot h. ap (still_writes slot) place_of ∙ ap (λ (n : ℕ). n == slot) (sym same) ∙ h;
       }) (λ slot left h. absurd (cc))
       (λ k slot ne u. ap known (others slot (apart k slot ne u)))
-      (λ slot k p h. subst (λ (x : ℕ). IsPlace d' x k p) (ap slot_in h) (subst (λ (y : ℕ). IsPlace d' q.slot y p) (ap number_in h) (subst (λ (z : ℕ). IsPlace d' q.slot q.number z) (ap position_in h) place)))
+      (place_as d' q.slot q.number q.position place)
       (λ slot bytes blocks full replaces h. absurd (cc))
 
   -- THE DRIVE STANDS FOR THE MACHINE with this disk and this place

@@ -6,14 +6,14 @@ use Rattle.cbm_medium.specs.declared.fault.Trouble.{Trouble}
 use Rattle.cbm_machine.specs.declared.code.Code.{Code}
 use Rattle.cbm_machine.specs.declared.code.Code.TheVariants.{WriteProtected, WriteFailed, EndlessChain}
 use Rattle.cbm_machine.specs.declared.status.Status.{Status}
-use Rattle.cbm_machine.specs.Codes.{code_of_fault}
+use Rattle.cbm_machine.specs.Codes.{code_number, code_of_fault}
 use Rattle.cbm_machine.specs.Statuses.{plain, trouble_status}
 use Rattle.cbm_machine.specs.Told.{ToldStatus}
 use Rattle.cbm_channel.specs.declared.plan.Plan.{Plan}
-use Rattle.cbm_channel.specs.Grounds.{is_refusal}
+use Rattle.cbm_channel.specs.Grounds.{is_refusal, is_fault_number}
 use Rattle.cbm_channel.specs.Planned.{plan_writes}
 
-pub either_way : (P : Code → Type 0) (b : Bool) (x y : Code) → P x → P y → P (if b then x else y)
+either_way : (P : Code → Type 0) (b : Bool) (x y : Code) → P x → P y → P (if b then x else y)
 either_way P true x y p q = p
 either_way P false x y p q = q
 
@@ -62,3 +62,31 @@ not_refused s new told none is = let z = sym none ∙ sym (ap (λ (x : ToldStatu
 pub only_reads : {E : Type 0} (r : Result Plan E) (P : Type 0) → IfOk r (λ p. plan_writes p ≡ false) → IfOk r (λ p. plan_writes p ≡ true → P)
 only_reads (Ok p) P reads = λ writes. let z = sym reads ∙ writes in absurd (cc)
 only_reads (Err e) P reads = tt
+
+-- ---- what is told
+
+abbrev IsFault : Code → Type 0
+IsFault code = is_fault_number (code_number code) ≡ true
+
+number_told : (n : ℕ) → IsFault (code_of_fault n)
+number_told n =
+    either_way IsFault (n == 20) _ _ refl
+    (either_way IsFault (n == 21) _ _ refl
+    (either_way IsFault (n == 22) _ _ refl
+    (either_way IsFault (n == 23) _ _ refl
+    (either_way IsFault (n == 24) _ _ refl
+    (either_way IsFault (n == 25) _ _ refl
+    (either_way IsFault (n == 26) _ _ refl
+    (either_way IsFault (n == 27) _ _ refl
+    (either_way IsFault (n == 28) _ _ refl
+    (either_way IsFault (n == 29) _ _ refl
+    (either_way IsFault (n == 66) _ _ refl
+    (either_way IsFault (n == 71) EndlessChain WriteFailed refl refl)))))))))))
+
+-- a trouble of the disk is told by a fault's number
+pub trouble_told : (t : Trouble) (s : Status) → s ≡ trouble_status t → is_fault_number (code_number s.code) ≡ true
+trouble_told t s e = ap (λ (x : Status). is_fault_number (code_number x.code)) e ∙ by_test (t.code == 26)
+  where
+    by_test : (b : Bool) → IsFault ((if b then plain WriteProtected else record { code = code_of_fault t.code; first = t.track; second = t.sector }).code)
+    by_test true = refl
+    by_test false = number_told t.code

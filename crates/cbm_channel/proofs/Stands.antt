@@ -1,12 +1,12 @@
 -- A drive stands for a machine before and after each change of its parts.
 use Rattle.std.proofs.Common.{◌≡◌, ℕ, zero, suc, ◌+◌, ◌<◌, ◌≤◌, Bool, true, false, List, [], ◌∷◌, ◌++◌, length, take, drop, refl, sym, ap, ◌∙◌, subst, arith, inl, inr, ◌≢◌}
-use Rattle.std.specs.Prelude.{◌==◌, ◌||◌, nat_lt, Option, Some, None, slice_index_or, slice_set, sum_by, replicate, if◌then◌else◌, Result, Ok, Err, IsOk, OnOk}
+use Rattle.std.specs.Prelude.{◌==◌, nat_lt, Option, Some, None, slice_index_or, slice_set, sum_by, replicate, if◌then◌else◌, Result, Ok, Err, IsOk, OnOk}
 use Rattle.std.specs.List.{AllZip, list_any}
 use Rattle.std.proofs.lemmas.List.Sums.{sum_by-cons}
 use Rattle.std.proofs.lemmas.Bool.{ne_eqb, eq-eqb, cases_lt}
 use Rattle.cbm_medium.specs.Links.{follow}
 use Rattle.cbm_medium.proofs.Walks.{follow_end}
-use Rattle.cbm_machine.specs.Statuses.{status_line}
+use Rattle.cbm_machine.specs.Statuses.{plain, status_line}
 use Rattle.cbm_medium.specs.Seen.{Seen}
 use Rattle.cbm_medium.specs.Content.{Content}
 use Rattle.cbm_chain.specs.Reading.{Reading, RestOfFile, rest_of, held_from, held_in, IsSettled}
@@ -39,8 +39,8 @@ use Rattle.cbm_channel.specs.declared.on_record.Waiting.TheVariants as waits
 use Rattle.cbm_channel.specs.Placed.{record_of, is_broken, shown_at}
 use Rattle.cbm_channel.proofs.OnRecords.{record_on}
 use Rattle.cbm_channel.proofs.Orders.{FitsIn, known_is, orderly_set, first_orderly}
-use Rattle.cbm_channel.proofs.Uses.{uses_set}
-use Rattle.cbm_channel.proofs.Kept.{take_more}
+use Rattle.cbm_channel.proofs.Uses.{uses_set, by_kind, any_alike}
+use Rattle.cbm_channel.proofs.Kept.{take_more, number_of, bytes_of}
 
 -- ---- two lists, place by place
 
@@ -91,12 +91,7 @@ past_end (a ∷ xs) (b ∷ ys) (suc i) far h = past_end xs ys i (omega (arith, f
 
 -- what the channels cost
 cost_same : (x : Channel) (y : machine.Channel) → ChannelStands x y → machine.cost y ≡ cost_on x
-cost_same code.Closed y h = ap machine.cost h
-cost_same (code.Listing l) y h = ap machine.cost h
-cost_same (code.File slot r) y h = ap machine.cost h.1
-cost_same (code.Writing w full) y h = ap machine.cost h.2
-cost_same (code.Stopped slot) y h = ap machine.cost h
-cost_same (code.Records r) y h = ap machine.cost h
+cost_same = by_kind (λ x y. machine.cost y ≡ cost_on x) refl (λ l. refl) (λ slot r left. refl) (λ w full bytes blocks. refl) (λ slot. refl) (λ r. refl)
 
 pub costs_same : (xs : List Channel) (ys : List machine.Channel) → AllZip ChannelStands xs ys → sum_by machine.cost ys ≡ sum_by cost_on xs
 costs_same [] [] h = refl
@@ -183,12 +178,7 @@ waits_known d d' x y h same w = waits_on d d' x y h (λ slot f u at shut. (f, kn
 
 -- on a channel without records nothing waits for the disk
 pub plain_waits : (d : Disk) (x : Channel) (y : machine.Channel) → ChannelStands x y → is_relative_channel y ≡ false → WaitsFor d x
-plain_waits d code.Closed y h e = tt
-plain_waits d (code.Listing l) y h e = tt
-plain_waits d (code.File slot r) y h e = tt
-plain_waits d (code.Writing w full) y h e = tt
-plain_waits d (code.Stopped slot) y h e = tt
-plain_waits d (code.Records r) y h e = absurd (let z = sym (ap is_relative_channel h) ∙ e in (cc))
+plain_waits d = by_kind (λ x y. is_relative_channel y ≡ false → WaitsFor d x) (λ e. tt) (λ l e. tt) (λ slot r left e. tt) (λ w full bytes blocks e. tt) (λ slot e. tt) (λ r e. absurd (cc))
 
 waits_set : (d : Disk) (chs : List Channel) (ch : ℕ) (x : Channel) → ch < length chs → WaitsFor d x → ((k : ℕ) → k ≢ ch → WaitsFor d (slice_index_or chs k code.Closed)) → (k : ℕ) → WaitsFor d (slice_index_or (slice_set chs ch x) k code.Closed)
 waits_set d chs ch x more w others k = elim (eqb_tells k ch) [
@@ -199,17 +189,22 @@ waits_set d chs ch x more w others k = elim (eqb_tells k ch) [
 -- ---- the parts of a drive
 
 module _ (c : Content) (t : ℕ) (p : Bool) (chs : List Channel) (told : ToldStatus) (text : Option (ℕ × List ℕ)) (m : machine.Machine) where
-  pub told_anew : (s : Status) (new : ToldStatus) → new ≡ record { status = s; told = 0 } → StandsBy c t p chs told text m → StandsBy c t p chs new text (machine.with_status s m)
-  told_anew s new is st = record {
+  -- the status, what is told of it and the text are others
+  pub telling : (s : Status) (n : ℕ) (whole : Option (ℕ × List ℕ)) (new : ToldStatus) (kept : Option (ℕ × List ℕ)) → told_by (record m { status = s; told = n }) ≡ new → kept_text whole ≡ kept → StandsBy c t p chs told text m
+      → StandsBy c t p chs new kept (record m { status = s; told = n; text = whole })
+  telling s n whole new kept tells keeps st = record {
     holds = st.holds;
     orderly = st.orderly;
     same_tracks = st.same_tracks;
     same_protection = st.same_protection;
     each = st.each;
     waits = st.waits;
-    same_told = sym is;
-    same_text = st.same_text;
+    same_told = tells;
+    same_text = keeps;
   }
+
+  pub told_anew : (s : Status) (new : ToldStatus) → new ≡ record { status = s; told = 0 } → StandsBy c t p chs told text m → StandsBy c t p chs new text (machine.with_status s m)
+  told_anew s new is st = telling s 0 m.text new text (sym is) st.same_text st
 
   -- the machine's disk is what the medium holds
   pub means_of : StandsBy c t p chs told text m → HoldsDisk t c m.disk
@@ -248,30 +243,12 @@ module _ (c : Content) (t : ℕ) (p : Bool) (chs : List Channel) (told : ToldSta
   with_one ch x y lt fit h w uses well st = with_step c m.disk ch x y lt fit h w uses well st
 
   pub forgotten : (ch : ℕ) (new : Option (ℕ × List ℕ)) → new ≡ forget_text ch text → StandsBy c t p chs told text m → StandsBy c t p chs told new (without_text ch m)
-  forgotten ch new is st = record {
-    holds = st.holds;
-    orderly = st.orderly;
-    same_tracks = st.same_tracks;
-    same_protection = st.same_protection;
-    each = st.each;
-    waits = st.waits;
-    same_told = st.same_told;
-    same_text = kept_forgotten ch m.text ∙ ap (forget_text ch) st.same_text ∙ sym is;
-  }
+  forgotten ch new is st = telling m.status m.told (forget_text ch m.text) told new st.same_told (kept_forgotten ch m.text ∙ ap (forget_text ch) st.same_text ∙ sym is) st
 
   -- the text is another one
   pub other_text : (new : Option (ℕ × List ℕ)) (whole : Option (ℕ × List ℕ)) → kept_text whole ≡ new → StandsBy c t p chs told text m
       → StandsBy c t p chs told new (record m { text = whole })
-  other_text new whole e st = record {
-    holds = st.holds;
-    orderly = st.orderly;
-    same_tracks = st.same_tracks;
-    same_protection = st.same_protection;
-    each = st.each;
-    waits = st.waits;
-    same_told = st.same_told;
-    same_text = e;
-  }
+  other_text new whole e st = telling m.status m.told whole told new st.same_told e st
 
   stepped : nat_lt (m.told + 1) (length (status_line m.status)) ≡ true → told_by (record m { told = m.told + 1 }) ≡ after_the_next (told_by m)
   stepped e = rw e refl
@@ -284,26 +261,8 @@ module _ (c : Content) (t : ℕ) (p : Bool) (chs : List Channel) (told : ToldSta
   told_on new is st = by_test (nat_lt (m.told + 1) (length (status_line m.status))) refl
     where
       by_test : (b : Bool) → nat_lt (m.told + 1) (length (status_line m.status)) ≡ b → StandsBy c t p chs new text (taken 15 m)
-      by_test true e = rw e (record {
-        holds = st.holds;
-        orderly = st.orderly;
-        same_tracks = st.same_tracks;
-        same_protection = st.same_protection;
-        each = st.each;
-        waits = st.waits;
-        same_told = stepped e ∙ ap after_the_next st.same_told ∙ sym is;
-        same_text = st.same_text;
-      })
-      by_test false e = rw e (record {
-        holds = st.holds;
-        orderly = st.orderly;
-        same_tracks = st.same_tracks;
-        same_protection = st.same_protection;
-        each = st.each;
-        waits = st.waits;
-        same_told = ended e ∙ ap after_the_next st.same_told ∙ sym is;
-        same_text = st.same_text;
-      })
+      by_test true e = rw e (telling m.status (m.told + 1) m.text new text (stepped e ∙ ap after_the_next st.same_told ∙ sym is) st.same_text st)
+      by_test false e = rw e (telling (plain Fine) 0 m.text new text (ended e ∙ ap after_the_next st.same_told ∙ sym is) st.same_text st)
 
   -- what the channel of the code, with whatever would stand past the end, stands for
   pub stands_at : (ch : ℕ) (d : Channel) → ch < 15 → AreFit t chs → StandsBy c t p chs told text m → ChannelStands (slice_index_or chs ch d) (machine.channel m ch)
@@ -362,19 +321,8 @@ stands_at_first c t p d chs told e f h = subst (λ xs. StandsBy c t p xs told No
 -- the same, where the status is another one
 pub stands_telling : (c : Content) (t : ℕ) (p : Bool) (d : Disk) (chs : List Channel) (told : ToldStatus) → chs ≡ replicate 15 code.Closed
     → HoldsDisk t c d → StandsBy c t p chs told None (still_telling told (machine.start d p t))
-stands_telling c t p d chs told e h = subst (λ xs. StandsBy c t p xs told None (still_telling told (machine.start d p t))) (sym e) (record {
-  holds = s.holds;
-  orderly = s.orderly;
-  same_tracks = s.same_tracks;
-  same_protection = s.same_protection;
-  each = s.each;
-  waits = s.waits;
-  same_told = refl;
-  same_text = s.same_text;
-})
-  where
-    s : StandsBy c t p (replicate 15 code.Closed) (told_by (machine.start d p t)) None (machine.start d p t)
-    s = powered_up c t p d h
+stands_telling c t p d chs told e h =
+    subst (λ xs. StandsBy c t p xs told None (still_telling told (machine.start d p t))) (sym e) (telling c t p (replicate 15 code.Closed) (told_by (machine.start d p t)) None (machine.start d p t) told.status told.told None told None refl refl (powered_up c t p d h))
 
 -- what holds of each success holds of this one
 pub ok_is : {A E : Type 0} {P : Type 0} (r : Result A E) → IsOk r → OnOk r P → P
@@ -396,14 +344,6 @@ text_taken ch text e = rw (eq-eqb text.0 ch e) refl
 
 pub text_stays : (ch : ℕ) (text : ℕ × List ℕ) → text.0 ≢ ch → forget_text ch (Some text) ≡ Some text
 text_stays ch text ne = rw (ne_eqb text.0 ch ne) refl
-
-abbrev number_of : Option (ℕ × List ℕ) → ℕ
-number_of None = 0
-number_of (Some t) = t.0
-
-abbrev bytes_of : Option (ℕ × List ℕ) → List ℕ
-bytes_of None = []
-bytes_of (Some t) = t.1
 
 -- whether a text is gathered for the channel
 pub none_there : (ch : ℕ) (m : machine.Machine) → kept_text m.text ≡ None → HasNoText ch m
@@ -459,26 +399,13 @@ stood seen k k' m e s = subst (λ x. Stands seen x m) (sym e) s
 -- ---- which slots are written
 
 writes_same : (n : ℕ) (x : Channel) (y : machine.Channel) → ChannelStands x y → machine.writes n y ≡ writes_on n x
-writes_same n code.Closed y h = ap (machine.writes n) h
-writes_same n (code.Listing l) y h = ap (machine.writes n) h
-writes_same n (code.File slot r) y h = ap (machine.writes n) h.1
-writes_same n (code.Writing w full) y h = ap (machine.writes n) h.2
-writes_same n (code.Stopped slot) y h = ap (machine.writes n) h
-writes_same n (code.Records r) y h = ap (machine.writes n) h
+writes_same n = by_kind (λ x y. machine.writes n y ≡ writes_on n x) refl (λ l. refl) (λ slot r left. refl) (λ w full bytes blocks. refl) (λ slot. refl) (λ r. refl)
 
 pub any_same : (n : ℕ) (xs : List Channel) (ys : List machine.Channel) → AllZip ChannelStands xs ys → list_any (machine.writes n) ys ≡ list_any (writes_on n) xs
-any_same n [] [] h = refl
-any_same n [] (y ∷ ys) h = absurd h
-any_same n (x ∷ xs) [] h = absurd h
-any_same n (x ∷ xs) (y ∷ ys) h = λ i. writes_same n x y h.0 i || any_same n xs ys h.1 i
+any_same n = any_alike (machine.writes n) (writes_on n) (writes_same n)
 
 use_writes : (n : ℕ) (x : Channel) (y : machine.Channel) → ChannelStands x y → machine.writes n y ≡ false → writes_slot n (use_of x y) ≡ false
-use_writes n code.Closed y h e = refl
-use_writes n (code.Listing l) y h e = refl
-use_writes n (code.File slot r) y h e = refl
-use_writes n (code.Writing w full) y h e = sym (ap (machine.writes n) h.2) ∙ e
-use_writes n (code.Stopped slot) y h e = refl
-use_writes n (code.Records r) y h e = sym (ap (machine.writes n) h) ∙ e
+use_writes n = by_kind (λ x y. machine.writes n y ≡ false → writes_slot n (use_of x y) ≡ false) (λ e. refl) (λ l e. refl) (λ slot r left e. refl) (λ w full bytes blocks e. e) (λ slot e. refl) (λ r e. e)
 
 -- a slot that no channel writes is in no channel's use for writing
 pub unwritten_at : (n : ℕ) (xs : List Channel) (ys : List machine.Channel) (k : ℕ) → AllZip ChannelStands xs ys → ((j : ℕ) → machine.writes n (channel_in ys j) ≡ false) → writes_slot n (uses_of xs ys k) ≡ false

@@ -1,14 +1,15 @@
 -- Where the faults that are told come from.
 use Rattle.std.proofs.Common.{◌≡◌, ◌⊎◌, ℕ, suc, ◌+◌, Bool, true, false, List, [], ◌∷◌, refl, sym, ap, ◌∙◌, subst, arith, inl, inr}
-use Rattle.std.specs.Prelude.{if◌then◌else◌, Option, Some, None, Result, Ok, Err, IfErr, IsErrAnd}
+use Rattle.std.specs.Prelude.{if◌then◌else◌, slice_get, Option, Some, None, Result, Ok, Err, IfErr, IsErrAnd}
 use Rattle.std.specs.List.{Contains}
+use Rattle.std.proofs.lemmas.Option.{slice_get-get_or}
 use Rattle.cbm_medium.specs.declared.fault.Trouble.{Trouble}
 use Rattle.cbm_medium.specs.Place.{Place, sector_count}
 use Rattle.cbm_medium.specs.Links.{follow}
 use Rattle.cbm_medium.specs.Seen.{Seen, HasFailed}
 use Rattle.cbm_medium.specs.Met.{IsMetFrom}
-use Rattle.cbm_medium.proofs.Named.{one_start, met_more}
-use Rattle.cbm_volume.specs.RecordFaults.{IsMislisted, IsOfEntry, IsMetInFile}
+use Rattle.cbm_medium.proofs.Reached.{one_of, met_more}
+use Rattle.cbm_volume.specs.RecordFaults.{IsMislisted, IsOfEntry}
 use Rattle.cbm_medium.specs.Content.{Content}
 use Rattle.cbm_chain.specs.Reading.{RestOfFile, held_from}
 use Rattle.cbm_bam.specs.Map.{geometry_of}
@@ -18,7 +19,7 @@ use Rattle.cbm_channel.specs.declared.finding.Found.{Found}
 use Rattle.cbm_channel.specs.declared.plan.Plan.{Plan}
 use Rattle.cbm_channel.specs.declared.plan.Plan.TheVariants.{ReadFile, OpenRecords}
 use Rattle.cbm_channel.specs.Standing.{Kept}
-use Rattle.cbm_channel.specs.Grounds.{ShowsTrouble, IsFromDirectory, HasGround, IsToldFor}
+use Rattle.cbm_channel.specs.Grounds.{ShowsTrouble, HidesRecords, IsFromDirectory, HasGround, IsToldFor}
 
 abbrev entry_in : List ℕ → Option (ℕ × List ℕ) → List ℕ
 entry_in e None = e
@@ -46,14 +47,19 @@ pub entry_broken : (tracks : ℕ) (c : Content) (entry : List ℕ) (t : Trouble)
 entry_broken tracks c entry t there e = inr (inr (inl (entry, there, broken_at_once tracks c (sector_count tracks) (first_block entry) t e)))
 
 -- why a record can't be read
-pub record_broken : (tracks : ℕ) (c : Content) (t : Trouble) → ((directory_of tracks c).trouble ≡ Some t) ⊎ IsMetInFile tracks c t → ShowsTrouble tracks c t
-record_broken tracks c t (inl e) = inr (inl e)
-record_broken tracks c t (inr m) = inr (inr (inr (inr m)))
+pub record_broken : (now : Seen) (t : Trouble) → HidesRecords now t → ShowsTrouble (geometry_of now.tracks now.content) now.content t
+record_broken now t (slot, inl e) = inr (inl e)
+record_broken now t (slot, inr m) = inr (inr (inr (inr (slot, m))))
+
+-- an entry of the directory has a slot
+slot_of : (entries : List (List ℕ)) (entry : List ℕ) → Contains entries entry → (n : ℕ) × (slice_get entries n ≡ Some entry)
+slot_of entries entry (n, within, is) = (n, slice_get-get_or entries n entry within ∙ ap (λ (e : List ℕ). Some e) is)
 
 -- why the records of one of the directory's entries can't be opened
 pub records_broken : (tracks : ℕ) (c : Content) (entry : List ℕ) (t : Trouble) → Contains (directory_of tracks c).entries entry → IsMetFrom tracks c (λ q. q ≡ first_side entry) t ⊎ IsMislisted tracks c entry t → ShowsTrouble tracks c t
 records_broken tracks c entry t there (inl m) =
-    inr (inr (inr (inr (entry, there, met_more tracks c (λ q. q ≡ first_side entry) (IsOfEntry tracks c entry) (one_start tracks c (IsOfEntry tracks c entry) (first_side entry) (inl (inr (inl (inl refl))))) t m))))
+    let slot = slot_of (directory_of tracks c).entries entry there in
+    inr (inr (inr (inr (slot.0, (entry, slot.1, met_more tracks c (λ q. q ≡ first_side entry) (IsOfEntry tracks c entry) (one_of tracks c (IsOfEntry tracks c entry) (first_side entry) (inr (inl (inl refl)))) t m)))))
 records_broken tracks c entry t there (inr h) = inr (inr (inr (inl (entry, there, h))))
 
 -- the file that is read is one of the directory's

@@ -6,7 +6,7 @@ use Rattle.cbm_medium.specs.Links.{follow}
 use Rattle.cbm_medium.specs.declared.fault.Trouble.{Trouble}
 use Rattle.cbm_medium.specs.Seen.{Seen, HasFailed, ShowsGround}
 use Rattle.cbm_medium.specs.Content.{Content}
-use Rattle.cbm_volume.specs.RecordFaults.{IsMislisted, IsMetInFile}
+use Rattle.cbm_volume.specs.RecordFaults.{IsMislisted, IsMetInSlot, HidesSlot}
 use Rattle.cbm_volume.specs.Sweeps.{IsPutInOrder, IsPartlyInOrder}
 use Rattle.cbm_bam.specs.Map.{geometry_of}
 use Rattle.cbm_directory.specs.Entries.{first_block}
@@ -25,19 +25,18 @@ abbrev pub is_fault_number : ℕ → Bool
 is_fault_number n = (nat_lt 19 n && nat_lt n 30) || ((n == 66) || (n == 71))
 
 -- A sector doesn't read and this is its fault; or the directory breaks off so; or the chain of one of its entries does; or the side
--- sectors of one of its entries aren't right; or the file of one of its entries meets the fault.
+-- sectors of one of its entries aren't right; or the file of one of its slots meets the fault.
 abbrev pub ShowsTrouble : ℕ → Content → Trouble → Type 0
 ShowsTrouble tracks c t =
     (c (record { track = t.track; sector = t.sector }) ≡ Err t.code)
     ⊎ (((directory_of tracks c).trouble ≡ Some t)
     ⊎ (((entry : List ℕ) × Contains (directory_of tracks c).entries entry × ((follow tracks c (sector_count tracks) (first_block entry)).trouble ≡ Some t))
     ⊎ (((entry : List ℕ) × Contains (directory_of tracks c).entries entry × IsMislisted tracks c entry t)
-    ⊎ IsMetInFile tracks c t)))
+    ⊎ ((slot : ℕ) × IsMetInSlot tracks c slot t))))
 
--- A record can't be read for this trouble: the directory breaks off with it, or the file of one of its entries meets it.
+-- A record can't be read for this trouble: it hides the file of a slot.
 abbrev pub HidesRecords : Seen → Trouble → Type 0
-HidesRecords now t =
-    ((directory_of (geometry_of now.tracks now.content) now.content).trouble ≡ Some t) ⊎ IsMetInFile (geometry_of now.tracks now.content) now.content t
+HidesRecords now t = (slot : ℕ) × HidesSlot now slot t
 
 -- A STATUS HAS ITS GROUND: it is no fault of a disk; or the disk is protected; or the content shows the fault.
 abbrev pub HasGround : {M : Type 0} → (M → Seen) → M → Status → Type 0

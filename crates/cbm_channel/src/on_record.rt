@@ -1,6 +1,6 @@
 ghost use Rattle.std.specs.Prelude.{◌≡◌, ◌≢◌, ◌≤◌, ◌<◌, ◌-◌, ◌^◌, ◌==◌, true, false, None, length, is_some, option_map, slice_index_or, IfOk, IfErr, IsOkAnd};
 ghost use Rattle.std.specs.List.{list_all};
-ghost use Rattle.cbm_channel.specs.Grounds.{HidesRecords};
+ghost use Rattle.cbm_volume.specs.RecordFaults.{HidesSlot};
 ghost use Rattle.cbm_channel.specs.Placed.{is_last_filled, is_broken, record_of};
 ghost use Rattle.cbm_channel.specs.PlaceCalls.{ReadsRecord};
 
@@ -85,7 +85,7 @@ fn waiting_at<M: Medium>(volume: &Volume<M>, slot: u8, number: u32) -> Result<Wa
     ensures means { ReadsRecord (M.seen volume.now) slot number result }
     ensures whole { IfOk result (λ x. is_broken x ≡ false) }
     ensures few { IfOk result (λ x. is_some (record_of x) ≡ true → number ≤ 195072) }
-    ensures cause { IfErr result (HidesRecords (M.seen volume.now)) }
+    ensures cause { IfErr result (HidesSlot (M.seen volume.now) slot) }
     ensures never_26 { IfErr result (λ t. t.code ≢ 26) }
 {
     if number == 0 {
@@ -126,7 +126,7 @@ impl OnRecord {
         ensures place { IfOk result
             (λ r. (r.slot ≡ slot) × ((r.width ≡ length) × ((r.number ≡ 1) × (r.position ≡ 1)))) }
         ensures means { OfClosedRecords (M.seen volume.now) slot length (λ d. IsOkAnd result (IsOnRecord d)) }
-        ensures cause { IfErr result (HidesRecords (M.seen volume.now)) }
+        ensures cause { IfErr result (HidesSlot (M.seen volume.now) slot) }
         ensures never_26 { IfErr result (λ t. t.code ≢ 26) }
     {
         let waiting = waiting_at(volume, slot, 1)?;
@@ -187,7 +187,7 @@ impl OnRecord {
         ensures well { ReachesRecord (M.seen volume.now) self.old self.new result }
         ensures whole { OnOk result (is_broken self.new.waiting ≡ false) }
         ensures broken { OnErr result (self.new.waiting ≡ Broken) }
-        ensures cause { IfErr result (HidesRecords (M.seen volume.now)) }
+        ensures cause { IfErr result (HidesSlot (M.seen volume.now) self.old.slot) }
         ensures never_26 { IfErr result (λ t. t.code ≢ 26) }
     {
         self.number = number;
@@ -219,7 +219,7 @@ impl OnRecord {
     /// waits nothing happens. Errors: why the next record can't be read, of which nothing waits then.
     pub(crate) fn taken<M: Medium>(&mut self, volume: &Volume<M>) -> Result<(), Trouble>
         ensures moved { IsMoved self.old.waiting self.old self.new result }
-        ensures cause { IfErr result (HidesRecords (M.seen volume.now)) }
+        ensures cause { IfErr result (HidesSlot (M.seen volume.now) self.old.slot) }
         ensures slot { self.new.slot ≡ self.old.slot }
         ensures well { TakesRecordByte (M.seen volume.now) self.old self.new result }
     {

@@ -12,7 +12,8 @@ use Rattle.cbm_machine.specs.Codes.{code_number}
 use Rattle.cbm_channel.specs.Grounds.{is_fault_number}
 use Rattle.cbm_channel.specs.Standing.{StandsBy, uses_of}
 use Rattle.cbm_channel.proofs.Commanding.{stopped_at_once, protected_status, true_or_false}
-use Rattle.cbm_channel.proofs.Copies.{idle_15, kind_kept, kind_plain, all_copied, copy_full, copy_done, copy_guarded, copy_shows, copy_stands, copy_cut, trouble_told}
+use Rattle.cbm_channel.proofs.Copies.{idle_15, kind_kept, kind_plain, all_copied, copy_full, copy_done, copy_guarded, copy_shows, copy_stands, copy_cut}
+use Rattle.cbm_channel.proofs.Refused.{trouble_told}
 use Rattle.cbm_channel.proofs.Opens.{failed_by}
 use Rattle.cbm_channel.proofs.Orders.{not_so}
 use Rattle.cbm_channel.proofs.Stands.{stood}

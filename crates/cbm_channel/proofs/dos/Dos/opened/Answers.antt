@@ -89,9 +89,9 @@ returns-in_err-on-in-OpenRecords-clause-writes g c = record {
   quiet = (search rules);
   shown = λ reads from.
       let t = c.in_err-on-in-OpenRecords.field-0.0 in
-      let broken = subst (λ v. HidesRecords (g.M.Medium.seen v) t) (ap (λ k. k.medium) c.self.view_is) c.in_err-on-in-OpenRecords.ensures.cause in
+      let broken = subst (λ v. HidesRecords (g.M.Medium.seen v) t) (ap (λ k. k.medium) c.self.view_is) (_, c.in_err-on-in-OpenRecords.ensures.cause) in
       let shows = ShowsTrouble (geometry_of (g.M.Medium.seen c.args.self.now.medium).tracks (g.M.Medium.seen c.args.self.now.medium).content) (g.M.Medium.seen c.args.self.now.medium).content in
-      passed_on c.from_residual-in_err-on-in-OpenRecords.result t shows c.from_residual-in_err-on-in-OpenRecords.ensures.1 (record_broken _ _ t broken);
+      passed_on c.from_residual-in_err-on-in-OpenRecords.result t shows c.from_residual-in_err-on-in-OpenRecords.ensures.1 (record_broken (g.M.Medium.seen c.args.self.now.medium) t broken);
   kept = (search rules);
   guarded = (search rules);
 }
@@ -498,7 +498,7 @@ returns-in_err-on-in-OpenRecords-clause-medium g c =
     let p = err_from_is_err_and c.from_residual-in_err-on-in-OpenRecords.result c.from_residual-in_err-on-in-OpenRecords.ensures.1 in
     else_nothing c.from_residual-in_err-on-in-OpenRecords.result now now (λ i. now)
     (rw (p.1, p.2) (λ is. absurd (c.in_err-on-in-OpenRecords.ensures.never_26 is)))
-    (rw (p.1, p.2) (subst (λ m. ShowsGround (g.M.Medium.seen m) t) (ap (λ k. k.medium) c.self.view_is) (hidden_shown (g.M.Medium.seen c.self.inside.volume) t c.in_err-on-in-OpenRecords.ensures.cause)))
+    (rw (p.1, p.2) (subst (λ m. ShowsGround (g.M.Medium.seen m) t) (ap (λ k. k.medium) c.self.view_is) (hidden_shown (g.M.Medium.seen c.self.inside.volume) t (_, c.in_err-on-in-OpenRecords.ensures.cause))))
 
 pub returns-in_err-on-in-MakeRecords-clause-medium : goal.returns-in_err-on-in-MakeRecords-clause-medium
 returns-in_err-on-in-MakeRecords-clause-medium g c =
@@ -510,4 +510,4 @@ returns-in_err-on-in-MakeRecords-clause-medium g c =
     subst (λ m. KeepsElse s (g.M.Medium.seen m) new) (ap (λ k. k.medium) c.self.view_is)
     (else_then c.make_records.result s c.in_ok-slot-in-MakeRecords.field-0 old new c.in_ok-slot-in-MakeRecords.was (only_else _ _ _ c.make_records.ensures.only)
     (rw (p.1, p.2) (λ is. absurd (c.in_err-on-in-MakeRecords.ensures.never_26 is)))
-    (rw (p.1, p.2) (hidden_shown new t c.in_err-on-in-MakeRecords.ensures.cause)))
+    (rw (p.1, p.2) (hidden_shown new t (_, c.in_err-on-in-MakeRecords.ensures.cause))))

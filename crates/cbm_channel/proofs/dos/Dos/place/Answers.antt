@@ -60,6 +60,6 @@ pub returns-in-Err-clause-tells : goal.returns-in-Err-clause-tells
 returns-in-Err-clause-tells g c = (
   subst (λ k. HasGround g.M.Medium.seen k.medium c.set.new.self.told.status) c.self.view_is
       (subst (λ t. HasGround g.M.Medium.seen c.self.inside.volume t.status) (sym c.set.ensures.told)
-      (inr (inr (c.in-Err.trouble, c.from.ensures, record_broken _ _ c.in-Err.trouble c.in-Err.ensures.cause)))),
+      (inr (inr (c.in-Err.trouble, c.from.ensures, record_broken (g.M.Medium.seen c.self.inside.volume) c.in-Err.trouble c.in-Err.ensures.cause)))),
   (search rules),
 )
