@@ -6,7 +6,8 @@ use Rattle.cbm_medium.specs.Place.{Place, Has}
 use Rattle.cbm_medium.specs.Content.{Cell, Content}
 use Rattle.cbm_medium.specs.Links.{bytes_at, or_nothing}
 use Rattle.cbm_medium.proofs.Places.{written_there, written_elsewhere}
-use Rattle.cbm_relfile.specs.Growing.{side_at, ListsSide, IsSideLinked, AreSides, AreSidesLinked}
+use Rattle.cbm_relfile.specs.Growing.{ListsSide, IsSideLinked, AreSides, AreSidesLinked}
+use Rattle.cbm_relfile.specs.SideSectors.{listed_side}
 
 -- none has it yet
 pub linked_none : (c : Content) (head : List ℕ) (from k : ℕ) (t : Place) → k ≤ from → AreSidesLinked c c head from k t
@@ -14,12 +15,12 @@ linked_none c head from k t far = record { each = λ i l m. absurd (omega (arith
 
 -- the one before them has it too
 one_more : (tracks : ℕ) (old mid new : Content) (first : Place) (head : List ℕ) (n k : ℕ) (t : Place) → 1 ≤ n → n < k → AreSides tracks old first head k → AreSidesLinked old mid head (n + 1) k t
-    → ((bytes : List ℕ) → Has tracks first → mid first ≡ Ok bytes → Has tracks (side_at bytes n) → IsOk (mid (side_at bytes n)) → IsSideLinked mid new (side_at bytes n) n k t)
+    → ((bytes : List ℕ) → Has tracks first → mid first ≡ Ok bytes → Has tracks (listed_side bytes n) → IsOk (mid (listed_side bytes n)) → IsSideLinked mid new (listed_side bytes n) n k t)
     → AreSidesLinked old new head n k t
 one_more tracks old mid new first head n k t some few sides so call = record { each = each; others = others }
   where
     at : Place
-    at = side_at head n
+    at = listed_side head n
 
     -- what isn't done yet is as it was
     same_first : mid first ≡ old first
@@ -43,18 +44,18 @@ one_more tracks old mid new first head n k t some few sides so call = record { e
     here : ListsSide (bytes_at old at) k t (n + 1 == k) (bytes_at new at)
     here = subst (λ (xs : List ℕ). ListsSide xs k t (n + 1 == k) (bytes_at new at)) (sym (bytes_of old at step.side (sym same_at ∙ step.reads))) (subst (λ (xs : List ℕ). ListsSide step.side k t (n + 1 == k) xs) (sym there) step.lists)
 
-    each : (i : ℕ) → n ≤ i → i < k → ListsSide (bytes_at old (side_at head i)) k t (i + 1 == k) (bytes_at new (side_at head i))
+    each : (i : ℕ) → n ≤ i → i < k → ListsSide (bytes_at old (listed_side head i)) k t (i + 1 == k) (bytes_at new (listed_side head i))
     each i l m = elim (cases_eq i n) [
-      | inl e ↦ subst (λ (j : ℕ). ListsSide (bytes_at old (side_at head j)) k t (j + 1 == k) (bytes_at new (side_at head j))) (sym e) here
-      | inr ne ↦ subst (λ (xs : List ℕ). ListsSide (bytes_at old (side_at head i)) k t (i + 1 == k) xs) (sym (ap or_nothing (elsewhere (side_at head i) (λ e. ne (sym (sides.distinct n i few m e)))))) (so.each i (omega (arith, l, ne)) m)
+      | inl e ↦ subst (λ (j : ℕ). ListsSide (bytes_at old (listed_side head j)) k t (j + 1 == k) (bytes_at new (listed_side head j))) (sym e) here
+      | inr ne ↦ subst (λ (xs : List ℕ). ListsSide (bytes_at old (listed_side head i)) k t (i + 1 == k) xs) (sym (ap or_nothing (elsewhere (listed_side head i) (λ e. ne (sym (sides.distinct n i few m e)))))) (so.each i (omega (arith, l, ne)) m)
     ]
 
-    others : (p : Place) → ((i : ℕ) → n ≤ i → i < k → p ≢ side_at head i) → new p ≡ old p
+    others : (p : Place) → ((i : ℕ) → n ≤ i → i < k → p ≢ listed_side head i) → new p ≡ old p
     others p apart = elsewhere p (λ e. apart n (omega arith) few (sym e)) ∙ so.others p (λ i l m. apart i (omega (arith, l)) m)
 
 -- what the call says that puts the new one into the list of the side sector of a number
 abbrev pub LinksSide : ℕ → Content → Content → Place → ℕ → ℕ → Place → Type 0
-LinksSide tracks mid new first n k t = (bytes : List ℕ) → Has tracks first → mid first ≡ Ok bytes → Has tracks (side_at bytes n) → IsOk (mid (side_at bytes n)) → IsSideLinked mid new (side_at bytes n) n k t
+LinksSide tracks mid new first n k t = (bytes : List ℕ) → Has tracks first → mid first ≡ Ok bytes → Has tracks (listed_side bytes n) → IsOk (mid (listed_side bytes n)) → IsSideLinked mid new (listed_side bytes n) n k t
 
 pub linked_more : (tracks : ℕ) (old mid new : Content) (first : Place) (head : List ℕ) (n from next k : ℕ) (t : Place) → from ≡ n + 1 → next ≡ n → 1 ≤ n → n < k → LinksSide tracks mid new first n k t → (AreSides tracks old first head k → AreSidesLinked old mid head from k t)
     → AreSides tracks old first head k → AreSidesLinked old new head next k t

@@ -10,7 +10,7 @@ use Rattle.cbm_bam.specs.Orders.{next_order}
 use Rattle.cbm_bam.specs.Causes.{HasCause}
 use Rattle.cbm_relfile.specs.Changing.{IsWriteRefused}
 use Rattle.cbm_relfile.specs.Fresh.{IsFilledFrom, full_end}
-use Rattle.cbm_relfile.specs.SideSectors.{blocks_begin, IsEnded}
+use Rattle.cbm_relfile.specs.SideSectors.{blocks_begin, listed_side, IsEnded}
 
 -- where in the last of this many full data blocks the first fresh record begins: after its last whole record
 abbrev pub fresh_place : ℕ → ℕ → ℕ
@@ -53,13 +53,9 @@ pub record ListsMore (old : List ℕ) (k : ℕ) (q : Place) (new : List ℕ) : T
   pub sector : slice_index new (17 + 2 * k) ≡ q.sector
   pub zeros : (i : ℕ) → 18 + 2 * k ≤ i → slice_index new i ≡ 0
 
--- the side sector of this number, as the first one lists it
-abbrev pub side_at : List ℕ → ℕ → Place
-side_at head i = record { track = slice_index head (4 + 2 * i); sector = slice_index head (5 + 2 * i) }
-
 -- this holds of the side sector of this number that a first one lists, if it is on the disk and reads
 abbrev pub OfSideAt : ℕ → Content → List ℕ → ℕ → (Place → Type 0) → Type 0
-OfSideAt tracks c head i P = Has tracks (side_at head i) → IsOk (c (side_at head i)) → P (side_at head i)
+OfSideAt tracks c head i P = Has tracks (listed_side head i) → IsOk (c (listed_side head i)) → P (listed_side head i)
 
 -- the side sector at this place lists one block more after this many
 pub record IsBlockListed (old new : Content) (at : Place) (k : ℕ) (q : Place) : Type 0 where
@@ -128,11 +124,11 @@ pub record IsSideBegun (tracks : ℕ) (old new : Content) (head : List ℕ) (k w
 -- are the same.
 pub record AreSides (tracks : ℕ) (c : Content) (first : Place) (head : List ℕ) (k : ℕ) : Type 0 where
   pub reads : Has tracks first × (c first ≡ Ok head)
-  pub itself : side_at head 0 ≡ first
-  pub there : (i : ℕ) → i < k → Has tracks (side_at head i) × IsOk (c (side_at head i))
-  pub distinct : (i j : ℕ) → i < k → j < k → side_at head i ≡ side_at head j → i ≡ j
+  pub itself : listed_side head 0 ≡ first
+  pub there : (i : ℕ) → i < k → Has tracks (listed_side head i) × IsOk (c (listed_side head i))
+  pub distinct : (i j : ℕ) → i < k → j < k → listed_side head i ≡ listed_side head j → i ≡ j
 
 -- EACH OF THEM FROM THIS NUMBER ON NAMES A NEW ONE after this many; what else it says stays, and so does each other sector.
 pub record AreSidesLinked (old new : Content) (head : List ℕ) (from k : ℕ) (t : Place) : Type 0 where
-  pub each : (i : ℕ) → from ≤ i → i < k → ListsSide (bytes_at old (side_at head i)) k t (i + 1 == k) (bytes_at new (side_at head i))
-  pub others : (p : Place) → ((i : ℕ) → from ≤ i → i < k → p ≢ side_at head i) → new p ≡ old p
+  pub each : (i : ℕ) → from ≤ i → i < k → ListsSide (bytes_at old (listed_side head i)) k t (i + 1 == k) (bytes_at new (listed_side head i))
+  pub others : (p : Place) → ((i : ℕ) → from ≤ i → i < k → p ≢ listed_side head i) → new p ≡ old p

@@ -7,8 +7,9 @@ use Rattle.cbm_medium.specs.declared.fault.Trouble.{Trouble}
 use Rattle.cbm_file.specs.Files.{Disk}
 use Rattle.cbm_file.specs.Records.{sides_for}
 use Rattle.cbm_bam.specs.Map.{geometry_of}
-use Rattle.cbm_relfile.specs.Growing.{side_at, IsListStopped, IsSideLinked, AreSides, AreSidesLinked}
+use Rattle.cbm_relfile.specs.Growing.{IsListStopped, IsSideLinked, AreSides, AreSidesLinked}
 use Rattle.cbm_relfile.specs.Records.{Relative}
+use Rattle.cbm_relfile.specs.SideSectors.{listed_side}
 use Rattle.cbm_volume.specs.declared.records.growing_blocks.Reach.{Reach}
 use Rattle.cbm_volume.specs.AddingSides.{HasSides, HasEmptySide}
 use Rattle.cbm_volume.specs.Growing.{HasGrown, HasLonger, HasSide, IsGrowthStopped}
@@ -91,7 +92,7 @@ KeepsEmpty result old new geometry r s1 t = GrowthGoes result old new geometry (
 
 -- THE SIDE SECTOR OF A NUMBER NAMES A NEW ONE, and all else in it stays; or its write was refused.
 abbrev pub NamesSide : Result (Unit {0}) Trouble → Seen → Seen → ℕ → Relative → ℕ → ℕ → Place → Type 0
-NamesSide result old new geometry r number sides side = (head : List ℕ) → Has geometry r.side → old.content r.side ≡ Ok head → let at = side_at head number in Has geometry at → IsOk (old.content at)
+NamesSide result old new geometry r number sides side = (head : List ℕ) → Has geometry r.side → old.content r.side ≡ Ok head → let at = listed_side head number in Has geometry at → IsOk (old.content at)
     → MatchResult result (λ x. IsSideLinked old.content new.content at number sides side) (λ t. IsListStopped geometry old new t.code)
 
 -- each side sector but the first names the new one then, after those that it named

@@ -9,11 +9,12 @@ use Rattle.cbm_medium.specs.Links.{Chain, bytes_at, link, place_in}
 use Rattle.cbm_medium.proofs.Walks.{has_true, true_has}
 use Rattle.cbm_medium.proofs.Places.{same_place, place_is_itself}
 use Rattle.cbm_bam.specs.Map.{with_bit}
-use Rattle.cbm_relfile.specs.SideSectors.{named_in, sides_listed, blocks_listed, Numbered}
+use Rattle.cbm_relfile.proofs.Listed.{listed_first as listed_all}
+use Rattle.cbm_relfile.specs.SideSectors.{named_in, sides_listed, blocks_listed, Numbered, listed_following}
 use Rattle.cbm_directory.specs.Entries.{first_block, first_side, width_of}
 use Rattle.cbm_volume.specs.Blocks.{Blocks, HasRecords}
 use Rattle.cbm_volume.specs.check.Claims.{reads}
-use Rattle.cbm_volume.specs.check.SideLists.{ClaimsEach, after_the_first, sides_from, step_along, along, listed_at, listed_blocks, side_along, side_found, sides_along, all_along, are_records}
+use Rattle.cbm_volume.specs.check.SideLists.{ClaimsEach, after_the_first, sides_from, step_along, along, side_along, side_found, sides_along, all_along, are_records}
 use Rattle.cbm_volume.specs.declared.check.unsound.Part.TheVariants.{OfFile}
 use Rattle.cbm_volume.proofs.checked.ClaimedSound.{is_right, inside_has}
 use Rattle.cbm_volume.proofs.checked.SidesListed.{named_some}
@@ -74,20 +75,16 @@ begins_along tracks c (p ∷ ps) rest a h =
 
 -- ---- side sectors
 
-listed_same : (side : List ℕ) → listed_blocks side ≡ named_in 120 (drop 16 side)
-unfolding listed_at
-listed_same side = refl
-
 sided : (tracks : ℕ) (c : Content) (width n : ℕ) (side : List ℕ) (a b : Place) → side_along tracks c width n side a ≡ Some b
-    → (slice_index side 2 ≡ n) × (slice_index side 3 ≡ width) × (along tracks c (listed_blocks side) a ≡ Some b)
+    → (slice_index side 2 ≡ n) × (slice_index side 3 ≡ width) × (along tracks c (listed_following 0 side) a ≡ Some b)
 sided tracks c width n side a b h = by_test ((slice_index side 2 == n) && (slice_index side 3 == width)) refl h
   where
-    by_test : (t : Bool) → ((slice_index side 2 == n) && (slice_index side 3 == width)) ≡ t → (if t then along tracks c (listed_blocks side) a else None) ≡ Some b
-        → (slice_index side 2 ≡ n) × (slice_index side 3 ≡ width) × (along tracks c (listed_blocks side) a ≡ Some b)
+    by_test : (t : Bool) → ((slice_index side 2 == n) && (slice_index side 3 == width)) ≡ t → (if t then along tracks c (listed_following 0 side) a else None) ≡ Some b
+        → (slice_index side 2 ≡ n) × (slice_index side 3 ≡ width) × (along tracks c (listed_following 0 side) a ≡ Some b)
     by_test true e g = let x = and_both (slice_index side 2 == n) (slice_index side 3 == width) e in (eqb-true (slice_index side 2) n x.0, eqb-true (slice_index side 3) width x.1, g)
     by_test false e g = absurd (cc)
 
-sides_on : (tracks : ℕ) (c : Content) (width n : ℕ) (side : List ℕ) (a : Place) → slice_index side 2 ≡ n → slice_index side 3 ≡ width → side_along tracks c width n side a ≡ along tracks c (listed_blocks side) a
+sides_on : (tracks : ℕ) (c : Content) (width n : ℕ) (side : List ℕ) (a : Place) → slice_index side 2 ≡ n → slice_index side 3 ≡ width → side_along tracks c width n side a ≡ along tracks c (listed_following 0 side) a
 sides_on tracks c width n side a e f = rw (eq-eqb (slice_index side 2) n e, eq-eqb (slice_index side 3) width f) refl
 
 -- what these side sectors say: their numbers and length, and the beginning of the chain
@@ -100,12 +97,12 @@ one_sided : (tracks : ℕ) (c : Content) (width n : ℕ) (s : Place) (ss xs : Li
     → side_along tracks c width n (bytes_at c s) a ≡ Some b → ((z : List Place) → Chain tracks c b z → Sided tracks c width (n + 1) ss z) → Sided tracks c width n (s ∷ ss) xs
 one_sided tracks c width n s ss xs a b has_s reads h e more =
     let x = sided tracks c width n (bytes_at c s) a b e in
-    let front = along_begins tracks c (listed_blocks (bytes_at c s)) xs a b h x.2 in
+    let front = along_begins tracks c (listed_following 0 (bytes_at c s)) xs a b h x.2 in
     let rest = more front.rest front.chain in
     record {
       numbered = (has_s, reads, x.0, x.1, rest.numbered);
       rest = rest.rest;
-      joined = append_assoc (named_in 120 (drop 16 (bytes_at c s))) (blocks_listed c ss) rest.rest ∙ (λ i. sym (listed_same (bytes_at c s)) i ++ rest.joined i) ∙ front.joined;
+      joined = append_assoc (named_in 120 (drop 16 (bytes_at c s))) (blocks_listed c ss) rest.rest ∙ (λ i. sym (listed_all (bytes_at c s)) i ++ rest.joined i) ∙ front.joined;
     }
 
 pub all_sided : (tracks : ℕ) (c : Content) (claimed after : Place → Bool) (width n : ℕ) (ss xs : List Place) (a b : Place) → ClaimsEach OfFile tracks c claimed ss after → Chain tracks c a xs
@@ -135,7 +132,7 @@ sides_all tracks c width n (s ∷ ss) rest a h k =
     let more = sides_all tracks c width (n + 1) ss rest front.0 h.4 front.2 in
     let here : side_found tracks c width n s a ≡ Some front.0 =
     ap (λ t. if t then side_along tracks c width n (bytes_at c s) a else None) (has_true tracks s h.0) ∙ sides_on tracks c width n (bytes_at c s) a h.2 h.3
-    ∙ ap (λ ps. along tracks c ps a) (listed_same (bytes_at c s)) ∙ front.1 in
+    ∙ ap (λ ps. along tracks c ps a) (listed_all (bytes_at c s)) ∙ front.1 in
     (more.0, ap (λ (o : Option Place). elim o [ Some q ↦ sides_along tracks c width (n + 1) ss q | None ↦ None ]) here ∙ more.1)
 
 -- ---- the records of an entry

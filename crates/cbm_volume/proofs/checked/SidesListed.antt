@@ -6,10 +6,10 @@ use Rattle.std.proofs.lemmas.Bool.{eq-eqb, ne_eqb}
 use Rattle.cbm_medium.specs.Place.{Place, has}
 use Rattle.cbm_medium.specs.Content.{Content}
 use Rattle.cbm_medium.specs.Links.{bytes_at, or_nothing, place_in}
-use Rattle.cbm_relfile.specs.SideSectors.{named_in}
+use Rattle.cbm_relfile.specs.SideSectors.{named_in, listed_following}
 use Rattle.cbm_bam.specs.Map.{with_bit}
 use Rattle.cbm_volume.specs.check.Claims.{wrong_at, fault_at}
-use Rattle.cbm_volume.specs.check.SideLists.{ClaimsEach, MeetsAmong, step_along, along, listed_at, listed_blocks, side_along, side_found, sides_along}
+use Rattle.cbm_volume.specs.check.SideLists.{ClaimsEach, MeetsAmong, step_along, along, side_along, side_found, sides_along}
 use Rattle.cbm_volume.specs.declared.check.unsound.Part.{Part}
 use Rattle.cbm_volume.specs.declared.check.unsound.Unsound.{Unsound}
 use Rattle.cbm_relfile.proofs.Listed.{at_drop, list_none}
@@ -39,17 +39,17 @@ pub sides_some : (n : ℕ) (bytes : List ℕ) (p : Place) → n < 6 → p ≡ re
     → named_in (6 - n) (drop (4 + 2 * n) bytes) ≡ p ∷ named_in (6 - (n + 1)) (drop (4 + 2 * (n + 1)) bytes)
 sides_some n bytes p l is ne = list_some 6 4 n bytes p l is ne
 
-pub listed_none : (n : ℕ) (side : List ℕ) → n < 120 → get_or side (16 + 2 * n) 0 ≡ 0 → listed_at n side ≡ []
-unfolding listed_at
+pub listed_none : (n : ℕ) (side : List ℕ) → n < 120 → get_or side (16 + 2 * n) 0 ≡ 0 → listed_following n side ≡ []
+unfolding listed_following
 listed_none n side l e = list_none 120 16 n side l e
 
 pub listed_some : (n : ℕ) (side : List ℕ) (p : Place) → n < 120 → p ≡ record { track = get_or side (16 + 2 * n) 0; sector = get_or side (16 + 2 * n + 1) 0 } → p.track ≢ 0
-    → listed_at n side ≡ p ∷ listed_at (n + 1) side
-unfolding listed_at
+    → listed_following n side ≡ p ∷ listed_following (n + 1) side
+unfolding listed_following
 listed_some n side p l is ne = list_some 120 16 n side p l is ne
 
-pub listed_end : (n : ℕ) (side : List ℕ) → 120 ≤ n → listed_at n side ≡ []
-unfolding listed_at
+pub listed_end : (n : ℕ) (side : List ℕ) → 120 ≤ n → listed_following n side ≡ []
+unfolding listed_following
 listed_end n side l =
     let end : 120 - n ≡ 0 = omega arith in
     ap (λ (m : ℕ). named_in m (drop (16 + 2 * n) side)) end
@@ -70,10 +70,10 @@ pub among_here : (part : Part) (tracks : ℕ) (content : Content) (claimed : Pla
 among_here part tracks content claimed u p whole rest e n w = subst (λ (xs : List Place). MeetsAmong part tracks content claimed xs u) (sym e) (inl (n, w))
 
 -- a side sector with its number and length is as its list is
-pub side_right : (tracks : ℕ) (content : Content) (width n : ℕ) (side : List ℕ) (a : Place) → get_or side 2 0 ≡ n → get_or side 3 0 ≡ width → side_along tracks content width n side a ≡ along tracks content (listed_blocks side) a
+pub side_right : (tracks : ℕ) (content : Content) (width n : ℕ) (side : List ℕ) (a : Place) → get_or side 2 0 ≡ n → get_or side 3 0 ≡ width → side_along tracks content width n side a ≡ along tracks content (listed_following 0 side) a
 side_right tracks content width n side a e f =
-    ap (λ (b : Bool). if b && (get_or side 3 0 == width) then along tracks content (listed_blocks side) a else None) (eq-eqb (get_or side 2 0) n e)
-    ∙ ap (λ (b : Bool). if b then along tracks content (listed_blocks side) a else None) (eq-eqb (get_or side 3 0) width f)
+    ap (λ (b : Bool). if b && (get_or side 3 0 == width) then along tracks content (listed_following 0 side) a else None) (eq-eqb (get_or side 2 0) n e)
+    ∙ ap (λ (b : Bool). if b then along tracks content (listed_following 0 side) a else None) (eq-eqb (get_or side 3 0) width f)
 
 -- one block more along the chain
 pub along_some : (tracks : ℕ) (content : Content) (p a b : Place) (whole rest : List Place) → whole ≡ p ∷ rest → step_along tracks content p a ≡ Some b → along tracks content whole a ≡ along tracks content rest b
@@ -89,8 +89,8 @@ pub side_unread : (tracks : ℕ) (content : Content) (width n : ℕ) (s a : Plac
 side_unread tracks content width n s a code l h =
     let none : bytes_at content s ≡ [] = ap or_nothing h in
     ap (λ (bytes : List ℕ). if has tracks s then side_along tracks content width n bytes a else None) none
-    ∙ ap (λ (b : Bool). if has tracks s then (if (0 == n) && b then along tracks content (listed_blocks []) a else None) else None) (ne_eqb 0 width (λ z. omega (arith, z, l)))
-    ∙ empty (has tracks s) (0 == n) (along tracks content (listed_blocks []) a)
+    ∙ ap (λ (b : Bool). if has tracks s then (if (0 == n) && b then along tracks content (listed_following 0 []) a else None) else None) (ne_eqb 0 width (λ z. omega (arith, z, l)))
+    ∙ empty (has tracks s) (0 == n) (along tracks content (listed_following 0 []) a)
   where
     empty : (h e : Bool) (x : Option Place) → (if h then (if e && false then x else None) else None) ≡ None
     empty true true x = refl

@@ -10,9 +10,9 @@ use Rattle.cbm_file.specs.Files.{Disk}
 use Rattle.cbm_file.specs.Records.{record_count}
 use Rattle.cbm_bam.specs.Map.{geometry_of, map_of, IsFull}
 use Rattle.cbm_directory.specs.Entries.{entry_at, first_side, width_of}
-use Rattle.cbm_relfile.specs.Growing.{IsLengthened, IsLengthenStopped, IsBlockListed, IsListStopped, IsSideBegun, IsSideLinked, side_at}
+use Rattle.cbm_relfile.specs.Growing.{IsLengthened, IsLengthenStopped, IsBlockListed, IsListStopped, IsSideBegun, IsSideLinked}
 use Rattle.cbm_relfile.specs.Records.{AllWhole, Relative}
-use Rattle.cbm_relfile.specs.SideSectors.{Numbered}
+use Rattle.cbm_relfile.specs.SideSectors.{Numbered, listed_side}
 use Rattle.cbm_relfile.proofs.Lengthened.{BeginsSide, LengthensBy}
 use Rattle.cbm_volume.specs.Growth.{filled_up}
 use Rattle.cbm_volume.specs.Growing.{disk_with, HasGrown, HasLonger, HasSide, IsGrowthStopped}
@@ -90,8 +90,8 @@ module _ (old new : Seen) (c0 : Content) (d : Disk) (uses : ℕ → Use) (n w b 
 
 -- what the call that lists a block answers, of a first side sector
 abbrev pub AnswersList : {A : Type 0} → ℕ → Seen → Seen → ℕ → Place → Place → Result A Trouble → Type 0
-AnswersList {A} geometry old new b1 q p res = (head : List ℕ) → Has geometry p → old.content p ≡ Ok head → Has geometry (side_at head (b1 / 120)) → IsOk (old.content (side_at head (b1 / 120)))
-    → MatchResult res (λ x. IsBlockListed old.content new.content (side_at head (b1 / 120)) (b1 % 120) q) (λ t. IsListStopped geometry old new t.code)
+AnswersList {A} geometry old new b1 q p res = (head : List ℕ) → Has geometry p → old.content p ≡ Ok head → Has geometry (listed_side head (b1 / 120)) → IsOk (old.content (listed_side head (b1 / 120)))
+    → MatchResult res (λ x. IsBlockListed old.content new.content (listed_side head (b1 / 120)) (b1 % 120) q) (λ t. IsListStopped geometry old new t.code)
 
 -- its last block is listed
 module _ (old new : Seen) (c0 : Content) (d : Disk) (uses : ℕ → Use) (n w b s : ℕ) (rs : List (List ℕ)) (o : HasRecordsOpen old.tracks c0 d uses n w b s rs) (r : Relative) (geometry b1 s1 : ℕ) (q : Place)
@@ -125,10 +125,10 @@ module _ (old new : Seen) (c0 : Content) (d : Disk) (uses : ℕ → Use) (n w b 
       let h : AnswersList geometry old new b1 q r.side res = subst (λ (y : Place). AnswersList geometry old new b1 q y res) is k in
       let first = first_there in
       let at = side_is old.tracks c0 d uses n w b s rs o old.content g.layout many (b1 + 1) s1 free-2 (b1 / 120) first.reads.bytes stage-2 (ap (λ (y : Relative). old.content y.side) (sym g.file) ∙ first.reads.is) (omega (arith, room, lies-2.sides)) in
-      let has : Has geometry (side_at first.reads.bytes (b1 / 120)) = subst (λ (m : ℕ). Has m (side_at first.reads.bytes (b1 / 120))) (sym e) at.1.has in
+      let has : Has geometry (listed_side first.reads.bytes (b1 / 120)) = subst (λ (m : ℕ). Has m (listed_side first.reads.bytes (b1 / 120))) (sym e) at.1.has in
       by_result res (h first.reads.bytes (subst (λ (m : ℕ). Has m r.side) (sym e) first.has) first.reads.is has at.1.reads)
     where
-      by_result : (y : Result A Trouble) → MatchResult y (λ x. IsBlockListed old.content new.content (side_at first_there.reads.bytes (b1 / 120)) (b1 % 120) q) (λ t. IsListStopped geometry old new t.code)
+      by_result : (y : Result A Trouble) → MatchResult y (λ x. IsBlockListed old.content new.content (listed_side first_there.reads.bytes (b1 / 120)) (b1 % 120) q) (λ t. IsListStopped geometry old new t.code)
           → MatchResult y (λ x. HasGrown old.tracks c0 d uses n w b s rs o r new.content (b1 + 1) s1 q) (IsGrowthStopped old new c0 o.holds.layout d uses n w rs)
       by_result (Ok x) k = turn_listed old.tracks c0 d uses n w b s rs o r old.content new.content b1 s1 q first_there.reads.bytes g room first_there.reads.is (λ z. (let f = new_block.has in omega (arith, z, f.0))) k
       by_result (Err t) k = list_cut old new c0 d uses n w b s rs o g.layout (record_count w (b1 + 1) - length rs) (b1 + 1) s1 free-2 t stage-2 (subst (λ (m : ℕ). IsListStopped m old new t.code) e k)
@@ -165,8 +165,8 @@ module _ (old new : Seen) (c0 : Content) (d : Disk) (uses : ℕ → Use) (n w b 
 
 -- what the call that puts a side sector into the list of another one answers
 abbrev pub AnswersLink : {A : Type 0} → ℕ → Seen → Seen → ℕ → ℕ → Place → Place → Result A Trouble → Type 0
-AnswersLink {A} geometry old new s1 i t p res = (head : List ℕ) → Has geometry p → old.content p ≡ Ok head → Has geometry (side_at head i) → IsOk (old.content (side_at head i))
-    → MatchResult res (λ x. IsSideLinked old.content new.content (side_at head i) i s1 t) (λ t. IsListStopped geometry old new t.code)
+AnswersLink {A} geometry old new s1 i t p res = (head : List ℕ) → Has geometry p → old.content p ≡ Ok head → Has geometry (listed_side head i) → IsOk (old.content (listed_side head i))
+    → MatchResult res (λ x. IsSideLinked old.content new.content (listed_side head i) i s1 t) (λ t. IsListStopped geometry old new t.code)
 
 -- a new side sector is put into the lists of the others
 module _ (old new : Seen) (c0 : Content) (d : Disk) (uses : ℕ → Use) (n w b s : ℕ) (rs : List (List ℕ)) (o : HasRecordsOpen old.tracks c0 d uses n w b s rs) (r : Relative) (geometry b1 s1 i : ℕ) (q t : Place)
@@ -191,18 +191,18 @@ module _ (old new : Seen) (c0 : Content) (d : Disk) (uses : ℕ → Use) (n w b 
 
   -- what the call answers, of the file's own side sectors
   linked : {A : Type 0} (res : Result A Trouble) (p : Place) → p ≡ r.side → AnswersLink geometry old new s1 i t p res
-      → MatchResult res (λ x. IsSideLinked old.content new.content (side_at first_there-3.reads.bytes i) i s1 t) (λ u. IsListStopped geometry old new u.code)
+      → MatchResult res (λ x. IsSideLinked old.content new.content (listed_side first_there-3.reads.bytes i) i s1 t) (λ u. IsListStopped geometry old new u.code)
   linked {A} res p is k =
       let h : AnswersLink geometry old new s1 i t r.side res = subst (λ (y : Place). AnswersLink geometry old new s1 i t y res) is k in
       let first = first_there-3 in
       let at = side_is old.tracks c0 d uses n w b s rs o old.content g.layout many-3 (b1 + 1) s1 free-3 i first.reads.bytes stage-3 (ap (λ (y : Relative). old.content y.side) (sym g.file) ∙ first.reads.is) (omega (arith, few, lies-3.sides)) in
-      h first.reads.bytes (subst (λ (m : ℕ). Has m r.side) (sym e) first.has) first.reads.is (subst (λ (m : ℕ). Has m (side_at first.reads.bytes i)) (sym e) at.1.has) at.1.reads
+      h first.reads.bytes (subst (λ (m : ℕ). Has m r.side) (sym e) first.has) first.reads.is (subst (λ (m : ℕ). Has m (listed_side first.reads.bytes i)) (sym e) at.1.has) at.1.reads
 
   pub copy_means : {A : Type 0} (res : Result A Trouble) (p : Place) → p ≡ r.side → AnswersLink geometry old new s1 i t p res → 0 < i
       → MatchResult res (λ x. HasSide old.tracks c0 d uses n w b s rs o r new.content b1 s1 q t) (IsGrowthStopped old new c0 o.holds.layout d uses n w rs)
   copy_means {A} res p is k some = by_result res (linked res p is k)
     where
-      by_result : (y : Result A Trouble) → MatchResult y (λ x. IsSideLinked old.content new.content (side_at first_there-3.reads.bytes i) i s1 t) (λ u. IsListStopped geometry old new u.code)
+      by_result : (y : Result A Trouble) → MatchResult y (λ x. IsSideLinked old.content new.content (listed_side first_there-3.reads.bytes i) i s1 t) (λ u. IsListStopped geometry old new u.code)
           → MatchResult y (λ x. HasSide old.tracks c0 d uses n w b s rs o r new.content b1 s1 q t) (IsGrowthStopped old new c0 o.holds.layout d uses n w rs)
       by_result (Ok x) h = side_copied old.tracks c0 d uses n w b s rs o r old.content new.content b1 s1 i q t first_there-3.reads.bytes g some few first_there-3.reads.is h
       by_result (Err u) h = list_cut old new c0 d uses n w b s rs o g.layout (record_count w (b1 + 1) - length rs) (b1 + 1) s1 free-3 u stage-3 (subst (λ (m : ℕ). IsListStopped m old new u.code) e h)
@@ -211,8 +211,8 @@ module _ (old new : Seen) (c0 : Content) (d : Disk) (uses : ℕ → Use) (n w b 
       → MatchResult res (λ x. HasGrown old.tracks c0 d uses n w b s rs o r new.content (b1 + 1) (s1 + 1) q) (IsGrowthStopped old new c0 o.holds.layout d uses n w rs)
   add_means {A} res p is k zero whole most = by_result res (linked res p is k)
     where
-      by_result : (y : Result A Trouble) → MatchResult y (λ x. IsSideLinked old.content new.content (side_at first_there-3.reads.bytes i) i s1 t) (λ u. IsListStopped geometry old new u.code)
+      by_result : (y : Result A Trouble) → MatchResult y (λ x. IsSideLinked old.content new.content (listed_side first_there-3.reads.bytes i) i s1 t) (λ u. IsListStopped geometry old new u.code)
           → MatchResult y (λ x. HasGrown old.tracks c0 d uses n w b s rs o r new.content (b1 + 1) (s1 + 1) q) (IsGrowthStopped old new c0 o.holds.layout d uses n w rs)
       by_result (Ok x) h = side_added old.tracks c0 d uses n w b s rs o r old.content new.content b1 s1 q t first_there-3.reads.bytes g whole most first_there-3.reads.is
-          (subst (λ (j : ℕ). IsSideLinked old.content new.content (side_at first_there-3.reads.bytes j) j s1 t) zero h)
+          (subst (λ (j : ℕ). IsSideLinked old.content new.content (listed_side first_there-3.reads.bytes j) j s1 t) zero h)
       by_result (Err u) h = list_cut old new c0 d uses n w b s rs o g.layout (record_count w (b1 + 1) - length rs) (b1 + 1) s1 free-3 u stage-3 (subst (λ (m : ℕ). IsListStopped m old new u.code) e h)

@@ -15,9 +15,9 @@ use Rattle.cbm_bam.specs.Causes.{HasCause}
 use Rattle.cbm_chain.specs.Data.{chain_bytes}
 use Rattle.cbm_directory.specs.Entries.{entry_at, first_block, first_side, width_of}
 use Rattle.cbm_relfile.specs.Changing.{IsWriteRefused}
-use Rattle.cbm_relfile.specs.Growing.{ListsMore, IsBlockListed, IsListStopped, IsBegun, IsLengthenStopped, side_at}
+use Rattle.cbm_relfile.specs.Growing.{ListsMore, IsBlockListed, IsListStopped, IsBegun, IsLengthenStopped}
 use Rattle.cbm_relfile.specs.Records.{Relative}
-use Rattle.cbm_relfile.specs.SideSectors.{named_in, sides_listed}
+use Rattle.cbm_relfile.specs.SideSectors.{named_in, sides_listed, listed_side}
 use Rattle.cbm_relfile.proofs.Lengthened.{IsSide, named_nth, numbered_nth}
 use Rattle.cbm_volume.specs.Blocks.{Blocks}
 use Rattle.cbm_volume.specs.Growth.{filled_up, IsGrowthCut}
@@ -76,19 +76,18 @@ module _ (medium : ℕ) (c0 : Content) (d : Disk) (uses : ℕ → Use) (n w b s 
 
   -- the side sector of a number, as the code finds it
   pub side_is : (c : Content) (l : Layout) (rs1 : List (List ℕ)) (b1 s1 free i : ℕ) (head : List ℕ) → At c l rs1 b1 s1 free → c (first_side (entry_at c l.directory n)) ≡ Ok head → i < length (l.files n).sides
-      → (get_or (l.files n).sides i directory_head ≡ side_at head i) × IsSide tracks c (width_of (entry_at c l.directory n)) i (side_at head i)
+      → (get_or (l.files n).sides i directory_head ≡ listed_side head i) × IsSide tracks c (width_of (entry_at c l.directory n)) i (listed_side head i)
   side_is c l rs1 b1 s1 free i head h holds few =
       let lies : FileLies tracks c l n w rs1 b1 s1 = lies_at medium c0 d uses n w b s rs o c l rs1 b1 s1 free h in
       let sides : (l.files n).sides ≡ sides_listed head = lies.records.listed ∙ ap (λ (x : Cell). sides_listed (or_nothing x)) holds in
-      let is : get_or (l.files n).sides i directory_head ≡ side_at head i = ap (λ (ys : List Place). get_or ys i directory_head) sides
-      ∙ named_nth 6 4 i head directory_head (omega (arith, few, ap (λ (ys : List Place). length ys) sides))
-      ∙ (let e : 4 + 2 * i + 1 ≡ 5 + 2 * i = omega arith in λ j. record { track = get_or head (4 + 2 * i) 0; sector = get_or head (e j) 0 }) in
+      let is : get_or (l.files n).sides i directory_head ≡ listed_side head i = ap (λ (ys : List Place). get_or ys i directory_head) sides
+      ∙ named_nth 6 4 i head directory_head (omega (arith, few, ap (λ (ys : List Place). length ys) sides)) in
       let at = numbered_nth tracks c (width_of (entry_at c l.directory n)) 0 (l.files n).sides i directory_head lies.records.numbered few in
       (is, record { has = subst (λ (p : Place). Has tracks p) is at.has; reads = subst (λ (p : Place). IsOk (c p)) is at.reads })
 
   -- ---- THE NEW BLOCK IS LISTED
   pub turn_listed : (r : Relative) (c c' : Content) (b1 s1 : ℕ) (q : Place) (head : List ℕ) → HasLonger medium c0 d uses n w b s rs o r c b1 s1 q → b1 < 120 * s1 → c r.side ≡ Ok head → q.track ≢ 0
-      → IsBlockListed c c' (side_at head (b1 / 120)) (b1 % 120) q → HasGrown medium c0 d uses n w b s rs o r c' (b1 + 1) s1 q
+      → IsBlockListed c c' (listed_side head (b1 / 120)) (b1 % 120) q → HasGrown medium c0 d uses n w b s rs o r c' (b1 + 1) s1 q
   turn_listed r c c' b1 s1 q head g room holds some k =
       let l : Layout = g.layout in
       let x : Blocks = l.files n in
@@ -99,7 +98,7 @@ module _ (medium : ℕ) (c0 : Content) (d : Disk) (uses : ℕ → Use) (n w b s 
       let lies : FileLies tracks c l n w rs2 (b1 + 1) s1 = lies_at medium c0 d uses n w b s rs o c l rs2 (b1 + 1) s1 free at0 in
       let few : length g.blocks < 120 * length x.sides = omega (arith, room, g.number, lies.sides) in
       let nth : length g.blocks / 120 ≡ b1 / 120 = ap (λ (m : ℕ). m / 120) g.number in
-      let t : Place = side_at head (b1 / 120) in
+      let t : Place = listed_side head (b1 / 120) in
       let first : c (first_side (entry_at c l.directory n)) ≡ Ok head = ap (λ (y : Relative). c y.side) (sym g.file) ∙ holds in
       let side = side_is c l rs2 (b1 + 1) s1 free (b1 / 120) head at0 first (omega (arith, room, lies.sides)) in
       let which : t ≡ get_or x.sides (length g.blocks / 120) directory_head = sym (ap (λ (i : ℕ). get_or x.sides i directory_head) nth ∙ side.0) in

@@ -7,9 +7,9 @@ use Rattle.cbm_file.specs.Files.{Disk}
 use Rattle.cbm_bam.specs.Map.{geometry_of}
 use Rattle.cbm_chain.specs.Data.{chain_bytes}
 use Rattle.cbm_directory.specs.Entries.{entry_at, first_block, first_side}
-use Rattle.cbm_relfile.specs.Growing.{IsSideLinked, IsNewSide, IsSideBegun, side_at}
+use Rattle.cbm_relfile.specs.Growing.{IsSideLinked, IsNewSide, IsSideBegun}
 use Rattle.cbm_relfile.specs.Records.{Relative}
-use Rattle.cbm_relfile.specs.SideSectors.{named_in}
+use Rattle.cbm_relfile.specs.SideSectors.{named_in, listed_side}
 use Rattle.cbm_volume.specs.Blocks.{Blocks}
 use Rattle.cbm_volume.specs.Growth.{filled_up}
 use Rattle.cbm_volume.specs.Growing.{disk_with, IsListed, HasGrown, HasLonger, HasSide}
@@ -80,7 +80,7 @@ module _ (medium : ℕ) (c0 : Content) (d : Disk) (uses : ℕ → Use) (n w b s 
   side_taken r c b1 s1 q t g = record { has = g.side_has; off_18 = g.side_off; nobody = g.side_nobody; taken = g.side_taken }
 
   -- ---- A SIDE SECTOR BUT THE FIRST GETS IT INTO ITS LIST
-  pub side_copied : (r : Relative) (c c' : Content) (b1 s1 i : ℕ) (q t : Place) (head : List ℕ) → HasSide medium c0 d uses n w b s rs o r c b1 s1 q t → 0 < i → i < s1 → c r.side ≡ Ok head → IsSideLinked c c' (side_at head i) i s1 t
+  pub side_copied : (r : Relative) (c c' : Content) (b1 s1 i : ℕ) (q t : Place) (head : List ℕ) → HasSide medium c0 d uses n w b s rs o r c b1 s1 q t → 0 < i → i < s1 → c r.side ≡ Ok head → IsSideLinked c c' (listed_side head i) i s1 t
       → HasSide medium c0 d uses n w b s rs o r c' b1 s1 q t
   side_copied r c c' b1 s1 i q t head g some few holds k =
       let l : Layout = g.layout in
@@ -116,7 +116,7 @@ module _ (medium : ℕ) (c0 : Content) (d : Disk) (uses : ℕ → Use) (n w b s 
       }
 
   -- ---- THE FIRST SIDE SECTOR GETS IT INTO ITS LIST: the file has it
-  pub side_added : (r : Relative) (c c' : Content) (b1 s1 : ℕ) (q t : Place) (head : List ℕ) → HasSide medium c0 d uses n w b s rs o r c b1 s1 q t → b1 ≡ 120 * s1 → s1 < 6 → c r.side ≡ Ok head → IsSideLinked c c' (side_at head 0) 0 s1 t
+  pub side_added : (r : Relative) (c c' : Content) (b1 s1 : ℕ) (q t : Place) (head : List ℕ) → HasSide medium c0 d uses n w b s rs o r c b1 s1 q t → b1 ≡ 120 * s1 → s1 < 6 → c r.side ≡ Ok head → IsSideLinked c c' (listed_side head 0) 0 s1 t
       → HasGrown medium c0 d uses n w b s rs o r c' (b1 + 1) (s1 + 1) q
   side_added r c c' b1 s1 q t head g whole few holds k =
       let l : Layout = g.layout in

@@ -9,8 +9,8 @@ use Rattle.cbm_file.specs.Files.{Disk, File, Records, with_slot}
 use Rattle.cbm_bam.specs.Map.{geometry_of, is_free_in, Claims}
 use Rattle.cbm_chain.specs.Data.{chain_bytes}
 use Rattle.cbm_directory.specs.Entries.{entry_at, first_side, width_of}
-use Rattle.cbm_relfile.specs.Growing.{ListsSide, IsSideLinked, side_at}
-use Rattle.cbm_relfile.specs.SideSectors.{named_in, sides_listed}
+use Rattle.cbm_relfile.specs.Growing.{ListsSide, IsSideLinked}
+use Rattle.cbm_relfile.specs.SideSectors.{named_in, sides_listed, listed_side}
 use Rattle.cbm_volume.specs.Blocks.{Blocks, slot_of, slices}
 use Rattle.cbm_volume.specs.Growing.{disk_with, IsListed, LeavesAside}
 use Rattle.cbm_volume.specs.Layouts.{Nobody, TheMap, Directory, DataOf, SideOf, OwnedBy, Layout, slot_count, HasLayout, own}
@@ -132,13 +132,13 @@ module _ (medium : ℕ) (c0 : Content) (d : Disk) (uses : ℕ → Use) (n w b s 
 
   -- A SIDE SECTOR BUT THE FIRST GETS IT INTO ITS LIST
   pub side_still_waits : (c c' : Content) (l : Layout) (rs1 : List (List ℕ)) (b1 s1 free i : ℕ) (t : Place) (head side : List ℕ) → At c l rs1 b1 s1 free → IsTaken tracks c l t → c t ≡ Ok side → c (first_side (entry_at c l.directory n)) ≡ Ok head → 0 < i → i < s1
-      → IsSideLinked c c' (side_at head i) i s1 t → SideWaits medium c0 o.holds.layout d uses n o.file w c c' (with_file l n (l.files n) l.owner) rs1 b1 s1 free t side
+      → IsSideLinked c c' (listed_side head i) i s1 t → SideWaits medium c0 o.holds.layout d uses n o.file w c c' (with_file l n (l.files n) l.owner) rs1 b1 s1 free t side
   side_still_waits c c' l rs1 b1 s1 free i t head side at0 taken waits first some few k =
       let x : Blocks = l.files n in
       let e : List ℕ = entry_at c l.directory n in
       let there : n < slot_count l = slot_in medium c0 d uses n w b s rs o c l rs1 b1 s1 free at0 in
       let lies : FileLies tracks c l n w rs1 b1 s1 = lies_at medium c0 d uses n w b s rs o c l rs1 b1 s1 free at0 in
-      let p : Place = side_at head i in
+      let p : Place = listed_side head i in
       let room : i < length x.sides = omega (arith, few, lies.sides) in
       let is : get_or x.sides i directory_head ≡ p = (side_is medium c0 d uses n w b s rs o c l rs1 b1 s1 free i head at0 first room).0 in
       let owned : l.owner p ≡ SideOf n = ap l.owner (sym is) ∙ owned_nth l.owner (SideOf n) x.sides i directory_head (at0.holds.stands.sound.owned.sides n there) room in
@@ -171,14 +171,14 @@ module _ (medium : ℕ) (c0 : Content) (d : Disk) (uses : ℕ → Use) (n w b s 
 
   -- THE FIRST SIDE SECTOR GETS IT INTO ITS LIST
   pub first_linked : (c c' : Content) (l : Layout) (rs1 : List (List ℕ)) (b1 s1 free : ℕ) (t : Place) (head : List ℕ) → At c l rs1 b1 s1 free → t.track ≢ 0 → c (first_side (entry_at c l.directory n)) ≡ Ok head → s1 < 6
-      → IsSideLinked c c' (side_at head 0) 0 s1 t → FirstLinked c c' l n t
+      → IsSideLinked c c' (listed_side head 0) 0 s1 t → FirstLinked c c' l n t
   first_linked c c' l rs1 b1 s1 free t head at0 some first few k =
       let x : Blocks = l.files n in
       let there : n < slot_count l = slot_in medium c0 d uses n w b s rs o c l rs1 b1 s1 free at0 in
       let lies : FileLies tracks c l n w rs1 b1 s1 = lies_at medium c0 d uses n w b s rs o c l rs1 b1 s1 free at0 in
       let f : Place = first_side (entry_at c l.directory n) in
       let room : 0 < length x.sides = omega (arith, ap (λ (ys : List Place). length ys) lies.records.first.1) in
-      let p_is : side_at head 0 ≡ f = sym (side_is medium c0 d uses n w b s rs o c l rs1 b1 s1 free 0 head at0 first room).0 ∙ ap (λ (ys : List Place). get_or ys 0 directory_head) lies.records.first.1 in
+      let p_is : listed_side head 0 ≡ f = sym (side_is medium c0 d uses n w b s rs o c l rs1 b1 s1 free 0 head at0 first room).0 ∙ ap (λ (ys : List Place). get_or ys 0 directory_head) lies.records.first.1 in
       let was : bytes_at c f ≡ k.side = ap or_nothing (ap c (sym p_is) ∙ k.reads) in
       let bytes : SideLinked k.side k.more = side_linked k.side k.more s1 t k.lists in
       let old_sides : sides_listed k.side ≡ x.sides = ap sides_listed (sym was) ∙ sym lies.records.listed in

@@ -7,9 +7,9 @@ use Rattle.cbm_file.specs.Files.{Disk}
 use Rattle.cbm_bam.specs.Map.{geometry_of}
 use Rattle.cbm_directory.specs.Entries.{first_block, first_side}
 use Rattle.cbm_relfile.specs.AddingSides.{IsEmptySide, IsEmptyBegun}
-use Rattle.cbm_relfile.specs.Growing.{IsSideLinked, side_at}
+use Rattle.cbm_relfile.specs.Growing.{IsSideLinked}
 use Rattle.cbm_relfile.specs.Records.{Relative}
-use Rattle.cbm_relfile.specs.SideSectors.{named_in}
+use Rattle.cbm_relfile.specs.SideSectors.{named_in, listed_side}
 use Rattle.cbm_relfile.proofs.Listed.{named_none}
 use Rattle.cbm_volume.specs.AddingSides.{HasSides, HasEmptySide}
 use Rattle.cbm_volume.specs.Growing.{disk_with}
@@ -71,7 +71,7 @@ module _ (medium : ℕ) (c0 : Content) (d : Disk) (uses : ℕ → Use) (n w b s 
   empty_taken c s1 t g = record { has = g.side_has; off_18 = g.side_off; nobody = g.side_nobody; taken = g.side_taken }
 
   -- ---- A SIDE SECTOR BUT THE FIRST GETS IT INTO ITS LIST
-  pub empty_copied : (c c' : Content) (s1 i : ℕ) (t : Place) (head : List ℕ) → HasEmptySide medium c0 d uses n w b s rs o r c s1 t → 0 < i → i < s1 → c r.side ≡ Ok head → IsSideLinked c c' (side_at head i) i s1 t
+  pub empty_copied : (c c' : Content) (s1 i : ℕ) (t : Place) (head : List ℕ) → HasEmptySide medium c0 d uses n w b s rs o r c s1 t → 0 < i → i < s1 → c r.side ≡ Ok head → IsSideLinked c c' (listed_side head i) i s1 t
       → HasEmptySide medium c0 d uses n w b s rs o r c' s1 t
   empty_copied c c' s1 i t head g some few holds k =
       let l : Layout = g.layout in
@@ -96,7 +96,7 @@ module _ (medium : ℕ) (c0 : Content) (d : Disk) (uses : ℕ → Use) (n w b s 
       }
 
   -- ---- THE FIRST SIDE SECTOR GETS IT INTO ITS LIST: the file has it
-  pub empty_added : (c c' : Content) (s1 : ℕ) (t : Place) (head : List ℕ) → HasEmptySide medium c0 d uses n w b s rs o r c s1 t → s1 < 6 → c r.side ≡ Ok head → IsSideLinked c c' (side_at head 0) 0 s1 t → HasSides medium c0 d uses n w b s rs o r c' (s1 + 1)
+  pub empty_added : (c c' : Content) (s1 : ℕ) (t : Place) (head : List ℕ) → HasEmptySide medium c0 d uses n w b s rs o r c s1 t → s1 < 6 → c r.side ≡ Ok head → IsSideLinked c c' (listed_side head 0) 0 s1 t → HasSides medium c0 d uses n w b s rs o r c' (s1 + 1)
   empty_added c c' s1 t head g few holds k =
       let l : Layout = g.layout in
       let free : ℕ = d.free - (s1 + 1 - s) in

@@ -9,8 +9,9 @@ use Rattle.cbm_medium.specs.declared.fault.Trouble.{Trouble}
 use Rattle.cbm_file.specs.Files.{Disk}
 use Rattle.cbm_bam.specs.Map.{geometry_of, IsFull, map_of}
 use Rattle.cbm_relfile.specs.AddingSides.{IsEmptyBegun}
-use Rattle.cbm_relfile.specs.Growing.{IsSideLinked, IsLengthenStopped, IsListStopped, side_at}
+use Rattle.cbm_relfile.specs.Growing.{IsSideLinked, IsLengthenStopped, IsListStopped}
 use Rattle.cbm_relfile.specs.Records.{Relative}
+use Rattle.cbm_relfile.specs.SideSectors.{listed_side}
 use Rattle.cbm_volume.specs.AddingSides.{HasSides, HasEmptySide}
 use Rattle.cbm_volume.specs.Growing.{disk_with, IsGrowthStopped}
 pub use Rattle.cbm_volume.specs.GrowthSteps.{GrowthState, OfSides, OfRoom, OfRoomFor, OfEmpty}
@@ -106,17 +107,17 @@ module _ (old new : Seen) (c0 : Content) (d : Disk) (uses : ℕ → Use) (n w b 
   first-2 = subst (λ (p : Place). FirstSide tracks-2 old.content p) (ap (λ (y : Relative). y.side) (sym g.file)) (first_reads tracks-2 old.content g.layout n w rs b s1 lies-2)
 
   linked : {A : Type 0} (res : Result A Trouble) (p : Place) → p ≡ r.side → AnswersLink geometry old new s1 i t p res
-      → MatchResult res (λ x. IsSideLinked old.content new.content (side_at first-2.reads.bytes i) i s1 t) (λ u. IsListStopped geometry old new u.code)
+      → MatchResult res (λ x. IsSideLinked old.content new.content (listed_side first-2.reads.bytes i) i s1 t) (λ u. IsListStopped geometry old new u.code)
   linked {A} res p is k =
       let h : AnswersLink geometry old new s1 i t r.side res = subst (λ (y : Place). AnswersLink geometry old new s1 i t y res) is k in
       let at = side_is old.tracks c0 d uses n w b s rs o old.content g.layout rs b s1 free-2 i first-2.reads.bytes stage-2 (ap (λ (y : Relative). old.content y.side) (sym g.file) ∙ first-2.reads.is) (omega (arith, few, lies-2.sides)) in
-      h first-2.reads.bytes (subst (λ (m : ℕ). Has m r.side) (sym e) first-2.has) first-2.reads.is (subst (λ (m : ℕ). Has m (side_at first-2.reads.bytes i)) (sym e) at.1.has) at.1.reads
+      h first-2.reads.bytes (subst (λ (m : ℕ). Has m r.side) (sym e) first-2.has) first-2.reads.is (subst (λ (m : ℕ). Has m (listed_side first-2.reads.bytes i)) (sym e) at.1.has) at.1.reads
 
   pub empty_copy_means : {A : Type 0} (res : Result A Trouble) (p : Place) → p ≡ r.side → AnswersLink geometry old new s1 i t p res → 0 < i
       → MatchResult res (λ x. HasEmptySide old.tracks c0 d uses n w b s rs o r new.content s1 t) (IsGrowthStopped old new c0 o.holds.layout d uses n w rs)
   empty_copy_means {A} res p is k some = by_result res (linked res p is k)
     where
-      by_result : (y : Result A Trouble) → MatchResult y (λ x. IsSideLinked old.content new.content (side_at first-2.reads.bytes i) i s1 t) (λ u. IsListStopped geometry old new u.code)
+      by_result : (y : Result A Trouble) → MatchResult y (λ x. IsSideLinked old.content new.content (listed_side first-2.reads.bytes i) i s1 t) (λ u. IsListStopped geometry old new u.code)
           → MatchResult y (λ x. HasEmptySide old.tracks c0 d uses n w b s rs o r new.content s1 t) (IsGrowthStopped old new c0 o.holds.layout d uses n w rs)
       by_result (Ok x) h = empty_copied old.tracks c0 d uses n w b s rs o r old.content new.content s1 i t first-2.reads.bytes g some few first-2.reads.is h
       by_result (Err u) h = list_cut old new c0 d uses n w b s rs o g.layout 0 b s1 free-2 u stage-nil-2 (subst (λ (m : ℕ). IsListStopped m old new u.code) e h)
@@ -125,10 +126,10 @@ module _ (old new : Seen) (c0 : Content) (d : Disk) (uses : ℕ → Use) (n w b 
       → MatchResult res (λ x. HasSides old.tracks c0 d uses n w b s rs o r new.content (s1 + 1)) (IsGrowthStopped old new c0 o.holds.layout d uses n w rs)
   empty_add_means {A} res p is k zero most = by_result res (linked res p is k)
     where
-      by_result : (y : Result A Trouble) → MatchResult y (λ x. IsSideLinked old.content new.content (side_at first-2.reads.bytes i) i s1 t) (λ u. IsListStopped geometry old new u.code)
+      by_result : (y : Result A Trouble) → MatchResult y (λ x. IsSideLinked old.content new.content (listed_side first-2.reads.bytes i) i s1 t) (λ u. IsListStopped geometry old new u.code)
           → MatchResult y (λ x. HasSides old.tracks c0 d uses n w b s rs o r new.content (s1 + 1)) (IsGrowthStopped old new c0 o.holds.layout d uses n w rs)
       by_result (Ok x) h = empty_added old.tracks c0 d uses n w b s rs o r old.content new.content s1 t first-2.reads.bytes g most first-2.reads.is
-          (subst (λ (j : ℕ). IsSideLinked old.content new.content (side_at first-2.reads.bytes j) j s1 t) zero h)
+          (subst (λ (j : ℕ). IsSideLinked old.content new.content (listed_side first-2.reads.bytes j) j s1 t) zero h)
       by_result (Err u) h = list_cut old new c0 d uses n w b s rs o g.layout 0 b s1 free-2 u stage-nil-2 (subst (λ (m : ℕ). IsListStopped m old new u.code) e h)
 
 -- ---- one call after another

@@ -1,11 +1,11 @@
 -- The side sectors of a relative file, and its records.
-use Rattle.std.specs.Prelude.{ℕ, ◌+◌, ◌-◌, ◌*◌, ◌⊎◌, ◌≡◌, ◌==◌, ◌&&◌, nat_lt, List, [], ◌∷◌, drop, slice_index, Bool, true, false, if◌then◌else◌, Option, Some, None, is_some}
+use Rattle.std.specs.Prelude.{ℕ, ◌+◌, ◌⊎◌, ◌≡◌, ◌==◌, ◌&&◌, nat_lt, List, [], ◌∷◌, drop, slice_index, Bool, true, false, if◌then◌else◌, Option, Some, None, is_some}
 use Rattle.cbm_medium.specs.Place.{Place, is_place, has}
 use Rattle.cbm_medium.specs.Content.{Content}
 use Rattle.cbm_medium.specs.Links.{bytes_at, place_in, link}
 use Rattle.cbm_bam.specs.Map.{with_bit}
 use Rattle.cbm_directory.specs.Entries.{first_block, first_side, width_of}
-use Rattle.cbm_relfile.specs.SideSectors.{most_blocks, blocks_begin, sides_listed, named_in}
+use Rattle.cbm_relfile.specs.SideSectors.{sides_listed, listed_following}
 use Rattle.cbm_volume.specs.declared.check.unsound.Part.{Part}
 use Rattle.cbm_volume.specs.declared.check.unsound.Part.TheVariants.{OfFile}
 use Rattle.cbm_volume.specs.declared.check.unsound.Unsound.{Unsound}
@@ -40,17 +40,10 @@ abbrev pub along : ℕ → Content → List Place → Place → Option Place
 along tracks content [] a = Some a
 along tracks content (p ∷ rest) a = elim (step_along tracks content p a) [ Some b ↦ along tracks content rest b | None ↦ None ]
 
--- the blocks that a side sector lists in its 120 places, from a place on
-unfoldable pub listed_at : ℕ → List ℕ → List Place
-listed_at n side = named_in (most_blocks - n) (drop (blocks_begin + 2 * n) side)
-
-abbrev pub listed_blocks : List ℕ → List Place
-listed_blocks side = listed_at 0 side
-
 -- a side sector has its number and the records' length, and lists the next blocks of the chain: where that goes on
 abbrev pub side_along : ℕ → Content → ℕ → ℕ → List ℕ → Place → Option Place
 side_along tracks content width n side a =
-    if (slice_index side 2 == n) && (slice_index side 3 == width) then along tracks content (listed_blocks side) a else None
+    if (slice_index side 2 == n) && (slice_index side 3 == width) then along tracks content (listed_following 0 side) a else None
 
 -- the same of the side sector at a place of the disk
 abbrev pub side_found : ℕ → Content → ℕ → ℕ → Place → Place → Option Place

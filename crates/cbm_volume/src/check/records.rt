@@ -1,6 +1,7 @@
 ghost use Rattle.std.specs.Prelude.{◌≡◌, ◌≤◌, ◌<◌, ℕ, List, Option, IsOk, Ok};
 ghost use Rattle.cbm_medium.specs.Links.{link, bytes_at};
-ghost use Rattle.cbm_volume.specs.check.SideLists.{step_along, along, listed_blocks, side_along, side_found, all_along};
+ghost use Rattle.cbm_relfile.specs.SideSectors.{listed_following};
+ghost use Rattle.cbm_volume.specs.check.SideLists.{step_along, along, side_along, side_found, all_along};
 
 use cbm_medium::{Geometry, Link, Medium};
 use cbm_relfile::side::{BLOCKS, NUMBER, RECORD_LENGTH, SIDES};
@@ -29,7 +30,7 @@ fn walk_listed<M: Medium>(
     from: Link,
 ) -> Option<Link>
     requires { geometry ≤ (M.seen medium.now).tracks }
-    ensures { result ≡ along geometry (M.seen medium.now).content (listed_blocks side.now) from }
+    ensures { result ≡ along geometry (M.seen medium.now).content (listed_following 0 side.now) from }
 {
     let mut at = from;
     for number in 0..120usize {
