@@ -31,11 +31,11 @@ lists_at c sides i = blocks_of_side (bytes_at c (slice_index_or sides i director
 abbrev pub NamesSides : List ℕ → List Place → Type 0
 NamesSides head sides = (i : ℕ) → i < length sides → slice_index_or sides i directory_head ≡ listed_side head i
 
--- the first so many that it names read
+-- this many side sectors read, counted from the first that a side sector names
 abbrev pub SidesRead : Content → List ℕ → ℕ → Type 0
 SidesRead c head sides = (i : ℕ) → i < sides → IsOk (c (listed_side head i))
 
--- THE SIDE SECTORS READ: the first one, and the first so many that it names.
+-- THE SIDE SECTORS READ: the first one, and this many that it names.
 abbrev pub HaveSides : Content → Place → ℕ → Type 0
 HaveSides c side sides = IsOkAnd (c side) (λ head. SidesRead c head sides)
 

@@ -1,6 +1,6 @@
 // A side sector more for a file whose side sectors can't list all its blocks.
 
-ghost use Rattle.std.specs.Prelude.{◌≡◌, ◌≢◌, ◌≤◌, ◌<◌, find, Some, Ok, IfOk, IfSome, MatchOption, MatchResult};
+ghost use Rattle.std.specs.Prelude.{◌≡◌, ◌≢◌, ◌≤◌, ◌<◌, find, Some, Ok, IsOk, OnOk, IfOk, IfSome, MatchOption, MatchResult};
 ghost use Rattle.cbm_medium.specs.Seen.{OnlyContent};
 ghost use Rattle.cbm_bam.specs.Map.{IsFull, is_free_in, map_of};
 ghost use Rattle.cbm_bam.specs.Orders.{next_order};
@@ -49,6 +49,7 @@ pub fn begin_empty_side<M: Medium>(
         (next_order geometry file.side) ≡ Some t)) }
     ensures bound { IfOk result (λ o. IfSome o (λ t. t.track ≤ geometry)) }
     ensures only { OnlyContent geometry result (M.seen medium.old) (M.seen medium.new) }
+    ensures reads { OnOk result (IsOk ((M.seen medium.old).content file.side)) }
 {
     let first = file.side();
     let head = read_at(medium, geometry, first)?;

@@ -1,11 +1,12 @@
 // A relative file grows by a block: it is claimed, written and linked to, and then a side sector lists it.
 
-ghost use Rattle.std.specs.Prelude.{◌≡◌, ◌≢◌, ◌≤◌, ◌<◌, ◌/◌, ◌%◌, ◌+◌, ◌-◌, ◌*◌, ℕ, length, slice_index, Ok, IfOk, IfSome, MatchOption, MatchResult};
+ghost use Rattle.std.specs.Prelude.{◌≡◌, ◌≢◌, ◌≤◌, ◌<◌, ◌/◌, ◌%◌, ◌+◌, ◌-◌, ◌*◌, ℕ, length, slice_index, Ok, IsOk, OnOk, IfOk, IsOkAnd, IfSome, MatchOption, MatchResult};
 ghost use Rattle.cbm_medium.specs.Place.{Has};
 ghost use Rattle.cbm_medium.specs.Seen.{OnlyContent};
 ghost use Rattle.cbm_bam.specs.Map.{IsFull, map_of};
-ghost use Rattle.cbm_relfile.specs.Growing.{fresh_place, IsLengthened, IsLengthenStopped, ListsMore, ListsSide, IsNewSide, IsSideBegun, OfSideAt, ListsBlock, LinksSide};
+ghost use Rattle.cbm_relfile.specs.Growing.{fresh_place, IsLengthened, IsLengthenStopped, ListsMore, ListsSide, IsNewSide, IsSideBegun, IsBlockListed, IsSideLinked, OfSideAt, ListsBlock, LinksSide};
 ghost use Rattle.cbm_relfile.specs.Records.{OfSector};
+ghost use Rattle.cbm_relfile.specs.SideSectors.{listed_side};
 
 use crate::growth::fresh::{fresh_from, full_end};
 use crate::relative::Relative;
@@ -106,6 +107,8 @@ pub fn list_block<M: Medium>(
     ensures listed { let old = M.seen medium.old in OfSector geometry old.content first (λ head.
         OfSideAt geometry old.content head (number / 120) (λ at.
         ListsBlock result geometry old (M.seen medium.new) at (number % 120) block)) }
+    ensures done { let old = (M.seen medium.old).content in OnOk result (IsOkAnd (old first) (λ head.
+        IsBlockListed old (M.seen medium.new).content (listed_side head (number / 120)) (number % 120) block)) }
     ensures only { OnlyContent geometry result (M.seen medium.old) (M.seen medium.new) }
 {
     let head = read_at(medium, geometry, first)?;
@@ -175,6 +178,7 @@ pub fn begin_side<M: Medium>(
         (λ t. IsLengthenStopped geometry old new file.side t.code)) }
     ensures bound { IfOk result (λ o. IfSome o (λ t. t.track ≤ geometry)) }
     ensures only { OnlyContent geometry result (M.seen medium.old) (M.seen medium.new) }
+    ensures reads { OnOk result (IsOk ((M.seen medium.old).content file.side)) }
 {
     let head = read_at(medium, geometry, file.side())?;
     let Some(side) = claim_next(medium, geometry, block)? else {
@@ -199,6 +203,8 @@ pub fn link_side<M: Medium>(
     ensures linked { let old = M.seen medium.old in OfSector geometry old.content first (λ head.
         OfSideAt geometry old.content head number (λ at.
         LinksSide result geometry old (M.seen medium.new) at number sides side)) }
+    ensures done { let old = (M.seen medium.old).content in OnOk result (IsOkAnd (old first) (λ head.
+        IsSideLinked old (M.seen medium.new).content (listed_side head number) number sides side)) }
     ensures only { OnlyContent geometry result (M.seen medium.old) (M.seen medium.new) }
 {
     let head = read_at(medium, geometry, first)?;
