@@ -4,7 +4,7 @@ use Rattle.std.specs.Prelude.{◌==◌, ◌&&◌, not, MatchBool}
 use Rattle.std.proofs.lemmas.Bool.{ne_eqb, eq-eqb}
 use Rattle.cbm_file.specs.Files.{Disk}
 use Rattle.cbm_medium.specs.Content.{Content}
-use Rattle.cbm_volume.specs.Writers.{Filling, Use, HoldsNow, with_use, needs_block, one_block_less, IsStored, IsFullDisk}
+use Rattle.cbm_volume.specs.Writers.{Filling, Use, HoldsNow, with_use, needs_block, IsStored, IsFullDisk}
 use Rattle.cbm_volume.specs.Writers as usage
 use Rattle.cbm_machine.specs.Machines as machine
 use Rattle.cbm_channel.specs.declared.channel.Channel.{Channel}

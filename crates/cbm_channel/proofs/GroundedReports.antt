@@ -3,7 +3,7 @@ use Rattle.std.proofs.Common.{◌≡◌, ◌⊎◌, ℕ, ◌≤◌, Bool, true, 
 use Rattle.std.specs.Prelude.{IfErr, if◌then◌else◌}
 use Rattle.cbm_medium.specs.declared.fault.Trouble.{Trouble}
 use Rattle.cbm_medium.specs.Place.{Place}
-use Rattle.cbm_medium.specs.Content.{Cell, blank, header_fault, is_header_fault, refusal}
+use Rattle.cbm_medium.specs.Content.{Cell, header_fault, is_header_fault, refusal}
 use Rattle.cbm_medium.specs.Met.{IsMetFrom, place_of}
 use Rattle.cbm_medium.specs.Seen.{Seen, HasFailed, IsGrounded, ShowsGround, KeepsReadable}
 use Rattle.cbm_medium.proofs.Shown.{cut_shown, met_shown}
@@ -19,7 +19,7 @@ use Rattle.cbm_machine.specs.Statuses.{plain, trouble_status}
 use Rattle.cbm_channel.specs.ChannelCalls.{KeepsElse}
 use Rattle.cbm_channel.specs.Standing.{Kept}
 use Rattle.cbm_channel.specs.Going.{KeepsMedium}
-use Rattle.cbm_channel.specs.Grounds.{HasGround, HasTold, HidesRecords, IsToldFor, KeepsGrounded, ShowsTrouble, TellsGrounded, is_fault_number}
+use Rattle.cbm_channel.specs.Grounds.{HasGround, HasTold, HidesRecords, KeepsGrounded, ShowsTrouble, TellsGrounded, is_fault_number}
 
 -- ---- what a medium shows
 

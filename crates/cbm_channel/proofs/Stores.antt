@@ -8,7 +8,7 @@ use Rattle.cbm_medium.specs.declared.fault.Trouble.{Trouble}
 use Rattle.cbm_medium.specs.Seen.{Seen, HasFailed}
 use Rattle.cbm_medium.specs.Content.{Content}
 use Rattle.cbm_volume.specs.Opens.{IsHindered}
-use Rattle.cbm_volume.specs.Writers.{Use, HoldsNow, with_use, known, IsEither, needs_block, one_block_more}
+use Rattle.cbm_volume.specs.Writers.{HoldsNow, with_use, known, needs_block, one_block_more}
 use Rattle.cbm_volume.specs.Writers as usage
 use Rattle.cbm_machine.specs.declared.code.Code.TheVariants.{DiskFull}
 use Rattle.cbm_machine.specs.declared.status.Status.{Status}

@@ -8,7 +8,7 @@ use Rattle.cbm_iec.specs.declared.event.Who.TheVariants.{Host, Drive}
 use Rattle.cbm_iec.specs.declared.event.Who.{Who}
 use Rattle.cbm_iec.specs.declared.lines.Change.{Change}
 use Rattle.cbm_iec.specs.declared.party.Party.{Party}
-use Rattle.cbm_session.proofs.headline.Keeping.{HostFrom, events_append}
+use Rattle.cbm_session.proofs.headline.Keeping.{HostFrom, events_append, all_in_time}
 use Rattle.cbm_session.specs.Answers.{Allowed}
 use Rattle.cbm_session.specs.Laws.{GoesOn}
 use Rattle.cbm_session.specs.Pieces.{Piece}
@@ -16,7 +16,7 @@ use Rattle.cbm_session.specs.Playing.{Station, host_event, AllBytes, AllInTime, 
 use Rattle.cbm_session.specs.Sessions.{rest, Linked, IsBus}
 use Rattle.cbm_session.specs.Steps.{Mark, Step, Plain, ForEach, For, moment_of, event_of, events_of}
 use Rattle.cbm_host.proofs.Joined.{DriveComes, Comes}
-use Rattle.cbm_host.proofs.Joining.{ss0, all_steps, order, no_sooner, is_next, moment_is, quiet_next, first_time, after_the_host, after_a_drive}
+use Rattle.cbm_host.proofs.Joining.{ss0, all_steps, order, no_sooner, is_next, moment_is, quiet_next, after_the_host, after_a_drive}
 use Rattle.cbm_host.proofs.Waiting.{IsPassed, passed_due}
 use Rattle.cbm_host.specs.Engines.{Engined, engine_due, engine_made, engine_seen, engine_passed, stage_taken}
 use Rattle.cbm_host.specs.Performed.{taken_with, last_with}
@@ -227,7 +227,7 @@ module _ (M : Type 0) (step : M → Act → M) (peek : M → Option (ℕ × Bool
       let n = is_next M step peek bytes b ms is_bus machine ks linked allowed j.done j.more x j.all k2 (λ none.
       let same : k2.before_it ≡ events_of j.done = sym (k2.parts ∙ ap (λ (l : List Event). k2.before_it ++ l) none ∙ append-nil k2.before_it) in
       subst (λ (t : ℕ). HostFrom (suc t) j.more) at_ (host_late j.done j.more j.performs j.all found g2 x.change.moment due k2.from (k2.before ++ k2.o ∷ k2.afterwards)
-      (subst (λ (l : List Event). Plays M step peek zero start l k2.from (k2.before ++ k2.o ∷ k2.afterwards)) same k2.plays) (subst (λ (t : ℕ). AllInTime M step peek t (k2.before ++ k2.o ∷ k2.afterwards)) (sym at_) (first_time M step peek bytes k2.moment k2.before k2.o k2.afterwards k2.due)))) in
+      (subst (λ (l : List Event). Plays M step peek zero start l k2.from (k2.before ++ k2.o ∷ k2.afterwards)) same k2.plays) (subst (λ (t : ℕ). AllInTime M step peek t (k2.before ++ k2.o ∷ k2.afterwards)) (sym at_) (all_in_time M step peek k2.moment k2.before k2.o k2.afterwards k2.due)))) in
       let s = drive_seen j.done j.more j.performs j.all found g2 d x who due n.0 n.1 n.2 n.3 in
       let quiet : said_with s.next.event.who s.next.mark ≡ None = ap (λ (v : Who). said_with v s.next.mark) (ap (λ (v : Event). v.who) s.event ∙ who) in
       record {

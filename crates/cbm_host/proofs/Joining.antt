@@ -10,7 +10,7 @@ use Rattle.cbm_iec.specs.declared.event.Who.TheVariants.{Host, Drive}
 use Rattle.cbm_iec.specs.declared.event.Who.{Who}
 use Rattle.cbm_iec.specs.declared.lines.Change.{Change}
 use Rattle.cbm_iec.specs.declared.party.Party.{Party}
-use Rattle.cbm_session.proofs.headline.Keeping.{HostFrom, Adopted, AllAtMoment, changes_at, events_append}
+use Rattle.cbm_session.proofs.headline.Keeping.{HostFrom, Adopted, AllAtMoment, changes_at, events_append, all_in_time}
 use Rattle.cbm_session.proofs.headline.LawsMet.{next_met, soon_met}
 use Rattle.cbm_session.proofs.joining.Merging.{goes_after}
 use Rattle.cbm_session.proofs.timing.SessionOrder.{goes_on}
@@ -18,7 +18,7 @@ use Rattle.cbm_session.specs.Answers.{Allowed}
 use Rattle.cbm_session.specs.Following.{IsInTime}
 use Rattle.cbm_session.specs.Laws.{AllAfter, GoesOn}
 use Rattle.cbm_session.specs.Pieces.{Piece}
-use Rattle.cbm_session.specs.Playing.{Station, IsLaterDue, drive_events, shown, react, AllBytes, AllInTime, IsFirst, Plays, stays, reaction, at_rest, IsMachine}
+use Rattle.cbm_session.specs.Playing.{Station, drive_events, shown, react, AllBytes, AllInTime, Plays, stays, reaction, at_rest, IsMachine}
 use Rattle.cbm_session.specs.Sessions.{rest, Linked, session_steps, IsBus}
 use Rattle.cbm_session.specs.Steps.{Step, moment_of, events_of}
 use Rattle.cbm_session.specs.Timing.{is_host}
@@ -83,18 +83,6 @@ module _ (M : Type 0) (step : M → Act → M) (peek : M → Option (ℕ × Bool
       one : (o : Option ℕ) → IsInTime m o → IsInTime e o
       one None k = tt
       one (Some t) k = omega (arith, l, k)
-
-  pub first_time : (t : ℕ) (before : List (Station M)) (o : Station M) (afterwards : List (Station M)) → IsFirst M step peek t before o afterwards → AllInTime M step peek t (before ++ o ∷ afterwards)
-  first_time t [] o afterwards f = (due (port_due o.port) f.due, f.in_time)
-    where
-      due : (x : Option ℕ) → x ≡ Some t → IsInTime t x
-      due None e = tt
-      due (Some u) e = let k : u ≡ t = cc in omega (arith, k)
-  first_time t (b ∷ before) o afterwards f = (one (port_due b.port) f.later.0, first_time t before o afterwards (record { due = f.due; later = f.later.1; in_time = f.in_time }))
-    where
-      one : (x : Option ℕ) → IsLaterDue t x → IsInTime t x
-      one None k = tt
-      one (Some u) k = omega (arith, k)
 
   -- what is silent up to a moment is played up to it
   silent_on : (limit : ℕ) (answer : Bool) (n n2 : ℕ) (ss : List (Station M)) (a : Station M) (es : List Event) → Foreseen M step peek limit answer a → answer ≡ false → Plays M step peek n ss es n2 (a ∷ [])
@@ -177,7 +165,7 @@ module _ (M : Type 0) (step : M → Act → M) (peek : M → Option (ℕ × Bool
             by_first [] none =
                 let same : k.before_it ≡ events_of done = sym (k.parts ∙ ap (λ (l : List Event). k.before_it ++ l) none ∙ append-nil k.before_it) in
                 let m = moment_is (events_of done) x k in
-                no_sooner done s more d k.from u (k.before ++ k.o ∷ k.afterwards) e w (subst (λ (l : List Event). Plays M step peek zero ss0 l k.from (k.before ++ k.o ∷ k.afterwards)) same k.plays) (in_time_sooner u k.moment (k.before ++ k.o ∷ k.afterwards) (omega (arith, l, m)) (first_time k.moment k.before k.o k.afterwards k.due))
+                no_sooner done s more d k.from u (k.before ++ k.o ∷ k.afterwards) e w (subst (λ (l : List Event). Plays M step peek zero ss0 l k.from (k.before ++ k.o ∷ k.afterwards)) same k.plays) (in_time_sooner u k.moment (k.before ++ k.o ∷ k.afterwards) (omega (arith, l, m)) (all_in_time M step peek k.moment k.before k.o k.afterwards k.due))
             by_first (f ∷ fs) some =
                 let n = is_next done (s ∷ more) x e k (λ none. let no : f ∷ fs ≡ [] = sym some ∙ none in absurd cc) in
                 let same : s ≡ n.0 = (let is = n.2 in cc) in

@@ -1,4 +1,4 @@
-use Rattle.std.proofs.Common.{rules, ◌<◌, sym, ap, subst, ◌∙◌, refl, inl, inr, arith, length}
+use Rattle.std.proofs.Common.{◌<◌, sym, ap, subst, ◌∙◌, refl, inl, inr, arith, length}
 use Rattle.std.specs.Prelude.{slice_set, Option, Ok}
 use Rattle.cbm_channel.specs.declared.channel.Channel.{Channel}
 use Rattle.cbm_channel.specs.Opening.{opened_in}

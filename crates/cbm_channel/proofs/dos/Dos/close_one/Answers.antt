@@ -1,4 +1,4 @@
-use Rattle.std.proofs.Common.{rules, ◌≡◌, ap, ◌∙◌, subst, arith, length, sym, refl}
+use Rattle.std.proofs.Common.{◌≡◌, ap, ◌∙◌, subst, arith, length, sym, refl}
 use Rattle.std.proofs.lemmas.List.{length-set}
 use Rattle.cbm_medium.specs.Seen.{Seen, HasFailed}
 use Rattle.cbm_machine.specs.Closing.{without_text, finish_channel, close_one}

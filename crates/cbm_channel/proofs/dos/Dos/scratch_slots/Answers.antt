@@ -1,4 +1,4 @@
-use Rattle.std.proofs.Common.{rules, length, sym, ap, subst, ◌∙◌, inl, inr, refl}
+use Rattle.std.proofs.Common.{length, sym, ap, subst, ◌∙◌, inl, inr, refl}
 use Rattle.cbm_medium.specs.Seen.{HasFailed}
 use Rattle.cbm_machine.specs.declared.code.Code.TheVariants.{FilesScratched}
 use Rattle.cbm_machine.specs.Machines.{with_status, with_disk}
