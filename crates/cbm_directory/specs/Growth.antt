@@ -1,5 +1,5 @@
 -- The directory grows by a sector of track 18.
-use Rattle.std.specs.Prelude.{ℕ, ◌<◌, ◌≡◌, ◌⊎◌, List, [], ◌∷◌, ◌++◌, length, replicate, find, Bool, Some, None, MatchBool}
+use Rattle.std.specs.Prelude.{ℕ, ◌<◌, ◌≡◌, ◌⊎◌, List, [], ◌∷◌, ◌++◌, length, replicate, find, Bool, Some, None, IsOk, MatchBool}
 use Rattle.cbm_medium.specs.Place.{Place, Has, directory_head}
 use Rattle.cbm_medium.specs.Content.{Content, written}
 use Rattle.cbm_medium.specs.Links.{Chain, bytes_at, follow}
@@ -18,9 +18,9 @@ IsLastSector tracks c p n = (before : List Place) × (Chain tracks c first_direc
 abbrev pub new_sector : List ℕ
 new_sector = 0 ∷ 255 ∷ replicate 254 0
 
--- the map has no sector of track 18 as free that the directory could use
+-- the map reads, and has no sector of track 18 as free that the directory could use
 abbrev pub HasNoRoom : Content → Type 0
-HasNoRoom c = find (is_free_in (map_of c)) directory_order ≡ None
+HasNoRoom c = IsOk (c directory_head) × (find (is_free_in (map_of c)) directory_order ≡ None)
 
 -- the directory has eighteen sectors: all of track 18 but the map's
 abbrev pub IsFullDirectory : ℕ → Content → Type 0
