@@ -10,7 +10,7 @@ use Rattle.cbm_bam.specs.Orders.{next_order}
 use Rattle.cbm_bam.specs.Causes.{HasCause}
 use Rattle.cbm_relfile.specs.Changing.{IsWriteRefused}
 use Rattle.cbm_relfile.specs.Fresh.{IsFilledFrom, full_end}
-use Rattle.cbm_relfile.specs.SideSectors.{blocks_begin, listed_side, IsEnded}
+use Rattle.cbm_relfile.specs.SideSectors.{sides_begin, blocks_begin, listed_side, IsEnded}
 
 -- where in the last of this many full data blocks the first fresh record begins: after its last whole record
 abbrev pub fresh_place : ℕ → ℕ → ℕ
@@ -50,8 +50,8 @@ pub record ListsMore (old : List ℕ) (k : ℕ) (q : Place) (new : List ℕ) : T
   pub ended : IsEnded old (k + 1) new
   pub front : (i : ℕ) → 2 ≤ i → i < blocks_begin + 2 * k → slice_index new i ≡ slice_index old i
   pub track : slice_index new (blocks_begin + 2 * k) ≡ q.track
-  pub sector : slice_index new (17 + 2 * k) ≡ q.sector
-  pub zeros : (i : ℕ) → 18 + 2 * k ≤ i → slice_index new i ≡ 0
+  pub sector : slice_index new (blocks_begin + 1 + 2 * k) ≡ q.sector
+  pub zeros : (i : ℕ) → blocks_begin + 2 + 2 * k ≤ i → slice_index new i ≡ 0
 
 -- this holds of the side sector of this number that a first one lists, if it is on the disk and reads
 abbrev pub OfSideAt : ℕ → Content → List ℕ → ℕ → (Place → Type 0) → Type 0
@@ -74,12 +74,12 @@ IsListStopped tracks old new code = (new.content ≡ old.content) × IsWriteRefu
 pub record ListsSide (old : List ℕ) (k : ℕ) (t : Place) (follows : Bool) (new : List ℕ) : Type 0 where
   pub whole : length new ≡ 256
   pub link_is : link new ≡ (if follows then t else link old)
-  pub front : (i : ℕ) → 2 ≤ i → i < 4 + 2 * k → slice_index new i ≡ slice_index old i
-  pub track : slice_index new (4 + 2 * k) ≡ t.track
-  pub sector : slice_index new (5 + 2 * k) ≡ t.sector
-  pub last : k < 5 → slice_index new (6 + 2 * k) ≡ 0
-  pub last_sector : k < 5 → slice_index new (7 + 2 * k) ≡ 0
-  pub afterwards : (i : ℕ) → 8 + 2 * k ≤ i → i < blocks_begin → slice_index new i ≡ slice_index old i
+  pub front : (i : ℕ) → 2 ≤ i → i < sides_begin + 2 * k → slice_index new i ≡ slice_index old i
+  pub track : slice_index new (sides_begin + 2 * k) ≡ t.track
+  pub sector : slice_index new (sides_begin + 1 + 2 * k) ≡ t.sector
+  pub last : k < 5 → slice_index new (sides_begin + 2 + 2 * k) ≡ 0
+  pub last_sector : k < 5 → slice_index new (sides_begin + 3 + 2 * k) ≡ 0
+  pub afterwards : (i : ℕ) → sides_begin + 4 + 2 * k ≤ i → i < blocks_begin → slice_index new i ≡ slice_index old i
   pub back : (i : ℕ) → blocks_begin ≤ i → slice_index new i ≡ slice_index old i
 
 -- The side sector at this place, which is the one of number i, lists one side sector more after this many.
@@ -103,13 +103,13 @@ pub record IsNewSide (head : List ℕ) (k w : ℕ) (q t : Place) (new : List ℕ
   pub ends : (slice_index new 0 ≡ 0) × (slice_index new 1 ≡ 17)
   pub number : slice_index new 2 ≡ k
   pub width : slice_index new 3 ≡ w
-  pub others : (i : ℕ) → 4 ≤ i → i < 4 + 2 * k → slice_index new i ≡ slice_index head i
-  pub itself : (slice_index new (4 + 2 * k) ≡ t.track) × (slice_index new (5 + 2 * k) ≡ t.sector)
-  pub last : k < 5 → (slice_index new (6 + 2 * k) ≡ 0) × (slice_index new (7 + 2 * k) ≡ 0)
-  pub afterwards : (i : ℕ) → 8 + 2 * k ≤ i → i < blocks_begin → slice_index new i ≡ slice_index head i
+  pub others : (i : ℕ) → sides_begin ≤ i → i < sides_begin + 2 * k → slice_index new i ≡ slice_index head i
+  pub itself : (slice_index new (sides_begin + 2 * k) ≡ t.track) × (slice_index new (sides_begin + 1 + 2 * k) ≡ t.sector)
+  pub last : k < 5 → (slice_index new (sides_begin + 2 + 2 * k) ≡ 0) × (slice_index new (sides_begin + 3 + 2 * k) ≡ 0)
+  pub afterwards : (i : ℕ) → sides_begin + 4 + 2 * k ≤ i → i < blocks_begin → slice_index new i ≡ slice_index head i
   pub track : slice_index new blocks_begin ≡ q.track
-  pub sector : slice_index new 17 ≡ q.sector
-  pub zeros : (i : ℕ) → 18 ≤ i → slice_index new i ≡ 0
+  pub sector : slice_index new (blocks_begin + 1) ≡ q.sector
+  pub zeros : (i : ℕ) → blocks_begin + 2 ≤ i → slice_index new i ≡ 0
 
 -- it is claimed, the next that is free after the block, and written
 pub record IsSideBegun (tracks : ℕ) (old new : Content) (head : List ℕ) (k w : ℕ) (q t : Place) : Type 0 where

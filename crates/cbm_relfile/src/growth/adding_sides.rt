@@ -1,6 +1,7 @@
 // A side sector more for a file whose side sectors can't list all its blocks.
 
 ghost use Rattle.std.specs.Prelude.{◌≡◌, ◌≢◌, ◌≤◌, ◌<◌, find, Some, Ok, IsOk, OnOk, IfOk, IfSome, MatchOption, MatchResult};
+ghost use Rattle.cbm_medium.specs.Place.{directory_head};
 ghost use Rattle.cbm_medium.specs.Seen.{OnlyContent};
 ghost use Rattle.cbm_bam.specs.Map.{IsFull, is_free_in, map_of};
 ghost use Rattle.cbm_bam.specs.Orders.{next_order};
@@ -50,6 +51,7 @@ pub fn begin_empty_side<M: Medium>(
     ensures bound { IfOk result (λ o. IfSome o (λ t. t.track ≤ geometry)) }
     ensures only { OnlyContent geometry result (M.seen medium.old) (M.seen medium.new) }
     ensures reads { OnOk result (IsOk ((M.seen medium.old).content file.side)) }
+    ensures read { OnOk result (IsOk ((M.seen medium.old).content directory_head)) }
 {
     let first = file.side();
     let head = read_at(medium, geometry, first)?;

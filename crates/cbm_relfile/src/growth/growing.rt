@@ -1,7 +1,7 @@
 // A relative file grows by a block: it is claimed, written and linked to, and then a side sector lists it.
 
 ghost use Rattle.std.specs.Prelude.{◌≡◌, ◌≢◌, ◌≤◌, ◌<◌, ◌/◌, ◌%◌, ◌+◌, ◌-◌, ◌*◌, ℕ, length, slice_index, Ok, IsOk, OnOk, IfOk, IsOkAnd, IfSome, MatchOption, MatchResult};
-ghost use Rattle.cbm_medium.specs.Place.{Has};
+ghost use Rattle.cbm_medium.specs.Place.{Has, directory_head};
 ghost use Rattle.cbm_medium.specs.Seen.{OnlyContent};
 ghost use Rattle.cbm_bam.specs.Map.{IsFull, map_of};
 ghost use Rattle.cbm_relfile.specs.Growing.{fresh_place, IsLengthened, IsLengthenStopped, ListsMore, ListsSide, IsNewSide, IsSideBegun, IsBlockListed, IsSideLinked, OfSideAt, ListsBlock, LinksSide};
@@ -44,6 +44,7 @@ pub fn lengthen<M: Medium>(
         (λ o. MatchOption o (IsFull geometry (map_of old.content) × (new.content ≡ old.content))
         (λ q. IsLengthened geometry old.content new.content last length blocks q))
         (λ t. IsLengthenStopped geometry old new last t.code) }
+    ensures read { OnOk result (IsOk ((M.seen medium.old).content directory_head)) }
     ensures bound { IfOk result (λ o. IfSome o (λ q. q.track ≤ geometry)) }
     ensures only { OnlyContent geometry result (M.seen medium.old) (M.seen medium.new) }
 {
@@ -179,6 +180,7 @@ pub fn begin_side<M: Medium>(
     ensures bound { IfOk result (λ o. IfSome o (λ t. t.track ≤ geometry)) }
     ensures only { OnlyContent geometry result (M.seen medium.old) (M.seen medium.new) }
     ensures reads { OnOk result (IsOk ((M.seen medium.old).content file.side)) }
+    ensures read { OnOk result (IsOk ((M.seen medium.old).content directory_head)) }
 {
     let head = read_at(medium, geometry, file.side())?;
     let Some(side) = claim_next(medium, geometry, block)? else {

@@ -1,6 +1,7 @@
 // A new relative file: one block of fresh records, and one side sector that lists it.
 
-ghost use Rattle.std.specs.Prelude.{◌≡◌, ◌≤◌, IfOk, IfErr, IfSome, OnOk};
+ghost use Rattle.std.specs.Prelude.{◌≡◌, ◌≤◌, IsOk, IfOk, IfErr, IfSome, OnOk};
+ghost use Rattle.cbm_medium.specs.Place.{directory_head};
 ghost use Rattle.cbm_medium.specs.Seen.{OnlyContent};
 ghost use Rattle.cbm_relfile.specs.Making.{one_listed, IsFreshBlock, IsClaimStopped, IsNewRelfile, IsNewStopped, ClaimsTwo};
 
@@ -39,6 +40,7 @@ pub fn claim_two<M: Medium>(
 ) -> Result<Option<(Address, Address)>, Trouble>
     requires { geometry ≤ (M.seen medium.old).tracks }
     ensures claimed { IfOk result (ClaimsTwo geometry (M.seen medium.old).content (M.seen medium.new).content) }
+    ensures read { OnOk result (IsOk ((M.seen medium.old).content directory_head)) }
     ensures bound { IfOk result (λ o. IfSome o (λ r. (r.0.track ≤ geometry) × (r.1.track ≤ geometry))) }
     ensures stopped { IfErr result (λ t. IsClaimStopped geometry (M.seen medium.old) (M.seen medium.new) t.code) }
     ensures only { OnlyContent geometry result (M.seen medium.old) (M.seen medium.new) }
