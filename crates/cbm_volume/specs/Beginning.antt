@@ -1,5 +1,7 @@
 -- OPEN for writing: what the calls that begin a file, a replacement or an addition leave of a sound disk.
 use Rattle.std.specs.Prelude.{ℕ, ◌-◌, ◌≡◌, ◌≢◌, [], true, false, List, Option, Some, Result, MatchOption, MatchResult}
+use Rattle.cbm_medium.specs.Place.{Place}
+use Rattle.cbm_medium.specs.Content.{Content}
 use Rattle.cbm_medium.specs.Seen.{Seen}
 use Rattle.cbm_medium.specs.declared.fault.Trouble.{Trouble}
 use Rattle.cbm_file.specs.declared.file_type.FileType.{FileType}
@@ -8,6 +10,12 @@ use Rattle.cbm_file.specs.Types.{is_same_type}
 use Rattle.cbm_file.specs.Padding.{before_filler}
 use Rattle.cbm_file.specs.Files.{File, with_slot, bytes_in}
 use Rattle.cbm_file.specs.Changes.{with_file, unclosed, new_slot, reopened}
+use Rattle.cbm_bam.specs.Map.{Claims}
+use Rattle.cbm_chain.specs.Writing.{begun_at}
+use Rattle.cbm_directory.specs.Entries.{EntersLed}
+use Rattle.cbm_directory.specs.EntryChanges.{fresh_entry}
+use Rattle.cbm_directory.specs.Empties.{TakesSlot}
+use Rattle.cbm_volume.specs.SeenDisks.{seen_tracks}
 use Rattle.cbm_volume.specs.Holding.{EntryStandsAt}
 use Rattle.cbm_volume.specs.Opens.{BeginsFile, CanBeWritten, HasNoPlace, IsHindered}
 use Rattle.cbm_volume.specs.Writers.{Filling, Idle, Stopped}
@@ -41,3 +49,17 @@ BeginsAppending result old new slot entry =
     (λ w. (ch : ℕ) → uses ch ≡ Idle → is_same_type Del f.kind ≡ false → BeginsFile old.tracks new.content
     (with_slot d slot (Some (reopened f))) uses ch slot false (bytes_in f.body) f.held w)
     (IsHindered old new))
+
+-- ---- on any disk
+
+-- A REPLACEMENT BEGINS ON ANY DISK: a block was claimed, which its writer fills.
+abbrev pub ReplacementLed : Seen → Seen → ℕ → Filling → Type 0
+ReplacementLed old new slot w =
+    (q : Place) × Claims (seen_tracks old) old.content new.content q × (w ≡ record { slot = slot; replaces = true; chain = begun_at (seen_tracks old) q })
+
+-- A NEW FILE BEGINS ON ANY DISK: the first empty slot was taken, a block was claimed, which its writer fills, and then the slot's entry was
+-- written where the directory leads, not closed.
+abbrev pub NewFileLed : Seen → Seen → FileType → List ℕ → Filling → Type 0
+NewFileLed old new kind name w =
+    (taken : Content) × TakesSlot (seen_tracks old) old.content taken (Some w.slot) × (claimed : Content) × (q : Place) × Claims (seen_tracks old) taken claimed q
+    × (w.replaces ≡ false) × (w.chain ≡ begun_at (seen_tracks old) q) × EntersLed (seen_tracks old) claimed new.content w.slot (fresh_entry kind name q)

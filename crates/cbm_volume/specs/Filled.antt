@@ -1,8 +1,9 @@
 -- What the calls leave of a sound disk on which a channel writes a file: a byte more, CLOSE, and a replacement that is given up.
-use Rattle.std.specs.Prelude.{ℕ, ◌+◌, ◌≡◌, ◌==◌, Bool, true, false, Result, MatchBool}
+use Rattle.std.specs.Prelude.{ℕ, ◌+◌, ◌≡◌, ◌==◌, Bool, true, false, Result, IfOk, MatchBool}
 use Rattle.cbm_medium.specs.Seen.{Seen}
 use Rattle.cbm_medium.specs.declared.fault.Trouble.{Trouble}
 use Rattle.cbm_file.specs.Changes.{with_finished, with_replaced}
+use Rattle.cbm_chain.specs.Writing.{State, IsForFiles, Puts, IsFullFor}
 use Rattle.cbm_volume.specs.Writers.{Filling, Idle, HoldsNow, with_use, IsStored, IsFullDisk, Stopped}
 use Rattle.cbm_volume.specs.Calls.{OfWriter, IsCall, IsChange}
 
@@ -33,3 +34,9 @@ GivesUpWriting result old new w =
     OfWriter old w (λ d uses ch bytes blocks. IsCall result old new
     (λ x. HoldsNow old.tracks new.content (record d { free = d.free + blocks }) (with_use uses ch Idle))
     (Stopped old.tracks new.content d d (with_use uses ch Idle)) (λ m. false))
+
+-- A BYTE IS STORED ON ANY DISK by a writer whose block is one of files: the writer has it as its last one; or the map reads, no block is free,
+-- and nothing has changed.
+abbrev pub StoresLed : Result Bool Trouble → Seen → Seen → State → ℕ → State → Type 0
+StoresLed result old new s byte t =
+    IsForFiles s.tracks s.current → IfOk result (λ done. MatchBool done (Puts old.content new.content s byte t) (IsFullFor old.content new.content s t))

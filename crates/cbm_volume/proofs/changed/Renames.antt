@@ -14,12 +14,15 @@ use Rattle.cbm_file.specs.Files.{Records, File, Disk, file_at, with_slot}
 use Rattle.cbm_bam.specs.Map.{geometry_of}
 use Rattle.cbm_bam.specs.Causes.{HasCause}
 use Rattle.cbm_chain.specs.Data.{chain_bytes}
-use Rattle.cbm_directory.specs.Entries.{Enters, first_directory, type_byte, bit_of, type_of_number, is_closed, is_relative, width_of, entry_at, sector_of}
-use Rattle.cbm_directory.specs.EntryChanges.{IsRenamedAs}
+use Rattle.cbm_directory.specs.Entries.{Enters, EntersLed, first_directory, type_byte, bit_of, type_of_number, is_closed, is_relative, width_of, entry_at, sector_of}
+use Rattle.cbm_directory.specs.EntryChanges.{IsRenamedAs, renamed_entry}
+use Rattle.cbm_directory.specs.Slots.{Answers}
 use Rattle.cbm_volume.specs.Blocks.{Blocks, Lies, LiesAs, slices, body_as, file_of, slot_with, slot_of}
 use Rattle.cbm_volume.specs.Holding.{EntryStandsAt}
 use Rattle.cbm_volume.specs.Layouts.{Owner, Directory, DataOf, Writer, Layout, slot_count, Sound, HasLayout}
 use Rattle.cbm_volume.specs.Staying.{LeavesClosed}
+use Rattle.cbm_volume.specs.SeenDisks.{seen_tracks, seen_directory}
+use Rattle.cbm_volume.specs.Calls.{RenamesLed}
 use Rattle.cbm_volume.specs.Writers.{Use, Idle, Reads, Relates, Writes, IsReading, IsUsed, writes_slot, HoldsAt, Holds, HoldsNow}
 use Rattle.cbm_volume.specs.Opens.{IsUnwritten, IsHindered}
 use Rattle.cbm_volume.proofs.layouts.Frames.{Keeps, lies_alike}
@@ -184,3 +187,9 @@ named_untouched medium c c2 n entry body name (Ok x) says stands put same d uses
     (kept_entered (geometry_of medium c) h.layout c c c2 n body (λ m. false) sound found.0 (put h.layout.directory sound.directory found.0)
     (λ e z. renamed_alike (entry_at c h.layout.directory n) body name (subst (λ (x : List ℕ). IsRenamedAs x body name) found.1 says)))
 named_untouched medium c c2 n entry body name (Err t) says stands put same d uses h = same_untouched (geometry_of medium c) c c2 h.layout (λ m. false) h.so.stands.sound same
+
+-- an Ok says that the entry that was found has the name, where the directory leads
+pub named_led : (old new : Seen) (n : ℕ) (entry name : List ℕ) (r : Result (Unit {0}) Trouble) → Answers (seen_directory old) n (Ok (Some entry))
+    → OnOk r (EntersLed (seen_tracks old) old.content new.content n (renamed_entry entry name)) → OnOk r (RenamesLed old new n name)
+named_led old new n entry name (Ok x) found put = inr (entry, found, put)
+named_led old new n entry name (Err t) found put = tt

@@ -1,7 +1,7 @@
 -- SCRATCH of a slot: what the medium holds after each of its steps.
 use Rattle.std.proofs.Common.{◌≡◌, ◌≢◌, ℕ, ◌+◌, ◌*◌, ◌%◌, ◌<◌, ◌≤◌, ◌++◌, length, arith, List, [], ◌∷◌, Bool, true, false, IsOk, refl, sym, ap, subst, ◌∙◌, inl, inr, Option, Some, None, Result, Ok, Err, IfErr, IsErrAnd}
 use Rattle.std.proofs.lemmas.List.{length-append}
-use Rattle.std.specs.Prelude.{◌⊎◌, ◌==◌, if◌then◌else◌, OnOk, OnErr}
+use Rattle.std.specs.Prelude.{◌⊎◌, ◌==◌, if◌then◌else◌, OnOk, OnErr, MatchBool}
 use Rattle.cbm_medium.specs.Place.{Place, directory_head, sector_count}
 use Rattle.cbm_medium.specs.Content.{Cell, Content, written}
 use Rattle.cbm_medium.specs.Links.{or_nothing, Chain}
@@ -15,10 +15,12 @@ use Rattle.cbm_bam.specs.Causes.{HasCause}
 use Rattle.cbm_bam.proofs.Counts.{AreTaken}
 use Rattle.cbm_chain.specs.Data.{chain_bytes}
 use Rattle.cbm_directory.specs.Entries.{Enters, first_directory, is_closed, is_relative, type_byte, first_block, entry_at, sector_of}
-use Rattle.cbm_directory.specs.EntryChanges.{cleared_entry, Clears}
+use Rattle.cbm_directory.specs.EntryChanges.{cleared_entry, Clears, ClearsLed}
 use Rattle.cbm_directory.specs.Slots.{Answers, directory_of}
 use Rattle.cbm_volume.specs.Blocks.{Blocks, LiesAs, no_blocks, file_of}
 use Rattle.cbm_volume.specs.Layouts.{DataOf, OwnedBy, Layout, slot_count, Sound, HasLayout}
+use Rattle.cbm_volume.specs.SeenDisks.{seen_tracks, seen_directory}
+use Rattle.cbm_volume.specs.Calls.{ScratchesLed}
 use Rattle.cbm_volume.specs.Staying.{LeavesClosed}
 use Rattle.cbm_volume.specs.Opens.{IsUnused, IsHindered}
 use Rattle.cbm_volume.specs.Writers.{Use, HoldsAt, Holds, HoldsNow, known, Stopped}
@@ -280,3 +282,19 @@ release_spared medium c c1 c2 n freed r put ok err = λ d uses f h some unused.
     by_result : (l : Layout) → Sound (geometry_of medium c) c l → (r : Result (Unit {0}) Trouble) → OnOk r (c2 ≡ written c1 directory_head freed) → OnErr r (c2 ≡ c1) → KeepsClosed l c1 c2 (λ m. m == n)
     by_result l sound (Ok x) ok err = kept_mapped l c1 c2 freed (λ m. m == n) sound.owned ok
     by_result l sound (Err t) ok err = kept_same l c1 c2 (λ m. m == n) err
+
+-- ---- on any disk
+
+-- an Ok says that the entry of a file that was never closed is cleared, where the directory leads
+pub open_led : (old new : Seen) (n : ℕ) (entry : List ℕ) (r : Result (Unit {0}) Trouble) → Answers (seen_directory old) n (Ok (Some entry)) → is_closed entry ≡ false
+    → OnOk r (ClearsLed (seen_tracks old) old.content new.content n) → OnOk r (ScratchesLed old new n)
+open_led old new n entry (Ok x) found unclosed put =
+    inr (entry, found, new.content, put, subst (λ (b : Bool). MatchBool b ((map : List ℕ) × (new.content ≡ written new.content directory_head map)) (new.content ≡ new.content)) (sym unclosed) refl)
+open_led old new n entry (Err t) found unclosed put = tt
+
+-- and of a closed one, that the map was written after it
+pub closed_led : (old mid new : Seen) (n : ℕ) (entry map : List ℕ) (r : Result (Unit {0}) Trouble) → Answers (seen_directory old) n (Ok (Some entry)) → is_closed entry ≡ true
+    → ClearsLed (seen_tracks old) old.content mid.content n → OnOk r (new.content ≡ written mid.content directory_head map) → OnOk r (ScratchesLed old new n)
+closed_led old mid new n entry map (Ok x) found closed put mapped =
+    inr (entry, found, mid.content, put, subst (λ (b : Bool). MatchBool b ((map : List ℕ) × (new.content ≡ written mid.content directory_head map)) (new.content ≡ mid.content)) (sym closed) (map, mapped))
+closed_led old mid new n entry map (Err t) found closed put mapped = tt

@@ -17,7 +17,7 @@ use Rattle.cbm_volume.specs.check.Claims.{reads}
 use Rattle.cbm_volume.specs.check.SideLists.{ClaimsEach, after_the_first, sides_from, step_along, along, side_along, side_found, sides_along, all_along, are_records}
 use Rattle.cbm_volume.specs.declared.check.unsound.Part.TheVariants.{OfFile}
 use Rattle.cbm_volume.proofs.checked.ClaimedSound.{is_right, inside_has}
-use Rattle.cbm_volume.proofs.checked.SidesListed.{named_some}
+use Rattle.cbm_volume.proofs.checked.SidesListed.{sides_some}
 
 and_both : (a b : Bool) → (a && b) ≡ true → (a ≡ true) × (b ≡ true)
 and_both true true h = (refl, refl)
@@ -141,7 +141,7 @@ place_four : (bytes : List ℕ) → place_in bytes 4 ≡ record { track = get_or
 place_four bytes = refl
 
 listed_first : (bytes : List ℕ) (p : Place) → p ≡ place_in bytes 4 → p.track ≢ 0 → sides_listed bytes ≡ p ∷ named_in 5 (drop 6 bytes)
-listed_first bytes p e ne = named_some 5 4 bytes p e ne
+listed_first bytes p e ne = sides_some 0 bytes p (omega arith) e ne
 
 -- THE TEST SAYS THAT THE RECORDS ARE RIGHT
 pub records_right : (tracks : ℕ) (c : Content) (claimed after : Place → Bool) (e : List ℕ) (xs : List Place) → (first_block e).track ≢ 0 → Chain tracks c (first_block e) xs

@@ -1,58 +1,31 @@
 -- The places that a side sector names, one by one.
-use Rattle.std.proofs.Common.{◌≡◌, ◌≢◌, ℕ, suc, ◌+◌, ◌-◌, ◌*◌, ◌<◌, ◌≤◌, List, [], ◌∷◌, get_or, drop, Bool, true, false, Option, Some, None, Err, refl, sym, ap, subst, ◌∙◌, arith, inl, inr}
+use Rattle.std.proofs.Common.{◌≡◌, ◌≢◌, ℕ, ◌+◌, ◌-◌, ◌*◌, ◌<◌, List, [], ◌∷◌, get_or, drop, Bool, true, false, Option, Some, None, Err, refl, sym, ap, subst, ◌∙◌, arith, inl, inr}
 use Rattle.std.specs.Prelude.{if◌then◌else◌, ◌&&◌, ◌==◌}
-use Rattle.std.proofs.lemmas.List.{drop-drop}
 use Rattle.std.proofs.lemmas.Bool.{eq-eqb, ne_eqb}
 use Rattle.cbm_medium.specs.Place.{Place, has}
 use Rattle.cbm_medium.specs.Content.{Content}
-use Rattle.cbm_medium.specs.Links.{bytes_at, or_nothing, place_in}
+use Rattle.cbm_medium.specs.Links.{bytes_at, or_nothing}
 use Rattle.cbm_relfile.specs.SideSectors.{named_in, listed_following}
 use Rattle.cbm_bam.specs.Map.{with_bit}
 use Rattle.cbm_volume.specs.check.Claims.{wrong_at, fault_at}
 use Rattle.cbm_volume.specs.check.SideLists.{ClaimsEach, MeetsAmong, step_along, along, side_along, side_found, sides_along}
 use Rattle.cbm_volume.specs.declared.check.unsound.Part.{Part}
 use Rattle.cbm_volume.specs.declared.check.unsound.Unsound.{Unsound}
-use Rattle.cbm_relfile.proofs.Listed.{at_drop, list_none}
+use Rattle.cbm_relfile.proofs.Listed.{at_bytes, list_none, list_some, listed_some}
 
-pub named_some : (m k : ℕ) (bytes : List ℕ) (p : Place) → p ≡ record { track = get_or bytes k 0; sector = get_or bytes (k + 1) 0 } → p.track ≢ 0
-    → named_in (suc m) (drop k bytes) ≡ p ∷ named_in m (drop (k + 2) bytes)
-named_some m k bytes p is ne =
-    let t : get_or (drop k bytes) 0 0 ≡ p.track = at_drop k 0 bytes ∙ ap (λ (i : ℕ). get_or bytes i 0) (omega arith) ∙ sym (ap (λ (q : Place). q.track) is) in
-    let s : get_or (drop k bytes) 1 0 ≡ p.sector = at_drop k 1 bytes ∙ sym (ap (λ (q : Place). q.sector) is) in
-    let here : place_in (drop k bytes) 0 ≡ p = λ i. record { track = t i; sector = s i } in
-    let rest : drop 2 (drop k bytes) ≡ drop (k + 2) bytes = drop-drop 2 k bytes in
-    ap (λ (b : Bool). if b then [] else place_in (drop k bytes) 0 ∷ named_in m (drop 2 (drop k bytes))) (ne_eqb (get_or (drop k bytes) 0 0) 0 (λ z. ne (sym t ∙ z)))
-    ∙ (λ i. here i ∷ named_in m (rest i))
-
-pub list_some : (count base n : ℕ) (bytes : List ℕ) (p : Place) → n < count → p ≡ record { track = get_or bytes (base + 2 * n) 0; sector = get_or bytes (base + 2 * n + 1) 0 } → p.track ≢ 0
-    → named_in (count - n) (drop (base + 2 * n) bytes) ≡ p ∷ named_in (count - (n + 1)) (drop (base + 2 * (n + 1)) bytes)
-list_some count base n bytes p l is ne =
-    let more : count - n ≡ suc (count - (n + 1)) = omega arith in
-    let next : base + 2 * n + 2 ≡ base + 2 * (n + 1) = omega arith in
-    ap (λ (m : ℕ). named_in m (drop (base + 2 * n) bytes)) more ∙ named_some (count - (n + 1)) (base + 2 * n) bytes p is ne
-    ∙ ap (λ (k : ℕ). p ∷ named_in (count - (n + 1)) (drop k bytes)) next
+-- the first of a list under another name
+headed : (p q : Place) (xs rest : List Place) → p ≡ q → xs ≡ q ∷ rest → xs ≡ p ∷ rest
+headed p q xs rest is e = e ∙ ap (λ (x : Place). x ∷ rest) (sym is)
 
 pub sides_none : (n : ℕ) (bytes : List ℕ) → n < 6 → get_or bytes (4 + 2 * n) 0 ≡ 0 → named_in (6 - n) (drop (4 + 2 * n) bytes) ≡ []
 sides_none n bytes l e = list_none 6 4 n bytes l e
 
-pub sides_some : (n : ℕ) (bytes : List ℕ) (p : Place) → n < 6 → p ≡ record { track = get_or bytes (4 + 2 * n) 0; sector = get_or bytes (4 + 2 * n + 1) 0 } → p.track ≢ 0
+pub sides_some : (n : ℕ) (bytes : List ℕ) (p : Place) → n < 6 → p ≡ at_bytes bytes (4 + 2 * n) → p.track ≢ 0
     → named_in (6 - n) (drop (4 + 2 * n) bytes) ≡ p ∷ named_in (6 - (n + 1)) (drop (4 + 2 * (n + 1)) bytes)
-sides_some n bytes p l is ne = list_some 6 4 n bytes p l is ne
+sides_some n bytes p l is ne = headed p (at_bytes bytes (4 + 2 * n)) _ _ is (list_some 6 4 n bytes l (λ z. ne (ap (λ (q : Place). q.track) is ∙ z)))
 
-pub listed_none : (n : ℕ) (side : List ℕ) → n < 120 → get_or side (16 + 2 * n) 0 ≡ 0 → listed_following n side ≡ []
-unfolding listed_following
-listed_none n side l e = list_none 120 16 n side l e
-
-pub listed_some : (n : ℕ) (side : List ℕ) (p : Place) → n < 120 → p ≡ record { track = get_or side (16 + 2 * n) 0; sector = get_or side (16 + 2 * n + 1) 0 } → p.track ≢ 0
-    → listed_following n side ≡ p ∷ listed_following (n + 1) side
-unfolding listed_following
-listed_some n side p l is ne = list_some 120 16 n side p l is ne
-
-pub listed_end : (n : ℕ) (side : List ℕ) → 120 ≤ n → listed_following n side ≡ []
-unfolding listed_following
-listed_end n side l =
-    let end : 120 - n ≡ 0 = omega arith in
-    ap (λ (m : ℕ). named_in m (drop (16 + 2 * n) side)) end
+pub block_some : (n : ℕ) (side : List ℕ) (p : Place) → n < 120 → p ≡ at_bytes side (16 + 2 * n) → p.track ≢ 0 → listed_following n side ≡ p ∷ listed_following (n + 1) side
+block_some n side p l is ne = headed p (at_bytes side (16 + 2 * n)) _ _ is (listed_some n side l (λ z. ne (ap (λ (q : Place). q.track) is ∙ z)))
 
 -- one sector more is claimed
 pub each_step : (part : Part) (tracks : ℕ) (content : Content) (claimed claimed2 after : Place → Bool) (p : Place) (whole rest : List Place) → whole ≡ p ∷ rest → wrong_at part tracks content claimed p ≡ None

@@ -10,6 +10,11 @@ pub on_ok : {A E : Type 0} (r : Result A E) (P : Type 0) → IfOk r (λ x. P) �
 on_ok (Ok x) P h = h
 on_ok (Err e) P h = tt
 
+-- what an Ok says leads to what else it says
+pub ok_so : {A E P Q : Type 0} (r : Result A E) → (P → Q) → OnOk r P → OnOk r Q
+ok_so (Ok x) so h = so h
+ok_so (Err e) so h = tt
+
 -- with two premises that come after the result
 pub ok_given : {A E B : Type 0} (r : Result A E) (P Q R : B → Type 0) → ((x : B) → P x → Q x → OnOk r (R x)) → IfOk r (λ a. (x : B) → P x → Q x → R x)
 ok_given (Ok a) P Q R h = h

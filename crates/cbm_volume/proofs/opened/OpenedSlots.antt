@@ -204,7 +204,7 @@ pub no_slot : (medium : ℕ) (c c1 : Content) (d : Disk) (uses : ℕ → Use) �
 no_slot medium c c1 d uses h k = (ap (λ (o : Option ℕ). is_some o || nat_lt 0 d.room) (none_in medium c d uses h k.0) ∙ none_on_18 k.1, k.2)
   where
     none_on_18 : CannotGrow (geometry_of medium c) c → nat_lt 0 d.room ≡ false
-    none_on_18 (inl none) = sym (room_of (geometry_of medium c) c h.layout d (few medium c) h.so.stands) ∙ ap is_some none
+    none_on_18 (inl none) = sym (room_of (geometry_of medium c) c h.layout d (few medium c) h.so.stands) ∙ ap is_some none.1
     none_on_18 (inr full) = ap (nat_lt 0) (full_directory (geometry_of medium c) c h.layout d h.so.stands (few medium c) full)
 
 -- ---- stopped on the way

@@ -10,7 +10,8 @@ use Rattle.cbm_file.specs.Files.{File, Disk, with_slot}
 use Rattle.cbm_bam.specs.Map.{is_free_in, map_of, number, summed, geometry_of}
 use Rattle.cbm_bam.proofs.Counts.{blocks_on_35, blocks_on_40}
 use Rattle.cbm_chain.specs.Writing.{Part, last_block_of, last_of, place_or_none, Wrote, EndsChain}
-use Rattle.cbm_directory.specs.Entries.{IsClosedAs, Enters, first_directory, entry_at, sector_of}
+use Rattle.cbm_medium.specs.Seen.{Seen}
+use Rattle.cbm_directory.specs.Entries.{IsClosedAs, Enters, EntersLed, closed_entry, first_directory, entry_at, sector_of}
 use Rattle.cbm_directory.specs.Slots.{Answers, directory_of}
 use Rattle.cbm_medium.proofs.Places.{written_elsewhere}
 use Rattle.cbm_chain.specs.Writing.{IsForFiles}
@@ -28,6 +29,8 @@ use Rattle.cbm_volume.proofs.layouts.Steps.{stands_loose}
 use Rattle.cbm_volume.proofs.layouts.Writers.{holds_step, idle_like, written_keeps}
 use Rattle.cbm_volume.proofs.written.Closing.{is_ch, other_slot, others_spared, some_file, plain_entry, closed_file, ended, IsEnded, closed_over}
 use Rattle.cbm_file.specs.Changes.{finished, finished_in, with_finished}
+use Rattle.cbm_volume.specs.SeenDisks.{seen_tracks, seen_directory}
+use Rattle.cbm_volume.specs.Calls.{ClosesEntry, FinishesLed, ReplacesLed}
 use Rattle.cbm_volume.specs.Writers.{Filling, Use, Idle, Writes, IsWriting, IsUsed, HoldsAt, Holds, HoldsNow, with_use, Stopped}
 use Rattle.cbm_volume.proofs.layouts.Distinct.{at_most_all}
 use Rattle.cbm_volume.proofs.written.GivenBack.{part_taken}
@@ -214,3 +217,23 @@ all_closed medium c c1 c2 w (Ok x) entry body found ends says put = λ d uses ch
               so = closed_over (geometry_of medium c) c c1 c2 h.layout d uses ch w bytes blocks b rest (last_of b rest) some.0 body h.so e was held number some.3 (last_owned h.layout.owner (Writer ch) b rest held) e1 enters
                   (subst (λ (x : Option Place). IsClosedAs (entry_at c h.layout.directory w.slot) body (place_or_none x) blocks) wrote.first says);
             }
+
+-- ---- on any disk
+
+-- there is no such slot
+pub finish_nowhere : (old : Seen) (w : Filling) (o : Option (List ℕ)) → o ≡ None → Answers (seen_directory old) w.slot (Ok o) → FinishesLed old old w × ReplacesLed old old w
+finish_nowhere old w o none h =
+    let a : Answers (seen_directory old) w.slot (Ok None) = subst (λ (x : Option (List ℕ)). Answers (seen_directory old) w.slot (Ok x)) none h in
+    (inl (a, refl), inl (a, refl))
+
+-- the entry that was found is closed, where the directory leads after the last block
+pub entry_closed : (old : Seen) (mid new : Content) (w : Filling) (k n : ℕ) (p : Place) (o : Option (List ℕ)) (entry body : List ℕ) → o ≡ Some entry → Answers (seen_directory old) w.slot (Ok o) → EndsChain old.content mid w.chain.current w.chain.waiting
+    → k ≡ seen_tracks old → p ≡ place_or_none w.chain.first → n ≡ w.chain.count → body ≡ closed_entry entry p n → EntersLed k mid new w.slot body → ClosesEntry old new w
+entry_closed old mid new w k n p o entry body some found ended size first count is put = (
+  entry,
+  subst (λ (x : Option (List ℕ)). Answers (seen_directory old) w.slot (Ok x)) some found,
+  mid,
+  ended,
+  subst (λ (e : List ℕ). EntersLed (seen_tracks old) mid new w.slot e) (is ∙ ap (λ (q : Place). closed_entry entry q n) first ∙ ap (closed_entry entry (place_or_none w.chain.first)) count)
+      (subst (λ (m : ℕ). EntersLed m mid new w.slot body) size put),
+)

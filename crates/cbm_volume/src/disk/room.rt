@@ -1,6 +1,7 @@
 // What a disk has room for.
 
-ghost use Rattle.std.specs.Prelude.{◌≡◌, Err, IfOk, IfErr, IsOkAnd};
+ghost use Rattle.std.specs.Prelude.{◌≡◌, Err, IsOk, OnOk, IfOk, IfErr, IsOkAnd};
+ghost use Rattle.cbm_medium.specs.Place.{directory_head};
 ghost use Rattle.cbm_file.specs.Changes.{has_slot};
 ghost use Rattle.cbm_volume.specs.Holding.{OfHeldDisk};
 ghost use Rattle.cbm_volume.specs.Rooms.{free_bits_in, has_name_room, IsRoomFault};
@@ -32,6 +33,7 @@ impl<M: Medium> Volume<M> {
     /// medium's fault at 18/0.
     pub fn blocks_free(&self) -> Result<u16, Trouble>
         ensures blocks { IfOk result (λ n. n ≡ free_bits_in (M.seen self.now)) }
+        ensures read { OnOk result (IsOk ((M.seen self.now).content directory_head)) }
         ensures err { IfErr result (IsHeadFault (M.seen self.now).content) }
         ensures means { OfHeldDisk (M.seen self.now) (λ d. IsOkAnd result (λ n. n ≡ d.free)) }
     {
@@ -41,6 +43,7 @@ impl<M: Medium> Volume<M> {
     /// What the disk has room for. An `Err` is the medium's fault at 18/0, or what breaks the directory off.
     pub fn room(&self) -> Result<Room, Trouble>
         ensures blocks { IfOk result (λ r. r.blocks ≡ free_bits_in (M.seen self.now)) }
+        ensures read { OnOk result (IsOk ((M.seen self.now).content directory_head)) }
         ensures slot { IfOk result (λ r. r.slot ≡ has_name_room (M.seen self.now)) }
         ensures err { IfErr result (IsRoomFault (M.seen self.now)) }
         ensures means { OfHeldDisk (M.seen self.now) (λ d. IsOkAnd result (λ r. (r.blocks ≡ d.free) × (r.slot ≡ has_slot d))) }

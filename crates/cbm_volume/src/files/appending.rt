@@ -1,8 +1,8 @@
 // OPEN for appending.
 
-ghost use Rattle.std.specs.Prelude.{◌≡◌, ◌≤◌, ◌==◌, OnErr, IfOk};
+ghost use Rattle.std.specs.Prelude.{◌≡◌, ◌≤◌, ◌==◌, OnOk, OnErr, IfOk};
 ghost use Rattle.cbm_volume.specs.Beginning.{BeginsAppending};
-ghost use Rattle.cbm_volume.specs.Calls.{OnlyOnDisk, OfDisk, LeavesFiles};
+ghost use Rattle.cbm_volume.specs.Calls.{OnlyOnDisk, OfDisk, LeavesFiles, ReopensLed};
 
 use crate::files::filling::FileWriter;
 use crate::volume::Volume;
@@ -17,6 +17,7 @@ impl<M: Medium> Volume<M> {
         ensures begun { BeginsAppending result (M.seen self.old) (M.seen self.new) slot entry.now }
         ensures err { OnErr result ((M.seen self.new).content ≡ (M.seen self.old).content) }
         ensures untouched { OfDisk (M.seen self.old) (λ d uses. LeavesFiles (M.seen self.old) (M.seen self.new) (λ m. m == slot)) }
+        ensures led { OnOk result (ReopensLed (M.seen self.old) (M.seen self.new) slot entry.now) }
         ensures tracks { IfOk result (λ w. w.chain.tracks ≤ (M.seen self.old).tracks) }
         ensures only { OnlyOnDisk result (M.seen self.old) (M.seen self.new) }
     {

@@ -1,6 +1,7 @@
 // COPY: the bytes of closed files, one after another, are a new file.
 
-ghost use Rattle.std.specs.Prelude.{◌≡◌, ◌≢◌, ◌≤◌, ◌||◌, length, min, not, nat_lt, true, false, IfOk, IfErr, IsOkAnd};
+ghost use Rattle.std.specs.Prelude.{◌≡◌, ◌≢◌, ◌≤◌, ◌||◌, length, min, not, nat_lt, true, false, IsOk, OnOk, IfOk, IfErr, IsOkAnd};
+ghost use Rattle.cbm_medium.specs.Place.{directory_head};
 ghost use Rattle.cbm_medium.specs.Seen.{ShowsGround, OnlyContent};
 ghost use Rattle.cbm_file.specs.Files.{file_at, blocks_of};
 ghost use Rattle.cbm_file.specs.Changes.{slot_bytes, joined};
@@ -30,6 +31,7 @@ impl<M: Medium> Volume<M> {
         // Too little room is reported first, also on a protected medium.
         ensures full { OfDisk (M.seen self.old) (λ d uses. AreCopied d sources.now → HasNoRoomFor d sources.now →
             IsOkAnd result (λ done. done ≡ false)) }
+        ensures read { OnOk result (IsOk ((M.seen self.old).content directory_head)) }
         ensures kept { IsSameOn result false (M.seen self.old) (M.seen self.new) }
         ensures guarded { KeepsProtected (M.seen self.old) (M.seen self.new) }
         ensures only { OnlyOnDisk result (M.seen self.old) (M.seen self.new) }

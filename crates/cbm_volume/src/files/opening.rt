@@ -1,8 +1,9 @@
 // OPEN of a new file for writing.
 
-ghost use Rattle.std.specs.Prelude.{◌≤◌, length, IfOk, IfSome};
-ghost use Rattle.cbm_volume.specs.Beginning.{BeginsNewFile};
+ghost use Rattle.std.specs.Prelude.{◌≤◌, length, IfOk, IfSome, MatchOption};
+ghost use Rattle.cbm_volume.specs.Beginning.{BeginsNewFile, NewFileLed};
 ghost use Rattle.cbm_volume.specs.Calls.{OnlyOnDisk, IsNoneSame};
+ghost use Rattle.cbm_volume.specs.Rooms.{FindsNoPlace};
 
 use crate::files::filling::FileWriter;
 use crate::volume::Volume;
@@ -25,6 +26,8 @@ impl<M: Medium> Volume<M> {
         requires { length name.now ≤ 16 }
         ensures call { BeginsNewFile result (M.seen self.old) (M.seen self.new) kind name.now }
         ensures tracks { IfOk result (λ o. IfSome o (λ w. w.chain.tracks ≤ (M.seen self.old).tracks)) }
+        ensures led { IfOk result (λ o. MatchOption o (FindsNoPlace (M.seen self.old))
+            (NewFileLed (M.seen self.old) (M.seen self.new) kind name.now)) }
         ensures kept { IsNoneSame result (M.seen self.old) (M.seen self.new) }
         ensures only { OnlyOnDisk result (M.seen self.old) (M.seen self.new) }
     {

@@ -1,7 +1,7 @@
 // RENAME: a slot's entry gets another name.
 
-ghost use Rattle.std.specs.Prelude.{◌≡◌, ◌≤◌, Some, length, OnErr};
-ghost use Rattle.cbm_volume.specs.Calls.{OnlyOnDisk, OfDisk, IsOneWrite, IsRenamed};
+ghost use Rattle.std.specs.Prelude.{◌≡◌, ◌≤◌, Some, length, OnOk, OnErr};
+ghost use Rattle.cbm_volume.specs.Calls.{OnlyOnDisk, OfDisk, IsOneWrite, IsRenamed, RenamesLed};
 
 use crate::volume::Volume;
 use cbm_directory::put_slot;
@@ -16,6 +16,7 @@ impl<M: Medium> Volume<M> {
         ensures call { let old = M.seen self.old in let new = M.seen self.new in
             OfDisk old (λ d uses. IsOneWrite result old new (λ x. IsRenamed old.tracks new.content d uses slot name.now)) }
         ensures err { OnErr result ((M.seen self.new).content ≡ (M.seen self.old).content) }
+        ensures led { OnOk result (RenamesLed (M.seen self.old) (M.seen self.new) slot name.now) }
         ensures only { OnlyOnDisk result (M.seen self.old) (M.seen self.new) }
     {
         let Some(entry) = self.slot(slot)? else {

@@ -1,8 +1,9 @@
 // A file is to be replaced: what will replace it begins.
 
-ghost use Rattle.std.specs.Prelude.{◌≡◌, ◌≤◌, OnErr, IfOk, IfSome};
-ghost use Rattle.cbm_volume.specs.Beginning.{BeginsReplacement};
+ghost use Rattle.std.specs.Prelude.{◌≡◌, ◌≤◌, OnErr, IfOk, IfSome, MatchOption};
+ghost use Rattle.cbm_volume.specs.Beginning.{BeginsReplacement, ReplacementLed};
 ghost use Rattle.cbm_volume.specs.Calls.{OnlyOnDisk, IsNoneSame};
+ghost use Rattle.cbm_volume.specs.Rooms.{HasNoBlock};
 
 use crate::files::filling::FileWriter;
 use crate::volume::Volume;
@@ -17,6 +18,8 @@ impl<M: Medium> Volume<M> {
         ensures call { BeginsReplacement result (M.seen self.old) (M.seen self.new) slot }
         ensures err { OnErr result ((M.seen self.new).content ≡ (M.seen self.old).content) }
         ensures tracks { IfOk result (λ o. IfSome o (λ w. w.chain.tracks ≤ (M.seen self.old).tracks)) }
+        ensures led { IfOk result (λ o. MatchOption o (HasNoBlock (M.seen self.old))
+            (ReplacementLed (M.seen self.old) (M.seen self.new) slot)) }
         ensures kept { IsNoneSame result (M.seen self.old) (M.seen self.new) }
         ensures only { OnlyOnDisk result (M.seen self.old) (M.seen self.new) }
     {

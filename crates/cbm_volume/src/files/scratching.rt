@@ -1,6 +1,6 @@
 // Files that are scratched.
 
-ghost use Rattle.std.specs.Prelude.{◌≡◌, ◌≢◌, ◌==◌, ◌≤◌, ◌++◌, true, length, Some, IsOk, IfErr};
+ghost use Rattle.std.specs.Prelude.{◌≡◌, ◌≢◌, ◌==◌, ◌≤◌, ◌++◌, true, length, Some, IsOk, OnOk, IfErr};
 ghost use Rattle.cbm_medium.specs.Place.{sector_count};
 ghost use Rattle.cbm_medium.specs.Seen.{ShowsGround};
 ghost use Rattle.cbm_file.specs.Files.{File, file_at};
@@ -9,7 +9,7 @@ ghost use Rattle.cbm_bam.specs.Map.{Frees};
 ghost use Rattle.cbm_directory.specs.Entries.{is_relative};
 ghost use Rattle.cbm_volume.specs.Blocks.{Blocks, LiesAs};
 ghost use Rattle.cbm_volume.specs.Opens.{IsUnused};
-ghost use Rattle.cbm_volume.specs.Calls.{OnlyOnDisk, OfDisk, IsChange};
+ghost use Rattle.cbm_volume.specs.Calls.{ScratchesLed, OnlyOnDisk, OfDisk, IsChange};
 
 use crate::volume::Volume;
 use cbm_bam::Release;
@@ -27,6 +27,7 @@ impl<M: Medium> Volume<M> {
     pub fn scratch(&mut self, slot: u8) -> Result<(), Trouble>
         ensures call { OfDisk (M.seen self.old) (λ d uses. (f : File) → file_at d slot ≡ Some f → IsUnused uses slot →
             IsChange result (M.seen self.old) (M.seen self.new) d (scratched d slot) uses (λ m. m == slot)) }
+        ensures led { OnOk result (ScratchesLed (M.seen self.old) (M.seen self.new) slot) }
         ensures only { OnlyOnDisk result (M.seen self.old) (M.seen self.new) }
     {
         let geometry = self.geometry();

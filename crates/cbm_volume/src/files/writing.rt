@@ -1,9 +1,9 @@
 // Files that are being written.
 
-ghost use Rattle.std.specs.Prelude.{◌≡◌, ◌≤◌, ◌==◌, length};
+ghost use Rattle.std.specs.Prelude.{◌≡◌, OnOk, ◌≤◌, ◌==◌, length};
 ghost use Rattle.cbm_medium.specs.Seen.{OnlyContent};
-ghost use Rattle.cbm_volume.specs.Filled.{StoresByte, FinishesWriting, FinishesReplacing};
-ghost use Rattle.cbm_volume.specs.Calls.{OnlyOfWriter, OfWriter};
+ghost use Rattle.cbm_volume.specs.Filled.{StoresByte, StoresLed, FinishesWriting, FinishesReplacing};
+ghost use Rattle.cbm_volume.specs.Calls.{FinishesLed, ReplacesLed, OnlyOfWriter, OfWriter};
 
 use crate::files::filling::FileWriter;
 use crate::volume::Volume;
@@ -19,6 +19,7 @@ impl<M: Medium> Volume<M> {
     pub fn store(&mut self, writer: &mut FileWriter, byte: u8) -> Result<bool, Trouble>
         requires { writer.old.chain.tracks ≤ (M.seen self.old).tracks }
         ensures call { StoresByte result (M.seen self.old) (M.seen self.new) writer.old writer.new byte }
+        ensures led { StoresLed result (M.seen self.old) (M.seen self.new) writer.old.chain byte writer.new.chain }
         ensures writer { (writer.new.slot ≡ writer.old.slot) × (writer.new.replaces ≡ writer.old.replaces) ×
             (writer.new.chain.tracks ≡ writer.old.chain.tracks) }
         ensures only { OnlyContent writer.old.chain.tracks result (M.seen self.old) (M.seen self.new) }
@@ -43,6 +44,7 @@ impl<M: Medium> Volume<M> {
     pub fn finish(&mut self, writer: &FileWriter) -> Result<(), Trouble>
         requires { writer.now.chain.tracks ≤ (M.seen self.old).tracks }
         ensures call { FinishesWriting result (M.seen self.old) (M.seen self.new) writer.now }
+        ensures led { OnOk result (FinishesLed (M.seen self.old) (M.seen self.new) writer.now) }
         ensures only { OnlyOfWriter writer.now result (M.seen self.old) (M.seen self.new) }
     {
         let geometry = self.geometry();
@@ -60,6 +62,7 @@ impl<M: Medium> Volume<M> {
     pub fn finish_replacement(&mut self, writer: &FileWriter) -> Result<(), Trouble>
         requires { writer.now.chain.tracks ≤ (M.seen self.old).tracks }
         ensures call { FinishesReplacing result (M.seen self.old) (M.seen self.new) writer.now }
+        ensures led { OnOk result (ReplacesLed (M.seen self.old) (M.seen self.new) writer.now) }
         ensures only { OnlyOfWriter writer.now result (M.seen self.old) (M.seen self.new) }
     {
         let geometry = self.geometry();

@@ -1,6 +1,7 @@
 // A relative file grows until a record is there.
 
-ghost use Rattle.std.specs.Prelude.{◌≡◌, ◌≢◌, ◌≤◌, ◌<◌, ◌^◌, ◌⊎◌, true, false, None, Some, IfErr, IfOk, IfSome};
+ghost use Rattle.std.specs.Prelude.{◌≡◌, ◌≢◌, ◌≤◌, ◌<◌, ◌^◌, ◌⊎◌, true, false, None, Some, IsOk, OnOk, IfErr, IfOk, IfSome};
+ghost use Rattle.cbm_medium.specs.Place.{directory_head};
 ghost use Rattle.cbm_medium.specs.Seen.{ShowsGround};
 ghost use Rattle.cbm_file.specs.Records.{blocks_for};
 ghost use Rattle.cbm_bam.specs.Map.{geometry_of};
@@ -156,6 +157,7 @@ impl<M: Medium> Volume<M> {
         requires number { (1 ≤ number) × (number < 2 ^ 24) }
         ensures call { OfOpen (M.seen self.old) slot (λ d uses w b s rs o.
             IsGrowth result (M.seen self.old) (M.seen self.new) d uses slot w b s rs number) }
+        ensures read { OnOk result (IsOk ((M.seen self.old).content directory_head)) }
         ensures kept { IsSameOn result false (M.seen self.old) (M.seen self.new) }
         ensures guarded { KeepsProtected (M.seen self.old) (M.seen self.new) }
         ensures only { OnlyOnDisk result (M.seen self.old) (M.seen self.new) }

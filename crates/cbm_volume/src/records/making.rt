@@ -1,6 +1,7 @@
 // OPEN of a relative file that isn't there: a block of fresh records, a side sector that lists it, and a closed entry.
 
-ghost use Rattle.std.specs.Prelude.{◌≡◌, ◌≤◌, ◌||◌, length, not, nat_lt, true, false, None, IfOk, IsOkAnd};
+ghost use Rattle.std.specs.Prelude.{◌≡◌, ◌≤◌, ◌||◌, length, not, nat_lt, true, false, None, IsOk, OnOk, IfOk, IsOkAnd};
+ghost use Rattle.cbm_medium.specs.Place.{directory_head};
 ghost use Rattle.cbm_medium.specs.Seen.{OnlyContent};
 ghost use Rattle.cbm_volume.specs.NewRecords.{HasNoRoomForRecords, OpensNewRecords, MakesRelative, ClaimsForRecords, EntersRecords};
 ghost use Rattle.cbm_volume.specs.Calls.{OnlyOnDisk, OfDisk, KeepsProtected, IsSameOn};
@@ -28,6 +29,7 @@ impl<M: Medium> Volume<M> {
         ensures call { OpensNewRecords result (M.seen self.old) (M.seen self.new) name.now record_length }
         // Too little room is reported first, also on a protected medium.
         ensures full { OfDisk (M.seen self.old) (λ d uses. HasNoRoomForRecords d → IsOkAnd result (λ o. o ≡ None)) }
+        ensures read { OnOk result (IsOk ((M.seen self.old).content directory_head)) }
         ensures kept { IsSameOn result None (M.seen self.old) (M.seen self.new) }
         ensures guarded { KeepsProtected (M.seen self.old) (M.seen self.new) }
         ensures only { OnlyOnDisk result (M.seen self.old) (M.seen self.new) }

@@ -2,7 +2,8 @@ use Rattle.std.proofs.Common.{◌+◌, List, refl, sym, ap, ◌∙◌}
 use Rattle.cbm_medium.specs.Place.{Place}
 use Rattle.cbm_relfile.specs.SideSectors.{listed_following}
 use Rattle.cbm_volume.specs.check.SideLists.{along}
-use Rattle.cbm_volume.proofs.checked.SidesListed.{listed_none, listed_some, listed_end, along_some, along_none}
+use Rattle.cbm_volume.proofs.checked.SidesListed.{block_some, along_some, along_none}
+use Rattle.cbm_relfile.proofs.Listed.{listed_none, listed_end}
 use Rattle.cbm_volume.proofs.check.records.walk_listed.Goals as goal
 
 pub returns-then-is_end : goal.returns-then-is_end
@@ -12,14 +13,14 @@ returns-then-is_end g c =
 
 pub returns-in_err-at : goal.returns-in_err-at
 returns-in_err-at g c =
-    let named = listed_some c.loop-number.number c.args.side.now c.new-listed.result c.loop-number-test.true c.new-listed.ensures (λ z. let f = c.if-is_end.ensures.1 z in cc) in
+    let named = block_some c.loop-number.number c.args.side.now c.new-listed.result c.loop-number-test.true c.new-listed.ensures (λ z. let f = c.if-is_end.ensures.1 z in cc) in
     c.from_residual.ensures
     ∙ sym (along_none c.args.geometry (g.M.Medium.seen c.args.medium.now).content c.new-listed.result c.loop-number.at (listed_following c.loop-number.number c.args.side.now) (listed_following (c.loop-number.number + 1) c.args.side.now) named (sym c.in_err-at.ensures))
     ∙ c.loop-number.invariant
 
 pub loop-number-preserved : goal.loop-number-preserved
 loop-number-preserved g c =
-    let named = listed_some c.loop-number.number c.args.side.now c.new-listed.result c.loop-number-test.true c.new-listed.ensures (λ z. let f = c.if-is_end.ensures.1 z in cc) in
+    let named = block_some c.loop-number.number c.args.side.now c.new-listed.result c.loop-number-test.true c.new-listed.ensures (λ z. let f = c.if-is_end.ensures.1 z in cc) in
     sym (along_some c.args.geometry (g.M.Medium.seen c.args.medium.now).content c.new-listed.result c.loop-number.at c.in_ok-at.at (listed_following c.loop-number.number c.args.side.now) (listed_following (c.loop-number.number + 1) c.args.side.now) named (sym c.in_ok-at.ensures))
     ∙ c.loop-number.invariant
 

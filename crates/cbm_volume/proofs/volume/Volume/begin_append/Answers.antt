@@ -9,6 +9,7 @@ use Rattle.cbm_bam.specs.Map.{geometry_of}
 use Rattle.cbm_bam.specs.Causes.{HasCause}
 use Rattle.cbm_chain.specs.Writing.{StandsAfter}
 use Rattle.cbm_directory.specs.Entries.{Enters, EntersLed, first_directory, first_block, sector_of}
+use Rattle.cbm_volume.proofs.opened.OpenedFiles.{moved}
 use Rattle.cbm_volume.proofs.opened.Appends.{appended, not_broken, entry_hindered, entry_untouched}
 use Rattle.cbm_volume.proofs.written.Sparing.{same_untouched}
 use Rattle.cbm_volume.proofs.volume.Volume.begin_append.Goals as goal
@@ -69,8 +70,18 @@ pub returns-clause-untouched : goal.returns-clause-untouched
 returns-clause-untouched g c = λ d uses h.
     let medium : ℕ = (g.M.Medium.seen c.args.self.now).tracks in
     let old : Content = (g.M.Medium.seen c.args.self.now).content in
+    let inner : Content = (g.M.Medium.seen c.self.inside.medium).content in
     let new : Content = (g.M.Medium.seen c.put_slot.new.medium).content in
-    let led : EntersLed (geometry_of medium old) old new c.args.slot c.reopened-reopened.result =
-    subst (λ (k : ℕ). EntersLed k old new c.args.slot c.reopened-reopened.result) c.geometry-geometry.ensures.value
-    (subst (λ (x : Content). EntersLed c.geometry-geometry.result x new c.args.slot c.reopened-reopened.result) (ap (λ m. (g.M.Medium.seen m).content) c.self.view_is) c.in_ok-put_slot.ensures.exact) in
-    entry_untouched medium old new c.args.slot c.reopened-reopened.result d uses h led
+    entry_untouched medium old new c.args.slot c.reopened-reopened.result d uses h
+    (moved (λ k x. EntersLed k x new c.args.slot c.reopened-reopened.result) c.geometry-geometry.result (geometry_of medium old) inner old
+    c.geometry-geometry.ensures.value (ap (λ m. (g.M.Medium.seen m).content) c.self.view_is) c.in_ok-put_slot.ensures.exact)
+
+pub returns-clause-led : goal.returns-clause-led
+returns-clause-led g c =
+    let medium : ℕ = (g.M.Medium.seen c.args.self.now).tracks in
+    let old : Content = (g.M.Medium.seen c.args.self.now).content in
+    let inner : Content = (g.M.Medium.seen c.self.inside.medium).content in
+    let new : Content = (g.M.Medium.seen c.put_slot.new.medium).content in
+    subst (λ (e : List ℕ). EntersLed (geometry_of medium old) old new c.args.slot e) c.reopened-reopened.ensures.value
+    (moved (λ k x. EntersLed k x new c.args.slot c.reopened-reopened.result) c.geometry-geometry.result (geometry_of medium old) inner old
+    c.geometry-geometry.ensures.value (ap (λ m. (g.M.Medium.seen m).content) c.self.view_is) c.in_ok-put_slot.ensures.exact)

@@ -1,4 +1,4 @@
-use Rattle.std.proofs.Common.{rules, ℕ, false, Some, None, Err, IfErr, ap, sym, subst, ◌∙◌}
+use Rattle.std.proofs.Common.{rules, ℕ, true, false, Some, None, Err, IfErr, ap, sym, subst, ◌∙◌}
 use Rattle.std.proofs.lemmas.Result.{err_from_is_err_and}
 use Rattle.cbm_medium.specs.Content.{Content}
 use Rattle.cbm_medium.specs.Seen.{Seen, OnlyContent}
@@ -6,7 +6,8 @@ use Rattle.cbm_medium.proofs.Sequences.{only_refused}
 use Rattle.cbm_file.specs.Files.{Disk}
 use Rattle.cbm_bam.specs.Map.{geometry_of}
 use Rattle.cbm_volume.specs.Opens.{IsHindered}
-use Rattle.cbm_volume.specs.Writers.{Use, HoldsNow}
+use Rattle.cbm_chain.specs.Writing.{State}
+use Rattle.cbm_volume.specs.Writers.{Filling, Use, HoldsNow}
 use Rattle.cbm_volume.proofs.layouts.OnDisks.{of_tracks}
 use Rattle.cbm_volume.proofs.layouts.Hindered.{claim_hindered}
 use Rattle.cbm_volume.proofs.opened.ReplacementBegun.{ChainBegins, chain_begins, replacement, replacement_refused}
@@ -68,3 +69,10 @@ returns-in_err-chain-clause-only g c =
     of_tracks c.geometry-geometry.result c.from_residual.result (g.M.Medium.seen c.args.self.now) (g.M.Medium.seen c.begin.new.medium) c.geometry-geometry.ensures.value
     (only_refused c.begin.result c.from_residual.result p.0 (g.M.Medium.seen c.args.self.now) (g.M.Medium.seen c.begin.new.medium) (c.in_err-chain.was ∙ ap Err (sym p.2)) p.1
     (subst (λ (x : Seen). OnlyContent c.geometry-geometry.result c.begin.result x (g.M.Medium.seen c.begin.new.medium)) (ap (λ m. g.M.Medium.seen m) c.self.view_is) c.begin.ensures.only))
+
+pub returns-clause-led : goal.returns-clause-led
+returns-clause-led g c =
+    let old : Seen = g.M.Medium.seen c.args.self.now in
+    let new : Content = (g.M.Medium.seen c.begin.new.medium).content in
+    let some : ChainBegins (geometry_of old.tracks old.content) old.content new (Some c.in-Some.chain) = chain_begins (g.M.Medium.seen c.self.inside.medium) old new c.geometry-geometry.result c.in_ok-chain.field-0 (Some c.in-Some.chain) (ap (λ m. g.M.Medium.seen m) c.self.view_is) c.geometry-geometry.ensures.value c.in-Some.is c.in_ok-chain.ensures.begun in
+    (some.0, some.1, ap (λ (s : State). record { slot = c.args.slot; replaces = true; chain = s }) some.2)

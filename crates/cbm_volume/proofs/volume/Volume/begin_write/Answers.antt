@@ -1,4 +1,4 @@
-use Rattle.std.proofs.Common.{rules, ◌≡◌, ◌<◌, ◌≤◌, ◌*◌, ◌%◌, ℕ, List, length, Option, Some, None, Err, refl, sym, ap, subst, ◌∙◌, inl, inr, MatchOption, [], false, Ok}
+use Rattle.std.proofs.Common.{rules, ◌≡◌, ◌<◌, ◌≤◌, ◌*◌, ◌%◌, ℕ, List, length, Option, Some, None, Err, refl, sym, ap, subst, ◌∙◌, inl, inr, MatchOption, [], false, Ok, IsOk}
 use Rattle.std.proofs.lemmas.Result.{err_from_is_err_and}
 use Rattle.cbm_medium.specs.Place.{Place, directory_head}
 use Rattle.cbm_medium.specs.Content.{Content}
@@ -9,18 +9,20 @@ use Rattle.cbm_file.specs.Changes.{grown, new_slot, with_file, unclosed}
 use Rattle.cbm_file.specs.Padding.{before_filler}
 use Rattle.cbm_bam.specs.Map.{map_of, is_free_in, number, geometry_of, IsFull, Claims}
 use Rattle.cbm_bam.specs.Causes.{HasCause}
-use Rattle.cbm_chain.specs.Writing.{State, begun_at}
-use Rattle.cbm_directory.specs.Entries.{Enters, first_directory, sector_of}
+use Rattle.cbm_chain.specs.Writing.{State, begun_at, place_or_none}
+use Rattle.cbm_directory.specs.Entries.{Enters, EntersLed, first_directory, sector_of}
+use Rattle.cbm_directory.specs.EntryChanges.{fresh_entry}
 use Rattle.cbm_directory.specs.Empties.{TakesSlot, SlotStopped, IsSlotRefused}
 use Rattle.cbm_medium.proofs.Sequences.{only_then, only_after, only_refused}
+use Rattle.cbm_volume.specs.Beginning.{NewFileLed}
 use Rattle.cbm_volume.specs.Opens.{BeginsFile}
 use Rattle.cbm_volume.specs.Writers.{Filling, Use, HoldsNow}
 use Rattle.cbm_volume.proofs.layouts.OnDisks.{of_tracks}
 use Rattle.cbm_volume.proofs.written.Finishing.{on_err}
 use Rattle.cbm_volume.proofs.layouts.Refusals.{sector_hindered, hindered_since, sector_reads}
 use Rattle.cbm_volume.proofs.opened.HinderedOpens.{slot_hinders}
-use Rattle.cbm_volume.proofs.opened.KeptOpens.{nothing_claimed}
-use Rattle.cbm_volume.proofs.opened.OpenedFiles.{EntersSlot, IsSet, reached_set, kept_set, begins, not_full, stopped_at, untouched_by, chain_set, moved}
+use Rattle.cbm_volume.proofs.opened.KeptOpens.{block_left}
+use Rattle.cbm_volume.proofs.opened.OpenedFiles.{EntersSlot, IsSet, reached_set, kept_set, begins, stopped_at, untouched_by, chain_set, moved}
 use Rattle.cbm_volume.proofs.opened.OpenedSlots.{Reached, reached_same, SlotReady, slot_ready, no_slot, same_files_grown, SlotLost, slot_lost}
 use Rattle.cbm_volume.proofs.layouts.Steps.{one_less}
 use Rattle.cbm_volume.proofs.layouts.Staying.{kept_same}
@@ -104,23 +106,18 @@ returns-in_err-chain-clause-call g c = λ d uses h.
 
 -- ---- a block is free, so one is claimed
 
-ready_then : (g : Over) (c : goal.In_default-2 g) (d : Disk) (uses : ℕ → Use) (h : HoldsNow (g.M.Medium.seen c.args.self.now).tracks (g.M.Medium.seen c.args.self.now).content d uses) → SlotReady (g.M.Medium.seen c.args.self.now).tracks (g.M.Medium.seen c.args.self.now).content h.layout (g.M.Medium.seen c.empty_slot.new.medium).content d uses c.in-Some.slot
-ready_then g c d uses h = slot_ready (g.M.Medium.seen c.args.self.now).tracks (g.M.Medium.seen c.args.self.now).content (g.M.Medium.seen c.empty_slot.new.medium).content c.in-Some.slot d uses h (moved (λ k x. TakesSlot k x (g.M.Medium.seen c.empty_slot.new.medium).content (Some c.in-Some.slot)) c.geometry-geometry.result (geometry_of (g.M.Medium.seen c.args.self.now).tracks (g.M.Medium.seen c.args.self.now).content) (g.M.Medium.seen c.self.inside.medium).content (g.M.Medium.seen c.args.self.now).content c.geometry-geometry.ensures.value (ap (λ m. (g.M.Medium.seen m).content) c.self.view_is) (subst (λ (o : Option ℕ). TakesSlot c.geometry-geometry.result (g.M.Medium.seen c.self.inside.medium).content (g.M.Medium.seen c.empty_slot.new.medium).content o) c.in-Some.is c.in_ok-slot.ensures.taken))
-
-not_none : (g : Over) (c : goal.In_default-2 g) (d : Disk) (uses : ℕ → Use) → HoldsNow (g.M.Medium.seen c.args.self.now).tracks (g.M.Medium.seen c.args.self.now).content d uses → ⊥
-not_none g c d uses h =
-    let some : c.in_ok-free_bits.field-0 ≡ number (geometry_of (g.M.Medium.seen c.args.self.now).tracks (g.M.Medium.seen c.args.self.now).content) (is_free_in (map_of (g.M.Medium.seen c.args.self.now).content)) = (moved (λ k x. c.in_ok-free_bits.field-0 ≡ number k (is_free_in (map_of x))) c.geometry-geometry.result (geometry_of (g.M.Medium.seen c.args.self.now).tracks (g.M.Medium.seen c.args.self.now).content) (g.M.Medium.seen c.self.inside.medium).content (g.M.Medium.seen c.args.self.now).content c.geometry-geometry.ensures.value (ap (λ m. (g.M.Medium.seen m).content) c.self.view_is) (c.in_ok-free_bits.ensures.ok)) in
-    let full : IsFull c.geometry-geometry.result (map_of (g.M.Medium.seen c.empty_slot.new.medium).content) × ((g.M.Medium.seen c.begin.new.medium).content ≡ (g.M.Medium.seen c.empty_slot.new.medium).content) = subst (λ (o : Option State). MatchOption o (IsFull c.geometry-geometry.result (map_of (g.M.Medium.seen c.empty_slot.new.medium).content) × ((g.M.Medium.seen c.begin.new.medium).content ≡ (g.M.Medium.seen c.empty_slot.new.medium).content)) (λ w. (q : Place) × Claims c.geometry-geometry.result (g.M.Medium.seen c.empty_slot.new.medium).content (g.M.Medium.seen c.begin.new.medium).content q × (w ≡ begun_at c.geometry-geometry.result q))) c.in_default-2.is c.in_ok-chain.ensures.begun in
-    not_full (g.M.Medium.seen c.args.self.now).tracks (g.M.Medium.seen c.args.self.now).content (g.M.Medium.seen c.empty_slot.new.medium).content d uses c.in-Some.slot h (ready_then g c d uses h) (λ z. c.if-branch-eq0.false (some ∙ z)) (subst (λ (k : ℕ). IsFull k (map_of (g.M.Medium.seen c.empty_slot.new.medium).content)) c.geometry-geometry.ensures.value (full.0))
+no_none : (g : Over) (c : goal.In_default-2 g) → ⊥
+no_none g c =
+    let before : Content = (g.M.Medium.seen c.self.inside.medium).content in
+    let slotted : Content = (g.M.Medium.seen c.empty_slot.new.medium).content in
+    let after : Content = (g.M.Medium.seen c.begin.new.medium).content in
+    let tracks : ℕ = c.geometry-geometry.result in
+    let full : IsFull tracks (map_of slotted) × (after ≡ slotted) = subst (λ (o : Option State). MatchOption o (IsFull tracks (map_of slotted) × (after ≡ slotted)) (λ w. (q : Place) × Claims tracks slotted after q × (w ≡ begun_at tracks q))) c.in_default-2.is c.in_ok-chain.ensures.begun in
+    block_left tracks before slotted c.in-Some.slot c.in_ok-free_bits.field-0
+    (subst (λ (o : Option ℕ). TakesSlot tracks before slotted o) c.in-Some.is c.in_ok-slot.ensures.taken) c.in_ok-free_bits.ensures.ok c.if-branch-eq0.false full.0
 
 pub returns-in_default-2-clause-call : goal.returns-in_default-2-clause-call
-returns-in_default-2-clause-call g c = λ d uses h.
-    record {
-      done = λ ch idle ne plain. absurd (not_none g c d uses h);
-      stopped = (search rules);
-      cause = (search rules);
-      untouched = absurd (not_none g c d uses h);
-    }
+returns-in_default-2-clause-call g c = λ d uses h. absurd (no_none g c)
 
 -- ---- the entry was refused
 
@@ -244,18 +241,34 @@ returns-clause-only g c =
 pub returns-in_default-clause-kept : goal.returns-in_default-clause-kept
 returns-in_default-clause-kept g c = (none g c).2
 
--- no block is free after the slot, though one was before
+pub returns-in_default-clause-led : goal.returns-in_default-clause-led
+returns-in_default-clause-led g c =
+    let none = none g c in
+    (subst (λ (x : Content). IsOk (x directory_head)) (ap (λ m. (g.M.Medium.seen m).content) c.self.view_is) c.in_ok-free_bits.ensures.read, inr (none.0, none.1, refl))
+
 pub returns-in_default-2-clause-kept : goal.returns-in_default-2-clause-kept
-returns-in_default-2-clause-kept g c =
-    let before : Content = (g.M.Medium.seen c.self.inside.medium).content in
-    let slotted : Content = (g.M.Medium.seen c.empty_slot.new.medium).content in
-    let after : Content = (g.M.Medium.seen c.begin.new.medium).content in
-    let tracks : ℕ = c.geometry-geometry.result in
-    let full : IsFull tracks (map_of slotted) × (after ≡ slotted) = subst (λ (o : Option State). MatchOption o (IsFull tracks (map_of slotted) × (after ≡ slotted)) (λ w. (q : Place) × Claims tracks slotted after q × (w ≡ begun_at tracks q))) c.in_default-2.is c.in_ok-chain.ensures.begun in
-    nothing_claimed tracks before slotted after c.in-Some.slot c.in_ok-free_bits.field-0
-    (subst (λ (o : Option ℕ). TakesSlot tracks before slotted o) c.in-Some.is c.in_ok-slot.ensures.taken) c.in_ok-free_bits.ensures.ok c.if-branch-eq0.false full.0 full.1
-    ∙ ap (λ m. (g.M.Medium.seen m).content) c.self.view_is
+returns-in_default-2-clause-kept g c = absurd (no_none g c)
+
+pub returns-in_default-2-clause-led : goal.returns-in_default-2-clause-led
+returns-in_default-2-clause-led g c = absurd (no_none g c)
 
 -- an OPEN that went well claims nothing of the kind
 pub returns-clause-kept : goal.returns-clause-kept
 returns-clause-kept g c = tt
+
+-- the slot, the block and the entry, one after another
+pub returns-clause-led : goal.returns-clause-led
+returns-clause-led g c =
+    let old : Seen = g.M.Medium.seen c.args.self.now in
+    let tracks : ℕ = geometry_of old.tracks old.content in
+    let taken : Content = (g.M.Medium.seen c.empty_slot.new.medium).content in
+    let claimed : Content = (g.M.Medium.seen c.begin.new.medium).content in
+    let new : Seen = g.M.Medium.seen c.put_slot.new.medium in
+    let takes : TakesSlot tracks old.content taken (Some c.in-Some.slot) = moved (λ k x. TakesSlot k x taken (Some c.in-Some.slot)) c.geometry-geometry.result tracks (g.M.Medium.seen c.self.inside.medium).content old.content
+    c.geometry-geometry.ensures.value (ap (λ m. (g.M.Medium.seen m).content) c.self.view_is) (subst (λ (o : Option ℕ). TakesSlot c.geometry-geometry.result (g.M.Medium.seen c.self.inside.medium).content taken o) c.in-Some.is c.in_ok-slot.ensures.taken) in
+    let block = block_entered g c in
+    let first : c.first_block.result ≡ block.0 = c.first_block.ensures ∙ ap (λ (s : State). place_or_none s.first) block.2 in
+    let put : EntersLed tracks claimed new.content c.in-Some.slot (fresh_entry c.args.kind c.args.name.now block.0) =
+    subst (λ (e : List ℕ). EntersLed tracks claimed new.content c.in-Some.slot e) (c.fresh-entry.ensures.value ∙ ap (fresh_entry c.args.kind c.args.name.now) first)
+    (subst (λ (k : ℕ). EntersLed k claimed new.content c.in-Some.slot c.fresh-entry.result) c.geometry-geometry.ensures.value c.in_ok-put_slot.ensures.exact) in
+    subst (λ (w : Filling). NewFileLed old new c.args.kind c.args.name.now w) (sym c.of_new.ensures) (taken, takes, claimed, block.0, block.1, refl, block.2, put)

@@ -1,6 +1,6 @@
 use Rattle.std.proofs.Common.{rules, ◌≡◌, ◌<◌, ◌*◌, ℕ, List, length, Some, refl, ap, subst, false}
 use Rattle.std.proofs.lemmas.Result.{err_from_is_err_and}
-use Rattle.std.specs.Prelude.{OnErr, IfErr}
+use Rattle.std.specs.Prelude.{OnOk, OnErr, IfErr}
 use Rattle.cbm_medium.proofs.Sequences.{only_nothing}
 use Rattle.cbm_medium.specs.Place.{Place}
 use Rattle.cbm_medium.specs.Content.{Content}
@@ -8,7 +8,7 @@ use Rattle.cbm_medium.specs.Seen.{Seen}
 use Rattle.cbm_medium.specs.Links.{Chain}
 use Rattle.cbm_bam.specs.Map.{geometry_of}
 use Rattle.cbm_bam.specs.Causes.{HasCause}
-use Rattle.cbm_directory.specs.Entries.{first_directory, sector_of}
+use Rattle.cbm_directory.specs.Entries.{EntersLed, first_directory, sector_of}
 use Rattle.cbm_directory.proofs.Codes.{directory_never_26, directory_shown}
 use Rattle.cbm_file.specs.Files.{File, file_at, with_slot}
 use Rattle.cbm_file.specs.Padding.{before_filler}
@@ -17,7 +17,7 @@ use Rattle.cbm_volume.specs.Writers.{HoldsNow}
 use Rattle.cbm_volume.proofs.layouts.Calls.{ok_given}
 use Rattle.cbm_volume.proofs.opened.OpenedFiles.{moved}
 use Rattle.cbm_volume.proofs.held.RecordsRead.{no_slot}
-use Rattle.cbm_volume.proofs.changed.Renames.{named, named_hindered, named_untouched}
+use Rattle.cbm_volume.proofs.changed.Renames.{named, named_hindered, named_untouched, named_led}
 use Rattle.cbm_volume.proofs.written.Sparing.{EntryPut, same_untouched}
 use Rattle.cbm_volume.proofs.volume.Volume.rename.Goals as goal
 
@@ -75,6 +75,16 @@ returns-clause-call g c = λ d uses h.
           c.geometry-geometry.ensures.value (ap (λ m. (g.M.Medium.seen m).content) c.self.view_is) c.put_slot.ensures.entered)
           (subst (λ (x : Content). OnErr c.put_slot.result (new ≡ x)) (ap (λ m. (g.M.Medium.seen m).content) c.self.view_is) c.put_slot.ensures.err) d uses h;
     }
+
+pub returns-clause-led : goal.returns-clause-led
+returns-clause-led g c =
+    let old : Seen = g.M.Medium.seen c.args.self.now in
+    let inner : Content = (g.M.Medium.seen c.self.inside.medium).content in
+    let new : Seen = g.M.Medium.seen c.put_slot.new.medium in
+    named_led old new c.args.slot c.in-Some.entry c.args.name.now c.put_slot.result (rw c.in-Some.is at c.in_ok-entry.ensures.answers)
+    (subst (λ (e : List ℕ). OnOk c.put_slot.result (EntersLed (geometry_of old.tracks old.content) old.content new.content c.args.slot e)) c.renamed-renamed.ensures.value
+    (moved (λ k x. OnOk c.put_slot.result (EntersLed k x new.content c.args.slot c.renamed-renamed.result)) c.geometry-geometry.result (geometry_of old.tracks old.content) inner old.content
+    c.geometry-geometry.ensures.value (ap (λ m. (g.M.Medium.seen m).content) c.self.view_is) c.put_slot.ensures.exact))
 
 -- what breaks the directory off is never told as protection
 pub returns-in_err-entry-clause-only : goal.returns-in_err-entry-clause-only

@@ -1,6 +1,6 @@
 use Rattle.std.proofs.Common.{rules, ◌≡◌, ◌≤◌, ◌<◌, ◌*◌, ℕ, List, length, Option, Some, Ok, Err, Result, refl, ap, sym, subst, ◌∙◌, IfErr}
 use Rattle.std.proofs.lemmas.Result.{err_from_is_err_and}
-use Rattle.std.specs.Prelude.{OnErr}
+use Rattle.std.specs.Prelude.{OnOk, OnErr}
 use Rattle.cbm_medium.proofs.Sequences.{only_after, only_nothing}
 use Rattle.cbm_medium.specs.Place.{Place, directory_head}
 use Rattle.cbm_medium.specs.Content.{Content}
@@ -10,12 +10,13 @@ use Rattle.cbm_medium.specs.declared.fault.Trouble.{Trouble}
 use Rattle.cbm_bam.specs.Causes.{HasCause}
 use Rattle.cbm_bam.specs.Map.{geometry_of}
 use Rattle.cbm_directory.specs.Entries.{first_directory, sector_of}
+use Rattle.cbm_directory.specs.EntryChanges.{ClearsLed}
 use Rattle.cbm_directory.specs.Slots.{Answers, directory_of}
 use Rattle.cbm_directory.proofs.Codes.{directory_never_26, directory_shown}
 use Rattle.cbm_volume.proofs.layouts.OnDisks.{of_tracks}
 use Rattle.cbm_volume.proofs.layouts.Calls.{if_ok}
 use Rattle.cbm_volume.proofs.written.Finishing.{on_err}
-use Rattle.cbm_volume.proofs.changed.Scratched.{EntryCleared, ClearingRefused, GivesAll, SlotEmpty, no_entry, no_slot, no_map, no_chain, entry_refused, open_scratched, is_scratched, scratched_ok, scratched_stopped, slot_hindered, map_hindered, chain_hindered, clearing_hindered, clearing_handed_on, release_hindered, nothing_written, clearing_spared, release_spared}
+use Rattle.cbm_volume.proofs.changed.Scratched.{EntryCleared, ClearingRefused, GivesAll, SlotEmpty, no_entry, no_slot, no_map, no_chain, entry_refused, open_scratched, is_scratched, scratched_ok, scratched_stopped, slot_hindered, map_hindered, chain_hindered, clearing_hindered, clearing_handed_on, release_hindered, nothing_written, clearing_spared, release_spared, open_led, closed_led}
 use Rattle.cbm_volume.proofs.volume.Volume.scratch.Goals as goal
 use Rattle.cbm_volume.proofs.volume.Volume.scratch.Given.{Over}
 
@@ -220,3 +221,28 @@ returns-in_err-free_file-clause-only g c =
     only_nothing c.from_residual-in_err-free_file.result old old (λ i. old)
     (rw (p.1, p.2) (λ is. absurd (c.in_err-free_file.ensures.never_26 is)))
     (rw (p.1, p.2) (subst (λ (s : Seen). ShowsGround s c.in_err-free_file.field-0.0) (ap (λ m. g.M.Medium.seen m) c.self.view_is) c.in_err-free_file.ensures.shown))
+
+-- ---- on any disk
+
+led_here : (inside old : Seen) (new : Content) (k n : ℕ) (r : Result (Unit {0}) Trouble) → inside ≡ old → k ≡ geometry_of old.tracks old.content
+    → OnOk r (ClearsLed k inside.content new n) → OnOk r (ClearsLed (geometry_of old.tracks old.content) old.content new n)
+led_here inside old new k n r same size h = subst (λ (s : Seen). OnOk r (ClearsLed (geometry_of old.tracks old.content) s.content new n)) same (subst (λ (m : ℕ). OnOk r (ClearsLed m inside.content new n)) size h)
+
+pub returns-then-not-is_closed-clause-led : goal.returns-then-not-is_closed-clause-led
+returns-then-not-is_closed-clause-led g c =
+    let old : Seen = g.M.Medium.seen c.args.self.now in
+    let new : Seen = g.M.Medium.seen c.clear_slot.new.medium in
+    open_led old new c.args.slot c.in-Some.entry c.clear_slot.result
+    (found_here old.content (geometry_of old.tracks old.content) c.args.slot c.in_ok-entry.field-0 c.in-Some.entry c.in-Some.is c.in_ok-entry.ensures.answers)
+    (sym c.is_closed.ensures ∙ c.if-not-is_closed.true)
+    (led_here (g.M.Medium.seen c.self.inside.medium) old new.content c.geometry-geometry.result c.args.slot c.clear_slot.result (ap g.M.Medium.seen c.self.view_is) c.geometry-geometry.ensures.value c.clear_slot.ensures.exact)
+
+pub returns-clause-led : goal.returns-clause-led
+returns-clause-led g c =
+    let old : Seen = g.M.Medium.seen c.args.self.now in
+    let mid : Seen = g.M.Medium.seen c.clear_slot-2.new.medium in
+    closed_led old mid (g.M.Medium.seen c.write.new.medium) c.args.slot c.in-Some.entry c.free_file.new.release c.write.result
+    (found_here old.content (geometry_of old.tracks old.content) c.args.slot c.in_ok-entry.field-0 c.in-Some.entry c.in-Some.is c.in_ok-entry.ensures.answers)
+    (sym c.is_closed.ensures ∙ c.if-not-is_closed.false)
+    (led_here (g.M.Medium.seen c.self.inside.medium) old mid.content c.geometry-geometry.result c.args.slot (Ok tt) (ap g.M.Medium.seen c.self.view_is) c.geometry-geometry.ensures.value c.in_ok-clear_slot.ensures.exact)
+    c.write.ensures.ok
