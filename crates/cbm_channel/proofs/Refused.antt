@@ -13,36 +13,42 @@ use Rattle.cbm_channel.specs.declared.plan.Plan.{Plan}
 use Rattle.cbm_channel.specs.Grounds.{is_refusal, is_fault_number}
 use Rattle.cbm_channel.specs.Planned.{plan_writes}
 
-either_way : (P : Code → Type 0) (b : Bool) (x y : Code) → P x → P y → P (if b then x else y)
-either_way P true x y p q = p
-either_way P false x y p q = q
-
-other_way : (P : Code → Type 0) (b : Bool) (x y : Code) → b ≡ false → P y → P (if b then x else y)
-other_way P true x y e q = absurd (cc)
-other_way P false x y e q = q
-
 abbrev IsNone : Code → Type 0
 IsNone code = is_refusal code ≡ false
 
--- no fault but 26 is told by the code of a refusal
-fault_code : (n : ℕ) → (n == 26) ≡ false → IsNone (code_of_fault n)
-fault_code n other =
-    either_way IsNone (n == 20) _ _ refl
-    (either_way IsNone (n == 21) _ _ refl
-    (either_way IsNone (n == 22) _ _ refl
-    (either_way IsNone (n == 23) _ _ refl
-    (either_way IsNone (n == 24) _ _ refl
-    (either_way IsNone (n == 25) _ _ refl
-    (other_way IsNone (n == 26) _ _ other
-    (either_way IsNone (n == 27) _ _ refl
-    (either_way IsNone (n == 28) _ _ refl
-    (either_way IsNone (n == 29) _ _ refl
-    (either_way IsNone (n == 66) _ _ refl
-    (either_way IsNone (n == 71) EndlessChain WriteFailed refl refl)))))))))))
+abbrev IsFault : Code → Type 0
+IsFault code = is_fault_number (code_number code) ≡ true
+
+-- it has a fault's number, and this is no refusal but where the test says so
+abbrev IsTold : Bool → Code → Type 0
+IsTold is_26 code = IsFault code × (is_26 ≡ false → IsNone code)
+
+either_way : (P : Code → Type 0) (b : Bool) (x y : Code) → (b ≡ true → P x) → P y → P (if b then x else y)
+either_way P true x y p q = p refl
+either_way P false x y p q = q
+
+plainly : (is_26 b : Bool) (x y : Code) → IsFault x → IsNone x → IsTold is_26 y → IsTold is_26 (if b then x else y)
+plainly is_26 b x y fault none rest = either_way (IsTold is_26) b x y (λ is. (fault, λ other. none)) rest
+
+-- a fault is told by a code of a fault, and none but 26 by that of a refusal
+code_told : (n : ℕ) → IsTold (n == 26) (code_of_fault n)
+code_told n =
+    plainly (n == 26) (n == 20) _ _ refl refl
+    (plainly (n == 26) (n == 21) _ _ refl refl
+    (plainly (n == 26) (n == 22) _ _ refl refl
+    (plainly (n == 26) (n == 23) _ _ refl refl
+    (plainly (n == 26) (n == 24) _ _ refl refl
+    (plainly (n == 26) (n == 25) _ _ refl refl
+    (either_way (IsTold (n == 26)) (n == 26) _ _ (λ is. (refl, λ other. absurd (cc)))
+    (plainly (n == 26) (n == 27) _ _ refl refl
+    (plainly (n == 26) (n == 28) _ _ refl refl
+    (plainly (n == 26) (n == 29) _ _ refl refl
+    (plainly (n == 26) (n == 66) _ _ refl refl
+    (plainly (n == 26) (n == 71) EndlessChain WriteFailed refl refl (refl, λ other. refl))))))))))))
 
 trouble_none : (t : Trouble) → (t.code == 26) ≡ false → is_refusal (trouble_status t).code ≡ false
 trouble_none t other =
-    ap (λ (b : Bool). is_refusal ((if b then plain WriteProtected else record { code = code_of_fault t.code; first = t.track; second = t.sector }).code)) other ∙ fault_code t.code other
+    ap (λ (b : Bool). is_refusal ((if b then plain WriteProtected else record { code = code_of_fault t.code; first = t.track; second = t.sector }).code)) other ∙ (code_told t.code).1 other
 
 trouble_26 : (t : Trouble) (s : Status) → s ≡ trouble_status t → is_refusal s.code ≡ true → t.code ≡ 26
 trouble_26 t s e is = elim (eqb_tells t.code 26) [
@@ -65,28 +71,10 @@ only_reads (Err e) P reads = tt
 
 -- ---- what is told
 
-abbrev IsFault : Code → Type 0
-IsFault code = is_fault_number (code_number code) ≡ true
-
-number_told : (n : ℕ) → IsFault (code_of_fault n)
-number_told n =
-    either_way IsFault (n == 20) _ _ refl
-    (either_way IsFault (n == 21) _ _ refl
-    (either_way IsFault (n == 22) _ _ refl
-    (either_way IsFault (n == 23) _ _ refl
-    (either_way IsFault (n == 24) _ _ refl
-    (either_way IsFault (n == 25) _ _ refl
-    (either_way IsFault (n == 26) _ _ refl
-    (either_way IsFault (n == 27) _ _ refl
-    (either_way IsFault (n == 28) _ _ refl
-    (either_way IsFault (n == 29) _ _ refl
-    (either_way IsFault (n == 66) _ _ refl
-    (either_way IsFault (n == 71) EndlessChain WriteFailed refl refl)))))))))))
-
 -- a trouble of the disk is told by a fault's number
 pub trouble_told : (t : Trouble) (s : Status) → s ≡ trouble_status t → is_fault_number (code_number s.code) ≡ true
 trouble_told t s e = ap (λ (x : Status). is_fault_number (code_number x.code)) e ∙ by_test (t.code == 26)
   where
     by_test : (b : Bool) → IsFault ((if b then plain WriteProtected else record { code = code_of_fault t.code; first = t.track; second = t.sector }).code)
     by_test true = refl
-    by_test false = number_told t.code
+    by_test false = (code_told t.code).0

@@ -205,6 +205,8 @@ impl OnRecord {
         ensures place { IsPlacedAt self.old self.new (self.old.number + 1) 1 }
         ensures well { (now : Seen) → WasRead now self.old.slot self.old.number next →
             ReachesRecord now self.old self.new result }
+        ensures whole { OnOk result (is_broken self.new.waiting ≡ false) }
+        ensures broken { OnErr result (self.new.waiting ≡ Broken) }
         ensures handed { IfErr result (λ t. next ≡ Err t) }
         ensures never_26 { IfErr result (λ t. t.code ≢ 26) }
     {
