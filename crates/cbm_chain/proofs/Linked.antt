@@ -1,6 +1,6 @@
 -- Blocks that are linked, and are given back one by one.
 use Rattle.std.proofs.Common.{◌≡◌, ◌⊎◌, ℕ, zero, suc, ◌-◌, List, [], ◌∷◌, length, false, Option, Some, None, Ok, Err, IsOk, refl, sym, ap, subst, ◌∙◌, arith, inl, inr}
-use Rattle.std.specs.Prelude.{◌≤◌, Result, OnOk, SomeIff}
+use Rattle.std.specs.Prelude.{◌≤◌, Result, OnOk, SomeIff, MatchOption}
 use Rattle.cbm_medium.specs.Place.{Place, Has, has, directory_head}
 use Rattle.cbm_medium.specs.Content.{Cell, Content, written}
 use Rattle.cbm_medium.specs.declared.fault.Trouble.{Trouble}
@@ -10,7 +10,7 @@ use Rattle.cbm_medium.proofs.Walks.{has_true, true_has, bool_cases}
 use Rattle.cbm_medium.proofs.Reached.{reached_on}
 use Rattle.cbm_bam.specs.Map.{IsGiven, Frees}
 use Rattle.cbm_chain.specs.Writing.{State, Part, Wrote}
-use Rattle.cbm_chain.specs.GivenUp.{linked_blocks, IsGivenBack}
+use Rattle.cbm_chain.specs.GivenUp.{linked_blocks, GivesBack, GivesUpLed, IsGivenBack}
 
 -- ---- one step
 
@@ -112,3 +112,19 @@ all_given_back c c' s first more map new (Ok x) e n head frees done [] bytes w f
 all_given_back c c' s first more map new (Ok x) e n head frees done (b ∷ rest) bytes w few =
     let all : Frees s.tracks map (b ∷ rest) new = subst (λ (f : Followed). Frees s.tracks map f.blocks new) (wrote_linked c s first more (b ∷ rest) bytes e n w few) frees in
     (new, subst (λ (x : List ℕ). Frees s.tracks x (b ∷ rest) new) (sym (ap or_nothing head)) all, done)
+
+-- ---- on any disk
+
+-- the blocks that links lead to from this first one
+abbrev GivesUpFrom : Content → Content → State → Option Place → Type 0
+GivesUpFrom c c' s first = MatchOption first (c' ≡ c) (λ p. let linked = linked_blocks s.tracks c (s.count - 1) p in (linked.trouble ≡ None) × GivesBack s.tracks c c' linked.blocks)
+
+pub none_given_up : (c : Content) (s : State) → s.first ≡ None → GivesUpLed c c s
+none_given_up c s e = subst (GivesUpFrom c c s) (sym e) refl
+
+pub led_given_up : (c c' : Content) (s : State) (first : Place) (more : ℕ) (map new : List ℕ) (r : Result (Unit {0}) Trouble) → s.first ≡ Some first → more ≡ s.count - 1 → c directory_head ≡ Ok map
+    → (linked_blocks s.tracks c more first).trouble ≡ None → Frees s.tracks map (linked_blocks s.tracks c more first).blocks new → OnOk r (c' ≡ written c directory_head new) → OnOk r (GivesUpLed c c' s)
+led_given_up c c' s first more map new (Err t) e n head whole frees done = tt
+led_given_up c c' s first more map new (Ok x) e n head whole frees done =
+    subst (GivesUpFrom c c' s) (sym e)
+    (subst (λ (k : ℕ). let linked = linked_blocks s.tracks c k first in (linked.trouble ≡ None) × GivesBack s.tracks c c' linked.blocks) n (whole, (map, new, head, frees, done)))

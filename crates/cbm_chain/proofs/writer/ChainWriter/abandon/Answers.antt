@@ -1,13 +1,14 @@
-use Rattle.std.proofs.Common.{◌≡◌, ◌-◌, ℕ, Some, sym, ap, subst, ◌∙◌, inl}
+use Rattle.std.proofs.Common.{◌≡◌, ◌-◌, ℕ, Some, None, sym, ap, subst, ◌∙◌, inl}
 use Rattle.std.proofs.lemmas.Result.{err_from_is_err_and}
 use Rattle.cbm_medium.specs.Place.{Place}
 use Rattle.cbm_medium.specs.Content.{Content}
+use Rattle.cbm_medium.specs.Links.{Followed}
 use Rattle.cbm_medium.specs.Met.{IsMetFrom}
 use Rattle.cbm_bam.specs.Map.{Frees}
 use Rattle.cbm_chain.specs.Writing.{State}
 use Rattle.cbm_chain.specs.GivenUp.{linked_blocks}
 use Rattle.cbm_medium.proofs.Reached.{starts_there}
-use Rattle.cbm_chain.proofs.Linked.{linked_met, not_cut, all_given_back}
+use Rattle.cbm_chain.proofs.Linked.{linked_met, not_cut, all_given_back, none_given_up, led_given_up}
 use Rattle.cbm_chain.proofs.writer.ChainWriter.abandon.Goals as goal
 
 pub returns-in_err-give_linked-clause-cause : goal.returns-in_err-give_linked-clause-cause
@@ -38,3 +39,20 @@ returns-clause-given g c =
     let frees : Frees c.args.self.now.tracks c.in_ok-release.release (linked_blocks c.args.self.now.tracks old c.saturating_sub-more.result c.from.result).blocks c.give_linked.new.release =
     subst (λ (n : ℕ). Frees n c.in_ok-release.release (linked_blocks n old c.saturating_sub-more.result c.from.result).blocks c.give_linked.new.release) (ap (λ (s : State). s.tracks) c.self.view_is) c.in_ok-give_linked.ensures.freed in
     all_given_back old new c.args.self.now c.from.result c.saturating_sub-more.result c.in_ok-release.release c.give_linked.new.release c.write.result first more c.in_ok-release.ensures.ok frees c.write.ensures.ok
+
+-- ---- on any disk
+
+pub returns-in_default-clause-led : goal.returns-in_default-clause-led
+returns-in_default-clause-led g c = none_given_up (g.M.Medium.seen c.args.medium.now).content c.args.self.now (sym (ap (λ (s : State). s.first) c.self.view_is) ∙ c.in_default.is)
+
+pub returns-clause-led : goal.returns-clause-led
+returns-clause-led g c =
+    let old : Content = (g.M.Medium.seen c.args.medium.now).content in
+    let new : Content = (g.M.Medium.seen c.write.new.medium).content in
+    let first : c.args.self.now.first ≡ Some c.from.result = sym (ap (λ (s : State). s.first) c.self.view_is) ∙ c.in-Some.is ∙ ap (λ (p : Place). Some p) (sym c.from.ensures) in
+    let more : c.saturating_sub-more.result ≡ c.args.self.now.count - 1 = c.saturating_sub-more.ensures ∙ ap (λ (s : State). s.count - 1) c.self.view_is in
+    let linked : Followed = linked_blocks c.args.self.now.tracks old c.saturating_sub-more.result c.from.result in
+    let freed : (linked.trouble ≡ None) × Frees c.args.self.now.tracks c.in_ok-release.release linked.blocks c.give_linked.new.release =
+    subst (λ (n : ℕ). let linked = linked_blocks n old c.saturating_sub-more.result c.from.result in (linked.trouble ≡ None) × Frees n c.in_ok-release.release linked.blocks c.give_linked.new.release) (ap (λ (s : State). s.tracks) c.self.view_is)
+    (c.in_ok-give_linked.ensures.walk.whole, c.in_ok-give_linked.ensures.freed) in
+    led_given_up old new c.args.self.now c.from.result c.saturating_sub-more.result c.in_ok-release.release c.give_linked.new.release c.write.result first more c.in_ok-release.ensures.ok freed.0 freed.1 c.write.ensures.ok
