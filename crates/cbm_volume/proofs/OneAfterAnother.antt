@@ -6,6 +6,10 @@ use Rattle.cbm_medium.specs.declared.fault.Trouble.{Trouble}
 use Rattle.cbm_medium.specs.Seen.{Seen, OnlyContent}
 use Rattle.cbm_medium.proofs.Sequences.{only_after, only_refused, only_then}
 
+-- the first succeeded
+pub after_done : {disk : ℕ} {A B : Type 0} {q : Result A Trouble} {a : A} {r : Result B Trouble} {old mid new : Seen} → q ≡ Ok a → OnlyContent disk q old mid → OnlyContent disk r mid new → OnlyContent disk r old new
+after_done {q = q} {a = a} {r = r} {old = old} {mid = mid} {new = new} did h k = only_after q a r old mid new did h k
+
 -- both succeeded
 pub both_done : {disk : ℕ} {A B C : Type 0} (x : C) {q : Result A Trouble} {a : A} {r : Result B Trouble} {b : B} {old mid new : Seen} → q ≡ Ok a → r ≡ Ok b → OnlyContent disk q old mid → OnlyContent disk r mid new → OnlyContent disk (Ok x) old new
 both_done x {q} {a} {r} {b} {old} {mid} {new} did was h k = only_then r (Ok x) b old new was (only_after q a r old mid new did h k) tt tt

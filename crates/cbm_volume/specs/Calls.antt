@@ -1,17 +1,11 @@
 -- What the volume's calls that write leave of a sound disk.
-use Rattle.std.specs.Prelude.{ℕ, max, ◌≡◌, ◌⊎◌, ◌==◌, Bool, true, false, List, Option, Some, None, Result, Ok, IsOk, IfOk, IfErr, OnErr, MatchBool, MatchOption}
-use Rattle.cbm_medium.specs.Place.{directory_head}
-use Rattle.cbm_medium.specs.Content.{Content, written}
+use Rattle.std.specs.Prelude.{ℕ, max, ◌≡◌, ◌==◌, Bool, true, false, List, Option, Some, Result, IsOk, IfOk, IfErr, OnErr, MatchOption}
+use Rattle.cbm_medium.specs.Content.{Content}
 use Rattle.cbm_medium.specs.Seen.{Seen, OnlyContent}
 use Rattle.cbm_medium.specs.declared.fault.Trouble.{Trouble}
 use Rattle.cbm_file.specs.Padding.{before_filler}
 use Rattle.cbm_file.specs.Files.{Disk, File, file_at, with_slot}
 use Rattle.cbm_bam.specs.Map.{geometry_of}
-use Rattle.cbm_chain.specs.Writing.{EndsChain, place_or_none}
-use Rattle.cbm_directory.specs.Entries.{EntersLed, is_closed, closed_entry}
-use Rattle.cbm_directory.specs.EntryChanges.{renamed_entry, reopened_entry, ClearsLed}
-use Rattle.cbm_directory.specs.Slots.{Answers}
-use Rattle.cbm_volume.specs.SeenDisks.{seen_tracks, seen_directory}
 use Rattle.cbm_volume.specs.Staying.{LeavesClosed}
 use Rattle.cbm_volume.specs.Opens.{IsHindered, IsUnwritten}
 use Rattle.cbm_volume.specs.Writers.{Filling, Use, Idle, Writes, HoldsNow, Stopped}
@@ -63,42 +57,6 @@ pub record IsOneWrite {A : Type 0} (result : Result A Trouble) (old new : Seen) 
 abbrev pub IsRenamed : ℕ → Content → Disk → (ℕ → Use) → ℕ → List ℕ → Type 0
 IsRenamed medium new d uses slot name = (f : File) → file_at d slot ≡ Some f → IsUnwritten uses slot
     → HoldsNow medium new (with_slot d slot (Some (record f { name = before_filler name }))) uses
-
--- ---- on any content
-
--- RENAME OF ANY DISK: the directory leads to no such slot, and nothing changes; or to its entry, which gets the name.
-abbrev pub RenamesLed : Seen → Seen → ℕ → List ℕ → Type 0
-RenamesLed old new slot name =
-    (Answers (seen_directory old) slot (Ok None) × (new.content ≡ old.content))
-    ⊎ ((entry : List ℕ) × Answers (seen_directory old) slot (Ok (Some entry)) × EntersLed (seen_tracks old) old.content new.content slot (renamed_entry entry name))
-
--- SCRATCH OF ANY DISK: the directory leads to no such slot, and nothing changes; or its entry is cleared, and then the map is written if
--- it was closed.
-abbrev pub ScratchesLed : Seen → Seen → ℕ → Type 0
-ScratchesLed old new slot =
-    (Answers (seen_directory old) slot (Ok None) × (new.content ≡ old.content))
-    ⊎ ((entry : List ℕ) × Answers (seen_directory old) slot (Ok (Some entry)) × (cleared : Content) × ClearsLed (seen_tracks old) old.content cleared slot
-    × MatchBool (is_closed entry) ((map : List ℕ) × (new.content ≡ written cleared directory_head map)) (new.content ≡ cleared))
-
--- a writer's last block is written, and then the entry of its slot is closed over its blocks, where the directory leads
-abbrev pub ClosesEntry : Seen → Content → Filling → Type 0
-ClosesEntry old new w =
-    (entry : List ℕ) × Answers (seen_directory old) w.slot (Ok (Some entry)) × (mid : Content) × EndsChain old.content mid w.chain.current w.chain.waiting
-    × EntersLed (seen_tracks old) mid new w.slot (closed_entry entry (place_or_none w.chain.first) w.chain.count)
-
--- CLOSE ON ANY DISK: the directory leads to no such slot, and nothing changes; or its entry is closed.
-abbrev pub FinishesLed : Seen → Seen → Filling → Type 0
-FinishesLed old new w = (Answers (seen_directory old) w.slot (Ok None) × (new.content ≡ old.content)) ⊎ ClosesEntry old new.content w
-
--- and of a replacement, the map is written after it
-abbrev pub ReplacesLed : Seen → Seen → Filling → Type 0
-ReplacesLed old new w =
-    (Answers (seen_directory old) w.slot (Ok None) × (new.content ≡ old.content))
-    ⊎ ((closed : Content) × ClosesEntry old closed w × (map : List ℕ) × (new.content ≡ written closed directory_head map))
-
--- OPEN FOR APPENDING ON ANY DISK: the entry that is given is no longer closed where the directory leads.
-abbrev pub ReopensLed : Seen → Seen → ℕ → List ℕ → Type 0
-ReopensLed old new slot entry = EntersLed (seen_tracks old) old.content new.content slot (reopened_entry entry)
 
 -- it changed at most what the sectors of the disk hold, which has 35 or 40 tracks as its map says, though the medium may have more
 abbrev pub OnlyOnDisk : {A : Type 0} → Result A Trouble → Seen → Seen → Type 0

@@ -8,6 +8,7 @@ pub mod Rooms
 pub mod Opens
 pub mod ReadFiles
 pub mod Calls
+pub mod Led
 pub mod Beginning
 pub mod Filled
 pub mod RecordFaults

@@ -9,7 +9,12 @@ use Rattle.cbm_file.specs.Files.{Disk, empty_from}
 use Rattle.cbm_file.specs.Changes.{has_slot, grown}
 use Rattle.cbm_file.specs.Records.{with_new_records}
 use Rattle.cbm_bam.specs.Map.{geometry_of}
-use Rattle.cbm_relfile.specs.Making.{IsFreshBlock, one_listed}
+use Rattle.cbm_relfile.specs.Making.{IsFreshBlock, one_listed, AreClaimed, IsNewRelfile}
+use Rattle.cbm_file.specs.declared.file_type.FileType.TheVariants.{Rel}
+use Rattle.cbm_directory.specs.Entries.{EntersLed, closed_entry}
+use Rattle.cbm_directory.specs.EntryChanges.{fresh_entry, IsRelativeAs}
+use Rattle.cbm_directory.specs.Empties.{TakesSlot}
+use Rattle.cbm_volume.specs.SeenDisks.{seen_tracks}
 use Rattle.cbm_volume.specs.Calls.{OfIdle, IsCall}
 use Rattle.cbm_volume.specs.Copies.{less, IsCopyCut, OfVacant}
 use Rattle.cbm_volume.specs.Layouts.{Writer, Layout}
@@ -72,3 +77,20 @@ EntersRecords result old new geometry block side name width number =
     HasTwo old.tracks c l d uses ch old.content block side → HoldsNew old.content block side width →
     empty_from 0 (grown d).slots ≡ Some number → geometry ≡ geometry_of old.tracks c →
     MatchResult result (λ x. Reached old.tracks c l new.content (with_new_records d (before_filler name) width) uses) (IsCopyCut old new c l d uses)
+
+-- ---- on any disk
+
+-- the first empty slot was taken, and then a block and a side sector were claimed
+abbrev pub ClaimsLed : ℕ → Content → Content → ℕ × (Place × Place) → Type 0
+ClaimsLed tracks old new r = (taken : Content) × TakesSlot tracks old taken (Some r.0) × AreClaimed tracks taken new r.1.0 r.1.1
+
+-- the closed entry of a file that has these two sectors was written into a slot, where the directory leads
+abbrev pub EntersRecordsLed : ℕ → Content → Content → Place → Place → List ℕ → ℕ → ℕ → Type 0
+EntersRecordsLed tracks old new block side name width slot =
+    (entry : List ℕ) × IsRelativeAs (closed_entry (fresh_entry Rel name block) block 2) entry side width × EntersLed tracks old new slot entry
+
+-- A NEW RELATIVE FILE IS MADE ON ANY DISK: a slot and two sectors were taken, the two sectors were written, and then the slot's entry.
+abbrev pub NewRecordsLed : Seen → Seen → List ℕ → ℕ → ℕ → Type 0
+NewRecordsLed old new name width slot =
+    (claimed : Content) × (made : Content) × (block : Place) × (side : Place) × ClaimsLed (seen_tracks old) old.content claimed (slot, (block, side))
+    × IsNewRelfile claimed made block side width × EntersRecordsLed (seen_tracks old) made new.content block side name width slot

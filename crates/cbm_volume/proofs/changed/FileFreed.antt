@@ -1,6 +1,6 @@
 -- All sectors of a closed file are given back: its blocks, then its side sectors.
 use Rattle.std.proofs.Common.{◌≡◌, ℕ, ◌≤◌, List, [], ◌∷◌, ◌++◌, length, Bool, false, true, Some, Ok, Err, Result, IsOk, refl, sym, ap, subst, ◌∙◌}
-use Rattle.std.specs.Prelude.{OnOk}
+use Rattle.std.specs.Prelude.{if◌then◌else◌, OnOk}
 use Rattle.cbm_medium.specs.Place.{Place, Has, sector_count}
 use Rattle.cbm_medium.specs.Content.{Cell, Content}
 use Rattle.cbm_medium.specs.Links.{bytes_at, or_nothing, Followed, follow}
@@ -8,8 +8,10 @@ use Rattle.cbm_medium.specs.declared.fault.Trouble.{Trouble}
 use Rattle.cbm_medium.proofs.Walks.{chain_followed}
 use Rattle.cbm_bam.specs.Map.{Frees}
 use Rattle.cbm_relfile.specs.SideSectors.{AllHave, Numbered, sides_listed}
-use Rattle.cbm_directory.specs.Entries.{first_block, first_side, width_of}
+use Rattle.cbm_directory.specs.Entries.{is_relative, first_block, first_side, width_of}
 use Rattle.cbm_volume.specs.Blocks.{Blocks, LiesAs}
+use Rattle.cbm_volume.specs.Led.{FreesFile}
+use Rattle.cbm_volume.proofs.layouts.Releases.{FreesFrom}
 use Rattle.cbm_volume.proofs.relative.Scratched.{lies_closed}
 
 -- one list after another
@@ -74,3 +76,29 @@ both_freed tracks c e b r p q old mid new result is lies few at side h k goes =
     by_result : (x : Result (Unit {0}) Trouble) → IsOk x → OnOk x (Frees tracks mid (sides_listed (bytes_at c q)) new) → Frees tracks mid (sides_listed (bytes_at c q)) new
     by_result (Ok y) h f = f
     by_result (Err t) h f = absurd (cc)
+
+-- ---- on any disk
+
+-- a file without records has no more
+pub plain_given : (tracks : ℕ) (c : Content) (e : List ℕ) (p : Place) (old new : List ℕ) → is_relative e ≡ false → p ≡ first_block e → FreesFrom tracks c p old new → FreesFile tracks c e old new
+plain_given tracks c e p old new plain at h =
+    let freed : FreesFrom tracks c (first_block e) old new = subst (λ (q : Place). FreesFrom tracks c q old new) at h in
+    let blocks : List Place = (follow tracks c (sector_count tracks) (first_block e)).blocks in
+    record {
+      whole = (freed.0, λ is. (let z = sym is ∙ plain in absurd (cc)));
+      given = subst (λ (b : Bool). Frees tracks old (blocks ++ (if b then sides_listed (bytes_at c (first_side e)) else [])) new) (sym plain) (frees_join tracks blocks [] old new new freed.1 refl);
+    }
+
+-- and of a relative one the side sectors after them
+pub both_given : (tracks : ℕ) (c : Content) (e : List ℕ) (p q : Place) (old mid new : List ℕ) (r : Result (Unit {0}) Trouble) → is_relative e ≡ true → p ≡ first_block e → q ≡ first_side e → FreesFrom tracks c p old mid
+    → OnOk r (Frees tracks mid (sides_listed (bytes_at c q)) new) → OnOk r (IsOk (c q)) → OnOk r (FreesFile tracks c e old new)
+both_given tracks c e p q old mid new (Err t) is at side h sides reads = tt
+both_given tracks c e p q old mid new (Ok x) is at side h sides reads =
+    let freed : FreesFrom tracks c (first_block e) old mid = subst (λ (p : Place). FreesFrom tracks c p old mid) at h in
+    let blocks : List Place = (follow tracks c (sector_count tracks) (first_block e)).blocks in
+    let listed : List Place = sides_listed (bytes_at c (first_side e)) in
+    record {
+      whole = (freed.0, λ is. subst (λ (q : Place). IsOk (c q)) side reads);
+      given = subst (λ (b : Bool). Frees tracks old (blocks ++ (if b then listed else [])) new) (sym is)
+          (frees_join tracks blocks listed old mid new freed.1 (subst (λ (q : Place). Frees tracks mid (sides_listed (bytes_at c q)) new) side sides));
+    }

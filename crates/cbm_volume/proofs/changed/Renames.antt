@@ -22,7 +22,7 @@ use Rattle.cbm_volume.specs.Holding.{EntryStandsAt}
 use Rattle.cbm_volume.specs.Layouts.{Owner, Directory, DataOf, Writer, Layout, slot_count, Sound, HasLayout}
 use Rattle.cbm_volume.specs.Staying.{LeavesClosed}
 use Rattle.cbm_volume.specs.SeenDisks.{seen_tracks, seen_directory}
-use Rattle.cbm_volume.specs.Calls.{RenamesLed}
+use Rattle.cbm_volume.specs.Led.{RenamesLed}
 use Rattle.cbm_volume.specs.Writers.{Use, Idle, Reads, Relates, Writes, IsReading, IsUsed, writes_slot, HoldsAt, Holds, HoldsNow}
 use Rattle.cbm_volume.specs.Opens.{IsUnwritten, IsHindered}
 use Rattle.cbm_volume.proofs.layouts.Frames.{Keeps, lies_alike}

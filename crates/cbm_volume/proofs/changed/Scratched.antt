@@ -20,7 +20,7 @@ use Rattle.cbm_directory.specs.Slots.{Answers, directory_of}
 use Rattle.cbm_volume.specs.Blocks.{Blocks, LiesAs, no_blocks, file_of}
 use Rattle.cbm_volume.specs.Layouts.{DataOf, OwnedBy, Layout, slot_count, Sound, HasLayout}
 use Rattle.cbm_volume.specs.SeenDisks.{seen_tracks, seen_directory}
-use Rattle.cbm_volume.specs.Calls.{ScratchesLed}
+use Rattle.cbm_volume.specs.Led.{IsFileWhole, FreesFile, RemapsFreed, ScratchesLed, ScratchStopped}
 use Rattle.cbm_volume.specs.Staying.{LeavesClosed}
 use Rattle.cbm_volume.specs.Opens.{IsUnused, IsHindered}
 use Rattle.cbm_volume.specs.Writers.{Use, HoldsAt, Holds, HoldsNow, known, Stopped}
@@ -285,16 +285,30 @@ release_spared medium c c1 c2 n freed r put ok err = λ d uses f h some unused.
 
 -- ---- on any disk
 
+-- what the map is after it, whether or not the entry was closed
+abbrev IsMapAfter : Seen → Content → Content → List ℕ → Bool → Type 0
+IsMapAfter old cleared new entry closed = MatchBool closed (RemapsFreed old cleared new (FreesFile (seen_tracks old) old.content entry)) (new ≡ cleared)
+
 -- an Ok says that the entry of a file that was never closed is cleared, where the directory leads
 pub open_led : (old new : Seen) (n : ℕ) (entry : List ℕ) (r : Result (Unit {0}) Trouble) → Answers (seen_directory old) n (Ok (Some entry)) → is_closed entry ≡ false
     → OnOk r (ClearsLed (seen_tracks old) old.content new.content n) → OnOk r (ScratchesLed old new n)
-open_led old new n entry (Ok x) found unclosed put =
-    inr (entry, found, new.content, put, subst (λ (b : Bool). MatchBool b ((map : List ℕ) × (new.content ≡ written new.content directory_head map)) (new.content ≡ new.content)) (sym unclosed) refl)
+open_led old new n entry (Ok x) found unclosed put = inr (entry, found, (new.content, put, subst (IsMapAfter old new.content new.content entry) (sym unclosed) refl))
 open_led old new n entry (Err t) found unclosed put = tt
 
--- and of a closed one, that the map was written after it
-pub closed_led : (old mid new : Seen) (n : ℕ) (entry map : List ℕ) (r : Result (Unit {0}) Trouble) → Answers (seen_directory old) n (Ok (Some entry)) → is_closed entry ≡ true
-    → ClearsLed (seen_tracks old) old.content mid.content n → OnOk r (new.content ≡ written mid.content directory_head map) → OnOk r (ScratchesLed old new n)
-closed_led old mid new n entry map (Ok x) found closed put mapped =
-    inr (entry, found, mid.content, put, subst (λ (b : Bool). MatchBool b ((map : List ℕ) × (new.content ≡ written mid.content directory_head map)) (new.content ≡ mid.content)) (sym closed) (map, mapped))
-closed_led old mid new n entry map (Err t) found closed put mapped = tt
+-- and of a closed one, that then its sectors were given back
+pub closed_led : (old mid new : Seen) (n : ℕ) (entry map freed : List ℕ) (r : Result (Unit {0}) Trouble) → Answers (seen_directory old) n (Ok (Some entry)) → is_closed entry ≡ true → old.content directory_head ≡ Ok map
+    → FreesFile (seen_tracks old) old.content entry map freed → ClearsLed (seen_tracks old) old.content mid.content n → OnOk r (new.content ≡ written mid.content directory_head freed) → OnOk r (ScratchesLed old new n)
+closed_led old mid new n entry map freed (Ok x) found closed head given put mapped =
+    inr (entry, found, (mid.content, put, subst (IsMapAfter old mid.content new.content entry) (sym closed) (map, freed, head, given, mapped)))
+closed_led old mid new n entry map freed (Err t) found closed head given put mapped = tt
+
+-- an Err: nothing has changed
+pub stopped_before : (old new : Seen) (n : ℕ) (r : Result (Unit {0}) Trouble) → OnErr r (new.content ≡ old.content) → OnErr r (ScratchStopped old new n)
+stopped_before old new n (Ok x) same = tt
+stopped_before old new n (Err t) same = inl same
+
+-- or the map alone wasn't written
+pub stopped_after : (old mid new : Seen) (n : ℕ) (entry : List ℕ) (r : Result (Unit {0}) Trouble) → Answers (seen_directory old) n (Ok (Some entry)) → is_closed entry ≡ true → IsFileWhole (seen_tracks old) old.content entry
+    → ClearsLed (seen_tracks old) old.content mid.content n → OnErr r (new.content ≡ mid.content) → OnErr r (ScratchStopped old new n)
+stopped_after old mid new n entry (Ok x) found closed whole put same = tt
+stopped_after old mid new n entry (Err t) found closed whole put same = inr (entry, found, closed, whole, subst (λ (x : Content). ClearsLed (seen_tracks old) old.content x n) (sym same) put)

@@ -2,12 +2,15 @@
 use Rattle.std.proofs.Common.{◌≡◌, ◌≢◌, ◌⊎◌, ℕ, suc, ◌+◌, ◌%◌, ◌<◌, ◌≤◌, List, [], ◌∷◌, length, get_or, Bool, true, false, refl, sym, ap, subst, ◌∙◌, arith, inl, inr, Option, Some, None}
 use Rattle.std.specs.Prelude.{if◌then◌else◌}
 use Rattle.std.proofs.lemmas.Bool.{cases_eq, eq-eqb}
-use Rattle.cbm_medium.specs.Place.{Place, directory_head, Has}
+use Rattle.cbm_medium.specs.Place.{Place, directory_head, Has, sector_count}
 use Rattle.cbm_medium.specs.Content.{Content}
-use Rattle.cbm_medium.specs.Links.{bytes_at, link, Chain, IsApart}
+use Rattle.cbm_medium.specs.Links.{bytes_at, link, follow, Chain, IsApart}
+use Rattle.cbm_medium.specs.Seen.{Seen}
 use Rattle.cbm_file.specs.Files.{Disk, File, with_slot}
 use Rattle.cbm_bam.specs.Map.{Frees, is_free_in, free_in, tally, IsMapped, with_bit, with_freed, map_of, Remaps}
-use Rattle.cbm_directory.specs.Entries.{type_byte, bit_of, is_relative, sector_of, Enters}
+use Rattle.cbm_directory.specs.Entries.{type_byte, bit_of, is_relative, first_block, sector_of, Enters}
+use Rattle.cbm_volume.specs.SeenDisks.{seen_tracks}
+use Rattle.cbm_volume.specs.Led.{FreesChain}
 use Rattle.cbm_volume.specs.Blocks.{Blocks, no_blocks, Lies, LiesAs, file_of}
 use Rattle.cbm_volume.specs.Layouts.{Owner, Nobody, TheMap, Directory, DataOf, SideOf, OwnedBy, Layout, IsOwned, slot_count, Sound, Describes, HasLayout, own}
 use Rattle.cbm_medium.proofs.Places.{place_decide}
@@ -157,3 +160,16 @@ frees_mapped tracks map new (b ∷ rest) h =
     mapped_as tracks map new (with_freed (is_free_in h.0) rest) (with_freed (is_free_in map) (b ∷ rest))
     (λ p k. freed_as (is_free_in h.0) (with_bit (is_free_in map) b true) rest p (h.1.mapped.bits p k) ∙ freed_first (is_free_in map) b rest p)
     (mapped_then tracks map h.0 new (with_bit (is_free_in map) b true) (with_freed (is_free_in h.0) rest) h.1.mapped again)
+
+-- ---- the chain of an entry
+
+-- a chain comes to its end, and its blocks were given back
+abbrev pub FreesFrom : ℕ → Content → Place → List ℕ → List ℕ → Type 0
+FreesFrom k c p map freed = ((follow k c (sector_count k) p).trouble ≡ None) × Frees k map (follow k c (sector_count k) p).blocks freed
+
+-- it is the chain that the entry had
+pub chain_given : (inside old : Seen) (k : ℕ) (p : Place) (entry map freed : List ℕ) → inside ≡ old → k ≡ seen_tracks old → p ≡ first_block entry → FreesFrom k inside.content p map freed → FreesChain (seen_tracks old) old.content entry map freed
+chain_given inside old k p entry map freed same size at h =
+    let here : FreesFrom (seen_tracks old) old.content (first_block entry) map freed = subst (λ (q : Place). FreesFrom (seen_tracks old) old.content q map freed) at
+    (subst (λ (s : Seen). FreesFrom (seen_tracks old) s.content p map freed) same (subst (λ (m : ℕ). FreesFrom m inside.content p map freed) size h)) in
+    record { whole = here.0; given = here.1 }

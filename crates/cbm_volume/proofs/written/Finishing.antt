@@ -30,7 +30,7 @@ use Rattle.cbm_volume.proofs.layouts.Writers.{holds_step, idle_like, written_kee
 use Rattle.cbm_volume.proofs.written.Closing.{is_ch, other_slot, others_spared, some_file, plain_entry, closed_file, ended, IsEnded, closed_over}
 use Rattle.cbm_file.specs.Changes.{finished, finished_in, with_finished}
 use Rattle.cbm_volume.specs.SeenDisks.{seen_tracks, seen_directory}
-use Rattle.cbm_volume.specs.Calls.{ClosesEntry, FinishesLed, ReplacesLed}
+use Rattle.cbm_volume.specs.Led.{AtSlot, ClosesEntry}
 use Rattle.cbm_volume.specs.Writers.{Filling, Use, Idle, Writes, IsWriting, IsUsed, HoldsAt, Holds, HoldsNow, with_use, Stopped}
 use Rattle.cbm_volume.proofs.layouts.Distinct.{at_most_all}
 use Rattle.cbm_volume.proofs.written.GivenBack.{part_taken}
@@ -221,17 +221,13 @@ all_closed medium c c1 c2 w (Ok x) entry body found ends says put = λ d uses ch
 -- ---- on any disk
 
 -- there is no such slot
-pub finish_nowhere : (old : Seen) (w : Filling) (o : Option (List ℕ)) → o ≡ None → Answers (seen_directory old) w.slot (Ok o) → FinishesLed old old w × ReplacesLed old old w
-finish_nowhere old w o none h =
-    let a : Answers (seen_directory old) w.slot (Ok None) = subst (λ (x : Option (List ℕ)). Answers (seen_directory old) w.slot (Ok x)) none h in
-    (inl (a, refl), inl (a, refl))
+pub finish_nowhere : (old : Seen) (n : ℕ) (o : Option (List ℕ)) (P : List ℕ → Type 0) → o ≡ None → Answers (seen_directory old) n (Ok o) → AtSlot old old n P
+finish_nowhere old n o P none h = inl (subst (λ (x : Option (List ℕ)). Answers (seen_directory old) n (Ok x)) none h, refl)
 
 -- the entry that was found is closed, where the directory leads after the last block
-pub entry_closed : (old : Seen) (mid new : Content) (w : Filling) (k n : ℕ) (p : Place) (o : Option (List ℕ)) (entry body : List ℕ) → o ≡ Some entry → Answers (seen_directory old) w.slot (Ok o) → EndsChain old.content mid w.chain.current w.chain.waiting
-    → k ≡ seen_tracks old → p ≡ place_or_none w.chain.first → n ≡ w.chain.count → body ≡ closed_entry entry p n → EntersLed k mid new w.slot body → ClosesEntry old new w
-entry_closed old mid new w k n p o entry body some found ended size first count is put = (
-  entry,
-  subst (λ (x : Option (List ℕ)). Answers (seen_directory old) w.slot (Ok x)) some found,
+pub entry_closed : (old : Seen) (mid new : Content) (w : Filling) (k n : ℕ) (p : Place) (entry body : List ℕ) → EndsChain old.content mid w.chain.current w.chain.waiting
+    → k ≡ seen_tracks old → p ≡ place_or_none w.chain.first → n ≡ w.chain.count → body ≡ closed_entry entry p n → EntersLed k mid new w.slot body → ClosesEntry old new w entry
+entry_closed old mid new w k n p entry body ended size first count is put = (
   mid,
   ended,
   subst (λ (e : List ℕ). EntersLed (seen_tracks old) mid new w.slot e) (is ∙ ap (λ (q : Place). closed_entry entry q n) first ∙ ap (closed_entry entry (place_or_none w.chain.first)) count)

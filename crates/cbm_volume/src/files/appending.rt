@@ -2,7 +2,8 @@
 
 ghost use Rattle.std.specs.Prelude.{◌≡◌, ◌≤◌, ◌==◌, OnOk, OnErr, IfOk};
 ghost use Rattle.cbm_volume.specs.Beginning.{BeginsAppending};
-ghost use Rattle.cbm_volume.specs.Calls.{OnlyOnDisk, OfDisk, LeavesFiles, ReopensLed};
+ghost use Rattle.cbm_volume.specs.Calls.{OnlyOnDisk, OfDisk, LeavesFiles};
+ghost use Rattle.cbm_volume.specs.Led.{ReopensLed};
 
 use crate::files::filling::FileWriter;
 use crate::volume::Volume;

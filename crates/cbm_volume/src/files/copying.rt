@@ -7,7 +7,7 @@ ghost use Rattle.cbm_file.specs.Files.{file_at, blocks_of};
 ghost use Rattle.cbm_file.specs.Changes.{slot_bytes, joined};
 ghost use Rattle.cbm_chain.specs.Reading.{IsSettled};
 ghost use Rattle.cbm_volume.specs.Copies.{AreCopied, CanBeCopied, HasNoRoomFor};
-ghost use Rattle.cbm_volume.specs.Copying.{CopiesFiles, MakesCopy, BeginsCopy, CopiesByte, CopiesNext, CopiesRest, CopiesOf, EntersCopy};
+ghost use Rattle.cbm_volume.specs.Copying.{CopiesFiles, MakesCopy, BeginsCopy, CopiesByte, CopiesNext, CopiesRest, CopiesOf, EntersCopy, BeginsCopyLed, EntersCopyLed, CopyLed};
 ghost use Rattle.cbm_volume.specs.SeenDisks.{seen_tracks};
 ghost use Rattle.cbm_volume.specs.Calls.{OnlyOnDisk, OfDisk, KeepsProtected, IsSameOn};
 
@@ -32,6 +32,7 @@ impl<M: Medium> Volume<M> {
         ensures full { OfDisk (M.seen self.old) (λ d uses. AreCopied d sources.now → HasNoRoomFor d sources.now →
             IsOkAnd result (λ done. done ≡ false)) }
         ensures read { OnOk result (IsOk ((M.seen self.old).content directory_head)) }
+        ensures led { IfOk result (λ done. done ≡ true → CopyLed (M.seen self.old) (M.seen self.new) kind name.now) }
         ensures kept { IsSameOn result false (M.seen self.old) (M.seen self.new) }
         ensures guarded { KeepsProtected (M.seen self.old) (M.seen self.new) }
         ensures only { OnlyOnDisk result (M.seen self.old) (M.seen self.new) }
@@ -111,6 +112,7 @@ fn make<M: Medium>(
 ) -> Result<(), Trouble>
     requires { length name.now ≤ 16 }
     ensures made { MakesCopy result (M.seen medium.old) (M.seen medium.new) kind name.now sources.now }
+    ensures led { OnOk result (CopyLed (M.seen medium.old) (M.seen medium.new) kind name.now) }
     ensures only { OnlyOnDisk result (M.seen medium.old) (M.seen medium.new) }
 {
     let (number, mut chain) = begin(medium)?;
@@ -121,6 +123,8 @@ fn make<M: Medium>(
 /// Finds an empty slot, for which the directory may grow, and claims a first block.
 fn begin<M: Medium>(medium: &mut M) -> Result<(u8, ChainWriter), Trouble>
     ensures begun { BeginsCopy result (M.seen medium.old) (M.seen medium.new) }
+    ensures led { let old = M.seen medium.old in
+        IfOk result (BeginsCopyLed (seen_tracks old) old.content (M.seen medium.new).content) }
     ensures tracks { IfOk result (λ r. (r.1.tracks ≡ seen_tracks (M.seen medium.old)) × (r.1.tracks ≤ (M.seen medium.old).tracks)) }
     ensures only { OnlyOnDisk result (M.seen medium.old) (M.seen medium.new) }
 {
@@ -235,6 +239,8 @@ fn enter<M: Medium>(
     requires chain { chain.now.tracks ≤ (M.seen medium.old).tracks }
     requires name { length name.now ≤ 16 }
     ensures entered { EntersCopy result (M.seen medium.old) (M.seen medium.new) chain.now kind name.now number }
+    ensures led { OnOk result (EntersCopyLed (M.seen medium.old).content (M.seen medium.new).content chain.now kind name.now
+        number) }
     ensures only { OnlyContent chain.now.tracks result (M.seen medium.old) (M.seen medium.new) }
 {
     chain.finish(medium)?;

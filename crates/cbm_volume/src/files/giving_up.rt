@@ -1,7 +1,8 @@
 // A replacement that is given up.
 
-ghost use Rattle.std.specs.Prelude.{◌≤◌};
+ghost use Rattle.std.specs.Prelude.{◌≤◌, OnOk};
 ghost use Rattle.cbm_medium.specs.Seen.{OnlyContent};
+ghost use Rattle.cbm_chain.specs.GivenUp.{GivesUpLed};
 ghost use Rattle.cbm_volume.specs.Filled.{GivesUpWriting};
 
 use crate::files::filling::FileWriter;
@@ -15,6 +16,7 @@ impl<M: Medium> Volume<M> {
     pub fn give_up(&mut self, writer: &FileWriter) -> Result<(), Trouble>
         requires { writer.now.chain.tracks ≤ (M.seen self.old).tracks }
         ensures call { GivesUpWriting result (M.seen self.old) (M.seen self.new) writer.now }
+        ensures led { OnOk result (GivesUpLed (M.seen self.old).content (M.seen self.new).content writer.now.chain) }
         ensures only { OnlyContent writer.now.chain.tracks result (M.seen self.old) (M.seen self.new) }
     {
         writer.chain.abandon(&mut self.medium)

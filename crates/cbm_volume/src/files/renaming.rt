@@ -1,7 +1,8 @@
 // RENAME: a slot's entry gets another name.
 
 ghost use Rattle.std.specs.Prelude.{◌≡◌, ◌≤◌, Some, length, OnOk, OnErr};
-ghost use Rattle.cbm_volume.specs.Calls.{OnlyOnDisk, OfDisk, IsOneWrite, IsRenamed, RenamesLed};
+ghost use Rattle.cbm_volume.specs.Calls.{OnlyOnDisk, OfDisk, IsOneWrite, IsRenamed};
+ghost use Rattle.cbm_volume.specs.Led.{RenamesLed};
 
 use crate::volume::Volume;
 use cbm_directory::put_slot;

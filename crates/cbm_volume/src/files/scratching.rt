@@ -1,6 +1,6 @@
 // Files that are scratched.
 
-ghost use Rattle.std.specs.Prelude.{◌≡◌, ◌≢◌, ◌==◌, ◌≤◌, ◌++◌, true, length, Some, IsOk, OnOk, IfErr};
+ghost use Rattle.std.specs.Prelude.{◌≡◌, ◌≢◌, ◌==◌, ◌≤◌, ◌++◌, true, length, Some, IsOk, OnOk, OnErr, IfErr};
 ghost use Rattle.cbm_medium.specs.Place.{sector_count};
 ghost use Rattle.cbm_medium.specs.Seen.{ShowsGround};
 ghost use Rattle.cbm_file.specs.Files.{File, file_at};
@@ -9,7 +9,8 @@ ghost use Rattle.cbm_bam.specs.Map.{Frees};
 ghost use Rattle.cbm_directory.specs.Entries.{is_relative};
 ghost use Rattle.cbm_volume.specs.Blocks.{Blocks, LiesAs};
 ghost use Rattle.cbm_volume.specs.Opens.{IsUnused};
-ghost use Rattle.cbm_volume.specs.Calls.{ScratchesLed, OnlyOnDisk, OfDisk, IsChange};
+ghost use Rattle.cbm_volume.specs.Calls.{OnlyOnDisk, OfDisk, IsChange};
+ghost use Rattle.cbm_volume.specs.Led.{FreesFile, ScratchesLed, ScratchStopped};
 
 use crate::volume::Volume;
 use cbm_bam::Release;
@@ -28,6 +29,7 @@ impl<M: Medium> Volume<M> {
         ensures call { OfDisk (M.seen self.old) (λ d uses. (f : File) → file_at d slot ≡ Some f → IsUnused uses slot →
             IsChange result (M.seen self.old) (M.seen self.new) d (scratched d slot) uses (λ m. m == slot)) }
         ensures led { OnOk result (ScratchesLed (M.seen self.old) (M.seen self.new) slot) }
+        ensures stopped { OnErr result (ScratchStopped (M.seen self.old) (M.seen self.new) slot) }
         ensures only { OnlyOnDisk result (M.seen self.old) (M.seen self.new) }
     {
         let geometry = self.geometry();
@@ -57,6 +59,8 @@ fn free_file<M: Medium>(
     ensures freed { (b : Blocks) → LiesAs true (is_relative entry.now) geometry (M.seen medium.now).content entry.now b →
         length b.data_blocks ≤ sector_count geometry →
         IsOk result × Frees geometry release.old (b.data_blocks ++ b.sides) release.new }
+    ensures given { let old = (M.seen medium.now).content in
+        OnOk result (FreesFile geometry old entry.now release.old release.new) }
     ensures never_26 { IfErr result (λ t. t.code ≢ 26) }
     ensures shown { IfErr result (ShowsGround (M.seen medium.now)) }
 {

@@ -3,7 +3,8 @@
 ghost use Rattle.std.specs.Prelude.{◌≡◌, OnOk, ◌≤◌, ◌==◌, length};
 ghost use Rattle.cbm_medium.specs.Seen.{OnlyContent};
 ghost use Rattle.cbm_volume.specs.Filled.{StoresByte, StoresLed, FinishesWriting, FinishesReplacing};
-ghost use Rattle.cbm_volume.specs.Calls.{FinishesLed, ReplacesLed, OnlyOfWriter, OfWriter};
+ghost use Rattle.cbm_volume.specs.Calls.{OnlyOfWriter, OfWriter};
+ghost use Rattle.cbm_volume.specs.Led.{FinishesLed, ReplacesLed};
 
 use crate::files::filling::FileWriter;
 use crate::volume::Volume;

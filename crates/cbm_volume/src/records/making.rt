@@ -1,9 +1,9 @@
 // OPEN of a relative file that isn't there: a block of fresh records, a side sector that lists it, and a closed entry.
 
-ghost use Rattle.std.specs.Prelude.{◌≡◌, ◌≤◌, ◌||◌, length, not, nat_lt, true, false, None, IsOk, OnOk, IfOk, IsOkAnd};
+ghost use Rattle.std.specs.Prelude.{◌≡◌, ◌≤◌, ◌||◌, length, not, nat_lt, true, false, None, IsOk, OnOk, IfOk, IfSome, IsOkAnd};
 ghost use Rattle.cbm_medium.specs.Place.{directory_head};
 ghost use Rattle.cbm_medium.specs.Seen.{OnlyContent};
-ghost use Rattle.cbm_volume.specs.NewRecords.{HasNoRoomForRecords, OpensNewRecords, MakesRelative, ClaimsForRecords, EntersRecords};
+ghost use Rattle.cbm_volume.specs.NewRecords.{HasNoRoomForRecords, OpensNewRecords, MakesRelative, ClaimsForRecords, EntersRecords, ClaimsLed, EntersRecordsLed, NewRecordsLed};
 ghost use Rattle.cbm_volume.specs.Calls.{OnlyOnDisk, OfDisk, KeepsProtected, IsSameOn};
 
 use crate::disk::Room;
@@ -30,6 +30,8 @@ impl<M: Medium> Volume<M> {
         // Too little room is reported first, also on a protected medium.
         ensures full { OfDisk (M.seen self.old) (λ d uses. HasNoRoomForRecords d → IsOkAnd result (λ o. o ≡ None)) }
         ensures read { OnOk result (IsOk ((M.seen self.old).content directory_head)) }
+        ensures led { IfOk result (λ o. IfSome o (NewRecordsLed (M.seen self.old) (M.seen self.new) name.now
+            record_length)) }
         ensures kept { IsSameOn result None (M.seen self.old) (M.seen self.new) }
         ensures guarded { KeepsProtected (M.seen self.old) (M.seen self.new) }
         ensures only { OnlyOnDisk result (M.seen self.old) (M.seen self.new) }
@@ -75,6 +77,7 @@ fn make<M: Medium>(medium: &mut M, name: &[u8], record_length: u8) -> Result<u8,
     requires name { length name.now ≤ 16 }
     requires width { (1 ≤ record_length) × (record_length ≤ 254) }
     ensures made { MakesRelative result (M.seen medium.old) (M.seen medium.new) name.now record_length }
+    ensures led { IfOk result (NewRecordsLed (M.seen medium.old) (M.seen medium.new) name.now record_length) }
     ensures only { OnlyOnDisk result (M.seen medium.old) (M.seen medium.new) }
 {
     let geometry = cbm_bam::geometry(medium);
@@ -88,6 +91,7 @@ fn make<M: Medium>(medium: &mut M, name: &[u8], record_length: u8) -> Result<u8,
 fn begin<M: Medium>(medium: &mut M, geometry: Geometry) -> Result<(u8, (Address, Address)), Trouble>
     requires tracks { geometry ≤ (M.seen medium.old).tracks }
     ensures begun { ClaimsForRecords result (M.seen medium.old) (M.seen medium.new) geometry }
+    ensures led { IfOk result (ClaimsLed geometry (M.seen medium.old).content (M.seen medium.new).content) }
     ensures tracks { IfOk result (λ r. (r.1.0.track ≤ geometry) × (r.1.1.track ≤ geometry)) }
     ensures only { OnlyContent geometry result (M.seen medium.old) (M.seen medium.new) }
 {
@@ -114,6 +118,8 @@ fn enter<M: Medium>(
     requires name { length name.now ≤ 16 }
     requires width { (1 ≤ record_length) × (record_length ≤ 254) }
     ensures entered { EntersRecords result (M.seen medium.old) (M.seen medium.new) geometry block side name.now record_length number }
+    ensures led { OnOk result (EntersRecordsLed geometry (M.seen medium.old).content (M.seen medium.new).content block side
+        name.now record_length number) }
     ensures only { OnlyContent geometry result (M.seen medium.old) (M.seen medium.new) }
 {
     let first = Link::from(block);

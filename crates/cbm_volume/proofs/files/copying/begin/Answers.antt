@@ -1,9 +1,12 @@
+use Rattle.std.proofs.Common.{ℕ, subst}
+use Rattle.cbm_medium.specs.Content.{Content}
+use Rattle.cbm_volume.specs.Copying.{BeginsCopyLed}
 use Rattle.cbm_medium.specs.Seen.{Seen}
 use Rattle.cbm_volume.specs.Copies.{IsCopyCut}
 use Rattle.cbm_volume.proofs.copied.CopySteps.{handed}
 use Rattle.cbm_volume.proofs.copied.CopyEnds.{begin_cut, begin_place, begin_ready, claim_cut, claim_place, claim_made}
-use Rattle.std.proofs.Common.{rules}
-use Rattle.cbm_medium.proofs.Sequences.{readable_after}
+use Rattle.cbm_volume.proofs.OneAfterAnother.{both_done}
+use Rattle.cbm_volume.proofs.layouts.OnDisks.{of_tracks}
 use Rattle.cbm_volume.proofs.files.copying.begin.Goals as goal
 
 pub returns-in_err-number-clause-begun : goal.returns-in_err-number-clause-begun
@@ -41,16 +44,16 @@ returns-clause-begun g c = λ d uses ch h idle some room.
     (begin_ready old mid c.geometry-geometry.result c.in-Some.number c.in_ok-number.field-0 d uses h c.geometry-geometry.ensures.value c.in-Some.is c.in_ok-number.ensures.taken) c.geometry-geometry.ensures.value c.in-Some-2.is c.in_ok-chain.ensures.begun
 
 pub returns-clause-only : goal.returns-clause-only
-returns-clause-only g c = record {
-  tracks = (search rules);
-  protected = (search rules);
-  id = (search rules);
-  counted = (search rules);
-  once = (search rules);
-  uncounted = (search rules);
-  own = (search rules);
-  guarded = (search rules);
-  shown = (search rules);
-  beyond = (search rules);
-  readable = readable_after _ _ _ c.in_ok-number.ensures.only.readable c.in_ok-chain.ensures.only.readable;
-}
+returns-clause-only g c =
+    of_tracks c.geometry-geometry.result _ (g.M.Medium.seen c.args.medium.now) (g.M.Medium.seen c.begin.new.medium) c.geometry-geometry.ensures.value
+    (both_done _ c.in_ok-number.was c.in_ok-chain.was c.empty_slot.ensures.only c.begin.ensures.only)
+
+-- ---- on any disk
+
+pub returns-clause-led : goal.returns-clause-led
+returns-clause-led g c =
+    let old : Content = (g.M.Medium.seen c.args.medium.now).content in
+    let new : Content = (g.M.Medium.seen c.begin.new.medium).content in
+    let claimed = rw c.in-Some-2.is at c.in_ok-chain.ensures.begun in
+    subst (λ (k : ℕ). BeginsCopyLed k old new (c.in-Some.number, c.in-Some-2.chain)) c.geometry-geometry.ensures.value
+    ((g.M.Medium.seen c.empty_slot.new.medium).content, rw c.in-Some.is at c.in_ok-number.ensures.taken, claimed.0, claimed.1, claimed.2)

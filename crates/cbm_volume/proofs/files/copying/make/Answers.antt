@@ -1,12 +1,17 @@
-use Rattle.std.proofs.Common.{ℕ, [], length, sym, subst, rules}
-use Rattle.cbm_medium.specs.Seen.{Seen}
+use Rattle.cbm_medium.specs.Content.{Content}
+use Rattle.cbm_chain.specs.Writing.{State}
+use Rattle.cbm_volume.specs.Copying.{EntersCopyLed}
+use Rattle.cbm_volume.proofs.layouts.Calls.{ok_so}
+use Rattle.std.proofs.Common.{ℕ, [], length, sym, subst, ◌∙◌}
+use Rattle.cbm_medium.specs.Seen.{Seen, OnlyContent}
 use Rattle.cbm_file.specs.Changes.{joined, with_copy}
 use Rattle.cbm_file.specs.Padding.{before_filler}
 use Rattle.cbm_volume.specs.Copies.{IsCopyCut, Making}
 use Rattle.cbm_volume.specs.Writers.{Idle}
 use Rattle.cbm_volume.proofs.copied.CopySteps.{handed, cut_since}
 use Rattle.cbm_volume.proofs.copied.CopyEnds.{since_begun, one_block}
-use Rattle.cbm_medium.proofs.Sequences.{readable_after}
+use Rattle.cbm_medium.proofs.Sequences.{only_after}
+use Rattle.cbm_volume.proofs.OneAfterAnother.{second_refused}
 use Rattle.cbm_volume.proofs.files.copying.make.Goals as goal
 
 pub returns-in_err-number-clause-made : goal.returns-in_err-number-clause-made
@@ -44,31 +49,29 @@ returns-clause-made g c = λ d uses ch h idle ne plain are some room.
     (c.enter.ensures.entered old.content h.layout d uses ch bytes (subst (λ (n : ℕ). Making n old.content h.layout d uses ch two.content c.put_files.new.chain bytes Idle) (sym on.tracks) put) idle begun.0 ne plain))
 
 pub returns-in_err-put_files-clause-only : goal.returns-in_err-put_files-clause-only
-returns-in_err-put_files-clause-only g c = record {
-  tracks = (search rules);
-  protected = (search rules);
-  id = (search rules);
-  counted = (search rules);
-  once = (search rules);
-  uncounted = (search rules);
-  own = (search rules);
-  guarded = (search rules);
-  shown = (search rules);
-  beyond = (search rules);
-  readable = readable_after _ _ _ c.in_ok-number.ensures.only.readable c.in_err-put_files.ensures.only.readable;
-}
+returns-in_err-put_files-clause-only g c =
+    second_refused c.from_residual-in_err-put_files.result c.in_ok-number.was c.in_err-put_files.was c.from_residual-in_err-put_files.ensures.1 c.begin.ensures.only
+    (subst (λ (k : ℕ). OnlyContent k c.put_files.result (g.M.Medium.seen c.begin.new.medium) (g.M.Medium.seen c.put_files.new.medium)) c.in_ok-number.ensures.tracks.0 c.put_files.ensures.only)
 
 pub returns-clause-only : goal.returns-clause-only
-returns-clause-only g c = record {
-  tracks = (search rules);
-  protected = (search rules);
-  id = (search rules);
-  counted = (search rules);
-  once = (search rules);
-  uncounted = (search rules);
-  own = (search rules);
-  guarded = (search rules);
-  shown = (search rules);
-  beyond = (search rules);
-  readable = readable_after _ _ _ c.in_ok-number.ensures.only.readable (readable_after _ _ _ c.in_ok-put_files.ensures.only.readable c.enter.ensures.only.readable);
-}
+returns-clause-only g c =
+    let old : Seen = g.M.Medium.seen c.args.medium.now in
+    let mid : Seen = g.M.Medium.seen c.begin.new.medium in
+    let two : Seen = g.M.Medium.seen c.put_files.new.medium in
+    let new : Seen = g.M.Medium.seen c.enter.new.medium in
+    only_after c.put_files.result c.in_ok-put_files.field-0 c.enter.result old two new c.in_ok-put_files.was
+    (only_after c.begin.result _ c.put_files.result old mid two c.in_ok-number.was c.begin.ensures.only (subst (λ (k : ℕ). OnlyContent k c.put_files.result mid two) c.in_ok-number.ensures.tracks.0 c.put_files.ensures.only))
+    (subst (λ (k : ℕ). OnlyContent k c.enter.result two new) (c.in_ok-put_files.ensures.tracks ∙ c.in_ok-number.ensures.tracks.0) c.enter.ensures.only)
+
+-- ---- on any disk
+
+pub returns-clause-led : goal.returns-clause-led
+returns-clause-led g c =
+    let begun : Content = (g.M.Medium.seen c.begin.new.medium).content in
+    let filled : Content = (g.M.Medium.seen c.put_files.new.medium).content in
+    let new : Content = (g.M.Medium.seen c.enter.new.medium).content in
+    let t : State = c.put_files.new.chain in
+    ok_so c.enter.result
+    (λ (put : EntersCopyLed filled new t c.args.kind c.args.name.now c.in_ok-number.number).
+    (c.in_ok-number.number, begun, c.in_ok-number.chain, c.in_ok-number.ensures.led, filled, t, c.put_files.ensures.tracks, put))
+    c.enter.ensures.led

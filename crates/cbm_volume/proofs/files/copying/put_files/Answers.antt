@@ -1,7 +1,8 @@
-use Rattle.std.proofs.Common.{ℕ, Ok, refl, subst, ◌∙◌, rules}
-use Rattle.cbm_medium.proofs.Sequences.{nothing_yet, only_more, readable_after}
+use Rattle.std.proofs.Common.{ℕ, Ok, refl, subst, ◌∙◌}
+use Rattle.cbm_medium.proofs.Sequences.{nothing_yet, only_more}
 use Rattle.cbm_medium.specs.Seen.{Seen, OnlyContent}
 use Rattle.cbm_volume.specs.Copies.{IsCopyCut}
+use Rattle.cbm_volume.proofs.OneAfterAnother.{second_refused}
 use Rattle.cbm_volume.proofs.copied.CopySteps.{handed, copied_first, copied_step, copied_cut, all_copied}
 use Rattle.cbm_volume.proofs.files.copying.put_files.Goals as goal
 
@@ -32,16 +33,6 @@ returns-clause-put g c =
     all_copied (g.M.Medium.seen c.args.medium.now) (g.M.Medium.seen c.sources.medium) c.args.chain.now c.sources.chain c.args.sources.now c.sources.number-index c.sources-test.false c.sources.invariant.0
 
 pub returns-in_err-put_file-clause-only : goal.returns-in_err-put_file-clause-only
-returns-in_err-put_file-clause-only g c = record {
-  tracks = (search rules);
-  protected = (search rules);
-  id = (search rules);
-  counted = (search rules);
-  once = (search rules);
-  uncounted = (search rules);
-  own = (search rules);
-  guarded = (search rules);
-  shown = (search rules);
-  beyond = (search rules);
-  readable = readable_after _ _ _ c.sources.invariant.1.readable c.in_err-put_file.ensures.only.readable;
-}
+returns-in_err-put_file-clause-only g c =
+    second_refused c.from_residual.result refl c.in_err-put_file.was c.from_residual.ensures.1 c.sources.invariant.1
+    (subst (λ (n : ℕ). OnlyContent n c.put_file.result (g.M.Medium.seen c.sources.medium) (g.M.Medium.seen c.put_file.new.medium)) c.sources.invariant.2 c.put_file.ensures.only)

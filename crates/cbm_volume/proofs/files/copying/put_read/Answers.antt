@@ -1,7 +1,8 @@
-use Rattle.std.proofs.Common.{ℕ, Ok, refl, subst, ◌∙◌, rules}
-use Rattle.cbm_medium.proofs.Sequences.{nothing_yet, only_more, readable_after}
+use Rattle.std.proofs.Common.{ℕ, Ok, refl, subst, ◌∙◌}
+use Rattle.cbm_medium.proofs.Sequences.{nothing_yet, only_more}
 use Rattle.cbm_medium.specs.Seen.{Seen, OnlyContent}
 use Rattle.cbm_volume.specs.Copies.{IsCopyCut}
+use Rattle.cbm_volume.proofs.OneAfterAnother.{second_refused}
 use Rattle.cbm_volume.proofs.copied.CopySteps.{handed, read_first, read_step, read_cut, all_read}
 use Rattle.cbm_volume.proofs.files.copying.put_read.Goals as goal
 
@@ -34,16 +35,6 @@ returns-clause-put g c =
     all_read (g.M.Medium.seen c.args.medium.now) (g.M.Medium.seen c.loop-passed.medium) c.args.chain.now c.loop-passed.chain c.args.reader.now c.loop-passed.reader c.args.count c.loop-passed.passed c.loop-passed-test.false c.loop-passed.invariant.0
 
 pub returns-in_err-put_next-clause-only : goal.returns-in_err-put_next-clause-only
-returns-in_err-put_next-clause-only g c = record {
-  tracks = (search rules);
-  protected = (search rules);
-  id = (search rules);
-  counted = (search rules);
-  once = (search rules);
-  uncounted = (search rules);
-  own = (search rules);
-  guarded = (search rules);
-  shown = (search rules);
-  beyond = (search rules);
-  readable = readable_after _ _ _ c.loop-passed.invariant.1.readable c.in_err-put_next.ensures.only.readable;
-}
+returns-in_err-put_next-clause-only g c =
+    second_refused c.from_residual.result refl c.in_err-put_next.was c.from_residual.ensures.1 c.loop-passed.invariant.1
+    (subst (λ (n : ℕ). OnlyContent n c.put_next.result (g.M.Medium.seen c.loop-passed.medium) (g.M.Medium.seen c.put_next.new.medium)) c.loop-passed.invariant.2 c.put_next.ensures.only)

@@ -1,5 +1,5 @@
 use Rattle.std.proofs.Common.{refl, sym, ◌∙◌}
-use Rattle.cbm_volume.proofs.changed.FileFreed.{no_cut, plain_freed, both_freed}
+use Rattle.cbm_volume.proofs.changed.FileFreed.{no_cut, plain_freed, both_freed, plain_given, both_given}
 use Rattle.cbm_directory.specs.Entries.{is_relative}
 use Rattle.cbm_volume.proofs.files.scratching.free_file.Goals as goal
 
@@ -21,3 +21,15 @@ pub returns-clause-freed : goal.returns-clause-freed
 returns-clause-freed g c = λ b lies few.
     both_freed c.args.geometry (g.M.Medium.seen c.args.medium.now).content c.args.entry.now b (is_relative c.args.entry.now) c.first_block.result c.first_side.result c.args.release.now c.free_chain.new.release c.free_sides.new.release c.free_sides.result
     (sym c.is_relative.ensures ∙ c.if-not-is_relative.false) lies few c.first_block.ensures c.first_side.ensures c.in_ok-free_chain.ensures.freed c.free_sides.ensures.freed c.free_sides.ensures.goes
+
+-- ---- on any disk
+
+pub returns-then-not-is_relative-clause-given : goal.returns-then-not-is_relative-clause-given
+returns-then-not-is_relative-clause-given g c =
+    plain_given c.args.geometry (g.M.Medium.seen c.args.medium.now).content c.args.entry.now c.first_block.result c.args.release.now c.free_chain.new.release
+    (sym c.is_relative.ensures ∙ c.if-not-is_relative.true) c.first_block.ensures (c.in_ok-free_chain.ensures.walk.whole, c.in_ok-free_chain.ensures.freed)
+
+pub returns-clause-given : goal.returns-clause-given
+returns-clause-given g c =
+    both_given c.args.geometry (g.M.Medium.seen c.args.medium.now).content c.args.entry.now c.first_block.result c.first_side.result c.args.release.now c.free_chain.new.release c.free_sides.new.release c.free_sides.result
+    (sym c.is_relative.ensures ∙ c.if-not-is_relative.false) c.first_block.ensures c.first_side.ensures (c.in_ok-free_chain.ensures.walk.whole, c.in_ok-free_chain.ensures.freed) c.free_sides.ensures.freed c.free_sides.ensures.reads

@@ -1,4 +1,4 @@
-use Rattle.std.proofs.Common.{◌≡◌, ◌≤◌, ◌+◌, ◌-◌, ℕ, sym, ap, subst, ◌∙◌, arith, rules}
+use Rattle.std.proofs.Common.{◌≡◌, ◌≤◌, ◌+◌, ◌-◌, ℕ, sym, ap, subst, ◌∙◌, arith}
 use Rattle.cbm_medium.specs.Seen.{Seen}
 use Rattle.cbm_file.specs.Records.{sides_for}
 use Rattle.cbm_bam.specs.Map.{geometry_of}
@@ -8,7 +8,8 @@ use Rattle.cbm_volume.proofs.grown.GrowingEnds.{told_ends}
 use Rattle.cbm_volume.proofs.grown.GrowingJoined.{BlocksBy}
 use Rattle.cbm_volume.proofs.grown.GrowingLists.{stop_later}
 use Rattle.cbm_volume.proofs.grown.GrowthBegun.{sides_room, sides_twice}
-use Rattle.cbm_medium.proofs.Sequences.{readable_after}
+use Rattle.cbm_volume.proofs.layouts.OnDisks.{of_tracks}
+use Rattle.cbm_volume.proofs.OneAfterAnother.{after_done, second_refused}
 use Rattle.cbm_volume.proofs.records.growing.grow_to.Goals as goal
 
 -- the growth didn't begin
@@ -66,31 +67,11 @@ returns-clause-grown g c = λ d uses w rs o is free.
     c.tell_blocks.result (c.in_ok-reach.reach.blocks + c.in_ok-reach.reach.sides) (omega (arith, all, c.in_ok-reach.ensures.bound.0)) sides (c.tell_blocks.ensures.told sized) (c.tell_blocks.ensures.elsewhere sized) (c.tell_blocks.ensures.entries sized)
 
 pub returns-in_err-reach-clause-only : goal.returns-in_err-reach-clause-only
-returns-in_err-reach-clause-only g c = record {
-  tracks = (search rules);
-  protected = (search rules);
-  id = (search rules);
-  counted = (search rules);
-  once = (search rules);
-  uncounted = (search rules);
-  own = (search rules);
-  guarded = (search rules);
-  shown = (search rules);
-  beyond = (search rules);
-  readable = readable_after _ _ _ c.in_ok-from.ensures.only.readable c.in_err-reach.ensures.only.readable;
-}
+returns-in_err-reach-clause-only g c =
+    of_tracks c.geometry-geometry.result c.from_residual-in_err-reach.result (g.M.Medium.seen c.args.medium.now) (g.M.Medium.seen c.grow_blocks.new.medium) c.geometry-geometry.ensures.value
+    (second_refused c.from_residual-in_err-reach.result c.in_ok-from.was c.in_err-reach.was c.from_residual-in_err-reach.ensures.1 c.begin_growth.ensures.only c.grow_blocks.ensures.only)
 
 pub returns-clause-only : goal.returns-clause-only
-returns-clause-only g c = record {
-  tracks = (search rules);
-  protected = (search rules);
-  id = (search rules);
-  counted = (search rules);
-  once = (search rules);
-  uncounted = (search rules);
-  own = (search rules);
-  guarded = (search rules);
-  shown = (search rules);
-  beyond = (search rules);
-  readable = readable_after _ _ _ c.in_ok-from.ensures.only.readable (readable_after _ _ _ c.in_ok-reach.ensures.only.readable c.tell_blocks.ensures.only.readable);
-}
+returns-clause-only g c =
+    of_tracks c.geometry-geometry.result c.tell_blocks.result (g.M.Medium.seen c.args.medium.now) (g.M.Medium.seen c.tell_blocks.new.medium) c.geometry-geometry.ensures.value
+    (after_done c.in_ok-reach.was (after_done c.in_ok-from.was c.begin_growth.ensures.only c.grow_blocks.ensures.only) c.tell_blocks.ensures.only)

@@ -62,3 +62,8 @@ returns-in_default-2-clause-only g c = record {
 
 pub returns-clause-only : goal.returns-clause-only
 returns-clause-only g c = both_done _ c.in_ok-number.was c.in_ok-sectors.was c.empty_slot.ensures.only c.claim_two.ensures.only
+
+-- ---- on any disk
+
+pub returns-clause-led : goal.returns-clause-led
+returns-clause-led g c = ((g.M.Medium.seen c.empty_slot.new.medium).content, rw c.in-Some.is at c.in_ok-number.ensures.taken, rw c.in-Some-2.is at c.in_ok-sectors.ensures.claimed)

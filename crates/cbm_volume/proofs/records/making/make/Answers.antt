@@ -1,8 +1,9 @@
-use Rattle.std.proofs.Common.{ℕ, sym, ap, subst, ◌∙◌, Ok, Err, rules}
+use Rattle.cbm_medium.specs.Content.{Content}
+use Rattle.cbm_volume.specs.NewRecords.{ClaimsLed, EntersRecordsLed}
+use Rattle.std.proofs.Common.{ℕ, sym, ap, subst, ◌∙◌, Ok, Err}
 use Rattle.cbm_medium.specs.Place.{Place}
 use Rattle.cbm_medium.specs.Seen.{Seen}
-use Rattle.std.proofs.lemmas.Result.{err_from_is_err_and}
-use Rattle.cbm_medium.proofs.Sequences.{only_after, only_refused, readable_after}
+use Rattle.cbm_volume.proofs.OneAfterAnother.{after_done, both_done, second_refused}
 use Rattle.cbm_bam.specs.Map.{geometry_of}
 use Rattle.cbm_file.specs.Records.{with_new_records}
 use Rattle.cbm_file.specs.Padding.{before_filler}
@@ -76,40 +77,36 @@ returns-clause-made g c = λ d uses ch h idle some room.
 -- only what the disk's sectors hold is new
 pub returns-in_err-write_new-clause-only : goal.returns-in_err-write_new-clause-only
 returns-in_err-write_new-clause-only g c =
-    let old : Seen = g.M.Medium.seen c.args.medium.now in
-    let mid : Seen = g.M.Medium.seen c.begin.new.medium in
-    let new : Seen = g.M.Medium.seen c.write_new.new.medium in
-    let p = err_from_is_err_and c.from_residual-in_err-write_new.result c.from_residual-in_err-write_new.ensures.1 in
-    of_tracks c.geometry-geometry.result c.from_residual-in_err-write_new.result old new c.geometry-geometry.ensures.value
-    (only_refused c.write_new.result c.from_residual-in_err-write_new.result p.0 old new (c.in_err-write_new.was ∙ ap Err (sym p.2)) p.1
-    (only_after c.begin.result _ c.write_new.result old mid new c.in_ok-number.was c.begin.ensures.only c.write_new.ensures.only))
+    of_tracks c.geometry-geometry.result c.from_residual-in_err-write_new.result (g.M.Medium.seen c.args.medium.now) (g.M.Medium.seen c.write_new.new.medium) c.geometry-geometry.ensures.value
+    (second_refused c.from_residual-in_err-write_new.result c.in_ok-number.was c.in_err-write_new.was c.from_residual-in_err-write_new.ensures.1 c.begin.ensures.only c.write_new.ensures.only)
 
 pub returns-in_err-enter-clause-only : goal.returns-in_err-enter-clause-only
-returns-in_err-enter-clause-only g c = record {
-  tracks = (search rules);
-  protected = (search rules);
-  id = (search rules);
-  counted = (search rules);
-  once = (search rules);
-  uncounted = (search rules);
-  own = (search rules);
-  guarded = (search rules);
-  shown = (search rules);
-  beyond = (search rules);
-  readable = readable_after _ _ _ c.in_ok-number.ensures.only.readable (readable_after _ _ _ c.in_ok-write_new.ensures.only.readable c.in_err-enter.ensures.only.readable);
-}
+returns-in_err-enter-clause-only g c =
+    of_tracks c.geometry-geometry.result c.from_residual-in_err-enter.result (g.M.Medium.seen c.args.medium.now) (g.M.Medium.seen c.enter.new.medium) c.geometry-geometry.ensures.value
+    (second_refused c.from_residual-in_err-enter.result c.in_ok-write_new.was c.in_err-enter.was c.from_residual-in_err-enter.ensures.1 (after_done c.in_ok-number.was c.begin.ensures.only c.write_new.ensures.only) c.enter.ensures.only)
 
 pub returns-clause-only : goal.returns-clause-only
-returns-clause-only g c = record {
-  tracks = (search rules);
-  protected = (search rules);
-  id = (search rules);
-  counted = (search rules);
-  once = (search rules);
-  uncounted = (search rules);
-  own = (search rules);
-  guarded = (search rules);
-  shown = (search rules);
-  beyond = (search rules);
-  readable = readable_after _ _ _ c.in_ok-number.ensures.only.readable (readable_after _ _ _ c.in_ok-write_new.ensures.only.readable c.in_ok-enter.ensures.only.readable);
-}
+returns-clause-only g c =
+    of_tracks c.geometry-geometry.result _ (g.M.Medium.seen c.args.medium.now) (g.M.Medium.seen c.enter.new.medium) c.geometry-geometry.ensures.value
+    (both_done _ c.in_ok-write_new.was c.in_ok-enter.was (after_done c.in_ok-number.was c.begin.ensures.only c.write_new.ensures.only) c.enter.ensures.only)
+
+-- ---- on any disk
+
+pub returns-clause-led : goal.returns-clause-led
+returns-clause-led g c =
+    let old : Seen = g.M.Medium.seen c.args.medium.now in
+    let claimed : Content = (g.M.Medium.seen c.begin.new.medium).content in
+    let made : Content = (g.M.Medium.seen c.write_new.new.medium).content in
+    let new : Content = (g.M.Medium.seen c.enter.new.medium).content in
+    let n : ℕ = c.in_ok-number.number in
+    let p : Place = c.in_ok-number.block in
+    let q : Place = c.in_ok-number.side in
+    let w : ℕ = c.args.record_length in (
+      claimed,
+      made,
+      p,
+      q,
+      subst (λ (k : ℕ). ClaimsLed k old.content claimed (n, (p, q))) c.geometry-geometry.ensures.value c.in_ok-number.ensures.led,
+      c.in_ok-write_new.ensures.written,
+      subst (λ (k : ℕ). EntersRecordsLed k made new p q c.args.name.now w n) c.geometry-geometry.ensures.value c.in_ok-enter.ensures.led,
+    )

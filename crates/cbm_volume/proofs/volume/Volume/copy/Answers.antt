@@ -1,3 +1,4 @@
+use Rattle.cbm_volume.specs.Copying.{CopyLed}
 use Rattle.std.proofs.Common.{rules, ◌≡◌, ◌≢◌, ℕ, false, Ok, Err, refl, ap, subst, inl, inr}
 use Rattle.std.proofs.lemmas.Result.{err_from_is_err_and}
 use Rattle.cbm_medium.proofs.Sequences.{only_nothing}
@@ -164,3 +165,8 @@ returns-clause-full g c = λ d uses h are none.
     let room = room_for old d uses c.args.sources.now c.in_ok-bytes.bytes c.in_ok-room.room.blocks c.in_ok-room.room.slot (subst (λ (s : Seen). Totals s c.args.sources.now (Ok c.in_ok-bytes.bytes)) seen c.in_ok-bytes.ensures.total) h are
     (c.in_ok-room.ensures.means d (record { layout = h.layout; stands = h.so.stands })) (c.has_room.ensures.enough c.if-not-has_room.false) in
     absurd (room_is_none d c.args.sources.now room.0 room.1 none)
+
+-- ---- on any disk
+
+pub returns-clause-led : goal.returns-clause-led
+returns-clause-led g c = λ is. subst (λ (s : Seen). CopyLed s (g.M.Medium.seen c.make.new.medium) c.args.kind c.args.name.now) (ap (λ m. g.M.Medium.seen m) c.self.view_is) c.in_ok-make.ensures.led

@@ -1,3 +1,4 @@
+use Rattle.cbm_volume.specs.NewRecords.{NewRecordsLed}
 use Rattle.std.proofs.Common.{rules, ◌≡◌, ℕ, Ok, Err, Some, refl, ap, subst, inl, inr, false}
 use Rattle.std.proofs.lemmas.Result.{err_from_is_err_and}
 use Rattle.cbm_medium.proofs.Sequences.{only_nothing}
@@ -135,3 +136,8 @@ pub returns-clause-full : goal.returns-clause-full
 returns-clause-full g c = λ d uses h none.
     let room = records_room d c.in_ok-room.room.blocks c.in_ok-room.room.slot (c.in_ok-room.ensures.means d (record { layout = h.layout; stands = h.so.stands })) (c.has_room.ensures.enough c.if-not-has_room.false) in
     absurd (room_or_none d room.0 room.1 none)
+
+-- ---- on any disk
+
+pub returns-clause-led : goal.returns-clause-led
+returns-clause-led g c = subst (λ (s : Seen). NewRecordsLed s (g.M.Medium.seen c.make.new.medium) c.args.name.now c.args.record_length c.in_ok-slot.slot) (ap (λ m. g.M.Medium.seen m) c.self.view_is) c.in_ok-slot.ensures.led

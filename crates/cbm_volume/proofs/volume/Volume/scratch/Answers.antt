@@ -1,4 +1,4 @@
-use Rattle.std.proofs.Common.{rules, ◌≡◌, ◌≤◌, ◌<◌, ◌*◌, ℕ, List, length, Option, Some, Ok, Err, Result, refl, ap, sym, subst, ◌∙◌, IfErr}
+use Rattle.std.proofs.Common.{rules, inl, ◌≡◌, ◌≤◌, ◌<◌, ◌*◌, ℕ, List, length, Option, Some, Ok, Err, Result, refl, ap, sym, subst, ◌∙◌, IfErr}
 use Rattle.std.proofs.lemmas.Result.{err_from_is_err_and}
 use Rattle.std.specs.Prelude.{OnOk, OnErr}
 use Rattle.cbm_medium.proofs.Sequences.{only_after, only_nothing}
@@ -13,10 +13,11 @@ use Rattle.cbm_directory.specs.Entries.{first_directory, sector_of}
 use Rattle.cbm_directory.specs.EntryChanges.{ClearsLed}
 use Rattle.cbm_directory.specs.Slots.{Answers, directory_of}
 use Rattle.cbm_directory.proofs.Codes.{directory_never_26, directory_shown}
+use Rattle.cbm_volume.specs.Led.{FreesFile}
 use Rattle.cbm_volume.proofs.layouts.OnDisks.{of_tracks}
 use Rattle.cbm_volume.proofs.layouts.Calls.{if_ok}
 use Rattle.cbm_volume.proofs.written.Finishing.{on_err}
-use Rattle.cbm_volume.proofs.changed.Scratched.{EntryCleared, ClearingRefused, GivesAll, SlotEmpty, no_entry, no_slot, no_map, no_chain, entry_refused, open_scratched, is_scratched, scratched_ok, scratched_stopped, slot_hindered, map_hindered, chain_hindered, clearing_hindered, clearing_handed_on, release_hindered, nothing_written, clearing_spared, release_spared, open_led, closed_led}
+use Rattle.cbm_volume.proofs.changed.Scratched.{EntryCleared, ClearingRefused, GivesAll, SlotEmpty, no_entry, no_slot, no_map, no_chain, entry_refused, open_scratched, is_scratched, scratched_ok, scratched_stopped, slot_hindered, map_hindered, chain_hindered, clearing_hindered, clearing_handed_on, release_hindered, nothing_written, clearing_spared, release_spared, open_led, closed_led, stopped_before, stopped_after}
 use Rattle.cbm_volume.proofs.volume.Volume.scratch.Goals as goal
 use Rattle.cbm_volume.proofs.volume.Volume.scratch.Given.{Over}
 
@@ -228,6 +229,9 @@ led_here : (inside old : Seen) (new : Content) (k n : ℕ) (r : Result (Unit {0}
     → OnOk r (ClearsLed k inside.content new n) → OnOk r (ClearsLed (geometry_of old.tracks old.content) old.content new n)
 led_here inside old new k n r same size h = subst (λ (s : Seen). OnOk r (ClearsLed (geometry_of old.tracks old.content) s.content new n)) same (subst (λ (m : ℕ). OnOk r (ClearsLed m inside.content new n)) size h)
 
+freed_here : (inside old : Seen) (k : ℕ) (entry map freed : List ℕ) → inside ≡ old → k ≡ geometry_of old.tracks old.content → FreesFile k inside.content entry map freed → FreesFile (geometry_of old.tracks old.content) old.content entry map freed
+freed_here inside old k entry map freed same size h = subst (λ (s : Seen). FreesFile (geometry_of old.tracks old.content) s.content entry map freed) same (subst (λ (m : ℕ). FreesFile m inside.content entry map freed) size h)
+
 pub returns-then-not-is_closed-clause-led : goal.returns-then-not-is_closed-clause-led
 returns-then-not-is_closed-clause-led g c =
     let old : Seen = g.M.Medium.seen c.args.self.now in
@@ -237,12 +241,37 @@ returns-then-not-is_closed-clause-led g c =
     (sym c.is_closed.ensures ∙ c.if-not-is_closed.true)
     (led_here (g.M.Medium.seen c.self.inside.medium) old new.content c.geometry-geometry.result c.args.slot c.clear_slot.result (ap g.M.Medium.seen c.self.view_is) c.geometry-geometry.ensures.value c.clear_slot.ensures.exact)
 
+-- the entry of a closed file, that was found
+closed_found : (g : Over) (c : goal.After-write g) → Answers (directory_of (geometry_of (g.M.Medium.seen c.args.self.now).tracks (g.M.Medium.seen c.args.self.now).content) (g.M.Medium.seen c.args.self.now).content) c.args.slot (Ok (Some c.in-Some.entry))
+closed_found g c = found_here (g.M.Medium.seen c.args.self.now).content (geometry_of (g.M.Medium.seen c.args.self.now).tracks (g.M.Medium.seen c.args.self.now).content) c.args.slot c.in_ok-entry.field-0 c.in-Some.entry c.in-Some.is c.in_ok-entry.ensures.answers
+
+-- its sectors are given back to the map that was read
+closed_freed : (g : Over) (c : goal.After-write g) → FreesFile (geometry_of (g.M.Medium.seen c.args.self.now).tracks (g.M.Medium.seen c.args.self.now).content) (g.M.Medium.seen c.args.self.now).content c.in-Some.entry c.in_ok-release.release c.free_file.new.release
+closed_freed g c = freed_here (g.M.Medium.seen c.self.inside.medium) (g.M.Medium.seen c.args.self.now) c.geometry-geometry.result c.in-Some.entry c.in_ok-release.release c.free_file.new.release (ap g.M.Medium.seen c.self.view_is) c.geometry-geometry.ensures.value c.in_ok-free_file.ensures.given
+
 pub returns-clause-led : goal.returns-clause-led
 returns-clause-led g c =
     let old : Seen = g.M.Medium.seen c.args.self.now in
     let mid : Seen = g.M.Medium.seen c.clear_slot-2.new.medium in
-    closed_led old mid (g.M.Medium.seen c.write.new.medium) c.args.slot c.in-Some.entry c.free_file.new.release c.write.result
-    (found_here old.content (geometry_of old.tracks old.content) c.args.slot c.in_ok-entry.field-0 c.in-Some.entry c.in-Some.is c.in_ok-entry.ensures.answers)
-    (sym c.is_closed.ensures ∙ c.if-not-is_closed.false)
+    closed_led old mid (g.M.Medium.seen c.write.new.medium) c.args.slot c.in-Some.entry c.in_ok-release.release c.free_file.new.release c.write.result (closed_found g c) (sym c.is_closed.ensures ∙ c.if-not-is_closed.false)
+    (ap (λ m. (g.M.Medium.seen m).content directory_head) (sym c.self.view_is) ∙ c.in_ok-release.ensures.ok) (closed_freed g c)
     (led_here (g.M.Medium.seen c.self.inside.medium) old mid.content c.geometry-geometry.result c.args.slot (Ok tt) (ap g.M.Medium.seen c.self.view_is) c.geometry-geometry.ensures.value c.in_ok-clear_slot.ensures.exact)
     c.write.ensures.ok
+
+pub returns-then-not-is_closed-clause-stopped : goal.returns-then-not-is_closed-clause-stopped
+returns-then-not-is_closed-clause-stopped g c =
+    let old : Seen = g.M.Medium.seen c.args.self.now in
+    let new : Seen = g.M.Medium.seen c.clear_slot.new.medium in
+    stopped_before old new c.args.slot c.clear_slot.result (subst (λ (s : Seen). OnErr c.clear_slot.result (new.content ≡ s.content)) (ap g.M.Medium.seen c.self.view_is) c.clear_slot.ensures.err)
+
+pub returns-in_err-clear_slot-clause-stopped : goal.returns-in_err-clear_slot-clause-stopped
+returns-in_err-clear_slot-clause-stopped g c =
+    on_err c.from_residual-in_err-clear_slot.result (inl (c.in_err-clear_slot.ensures.err ∙ ap (λ m. (g.M.Medium.seen m).content) c.self.view_is))
+
+pub returns-clause-stopped : goal.returns-clause-stopped
+returns-clause-stopped g c =
+    let old : Seen = g.M.Medium.seen c.args.self.now in
+    let mid : Seen = g.M.Medium.seen c.clear_slot-2.new.medium in
+    stopped_after old mid (g.M.Medium.seen c.write.new.medium) c.args.slot c.in-Some.entry c.write.result (closed_found g c) (sym c.is_closed.ensures ∙ c.if-not-is_closed.false) (closed_freed g c).whole
+    (led_here (g.M.Medium.seen c.self.inside.medium) old mid.content c.geometry-geometry.result c.args.slot (Ok tt) (ap g.M.Medium.seen c.self.view_is) c.geometry-geometry.ensures.value c.in_ok-clear_slot.ensures.exact)
+    c.write.ensures.err
