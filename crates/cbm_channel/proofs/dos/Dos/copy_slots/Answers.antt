@@ -119,7 +119,7 @@ pub returns-in-Ok-true-clause-leaves : goal.returns-in-Ok-true-clause-leaves
 returns-in-Ok-true-clause-leaves g c = record {
   channels = (search rules);
   spared = not_refused _ _ c.say.ensures.told refl;
-  medium = (search rules);
+  medium = keeps_call g.M.Medium.seen c.args.self.now.medium c.say.new.self.medium c.self.inside.volume c.copy.new.self c.copy.result (ap (λ k. k.medium) c.self.view_is) c.say.ensures.medium (only_else _ _ _ c.copy.ensures.only);
   counted = (search rules);
   grounded = (search rules);
 }
