@@ -10,7 +10,7 @@ use Rattle.cbm_file.specs.Padding.{before_filler}
 use Rattle.cbm_file.specs.Files.{Disk, Bytes, empty_from, blocks_of}
 use Rattle.cbm_file.specs.Changes.{copy_blocks, with_copy, with_file, closed_file, grown, has_slot}
 use Rattle.cbm_chain.specs.Reading.{Reading, IsSettled}
-use Rattle.cbm_chain.specs.Writing.{State, EndsChain, begun_at, place_or_none}
+use Rattle.cbm_chain.specs.Writing.{State, EndsChain, IsForFiles, PutsAll, begun_at, place_or_none}
 use Rattle.cbm_bam.specs.Map.{Claims}
 use Rattle.cbm_medium.specs.Place.{Place}
 use Rattle.cbm_directory.specs.Entries.{EntersLed, closed_entry}
@@ -92,14 +92,19 @@ abbrev pub BeginsCopyLed : ℕ → Content → Content → ℕ × State → Type
 BeginsCopyLed tracks old new r =
     (taken : Content) × TakesSlot tracks old taken (Some r.0) × (first : Place) × Claims tracks taken new first × (r.1 ≡ begun_at tracks first)
 
+-- bytes were put one after another by a writer whose block, if it has one, is one of files
+abbrev pub PutsSome : Content → Content → State → State → Type 0
+PutsSome old new s t = IsForFiles s.tracks s.current → (bytes : List ℕ) × PutsAll bytes old s new t
+
 -- the chain's last block was written, and then the closed entry of a file that has it into a slot, where the directory leads
 abbrev pub EntersCopyLed : Content → Content → State → FileType → List ℕ → ℕ → Type 0
 EntersCopyLed old new s kind name slot =
     let first = place_or_none s.first in
     (ended : Content) × EndsChain old ended s.current s.waiting × EntersLed s.tracks ended new slot (closed_entry (fresh_entry kind name first) first s.count)
 
--- A COPY IS MADE ON ANY DISK: a slot and a first block were taken, bytes were put, and then the chain was ended and the slot's entry written.
--- Which bytes is said of a sound disk alone.
+-- A COPY IS MADE ON ANY DISK: a slot and a first block were taken, bytes were put one after another, and then the chain was ended and the
+-- slot's entry written. Which bytes is said of a sound disk alone.
 abbrev pub CopyLed : Seen → Seen → FileType → List ℕ → Type 0
 CopyLed old new kind name =
-    (slot : ℕ) × (begun : Content) × (s : State) × BeginsCopyLed (seen_tracks old) old.content begun (slot, s) × (filled : Content) × (t : State) × (t.tracks ≡ s.tracks) × EntersCopyLed filled new.content t kind name slot
+    (slot : ℕ) × (begun : Content) × (s : State) × BeginsCopyLed (seen_tracks old) old.content begun (slot, s)
+    × (bytes : List ℕ) × (filled : Content) × (t : State) × PutsAll bytes begun s filled t × EntersCopyLed filled new.content t kind name slot

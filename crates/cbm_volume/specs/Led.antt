@@ -1,11 +1,11 @@
 -- What the volume's calls do on any disk, sound or not: where the directory leads, and by what its sectors hold.
-use Rattle.std.specs.Prelude.{ℕ, ◌≡◌, ◌⊎◌, ◌++◌, true, if◌then◌else◌, List, [], Some, None, Ok, IsOk, MatchBool}
+use Rattle.std.specs.Prelude.{ℕ, ◌≡◌, ◌⊎◌, ◌++◌, true, false, if◌then◌else◌, List, [], Some, None, Ok, IsOk, MatchBool}
 use Rattle.cbm_medium.specs.Place.{Place, sector_count, directory_head}
 use Rattle.cbm_medium.specs.Content.{Content, written}
 use Rattle.cbm_medium.specs.Links.{Followed, bytes_at, follow}
 use Rattle.cbm_medium.specs.Seen.{Seen}
 use Rattle.cbm_bam.specs.Map.{Frees}
-use Rattle.cbm_chain.specs.Writing.{EndsChain, place_or_none}
+use Rattle.cbm_chain.specs.Writing.{EndsChain, StandsAfter, place_or_none}
 use Rattle.cbm_relfile.specs.SideSectors.{sides_listed}
 use Rattle.cbm_directory.specs.Entries.{EntersLed, is_closed, is_relative, first_block, first_side, closed_entry}
 use Rattle.cbm_directory.specs.EntryChanges.{renamed_entry, reopened_entry, ClearsLed}
@@ -87,3 +87,10 @@ ReplacesLed old new w =
 -- OPEN FOR APPENDING ON ANY DISK: the entry that is given is no longer closed where the directory leads.
 abbrev pub ReopensLed : Seen → Seen → ℕ → List ℕ → Type 0
 ReopensLed old new slot entry = EntersLed (seen_tracks old) old.content new.content slot (reopened_entry entry)
+
+-- and its writer goes on after the last byte of the chain that the entry has, which comes to its end
+pub record AppendsTo (now : Seen) (slot : ℕ) (entry : List ℕ) (w : Filling) : Type 0 where
+  pub same_slot : w.slot ≡ slot
+  pub replaces : w.replaces ≡ false
+  pub whole : (file_chain (seen_tracks now) now.content entry).trouble ≡ None
+  pub after : StandsAfter (seen_tracks now) now.content (file_chain (seen_tracks now) now.content entry).blocks w.chain

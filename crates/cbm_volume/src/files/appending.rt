@@ -3,7 +3,7 @@
 ghost use Rattle.std.specs.Prelude.{◌≡◌, ◌≤◌, ◌==◌, OnOk, OnErr, IfOk};
 ghost use Rattle.cbm_volume.specs.Beginning.{BeginsAppending};
 ghost use Rattle.cbm_volume.specs.Calls.{OnlyOnDisk, OfDisk, LeavesFiles};
-ghost use Rattle.cbm_volume.specs.Led.{ReopensLed};
+ghost use Rattle.cbm_volume.specs.Led.{ReopensLed, AppendsTo};
 
 use crate::files::filling::FileWriter;
 use crate::volume::Volume;
@@ -19,6 +19,7 @@ impl<M: Medium> Volume<M> {
         ensures err { OnErr result ((M.seen self.new).content ≡ (M.seen self.old).content) }
         ensures untouched { OfDisk (M.seen self.old) (λ d uses. LeavesFiles (M.seen self.old) (M.seen self.new) (λ m. m == slot)) }
         ensures led { OnOk result (ReopensLed (M.seen self.old) (M.seen self.new) slot entry.now) }
+        ensures writer { IfOk result (AppendsTo (M.seen self.old) slot entry.now) }
         ensures tracks { IfOk result (λ w. w.chain.tracks ≤ (M.seen self.old).tracks) }
         ensures only { OnlyOnDisk result (M.seen self.old) (M.seen self.new) }
     {

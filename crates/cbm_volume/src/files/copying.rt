@@ -7,7 +7,7 @@ ghost use Rattle.cbm_file.specs.Files.{file_at, blocks_of};
 ghost use Rattle.cbm_file.specs.Changes.{slot_bytes, joined};
 ghost use Rattle.cbm_chain.specs.Reading.{IsSettled};
 ghost use Rattle.cbm_volume.specs.Copies.{AreCopied, CanBeCopied, HasNoRoomFor};
-ghost use Rattle.cbm_volume.specs.Copying.{CopiesFiles, MakesCopy, BeginsCopy, CopiesByte, CopiesNext, CopiesRest, CopiesOf, EntersCopy, BeginsCopyLed, EntersCopyLed, CopyLed};
+ghost use Rattle.cbm_volume.specs.Copying.{CopiesFiles, MakesCopy, BeginsCopy, CopiesByte, CopiesNext, CopiesRest, CopiesOf, EntersCopy, BeginsCopyLed, PutsSome, EntersCopyLed, CopyLed};
 ghost use Rattle.cbm_volume.specs.SeenDisks.{seen_tracks};
 ghost use Rattle.cbm_volume.specs.Calls.{OnlyOnDisk, OfDisk, KeepsProtected, IsSameOn};
 
@@ -142,6 +142,7 @@ fn begin<M: Medium>(medium: &mut M) -> Result<(u8, ChainWriter), Trouble>
 fn put_byte<M: Medium>(medium: &mut M, chain: &mut ChainWriter, byte: u8) -> Result<(), Trouble>
     requires { chain.old.tracks ≤ (M.seen medium.old).tracks }
     ensures put { CopiesByte result (M.seen medium.old) (M.seen medium.new) chain.old chain.new byte }
+    ensures led { OnOk result (PutsSome (M.seen medium.old).content (M.seen medium.new).content chain.old chain.new) }
     ensures tracks { chain.new.tracks ≡ chain.old.tracks }
     ensures only { OnlyContent chain.old.tracks result (M.seen medium.old) (M.seen medium.new) }
 {
@@ -163,6 +164,7 @@ fn put_next<M: Medium>(
     requires chain { chain.old.tracks ≤ (M.seen medium.old).tracks }
     requires reader { reader.old.tracks ≤ (M.seen medium.old).tracks }
     ensures put { CopiesNext result (M.seen medium.old) (M.seen medium.new) chain.old chain.new reader.old reader.new }
+    ensures led { OnOk result (PutsSome (M.seen medium.old).content (M.seen medium.new).content chain.old chain.new) }
     ensures settled { IsSettled reader.old → IsSettled reader.new }
     ensures tracks { (chain.new.tracks ≡ chain.old.tracks) × (reader.new.tracks ≡ reader.old.tracks) }
     ensures only { OnlyContent chain.old.tracks result (M.seen medium.old) (M.seen medium.new) }
@@ -184,6 +186,7 @@ fn put_read<M: Medium>(
     requires chain { chain.old.tracks ≤ (M.seen medium.old).tracks }
     requires reader { reader.old.tracks ≤ (M.seen medium.old).tracks }
     ensures put { CopiesRest result (M.seen medium.old) (M.seen medium.new) chain.old chain.new reader.old count }
+    ensures led { OnOk result (PutsSome (M.seen medium.old).content (M.seen medium.new).content chain.old chain.new) }
     ensures tracks { chain.new.tracks ≡ chain.old.tracks }
     ensures only { OnlyContent chain.old.tracks result (M.seen medium.old) (M.seen medium.new) }
 {
@@ -198,6 +201,7 @@ fn put_file<M: Medium>(medium: &mut M, chain: &mut ChainWriter, number: u8) -> R
     requires { chain.old.tracks ≤ (M.seen medium.old).tracks }
     ensures put { CopiesOf result (M.seen medium.old) (M.seen medium.new) chain.old chain.new
         (λ d. CanBeCopied d number) (λ d. slot_bytes (file_at d number)) }
+    ensures led { OnOk result (PutsSome (M.seen medium.old).content (M.seen medium.new).content chain.old chain.new) }
     ensures tracks { chain.new.tracks ≡ chain.old.tracks }
     ensures only { OnlyContent chain.old.tracks result (M.seen medium.old) (M.seen medium.new) }
 {
@@ -219,6 +223,7 @@ fn put_files<M: Medium>(
     requires { chain.old.tracks ≤ (M.seen medium.old).tracks }
     ensures put { CopiesOf result (M.seen medium.old) (M.seen medium.new) chain.old chain.new
         (λ d. AreCopied d sources.now) (λ d. joined d sources.now) }
+    ensures led { OnOk result (PutsSome (M.seen medium.old).content (M.seen medium.new).content chain.old chain.new) }
     ensures tracks { chain.new.tracks ≡ chain.old.tracks }
     ensures only { OnlyContent chain.old.tracks result (M.seen medium.old) (M.seen medium.new) }
 {

@@ -8,6 +8,8 @@ use Rattle.cbm_file.specs.Changes.{joined, with_copy}
 use Rattle.cbm_file.specs.Padding.{before_filler}
 use Rattle.cbm_volume.specs.Copies.{IsCopyCut, Making}
 use Rattle.cbm_volume.specs.Writers.{Idle}
+use Rattle.cbm_volume.specs.SeenDisks.{seen_tracks}
+use Rattle.cbm_volume.proofs.copied.Puts.{begun_for}
 use Rattle.cbm_volume.proofs.copied.CopySteps.{handed, cut_since}
 use Rattle.cbm_volume.proofs.copied.CopyEnds.{since_begun, one_block}
 use Rattle.cbm_medium.proofs.Sequences.{only_after}
@@ -70,8 +72,11 @@ returns-clause-led g c =
     let begun : Content = (g.M.Medium.seen c.begin.new.medium).content in
     let filled : Content = (g.M.Medium.seen c.put_files.new.medium).content in
     let new : Content = (g.M.Medium.seen c.enter.new.medium).content in
+    let s : State = c.in_ok-number.chain in
     let t : State = c.put_files.new.chain in
+    let led = c.in_ok-number.ensures.led in
+    let put = c.in_ok-put_files.ensures.led (begun_for (seen_tracks (g.M.Medium.seen c.args.medium.now)) led.0 begun led.2 s led.3 led.4) in
     ok_so c.enter.result
-    (λ (put : EntersCopyLed filled new t c.args.kind c.args.name.now c.in_ok-number.number).
-    (c.in_ok-number.number, begun, c.in_ok-number.chain, c.in_ok-number.ensures.led, filled, t, c.put_files.ensures.tracks, put))
+    (λ (entered : EntersCopyLed filled new t c.args.kind c.args.name.now c.in_ok-number.number).
+    (c.in_ok-number.number, begun, s, led, put.0, filled, t, put.1, entered))
     c.enter.ensures.led

@@ -1,6 +1,7 @@
 use Rattle.cbm_medium.specs.Seen.{Seen}
 use Rattle.cbm_volume.specs.Copies.{IsCopyCut}
 use Rattle.cbm_volume.proofs.copied.CopySteps.{handed, byte_cut, byte_put, byte_refused}
+use Rattle.cbm_volume.proofs.copied.Puts.{byte_on}
 use Rattle.cbm_volume.proofs.files.copying.put_byte.Goals as goal
 
 pub returns-in_err-done-clause-put : goal.returns-in_err-done-clause-put
@@ -20,3 +21,9 @@ pub returns-clause-put : goal.returns-clause-put
 returns-clause-put g c = λ c' l d uses ch bytes source k room.
     byte_put (g.M.Medium.seen c.args.medium.now) (g.M.Medium.seen c.put.new.medium) c.args.chain.now c.put.new.self c.args.byte c.in_ok-done.done c' l d uses ch bytes source c.tracks-tracks.ensures.whole
     c.in_ok-done.ensures.put c.if-not-done.false k
+
+-- ---- on any disk
+
+pub returns-clause-led : goal.returns-clause-led
+returns-clause-led g c =
+    byte_on (g.M.Medium.seen c.args.medium.now).content (g.M.Medium.seen c.put.new.medium).content c.args.chain.now c.put.new.self c.args.byte c.in_ok-done.done c.in_ok-done.ensures.put c.if-not-done.false

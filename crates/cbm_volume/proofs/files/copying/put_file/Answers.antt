@@ -10,6 +10,7 @@ use Rattle.cbm_chain.specs.Reading.{held_from}
 use Rattle.cbm_directory.proofs.Codes.{directory_never_26, directory_shown}
 use Rattle.cbm_volume.specs.Copies.{less}
 use Rattle.cbm_volume.proofs.copied.CopySteps.{no_trouble, no_end, can_less, making_held, making_reads, held_length, held_whole}
+use Rattle.cbm_volume.proofs.copied.Puts.{none_put}
 use Rattle.cbm_volume.proofs.files.copying.put_file.Goals as goal
 
 pub returns-in_err-entry-clause-put : goal.returns-in_err-entry-clause-put
@@ -47,3 +48,8 @@ returns-clause-put g c = λ c' l d uses ch bytes k can room.
     (making_reads old.tracks geometry c' l d uses ch old.content c.args.chain.now bytes _ c.args.number c.in_ok-entry.field-0 c.in-Some.entry c.first_block-2.result c.in_ok-reader.reader k c.geometry-geometry.ensures.value can c.in-Some.is c.in_ok-entry.ensures c.first_block-2.ensures
     c.in_ok-reader.ensures.tracks c.in_ok-reader.ensures.begins c.in_ok-reader.ensures.ok)
     c.in_ok-reader.ensures.settled (held_length c.in_ok-count.count (held_from geometry old.content (sector_count geometry) c.first_block.result) (slot_bytes (file_at d c.args.number)) c.in_ok-count.ensures.counted held) room
+
+-- ---- on any disk
+
+pub returns-in_default-clause-led : goal.returns-in_default-clause-led
+returns-in_default-clause-led g c = none_put (g.M.Medium.seen c.args.medium.now).content c.args.chain.now

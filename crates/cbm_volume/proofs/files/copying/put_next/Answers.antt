@@ -6,6 +6,7 @@ use Rattle.cbm_bam.specs.Map.{geometry_of}
 use Rattle.cbm_volume.specs.Copies.{IsCopyCut, Making}
 use Rattle.cbm_volume.specs.Writers.{Reads}
 use Rattle.cbm_volume.proofs.copied.CopySteps.{handed, waits_first, some_waits, reader_goes}
+use Rattle.cbm_volume.proofs.copied.Puts.{none_put, put_anyway}
 use Rattle.cbm_volume.proofs.files.copying.put_next.Goals as goal
 
 pub returns-in_default-clause-put : goal.returns-in_default-clause-put
@@ -28,3 +29,11 @@ returns-clause-put g c = λ c' l d uses ch number byte bytes left k settled room
     let put = c.in_ok-put_byte.ensures.put c' l d uses ch bytes (Reads number c.args.reader.now (byte ∷ left)) k (subst (λ (b : ℕ). blocks_of (length (bytes ++ b ∷ [])) ≤ d.free) (sym same) room) in
     reader_goes old new c' l d uses ch number byte c.put_byte.new.chain (bytes ++ byte ∷ []) left c.args.reader.now c.taken.new.self c.taken.result c.taken.ensures.tracks c.taken.ensures.goes c.taken.ensures.ok c.taken.ensures.err
     (subst (λ (b : ℕ). Making old.tracks c' l d uses ch new.content c.put_byte.new.chain (bytes ++ b ∷ []) (Reads number c.args.reader.now (byte ∷ left))) same put)
+
+-- ---- on any disk
+
+pub returns-in_default-clause-led : goal.returns-in_default-clause-led
+returns-in_default-clause-led g c = none_put (g.M.Medium.seen c.args.medium.now).content c.args.chain.now
+
+pub returns-clause-led : goal.returns-clause-led
+returns-clause-led g c = put_anyway c.taken.result c.in_ok-put_byte.ensures.led

@@ -3,11 +3,12 @@ use Rattle.cbm_medium.proofs.Sequences.{nothing_yet, only_more}
 use Rattle.cbm_medium.specs.Seen.{Seen, OnlyContent}
 use Rattle.cbm_volume.specs.Copies.{IsCopyCut}
 use Rattle.cbm_volume.proofs.OneAfterAnother.{second_refused}
+use Rattle.cbm_volume.proofs.copied.Puts.{none_put, puts_more}
 use Rattle.cbm_volume.proofs.copied.CopySteps.{handed, read_first, read_step, read_cut, all_read}
 use Rattle.cbm_volume.proofs.files.copying.put_read.Goals as goal
 
 pub loop-passed-init : goal.loop-passed-init
-loop-passed-init g c = (read_first (g.M.Medium.seen c.args.medium.now) c.args.chain.now c.args.reader.now c.args.count, nothing_yet (g.M.Medium.seen c.args.medium.now), refl, refl)
+loop-passed-init g c = (read_first (g.M.Medium.seen c.args.medium.now) c.args.chain.now c.args.reader.now c.args.count, nothing_yet (g.M.Medium.seen c.args.medium.now), refl, refl, none_put (g.M.Medium.seen c.args.medium.now).content c.args.chain.now)
 
 pub returns-in_err-put_next-clause-put : goal.returns-in_err-put_next-clause-put
 returns-in_err-put_next-clause-put g c = λ c' l d uses ch number bytes left k settled e room.
@@ -28,6 +29,7 @@ loop-passed-preserved g c =
       only_more c.in_ok-put_next.field-0 old mid new c.loop-passed.invariant.1 (subst (λ (n : ℕ). OnlyContent n (Ok c.in_ok-put_next.field-0) mid new) c.loop-passed.invariant.2 c.in_ok-put_next.ensures.only),
       c.in_ok-put_next.ensures.tracks.0 ∙ c.loop-passed.invariant.2,
       c.in_ok-put_next.ensures.tracks.1 ∙ c.loop-passed.invariant.3,
+      puts_more old.content mid.content new.content c.args.chain.now c.loop-passed.chain c.put_next.new.chain c.loop-passed.invariant.4 c.in_ok-put_next.ensures.led,
     )
 
 pub returns-clause-put : goal.returns-clause-put

@@ -1,4 +1,4 @@
-use Rattle.std.proofs.Common.{◌≡◌, ◌<◌, ◌*◌, ◌%◌, ℕ, List, length, Some, refl, ap, subst, ◌∙◌}
+use Rattle.std.proofs.Common.{◌≡◌, ◌<◌, ◌*◌, ◌%◌, ℕ, List, length, Some, None, refl, ap, subst, ◌∙◌}
 use Rattle.std.proofs.lemmas.Result.{err_from_is_err_and}
 use Rattle.std.specs.Prelude.{◌==◌}
 use Rattle.cbm_medium.specs.Place.{Place, sector_count}
@@ -50,6 +50,22 @@ returns-in_err-put_slot-clause-untouched g c = λ d uses h.
     same_untouched (geometry_of old.tracks old.content) old.content (g.M.Medium.seen c.put_slot.new.medium).content h.layout (λ m. m == c.args.slot) h.so.stands.sound
     (c.in_err-put_slot.ensures.err ∙ ap (λ m. (g.M.Medium.seen m).content) c.self.view_is)
 
+-- the writer stands after the chain's last byte
+pub returns-clause-writer : goal.returns-clause-writer
+returns-clause-writer g c =
+    let old : Content = (g.M.Medium.seen c.args.self.now).content in
+    let inner : Content = (g.M.Medium.seen c.self.inside.medium).content in
+    let same : inner ≡ old = ap (λ m. (g.M.Medium.seen m).content) c.self.view_is in
+    let tracks : ℕ = geometry_of (g.M.Medium.seen c.args.self.now).tracks old in
+    record {
+      same_slot = refl;
+      replaces = refl;
+      whole = subst (λ (p : Place). (follow tracks old (sector_count tracks) p).trouble ≡ None) c.first_block.ensures
+          (moved (λ k x. (follow k x (sector_count k) c.first_block.result).trouble ≡ None) c.geometry-geometry.result tracks inner old c.geometry-geometry.ensures.value same c.in_ok-chain.ensures.walk.whole);
+      after = subst (λ (p : Place). StandsAfter tracks old (follow tracks old (sector_count tracks) p).blocks c.in_ok-chain.chain) c.first_block.ensures
+          (moved (λ k x. StandsAfter k x (follow k x (sector_count k) c.first_block.result).blocks c.in_ok-chain.chain) c.geometry-geometry.result tracks inner old c.geometry-geometry.ensures.value same c.in_ok-chain.ensures.stands);
+    }
+
 pub returns-clause-begun : goal.returns-clause-begun
 returns-clause-begun g c = λ d uses h f can stands. λ ch idle live.
     let medium : ℕ = (g.M.Medium.seen c.args.self.now).tracks in
@@ -57,10 +73,7 @@ returns-clause-begun g c = λ d uses h f can stands. λ ch idle live.
     let inner : Content = (g.M.Medium.seen c.self.inside.medium).content in
     let new : Content = (g.M.Medium.seen c.put_slot.new.medium).content in
     let tracks : ℕ = geometry_of medium old in
-    let after : StandsAfter tracks old (follow tracks old (sector_count tracks) (first_block c.args.entry.now)).blocks c.in_ok-chain.chain =
-    subst (λ (p : Place). StandsAfter tracks old (follow tracks old (sector_count tracks) p).blocks c.in_ok-chain.chain) c.first_block.ensures
-    (subst (λ (x : Content). StandsAfter tracks x (follow tracks x (sector_count tracks) c.first_block.result).blocks c.in_ok-chain.chain) (ap (λ m. (g.M.Medium.seen m).content) c.self.view_is)
-    (subst (λ (k : ℕ). StandsAfter k inner (follow k inner (sector_count k) c.first_block.result).blocks c.in_ok-chain.chain) c.geometry-geometry.ensures.value c.in_ok-chain.ensures.stands)) in
+    let after : StandsAfter tracks old (follow tracks old (sector_count tracks) (first_block c.args.entry.now)).blocks c.in_ok-chain.chain = (returns-clause-writer g c).after in
     let put : (directory : List Place) → Chain tracks old first_directory directory → c.args.slot < 8 * length directory → Enters old new (sector_of directory c.args.slot) (c.args.slot % 8) c.reopened-reopened.result =
     subst (λ (k : ℕ). (directory : List Place) → Chain k old first_directory directory → c.args.slot < 8 * length directory → Enters old new (sector_of directory c.args.slot) (c.args.slot % 8) c.reopened-reopened.result) c.geometry-geometry.ensures.value
     (subst (λ (x : Content). (directory : List Place) → Chain c.geometry-geometry.result x first_directory directory → c.args.slot < 8 * length directory → Enters x new (sector_of directory c.args.slot) (c.args.slot % 8) c.reopened-reopened.result) (ap (λ m. (g.M.Medium.seen m).content) c.self.view_is) c.in_ok-put_slot.ensures.entered) in
