@@ -1,5 +1,5 @@
 -- Calls on the medium one after another, of which all but the last have succeeded, whatever sectors they change.
-use Rattle.std.proofs.Common.{◌≡◌, ◌≤◌, ℕ, ap, sym, subst, ◌∙◌, arith, inl, Result, Ok, Err}
+use Rattle.std.proofs.Common.{◌≡◌, ℕ, ap, sym, subst, ◌∙◌, arith, inl, Result, Ok, Err}
 use Rattle.std.specs.Prelude.{OnOk, IfErr, Some, true}
 use Rattle.cbm_medium.specs.declared.fault.Trouble.{Trouble}
 use Rattle.cbm_medium.specs.Seen.{Seen, HasFailed, IsGrounded, ShowsGround, OnlyContent}

@@ -9,6 +9,7 @@ pub mod NeverProtected
 pub mod Refused
 pub mod Ordered
 pub mod Scratches
+pub mod Cleared
 pub mod Commanding
 pub mod Copies
 pub mod Stands
@@ -37,6 +38,7 @@ pub mod Placings
 pub mod Goings
 pub mod Counted
 pub mod Opens
+pub mod Opened
 pub mod DoneParts
 pub mod Steady
 pub mod Nexts

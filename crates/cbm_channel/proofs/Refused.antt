@@ -1,6 +1,6 @@
 -- What is refused has changed nothing of the disk.
-use Rattle.std.proofs.Common.{◌≡◌, ℕ, Bool, true, false, refl, sym, ap, ◌∙◌, inl, inr}
-use Rattle.std.specs.Prelude.{if◌then◌else◌, ◌==◌, Result, Ok, Err, IfOk}
+use Rattle.std.proofs.Common.{◌≡◌, ◌≢◌, ℕ, Bool, true, false, refl, sym, ap, ◌∙◌, inl, inr, IsErrAnd}
+use Rattle.std.specs.Prelude.{if◌then◌else◌, ◌==◌, Result, Ok, Err, IfOk, IfErr}
 use Rattle.std.proofs.lemmas.Bool.Decides.{eqb_tells}
 use Rattle.cbm_medium.specs.declared.fault.Trouble.{Trouble}
 use Rattle.cbm_machine.specs.declared.code.Code.{Code}
@@ -78,3 +78,18 @@ trouble_told t s e = ap (λ (x : Status). is_fault_number (code_number x.code)) 
     by_test : (b : Bool) → IsFault ((if b then plain WriteProtected else record { code = code_of_fault t.code; first = t.track; second = t.sector }).code)
     by_test true = refl
     by_test false = (code_told t.code).0
+
+-- so a trouble isn't told as what isn't a fault
+trouble_other : (t : Trouble) (s : Status) (code : Code) → is_fault_number (code_number code) ≡ false → s ≡ trouble_status t → s.code ≢ code
+trouble_other t s code none e is = let z = sym none ∙ sym (ap (λ (x : Code). is_fault_number (code_number x)) is) ∙ trouble_told t s e in absurd (cc)
+
+pub never_told : {A : Type 0} (r : Result A Status) (t : Trouble) (code : Code) → is_fault_number (code_number code) ≡ false → IsErrAnd r (λ s. s ≡ trouble_status t) → IfErr r (λ s. s.code ≢ code)
+never_told (Ok x) t code none is = tt
+never_told (Err s) t code none is = trouble_other t s code none is
+
+pub trouble_never : {P : Type 0} (t : Trouble) (s : Status) (new : ToldStatus) (code : Code) → is_fault_number (code_number code) ≡ false → s ≡ trouble_status t → new ≡ record { status = s; told = 0 } → new.status.code ≡ code → P
+trouble_never t s new code none e told is = absurd (trouble_other t s code none e (sym (ap (λ (x : ToldStatus). x.status.code) told) ∙ is))
+
+-- nor is another code than the one that was meant
+pub other_never : {P : Type 0} (s : Status) (new : ToldStatus) (code : Code) → s.code ≢ code → new ≡ record { status = s; told = 0 } → new.status.code ≡ code → P
+other_never s new code not told is = absurd (not (sym (ap (λ (x : ToldStatus). x.status.code) told) ∙ is))

@@ -15,5 +15,6 @@ pub mod Joined
 pub mod Planned
 pub mod Sought
 pub mod Listing
+pub mod Meant
 pub mod Exchanged
 pub mod Opening

@@ -1,5 +1,5 @@
 -- An OPEN on a channel that may be open: a CLOSE, and then the OPEN itself.
-use Rattle.std.specs.Prelude.{ℕ, ◌≡◌, ◌⊎◌, ◌==◌, ◌||◌, if◌then◌else◌, Bool, List, true, false, is_some, slice_index_or, Option, Some, None, Result, Ok, Err, IfOk, IfErr, MatchOption, OnErr}
+use Rattle.std.specs.Prelude.{ℕ, ◌≡◌, ◌≢◌, ◌⊎◌, ◌==◌, ◌||◌, if◌then◌else◌, Bool, List, true, false, is_some, slice_index_or, Option, Some, None, Result, Ok, Err, IfOk, IfErr, MatchOption, OnErr}
 use Rattle.cbm_medium.specs.Seen.{Seen, HasFailed}
 use Rattle.cbm_medium.specs.declared.fault.Trouble.{Trouble}
 use Rattle.cbm_bam.specs.Map.{geometry_of}
@@ -11,6 +11,7 @@ use Rattle.cbm_machine.specs.Machines.{Machine, say}
 use Rattle.cbm_machine.specs.declared.status.Status.{Status}
 use Rattle.cbm_machine.specs.Plans as plans
 use Rattle.cbm_command.specs.declared.opening.Opening.{Opening}
+use Rattle.cbm_command.specs.Openings.{opening_of}
 use Rattle.cbm_file.specs.Files.{File}
 use Rattle.cbm_channel.specs.declared.channel.Channel.{Channel}
 use Rattle.cbm_channel.specs.declared.channel.Channel.TheVariants.{Closed}
@@ -22,12 +23,13 @@ use Rattle.cbm_channel.specs.Grounds.{HasGround, IsFromDirectory, KeepsGrounded,
 use Rattle.cbm_channel.specs.Going.{IsFailureCounted, GoesFrom, KeepsMedium, WentFrom, opening_parts}
 use Rattle.cbm_channel.specs.Commanded.{AreSameBut, FormatsUnfailing, open_formats, open_validates, text_moves, text_clears}
 use Rattle.cbm_channel.specs.Shown.{is_writing_on, appends_on, appended_by, finished_by}
+use Rattle.cbm_channel.specs.Meant.{TextWasDone, OpeningWasDone}
 use Rattle.cbm_channel.specs.Parts.{IsClosedOn, OnlyTells, OnlyTellsFor}
 use Rattle.cbm_channel.specs.Planned.{PlannedAs, IsFound, IsOfText, IsOpened, IsSized, begun_by, disk_opened, plan_writes, text_writes}
 
 -- THE CHANNEL WAS CLOSED FIRST, on any disk, and from there the OPEN itself is measured: where it isn't for writing it leaves the medium
--- as it is, and its status has its ground; where it is refused each sector is as it was. The medium refused at most one write in each of
--- both.
+-- as it is, and its status has its ground; where it is refused each sector is as it was; where it is reported as done it was done. The
+-- medium refused at most one write in each of both.
 pub record ClosesFirst {M : Type 0} (seen : M → Seen) (ch : ℕ) (text : List ℕ) (old new : Kept M) : Type 0 where
   pub closed : Kept M
   pub is_closed : slice_index_or closed.channels ch Closed ≡ Closed
@@ -36,6 +38,7 @@ pub record ClosesFirst {M : Type 0} (seen : M → Seen) (ch : ℕ) (text : List 
   pub quiet : text_writes ch text ≡ false → OnlyTells seen closed new
   pub spared : KeepsIfRefused seen closed new
   pub counted : IsFailureCounted seen closed new
+  pub done : (asked : Opening) → opening_of ch text ≡ Ok asked → OpeningWasDone seen ch asked closed new
 
 -- from each machine that the drive stood for it is done, or stopped; of NEW that says nothing where the medium failed in it
 abbrev pub OpensFrom : {M : Type 0} → (M → Seen) → ℕ → List ℕ → Kept M → Kept M → Type 0
@@ -57,11 +60,12 @@ pub record OpensChannel {M : Type 0} (seen : M → Seen) (ch : ℕ) (text : List
   pub closes : ClosesFirst seen ch text old new
   pub grounded : TellsGrounded seen old new
 
--- WHAT AN OPEN OF CHANNEL 15 LEAVES on any disk: each channel keeps its file, and its place but for one that the command sets; the medium
--- refused one write at most; and a status that is reported has its ground.
+-- WHAT AN OPEN OF CHANNEL 15 LEAVES on any disk: each channel keeps its file, and its place but for one that the command sets; a command
+-- that is reported as done was done; the medium refused one write at most; and a status that is reported has its ground.
 pub record OpensCommand {M : Type 0} (seen : M → Seen) (text : List ℕ) (old new : Kept M) : Type 0 where
   pub channels : HaveSameFiles old.channels new.channels
   pub places : AreSameBut (text_moves text) old.channels new.channels
+  pub done : TextWasDone seen text old new
   pub counted : IsFailureCounted seen old new
   pub grounded : KeepsGrounded seen old new
 
@@ -88,10 +92,11 @@ pub record LeavesByOpen {M : Type 0} (seen : M → Seen) (ch : ℕ) (text : List
 abbrev pub IsAllowed : {M : Type 0} → (M → Seen) → M → Plan → Type 0
 IsAllowed seen medium plan = plan_writes plan ≡ true → (seen medium).protected ≡ false
 
--- A PLAN OR ITS REFUSAL on any disk: what refuses has its ground; a file was found in the directory; nothing is to be written on a
+-- A PLAN OR ITS REFUSAL on any disk: what refuses has its ground, and isn't 00; a file was found in the directory; nothing is to be written on a
 -- protected disk; and the records of a new relative file have 1 to 254 bytes.
 pub record IsSoundPlan {M : Type 0} (seen : M → Seen) (medium : M) (result : Result Plan Status) : Type 0 where
   pub ground : IfErr result (HasGround seen medium)
+  pub denied : IfErr result (λ s. s.code ≢ Fine)
   pub from : IfOk result (IsFromDirectory seen medium)
   pub allowed : IfOk result (IsAllowed seen medium)
   pub sized : IfOk result IsSized

@@ -9,9 +9,11 @@ impl<M: Medium> Dos<M> {
     ghost use Rattle.std.specs.Prelude.{◌≡◌, length};
     ghost use Rattle.cbm_medium.specs.Seen.{HasFailed};
     ghost use Rattle.cbm_command.specs.declared.command.Command.TheVariants.{New};
+    ghost use Rattle.cbm_machine.specs.declared.code.Code.TheVariants.{Fine};
     ghost use Rattle.cbm_machine.specs.Machines.{answered};
     ghost use Rattle.cbm_machine.specs.Running.{run};
     ghost use Rattle.cbm_channel.specs.Going.{Went};
+    ghost use Rattle.cbm_channel.specs.Meant.{EmptiesMeant};
     ghost use Rattle.cbm_channel.specs.Parts.{LeavesChannels};
 
     /// N: an empty disk of this title; with an id it is formatted, else it keeps its own. 60 where a channel is open,
@@ -19,6 +21,8 @@ impl<M: Medium> Dos<M> {
     pub(super) fn format(&mut self, title: &Name, id: Option<[u8; 2]>)
         ensures goes { (HasFailed (M.seen self.old.medium) (M.seen self.new.medium) → ⊥) →
             Went M.seen self.old self.new 15 (λ m. answered m (run (New title.now id) m)) }
+        ensures done { self.new.told.status.code ≡ Fine →
+            EmptiesMeant (M.seen self.old.medium) (M.seen self.new.medium) title.now id }
         ensures count { length self.new.channels ≡ 15 }
         ensures leaves { LeavesChannels M.seen self.old self.new }
     {

@@ -10,7 +10,9 @@ use cbm_machine::{Code, Status};
 use cbm_volume::{Medium, Trouble};
 
 impl<M: Medium> Dos<M> {
-    ghost use Rattle.std.specs.Prelude.{◌≡◌, ◌≤◌, ◌<◌, ◌⊎◌, false, IfOk, IfSome};
+    ghost use Rattle.std.specs.Prelude.{◌≡◌, ◌≤◌, ◌<◌, ◌⊎◌, false, slice_index_or, IfOk, IfSome};
+    ghost use Rattle.cbm_channel.specs.declared.channel.Channel.TheVariants.{Closed};
+    ghost use Rattle.cbm_channel.specs.Meant.{PlanWasDone, OpeningWasDone};
     ghost use Rattle.cbm_channel.specs.ChannelCalls.{KeepsElse, LeavesRest};
     ghost use Rattle.cbm_machine.specs.declared.code.Code.TheVariants.{Fine};
     ghost use Rattle.cbm_channel.specs.Grounds.{IsFromDirectory, KeepsIfRefused};
@@ -45,6 +47,7 @@ impl<M: Medium> Dos<M> {
     fn begin(&mut self, channel: u8, opening: Opening)
         requires { channel < 15 }
         ensures goes { BeginsOpening M.seen channel opening self.old self.new }
+        ensures done { OpeningWasDone M.seen channel opening self.old self.new }
         ensures others { SameBut channel self.old.channels self.new.channels }
         ensures refused { IsClosedOn channel self.old → IsClosedUnlessFine channel self.new }
         ensures quiet { is_for_writing opening ≡ false → OnlyTells M.seen self.old self.new }
@@ -63,6 +66,8 @@ impl<M: Medium> Dos<M> {
         requires channel { channel < 15 }
         requires sized { IsSized plan }
         ensures goes { ActsOnPlan M.seen channel plan self.old self.new }
+        ensures done { self.new.told.status.code ≡ Fine → PlanWasDone plan (M.seen self.old.medium) (M.seen self.new.medium)
+            (slice_index_or self.new.channels channel Closed) }
         ensures others { SameBut channel self.old.channels self.new.channels }
         ensures refused { (self.new.told.status.code ≡ Fine) ⊎ (self.new.channels ≡ self.old.channels) }
         ensures quiet { plan_writes plan ≡ false → IsFromDirectory M.seen self.old.medium plan →
@@ -89,6 +94,7 @@ impl<M: Medium> Dos<M> {
         ensures fits { IfOk result (λ o. IfSome o (FitsTracks (M.seen self.new.medium).tracks)) }
         ensures opens { OpensByPlan M.seen plan result self.old self.new }
         ensures writes { WritesByPlan M.seen plan result self.old self.new }
+        ensures done { IfOk result (λ o. IfSome o (PlanWasDone plan (M.seen self.old.medium) (M.seen self.new.medium))) }
         ensures only { OnlyMedium self.old self.new }
         ensures medium { KeepsElse result (M.seen self.old.medium) (M.seen self.new.medium) }
     {

@@ -18,7 +18,7 @@ fn without_return(text: &[u8]) -> &[u8]
 }
 
 impl<M: Medium> Dos<M> {
-    ghost use Rattle.std.specs.Prelude.{◌≡◌, ◌≢◌, ◌≤◌, ◌<◌, ◌⊎◌, [], ◌∷◌, false, Some, IfSome, MatchOption};
+    ghost use Rattle.std.specs.Prelude.{◌≡◌, ◌≢◌, ◌≤◌, ◌<◌, ◌⊎◌, ℕ, List, [], ◌∷◌, false, Some, IfSome, MatchOption};
     ghost use Rattle.cbm_machine.specs.Machines.{answered};
     ghost use Rattle.cbm_machine.specs.Closing.{without_text};
     ghost use Rattle.cbm_machine.specs.Calls.{put, gather, command};
@@ -30,6 +30,7 @@ impl<M: Medium> Dos<M> {
     ghost use Rattle.cbm_channel.specs.Shown.{is_writing_on, has_records_on, with_records_by, KeepsMediumAndStatus};
     ghost use Rattle.cbm_channel.specs.Going.{Goes, Went, put_written};
     ghost use Rattle.cbm_channel.specs.Commanded.{IsOfCommandText, changes_disk, commands_change, formats, text_formats, end_formats, validates, text_validates, end_validates, moved_by, text_moves, end_moves, cleared_by, text_clears};
+    ghost use Rattle.cbm_channel.specs.Meant.{WasDone, TextWasDone};
     ghost use Rattle.cbm_channel.specs.Parts.{LeavesDisk, LeavesByCommand, OnlyText, OnlyTells, OnlyTellsFor, CutsOff, KeepsSlotOn, TakesText, WritesText, MovesOne, WentUnlessNew, EndsGathered, EndsQuietly, SparesDisk, changed_by_end};
 
     /// A byte that the host sends to a channel: on 15 it is gathered for a command, on a channel that has records open
@@ -100,6 +101,8 @@ impl<M: Medium> Dos<M> {
         ensures goes { EndsGathered M.seen channel self.old self.new }
         ensures leaves { LeavesByCommand M.seen (end_moves channel self.old.text) (end_validates channel self.old.text)
             (end_formats channel self.old.text) (changed_by_end channel self.old) self.old self.new }
+        ensures done { channel ≡ 15 → (text : List ℕ) → self.old.text ≡ Some (15, text) →
+            TextWasDone M.seen text self.old self.new }
         ensures quiet { EndsQuietly M.seen channel self.old self.new }
         ensures spares { SparesDisk M.seen channel self.old self.new }
     {
@@ -136,6 +139,7 @@ impl<M: Medium> Dos<M> {
         ensures goes { WentUnlessNew M.seen (text_formats text.now) self.old self.new (command text.now) }
         ensures leaves { LeavesByCommand M.seen (text_moves text.now) (text_validates text.now) (text_formats text.now)
             (text_clears text.now) self.old self.new }
+        ensures done { TextWasDone M.seen text.now self.old self.new }
         ensures quiet { commands_change text.now ≡ false → OnlyTellsFor M.seen self.old self.new }
         ensures spared { KeepsIfRefused M.seen self.old self.new }
     {
@@ -155,6 +159,8 @@ impl<M: Medium> Dos<M> {
             (λ n. answered n (run command.now n)) }
         ensures leaves { LeavesByCommand M.seen (moved_by command.now) (validates command.now) (formats command.now)
             (cleared_by command.now) self.old self.new }
+        ensures done { WasDone command.now self.old.channels (M.seen self.old.medium) (M.seen self.new.medium)
+            self.new.told.status.code }
         ensures quiet { changes_disk command.now ≡ false → OnlyTells M.seen self.old self.new }
         ensures spared { KeepsIfRefused M.seen self.old self.new }
     {

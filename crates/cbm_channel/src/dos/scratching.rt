@@ -42,21 +42,24 @@ fn may_go(channels: &[Channel], patterns: &[Name], number: u8, entry: &Entry) ->
 }
 
 impl<M: Medium> Dos<M> {
-    ghost use Rattle.std.specs.Prelude.{◌≡◌, ◌≢◌, ◌≤◌, IfOk, IfErr, IsOkAnd, length};
+    ghost use Rattle.std.specs.Prelude.{◌≡◌, ◌≢◌, ◌≤◌, OnOk, IfOk, IfErr, IsOkAnd, length};
     ghost use Rattle.cbm_channel.specs.ChannelCalls.{KeepsElse, LeavesRest};
-    ghost use Rattle.cbm_bam.specs.Map.{geometry_of};
-    ghost use Rattle.cbm_directory.specs.Slots.{directory_of};
+    ghost use Rattle.cbm_volume.specs.SeenDisks.{seen_directory};
+    ghost use Rattle.cbm_machine.specs.declared.code.Code.TheVariants.{FilesScratched};
     ghost use Rattle.cbm_machine.specs.Machines.{Machine, answered};
     ghost use Rattle.cbm_machine.specs.Running.{scratch};
     ghost use Rattle.cbm_channel.specs.Grounds.{HasGround, KeepsIfRefused};
     ghost use Rattle.cbm_channel.specs.Standing.{Stands};
     ghost use Rattle.cbm_channel.specs.Going.{Went};
+    ghost use Rattle.cbm_channel.specs.Meant.{ScratchesEach, ScratchesMeant};
     ghost use Rattle.cbm_channel.specs.Commanded.{entries_going, slots_going, is_slot_among, AreSlotsGoing, AreUnguarded, RefusesScratch};
     ghost use Rattle.cbm_channel.specs.Parts.{OfMachine, WentWhere, KeepsRestWhere, LeavesMedium, LeavesChannels, OnlyMedium, SameChannels, ClearsSlots, StopsClearing, KeepsRestGoing};
 
     /// S: each file that matches a pattern, isn't locked and isn't open goes; 01 reports how many.
     pub(super) fn scratch(&mut self, patterns: &Names)
         ensures goes { Went M.seen self.old self.new 15 (λ n. answered n (scratch patterns.now n)) }
+        ensures done { self.new.told.status.code ≡ FilesScratched →
+            ScratchesMeant self.old.channels (M.seen self.old.medium) (M.seen self.new.medium) patterns.now }
         ensures leaves { LeavesChannels M.seen self.old self.new }
         ensures rest { LeavesRest M.seen (λ m. is_slot_among (slots_going m patterns.now 0 m.disk.slots)) self.old self.new }
     {
@@ -69,6 +72,9 @@ impl<M: Medium> Dos<M> {
     /// The slots of the files that go. Errors: 26 the disk is protected; or the fault of the directory.
     fn plan_scratch(&self, patterns: &Names) -> Result<Numbers, Status>
         ensures ground { IfErr result (HasGround M.seen self.now.medium) }
+        ensures denied { IfErr result (λ s. s.code ≢ FilesScratched) }
+        ensures going { IfOk result (λ v. v.items ≡ entries_going
+            self.now.channels patterns.now 0 (seen_directory (M.seen self.now.medium)).entries) }
         ensures planned { OfMachine M.seen self.now (λ m. IfOk result (λ v. AreSlotsGoing m patterns.now v.items)) }
         ensures refused { OfMachine M.seen self.now (λ m. IfErr result (RefusesScratch m patterns.now)) }
         ensures unguarded { IfOk result (λ v. AreUnguarded (M.seen self.now.medium).protected v.items) }
@@ -84,8 +90,9 @@ impl<M: Medium> Dos<M> {
     /// The slots of the files that may go, in order. An `Err` is the fault of the directory.
     fn slots_going(&self, patterns: &Names) -> Result<Numbers, Status>
         ensures ground { IfErr result (HasGround M.seen self.now.medium) }
-        ensures value { let now = M.seen self.now.medium in IfOk result (λ v. v.items ≡ entries_going
-            self.now.channels patterns.now 0 (directory_of (geometry_of now.tracks now.content) now.content).entries) }
+        ensures denied { IfErr result (λ s. s.code ≢ FilesScratched) }
+        ensures going { IfOk result (λ v. v.items ≡ entries_going
+            self.now.channels patterns.now 0 (seen_directory (M.seen self.now.medium)).entries) }
         ensures means { (m : Machine) → Stands M.seen self.now m →
             IsOkAnd result (λ v. v.items ≡ slots_going m patterns.now 0 m.disk.slots) }
     {
@@ -107,6 +114,8 @@ impl<M: Medium> Dos<M> {
         requires { length slots.now ≤ 144 }
         ensures goes { WentWhere M.seen self.old self.new (λ m patterns. AreSlotsGoing m patterns slots.now)
             (λ patterns n. answered n (scratch patterns n)) }
+        ensures done { self.new.told.status.code ≡ FilesScratched →
+            ScratchesEach (M.seen self.old.medium) (M.seen self.new.medium) slots.now }
         ensures same { SameChannels self.old.channels self.new.channels }
         ensures spared { AreUnguarded (M.seen self.old.medium).protected slots.now →
             KeepsIfRefused M.seen self.old self.new }
@@ -126,6 +135,7 @@ impl<M: Medium> Dos<M> {
 
     /// Scratches these slots, one after another. An `Err` is what ended it: the slots before stay scratched.
     fn clear(&mut self, slots: &[u8]) -> Result<(), Trouble>
+        ensures led { OnOk result (ScratchesEach (M.seen self.old.medium) (M.seen self.new.medium) slots.now) }
         ensures scratched { ClearsSlots M.seen slots.now self.old self.new result }
         ensures stopped { StopsClearing M.seen slots.now self.old self.new result }
         ensures unguarded { AreUnguarded (M.seen self.old.medium).protected slots.now → IfErr result (λ t. t.code ≢ 26) }

@@ -1,4 +1,8 @@
 use Rattle.std.proofs.Common.{◌<◌, sym, ap, subst, ◌∙◌, refl, inl, inr, arith, length}
+use Rattle.std.specs.Prelude.{slice_index_or, IfSome}
+use Rattle.cbm_channel.specs.declared.channel.Channel.TheVariants.{Closed}
+use Rattle.cbm_channel.specs.Meant.{PlanWasDone}
+use Rattle.cbm_channel.proofs.Refused.{trouble_never}
 use Rattle.std.specs.Prelude.{slice_set, Option, Ok}
 use Rattle.cbm_channel.specs.declared.channel.Channel.{Channel}
 use Rattle.cbm_channel.specs.Opening.{opened_in}
@@ -80,3 +84,16 @@ returns-in-Ok-None-clause-rest g c = λ m p h s. rest_seen g.M.Medium.seen c.arg
 
 pub returns-in-Err-clause-rest : goal.returns-in-Err-clause-rest
 returns-in-Err-clause-rest g c = λ m p h s. rest_seen g.M.Medium.seen c.args.self.now.medium c.set.new.self.medium c.args.self.now.medium c.opened.new.self.medium refl c.set.ensures.medium (rest_none _ _ (c.in-Err.ensures.opens.rest m p h s))
+
+-- ---- which file is meant, and what was done, on any disk
+
+pub returns-in-Ok-Some-clause-done : goal.returns-in-Ok-Some-clause-done
+returns-in-Ok-Some-clause-done g c = λ fine.
+    let more : c.args.channel < length c.self.inside.channels = omega (arith, c.requires.channel, c.opened.ensures.only.count, ap (λ k. length k.channels) c.self.view_is) in
+    let now = set_now c.self.inside.channels c.say.new.self.channels c.args.channel c.in-Ok-Some.opened c.say.ensures.channels more in
+    let done = subst (λ (o : Option Channel). IfSome o (PlanWasDone c.args.plan (g.M.Medium.seen c.args.self.now.medium) (g.M.Medium.seen c.opened.new.self.medium))) c.in-Ok-Some.field-0-is c.in-Ok-Some.ensures.done in
+    subst (λ v. PlanWasDone c.args.plan (g.M.Medium.seen c.args.self.now.medium) (g.M.Medium.seen v) (slice_index_or c.say.new.self.channels c.args.channel Closed)) (sym (c.say.ensures.medium ∙ ap (λ k. k.medium) c.self.view_is))
+    (subst (PlanWasDone c.args.plan (g.M.Medium.seen c.args.self.now.medium) (g.M.Medium.seen c.opened.new.self.medium)) (sym now) done)
+
+pub returns-in-Err-clause-done : goal.returns-in-Err-clause-done
+returns-in-Err-clause-done g c = trouble_never c.in-Err.trouble c.from.result c.set.new.self.told Fine refl c.from.ensures c.set.ensures.told

@@ -1,4 +1,5 @@
 use Rattle.std.proofs.Common.{sym, inl, ap, rules}
+use Rattle.cbm_channel.proofs.Refused.{other_never}
 use Rattle.cbm_machine.specs.Machines.{say, with_status}
 use Rattle.cbm_machine.specs.Plans.{act}
 use Rattle.cbm_machine.specs.declared.code.Code.TheVariants.{Fine}
@@ -40,3 +41,11 @@ returns-in-Err-clause-leaves g c = record {
   counted = (search rules);
   grounded = refusal_grounded g.M.Medium.seen c.args.self.now c.set.new.self c.in-Err.status c.in-Err.ensures.sound.ground (ap (λ x. x.status) c.set.ensures.told);
 }
+
+-- ---- which file is meant, and what was done, on any disk
+
+pub returns-in-Ok-clause-done : goal.returns-in-Ok-clause-done
+returns-in-Ok-clause-done g c = λ fine. (c.in-Ok.plan, c.in-Ok.ensures.meant, c.act.ensures.done fine)
+
+pub returns-in-Err-clause-done : goal.returns-in-Err-clause-done
+returns-in-Err-clause-done g c = other_never c.in-Err.status c.set.new.self.told Fine c.in-Err.ensures.sound.denied c.set.ensures.told

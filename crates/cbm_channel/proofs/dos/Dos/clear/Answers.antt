@@ -8,6 +8,8 @@ use Rattle.cbm_channel.proofs.Elses.{only_else, else_nothing, else_more}
 use Rattle.cbm_channel.proofs.DiskSteps.{refused_then, fits_same}
 use Rattle.cbm_channel.proofs.Opens.{on_err, failed_by}
 use Rattle.cbm_channel.proofs.Scratches.{IsClearing, clearing_first, clearing_next, clearing_stopped, clearing_hindered, clearing_done, next_left}
+use Rattle.cbm_channel.specs.Meant.{ScratchesEach}
+use Rattle.cbm_channel.proofs.Cleared.{each_next, each_done}
 use Rattle.cbm_channel.proofs.Goings.{late}
 use Rattle.cbm_channel.proofs.Troubles.{passed_on}
 use Rattle.cbm_file.specs.Files.{file_at}
@@ -25,6 +27,7 @@ slots-init g c =
       else_nothing (Ok tt) _ _ (ap g.M.Medium.seen vol) tt tt,
       c.self.view_is ∙ ap (λ v. record old { medium = v }) (sym vol),
       (λ m st can. rest_itself _ _ (ap g.M.Medium.seen vol)),
+      (λ z k. subst (λ v. ScratchesEach (g.M.Medium.seen v) z c.args.slots.now) vol k),
     )
 
 pub invariant_of-self : goal.invariant_of-self
@@ -74,6 +77,7 @@ slots-preserved g c =
           (clearing_hindered _ _ new.content (uses_of old.channels m.channels) m.disk (all_scratched m.disk c.args.slots.now) _ _ h mid.tracks (KeepsRest (g.M.Medium.seen old.medium) new (is_slot_among c.args.slots.now)) c.slots.invariant.1.tracks
           (λ d us f at some unused. rest_then (is_slot_among c.args.slots.now) (λ n. n == slice_index_or c.args.slots.now c.slots.slot-index 0) (g.M.Medium.seen old.medium) mid new d us at (λ n e. (e, not_among c.args.slots.now c.slots.slot-index n c.slots-test.true e)) (c.slots.invariant.3 m st can)
           (change_rest c.scratch.result mid new d _ us _ _ c.scratch.ensures.only refl at (c.scratch.ensures.call d us at f some unused) (scratched_total (file_at d _) d _))))),
+      each_next (g.M.Medium.seen old.medium) (g.M.Medium.seen c.slots.self-inside.volume) (g.M.Medium.seen c.scratch.new.self) c.args.slots.now c.slots.slot-index c.slots-test.true c.in_ok-scratch.ensures.only.tracks c.in_ok-scratch.ensures.led c.slots.invariant.4,
     )
 
 pub returns-clause-scratched : goal.returns-clause-scratched
@@ -107,3 +111,8 @@ returns-in_err-scratch-clause-rest g c = λ m st can.
 
 pub returns-clause-rest : goal.returns-clause-rest
 returns-clause-rest g c = c.slots.invariant.3
+
+-- ---- on any disk
+
+pub returns-clause-led : goal.returns-clause-led
+returns-clause-led g c = each_done (g.M.Medium.seen c.args.self.now.medium) (g.M.Medium.seen c.slots.self-inside.volume) c.args.slots.now c.slots.slot-index c.slots-test.false c.slots.invariant.4

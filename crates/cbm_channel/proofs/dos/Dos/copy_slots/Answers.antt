@@ -1,4 +1,6 @@
 use Rattle.std.proofs.Common.{rules, ◌≡◌, ℕ, Bool, false, List, sym, ap, subst, ◌∙◌, inl, inr, refl}
+use Rattle.cbm_volume.specs.Copying.{CopyLed}
+use Rattle.cbm_channel.proofs.Refused.{trouble_never}
 use Rattle.std.specs.Prelude.{MatchBool, ◌||◌, nat_lt, not}
 use Rattle.cbm_medium.specs.Seen.{HasFailed}
 use Rattle.cbm_file.specs.Padding.{before_filler}
@@ -174,3 +176,14 @@ returns-in-Err-clause-rest g c = λ m olds is s.
     let can = all_copied m c.args.name.now olds c.args.kind c.args.slots.now is in
     rest_seen g.M.Medium.seen c.args.self.now.medium c.set.new.self.medium c.self.inside.volume c.copy.new.self (ap (λ k. k.medium) c.self.view_is) c.set.ensures.medium
     (copy_rest c.copy.result (g.M.Medium.seen here.volume) (g.M.Medium.seen c.copy.new.self) m.disk _ uses _ _ c.copy.ensures.only refl st.holds (c.copy.ensures.call m.disk uses 15 st.holds idle kept plain can) (grown_total m.disk))
+
+-- ---- on any disk
+
+pub returns-in-Ok-true-clause-led : goal.returns-in-Ok-true-clause-led
+returns-in-Ok-true-clause-led g c = λ fine.
+    subst (λ v. CopyLed (g.M.Medium.seen v) (g.M.Medium.seen c.say.new.self.medium) c.args.kind c.args.name.now) (ap (λ k. k.medium) c.self.view_is)
+    (subst (λ v. CopyLed (g.M.Medium.seen c.self.inside.volume) (g.M.Medium.seen v) c.args.kind c.args.name.now) (sym c.say.ensures.medium)
+    (subst (λ (name : List ℕ). CopyLed (g.M.Medium.seen c.self.inside.volume) (g.M.Medium.seen c.copy.new.self) c.args.kind name) c.bytes.ensures.value (c.in-Ok-true.ensures.led c.in-Ok-true.field-0-test)))
+
+pub returns-in-Err-clause-led : goal.returns-in-Err-clause-led
+returns-in-Err-clause-led g c = trouble_never c.in-Err.trouble c.from.result c.set.new.self.told Fine refl c.from.ensures c.set.ensures.told

@@ -1,4 +1,8 @@
 use Rattle.std.proofs.Common.{rules, ◌≡◌, ◌≢◌, ◌≤◌, ℕ, List, length, take, sym, ap, subst, ◌∙◌, arith, inl, refl}
+use Rattle.cbm_command.specs.Commands.{command_of}
+use Rattle.cbm_machine.specs.Calls.{without_return}
+use Rattle.cbm_channel.specs.Meant.{ReadWasDone}
+use Rattle.cbm_channel.proofs.Cleared.{same_text}
 use Rattle.std.specs.Prelude.{◌==◌, ◌&&◌, true, false, IfSome, MatchOption}
 use Rattle.std.proofs.lemmas.Bool.{eq-eqb}
 use Rattle.cbm_medium.specs.Seen.{HasFailed}
@@ -119,3 +123,21 @@ returns-in_default-clause-leaves g c = record {
   counted = (search rules);
   grounded = (search rules);
 }
+
+-- ---- what is reported as done, on any disk
+
+pub returns-then-channel-eq15-clause-done : goal.returns-then-channel-eq15-clause-done
+returns-then-channel-eq15-clause-done g c = λ is text has.
+    let all : c.bytes.result.now ≡ text = c.bytes.ensures ∙ same_text c.args.self.now.text c.in-Some.text text c.in-Some.ensures.taken.0 has in
+    subst (λ (xs : List ℕ). ReadWasDone (command_of (without_return xs)) c.args.self.now.channels (g.M.Medium.seen c.args.self.now.medium) (g.M.Medium.seen c.command.new.self.medium) c.command.new.self.told.status.code) all
+    (subst (λ chs. ReadWasDone (command_of (without_return c.bytes.result.now)) chs (g.M.Medium.seen c.args.self.now.medium) (g.M.Medium.seen c.command.new.self.medium) c.command.new.self.told.status.code) c.in-Some.ensures.only.channels
+    (subst (λ v. ReadWasDone (command_of (without_return c.bytes.result.now)) c.take_text.new.self.channels (g.M.Medium.seen v) (g.M.Medium.seen c.command.new.self.medium) c.command.new.self.told.status.code) c.in-Some.ensures.only.medium c.command.ensures.done))
+
+pub returns-else-channel-eq15-clause-done : goal.returns-else-channel-eq15-clause-done
+returns-else-channel-eq15-clause-done g c = λ is. absurd (c.if-channel-eq15.false is)
+
+-- the text was another channel's
+pub returns-in_default-clause-done : goal.returns-in_default-clause-done
+returns-in_default-clause-done g c = λ is text has.
+    let none = subst (λ o. MatchOption o (IfSome c.args.self.now.text (λ t. t.0 ≢ c.args.channel)) (λ t. Unit {0})) c.in_default.is c.take_text.ensures.none in
+    absurd (subst (λ o. IfSome o (λ t. t.0 ≢ c.args.channel)) has none (sym is))

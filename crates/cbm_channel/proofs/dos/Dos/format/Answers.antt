@@ -11,7 +11,8 @@ use Rattle.cbm_channel.proofs.Commanding.{new_open, new_done, new_guarded, new_s
 use Rattle.cbm_channel.proofs.Opens.{failed_by}
 use Rattle.cbm_channel.proofs.Stands.{stood}
 use Rattle.cbm_channel.proofs.Stores.{renamed}
-use Rattle.cbm_channel.proofs.Refused.{not_refused, refused_26}
+use Rattle.cbm_channel.specs.Meant.{EmptiesMeant}
+use Rattle.cbm_channel.proofs.Refused.{not_refused, refused_26, trouble_never}
 use Rattle.cbm_channel.proofs.Counted.{counted_by, counted_well, new_counts}
 use Rattle.cbm_channel.proofs.dos.Dos.format.Goals as goal
 use Rattle.cbm_channel.proofs.Goings.{keeps_by}
@@ -96,3 +97,14 @@ returns-then-is_protected-clause-leaves g c = record {
   counted = (search rules);
   grounded = protected_grounded g.M.Medium.seen c.args.self.now c.say-then-is_protected.new.self (ap (λ x. x.status) c.say-then-is_protected.ensures.told) (ap (λ v. (g.M.Medium.seen v).protected) (sym c.volume.ensures) ∙ sym c.is_protected.ensures ∙ c.if-is_protected.true);
 }
+
+-- ---- on any disk
+
+pub returns-in-Ok-clause-done : goal.returns-in-Ok-clause-done
+returns-in-Ok-clause-done g c = λ fine.
+    subst (λ v. EmptiesMeant (g.M.Medium.seen v) (g.M.Medium.seen c.say-in-Ok.new.self.medium) c.args.title.now c.args.id) (ap (λ k. k.medium) c.self.view_is)
+    (subst (λ v. EmptiesMeant (g.M.Medium.seen c.self.inside.volume) (g.M.Medium.seen v) c.args.title.now c.args.id) (sym c.say-in-Ok.ensures.medium)
+    (subst (λ title. EmptiesMeant (g.M.Medium.seen c.self.inside.volume) (g.M.Medium.seen c.new_disk.new.self) title c.args.id) c.bytes.ensures.value c.in-Ok.ensures.emptied))
+
+pub returns-in-Err-clause-done : goal.returns-in-Err-clause-done
+returns-in-Err-clause-done g c = trouble_never c.in-Err.trouble c.from.result c.set.new.self.told Fine refl c.from.ensures c.set.ensures.told

@@ -1,9 +1,10 @@
-use Rattle.std.proofs.Common.{sym, subst, ◌∙◌}
+use Rattle.std.proofs.Common.{refl, sym, subst, ◌∙◌}
+use Rattle.cbm_channel.proofs.Refused.{never_told}
 use Rattle.std.specs.Prelude.{Ok}
 use Rattle.cbm_bam.specs.Map.{geometry_of}
 use Rattle.cbm_directory.specs.Slots.{Finds, directory_of}
 use Rattle.cbm_volume.specs.Holding.{HoldsDisk}
-use Rattle.cbm_machine.specs.declared.code.Code.TheVariants.{WrongType, FileNotFound}
+use Rattle.cbm_machine.specs.declared.code.Code.TheVariants.{Fine, WrongType, FileNotFound}
 use Rattle.cbm_machine.specs.Finding.{found}
 use Rattle.cbm_channel.specs.Sought.{is_sought}
 use Rattle.cbm_channel.specs.Planned.{FoundAs}
@@ -53,3 +54,11 @@ returns-in-Some-clause-from g c =
     let finds = subst (λ r. Finds (is_sought c.args.pattern.now c.args.kind) (directory_of (geometry_of (g.M.Medium.seen c.volume.result.now).tracks (g.M.Medium.seen c.volume.result.now).content) (g.M.Medium.seen c.volume.result.now).content) (Ok r)) c.in-Some.is c.in_ok-slot.ensures.finds in
     subst (λ v. Contains (directory_of (geometry_of (g.M.Medium.seen v).tracks (g.M.Medium.seen v).content) (g.M.Medium.seen v).content).entries c.in-Some.entry) c.volume.ensures
     (first_contained _ 0 _ c.in-Some.slot c.in-Some.entry finds)
+
+-- ---- on any disk
+
+pub returns-in_err-slot-clause-denied : goal.returns-in_err-slot-clause-denied
+returns-in_err-slot-clause-denied g c = never_told c.from_residual.result c.in_err-slot.field-0.0 Fine refl c.from_residual.ensures.1
+
+pub returns-in_err-find-clause-denied : goal.returns-in_err-find-clause-denied
+returns-in_err-find-clause-denied g c = never_told c.from_residual-in_err-find.result c.in_err-find.field-0.0 Fine refl c.from_residual-in_err-find.ensures.1

@@ -11,6 +11,8 @@ use Rattle.cbm_channel.specs.Shown.{appended_by, finished_by}
 use Rattle.cbm_channel.specs.Going.{GoesFrom}
 use Rattle.cbm_channel.specs.Commanded.{text_formats}
 use Rattle.cbm_channel.specs.Planned.{begun_by, text_writes}
+use Rattle.cbm_channel.specs.Meant.{OpeningWasDone}
+use Rattle.cbm_channel.proofs.Opened.{same_ok}
 use Rattle.cbm_channel.proofs.Asked.{below_15}
 use Rattle.cbm_channel.proofs.Stands.{moved}
 use Rattle.cbm_channel.proofs.Planning.{opened_text, refused_text, writes_text, own_refusal}
@@ -83,6 +85,7 @@ pub returns-then-channel-eq15-clause-command : goal.returns-then-channel-eq15-cl
 returns-then-channel-eq15-clause-command g c = λ is. record {
   channels = (search rules);
   places = (search rules);
+  done = c.command.ensures.done;
   counted = c.command.ensures.leaves.counted;
   grounded = c.command.ensures.leaves.grounded;
 }
@@ -108,6 +111,7 @@ returns-in-Ok-clause-channel g c = λ lt.
         quiet = λ reads. c.begin.ensures.quiet (writes_text c.args.channel c.args.text.now c.in-Ok.opening other is reads);
         spared = c.begin.ensures.spared;
         counted = c.begin.ensures.leaves.counted;
+        done = λ asked read. subst (λ o. OpeningWasDone g.M.Medium.seen c.args.channel o c.close_one.new.self c.begin.new.self) (same_ok c.in-Ok.opening asked _ is read) c.begin.ensures.done;
       };
       grounded = grounded_after g.M.Medium.seen c.args.self.now c.close_one.new.self c.begin.new.self c.close_one.ensures.leaves.medium c.begin.ensures.leaves.grounded;
     }
@@ -127,6 +131,7 @@ returns-in-Err-clause-channel g c = λ lt. record {
     quiet = λ reads. (inl (ap (λ x. is_fault_number (code_number x.status.code)) c.say.ensures.told ∙ ap (λ x. is_fault_number (code_number x)) c.from.ensures ∙ own_refusal c.in-Err.refusal), c.say.ensures.medium);
     spared = λ is. ap (λ v. (g.M.Medium.seen v).content) c.say.ensures.medium;
     counted = inl (ap (λ k. (g.M.Medium.seen k).failures) c.say.ensures.medium);
+    done = λ asked read. let z = sym (sym c.parse_open.ensures.value ∙ c.in-Err.is) ∙ read in absurd (cc);
   };
   grounded = inl (ap (λ x. is_fault_number (code_number x.status.code)) c.say.ensures.told ∙ ap (λ x. is_fault_number (code_number x)) c.from.ensures ∙ own_refusal c.in-Err.refusal);
 }
@@ -144,7 +149,7 @@ returns-then-channel-eq15-clause-leaves g c = record {
 
 pub returns-in-Ok-clause-leaves : goal.returns-in-Ok-clause-leaves
 returns-in-Ok-clause-leaves g c = record {
-  ordered = (search rules);
+  ordered = λ validates. absurd (never_both _ _ (below_15 c.args.channel (omega (arith, c.requires, c.if-channel-eq15.false))) validates);
   medium = keeps_then _ _ _ c.close_one.ensures.leaves.medium c.begin.ensures.leaves.medium;
   rest = λ other m s.
       let is = sym c.parse_open.ensures.value ∙ c.in-Ok.is in

@@ -1,4 +1,10 @@
 use Rattle.std.proofs.Common.{rules, ◌≡◌, ◌⊎◌, [], refl, sym, ap, ◌∙◌, subst}
+use Rattle.cbm_chain.specs.Reading.{rest_of}
+use Rattle.cbm_volume.specs.SeenDisks.{seen_chain}
+use Rattle.cbm_volume.specs.Led.{ReopensLed, AppendsTo}
+use Rattle.cbm_volume.specs.Beginning.{NewFileLed, ReplacementLed}
+use Rattle.cbm_volume.specs.NewRecords.{NewRecordsLed}
+use Rattle.cbm_channel.proofs.Opened.{plan_done, some_so}
 use Rattle.std.specs.Prelude.{Some, false, true, Ok, replicate}
 use Rattle.std.proofs.lemmas.Result.{err_from_is_err_and}
 use Rattle.cbm_medium.specs.Place.{sector_count}
@@ -511,3 +517,54 @@ returns-in_err-on-in-MakeRecords-clause-medium g c =
     (else_then c.make_records.result s c.in_ok-slot-in-MakeRecords.field-0 old new c.in_ok-slot-in-MakeRecords.was (only_else _ _ _ c.make_records.ensures.only)
     (rw (p.1, p.2) (λ is. absurd (c.in_err-on-in-MakeRecords.ensures.never_26 is)))
     (rw (p.1, p.2) (hidden_shown new t (_, c.in_err-on-in-MakeRecords.ensures.cause))))
+
+-- ---- which file is meant, and what was done, on any disk
+
+pub returns-in_ok-list-in-ReadListing-clause-done : goal.returns-in_ok-list-in-ReadListing-clause-done
+returns-in_ok-list-in-ReadListing-clause-done g c = plan_done c.args.plan _ c.in-ReadListing.is (g.M.Medium.seen c.args.self.now.medium) (g.M.Medium.seen c.args.self.now.medium) _ tt
+
+pub returns-in_ok-reader-in-ReadFile-clause-done : goal.returns-in_ok-reader-in-ReadFile-clause-done
+returns-in_ok-reader-in-ReadFile-clause-done g c =
+    plan_done c.args.plan _ c.in-ReadFile.is (g.M.Medium.seen c.args.self.now.medium) (g.M.Medium.seen c.args.self.now.medium) _
+    (c.in_ok-reader-in-ReadFile.reader, refl, subst (λ v. rest_of (g.M.Medium.seen v).content c.in_ok-reader-in-ReadFile.reader ≡ seen_chain (g.M.Medium.seen v) (first_block c.in-ReadFile.found.entry)) (ap (λ k. k.medium) c.self.view_is) c.in_ok-reader-in-ReadFile.ensures.ok)
+
+pub returns-in-Some-clause-done : goal.returns-in-Some-clause-done
+returns-in-Some-clause-done g c =
+    let led = match_some _ _ _ _ c.in-Some.is c.in_ok-writer-in-WriteFile.ensures.led in
+    plan_done c.args.plan _ c.in-WriteFile.is (g.M.Medium.seen c.args.self.now.medium) (g.M.Medium.seen c.begin_write.new.self) _ (
+      c.in-Some.writer,
+      refl,
+      subst (λ v. NewFileLed (g.M.Medium.seen v) (g.M.Medium.seen c.begin_write.new.self) c.in-WriteFile.kind c.in-WriteFile.name c.in-Some.writer) (ap (λ k. k.medium) c.self.view_is)
+          (subst (λ name. NewFileLed (g.M.Medium.seen c.self.inside.volume) (g.M.Medium.seen c.begin_write.new.self) c.in-WriteFile.kind name c.in-Some.writer) c.bytes.ensures.value led),
+    )
+
+pub returns-in_ok-writer-in-AppendFile-clause-done : goal.returns-in_ok-writer-in-AppendFile-clause-done
+returns-in_ok-writer-in-AppendFile-clause-done g c =
+    plan_done c.args.plan _ c.in-AppendFile.is (g.M.Medium.seen c.args.self.now.medium) (g.M.Medium.seen c.begin_append.new.self) _ (
+      c.in_ok-writer-in-AppendFile.writer,
+      refl,
+      subst (λ v. AppendsTo (g.M.Medium.seen v) c.in-AppendFile.found.slot c.in-AppendFile.found.entry c.in_ok-writer-in-AppendFile.writer) (ap (λ k. k.medium) c.self.view_is) c.in_ok-writer-in-AppendFile.ensures.writer,
+      subst (λ v. ReopensLed (g.M.Medium.seen v) (g.M.Medium.seen c.begin_append.new.self) c.in-AppendFile.found.slot c.in-AppendFile.found.entry) (ap (λ k. k.medium) c.self.view_is) c.in_ok-writer-in-AppendFile.ensures.led,
+    )
+
+pub returns-in-Some-2-clause-done : goal.returns-in-Some-2-clause-done
+returns-in-Some-2-clause-done g c =
+    let led = match_some _ _ _ _ c.in-Some-2.is c.in_ok-writer-in-ReplaceFile.ensures.led in
+    plan_done c.args.plan _ c.in-ReplaceFile.is (g.M.Medium.seen c.args.self.now.medium) (g.M.Medium.seen c.begin_replace.new.self) _
+    (c.in-Some-2.writer, refl, subst (λ v. ReplacementLed (g.M.Medium.seen v) (g.M.Medium.seen c.begin_replace.new.self) c.in-ReplaceFile.slot c.in-Some-2.writer) (ap (λ k. k.medium) c.self.view_is) led)
+
+pub returns-in_ok-on-in-OpenRecords-clause-done : goal.returns-in_ok-on-in-OpenRecords-clause-done
+returns-in_ok-on-in-OpenRecords-clause-done g c =
+    let place = c.in_ok-on-in-OpenRecords.ensures.place in
+    plan_done c.args.plan _ c.in-OpenRecords.is (g.M.Medium.seen c.args.self.now.medium) (g.M.Medium.seen c.args.self.now.medium) _ (c.in_ok-on-in-OpenRecords.on, refl, place.0, place.1.0 ∙ c.record_length-length.ensures, place.1.1.0, place.1.1.1)
+
+pub returns-in_ok-on-in-MakeRecords-clause-done : goal.returns-in_ok-on-in-MakeRecords-clause-done
+returns-in_ok-on-in-MakeRecords-clause-done g c =
+    let place = c.in_ok-on-in-MakeRecords.ensures.place in
+    let led = some_so _ _ _ c.in-Some-3.is c.in_ok-slot-in-MakeRecords.ensures.led in
+    plan_done c.args.plan _ c.in-MakeRecords.is (g.M.Medium.seen c.args.self.now.medium) (g.M.Medium.seen c.make_records.new.self) _ (
+      c.in-Some-3.slot,
+      subst (λ v. NewRecordsLed (g.M.Medium.seen v) (g.M.Medium.seen c.make_records.new.self) c.in-MakeRecords.name c.in-MakeRecords.length c.in-Some-3.slot) (ap (λ k. k.medium) c.self.view_is)
+          (subst (λ name. NewRecordsLed (g.M.Medium.seen c.self.inside.volume) (g.M.Medium.seen c.make_records.new.self) name c.in-MakeRecords.length c.in-Some-3.slot) c.bytes-in-MakeRecords.ensures.value led),
+      (c.in_ok-on-in-MakeRecords.on, refl, place.0, place.1.0, place.1.1.0, place.1.1.1),
+    )

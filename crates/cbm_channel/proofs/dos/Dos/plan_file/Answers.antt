@@ -1,4 +1,6 @@
 use Rattle.std.proofs.Common.{rules, sym, ◌∙◌}
+use Rattle.cbm_channel.specs.declared.plan.Plan.TheVariants.{AppendFile}
+use Rattle.cbm_channel.proofs.Opened.{meant_as}
 use Rattle.cbm_channel.proofs.Asking.{is_append, is_write, passed_refusal, refused_append, append_planned, writing_planned, too_many_put}
 use Rattle.cbm_channel.proofs.Refused.{only_reads}
 use Rattle.cbm_channel.proofs.dos.Dos.plan_file.Goals as goal
@@ -25,7 +27,13 @@ returns-then-is_too_many-clause-planned g c = λ m ch text bytes s.
 pub returns-then-eq-clause-sound : goal.returns-then-eq-clause-sound
 returns-then-eq-clause-sound g c = record {
   ground = (search rules);
+  denied = (search rules);
   from = (search rules);
   allowed = only_reads c.plan_reading.result _ c.plan_reading.ensures.reads;
   sized = (search rules);
 }
+
+-- ---- which file is meant, and what was done, on any disk
+
+pub returns-then-eq-2-clause-meant : goal.returns-then-eq-2-clause-meant
+returns-then-eq-2-clause-meant g c = meant_as (g.M.Medium.seen c.args.self.now.medium) c.args.wanted c.plan_append.result (AppendFile c.in_ok-found.found) c.plan_append.ensures.same c.in_ok-found.ensures.first

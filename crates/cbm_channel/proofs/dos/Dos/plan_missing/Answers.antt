@@ -42,6 +42,7 @@ returns-clause-planned g c = λ m cut st.
 pub returns-clause-sound : goal.returns-clause-sound
 returns-clause-sound g c = record {
   ground = (search rules);
+  denied = (search rules);
   from = (search rules);
   allowed = λ writes. sym (ap (λ v. (g.M.Medium.seen v).protected) c.volume-2.ensures) ∙ sym c.is_protected.ensures ∙ c.if-is_protected.false;
   sized = (search rules);

@@ -1,4 +1,7 @@
-use Rattle.std.proofs.Common.{refl, sym, ap, ◌∙◌}
+use Rattle.std.proofs.Common.{refl, sym, ap, subst, ◌∙◌}
+use Rattle.cbm_channel.specs.declared.plan.Plan.TheVariants.{WriteFile, ReplaceFile}
+use Rattle.cbm_channel.specs.Meant.{IsFirstOf}
+use Rattle.cbm_channel.proofs.Opened.{meant_as}
 use Rattle.cbm_channel.proofs.Named.{means_deleted, name_cut, kind_kept}
 use Rattle.cbm_channel.proofs.Asking.{passed_refusal}
 use Rattle.cbm_channel.proofs.WritePlans.{flag_in, both, not_first, not_both, relative_is, refused_replacement, replacement_planned, name_taken, new_planned}
@@ -34,3 +37,14 @@ returns-then-there-2-clause-planned g c = λ m text bytes s.
       | else-wanted-via-else-wanted w ↦ not_first _ _ w.if-wanted.false
     ])
     c.plain-then-there-2.result there c.plain-then-there-2.ensures
+
+-- ---- which file is meant, and what was done, on any disk
+
+pub returns-then-there-clause-meant : goal.returns-then-there-clause-meant
+returns-then-there-clause-meant g c =
+    meant_as (g.M.Medium.seen c.args.self.now.medium) c.args.wanted c.plan_replace.result (ReplaceFile c.in_ok-found.found.slot) c.plan_replace.ensures.same
+    (c.in_ok-found.found.entry, subst (λ kind. IsFirstOf (g.M.Medium.seen c.args.self.now.medium) c.args.wanted.name kind c.in_ok-found.found.slot c.in_ok-found.found.entry) (sym c.in-Some.is) c.in_ok-found.ensures.first)
+
+pub returns-clause-meant : goal.returns-clause-meant
+returns-clause-meant g c =
+    meant_as (g.M.Medium.seen c.args.self.now.medium) c.args.wanted c.plan_write.result (WriteFile c.in-Some.kind c.args.wanted.name) c.plan_write.ensures.same (c.in-Some.is, refl, c.in_ok-there.ensures.none c.if-there-2.false)

@@ -1,4 +1,6 @@
 use Rattle.std.proofs.Common.{sym, ap, ◌∙◌, inl, rules}
+use Rattle.cbm_machine.specs.declared.code.Code.TheVariants.{Fine}
+use Rattle.cbm_channel.proofs.Refused.{other_never}
 use Rattle.cbm_machine.specs.Machines.{answered, with_status}
 use Rattle.cbm_channel.proofs.Rest.{rest_itself}
 use Rattle.cbm_channel.proofs.GroundedReports.{refusal_grounded}
@@ -25,3 +27,11 @@ returns-in-Err-clause-leaves g c = record {
   counted = (search rules);
   grounded = refusal_grounded g.M.Medium.seen c.args.self.now c.set.new.self c.in-Err.status c.in-Err.ensures.ground (ap (λ x. x.status) c.set.ensures.told);
 }
+
+-- ---- on any disk
+
+pub returns-in-Ok-clause-led : goal.returns-in-Ok-clause-led
+returns-in-Ok-clause-led g c = λ fine. (c.in-Ok.slot, c.in-Ok.ensures.meant, c.rename_slot.ensures.led fine)
+
+pub returns-in-Err-clause-led : goal.returns-in-Err-clause-led
+returns-in-Err-clause-led g c = other_never c.in-Err.status c.set.new.self.told Fine c.in-Err.ensures.denied c.set.ensures.told

@@ -1,4 +1,6 @@
 use Rattle.std.proofs.Common.{rules, ◌≡◌, refl, sym, ap, subst, ◌∙◌, inl, inr, List, ℕ, Some}
+use Rattle.cbm_volume.specs.Led.{RenamesLed}
+use Rattle.cbm_channel.proofs.Refused.{trouble_never}
 use Rattle.cbm_medium.specs.Seen.{HasFailed}
 use Rattle.cbm_file.specs.Padding.{before_filler}
 use Rattle.cbm_file.specs.Files.{with_slot}
@@ -84,3 +86,14 @@ returns-in-Ok-clause-rest g c = λ m old is s.
 
 pub returns-in-Err-clause-rest : goal.returns-in-Err-clause-rest
 returns-in-Err-clause-rest g c = λ m old is s. rest_seen g.M.Medium.seen c.args.self.now.medium c.set.new.self.medium c.self.inside.volume c.rename.new.self (ap (λ k. k.medium) c.self.view_is) c.set.ensures.medium (rest_same _ _ c.rename.ensures.only.tracks c.in-Err.ensures.err)
+
+-- ---- on any disk
+
+pub returns-in-Ok-clause-led : goal.returns-in-Ok-clause-led
+returns-in-Ok-clause-led g c = λ fine.
+    subst (λ v. RenamesLed (g.M.Medium.seen v) (g.M.Medium.seen c.say.new.self.medium) c.args.slot c.args.name.now) (ap (λ k. k.medium) c.self.view_is)
+    (subst (λ v. RenamesLed (g.M.Medium.seen c.self.inside.volume) (g.M.Medium.seen v) c.args.slot c.args.name.now) (sym c.say.ensures.medium)
+    (subst (λ (name : List ℕ). RenamesLed (g.M.Medium.seen c.self.inside.volume) (g.M.Medium.seen c.rename.new.self) c.args.slot name) c.bytes.ensures.value c.in-Ok.ensures.led))
+
+pub returns-in-Err-clause-led : goal.returns-in-Err-clause-led
+returns-in-Err-clause-led g c = trouble_never c.in-Err.trouble c.from.result c.set.new.self.told Fine refl c.from.ensures c.set.ensures.told

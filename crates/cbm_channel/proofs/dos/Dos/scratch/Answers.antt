@@ -1,4 +1,7 @@
 use Rattle.std.proofs.Common.{ℕ, List, subst, sym, ap, ◌∙◌, inl, rules}
+use Rattle.cbm_channel.specs.Meant.{ScratchesEach}
+use Rattle.cbm_machine.specs.declared.code.Code.TheVariants.{FilesScratched}
+use Rattle.cbm_channel.proofs.Refused.{other_never}
 use Rattle.cbm_machine.specs.Machines.{answered, with_status}
 use Rattle.cbm_channel.specs.ChannelCalls.{KeepsRest}
 use Rattle.cbm_channel.specs.Commanded.{is_slot_among, AreSlotsGoing}
@@ -29,3 +32,12 @@ returns-in-Err-clause-leaves g c = record {
   counted = (search rules);
   grounded = refusal_grounded g.M.Medium.seen c.args.self.now c.set.new.self c.in-Err.status c.in-Err.ensures.ground (ap (λ x. x.status) c.set.ensures.told);
 }
+
+-- ---- on any disk
+
+pub returns-in-Ok-clause-done : goal.returns-in-Ok-clause-done
+returns-in-Ok-clause-done g c = λ is.
+    subst (ScratchesEach (g.M.Medium.seen c.args.self.now.medium) (g.M.Medium.seen c.scratch_slots.new.self.medium)) (c.as_slice.ensures.value ∙ c.in-Ok.ensures.going) (c.scratch_slots.ensures.done is)
+
+pub returns-in-Err-clause-done : goal.returns-in-Err-clause-done
+returns-in-Err-clause-done g c = other_never c.in-Err.status c.set.new.self.told FilesScratched c.in-Err.ensures.denied c.set.ensures.told

@@ -1,4 +1,6 @@
 use Rattle.std.proofs.Common.{length, sym, ap, subst, ◌∙◌, inl, inr, refl}
+use Rattle.cbm_channel.specs.Meant.{ScratchesEach}
+use Rattle.cbm_channel.proofs.Refused.{trouble_never}
 use Rattle.cbm_medium.specs.Seen.{HasFailed}
 use Rattle.cbm_machine.specs.declared.code.Code.TheVariants.{FilesScratched}
 use Rattle.cbm_machine.specs.Machines.{with_status, with_disk}
@@ -71,3 +73,11 @@ returns-in-Err-clause-rest g c = λ m ps going s.
     let old = c.args.self.now in
     let can = all_can_go m ps (uses_of old.channels m.channels) (λ n u. unused_at n old.channels m s.each u) c.args.slots.now going.all in
     rest_seen g.M.Medium.seen c.args.self.now.medium c.set-in-Err.new.self.medium c.args.self.now.medium c.clear.new.self.medium refl c.set-in-Err.ensures.medium (c.clear.ensures.rest m s can)
+
+-- ---- on any disk
+
+pub returns-in-Ok-clause-done : goal.returns-in-Ok-clause-done
+returns-in-Ok-clause-done g c = λ is. subst (λ v. ScratchesEach (g.M.Medium.seen c.args.self.now.medium) (g.M.Medium.seen v) c.args.slots.now) (sym c.set.ensures.medium) c.in-Ok.ensures.led
+
+pub returns-in-Err-clause-done : goal.returns-in-Err-clause-done
+returns-in-Err-clause-done g c = trouble_never c.in-Err.trouble c.from.result c.set-in-Err.new.self.told FilesScratched refl c.from.ensures c.set-in-Err.ensures.told

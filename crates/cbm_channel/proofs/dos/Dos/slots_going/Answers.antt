@@ -1,4 +1,6 @@
-use Rattle.std.proofs.Common.{sym, ap, subst, ◌∙◌}
+use Rattle.std.proofs.Common.{refl, sym, ap, subst, ◌∙◌}
+use Rattle.cbm_machine.specs.declared.code.Code.TheVariants.{FilesScratched}
+use Rattle.cbm_channel.proofs.Refused.{never_told}
 use Rattle.std.specs.Prelude.{Ok}
 use Rattle.cbm_bam.specs.Map.{geometry_of}
 use Rattle.cbm_directory.specs.Slots.{Gives, directory_of, listed_left}
@@ -25,3 +27,8 @@ returns-clause-means g c = λ m s.
     let end = subst (λ r. Gives (listed_left (g.M.Medium.seen c.self.inside.volume).content c.slots.slots) (listed_left (g.M.Medium.seen c.self.inside.volume).content c.next_slot.new.slots) (Ok r)) c.in_default.is c.in_ok-entry.ensures.gives in
     gathered_all _ _ _ _ _ _ _ c.slots.invariant.1 (ap (λ v. listed_left (g.M.Medium.seen v).content c.slots.slots) (sym vol) ∙ end.0)
     ∙ numbers_same c.args.self.now.channels m s.each c.args.patterns.now 0 m.disk.slots _ tells.each
+
+-- ---- on any disk
+
+pub returns-in_err-entry-clause-denied : goal.returns-in_err-entry-clause-denied
+returns-in_err-entry-clause-denied g c = never_told c.from_residual.result c.in_err-entry.field-0.0 FilesScratched refl c.from_residual.ensures.1
