@@ -38,10 +38,6 @@ pub asks-broken : (pace : Pace) (a b : Option (List ℕ)) (stood : Machine → T
     → PrintsPart a b stood (printed_by pace request) → PrintsPart a b stood (printed pace (requests_in line))
 asks-broken pace a b stood line request e p = rw e (λ m s. part_before a b (printed_by pace request m).text [] (p m s))
 
-pub if_ok : {A E P : Type 0} (r : Result A E) → P → OnOk r P
-if_ok (Ok a) p = p
-if_ok (Err e) p = tt
-
 pub if_err : {A E P : Type 0} (r : Result A E) → P → OnErr r P
 if_err (Ok a) p = tt
 if_err (Err e) p = p

@@ -83,11 +83,6 @@ pub as_checked : (tracks : ℕ) (content : Content) (r : Result (Unit {0}) Unsou
 as_checked tracks content (Ok _) h k = h
 as_checked tracks content (Err u) h k = k
 
--- a fact of all results is one of each that is Ok
-pub ok_any : {A E P : Type 0} (r : Result A E) → P → OnOk r P
-ok_any (Ok v) p = p
-ok_any (Err e) p = tt
-
 -- the disk that was put in order is saved
 pub in_order : {A : Type 0} (items : A → List ℕ) (kind other : Kind) (seen : Seen) (r : Result A ShellFault) → other ≡ kind → IfOk r (λ v. IsSaved kind (items v) seen)
     → (e : Disk) × HoldsDisk seen.tracks seen.content e × (e ≡ validated e) → IfOk r (λ v. IsInOrder other (items v))

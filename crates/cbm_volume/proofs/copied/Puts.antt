@@ -1,6 +1,6 @@
 -- Bytes put one after another by several calls, on any disk.
-use Rattle.std.proofs.Common.{◌≡◌, ◌++◌, ◌∷◌, [], ℕ, List, true, false, Bool, refl, sym, subst, inl, inr, Option, Some, None, Result, Ok, Err}
-use Rattle.std.specs.Prelude.{MatchBool, OnOk}
+use Rattle.std.proofs.Common.{◌≡◌, ◌++◌, ◌∷◌, [], ℕ, List, true, false, Bool, refl, sym, subst, inl, inr, Option, Some, None}
+use Rattle.std.specs.Prelude.{MatchBool}
 use Rattle.cbm_medium.specs.Place.{Place}
 use Rattle.cbm_medium.specs.Content.{Content}
 use Rattle.cbm_bam.specs.Map.{Claims}
@@ -45,8 +45,3 @@ puts_more c mid c' s u t p k f =
 pub byte_on : (c c' : Content) (s t : State) (byte : ℕ) (done : Bool) → (IsForFiles s.tracks s.current → MatchBool done (Puts c c' s byte t) (IsFullFor c c' s t)) → done ≡ true → PutsSome c c' s t
 byte_on c c' s t byte true put is f = (byte ∷ [], (c', t, put f, (refl, refl)))
 byte_on c c' s t byte false put is f = absurd (cc)
-
--- so it is whatever a later call answers
-pub put_anyway : {A E P : Type 0} (r : Result A E) → P → OnOk r P
-put_anyway (Ok x) p = p
-put_anyway (Err e) p = tt

@@ -10,6 +10,11 @@ pub on_ok : {A E : Type 0} (r : Result A E) (P : Type 0) → IfOk r (λ x. P) �
 on_ok (Ok x) P h = h
 on_ok (Err e) P h = tt
 
+-- a fact of all results is one of each that is Ok
+pub ok_any : {A E P : Type 0} (r : Result A E) → P → OnOk r P
+ok_any (Ok x) p = p
+ok_any (Err e) p = tt
+
 -- what an Ok says leads to what else it says
 pub ok_so : {A E P Q : Type 0} (r : Result A E) → (P → Q) → OnOk r P → OnOk r Q
 ok_so (Ok x) so h = so h

@@ -2,6 +2,7 @@
 
 ghost use Rattle.std.specs.Prelude.{◌≡◌, OnOk, ◌≤◌, ◌==◌, length};
 ghost use Rattle.cbm_medium.specs.Seen.{OnlyContent};
+ghost use Rattle.cbm_chain.specs.Writing.{has_no_byte};
 ghost use Rattle.cbm_volume.specs.Filled.{StoresByte, StoresLed, FinishesWriting, FinishesReplacing};
 ghost use Rattle.cbm_volume.specs.Calls.{OnlyOfWriter, OfWriter};
 ghost use Rattle.cbm_volume.specs.Led.{FinishesLed, ReplacesLed};
@@ -32,7 +33,8 @@ impl<M: Medium> Volume<M> {
 
     /// Whether a file that is being written has no byte yet.
     pub fn is_empty(&self, writer: &FileWriter) -> bool
-        ensures { OfWriter (M.seen self.now) writer.now (λ d uses ch bytes blocks. result ≡ (length bytes == 0)) }
+        ensures value { OfWriter (M.seen self.now) writer.now (λ d uses ch bytes blocks. result ≡ (length bytes == 0)) }
+        ensures holds { result ≡ has_no_byte writer.now.chain }
     {
         // Each sector that reads has 256 bytes: so there are 254 bytes where there are two blocks.
         let _tracks = self.medium.tracks();

@@ -5,7 +5,8 @@ use Rattle.cbm_volume.specs.Holding.{HoldsDisk}
 use Rattle.cbm_image.specs.Images.{kind_of, tracks_of}
 use Rattle.cbm_shell.specs.Images.{IsFailed}
 use Rattle.cbm_shell.specs.Changing.{disk_after_change, IsFine, IsUndone}
-use Rattle.cbm_shell.proofs.ImageLemmas.{opened_holds, same_start, as_open_fault, as_other_fault, saved_image, sound_image, ok_any}
+use Rattle.cbm_volume.proofs.layouts.Calls.{ok_any}
+use Rattle.cbm_shell.proofs.ImageLemmas.{opened_holds, same_start, as_open_fault, as_other_fault, saved_image, sound_image}
 use Rattle.cbm_shell.proofs.images.change_in.Goals as goal
 
 pub returns-in_err-disk-clause-made : goal.returns-in_err-disk-clause-made

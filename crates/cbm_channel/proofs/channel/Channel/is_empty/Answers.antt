@@ -7,7 +7,7 @@ use Rattle.cbm_channel.proofs.channel.Channel.is_empty.Goals as goal
 pub returns-in-Writing-clause-value : goal.returns-in-Writing-clause-value
 returns-in-Writing-clause-value g c = λ d uses ch x h e s.
     let at = writes_so c.args.self.now c.in-Writing.writer c.in-Writing.field-1 x (uses ch) c.in-Writing.is s e in
-    c.is_empty.ensures d uses ch at.0 at.1 h at.3 ∙ sym (ap is_unbegun at.2)
+    c.is_empty.ensures.value d uses ch at.0 at.1 h at.3 ∙ sym (ap is_unbegun at.2)
 
 pub returns-in_default-clause-value : goal.returns-in_default-clause-value
 returns-in_default-clause-value g c = λ d uses ch x h e s. sym (unbegun_none c.args.self.now x c.in_default.not-Writing s)

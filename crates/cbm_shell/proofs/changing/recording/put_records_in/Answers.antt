@@ -6,7 +6,8 @@ use Rattle.cbm_volume.specs.Holding.{HoldsDisk}
 use Rattle.cbm_image.specs.Images.{kind_of, tracks_of}
 use Rattle.cbm_shell.specs.Recording.{after_records, AreRecordsUnmade, IsUnmadeIn}
 use Rattle.cbm_shell.specs.Changing.{IsFine}
-use Rattle.cbm_shell.proofs.ImageLemmas.{opened_holds, same_start, as_open_fault, as_other_fault, saved_image, sound_image, ok_any}
+use Rattle.cbm_volume.proofs.layouts.Calls.{ok_any}
+use Rattle.cbm_shell.proofs.ImageLemmas.{opened_holds, same_start, as_open_fault, as_other_fault, saved_image, sound_image}
 use Rattle.cbm_shell.proofs.changing.recording.put_records_in.Goals as goal
 
 pub returns-in_err-disk-clause-made : goal.returns-in_err-disk-clause-made

@@ -6,7 +6,8 @@ use Rattle.cbm_bam.specs.Map.{geometry_of}
 use Rattle.cbm_volume.specs.Copies.{IsCopyCut, Making}
 use Rattle.cbm_volume.specs.Writers.{Reads}
 use Rattle.cbm_volume.proofs.copied.CopySteps.{handed, waits_first, some_waits, reader_goes}
-use Rattle.cbm_volume.proofs.copied.Puts.{none_put, put_anyway}
+use Rattle.cbm_volume.proofs.copied.Puts.{none_put}
+use Rattle.cbm_volume.proofs.layouts.Calls.{ok_any}
 use Rattle.cbm_volume.proofs.files.copying.put_next.Goals as goal
 
 pub returns-in_default-clause-put : goal.returns-in_default-clause-put
@@ -36,4 +37,4 @@ pub returns-in_default-clause-led : goal.returns-in_default-clause-led
 returns-in_default-clause-led g c = none_put (g.M.Medium.seen c.args.medium.now).content c.args.chain.now
 
 pub returns-clause-led : goal.returns-clause-led
-returns-clause-led g c = put_anyway c.taken.result c.in_ok-put_byte.ensures.led
+returns-clause-led g c = ok_any c.taken.result c.in_ok-put_byte.ensures.led
