@@ -9,7 +9,7 @@ use Rattle.cbm_volume.specs.Led.{ScratchesLed}
 use Rattle.cbm_command.specs.declared.command.Command.{Command}
 use Rattle.cbm_command.specs.declared.refusal.Refusal.{Refusal}
 use Rattle.cbm_command.specs.Commands.{command_of}
-use Rattle.cbm_machine.specs.declared.code.Code.{Code}
+use Rattle.cbm_machine.specs.declared.status.Status.{Status}
 use Rattle.cbm_channel.specs.declared.channel.Channel.{Channel}
 use Rattle.cbm_channel.specs.Meant.{ScratchesEach, WasDone, ReadWasDone}
 
@@ -43,17 +43,17 @@ each_done old new all i over h = h new (subst (ScratchesEach new new) (sym (drop
 -- ---- what is reported
 
 -- the command is this one
-pub was_done : (command one : Command) → command ≡ one → (channels : List Channel) (before after : Seen) (code : Code) → WasDone one channels before after code → WasDone command channels before after code
-was_done command one is channels before after code h = subst (λ (x : Command). WasDone x channels before after code) (sym is) h
+pub was_done : (command one : Command) → command ≡ one → (channels : List Channel) (before after : Seen) (status : Status) → WasDone one channels before after status → WasDone command channels before after status
+was_done command one is channels before after status h = subst (λ (x : Command). WasDone x channels before after status) (sym is) h
 
 -- the text is read so
-pub read_done : (text : List ℕ) (r : Result Command Refusal) → command_of text ≡ r → (channels : List Channel) (before after : Seen) (code : Code) → ReadWasDone r channels before after code → ReadWasDone (command_of text) channels before after code
-read_done text r is channels before after code h = subst (λ (x : Result Command Refusal). ReadWasDone x channels before after code) (sym is) h
+pub read_done : (text : List ℕ) (r : Result Command Refusal) → command_of text ≡ r → (channels : List Channel) (before after : Seen) (status : Status) → ReadWasDone r channels before after status → ReadWasDone (command_of text) channels before after status
+read_done text r is channels before after status h = subst (λ (x : Result Command Refusal). ReadWasDone x channels before after status) (sym is) h
 
 -- an empty text asks for nothing
-pub nothing_done : (text : List ℕ) → (length text == 0) ≡ true → (channels : List Channel) (before after : Seen) (code : Code) → ReadWasDone (command_of text) channels before after code
-nothing_done [] is channels before after code = tt
-nothing_done (x ∷ rest) is channels before after code = elim (eqb_tells (length (x ∷ rest)) 0) [
+pub nothing_done : (text : List ℕ) → (length text == 0) ≡ true → (channels : List Channel) (before after : Seen) (status : Status) → ReadWasDone (command_of text) channels before after status
+nothing_done [] is channels before after status = tt
+nothing_done (x ∷ rest) is channels before after status = elim (eqb_tells (length (x ∷ rest)) 0) [
   | inl y ↦ absurd (omega (arith, y.1))
   | inr y ↦ let z = sym y.0 ∙ is in absurd (cc)
 ]

@@ -23,6 +23,7 @@ pub mod Closes
 pub mod ListedLines
 pub mod Planning
 pub mod BytesPut
+pub mod BytesDone
 pub mod DiskSteps
 pub mod GroundedReports
 pub mod Elses

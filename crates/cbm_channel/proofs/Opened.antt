@@ -1,6 +1,7 @@
 -- Which file an OPEN is about, and what was opened, on any disk.
-use Rattle.std.proofs.Common.{◌≡◌, ◌⊎◌, true, false, refl, sym, subst, ◌∙◌, inl, inr, Option, Some, None, Result, Ok, Err}
-use Rattle.std.specs.Prelude.{IfOk, IfSome}
+use Rattle.std.proofs.Common.{◌≡◌, ◌⊎◌, ℕ, List, true, false, refl, sym, subst, ◌∙◌, inl, inr, Option, Some, None, Result, Ok, Err}
+use Rattle.std.specs.Prelude.{IfOk}
+use Rattle.std.specs.List.{Contains}
 use Rattle.cbm_file.specs.declared.file_type.FileType.{FileType}
 use Rattle.cbm_file.specs.declared.file_type.FileType.TheVariants.{Del, Seq, Prg, Usr, Rel}
 use Rattle.cbm_medium.specs.Seen.{Seen}
@@ -12,7 +13,10 @@ use Rattle.cbm_machine.specs.declared.status.Status.{Status}
 use Rattle.cbm_channel.specs.declared.channel.Channel.{Channel}
 use Rattle.cbm_channel.specs.declared.finding.Found.{Found}
 use Rattle.cbm_channel.specs.declared.plan.Plan.{Plan}
-use Rattle.cbm_channel.specs.declared.plan.Plan.TheVariants.{ReadFile, OpenRecords}
+use Rattle.cbm_channel.specs.declared.plan.Plan.TheVariants.{ReadListing, ReadFile, WriteFile, AppendFile, ReplaceFile, OpenRecords, MakeRecords}
+use Rattle.cbm_volume.specs.SeenDisks.{seen_directory}
+use Rattle.cbm_channel.specs.Grounds.{IsFromDirectory}
+use Rattle.cbm_channel.proofs.Troubles.{first_contained}
 use Rattle.cbm_channel.specs.Meant.{IsFirstOf, IsFileMeant, IsPlanMeant, PlanWasDone}
 
 -- ---- which file
@@ -44,14 +48,28 @@ kind_relative wanted is = by_kind wanted.kind is
 pub meant_file : (now : Seen) (asked : Opening) (wanted : Wanted) (r : Result Plan Status) → asked ≡ opening.File wanted → IfOk r (IsFileMeant now wanted) → IfOk r (IsPlanMeant now asked)
 meant_file now asked wanted r is h = subst (λ (o : Opening). IfOk r (IsPlanMeant now o)) (sym is) h
 
+-- ---- it was found in the directory
+
+first_in : (now : Seen) (pattern : List ℕ) (kind : Option FileType) (slot : ℕ) (entry : List ℕ) → IsFirstOf now pattern kind slot entry → Contains (seen_directory now).entries entry
+first_in now pattern kind slot entry h = first_contained _ 0 _ slot entry h
+
+from_file : {M : Type 0} (seen : M → Seen) (m : M) (wanted : Wanted) (plan : Plan) → IsFileMeant (seen m) wanted plan → IsFromDirectory seen m plan
+from_file seen m wanted (ReadListing pattern) h = tt
+from_file seen m wanted (ReadFile found) h = first_in (seen m) wanted.name wanted.kind found.slot found.entry h
+from_file seen m wanted (WriteFile kind name) h = tt
+from_file seen m wanted (AppendFile found) h = first_in (seen m) wanted.name wanted.kind found.slot found.entry h
+from_file seen m wanted (ReplaceFile slot) h = tt
+from_file seen m wanted (OpenRecords found) h = first_in (seen m) wanted.name wanted.kind found.slot found.entry h
+from_file seen m wanted (MakeRecords name width) h = tt
+
+pub from_directory : {M : Type 0} (seen : M → Seen) (m : M) (asked : Opening) (plan : Plan) → IsPlanMeant (seen m) asked plan → IsFromDirectory seen m plan
+from_directory seen m (opening.Listing pattern) plan h = subst (IsFromDirectory seen m) (sym h) tt
+from_directory seen m (opening.File wanted) plan h = from_file seen m wanted plan h
+
 -- ---- what was done
 
 pub plan_done : (plan one : Plan) → plan ≡ one → (before after : Seen) (x : Channel) → PlanWasDone one before after x → PlanWasDone plan before after x
 plan_done plan one is before after x h = subst (λ (p : Plan). PlanWasDone p before after x) (sym is) h
-
--- what holds of something that is there
-pub some_so : {A : Type 0} (o : Option A) (x : A) (P : A → Type 0) → o ≡ Some x → IfSome o P → P x
-some_so o x P is h = subst (λ (y : Option _). IfSome y P) is h
 
 -- one answer
 pub same_ok : {A E : Type 0} (x y : A) (r : Result A E) → r ≡ Ok x → r ≡ Ok y → x ≡ y

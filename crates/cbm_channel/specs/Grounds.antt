@@ -38,6 +38,10 @@ ShowsTrouble tracks c t =
 abbrev pub HidesRecords : Seen → Trouble → Type 0
 HidesRecords now t = (slot : ℕ) × HidesSlot now slot t
 
+-- a status isn't 00, OK
+abbrev pub IsNotOk : Status → Type 0
+IsNotOk status = status.code ≢ Fine
+
 -- A STATUS HAS ITS GROUND: it is no fault of a disk; or the disk is protected; or the content shows the fault.
 abbrev pub HasGround : {M : Type 0} → (M → Seen) → M → Status → Type 0
 HasGround seen medium status =
@@ -124,4 +128,4 @@ KeepsIfRefused seen old new = is_refusal new.told.status.code ≡ true → (seen
 abbrev pub OrdersDisk : {M : Type 0} → (M → Seen) → Kept M → Kept M → Type 0
 OrdersDisk seen old new =
     ((new.told.status.code ≡ Fine) × IsPutInOrder (geometry_of (seen old.medium).tracks (seen old.medium).content) (seen old.medium).content (seen new.medium).content)
-    ⊎ ((new.told.status.code ≢ Fine) × IsPartlyInOrder (geometry_of (seen old.medium).tracks (seen old.medium).content) (seen old.medium).content (seen new.medium).content)
+    ⊎ (IsNotOk new.told.status × IsPartlyInOrder (geometry_of (seen old.medium).tracks (seen old.medium).content) (seen old.medium).content (seen new.medium).content)

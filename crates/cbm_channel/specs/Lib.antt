@@ -16,5 +16,6 @@ pub mod Planned
 pub mod Sought
 pub mod Listing
 pub mod Meant
+pub mod BytesMeant
 pub mod Exchanged
 pub mod Opening

@@ -1,5 +1,5 @@
 -- Which files a name means, as the directory leads, and what a command does with them, on any disk.
-use Rattle.std.specs.Prelude.{ℕ, ◌≡◌, false, List, [], ◌∷◌, slice_index_or, Option, Some, None, Result, Ok, Err}
+use Rattle.std.specs.Prelude.{ℕ, ◌≡◌, false, List, [], ◌∷◌, length, slice_index_or, Option, Some, None, Result, Ok, Err}
 use Rattle.cbm_file.specs.declared.file_type.FileType.{FileType}
 use Rattle.cbm_medium.specs.Content.{Content}
 use Rattle.cbm_medium.specs.Seen.{Seen}
@@ -20,7 +20,7 @@ use Rattle.cbm_command.specs.declared.opening.Opening.TheVariants as opening
 use Rattle.cbm_command.specs.declared.opening.Wanted.{Wanted}
 use Rattle.cbm_command.specs.declared.refusal.Refusal.{Refusal}
 use Rattle.cbm_command.specs.Commands.{command_of}
-use Rattle.cbm_machine.specs.declared.code.Code.{Code}
+use Rattle.cbm_machine.specs.declared.status.Status.{Status}
 use Rattle.cbm_machine.specs.declared.code.Code.TheVariants.{Fine, FilesScratched}
 use Rattle.cbm_machine.specs.Calls.{without_return}
 use Rattle.cbm_channel.specs.declared.channel.Channel.{Channel}
@@ -29,6 +29,7 @@ use Rattle.cbm_channel.specs.declared.plan.Plan.{Plan}
 use Rattle.cbm_channel.specs.declared.plan.Plan.TheVariants.{ReadListing, ReadFile, WriteFile, AppendFile, ReplaceFile, OpenRecords, MakeRecords}
 use Rattle.cbm_channel.specs.Placed.{Placed}
 use Rattle.cbm_channel.specs.Standing.{Kept}
+use Rattle.cbm_channel.specs.Grounds.{IsNotOk}
 use Rattle.cbm_channel.specs.Commanded.{entries_going}
 use Rattle.cbm_channel.specs.Sought.{is_sought}
 
@@ -58,34 +59,32 @@ ScratchesEach before after [] = after.content ≡ before.content
 ScratchesEach before after (slot ∷ rest) =
     (mid : Content) × ScratchesLed before (record before { content = mid }) slot × ScratchesEach (record before { content = mid }) after rest
 
--- S OF ANY DISK: the entries that may go were scratched, as the directory led to them before.
-abbrev pub ScratchesMeant : List Channel → Seen → Seen → List (List ℕ) → Type 0
-ScratchesMeant channels before after patterns = ScratchesEach before after (entries_going channels patterns 0 (seen_directory before).entries)
+-- S OF ANY DISK: the entries that may go were scratched, as the directory led to them before, and this is their number.
+abbrev pub ScratchesMeant : List Channel → Seen → Seen → List (List ℕ) → ℕ → Type 0
+ScratchesMeant channels before after patterns number =
+    let slots = entries_going channels patterns 0 (seen_directory before).entries in ScratchesEach before after slots × (number ≡ length slots)
 
 -- ---- what is reported
 
--- N OF ANY DISK: it is an empty one.
-abbrev pub EmptiesMeant : Seen → Seen → List ℕ → Option (List ℕ) → Type 0
-EmptiesMeant before after title id = EmptiesDisk (Ok tt) title id before after
-
--- WHAT IS REPORTED AS DONE WAS DONE, on any disk: S, where the status is 01, and N, R and C, where it is 00. (Of V OrdersDisk says it.)
-abbrev pub WasDone : Command → List Channel → Seen → Seen → Code → Type 0
-WasDone (New title id) channels before after code = code ≡ Fine → EmptiesMeant before after title id
-WasDone (Scratch patterns) channels before after code = code ≡ FilesScratched → ScratchesMeant channels before after patterns
-WasDone (Rename new old) channels before after code = code ≡ Fine → RenamesMeant before after new old
-WasDone (Copy new olds) channels before after code = code ≡ Fine → CopiesMeant before after new
-WasDone Validate channels before after code = Unit {0}
-WasDone Initialize channels before after code = Unit {0}
-WasDone (Position ch k p) channels before after code = Unit {0}
+-- WHAT IS REPORTED AS DONE WAS DONE, on any disk: S, whose status is never 00, where it is 01, and N, R and C, where it is 00. (Of V
+-- OrdersDisk says it.)
+abbrev pub WasDone : Command → List Channel → Seen → Seen → Status → Type 0
+WasDone (New title id) channels before after status = status.code ≡ Fine → EmptiesDisk (Ok tt) title id before after
+WasDone (Scratch patterns) channels before after status = IsNotOk status × (status.code ≡ FilesScratched → ScratchesMeant channels before after patterns status.first)
+WasDone (Rename new old) channels before after status = status.code ≡ Fine → RenamesMeant before after new old
+WasDone (Copy new olds) channels before after status = status.code ≡ Fine → CopiesMeant before after new
+WasDone Validate channels before after status = Unit {0}
+WasDone Initialize channels before after status = Unit {0}
+WasDone (Position ch k p) channels before after status = Unit {0}
 
 -- the same of what was read of a text
-abbrev pub ReadWasDone : Result Command Refusal → List Channel → Seen → Seen → Code → Type 0
-ReadWasDone (Ok command) channels before after code = WasDone command channels before after code
-ReadWasDone (Err refusal) channels before after code = Unit {0}
+abbrev pub ReadWasDone : Result Command Refusal → List Channel → Seen → Seen → Status → Type 0
+ReadWasDone (Ok command) channels before after status = WasDone command channels before after status
+ReadWasDone (Err refusal) channels before after status = Unit {0}
 
 -- the same of a command's text, by what the drive keeps before and after
 abbrev pub TextWasDone : {M : Type 0} → (M → Seen) → List ℕ → Kept M → Kept M → Type 0
-TextWasDone seen text old new = ReadWasDone (command_of (without_return text)) old.channels (seen old.medium) (seen new.medium) new.told.status.code
+TextWasDone seen text old new = ReadWasDone (command_of (without_return text)) old.channels (seen old.medium) (seen new.medium) new.told.status
 
 -- ---- OPEN
 

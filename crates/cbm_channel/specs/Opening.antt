@@ -1,5 +1,5 @@
 -- An OPEN on a channel that may be open: a CLOSE, and then the OPEN itself.
-use Rattle.std.specs.Prelude.{ℕ, ◌≡◌, ◌≢◌, ◌⊎◌, ◌==◌, ◌||◌, if◌then◌else◌, Bool, List, true, false, is_some, slice_index_or, Option, Some, None, Result, Ok, Err, IfOk, IfErr, MatchOption, OnErr}
+use Rattle.std.specs.Prelude.{ℕ, ◌≡◌, ◌⊎◌, ◌==◌, ◌||◌, if◌then◌else◌, Bool, List, true, false, is_some, slice_index_or, Option, Some, None, Result, Ok, Err, IfOk, IfErr, MatchOption, OnErr}
 use Rattle.cbm_medium.specs.Seen.{Seen, HasFailed}
 use Rattle.cbm_medium.specs.declared.fault.Trouble.{Trouble}
 use Rattle.cbm_bam.specs.Map.{geometry_of}
@@ -19,22 +19,24 @@ use Rattle.cbm_channel.specs.declared.finding.Found.{Found}
 use Rattle.cbm_channel.specs.declared.plan.Plan.{Plan}
 use Rattle.cbm_channel.specs.ChannelCalls.{KeepsRest, LeavesRest}
 use Rattle.cbm_channel.specs.Standing.{Kept, SameBut, HaveSameFiles, Stands, uses_of}
-use Rattle.cbm_channel.specs.Grounds.{HasGround, IsFromDirectory, KeepsGrounded, KeepsIfRefused, OrdersDisk, ShowsTrouble, TellsGrounded}
+use Rattle.cbm_channel.specs.Grounds.{HasGround, IsNotOk, IsFromDirectory, KeepsGrounded, KeepsIfRefused, OrdersDisk, ShowsTrouble, TellsGrounded}
 use Rattle.cbm_channel.specs.Going.{IsFailureCounted, GoesFrom, KeepsMedium, WentFrom, opening_parts}
 use Rattle.cbm_channel.specs.Commanded.{AreSameBut, FormatsUnfailing, open_formats, open_validates, text_moves, text_clears}
 use Rattle.cbm_channel.specs.Shown.{is_writing_on, appends_on, appended_by, finished_by}
 use Rattle.cbm_channel.specs.Meant.{TextWasDone, OpeningWasDone}
+use Rattle.cbm_channel.specs.BytesMeant.{ClosingWasDone}
 use Rattle.cbm_channel.specs.Parts.{IsClosedOn, OnlyTells, OnlyTellsFor}
 use Rattle.cbm_channel.specs.Planned.{PlannedAs, IsFound, IsOfText, IsOpened, IsSized, begun_by, disk_opened, plan_writes, text_writes}
 
--- THE CHANNEL WAS CLOSED FIRST, on any disk, and from there the OPEN itself is measured: where it isn't for writing it leaves the medium
--- as it is, and its status has its ground; where it is refused each sector is as it was; where it is reported as done it was done. The
--- medium refused at most one write in each of both.
+-- THE CHANNEL WAS CLOSED FIRST, on any disk, as CLOSE does it, and from there the OPEN itself is measured: where it isn't for writing it
+-- leaves the medium as it is, and its status has its ground; where it is refused each sector is as it was; where it is reported as done it
+-- was done. The medium refused at most one write in each of both.
 pub record ClosesFirst {M : Type 0} (seen : M → Seen) (ch : ℕ) (text : List ℕ) (old new : Kept M) : Type 0 where
   pub closed : Kept M
   pub is_closed : slice_index_or closed.channels ch Closed ≡ Closed
   pub others : SameBut ch old.channels closed.channels
   pub close_counted : IsFailureCounted seen old closed
+  pub finished : ClosingWasDone seen ch old closed
   pub quiet : text_writes ch text ≡ false → OnlyTells seen closed new
   pub spared : KeepsIfRefused seen closed new
   pub counted : IsFailureCounted seen closed new
@@ -92,12 +94,11 @@ pub record LeavesByOpen {M : Type 0} (seen : M → Seen) (ch : ℕ) (text : List
 abbrev pub IsAllowed : {M : Type 0} → (M → Seen) → M → Plan → Type 0
 IsAllowed seen medium plan = plan_writes plan ≡ true → (seen medium).protected ≡ false
 
--- A PLAN OR ITS REFUSAL on any disk: what refuses has its ground, and isn't 00; a file was found in the directory; nothing is to be written on a
--- protected disk; and the records of a new relative file have 1 to 254 bytes.
+-- A PLAN OR ITS REFUSAL on any disk: what refuses has its ground, and isn't 00; nothing is to be written on a protected disk; and the records
+-- of a new relative file have 1 to 254 bytes.
 pub record IsSoundPlan {M : Type 0} (seen : M → Seen) (medium : M) (result : Result Plan Status) : Type 0 where
   pub ground : IfErr result (HasGround seen medium)
-  pub denied : IfErr result (λ s. s.code ≢ Fine)
-  pub from : IfOk result (IsFromDirectory seen medium)
+  pub denied : IfErr result IsNotOk
   pub allowed : IfOk result (IsAllowed seen medium)
   pub sized : IfOk result IsSized
 

@@ -10,6 +10,7 @@ use Rattle.cbm_machine.specs.Machines.{Machine}
 use Rattle.cbm_channel.specs.declared.channel.Channel.{Channel}
 use Rattle.cbm_channel.specs.declared.channel.Channel.TheVariants.{Closed}
 use Rattle.cbm_channel.specs.ChannelCalls.{KeepsRest, LeavesRest}
+use Rattle.cbm_channel.specs.BytesMeant.{ClosingWasDone, AllClosingsDone}
 use Rattle.cbm_channel.specs.Commanded.{AreSameBut, CanAllGo, FormatsUnfailing, is_slot_among, end_clears, all_scratched, ends_command, end_formats}
 use Rattle.cbm_channel.specs.Going.{KeepsMedium, IsFailureCounted, AreCounted, WentFrom, RecordsFrom, EndsFrom}
 use Rattle.cbm_channel.specs.Grounds.{HasTold, IsToldFor, KeepsGrounded, KeepsIfRefused, OrdersDisk, TellsGrounded, is_fault_number}
@@ -141,13 +142,16 @@ abbrev pub closed_by : {M : Type 0} → ℕ → Kept M → ℕ → Bool
 closed_by ch k n = if ch == 15 then list_any (finishes_on n) k.channels else finished_by ch k n
 
 -- WHAT CLOSE LEAVES on any disk: tracks and protection of the medium stay, and the rest of the disk but for the files that it may finish;
--- for each channel that is closed the medium refused one write at most; and a status that is reported has its ground.
+-- for each channel that is closed the medium refused one write at most, and its file was finished, or a fault is the status; and a status that
+-- is reported has its ground.
 pub record LeavesByClose {M : Type 0} (seen : M → Seen) (ch : ℕ) (old new : Kept M) : Type 0 where
   pub medium : KeepsMedium (seen old.medium) (seen new.medium)
   pub rest : LeavesRest seen (λ m. closed_by ch old) old new
   pub counted : ch < 15 → IsFailureCounted seen old new
+  pub done : ch < 15 → ClosingWasDone seen ch old new
   pub grounded : KeepsGrounded seen old new
   pub all_counted : ch ≡ 15 → AreCounted seen 15 old new
+  pub all_done : ch ≡ 15 → AllClosingsDone seen old new
 
 -- ---- the text that is gathered
 

@@ -82,7 +82,7 @@ pub(crate) fn any_open(channels: &[Channel]) -> bool
 }
 
 impl Channel {
-    ghost use Rattle.std.specs.Prelude.{◌≡◌, ◌≤◌, ◌<◌, ◌^◌, true, false, Some, None, IsOk, IfOk, IfErr, OnErr, replicate};
+    ghost use Rattle.std.specs.Prelude.{◌≡◌, ◌≤◌, ◌<◌, ◌^◌, true, false, Some, None, IsOk, IfOk, IfErr, OnOk, OnErr, replicate};
     ghost use Rattle.cbm_channel.specs.ChannelCalls.{KeepsElse, OfChannel, TakesOnChannel, PlacesOn, PutsByte, FinishesFile, DoesNothing, KeepsFile, KeepsSlot};
     ghost use Rattle.cbm_machine.specs.Machines as machine;
     ghost use Rattle.cbm_machine.specs.Codes.{code_number};
@@ -91,6 +91,7 @@ impl Channel {
     ghost use Rattle.cbm_channel.specs.Shown.{is_channel_closed, talk_refused, is_written, is_writing, has_records, writes_on, uses_on, cost_on, shown_on};
     ghost use Rattle.cbm_channel.specs.Written.{is_unbegun, IsBeingWritten};
     ghost use Rattle.cbm_channel.specs.Taken.{IsTakenBy};
+    ghost use Rattle.cbm_channel.specs.BytesMeant.{PutMeant, FinishMeant, is_file_empty};
     ghost use Rattle.cbm_channel.specs.PlaceCalls.{StoresUnprotected, IsRecordsCall, PutsText, KeepsRestRecords};
 
     /// Fifteen channels that are closed.
@@ -258,6 +259,7 @@ impl Channel {
         requires { FitsTracks (M.seen volume.old).tracks self.old }
         ensures fits { FitsTracks (M.seen volume.new).tracks self.new }
         ensures call { PutsByte byte (M.seen volume.old) (M.seen volume.new) self.old self.new result }
+        ensures led { IfOk result (PutMeant (M.seen volume.old) (M.seen volume.new) byte self.old self.new) }
         ensures quiet { is_writing self.old ≡ false → DoesNothing result true self.old self.new volume.old volume.new }
         ensures cut { OnErr result (is_writing self.new ≡ false) }
         ensures slot { KeepsSlot self.old self.new }
@@ -307,7 +309,7 @@ impl Channel {
     /// Whether it writes a file that has no byte yet.
     pub(crate) fn is_empty<M: Medium>(&self, volume: &Volume<M>) -> bool
         ensures value { OfChannel (M.seen volume.now) self.now (λ d uses ch x. result ≡ is_unbegun x) }
-        ensures quiet { is_writing self.now ≡ false → result ≡ false }
+        ensures holds { result ≡ is_file_empty self.now }
     {
         match self {
             Channel::Writing(writer, _) => volume.is_empty(writer),
@@ -320,6 +322,7 @@ impl Channel {
     fn finish_file<M: Medium>(&self, volume: &mut Volume<M>) -> Result<(), Trouble>
         requires { FitsTracks (M.seen volume.old).tracks self.now }
         ensures call { FinishesFile (M.seen volume.old) (M.seen volume.new) self.now result }
+        ensures led { OnOk result (FinishMeant (M.seen volume.old) (M.seen volume.new) self.now) }
         ensures wrote { (x : machine.Channel) → ChannelStands self.now x → OnErr result (IsBeingWritten x) }
         ensures quiet { is_writing self.now ≡ false → IsOk result × (volume.new ≡ volume.old) }
         ensures only { KeepsElse result (M.seen volume.old) (M.seen volume.new) }
@@ -342,6 +345,7 @@ impl Channel {
         requires { FitsTracks (M.seen volume.old).tracks self.old }
         ensures is_closed { self.new ≡ Closed }
         ensures call { FinishesFile (M.seen volume.old) (M.seen volume.new) self.old result }
+        ensures led { OnOk result (FinishMeant (M.seen volume.old) (M.seen volume.new) self.old) }
         ensures wrote { (x : machine.Channel) → ChannelStands self.old x → OnErr result (IsBeingWritten x) }
         ensures quiet { is_writing self.old ≡ false → IsOk result × (volume.new ≡ volume.old) }
         ensures only { KeepsElse result (M.seen volume.old) (M.seen volume.new) }

@@ -13,9 +13,8 @@ pub struct Found {
 }
 
 impl<M: Medium> Dos<M> {
-    ghost use Rattle.std.specs.Prelude.{◌≢◌, IfOk, IfErr};
-    ghost use Rattle.cbm_channel.specs.Grounds.{HasGround, IsInDirectory};
-    ghost use Rattle.cbm_machine.specs.declared.code.Code.TheVariants.{Fine};
+    ghost use Rattle.std.specs.Prelude.{IfOk, IfErr};
+    ghost use Rattle.cbm_channel.specs.Grounds.{HasGround, IsNotOk};
     ghost use Rattle.cbm_machine.specs.Machines.{Machine};
     ghost use Rattle.cbm_machine.specs.Finding.{found};
     ghost use Rattle.cbm_channel.specs.Standing.{Stands};
@@ -26,9 +25,8 @@ impl<M: Medium> Dos<M> {
     /// the name is there, with other types alone; or the fault of the directory.
     pub(crate) fn found(&self, pattern: &Name, kind: Option<FileType>) -> Result<Found, Status>
         ensures ground { IfErr result (HasGround M.seen self.now.medium) }
-        ensures denied { IfErr result (λ s. s.code ≢ Fine) }
+        ensures denied { IfErr result IsNotOk }
         ensures first { IfOk result (λ f. IsFirstOf (M.seen self.now.medium) pattern.now kind f.slot f.entry) }
-        ensures from { IfOk result (λ f. IsInDirectory M.seen self.now.medium f.entry) }
         ensures found { (m : Machine) → Stands M.seen self.now m →
             FoundAs (M.seen self.now.medium).tracks (M.seen self.now.medium).content m.disk
             (found m.disk pattern.now kind) result }

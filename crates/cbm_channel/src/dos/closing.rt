@@ -10,6 +10,7 @@ impl<M: Medium> Dos<M> {
     ghost use Rattle.cbm_machine.specs.Closing.{close_one, finish_channel, without_text};
     ghost use Rattle.cbm_channel.specs.Standing.{Stands, SameBut, Leads};
     ghost use Rattle.cbm_channel.specs.Written.{is_unbegun};
+    ghost use Rattle.cbm_channel.specs.BytesMeant.{ReturnWasPut, FileWasFinished, ClosingWasDone, ClosingsWereDone, is_file_empty};
     ghost use Rattle.cbm_channel.specs.ChannelCalls.{LeavesRest, no_slot};
     ghost use Rattle.cbm_channel.specs.Shown.{is_writing_on, finished_by, KeepsMediumAndStatus};
     ghost use Rattle.cbm_machine.specs.Machines.{Machine, channel as channel_of};
@@ -18,7 +19,7 @@ impl<M: Medium> Dos<M> {
     ghost use Rattle.cbm_channel.specs.Parts.{LeavesDisk, OnlyText, CutsOff, KeepsSlotOn, ClosesOne, ClosesChannels, ClosesQuietly, LeavesByClose, closed_by};
 
     /// CLOSE: the file that is written on the channel is finished, and the channel is closed; on 15 the channels 0 to
-    /// 14 are, in order. Where the medium refuses a write, its fault becomes the status.
+    /// 14 are, in order. Where a file can't be finished, the fault becomes the status.
     pub fn close(&mut self, channel: u8)
         requires { channel ≤ 15 }
         ensures goes { Goes M.seen self.old self.new (closing channel) }
@@ -40,6 +41,7 @@ impl<M: Medium> Dos<M> {
         ensures goes { Went M.seen self.old self.new channel (close_one channel) }
         ensures closes { ClosesOne channel self.old.channels self.new.channels }
         ensures quiet { is_writing_on channel self.old ≡ false → KeepsMediumAndStatus self.old self.new }
+        ensures done { ClosingWasDone M.seen channel self.old self.new }
         ensures leaves { LeavesDisk M.seen (finished_by channel self.old) self.old self.new }
     {
         self.fill(channel);
@@ -53,6 +55,7 @@ impl<M: Medium> Dos<M> {
         ensures goes { Went M.seen self.old self.new channel (some_byte_put channel) }
         ensures others { SameBut channel self.old.channels self.new.channels }
         ensures quiet { is_writing_on channel self.old ≡ false → self.new ≡ self.old }
+        ensures done { ReturnWasPut M.seen channel self.old self.new }
         ensures cut { CutsOff M.seen channel self.old self.new }
         ensures slot { KeepsSlotOn channel self.old self.new }
         ensures leaves { LeavesDisk M.seen no_slot self.old self.new }
@@ -66,7 +69,7 @@ impl<M: Medium> Dos<M> {
     fn is_empty(&self, channel: u8) -> bool
         requires { channel < 15 }
         ensures value { (m : Machine) → Stands M.seen self.now m → result ≡ is_unbegun (channel_of m channel) }
-        ensures quiet { is_writing_on channel self.now ≡ false → result ≡ false }
+        ensures holds { result ≡ is_file_empty (slice_index_or self.now.channels channel Closed) }
     {
         self.channels[channel as usize].is_empty(&self.volume)
     }
@@ -78,6 +81,7 @@ impl<M: Medium> Dos<M> {
         ensures channels { self.new.channels ≡ slice_set self.old.channels channel Closed }
         ensures count { length self.new.channels ≡ 15 }
         ensures quiet { is_writing_on channel self.old ≡ false → KeepsMediumAndStatus self.old self.new }
+        ensures done { FileWasFinished M.seen channel self.old self.new }
         ensures leaves { LeavesDisk M.seen (finished_by channel self.old) self.old self.new }
     {
         if let Err(trouble) = self.channels[channel as usize].finish(&mut self.volume) {
@@ -93,6 +97,7 @@ impl<M: Medium> Dos<M> {
         ensures medium { KeepsMedium (M.seen self.old.medium) (M.seen self.new.medium) }
         ensures rest { LeavesRest M.seen (λ m. closed_by 15 self.old) self.old self.new }
         ensures counted { AreCounted M.seen 15 self.old self.new }
+        ensures done { ClosingsWereDone M.seen 15 self.old self.new }
         ensures grounded { KeepsGrounded M.seen self.old self.new }
     {
         for channel in 0..15 {

@@ -32,13 +32,13 @@ fn is_wrong(kind: FileType) -> bool
 }
 
 impl<M: Medium> Dos<M> {
-    ghost use Rattle.std.specs.Prelude.{◌≡◌, ◌≢◌, ◌≤◌, ◌+◌, IfOk, IfErr, length};
+    ghost use Rattle.std.specs.Prelude.{◌≡◌, ◌≤◌, ◌+◌, IfOk, IfErr, length};
     ghost use Rattle.cbm_file.specs.Padding.{before_filler};
     ghost use Rattle.cbm_volume.specs.Copying.{CopyLed};
     ghost use Rattle.cbm_machine.specs.declared.code.Code.TheVariants.{Fine};
     ghost use Rattle.cbm_machine.specs.Machines.{Machine, answered};
     ghost use Rattle.cbm_machine.specs.Running.{copy, source, sources};
-    ghost use Rattle.cbm_channel.specs.Grounds.{HasGround};
+    ghost use Rattle.cbm_channel.specs.Grounds.{HasGround, IsNotOk};
     ghost use Rattle.cbm_channel.specs.ChannelCalls.{LeavesRest, no_slot};
     ghost use Rattle.cbm_channel.specs.Standing.{Stands};
     ghost use Rattle.cbm_channel.specs.Going.{Went};
@@ -51,7 +51,7 @@ impl<M: Medium> Dos<M> {
         ensures goes { before_filler new.now ≡ new.now →
             Went M.seen self.old self.new 15 (λ m. answered m (copy new.now olds.now m)) }
         ensures refused { IsFineOrSameUnlessFault M.seen self.old self.new }
-        ensures led { self.new.told.status.code ≡ Fine →
+        ensures done { self.new.told.status.code ≡ Fine →
             CopiesMeant (M.seen self.old.medium) (M.seen self.new.medium) new.now }
         ensures leaves { LeavesChannels M.seen self.old self.new }
         ensures rest { LeavesRest M.seen (λ m. no_slot) self.old self.new }
@@ -67,7 +67,7 @@ impl<M: Medium> Dos<M> {
     /// no old name is given; or the fault of the directory.
     fn plan_copy(&self, new: &Name, olds: &Names) -> Result<(FileType, Sources), Status>
         ensures ground { IfErr result (HasGround M.seen self.now.medium) }
-        ensures denied { IfErr result (λ s. s.code ≢ Fine) }
+        ensures denied { IfErr result IsNotOk }
         ensures fresh { IfOk result (λ v. IsNewName (M.seen self.now.medium) new.now) }
         ensures planned { OfMachine M.seen self.now (λ m. IfOk result (λ v. IsCopying m new.now olds.now v.0 v.1.items)) }
         ensures refused { OfMachine M.seen self.now (λ m. IfErr result (RefusesCopy m new.now olds.now)) }
@@ -89,7 +89,7 @@ impl<M: Medium> Dos<M> {
     fn add_sources(&self, names: &[Name], slots: &mut Sources) -> Result<(), Status>
         requires { length slots.old.items + length names.now ≤ 58 }
         ensures ground { IfErr result (HasGround M.seen self.now.medium) }
-        ensures denied { IfErr result (λ s. s.code ≢ Fine) }
+        ensures denied { IfErr result IsNotOk }
         ensures added { (m : Machine) → Stands M.seen self.now m →
             AddsSources m.disk (sources m.disk names.now) slots.old.items slots.new.items result }
     {
@@ -104,7 +104,7 @@ impl<M: Medium> Dos<M> {
     /// deleted; 60 it was never closed; or the fault of the directory.
     fn source(&self, name: &Name) -> Result<Source, Status>
         ensures ground { IfErr result (HasGround M.seen self.now.medium) }
-        ensures denied { IfErr result (λ s. s.code ≢ Fine) }
+        ensures denied { IfErr result IsNotOk }
         ensures source { (m : Machine) → Stands M.seen self.now m →
             SourceAs m.disk (source m.disk name.now) result }
     {
@@ -129,7 +129,7 @@ impl<M: Medium> Dos<M> {
         ensures goes { before_filler name.now ≡ name.now → WentWhere M.seen self.old self.new
             (λ m olds. IsCopying m name.now olds kind slots.now) (λ olds n. answered n (copy name.now olds n)) }
         ensures refused { IsFineOrSameUnlessFault M.seen self.old self.new }
-        ensures led { self.new.told.status.code ≡ Fine →
+        ensures done { self.new.told.status.code ≡ Fine →
             CopyLed (M.seen self.old.medium) (M.seen self.new.medium) kind name.now }
         ensures count { length self.new.channels ≡ 15 }
         ensures leaves { LeavesChannels M.seen self.old self.new }

@@ -6,14 +6,14 @@ use cbm_machine::{Code, Status};
 use cbm_volume::Medium;
 
 impl<M: Medium> Dos<M> {
-    ghost use Rattle.std.specs.Prelude.{◌≡◌, length};
+    ghost use Rattle.std.specs.Prelude.{◌≡◌, Ok, length};
     ghost use Rattle.cbm_medium.specs.Seen.{HasFailed};
+    ghost use Rattle.cbm_volume.specs.NewDisks.{EmptiesDisk};
     ghost use Rattle.cbm_command.specs.declared.command.Command.TheVariants.{New};
     ghost use Rattle.cbm_machine.specs.declared.code.Code.TheVariants.{Fine};
     ghost use Rattle.cbm_machine.specs.Machines.{answered};
     ghost use Rattle.cbm_machine.specs.Running.{run};
     ghost use Rattle.cbm_channel.specs.Going.{Went};
-    ghost use Rattle.cbm_channel.specs.Meant.{EmptiesMeant};
     ghost use Rattle.cbm_channel.specs.Parts.{LeavesChannels};
 
     /// N: an empty disk of this title; with an id it is formatted, else it keeps its own. 60 where a channel is open,
@@ -22,7 +22,7 @@ impl<M: Medium> Dos<M> {
         ensures goes { (HasFailed (M.seen self.old.medium) (M.seen self.new.medium) → ⊥) →
             Went M.seen self.old self.new 15 (λ m. answered m (run (New title.now id) m)) }
         ensures done { self.new.told.status.code ≡ Fine →
-            EmptiesMeant (M.seen self.old.medium) (M.seen self.new.medium) title.now id }
+            EmptiesDisk (Ok tt) title.now id (M.seen self.old.medium) (M.seen self.new.medium) }
         ensures count { length self.new.channels ≡ 15 }
         ensures leaves { LeavesChannels M.seen self.old self.new }
     {

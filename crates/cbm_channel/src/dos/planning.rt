@@ -1,9 +1,9 @@
 // What an OPEN will do, or its refusal.
 
 ghost use Rattle.cbm_machine.specs.Codes.{code_number};
-ghost use Rattle.cbm_channel.specs.Grounds.{is_fault_number};
+ghost use Rattle.cbm_channel.specs.Grounds.{IsNotOk, is_fault_number};
 ghost use Rattle.cbm_channel.specs.declared.plan.Plan.TheVariants as planned;
-ghost use Rattle.std.specs.Prelude.{◌≡◌, ◌≢◌, ◌≤◌, ◌⊎◌, ℕ, true, false, Result, Ok, IfOk, IfErr, if◌then◌else◌, not, ◌&&◌};
+ghost use Rattle.std.specs.Prelude.{◌≡◌, ◌≤◌, ◌⊎◌, ℕ, true, false, Result, Ok, IfOk, IfErr, if◌then◌else◌, not, ◌&&◌};
 ghost use Rattle.cbm_file.specs.Files.{Disk, File};
 ghost use Rattle.cbm_file.specs.declared.file_type.FileType.TheVariants.{Rel};
 ghost use Rattle.cbm_file.specs.Types.{is_same_type};
@@ -12,7 +12,6 @@ ghost use Rattle.cbm_machine.specs.Machines.{Machine, in_writing};
 ghost use Rattle.cbm_machine.specs.Plans as plans;
 ghost use Rattle.cbm_channel.specs.Planned.{FoundAs, PlannedAs, IsFound};
 ghost use Rattle.cbm_machine.specs.declared.code.Code as code;
-ghost use Rattle.cbm_machine.specs.declared.code.Code.TheVariants.{Fine};
 
 use crate::channel::{FILE_COST, MOST_COST, RECORDS_COST, any_uses, any_writes, open_count};
 use crate::dos::Dos;
@@ -41,7 +40,7 @@ fn cost_of(wanted: &Wanted, found: &Result<Found, Status>) -> usize
 /// Errors: 64 it can't be read, or `@` asks for a relative one; 60 it isn't closed, or a channel writes it.
 fn plan_read(wanted: &Wanted, found: Found, written: bool) -> Result<Plan, Status>
     ensures own { IfErr result (λ s. is_fault_number (code_number s.code) ≡ false) }
-    ensures denied { IfErr result (λ s. s.code ≢ Fine) }
+    ensures denied { IfErr result IsNotOk }
     ensures same { IfOk result (λ p. (p ≡ planned.ReadFile found) ⊎ (p ≡ planned.OpenRecords found)) }
     ensures planned { (tracks : ℕ) (c : Content) (m : Machine) (s : ℕ) (f : File) → in_writing m s ≡ written →
         IsFound tracks c m.disk s f found →
@@ -67,7 +66,7 @@ fn plan_read(wanted: &Wanted, found: Found, written: bool) -> Result<Plan, Statu
 /// a channel writes it; 50 another record length is asked for.
 fn plan_there(wanted: &Wanted, found: Found, written: bool) -> Result<Plan, Status>
     ensures own { IfErr result (λ s. is_fault_number (code_number s.code) ≡ false) }
-    ensures denied { IfErr result (λ s. s.code ≢ Fine) }
+    ensures denied { IfErr result IsNotOk }
     ensures same { IfOk result (λ p. p ≡ planned.OpenRecords found) }
     ensures planned { (tracks : ℕ) (c : Content) (m : Machine) (s : ℕ) (f : File) → in_writing m s ≡ written →
         IsFound tracks c m.disk s f found → is_same_type Rel f.kind ≡ true →
@@ -83,18 +82,17 @@ fn plan_there(wanted: &Wanted, found: Found, written: bool) -> Result<Plan, Stat
 }
 
 impl<M: Medium> Dos<M> {
-    ghost use Rattle.std.specs.Prelude.{◌≡◌, ◌≢◌, ◌≤◌, ℕ, true, false, Ok, IfOk, IfErr};
+    ghost use Rattle.std.specs.Prelude.{◌≡◌, ◌≤◌, ℕ, true, false, Ok, IfOk, IfErr};
     ghost use Rattle.cbm_file.specs.declared.file_type.FileType.TheVariants.{Del, Rel};
     ghost use Rattle.cbm_file.specs.Types.{is_same_type};
     ghost use Rattle.cbm_file.specs.Padding.{before_filler};
     ghost use Rattle.cbm_command.specs.declared.opening.Mode.TheVariants.{Read};
     ghost use Rattle.cbm_command.specs.declared.opening.Opening.TheVariants as opening;
     ghost use Rattle.cbm_command.specs.Openings.{wants_relative};
-    ghost use Rattle.cbm_machine.specs.declared.code.Code.TheVariants.{Fine};
     ghost use Rattle.cbm_machine.specs.Machines.{Machine, too_many, in_writing, in_use};
     ghost use Rattle.cbm_machine.specs.Finding.{is_there};
     ghost use Rattle.cbm_machine.specs.Plans as plans;
-    ghost use Rattle.cbm_channel.specs.Grounds.{HasGround};
+    ghost use Rattle.cbm_channel.specs.Grounds.{HasGround, IsNotOk};
     ghost use Rattle.cbm_channel.specs.Standing.{Stands};
     ghost use Rattle.cbm_channel.specs.Planned.{IsOfText, is_for_writing, plan_writes};
     ghost use Rattle.cbm_channel.specs.Meant.{IsNewName, IsFileMeant, IsPlanMeant};
@@ -219,7 +217,7 @@ impl<M: Medium> Dos<M> {
     /// channel, 26 the disk is protected.
     fn plan_append(&self, found: Found) -> Result<Plan, Status>
         ensures ground { IfErr result (HasGround M.seen self.now.medium) }
-        ensures denied { IfErr result (λ s. s.code ≢ Fine) }
+        ensures denied { IfErr result IsNotOk }
         ensures same { IfOk result (λ p. p ≡ planned.AppendFile found) }
         ensures allowed { IfOk result (IsAllowed M.seen self.now.medium) }
         ensures planned { (m : Machine) (s : ℕ) (f : File) → Stands M.seen self.now m →
@@ -268,7 +266,7 @@ impl<M: Medium> Dos<M> {
     /// name, 26 the disk is protected; or a fault of the map or of the directory.
     fn plan_write(&self, kind: FileType, name: Name) -> Result<Plan, Status>
         ensures ground { IfErr result (HasGround M.seen self.now.medium) }
-        ensures denied { IfErr result (λ s. s.code ≢ Fine) }
+        ensures denied { IfErr result IsNotOk }
         ensures same { IfOk result (λ p. p ≡ planned.WriteFile kind name) }
         ensures allowed { IfOk result (IsAllowed M.seen self.now.medium) }
         ensures planned { (m : Machine) (w : Wanted) → w.name ≡ name → is_there m.disk name ≡ false →
@@ -289,7 +287,7 @@ impl<M: Medium> Dos<M> {
     /// locked, 72 no block is free, 26 the disk is protected; or a fault of the map. The directory after the file isn't read.
     fn plan_replace(&self, found: &Found) -> Result<Plan, Status>
         ensures ground { IfErr result (HasGround M.seen self.now.medium) }
-        ensures denied { IfErr result (λ s. s.code ≢ Fine) }
+        ensures denied { IfErr result IsNotOk }
         ensures same { IfOk result (λ p. p ≡ planned.ReplaceFile found.now.slot) }
         ensures allowed { IfOk result (IsAllowed M.seen self.now.medium) }
         ensures planned { (m : Machine) (s : ℕ) (f : File) → Stands M.seen self.now m →
@@ -314,7 +312,7 @@ impl<M: Medium> Dos<M> {
     /// Whether some file has the name. An `Err` is the fault of the directory.
     pub(super) fn is_there(&self, name: &Name) -> Result<bool, Status>
         ensures ground { IfErr result (HasGround M.seen self.now.medium) }
-        ensures denied { IfErr result (λ s. s.code ≢ Fine) }
+        ensures denied { IfErr result IsNotOk }
         ensures none { IfOk result (λ there. there ≡ false → IsNewName (M.seen self.now.medium) name.now) }
         ensures there { (m : Machine) → Stands M.seen self.now m → result ≡ Ok (is_there m.disk name.now) }
     {

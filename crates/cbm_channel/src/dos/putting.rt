@@ -31,6 +31,7 @@ impl<M: Medium> Dos<M> {
     ghost use Rattle.cbm_channel.specs.Going.{Goes, Went, put_written};
     ghost use Rattle.cbm_channel.specs.Commanded.{IsOfCommandText, changes_disk, commands_change, formats, text_formats, end_formats, validates, text_validates, end_validates, moved_by, text_moves, end_moves, cleared_by, text_clears};
     ghost use Rattle.cbm_channel.specs.Meant.{WasDone, TextWasDone};
+    ghost use Rattle.cbm_channel.specs.BytesMeant.{ByteWasPut};
     ghost use Rattle.cbm_channel.specs.Parts.{LeavesDisk, LeavesByCommand, OnlyText, OnlyTells, OnlyTellsFor, CutsOff, KeepsSlotOn, TakesText, WritesText, MovesOne, WentUnlessNew, EndsGathered, EndsQuietly, SparesDisk, changed_by_end};
 
     /// A byte that the host sends to a channel: on 15 it is gathered for a command, on a channel that has records open
@@ -42,6 +43,8 @@ impl<M: Medium> Dos<M> {
         // On any disk:
         ensures others { SameBut channel self.old.channels self.new.channels }
         ensures quiet { is_writing_on channel self.old ≡ false → KeepsMediumAndStatus self.old self.new }
+        ensures done { channel < 15 → has_records_on channel self.old ≡ false →
+            ByteWasPut M.seen channel byte self.old self.new }
         ensures leaves { LeavesDisk M.seen no_slot self.old self.new }
     {
         if channel == 15 {
@@ -59,6 +62,7 @@ impl<M: Medium> Dos<M> {
         ensures goes { Went M.seen self.old self.new channel (put_written channel byte) }
         ensures others { SameBut channel self.old.channels self.new.channels }
         ensures quiet { is_writing_on channel self.old ≡ false → KeepsMediumAndStatus self.old self.new }
+        ensures done { ByteWasPut M.seen channel byte self.old self.new }
         ensures cut { CutsOff M.seen channel self.old self.new }
         ensures slot { KeepsSlotOn channel self.old self.new }
         ensures leaves { LeavesDisk M.seen no_slot self.old self.new }
@@ -160,7 +164,7 @@ impl<M: Medium> Dos<M> {
         ensures leaves { LeavesByCommand M.seen (moved_by command.now) (validates command.now) (formats command.now)
             (cleared_by command.now) self.old self.new }
         ensures done { WasDone command.now self.old.channels (M.seen self.old.medium) (M.seen self.new.medium)
-            self.new.told.status.code }
+            self.new.told.status }
         ensures quiet { changes_disk command.now ≡ false → OnlyTells M.seen self.old self.new }
         ensures spared { KeepsIfRefused M.seen self.old self.new }
     {

@@ -7,13 +7,13 @@ use cbm_machine::{Code, Status};
 use cbm_volume::Medium;
 
 impl<M: Medium> Dos<M> {
-    ghost use Rattle.std.specs.Prelude.{◌≡◌, ◌≢◌, IfOk, IfErr, length};
+    ghost use Rattle.std.specs.Prelude.{◌≡◌, IfOk, IfErr, length};
     ghost use Rattle.cbm_file.specs.Padding.{before_filler};
     ghost use Rattle.cbm_volume.specs.Led.{RenamesLed};
     ghost use Rattle.cbm_machine.specs.declared.code.Code.TheVariants.{Fine};
     ghost use Rattle.cbm_machine.specs.Machines.{Machine, answered};
     ghost use Rattle.cbm_machine.specs.Running.{rename};
-    ghost use Rattle.cbm_channel.specs.Grounds.{HasGround};
+    ghost use Rattle.cbm_channel.specs.Grounds.{HasGround, IsNotOk};
     ghost use Rattle.cbm_channel.specs.ChannelCalls.{LeavesRest, no_slot};
     ghost use Rattle.cbm_channel.specs.Standing.{Stands};
     ghost use Rattle.cbm_channel.specs.Going.{Went};
@@ -26,7 +26,7 @@ impl<M: Medium> Dos<M> {
         ensures goes { before_filler new.now ≡ new.now →
             Went M.seen self.old self.new 15 (λ m. answered m (rename new.now old.now m)) }
         ensures refused { IsFineOrSame M.seen self.old self.new }
-        ensures led { self.new.told.status.code ≡ Fine →
+        ensures done { self.new.told.status.code ≡ Fine →
             RenamesMeant (M.seen self.old.medium) (M.seen self.new.medium) new.now old.now }
         ensures leaves { LeavesChannels M.seen self.old self.new }
         ensures rest { LeavesRest M.seen (λ m. no_slot) self.old self.new }
@@ -41,7 +41,7 @@ impl<M: Medium> Dos<M> {
     /// a file has the new name; 26 the disk is protected; or the fault of the directory.
     fn plan_rename(&self, new: &Name, old: &Name) -> Result<u8, Status>
         ensures ground { IfErr result (HasGround M.seen self.now.medium) }
-        ensures denied { IfErr result (λ s. s.code ≢ Fine) }
+        ensures denied { IfErr result IsNotOk }
         ensures meant { IfOk result (IsRenameMeant (M.seen self.now.medium) new.now old.now) }
         ensures planned { (m : Machine) → Stands M.seen self.now m → RenamesAs m new.now old.now result }
     {
@@ -63,7 +63,7 @@ impl<M: Medium> Dos<M> {
         ensures goes { before_filler name.now ≡ name.now → WentWhere M.seen self.old self.new
             (λ m old. IsRenamable m name.now old slot) (λ old n. answered n (rename name.now old n)) }
         ensures refused { IsFineOrSame M.seen self.old self.new }
-        ensures led { self.new.told.status.code ≡ Fine →
+        ensures done { self.new.told.status.code ≡ Fine →
             RenamesLed (M.seen self.old.medium) (M.seen self.new.medium) slot name.now }
         ensures count { length self.new.channels ≡ 15 }
         ensures leaves { LeavesChannels M.seen self.old self.new }

@@ -48,7 +48,7 @@ impl<M: Medium> Dos<M> {
     ghost use Rattle.cbm_machine.specs.declared.code.Code.TheVariants.{FilesScratched};
     ghost use Rattle.cbm_machine.specs.Machines.{Machine, answered};
     ghost use Rattle.cbm_machine.specs.Running.{scratch};
-    ghost use Rattle.cbm_channel.specs.Grounds.{HasGround, KeepsIfRefused};
+    ghost use Rattle.cbm_channel.specs.Grounds.{HasGround, IsNotOk, KeepsIfRefused};
     ghost use Rattle.cbm_channel.specs.Standing.{Stands};
     ghost use Rattle.cbm_channel.specs.Going.{Went};
     ghost use Rattle.cbm_channel.specs.Meant.{ScratchesEach, ScratchesMeant};
@@ -58,8 +58,10 @@ impl<M: Medium> Dos<M> {
     /// S: each file that matches a pattern, isn't locked and isn't open goes; 01 reports how many.
     pub(super) fn scratch(&mut self, patterns: &Names)
         ensures goes { Went M.seen self.old self.new 15 (λ n. answered n (scratch patterns.now n)) }
+        ensures not_ok { IsNotOk self.new.told.status }
         ensures done { self.new.told.status.code ≡ FilesScratched →
-            ScratchesMeant self.old.channels (M.seen self.old.medium) (M.seen self.new.medium) patterns.now }
+            ScratchesMeant self.old.channels (M.seen self.old.medium) (M.seen self.new.medium) patterns.now
+            self.new.told.status.first }
         ensures leaves { LeavesChannels M.seen self.old self.new }
         ensures rest { LeavesRest M.seen (λ m. is_slot_among (slots_going m patterns.now 0 m.disk.slots)) self.old self.new }
     {
@@ -73,6 +75,7 @@ impl<M: Medium> Dos<M> {
     fn plan_scratch(&self, patterns: &Names) -> Result<Numbers, Status>
         ensures ground { IfErr result (HasGround M.seen self.now.medium) }
         ensures denied { IfErr result (λ s. s.code ≢ FilesScratched) }
+        ensures not_ok { IfErr result IsNotOk }
         ensures going { IfOk result (λ v. v.items ≡ entries_going
             self.now.channels patterns.now 0 (seen_directory (M.seen self.now.medium)).entries) }
         ensures planned { OfMachine M.seen self.now (λ m. IfOk result (λ v. AreSlotsGoing m patterns.now v.items)) }
@@ -91,6 +94,7 @@ impl<M: Medium> Dos<M> {
     fn slots_going(&self, patterns: &Names) -> Result<Numbers, Status>
         ensures ground { IfErr result (HasGround M.seen self.now.medium) }
         ensures denied { IfErr result (λ s. s.code ≢ FilesScratched) }
+        ensures not_ok { IfErr result IsNotOk }
         ensures going { IfOk result (λ v. v.items ≡ entries_going
             self.now.channels patterns.now 0 (seen_directory (M.seen self.now.medium)).entries) }
         ensures means { (m : Machine) → Stands M.seen self.now m →
@@ -116,6 +120,8 @@ impl<M: Medium> Dos<M> {
             (λ patterns n. answered n (scratch patterns n)) }
         ensures done { self.new.told.status.code ≡ FilesScratched →
             ScratchesEach (M.seen self.old.medium) (M.seen self.new.medium) slots.now }
+        ensures number { self.new.told.status.code ≡ FilesScratched → self.new.told.status.first ≡ length slots.now }
+        ensures not_ok { IsNotOk self.new.told.status }
         ensures same { SameChannels self.old.channels self.new.channels }
         ensures spared { AreUnguarded (M.seen self.old.medium).protected slots.now →
             KeepsIfRefused M.seen self.old self.new }

@@ -6,6 +6,8 @@ use Rattle.cbm_file.specs.Files.{file_at}
 use Rattle.cbm_channel.proofs.Rest.{rest_itself, rest_none, change_rest, given_rest, writer_size, max_size, finished_total, replaced_total}
 use Rattle.cbm_channel.proofs.Spared.{finish_rest}
 use Rattle.cbm_channel.proofs.channel.Channel.finish_file.Goals as goal
+use Rattle.cbm_channel.proofs.BytesDone.{finished_none, finished_plain, finished_given, finished_replaced}
+use Rattle.cbm_volume.proofs.layouts.Calls.{ok_so}
 
 pub returns-in_default-clause-call : goal.returns-in_default-clause-call
 returns-in_default-clause-call g c = λ d uses ch x h e s.
@@ -86,3 +88,20 @@ returns-then-full-clause-wrote g c = λ x s. on_err _ _ (written_on c.args.self.
 
 pub returns-else-full-clause-wrote : goal.returns-else-full-clause-wrote
 returns-else-full-clause-wrote g c = λ x s. on_err _ _ (written_on c.args.self.now c.in-Writing.writer c.in-Writing.full x c.in-Writing.is s)
+
+-- ---- on any disk
+
+pub returns-in_default-clause-led : goal.returns-in_default-clause-led
+returns-in_default-clause-led g c = finished_none (g.M.Medium.seen c.args.volume.now) (g.M.Medium.seen c.args.volume.now) c.args.self.now c.in_default.not-Writing refl
+
+pub returns-then-not-replaces-clause-led : goal.returns-then-not-replaces-clause-led
+returns-then-not-replaces-clause-led g c =
+    ok_so c.finish.result (finished_plain (g.M.Medium.seen c.args.volume.now) (g.M.Medium.seen c.finish.new.self) c.args.self.now c.in-Writing.writer c.in-Writing.full c.in-Writing.is (sym c.replaces.ensures ∙ c.if-not-replaces.true)) c.finish.ensures.led
+
+pub returns-then-full-clause-led : goal.returns-then-full-clause-led
+returns-then-full-clause-led g c =
+    ok_so c.give_up.result (finished_given (g.M.Medium.seen c.args.volume.now) (g.M.Medium.seen c.give_up.new.self) c.args.self.now c.in-Writing.writer c.in-Writing.full c.in-Writing.is (sym c.replaces.ensures ∙ c.if-not-replaces.false) c.if-full.true) c.give_up.ensures.led
+
+pub returns-else-full-clause-led : goal.returns-else-full-clause-led
+returns-else-full-clause-led g c =
+    ok_so c.finish_replacement.result (finished_replaced (g.M.Medium.seen c.args.volume.now) (g.M.Medium.seen c.finish_replacement.new.self) c.args.self.now c.in-Writing.writer c.in-Writing.full c.in-Writing.is (sym c.replaces.ensures ∙ c.if-not-replaces.false) c.if-full.false) c.finish_replacement.ensures.led

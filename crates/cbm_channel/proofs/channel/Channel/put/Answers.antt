@@ -1,10 +1,13 @@
-use Rattle.std.proofs.Common.{rules, ℕ, ap, sym, ◌∙◌, refl}
-use Rattle.std.specs.Prelude.{◌==◌}
+use Rattle.std.proofs.Common.{rules, ℕ, false, ap, sym, subst, ◌∙◌, refl}
+use Rattle.std.specs.Prelude.{◌==◌, not}
 use Rattle.cbm_channel.specs.declared.channel.Channel.{Channel}
 use Rattle.cbm_channel.specs.Shown.{finishes_on}
 use Rattle.cbm_channel.proofs.BytesPut.{not_written, put_nothing, put_full, fits_on, writes_so, put_done, cut_off}
 use Rattle.cbm_channel.proofs.Rest.{rest_itself, store_rest, writer_size}
 use Rattle.cbm_channel.proofs.channel.Channel.put.Goals as goal
+use Rattle.cbm_channel.proofs.BytesDone.{dropped_other, dropped_full}
+use Rattle.cbm_channel.specs.BytesMeant.{PutMeant}
+use Rattle.cbm_channel.specs.declared.channel.Channel.TheVariants.{Writing}
 
 -- the channel isn't written
 pub returns-in_default-clause-call : goal.returns-in_default-clause-call
@@ -69,3 +72,16 @@ returns-in-Ok-clause-slot g c = λ n free. ap (λ (k : ℕ). k == n) c.store.ens
 
 pub returns-in-Err-clause-slot : goal.returns-in-Err-clause-slot
 returns-in-Err-clause-slot g c = λ n free. refl
+
+-- ---- on any disk
+
+pub returns-in_default-clause-led : goal.returns-in_default-clause-led
+returns-in_default-clause-led g c = dropped_other (g.M.Medium.seen c.args.volume.now) (g.M.Medium.seen c.args.volume.now) c.args.byte c.args.self.now c.in_default.not-Writing refl
+
+pub returns-then-full-clause-led : goal.returns-then-full-clause-led
+returns-then-full-clause-led g c = dropped_full (g.M.Medium.seen c.args.volume.now) (g.M.Medium.seen c.args.volume.now) c.args.byte c.args.self.now c.in-Writing.writer c.in-Writing.full c.in-Writing.is c.if-full.true refl
+
+pub returns-in-Ok-clause-led : goal.returns-in-Ok-clause-led
+returns-in-Ok-clause-led g c =
+    subst (λ (k : Channel). PutMeant (g.M.Medium.seen c.args.volume.now) (g.M.Medium.seen c.store.new.self) c.args.byte k (Writing c.store.new.writer (not c.in-Ok.stored)) c.in-Ok.stored) (sym (c.in-Writing.is ∙ ap (Writing c.in-Writing.writer) c.if-full.false))
+    (c.store.new.writer.chain, (λ i. Writing (record { slot = c.store.ensures.writer.0 i; replaces = c.store.ensures.writer.1 i; chain = c.store.new.writer.chain }) (not c.in-Ok.stored)), c.in-Ok.ensures.led)

@@ -1,4 +1,5 @@
 use Rattle.std.proofs.Common.{sym, inl, ap, rules}
+use Rattle.cbm_channel.proofs.Opened.{from_directory}
 use Rattle.cbm_channel.proofs.Refused.{other_never}
 use Rattle.cbm_machine.specs.Machines.{say, with_status}
 use Rattle.cbm_machine.specs.Plans.{act}
@@ -49,3 +50,7 @@ returns-in-Ok-clause-done g c = λ fine. (c.in-Ok.plan, c.in-Ok.ensures.meant, c
 
 pub returns-in-Err-clause-done : goal.returns-in-Err-clause-done
 returns-in-Err-clause-done g c = other_never c.in-Err.status c.set.new.self.told Fine c.in-Err.ensures.sound.denied c.set.ensures.told
+
+pub returns-in-Ok-clause-quiet : goal.returns-in-Ok-clause-quiet
+returns-in-Ok-clause-quiet g c = λ reads.
+    c.act.ensures.quiet (c.in-Ok.ensures.reads reads) (from_directory g.M.Medium.seen c.args.self.now.medium c.args.opening c.in-Ok.plan c.in-Ok.ensures.meant)

@@ -1,5 +1,5 @@
 use Rattle.std.proofs.Common.{rules, ◌≡◌, ◌+◌, refl, take, sym, subst, ◌∙◌, ap, arith, inl, inr}
-use Rattle.std.specs.Prelude.{ℕ, slice_index_or}
+use Rattle.std.specs.Prelude.{ℕ, suc, slice_index_or}
 use Rattle.std.proofs.lemmas.Bool.{cases_lt}
 use Rattle.std.proofs.lemmas.Bool.Decides.{eqb_tells}
 use Rattle.cbm_channel.specs.Shown.{is_writing, finished_by}
@@ -8,6 +8,7 @@ use Rattle.std.proofs.lemmas.List.{get_or_past}
 use Rattle.cbm_channel.specs.declared.channel.Channel.TheVariants.{Closed}
 use Rattle.cbm_machine.specs.Closing.{channel_numbers, close_one}
 use Rattle.cbm_channel.specs.Going.{Goes, AreCounted, closings_of}
+use Rattle.cbm_channel.specs.BytesMeant.{ClosingsWereDone}
 use Rattle.cbm_channel.proofs.Changed.{closed_next}
 use Rattle.cbm_channel.proofs.Closes.{closings_next}
 use Rattle.cbm_channel.proofs.Goings.{goes_on, keeps_same, keeps_then}
@@ -34,7 +35,7 @@ returns-clause-closed g c = λ k.
     ]
 
 pub loop-channel-init : goal.loop-channel-init
-loop-channel-init g c = ((search rules), (search rules), keeps_same _ _ refl, (search rules), (search rules), (search rules), inl refl, (λ m s. rest_itself _ _ refl), (λ k far. refl))
+loop-channel-init g c = ((search rules), (search rules), keeps_same _ _ refl, (search rules), (search rules), (search rules), inl refl, (λ m s. rest_itself _ _ refl), refl, (λ k far. refl))
 
 pub loop-channel-preserved : goal.loop-channel-preserved
 loop-channel-preserved g c = (
@@ -58,8 +59,10 @@ loop-channel-preserved g c = (
   (λ m s.
       let x = c.loop-channel.invariant.0 m s in
       rest_then (closed_by 15 c.args.self.now) (finished_by c.loop-channel.channel c.loop-channel.self) (g.M.Medium.seen c.args.self.now.medium) (g.M.Medium.seen c.loop-channel.self.medium) (g.M.Medium.seen c.close_one.new.self.medium) x.0.disk _ x.2.holds
-      (λ n e. (e, next_free c.args.self.now c.loop-channel.self c.loop-channel.channel n (c.loop-channel.invariant.8 c.loop-channel.channel (omega arith)) e)) (c.loop-channel.invariant.7 m s) (c.close_one.ensures.leaves.rest x.0 x.2)),
-  (λ k far. c.close_one.ensures.closes.others k (λ e. absurd (omega (arith, e, far))) ∙ c.loop-channel.invariant.8 k (omega (arith, far))),
+      (λ n e. (e, next_free c.args.self.now c.loop-channel.self c.loop-channel.channel n (c.loop-channel.invariant.9 c.loop-channel.channel (omega arith)) e)) (c.loop-channel.invariant.7 m s) (c.close_one.ensures.leaves.rest x.0 x.2)),
+  (let next : suc c.loop-channel.channel ≡ c.loop-channel.channel + 1 = omega arith in
+      subst (λ (n : ℕ). ClosingsWereDone g.M.Medium.seen n c.args.self.now c.close_one.new.self) next (c.loop-channel.self, c.loop-channel.invariant.8, c.close_one.ensures.done)),
+  (λ k far. c.close_one.ensures.closes.others k (λ e. absurd (omega (arith, e, far))) ∙ c.loop-channel.invariant.9 k (omega (arith, far))),
 )
 
 pub returns-clause-quiet : goal.returns-clause-quiet
@@ -71,6 +74,11 @@ pub returns-clause-counted : goal.returns-clause-counted
 returns-clause-counted g c =
     let all : c.loop-channel.channel ≡ 15 = omega (arith, c.loop-channel-test.false, c.loop-channel.auto.channel-end) in
     subst (λ (n : ℕ). AreCounted g.M.Medium.seen n c.args.self.now c.loop-channel.self) all c.loop-channel.invariant.5
+
+pub returns-clause-done : goal.returns-clause-done
+returns-clause-done g c =
+    let all : c.loop-channel.channel ≡ 15 = omega (arith, c.loop-channel-test.false, c.loop-channel.auto.channel-end) in
+    subst (λ (n : ℕ). ClosingsWereDone g.M.Medium.seen n c.args.self.now c.loop-channel.self) all c.loop-channel.invariant.8
 
 -- ---- the rest of the disk
 

@@ -6,6 +6,7 @@ use Rattle.cbm_channel.specs.Shown.{is_writing_on, KeepsMediumAndStatus}
 use Rattle.cbm_channel.specs.Going.{Goes, AreCounted, closings_of, KeepsMedium}
 use Rattle.cbm_channel.specs.ChannelCalls.{LeavesRest}
 use Rattle.cbm_channel.specs.Grounds.{KeepsGrounded}
+use Rattle.cbm_channel.specs.BytesMeant.{ClosingsWereDone}
 use Rattle.cbm_channel.specs.Parts.{closed_by}
 use Rattle.cbm_channel.proofs.dos.Dos.close_all.Given as goal
 
@@ -19,4 +20,5 @@ invariant-loop-channel g l = Goes g.M.Medium.seen l.fn.self l.self (closings_of 
     × AreCounted g.M.Medium.seen l.channel l.fn.self l.self
     × KeepsGrounded g.M.Medium.seen l.fn.self l.self
     × LeavesRest g.M.Medium.seen (λ m. closed_by 15 l.fn.self) l.fn.self l.self
+    × ClosingsWereDone g.M.Medium.seen l.channel l.fn.self l.self
     × ((k : ℕ) → l.channel ≤ k → slice_index_or l.self.channels k Closed ≡ slice_index_or l.fn.self.channels k Closed)

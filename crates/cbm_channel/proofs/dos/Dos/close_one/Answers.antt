@@ -11,6 +11,7 @@ use Rattle.cbm_channel.proofs.Counted.{counted_to, counted_then}
 use Rattle.cbm_channel.proofs.Rest.{rest_seen, rest_then}
 use Rattle.cbm_channel.proofs.dos.Dos.close_one.Goals as goal
 use Rattle.cbm_channel.proofs.GroundedReports.{grounded_then, grounded_to}
+use Rattle.cbm_channel.proofs.BytesDone.{finished_to}
 
 -- the return, CLOSE and the text are one part
 pub returns-clause-goes : goal.returns-clause-goes
@@ -45,3 +46,12 @@ returns-clause-leaves g c = record {
   grounded = grounded_to g.M.Medium.seen c.args.self.now c.finish.new.self c.forget_text.new.self c.forget_text.ensures.only.medium c.forget_text.ensures.only.told
       (grounded_then g.M.Medium.seen c.args.self.now c.fill.new.self c.finish.new.self c.fill.ensures.leaves.medium c.finish.ensures.leaves.medium.counted c.fill.ensures.leaves.grounded c.finish.ensures.leaves.grounded);
 }
+
+-- ---- what it has done, on any disk
+
+pub returns-clause-done : goal.returns-clause-done
+returns-clause-done g c = (
+  c.fill.new.self,
+  c.fill.ensures.done,
+  finished_to g.M.Medium.seen c.args.channel c.fill.new.self c.finish.new.self c.forget_text.new.self c.forget_text.ensures.only.medium c.forget_text.ensures.only.told c.finish.ensures.done,
+)

@@ -76,12 +76,12 @@ returns-in-Err-clause-leaves g c = record {
 
 pub returns-then-is_empty-clause-done : goal.returns-then-is_empty-clause-done
 returns-then-is_empty-clause-done g c =
-    nothing_done (without_return c.args.text.now) (ap (λ xs. length xs == 0) (sym c.without_return-text.ensures) ∙ sym c.is_empty.ensures ∙ c.if-is_empty.true) c.args.self.now.channels (g.M.Medium.seen c.args.self.now.medium) (g.M.Medium.seen c.args.self.now.medium) c.args.self.now.told.status.code
+    nothing_done (without_return c.args.text.now) (ap (λ xs. length xs == 0) (sym c.without_return-text.ensures) ∙ sym c.is_empty.ensures ∙ c.if-is_empty.true) c.args.self.now.channels (g.M.Medium.seen c.args.self.now.medium) (g.M.Medium.seen c.args.self.now.medium) c.args.self.now.told.status
 
 pub returns-in-Ok-clause-done : goal.returns-in-Ok-clause-done
 returns-in-Ok-clause-done g c =
-    read_done (without_return c.args.text.now) (Ok c.in-Ok.command) (ap command_of (sym c.without_return-text.ensures) ∙ sym c.parse_command.ensures ∙ c.in-Ok.is) c.args.self.now.channels (g.M.Medium.seen c.args.self.now.medium) (g.M.Medium.seen c.run.new.self.medium) c.run.new.self.told.status.code c.run.ensures.done
+    read_done (without_return c.args.text.now) (Ok c.in-Ok.command) (ap command_of (sym c.without_return-text.ensures) ∙ sym c.parse_command.ensures ∙ c.in-Ok.is) c.args.self.now.channels (g.M.Medium.seen c.args.self.now.medium) (g.M.Medium.seen c.run.new.self.medium) c.run.new.self.told.status c.run.ensures.done
 
 pub returns-in-Err-clause-done : goal.returns-in-Err-clause-done
 returns-in-Err-clause-done g c =
-    read_done (without_return c.args.text.now) (Err c.in-Err.refusal) (ap command_of (sym c.without_return-text.ensures) ∙ sym c.parse_command.ensures ∙ c.in-Err.is) c.args.self.now.channels (g.M.Medium.seen c.args.self.now.medium) (g.M.Medium.seen c.say.new.self.medium) c.say.new.self.told.status.code tt
+    read_done (without_return c.args.text.now) (Err c.in-Err.refusal) (ap command_of (sym c.without_return-text.ensures) ∙ sym c.parse_command.ensures ∙ c.in-Err.is) c.args.self.now.channels (g.M.Medium.seen c.args.self.now.medium) (g.M.Medium.seen c.say.new.self.medium) c.say.new.self.told.status tt

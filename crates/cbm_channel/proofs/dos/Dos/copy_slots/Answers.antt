@@ -179,11 +179,11 @@ returns-in-Err-clause-rest g c = λ m olds is s.
 
 -- ---- on any disk
 
-pub returns-in-Ok-true-clause-led : goal.returns-in-Ok-true-clause-led
-returns-in-Ok-true-clause-led g c = λ fine.
+pub returns-in-Ok-true-clause-done : goal.returns-in-Ok-true-clause-done
+returns-in-Ok-true-clause-done g c = λ fine.
     subst (λ v. CopyLed (g.M.Medium.seen v) (g.M.Medium.seen c.say.new.self.medium) c.args.kind c.args.name.now) (ap (λ k. k.medium) c.self.view_is)
     (subst (λ v. CopyLed (g.M.Medium.seen c.self.inside.volume) (g.M.Medium.seen v) c.args.kind c.args.name.now) (sym c.say.ensures.medium)
     (subst (λ (name : List ℕ). CopyLed (g.M.Medium.seen c.self.inside.volume) (g.M.Medium.seen c.copy.new.self) c.args.kind name) c.bytes.ensures.value (c.in-Ok-true.ensures.led c.in-Ok-true.field-0-test)))
 
-pub returns-in-Err-clause-led : goal.returns-in-Err-clause-led
-returns-in-Err-clause-led g c = trouble_never c.in-Err.trouble c.from.result c.set.new.self.told Fine refl c.from.ensures c.set.ensures.told
+pub returns-in-Err-clause-done : goal.returns-in-Err-clause-done
+returns-in-Err-clause-done g c = trouble_never c.in-Err.trouble c.from.result c.set.new.self.told Fine refl c.from.ensures c.set.ensures.told

@@ -129,9 +129,9 @@ returns-in_default-clause-leaves g c = record {
 pub returns-then-channel-eq15-clause-done : goal.returns-then-channel-eq15-clause-done
 returns-then-channel-eq15-clause-done g c = λ is text has.
     let all : c.bytes.result.now ≡ text = c.bytes.ensures ∙ same_text c.args.self.now.text c.in-Some.text text c.in-Some.ensures.taken.0 has in
-    subst (λ (xs : List ℕ). ReadWasDone (command_of (without_return xs)) c.args.self.now.channels (g.M.Medium.seen c.args.self.now.medium) (g.M.Medium.seen c.command.new.self.medium) c.command.new.self.told.status.code) all
-    (subst (λ chs. ReadWasDone (command_of (without_return c.bytes.result.now)) chs (g.M.Medium.seen c.args.self.now.medium) (g.M.Medium.seen c.command.new.self.medium) c.command.new.self.told.status.code) c.in-Some.ensures.only.channels
-    (subst (λ v. ReadWasDone (command_of (without_return c.bytes.result.now)) c.take_text.new.self.channels (g.M.Medium.seen v) (g.M.Medium.seen c.command.new.self.medium) c.command.new.self.told.status.code) c.in-Some.ensures.only.medium c.command.ensures.done))
+    subst (λ (xs : List ℕ). ReadWasDone (command_of (without_return xs)) c.args.self.now.channels (g.M.Medium.seen c.args.self.now.medium) (g.M.Medium.seen c.command.new.self.medium) c.command.new.self.told.status) all
+    (subst (λ chs. ReadWasDone (command_of (without_return c.bytes.result.now)) chs (g.M.Medium.seen c.args.self.now.medium) (g.M.Medium.seen c.command.new.self.medium) c.command.new.self.told.status) c.in-Some.ensures.only.channels
+    (subst (λ v. ReadWasDone (command_of (without_return c.bytes.result.now)) c.take_text.new.self.channels (g.M.Medium.seen v) (g.M.Medium.seen c.command.new.self.medium) c.command.new.self.told.status) c.in-Some.ensures.only.medium c.command.ensures.done))
 
 pub returns-else-channel-eq15-clause-done : goal.returns-else-channel-eq15-clause-done
 returns-else-channel-eq15-clause-done g c = λ is. absurd (c.if-channel-eq15.false is)

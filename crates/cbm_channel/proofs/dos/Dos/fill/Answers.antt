@@ -5,6 +5,9 @@ use Rattle.cbm_channel.proofs.Stores.{fills, fills_none}
 use Rattle.cbm_channel.proofs.Goings.{part_same}
 use Rattle.cbm_channel.proofs.Rest.{rest_itself}
 use Rattle.cbm_channel.proofs.dos.Dos.fill.Goals as goal
+use Rattle.std.specs.Prelude.{slice_index_or}
+use Rattle.cbm_channel.specs.declared.channel.Channel.TheVariants.{Closed}
+use Rattle.cbm_channel.proofs.BytesDone.{tested, not_tested, none_empty}
 
 pub returns-then-is_empty-clause-goes : goal.returns-then-is_empty-clause-goes
 returns-then-is_empty-clause-goes g c = λ m s.
@@ -32,3 +35,15 @@ returns-else-is_empty-clause-leaves g c = record {
   counted = (search rules);
   grounded = (search rules);
 }
+
+-- ---- the return, on any disk
+
+pub returns-then-is_empty-clause-done : goal.returns-then-is_empty-clause-done
+returns-then-is_empty-clause-done g c = tested _ _ c.is_empty.result _ c.is_empty.ensures.holds c.if-is_empty.true c.store.ensures.done
+
+pub returns-else-is_empty-clause-done : goal.returns-else-is_empty-clause-done
+returns-else-is_empty-clause-done g c = not_tested _ _ c.is_empty.result _ c.is_empty.ensures.holds c.if-is_empty.false refl
+
+pub returns-then-is_empty-clause-quiet : goal.returns-then-is_empty-clause-quiet
+returns-then-is_empty-clause-quiet g c = λ none.
+    let z = sym c.if-is_empty.true ∙ c.is_empty.ensures.holds ∙ none_empty (slice_index_or c.args.self.now.channels c.args.channel Closed) none in absurd (cc)

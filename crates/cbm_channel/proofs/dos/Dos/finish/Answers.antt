@@ -14,6 +14,7 @@ use Rattle.cbm_channel.proofs.Spared.{rest_on}
 use Rattle.cbm_channel.proofs.dos.Dos.finish.Goals as goal
 use Rattle.cbm_channel.proofs.Goings.{keeps_call}
 use Rattle.cbm_channel.proofs.GroundedReports.{answer_grounded}
+use Rattle.cbm_channel.proofs.BytesDone.{finish_as, fault_told}
 
 pub returns-in_default-clause-goes : goal.returns-in_default-clause-goes
 returns-in_default-clause-goes g c = λ m s.
@@ -71,3 +72,16 @@ returns-in_default-clause-leaves g c = record {
   counted = (search rules);
   grounded = (search rules);
 }
+
+-- ---- the file, on any disk
+
+pub returns-in_default-clause-done : goal.returns-in_default-clause-done
+returns-in_default-clause-done g c = inl (
+  ap (λ k. k.told) c.self.view_is,
+  finish_as (g.M.Medium.seen c.self.inside.volume) (g.M.Medium.seen c.args.self.now.medium) (g.M.Medium.seen c.finish.new.volume) (g.M.Medium.seen c.finish.new.volume) _ _ (ap (λ k. g.M.Medium.seen k.medium) c.self.view_is) refl
+      (any_default c.self.inside.channels c.args.channel c.index-self-channel.result Closed (omega (arith, c.requires, c.self.invariant.count)) ∙ ap (λ k. slice_index_or k.channels c.args.channel Closed) c.self.view_is)
+      c.in_default.ensures.led,
+)
+
+pub returns-in-Err-clause-done : goal.returns-in-Err-clause-done
+returns-in-Err-clause-done g c = inr (fault_told c.in-Err.trouble c.from.result c.set.new.self.told c.from.ensures c.set.ensures.told)

@@ -1,7 +1,8 @@
-use Rattle.std.proofs.Common.{rules, ◌≡◌, ℕ, true, false, Err, sym, ap, subst, ◌∙◌, inl, refl}
+use Rattle.std.proofs.Common.{rules, ◌≡◌, ℕ, true, false, Ok, Err, sym, ap, subst, ◌∙◌, inl, refl}
 use Rattle.std.specs.Prelude.{OnOk}
 use Rattle.cbm_medium.specs.Seen.{HasFailed}
 use Rattle.cbm_file.specs.Changes.{new_disk}
+use Rattle.cbm_volume.specs.NewDisks.{EmptiesDisk}
 use Rattle.cbm_volume.specs.Writers.{Idle, HoldsNow}
 use Rattle.cbm_machine.specs.Machines.{any_open, say, with_disk}
 use Rattle.cbm_machine.specs.declared.code.Code.TheVariants.{Fine, WriteFileOpen, WriteProtected}
@@ -11,7 +12,6 @@ use Rattle.cbm_channel.proofs.Commanding.{new_open, new_done, new_guarded, new_s
 use Rattle.cbm_channel.proofs.Opens.{failed_by}
 use Rattle.cbm_channel.proofs.Stands.{stood}
 use Rattle.cbm_channel.proofs.Stores.{renamed}
-use Rattle.cbm_channel.specs.Meant.{EmptiesMeant}
 use Rattle.cbm_channel.proofs.Refused.{not_refused, refused_26, trouble_never}
 use Rattle.cbm_channel.proofs.Counted.{counted_by, counted_well, new_counts}
 use Rattle.cbm_channel.proofs.dos.Dos.format.Goals as goal
@@ -102,9 +102,9 @@ returns-then-is_protected-clause-leaves g c = record {
 
 pub returns-in-Ok-clause-done : goal.returns-in-Ok-clause-done
 returns-in-Ok-clause-done g c = λ fine.
-    subst (λ v. EmptiesMeant (g.M.Medium.seen v) (g.M.Medium.seen c.say-in-Ok.new.self.medium) c.args.title.now c.args.id) (ap (λ k. k.medium) c.self.view_is)
-    (subst (λ v. EmptiesMeant (g.M.Medium.seen c.self.inside.volume) (g.M.Medium.seen v) c.args.title.now c.args.id) (sym c.say-in-Ok.ensures.medium)
-    (subst (λ title. EmptiesMeant (g.M.Medium.seen c.self.inside.volume) (g.M.Medium.seen c.new_disk.new.self) title c.args.id) c.bytes.ensures.value c.in-Ok.ensures.emptied))
+    subst (λ v. EmptiesDisk (Ok tt) c.args.title.now c.args.id (g.M.Medium.seen v) (g.M.Medium.seen c.say-in-Ok.new.self.medium)) (ap (λ k. k.medium) c.self.view_is)
+    (subst (λ v. EmptiesDisk (Ok tt) c.args.title.now c.args.id (g.M.Medium.seen c.self.inside.volume) (g.M.Medium.seen v)) (sym c.say-in-Ok.ensures.medium)
+    (subst (λ title. EmptiesDisk (Ok tt) title c.args.id (g.M.Medium.seen c.self.inside.volume) (g.M.Medium.seen c.new_disk.new.self)) c.bytes.ensures.value c.in-Ok.ensures.emptied))
 
 pub returns-in-Err-clause-done : goal.returns-in-Err-clause-done
 returns-in-Err-clause-done g c = trouble_never c.in-Err.trouble c.from.result c.set.new.self.told Fine refl c.from.ensures c.set.ensures.told

@@ -9,8 +9,6 @@ use Rattle.cbm_machine.specs.Finding.{found}
 use Rattle.cbm_channel.specs.Sought.{is_sought}
 use Rattle.cbm_channel.specs.Planned.{FoundAs}
 use Rattle.cbm_channel.proofs.Found.{found_as, refused_as, found_none, named_as}
-use Rattle.std.specs.List.{Contains}
-use Rattle.cbm_channel.proofs.Troubles.{first_contained}
 use Rattle.cbm_channel.proofs.Stands.{means_of}
 use Rattle.cbm_channel.proofs.dos.Dos.found.Goals as goal
 
@@ -47,13 +45,6 @@ returns-clause-found g c = λ m s.
     let there = named_as c.args.pattern.now m.disk (directory_of (geometry_of (g.M.Medium.seen c.volume-2.result.now).tracks (g.M.Medium.seen c.volume-2.result.now).content) (g.M.Medium.seen c.volume-2.result.now).content) c.in_ok-find.field-0 _ (c.in_ok-find.ensures.means m.disk (subst (λ v. HoldsDisk (g.M.Medium.seen v).tracks (g.M.Medium.seen v).content m.disk) (sym c.volume-2.ensures) (means_of _ _ _ _ _ _ m s))) c.in_ok-find.ensures.finds (sym c.is_some.ensures ∙ c.if-is_some.false) in
     refused_as (g.M.Medium.seen c.args.self.now.medium).tracks (g.M.Medium.seen c.args.self.now.medium).content c.args.pattern.now c.args.kind m.disk FileNotFound c.plain-2.result
     (found_none c.args.pattern.now c.args.kind m.disk (directory_of (geometry_of (g.M.Medium.seen c.volume.result.now).tracks (g.M.Medium.seen c.volume.result.now).content) (g.M.Medium.seen c.volume.result.now).content) _ (c.in_ok-slot.ensures.means m.disk (subst (λ v. HoldsDisk (g.M.Medium.seen v).tracks (g.M.Medium.seen v).content m.disk) (sym c.volume.ensures) (means_of _ _ _ _ _ _ m s))) first.0 there) c.plain-2.ensures
-
--- the entry is one of the directory's
-pub returns-in-Some-clause-from : goal.returns-in-Some-clause-from
-returns-in-Some-clause-from g c =
-    let finds = subst (λ r. Finds (is_sought c.args.pattern.now c.args.kind) (directory_of (geometry_of (g.M.Medium.seen c.volume.result.now).tracks (g.M.Medium.seen c.volume.result.now).content) (g.M.Medium.seen c.volume.result.now).content) (Ok r)) c.in-Some.is c.in_ok-slot.ensures.finds in
-    subst (λ v. Contains (directory_of (geometry_of (g.M.Medium.seen v).tracks (g.M.Medium.seen v).content) (g.M.Medium.seen v).content).entries c.in-Some.entry) c.volume.ensures
-    (first_contained _ 0 _ c.in-Some.slot c.in-Some.entry finds)
 
 -- ---- on any disk
 

@@ -1,9 +1,12 @@
-use Rattle.std.proofs.Common.{refl, arith}
+use Rattle.std.proofs.Common.{refl, arith, ap, ◌∙◌}
 use Rattle.std.specs.Prelude.{slice_index_or}
 use Rattle.cbm_machine.specs.Machines.{channel}
 use Rattle.cbm_channel.specs.Standing.{uses_of}
 use Rattle.cbm_channel.proofs.Stands.{stood, stands_at, use_at}
 use Rattle.cbm_channel.proofs.dos.Dos.is_empty.Goals as goal
+use Rattle.cbm_channel.specs.declared.channel.Channel.TheVariants.{Closed}
+use Rattle.cbm_channel.specs.BytesMeant.{is_file_empty}
+use Rattle.cbm_channel.proofs.Stands.{any_default}
 
 pub returns-clause-value : goal.returns-clause-value
 returns-clause-value g c = λ m s.
@@ -11,3 +14,6 @@ returns-clause-value g c = λ m s.
     let at = stands_at _ _ _ _ _ _ m c.args.channel c.index-self-channel.result c.requires c.self.invariant st in
     let same = use_at (slice_index_or c.self.inside.channels c.args.channel c.index-self-channel.result) _ m.channels c.args.channel _ (omega (arith, c.requires, c.self.invariant.count)) refl in
     c.is_empty.ensures.value m.disk (uses_of c.self.inside.channels m.channels) c.args.channel (channel m c.args.channel) st.holds same at
+
+pub returns-clause-holds : goal.returns-clause-holds
+returns-clause-holds g c = c.is_empty.ensures.holds ∙ ap is_file_empty (any_default c.self.inside.channels c.args.channel c.index-self-channel.result Closed (omega (arith, c.requires, c.self.invariant.count)) ∙ ap (λ k. slice_index_or k.channels c.args.channel Closed) c.self.view_is)

@@ -4,7 +4,8 @@ use Rattle.cbm_volume.specs.SeenDisks.{seen_chain}
 use Rattle.cbm_volume.specs.Led.{ReopensLed, AppendsTo}
 use Rattle.cbm_volume.specs.Beginning.{NewFileLed, ReplacementLed}
 use Rattle.cbm_volume.specs.NewRecords.{NewRecordsLed}
-use Rattle.cbm_channel.proofs.Opened.{plan_done, some_so}
+use Rattle.cbm_relfile.proofs.NotThere.{some_says}
+use Rattle.cbm_channel.proofs.Opened.{plan_done}
 use Rattle.std.specs.Prelude.{Some, false, true, Ok, replicate}
 use Rattle.std.proofs.lemmas.Result.{err_from_is_err_and}
 use Rattle.cbm_medium.specs.Place.{sector_count}
@@ -561,7 +562,7 @@ returns-in_ok-on-in-OpenRecords-clause-done g c =
 pub returns-in_ok-on-in-MakeRecords-clause-done : goal.returns-in_ok-on-in-MakeRecords-clause-done
 returns-in_ok-on-in-MakeRecords-clause-done g c =
     let place = c.in_ok-on-in-MakeRecords.ensures.place in
-    let led = some_so _ _ _ c.in-Some-3.is c.in_ok-slot-in-MakeRecords.ensures.led in
+    let led = some_says _ _ _ c.in-Some-3.is c.in_ok-slot-in-MakeRecords.ensures.led in
     plan_done c.args.plan _ c.in-MakeRecords.is (g.M.Medium.seen c.args.self.now.medium) (g.M.Medium.seen c.make_records.new.self) _ (
       c.in-Some-3.slot,
       subst (λ v. NewRecordsLed (g.M.Medium.seen v) (g.M.Medium.seen c.make_records.new.self) c.in-MakeRecords.name c.in-MakeRecords.length c.in-Some-3.slot) (ap (λ k. k.medium) c.self.view_is)

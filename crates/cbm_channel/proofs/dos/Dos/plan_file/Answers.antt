@@ -28,7 +28,6 @@ pub returns-then-eq-clause-sound : goal.returns-then-eq-clause-sound
 returns-then-eq-clause-sound g c = record {
   ground = (search rules);
   denied = (search rules);
-  from = (search rules);
   allowed = only_reads c.plan_reading.result _ c.plan_reading.ensures.reads;
   sized = (search rules);
 }

@@ -43,7 +43,6 @@ pub returns-clause-sound : goal.returns-clause-sound
 returns-clause-sound g c = record {
   ground = (search rules);
   denied = (search rules);
-  from = (search rules);
   allowed = λ writes. sym (ap (λ v. (g.M.Medium.seen v).protected) c.volume-2.ensures) ∙ sym c.is_protected.ensures ∙ c.if-is_protected.false;
   sized = (search rules);
 }

@@ -30,8 +30,8 @@ returns-in-Err-clause-leaves g c = record {
 
 -- ---- on any disk
 
-pub returns-in-Ok-clause-led : goal.returns-in-Ok-clause-led
-returns-in-Ok-clause-led g c = λ fine. (c.in-Ok.slot, c.in-Ok.ensures.meant, c.rename_slot.ensures.led fine)
+pub returns-in-Ok-clause-done : goal.returns-in-Ok-clause-done
+returns-in-Ok-clause-done g c = λ fine. (c.in-Ok.slot, c.in-Ok.ensures.meant, c.rename_slot.ensures.done fine)
 
-pub returns-in-Err-clause-led : goal.returns-in-Err-clause-led
-returns-in-Err-clause-led g c = other_never c.in-Err.status c.set.new.self.told Fine c.in-Err.ensures.denied c.set.ensures.told
+pub returns-in-Err-clause-done : goal.returns-in-Err-clause-done
+returns-in-Err-clause-done g c = other_never c.in-Err.status c.set.new.self.told Fine c.in-Err.ensures.denied c.set.ensures.told

@@ -89,11 +89,11 @@ returns-in-Err-clause-rest g c = λ m old is s. rest_seen g.M.Medium.seen c.args
 
 -- ---- on any disk
 
-pub returns-in-Ok-clause-led : goal.returns-in-Ok-clause-led
-returns-in-Ok-clause-led g c = λ fine.
+pub returns-in-Ok-clause-done : goal.returns-in-Ok-clause-done
+returns-in-Ok-clause-done g c = λ fine.
     subst (λ v. RenamesLed (g.M.Medium.seen v) (g.M.Medium.seen c.say.new.self.medium) c.args.slot c.args.name.now) (ap (λ k. k.medium) c.self.view_is)
     (subst (λ v. RenamesLed (g.M.Medium.seen c.self.inside.volume) (g.M.Medium.seen v) c.args.slot c.args.name.now) (sym c.say.ensures.medium)
     (subst (λ (name : List ℕ). RenamesLed (g.M.Medium.seen c.self.inside.volume) (g.M.Medium.seen c.rename.new.self) c.args.slot name) c.bytes.ensures.value c.in-Ok.ensures.led))
 
-pub returns-in-Err-clause-led : goal.returns-in-Err-clause-led
-returns-in-Err-clause-led g c = trouble_never c.in-Err.trouble c.from.result c.set.new.self.told Fine refl c.from.ensures c.set.ensures.told
+pub returns-in-Err-clause-done : goal.returns-in-Err-clause-done
+returns-in-Err-clause-done g c = trouble_never c.in-Err.trouble c.from.result c.set.new.self.told Fine refl c.from.ensures c.set.ensures.told

@@ -129,22 +129,22 @@ returns-in-Position-clause-leaves g c = record {
 -- ---- what is reported as done, on any disk
 
 pub returns-in-New-clause-done : goal.returns-in-New-clause-done
-returns-in-New-clause-done g c = was_done c.args.command.now _ c.in-New.is c.args.self.now.channels (g.M.Medium.seen c.args.self.now.medium) (g.M.Medium.seen c.format.new.self.medium) c.format.new.self.told.status.code c.format.ensures.done
+returns-in-New-clause-done g c = was_done c.args.command.now _ c.in-New.is c.args.self.now.channels (g.M.Medium.seen c.args.self.now.medium) (g.M.Medium.seen c.format.new.self.medium) c.format.new.self.told.status c.format.ensures.done
 
 pub returns-in-Scratch-clause-done : goal.returns-in-Scratch-clause-done
-returns-in-Scratch-clause-done g c = was_done c.args.command.now _ c.in-Scratch.is c.args.self.now.channels (g.M.Medium.seen c.args.self.now.medium) (g.M.Medium.seen c.scratch.new.self.medium) c.scratch.new.self.told.status.code c.scratch.ensures.done
+returns-in-Scratch-clause-done g c = was_done c.args.command.now _ c.in-Scratch.is c.args.self.now.channels (g.M.Medium.seen c.args.self.now.medium) (g.M.Medium.seen c.scratch.new.self.medium) c.scratch.new.self.told.status (c.scratch.ensures.not_ok, c.scratch.ensures.done)
 
 pub returns-in-Rename-clause-done : goal.returns-in-Rename-clause-done
-returns-in-Rename-clause-done g c = was_done c.args.command.now _ c.in-Rename.is c.args.self.now.channels (g.M.Medium.seen c.args.self.now.medium) (g.M.Medium.seen c.rename.new.self.medium) c.rename.new.self.told.status.code c.rename.ensures.led
+returns-in-Rename-clause-done g c = was_done c.args.command.now _ c.in-Rename.is c.args.self.now.channels (g.M.Medium.seen c.args.self.now.medium) (g.M.Medium.seen c.rename.new.self.medium) c.rename.new.self.told.status c.rename.ensures.done
 
 pub returns-in-Copy-clause-done : goal.returns-in-Copy-clause-done
-returns-in-Copy-clause-done g c = was_done c.args.command.now _ c.in-Copy.is c.args.self.now.channels (g.M.Medium.seen c.args.self.now.medium) (g.M.Medium.seen c.copy.new.self.medium) c.copy.new.self.told.status.code c.copy.ensures.led
+returns-in-Copy-clause-done g c = was_done c.args.command.now _ c.in-Copy.is c.args.self.now.channels (g.M.Medium.seen c.args.self.now.medium) (g.M.Medium.seen c.copy.new.self.medium) c.copy.new.self.told.status c.copy.ensures.done
 
 pub returns-in-Validate-clause-done : goal.returns-in-Validate-clause-done
-returns-in-Validate-clause-done g c = was_done c.args.command.now _ c.in-Validate.is c.args.self.now.channels (g.M.Medium.seen c.args.self.now.medium) (g.M.Medium.seen c.validate.new.self.medium) c.validate.new.self.told.status.code tt
+returns-in-Validate-clause-done g c = was_done c.args.command.now _ c.in-Validate.is c.args.self.now.channels (g.M.Medium.seen c.args.self.now.medium) (g.M.Medium.seen c.validate.new.self.medium) c.validate.new.self.told.status tt
 
 pub returns-in-Initialize-clause-done : goal.returns-in-Initialize-clause-done
-returns-in-Initialize-clause-done g c = was_done c.args.command.now _ c.in-Initialize.is c.args.self.now.channels (g.M.Medium.seen c.args.self.now.medium) (g.M.Medium.seen c.say.new.self.medium) c.say.new.self.told.status.code tt
+returns-in-Initialize-clause-done g c = was_done c.args.command.now _ c.in-Initialize.is c.args.self.now.channels (g.M.Medium.seen c.args.self.now.medium) (g.M.Medium.seen c.say.new.self.medium) c.say.new.self.told.status tt
 
 pub returns-in-Position-clause-done : goal.returns-in-Position-clause-done
-returns-in-Position-clause-done g c = was_done c.args.command.now _ c.in-Position.is c.args.self.now.channels (g.M.Medium.seen c.args.self.now.medium) (g.M.Medium.seen c.place.new.self.medium) c.place.new.self.told.status.code tt
+returns-in-Position-clause-done g c = was_done c.args.command.now _ c.in-Position.is c.args.self.now.channels (g.M.Medium.seen c.args.self.now.medium) (g.M.Medium.seen c.place.new.self.medium) c.place.new.self.told.status tt

@@ -1,6 +1,6 @@
-use Rattle.std.proofs.Common.{ℕ, List, subst, sym, ap, ◌∙◌, inl, rules}
+use Rattle.std.proofs.Common.{ℕ, List, length, subst, sym, ap, ◌∙◌, inl, rules}
 use Rattle.cbm_channel.specs.Meant.{ScratchesEach}
-use Rattle.cbm_machine.specs.declared.code.Code.TheVariants.{FilesScratched}
+use Rattle.cbm_machine.specs.declared.code.Code.TheVariants.{Fine, FilesScratched}
 use Rattle.cbm_channel.proofs.Refused.{other_never}
 use Rattle.cbm_machine.specs.Machines.{answered, with_status}
 use Rattle.cbm_channel.specs.ChannelCalls.{KeepsRest}
@@ -37,7 +37,13 @@ returns-in-Err-clause-leaves g c = record {
 
 pub returns-in-Ok-clause-done : goal.returns-in-Ok-clause-done
 returns-in-Ok-clause-done g c = λ is.
-    subst (ScratchesEach (g.M.Medium.seen c.args.self.now.medium) (g.M.Medium.seen c.scratch_slots.new.self.medium)) (c.as_slice.ensures.value ∙ c.in-Ok.ensures.going) (c.scratch_slots.ensures.done is)
+    let slots = c.as_slice.ensures.value ∙ c.in-Ok.ensures.going in (
+      subst (ScratchesEach (g.M.Medium.seen c.args.self.now.medium) (g.M.Medium.seen c.scratch_slots.new.self.medium)) slots (c.scratch_slots.ensures.done is),
+      c.scratch_slots.ensures.number is ∙ ap length slots,
+    )
 
 pub returns-in-Err-clause-done : goal.returns-in-Err-clause-done
 returns-in-Err-clause-done g c = other_never c.in-Err.status c.set.new.self.told FilesScratched c.in-Err.ensures.denied c.set.ensures.told
+
+pub returns-in-Err-clause-not_ok : goal.returns-in-Err-clause-not_ok
+returns-in-Err-clause-not_ok g c = other_never c.in-Err.status c.set.new.self.told Fine c.in-Err.ensures.not_ok c.set.ensures.told

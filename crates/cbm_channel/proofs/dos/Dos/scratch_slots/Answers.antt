@@ -2,7 +2,7 @@ use Rattle.std.proofs.Common.{length, sym, ap, subst, ◌∙◌, inl, inr, refl}
 use Rattle.cbm_channel.specs.Meant.{ScratchesEach}
 use Rattle.cbm_channel.proofs.Refused.{trouble_never}
 use Rattle.cbm_medium.specs.Seen.{HasFailed}
-use Rattle.cbm_machine.specs.declared.code.Code.TheVariants.{FilesScratched}
+use Rattle.cbm_machine.specs.declared.code.Code.TheVariants.{Fine, FilesScratched}
 use Rattle.cbm_machine.specs.Machines.{with_status, with_disk}
 use Rattle.cbm_channel.specs.Commanded.{all_scratched}
 use Rattle.cbm_channel.specs.Standing.{StandsBy, uses_of}
@@ -81,3 +81,9 @@ returns-in-Ok-clause-done g c = λ is. subst (λ v. ScratchesEach (g.M.Medium.se
 
 pub returns-in-Err-clause-done : goal.returns-in-Err-clause-done
 returns-in-Err-clause-done g c = trouble_never c.in-Err.trouble c.from.result c.set-in-Err.new.self.told FilesScratched refl c.from.ensures c.set-in-Err.ensures.told
+
+pub returns-in-Err-clause-not_ok : goal.returns-in-Err-clause-not_ok
+returns-in-Err-clause-not_ok g c = trouble_never c.in-Err.trouble c.from.result c.set-in-Err.new.self.told Fine refl c.from.ensures c.set-in-Err.ensures.told
+
+pub returns-in-Err-clause-number : goal.returns-in-Err-clause-number
+returns-in-Err-clause-number g c = trouble_never c.in-Err.trouble c.from.result c.set-in-Err.new.self.told FilesScratched refl c.from.ensures c.set-in-Err.ensures.told

@@ -1,5 +1,5 @@
 use Rattle.std.proofs.Common.{refl, sym, ap, subst, ◌∙◌}
-use Rattle.cbm_machine.specs.declared.code.Code.TheVariants.{FilesScratched}
+use Rattle.cbm_machine.specs.declared.code.Code.TheVariants.{Fine, FilesScratched}
 use Rattle.cbm_channel.proofs.Refused.{never_told}
 use Rattle.std.specs.Prelude.{Ok}
 use Rattle.cbm_bam.specs.Map.{geometry_of}
@@ -32,3 +32,6 @@ returns-clause-means g c = λ m s.
 
 pub returns-in_err-entry-clause-denied : goal.returns-in_err-entry-clause-denied
 returns-in_err-entry-clause-denied g c = never_told c.from_residual.result c.in_err-entry.field-0.0 FilesScratched refl c.from_residual.ensures.1
+
+pub returns-in_err-entry-clause-not_ok : goal.returns-in_err-entry-clause-not_ok
+returns-in_err-entry-clause-not_ok g c = never_told c.from_residual.result c.in_err-entry.field-0.0 Fine refl c.from_residual.ensures.1
