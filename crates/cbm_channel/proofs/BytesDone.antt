@@ -11,24 +11,20 @@ use Rattle.cbm_machine.specs.declared.status.Status.{Status}
 use Rattle.cbm_machine.specs.Statuses.{trouble_status}
 use Rattle.cbm_machine.specs.Told.{ToldStatus}
 use Rattle.cbm_channel.specs.declared.channel.Channel.{Channel}
-use Rattle.cbm_channel.specs.declared.channel.Channel.TheVariants.{Closed, Listing, File, Writing, Stopped, Records}
+use Rattle.cbm_channel.specs.declared.channel.Channel.TheVariants.{Closed, Writing}
 use Rattle.cbm_channel.specs.Shown.{is_writing}
 use Rattle.cbm_channel.specs.Standing.{Kept}
 use Rattle.cbm_channel.specs.Grounds.{is_fault_number}
 use Rattle.cbm_channel.specs.BytesMeant.{PutMeant, FinishMeant, FileWasFinished, is_file_empty}
-use Rattle.cbm_channel.proofs.BytesPut.{IsNotWritten}
+use Rattle.cbm_channel.proofs.BytesPut.{IsNotWritten, of_others}
 use Rattle.cbm_channel.proofs.Refused.{trouble_told}
 
 -- ---- a byte
 
 -- it is dropped where no file is written
 pub dropped_other : (before after : Seen) (byte : ℕ) (k : Channel) → IsNotWritten k → after.content ≡ before.content → PutMeant before after byte k k true
-dropped_other before after byte Closed none same = (refl, refl, same)
-dropped_other before after byte (Listing l) none same = (refl, refl, same)
-dropped_other before after byte (File slot r) none same = (refl, refl, same)
-dropped_other before after byte (Writing w full) none same = absurd (none w full refl)
-dropped_other before after byte (Stopped slot) none same = (refl, refl, same)
-dropped_other before after byte (Records r) none same = (refl, refl, same)
+dropped_other before after byte k none same =
+    of_others (λ x. PutMeant before after byte x x true) k none (refl, refl, same) (λ l. (refl, refl, same)) (λ slot r. (refl, refl, same)) (λ slot. (refl, refl, same)) (λ r. (refl, refl, same))
 
 -- or the disk was full
 pub dropped_full : (before after : Seen) (byte : ℕ) (k : Channel) (w : Filling) (full : Bool) → k ≡ Writing w full → full ≡ true → after.content ≡ before.content → PutMeant before after byte k (Writing w full) true
@@ -46,30 +42,16 @@ put_as a a' b b' byte x x' y y' s s' ea eb ex ey es h =
 
 -- ---- a file
 
-pub not_empty_file : (k : Channel) → IsNotWritten k → is_file_empty k ≡ false
-not_empty_file Closed none = refl
-not_empty_file (Listing l) none = refl
-not_empty_file (File slot r) none = refl
-not_empty_file (Writing w full) none = absurd (none w full refl)
-not_empty_file (Stopped slot) none = refl
-not_empty_file (Records r) none = refl
-
 -- where no file is written none is empty
-pub none_empty : (k : Channel) → is_writing k ≡ false → is_file_empty k ≡ false
-none_empty Closed none = refl
-none_empty (Listing l) none = refl
-none_empty (File slot r) none = refl
-none_empty (Writing w full) none = absurd (cc)
-none_empty (Stopped slot) none = refl
-none_empty (Records r) none = refl
+pub not_empty_file : (k : Channel) → IsNotWritten k → is_file_empty k ≡ false
+not_empty_file k none = of_others (λ x. is_file_empty x ≡ false) k none refl (λ l. refl) (λ slot r. refl) (λ slot. refl) (λ r. refl)
 
+pub none_empty : (k : Channel) → is_writing k ≡ false → is_file_empty k ≡ false
+none_empty k e = not_empty_file k (λ w full is. let z = sym e ∙ ap is_writing is in absurd (cc))
+
+-- and none is finished
 pub finished_none : (before after : Seen) (k : Channel) → IsNotWritten k → after.content ≡ before.content → FinishMeant before after k
-finished_none before after Closed none same = same
-finished_none before after (Listing l) none same = same
-finished_none before after (File slot r) none same = same
-finished_none before after (Writing w full) none same = absurd (none w full refl)
-finished_none before after (Stopped slot) none same = same
-finished_none before after (Records r) none same = same
+finished_none before after k none same = of_others (FinishMeant before after) k none same (λ l. same) (λ slot r. same) (λ slot. same) (λ r. same)
 
 where_true : (P Q : Type 0) (b : Bool) → b ≡ true → P → MatchBool b P Q
 where_true P Q true is p = p

@@ -1,17 +1,20 @@
 -- A byte that is put on a channel of the code, beside the machine's.
-use Rattle.std.proofs.Common.{◌≡◌, ℕ, ◌<◌, ◌≤◌, Bool, true, false, List, refl, sym, ap, ◌∙◌, subst, arith}
-use Rattle.std.specs.Prelude.{◌==◌, ◌&&◌, not, MatchBool}
+use Rattle.std.proofs.Common.{◌≡◌, ℕ, ◌<◌, ◌≤◌, Bool, true, false, List, refl, sym, ap, ◌∙◌, subst, drop, arith}
+use Rattle.std.specs.Prelude.{Option, Some, None, ◌==◌, ◌&&◌, not, MatchBool}
 use Rattle.std.proofs.lemmas.Bool.{ne_eqb, eq-eqb}
 use Rattle.cbm_file.specs.Files.{Disk}
 use Rattle.cbm_medium.specs.Content.{Content}
+use Rattle.cbm_chain.specs.Reading.{Reading}
+use Rattle.cbm_listing.specs.Listed.{ListedBytes}
 use Rattle.cbm_volume.specs.Writers.{Filling, Use, HoldsNow, with_use, needs_block, IsStored, IsFullDisk}
 use Rattle.cbm_volume.specs.Writers as usage
 use Rattle.cbm_machine.specs.Machines as machine
 use Rattle.cbm_channel.specs.declared.channel.Channel.{Channel}
 use Rattle.cbm_channel.specs.declared.channel.Channel.TheVariants as code
 use Rattle.cbm_channel.specs.Standing.{FitsTracks, ChannelStands, use_of}
+use Rattle.cbm_channel.specs.Placed.{Placed}
 use Rattle.cbm_channel.specs.Written.{is_lost, channel_put, disk_put, IsCutOff, IsBeingWritten}
-use Rattle.cbm_channel.proofs.Uses.{with_same}
+use Rattle.cbm_channel.proofs.Uses.{with_same, by_kind}
 
 -- nothing becomes of the byte
 pub record IsDropped (byte : ℕ) (d : Disk) (x : machine.Channel) : Type 0 where
@@ -22,13 +25,25 @@ pub record IsDropped (byte : ℕ) (d : Disk) (x : machine.Channel) : Type 0 wher
 abbrev pub IsNotWritten : Channel → Type 0
 IsNotWritten k = (w : Filling) (full : Bool) → k ≡ code.Writing w full → ⊥
 
+-- what holds of each kind of channel but a writer
+pub of_others : (P : Channel → Type 0) (k : Channel) → IsNotWritten k → P code.Closed → ((l : ListedBytes) → P (code.Listing l)) → ((slot : ℕ) (r : Reading) → P (code.File slot r)) → ((slot : ℕ) → P (code.Stopped slot)) → ((r : Placed) → P (code.Records r)) → P k
+of_others P code.Closed none closed listing file stopped records = closed
+of_others P (code.Listing l) none closed listing file stopped records = listing l
+of_others P (code.File slot r) none closed listing file stopped records = file slot r
+of_others P (code.Writing w full) none closed listing file stopped records = absurd (none w full refl)
+of_others P (code.Stopped slot) none closed listing file stopped records = stopped slot
+of_others P (code.Records r) none closed listing file stopped records = records r
+
+-- what holds of each such channel and the machine's that it stands for
+pub of_others_by : (P : machine.Channel → Type 0) (k : Channel) (x : machine.Channel) → IsNotWritten k → ChannelStands k x → P machine.Closed → ((slot : Option ℕ) (left : List ℕ) → P (machine.Reading slot left))
+    → ((slot : ℕ) → P (machine.Stopped slot)) → ((slot number position : ℕ) → P (machine.Relative slot number position)) → P x
+of_others_by P k x none h closed reading stopped relative =
+    by_kind (λ k x. IsNotWritten k → P x) (λ n. closed) (λ l n. reading None (drop l.taken l.bytes)) (λ slot r left n. reading (Some slot) left) (λ w full bytes blocks n. absurd (n w full refl)) (λ slot n. stopped slot) (λ r n. relative r.slot r.number r.position) k x h none
+
 pub not_written : (byte : ℕ) (d : Disk) (k : Channel) (x : machine.Channel) → IsNotWritten k → ChannelStands k x → IsDropped byte d x
-not_written byte d code.Closed x none h = rw h (record { kept = refl; channel = refl; disk = refl })
-not_written byte d (code.Listing l) x none h = rw h (record { kept = refl; channel = refl; disk = refl })
-not_written byte d (code.File slot r) x none h = rw h.1 (record { kept = refl; channel = refl; disk = refl })
-not_written byte d (code.Writing w full) x none h = absurd (none w full refl)
-not_written byte d (code.Stopped slot) x none h = rw h (record { kept = refl; channel = refl; disk = refl })
-not_written byte d (code.Records r) x none h = rw h (record { kept = refl; channel = refl; disk = refl })
+not_written byte d k x none h =
+    of_others_by (IsDropped byte d) k x none h (record { kept = refl; channel = refl; disk = refl }) (λ slot left. record { kept = refl; channel = refl; disk = refl }) (λ slot. record { kept = refl; channel = refl; disk = refl })
+    (λ slot number position. record { kept = refl; channel = refl; disk = refl })
 
 full_is : (byte : ℕ) (d : Disk) (slot blocks : ℕ) (bytes : List ℕ) (full replaces : Bool) → full ≡ true → IsDropped byte d (machine.Writing slot bytes blocks full replaces)
 full_is byte d slot blocks bytes full replaces f = rw f (record { kept = refl; channel = refl; disk = refl })

@@ -15,28 +15,17 @@ use Rattle.cbm_machine.specs.Machines.{Machine}
 use Rattle.cbm_machine.specs.Orderly.{IsOrderly, channel_in, still_uses, still_writes}
 use Rattle.cbm_machine.specs.Closing.{finish_slot, finish_channel}
 use Rattle.cbm_channel.specs.declared.channel.Channel.{Channel}
-use Rattle.cbm_channel.specs.declared.channel.Channel.TheVariants as code
 use Rattle.cbm_channel.specs.Standing.{ChannelStands}
 use Rattle.cbm_channel.specs.Written.{is_unbegun, disk_closed, disk_put, finds_none}
-use Rattle.cbm_channel.proofs.BytesPut.{IsNotWritten}
+use Rattle.cbm_channel.proofs.BytesPut.{IsNotWritten, of_others_by}
 use Rattle.cbm_channel.proofs.Stands.{let_go_now}
 
 -- a channel that isn't written
 pub unbegun_none : (k : Channel) (x : machine.Channel) → IsNotWritten k → ChannelStands k x → is_unbegun x ≡ false
-unbegun_none code.Closed x none h = ap is_unbegun h
-unbegun_none (code.Listing l) x none h = ap is_unbegun h
-unbegun_none (code.File slot r) x none h = ap is_unbegun h.1
-unbegun_none (code.Writing w full) x none h = absurd (none w full refl)
-unbegun_none (code.Stopped slot) x none h = ap is_unbegun h
-unbegun_none (code.Records r) x none h = ap is_unbegun h
+unbegun_none k x none h = of_others_by (λ y. is_unbegun y ≡ false) k x none h refl (λ slot left. refl) (λ slot. refl) (λ slot number position. refl)
 
 pub closed_none : (d : Disk) (k : Channel) (x : machine.Channel) → IsNotWritten k → ChannelStands k x → disk_closed d x ≡ d
-closed_none d code.Closed x none h = ap (disk_closed d) h
-closed_none d (code.Listing l) x none h = ap (disk_closed d) h
-closed_none d (code.File slot r) x none h = ap (disk_closed d) h.1
-closed_none d (code.Writing w full) x none h = absurd (none w full refl)
-closed_none d (code.Stopped slot) x none h = ap (disk_closed d) h
-closed_none d (code.Records r) x none h = ap (disk_closed d) h
+closed_none d k x none h = of_others_by (λ y. disk_closed d y ≡ d) k x none h refl (λ slot left. refl) (λ slot. refl) (λ slot number position. refl)
 
 pub let_go_none : (t : ℕ) (c : Content) (d : Disk) (uses : ℕ → Use) (ch : ℕ) (k : Channel) (x : machine.Channel) → IsNotWritten k → ChannelStands k x → HoldsNow t c d uses → HoldsNow t c (disk_closed d x) (with_use uses ch Idle)
 let_go_none t c d uses ch k x none stands h = subst (λ y. HoldsNow t c y (with_use uses ch Idle)) (sym (closed_none d k x none stands)) (let_go_now t c d uses ch h)

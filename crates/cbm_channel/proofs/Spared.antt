@@ -24,7 +24,7 @@ use Rattle.cbm_channel.specs.Parts.{closed_by, changed_by_end}
 use Rattle.cbm_channel.specs.Shown.{finishes_on, finished_by, records_on, with_records_by, appends_on, appended_by}
 use Rattle.cbm_channel.specs.Standing.{Kept}
 use Rattle.cbm_channel.proofs.Changed.{set_now}
-use Rattle.cbm_channel.proofs.Stands.{any_default}
+use Rattle.cbm_channel.proofs.Stands.{borrowed_at}
 use Rattle.cbm_channel.proofs.Rest.{turned_free, stays_more, rest_more}
 
 -- ---- the slots
@@ -127,4 +127,4 @@ open_free ch text k k' m n other free = either_false (finished_by ch k n) (appen
 -- the channel that is set writes the file of no other slot
 pub slot_kept : (ch : ℕ) (before after xs : List Channel) (d x : Channel) → xs ≡ before → ch < length xs → after ≡ slice_set xs ch x → KeepsSlot (slice_index_or xs ch d) x → (n : ℕ) → finishes_on n (slice_index_or before ch code.Closed) ≡ false → finishes_on n (slice_index_or after ch code.Closed) ≡ false
 slot_kept ch before after xs d x same lt is keeps n free =
-    ap (λ (y : Channel). finishes_on n y) (set_now xs after ch x is lt) ∙ keeps n (ap (λ (y : Channel). finishes_on n y) (any_default xs ch d code.Closed lt ∙ ap (λ (ys : List Channel). slice_index_or ys ch code.Closed) same) ∙ free)
+    ap (λ (y : Channel). finishes_on n y) (set_now xs after ch x is lt) ∙ keeps n (ap (λ (y : Channel). finishes_on n y) (borrowed_at ch d same lt) ∙ free)

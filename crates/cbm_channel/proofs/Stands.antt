@@ -80,6 +80,10 @@ any_default [] i d e lt = absurd (omega (arith, lt))
 any_default (x ∷ xs) zero d e lt = refl
 any_default (x ∷ xs) (suc i) d e lt = any_default xs i d e (omega (arith, lt))
 
+-- the channel that a call borrows, as the drive was before it
+pub borrowed_at : {xs before : List Channel} (ch : ℕ) (d : Channel) → xs ≡ before → ch < length xs → slice_index_or xs ch d ≡ slice_index_or before ch code.Closed
+borrowed_at {xs} ch d same lt = any_default xs ch d code.Closed lt ∙ ap (λ (ys : List Channel). slice_index_or ys ch code.Closed) same
+
 pub past_end : (xs : List Channel) (ys : List machine.Channel) (i : ℕ) → length xs ≤ i → AllZip ChannelStands xs ys → slice_index_or ys i machine.Closed ≡ machine.Closed
 past_end [] [] i far h = refl
 past_end [] (b ∷ ys) i far h = absurd h

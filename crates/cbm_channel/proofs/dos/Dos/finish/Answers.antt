@@ -4,8 +4,7 @@ use Rattle.cbm_medium.specs.Seen.{HasFailed}
 use Rattle.cbm_machine.specs.Machines.{channel}
 use Rattle.cbm_machine.specs.Closing.{finish_channel}
 use Rattle.cbm_channel.specs.Standing.{uses_of, StandsBy}
-use Rattle.cbm_channel.specs.declared.channel.Channel.TheVariants.{Closed}
-use Rattle.cbm_channel.proofs.Stands.{any_default, stood, stands_at, use_at}
+use Rattle.cbm_channel.proofs.Stands.{borrowed_at, stood, stands_at, use_at}
 use Rattle.cbm_channel.proofs.Stores.{finish_done, finish_cut, has_failed, renamed}
 use Rattle.cbm_channel.proofs.Counted.{counted_else}
 use Rattle.cbm_channel.proofs.Rest.{rest_seen}
@@ -56,7 +55,7 @@ returns-in-Err-clause-leaves g c = record {
       let st = stood g.M.Medium.seen _ _ m c.self.view_is s in
       let at = stands_at _ _ _ _ _ _ m c.args.channel c.index-self-channel.result c.requires c.self.invariant st in
       let same = use_at (slice_index_or c.self.inside.channels c.args.channel c.index-self-channel.result) _ m.channels c.args.channel _ (omega (arith, c.requires, c.self.invariant.count)) refl in
-      rest_seen g.M.Medium.seen c.args.self.now.medium c.set.new.self.medium c.self.inside.volume c.finish.new.volume (ap (λ k. k.medium) c.self.view_is) c.set.ensures.medium (rest_on finishes_on _ _ _ _ (any_default c.self.inside.channels c.args.channel c.index-self-channel.result Closed (omega (arith, c.requires, c.self.invariant.count)) ∙ ap (λ k. slice_index_or k.channels c.args.channel Closed) c.self.view_is) ((c.finish.ensures.call m.disk (uses_of c.self.inside.channels m.channels) c.args.channel (channel m c.args.channel) st.holds same at).rest));
+      rest_seen g.M.Medium.seen c.args.self.now.medium c.set.new.self.medium c.self.inside.volume c.finish.new.volume (ap (λ k. k.medium) c.self.view_is) c.set.ensures.medium (rest_on finishes_on _ _ _ _ (borrowed_at c.args.channel c.index-self-channel.result (ap (λ k. k.channels) c.self.view_is) (omega (arith, c.requires, c.self.invariant.count))) ((c.finish.ensures.call m.disk (uses_of c.self.inside.channels m.channels) c.args.channel (channel m c.args.channel) st.holds same at).rest));
   counted = counted_else g.M.Medium.seen c.args.self.now c.set.new.self c.self.inside.volume c.finish.new.volume (ap (λ k. k.medium) c.self.view_is) c.set.ensures.medium c.finish.result c.in-Err.trouble c.in-Err.is c.finish.ensures.only (ap (λ x. x.status) c.set.ensures.told ∙ c.from.ensures);
   grounded = inr (answer_grounded g.M.Medium.seen c.args.self.now c.set.new.self c.self.inside.volume c.finish.new.volume (ap (λ k. k.medium) c.self.view_is) c.set.ensures.medium c.finish.result c.in-Err.trouble c.in-Err.is c.finish.ensures.only (ap (λ x. x.status) c.set.ensures.told ∙ c.from.ensures));
 }
@@ -68,7 +67,7 @@ returns-in_default-clause-leaves g c = record {
       let st = stood g.M.Medium.seen _ _ m c.self.view_is s in
       let at = stands_at _ _ _ _ _ _ m c.args.channel c.index-self-channel.result c.requires c.self.invariant st in
       let same = use_at (slice_index_or c.self.inside.channels c.args.channel c.index-self-channel.result) _ m.channels c.args.channel _ (omega (arith, c.requires, c.self.invariant.count)) refl in
-      rest_seen g.M.Medium.seen c.args.self.now.medium c.finish.new.volume c.self.inside.volume c.finish.new.volume (ap (λ k. k.medium) c.self.view_is) refl (rest_on finishes_on _ _ _ _ (any_default c.self.inside.channels c.args.channel c.index-self-channel.result Closed (omega (arith, c.requires, c.self.invariant.count)) ∙ ap (λ k. slice_index_or k.channels c.args.channel Closed) c.self.view_is) ((c.finish.ensures.call m.disk (uses_of c.self.inside.channels m.channels) c.args.channel (channel m c.args.channel) st.holds same at).rest));
+      rest_seen g.M.Medium.seen c.args.self.now.medium c.finish.new.volume c.self.inside.volume c.finish.new.volume (ap (λ k. k.medium) c.self.view_is) refl (rest_on finishes_on _ _ _ _ (borrowed_at c.args.channel c.index-self-channel.result (ap (λ k. k.channels) c.self.view_is) (omega (arith, c.requires, c.self.invariant.count))) ((c.finish.ensures.call m.disk (uses_of c.self.inside.channels m.channels) c.args.channel (channel m c.args.channel) st.holds same at).rest));
   counted = (search rules);
   grounded = (search rules);
 }
@@ -79,7 +78,7 @@ pub returns-in_default-clause-done : goal.returns-in_default-clause-done
 returns-in_default-clause-done g c = inl (
   ap (λ k. k.told) c.self.view_is,
   finish_as (g.M.Medium.seen c.self.inside.volume) (g.M.Medium.seen c.args.self.now.medium) (g.M.Medium.seen c.finish.new.volume) (g.M.Medium.seen c.finish.new.volume) _ _ (ap (λ k. g.M.Medium.seen k.medium) c.self.view_is) refl
-      (any_default c.self.inside.channels c.args.channel c.index-self-channel.result Closed (omega (arith, c.requires, c.self.invariant.count)) ∙ ap (λ k. slice_index_or k.channels c.args.channel Closed) c.self.view_is)
+      (borrowed_at c.args.channel c.index-self-channel.result (ap (λ k. k.channels) c.self.view_is) (omega (arith, c.requires, c.self.invariant.count)))
       c.in_default.ensures.led,
 )
 

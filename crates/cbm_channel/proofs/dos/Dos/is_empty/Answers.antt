@@ -2,11 +2,9 @@ use Rattle.std.proofs.Common.{refl, arith, ap, ◌∙◌}
 use Rattle.std.specs.Prelude.{slice_index_or}
 use Rattle.cbm_machine.specs.Machines.{channel}
 use Rattle.cbm_channel.specs.Standing.{uses_of}
-use Rattle.cbm_channel.proofs.Stands.{stood, stands_at, use_at}
+use Rattle.cbm_channel.proofs.Stands.{borrowed_at, stood, stands_at, use_at}
 use Rattle.cbm_channel.proofs.dos.Dos.is_empty.Goals as goal
-use Rattle.cbm_channel.specs.declared.channel.Channel.TheVariants.{Closed}
 use Rattle.cbm_channel.specs.BytesMeant.{is_file_empty}
-use Rattle.cbm_channel.proofs.Stands.{any_default}
 
 pub returns-clause-value : goal.returns-clause-value
 returns-clause-value g c = λ m s.
@@ -16,4 +14,4 @@ returns-clause-value g c = λ m s.
     c.is_empty.ensures.value m.disk (uses_of c.self.inside.channels m.channels) c.args.channel (channel m c.args.channel) st.holds same at
 
 pub returns-clause-holds : goal.returns-clause-holds
-returns-clause-holds g c = c.is_empty.ensures.holds ∙ ap is_file_empty (any_default c.self.inside.channels c.args.channel c.index-self-channel.result Closed (omega (arith, c.requires, c.self.invariant.count)) ∙ ap (λ k. slice_index_or k.channels c.args.channel Closed) c.self.view_is)
+returns-clause-holds g c = c.is_empty.ensures.holds ∙ ap is_file_empty (borrowed_at c.args.channel c.index-self-channel.result (ap (λ k. k.channels) c.self.view_is) (omega (arith, c.requires, c.self.invariant.count)))

@@ -2,10 +2,8 @@ use Rattle.std.proofs.Common.{rules, ◌<◌, ◌∙◌, arith, ap, inl, sym}
 use Rattle.cbm_machine.specs.Calls.{put}
 use Rattle.cbm_channel.specs.Going.{put_written}
 use Rattle.cbm_channel.proofs.Asked.{below_15, put_15, put_records, put_other}
-use Rattle.std.specs.Prelude.{slice_index_or}
-use Rattle.cbm_channel.specs.declared.channel.Channel.TheVariants.{Closed}
 use Rattle.cbm_channel.specs.Shown.{has_records}
-use Rattle.cbm_channel.proofs.Stands.{any_default, stood, stands_at}
+use Rattle.cbm_channel.proofs.Stands.{borrowed_at, stood, stands_at}
 use Rattle.cbm_channel.proofs.Goings.{part_same, one_part, keeps_same}
 use Rattle.cbm_channel.proofs.Rest.{rest_itself}
 use Rattle.cbm_channel.proofs.dos.Dos.put.Goals as goal
@@ -67,7 +65,7 @@ returns-then-channel-eq15-clause-done g c = λ lt none. absurd (omega (arith, lt
 
 pub returns-then-has_records-clause-done : goal.returns-then-has_records-clause-done
 returns-then-has_records-clause-done g c = λ lt none.
-    let same = any_default c.self.inside.channels c.args.channel c.index-self-channel.result Closed (omega (arith, lt, c.self.invariant.count)) ∙ ap (λ k. slice_index_or k.channels c.args.channel Closed) c.self.view_is in
+    let same = borrowed_at c.args.channel c.index-self-channel.result (ap (λ k. k.channels) c.self.view_is) (omega (arith, lt, c.self.invariant.count)) in
     let z = sym c.if-has_records.true ∙ c.has_records.ensures ∙ ap has_records same ∙ none in absurd (cc)
 
 pub returns-else-has_records-clause-done : goal.returns-else-has_records-clause-done

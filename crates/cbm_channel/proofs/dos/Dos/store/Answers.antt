@@ -5,7 +5,7 @@ use Rattle.cbm_machine.specs.Machines.{channel}
 use Rattle.cbm_channel.specs.Standing.{uses_of}
 use Rattle.cbm_channel.specs.Going.{put_written}
 use Rattle.cbm_channel.proofs.BytesPut.{IsPut}
-use Rattle.cbm_channel.proofs.Stands.{stood, stands_at, waits_at, use_at}
+use Rattle.cbm_channel.proofs.Stands.{borrowed_at, stood, stands_at, waits_at, use_at}
 use Rattle.cbm_channel.proofs.Stores.{put_waits, put_stored, put_refused, put_cut, has_failed, renamed}
 use Rattle.cbm_channel.proofs.Counted.{counted_else}
 use Rattle.cbm_channel.proofs.Rest.{rest_seen}
@@ -13,8 +13,6 @@ use Rattle.cbm_channel.proofs.Spared.{slot_kept}
 use Rattle.cbm_channel.proofs.dos.Dos.store.Goals as goal
 use Rattle.cbm_channel.proofs.Goings.{keeps_call}
 use Rattle.cbm_channel.proofs.GroundedReports.{answer_grounded}
-use Rattle.cbm_channel.specs.declared.channel.Channel.TheVariants.{Closed}
-use Rattle.cbm_channel.proofs.Stands.{any_default}
 use Rattle.cbm_channel.proofs.Changed.{set_now}
 use Rattle.cbm_channel.proofs.BytesDone.{put_as, fault_told}
 
@@ -121,7 +119,7 @@ pub returns-in-Ok-true-clause-done : goal.returns-in-Ok-true-clause-done
 returns-in-Ok-true-clause-done g c = inl (
   ap (λ k. k.told) c.self.view_is,
   put_as (g.M.Medium.seen c.self.inside.volume) (g.M.Medium.seen c.args.self.now.medium) (g.M.Medium.seen c.put.new.volume) (g.M.Medium.seen c.put.new.volume) c.args.byte _ _ _ _ _ _ (ap (λ k. g.M.Medium.seen k.medium) c.self.view_is) refl
-      (any_default c.self.inside.channels c.args.channel c.index-self-channel.result Closed (omega (arith, c.requires, c.self.invariant.count)) ∙ ap (λ k. slice_index_or k.channels c.args.channel Closed) c.self.view_is)
+      (borrowed_at c.args.channel c.index-self-channel.result (ap (λ k. k.channels) c.self.view_is) (omega (arith, c.requires, c.self.invariant.count)))
       (sym (set_now c.self.inside.channels _ c.args.channel c.put.new.self refl (omega (arith, c.requires, c.self.invariant.count))))
       c.in-Ok-true.field-0-test c.in-Ok-true.ensures.led,
 )
@@ -130,7 +128,7 @@ pub returns-in-Ok-false-clause-done : goal.returns-in-Ok-false-clause-done
 returns-in-Ok-false-clause-done g c = inr (inl (
   ap (λ x. x.status) c.say.ensures.told,
   put_as (g.M.Medium.seen c.self.inside.volume) (g.M.Medium.seen c.args.self.now.medium) (g.M.Medium.seen c.put.new.volume) (g.M.Medium.seen c.say.new.self.medium) c.args.byte _ _ _ _ _ _ (ap (λ k. g.M.Medium.seen k.medium) c.self.view_is) (ap g.M.Medium.seen (sym c.say.ensures.medium))
-      (any_default c.self.inside.channels c.args.channel c.index-self-channel.result Closed (omega (arith, c.requires, c.self.invariant.count)) ∙ ap (λ k. slice_index_or k.channels c.args.channel Closed) c.self.view_is)
+      (borrowed_at c.args.channel c.index-self-channel.result (ap (λ k. k.channels) c.self.view_is) (omega (arith, c.requires, c.self.invariant.count)))
       (sym (set_now c.self.inside.channels _ c.args.channel c.put.new.self c.say.ensures.channels (omega (arith, c.requires, c.self.invariant.count))))
       c.in-Ok-false.field-0-test c.in-Ok-false.ensures.led,
 ))

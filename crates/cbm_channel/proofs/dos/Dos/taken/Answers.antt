@@ -3,13 +3,12 @@ use Rattle.std.specs.Prelude.{slice_index_or}
 use Rattle.cbm_machine.specs.Machines.{channel}
 use Rattle.cbm_machine.specs.Talking.{taken}
 use Rattle.cbm_channel.specs.Grounds.{HidesRecords}
-use Rattle.cbm_channel.specs.Shown.{has_records, has_records_on, shown_by}
+use Rattle.cbm_channel.specs.Shown.{has_records, shown_by}
 use Rattle.cbm_channel.specs.Standing.{SameBut, Kept, uses_of}
-use Rattle.cbm_channel.specs.declared.channel.Channel.TheVariants.{Closed}
 use Rattle.cbm_channel.proofs.Changed.{others_set, fit_set}
 use Rattle.cbm_channel.proofs.HiddenRecords.{told_hidden}
 use Rattle.cbm_channel.proofs.Asked.{below_15, taken_other}
-use Rattle.cbm_channel.proofs.Stands.{any_default, with_one, told_on, means_of, stands_at, waits_at, use_at, moved, stood, not_ok}
+use Rattle.cbm_channel.proofs.Stands.{borrowed_at, with_one, told_on, means_of, stands_at, waits_at, use_at, moved, stood, not_ok}
 use Rattle.cbm_channel.proofs.Nexts.{more_of, more_told}
 use Rattle.cbm_channel.proofs.Places.{taken_fits_in}
 use Rattle.cbm_channel.proofs.dos.Dos.taken.Goals as goal
@@ -67,7 +66,7 @@ returns-in-Err-clause-takes g c = record {
   ground = λ lt rel.
       let inside : c.args.channel < length c.self.inside.channels = omega (arith, lt, c.self.invariant.count) in
       let records : has_records (slice_index_or c.self.inside.channels c.args.channel c.index-self-channel.result) ≡ true =
-      sym (ap has_records (any_default c.self.inside.channels c.args.channel Closed c.index-self-channel.result inside)) ∙ subst (λ (k : Kept _). has_records_on c.args.channel k ≡ true) (sym c.self.view_is) rel in
+      ap has_records (borrowed_at c.args.channel c.index-self-channel.result (ap (λ k. k.channels) c.self.view_is) inside) ∙ rel in
       told_hidden g.M.Medium.seen c.args.self.now c.set.new.self c.in-Err.trouble (c.set.ensures.told ∙ ap (λ s. record { status = s; told = 0 }) c.from.ensures)
       (subst (λ (k : Kept _). HidesRecords (g.M.Medium.seen k.medium) c.in-Err.trouble) c.self.view_is (c.in-Err.ensures.cause records));
 }

@@ -6,7 +6,7 @@ use Rattle.cbm_channel.proofs.RecordEnds.{records_or_not, put_done, put_large, p
 use Rattle.cbm_channel.specs.Shown.{records_on, has_records}
 use Rattle.cbm_channel.specs.PlaceCalls.{PutsText}
 use Rattle.cbm_channel.specs.declared.channel.Channel.TheVariants.{Closed}
-use Rattle.cbm_channel.proofs.Stands.{any_default, stood}
+use Rattle.cbm_channel.proofs.Stands.{borrowed_at, stood}
 use Rattle.cbm_channel.proofs.Stores.{renamed}
 use Rattle.cbm_channel.proofs.Counted.{counted_else}
 use Rattle.cbm_channel.proofs.Rest.{rest_seen}
@@ -79,7 +79,7 @@ returns-in-Err-clause-leaves g c = record {
       let new : Seen = g.M.Medium.seen c.write_record.new.volume in
       let st = stood g.M.Medium.seen _ _ m c.self.view_is s in
       let x : kept.Channel = slice_index_or c.self.inside.channels c.args.channel c.index-self-channel.result in
-      rest_seen g.M.Medium.seen c.args.self.now.medium c.set.new.self.medium c.self.inside.volume c.write_record.new.volume (ap (λ k. k.medium) c.self.view_is) c.set.ensures.medium (rest_on records_on old new x (slice_index_or c.args.self.now.channels c.args.channel Closed) (any_default c.self.inside.channels c.args.channel c.index-self-channel.result Closed (omega (arith, c.requires, c.self.invariant.count)) ∙ ap (λ k. slice_index_or k.channels c.args.channel Closed) c.self.view_is) (put_rest old new c.self.inside.channels c.self.inside.telling c.self.inside.text m c.args.channel c.requires c.self.invariant st x c.write_record.new.self c.index-self-channel.result refl (take 256 c.args.bytes.now) c.args.bytes.now refl c.write_record.ensures.call.medium.tracks c.write_record.ensures.rest (λ none. ap g.M.Medium.seen (c.write_record.ensures.quiet none).2)));
+      rest_seen g.M.Medium.seen c.args.self.now.medium c.set.new.self.medium c.self.inside.volume c.write_record.new.volume (ap (λ k. k.medium) c.self.view_is) c.set.ensures.medium (rest_on records_on old new x (slice_index_or c.args.self.now.channels c.args.channel Closed) (borrowed_at c.args.channel c.index-self-channel.result (ap (λ k. k.channels) c.self.view_is) (omega (arith, c.requires, c.self.invariant.count))) (put_rest old new c.self.inside.channels c.self.inside.telling c.self.inside.text m c.args.channel c.requires c.self.invariant st x c.write_record.new.self c.index-self-channel.result refl (take 256 c.args.bytes.now) c.args.bytes.now refl c.write_record.ensures.call.medium.tracks c.write_record.ensures.rest (λ none. ap g.M.Medium.seen (c.write_record.ensures.quiet none).2)));
   counted = counted_else g.M.Medium.seen c.args.self.now c.set.new.self c.self.inside.volume c.write_record.new.volume (ap (λ k. k.medium) c.self.view_is) c.set.ensures.medium c.write_record.result c.in-Err.trouble c.in-Err.is c.write_record.ensures.call.medium (ap (λ x. x.status) c.set.ensures.told ∙ c.from.ensures);
   grounded = inr (answer_grounded g.M.Medium.seen c.args.self.now c.set.new.self c.self.inside.volume c.write_record.new.volume (ap (λ k. k.medium) c.self.view_is) c.set.ensures.medium c.write_record.result c.in-Err.trouble c.in-Err.is c.write_record.ensures.call.medium (ap (λ x. x.status) c.set.ensures.told ∙ c.from.ensures));
 }
@@ -92,7 +92,7 @@ returns-in-Ok-Some-false-clause-leaves g c = record {
       let new : Seen = g.M.Medium.seen c.write_record.new.volume in
       let st = stood g.M.Medium.seen _ _ m c.self.view_is s in
       let x : kept.Channel = slice_index_or c.self.inside.channels c.args.channel c.index-self-channel.result in
-      rest_seen g.M.Medium.seen c.args.self.now.medium c.write_record.new.volume c.self.inside.volume c.write_record.new.volume (ap (λ k. k.medium) c.self.view_is) refl (rest_on records_on old new x (slice_index_or c.args.self.now.channels c.args.channel Closed) (any_default c.self.inside.channels c.args.channel c.index-self-channel.result Closed (omega (arith, c.requires, c.self.invariant.count)) ∙ ap (λ k. slice_index_or k.channels c.args.channel Closed) c.self.view_is) (put_rest old new c.self.inside.channels c.self.inside.telling c.self.inside.text m c.args.channel c.requires c.self.invariant st x c.write_record.new.self c.index-self-channel.result refl (take 256 c.args.bytes.now) c.args.bytes.now refl c.write_record.ensures.call.medium.tracks c.write_record.ensures.rest (λ none. ap g.M.Medium.seen (c.write_record.ensures.quiet none).2)));
+      rest_seen g.M.Medium.seen c.args.self.now.medium c.write_record.new.volume c.self.inside.volume c.write_record.new.volume (ap (λ k. k.medium) c.self.view_is) refl (rest_on records_on old new x (slice_index_or c.args.self.now.channels c.args.channel Closed) (borrowed_at c.args.channel c.index-self-channel.result (ap (λ k. k.channels) c.self.view_is) (omega (arith, c.requires, c.self.invariant.count))) (put_rest old new c.self.inside.channels c.self.inside.telling c.self.inside.text m c.args.channel c.requires c.self.invariant st x c.write_record.new.self c.index-self-channel.result refl (take 256 c.args.bytes.now) c.args.bytes.now refl c.write_record.ensures.call.medium.tracks c.write_record.ensures.rest (λ none. ap g.M.Medium.seen (c.write_record.ensures.quiet none).2)));
   counted = (search rules);
   grounded = (search rules);
 }
@@ -105,7 +105,7 @@ returns-in-Ok-Some-true-clause-leaves g c = record {
       let new : Seen = g.M.Medium.seen c.write_record.new.volume in
       let st = stood g.M.Medium.seen _ _ m c.self.view_is s in
       let x : kept.Channel = slice_index_or c.self.inside.channels c.args.channel c.index-self-channel.result in
-      rest_seen g.M.Medium.seen c.args.self.now.medium c.say.new.self.medium c.self.inside.volume c.write_record.new.volume (ap (λ k. k.medium) c.self.view_is) c.say.ensures.medium (rest_on records_on old new x (slice_index_or c.args.self.now.channels c.args.channel Closed) (any_default c.self.inside.channels c.args.channel c.index-self-channel.result Closed (omega (arith, c.requires, c.self.invariant.count)) ∙ ap (λ k. slice_index_or k.channels c.args.channel Closed) c.self.view_is) (put_rest old new c.self.inside.channels c.self.inside.telling c.self.inside.text m c.args.channel c.requires c.self.invariant st x c.write_record.new.self c.index-self-channel.result refl (take 256 c.args.bytes.now) c.args.bytes.now refl c.write_record.ensures.call.medium.tracks c.write_record.ensures.rest (λ none. ap g.M.Medium.seen (c.write_record.ensures.quiet none).2)));
+      rest_seen g.M.Medium.seen c.args.self.now.medium c.say.new.self.medium c.self.inside.volume c.write_record.new.volume (ap (λ k. k.medium) c.self.view_is) c.say.ensures.medium (rest_on records_on old new x (slice_index_or c.args.self.now.channels c.args.channel Closed) (borrowed_at c.args.channel c.index-self-channel.result (ap (λ k. k.channels) c.self.view_is) (omega (arith, c.requires, c.self.invariant.count))) (put_rest old new c.self.inside.channels c.self.inside.telling c.self.inside.text m c.args.channel c.requires c.self.invariant st x c.write_record.new.self c.index-self-channel.result refl (take 256 c.args.bytes.now) c.args.bytes.now refl c.write_record.ensures.call.medium.tracks c.write_record.ensures.rest (λ none. ap g.M.Medium.seen (c.write_record.ensures.quiet none).2)));
   counted = (search rules);
   grounded = (search rules);
 }
@@ -118,7 +118,7 @@ returns-in-Ok-None-clause-leaves g c = record {
       let new : Seen = g.M.Medium.seen c.write_record.new.volume in
       let st = stood g.M.Medium.seen _ _ m c.self.view_is s in
       let x : kept.Channel = slice_index_or c.self.inside.channels c.args.channel c.index-self-channel.result in
-      rest_seen g.M.Medium.seen c.args.self.now.medium c.say-in-Ok-None.new.self.medium c.self.inside.volume c.write_record.new.volume (ap (λ k. k.medium) c.self.view_is) c.say-in-Ok-None.ensures.medium (rest_on records_on old new x (slice_index_or c.args.self.now.channels c.args.channel Closed) (any_default c.self.inside.channels c.args.channel c.index-self-channel.result Closed (omega (arith, c.requires, c.self.invariant.count)) ∙ ap (λ k. slice_index_or k.channels c.args.channel Closed) c.self.view_is) (put_rest old new c.self.inside.channels c.self.inside.telling c.self.inside.text m c.args.channel c.requires c.self.invariant st x c.write_record.new.self c.index-self-channel.result refl (take 256 c.args.bytes.now) c.args.bytes.now refl c.write_record.ensures.call.medium.tracks c.write_record.ensures.rest (λ none. ap g.M.Medium.seen (c.write_record.ensures.quiet none).2)));
+      rest_seen g.M.Medium.seen c.args.self.now.medium c.say-in-Ok-None.new.self.medium c.self.inside.volume c.write_record.new.volume (ap (λ k. k.medium) c.self.view_is) c.say-in-Ok-None.ensures.medium (rest_on records_on old new x (slice_index_or c.args.self.now.channels c.args.channel Closed) (borrowed_at c.args.channel c.index-self-channel.result (ap (λ k. k.channels) c.self.view_is) (omega (arith, c.requires, c.self.invariant.count))) (put_rest old new c.self.inside.channels c.self.inside.telling c.self.inside.text m c.args.channel c.requires c.self.invariant st x c.write_record.new.self c.index-self-channel.result refl (take 256 c.args.bytes.now) c.args.bytes.now refl c.write_record.ensures.call.medium.tracks c.write_record.ensures.rest (λ none. ap g.M.Medium.seen (c.write_record.ensures.quiet none).2)));
   counted = (search rules);
   grounded = (search rules);
 }
