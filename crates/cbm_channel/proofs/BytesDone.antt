@@ -1,23 +1,20 @@
 -- Bytes that are put, and files that are finished, on any disk.
 use Rattle.std.proofs.Common.{◌≡◌, ℕ, Bool, true, false, refl, sym, ap, ◌∙◌, subst, inl, inr}
-use Rattle.std.specs.Prelude.{MatchBool, slice_index_or}
-use Rattle.cbm_medium.specs.Seen.{Seen}
+use Rattle.std.specs.Prelude.{MatchBool, slice_index_or, Result, Err, IfErr}
+use Rattle.cbm_medium.specs.Seen.{Seen, IsGrounded}
 use Rattle.cbm_medium.specs.declared.fault.Trouble.{Trouble}
 use Rattle.cbm_chain.specs.GivenUp.{GivesUpLed}
 use Rattle.cbm_volume.specs.Writers.{Filling}
 use Rattle.cbm_volume.specs.Led.{FinishesLed, ReplacesLed}
-use Rattle.cbm_machine.specs.Codes.{code_number}
 use Rattle.cbm_machine.specs.declared.status.Status.{Status}
 use Rattle.cbm_machine.specs.Statuses.{trouble_status}
-use Rattle.cbm_machine.specs.Told.{ToldStatus}
 use Rattle.cbm_channel.specs.declared.channel.Channel.{Channel}
 use Rattle.cbm_channel.specs.declared.channel.Channel.TheVariants.{Closed, Writing}
 use Rattle.cbm_channel.specs.Shown.{is_writing}
 use Rattle.cbm_channel.specs.Standing.{Kept}
-use Rattle.cbm_channel.specs.Grounds.{is_fault_number}
-use Rattle.cbm_channel.specs.BytesMeant.{PutMeant, FinishMeant, FileWasFinished, is_file_empty}
+use Rattle.cbm_channel.specs.ChannelCalls.{KeepsElse}
+use Rattle.cbm_channel.specs.BytesMeant.{PutMeant, FinishMeant, FileWasFinished, ReportsFault, is_file_empty}
 use Rattle.cbm_channel.proofs.BytesPut.{IsNotWritten, of_others}
-use Rattle.cbm_channel.proofs.Refused.{trouble_told}
 
 -- ---- a byte
 
@@ -80,8 +77,14 @@ finish_as a a' b b' x x' ea eb ex h =
 
 -- ---- what is reported
 
-pub fault_told : (t : Trouble) (s : Status) (new : ToldStatus) → s ≡ trouble_status t → new ≡ record { status = s; told = 0 } → is_fault_number (code_number new.status.code) ≡ true
-fault_told t s new is told = ap (λ (x : ToldStatus). is_fault_number (code_number x.status.code)) told ∙ trouble_told t s is
+pub fault_told : {M A : Type 0} (seen : M → Seen) (old new : Kept M) (before after : M) (r : Result A Trouble) (t : Trouble) (s : Status) → before ≡ old.medium → new.medium ≡ after
+    → r ≡ Err t → s ≡ trouble_status t → new.told ≡ record { status = s; told = 0 } → KeepsElse r (seen before) (seen after) → ReportsFault seen old new
+fault_told {M} {A} seen old new before after r t s from to refuses is told kept = (
+  t,
+  told ∙ ap (λ (x : Status). record { status = x; told = 0 }) is,
+  subst (λ (v : M). IsGrounded (seen old.medium) (seen v) t) (sym to)
+      (subst (λ (v : M). IsGrounded (seen v) (seen after) t) from (subst (λ (x : Result A Trouble). IfErr x (IsGrounded (seen before) (seen after))) refuses kept.shown)),
+)
 
 -- a test that the code makes
 pub tested : (P Q : Type 0) (b test : Bool) → b ≡ test → b ≡ true → P → MatchBool test P Q
@@ -92,6 +95,6 @@ not_tested P Q b test is f q = where_false P Q test (sym is ∙ f) q
 
 -- what comes after it reports nothing, and leaves the medium
 pub finished_to : {M : Type 0} (seen : M → Seen) (ch : ℕ) (old mid new : Kept M) → new.medium ≡ mid.medium → new.told ≡ mid.told → FileWasFinished seen ch old mid → FileWasFinished seen ch old new
-finished_to seen ch old mid new medium told (inl h) =
-    inl (told ∙ h.0, subst (λ v. FinishMeant (seen old.medium) (seen v) (slice_index_or old.channels ch Closed)) (sym medium) h.1)
-finished_to seen ch old mid new medium told (inr fault) = inr (ap (λ (x : ToldStatus). is_fault_number (code_number x.status.code)) told ∙ fault)
+finished_to {M} seen ch old mid new medium told (inl h) =
+    inl (told ∙ h.0, subst (λ (v : M). FinishMeant (seen old.medium) (seen v) (slice_index_or old.channels ch Closed)) (sym medium) h.1)
+finished_to {M} seen ch old mid new medium told (inr h) = inr (h.0, told ∙ h.1, subst (λ (v : M). IsGrounded (seen old.medium) (seen v) h.0) (sym medium) h.2)

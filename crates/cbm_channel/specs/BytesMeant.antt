@@ -1,16 +1,15 @@
 -- What a byte that is put on a channel, and CLOSE, do on any disk.
 use Rattle.std.specs.Prelude.{ℕ, zero, suc, ◌≡◌, ◌⊎◌, not, Bool, true, false, slice_index_or, MatchBool}
-use Rattle.cbm_medium.specs.Seen.{Seen}
+use Rattle.cbm_medium.specs.declared.fault.Trouble.{Trouble}
+use Rattle.cbm_medium.specs.Seen.{Seen, IsGrounded}
 use Rattle.cbm_chain.specs.Writing.{State, IsForFiles, Puts, IsFullFor, has_no_byte}
 use Rattle.cbm_chain.specs.GivenUp.{GivesUpLed}
 use Rattle.cbm_volume.specs.Led.{FinishesLed, ReplacesLed}
 use Rattle.cbm_machine.specs.declared.code.Code.TheVariants.{DiskFull}
-use Rattle.cbm_machine.specs.Codes.{code_number}
-use Rattle.cbm_machine.specs.Statuses.{plain}
+use Rattle.cbm_machine.specs.Statuses.{plain, trouble_status}
 use Rattle.cbm_channel.specs.declared.channel.Channel.{Channel}
 use Rattle.cbm_channel.specs.declared.channel.Channel.TheVariants.{Closed, Listing, File, Writing, Stopped, Records}
 use Rattle.cbm_channel.specs.Standing.{Kept}
-use Rattle.cbm_channel.specs.Grounds.{is_fault_number}
 
 -- ---- a byte
 
@@ -31,15 +30,15 @@ PutMeant before after byte (Writing w false) new stored =
 PutMeant before after byte (Stopped slot) new stored = DropsByte before after (Stopped slot) new stored
 PutMeant before after byte (Records r) new stored = DropsByte before after (Records r) new stored
 
--- a fault of the disk is reported
-abbrev pub ReportsFault : {M : Type 0} → Kept M → Type 0
-ReportsFault k = is_fault_number (code_number k.told.status.code) ≡ true
+-- a fault of the disk is reported, to be read from its first byte, and has its ground
+abbrev pub ReportsFault : {M : Type 0} → (M → Seen) → Kept M → Kept M → Type 0
+ReportsFault seen old new = (t : Trouble) × (new.told ≡ record { status = trouble_status t; told = 0 }) × IsGrounded (seen old.medium) (seen new.medium) t
 
--- A BYTE WAS PUT, on any disk, and the status stays; or it is 72, and this is the first byte for which no block is free; or it is a fault.
+-- A BYTE WAS PUT, on any disk, and the status stays; or 72 is reported, and this is the first byte for which no block is free; or a fault is.
 abbrev pub ByteWasPut : {M : Type 0} → (M → Seen) → ℕ → ℕ → Kept M → Kept M → Type 0
 ByteWasPut seen ch byte old new =
     let put = PutMeant (seen old.medium) (seen new.medium) byte (slice_index_or old.channels ch Closed) (slice_index_or new.channels ch Closed) in
-    ((new.told ≡ old.told) × put true) ⊎ (((new.told.status ≡ plain DiskFull) × put false) ⊎ ReportsFault new)
+    ((new.told ≡ old.told) × put true) ⊎ (((new.told ≡ record { status = plain DiskFull; told = 0 }) × put false) ⊎ ReportsFault seen old new)
 
 -- ---- CLOSE
 
@@ -67,10 +66,10 @@ FinishMeant before after (Records r) = after.content ≡ before.content
 abbrev pub ReturnWasPut : {M : Type 0} → (M → Seen) → ℕ → Kept M → Kept M → Type 0
 ReturnWasPut seen ch old new = MatchBool (is_file_empty (slice_index_or old.channels ch Closed)) (ByteWasPut seen ch 13 old new) (new ≡ old)
 
--- the channel's file was finished, and the status stays; or it is a fault
+-- the channel's file was finished, and the status stays; or a fault is reported
 abbrev pub FileWasFinished : {M : Type 0} → (M → Seen) → ℕ → Kept M → Kept M → Type 0
 FileWasFinished seen ch old new =
-    ((new.told ≡ old.told) × FinishMeant (seen old.medium) (seen new.medium) (slice_index_or old.channels ch Closed)) ⊎ ReportsFault new
+    ((new.told ≡ old.told) × FinishMeant (seen old.medium) (seen new.medium) (slice_index_or old.channels ch Closed)) ⊎ ReportsFault seen old new
 
 -- A CLOSE OF A CHANNEL FROM 0 TO 14 THAT REPORTS NO FAULT IS DONE, on any disk: a file without a byte gets a return, and then the file is
 -- finished.

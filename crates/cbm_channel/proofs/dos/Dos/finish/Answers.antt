@@ -83,4 +83,4 @@ returns-in_default-clause-done g c = inl (
 )
 
 pub returns-in-Err-clause-done : goal.returns-in-Err-clause-done
-returns-in-Err-clause-done g c = inr (fault_told c.in-Err.trouble c.from.result c.set.new.self.told c.from.ensures c.set.ensures.told)
+returns-in-Err-clause-done g c = inr (fault_told g.M.Medium.seen c.args.self.now c.set.new.self c.self.inside.volume c.finish.new.volume c.finish.result c.in-Err.trouble c.from.result (ap (λ k. k.medium) c.self.view_is) c.set.ensures.medium c.in-Err.is c.from.ensures c.set.ensures.told c.finish.ensures.only)

@@ -126,7 +126,7 @@ returns-in-Ok-true-clause-done g c = inl (
 
 pub returns-in-Ok-false-clause-done : goal.returns-in-Ok-false-clause-done
 returns-in-Ok-false-clause-done g c = inr (inl (
-  ap (λ x. x.status) c.say.ensures.told,
+  c.say.ensures.told,
   put_as (g.M.Medium.seen c.self.inside.volume) (g.M.Medium.seen c.args.self.now.medium) (g.M.Medium.seen c.put.new.volume) (g.M.Medium.seen c.say.new.self.medium) c.args.byte _ _ _ _ _ _ (ap (λ k. g.M.Medium.seen k.medium) c.self.view_is) (ap g.M.Medium.seen (sym c.say.ensures.medium))
       (borrowed_at c.args.channel c.index-self-channel.result (ap (λ k. k.channels) c.self.view_is) (omega (arith, c.requires, c.self.invariant.count)))
       (sym (set_now c.self.inside.channels _ c.args.channel c.put.new.self c.say.ensures.channels (omega (arith, c.requires, c.self.invariant.count))))
@@ -134,4 +134,4 @@ returns-in-Ok-false-clause-done g c = inr (inl (
 ))
 
 pub returns-in-Err-clause-done : goal.returns-in-Err-clause-done
-returns-in-Err-clause-done g c = inr (inr (fault_told c.in-Err.trouble c.from.result c.set.new.self.told c.from.ensures c.set.ensures.told))
+returns-in-Err-clause-done g c = inr (inr (fault_told g.M.Medium.seen c.args.self.now c.set.new.self c.self.inside.volume c.put.new.volume c.put.result c.in-Err.trouble c.from.result (ap (λ k. k.medium) c.self.view_is) c.set.ensures.medium c.in-Err.is c.from.ensures c.set.ensures.told c.put.ensures.only))
