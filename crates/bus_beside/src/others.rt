@@ -15,7 +15,7 @@ pub(crate) struct Others {
     pub(crate) datas: u64,
 }
 
-/// One more holds a line after its pull, one less after its release. None where the count is too great.
+/// One more holds a line after its pull, one less after its release. None if the count is too great.
 fn counted(way: Way, count: u64) -> Option<u64>
     ensures { IfSome result (λ n. n ≡ counted way count) }
 {
@@ -62,7 +62,7 @@ impl Others {
         }
     }
 
-    /// After a change of another drive. None where the count is too great.
+    /// After a change of another drive. None if the count is too great.
     pub(crate) fn after_drive(self, change: Change) -> Option<Others>
         ensures { IfSome result (λ o. rest_by o ≡ after_another change.line change.way (rest_by self)) }
     {

@@ -55,7 +55,7 @@ impl<D: Machine, const N: usize> Plays<D, N> {
         }
     }
 
-    /// A change comes so, where it may and nothing is due before it.
+    /// A change comes so, if it may and nothing is due before it.
     fn come(&mut self, go: Move, change: Change) -> bool
         ensures come { result ≡ true → GoesUnfailed D.failures self.old.seats self.new.seats (HaveCome _ D.State D.stands D.step D.says go change self.old.seats self.new.seats) }
         ensures from { self.new.from ≡ self.old.from }

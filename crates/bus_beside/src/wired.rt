@@ -37,7 +37,7 @@ impl Wired {
         self.told(change.moment, others)
     }
 
-    /// Another drive changes a line. Answers the act that counts with it; None where there are too many drives.
+    /// Another drive changes a line. Answers the act that counts with it; None if there are too many drives.
     pub(crate) fn hear(&mut self, change: Change) -> Option<Option<Act>>
         requires { change.moment < 2 ^ 60 }
         ensures { IfSome result (λ act. ToldBy change.moment (after_another change.line change.way (rest_by self.old.others)) self.old self.new act) }

@@ -23,7 +23,7 @@ pub enum Bound {
     Release,
     /// CLOCK's release for a turnaround, or for nobody.
     Turn,
-    /// DATA freed where there is nothing to say.
+    /// DATA freed if there is nothing to say.
     Silence,
     /// DATA freed for a byte of the talker.
     Take,
@@ -83,7 +83,7 @@ pub struct Broken {
 }
 
 impl Broken {
-    /// How many microseconds after the reference the change came; 0 where it came before.
+    /// How many microseconds after the reference the change came; 0 if it came before.
     pub fn had(&self) -> u64 {
         self.moment.saturating_sub(self.reference)
     }

@@ -65,7 +65,7 @@ fn most(bound: Bound, since: Since, reference: u64, wait: u64, moment: u64) -> R
     }))
 }
 
-/// The same where there was such a change.
+/// The same if there was such a change.
 fn least_if(
     bound: Bound,
     since: Since,
@@ -97,7 +97,7 @@ fn gap(hearers: &[Seat], seats: &[Seat]) -> u64
     }
 }
 
-/// The same where a drive keeps to the profile.
+/// The same if a drive keeps to the profile.
 fn profile_gap(seats: &[Seat]) -> u64
     ensures { result ≡ spec.profile_gap (seats_of seats.now) }
 {

@@ -46,7 +46,7 @@ pub const LATEST_START: u64 = 199;
 /// The host: it accepts a byte 1 to so long after its eighth bit.
 pub const LATEST_ACCEPT: u64 = 1000;
 
-/// The number of these bits, the lowest first; None where it is above a byte.
+/// The number of these bits, the lowest first; None if it is above a byte.
 fn number_of(told: &[bool]) -> Option<u8>
     ensures { IfSome result (λ n. n ≡ bits.number_of told.now) }
 {

@@ -8,7 +8,7 @@ use Line::*;
 use Way::*;
 use cbm_iec::{Change, Event, Line, Party, Way, Who};
 
-/// Moments from here on haven't come: 2^55 microseconds.
+/// Moments from here on did not come: 2^55 microseconds.
 pub const FAR: u64 = 1 << 55;
 
 /// How many changes of the piece under way have come: of CLOCK and DATA by the host, of CLOCK by the talker.
@@ -219,7 +219,7 @@ fn host_guesses(point: &Point, whole: &Whole, counts: Counts, change: Change) ->
     }
 }
 
-/// What the piece under way may be, where it isn't what was guessed before this event.
+/// What the piece under way may be, if it isn't what was guessed before this event.
 pub fn guesses(point: &Point, whole: &Whole, counts: Counts, event: Event) -> Guesses {
     match (event.who, whole) {
         (Who::Host, _) => host_guesses(point, whole, counts, event.change),

@@ -93,7 +93,7 @@ impl Judge {
         }
     }
 
-    /// The trace ends at a moment: no more came up to it. Answers whether a change was due by then; if none was, the host
+    /// The trace ends at a moment: nothing else came up to it. Answers whether a change was due by then; if none was, the host
     /// has kept the timing, and no drive was late.
     pub fn end(&mut self, moment: u64) -> Result<(), Breach>
         ensures { (bs : List ThisParty) → (done : List Seen) → IsBus bs → JudgeStands bs self.old done → IsBusy self.old → OnOk result (InTime bs done moment) }
@@ -166,7 +166,7 @@ impl Judge {
         self.come(event)
     }
 
-    /// All steps of the piece have come. Where the talker goes on, its next frame is under way at once.
+    /// All steps of the piece have come. If the talker goes on, its next frame is under way at once.
     fn come(&mut self, event: Event) -> Result<(), Breach>
         requires { length self.old.steps.items ≤ self.old.seen }
         ensures stands { (bs : List ThisParty) → (done : List Seen) → JudgeStands bs self.old done → OnOk result (JudgeStands bs self.new done) }

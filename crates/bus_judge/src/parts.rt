@@ -39,7 +39,7 @@ fn put_if(is_there: bool, step: Step, list: &mut Steps) -> Result<(), Unmade>
     Ok(())
 }
 
-/// DATA for a bit, 1 is DATA free: a change comes only where it changes something.
+/// DATA for a bit, 1 is DATA free: a change comes only if it changes something.
 fn data_for(held: bool, bit: bool, free: Step, pull: Step, list: &mut Steps) -> Result<(), Unmade>
     ensures { OnOk result (steps_shown list.new.items ≡ steps_shown list.old.items ++
         (if bit then bits.where_held held (step_of free) else bits.where_free held (step_of pull))) }
@@ -322,7 +322,7 @@ fn talked(point: &Point, at: u64, frame: &Told, seat: &Seat, list: &mut Steps) -
     telling(party, at, frame, list)
 }
 
-/// A talker's answer where it has nothing to say.
+/// A talker's answer if it has nothing to say.
 fn silenced(clock: u64, seat: &Seat, list: &mut Steps) -> Result<(), Unmade>
     ensures { OnOk result (steps_shown list.new.items ≡ steps_shown list.old.items ++ spec.silent_part seat.now.party.pace seat.now.party.device (clock + seat.now.party.reaction)) }
 {

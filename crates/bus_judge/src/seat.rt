@@ -30,7 +30,7 @@ pub fn lines(clock_low: bool, data_low: bool) -> Held
     }
 }
 
-/// A later moment; the greatest number where it would be above.
+/// A later moment; the greatest number if it would be above.
 pub fn after(moment: u64, wait: u64) -> u64
     ensures { IsSum (moment + wait) result }
 {
@@ -190,7 +190,7 @@ pub fn talker_of(seats: &[Seat]) -> Party
     }
 }
 
-/// A KERNAL's pace where each of these drives keeps it.
+/// A KERNAL's pace if each of these drives keeps it.
 pub fn bus_pace(seats: &[Seat]) -> Pace
     ensures { result ≡ spec.bus_pace (seats_of seats.now) }
 {

@@ -13,7 +13,7 @@ use crate::step::{Mark, Step, Steps};
 use crate::whole::{Point, Whole};
 use cbm_iec::Event;
 
-/// The step after those that were seen, where a list begins with them.
+/// The step after those that were seen, if a list begins with them.
 fn next_after(seen: &[Step], list: &[Step]) -> Option<Step>
     ensures front { IfSome result (λ s. take (length seen.now) list.now ≡ seen.now) }
     ensures next { IfSome result (λ s. slice_get list.now (length seen.now) ≡ Some s) }

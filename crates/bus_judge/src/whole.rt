@@ -65,7 +65,7 @@ pub struct Point {
     pub place: Place,
     pub seats: Seats,
     pub host: Held,
-    /// ATN's last pull, and its release where no drive talks.
+    /// ATN's last pull, and its release if no drive talks.
     pub pulled: u64,
     pub released: Option<u64>,
     /// The accept of the last byte that the host sent.

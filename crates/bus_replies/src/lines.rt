@@ -56,7 +56,7 @@ impl<R: Read> LineReader<R> {
         Some(request_of(&self.block[line..line + length]))
     }
 
-    /// Takes the last line where it has no end, as far as it was read.
+    /// Takes the last line if it has no end, as far as it was read.
     pub fn take_rest(&mut self) -> Option<Result<ReplyRequest, ReplyRefusal>>
         ensures { IfSome result (λ asked. IfOk asked IsReplyInRange) }
     {

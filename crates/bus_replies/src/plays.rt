@@ -19,7 +19,7 @@ pub trait Plays {
     ghost from: { Self → ℕ };
     /// How many changes of the drives may come before a limit at most, if the host changes nothing more.
     ghost most: { ℕ → Self → ℕ };
-    /// When the next reaction is due, in microseconds, if the host changes nothing more; None where no drive's is.
+    /// When the next reaction is due, in microseconds, if the host changes nothing more; None if no drive's is.
     ghost due: { Self → Option ℕ → Type 0 };
 
     /// Takes the host's next change; `next` gives it in its turn.
@@ -41,7 +41,7 @@ pub trait Plays {
         ensures fewer { IfSome result (λ e. IsOfDrive e.who → (limit : ℕ) → upto < limit →
             most limit self.new < most limit self.old) };
 
-    /// The next event at a moment or before it, where no change waits; None where nothing is left to come up to it.
+    /// The next event at a moment or before it, if no change waits; None if nothing is left to come up to it.
     fn finish(&mut self, upto: u64) -> Option<Event>
         requires none { waiting self.old ≡ None }
         requires from { from self.old ≤ upto + 1 }

@@ -43,7 +43,7 @@ fn next_request<R: Read, W: Write>(
     Ok(Some(Err(ReplyRefusal::Long)))
 }
 
-/// What a line asks for, where that can be done now.
+/// What a line asks for, if that can be done now.
 fn in_time(
     asked: Result<ReplyRequest, ReplyRefusal>,
     clock: &Clock,

@@ -43,7 +43,7 @@ pub struct Cable {
 }
 
 impl Cable {
-    /// These drives as they are switched on; the first four, where they are more.
+    /// These drives as they are switched on; the first four, if they are more.
     pub fn new(parties: &[Party]) -> Cable {
         let mut seats = ArrayVec::new();
         for party in parties.iter().take(4) {

@@ -23,7 +23,7 @@ pub enum Phase {
     Bits { count: u8, byte: u8 },
     /// ATN was freed to a talker.
     Turn,
-    /// The talker pulled CLOCK at that moment. Where it frees DATA with that it has something to say.
+    /// The talker pulled CLOCK at that moment. If it frees DATA with that it has something to say.
     Answered(u64),
     /// The talker's byte: how often it pulled CLOCK since it offered it, and whether the host answered EOI.
     Talk { pulls: u8, last: bool },
@@ -58,7 +58,7 @@ impl Phase {
         }
     }
 
-    /// After a change of DATA by the host: its answer to EOI, or its accept, after which a talker with no more to say
+    /// After a change of DATA by the host: its answer to EOI, or its accept, after which a talker with nothing left to say
     /// heeds nothing.
     pub fn answered(self, low: bool) -> Phase {
         match self {

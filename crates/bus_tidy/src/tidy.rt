@@ -47,7 +47,7 @@ impl Tidy {
         }
     }
 
-    /// The host changes a line. Answers the tidy host's changes that it comes to: none where no drive heeds it; with ATN's
+    /// The host changes a line. Answers the tidy host's changes that it comes to: none if no drive heeds it; with ATN's
     /// changes come those that a session has there.
     pub fn host(&mut self, change: Change) -> Changes
         ensures host { self.new.host ≡ lines_changed change self.old.host }
@@ -65,7 +65,7 @@ impl Tidy {
         changes
     }
 
-    /// ATN is pulled: with it the tidy host pulls CLOCK and frees DATA; where it waits for the host's pull, with that.
+    /// ATN is pulled: with it the tidy host pulls CLOCK and frees DATA; if it waits for the host's pull, with that.
     fn call(&mut self, moment: u64, changes: &mut Changes)
         requires { length changes.old.items + 3 ≤ 4 }
         ensures host { self.new.host ≡ self.old.host }
@@ -79,7 +79,7 @@ impl Tidy {
         }
     }
 
-    /// ATN is freed: with it the tidy host pulls DATA, where a drive talks; where none listens or talks it frees CLOCK.
+    /// ATN is freed: with it the tidy host pulls DATA, if a drive talks; if none listens or talks it frees CLOCK.
     fn release(&mut self, moment: u64, changes: &mut Changes)
         requires { length changes.old.items + 3 ≤ 4 }
         ensures host { self.new.host ≡ self.old.host }
@@ -101,7 +101,7 @@ impl Tidy {
         }
     }
 
-    /// CLOCK: left out where no drive heeds it. Before its release comes what became of DATA while it was pulled.
+    /// CLOCK: left out if no drive heeds it. Before its release comes what became of DATA while it was pulled.
     fn clock(&mut self, change: Change, changes: &mut Changes)
         requires { length changes.old.items + 2 ≤ 4 }
         ensures host { self.new.host ≡ self.old.host }
@@ -128,7 +128,7 @@ impl Tidy {
         self.phase = self.phase.clocked(low, self.host.data_low);
     }
 
-    /// CLOCK is pulled; where that comes with ATN's pull DATA is freed.
+    /// CLOCK is pulled; if that comes with ATN's pull DATA is freed.
     fn pull_clock(&mut self, moment: u64, changes: &mut Changes)
         requires { length changes.old.items + 2 ≤ 4 }
         ensures host { self.new.host ≡ self.old.host }
@@ -152,7 +152,7 @@ impl Tidy {
         self.give(moment, Line::Clock, false, changes);
     }
 
-    /// DATA: left out where no drive heeds it. While CLOCK is pulled it is put off until that is freed, but for its release after
+    /// DATA: left out if no drive heeds it. While CLOCK is pulled it is put off until that is freed, but for its release after
     /// a byte.
     fn data(&mut self, change: Change, changes: &mut Changes)
         requires { length changes.old.items + 1 ≤ 4 }

@@ -17,11 +17,13 @@ abbrev pub who_text : Who → List ℕ
 who_text Host = codes "host"
 who_text (Drive device) = decimal device
 
+-- the word of a line in a trace
 abbrev pub line_text : Line → List ℕ
 line_text Atn = codes "atn"
 line_text Clock = codes "clock"
 line_text Data = codes "data"
 
+-- the word of a change in a trace
 abbrev pub way_text : Way → List ℕ
 way_text Pull = codes "pull"
 way_text Free = codes "free"
@@ -43,6 +45,7 @@ trace_text trace = flat_map event_text trace
 abbrev pub who_called : List ℕ → Option Who
 who_called word = if bytes_eq word (codes "host") then Some Host else option_map Drive (number_upto 30 word)
 
+-- the line of a word, none where it is no line's
 abbrev pub line_called : List ℕ → Option Line
 line_called word =
     if bytes_eq word (codes "atn") then Some Atn
@@ -50,6 +53,7 @@ line_called word =
     else if bytes_eq word (codes "data") then Some Data
     else None
 
+-- the change of a word, none where it is no change's
 abbrev pub way_called : List ℕ → Option Way
 way_called word =
     if bytes_eq word (codes "pull") then Some Pull

@@ -151,7 +151,7 @@ fn event_of_party(moment: Option<u64>, rest: Option<&[u8]>) -> Option<Event>
     event_of_change(moment, who_called(name), rest)
 }
 
-/// The event of a line without its end; None where the line is none.
+/// The event of a line without its end; None if the line is none.
 pub fn event_of(bytes: &[u8]) -> Option<Event>
     ensures { result ≡ event_read bytes.now }
 {
@@ -159,7 +159,7 @@ pub fn event_of(bytes: &[u8]) -> Option<Event>
     event_of_party(number_upto(LATEST, first), rest)
 }
 
-/// The host's event of a line `MOMENT LINE WAY` without its end; None where the line is none.
+/// The host's event of a line `MOMENT LINE WAY` without its end; None if the line is none.
 pub fn host_event_of(bytes: &[u8]) -> Option<Event>
     ensures { result ≡ host_event_of bytes.now }
 {
@@ -167,7 +167,7 @@ pub fn host_event_of(bytes: &[u8]) -> Option<Event>
     event_of_change(number_upto(LATEST, first), Some(Who::Host), rest)
 }
 
-/// The moment of a word of digits, in microseconds; None where it is none, or above 10^15.
+/// The moment of a word of digits, in microseconds; None if it is none, or above 10^15.
 pub fn moment_of(word: &[u8]) -> Option<u64>
     ensures value { result ≡ number_upto 1000000000000000 word.now }
     ensures within { IfSome result (λ moment. moment ≤ 1000000000000000) }

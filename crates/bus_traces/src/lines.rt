@@ -28,7 +28,7 @@ fn next_line<R: Read>(
     }
 }
 
-/// What a line says after a moment: nothing where it is empty or begins with `;`, else an event. Errors: `Event`, `Early`.
+/// What a line says after a moment: nothing if it is empty or begins with `;`, else an event. Errors: `Event`, `Early`.
 fn line_says(line: &[u8], from: u64) -> Result<Option<Event>, Flaw>
     ensures { result_ok result ≡ line_says from line.now }
 {

@@ -134,7 +134,7 @@ impl<W: Write> Picture<W> {
         self.used > 0 && moment == self.moment && !self.changed[place_of(line)]
     }
 
-    /// Begins the columns of a moment, where a wire is about to change that was so.
+    /// Begins the columns of a moment, if a wire is about to change that was so.
     fn column(&mut self, moment: u64, line: Line, was: bool) -> io::Result<()> {
         if self.goes_on(moment, line) {
             return Ok(());

@@ -118,7 +118,7 @@ impl<W: Write> Recorder<W> {
         Ok(())
     }
 
-    /// Writes the moment at which the trace ended, where it is a VCD, and sends all on.
+    /// Writes the moment at which the trace ended, if it is a VCD, and sends all on.
     pub fn end(&mut self, moment: u64) -> io::Result<()>
         ensures { OnOk result (Appends (recorded_by W.contents self.old) (W.contents self.new.writer)
             (end_text self.old.form self.old.moment moment)) }
@@ -142,7 +142,7 @@ impl<W: Write> Recorder<W> {
         handed
     }
 
-    /// Hands on what waits, where there isn't room for an event more.
+    /// Hands on what waits, if there isn't room for an event more.
     fn make_room(&mut self) -> io::Result<()>
         ensures kept { OnOk result (Keeps (recorded_by W.contents self.old) (recorded_by W.contents self.new)) }
         ensures room { length self.new.text.items ≤ 4048 }

@@ -1,9 +1,11 @@
 -- The wires moment by moment: as they were read, and as the parties' events make them.
-use Rattle.std.specs.Prelude.{◌≡◌, ◌≤◌, ◌<◌, ℕ, false, List, [], ◌∷◌, ◌++◌, if◌then◌else◌, nat_le, filter}
+use Rattle.std.specs.Prelude.{◌≡◌, ◌≤◌, ◌<◌, ◌^◌, ℕ, true, false, is_some, length, List, [], ◌∷◌, ◌++◌, if◌then◌else◌, nat_le, filter}
 use Rattle.cbm_iec.specs.Changes.{lines_changed}
 use Rattle.bus_wires.specs.Cable.{Parties, parties_of, parties_at_rest, Shows, parties_after}
 use Rattle.bus_wires.specs.declared.looks.Look.{Look}
 use Rattle.bus_wires.specs.declared.wires.Wires.{Wires}
+use Rattle.bus_wires.specs.declared.wires.Unread.{Unread}
+use Rattle.bus_wires.specs.declared.wires.Unread.TheVariants as unread
 use Rattle.cbm_iec.specs.declared.event.Event.{Event}
 use Rattle.cbm_iec.specs.declared.lines.Change.{Change}
 use Rattle.cbm_iec.specs.declared.lines.Lines.{Lines}
@@ -87,6 +89,21 @@ last_look before (k ∷ ks) = last_look k ks
 -- the present moment, and its wires
 abbrev pub present : Wires → Look
 present w = record { moment = w.moment; wires = w.wires }
+
+-- the last moment that is known, and its wires
+abbrev pub last_known : Wires → Look
+last_known w = last_look (present w) w.ahead.items
+
+-- the moment of a change that is read next, and the wires after it
+abbrev pub look_at : Wires → Change → Look
+look_at w change = record { moment = change.moment; wires = lines_changed change (last_known w).wires }
+
+-- WHY A CHANGE ISN'T READ: as many wait as may, it comes before the last one, its moment is too great, or the capture has ended.
+abbrev pub IsUnread : Wires → Change → Unread → Type 0
+IsUnread w change unread.Full = length w.ahead.items ≡ 16
+IsUnread w change unread.Early = change.moment < (last_known w).moment
+IsUnread w change unread.Far = 2 ^ 50 ≤ change.moment
+IsUnread w change unread.Ended = is_some w.end ≡ true
 
 -- what is ahead comes later than a moment; or not before it
 abbrev pub FirstAfter : ℕ → List Look → Type 0

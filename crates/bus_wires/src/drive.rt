@@ -35,7 +35,7 @@ impl Default for Drive {
     }
 }
 
-/// What a talker says, as the wires show it: a bit that begins is 1 where DATA is free. Where CLOCK stays free, the byte
+/// What a talker says, as the wires show it: a bit that begins is 1 if DATA is free. If CLOCK stays free, the byte
 /// is the last, and the host is to answer.
 fn heard(mouth: Mouth, wires: Lines) -> Mouth {
     match mouth {
@@ -115,7 +115,7 @@ impl Drive {
         }
     }
 
-    /// The byte that there is to say, as far as it is known: where a talker is to answer, whether there is one.
+    /// The byte that there is to say, as far as it is known: if a talker is to answer, whether there is one.
     fn peek(&self, now: Now) -> Option<(u8, bool)> {
         match (self.port.side, self.port.party.pace) {
             (Side::Speaking(Mouth::Answering(_)), Pace::Profile) if !now.wires.clock_low => None,
@@ -124,7 +124,7 @@ impl Drive {
         }
     }
 
-    /// The reaction that is due at this moment happens, as the wires show it. False where none is due.
+    /// The reaction that is due at this moment happens, as the wires show it. False if none is due.
     pub fn react(&mut self, now: Now) -> bool {
         if self.next_due() != Some(now.moment) {
             return false;

@@ -25,13 +25,13 @@ impl Playing {
         })
     }
 
-    /// CLOCK, where ATN is pulled and nobody had a role: it was freed before, at that moment at the latest.
+    /// CLOCK, if ATN is pulled and nobody had a role: it was freed before, at that moment at the latest.
     fn clock_before(&self, hands: &Hands) -> Option<Way> {
         let frees = hands.host.clock_low && !self.has_roles();
         frees.then_some(Way::Free)
     }
 
-    /// CLOCK: free where it is free on the wire; pulled with ATN, or where no drive pulls it.
+    /// CLOCK: free if it is free on the wire; pulled with ATN, or if no drive pulls it.
     fn clock_way(&self, hands: &Hands, now: Now) -> Option<Way> {
         if !now.wires.clock_low {
             return hands.host.clock_low.then_some(Way::Free);
@@ -43,8 +43,8 @@ impl Playing {
         pulls.then_some(Way::Pull)
     }
 
-    /// DATA: free where it is free on the wire, and unseen with ATN's pull, where a drive pulls it, too; pulled with ATN's
-    /// release to a talker, or where no drive pulls it.
+    /// DATA: free if it is free on the wire, and unseen with ATN's pull, if a drive pulls it, too; pulled with ATN's
+    /// release to a talker, or if no drive pulls it.
     fn data_way(&self, hands: &Hands, now: Now) -> Option<Way> {
         if !now.wires.data_low {
             return hands.host.data_low.then_some(Way::Free);

@@ -27,7 +27,7 @@ impl Default for Look {
 }
 
 /// Whether a talker that has pulled CLOCK leads with a byte, as the wires show later: once CLOCK is free it is pulled again,
-/// or the host answers EOI. Where ATN is pulled before CLOCK is free, DATA tells: a talker that leads has freed it.
+/// or the host answers EOI. If ATN is pulled before CLOCK is free, DATA tells: a talker that leads has freed it.
 pub fn says_a_byte(wires: Lines, ahead: &[Look]) -> bool {
     let (mut was, mut offered) = (wires, false);
     for (place, look) in ahead.iter().enumerate() {

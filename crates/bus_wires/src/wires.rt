@@ -1,9 +1,9 @@
 //! Reads the changes of the wires, and gives the events of the parties that have exactly these wires.
 
-ghost use Rattle.std.specs.Prelude.{is_some, ◌≡◌, ◌<◌, ◌≤◌, ◌+◌, ◌-◌, ◌^◌, [], ◌++◌, ◌∷◌, None, true, false, length, IfSome, IfNone, OnOk, OnErr};
+ghost use Rattle.std.specs.Prelude.{is_some, ◌≡◌, ◌<◌, ◌≤◌, ◌+◌, ◌-◌, ◌^◌, [], ◌++◌, ◌∷◌, None, Some, true, false, length, IfSome, IfNone, IfErr, OnOk, OnErr};
 ghost use Rattle.cbm_iec.specs.Changes.{lines_changed};
 ghost use Rattle.bus_wires.specs.Cable.{parties_of, parties_after, wire_low, low, Shows};
-ghost use Rattle.bus_wires.specs.Looks.{WiresStand, HaveWires, AreWiresSettled, IsLookWhole, IsSameLook, NoneBefore, and_read, and_given, last_look, present, OfWires};
+ghost use Rattle.bus_wires.specs.Looks.{WiresStand, HaveWires, AreWiresSettled, IsLookWhole, IsSameLook, NoneBefore, IsUnread, and_read, and_given, last_look, last_known, look_at, present, OfWires};
 
 use crate::drive::{LIMIT, Now};
 use crate::hands::{FREE, Hands, low};
@@ -49,10 +49,12 @@ pub struct Wires {
 }
 
 impl Wires {
-    /// The wires of a bus of these drives, in the order of ties; None where they are more than four. All lines are free, and
+    /// The wires of a bus of these drives, in the order of ties; None if they are more than four. All lines are free, and
     /// nothing was read.
     pub fn new(parties: &[Party]) -> Option<Wires>
-        ensures { IfSome result (λ w. WiresStand parties.now w [] []) }
+        ensures stands { IfSome result (λ w. WiresStand parties.now w [] []) }
+        ensures few { IfSome result (λ _. length parties.now ≤ 4) }
+        ensures many { IfNone result (4 < length parties.now) }
     {
         if parties.len() > 4 {
             return None;
@@ -72,6 +74,7 @@ impl Wires {
     pub fn read(&mut self, change: Change) -> Result<(), Unread>
         ensures stands { OfWires self.old (λ bs cs es. OnOk result (WiresStand bs self.new (and_read cs change) es)) }
         ensures same { OnErr result (self.new ≡ self.old) }
+        ensures refused { IfErr result (IsUnread self.old change) }
     {
         if self.end.is_some() {
             return Err(Unread::Ended);
@@ -82,14 +85,15 @@ impl Wires {
         self.look(change)
     }
 
-    /// The trace ends at a moment: no more will be read.
+    /// The trace ends at a moment: nothing else will be read.
     pub fn finish(&mut self, moment: u64)
-        ensures { OfWires self.old (λ bs cs es. WiresStand bs self.new cs es) }
+        ensures stands { OfWires self.old (λ bs cs es. WiresStand bs self.new cs es) }
+        ensures ended { self.new.end ≡ Some moment }
     {
         self.end = Some(moment);
     }
 
-    /// The next event. None where more has to be read before one is known; or, where the trace has ended, where all events
+    /// The next event. None if more has to be read before one is known; or, if the trace has ended, if all events
     /// up to its end were given.
     pub fn next(&mut self) -> Option<Event>
         ensures given { OfWires self.old (λ bs cs es. IfSome result (λ e. WiresStand bs self.new cs (and_given es e))) }
@@ -109,12 +113,12 @@ impl Wires {
 
     /// Adds what a change makes of the wires to what is ahead.
     fn look(&mut self, change: Change) -> Result<(), Unread>
-        ensures added { OnOk result (self.new.ahead.items ≡ self.old.ahead.items ++
-            (record { moment = change.moment; wires = lines_changed change (last_look (present self.old) self.old.ahead.items).wires } ∷ [])) }
-        ensures later { OnOk result ((last_look (present self.old) self.old.ahead.items).moment ≤ change.moment) }
+        ensures added { OnOk result (self.new.ahead.items ≡ self.old.ahead.items ++ (look_at self.old change ∷ [])) }
+        ensures later { OnOk result ((last_known self.old).moment ≤ change.moment) }
         ensures hands { self.new.hands ≡ self.old.hands }
         ensures now { present self.new ≡ present self.old }
         ensures same { OnErr result (self.new ≡ self.old) }
+        ensures refused { IfErr result (IsUnread self.old change) }
     {
         let last = last_look(self.now(), &self.ahead);
         if change.moment < last.moment {
@@ -150,7 +154,7 @@ impl Wires {
         }
     }
 
-    /// The next event of the present moment. None where the parties pull what the wires show, or more of the moment is
+    /// The next event of the present moment. None if the parties pull what the wires show, or more of the moment is
     /// ahead.
     fn event(&mut self) -> Option<Event>
         ensures moment { IfSome result (λ e. e.change.moment ≡ self.old.moment) }
@@ -261,7 +265,7 @@ impl Wires {
         true
     }
 
-    /// Goes on to the next moment at which a wire changes or a drive reacts. False where none is known yet, or the trace has
+    /// Goes on to the next moment at which a wire changes or a drive reacts. False if none is known yet, or the trace has
     /// ended; then nothing has changed.
     fn turn(&mut self) -> bool
         ensures end { self.new.end ≡ self.old.end }

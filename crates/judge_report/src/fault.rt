@@ -17,6 +17,9 @@ pub enum ReportFault {
     /// A change of the wires can't be read.
     #[error("{0}")]
     Wires(Unread),
+    /// No line changes in it, so nothing was captured.
+    #[error("no line changes in the trace: nothing was captured")]
+    Empty,
     /// What is said can't be written.
     #[error("writing failed")]
     Writing,

@@ -1,9 +1,9 @@
-//! What is known of a trace so far: the judge, the acts that were printed, the wires where they alone are known, and a tidy
-//! host where the host keeps the timing loosely.
+//! What is known of a trace so far: the judge, the acts that were printed, the wires if they alone are known, and a tidy
+//! host if the host keeps the timing loosely.
 
 use crate::fault::ReportFault;
 use crate::report::written;
-use crate::teller::Teller;
+use crate::teller::{Moments, Teller};
 use bus_judge::{Breach, Judge, NotABus};
 use bus_tidy::Tidy;
 use bus_wires::Wires;
@@ -33,10 +33,10 @@ pub struct Hearing {
 
 impl Hearing {
     /// Nothing of a trace of these drives was seen. Error: they are no bus.
-    pub fn new(parties: &[Party], timing: Timing) -> Result<Hearing, NotABus> {
+    pub fn new(parties: &[Party], timing: Timing, moments: Moments) -> Result<Hearing, NotABus> {
         Ok(Hearing {
             judge: Judge::new(parties)?,
-            teller: Teller::new(),
+            teller: Teller::new(moments),
             wires: Wires::new(parties).ok_or(NotABus::Count)?,
             is_by_wires: false,
             tidy: match timing {

@@ -10,5 +10,6 @@ mod teller;
 pub use bus_judge::Verdict;
 pub use fault::ReportFault;
 pub use hearing::Timing;
-pub use report::judge_trace;
+pub use report::{Judged, judge_trace};
 pub use seats::party_of;
+pub use teller::Moments;

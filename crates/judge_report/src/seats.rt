@@ -11,7 +11,7 @@ fn pace_of(word: &str) -> Option<Pace> {
 }
 
 /// The drive of a word such as `8:20` or `9:35:kernal`: device number, reaction in microseconds, and pace, which is the
-/// profile's where none is named. None where the word is none.
+/// profile's if none is named. None if the word is none.
 pub fn party_of(word: &str) -> Option<Party> {
     let (device, rest) = word.split_once(':')?;
     let (reaction, pace) = match rest.split_once(':') {

@@ -4,6 +4,15 @@ use bus_judge::Mark;
 use cbm_iec::{Act, Event, Who};
 use std::io::{self, Write};
 
+/// Whether each act begins with its moment.
+#[derive(Clone, Copy, Debug, PartialEq, Eq, Drop)]
+pub enum Moments {
+    /// It does, in microseconds: when it was completed, or an attention began.
+    Told,
+    /// It has no moment.
+    Left,
+}
+
 /// Prints acts as they come: an attention with its bytes in one line, and each other act in a line. A byte that several
 /// drives heard stands once.
 #[derive(Drop)]
@@ -12,6 +21,7 @@ pub struct Teller {
     attends: bool,
     /// The host changed a line since a byte of its own was printed.
     is_fresh: bool,
+    moments: Moments,
 }
 
 fn signal(is_last: bool) -> &'static str {
@@ -19,10 +29,19 @@ fn signal(is_last: bool) -> &'static str {
 }
 
 impl Teller {
-    pub fn new() -> Teller {
+    pub fn new(moments: Moments) -> Teller {
         Teller {
             attends: false,
             is_fresh: true,
+            moments,
+        }
+    }
+
+    /// Begins a line: with a moment, if these are told.
+    fn begin<W: Write>(&self, output: &mut W, moment: u64) -> io::Result<()> {
+        match self.moments {
+            Moments::Told => write!(output, "{moment} us "),
+            Moments::Left => Ok(()),
         }
     }
 
@@ -45,20 +64,31 @@ impl Teller {
             Mark::ForEach(Act::Pulled) => {
                 self.end_line(output)?;
                 self.attends = true;
+                self.begin(output, event.change.moment)?;
                 output.write_all(b"attention")
             }
             Mark::ForEach(_) => self.end_line(output),
-            Mark::For(device, act) => self.tell_drive(output, device, act),
+            Mark::For(device, act) => { self.tell_drive(output, event.change.moment, device, act) }
         }
     }
 
-    fn tell_drive<W: Write>(&mut self, output: &mut W, device: u8, act: Act) -> io::Result<()> {
+    fn tell_drive<W: Write>(
+        &mut self,
+        output: &mut W,
+        moment: u64,
+        device: u8,
+        act: Act,
+    ) -> io::Result<()> {
         match act {
             Act::Said(byte, last) => {
                 let signal = signal(last);
+                self.begin(output, moment)?;
                 writeln!(output, "drive {device} {byte:02x}{signal}")
             }
-            Act::Silent => writeln!(output, "drive {device} has nothing to say"),
+            Act::Silent => {
+                self.begin(output, moment)?;
+                writeln!(output, "drive {device} has nothing to say")
+            }
             _ if !self.is_fresh => Ok(()),
             Act::Attention(byte) => {
                 self.is_fresh = false;
@@ -67,6 +97,7 @@ impl Teller {
             Act::Heard(byte, eoi) => {
                 self.is_fresh = false;
                 let signal = signal(eoi);
+                self.begin(output, moment)?;
                 writeln!(output, "host {byte:02x}{signal}")
             }
             Act::Pulled | Act::Released => Ok(()),

@@ -1,4 +1,4 @@
-//! Lines of a host, by the rows of docs/REPLY.md.
+//! Lines of a host, by the rows of docs/reply.md.
 
 use arrayvec::ArrayVec;
 use bus_replies::{LineReader, ReplyRefusal, ReplyRequest, ready_text, request_of};

@@ -238,7 +238,7 @@ fn draws(rt: HostRuntime) {
     assert!(rt; bytes.as_slice() == PICTURE.as_bytes());
 }
 
-/// The byte that a frame shows in attention: the host sends it with EOI, where the drive answers by a pulse.
+/// The byte that a frame shows in attention: the host sends it with EOI, if the drive answers by a pulse.
 fn decoded(byte: u8) -> Option<Sent> {
     let mut decoder = Decoder::new();
     let host = |line: Line, way: Way| Event {

@@ -11,7 +11,7 @@ use crate::step::Step;
 use crate::whole::Whole;
 use cbm_iec::{Event, Who};
 
-/// A cause by words, where it is counted from a change that didn't come yet.
+/// A cause by words, if it is counted from a change that didn't come yet.
 pub(crate) fn told(cause: Cause) -> Cause {
     match cause {
         Cause::Bound(broken) if broken.reference >= LIMIT => Cause::Unasked,

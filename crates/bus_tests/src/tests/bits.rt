@@ -23,7 +23,7 @@ impl Reading {
         self.is_clear() && is_after(moment, 100, changed) && is_after(moment, 100, self.accepted)
     }
 
-    /// CLOCK is free: each that hears frees DATA, and where the end is signalled it pulses from the moment at which
+    /// CLOCK is free: each that hears frees DATA, and if the end is signalled it pulses from the moment at which
     /// DATA is free on the wire.
     pub fn ready(
         mut self,
@@ -75,7 +75,7 @@ impl Reading {
         add(rt, next, self)
     }
 
-    /// CLOCK is free at least 20 after its pull and after DATA: the bit is 1 where DATA is free.
+    /// CLOCK is free at least 20 after its pull and after DATA: the bit is 1 if DATA is free.
     pub fn bit(
         mut self,
         rt: &impl Abort,

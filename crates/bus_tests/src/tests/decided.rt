@@ -39,7 +39,7 @@ fn decided(
 }
 
 /// The acts, but for that of a talker of a KERNAL's pace that has nothing to say: the wires don't tell it from one that
-/// offers a byte, where no bit came.
+/// offers a byte, if no bit came.
 fn seen_acts(rt: &impl Abort, alloc: Global, acts: &[(u8, Act)], party: Party) -> Vec<Act> {
     let mut seen = Vec::new(alloc);
     for act in own_acts(rt, alloc, acts, party.device) {

@@ -49,7 +49,7 @@ impl Judge {
         }
     }
 
-    /// Whether a drive was late at a moment from what was seen to before that one. Only where something falls due can
+    /// Whether a drive was late at a moment from what was seen to before that one. Only if something falls due can
     /// it begin to be so.
     fn is_late_before(&self, moment: u64) -> bool {
         if moment <= self.seen {

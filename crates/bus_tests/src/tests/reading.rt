@@ -149,7 +149,7 @@ impl Reading {
         }
     }
 
-    /// The same reading once more, where a trace may go on in two ways.
+    /// The same reading once more, if a trace may go on in two ways.
     pub fn copy(&self, rt: &impl Abort) -> Reading {
         Reading {
             phase: self.phase,

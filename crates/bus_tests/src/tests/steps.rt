@@ -84,7 +84,7 @@ impl Reading {
         }
     }
 
-    /// A change of the host is none where its line is so already, and comes after all that a drive owes before it.
+    /// A change of the host is none if its line is so already, and comes after all that a drive owes before it.
     fn may_change(&self, change: Change) -> bool {
         let moment = change.moment;
         let early = moment < self.last || moment == self.last && self.rank > 0;

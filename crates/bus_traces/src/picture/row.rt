@@ -27,7 +27,7 @@ impl Row {
         self.end == 0
     }
 
-    /// Writes a character into a column; nothing where there is no such column.
+    /// Writes a character into a column; nothing if there is no such column.
     pub(crate) fn put(&mut self, column: usize, byte: u8) {
         if let Some(cell) = self.cells.get_mut(column) {
             *cell = byte;

@@ -42,7 +42,7 @@ impl<R: Read> Source<R> {
         }
     }
 
-    /// Reads on where no byte waits.
+    /// Reads on if no byte waits.
     fn fill(&mut self) -> io::Result<()>
         ensures ok { OnOk result (Keeps (source_bytes_left R.remaining self.old) (source_bytes_left R.remaining self.new)) }
         ensures end { OnOk result (self.new.start ≡ self.new.end → IsAtEnd (source_bytes_left R.remaining self.new)) }

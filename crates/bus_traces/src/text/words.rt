@@ -9,7 +9,7 @@ fn space_in(bytes: &[u8]) -> Option<usize>
     bytes.iter().position(|b| *b == b' ')
 }
 
-/// The first word, and what follows the space that ends it; None where no space does.
+/// The first word, and what follows the space that ends it; None if no space does.
 pub fn split_word(bytes: &[u8]) -> (&[u8], Option<&[u8]>)
     ensures word { result.0.now ≡ first_word bytes.now }
     ensures short { IfSome result.1 (λ rest. length rest.now ≤ length bytes.now) }
@@ -21,7 +21,7 @@ pub fn split_word(bytes: &[u8]) -> (&[u8], Option<&[u8]>)
     }
 }
 
-/// The number of 1 to 16 digits; None where it is none.
+/// The number of 1 to 16 digits; None if it is none.
 pub fn number(word: &[u8]) -> Option<u64>
     ensures { result ≡ trace_number word.now }
 {

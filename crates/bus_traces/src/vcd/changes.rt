@@ -166,7 +166,7 @@ impl Dump {
         Ok(())
     }
 
-    /// What is told where the variable of a code has this value, if it had another and its changes are told. Error: `Unknown`.
+    /// What is told if the variable of a code has this value, if it had another and its changes are told. Error: `Unknown`.
     fn value(&mut self, code: &[u8], value: Option<bool>) -> Result<Option<Told>, Flaw> {
         let moment = self.moment;
         let variable = self.variables.find(code).ok_or(Flaw::Unknown)?;

@@ -27,7 +27,7 @@ fn level(is_low: bool) -> u8
     if is_low { b'0' } else { b'1' }
 }
 
-/// Puts a moment, where it isn't the last one, after a text that has room for it: at most 22 bytes.
+/// Puts a moment, if it isn't the last one, after a text that has room for it: at most 22 bytes.
 pub(crate) fn put_time<const N: usize>(text: &mut ArrayVec<u8, N>, last: u64, moment: u64)
     requires { array_vec_len text.old + 22 ≤ N }
     ensures text { text.new.items ≡ text.old.items ++ time_text last moment }
@@ -64,7 +64,7 @@ fn put_own<const N: usize>(text: &mut ArrayVec<u8, N>, event: Event)
     put_code(text, event.change.line);
 }
 
-/// Puts the wire, where it changes, after a text that has room for it: at most 3 bytes.
+/// Puts the wire, if it changes, after a text that has room for it: at most 3 bytes.
 fn put_wire<const N: usize>(text: &mut ArrayVec<u8, N>, line: Line, was: bool, is: bool)
     requires { array_vec_len text.old + 3 ≤ N }
     ensures text { text.new.items ≡ text.old.items ++ wire_text line was is }
@@ -75,7 +75,7 @@ fn put_wire<const N: usize>(text: &mut ArrayVec<u8, N>, line: Line, was: bool, i
     }
 }
 
-/// Puts an event after those of a moment, where the cable was so, after a text that has room for it: at most 31 bytes. The cable is
+/// Puts an event after those of a moment, if the cable was so, after a text that has room for it: at most 31 bytes. The cable is
 /// then as the event leaves it.
 pub(crate) fn dump_event<const N: usize>(
     text: &mut ArrayVec<u8, N>,

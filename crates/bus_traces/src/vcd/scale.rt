@@ -47,7 +47,7 @@ impl Scale {
         Scale { times: 1, per: 1 }
     }
 
-    /// The scale of `1us`, `10ns` and the like; None where it is none.
+    /// The scale of `1us`, `10ns` and the like; None if it is none.
     pub(crate) fn of(word: &[u8]) -> Option<Scale> {
         let (count, rest) = match word {
             [b'1', b'0', b'0', rest @ ..] => (100, rest),
@@ -67,7 +67,7 @@ impl Scale {
         }
     }
 
-    /// The moment of a time in decimal, in microseconds, rounded down; None where it is none, or above the latest.
+    /// The moment of a time in decimal, in microseconds, rounded down; None if it is none, or above the latest.
     pub(crate) fn moment(&self, digits: &[u8]) -> Option<u64> {
         let moment = decimal(digits)?.checked_mul(self.times)? / self.per;
         if moment <= LATEST { Some(moment) } else { None }

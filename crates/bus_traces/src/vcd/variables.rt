@@ -39,7 +39,7 @@ fn code_of(code: &[u8]) -> Option<u64> {
 }
 
 impl Variable {
-    /// A variable with a code of 1 to 8 printable bytes; None where it is another.
+    /// A variable with a code of 1 to 8 printable bytes; None if it is another.
     pub(crate) fn new(code: &[u8], is_bit: bool, role: Role) -> Option<Variable> {
         Some(Variable {
             code: code_of(code)?,
@@ -98,7 +98,7 @@ impl Variables {
         }
     }
 
-    /// Settles whose changes are told: the parties' where the host's three lines are there, else the wires'. Error: `Lines`.
+    /// Settles whose changes are told: the parties' if the host's three lines are there, else the wires'. Error: `Lines`.
     pub(crate) fn settle(&mut self) -> Result<(), Flaw> {
         if self.all.iter().all(|v| v.role == Role::Other) {
             self.take_first();

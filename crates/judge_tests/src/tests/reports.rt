@@ -2,7 +2,7 @@
 
 use bus_judge::NotABus;
 use cbm_iec::Party;
-use judge_report::{ReportFault, Timing, Verdict, judge_trace, party_of};
+use judge_report::{Moments, ReportFault, Timing, Verdict, judge_trace, party_of};
 use std::alloc::Global;
 use std::process::Abort;
 use std::str::from_utf8;
@@ -48,16 +48,34 @@ pub fn said(
     words: &[&str],
     expected: &str,
 ) -> Result<Verdict, ReportFault> {
+    said_with(rt, alloc, trace, words, Moments::Left, expected)
+}
+
+/// The same, with the moments of acts or without.
+fn said_with(
+    rt: &impl Abort,
+    alloc: Global,
+    trace: &str,
+    words: &[&str],
+    moments: Moments,
+    expected: &str,
+) -> Result<Verdict, ReportFault> {
     let mut parties: Vec<Party> = Vec::new(alloc);
     for word in words {
         let party = party_of(word).expect(rt, "a drive");
         parties.push(party).ok().expect(rt, "memory");
     }
     let mut output: Vec<u8> = Vec::new(alloc);
-    let verdict = judge_trace(trace.as_bytes(), &mut output, &parties, Timing::Kept);
+    let judged = judge_trace(
+        trace.as_bytes(),
+        &mut output,
+        &parties,
+        Timing::Kept,
+        moments,
+    );
     let text = from_utf8(output.as_slice()).ok().expect(rt, "text");
     assert!(rt; text == expected, "{text}");
-    verdict
+    Ok(judged?.verdict)
 }
 
 #[test]
@@ -65,6 +83,43 @@ fn tells_a_session(rt: HostRuntime) {
     let expected = "attention 28\na session to 1400 us\n";
     let verdict = said(&rt, rt.alloc(), LISTEN, &["8:20"], expected);
     assert!(rt; verdict == Ok(Verdict::Session));
+}
+
+// An attention's moment is that of its beginning.
+#[test]
+fn tells_moments(rt: HostRuntime) {
+    let expected = "0 us attention 28\na session to 1400 us\n";
+    let verdict = said_with(&rt, rt.alloc(), LISTEN, &["8:20"], Moments::Told, expected);
+    assert!(rt; verdict == Ok(Verdict::Session));
+}
+
+// Of nothing that was captured nothing is said.
+#[test]
+fn refuses_a_trace_without_a_change(rt: HostRuntime) {
+    for trace in ["", "; a comment\n"] {
+        let verdict = said(&rt, rt.alloc(), trace, &["8:20"], "");
+        assert!(rt; verdict == Err(ReportFault::Empty));
+    }
+}
+
+// A computer pulls CLOCK when it is switched on, and no session begins so.
+#[test]
+fn knows_a_trace_of_a_kernal(rt: HostRuntime) {
+    for (trace, wanted) in [
+        ("1100 host clock pull\n", true),
+        ("0 host atn pull\n", false),
+    ] {
+        let mut output: Vec<u8> = Vec::new(rt.alloc());
+        let party = party_of("8:20").expect(&rt, "a drive");
+        let judged = judge_trace(
+            trace.as_bytes(),
+            &mut output,
+            &[party],
+            Timing::Kept,
+            Moments::Left,
+        );
+        assert!(rt; judged.is_ok_and(|it| it.is_of_kernal == wanted));
+    }
 }
 
 // The start comes 20 after T = 1020; with a drive of reaction 40 T is 1040.
