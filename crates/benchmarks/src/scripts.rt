@@ -34,7 +34,7 @@ const WRITABLE: Options = Options {
     check: false,
 };
 
-/// The disk that a script leaves of an image, where it prints so many bytes.
+/// The disk that a script leaves of an image, if it prints so many bytes.
 fn played(
     alloc: Global,
     pace: Pace,

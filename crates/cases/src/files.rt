@@ -36,7 +36,7 @@ fn play_files(rt: &HostRuntime) -> io::Result<bool> {
     Ok(all)
 }
 
-/// Plays the files that the arguments name. The exit status is 1 where a line comes otherwise, 2 where a file can't be read.
+/// Plays the files that the arguments name. The exit status is 1 if a line comes otherwise, 2 if a file can't be read.
 pub fn play(rt: &HostRuntime) -> ExitCode {
     match play_files(rt) {
         Ok(true) => ExitCode::from(0),

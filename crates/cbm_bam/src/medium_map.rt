@@ -10,7 +10,7 @@ use crate::map;
 use crate::order::in_directory;
 use cbm_medium::{Address, Geometry, Medium, Trouble};
 
-/// How many tracks the disk uses: 40 where the medium has 40, 18/0 reads and each count of the tracks 36 to 40 is the
+/// How many tracks the disk uses: 40 if the medium has 40, 18/0 reads and each count of the tracks 36 to 40 is the
 /// number of its free bits, else 35 (this project's rule).
 pub fn geometry<M: Medium>(medium: &M) -> Geometry
     ensures value { result ≡ geometry_of (M.seen medium.now).tracks (M.seen medium.now).content }

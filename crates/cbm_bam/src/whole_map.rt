@@ -49,7 +49,7 @@ fn free_unused(map: &mut [u8; 256], track: u8, used: &SectorSet)
     }
 }
 
-/// The map of a disk of these tracks written anew: each of its sectors is free but those that are used, and each
+/// Writes the whole map of a disk of these tracks: each of its sectors is free but those that are used, and each
 /// count is the number of free bits; the bits of no sector are 0. What else stands in 18/0 stays.
 pub fn anew(map: &[u8; 256], geometry: Geometry, used: &SectorSet) -> [u8; 256]
     ensures free { (p : Place) → Has geometry p → is_free_in result p ≡ not (is_marked used.now p) }

@@ -67,7 +67,7 @@ impl<M: Medium, const N: usize> DiskBus<M, N> {
     /// `events` in the order in which they happen, the reactions that are due at the end too.
     ///
     /// Where the host keeps the timing of the bus, that is a beginning of a session in which each byte talked is the answer of
-    /// its drive's machine of named files to the bytes sent, and no reaction is late. Where it keeps it loosely, as a computer's
+    /// its drive's machine of named files to the bytes sent, and no reaction is late. If it keeps it loosely, as a computer's
     /// KERNAL does, that is so of a trace with the same events of the drives. Whatever the host does, each disk is sound afterwards,
     /// and is that machine's. All this holds if no medium failed by itself in it (`HaveNotFailed`).
     ///

@@ -57,7 +57,7 @@ fn give_and_follow<M: Medium>(
     Ok(Link::of(&bytes))
 }
 
-/// Gives the block that a link names back: 66 where the disk has no such block.
+/// Gives the block that a link names back: 66 if the disk has no such block.
 fn give_at(geometry: Geometry, at: Link, release: &mut Release) -> Result<Address, Trouble>
     ensures given { OnOk result (IsGiven geometry release.old release.new at) }
     ensures place { IfOk result (λ p. p ≡ at) }

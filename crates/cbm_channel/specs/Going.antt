@@ -71,9 +71,11 @@ abbrev pub closings_of : List ℕ → List (ℕ × (Machine → Machine))
 closings_of [] = []
 closings_of (ch ∷ chs) = (ch, close_one ch) ∷ closings_of chs
 
+-- the close of each channel, one after another
 abbrev pub closings : List (ℕ × (Machine → Machine))
 closings = closings_of channel_numbers
 
+-- what CLOSE of a channel closes: of 15 all channels, and its text goes
 abbrev pub closing : ℕ → List (ℕ × (Machine → Machine))
 closing ch = if ch == 15 then closings ++ (15, without_text 15) ∷ [] else (ch, close_one ch) ∷ []
 

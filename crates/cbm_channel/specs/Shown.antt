@@ -62,6 +62,7 @@ has_records (code.Records r) = true
 abbrev pub is_writing_on : {M : Type 0} → ℕ → Kept M → Bool
 is_writing_on ch k = is_writing (slice_index_or k.channels ch code.Closed)
 
+-- the channel has a relative file open
 abbrev pub has_records_on : {M : Type 0} → ℕ → Kept M → Bool
 has_records_on ch k = has_records (slice_index_or k.channels ch code.Closed)
 

@@ -62,6 +62,7 @@ channel_bytes (machine.Writing slot bytes blocks full replaces) = bytes
 channel_bytes (machine.Stopped slot) = []
 channel_bytes (machine.Relative slot k p) = []
 
+-- the blocks that a channel has written
 abbrev pub channel_blocks : machine.Channel → ℕ
 channel_blocks machine.Closed = 0
 channel_blocks (machine.Reading slot left) = 0

@@ -9,10 +9,10 @@ use cbm_listing::Listing;
 use cbm_machine::Code;
 use cbm_volume::{ChainReader, FileWriter, Medium, Trouble, Volume};
 
-/// What a channel costs of the drive's buffers where a file or a listing is open.
+/// What a channel costs of the drive's buffers if a file or a listing is open.
 pub(crate) const FILE_COST: usize = 1;
 
-/// The same where records are.
+/// The same if records are.
 pub(crate) const RECORDS_COST: usize = 2;
 
 /// What all open channels cost at most.
@@ -43,7 +43,7 @@ fn first_of(bytes: &[u8]) -> Option<(u8, bool)>
     Some((*byte, rest.is_empty()))
 }
 
-/// What the channels cost that are open: two where records are, else one.
+/// What the channels cost that are open: two if records are, else one.
 pub(crate) fn open_count(channels: &[Channel]) -> usize
     ensures value { result ≡ sum_by cost_on channels.now }
     ensures few { result ≤ 2 * length channels.now }
@@ -124,7 +124,7 @@ impl Channel {
         }
     }
 
-    /// What it refuses where it is asked to talk: 61 where it isn't open for reading, 50 where its record isn't there.
+    /// What it refuses if it is asked to talk: 61 if it isn't open for reading, 50 if its record isn't there.
     pub(crate) fn talk_refused(&self) -> Option<Code>
         ensures { result ≡ talk_refused self.now }
     {
@@ -248,9 +248,9 @@ impl Channel {
         }
     }
 
-    /// Adds a byte to a file that is written; false where it is the first for which no block is free, and from then on
+    /// Adds a byte to a file that is written; false if it is the first for which no block is free, and from then on
     /// bytes are dropped. On a channel that isn't written it is dropped. Errors: why a write was refused; the channel
-    /// takes no more bytes then.
+    /// takes no bytes then.
     pub(crate) fn put<M: Medium>(
         &mut self,
         volume: &mut Volume<M>,
@@ -284,7 +284,7 @@ impl Channel {
     }
 
     /// A text for the records that it has open is one write of the record of its place. Answers whether some bytes
-    /// didn't fit, or None where the file would be too large: nothing has changed then. On a channel without records
+    /// didn't fit, or None if the file would be too large: nothing has changed then. On a channel without records
     /// nothing becomes of the text. Errors: why a write was refused, or why the next record can't be read.
     pub(crate) fn write_record<M: Medium>(
         &mut self,

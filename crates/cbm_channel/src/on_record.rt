@@ -68,7 +68,7 @@ fn byte_at(bytes: &[u8], position: u8) -> u8
     if place < bytes.len() { bytes[place] } else { 0 }
 }
 
-/// What waits where this was read.
+/// What waits if this was read.
 fn waiting_of(read: Option<Record>) -> Waiting
     ensures same { record_of result ≡ option_map (λ r. r.items) read }
     ensures whole { is_broken result ≡ false }
@@ -197,7 +197,7 @@ impl OnRecord {
         Ok(())
     }
 
-    /// Goes to the next record's first byte, where that record was read already. Errors: why it can't be read; nothing
+    /// Goes to the next record's first byte, if that record was read already. Errors: why it can't be read; nothing
     /// waits then.
     fn go_on(&mut self, next: Result<Option<Record>, Trouble>) -> Result<(), Trouble>
         requires number { self.old.number ≤ 195072 }
@@ -217,7 +217,7 @@ impl OnRecord {
         Ok(())
     }
 
-    /// The byte that waits was taken: the next one of the record waits, or the next record's first one. Where no record
+    /// The byte that waits was taken: the next one of the record waits, or the next record's first one. If no record
     /// waits nothing happens. Errors: why the next record can't be read, of which nothing waits then.
     pub(crate) fn taken<M: Medium>(&mut self, volume: &Volume<M>) -> Result<(), Trouble>
         ensures moved { IsMoved self.old.waiting self.old self.new result }
@@ -236,7 +236,7 @@ impl OnRecord {
     }
 
     /// Writes these bytes into the record of the place, from its position on. Answers whether some bytes didn't fit, or
-    /// None where the record isn't there: nothing has changed then. Errors: why a write was refused.
+    /// None if the record isn't there: nothing has changed then. Errors: why a write was refused.
     fn write<M: Medium>(
         &self,
         volume: &mut Volume<M>,
@@ -256,7 +256,7 @@ impl OnRecord {
         volume.write_record(self.slot, self.number, self.position, bytes)
     }
 
-    /// The file grows until the record of the place is there. False where it would be too large: nothing has changed
+    /// The file grows until the record of the place is there. False if it would be too large: nothing has changed
     /// then. Errors: why a write was refused.
     fn grow<M: Medium>(&self, volume: &mut Volume<M>) -> Result<bool, Trouble>
         ensures grown { GrowsToPlace (M.seen volume.old) (M.seen volume.new) self.now result }
@@ -269,7 +269,7 @@ impl OnRecord {
         volume.grow_records(self.slot, self.number)
     }
 
-    /// As `write`, where a record that isn't there is made: None says that the file would be too large, and nothing has
+    /// As `write`, if a record that isn't there is made: None says that the file would be too large, and nothing has
     /// changed then.
     fn store<M: Medium>(
         &self,
@@ -294,10 +294,10 @@ impl OnRecord {
         }
     }
 
-    /// A text is one write of the record of the place, which is made where it isn't there; after it the place is the
-    /// next record's first byte. Answers whether some bytes didn't fit, or None where the file would be too large: nothing
+    /// A text is one write of the record of the place, which is made if it isn't there; after it the place is the
+    /// next record's first byte. Answers whether some bytes didn't fit, or None if the file would be too large: nothing
     /// has changed then. Errors: why a write was refused, of which the record may have a beginning; the place stays, and
-    /// is read anew. Or why the next record can't be read, of which nothing waits then.
+    /// is read again. Or why the next record can't be read, of which nothing waits then.
     pub(crate) fn write_record<M: Medium>(
         &mut self,
         volume: &mut Volume<M>,

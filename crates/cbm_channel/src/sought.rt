@@ -5,7 +5,7 @@ use cbm_command::{Name, matches};
 use cbm_file::FileType;
 use cbm_volume::{Entry, Wanted};
 
-/// A file that is looked for by a pattern, and by its type where one is meant.
+/// A file that is looked for by a pattern, and by its type if one is meant.
 #[derive(Drop)]
 pub(crate) struct Sought<'a> {
     pub(crate) pattern: &'a Name,

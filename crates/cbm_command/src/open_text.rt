@@ -114,7 +114,7 @@ fn by_channel(channel: u8, wanted: Wanted) -> Wanted
     }
 }
 
-/// The type that is meant where none is given.
+/// The type that is meant if none is given.
 fn default_kind(channel: u8, mode: Mode) -> Option<FileType>
     ensures { result ≡ default_kind channel mode }
 {

@@ -15,7 +15,7 @@ pub enum Refusal {
     /// 32: more than 58 bytes.
     #[error("more than 58 bytes")]
     LongText,
-    /// 33: a pattern where a name is written.
+    /// 33: a pattern if a name is written.
     #[error("a pattern where a name is written")]
     WildName,
     /// 34: an empty name or pattern, or no name at all.

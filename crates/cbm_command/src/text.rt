@@ -15,7 +15,7 @@ pub(crate) fn contains(byte: u8, text: &[u8]) -> bool
     false
 }
 
-/// The part of a text before the first such byte; all where there is none.
+/// The part of a text before the first such byte; all if there is none.
 pub(crate) fn before_first(byte: u8, text: &[u8]) -> &[u8]
     ensures { result.now ≡ before_byte byte text.now }
 {
@@ -27,7 +27,7 @@ pub(crate) fn before_first(byte: u8, text: &[u8]) -> &[u8]
     text
 }
 
-/// What follows the first such byte; nothing where there is none.
+/// What follows the first such byte; nothing if there is none.
 pub(crate) fn after_the_first(byte: u8, text: &[u8]) -> &[u8]
     ensures value { result.now ≡ after_byte byte text.now }
     ensures short { length result.now ≤ length text.now }

@@ -28,6 +28,7 @@ sectors_before t =
     else if nat_lt t 31 then 18 * t + 40
     else 17 * t + 71
 
+-- how many sectors of the image come before this one
 abbrev pub index_of : Place → ℕ
 index_of p = sectors_before p.track + p.sector
 
@@ -43,6 +44,7 @@ code_of_error e =
     else if e == 11 then Some 29
     else None
 
+-- the bytes of a sector, or the fault of its error byte
 abbrev pub cell_of : Option ℕ → List ℕ → Cell
 cell_of None bytes = Ok bytes
 cell_of (Some code) bytes = Err code
@@ -51,6 +53,7 @@ cell_of (Some code) bytes = Err code
 abbrev pub error_at : List ℕ → ℕ → ℕ
 error_at image i = if length image == 175531 then slice_index image (174848 + i) else 1
 
+-- the bytes of the sector with this number
 abbrev pub sector_at : List ℕ → ℕ → List ℕ
 sector_at image i = take 256 (drop (256 * i) image)
 

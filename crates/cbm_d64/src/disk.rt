@@ -43,7 +43,7 @@ impl D64Disk {
         Ok(D64Disk { bytes, protected })
     }
 
-    /// The image of the disk, byte for byte that of its file where nobody wrote. Takes memory for it.
+    /// The image of the disk, byte for byte that of its file if nobody wrote. Takes memory for it.
     pub fn to_bytes(&self, alloc: Global) -> Result<Vec<u8>, D64Fault>
         ensures ok { IfOk result (λ v. v.items ≡ self.now.bytes) }
         // It has the size of an image, so that it opens again.

@@ -65,7 +65,7 @@ fn fault_code(error: u8) -> Option<u8>
     }
 }
 
-/// The fault of a sector, where its error byte is one.
+/// The fault of a sector, if its error byte is one.
 pub fn code_at(image: &[u8], place: usize) -> Option<u8>
     requires { place < sectors_in (length image.now) }
     ensures { result ≡ code_of_error (error_at image.now place) }

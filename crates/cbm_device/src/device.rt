@@ -84,7 +84,7 @@ fn powered(disk: ImageDisk, party: Party) -> Drive<Desk<ImageDisk>>
 }
 
 impl Device {
-    /// A drive that is switched on with the disk of an image. Errors: `Invalid` where the device number isn't 8 to 11 or the
+    /// A drive that is switched on with the disk of an image. Errors: `Invalid` if the device number isn't 8 to 11 or the
     /// reaction not 1 to 60, `NoImage`, `Memory`.
     pub fn open(
         alloc: Global,
@@ -136,7 +136,7 @@ impl Device {
         }
     }
 
-    /// From this moment on all others together hold these lines. Where several change, ATN does first, then CLOCK, then DATA. The
+    /// From this moment on all others together hold these lines. If several change, ATN does first, then CLOCK, then DATA. The
     /// one error is `Invalid`: something happened later already, a reaction is due before, or the moment is none.
     pub fn lines(&mut self, moment: u64, others: Lines) -> Result<(), DeviceRefusal>
         ensures in_time { OnOk result (IsOnTime moment self.old) }
@@ -166,7 +166,7 @@ impl Device {
         Ok(())
     }
 
-    /// When the next reaction is due, in microseconds; None where nothing is due.
+    /// When the next reaction is due, in microseconds; None if nothing is due.
     #[inline(always)]
     pub fn next_due(&self) -> Option<u64>
         ensures { result ≡ port_due self.now.seat.port }
@@ -249,7 +249,7 @@ impl Device {
 
     /// The image of the disk that is in the drive, in the format in which it was put in, goes to the
     /// caller's room, and how many bytes it has is reported; a file that is being written stands in it as on the disk, not closed.
-    /// Errors: `Memory`, `NoRoom`, `Absent` where there is no disk.
+    /// Errors: `Memory`, `NoRoom`, `Absent` if there is no disk.
     pub fn image(
         &self,
         alloc: Global,
@@ -289,7 +289,7 @@ impl Device {
     }
 
     /// The disk is taken out, while the drive goes on, and its image goes to the caller's room. Errors: `Memory`, `NoRoom`, `Absent`
-    /// where there is none; then nothing has happened.
+    /// if there is none; then nothing has happened.
     pub fn eject(
         &mut self,
         alloc: Global,

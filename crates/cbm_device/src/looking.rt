@@ -90,7 +90,7 @@ pub fn entry(alloc: Global, image: &[u8], slot: u8) -> Result<Entry, DeviceRefus
     }
 }
 
-/// The bytes of a sector of an image. Errors: `NoImage`, `Memory`, `Absent` where the disk has no such sector, or the fault that
+/// The bytes of a sector of an image. Errors: `NoImage`, `Memory`, `Absent` if the disk has no such sector, or the fault that
 /// stands in place of its bytes.
 pub fn sector(
     alloc: Global,

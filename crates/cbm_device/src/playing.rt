@@ -12,7 +12,7 @@ use crate::refusal::DeviceRefusal;
 use cbm_drive::{Bus, Change, Desk, Drive, Event, Party, PlayFault};
 
 /// A drive is switched on with this disk and played under these changes of the host, up to an end, in microseconds: all events, the
-/// host's and the drive's, come one after the other, and the disk as it is then. Errors: `Invalid`, where a change goes back in time
+/// host's and the drive's, come one after the other, and the disk as it is then. Errors: `Invalid`, if a change goes back in time
 /// or comes after the end, and then nothing was played; `Memory`.
 pub fn play(
     disk: ImageDisk,

@@ -17,7 +17,7 @@ pub fn give(bytes: &[u8], out: &mut [u8], needed: &mut usize) -> Result<(), Devi
     Ok(())
 }
 
-/// What was made goes to the caller's room. Errors: `NoRoom`, and where nothing was made why not.
+/// What was made goes to the caller's room. Errors: `NoRoom`, and if nothing was made why not.
 pub fn given(
     made: Result<Vec<u8>, DeviceRefusal>,
     out: &mut [u8],

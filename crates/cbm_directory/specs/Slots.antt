@@ -21,6 +21,7 @@ pub record Listed : Type 0 where
   pub entries : List (List ℕ)
   pub trouble : Option Trouble
 
+-- the entries of the directory's sectors, and what ended its chain
 abbrev pub listed_in : Content → Followed → Listed
 listed_in content f = record { entries = all_entries content f.blocks; trouble = f.trouble }
 

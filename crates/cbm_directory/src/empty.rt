@@ -22,7 +22,7 @@ impl Wanted for AnEmptySlot {
     }
 }
 
-/// The number of the first empty slot, counted from 0; None where none is. An `Err` is what breaks the directory off
+/// The number of the first empty slot, counted from 0; None if none is. An `Err` is what breaks the directory off
 /// before one was met.
 pub fn first_empty<M: Medium>(medium: &M, geometry: Geometry) -> Result<Option<u8>, Trouble>
     requires { geometry ≤ (M.seen medium.now).tracks }
@@ -34,9 +34,9 @@ pub fn first_empty<M: Medium>(medium: &M, geometry: Geometry) -> Result<Option<u
     Ok(Some(number))
 }
 
-/// The number of the first empty slot; where none is, the directory grows first. None, with nothing changed, where
+/// The number of the first empty slot; if none is, the directory grows first. None, with nothing changed, if
 /// track 18 has no free sector, or the directory has eighteen. An `Err` is what breaks the directory off, or what refused its growth: it leaves the
-/// directory as it was, with at most a sector of track 18 claimed, or grown where it breaks off only then.
+/// directory as it was, with at most a sector of track 18 claimed, or grown if it breaks off only then.
 pub fn empty_slot<M: Medium>(medium: &mut M, geometry: Geometry) -> Result<Option<u8>, Trouble>
     requires { geometry ≤ (M.seen medium.old).tracks }
     ensures taken { IfOk result (TakesSlot geometry (M.seen medium.old).content (M.seen medium.new).content) }

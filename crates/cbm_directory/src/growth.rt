@@ -67,7 +67,7 @@ fn blank() -> [u8; 256]
 }
 
 /// Makes room for eight more entries: claims a free sector of track 18, writes it as the new last sector, then links
-/// the old last sector to it. False, with nothing changed, where track 18 has no free sector, or the directory has
+/// the old last sector to it. False, with nothing changed, if track 18 has no free sector, or the directory has
 /// eighteen, whatever the map says. An `Err` leaves the directory as it was, with at most that sector claimed.
 pub fn grow<M: Medium>(medium: &mut M, geometry: Geometry) -> Result<bool, Trouble>
     requires { geometry ≤ (M.seen medium.old).tracks }

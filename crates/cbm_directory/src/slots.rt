@@ -54,7 +54,7 @@ impl Slots {
         }
     }
 
-    /// Reads the next sector where this one is used up and another follows.
+    /// Reads the next sector if this one is used up and another follows.
     fn fill<M: Medium>(&mut self, medium: &M) -> Result<(), Trouble>
         requires { self.old.tracks ≤ (M.seen medium.now).tracks }
         ensures left { listed_left (M.seen medium.now).content self.new ≡ listed_left (M.seen medium.now).content self.old }
@@ -119,7 +119,7 @@ pub trait Wanted {
         ensures { result ≡ wants self.now entry.now };
 }
 
-/// The first entry that is wanted, and the number of its slot; None where none is. An `Err` is what breaks the
+/// The first entry that is wanted, and the number of its slot; None if none is. An `Err` is what breaks the
 /// directory off before one was met.
 pub fn find<M: Medium, W: Wanted>(
     medium: &M,

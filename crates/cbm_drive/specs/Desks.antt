@@ -3,7 +3,7 @@ use Rattle.std.specs.Prelude.{ℕ, ◌≡◌, ◌<◌, ◌≤◌, Bool, true, fa
 use Rattle.cbm_medium.specs.Seen.{Seen}
 use Rattle.cbm_machine.specs.Machines.{Machine}
 use Rattle.cbm_machine.specs.Closing.{close}
-use Rattle.cbm_machine.specs.Talking.{after_talk, talk_keeping_error, after_listen, peek, taken}
+use Rattle.cbm_machine.specs.Talking.{after_talk, talk_keeping_error, after_listen, listen_keeping_error, peek, taken}
 use Rattle.cbm_machine.specs.Calls.{put, end_put, after_open}
 use Rattle.cbm_channel.specs.Shown.{shown_by}
 use Rattle.cbm_channel.specs.Standing.{Kept, Stands, Leads}
@@ -37,9 +37,14 @@ abbrev pub talked_to : Pace → ℕ → Machine → Machine
 talked_to Profile channel m = after_talk channel m
 talked_to Kernal channel m = talk_keeping_error channel m
 
+-- A listener's channel is asked to take bytes; at a KERNAL's pace an error stays that nobody has begun to read.
+abbrev pub listened_to : Pace → ℕ → Machine → Machine
+listened_to Profile channel m = after_listen channel m
+listened_to Kernal channel m = listen_keeping_error channel m
+
 -- $60 asks a listener's channel to take bytes, or a talker's to send; $E0 closes a listener's, at once. To others they are nothing.
 abbrev pub seconded : Pace → Option Secondary → Role → Machine → Machine
-seconded pace (Some (Data channel)) Listener m = after_listen channel m
+seconded pace (Some (Data channel)) Listener m = listened_to pace channel m
 seconded pace (Some (Data channel)) Talker m = talked_to pace channel m
 seconded pace (Some (Close channel)) Listener m = close channel m
 seconded pace secondary role m = m

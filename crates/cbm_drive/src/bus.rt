@@ -80,7 +80,7 @@ impl<D: Machine, const N: usize> Bus<D, N> {
         is_free && all_rest(self.drives.as_slice())
     }
 
-    /// When the next reaction is due, in microseconds; None where no drive's is.
+    /// When the next reaction is due, in microseconds; None if no drive's is.
     pub fn next_due(&self) -> Option<u64>
         ensures { MatchOption result (AreIdle self.now.drives) (IsDueFirst self.now.drives) }
     {
@@ -102,7 +102,7 @@ impl<D: Machine, const N: usize> Bus<D, N> {
     }
 
     /// The reaction that is due first happens, to be called at the moment that `next_due` answers: all other drives see
-    /// each line that the drive changes, with what is held then. None where no reaction is due. One reaction less is due at this
+    /// each line that the drive changes, with what is held then. None if no reaction is due. One reaction less is due at this
     /// moment then, and none before it, also on disks that aren't sound.
     pub fn due(&mut self, moment: u64) -> Option<Answer>
         requires { moment < 2 ^ 60 }
@@ -142,7 +142,7 @@ impl<D: Machine, const N: usize> Bus<D, N> {
         first_shown(self.drives.as_mut_slice(), self.host, limit)
     }
 
-    /// The quick way of `first_shown` where a drive alone on the cable says half of a bit before a limit. None where there are
+    /// The quick way of `first_shown` if a drive alone on the cable says half of a bit before a limit. None if there are
     /// more drives, or something else is due, or nothing, and then nothing has changed.
     #[inline(always)]
     pub(crate) fn half(&mut self, limit: u64) -> Option<Half>

@@ -105,7 +105,7 @@ impl<M: Medium> Desk<M> {
     ghost use Rattle.cbm_volume.specs.Holding.{HoldsDisk};
     ghost use Rattle.cbm_drive.specs.Addressing.{unaddressed, paced, attended, waiting, name_heard, atn_released, secondary_of, channel_named, channel_heard, channel_said, channel_ended, addressed_after};
     ghost use Rattle.cbm_drive.specs.Desks as desks;
-    ghost use Rattle.cbm_drive.specs.Desks.{talked_to, seconded, ending, put_to, taken_from, desk_asked, desk_says, desk_shows, DeskStands, LeadsUnfailed, IsAlike};
+    ghost use Rattle.cbm_drive.specs.Desks.{talked_to, listened_to, seconded, ending, put_to, taken_from, desk_asked, desk_says, desk_shows, DeskStands, LeadsUnfailed, IsAlike};
 
     /// ATN was pulled: what a listener was sent ends, and the secondary address goes.
     fn pulled(&mut self)
@@ -143,7 +143,7 @@ impl<M: Medium> Desk<M> {
         ensures counted { (M.seen self.old.dos.medium).failures ≤ (M.seen self.new.dos.medium).failures }
     {
         match (secondary, self.addressee.role()) {
-            (Some(Secondary::Data(channel)), Role::Listener) => self.dos.listen(channel),
+            (Some(Secondary::Data(channel)), Role::Listener) => self.listen(channel),
             (Some(Secondary::Data(channel)), Role::Talker) => self.talk(channel),
             (Some(Secondary::Close(channel)), Role::Listener) => close(&mut self.dos, channel),
             _ => {}
@@ -161,6 +161,20 @@ impl<M: Medium> Desk<M> {
         match self.addressee.pace() {
             Pace::Profile => self.dos.talk(channel),
             Pace::Kernal => self.dos.talk_keeping_error(channel),
+        }
+    }
+
+    /// A listener's channel is asked to take bytes, by the drive's pace.
+    fn listen(&mut self, channel: u8)
+        requires { channel ≤ 15 }
+        ensures leads { LeadsUnfailed M.seen self.old.dos self.new.dos (listened_to self.old.addressed.pace channel) }
+        ensures addressed { self.new.addressed ≡ self.old.addressed }
+        ensures tracks { (M.seen self.new.dos.medium).tracks ≡ (M.seen self.old.dos.medium).tracks }
+        ensures counted { (M.seen self.old.dos.medium).failures ≤ (M.seen self.new.dos.medium).failures }
+    {
+        match self.addressee.pace() {
+            Pace::Profile => self.dos.listen(channel),
+            Pace::Kernal => self.dos.listen_keeping_error(channel),
         }
     }
 

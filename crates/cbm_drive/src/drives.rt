@@ -14,10 +14,10 @@ use crate::wires::Wires;
 use arrayvec::ArrayVec;
 use cbm_iec::{Change, Lines, Machine};
 
-/// What a drive did where its reaction was due: at most one change of CLOCK, then one of DATA.
+/// What a drive did if its reaction was due: at most one change of CLOCK, then one of DATA.
 #[derive(Drop)]
 pub struct Answer {
-    /// The lines that it changed, in that order; none where it holds the same as before.
+    /// The lines that it changed, in that order; none if it holds the same as before.
     pub changes: ArrayVec<Change, 2>,
     /// Its device number.
     pub device: u8,

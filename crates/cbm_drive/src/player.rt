@@ -100,7 +100,7 @@ impl Player {
     }
 
     /// The next event at a moment or before it. A change pending for that moment or before comes, before reactions of its own
-    /// moment, or a drive's comes before it. None where none comes by then, and then the player and the drives are as they were.
+    /// moment, or a drive's comes before it. None if none comes by then, and then the player and the drives are as they were.
     #[inline(always)]
     pub fn next<D: Machine, const N: usize>(
         &mut self,
@@ -127,8 +127,8 @@ impl Player {
         }
     }
 
-    /// The quick way of `next` where a drive alone on the bus says half of a bit, up to a moment, and no change is pending: its changes
-    /// come at once, CLOCK's and then DATA's, if that changes. None where anything else comes, or nothing, and then the
+    /// The quick way of `next` if a drive alone on the bus says half of a bit, up to a moment, and no change is pending: its changes
+    /// come at once, CLOCK's and then DATA's, if that changes. None if anything else comes, or nothing, and then the
     /// player and the drive are as they were.
     #[inline(always)]
     pub fn half<D: Machine, const N: usize>(
@@ -150,7 +150,7 @@ impl Player {
         Some(half)
     }
 
-    /// The next event up to a moment, as `next` gives it, at the end: where no other comes by then, the reactions that change no
+    /// The next event up to a moment, as `next` gives it, at the end: if no other comes by then, the reactions that change no
     /// line happen too, so that nothing is due any more. The host changes nothing more up to that moment.
     pub fn finish<D: Machine, const N: usize>(
         &mut self,
@@ -176,7 +176,7 @@ impl Player {
         }
     }
 
-    /// A law, and nothing is done: where the drives were at rest and the host keeps the bus's timing, the events that were
+    /// A law, and nothing is done: if the drives were at rest and the host keeps the bus's timing, the events that were
     /// given are, up to any moment before the next reaction is due, a beginning of a session in which each byte talked is
     /// the machine's answer, and no reaction is late.
     pub fn keeps<D: Machine, const N: usize>(&self, bus: &Bus<D, N>)
@@ -211,7 +211,7 @@ impl Player {
         })
     }
 
-    /// What a drive shows at a moment or before it, where no change is pending up to there.
+    /// What a drive shows at a moment or before it, if no change is pending up to there.
     #[inline(always)]
     fn reaction<D: Machine, const N: usize>(
         &mut self,

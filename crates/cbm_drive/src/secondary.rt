@@ -16,7 +16,7 @@ pub enum Secondary {
 }
 
 impl Secondary {
-    /// What the byte asks, None where it is no secondary address.
+    /// What the byte asks, None if it is no secondary address.
     pub fn of(byte: u8) -> Option<Secondary>
         ensures value { result ≡ secondary_of byte }
         ensures channel { IfSome result (λ s. channel_named s ≤ 15) }

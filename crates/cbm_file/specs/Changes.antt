@@ -68,15 +68,18 @@ abbrev pub replaced_in : Option File → Disk → ℕ → List ℕ → ℕ → D
 replaced_in None d n bytes blocks = d
 replaced_in (Some f) d n bytes blocks = record (with_slot d n (Some (finished f bytes blocks))) { free = d.free + f.held }
 
+-- the disk after the file of a slot has other bytes in so many blocks
 abbrev pub with_replaced : Disk → ℕ → List ℕ → ℕ → Disk
 with_replaced d n bytes blocks = replaced_in (file_at d n) d n bytes blocks
 
 -- ---- a file that is scratched: its slot is empty, and what it held is free; one that isn't closed held nothing
 
+-- a file goes out of its slot, and its blocks are free
 abbrev pub scratched_in : Option File → Disk → ℕ → Disk
 scratched_in None d n = d
 scratched_in (Some f) d n = record (with_slot d n None) { free = d.free + blocks_held (Some f) }
 
+-- the disk after SCRATCH of a slot
 abbrev pub scratched : Disk → ℕ → Disk
 scratched d n = scratched_in (file_at d n) d n
 

@@ -22,7 +22,7 @@ fn circle(bytes: &[u8]) -> Track
     }
 }
 
-/// The circle of a track, one without sync mark where there is no track.
+/// The circle of a track, one without sync mark if there is no track.
 #[tactic(auto, unfolding(crate::specs::File::is_track_inside, crate::specs::File::is_sized, crate::specs::File::size, crate::specs::File::track_in))]
 fn track_at(file: &[u8], i: usize) -> Track
     requires track { i < 35 }

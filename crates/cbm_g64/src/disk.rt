@@ -124,7 +124,7 @@ impl G64Disk {
         image_of(alloc, medium, id)
     }
 
-    /// The circle of a track as it stands; `None` where the image has no such track or it isn't 1
+    /// The circle of a track as it stands; `None` if the image has no such track or it isn't 1
     /// to 35.
     pub fn track(&self, track: u8) -> Option<&Track>
         ensures some { IsSome result ↔ HasTrack self.now track }

@@ -4,7 +4,7 @@ ghost use Rattle.cbm_g64.specs.Numbers.{g64_fault_number};
 use thiserror::Error;
 
 /// Why an image isn't taken. The faults are tested in this order, each over all tracks, but memory
-/// last; a field that the file hasn't counts as wrong.
+/// last; a field that the file lacks counts as wrong.
 #[derive(Clone, Copy, Debug, PartialEq, Eq, Error)]
 pub enum G64Fault {
     /// The file doesn't begin with `GCR-1541`.

@@ -11,7 +11,7 @@ pub(crate) fn ten_of(byte: u8) -> u64
     32 * code_of(byte / 16) as u64 + code_of(byte % 16) as u64
 }
 
-/// The byte of ten bits, where they are one's code.
+/// The byte of ten bits, if they are one's code.
 pub(crate) fn byte_of(ten: u64) -> Option<u8>
     requires { ten < 1024 }
     ensures { (b : ℕ) → b < 256 → ((result ≡ Some b) ↔ (ten ≡ ten_bits b)) }

@@ -19,7 +19,7 @@ pub fn encode4(bytes: &[u8; 4]) -> [u8; 5]
     ]
 }
 
-/// The four bytes that five are the code of; `None` exactly where they are the code of none.
+/// The four bytes that five are the code of; `None` exactly if they are the code of none.
 pub fn decode5(coded: &[u8; 5]) -> Option<[u8; 4]>
     ensures value { (v : List ℕ) → IsFourBytes v → ((result ≡ Some v) ↔ (code v ≡ bits_of coded.now)) }
     ensures block { IfSome result IsFourBytes }

@@ -17,7 +17,7 @@ pub(crate) fn code_of(nibble: u8) -> u8
 /// What means no nibble, in both tables: more than any byte.
 const NONE: u16 = 256;
 
-/// The nibbles of five bits, `NONE` where they are the code of none.
+/// The nibbles of five bits, `NONE` if they are the code of none.
 const NIBBLES: [u16; 32] = [
     NONE, NONE, NONE, NONE, NONE, NONE, NONE, NONE, NONE, 8, 0, 1, NONE, 12, 4, 5, NONE, NONE, 2,
     3, NONE, 15, 6, 7, NONE, 9, 10, 11, NONE, 13, 14, NONE,
@@ -29,7 +29,7 @@ const HIGH_NIBBLES: [u16; 32] = [
     NONE, 32, 48, NONE, 240, 96, 112, NONE, 144, 160, 176, NONE, 208, 224, NONE,
 ];
 
-/// The nibble of five bits; 256 where they are the code of none.
+/// The nibble of five bits; 256 if they are the code of none.
 pub(crate) fn low_of(five: usize) -> u16
     requires { five < 32 }
     ensures value { (n : ℕ) → n < 16 → five ≡ nibble_code n → result ≡ n }
@@ -39,7 +39,7 @@ pub(crate) fn low_of(five: usize) -> u16
     NIBBLES[five]
 }
 
-/// Sixteen times the nibble of five bits; 256 where they are the code of none.
+/// Sixteen times the nibble of five bits; 256 if they are the code of none.
 pub(crate) fn high_of(five: usize) -> u16
     requires { five < 32 }
     ensures value { (n : ℕ) → n < 16 → five ≡ nibble_code n → result ≡ 16 * n }

@@ -10,12 +10,12 @@ use Rattle.cbm_machine.specs.Closing.{close}
 use Rattle.cbm_machine.specs.Machines.{Machine}
 use Rattle.cbm_machine.specs.Plans.{open_text}
 use Rattle.cbm_machine.specs.Statuses.{status_line}
-use Rattle.cbm_machine.specs.Talking.{taken, after_talk, after_listen}
+use Rattle.cbm_machine.specs.Talking.{taken, after_talk}
 use Rattle.cbm_drive.specs.Addressing.{Addressed, secondary_of, role_turned, role_taken_up}
 use Rattle.cbm_machine.specs.Told.{is_unread_error, told_by}
 use Rattle.cbm_iec.specs.declared.pace.Pace.TheVariants.{Profile, Kernal}
 use Rattle.cbm_iec.specs.declared.pace.Pace.{Pace}
-use Rattle.cbm_drive.specs.Desks.{Desk, talked_to, seconded, desk_step, desk_says}
+use Rattle.cbm_drive.specs.Desks.{Desk, talked_to, listened_to, seconded, desk_step, desk_says}
 use Rattle.cbm_drive.specs.declared.secondary.Secondary.{Secondary}
 use Rattle.cbm_drive.specs.declared.secondary.Secondary.TheVariants.{Data, Close as CloseOf, Open as OpenOf}
 use Rattle.cbm_file.specs.Waiting.{next_shown}
@@ -24,8 +24,8 @@ use Rattle.cbm_host.proofs.Statuses.{left_after_it, enough, left_short}
 use Rattle.cbm_iec.specs.Attentions.{listen as listen_to, unlisten, talk as talk_to, untalk, data_on, open_on}
 use Rattle.cbm_host.specs.CarriedOut.{acts_heard, spoken, said, acts_called, left_by, acts_carried_out, IsTakenUpTo, AreTakenBy, SaysOn, IsShort}
 use Rattle.cbm_host.specs.Engines.{channel_of, most_of}
-use Rattle.cbm_talk.specs.Talks.{puts, hear_bytes, TalkSaid, says, status_said}
-use Rattle.cbm_host.specs.Served.{served, at_power_up, IsServed, IsModest}
+use Rattle.cbm_talk.specs.Talks.{puts, TalkSaid, says, status_said}
+use Rattle.cbm_host.specs.Served.{served, heard_at, at_power_up, IsServed, IsModest}
 use Rattle.cbm_host.specs.declared.request.Request.{Request}
 use Rattle.cbm_host.specs.declared.request.Request.TheVariants.{Open, Put, Fill, Get, Close, Status}
 use Rattle.cbm_iec.specs.Roles.{role_after}
@@ -152,7 +152,7 @@ module _ (pace : Pace) where
       (subst (λ (x : Desk Machine). Goes x (Released ∷ acts) y) two one.1).1
 
   data_called : (d ch : ℕ) (m : Machine) (acts : List Act) (y : Desk Machine) → d < 31 → ch ≤ 15
-      → Goes (at_power_up pace d m) (acts_called (listen_to + d) (data_on + ch) ++ acts) y → Goes (hearing d ch false [] (after_listen ch m)) acts y
+      → Goes (at_power_up pace d m) (acts_called (listen_to + d) (data_on + ch) ++ acts) y → Goes (hearing d ch false [] (listened_to pace ch m)) acts y
   data_called d ch m acts y small few r =
       let one : Goes (waits d Listener m) (Attention (96 + ch) ∷ Released ∷ acts) y =
       subst (λ (x : Desk Machine). Goes x (Attention (96 + ch) ∷ Released ∷ acts) y) (listened d m small) r.1.1 in
@@ -275,11 +275,11 @@ module _ (pace : Pace) where
 
   -- bytes that are sent
   sent_served : (d ch : ℕ) (sent : List ℕ) (m : Machine) (y : Desk Machine) → d < 31 → ch ≤ 15
-      → Goes (at_power_up pace d m) (acts_called (listen_to + d) (data_on + ch) ++ (acts_heard sent ++ left_by unlisten)) y → y ≡ at_power_up pace d (hear_bytes ch sent m)
+      → Goes (at_power_up pace d m) (acts_called (listen_to + d) (data_on + ch) ++ (acts_heard sent ++ left_by unlisten)) y → y ≡ at_power_up pace d (heard_at pace ch sent m)
   sent_served d ch sent m y small few r =
       let one = data_called d ch m (acts_heard sent ++ left_by unlisten) y small few r in
-      let two = put_each d ch sent (after_listen ch m) (left_by unlisten) y one in
-      unlistened d (hear_bytes ch sent m) y small two.1
+      let two = put_each d ch sent (listened_to pace ch m) (left_by unlisten) y one in
+      unlistened d (heard_at pace ch sent m) y small two.1
 
   -- WHAT THE ACTS OF A REQUEST COME TO
   pub serves : (d : ℕ) (request : Request) (m : Machine) (bytes : List ℕ) (last : Bool) (y : Desk Machine) → d < 31 → channel_of request ≤ 15 → AreTakenBy request bytes last

@@ -1,11 +1,11 @@
 -- What a request asks of the named-files machine of the drive, and what that says.
-use Rattle.cbm_talk.specs.Talks.{hear_bytes, TalkSaid, says, status_said}
+use Rattle.cbm_talk.specs.Talks.{puts, TalkSaid, says, status_said}
 use Rattle.std.specs.Prelude.{◌≡◌, ◌≤◌, ℕ, Bool, false, List, [], length, replicate}
 use Rattle.cbm_machine.specs.Machines.{Machine}
 use Rattle.cbm_machine.specs.Closing.{close}
 use Rattle.cbm_iec.specs.declared.pace.Pace.{Pace}
-use Rattle.cbm_machine.specs.Calls.{after_open}
-use Rattle.cbm_drive.specs.Desks.{Desk, at_first, with_pace, talked_to}
+use Rattle.cbm_machine.specs.Calls.{after_open, end_put}
+use Rattle.cbm_drive.specs.Desks.{Desk, at_first, with_pace, talked_to, listened_to}
 use Rattle.cbm_host.specs.CarriedOut.{AreBytes}
 use Rattle.cbm_host.specs.Engines.{sent_by, most_bytes}
 use Rattle.cbm_host.specs.declared.request.Request.{Request}
@@ -15,15 +15,19 @@ use Rattle.cbm_host.specs.declared.request.Request.TheVariants.{Open, Put, Fill,
 abbrev pub talked_at : Pace → ℕ → ℕ → Machine → TalkSaid
 talked_at pace ch most m = says most ch [] (talked_to pace ch m)
 
+-- What a channel hears, from a computer at a drive of this pace: at a KERNAL's an error stays that nobody has begun to read.
+abbrev pub heard_at : Pace → ℕ → List ℕ → Machine → Machine
+heard_at pace ch bytes m = end_put ch (puts ch bytes (listened_to pace ch m))
+
 -- nothing is said
 abbrev pub unsaid : Machine → TalkSaid
 unsaid m = record { bytes = []; marked = false; machine = m }
 
--- EACH REQUEST as calls of the machine, at a drive's pace: only what is got may depend on it
+-- EACH REQUEST as calls of the machine, at a drive's pace: only the status that a get or a put leaves may depend on it
 abbrev pub served : Pace → Request → Machine → TalkSaid
 served pace (Open channel text) m = unsaid (after_open channel text.now m)
-served pace (Put channel bytes) m = unsaid (hear_bytes channel bytes.now m)
-served pace (Fill channel count byte) m = unsaid (hear_bytes channel (replicate count byte) m)
+served pace (Put channel bytes) m = unsaid (heard_at pace channel bytes.now m)
+served pace (Fill channel count byte) m = unsaid (heard_at pace channel (replicate count byte) m)
 served pace (Get channel most) m = talked_at pace channel most m
 served pace (Close channel) m = unsaid (close channel m)
 served pace Status m = status_said m

@@ -10,7 +10,7 @@ use std::alloc::AllocError;
 pub struct Done {
     /// The bytes that the drive said.
     pub bytes: Vec<u8>,
-    /// Whether the last of them carried EOI; false where there is none.
+    /// Whether the last of them carried EOI; false if there is none.
     pub last: bool,
     /// When the request was over, in microseconds: all lines are free.
     pub end: u64,

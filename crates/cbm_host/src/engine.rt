@@ -177,7 +177,7 @@ impl<'a> Engine<'a> {
         }
     }
 
-    /// The next byte to the listener; where none is left UNLISTEN comes after a wait.
+    /// The next byte to the listener; if none is left UNLISTEN comes after a wait.
     fn send(&mut self, moment: u64, wait: u64)
         requires moment { moment < 2 ^ 60 }
         requires wait { wait ≤ 100 }

@@ -59,7 +59,7 @@ impl Frame {
         Some(Change { moment, line, way })
     }
 
-    /// That change was made; while bits are sent it writes no more than what changes.
+    /// That change was made; while bits are sent it writes only what changes.
     #[inline(always)]
     pub(crate) fn make(&mut self, moment: u64)
         requires { moment < 2 ^ 60 }
@@ -124,7 +124,7 @@ impl Bits {
         self.left % 2 == 0
     }
 
-    /// The change of DATA where the next bit wants one.
+    /// The change of DATA if the next bit wants one.
     fn toggle(self) -> Way
         ensures { result ≡ toggle self }
     {

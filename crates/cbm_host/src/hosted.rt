@@ -92,7 +92,7 @@ impl<M: Medium> Hosted<M> {
         Performer::with_pace(self.moment, self.device, request, self.pace)
     }
 
-    /// Goes on with a request to the next byte that the host takes, and answers it and whether it carries EOI. None where the
+    /// Goes on with a request to the next byte that the host takes, and answers it and whether it carries EOI. None if the
     /// request is over, and then the drive rests again; so it is on any disk (`anyway`). Whatever the drive represents, less is
     /// left to come after a byte.
     pub fn take(&mut self, performer: &mut Performer) -> Option<(u8, bool)>
@@ -125,7 +125,7 @@ impl<M: Medium> Hosted<M> {
     }
 
     /// Carries out a request: an OPEN or a command, bytes put, a CLOSE, or a get or a status, of which it lets go what the drive
-    /// says. Where at most 200,000 bytes are moved, the drive then rests for the machine that the request leads to; on any disk it
+    /// says. If at most 200,000 bytes are moved, the drive then rests for the machine that the request leads to; on any disk it
     /// rests again, and the next request doesn't begin before this one.
     pub fn carry_out(&mut self, request: Request)
         requires moment { self.old.moment < 2 ^ 58 }

@@ -14,7 +14,7 @@ pub(crate) enum Left<'a> {
 }
 
 impl<'a> Left<'a> {
-    /// Takes the next one. None where none is left.
+    /// Takes the next one. None if none is left.
     pub(crate) fn next(&mut self) -> Option<u8>
         ensures { MatchOption result ((bytes_left self.old ≡ []) × (bytes_left self.new ≡ []))
             (λ byte. bytes_left self.old ≡ byte ∷ bytes_left self.new) }

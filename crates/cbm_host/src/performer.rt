@@ -88,7 +88,7 @@ impl<'a> Performer<'a> {
         }
     }
 
-    /// The next event, the host's or the drive's. None where the request is over. On any disk the same holds for a machine that
+    /// The next event, the host's or the drive's. None if the request is over. On any disk the same holds for a machine that
     /// plays back what the drive showed; and whatever the machine represents, less is left to come after an event.
     #[inline(always)]
     pub fn next<D: Machine, const N: usize>(&mut self, bus: &mut Bus<D, N>) -> Option<Event>
@@ -108,7 +108,7 @@ impl<'a> Performer<'a> {
         Some(event)
     }
 
-    /// Goes on to the next byte that the host takes, and answers it and whether it carries EOI. None where the request is
+    /// Goes on to the next byte that the host takes, and answers it and whether it carries EOI. None if the request is
     /// over. On any disk the same holds for a machine that plays back what the drive showed.
     #[inline(always)]
     pub fn next_byte<D: Machine, const N: usize>(
@@ -131,7 +131,7 @@ impl<'a> Performer<'a> {
         None
     }
 
-    /// The byte of the drive that the last event accepted, and whether it is the last one (EOI); None where it accepted
+    /// The byte of the drive that the last event accepted, and whether it is the last one (EOI); None if it accepted
     /// none.
     pub fn byte(&self) -> Option<(u8, bool)>
         ensures { result ≡ self.now.byte }
@@ -146,7 +146,7 @@ impl<'a> Performer<'a> {
         self.engine.end()
     }
 
-    /// When the request was over, in microseconds; where it was given up, the latest moment at which it could have been.
+    /// When the request was over, in microseconds; if it was given up, the latest moment at which it could have been.
     pub fn over(&self) -> u64
         ensures limit { result ≤ self.now.limit }
         ensures end { (t : ℕ) → stage_end self.now.engine.stage ≡ Some t → t ≤ self.now.limit → result ≡ t }
@@ -159,7 +159,7 @@ impl<'a> Performer<'a> {
         }
     }
 
-    /// A law, and nothing is done: where no more events come of a request to a drive at rest, of either pace, the request was
+    /// A law, and nothing is done: if no event is left to come of a request to a drive at rest, of either pace, the request was
     /// carried out, and its end is reported.
     pub fn carries_out<D: Machine, const N: usize>(&self, bus: &Bus<D, N>)
         ensures { EndsCarriedOut _ D.State D.stands D.step D.says self.now bus.now }
@@ -210,7 +210,7 @@ impl<'a> Performer<'a> {
         'halves: while self.half(bus) {}
     }
 
-    /// The next half of a bit, where the host waits for it. False where something else comes, or nothing, and then nothing has
+    /// The next half of a bit, if the host waits for it. False if something else comes, or nothing, and then nothing has
     /// changed. On any disk the same holds for a machine that plays back what the drive shows later.
     #[inline(always)]
     fn half<D: Machine, const N: usize>(&mut self, bus: &mut Bus<D, N>) -> bool
@@ -248,7 +248,7 @@ impl<'a> Performer<'a> {
         }
     }
 
-    /// What comes up to a moment, where the host does nothing else than what it has handed on.
+    /// What comes up to a moment, if the host does nothing else than what it has handed on.
     #[inline(always)]
     fn ask<D: Machine, const N: usize>(&mut self, bus: &mut Bus<D, N>, upto: u64) -> Option<Event>
         requires { upto ≤ self.old.limit }
@@ -260,7 +260,7 @@ impl<'a> Performer<'a> {
         self.player.next(bus, upto)
     }
 
-    /// What the drive does up to a moment, where no change of the host is due.
+    /// What the drive does up to a moment, if no change of the host is due.
     #[inline(always)]
     fn heed<D: Machine, const N: usize>(&mut self, bus: &mut Bus<D, N>, upto: u64) -> Option<Event>
         requires upto { upto ≤ self.old.limit }
@@ -311,7 +311,7 @@ impl<'a> Performer<'a> {
         self.ask(bus, change.moment)
     }
 
-    /// Hands the host's change that is due to the player, where it isn't pending there already. False where the player
+    /// Hands the host's change that is due to the player, if it isn't pending there already. False if the player
     /// refuses it, and then nothing has changed.
     #[inline(always)]
     fn hand_on(&mut self, change: Change) -> bool
@@ -322,7 +322,7 @@ impl<'a> Performer<'a> {
         self.player.waits() || self.player.offer(change).is_ok()
     }
 
-    /// What the drive does before a moment, or what the host does then where it does nothing.
+    /// What the drive does before a moment, or what the host does then if it does nothing.
     #[inline(always)]
     fn wait<D: Machine, const N: usize>(&mut self, bus: &mut Bus<D, N>, until: u64) -> Option<Event>
         requires due { engine_due self.old.engine ≡ Waits until }

@@ -119,7 +119,7 @@ fn run<D: Machine, const N: usize>(
     Ok(())
 }
 
-/// The next event of a request, and the byte that the host took with it. False where there is none. Error: want of memory.
+/// The next event of a request, and the byte that the host took with it. False if there is none. Error: want of memory.
 fn step<D: Machine, const N: usize>(
     performer: &mut Performer,
     bus: &mut Bus<D, N>,

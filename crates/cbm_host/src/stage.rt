@@ -87,7 +87,7 @@ pub(crate) enum Stage {
         at: u64,
         release: Release,
     },
-    /// The talker is to pull CLOCK; where it hasn't by then it has nothing to say.
+    /// The talker is to pull CLOCK; if it hasn't by then it has nothing to say.
     Turning(u64),
     /// A byte is taken.
     Taking(Take),

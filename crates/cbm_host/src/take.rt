@@ -29,7 +29,7 @@ pub(crate) enum Take {
     Awaiting,
     /// DATA is freed then.
     Freeing(u64),
-    /// The talker is to pull CLOCK for its first bit; where it hasn't by then the byte is the last.
+    /// The talker is to pull CLOCK for its first bit; if it hasn't by then the byte is the last.
     Listening(u64),
     /// EOI: DATA is pulled then.
     Marking(u64),

@@ -78,3 +78,7 @@ listen_refusal (Relative s k p) = None
 -- a channel is asked to listen
 abbrev pub after_listen : ℕ → Machine → Machine
 after_listen ch m = if ch == 15 then m else only_refused (listen_refusal (channel m ch)) m
+
+-- The same of a computer that sends a file's bytes though its OPEN was refused: an error that nobody has begun to read stays.
+abbrev pub listen_keeping_error : ℕ → Machine → Machine
+listen_keeping_error ch m = if is_unread_error (told_by m) then m else after_listen ch m

@@ -36,7 +36,7 @@ pub enum Code {
     UnknownCommand,
     /// 32: more than 58 bytes.
     LongText,
-    /// 33: a pattern where a name is written.
+    /// 33: a pattern if a name is written.
     WildName,
     /// 34: no name.
     NoName,

@@ -70,7 +70,7 @@ impl Status {
 impl From<Trouble> for Status {
     ghost from_gives = { trouble_gives };
 
-    /// The status of what a disk answers in place of bytes: its fault, track and sector, or 26, 0 and 0 where the disk
+    /// The status of what a disk answers in place of bytes: its fault, track and sector, or 26, 0 and 0 if the disk
     /// is protected.
     fn from(trouble: Trouble) -> Status {
         if trouble.code == Code::WriteProtected.number() {

@@ -9,6 +9,7 @@ abbrev pub or_nothing : Cell → List ℕ
 or_nothing (Ok bytes) = bytes
 or_nothing (Err code) = []
 
+-- the bytes of a sector, none where it doesn't read
 abbrev pub bytes_at : Content → Place → List ℕ
 bytes_at content p = or_nothing (content p)
 
@@ -53,12 +54,15 @@ pub record Followed : Type 0 where
   pub blocks : List Place
   pub trouble : Option Trouble
 
+-- a chain that ended after these blocks
 abbrev pub ended : List Place → Followed
 ended blocks = record { blocks = blocks; trouble = None }
 
+-- a chain that breaks off here, by this code
 abbrev pub cut_at : ℕ → Place → Followed
 cut_at code p = record { blocks = []; trouble = Some (record { code = code; track = p.track; sector = p.sector }) }
 
+-- one block more before those that follow it
 abbrev pub with_block : Place → Followed → Followed
 with_block p f = record { blocks = p ∷ f.blocks; trouble = f.trouble }
 

@@ -3,7 +3,7 @@ ghost use Rattle.cbm_medium.specs.Place.{Place, sectors_on, IsOnDisk, directory_
 
 use std::marker::Model;
 
-/// How many sectors a track has, 0 where no disk has such a track (1541 User's Guide, "Disk format").
+/// How many sectors a track has, 0 if no disk has such a track (1541 User's Guide, "Disk format").
 ///
 /// Tracks 36 to 40, which some images have, hold 17 as the innermost zone does.
 pub fn sectors_of(track: u8) -> u8
@@ -39,7 +39,7 @@ impl Model for Address {
 }
 
 impl Address {
-    /// The sector with these two numbers, None where no disk has it.
+    /// The sector with these two numbers, None if no disk has it.
     pub fn new(track: u8, sector: u8) -> Option<Address>
         ensures { let p : Place = record { track = track; sector = sector } in
             SomeIff result (IsOnDisk p) p }

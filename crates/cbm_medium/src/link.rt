@@ -69,7 +69,7 @@ impl Link {
         self.track == 0
     }
 
-    /// The sector that it names, None where a disk of this geometry has no such sector.
+    /// The sector that it names, None if a disk of this geometry has no such sector.
     pub fn address(self, geometry: Geometry) -> Option<Address>
         ensures { SomeIff result (Has geometry self) self }
     {
@@ -99,8 +99,8 @@ impl From<Address> for Link {
     }
 }
 
-/// Reads the sector that a link names, where this many sectors are left to the walk: 66 where the disk has no such
-/// sector, 71 where none is left, else what the medium answers.
+/// Reads the sector that a link names, if this many sectors are left to the walk: 66 if the disk has no such
+/// sector, 71 if none is left, else what the medium answers.
 #[tactic(auto, unfolding(crate::specs::Links::follow))]
 pub fn read_linked<M: Medium>(
     medium: &M,
@@ -125,7 +125,7 @@ pub fn read_linked<M: Medium>(
     Ok(bytes)
 }
 
-/// Following links gives the blocks of a chain that is short enough, and no others; and where it is cut, the blocks
+/// Following links gives the blocks of a chain that is short enough, and no others; and if it is cut, the blocks
 /// up to there, with 66 at a link to no sector of the disk, 71 at one sector too many, or the fault of the sector.
 pub fn chains_are_followed()
     ensures whole { (tracks : ℕ) (content : Content) (most : ℕ) (a : Place) (blocks : List Place) →

@@ -64,7 +64,7 @@ pub trait Medium {
     /// 2 to 6, 9 and 11 come from reading, 7 and 10 from writing, and 8 from a disk that is protected.
     ghost codes: { (m : Self) (p : Place) → HasFaultCode ((Self.seen m).content p) };
 
-    /// No sector of the tracks 36 to 40 ever has a fault of its header, where the medium has these tracks.
+    /// No sector of the tracks 36 to 40 ever has a fault of its header, if the medium has these tracks.
     ghost outer_headers: { (m : Self) (p : Place) → (Self.seen m).tracks ≡ 40 → 35 < p.track
         → header_fault ((Self.seen m).content p) ≡ None };
 }

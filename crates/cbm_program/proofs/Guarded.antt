@@ -24,7 +24,7 @@ use Rattle.cbm_machine.specs.Plans.{Plan, ReadListing, ReadFile, WriteFile, Appe
 use Rattle.cbm_machine.specs.Records.{with_written_record, grown_to, write_record}
 use Rattle.cbm_file.specs.Records.{record_at, blocks_for, sides_for, with_sized_body, record_count, fresh_record, with_body, with_bytes}
 use Rattle.cbm_machine.specs.Running.{may_go, kept_slots, scratched_disk, scratch, rename_to, sources, copied, place, run}
-use Rattle.cbm_machine.specs.Talking.{taken_on, taken, only_refused, talk_refusal, after_talk, talk_keeping_error, listen_refusal, after_listen}
+use Rattle.cbm_machine.specs.Talking.{taken_on, taken, only_refused, talk_refusal, after_talk, talk_keeping_error, listen_refusal, after_listen, listen_keeping_error}
 
 -- the channel has no file to be written
 abbrev pub IsUnwritten : Channel → Type 0
@@ -178,6 +178,9 @@ module _ (d : Disk) where
 
   pub listens : (ch : ℕ) (m : Machine) → IsGuarded d m → IsGuarded d (after_listen ch m)
   listens ch m g = if_both (IsGuarded d) (ch == 15) m (only_refused (listen_refusal (channel m ch)) m) g (refused_only (listen_refusal (channel m ch)) m g)
+
+  pub listens_keeping : (ch : ℕ) (m : Machine) → IsGuarded d m → IsGuarded d (listen_keeping_error ch m)
+  listens_keeping ch m g = if_both (IsGuarded d) _ m (after_listen ch m) g (listens ch m g)
 
   pub puts_one : (ch b : ℕ) (m : Machine) → IsGuarded d m → IsGuarded d (put ch b m)
   puts_one ch b m g = if_both (IsGuarded d) ((ch == 15) || is_relative_channel (channel m ch)) (gather ch b m) (put_on ch b (channel m ch) m) g (puts_on m ch b (channel m ch) g (own m ch g))

@@ -13,15 +13,16 @@ use Rattle.cbm_iec.specs.declared.party.Role.TheVariants.{Absent, Listener, Talk
 use Rattle.cbm_machine.specs.Statuses.{status_line}
 use Rattle.cbm_machine.specs.Talking.{peek, after_talk, taken}
 use Rattle.cbm_drive.specs.Addressing.{secondary_of, channel_heard, channel_said, channel_ended}
-use Rattle.cbm_drive.specs.Desks.{Desk, talked_to, seconded, ending, put_to, taken_from, desk_step, desk_says}
+use Rattle.cbm_drive.specs.Desks.{Desk, talked_to, listened_to, seconded, ending, put_to, taken_from, desk_step, desk_says}
 use Rattle.cbm_machine.specs.Machines.{Machine}
 use Rattle.cbm_drive.specs.declared.addressee.ended.Ended.{Ended}
 use Rattle.cbm_drive.specs.declared.addressee.ended.Ended.TheVariants.{Name, Bytes}
 use Rattle.cbm_drive.specs.declared.secondary.Secondary.{Secondary}
 use Rattle.cbm_drive.specs.declared.secondary.Secondary.TheVariants.{Data, Close, Open}
-use Rattle.cbm_talk.specs.Talks.{puts, hear_bytes, says, TalkSaid}
+use Rattle.cbm_talk.specs.Talks.{puts, says, TalkSaid}
+use Rattle.cbm_host.specs.Served.{heard_at}
 use Rattle.cbm_program.proofs.Along.{kept_along}
-use Rattle.cbm_program.proofs.Guarded.{IsGuarded, guarded_start, if_both, closes, takes, talks, talks_keeping, listens, puts_one, opens, ends_put}
+use Rattle.cbm_program.proofs.Guarded.{IsGuarded, guarded_start, if_both, closes, takes, talks, talks_keeping, listens, listens_keeping, puts_one, opens, ends_put}
 use Rattle.cbm_program.specs.Outcome.{IsScriptServed}
 use Rattle.cbm_program.proofs.TraceLemmas.{Left}
 use Rattle.cbm_program.specs.Starts.{StartsOn}
@@ -42,8 +43,12 @@ module _ (d : Disk) where
   puts_all ch [] m g = g
   puts_all ch (b ∷ bytes) m g = puts_all ch bytes _ (puts_one d ch b m g)
 
-  hears : (ch : ℕ) (bytes : List ℕ) (m : Machine) → IsGuarded d m → IsGuarded d (hear_bytes ch bytes m)
-  hears ch bytes m g = ends_put d ch _ (puts_all ch bytes _ (listens d ch m g))
+  listens_at : (pace : Pace) (ch : ℕ) (m : Machine) → IsGuarded d m → IsGuarded d (listened_to pace ch m)
+  listens_at Profile ch m g = listens d ch m g
+  listens_at Kernal ch m g = listens_keeping d ch m g
+
+  hears : (pace : Pace) (ch : ℕ) (bytes : List ℕ) (m : Machine) → IsGuarded d m → IsGuarded d (heard_at pace ch bytes m)
+  hears pace ch bytes m g = ends_put d ch _ (puts_all ch bytes _ (listens_at pace ch m g))
 
   talks_at : (pace : Pace) (ch : ℕ) (m : Machine) → IsGuarded d m → IsGuarded d (talked_to pace ch m)
   talks_at Profile ch m g = talks d ch m g
@@ -65,8 +70,8 @@ module _ (d : Disk) where
 
   one : (pace : Pace) (r : asks.ScriptRequest) (m : Machine) → IsGuarded d m → IsGuarded d (printed_by pace r m).machine
   one pace (request.Open ch text) m g = opens d ch text.items m g
-  one pace (request.Put ch text) m g = hears ch text.items m g
-  one pace (request.Fill ch n b) m g = hears ch (replicate n b) m g
+  one pace (request.Put ch text) m g = hears pace ch text.items m g
+  one pace (request.Fill ch n b) m g = hears pace ch (replicate n b) m g
   one pace (request.Get ch most) m g = says_all most ch [] (talked_to pace ch m) (talks_at pace ch m g)
   one pace (request.Close ch) m g = closes d ch m g
   one pace request.Status m g = says_all (length (status_line m.status)) 15 [] (after_talk 15 m) (talks d 15 m g)
@@ -85,7 +90,7 @@ module _ (d : Disk) where
   seconds : (pace : Pace) (s : Option Secondary) (role : Role) (m : Machine) → IsGuarded d m → IsGuarded d (seconded pace s role m)
   seconds pace None role m g = g
   seconds pace (Some (Data ch)) Absent m g = g
-  seconds pace (Some (Data ch)) Listener m g = listens d ch m g
+  seconds pace (Some (Data ch)) Listener m g = listens_at pace ch m g
   seconds pace (Some (Data ch)) Talker m g = talks_at pace ch m g
   seconds pace (Some (Close ch)) Absent m g = g
   seconds pace (Some (Close ch)) Listener m g = closes d ch m g

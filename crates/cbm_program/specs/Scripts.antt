@@ -1,6 +1,6 @@
 -- A script of requests on a machine, and what it prints.
-use Rattle.cbm_talk.specs.Talks.{hear_bytes, TalkSaid, status_said}
-use Rattle.cbm_host.specs.Served.{talked_at}
+use Rattle.cbm_talk.specs.Talks.{TalkSaid, status_said}
+use Rattle.cbm_host.specs.Served.{talked_at, heard_at}
 use Rattle.std.specs.Prelude.{ℕ, ◌+◌, ◌/◌, ◌%◌, nat_lt, Bool, List, [], ◌∷◌, ◌++◌, flat_map, replicate, codes, decimal, if◌then◌else◌}
 use Rattle.cbm_machine.specs.Machines.{Machine}
 use Rattle.cbm_machine.specs.Closing.{close}
@@ -48,8 +48,8 @@ status_text said = codes "status " ++ without_return said.bytes ++ codes "\n"
 -- what a request prints, at the drive's pace, and the machine after it
 abbrev pub printed_by : Pace → ScriptRequest → Machine → Printed
 printed_by pace (Open ch text) m = silent (after_open ch text.items m)
-printed_by pace (Put ch text) m = silent (hear_bytes ch text.items m)
-printed_by pace (Fill ch n b) m = silent (hear_bytes ch (replicate n b) m)
+printed_by pace (Put ch text) m = silent (heard_at pace ch text.items m)
+printed_by pace (Fill ch n b) m = silent (heard_at pace ch (replicate n b) m)
 printed_by pace (Get ch most) m = record { text = get_line ch (talked_at pace ch most m); machine = (talked_at pace ch most m).machine }
 printed_by pace (Close ch) m = silent (close ch m)
 printed_by pace Status m = record { text = status_text (status_said m); machine = (status_said m).machine }

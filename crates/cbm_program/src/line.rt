@@ -82,7 +82,7 @@ fn requested(bytes: &[u8]) -> Option<ScriptRequest>
     asked(verb, channel(channel_word)?, rest)
 }
 
-/// What a line asks for: nothing where it is empty or begins with `;`, and None where it is refused.
+/// What a line asks for: nothing if it is empty or begins with `;`, and None if it is refused.
 pub fn parse(line: &[u8]) -> Option<ScriptLine>
     requires { length line.now ≤ 1000 }
     ensures value { result ≡ line_of line.now }

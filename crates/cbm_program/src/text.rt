@@ -23,7 +23,7 @@ fn is_plain(byte: u8) -> bool
     (0x20..=0x7e).contains(&byte)
 }
 
-/// The bytes that a text means: each byte itself, or a backslash and two hexadecimal digits. None where a backslash has
+/// The bytes that a text means: each byte itself, or a backslash and two hexadecimal digits. None if a backslash has
 /// none, or a byte is no character from $20 to $7E.
 pub fn decode(text: &[u8]) -> Option<Text>
     requires { length text.now ≤ 1000 }

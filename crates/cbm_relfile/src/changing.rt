@@ -36,12 +36,12 @@ fn changed(old: &Record, position: u8, bytes: &[u8]) -> Record
 pub struct WrittenRecord {
     /// Whether some bytes didn't fit.
     pub cut: bool,
-    /// The next record, None where it isn't there; or why it doesn't read.
+    /// The next record, None if it isn't there; or why it doesn't read.
     pub next: Result<Option<Record>, Trouble>,
 }
 
 /// Writes these bytes into the record of a number, counted from 1, from a position on; what stands before stays, and zeros
-/// come after them. The next record is read, too, since its block is at hand. None where the record isn't there: nothing is
+/// come after them. The next record is read, too, since its block is at hand. None if the record isn't there: nothing is
 /// written then. An `Err` is why a sector isn't written; of a record over two blocks the first may be written then.
 pub fn write_record<M: Medium>(
     medium: &mut M,

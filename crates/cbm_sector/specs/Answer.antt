@@ -13,15 +13,19 @@ xor_of bytes = fold bit_xor 0 bytes
 abbrev pub is_header : List ℕ → Bool
 is_header v = slice_index v 0 == 8
 
+-- the header names this sector
 abbrev pub names : Place → List ℕ → Bool
 names a v = is_header v && ((slice_index v 2 == a.sector) && (slice_index v 3 == a.track))
 
+-- the header's checksum is right
 abbrev pub is_right : List ℕ → Bool
 is_right v = slice_index v 1 == xor_of (take 4 (drop 2 v))
 
+-- the header has this id
 abbrev pub has_id : List ℕ → List ℕ → Bool
 has_id id v = (slice_index v 4 == slice_index id 1) && (slice_index v 5 == slice_index id 0)
 
+-- a header was read, and the test says yes of it
 abbrev pub passes : (List ℕ → Bool) → Option (List ℕ) → Bool
 passes test None = false
 passes test (Some v) = test v
@@ -56,6 +60,7 @@ abbrev pub block_after_header : List Bool → List ℕ → ℕ → Option (List 
 block_after_header track id p None = Err 20
 block_after_header track id p (Some v) = if is_right v then (if has_id id v then block_at track (next_block track (p + 1)) else Err 29) else Err 27
 
+-- the block after a header; 20 where there is no such header
 abbrev pub after_a_header : List Bool → List ℕ → Option ℕ → Result ℕ ℕ
 after_a_header track id None = Err 20
 after_a_header track id (Some p) = block_after_header track id p (coded_at track p 8)
@@ -64,10 +69,12 @@ after_a_header track id (Some p) = block_after_header track id p (coded_at track
 unfoldable pub block_of : List Bool → List ℕ → Place → Result ℕ ℕ
 block_of track id a = if is_some (next_block track 0) then after_a_header track id (header_of track a) else Err 21
 
+-- the 256 bytes of a data block; 23 where its checksum is wrong, 24 where its group code is
 abbrev pub checked : Option (List ℕ) → Cell
 checked None = Err 24
 checked (Some v) = if xor_of (take 256 (drop 1 v)) == slice_index v 257 then Ok (take 256 (drop 1 v)) else Err 23
 
+-- the bytes of a data block; 22 where its first byte isn't 7, 24 where its group code is wrong
 abbrev pub block_data : Option (List ℕ) → Option (List ℕ) → Cell
 block_data None block = Err 24
 block_data (Some v) block = if slice_index v 0 == 7 then checked block else Err 22
@@ -76,6 +83,7 @@ block_data (Some v) block = if slice_index v 0 == 7 then checked block else Err 
 unfoldable pub data_at : List Bool → ℕ → Cell
 data_at track p = block_data (coded_at track p 4) (coded_at track p 260)
 
+-- the bytes of the data block after a header, or the header's fault
 abbrev pub data_following : List Bool → Result ℕ ℕ → Cell
 data_following track (Err code) = Err code
 data_following track (Ok p) = data_at track p
@@ -84,10 +92,12 @@ data_following track (Ok p) = data_at track p
 unfoldable pub sector_shown : List Bool → List ℕ → Place → Cell
 sector_shown track id a = data_following track (block_of track id a)
 
+-- the id in a header
 abbrev pub id_in : Option (List ℕ) → Option (List ℕ)
 id_in None = None
 id_in (Some v) = Some (slice_index v 5 ∷ slice_index v 4 ∷ [])
 
+-- the id in the header at a place of a track
 abbrev pub id_at : List Bool → Option ℕ → Option (List ℕ)
 id_at track None = None
 id_at track (Some p) = id_in (coded_at track p 8)

@@ -62,7 +62,7 @@ fn may_begin(front: &[u8; 4], wanted: &Option<Address>) -> bool
 }
 
 /// Whether such a header stands at a place: its first byte, then its first four bytes, are looked
-/// at alone where they already rule it out.
+/// at alone if they already rule it out.
 fn is_wanted_at(track: &Track, place: u32, wanted: &Option<Address>) -> bool
     requires { place < length track.now }
     ensures { result ≡ passes (wanted_test wanted.now) (coded_at track.now place 8) }

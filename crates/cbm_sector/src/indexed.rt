@@ -38,7 +38,7 @@ impl Model for IndexedTrack {
     ghost invariant = { λ t. IsIndex t.track t.number t.headers };
 }
 
-/// The sector that a header at a place names, where it is one of this track number.
+/// The sector that a header at a place names, if it is one of this track number.
 fn sector_at(track: &Track, place: u32, number: u8) -> Option<u8>
     requires { place < length track.now }
     ensures { (s : ℕ) →
@@ -54,7 +54,7 @@ fn sector_at(track: &Track, place: u32, number: u8) -> Option<u8>
     Some(header[SECTOR])
 }
 
-/// A header at a place is kept, where none of its sector was found before.
+/// A header at a place is kept, if none of its sector was found before.
 fn keep(headers: &mut [Option<u32>; 21], sector: Option<u8>, place: u32)
     ensures { (s : ℕ) → s < 21 →
         slice_index_or headers.new s None ≡ or_then (slice_index_or headers.old s None) (some_if (is_of sector s) place) }
@@ -132,7 +132,7 @@ impl IndexedTrack {
         read_at(&self.track, self.header(at), at, id)
     }
 
-    /// Writes a sector's data block anew, as `write_sector` does; an `Err` changes nothing.
+    /// Overwrites a sector's data block, as `write_sector` does; an `Err` changes nothing.
     pub fn write_sector(&mut self, at: Address, id: [u8; 2], bytes: &[u8; 256]) -> Result<(), Fault>
         requires { at.track ≤ 35 }
         ensures ok { OnOk result (sector_shown self.new id at ≡ Ok bytes.now) }

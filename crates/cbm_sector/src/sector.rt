@@ -97,7 +97,7 @@ pub(crate) fn read_at(
     }
 }
 
-/// Writes a sector's data block anew, over the 2,600 bits after its sync mark. The faults of its
+/// Overwrites a sector's data block, over the 2,600 bits after its sync mark. The faults of its
 /// header refuse it as they refuse a read; an `Err` changes nothing.
 pub fn write_sector(
     track: &mut Track,
@@ -124,7 +124,7 @@ pub fn write_sector(
     write_at(track, header, at, id, bytes)
 }
 
-/// Writes a sector's data block anew, whose header stands at this place. A data block and its sync mark take 2,610 bits, and no
+/// Overwrites a sector's data block, whose header stands at this place. A data block and its sync mark take 2,610 bits, and no
 /// header is written over.
 pub(crate) fn write_at(
     track: &mut Track,

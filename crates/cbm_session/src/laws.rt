@@ -60,7 +60,7 @@ pub fn one_reading()
 {}
 
 /// A host whose changes are those of a session, with no further one up to an end, keeps the timing up to there; and
-/// where then no drive owes a change, none was late.
+/// if then no drive owes a change, none was late.
 pub fn keeps_timing()
     ensures host { FrontsKeep }
     ensures drives { FrontsInTime }

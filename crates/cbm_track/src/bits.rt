@@ -1,7 +1,7 @@
 ghost use Rattle.std.specs.Prelude.{◌≡◌, ◌<◌, ◌*◌, ◌%◌, false, length, slice_index_or};
 ghost use Rattle.cbm_track.specs.Circle.{circle_bits_of};
 
-/// The bit at a place of bytes, where the high bit of the first byte is the first.
+/// The bit at a place of bytes, if the high bit of the first byte is the first.
 pub(crate) fn bit_of(bytes: &[u8], place: usize) -> bool
     requires { place < 8 * length bytes.now }
     ensures { result ≡ slice_index_or (circle_bits_of bytes.now) place false }

@@ -52,7 +52,7 @@ fn ten_before(place: usize, bits: usize) -> usize
     (place + (2 * bits - 10)) % bits
 }
 
-/// Of ten places, those at which no ten ones begin: all, where the last of them has a zero.
+/// Of ten places, those at which no ten ones begin: all, if the last of them has a zero.
 fn ruled_out(track: &[u8], place: usize) -> usize
     requires place { place < 8 * length track.now }
     requires size { length track.now ≤ 7928 }

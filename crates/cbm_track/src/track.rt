@@ -27,7 +27,7 @@ impl Track {
     /// The most bytes of a track, which is the usual greatest size in a G64 image.
     pub const MAX_BYTES: usize = 7928;
 
-    /// The circle of the bits of bytes, the high bit of the first byte first; `None` exactly where
+    /// The circle of the bits of bytes, the high bit of the first byte first; `None` exactly if
     /// there is no byte or more than `MAX_BYTES`.
     pub fn from_bytes(bytes: &[u8]) -> Option<Track>
         ensures some { IfSome result (λ t. t ≡ circle_bits_of bytes.now) }
@@ -52,7 +52,7 @@ impl Track {
     }
 
     /// The first place at which a block begins, from a place on and all the way round: a zero that
-    /// follows ten or more ones, which are a sync mark. `None` where the circle has no sync mark.
+    /// follows ten or more ones, which are a sync mark. `None` if the circle has no sync mark.
     pub fn next_sync(&self, from: u32) -> Option<u32>
         requires { from < length self.now }
         ensures value { result ≡ next_block self.now from }

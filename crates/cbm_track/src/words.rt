@@ -4,7 +4,7 @@ ghost use Rattle.cbm_track.specs.Words.{number_from, round_byte, eight, Marks, I
 
 use crate::bits::rounded;
 
-/// Eight bytes as a number, where they don't pass the track's end.
+/// Eight bytes as a number, if they don't pass the track's end.
 fn word_inside(track: &[u8], i: usize) -> u64
     requires inside { i + 8 ≤ length track.now }
     requires size { length track.now ≤ 7928 }
@@ -126,7 +126,7 @@ fn plain_bytes(track: &[u8], from: usize) -> usize
     i - from
 }
 
-/// How many places, at least one, may be passed as no ten ones begin there; `None` where ten ones
+/// How many places, at least one, may be passed as no ten ones begin there; `None` if ten ones
 /// begin at the place itself.
 pub(crate) fn step_at(track: &[u8], place: usize) -> Option<usize>
     requires place { place < 8 * length track.now }

@@ -24,6 +24,7 @@ pub record Layout : Type 0 where
   pub files : ℕ → Blocks
   pub owner : Place → Owner
 
+-- each of these sectors has this owner
 abbrev pub OwnedBy : (Place → Owner) → Owner → List Place → Type 0
 OwnedBy owner o [] = Unit {0}
 OwnedBy owner o (p ∷ rest) = (owner p ≡ o) × OwnedBy owner o rest
@@ -32,6 +33,7 @@ OwnedBy owner o (p ∷ rest) = (owner p ≡ o) × OwnedBy owner o rest
 abbrev pub with_blocks : (ℕ → Blocks) → ℕ → Blocks → ℕ → Blocks
 with_blocks files n b m = if m == n then b else files m
 
+-- how many slots the directory's sectors have: eight each
 abbrev pub slot_count : Layout → ℕ
 slot_count l = 8 * length l.directory
 
@@ -55,6 +57,7 @@ pub record IsOwned (l : Layout) : Type 0 where
   pub on_18 : (p : Place) → l.owner p ≡ Directory → p.track ≡ 18
   pub off_18 : (p : Place) → p.track ≡ 18 → (n : ℕ) → (l.owner p ≢ DataOf n) × (l.owner p ≢ SideOf n)
 
+-- THE DISK IS SOUND, with this layout: each sector has one owner and no fault in its header, the map reads and is right, the directory is a chain on track 18, each entry lies where its file is, and no block that is free is anybody's.
 pub record Sound (tracks : ℕ) (c : Content) (l : Layout) : Type 0 where
   pub owned : IsOwned l
   -- no sector has a fault of its header, and the map reads
@@ -98,6 +101,7 @@ pub record Extends (l : Layout) (n : ℕ) (owner : Place → Owner) : Type 0 whe
   pub on_18 : (p : Place) → owner p ≡ Directory → p.track ≡ 18
   pub off_18 : (p : Place) → p.track ≡ 18 → (m : ℕ) → (owner p ≢ DataOf m) × (owner p ≢ SideOf m)
 
+-- THE CONTENT MEANS A DISK OF NAMED FILES: there is a layout of its sectors by which it is that disk
 pub record Means (tracks : ℕ) (c : Content) (d : Disk) : Type 0 where
   pub layout : Layout
   pub stands : HasLayout tracks c layout d

@@ -28,10 +28,12 @@ abbrev pub AreReadAndTaken : Content → List Place → Type 0
 AreReadAndTaken c [] = Unit {0}
 AreReadAndTaken c (p ∷ rest) = IsOk (c p) × (is_free_in (map_of c) p ≡ false) × AreReadAndTaken c rest
 
+-- all of these sectors are on track 18
 abbrev pub AreOn18 : List Place → Type 0
 AreOn18 [] = Unit {0}
 AreOn18 (p ∷ rest) = (p.track ≡ 18) × AreOn18 rest
 
+-- none of these sectors is on track 18
 abbrev pub AreOff18 : List Place → Type 0
 AreOff18 [] = Unit {0}
 AreOff18 (p ∷ rest) = (p.track ≡ 18 → ⊥) × AreOff18 rest

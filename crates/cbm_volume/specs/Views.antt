@@ -26,6 +26,7 @@ swept (suc n) sector = clear_open n (swept n sector)
 abbrev pub view_at : ℕ → Place → List ℕ → List ℕ
 view_at tracks p bytes = if p.track == 18 then (if p.sector == 0 then taken_map tracks bytes else swept 8 bytes) else bytes
 
+-- the bytes of a sector changed so; a fault stays
 abbrev pub on_cell : (List ℕ → List ℕ) → Cell → Cell
 on_cell f (Ok bytes) = Ok (f bytes)
 on_cell f (Err code) = Err code

@@ -11,7 +11,7 @@ ghost use Rattle.cbm_volume.specs.Layouts.{Layout, Sound, Means};
 ghost use Rattle.cbm_volume.specs.Plain.{IsPlainlySound};
 ghost use Rattle.cbm_volume.specs.Staying.{StaysInPlace};
 
-/// A disk is sound with an owner for each sector exactly where the list of the sectors that it uses is distinct,
+/// A disk is sound with an owner for each sector exactly if the list of the sectors that it uses is distinct,
 /// readable and not free, its counts are right, its directory lies on track 18 and its files off it.
 pub fn is_sound_by_its_sectors()
     ensures { (tracks : ℕ) (c : Content) → 18 ≤ tracks → (((l : Layout) × Sound tracks c l) ↔ IsPlainlySound tracks c) }
@@ -34,7 +34,7 @@ pub fn blocks_bound_bytes()
         (length (chain_bytes c blocks) ≤ 254 * length blocks) }
 {}
 
-/// Closed files that stay in place over each of two calls stay in place over both, where the disk between is sound:
+/// Closed files that stay in place over each of two calls stay in place over both, if the disk between is sound:
 /// all but those that either call exempts.
 pub fn files_stay_over_two_calls()
     ensures { (tracks between : ℕ) (c mid new : Content) (l : Layout) (first second : ℕ → Bool) →

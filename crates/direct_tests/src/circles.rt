@@ -25,7 +25,7 @@ fn made_new(alloc: Global, image: &[u8], id: Option<[u8; 2]>) -> Result<Vec<u8>,
     Ok(volume.into_medium().to_bytes(alloc)?)
 }
 
-/// Whether NEW makes an empty disk of a disk of zeros, and leaves the circles their id where it is given none.
+/// Whether NEW makes an empty disk of a disk of zeros, and leaves the circles their id if it is given none.
 fn is_made_new(alloc: Global) -> Result<bool, Fail> {
     let zeros = vec![in alloc; 0; 174_848]?;
     let empty = empty_image(alloc)?;

@@ -36,7 +36,7 @@ pub fn is_sound(volume: &Volume<D64Disk>, free: u16) -> Result<bool, Fail> {
     Ok(volume.check().is_ok() && volume.free()? == free)
 }
 
-/// Whether the directory has this slot; None where it breaks off before.
+/// Whether the directory has this slot; None if it breaks off before.
 pub fn has_slot(volume: &Volume<D64Disk>, slot: u8) -> Option<bool> {
     match volume.slot(slot) {
         Ok(entry) => Some(entry.is_some()),
@@ -84,7 +84,7 @@ pub fn grow_too_far(volume: &mut Volume<D64Disk>) -> Result<bool, Fail> {
     Ok(volume.grow_records(0, 65_536)?)
 }
 
-/// Writes a letter into record 3 of the file in slot 0, where that is there.
+/// Writes a letter into record 3 of the file in slot 0, if that is there.
 pub fn put_third(volume: &mut Volume<D64Disk>) -> Result<bool, Fail> {
     Ok(volume.write_record(0, 3, 1, b"X")?.is_some())
 }

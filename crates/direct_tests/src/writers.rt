@@ -8,7 +8,7 @@ use cbm_file::FileType;
 use cbm_volume::Volume;
 use std::test::Fail;
 
-/// The slot of a new file; None where there is no room for one.
+/// The slot of a new file; None if there is no room for one.
 fn new_slot(volume: &mut Volume<D64Disk>) -> Result<Option<u8>, Fail> {
     Ok(
         volume

@@ -152,7 +152,7 @@ impl Host {
         self.bits(byte);
     }
 
-    /// The bits of a byte, where CLOCK is held.
+    /// The bits of a byte, if CLOCK is held.
     pub fn bits(&mut self, byte: u8) {
         let mut left = byte;
         let mut low = false;

@@ -9,10 +9,10 @@ use std::alloc::Global;
 use std::process::Abort;
 use std::test::Fail;
 
-/// The status where all is well.
+/// The status if all is well.
 const OK: &[u8] = b"00, OK,00,00\r";
 
-/// The status where a write was refused begins with this.
+/// The status if a write was refused begins with this.
 const WRITE_ERROR: &[u8] = b"25,WRITE ERROR,";
 
 /// The bytes of the second file.

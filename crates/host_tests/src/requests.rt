@@ -10,7 +10,7 @@ use std::alloc::Global;
 use std::process::Abort;
 use std::test::Fail;
 
-/// The status where all is well.
+/// The status if all is well.
 const OK: &[u8] = b"00, OK,00,00\r";
 
 /// The program HELLO.
@@ -157,6 +157,34 @@ fn the_status_of_a_missing_file_stays(rt: HostRuntime) -> Result<(), Fail> {
         )?;
         answers(&rt, rt.alloc(), &mut wired, Request::Get(0, 9), &[], false)?;
         answers(&rt, rt.alloc(), &mut wired, Request::Status, status, true)?;
+    }
+    Ok(())
+}
+
+// A file is sent though its OPEN was refused, as SAVE does: at a KERNAL's pace the status stays that of the OPEN. What is sent is
+// dropped at either pace.
+#[test]
+fn the_status_of_a_refused_save_stays(rt: HostRuntime) -> Result<(), Fail> {
+    for (pace, status) in [
+        (Pace::Kernal, b"63,FILE EXISTS,00,00\r".as_slice()),
+        (Pace::Profile, b"61,FILE NOT OPEN,00,00\r".as_slice()),
+    ] {
+        let mut wired = Wired::at(&rt, rt.alloc(), pace, 20)?;
+        for bytes in [b"OLD".as_slice(), b"NEWER".as_slice()] {
+            wired.asks(&rt, rt.alloc(), Request::Open(1, b"A,P,W"))?;
+            wired.asks(&rt, rt.alloc(), Request::Put(1, bytes))?;
+            wired.asks(&rt, rt.alloc(), Request::Close(1))?;
+        }
+        answers(&rt, rt.alloc(), &mut wired, Request::Status, status, true)?;
+        wired.asks(&rt, rt.alloc(), Request::Open(0, b"A"))?;
+        answers(
+            &rt,
+            rt.alloc(),
+            &mut wired,
+            Request::Get(0, 9),
+            b"OLD",
+            true,
+        )?;
     }
     Ok(())
 }

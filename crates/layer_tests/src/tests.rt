@@ -14,7 +14,7 @@ mod track;
 
 use std::process::Abort;
 
-/// Stops where a row doesn't hold, and says its text.
+/// Stops if a row doesn't hold, and says its text.
 fn holds(rt: &impl Abort, held: bool, text: &[u8]) {
     assert!(rt; held, "{text:?}");
 }

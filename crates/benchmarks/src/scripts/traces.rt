@@ -25,7 +25,7 @@ impl Write for Nowhere {
     }
 }
 
-/// Counts events, and writes them where there is a recorder.
+/// Counts events, and writes them if there is a recorder.
 #[derive(Drop)]
 struct Tracer {
     recorder: Option<Recorder<Nowhere>>,

@@ -9,7 +9,7 @@ use test_images::{lost_blocks, put};
 /// Where the error bytes of an image of 35 tracks stand.
 const ERRORS: usize = 174_848;
 
-/// The bytes that a sector should have, `18/1+$22 = c1`, and those that it has. None where the line can't be read.
+/// The bytes that a sector should have, `18/1+$22 = c1`, and those that it has. None if the line can't be read.
 pub fn sector(
     alloc: Global,
     image: &[u8],
@@ -44,8 +44,8 @@ fn poked_at(place: &str) -> Option<usize> {
     }
 }
 
-/// Changes bytes of an image, `18/1+$22 = c1`, or the error byte of a sector, `18/1 error 5`. None where the line can't be
-/// read, or where the image has no such byte.
+/// Changes bytes of an image, `18/1+$22 = c1`, or the error byte of a sector, `18/1 error 5`. None if the line can't be
+/// read, or if the image has no such byte.
 pub fn poke(alloc: Global, image: &mut Vec<u8>, rest: &str) -> Result<Option<()>, AllocError> {
     if let Some((at, error)) = error_of(rest) {
         let is_there = at < image.len();

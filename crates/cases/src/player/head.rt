@@ -35,7 +35,7 @@ impl Form {
         size: None,
     };
 
-    /// Takes a word of a head; None where it says nothing of a form.
+    /// Takes a word of a head; None if it says nothing of a form.
     fn add(&mut self, word: &str) -> Option<()> {
         match word {
             "40 tracks" => self.wide = true,
@@ -82,7 +82,7 @@ impl Way {
         unended: false,
     };
 
-    /// Takes a word of a head; None where it says nothing of a way.
+    /// Takes a word of a head; None if it says nothing of a way.
     fn add(&mut self, word: &str) -> Option<()> {
         match word {
             "protected" => self.protected = true,
@@ -108,7 +108,7 @@ pub struct Head<'a> {
 }
 
 impl<'a> Head<'a> {
-    /// What a line says; None where it can't be read.
+    /// What a line says; None if it can't be read.
     pub fn of(line: &'a str) -> Option<Head<'a>> {
         let mut words = line.split(", ");
         let start = match words.next()? {

@@ -61,7 +61,7 @@ fn fact_of<'a>(word: &'a str, rest: &'a str) -> Option<Fact<'a>> {
 }
 
 impl<'a> CaseLine<'a> {
-    /// What a line says; None where no line begins so.
+    /// What a line says; None if no line begins so.
     pub fn of(text: &'a str) -> Option<CaseLine<'a>> {
         let (word, rest) = text.split_once(' ').unwrap_or((text, ""));
         if is_answer(word) {

@@ -27,7 +27,7 @@ fn with_number(alloc: Global, line: &str, number: u32) -> Result<String, AllocEr
 }
 
 impl Repetition {
-    /// The one that a line begins; None where the line can't be read.
+    /// The one that a line begins; None if the line can't be read.
     fn begin(alloc: Global, line: &str) -> Option<Repetition> {
         let (from, to) = line.strip_prefix("for # = ")?.split_once(" to ")?;
         Some(Repetition {

@@ -44,7 +44,7 @@ fn resize(image: &mut Vec<u8>, size: usize) -> Result<(), AllocError> {
     Ok(())
 }
 
-/// An image in the form that a head asks for; None where it has none.
+/// An image in the form that a head asks for; None if it has none.
 fn formed(alloc: Global, image: Vec<u8>, form: Form) -> Result<Option<Vec<u8>>, AllocError> {
     let mut image = image;
     if form.errors {
@@ -87,7 +87,7 @@ impl Shelf {
         found
     }
 
-    /// The image that a name stands for, `empty` and `of zeros` among them; None where there is none.
+    /// The image that a name stands for, `empty` and `of zeros` among them; None if there is none.
     pub fn image(&self, name: &str, wide: bool) -> Result<Option<Vec<u8>>, AllocError> {
         let size = if wide { WIDE } else { NARROW };
         let image = match name {

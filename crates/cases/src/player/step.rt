@@ -152,7 +152,7 @@ impl Step {
         }
     }
 
-    /// Plays it on a disk; the disk that it leaves, or none where it is as it was.
+    /// Plays it on a disk; the disk that it leaves, or none if it is as it was.
     fn play_on(
         &mut self,
         report: &mut Report,

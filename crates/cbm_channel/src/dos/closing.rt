@@ -19,7 +19,7 @@ impl<M: Medium> Dos<M> {
     ghost use Rattle.cbm_channel.specs.Parts.{LeavesDisk, OnlyText, CutsOff, KeepsSlotOn, ClosesOne, ClosesChannels, ClosesQuietly, LeavesByClose, closed_by};
 
     /// CLOSE: the file that is written on the channel is finished, and the channel is closed; on 15 the channels 0 to
-    /// 14 are, in order. Where a file can't be finished, the fault becomes the status.
+    /// 14 are, in order. If a file can't be finished, the fault becomes the status.
     pub fn close(&mut self, channel: u8)
         requires { channel ≤ 15 }
         ensures goes { Goes M.seen self.old self.new (closing channel) }

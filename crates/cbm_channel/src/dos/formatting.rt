@@ -16,8 +16,8 @@ impl<M: Medium> Dos<M> {
     ghost use Rattle.cbm_channel.specs.Going.{Went};
     ghost use Rattle.cbm_channel.specs.Parts.{LeavesChannels};
 
-    /// N: an empty disk of this title; with an id it is formatted, else it keeps its own. 60 where a channel is open,
-    /// 26 where the disk is protected. Where the medium fails in it, no disk is promised.
+    /// N: an empty disk of this title; with an id it is formatted, else it keeps its own. 60 if a channel is open,
+    /// 26 if the disk is protected. If the medium fails in it, no disk is promised.
     pub(super) fn format(&mut self, title: &Name, id: Option<[u8; 2]>)
         ensures goes { (HasFailed (M.seen self.old.medium) (M.seen self.new.medium) → ⊥) →
             Went M.seen self.old self.new 15 (λ m. answered m (run (New title.now id) m)) }

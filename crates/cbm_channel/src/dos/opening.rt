@@ -86,7 +86,7 @@ impl<M: Medium> Dos<M> {
         }
     }
 
-    /// The channel that a plan opens; None where the disk has no place for what it writes. Errors: the fault of 18/0,
+    /// The channel that a plan opens; None if the disk has no place for what it writes. Errors: the fault of 18/0,
     /// of the directory or of the file's first block, what is wrong with the side sectors of a relative file or why its
     /// first record can't be read; or why a write was refused.
     fn opened(&mut self, plan: Plan) -> Result<Option<Channel>, Trouble>

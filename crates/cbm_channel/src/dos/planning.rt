@@ -23,7 +23,7 @@ use cbm_file::FileType;
 use cbm_machine::{Code, Status};
 use cbm_volume::Medium;
 
-/// How many channels a file costs that is found for reading: two where it has records, unless `@` refuses these.
+/// How many channels a file costs that is found for reading: two if it has records, unless `@` refuses these.
 fn cost_of(wanted: &Wanted, found: &Result<Found, Status>) -> usize
     ensures few { result ≤ 2 }
     ensures cost { (tracks : ℕ) (c : Content) (d : Disk) (r : Result (ℕ × File) code.Code) →
@@ -144,8 +144,8 @@ impl<M: Medium> Dos<M> {
         self.plan_writing(wanted)
     }
 
-    /// What an OPEN by type L will do. Errors: 70 too many channels; 64 with `@`, on the channels 0 and 1, or where the
-    /// name has another type; else what is met at the file that is there, or where it is not.
+    /// What an OPEN by type L will do. Errors: 70 too many channels; 64 with `@`, on the channels 0 and 1, or if the
+    /// name has another type; else what is met at the file that is there, or if it is not.
     fn plan_relative(&self, channel: u8, wanted: Wanted) -> Result<Plan, Status>
         ensures sound { IsSoundPlan M.seen self.now.medium result }
         ensures meant { wants_relative wanted ≡ true → IfOk result (IsFileMeant (M.seen self.now.medium) wanted) }

@@ -36,7 +36,7 @@ impl<M: Medium> Dos<M> {
 
     /// A byte that the host sends to a channel: on 15 it is gathered for a command, on a channel that has records open
     /// for one of these, and on one that writes a file it goes to the file; on others it is dropped. The first byte for which no block is free sets the status
-    /// 72, and it and all later ones are dropped; where the medium refuses a write, its fault becomes the status.
+    /// 72, and it and all later ones are dropped; if the medium refuses a write, its fault becomes the status.
     pub fn put(&mut self, channel: u8, byte: u8)
         requires { channel ≤ 15 }
         ensures goes { Goes M.seen self.old self.new ((channel, put channel byte) ∷ []) }
@@ -98,7 +98,7 @@ impl<M: Medium> Dos<M> {
         None
     }
 
-    /// The host sends no more (UNLISTEN): the text that was gathered for channel 15 is carried out as a command. One for
+    /// The host has sent all (UNLISTEN): the text that was gathered for channel 15 is carried out as a command. One for
     /// a channel that has records open is one write of a record.
     pub fn end_put(&mut self, channel: u8)
         requires { channel ≤ 15 }

@@ -16,7 +16,7 @@ impl<M: Medium> Dos<M> {
     ghost use Rattle.cbm_channel.specs.Going.{Went};
     ghost use Rattle.cbm_channel.specs.Parts.{LeavesChannels};
 
-    /// V: files that were never closed go, and each block is free or a file's. 60 where a channel is open; where the
+    /// V: files that were never closed go, and each block is free or a file's. 60 if a channel is open; if the
     /// disk can't be mended, its flaw is reported and nothing is changed.
     pub(super) fn validate(&mut self)
         ensures goes { Went M.seen self.old self.new 15 (λ m. answered m (run Validate m)) }

@@ -16,7 +16,7 @@ use std::alloc::Global;
 use std::io::{Read, Write};
 
 /// Runs a script as `run_at` does, and tells a watcher each event on the bus as it comes, of a script of requests and of one of
-/// line changes. It goes event by event, where `run_at` takes a byte's bits together, and so takes longer. That it prints and
+/// line changes. It goes event by event, if `run_at` takes a byte's bits together, and so takes longer. That it prints and
 /// saves the same is tested, and not proved.
 pub fn run_traced<R: Read + Drop, W: Write, T: Watches>(
     alloc: Global,

@@ -26,7 +26,7 @@ pub(crate) fn without_return(text: &[u8]) -> &[u8]
     if *last == b'\r' { front } else { text }
 }
 
-/// Keeps a byte of the line, where there is room for it: a status line has at most 33.
+/// Keeps a byte of the line, if there is room for it: a status line has at most 33.
 pub(crate) fn keep(line: &mut ArrayVec<u8, 33>, byte: u8)
     ensures { length line.old.items < 33 → line.new.items ≡ line.old.items ++ byte ∷ [] }
 {

@@ -31,7 +31,7 @@ fn end(rest: Option<&[u8]>) -> Option<Timed>
     Some(Timed::Ends(moment_of(rest?)?))
 }
 
-/// What a line of a script asks for: nothing where it is empty or begins with `;`, and None where it is refused.
+/// What a line of a script asks for: nothing if it is empty or begins with `;`, and None if it is refused.
 fn parse_timed(bytes: &[u8]) -> Option<Timed>
     ensures value { result ≡ timed_of bytes.now }
     ensures moment { IfSome result IsTimed }

@@ -31,7 +31,7 @@ fn empty_side(head: &[u8; 256], sides: u8, length: u8, side: Address) -> [u8; 25
     new
 }
 
-/// Claims a side sector after the first one, for a file that has this many, and writes it: it lists no block. None where no
+/// Claims a side sector after the first one, for a file that has this many, and writes it: it lists no block. None if no
 /// block is free. An `Err` is why a sector doesn't read or isn't written; what was claimed is nobody's then.
 pub fn begin_empty_side<M: Medium>(
     medium: &mut M,

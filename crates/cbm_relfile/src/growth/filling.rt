@@ -48,7 +48,7 @@ fn block_there<M: Medium>(
     Ok((address, bytes))
 }
 
-/// Fills up the block before the last one of a file of this many, where fresh records begin in it, from a place of the file
+/// Fills up the block before the last one of a file of this many, if fresh records begin in it, from a place of the file
 /// on.
 fn fill_tail<M: Medium>(
     medium: &mut M,

@@ -15,8 +15,8 @@ use cbm_bam::Release;
 use cbm_medium::codes::ILLEGAL_LINK;
 use cbm_medium::{Geometry, Link, Medium, Trouble};
 
-/// Gives the side sectors that the first one lists back to a map that was read. An `Err` is 66 where a link names no
-/// sector of the disk, or the medium's fault where the first one doesn't read.
+/// Gives the side sectors that the first one lists back to a map that was read. An `Err` is 66 if a link names no
+/// sector of the disk, or the medium's fault if the first one doesn't read.
 pub fn free_sides<M: Medium>(
     medium: &M,
     geometry: Geometry,
@@ -42,7 +42,7 @@ pub fn free_sides<M: Medium>(
     Ok(())
 }
 
-/// Gives the sector that a link names back; 66 where the disk has no such sector.
+/// Gives the sector that a link names back; 66 if the disk has no such sector.
 fn give_named(geometry: Geometry, at: Link, release: &mut Release) -> Result<(), Trouble>
     ensures given { OnOk result (IsGiven geometry release.old release.new at) }
     ensures has { Has geometry at → IsOk result }

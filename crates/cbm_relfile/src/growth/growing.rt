@@ -26,7 +26,7 @@ fn fresh_place(length: u8, blocks: u16) -> u8
 }
 
 /// One data block more for a file of this many full ones, of which this is the last: a block is claimed and filled with
-/// fresh records, and then the last one links to it. None where no block is free. An `Err` is why a sector doesn't read or
+/// fresh records, and then the last one links to it. None if no block is free. An `Err` is why a sector doesn't read or
 /// isn't written; a block that was claimed is nobody's then.
 pub fn lengthen<M: Medium>(
     medium: &mut M,
@@ -123,7 +123,7 @@ pub fn list_block<M: Medium>(
     Ok(())
 }
 
-/// A side sector with one more in its list of side sectors, after this many. Where the new one is to follow it, it links to
+/// A side sector with one more in its list of side sectors, after this many. If the new one is to follow it, it links to
 /// that one.
 pub fn with_side(side: &[u8; 256], sides: usize, new_side: Address, follows: bool) -> [u8; 256]
     requires { sides < 6 }
@@ -160,7 +160,7 @@ fn last_side(head: &[u8; 256], sides: u8, length: u8, block: Address, side: Addr
     new
 }
 
-/// Claims a side sector after a block, for a file that has this many, and writes it: it lists that block alone. None where
+/// Claims a side sector after a block, for a file that has this many, and writes it: it lists that block alone. None if
 /// no block is free. An `Err` is why a sector doesn't read or isn't written; what was claimed is nobody's then.
 pub fn begin_side<M: Medium>(
     medium: &mut M,

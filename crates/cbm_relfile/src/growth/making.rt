@@ -32,7 +32,7 @@ fn first_side(block: Address, side: Address, length: u8) -> [u8; 256]
     bytes
 }
 
-/// Claims a block for a new relative file, and its side sector after it. None where fewer than two blocks are free: one
+/// Claims a block for a new relative file, and its side sector after it. None if fewer than two blocks are free: one
 /// may be claimed then. An `Err` is the fault of 18/0, which doesn't read or isn't written; the block may be claimed then.
 pub fn claim_two<M: Medium>(
     medium: &mut M,

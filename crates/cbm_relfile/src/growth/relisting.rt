@@ -164,7 +164,7 @@ fn unlist<M: Medium>(
     Ok(())
 }
 
-/// Gives each side sector its next 120 blocks, from the first one up, where none lists any.
+/// Gives each side sector its next 120 blocks, from the first one up, if none lists any.
 fn relist<M: Medium>(
     medium: &mut M,
     geometry: Geometry,
@@ -192,7 +192,7 @@ fn relist<M: Medium>(
 
 /// Brings the side sectors of a file into the drive's form, in which each lists its next 120 blocks: their lists
 /// are taken away, from the last one down, and then each gets its own, from the first one up, so that the file is sound
-/// after each write. Nothing is written where each lists its blocks, with zeros after them, nor where a side sector
+/// after each write. Nothing is written if each lists its blocks, with zeros after them, nor if a side sector
 /// doesn't read. An `Err` is why a side sector or a block doesn't read, or why one isn't written: the file lies where
 /// it lay.
 pub fn list_anew<M: Medium>(

@@ -3,6 +3,7 @@ use Rattle.std.specs.Prelude.{ℕ}
 use Rattle.cbm_volume.specs.declared.check.unsound.Flaw.{Flaw}
 use Rattle.cbm_volume.specs.declared.check.unsound.Flaw.TheVariants.{MapCount, ClaimedButFree, SharedBlock, ChainOutside, BadHeader, DirectoryChain, SideSectors, UnknownType, Unreadable}
 
+-- the number that `check` gives a flaw
 abbrev pub flaw_number : Flaw → ℕ
 flaw_number MapCount = 1
 flaw_number ClaimedButFree = 2

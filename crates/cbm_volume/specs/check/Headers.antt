@@ -7,6 +7,7 @@ use Rattle.cbm_volume.specs.Layouts.{IsCellWritable}
 use Rattle.cbm_volume.specs.declared.check.unsound.Unsound.{Unsound}
 use Rattle.cbm_volume.specs.check.Claims.{fault_at}
 
+-- what stands in place of a sector's bytes is a fault of its header
 abbrev pub is_bad_header : Cell → Bool
 is_bad_header (Ok bytes) = false
 is_bad_header (Err code) = is_header_fault code

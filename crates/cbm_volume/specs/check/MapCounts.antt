@@ -6,6 +6,7 @@ use Rattle.cbm_bam.specs.Map.{map_of, is_free_in, tally, count_in, at}
 use Rattle.cbm_volume.specs.declared.check.unsound.Unsound.{Unsound}
 use Rattle.cbm_volume.specs.check.Claims.{reads, fault_at}
 
+-- the map counts the free sectors of a track rightly
 abbrev pub is_counted_on : ℕ → List ℕ → Bool
 is_counted_on t map = count_in map t == tally (is_free_in map) t (sectors_on t)
 

@@ -65,6 +65,7 @@ are_records_in tracks content e first =
     nat_lt 0 (width_of e) && (nat_lt (width_of e) 255
     && (is_place (place_in first 4) (first_side e) && is_some (all_along tracks content (width_of e) first (first_block e))))
 
+-- the side sectors of an entry list its records
 abbrev pub are_records : ℕ → Content → List ℕ → Bool
 are_records tracks content e = are_records_in tracks content e (bytes_at content (first_side e))
 

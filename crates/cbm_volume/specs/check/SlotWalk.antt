@@ -68,6 +68,7 @@ EntriesFault tracks content claimed sector (e ∷ rest) u =
 unfoldable pub entries_after : ℕ → List ℕ → List (List ℕ)
 entries_after n sector = entries_from (8 - n) sector n
 
+-- the eight entries of a sector of the directory
 abbrev pub entries_in : List ℕ → List (List ℕ)
 entries_in sector = entries_after 0 sector
 

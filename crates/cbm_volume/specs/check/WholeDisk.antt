@@ -65,5 +65,6 @@ DiskFault tracks content u =
 abbrev pub ClaimsSeen : Seen → Type 0
 ClaimsSeen now = ClaimsDisk (geometry_of now.tracks now.content) now.content
 
+-- the fault is on the disk that the medium shows, of as many tracks as its map says
 abbrev pub SeenFault : Seen → Unsound → Type 0
 SeenFault now u = DiskFault (geometry_of now.tracks now.content) now.content u

@@ -34,7 +34,7 @@ pub(crate) fn has_records<M: Medium>(
     walk_sides(medium, geometry, length, first, entry.first_block()).is_some()
 }
 
-/// Claims the side sectors of a relative file: 7 at the first of them where its records aren't right.
+/// Claims the side sectors of a relative file: 7 at the first of them if its records aren't right.
 fn check_sides<M: Medium>(
     medium: &M,
     geometry: Geometry,
@@ -54,7 +54,7 @@ fn check_sides<M: Medium>(
     Err(Flaw::SideSectors.at(at))
 }
 
-/// Claims the sectors of a relative file: 4 where it has no block.
+/// Claims the sectors of a relative file: 4 if it has no block.
 fn check_relative<M: Medium>(
     medium: &M,
     geometry: Geometry,
@@ -94,7 +94,7 @@ fn check_file<M: Medium>(
     claim_chain(medium, geometry, Part::OfFile, entry.first_block(), claimed)
 }
 
-/// Looks at an entry in a sector of the directory: 8 where its type is none's, else its file.
+/// Looks at an entry in a sector of the directory: 8 if its type is none's, else its file.
 pub fn check_entry<M: Medium>(
     medium: &M,
     geometry: Geometry,

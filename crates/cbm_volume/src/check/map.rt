@@ -23,7 +23,7 @@ fn check_count<M: Medium>(medium: &M, geometry: Geometry, track: u8) -> Result<(
     Err(Flaw::MapCount.at(Link::new(track, 0)))
 }
 
-/// Looks whether 18/0 reads: 9 where it doesn't.
+/// Looks whether 18/0 reads: 9 if it doesn't.
 fn check_reads<M: Medium>(medium: &M, geometry: Geometry) -> Result<(), Unsound>
     requires room { geometry ≤ (M.seen medium.now).tracks }
     ensures reads { OnOk result (IsOk ((M.seen medium.now).content directory_head)) }
@@ -35,7 +35,7 @@ fn check_reads<M: Medium>(medium: &M, geometry: Geometry) -> Result<(), Unsound>
     }
 }
 
-/// Looks at 18/0's own bit: 2 where it is free.
+/// Looks at 18/0's own bit: 2 if it is free.
 fn check_own_bit<M: Medium>(medium: &M, geometry: Geometry) -> Result<(), Unsound>
     requires map { HasMap geometry (M.seen medium.now) }
     ensures taken { OnOk result (is_free_in (map_of (M.seen medium.now).content) directory_head ≡ false) }

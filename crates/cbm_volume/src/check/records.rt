@@ -62,7 +62,7 @@ pub fn walk_side<M: Medium>(
     walk_listed(medium, geometry, side, from)
 }
 
-/// Checks the side sector that a link names; None where the link names no sector of the disk, or it doesn't read.
+/// Checks the side sector that a link names; None if the link names no sector of the disk, or it doesn't read.
 fn walk_side_at<M: Medium>(
     medium: &M,
     geometry: Geometry,

@@ -29,7 +29,7 @@ use cbm_medium::{Address, Geometry, Link, Medium, Trouble};
 /// The most slots that a directory has.
 const SLOTS: u8 = 144;
 
-/// The code of the fault that stands at a place of the disk; 71 where none does.
+/// The code of the fault that stands at a place of the disk; 71 if none does.
 fn code_at<M: Medium>(medium: &M, geometry: Geometry, at: Link) -> u8
     requires { geometry ≤ (M.seen medium.now).tracks }
     ensures value { result ≡ code_at geometry (M.seen medium.now).content at }
@@ -45,7 +45,7 @@ fn code_at<M: Medium>(medium: &M, geometry: Geometry, at: Link) -> u8
     }
 }
 
-/// The code of a flaw that VALIDATE can't mend: the fault of the sector itself where that is at fault, 66 for a link
+/// The code of a flaw that VALIDATE can't mend: the fault of the sector itself if that is at fault, 66 for a link
 /// to no sector for it, and 71 for all else.
 fn flaw_code<M: Medium>(medium: &M, geometry: Geometry, flaw: Unsound) -> u8
     requires { geometry ≤ (M.seen medium.now).tracks }
@@ -62,7 +62,7 @@ fn flaw_code<M: Medium>(medium: &M, geometry: Geometry, flaw: Unsound) -> u8
     ENDLESS_CHAIN
 }
 
-/// The sectors of the directory and of the closed files, where nothing is wrong with them; what the map has as free
+/// The sectors of the directory and of the closed files, if nothing is wrong with them; what the map has as free
 /// and how it counts is no matter.
 fn closed_sectors<M: Medium>(medium: &M) -> Result<SectorSet, Trouble>
     ensures ok { let now = M.seen medium.now in let tracks = geometry_of now.tracks now.content in
@@ -133,10 +133,10 @@ fn write_map<M: Medium>(medium: &mut M, geometry: Geometry, map: &[u8; 256]) -> 
 }
 
 impl<M: Medium> Volume<M> {
-    /// VALIDATE: slots that were never closed become empty, and the map is written anew from the directory and the
-    /// closed files, so that each block is free or a file's. Where a header has a fault, a sector of these doesn't
+    /// VALIDATE: slots that were never closed become empty, and the map is made again from the directory and the
+    /// closed files, so that each block is free or a file's. If a header has a fault, a sector of these doesn't
     /// read or is used twice, a link leads elsewhere, or an entry or the records of a file aren't right, nothing is
-    /// changed, and the `Err` reports the first that is met. Else an `Err` is the medium's refusal: 26 where it is
+    /// changed, and the `Err` reports the first that is met. Else an `Err` is the medium's refusal: 26 if it is
     /// protected, with nothing changed.
     pub fn validate(&mut self) -> Result<(), Trouble>
         ensures call { OfUnusedDisk (M.seen self.old) (λ d uses.

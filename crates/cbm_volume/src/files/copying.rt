@@ -20,7 +20,7 @@ use cbm_medium::codes::{ENDLESS_CHAIN, WRITE_PROTECT_ON};
 use cbm_medium::{Medium, Trouble};
 
 impl<M: Medium> Volume<M> {
-    /// COPY: the bytes of the closed files in these slots, one after another, are a new closed file. False where too
+    /// COPY: the bytes of the closed files in these slots, one after another, are a new closed file. False if too
     /// few blocks are free, or there is no place for a name: nothing has changed then. The blocks are claimed and
     /// written first, and last the entry, closed, in one write; so an `Err` leaves each slot as it was, with blocks
     /// that are nobody's until VALIDATE. On a sound disk it says that the medium is protected (26), with nothing

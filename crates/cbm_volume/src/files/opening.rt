@@ -15,7 +15,7 @@ use cbm_medium::{Medium, Trouble};
 
 impl<M: Medium> Volume<M> {
     /// OPEN of a new file for writing: the first empty slot takes the name, not closed, and a first block is
-    /// claimed; where no slot is empty the directory grows. None where no block is free, or no slot is empty and
+    /// claimed; if no slot is empty the directory grows. None if no block is free, or no slot is empty and
     /// track 18 has no free sector: then nothing has changed. An `Err` leaves each slot as it was, with at most a
     /// sector of track 18 and a block less free.
     pub fn begin_write(

@@ -12,7 +12,7 @@ use cbm_medium::{Medium, Trouble};
 
 impl<M: Medium> Volume<M> {
     /// OPEN with `@` of a file that is there: a first block is claimed for what will replace it, and the old file stays
-    /// until CLOSE. None, with nothing changed, where no block is free. An `Err` changes nothing: the map doesn't read,
+    /// until CLOSE. None, with nothing changed, if no block is free. An `Err` changes nothing: the map doesn't read,
     /// or its write is refused.
     pub fn begin_replace(&mut self, slot: u8) -> Result<Option<FileWriter>, Trouble>
         ensures call { BeginsReplacement result (M.seen self.old) (M.seen self.new) slot }

@@ -22,7 +22,7 @@ use cbm_relfile::free_sides;
 impl<M: Medium> Volume<M> {
     /// SCRATCH of one slot: its entry is cleared, and then the blocks of a closed file are given back, and with them
     /// the side sectors of a relative one; those of a file that was never closed are lost until VALIDATE. Nothing is
-    /// written where the file's chain or the list of its side sectors breaks off. An `Err` leaves the slot as it was,
+    /// written if the file's chain or the list of its side sectors breaks off. An `Err` leaves the slot as it was,
     /// or empty and its blocks to nobody. On a sound disk it says that the medium is protected (26), or failed by
     /// itself.
     pub fn scratch(&mut self, slot: u8) -> Result<(), Trouble>
@@ -46,7 +46,7 @@ impl<M: Medium> Volume<M> {
     }
 }
 
-/// Gives all sectors of a closed file back to a map that was read: its blocks, and its side sectors where it is
+/// Gives all sectors of a closed file back to a map that was read: its blocks, and its side sectors if it is
 /// relative. An `Err` is what breaks off its chain (66, 71 or the medium's fault) or the list of its side sectors (66
 /// or the medium's fault).
 fn free_file<M: Medium>(

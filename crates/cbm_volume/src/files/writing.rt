@@ -15,8 +15,8 @@ use cbm_directory::put_slot;
 use cbm_medium::{Medium, Trouble};
 
 impl<M: Medium> Volume<M> {
-    /// Adds a byte to a file; false where it needs a block and none is free. An `Err` leaves the disk as
-    /// it was, with at most one block less free, and the writer is of no more use. On a sound disk it says that the
+    /// Adds a byte to a file; false if it needs a block and none is free. An `Err` leaves the disk as
+    /// it was, with at most one block less free, and the writer is of no use then. On a sound disk it says that the
     /// medium is protected (26), or failed by itself.
     pub fn store(&mut self, writer: &mut FileWriter, byte: u8) -> Result<bool, Trouble>
         requires { writer.old.chain.tracks ≤ (M.seen self.old).tracks }

@@ -27,7 +27,7 @@ const MOST_NUMBER: u32 = 65535;
 /// How many data blocks six side sectors list.
 const MOST_BLOCKS: u32 = 720;
 
-/// How many data blocks a file must have for a record, where its records are so long; None where a place can't have that
+/// How many data blocks a file must have for a record, if its records are so long; None if a place can't have that
 /// number, or six side sectors can't list as many, or fewer blocks are free than the growth takes.
 pub fn needed(extent: Extent, length: u8, number: u32, free: u16) -> Option<u16>
     requires number { number < 2 ^ 24 }
@@ -60,7 +60,7 @@ pub struct GrowthPlan {
     pub blocks: u16,
 }
 
-/// What the growth of the file in a slot needs, so that a record is there, where this many blocks are free; None where it
+/// What the growth of the file in a slot needs, so that a record is there, if this many blocks are free; None if it
 /// is too large. An `Err` is why a sector doesn't read.
 pub fn plan_growth<M: Medium>(
     medium: &M,
@@ -119,7 +119,7 @@ pub fn grow_to<M: Medium>(
     tell_blocks(medium, geometry, slot, reach.blocks + reach.sides as u16)
 }
 
-/// Grows the file in a slot, where this many blocks are free, so that a record is there.
+/// Grows the file in a slot, if this many blocks are free, so that a record is there.
 pub fn grow_in_slot<M: Medium>(
     medium: &mut M,
     slot: u8,
@@ -150,7 +150,7 @@ pub fn grow_in_slot<M: Medium>(
 impl<M: Medium> Volume<M> {
     /// Grows the relative file in a slot, whose records a channel has open, until a record is there: data blocks full of
     /// fresh records ($FF, then zeros) are added one by one, with side sectors that list them, and last the entry says
-    /// how many blocks the file has. False, with nothing changed, where too few blocks are free, six side sectors can't
+    /// how many blocks the file has. False, with nothing changed, if too few blocks are free, six side sectors can't
     /// list as many, or a place can't have that number. On a sound disk an `Err` says that the medium is protected (26),
     /// with nothing changed, or failed by itself: the file has its records then and perhaps fresh ones after them.
     pub fn grow_records(&mut self, slot: u8, number: u32) -> Result<bool, Trouble>

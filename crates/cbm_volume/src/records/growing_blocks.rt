@@ -148,7 +148,7 @@ pub struct Reach {
     pub last: Address,
 }
 
-/// One data block more, full of fresh records and listed, with a side sector more where all are full.
+/// One data block more, full of fresh records and listed, with a side sector more if all are full.
 pub fn grow_once<M: Medium>(
     medium: &mut M,
     geometry: Geometry,

@@ -19,7 +19,7 @@ const NEW_BLOCKS: u16 = 2;
 
 impl<M: Medium> Volume<M> {
     /// OPEN of a relative file that isn't there, with a record length: one data block full of fresh records ($FF, then
-    /// zeros), one side sector that lists it, and a closed entry. Answers the slot; None where fewer than two blocks are
+    /// zeros), one side sector that lists it, and a closed entry. Answers the slot; None if fewer than two blocks are
     /// free, or there is no place for a name: nothing has changed then. The two sectors are claimed and written first, and
     /// last the entry, in one write; so an `Err` leaves each slot as it was, with blocks that are nobody's until VALIDATE.
     /// On a sound disk it says that the medium is protected (26), with nothing changed, or failed by itself.

@@ -17,7 +17,7 @@ use cbm_medium::{Medium, Trouble};
 
 impl<M: Medium> Volume<M> {
     /// Looks whether the side sectors of a relative file's entry are right, so that its records can be used. An `Err`
-    /// is 71 at the first side sector where they aren't, and 66 or the medium's fault where that doesn't read.
+    /// is 71 at the first side sector if they aren't, and 66 or the medium's fault if that doesn't read.
     pub fn open_records(&self, entry: &Entry) -> Result<(), Trouble>
         ensures means { let now = M.seen self.now in (d : Disk) (n : ℕ) (f : File) (w b s : ℕ) (rs : List (List ℕ)) →
             HoldsDisk now.tracks now.content d → EntryStandsAt now.tracks now.content n entry.now →

@@ -13,7 +13,7 @@ use cbm_relfile::{Relative, WrittenRecord, write_record};
 impl<M: Medium> Volume<M> {
     /// Writes these bytes into the record of a number, counted from 1, of the relative file in a slot, from a position
     /// on; what stands before stays, and zeros come after it. Answers whether some bytes didn't fit, and the next record;
-    /// or None where the record isn't there: nothing has changed then. On a sound disk an `Err` says that the medium is
+    /// or None if the record isn't there: nothing has changed then. On a sound disk an `Err` says that the medium is
     /// protected (26), with nothing changed, or failed by itself; of a record over two blocks the first may be written
     /// then.
     pub fn write_record(

@@ -7,7 +7,7 @@ use cbm_drive::Way::*;
 /// From the end of what was before, by the call of TALK or LISTEN and the test for the other serial port, to DATA's release.
 const CALLED: u64 = 62;
 
-/// From the call of UNLISTEN to DATA's release, where no byte waits: so ATN may be pulled 75 after SECOND freed it.
+/// From the call of UNLISTEN to DATA's release, if no byte waits: so ATN may be pulled 75 after SECOND freed it.
 const UNLISTENED: u64 = 42;
 
 /// From the last look of the byte that waited to DATA's release: RTS, two shifts, PLA, STA, SEI, DATAHI.

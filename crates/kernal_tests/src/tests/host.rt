@@ -46,7 +46,7 @@ const BIT_AGAIN: u64 = 11;
 /// From LDA of the port to CMP of it.
 const COMPARED: u64 = 4;
 
-/// From CMP, where it saw something else than LDA, to LDA again.
+/// From CMP, if it saw something else than LDA, to LDA again.
 const UNLIKE: u64 = 7;
 
 /// So many looks in vain, about a fifth of a second, and the host waits for ever.

@@ -15,7 +15,7 @@ const NAMED: u8 = 0xf0;
 const COMMANDS: u8 = 15;
 
 impl Host {
-    /// LISTEN with a secondary address, bytes, and UNLISTEN; where no device is present it ends at once.
+    /// LISTEN with a secondary address, bytes, and UNLISTEN; if no device is present it ends at once.
     fn tells(&mut self, device: u8, secondary: u8, bytes: &[u8]) -> bool {
         self.status = 0;
         self.listen(device);

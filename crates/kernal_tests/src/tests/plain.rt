@@ -76,7 +76,7 @@ impl Plain {
         self.moment = self.moment.wrapping_add(self.reaction).wrapping_add(60);
     }
 
-    /// ATN's release, where it made nobody a talker or a listener.
+    /// ATN's release, if it made nobody a talker or a listener.
     fn rests(&mut self) {
         self.after(0, Atn, Free);
         self.after(0, Clock, Free);

@@ -1,4 +1,4 @@
-//! Sessions of a computer with one and two drives: every reaction, every computer, its screen on and off. All goes well where
+//! Sessions of a computer with one and two drives: every reaction, every computer, its screen on and off. All goes well if
 //! the drives keep the KERNAL's pace.
 
 use crate::tests::cycles::Computer;
@@ -11,11 +11,14 @@ use std::process::Abort;
 /// The status after power up.
 const POWER_UP: &[u8] = b"73,CBM DOS V2.6 1541,00,00\r";
 
-/// The status where all is well.
+/// The status if all is well.
 const OK: &[u8] = b"00, OK,00,00\r";
 
 /// The status after a file was missing.
 const NOT_FOUND: &[u8] = b"62,FILE NOT FOUND,00,00\r";
+
+/// The status after a file was there already.
+const EXISTS: &[u8] = b"63,FILE EXISTS,00,00\r";
 
 /// A program that is saved, of all kinds of bits.
 const SAVED: &[u8] = b"\x00\xc0\x00\xff\x55\xaa\x0f\xf0\x80\x01";
@@ -76,6 +79,13 @@ pub fn missing(host: &mut Host, device: u8, tally: &mut Tally) {
     tally.add(host.reads_status(device, OK));
 }
 
+/// SAVE of a name that is there already: the bus takes it, the status tells that it was refused, and the old file is there.
+pub fn refused(host: &mut Host, device: u8, tally: &mut Tally) {
+    tally.add(host.saves(device, b"HELLO", SAVED));
+    tally.add(host.reads_status(device, EXISTS));
+    tally.add(host.loads(device, b"HELLO", HELLO));
+}
+
 /// The listing of the disk.
 pub fn listing(rt: &impl Abort, alloc: Global) -> Vec<u8> {
     let mut listing = Vec::new(alloc);
@@ -111,6 +121,7 @@ impl Stage {
         programs(&mut host, device, self.listing.as_slice(), &mut tally);
         files(&mut host, device, &mut tally);
         missing(&mut host, device, &mut tally);
+        refused(&mut host, device, &mut tally);
         let job = tally.wrong.unwrap_or(0);
         assert!(rt; job == 0, "job {job} of seed {seed}, reaction {reaction}");
         let kept = host.keeps_loosely();
@@ -137,7 +148,7 @@ fn all_goes_well(rt: &impl Abort, alloc: Global, computer: Computer) {
             jobs = jobs.wrapping_add(stage.plays(rt, reaction, seed, true));
         }
     }
-    assert!(rt; jobs == 60 * SEEDS * 2 * 18);
+    assert!(rt; jobs == 60 * SEEDS * 2 * 21);
 }
 
 #[test]

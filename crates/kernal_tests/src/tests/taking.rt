@@ -88,7 +88,7 @@ impl Host {
         self.is_pulled_before(DATA_TO_FLAG, end, Clock)
     }
 
-    /// Eight bits, the lowest first: DATA where CLOCK is high, and then CLOCK low.
+    /// Eight bits, the lowest first: DATA if CLOCK is high, and then CLOCK low.
     fn take_bits(&mut self) -> u8 {
         let mut byte = 0u8;
         let mut to_look = LOOK_TO_BITS;

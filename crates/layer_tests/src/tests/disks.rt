@@ -1,12 +1,12 @@
 //! Calls of a disk that answer plain numbers: what a call promises stays out of the tests.
 use cbm_medium::{Address, Fault, Medium};
 
-/// The code of a fault, 0 where a call was done.
+/// The code of a fault, 0 if a call was done.
 pub fn code_of<T: Drop>(answer: Result<T, Fault>) -> u8 {
     answer.err().map_or(0, |fault| fault.code)
 }
 
-/// The code that a read answers, 0 where it gives the bytes, and 255 where the disk has no such sector.
+/// The code that a read answers, 0 if it gives the bytes, and 255 if the disk has no such sector.
 pub fn read_code<M: Medium>(disk: &M, track: u8, sector: u8) -> u8 {
     match Address::new(track, sector) {
         Some(at) if at.track() <= disk.tracks() => code_of(disk.read(at)),

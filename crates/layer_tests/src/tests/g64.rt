@@ -15,7 +15,7 @@ const NEXT: usize = 7930;
 /// Where the circle of track 17 begins.
 const CIRCLE: usize = FIRST + 16 * NEXT + 2;
 
-/// The number of a refusal, 0 where a call was done.
+/// The number of a refusal, 0 if a call was done.
 fn number_of<T: Drop>(answer: Result<T, G64Fault>) -> u8 {
     match answer {
         Ok(_) => 0,
@@ -23,7 +23,7 @@ fn number_of<T: Drop>(answer: Result<T, G64Fault>) -> u8 {
     }
 }
 
-/// The number of the fault that refuses an image, 0 where it is taken.
+/// The number of the fault that refuses an image, 0 if it is taken.
 fn refusal(alloc: Global, bytes: &[u8]) -> u8 {
     number_of(G64Disk::from_bytes(alloc, bytes, false))
 }
@@ -187,7 +187,7 @@ const CHANGES: [(&[(usize, u8)], u8); 20] = [
     (&[(16, 1), (352, 9), (300, 7)], 0),
 ];
 
-/// What nobody wrote is given back where an image is taken, half tracks, speeds and padding too.
+/// What nobody wrote is given back if an image is taken, half tracks, speeds and padding too.
 fn is_numbered(rt: &impl Abort, alloc: Global, bytes: &[u8], wanted: u8) -> bool {
     if wanted == 0 {
         is_saved(rt, alloc, &opened(rt, alloc, bytes, false), bytes)

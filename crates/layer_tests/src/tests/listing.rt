@@ -155,7 +155,7 @@ const ONE: Entry<'static> = Entry {
     locked: false,
 };
 
-/// Adds a line where there is room for it.
+/// Adds a line if there is room for it.
 fn is_added(listing: &mut Listing) -> bool {
     let has_room = listing.has_room();
     if has_room {

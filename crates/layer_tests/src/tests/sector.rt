@@ -5,7 +5,7 @@ use cbm_track::Track;
 
 const ID: [u8; 2] = [0x41, 0x42];
 
-/// The code that a read answers, 0 where it gives the bytes.
+/// The code that a read answers, 0 if it gives the bytes.
 fn read_code(track: &Track, number: u8, sector: u8, id: [u8; 2]) -> u8 {
     match Address::new(number, sector) {
         Some(at) if at.track() <= 35 => code_of(read_sector(track, at, id)),

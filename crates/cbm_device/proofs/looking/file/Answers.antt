@@ -9,4 +9,4 @@ returns-clause-got c = λ d h.
     let image = c.args.image.now in
     let pattern = c.args.pattern.now in
     let disk = c.in_ok-volume.volume in
-    subst (λ r. IsUngot image d pattern r) (sym c.from.ensures) (ungot image d pattern c.in-Err.fault (c.in-Err.ensures d (holds_of image true disk d c.in_ok-volume.ensures.ok h)))
+    subst (λ r. IsUngot image d pattern r) (sym c.from.ensures) (ungot image d pattern c.in-Err.fault (c.in-Err.ensures.means d (holds_of image true disk d c.in_ok-volume.ensures.ok h)))
