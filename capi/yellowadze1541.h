@@ -1,14 +1,18 @@
 /* yellowadze1541.h: a Commodore 1541 as the computer on its serial cable sees it, and its disk images. C99 and C++.
  *
- * Numbers: 0 says that all went well; below 0 stands the call's own refusal; from 20 to 77 the number of the drive's status.
- * Moments are microseconds, below 2^60, and never go back. Bytes go to room of the caller's: `needed` gets their count, and
- * Y1541_NO_ROOM says that they didn't fit and none was written; a call that gives none leaves `needed` as it was.
- * No pointer is NULL, also beside a length of 0. What a call writes overlaps with nothing else that it is passed.
- * No call blocks, starts a thread, reads a file or a clock, prints, or keeps a pointer of the caller's. The library has no state but its
- * handles: one handle is in one call at a time, and different ones may be in calls of different threads at once. A handle may go
- * from one thread to another, which the program orders.
- * Memory comes from malloc, realloc and free, in the calls marked [m] alone; where they have none the call answers
- * Y1541_NO_MEMORY, and nothing has changed.
+ * What it can't do: no code runs in the drive, so fast loaders can't work; there is no LED, motor or head, and no snapshot of a drive.
+ *
+ * Results: 0 is success; numbers below 0 are the call's own refusals (y1541_result); 20 to 74 is the drive's status. Each call names what it may
+ * answer beside 0. A call that fails has changed nothing, unless it says so.
+ * Moments are microseconds on a clock of the caller's, which may begin anywhere; they are below 2^60, and for one drive never go back.
+ * Output: `needed` gets the count of the bytes. Y1541_NO_ROOM: they didn't fit, and none was written. A call that gives no bytes leaves `needed`.
+ * Pointers must not be NULL, even with a length of 0. Output buffers must not overlap any other argument.
+ * No call blocks, starts a thread, reads a file or a clock, prints, or keeps a pointer of the caller's.
+ * Threads: the library has no state but its handles. Different handles may be used by different threads at once, one handle by one call at a
+ * time. A handle may be passed to another thread; the caller must synchronise.
+ * Memory comes from malloc, realloc and free, in the calls marked [m] alone. If there is none, the call answers Y1541_NO_MEMORY.
+ * Stack: y1541_open takes up to 298 kB, put and command up to 259 kB, list 201 kB, play 143 kB, y1541_lines and y1541_due up to 80 kB, eject, insert
+ * and reset 71 kB, all others less. docs/emulators.md has what was measured, and answers to questions.
  */
 #ifndef YELLOWADZE1541_H
 #define YELLOWADZE1541_H
@@ -20,142 +24,146 @@
 extern "C" {
 #endif
 
-/* Major, minor, patch: a byte each. Up to 1.0.0 a program goes on where y1541_version() >> 8 is that which it was compiled with; from then on
- * where y1541_version() >> 16 is. */
+/* Major, minor, patch: a byte each. A program works with a library whose y1541_version() >> 8 is the one it was compiled with; from 1.0.0 on
+ * y1541_version() >> 16 is enough. */
 #define Y1541_VERSION 0x000300u
 
-/* What is below 0. */
+/* Success, and the refusals. */
 enum y1541_result {
     Y1541_OK = 0,
     Y1541_NO_MEMORY = -1,
-    Y1541_INVALID = -2,  /* an argument is out of its range, or a moment comes too late */
-    Y1541_NO_ROOM = -3,  /* `needed` says how much is wanted */
-    Y1541_ABSENT = -4,   /* no such file, slot or sector; or nothing is due */
-    Y1541_NO_IMAGE = -5, /* these are no bytes of a D64 or a G64, or they would be taken for those of another format */
+    Y1541_INVALID = -2,  /* an argument is out of its range, or a moment comes too late or too soon */
+    Y1541_NO_ROOM = -3,  /* the output doesn't fit: `needed` says how much room is wanted */
+    Y1541_ABSENT = -4,   /* no such file, slot, sector or disk; or nothing is due */
+    Y1541_NO_IMAGE = -5, /* not a D64 or G64; or the new image would be taken for one of another format */
     Y1541_UNSOUND = -6,  /* the disk isn't sound */
-    Y1541_NO_DRIVE = -7  /* the handle holds no drive; at y1541_open: it holds one */
+    Y1541_NO_DRIVE = -7  /* the handle is empty; at y1541_open: it holds a drive already */
 };
 
-/* The greatest moment: never. */
+/* The moment of what never comes. */
 #define Y1541_NEVER UINT64_MAX
 
-/* Whose pace a drive keeps: that of the bus profile, or that which the KERNAL of a C64 or a VIC-20 needs. */
+/* A drive's pace: for hosts that keep the bus profile (docs/bus.md), or for the KERNAL of a C64 or a VIC-20. */
 enum y1541_pace { Y1541_PROFILE = 0, Y1541_KERNAL = 1 };
 
 /* The forms of a new image. */
 enum y1541_form { Y1541_D64_35 = 0, Y1541_D64_40 = 1, Y1541_G64 = 2 };
 
-/* A drive, or none. All bits zero is none: y1541 d = {0}. Its field is the library's alone; it is never copied. */
+/* A handle: a drive, or empty. y1541 d = {0} is empty. Its field belongs to the library; a handle must not be copied. Nobody checks that two drives
+ * of a bus have different numbers. */
 typedef struct y1541 { void *at; } y1541;
 
-/* The lines, as y1541_signal numbers them. */
+/* The lines of the bus. */
 enum y1541_line { Y1541_ATN = 0, Y1541_CLOCK = 1, Y1541_DATA = 2 };
 
 typedef struct y1541_pulls { uint8_t clock_low, data_low; } y1541_pulls;
 typedef struct y1541_reacted { uint64_t moment; uint8_t clock_low, data_low, clock_changed, data_changed; } y1541_reacted;
 typedef struct y1541_signal { uint64_t moment; uint8_t who, line, low; } y1541_signal; /* who: 0 the host, else the device */
-typedef struct y1541_place { uint8_t what, track, sector; } y1541_place; /* what: 1 to 9, docs/SCRIPTS.md */
+typedef struct y1541_place { uint8_t what, track, sector; } y1541_place; /* what: 1 to 9, docs/scripts.md */
 typedef struct y1541_title { uint16_t free; uint8_t title[16], mark[5]; } y1541_title;
-typedef struct y1541_entry { uint16_t blocks; uint8_t kind, closed, locked, record_length, name[16]; } y1541_entry;
+typedef struct y1541_entry { uint16_t blocks; uint8_t kind, closed, locked, record_length, name[16], track, sector; } y1541_entry; /* track, sector: of the file's first block */
 typedef struct y1541_lost { size_t unreadable; uint8_t tracks, errors, id; } y1541_lost;
 
 /* --- the library */
 
-/* Y1541_VERSION of the library that is linked. */
+/* The Y1541_VERSION of the linked library. */
 uint32_t y1541_version(void);
 
-/* --- a drive on lines: its own pulls and those of all others make the wires, which the caller joins */
+/* --- a drive on the bus: a wire is low if the drive or any other party pulls it, which the caller joins */
 
-/* [m] A drive is switched on with the disk of an image, of which it makes a copy: device 8 to 11, reaction 1 to 60 microseconds, a
- * y1541_pace. d holds none before; where it isn't opened, d holds what it held. */
+/* [m] Switches a drive on with a copy of the image: device 8 to 11, reaction 1 to 60 microseconds (20 is a good one), a y1541_pace. d must be empty.
+ * The sticker over the notch is is_protected; it can only change by y1541_insert.
+ * NO_DRIVE: d holds a drive. INVALID: device, reaction or pace. NO_IMAGE. NO_MEMORY. */
 int32_t y1541_open(y1541 *d, const uint8_t *image, size_t len, uint8_t is_protected, uint8_t device, uint8_t reaction, uint8_t pace);
 
-/* The drive is gone, and its memory given back; d holds none. Of none nothing is done. */
+/* Ends the drive and frees its memory; d is empty then. Closing an empty handle does nothing. */
 void y1541_close(y1541 *d);
 
-/* From this moment on all others together hold these lines low (0: free). Where several change, ATN does first, then CLOCK, then DATA.
- * Y1541_INVALID, and nothing is done: something happened later already, or a reaction is due before (make it first: y1541_due). */
+/* Tells the drive that from this moment on all others together hold these lines low (0: free). If several change, ATN changes first, then CLOCK, then
+ * DATA. INVALID: something happened later already, a reaction is due before (make it first: y1541_due), or the moment is too great. NO_DRIVE. */
 int32_t y1541_lines(y1541 *d, uint64_t moment, uint8_t atn_low, uint8_t clock_low, uint8_t data_low);
 
-/* When the drive reacts next; Y1541_NEVER where it waits for a line, or d holds none. */
+/* The moment of the drive's next reaction; Y1541_NEVER if it waits for a line, or d is empty. */
 uint64_t y1541_next_due(y1541 *d);
 
-/* The reaction that is due by a moment happens, when it is due: then, what the drive holds since, and what of that is new.
- * Y1541_ABSENT where none is due by then, and nothing is done. */
+/* Performs the reaction due at or before `moment`. `reacted` gets its time, the lines the drive now holds, and which of them changed.
+ * ABSENT: nothing is due by then. NO_DRIVE. */
 int32_t y1541_due(y1541 *d, uint64_t moment, y1541_reacted *reacted);
 
-/* The lines that the drive holds low now. */
+/* The lines that the drive holds low now. NO_DRIVE. */
 int32_t y1541_pulls_now(y1541 *d, y1541_pulls *pulls);
 
-/* The drive is switched off and on with its disk: no channel is open, what was being written isn't closed, and its lines are free; it
- * takes all lines for free until y1541_lines tells it. */
+/* Switches the drive off and on with its disk, as the IEC RESET line does: no channel stays open, a file being written stays unclosed, the drive's
+ * lines are free. It takes all lines for free until y1541_lines tells it. Moments and the count of writes go on. NO_DRIVE. */
 int32_t y1541_reset(y1541 *d);
 
-/* --- the disk in a drive, which goes on */
+/* --- the disk in a drive, while the drive goes on */
 
-/* [m] The image of the disk as it is now, with all that was written, in the format that was put in; a file that is being written stands in it as
- * on the disk, not closed. Y1541_ABSENT where there is no disk. Room for the image that was put in, and 278,234 bytes for a G64, suffices. */
+/* [m] The image of the disk as it is now, in the format in which it was put in; a file being written is in it as on the disk, not closed.
+ * Enough room is that of the image that was put in, or 278,234 bytes for a G64 if that is more.
+ * ABSENT: there is no disk. NO_ROOM. NO_MEMORY. NO_DRIVE. */
 int32_t y1541_image(y1541 *d, uint8_t *out, size_t room, size_t *needed);
 
-/* How often a sector of the disk was written (once where all were formatted), since it was put in: where it has grown, the image is worth
- * saving. It stops at UINT64_MAX. 0 where d holds none. */
+/* How many sectors were written since the disk was put in (formatting all counts as one): if this has grown, the image is worth saving. It stops at
+ * UINT64_MAX. 0 if d is empty. */
 uint64_t y1541_writes(y1541 *d);
 
-/* [m] The disk is taken out, and its image given as by y1541_image; where it isn't given, nothing has happened. The drive has none then, and
- * reads zeros that can't be written. No channel is open, what was being written isn't closed; its lines and the status stay. */
+/* [m] Takes the disk out and gives its image, as y1541_image does; if that fails, the disk stays in the drive. Without a disk the drive reads zeros
+ * that can't be written. No channel stays open, a file being written stays unclosed; the drive's lines and the status stay. */
 int32_t y1541_eject(y1541 *d, uint8_t *out, size_t room, size_t *needed);
 
-/* [m] The disk of another image is put in, of which the drive makes a copy; the one that was in it is gone. Channels, lines and status as by
- * y1541_eject. Where it isn't opened, nothing has happened. */
+/* [m] Puts in a copy of another image; the disk that was in is gone. Channels, lines and status as at y1541_eject. NO_IMAGE. NO_MEMORY. NO_DRIVE. */
 int32_t y1541_insert(y1541 *d, const uint8_t *image, size_t len, uint8_t is_protected);
 
-/* The number of the status that channel 15 tells, 0 to 74; nothing of it is taken. */
+/* The number of the status, 0 to 74; this doesn't read channel 15. 20 or more is an error, except 73 (power up). NO_DRIVE. */
 int32_t y1541_status(y1541 *d);
 
 /* --- a whole list of changes in one call, with a drive of its own */
 
-/* [m] A drive is switched on with the disk of an image, and played under these changes of the host (whose `who` doesn't count) up to an end
- * below 2^59, the reactions due then too: all events in order, the host's and the drive's, and the image as it is then. `count` and `needed`
- * get how many there are, with Y1541_NO_ROOM too, where a room is too small and neither was written. Y1541_INVALID where a change goes back in
- * time, comes after the end or is of no line. */
+/* [m] Switches a drive on with the disk of an image and plays these changes of the host (their `who` doesn't count) up to and including `end`: all
+ * events in order, the host's and the drive's, and the image as it is then. `count` and `needed` get how many there are; with NO_ROOM, too, if either
+ * room is too small and neither was written. INVALID: device, reaction, pace, a line, an end of 2^59 or more, a change that goes back in time or comes
+ * after the end. NO_IMAGE. NO_MEMORY. */
 int32_t y1541_play(const uint8_t *image, size_t len, uint8_t device, uint8_t reaction, uint8_t pace, const y1541_signal *changes, size_t n, uint64_t end,
                    y1541_signal *events, size_t events_room, size_t *count, uint8_t *after, size_t after_room, size_t *needed);
 
-/* --- images, with no drive: each call opens the image anew, and changes nothing of the caller's but its out parameters */
+/* --- images, without a drive: each call opens the image, and may answer NO_IMAGE and NO_MEMORY; it changes only its out parameters */
 
-/* [m] Y1541_OK exactly where the disk is sound; Y1541_UNSOUND, with what is wrong first and where. */
+/* [m] 0 exactly if the disk is sound. UNSOUND: `first` has what is wrong first, and where. */
 int32_t y1541_image_check(const uint8_t *image, size_t len, y1541_place *first);
 
-/* [m] Title, id with the kind of DOS, and how many blocks are free; or the status of 18/0, where it doesn't read. */
+/* [m] Title, id with the kind of DOS, and the count of free blocks. 20 to 29: 18/0 can't be read. */
 int32_t y1541_image_title(const uint8_t *image, size_t len, y1541_title *title);
 
-/* [m] The entry of a slot of the directory, counted from 0, also an empty one (kind 0, not closed); Y1541_ABSENT past the last. */
+/* [m] The entry in a slot of the directory, counted from 0; an empty slot has kind 0 and isn't closed. ABSENT: past the last slot. A status: the
+ * directory can't be followed so far. */
 int32_t y1541_image_entry(const uint8_t *image, size_t len, uint8_t slot, y1541_entry *entry);
 
-/* [m] The directory as LOAD"$",8 gets it, with the files that match a pattern; of all where n is 0. */
+/* [m] The directory as LOAD"$",8 gets it, with the files that match a pattern; all files if n is 0. NO_ROOM. A status. */
 int32_t y1541_image_list(const uint8_t *image, size_t len, const uint8_t *pattern, size_t n, uint8_t *out, size_t room, size_t *needed);
 
-/* [m] The bytes of the first file that matches a pattern, of any type. */
+/* [m] The bytes of the first file of any type that matches a pattern. ABSENT: no file matches. 60: it was never closed. NO_ROOM. Another status. */
 int32_t y1541_image_file(const uint8_t *image, size_t len, const uint8_t *pattern, size_t n, uint8_t *out, size_t room, size_t *needed);
 
-/* [m] The 256 bytes of a sector, or the status of the fault that stands in their place, 20 to 29. */
+/* [m] The 256 bytes of a sector. ABSENT: the disk has no such sector. 20 to 29: it can't be read. NO_ROOM: room is less than 256. */
 int32_t y1541_image_sector(const uint8_t *image, size_t len, uint8_t track, uint8_t sector, uint8_t *out, size_t room);
 
-/* [m] The image after a file was opened with a text such as NAME,P,W, given these bytes, and closed. */
+/* [m] The image after a file was opened with a text such as NAME,P,W (without ,P,W it is opened for reading, so 62), given these bytes, and closed.
+ * UNSOUND: the disk isn't sound. A status: the drive refused it. NO_ROOM. */
 int32_t y1541_image_put(const uint8_t *image, size_t len, const uint8_t *text, size_t n, const uint8_t *bytes, size_t count, uint8_t *out, size_t room, size_t *needed);
 
-/* [m] The image after a command for channel 15, such as S0:NAME, R0:NEW=OLD, C0:NEW=OLD, N0:TITLE,ID or V0. */
+/* [m] The image after a command for channel 15, such as S0:NAME, R0:NEW=OLD, C0:NEW=OLD, N0:TITLE,ID or V0. As y1541_image_put. */
 int32_t y1541_image_command(const uint8_t *image, size_t len, const uint8_t *text, size_t n, uint8_t *out, size_t room, size_t *needed);
 
-/* [m] A new image with an empty disk: a y1541_form, a title of at most 16 bytes, and the two bytes of its id. */
+/* [m] A new image of an empty disk: a y1541_form, a title of at most 16 bytes, and the two bytes of its id. INVALID: form or title. NO_ROOM. */
 int32_t y1541_image_new(uint8_t form, const uint8_t *title, size_t n, uint8_t id0, uint8_t id1, uint8_t *out, size_t room, size_t *needed);
 
-/* [m] The image in the other format, D64 or G64, and what it doesn't hold. */
+/* [m] The image in the other format, D64 or G64; `lost` gets what that can't hold, with NO_ROOM, too. */
 int32_t y1541_image_convert(const uint8_t *image, size_t len, y1541_lost *lost, uint8_t *out, size_t room, size_t *needed);
 
 /* --- words */
 
-/* What a number below 0 says, in English. */
+/* Words for what a call answered: 0, a number below 0, or a status, which has the words that the drive sends on channel 15. */
 static inline const char *y1541_text(int32_t number) {
     switch (number) {
     case Y1541_OK: return "all went well";
@@ -166,7 +174,27 @@ static inline const char *y1541_text(int32_t number) {
     case Y1541_NO_IMAGE: return "no image of a 1541's disk";
     case Y1541_UNSOUND: return "the disk isn't sound";
     case Y1541_NO_DRIVE: return "no drive, or one already";
-    default: return number >= 20 ? "a status of the drive" : "an unknown number";
+    case 1: return "FILES SCRATCHED";
+    case 20: case 21: case 22: case 23: case 24: case 27: return "READ ERROR";
+    case 25: case 28: return "WRITE ERROR";
+    case 26: return "WRITE PROTECT ON";
+    case 29: return "DISK ID MISMATCH";
+    case 30: case 31: case 32: case 33: case 34: return "SYNTAX ERROR";
+    case 50: return "RECORD NOT PRESENT";
+    case 51: return "OVERFLOW IN RECORD";
+    case 52: return "FILE TOO LARGE";
+    case 60: return "WRITE FILE OPEN";
+    case 61: return "FILE NOT OPEN";
+    case 62: return "FILE NOT FOUND";
+    case 63: return "FILE EXISTS";
+    case 64: return "FILE TYPE MISMATCH";
+    case 66: return "ILLEGAL TRACK OR SECTOR";
+    case 70: return "NO CHANNEL";
+    case 71: return "DIR ERROR";
+    case 72: return "DISK FULL";
+    case 73: return "CBM DOS V2.6 1541";
+    case 74: return "DRIVE NOT READY";
+    default: return "an unknown number";
     }
 }
 

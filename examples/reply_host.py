@@ -2,7 +2,7 @@
 """A computer on the bus of `drive1541 reply`: it writes a file to a drive, and reads the directory back.
 
 Usage: reply_host.py DRIVE1541 IMAGE=OUT .. [--drive DEVICE:REACTION:PACE ..]: the path of the program, and its words after `reply`.
-The file NOTE goes to each drive in its turn. Times are those of the bus profile, docs/BUS.md; all are in microseconds.
+The file NOTE goes to each drive in its turn. Times are those of the bus profile, docs/bus.md; all are in microseconds.
 """
 import subprocess
 import sys

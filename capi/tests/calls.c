@@ -73,7 +73,9 @@ static void refused_images(const uint8_t *image, size_t len) {
     expect(y1541_image_check(image, 3, &place) == Y1541_NO_IMAGE && place.what == 7, "check of no image");
     expect(y1541_image_file(image, len, (const uint8_t *)"NONE", 4, out, ROOM, &needed) == Y1541_ABSENT && needed == 5 && out[0] == 9, "no file");
     expect(y1541_image_file(image, len, (const uint8_t *)"HELLO", 5, out, 2, &needed) == Y1541_NO_ROOM && needed > 2 && out[0] == 9, "no room for a file");
+    expect(y1541_image_entry(image, len, 0, &entry) == Y1541_OK && entry.track == 17 && entry.sector == 0, "where HELLO begins");
     expect(y1541_image_entry(image, len, 255, &entry) == Y1541_ABSENT, "past the last slot");
+    expect(!strncmp(y1541_text(63), "FILE EXISTS", 12) && !strncmp(y1541_text(Y1541_ABSENT), "no such thing", 14) && !strncmp(y1541_text(2), "an unknown number", 18), "words for what a call answers");
     expect(y1541_image_sector(image, len, 0, 0, out, 256) == Y1541_ABSENT && y1541_image_sector(image, len, 36, 0, out, 256) == Y1541_ABSENT && y1541_image_sector(image, len, 1, 21, out, 256) == Y1541_ABSENT, "no sector");
     expect(y1541_image_sector(image, len, 18, 0, out, 255) == Y1541_NO_ROOM && out[0] == 9, "no room for a sector");
     expect(y1541_image_new(3, out, 0, 0, 0, out + 100, 1, &needed) == Y1541_INVALID && y1541_image_new(0, out, 17, 0, 0, out + 100, 1, &needed) == Y1541_INVALID, "no form, no title");

@@ -1,6 +1,6 @@
 #!/usr/bin/env python3
 """header.py HEADER SOURCES: that the C header declares just the functions that the library exports, each with the same parameters and result, that its structs
-have the fields of the library's, and that both have one version, for which CHANGELOG.md has a heading."""
+have the fields of the library's, that its words for a status are the drive's, and that both have one version, for which CHANGELOG.md has a heading."""
 import pathlib, re, sys
 
 TYPES = {"u8": "uint8_t", "u16": "uint16_t", "u32": "uint32_t", "u64": "uint64_t", "i32": "int32_t", "usize": "size_t"}
@@ -71,6 +71,22 @@ def versions(header, sources):
     return [*numbers, re.search(r"^## (\d+\.\d+\.\d+)", changes.read_text("utf-8"), re.M)[1]]
 
 
+def words_of_header(header):
+    """The header's words for each status."""
+    text = pathlib.Path(header).read_text("utf-8")
+    rows = re.findall(r'((?:case \d+: ?)+)return "([^"]*)";', text)
+    return {int(number): words for numbers, words in rows for number in re.findall(r"\d+", numbers)}
+
+
+def words_of_drive(sources):
+    """The drive's words for each status, but for 0, as cbm_machine has them."""
+    text = (pathlib.Path(sources).parents[1] / "cbm_machine/src/code.rt").read_text("utf-8")
+    numbers = {name: int(number) for name, number in reversed(re.findall(r"Code::(\w+) => (\d+),", text))}
+    rows = re.findall(r'((?:Code::\w+\s*\|?\s*)+)=>\s*b"([^"]*)"', text)
+    words = {numbers[name]: words.strip() for names, words in rows for name in re.findall(r"Code::(\w+)", names)}
+    return {number: it for number, it in words.items() if number}
+
+
 def main():
     have, want = declared(sys.argv[1]), exports(sys.argv[2])
     wrong = 0
@@ -79,6 +95,11 @@ def main():
             if ours.get(name) != theirs.get(name):
                 wrong += 1
                 print(f"{name}: the library has {ours.get(name)}, the header {theirs.get(name)}")
+    ours, theirs = words_of_drive(sys.argv[2]), words_of_header(sys.argv[1])
+    for number in sorted({*ours, *theirs}):
+        if ours.get(number) != theirs.get(number):
+            wrong += 1
+            print(f"status {number}: the drive says {ours.get(number)}, the header {theirs.get(number)}")
     numbers = versions(sys.argv[1], sys.argv[2])
     if len(set(numbers)) > 1:
         wrong += 1

@@ -1,7 +1,9 @@
 #define _XOPEN_SOURCE 700
-/* How much stack each call needs, by a stack that is painted before it: stack IMAGE. Fails where one needs more than its row says, which is just above what was
- * measured (docs/LIBRARY.md). */
+/* How much stack each call needs, by a stack that is painted before it: stack IMAGE. Fails if one needs more than its row says, which is just above what was
+ * measured (docs/emulators.md). What y1541_lines and y1541_due need depends on what the drive does then, so a computer with a KERNAL has it do its work; the
+ * computer's own frames take less than 1 kB. */
 #include "files.h"
+#include "kernal.h"
 #include <pthread.h>
 #include <yellowadze1541.h>
 
@@ -27,7 +29,14 @@ static void checks(void) { y1541_place p; y1541_image_check(image, len, &p), y15
 static void lists(void) { y1541_image_list(image, len, image, 0, out, ROOM, &needed); }
 static void files(void) { y1541_image_file(image, len, (const uint8_t *)"H*", 2, out, ROOM, &needed); }
 static void puts_file(void) { y1541_image_put(image, len, (const uint8_t *)"N,P,W", 5, image, 3000, out, ROOM, &needed), y1541_image_put(g64, g64_len, (const uint8_t *)"N,P,W", 5, image, 3000, out, ROOM, &needed); }
-static void commands(void) { y1541_image_command(image, len, (const uint8_t *)"V0", 2, out, ROOM, &needed); }
+/* A command on an image of each format. */
+static void command(const char *text) {
+    y1541_image_command(image, len, (const uint8_t *)text, strlen(text), out, ROOM, &needed);
+    y1541_image_command(g64, g64_len, (const uint8_t *)text, strlen(text), out, ROOM, &needed);
+}
+static void command_validates(void) { command("V0"); }
+static void command_copies(void) { command("C0:TWO=HELLO"); }
+static void command_formats(void) { command("N0:NEW,ID"); }
 static void plays(void) {
     static const y1541_signal host[] = {{1000, 0, Y1541_ATN, 1}, {3000, 0, Y1541_ATN, 0}};
     static y1541_signal events[8];
@@ -37,12 +46,42 @@ static void plays(void) {
 static void makes(void) { y1541_image_new(2, image, 0, 0, 0, out, ROOM, &needed); }
 static void converts(void) { y1541_lost l; y1541_image_convert(image, len, &l, out, ROOM, &needed), y1541_image_convert(g64, g64_len, &l, out, ROOM, &needed); }
 
+/* A computer at a drive with a D64, and one at a drive with a G64. */
+static struct host { bus at; kernal with; } hosts[2];
+static void host_begins(struct host *h, const uint8_t *bytes, size_t count) {
+    if (bus_open(&h->at, 0, bytes, count, 8, 20, Y1541_KERNAL, 0) != Y1541_OK) exit(2);
+    kernal_init(&h->with, &h->at, PAL, 1);
+}
+/* Each has its drive carry out a command on channel 15. */
+static void hosts_command(const char *text) {
+    for (int i = 0; i < 2; i++) kernal_open(&hosts[i].with, 8, 15, text), kernal_close(&hosts[i].with, 8, 15);
+}
+static void hosts_load(const char *name) {
+    for (int i = 0; i < 2; i++) expect(kernal_load(&hosts[i].with, 8, name, out, ROOM) > 0, name);
+}
+static void host_lists(void) { hosts_load("$"); }
+static void host_loads(void) { hosts_load("HELLO"); }
+static void host_saves(void) {
+    for (int i = 0; i < 2; i++) kernal_save(&hosts[i].with, 8, "NEW", image, 3000);
+}
+static void host_renames(void) { hosts_command("R0:OLD=NEW"), hosts_load("OLD"); }
+static void host_copies(void) { hosts_command("C0:TWO=OLD,HELLO"), hosts_load("TWO"); }
+static void host_scratches(void) { hosts_command("S0:TWO"); }
+static void host_validates(void) { hosts_command("V0"); }
+static void host_formats(void) { hosts_command("N0:NEW,ID"); }
+static void hosts_end(void) {
+    for (int i = 0; i < 2; i++) y1541_close(&hosts[i].at.drive[0]);
+}
+
 /* In bytes. */
 static const struct { const char *name; void (*call)(void); size_t most; } calls[] = {
-    {"open", opens, 272000}, {"open a G64", opens_g64, 305000}, {"lines", lines, 1000}, {"next_due", next_due, 1000}, {"due", due, 1000},
+    {"open", opens, 272000}, {"open a G64", opens_g64, 305000}, {"lines, ATN", lines, 1000}, {"next_due", next_due, 1000}, {"due, ATN", due, 1000},
     {"pulls_now", pulls, 1000}, {"image", shows, 2000}, {"eject", ejects, 73000}, {"insert", inserts, 73000}, {"reset", resets, 73000}, {"close", closes, 1000},
     {"image_check", checks, 36000}, {"image_list", lists, 207000}, {"image_file", files, 4000}, {"image_put", puts_file, 222000},
-    {"image_command", commands, 220000}, {"image_new", makes, 53000}, {"image_convert", converts, 37000}, {"play", plays, 148000},
+    {"image_command V", command_validates, 220000}, {"image_command C", command_copies, 220000}, {"image_command N", command_formats, 235000},
+    {"image_new", makes, 53000}, {"image_convert", converts, 37000}, {"play", plays, 148000},
+    {"LOAD $", host_lists, 40000}, {"LOAD", host_loads, 40000}, {"SAVE", host_saves, 40000}, {"R", host_renames, 40000}, {"C", host_copies, 40000},
+    {"S", host_scratches, 40000}, {"V", host_validates, 40000}, {"N", host_formats, 53000}, {"their close", hosts_end, 1000},
 };
 
 static void *runs(void *call) {
@@ -77,14 +116,15 @@ int main(int argc, char **argv) {
     y1541_lost lost;
     image = read_file(argv[1], &len), out = malloc(ROOM), g64 = malloc(ROOM);
     y1541_image_convert(image, len, &lost, g64, ROOM, &g64_len);
+    host_begins(&hosts[0], image, len), host_begins(&hosts[1], g64, g64_len);
     size_t none = touched(nothing);
-    printf("stack in bytes:");
+    printf("stack in bytes:\n");
     for (size_t i = 0; i < sizeof calls / sizeof calls[0]; i++) {
         size_t used = touched(calls[i].call) - none;
-        printf(" %s %zu", calls[i].name, used);
-        if (used > calls[i].most) printf(" (above %zu)", calls[i].most), wrong++;
+        printf("  %-16s %6zu, at most %6zu\n", calls[i].name, used, calls[i].most);
+        expect(used <= calls[i].most, calls[i].name);
     }
-    printf("; %d too much\n", wrong);
+    printf("stack: %d wrong\n", wrong);
     free(image), free(out), free(g64);
     return wrong != 0;
 }

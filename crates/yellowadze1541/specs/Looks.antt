@@ -60,6 +60,8 @@ pub record Spells (e : List ℕ) (s : Entry) : Type 0 where
   pub locked : s.locked ≡ flag (bit_of (type_byte e) 6)
   pub record_length : s.record_length ≡ width_of e
   pub name : s.name ≡ slice_range e 3 19
+  pub track : s.track ≡ slice_index e 1
+  pub sector : s.sector ≡ slice_index e 2
 
 -- AN ENTRY OF AN IMAGE: 0 says that it is the one that stands in the slot, any other number why there is none.
 abbrev pub IsEntry : List ℕ → ℕ → ℤ → Entry → Entry → Type 0

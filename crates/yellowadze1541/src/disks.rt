@@ -42,8 +42,8 @@ pub extern "C" fn y1541_image(
     number(done)
 }
 
-/// How often a sector of the disk in the drive was written, or all were at once, since it was put in: up to 2^64 - 1, where it
-/// stays. 0 where there is no drive.
+/// How often a sector of the disk in the drive was written, or all were at once, since it was put in: up to 2^64 - 1, if it
+/// stays. 0 if there is no drive.
 #[unsafe(no_mangle)]
 pub extern "C" fn y1541_writes(alloc: Global, d: &mut Handle) -> u64
     ensures kept { d.new.value ≡ d.old.value }
@@ -58,7 +58,7 @@ pub extern "C" fn y1541_writes(alloc: Global, d: &mut Handle) -> u64
     writes
 }
 
-/// The disk is taken out, and given as its image, while the drive goes on. Where it isn't given, it stays in the drive.
+/// The disk is taken out, and given as its image, while the drive goes on. If it isn't given, it stays in the drive.
 #[unsafe(no_mangle)]
 pub extern "C" fn y1541_eject(
     alloc: Global,

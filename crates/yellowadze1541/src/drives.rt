@@ -126,7 +126,7 @@ pub extern "C" fn y1541_lines(
     number(done)
 }
 
-/// When the drive reacts next, in microseconds; the greatest number where it waits for a line, or there is none.
+/// When the drive reacts next, in microseconds; the greatest number if it waits for a line, or there is none.
 #[unsafe(no_mangle)]
 pub extern "C" fn y1541_next_due(alloc: Global, d: &mut Handle) -> u64
     ensures kept { d.new.value ≡ d.old.value }

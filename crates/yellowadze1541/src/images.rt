@@ -102,6 +102,8 @@ fn spelled(entry: &cbm_volume::Entry) -> Entry
         locked: flag(entry.is_locked()),
         record_length: entry.record_length(),
         name,
+        track: bytes[1],
+        sector: bytes[2],
     }
 }
 

@@ -50,7 +50,7 @@ fn change_of(signal: &Signal) -> Option<Change>
     })
 }
 
-/// The changes that signals ask for. Errors: `Invalid` where a line is none, `Memory`.
+/// The changes that signals ask for. Errors: `Invalid` if a line is none, `Memory`.
 fn changes_of(alloc: Global, signals: &[Signal]) -> Result<Vec<Change>, DeviceRefusal>
     ensures ok { IfOk result (λ v. changes_of signals.now ≡ Some v.items) }
     ensures err { IfErr result (λ r. ((r ≡ DeviceRefusal.Invalid) × (changes_of signals.now ≡ None)) ⊎ (r ≡ DeviceRefusal.Memory)) }
@@ -149,7 +149,7 @@ fn hand_over(
     Ok(())
 }
 
-/// A drive is switched on with the disk of an image and played under the changes that these signals ask for. Errors: `Invalid`, where
+/// A drive is switched on with the disk of an image and played under the changes that these signals ask for. Errors: `Invalid`, if
 /// a line is none or a change goes back in time or comes after the end; `NoImage`, `Memory`.
 fn played(
     alloc: Global,

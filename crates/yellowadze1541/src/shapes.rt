@@ -42,6 +42,10 @@ pub struct Entry {
     pub record_length: u8,
     /// The name, filled up with $A0.
     pub name: [u8; 16],
+    /// The track of the file's first block, 0 if it has none.
+    pub track: u8,
+    /// The sector of that block.
+    pub sector: u8,
 }
 
 /// What an image of the other format doesn't hold.

@@ -9,12 +9,12 @@
 
 static int wrong;
 
-static void expect(int is, const char *what) {
+static inline void expect(int is, const char *what) {
     if (!is) wrong++, printf("WRONG: %s\n", what);
 }
 
 /* The bytes of a file. */
-static uint8_t *read_file(const char *name, size_t *len) {
+static inline uint8_t *read_file(const char *name, size_t *len) {
     FILE *f = fopen(name, "rb");
     uint8_t *bytes = malloc(1 << 20);
     if (!f || !bytes) {
@@ -26,7 +26,7 @@ static uint8_t *read_file(const char *name, size_t *len) {
     return bytes;
 }
 
-static void write_file(const char *name, const uint8_t *bytes, size_t len) {
+static inline void write_file(const char *name, const uint8_t *bytes, size_t len) {
     FILE *f = fopen(name, "wb");
     if (!f || fwrite(bytes, 1, len, f) != len || fclose(f)) {
         fprintf(stderr, "can't write %s\n", name);

@@ -24,13 +24,13 @@ typedef struct kernal {
 
 static const uint64_t hertz[] = {985248, 985248, 1022727, 1022727, 1108405};
 
-static uint64_t chance(kernal *k) {
+static inline uint64_t chance(kernal *k) {
     k->seed = k->seed * 1664525u + 1013904223u;
     return k->seed >> 24;
 }
 
 /* Cycles pass, and those that a bad line steals among them. */
-static void pass(kernal *k, uint64_t cycles) {
+static inline void pass(kernal *k, uint64_t cycles) {
     k->passed += cycles;
     while (k->lines && k->passed >= k->bad_line) {
         k->passed += 40 + chance(k) % 4;
@@ -38,10 +38,10 @@ static void pass(kernal *k, uint64_t cycles) {
     }
 }
 
-static uint64_t moment(const kernal *k) { return (k->passed * 1000000 + hertz[k->computer] / 2) / hertz[k->computer]; }
+static inline uint64_t moment(const kernal *k) { return (k->passed * 1000000 + hertz[k->computer] / 2) / hertz[k->computer]; }
 
 /* A store to the port: a line is pulled or freed. */
-static void store(kernal *k, uint64_t cycles, line which, int low) {
+static inline void store(kernal *k, uint64_t cycles, line which, int low) {
     pass(k, cycles);
     if (k->stuck) return;
     bus *b = k->bus;
@@ -50,7 +50,7 @@ static void store(kernal *k, uint64_t cycles, line which, int low) {
 
 typedef struct seen { uint8_t clock, data; } seen;
 
-static seen look(kernal *k, uint64_t cycles) {
+static inline seen look(kernal *k, uint64_t cycles) {
     seen s;
     pass(k, cycles);
     bus_read(k->bus, moment(k), &s.clock, &s.data);
@@ -58,7 +58,7 @@ static seen look(kernal *k, uint64_t cycles) {
 }
 
 /* LDA and CMP of the port, until both see the same. */
-static seen look_twice(kernal *k, uint64_t cycles) {
+static inline seen look_twice(kernal *k, uint64_t cycles) {
     seen s = look(k, cycles);
     for (int i = 0; i < 8000; i++) {
         seen again = look(k, 4);
@@ -69,7 +69,7 @@ static seen look_twice(kernal *k, uint64_t cycles) {
 }
 
 /* Looks until a line is low, or free; so many cycles to the first look, and from one to the next. */
-static seen await(kernal *k, uint64_t cycles, line which, int low, uint64_t again) {
+static inline seen await(kernal *k, uint64_t cycles, line which, int low, uint64_t again) {
     seen s = look_twice(k, cycles);
     for (int i = 0; i < 8000; i++) {
         if ((which == CLOCK ? s.clock : s.data) == low || k->stuck) return s;
@@ -79,10 +79,10 @@ static seen await(kernal *k, uint64_t cycles, line which, int low, uint64_t agai
     return s;
 }
 
-static uint64_t timer_end(const kernal *k, uint64_t high) { return k->passed + (high | k->timer_low); }
+static inline uint64_t timer_end(const kernal *k, uint64_t high) { return k->passed + (high | k->timer_low); }
 
 /* Whether a line is low before a timer ends. */
-static int low_before(kernal *k, uint64_t cycles, uint64_t end, line which) {
+static inline int low_before(kernal *k, uint64_t cycles, uint64_t end, line which) {
     pass(k, cycles);
     for (int i = 0; i < 8000 && k->passed < end; i++) {
         seen s = look_twice(k, 14);
@@ -93,7 +93,7 @@ static int low_before(kernal *k, uint64_t cycles, uint64_t end, line which) {
 }
 
 /* What a program does between two calls. */
-static void works(kernal *k) {
+static inline void works(kernal *k) {
     pass(k, 12);
     uint64_t by = chance(k);
     if (by >= 240) pass(k, 1000);
@@ -101,7 +101,7 @@ static void works(kernal *k) {
 }
 
 /* As it is switched on: IOINIT pulls CLOCK, and leaves it so. */
-static void kernal_init(kernal *k, bus *b, computer which, uint32_t seed) {
+static inline void kernal_init(kernal *k, bus *b, computer which, uint32_t seed) {
     memset(k, 0, sizeof *k);
     k->bus = b, k->computer = which, k->buffered = -1;
     k->seed = seed * 2654435761u;
@@ -112,20 +112,20 @@ static void kernal_init(kernal *k, bus *b, computer which, uint32_t seed) {
     pass(k, 1000);
 }
 
-static void release(kernal *k, uint64_t cycles) {
+static inline void release(kernal *k, uint64_t cycles) {
     store(k, cycles, ATN, 0);
     store(k, 77, CLOCK, 0);
     store(k, 19, DATA, 0);
 }
 
-static void fail(kernal *k, int status) {
+static inline void fail(kernal *k, int status) {
     if (k->stuck) return;
     k->status |= status;
     release(k, 60);
 }
 
 /* ISOUR: a byte out. */
-static void send(kernal *k, uint64_t cycles, uint8_t byte, int last) {
+static inline void send(kernal *k, uint64_t cycles, uint8_t byte, int last) {
     store(k, cycles, DATA, 0);
     if (!look_twice(k, 16).data) {
         fail(k, KERNAL_ABSENT);
@@ -151,29 +151,29 @@ static void send(kernal *k, uint64_t cycles, uint8_t byte, int last) {
     if (!low_before(k, 8, timer_end(k, 0x400), DATA)) fail(k, KERNAL_TIMEOUT);
 }
 
-static void attention(kernal *k, uint64_t cycles, uint8_t byte) {
+static inline void attention(kernal *k, uint64_t cycles, uint8_t byte) {
     store(k, cycles, CLOCK, 1);
     store(k, 22, DATA, 0);
     send(k, 961, byte, 0);
 }
 
-static void list1(kernal *k, uint64_t cycles, uint8_t byte) {
+static inline void list1(kernal *k, uint64_t cycles, uint8_t byte) {
     store(k, cycles, DATA, 0);
     store(k, 21, ATN, 1);
     attention(k, 18, byte);
 }
 
-static void kernal_listen(kernal *k, uint8_t device) { works(k), list1(k, 62, 0x20 | device); }
+static inline void kernal_listen(kernal *k, uint8_t device) { works(k), list1(k, 62, 0x20 | device); }
 
-static void kernal_talk(kernal *k, uint8_t device) { works(k), list1(k, 62, 0x40 | device); }
+static inline void kernal_talk(kernal *k, uint8_t device) { works(k), list1(k, 62, 0x40 | device); }
 
-static void kernal_second(kernal *k, uint8_t byte) {
+static inline void kernal_second(kernal *k, uint8_t byte) {
     works(k);
     attention(k, 41, byte);
     store(k, 30, ATN, 0);
 }
 
-static void kernal_tksa(kernal *k, uint8_t byte) {
+static inline void kernal_tksa(kernal *k, uint8_t byte) {
     works(k);
     attention(k, 41, byte);
     store(k, 38, DATA, 1);
@@ -182,13 +182,13 @@ static void kernal_tksa(kernal *k, uint8_t byte) {
     await(k, 16, CLOCK, 1, 23);
 }
 
-static void kernal_ciout(kernal *k, uint8_t byte) {
+static inline void kernal_ciout(kernal *k, uint8_t byte) {
     works(k);
     if (k->buffered >= 0) send(k, 53, (uint8_t)k->buffered, 0);
     k->buffered = byte;
 }
 
-static void kernal_unlisten(kernal *k) {
+static inline void kernal_unlisten(kernal *k) {
     works(k);
     if (k->buffered >= 0) {
         uint8_t byte = (uint8_t)k->buffered;
@@ -201,7 +201,7 @@ static void kernal_unlisten(kernal *k) {
     release(k, 36);
 }
 
-static void kernal_untalk(kernal *k) {
+static inline void kernal_untalk(kernal *k) {
     works(k);
     store(k, 31, CLOCK, 1);
     store(k, 16, ATN, 1);
@@ -209,7 +209,7 @@ static void kernal_untalk(kernal *k) {
     release(k, 36);
 }
 
-static int begun_in_time(kernal *k, uint64_t cycles) {
+static inline int begun_in_time(kernal *k, uint64_t cycles) {
     pass(k, cycles);
     uint64_t end = timer_end(k, 0x100);
     store(k, 16, DATA, 0);
@@ -217,7 +217,7 @@ static int begun_in_time(kernal *k, uint64_t cycles) {
 }
 
 /* ACPTR: a byte in. */
-static uint8_t kernal_acptr(kernal *k) {
+static inline uint8_t kernal_acptr(kernal *k) {
     works(k);
     store(k, 37, CLOCK, 0);
     await(k, 16, CLOCK, 0, 23);
@@ -246,7 +246,7 @@ static uint8_t kernal_acptr(kernal *k) {
 
 /* --- what a program has it do; each answers whether all went well */
 
-static int tells(kernal *k, uint8_t device, uint8_t secondary, const uint8_t *bytes, size_t count) {
+static inline int tells(kernal *k, uint8_t device, uint8_t secondary, const uint8_t *bytes, size_t count) {
     k->status = 0;
     kernal_listen(k, device);
     kernal_second(k, secondary);
@@ -257,14 +257,14 @@ static int tells(kernal *k, uint8_t device, uint8_t secondary, const uint8_t *by
 }
 
 /* OPEN with a name, PRINT#, CLOSE. */
-static int kernal_open(kernal *k, uint8_t device, uint8_t channel, const char *name) { return tells(k, device, 0xf0 | channel, (const uint8_t *)name, strlen(name)); }
+static inline int kernal_open(kernal *k, uint8_t device, uint8_t channel, const char *name) { return tells(k, device, 0xf0 | channel, (const uint8_t *)name, strlen(name)); }
 
-static int kernal_print(kernal *k, uint8_t device, uint8_t channel, const uint8_t *bytes, size_t count) { return tells(k, device, 0x60 | channel, bytes, count); }
+static inline int kernal_print(kernal *k, uint8_t device, uint8_t channel, const uint8_t *bytes, size_t count) { return tells(k, device, 0x60 | channel, bytes, count); }
 
-static int kernal_close(kernal *k, uint8_t device, uint8_t channel) { return tells(k, device, 0xe0 | channel, (const uint8_t *)"", 0); }
+static inline int kernal_close(kernal *k, uint8_t device, uint8_t channel) { return tells(k, device, 0xe0 | channel, (const uint8_t *)"", 0); }
 
 /* INPUT# up to the channel's last byte; how many came, or -1. */
-static long kernal_input(kernal *k, uint8_t device, uint8_t channel, uint8_t *out, size_t room) {
+static inline long kernal_input(kernal *k, uint8_t device, uint8_t channel, uint8_t *out, size_t room) {
     k->status = 0;
     kernal_talk(k, device);
     kernal_tksa(k, 0x60 | channel);
@@ -281,13 +281,13 @@ static long kernal_input(kernal *k, uint8_t device, uint8_t channel, uint8_t *ou
 }
 
 /* LOAD: how many bytes came, or -1. */
-static long kernal_load(kernal *k, uint8_t device, const char *name, uint8_t *out, size_t room) {
+static inline long kernal_load(kernal *k, uint8_t device, const char *name, uint8_t *out, size_t room) {
     if (!kernal_open(k, device, 0, name)) return -1;
     long count = kernal_input(k, device, 0, out, room);
     return count < 0 || !kernal_close(k, device, 0) ? -1 : count;
 }
 
-static int kernal_save(kernal *k, uint8_t device, const char *name, const uint8_t *bytes, size_t count) {
+static inline int kernal_save(kernal *k, uint8_t device, const char *name, const uint8_t *bytes, size_t count) {
     return kernal_open(k, device, 1, name) && kernal_print(k, device, 1, bytes, count) && kernal_close(k, device, 1);
 }
 

@@ -13,7 +13,7 @@ typedef struct bus {
 } bus;
 
 /* Tells a drive what all others hold. */
-static void bus_tell(bus *b, int to, uint64_t now) {
+static inline void bus_tell(bus *b, int to, uint64_t now) {
     uint8_t clock = b->clock, data = b->data;
     for (int i = 0; i < DRIVES; i++)
         if (i != to && b->drive[i].at) clock |= b->pulls[i].clock_low, data |= b->pulls[i].data_low;
@@ -21,13 +21,13 @@ static void bus_tell(bus *b, int to, uint64_t now) {
 }
 
 /* Tells all drives but one. */
-static void bus_tell_all(bus *b, int but, uint64_t now) {
+static inline void bus_tell_all(bus *b, int but, uint64_t now) {
     for (int i = 0; i < DRIVES; i++)
         if (i != but && b->drive[i].at) bus_tell(b, i, now);
 }
 
 /* The drive that reacts first before a moment; of several at once the one in front. -1: none does. */
-static int bus_first(bus *b, uint64_t before, uint64_t *due) {
+static inline int bus_first(bus *b, uint64_t before, uint64_t *due) {
     int first = -1;
     for (int i = 0; i < DRIVES; i++) {
         uint64_t t = b->drive[i].at ? y1541_next_due(&b->drive[i]) : Y1541_NEVER;
@@ -37,7 +37,7 @@ static int bus_first(bus *b, uint64_t before, uint64_t *due) {
 }
 
 /* All reactions before a moment, in their order: to be called before each access of the port, and at the end of a frame. */
-static void bus_run_to(bus *b, uint64_t now) {
+static inline void bus_run_to(bus *b, uint64_t now) {
     uint64_t due = 0;
     for (int i; (i = bus_first(b, now, &due)) >= 0;) {
         y1541_reacted r;
@@ -48,7 +48,7 @@ static void bus_run_to(bus *b, uint64_t now) {
 }
 
 /* The host's port is written; the host comes before what drives do at the same moment. */
-static void bus_write(bus *b, uint64_t now, uint8_t atn, uint8_t clock, uint8_t data) {
+static inline void bus_write(bus *b, uint64_t now, uint8_t atn, uint8_t clock, uint8_t data) {
     bus_run_to(b, now);
     if (b->atn == atn && b->clock == clock && b->data == data) return;
     b->atn = atn, b->clock = clock, b->data = data;
@@ -56,7 +56,7 @@ static void bus_write(bus *b, uint64_t now, uint8_t atn, uint8_t clock, uint8_t 
 }
 
 /* The host's port is read: what was on the wires just before. */
-static void bus_read(bus *b, uint64_t now, uint8_t *clock, uint8_t *data) {
+static inline void bus_read(bus *b, uint64_t now, uint8_t *clock, uint8_t *data) {
     bus_run_to(b, now);
     *clock = b->clock, *data = b->data;
     for (int i = 0; i < DRIVES; i++)
@@ -64,14 +64,14 @@ static void bus_read(bus *b, uint64_t now, uint8_t *clock, uint8_t *data) {
 }
 
 /* A drive was switched off and on by y1541_reset: its lines are free, and it is told of all others'. */
-static void bus_switched(bus *b, int i, uint64_t now) {
+static inline void bus_switched(bus *b, int i, uint64_t now) {
     bus_run_to(b, now);
     b->pulls[i].clock_low = b->pulls[i].data_low = 0;
     bus_tell_all(b, -1, now);
 }
 
 /* A drive is switched on at the bus: all others' lines are told to it. */
-static int32_t bus_open(bus *b, int i, const uint8_t *image, size_t len, uint8_t device, uint8_t reaction, uint8_t pace, uint64_t now) {
+static inline int32_t bus_open(bus *b, int i, const uint8_t *image, size_t len, uint8_t device, uint8_t reaction, uint8_t pace, uint64_t now) {
     int32_t said = y1541_open(&b->drive[i], image, len, 0, device, reaction, pace);
     if (said == Y1541_OK) {
         b->pulls[i].clock_low = b->pulls[i].data_low = 0;

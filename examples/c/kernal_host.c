@@ -1,5 +1,5 @@
 /* A computer with a KERNAL at a drive of the library: kernal_host IMAGE [OUT]. It reads the status, LOADs the directory and HELLO, SAVEs a
- * program, LOADs it again, and asks for a file that isn't there; with a drive at each pace. OUT gets the image as it is then.
+ * program, LOADs it again, SAVEs it where that is refused, and asks for a file that isn't there; with a drive at each pace. OUT gets the image as it is then.
  * A drive at the bus profile's pace is served with the screen off, and its missing file would hang the computer: it isn't asked for. */
 #include "files.h"
 #include "kernal.h"
@@ -37,12 +37,26 @@ static void jobs(kernal *k, const uint8_t *image, size_t len, int asks_missing) 
     count = kernal_load(k, 8, "NEW", bytes, sizeof bytes);
     show("LOAD\"NEW\",8", bytes, count);
     expect(count == (long)sizeof saved && !memcmp(bytes, saved, sizeof saved), "LOAD of what was saved");
+    /* The bus takes a SAVE that the drive refused at its OPEN: only the status tells, and only a drive at the KERNAL's pace keeps it. */
+    expect(kernal_save(k, 8, "HELLO", saved, sizeof saved), "SAVE of a name that is there");
+    expect(status_is(k, 8, asks_missing ? "63," : "61,"), "the status of a name that is there");
     if (!asks_missing) return;
     count = kernal_load(k, 8, "NONE", bytes, sizeof bytes);
     expect(count < 0 && !k->stuck && k->status == (KERNAL_EOI | KERNAL_READ_TIMEOUT), "LOAD of no file");
     expect(y1541_status(&k->bus->drive[0]) == 62, "the status by the library");
     expect(status_is(k, 8, "62,"), "the status after no file");
     expect(status_is(k, 8, "00,"), "the status after the status");
+}
+
+/* SAVE on a disk whose notch is covered: the status is 26, and the disk stays as it is. */
+static int protected_save(const uint8_t *image, size_t len) {
+    bus b = {0};
+    kernal k;
+    if (y1541_open(&b.drive[0], image, len, 1, 8, 20, Y1541_KERNAL) != Y1541_OK) return 0;
+    kernal_init(&k, &b, PAL, 0);
+    int well = status_is(&k, 8, "73,") && kernal_save(&k, 8, "NEW", saved, sizeof saved) && status_is(&k, 8, "26,") && !y1541_writes(&b.drive[0]);
+    y1541_close(&b.drive[0]);
+    return well;
 }
 
 int main(int argc, char **argv) {
@@ -68,6 +82,7 @@ int main(int argc, char **argv) {
         expect(y1541_image_check(out, needed, &first) == Y1541_OK, "the image is sound");
         y1541_close(&b.drive[0]);
     }
+    expect(protected_save(image, len), "SAVE on a protected disk");
     if (argc > 2) write_file(argv[2], out, needed);
     free(image), free(out);
     return wrong ? puts("it went wrong"), 1 : (puts("all went well"), 0);

@@ -12,7 +12,7 @@ class Title(ctypes.Structure):
 
 
 class Entry(ctypes.Structure):
-    _fields_ = [("blocks", ctypes.c_uint16)] + [(it, ctypes.c_uint8) for it in ("kind", "closed", "locked", "record_length")] + [("name", ctypes.c_uint8 * 16)]
+    _fields_ = [("blocks", ctypes.c_uint16)] + [(it, ctypes.c_uint8) for it in ("kind", "closed", "locked", "record_length")] + [("name", ctypes.c_uint8 * 16), ("track", ctypes.c_uint8), ("sector", ctypes.c_uint8)]
 
 
 BYTES = [ctypes.c_char_p, ctypes.c_size_t]

@@ -1,0 +1,95 @@
+// Each call of yellowadze1541.mjs, good and refused, and that the types name them all: calls.mjs MODULE SMALL_STACK TRAPS IMAGE
+import fs from "node:fs";
+import * as library from "../yellowadze1541.mjs";
+
+const { load, Refused, Gone, NEVER, PROFILE, ATN, CLOCK, DATA } = library;
+const [file, smallStack, traps, name] = process.argv.slice(2);
+const y1541 = await load(fs.readFileSync(file)), image = new Uint8Array(fs.readFileSync(name));
+const program = Uint8Array.of(1, 8, 65, 0, 255, 90);
+let wrong = 0;
+
+const expect = (is, what) => is || (wrong++, console.log(`WRONG: ${what}`));
+const same = (a, b) => Buffer.compare(a, b) === 0;
+const thrown = (call) => {
+  try {
+    call();
+  } catch (it) {
+    return it;
+  }
+};
+const refused = (number, call, what) => {
+  const it = thrown(call);
+  expect(it instanceof Refused && it.number === number, `${what}: ${it}`);
+};
+
+// What is exported, and the calls of both classes, are what the types say.
+const types = fs.readFileSync(new URL("../yellowadze1541.d.mts", import.meta.url), "utf8");
+const typed = (kind) => [...types.split(`export interface ${kind} {`)[1].split("\n}")[0].matchAll(/^  (?:readonly )?(\w+)[?]?[(:]/gm)].map((it) => it[1]);
+const calls = (it) => Object.getOwnPropertyNames(Object.getPrototypeOf(it)).filter((name) => name !== "constructor");
+const isSame = (a, b) => String([...a].sort()) === String([...b].sort());
+expect(isSame([...types.matchAll(/^export (?:const|class|function) (\w+)/gm)].map((it) => it[1]), Object.keys(library)), "the types of the exports");
+expect(isSame(typed("Library"), calls(y1541)), "the types of the library");
+expect(isSame(typed("Drive"), calls(y1541.open(image))), "the types of a drive");
+
+// Images.
+const header = fs.readFileSync(new URL("../../yellowadze1541.h", import.meta.url), "utf8");
+expect(y1541.version() === Number(header.match(/define Y1541_VERSION (0x\w+)u/)[1]), "the version");
+for (const it of [{ device: 7 }, { device: 12 }, { reaction: 0 }, { reaction: 61 }, { pace: 2 }]) refused(-2, () => y1541.open(image, it), "an argument of open");
+refused(-5, () => y1541.open(image.subarray(1)), "no size of a D64");
+refused(-5, () => y1541.check(new Uint8Array(3)), "no image");
+refused(-4, () => y1541.file(image, "NONE"), "no file");
+refused(-4, () => y1541.sector(image, 36, 0), "no sector");
+refused(31, () => y1541.command(image, "X"), "no command");
+refused(63, () => y1541.put(image, "HELLO,P,W", program), "a name that is there");
+expect(thrown(() => y1541.sector(image, 256, 0)) instanceof RangeError, "no byte");
+expect(y1541.entry(image, 255) === null, "past the last slot");
+for (const form of [0, 1, 2]) {
+  const disk = y1541.create(form, "FORM", "ID"), title = y1541.title(disk);
+  y1541.check(disk);
+  expect(title.free === (form === 1 ? 749 : 664) && Buffer.from(title.title).toString("latin1").startsWith("FORM\xa0"), "the title");
+  const next = y1541.put(disk, "PROG,P,W", program), entry = y1541.entry(next, 0);
+  expect(entry.kind === 2 && entry.closed && !entry.locked && entry.blocks === 1 && entry.track === 17 && entry.sector === 0 && same(y1541.file(next, "P*"), program), "a file is put and found");
+  expect(y1541.title(y1541.command(next, "S0:PROG")).free === title.free, "and scratched");
+  expect(y1541.sector(next, 18, 0).length === 256 && y1541.list(next).length > y1541.list(next, "X*").length, "a sector, the directory");
+}
+const g64 = y1541.convert(image);
+expect(!g64.lost.unreadable && same(y1541.convert(g64.image).image, image), "a G64 of a D64, and back");
+const bad = image.slice();
+bad.fill(0xff, 91392, 91392 + 256); // 18/0
+const unsound = thrown(() => y1541.check(bad));
+expect(unsound.number === -6 && unsound.place.what > 0, "what is wrong first");
+
+// A drive.
+const drive = y1541.open(image, { pace: PROFILE });
+expect(drive.isOpen && drive.nextDue() === NEVER && drive.status() === 73 && drive.writes() === 0n, "as switched on");
+drive.lines(1000, 1, 0, 0);
+expect(drive.nextDue() === 1020 && drive.due(1019) === null, "not yet");
+const reaction = drive.due(5000);
+expect(reaction.moment === 1020 && reaction.data && reaction.dataChanged && !reaction.clock && !reaction.clockChanged && drive.pulls().data, "the reaction to ATN");
+refused(-2, () => drive.lines(999, 0, 0, 0), "back in time");
+expect(same(drive.image(), image) && same(drive.eject(), image), "the image comes out");
+refused(-4, () => drive.image(), "no disk");
+drive.insert(g64.image);
+expect(same(drive.image(), g64.image), "another disk");
+drive.reset();
+expect(drive.nextDue() === NEVER && !drive.pulls().data, "reset");
+drive.close();
+refused(-7, () => drive.reset(), "closed");
+expect(!drive.isOpen, "closed");
+const changes = [[1000, ATN, true], [1000, CLOCK, true], [3000, ATN, false]].map(([moment, line, low]) => ({ moment, line, low }));
+const played = y1541.play(image, changes, 4000, { pace: PROFILE });
+expect(played.events.length === 5 && played.events[2].moment === 1020 && played.events[2].who === 8 && played.events[2].line === DATA && same(played.image, image), "played");
+const many = Array.from({ length: 3000 }, (_, i) => ({ moment: 1000 + 500 * i, line: ATN, low: i % 2 === 0 }));
+expect(y1541.play(image, many, 2000000, { pace: PROFILE }).events.length > 4096, "more events than room was asked for");
+
+// A trap.
+const gone = (await load(fs.readFileSync(traps))).open(image);
+expect(gone.isOpen && gone.status() === 73, "a drive before it traps");
+for (const call of [() => gone.nextDue(), () => gone.status(), () => gone.image(), () => gone.lines(0, 0, 0, 0)]) expect(thrown(call) instanceof Gone, "gone after a trap");
+expect(!gone.isOpen, "it says that it is gone");
+const small = await load(fs.readFileSync(smallStack));
+expect(thrown(() => small.open(image)) instanceof Gone, "a stack that is too small");
+expect(same(small.file(image, "HELLO"), y1541.file(image, "HELLO")), "the next call has a module of its own");
+
+console.log(`calls.mjs: ${wrong} wrong`);
+process.exitCode = Number(wrong > 0);

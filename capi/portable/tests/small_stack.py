@@ -1,0 +1,10 @@
+#!/usr/bin/env python3
+"""small_stack MOST < what capi/tests/stack.c prints: fails where a call takes more than MOST bytes of the caller's stack."""
+import re, sys
+
+most = int(sys.argv[1])
+used = {name: int(size) for name, size in re.findall(r"^  (\S.*?) +(\d+), at most +\d+$", sys.stdin.read(), re.M)}
+above = {name: size for name, size in used.items() if size > most}
+name = max(used, key=used.get) if used else sys.exit("small_stack: no call was measured")
+print(f"stack: {len(used)} calls, at most {used[name]} bytes ({name}); above {most}: {above or 'none'}")
+sys.exit(bool(above))

@@ -1,0 +1,130 @@
+// The types of yellowadze1541.mjs. docs/emulators.md says what each call does, under its name in C.
+
+/** How the drive answers: hosts that keep the project's bus profile, or the KERNAL of a C64 or VIC-20. */
+export type Pace = 0 | 1;
+export const PROFILE: 0;
+export const KERNAL: 1;
+
+/** The form of a new image: a D64 of 35 or 40 tracks, or a G64. */
+export type Form = 0 | 1 | 2;
+export const D64_35: 0;
+export const D64_40: 1;
+export const G64: 2;
+
+export type Line = 0 | 1 | 2;
+export const ATN: 0;
+export const CLOCK: 1;
+export const DATA: 2;
+
+/** What nextDue() gives when the drive waits for a line. */
+export const NEVER: number;
+
+/** Bytes, or a text whose characters are bytes: names and patterns are PETSCII. */
+export type Bytes = Uint8Array | string;
+
+/** What is wrong first with a disk that isn't sound: a number from 1 to 9 of docs/scripts.md, and where. */
+export interface Place {
+  what: number;
+  track: number;
+  sector: number;
+}
+
+/** A call that the library refuses: a number below 0, or a status of the drive from 20 on. */
+export class Refused extends Error {
+  readonly number: number;
+  readonly place?: Place;
+}
+
+/** A module trapped: the drive, and what its disk held, can't be had any more. */
+export class Gone extends Error {}
+
+export interface Settings {
+  /** 8 to 11; 8 where it isn't given. */
+  device?: number;
+  /** How many microseconds the drive takes to answer a line, 1 to 60; 20 where it isn't given. */
+  reaction?: number;
+  /** KERNAL where it isn't given. */
+  pace?: Pace;
+}
+
+/** The moment of a reaction in microseconds, the lines that the drive holds low from then on, and which of them are new. */
+export interface Reaction {
+  moment: number;
+  clock: boolean;
+  data: boolean;
+  clockChanged: boolean;
+  dataChanged: boolean;
+}
+
+/** A change of a line; who: 0 for the host, else the device. */
+export interface Signal {
+  moment: number;
+  who: number;
+  line: Line;
+  low: boolean;
+}
+
+export interface Title {
+  free: number;
+  title: Uint8Array;
+  mark: Uint8Array;
+}
+
+export interface Entry {
+  blocks: number;
+  kind: number;
+  closed: boolean;
+  locked: boolean;
+  recordLength: number;
+  name: Uint8Array;
+  /** Where the file's first block is; the track is 0 if it has none. */
+  track: number;
+  sector: number;
+}
+
+export interface Lost {
+  unreadable: number;
+  tracks: number;
+  errors: boolean;
+  id: boolean;
+}
+
+/** A drive on lines. Moments are microseconds since it was opened, and never go back. */
+export interface Drive {
+  readonly isOpen: boolean;
+  close(): void;
+  lines(now: number, atn: unknown, clock: unknown, data: unknown): void;
+  nextDue(): number;
+  /** The reaction that is due by a moment, or null. */
+  due(by: number): Reaction | null;
+  pulls(): { clock: boolean; data: boolean };
+  reset(): void;
+  status(): number;
+  writes(): bigint;
+  image(): Uint8Array;
+  eject(): Uint8Array;
+  insert(image: Uint8Array, isProtected?: boolean): void;
+}
+
+export interface Library {
+  version(): number;
+  open(image: Uint8Array, settings?: Settings & { isProtected?: boolean }): Drive;
+  /** Throws Refused, with what is wrong first as its place, when the disk isn't sound. */
+  check(image: Uint8Array): void;
+  title(image: Uint8Array): Title;
+  /** The entry of a slot of the directory, or null past the last one. */
+  entry(image: Uint8Array, slot: number): Entry | null;
+  list(image: Uint8Array, pattern?: Bytes): Uint8Array;
+  file(image: Uint8Array, pattern: Bytes): Uint8Array;
+  sector(image: Uint8Array, track: number, sector: number): Uint8Array;
+  put(image: Uint8Array, text: Bytes, data: Bytes): Uint8Array;
+  command(image: Uint8Array, text: Bytes): Uint8Array;
+  create(form: Form, title: Bytes, id: Bytes): Uint8Array;
+  convert(image: Uint8Array): { image: Uint8Array; lost: Lost };
+  play(image: Uint8Array, changes: Omit<Signal, "who">[], end: number, settings?: Settings): { image: Uint8Array; events: Signal[] };
+}
+
+type Source = WebAssembly.Module | BufferSource | Response;
+
+/** The library, of a compiled module, its bytes, or a response that has them (or a promise of one of these). */
+export function load(source: Source | Promise<Source>): Promise<Library>;

@@ -1,0 +1,420 @@
+// The drive and its images in JavaScript, over yellowadze1541.wasm: the calls, numbers and texts of yellowadze1541.h.
+//
+//   import { load } from "./yellowadze1541.mjs";
+//   const y1541 = await load(fetch("yellowadze1541.wasm"));      // in Node: load(await readFile("yellowadze1541.wasm"))
+//   y1541.list(image);                                           // the bytes that LOAD"$" gets
+//   const drive = y1541.open(image, { device: 8 });              // a drive on lines
+//
+// What the library refuses is thrown as Refused, with its number. After a trap in its module a drive is gone, and each of its calls throws Gone. The types
+// are in yellowadze1541.d.mts. Nothing in this file is proved; docs/install.md says what is.
+
+export const PROFILE = 0, KERNAL = 1;
+export const D64_35 = 0, D64_40 = 1, G64 = 2;
+export const ATN = 0, CLOCK = 1, DATA = 2;
+export const NEVER = Infinity;
+
+const NO_MEMORY = -1, NO_ROOM = -3, ABSENT = -4, UNSOUND = -6, NO_DRIVE = -7;
+const TEXTS = {
+  [NO_MEMORY]: "no memory",
+  "-2": "an argument is out of its range",
+  [NO_ROOM]: "too little room",
+  [ABSENT]: "no such thing",
+  "-5": "no image of a 1541's disk",
+  [UNSOUND]: "the disk isn't sound",
+  [NO_DRIVE]: "no drive, or one already",
+};
+// The sizes of structs in the header.
+const SIGNAL = 16, SECTOR = 256;
+
+/** A call that the library refuses: a number below 0, or a status of the drive from 20 on. */
+export class Refused extends Error {
+  constructor(number, place) {
+    super(TEXTS[number] ?? `status ${number} of the drive`);
+    this.name = "Refused";
+    this.number = number;
+    if (place) this.place = place;
+  }
+}
+
+/** A module trapped, as one does whose stack is too small: what it held can't be had any more. */
+export class Gone extends Error {
+  constructor(cause) {
+    super("the drive is gone: its module trapped", { cause });
+    this.name = "Gone";
+  }
+}
+
+const check = (said, place) => {
+  if (said !== 0) throw new Refused(said, place);
+};
+
+const byte = (value, what) => {
+  if (!Number.isInteger(value) || value < 0 || value > 255) throw new RangeError(`${what} is no byte: ${value}`);
+  return value;
+};
+
+const moment = (value) => {
+  if (!Number.isSafeInteger(value) || value < 0) throw new RangeError(`no moment: ${value}`);
+  return value;
+};
+
+const bytesOf = (value) => (typeof value === "string" ? Uint8Array.from(value, (it) => byte(it.charCodeAt(0), "a character")) : value);
+
+// An instance of the module: its memory, and its functions, which throw Gone from the first trap on.
+class Inside {
+  #trap = null;
+  #bytes = new Uint8Array(0);
+
+  constructor(module) {
+    const { memory, ...functions } = new WebAssembly.Instance(module).exports;
+    this.memory = memory;
+    this.calls = {};
+    for (const [name, it] of Object.entries(functions)) if (typeof it === "function") this.calls[name] = this.#guarded(it);
+    // (called all the time: guarded where they are called)
+    this.lines = functions.js_lines;
+    this.nextDue = functions.js_next_due;
+    this.due = functions.js_due;
+    this.small = this.room(64);
+  }
+
+  get isGone() {
+    return this.#trap !== null;
+  }
+
+  #guarded(call) {
+    return (...args) => {
+      this.alive();
+      try {
+        return call(...args);
+      } catch (trap) {
+        throw this.gone(trap);
+      }
+    };
+  }
+
+  alive() {
+    if (this.#trap) throw new Gone(this.#trap);
+  }
+
+  // What is thrown for a trap; from then on every call throws it.
+  gone(trap) {
+    if (trap instanceof Gone) return trap;
+    this.#trap = trap;
+    this.lines = this.nextDue = this.due = () => this.alive();
+    return new Gone(trap);
+  }
+
+  view() {
+    return new DataView(this.memory.buffer);
+  }
+
+  // (a memory that grew has a new buffer)
+  byteAt(place) {
+    if (this.#bytes.buffer !== this.memory.buffer) this.#bytes = new Uint8Array(this.memory.buffer);
+    return this.#bytes[place];
+  }
+
+  // A place for this many bytes, for `back` to give back.
+  room(size) {
+    const place = this.calls.room(BigInt(size));
+    if (place === 0n) throw new Refused(NO_MEMORY);
+    return place;
+  }
+
+  back(place) {
+    this.calls.room_back(place);
+  }
+
+  put(data) {
+    const place = this.room(data.length);
+    new Uint8Array(this.memory.buffer).set(data, Number(place));
+    return place;
+  }
+
+  take(place, size) {
+    return new Uint8Array(this.memory.buffer).slice(Number(place), Number(place) + size);
+  }
+
+  // Makes a call with a copy of each of these (bytes or texts): it gets a place and a length for each.
+  with(datas, call) {
+    const places = [], args = [];
+    try {
+      for (const it of datas.map(bytesOf)) {
+        places.push(this.put(it));
+        args.push(places.at(-1), BigInt(it.length));
+      }
+      return call(...args);
+    } finally {
+      places.forEach((it) => this.#backUnlessGone(it));
+    }
+  }
+
+  #backUnlessGone(place) {
+    if (!this.#trap) this.back(place);
+  }
+
+  // The bytes that a call(out, room, needed) gives, for which it first gets `room` bytes, and then just as many as it says.
+  given(room, call) {
+    for (;;) {
+      const out = this.room(room);
+      try {
+        this.view().setBigUint64(Number(this.small), 0n, true);
+        const said = call(out, BigInt(room), this.small);
+        const needed = Number(this.view().getBigUint64(Number(this.small), true));
+        if (said !== NO_ROOM || needed <= room) {
+          check(said);
+          return this.take(out, needed);
+        }
+        room = needed;
+      } finally {
+        this.#backUnlessGone(out);
+      }
+    }
+  }
+}
+
+// How many bytes the image of a disk may have that was put in as this one: a G64 whose tracks the drive formats grows to 278,234.
+const roomFor = (image) => (image[0] === 0x47 && image[1] === 0x43 ? Math.max(image.length, 278234) : image.length);
+
+class Drive {
+  #in;
+  #handle;
+  #room;
+  // Where the handle is, and the flags of a reaction, as numbers.
+  #place;
+  #flags;
+
+  constructor(module, image, { device = 8, reaction = 20, pace = KERNAL, isProtected = false } = {}) {
+    const it = new Inside(module), handle = it.put(new Uint8Array(8));
+    const settings = [Number(isProtected), byte(device, "device"), byte(reaction, "reaction"), byte(pace, "pace")];
+    it.with([image], (at, size) => check(it.calls.y1541_open(handle, at, size, ...settings)));
+    this.#in = it;
+    this.#handle = handle;
+    this.#room = roomFor(image);
+    this.#place = Number(handle);
+    this.#flags = Number(it.small);
+  }
+
+  get #calls() {
+    return this.#open.calls;
+  }
+
+  get isOpen() {
+    return this.#in !== null && !this.#in.isGone;
+  }
+
+  close() {
+    this.#in = null;
+  }
+
+  get #open() {
+    if (this.#in === null) throw new Refused(NO_DRIVE);
+    return this.#in;
+  }
+
+  lines(now, atn, clock, data) {
+    const it = this.#open, at = moment(now);
+    let said;
+    try {
+      said = it.lines(this.#place, at, atn ? 1 : 0, clock ? 1 : 0, data ? 1 : 0);
+    } catch (trap) {
+      throw it.gone(trap);
+    }
+    check(said);
+  }
+
+  nextDue() {
+    const it = this.#open;
+    try {
+      return it.nextDue(this.#place);
+    } catch (trap) {
+      throw it.gone(trap);
+    }
+  }
+
+  due(by) {
+    const it = this.#open, until = moment(by);
+    let said;
+    try {
+      said = it.due(this.#place, until, this.#flags);
+    } catch (trap) {
+      throw it.gone(trap);
+    }
+    if (said === ABSENT) return null;
+    if (said < 0) throw new Refused(said);
+    const flags = it.byteAt(this.#flags);
+    return { moment: said, clock: (flags & 1) !== 0, data: (flags & 2) !== 0, clockChanged: (flags & 4) !== 0, dataChanged: (flags & 8) !== 0 };
+  }
+
+  pulls() {
+    check(this.#calls.y1541_pulls_now(this.#handle, this.#in.small));
+    const [clock, data] = this.#in.take(this.#in.small, 2);
+    return { clock: clock !== 0, data: data !== 0 };
+  }
+
+  reset() {
+    check(this.#calls.y1541_reset(this.#handle));
+  }
+
+  status() {
+    return this.#calls.y1541_status(this.#handle);
+  }
+
+  writes() {
+    return BigInt.asUintN(64, this.#calls.y1541_writes(this.#handle));
+  }
+
+  image() {
+    const calls = this.#calls;
+    return this.#in.given(this.#room, (...out) => calls.y1541_image(this.#handle, ...out));
+  }
+
+  eject() {
+    const calls = this.#calls;
+    return this.#in.given(this.#room, (...out) => calls.y1541_eject(this.#handle, ...out));
+  }
+
+  insert(image, isProtected = false) {
+    const calls = this.#calls;
+    this.#in.with([image], (at, size) => check(calls.y1541_insert(this.#handle, at, size, Number(isProtected))));
+    this.#room = roomFor(image);
+  }
+}
+
+// The calls on images. Each has an instance of its own, which the collector takes afterwards: the memory of a module only grows.
+class Library {
+  #module;
+
+  constructor(module) {
+    this.#module = module;
+  }
+
+  #fresh() {
+    return new Inside(this.#module);
+  }
+
+  // The bytes that a call on these gives, with `room` of them asked for first.
+  #made(name, datas, room, ...more) {
+    const it = this.#fresh();
+    return it.with(datas, (...args) => it.given(room, (...out) => it.calls[name](...args, ...more, ...out)));
+  }
+
+  // A struct of this size that a call on an image fills, or null where it says that there is no such thing.
+  #struct(name, size, image, ...more) {
+    const it = this.#fresh();
+    return it.with([image], (at, length) => {
+      const said = it.calls[name](at, length, ...more, it.small);
+      if (said === ABSENT) return null;
+      check(said);
+      return it.take(it.small, size);
+    });
+  }
+
+  version() {
+    return this.#fresh().calls.y1541_version();
+  }
+
+  open(image, settings) {
+    return new Drive(this.#module, image, settings);
+  }
+
+  check(image) {
+    const it = this.#fresh();
+    it.with([image], (at, size) => {
+      const said = it.calls.y1541_image_check(at, size, it.small);
+      const [what, track, sector] = it.take(it.small, 3);
+      check(said, said === UNSOUND ? { what, track, sector } : undefined);
+    });
+  }
+
+  title(image) {
+    const s = this.#struct("y1541_image_title", 23, image);
+    return { free: s[0] | (s[1] << 8), title: s.slice(2, 18), mark: s.slice(18, 23) };
+  }
+
+  entry(image, slot) {
+    const s = this.#struct("y1541_image_entry", 24, image, byte(slot, "slot"));
+    return s && { blocks: s[0] | (s[1] << 8), kind: s[2], closed: s[3] !== 0, locked: s[4] !== 0, recordLength: s[5], name: s.slice(6, 22), track: s[22], sector: s[23] };
+  }
+
+  list(image, pattern = "") {
+    return this.#made("y1541_image_list", [image, pattern], 0);
+  }
+
+  file(image, pattern) {
+    return this.#made("y1541_image_file", [image, pattern], 0);
+  }
+
+  sector(image, track, sector) {
+    const it = this.#fresh(), out = it.room(SECTOR);
+    it.with([image], (at, size) => check(it.calls.y1541_image_sector(at, size, byte(track, "track"), byte(sector, "sector"), out, BigInt(SECTOR))));
+    return it.take(out, SECTOR);
+  }
+
+  put(image, text, data) {
+    return this.#made("y1541_image_put", [image, text, data], roomFor(image));
+  }
+
+  command(image, text) {
+    return this.#made("y1541_image_command", [image, text], roomFor(image));
+  }
+
+  create(form, title, id) {
+    const [first, second] = bytesOf(id);
+    const it = this.#fresh();
+    return it.with([title], (...name) => it.given(0, (...out) => it.calls.y1541_image_new(byte(form, "form"), ...name, first, second, ...out)));
+  }
+
+  convert(image) {
+    const it = this.#fresh(), lost = it.put(new Uint8Array(16));
+    const made = it.with([image], (at, size) => it.given(0, (...out) => it.calls.y1541_image_convert(at, size, lost, ...out)));
+    const s = it.take(lost, 16), view = new DataView(s.buffer);
+    return { image: made, lost: { unreadable: Number(view.getBigUint64(0, true)), tracks: s[8], errors: s[9] !== 0, id: s[10] !== 0 } };
+  }
+
+  play(image, changes, end, { device = 8, reaction = 20, pace = KERNAL } = {}) {
+    const it = this.#fresh(), host = signalBytes(changes), count = it.put(new Uint8Array(8));
+    const settings = [byte(device, "device"), byte(reaction, "reaction"), byte(pace, "pace")];
+    const countNow = () => Number(it.view().getBigUint64(Number(count), true));
+    return it.with([image, host], (at, size, from) => {
+      const played = (events, room) =>
+        it.given(roomFor(image), (...out) => it.calls.y1541_play(at, size, ...settings, from, BigInt(changes.length), BigInt(moment(end)), events, BigInt(room), count, ...out));
+      for (let room = 4096; ; room = countNow()) {
+        const events = it.room(SIGNAL * room);
+        try {
+          const after = played(events, room);
+          return { image: after, events: signalsOf(it.take(events, SIGNAL * countNow())) };
+        } catch (refused) {
+          if (!(refused instanceof Refused && refused.number === NO_ROOM && countNow() > room)) throw refused;
+          it.back(events);
+        }
+      }
+    });
+  }
+}
+
+const signalBytes = (changes) => {
+  const made = new Uint8Array(SIGNAL * changes.length), view = new DataView(made.buffer);
+  changes.forEach((it, i) => {
+    view.setBigUint64(SIGNAL * i, BigInt(moment(it.moment)), true);
+    made[SIGNAL * i + 9] = byte(it.line, "line");
+    made[SIGNAL * i + 10] = Number(!!it.low);
+  });
+  return made;
+};
+
+const signalsOf = (bytes) => {
+  const view = new DataView(bytes.buffer);
+  return Array.from({ length: bytes.length / SIGNAL }, (_, i) => {
+    const at = SIGNAL * i;
+    return { moment: Number(view.getBigUint64(at, true)), who: bytes[at + 8], line: bytes[at + 9], low: bytes[at + 10] !== 0 };
+  });
+};
+
+/** The library, of a compiled module, its bytes, or a response that has them (or a promise of one of these). */
+export async function load(source) {
+  const from = await source;
+  if (from instanceof WebAssembly.Module) return new Library(from);
+  const isBytes = from instanceof ArrayBuffer || ArrayBuffer.isView(from);
+  return new Library(await WebAssembly.compile(isBytes ? from : await from.arrayBuffer()));
+}
