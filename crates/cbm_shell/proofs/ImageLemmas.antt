@@ -108,3 +108,8 @@ or_other (Err f) P Q h = inr h
 pub memory_alone : {A : Type 0} (image : List ℕ) (r : Result A ShellFault) → IfErr r (λ f. f ≡ fault.Memory) → IfErr r (IsOpenFault image)
 memory_alone image (Ok v) h = tt
 memory_alone image (Err f) h = subst (λ g. IsOpenFault image g) (sym h) tt
+
+-- a result whose one fault is want of memory
+pub or_memory : {A : Type 0} (image : List ℕ) (r : Result A ShellFault) (P : A → Type 0) → MatchResult r P (λ f. f ≡ fault.Memory) → MatchResult r P (IsOpenFault image)
+or_memory image (Ok v) P h = h
+or_memory image (Err f) P h = subst (λ g. IsOpenFault image g) (sym h) tt

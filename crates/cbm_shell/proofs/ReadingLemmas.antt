@@ -4,7 +4,6 @@ use Rattle.cbm_file.specs.Waiting.{next_shown}
 use Rattle.cbm_medium.specs.Content.{Content}
 use Rattle.cbm_medium.specs.declared.fault.Trouble.{Trouble}
 use Rattle.cbm_medium.proofs.Walks.{follow_end}
-use Rattle.cbm_shell.specs.Salvaging.{waiting_bytes}
 use Rattle.cbm_chain.specs.Reading.{RestOfFile, Reading, held_from, held_in, rest_of, with_front, one_less, IsSettled}
 
 abbrev byte_in : Option (ℕ × Bool) → ℕ
@@ -66,20 +65,3 @@ these_bytes whole out bytes a b = ap (λ (r : RestOfFile). r.bytes) (sym a ∙ b
 pub never_met : (whole rest : RestOfFile) (out bytes : List ℕ) (t : Trouble) → whole ≡ with_front out rest → rest.trouble ≡ Some t → whole ≡ record { bytes = bytes; trouble = None } → ⊥
 never_met whole rest out bytes t w e h =
     let bad : ◌≡◌ {A = Option Trouble} None (Some t) = sym (ap (λ (r : RestOfFile). r.trouble) h) ∙ met_trouble whole rest out t w e in cc
-
--- at most one byte is left, and it waits
-all_waiting : (bytes : List ℕ) → length bytes ≤ 1 → waiting_bytes (next_shown bytes) ≡ bytes
-all_waiting [] h = refl
-all_waiting (x ∷ []) h = refl
-all_waiting (x ∷ y ∷ rest) h = absurd (omega arith)
-
--- the chain breaks off after the byte that was taken and the one that waits
-pub cut_off : (c : Content) (whole : RestOfFile) (out items after : List ℕ) (old new : Reading) (b : ℕ) (last : Bool) (t : Trouble) → whole ≡ with_front out (rest_of c old)
-    → next_shown old.bytes ≡ Some (b, last) → items ≡ out ++ b ∷ [] → (rest_of c old).trouble ≡ Some t → new.bytes ≡ drop 1 (rest_of c old).bytes → length new.bytes ≤ 1
-    → after ≡ items ++ waiting_bytes (next_shown new.bytes) → whole ≡ record { bytes = after; trouble = Some t }
-cut_off c whole out items after old new b last t w e i tr left short a =
-    let all : after ≡ out ++ (rest_of c old).bytes =
-    a ∙ ap (λ x. items ++ x) (all_waiting new.bytes short ∙ left) ∙ ap (λ x. x ++ drop 1 (rest_of c old).bytes) i
-    ∙ append_assoc out (b ∷ []) (drop 1 (rest_of c old).bytes) ∙ ap (λ x. out ++ x) (sym (first_left c old b last e)) in
-    w ∙ ap (λ x. let r : RestOfFile = record { bytes = x; trouble = (rest_of c old).trouble } in r) (sym all)
-    ∙ ap (λ x. let r : RestOfFile = record { bytes = after; trouble = x } in r) tr

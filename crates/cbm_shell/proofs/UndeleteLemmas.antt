@@ -1,5 +1,5 @@
 -- A chain whose blocks are all free, and the sectors that are taken with it.
-use Rattle.std.proofs.Common.{◌≡◌, ◌≢◌, ℕ, suc, List, [], ◌∷◌, ◌++◌, Bool, true, false, Ok, refl, sym, ap, ◌∙◌, arith}
+use Rattle.std.proofs.Common.{◌≡◌, ◌≢◌, ℕ, suc, List, [], ◌++◌, Bool, true, false, Ok, sym, ap, ◌∙◌, arith}
 use Rattle.std.specs.Prelude.{◌&&◌}
 use Rattle.cbm_medium.specs.Place.{Place, Has, sector_count, directory_head}
 use Rattle.cbm_medium.specs.Content.{Content}

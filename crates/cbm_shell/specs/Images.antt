@@ -16,7 +16,7 @@ use Rattle.cbm_image.specs.Images.{kind_of, image_fault, tracks_of, content_of, 
 use Rattle.cbm_shell.specs.declared.changing.DiskChange.{DiskChange}
 use Rattle.cbm_shell.specs.declared.fault.ShellFault.{ShellFault}
 use Rattle.cbm_shell.specs.declared.fault.ShellFault.TheVariants as fault
-use Rattle.cbm_shell.specs.Reading.{IsGetFault}
+use Rattle.cbm_shell.specs.Reading.{IsGetFault, ShowsFile}
 use Rattle.cbm_shell.specs.Listing.{IsUnlisted}
 use Rattle.cbm_shell.specs.Changing.{disk_after_change, IsFine, IsUndone}
 
@@ -61,6 +61,10 @@ IsFailed image change m = OrOpenFault image (IsUndone change m)
 -- why a file isn't got of an image
 abbrev pub IsLost : List ℕ → Disk → List ℕ → ShellFault → Type 0
 IsLost image d pattern = OrOpenFault image (IsGetFault d pattern)
+
+-- the disk of an image shows a file of these bytes, whether its directory breaks off behind it or not
+abbrev pub ShowsFileIn : List ℕ → List ℕ → List ℕ → Type 0
+ShowsFileIn image pattern bytes = (seen : Seen) → IsImageOpened image seen → ShowsFile seen pattern bytes
 
 -- why the directory of an image isn't listed
 abbrev pub IsHidden : List ℕ → List ℕ → Machine → ShellFault → Type 0

@@ -29,4 +29,5 @@ pub mod Users
 pub mod Lost
 pub mod Forgetting
 pub mod Undeleting
+pub mod AroundGeos
 pub mod Several

@@ -72,6 +72,14 @@ titled title content = written content directory_head (with_title title (bytes_a
 abbrev pub entitled : List ℕ → Disk → Disk
 entitled title d = record d { title = padded title }
 
+-- 18/0 with other five bytes after the title: the id, a byte, and the DOS; its other bytes are as they were
+abbrev pub head_with_mark : List ℕ → List ℕ → List ℕ
+head_with_mark mark head = take 162 head ++ (mark ++ drop 5 (drop 162 head))
+
+-- the content whose 18/0 has these five bytes
+abbrev pub marked_as : List ℕ → Content → Content
+marked_as mark content = written content directory_head (head_with_mark mark (bytes_at content directory_head))
+
 -- ---- of an image, and a new one of its format
 
 -- the files that the patterns mean are locked or freed in the new image
@@ -81,6 +89,10 @@ LocksAllIn image patterns locked new = LocksAll patterns locked (disk_tracks ima
 -- the new image has the title
 abbrev pub IsRetitled : List ℕ → List ℕ → List ℕ → Type 0
 IsRetitled image title new = content_of (kind_of image) new ≡ titled title (content_of (kind_of image) image)
+
+-- the new image has these five bytes after the title
+abbrev pub IsRemarked : List ℕ → List ℕ → List ℕ → Type 0
+IsRemarked image mark new = content_of (kind_of image) new ≡ marked_as mark (content_of (kind_of image) image)
 
 -- the file in a slot is locked or freed, if its name matches; or the directory ends before the slot, and nothing has changed
 abbrev pub LocksOrEnds : Bool → ℕ → List ℕ → ℕ → Content → Content → Bool → Type 0

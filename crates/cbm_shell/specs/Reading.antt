@@ -4,12 +4,14 @@ use Rattle.cbm_medium.specs.Place.{sector_count}
 use Rattle.cbm_medium.specs.Seen.{Seen}
 use Rattle.cbm_medium.specs.declared.fault.Trouble.{Trouble}
 use Rattle.cbm_bam.specs.Map.{geometry_of}
-use Rattle.cbm_directory.specs.Entries.{first_block}
+use Rattle.cbm_directory.specs.Entries.{first_block, is_closed}
+use Rattle.cbm_directory.specs.Slots.{directory_of, first_from}
 use Rattle.cbm_chain.specs.Reading.{RestOfFile, held_from}
 use Rattle.cbm_file.specs.declared.file_type.FileType.TheVariants.{Rel}
 use Rattle.cbm_file.specs.Types.{is_same_type}
 use Rattle.cbm_file.specs.Files.{File, Disk, bytes_in}
 use Rattle.cbm_channel.specs.declared.Code.TheVariants.{FileNotFound}
+use Rattle.cbm_channel.specs.Sought.{is_sought}
 use Rattle.cbm_machine.specs.Finding.{found}
 use Rattle.cbm_shell.specs.declared.fault.ShellFault.{ShellFault}
 use Rattle.cbm_shell.specs.declared.fault.ShellFault.TheVariants as fault
@@ -54,3 +56,11 @@ IsGetFault d pattern fault.Mistaken = ⊥
 -- what the chain of an entry holds, over what a medium shows
 abbrev pub file_held : Seen → List ℕ → RestOfFile
 file_held now entry = held_from (geometry_of now.tracks now.content) now.content (sector_count (geometry_of now.tracks now.content)) (first_block entry)
+
+-- ON ANY DISK, whether its directory breaks off behind it or not: the first entry that matches is closed, and its chain holds these bytes to its end.
+pub record ShowsFile (now : Seen) (pattern bytes : List ℕ) : Type 0 where
+  pub slot : ℕ
+  pub entry : List ℕ
+  pub first : first_from (is_sought pattern None) 0 (directory_of (geometry_of now.tracks now.content) now.content).entries ≡ Some (slot, entry)
+  pub closed : is_closed entry ≡ true
+  pub whole : file_held now entry ≡ record { bytes = bytes; trouble = None }

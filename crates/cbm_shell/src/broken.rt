@@ -1,8 +1,11 @@
 //! Disks that are broken, and files that are gone.
+mod around_geos;
 pub(crate) mod flaws;
 pub(crate) mod forgetting;
 pub(crate) mod undeleting;
 
+pub use around_geos::map_around_geos;
 pub use flaws::{DiskFlaw, Whose, error_at, flaws_of, lost_of, users_of};
 pub use forgetting::forget;
+pub(crate) use undeleting::sound_image;
 pub use undeleting::undelete;

@@ -22,7 +22,7 @@ use cbm_channel::{Dos, Status};
 use cbm_medium::{Medium, Steady};
 use cbm_talk::hear;
 use cbm_volume::Volume;
-pub use locking::{lock, retitle};
+pub use locking::{lock, remark, retitle};
 pub use recording::{Records, put_records};
 pub use several::changes;
 pub use swapping::{Swap, swap_entries};

@@ -1,12 +1,12 @@
 //! What is done with the bytes of an image.
-ghost use Rattle.std.specs.Prelude.{◌≡◌, None, false, IfErr, IfOk, OnOk, MatchResult};
+ghost use Rattle.std.specs.Prelude.{◌≡◌, ℕ, List, None, false, IfErr, IfOk, OnOk, MatchResult};
 ghost use Rattle.cbm_file.specs.Files.{Disk};
 ghost use Rattle.cbm_machine.specs.Machines.{start};
 ghost use Rattle.cbm_bam.specs.Map.{geometry_of};
 ghost use Rattle.cbm_image.specs.Images.{kind_of, image_fault, tracks_of, content_of, ImageHolds};
 ghost use Rattle.cbm_shell.specs.Reading.{Gets};
 ghost use Rattle.cbm_shell.specs.Listing.{IsListing, IsSent};
-ghost use Rattle.cbm_shell.specs.Images.{IsImageOpened, IsSaved, IsOpenFault, IsFailed, IsLost, IsSoundImage, IsHidden, IsChecked, IsOrderlyDisk, IsInOrder, IsImageInOrder, OfHeld, machine_on, HasChanged};
+ghost use Rattle.cbm_shell.specs.Images.{IsImageOpened, IsSaved, IsOpenFault, IsFailed, IsLost, ShowsFileIn, IsSoundImage, IsHidden, IsChecked, IsOrderlyDisk, IsInOrder, IsImageInOrder, OfHeld, machine_on, HasChanged};
 ghost use Rattle.cbm_volume.specs.Sweeps.{IsPutInOrder};
 ghost use Rattle.cbm_shell.specs.Freeing.{AreFreed, AreGivenBack};
 
@@ -92,8 +92,10 @@ fn file_in<I: DiskImage + Drop>(
     pattern: &[u8],
 ) -> Result<Vec<u8>, ShellFault>
     requires { kind_of image.now ≡ I.kind }
-    ensures { (d : Disk) → ImageHolds (kind_of image.now) image.now d →
+    ensures means { (d : Disk) → ImageHolds (kind_of image.now) image.now d →
         MatchResult result (λ v. Gets d pattern.now v.items) (IsLost image.now d pattern.now) }
+    ensures shown { (bytes : List ℕ) → ShowsFileIn image.now pattern.now bytes →
+        MatchResult result (λ v. v.items ≡ bytes) (IsOpenFault image.now) }
 {
     let volume = Volume::open(opened::<I>(alloc, image)?);
     get(alloc, &volume, pattern)
@@ -102,8 +104,11 @@ fn file_in<I: DiskImage + Drop>(
 /// Takes the first file that matches a pattern out of an image. Errors: `Image`, `NotFound`, `NotClosed`, `Trouble`,
 /// `Memory`.
 pub fn file(alloc: Global, image: &[u8], pattern: &[u8]) -> Result<Vec<u8>, ShellFault>
-    ensures { (d : Disk) → ImageHolds (kind_of image.now) image.now d →
+    ensures means { (d : Disk) → ImageHolds (kind_of image.now) image.now d →
         MatchResult result (λ v. Gets d pattern.now v.items) (IsLost image.now d pattern.now) }
+    // What stands before the place where the directory breaks off is got all the same.
+    ensures shown { (bytes : List ℕ) → ShowsFileIn image.now pattern.now bytes →
+        MatchResult result (λ v. v.items ≡ bytes) (IsOpenFault image.now) }
 {
     match kind_of(image) {
         Kind::D64 => file_in::<D64Disk>(alloc, image, pattern),

@@ -8,10 +8,13 @@ mod images;
 mod looking;
 pub mod texts;
 
-pub use broken::{DiskFlaw, Whose, error_at, flaws_of, forget, lost_of, undelete, users_of};
+pub use broken::{
+    DiskFlaw, Whose, error_at, flaws_of, forget, lost_of, map_around_geos, undelete, users_of,
+};
+pub use cbm_salvage::{Listed, Salvaged};
 pub use changing::{
-    DiskChange, Looks, Records, Swap, add_art, changed, changes, dress, lock, put_records, retitle,
-    swap_entries,
+    DiskChange, Looks, Records, Swap, add_art, changed, changes, dress, lock, put_records, remark,
+    retitle, swap_entries,
 };
 pub use fault::ShellFault;
 pub use images::{
@@ -19,7 +22,7 @@ pub use images::{
     foreign_of, new_image, raw_directory, unwrapped, validate,
 };
 pub use looking::{
-    Freed, Geos, Info, Mark, Named, OpenDisk, Salvaged, entries, entries_of, file_blocks, file_of,
-    geos_blocks, geos_of, get, info, info_of, list, picture, picture_of, raw_list, read_file,
-    salvage, sector,
+    Freed, Geos, Info, Mark, Named, OpenDisk, entries, entries_of, file_blocks, file_of,
+    geos_blocks, geos_of, get, info, info_of, list, listed_of, picture, picture_of, raw_list,
+    read_file, salvage, sector,
 };

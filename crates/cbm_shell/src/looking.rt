@@ -43,7 +43,7 @@ pub(crate) use mapping::{entries_or_none, is_free_at, use_chain, use_file, used_
 pub use mapping::{Mark, picture_of};
 pub use open_disk::OpenDisk;
 pub use reading::{Named, get, read_file};
-pub use salvaging::{Salvaged, salvage};
+pub use salvaging::{listed_of, salvage};
 pub use slots::entries_of;
 use std::alloc::Global;
 

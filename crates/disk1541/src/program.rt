@@ -1,28 +1,42 @@
 //! The program: the words of the command line, the command, the exit status.
 use crate::lock::lock;
-use crate::tasks::carry_out;
+use crate::tasks::{carry_out, reads_input};
+use clap::ArgMatches;
 use clap::error::ErrorKind;
 use disk_basics::Failure;
+use disk_basics::host::read_file;
 use disk_looks::Progress;
+use host_files::text_of;
+use std::alloc::AllocError;
+use std::env::Env;
 use std::process::ExitCode;
-use std::{env, io};
 
 /// The exit status where the command line is at fault.
 const COMMAND_LINE: u8 = 64;
+
+/// The most bytes that the system passes in a word, with the 0 after it.
+const LONGEST_WORD: usize = 131_072;
 
 /// Carries out the command line, and answers the exit status, also where its sentence can't be written.
 pub fn run_program(rt: &HostRuntime) -> ExitCode {
     let progress = Progress::begin(rt);
     let words = match words_of(rt) {
         Ok(words) => words,
-        Err(error) => return without_words(rt, &error),
+        Err(_) => return ended(rt, Failure::NoMemory),
     };
-    let line = match disk_commands::parse(rt.alloc(), words.as_slice()) {
+    let Ok(help) = disk_commands::help_text(rt.alloc()) else {
+        return ended(rt, Failure::NoMemory);
+    };
+    let mut input = Vec::new(rt.alloc());
+    let line = match disk_commands::parse(rt.alloc(), words.as_slice(), help.as_str()) {
         Ok(line) => line,
         Err(error) => return without_line(rt, &error),
     };
+    if let Some(status) = read_input(rt, &line, &mut input) {
+        return ExitCode::from(status);
+    }
     let others_wait = lock(rt, &line);
-    let answer = carry_out(rt, &line, progress);
+    let answer = carry_out(rt, &line, progress, given_of(&line, input.as_slice()));
     drop(others_wait);
     match answer {
         Ok(()) => ExitCode::from(0),
@@ -30,18 +44,33 @@ pub fn run_program(rt: &HostRuntime) -> ExitCode {
     }
 }
 
+/// Reads standard input, if the command puts it on a disk. It is read before the folder is locked: it may take its time, and nobody
+/// is to wait for the image meanwhile. Answers the exit status, if it can't be read.
+fn read_input(rt: &HostRuntime, line: &ArgMatches<'_>, input: &mut Vec<u8>) -> Option<u8> {
+    if !reads_input(line) {
+        return None;
+    }
+    match read_file(rt, "-") {
+        Ok(bytes) => {
+            *input = bytes;
+            None
+        }
+        Err(failure) => {
+            let _ = failure.tell(rt);
+            Some(failure.status())
+        }
+    }
+}
+
+// Its bytes, if it was read.
+fn given_of<'b>(line: &ArgMatches<'_>, input: &'b [u8]) -> Option<&'b [u8]> {
+    if reads_input(line) { Some(input) } else { None }
+}
+
 // Reports what went wrong.
 fn ended(rt: &HostRuntime, failure: Failure<'_>) -> ExitCode {
     let _ = failure.tell(rt);
     ExitCode::from(failure.status())
-}
-
-fn without_words(rt: &HostRuntime, error: &io::Error) -> ExitCode {
-    if error.kind() == io::ErrorKind::OutOfMemory {
-        return ended(rt, Failure::NoMemory);
-    }
-    let _ = eprintln!(rt; "disk1541: a word of the command line is no text");
-    ExitCode::from(COMMAND_LINE)
 }
 
 // What was asked for, as help is, is no fault.
@@ -56,7 +85,16 @@ fn without_line(rt: &HostRuntime, error: &clap::Error) -> ExitCode {
     ExitCode::from(COMMAND_LINE)
 }
 
-fn words_of(rt: &HostRuntime) -> io::Result<Vec<String>> {
-    let words: Vec<String> = env::args(rt)?.collect(rt.alloc())?;
+/// The words of the command line, in which bytes that are no text are written as `\xHH`. The one error is want of memory.
+fn words_of(rt: &HostRuntime) -> Result<Vec<String>, AllocError> {
+    let mut words = Vec::new(rt.alloc());
+    let mut room = vec![in rt.alloc(); 0u8; LONGEST_WORD]?;
+    for index in 0..usize::MAX {
+        let Ok(count) = rt.arg(index, room.as_mut_slice()) else {
+            break;
+        };
+        let word = room.as_slice().get(..count).unwrap_or(&[]);
+        words.push(text_of(rt.alloc(), word)?)?;
+    }
     Ok(words)
 }

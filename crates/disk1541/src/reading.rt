@@ -1,7 +1,7 @@
 //! The words of a command as plain values.
 use cbm_shell::texts::Charset;
 use clap::ArgMatches;
-use disk_basics::{Failure, WordFault};
+use disk_basics::{Choice, Failure, WordFault};
 use disk_changes::{Blank, Build, Conversion, Gone, HostFiles, Ordering, Pair};
 use disk_commands::{flag, given, option};
 use disk_looks::{Description, Destination, Mapping, OneFile};
@@ -48,15 +48,37 @@ pub fn pattern<'a>(words: &ArgMatches<'a>) -> &'a str {
     }
 }
 
-/// The file that GET takes out.
-pub fn one_file<'a>(words: &ArgMatches<'a>, charset: Charset) -> OneFile<'a> {
-    OneFile {
-        name: given(words, "NAME"),
+/// How one file is said.
+pub fn choice<'a>(words: &ArgMatches<'a>, name: &'a str, charset: Charset) -> Choice<'a> {
+    Choice {
+        name,
+        slot: option(words, "slot"),
+        is_exact: flag(words, "exact"),
+        charset,
+    }
+}
+
+/// The old name and the new one of COPY and RENAME: with a slot there is one name. Errors: `Word`, where one is missing.
+fn two_names<'a>(words: &ArgMatches<'a>) -> Result<(&'a str, &'a str), Failure<'a>> {
+    let has_slot = option(words, "slot").is_some();
+    match (option(words, "OLD"), option(words, "NEW")) {
+        (Some(new), None) if has_slot => Ok(("", new)),
+        (Some(old), Some(new)) if !has_slot => Ok((old, new)),
+        _ => Err(Failure::Word(WordFault::TwoNames)),
+    }
+}
+
+/// The file that GET takes out. Errors: `Word`, where it isn't said by its name or by its slot.
+pub fn one_file<'a>(words: &ArgMatches<'a>, charset: Charset) -> Result<OneFile<'a>, Failure<'a>> {
+    if option(words, "NAME").is_some() == option(words, "slot").is_some() {
+        return Err(Failure::Word(WordFault::NoFileName));
+    }
+    Ok(OneFile {
+        choice: choice(words, given(words, "NAME"), charset),
         output: given(words, "output"),
         replaces: flag(words, "replace"),
-        charset,
         salvages: flag(words, "salvage"),
-    }
+    })
 }
 
 /// Where GET-ALL writes the files.
@@ -91,13 +113,18 @@ pub fn conversion<'a>(words: &ArgMatches<'a>) -> Conversion<'a> {
 }
 
 /// How PUT puts files on the disk.
-pub fn host_files<'a>(words: &ArgMatches<'a>, charset: Charset) -> HostFiles<'a> {
+pub fn host_files<'a>(
+    words: &ArgMatches<'a>,
+    charset: Charset,
+    input: Option<&'a [u8]>,
+) -> HostFiles<'a> {
     HostFiles {
         name: option(words, "name"),
         kind: option(words, "type"),
         record: option(words, "record"),
         replaces: flag(words, "replace"),
         charset,
+        input,
     }
 }
 
@@ -118,13 +145,14 @@ pub fn ordering(words: &ArgMatches<'_>) -> Ordering {
     }
 }
 
-/// The names of COPY and RENAME.
-pub fn pair<'a>(words: &ArgMatches<'a>, charset: Charset) -> Pair<'a> {
-    Pair {
-        old: given(words, "OLD"),
-        new: given(words, "NEW"),
-        charset,
-    }
+/// The names of COPY and RENAME, and how the file is said. Errors: `Word`, where a name is missing.
+pub fn pair<'a>(
+    words: &ArgMatches<'a>,
+    charset: Charset,
+) -> Result<(Pair<'a>, Choice<'a>), Failure<'a>> {
+    let (old, new) = two_names(words)?;
+    let pair = Pair { old, new, charset };
+    Ok((pair, choice(words, old, charset)))
 }
 
 /// The image that BUILD makes.

@@ -5,15 +5,16 @@ mod look;
 
 use self::look::look_at_all;
 use crate::reading::{
-    blank, building, charset, checking, conversion, description, gone, host_files, listing,
+    blank, building, charset, checking, choice, conversion, description, gone, host_files, listing,
     mapping, one_file, ordering, pair, pattern, place,
 };
 use cbm_shell::texts::Charset;
 use clap::ArgMatches;
-use disk_basics::{Failure, petscii};
+use disk_basics::host::is_standard;
+use disk_basics::{Choice, Failure, WordFault, petscii};
 use disk_changes::{
-    Edit, build_image, convert_image, copy, delete_at_fault, key_of_word, make, put, put_in_order,
-    rename, save_edit, sort, undelete_file,
+    Deed, Edit, build_image, convert_image, copy, delete_at_fault, do_with, error_bytes,
+    key_of_word, make, put, put_in_order, rename, save_edit, sort, undelete_file,
 };
 use disk_commands::{Verb, flag, given, verb_of};
 use disk_looks::{Progress, describe, get, get_all, show_map, show_sector, show_track};
@@ -40,6 +41,51 @@ fn look_with<'a, R: Runtime + AllocGlobal>(
     look_at_all(rt, words.get_strs("IMAGE").unwrap_or(&[]), look)
 }
 
+/// The one file that is chosen by its slot or its exact name; None where patterns mean files. Errors: `Word`, where none or several
+/// are said.
+fn one_chosen<'a>(
+    words: &ArgMatches<'a>,
+    charset: Charset,
+) -> Result<Option<Choice<'a>>, Failure<'a>> {
+    let named = choice(words, "", charset);
+    match words.get_strs("PATTERN").unwrap_or(&[]) {
+        [] if named.slot.is_some() => Ok(Some(named)),
+        [name] if named.is_exact && named.slot.is_none() => {
+            Ok(Some(choice(words, *name, charset)))
+        }
+        [_, ..] if named.is_pattern() => Ok(None),
+        _ => Err(Failure::Word(WordFault::NoFileName)),
+    }
+}
+
+/// Copies the file that is meant.
+fn copy_with<'a, R: Runtime + AllocGlobal>(
+    rt: &R,
+    words: &ArgMatches<'a>,
+    charset: Charset,
+) -> Result<(), Failure<'a>> {
+    let image = given(words, "IMAGE");
+    let (pair, choice) = pair(words, charset)?;
+    if choice.is_pattern() {
+        return copy(rt, image, &pair);
+    }
+    do_with(rt, image, choice, Deed::Copy(pair.new))
+}
+
+/// Gives the file that is meant another name.
+fn rename_with<'a, R: Runtime + AllocGlobal>(
+    rt: &R,
+    words: &ArgMatches<'a>,
+    charset: Charset,
+) -> Result<(), Failure<'a>> {
+    let image = given(words, "IMAGE");
+    let (pair, choice) = pair(words, charset)?;
+    if choice.is_pattern() {
+        return rename(rt, image, &pair);
+    }
+    do_with(rt, image, choice, Deed::Rename(pair.new))
+}
+
 /// Locks the files that are meant, or frees them.
 fn lock_with<'a, R: Runtime + AllocGlobal>(
     rt: &R,
@@ -47,8 +93,12 @@ fn lock_with<'a, R: Runtime + AllocGlobal>(
     charset: Charset,
     is_locked: bool,
 ) -> Result<(), Failure<'a>> {
+    let image = given(words, "IMAGE");
+    if let Some(choice) = one_chosen(words, charset)? {
+        return do_with(rt, image, choice, Deed::Lock(is_locked));
+    }
     let edit = Edit::Lock(words.get_strs("PATTERN").unwrap_or(&[]), charset, is_locked);
-    save_edit(rt, given(words, "IMAGE"), &edit)
+    save_edit(rt, image, &edit)
 }
 
 /// Deletes the files that are meant, or only those at fault.
@@ -60,9 +110,27 @@ fn delete_with<'a, R: Runtime + AllocGlobal>(
     let image = given(words, "IMAGE");
     let patterns = words.get_strs("PATTERN").unwrap_or(&[]);
     if flag(words, "force") {
+        if patterns.is_empty() || !choice(words, "", charset).is_pattern() {
+            return Err(Failure::Word(WordFault::NoFileName));
+        }
         return delete_at_fault(rt, image, patterns, charset);
     }
-    save_edit(rt, image, &Edit::Delete(patterns, charset))
+    match one_chosen(words, charset)? {
+        Some(choice) => do_with(rt, image, choice, Deed::Delete),
+        None => save_edit(rt, image, &Edit::Delete(patterns, charset)),
+    }
+}
+
+/// Puts files on the disk.
+fn put_with<'a, R: Runtime + AllocGlobal>(
+    rt: &R,
+    words: &ArgMatches<'a>,
+    charset: Charset,
+    input: Option<&'a [u8]>,
+) -> Result<(), Failure<'a>> {
+    let files = words.get_strs("FILE").unwrap_or(&[]);
+    let image = given(words, "IMAGE");
+    put(rt, image, files, &host_files(words, charset, input))
 }
 
 /// Carries out a command with its words.
@@ -71,6 +139,7 @@ fn perform<'a, R: Runtime + AllocGlobal>(
     verb: Verb,
     words: &ArgMatches<'a>,
     progress: Progress,
+    input: Option<&'a [u8]>,
 ) -> Result<(), Failure<'a>> {
     let image = given(words, "IMAGE");
     let charset = charset(words)?;
@@ -83,18 +152,13 @@ fn perform<'a, R: Runtime + AllocGlobal>(
         Verb::Sector => show_sector(rt, image, given(words, "TRACK"), given(words, "SECTOR")),
         Verb::Check => look_with(rt, words, charset, checking(words)),
         Verb::Hash => look_with(rt, words, charset, View::Sum),
-        Verb::Get => get(rt, image, &one_file(words, charset)),
+        Verb::Get => get(rt, image, &one_file(words, charset)?),
         Verb::GetAll => get_all(rt, image, place(words), progress),
         Verb::New => make(rt, image, &blank(words, charset)),
         Verb::Convert => convert_image(rt, image, &conversion(words)),
-        Verb::Put => put(
-            rt,
-            image,
-            words.get_strs("FILE").unwrap_or(&[]),
-            &host_files(words, charset),
-        ),
-        Verb::Copy => copy(rt, image, &pair(words, charset)),
-        Verb::Rename => rename(rt, image, &pair(words, charset)),
+        Verb::Put => put_with(rt, words, charset, input),
+        Verb::Copy => copy_with(rt, words, charset),
+        Verb::Rename => rename_with(rt, words, charset),
         Verb::Describe => describe(rt, image, description(words, charset)),
         Verb::Build => build_image(rt, &building(words, charset)),
         Verb::Sort => sort(rt, image, key_of_word(given(words, "by"))?),
@@ -104,7 +168,24 @@ fn perform<'a, R: Runtime + AllocGlobal>(
         Verb::Unlock => lock_with(rt, words, charset, false),
         Verb::Title => save_edit(rt, image, &Edit::Title(given(words, "TITLE"), charset)),
         Verb::Validate => put_in_order(rt, image, ordering(words)),
+        Verb::Errors => error_bytes(rt, image, flag(words, "drop")),
     }
+}
+
+/// Whether a command line puts what standard input gives on a disk.
+pub fn reads_input(line: &ArgMatches<'_>) -> bool {
+    let Some((name, words)) = line.subcommand() else {
+        return false;
+    };
+    if !matches!(verb_of(name), Some(Verb::Put)) || is_standard(given(words, "IMAGE")) {
+        return false;
+    }
+    for file in words.get_strs("FILE").unwrap_or(&[]) {
+        if is_standard(*file) {
+            return true;
+        }
+    }
+    false
 }
 
 /// Carries out the command line. It has a command of the table, since clap refuses any other.
@@ -112,12 +193,13 @@ pub fn carry_out<'a, R: Runtime + AllocGlobal>(
     rt: &R,
     line: &ArgMatches<'a>,
     progress: Progress,
+    input: Option<&'a [u8]>,
 ) -> Result<(), Failure<'a>> {
     let Some((name, words)) = line.subcommand() else {
         return Err(Failure::Told);
     };
     match verb_of(name) {
-        Some(verb) => perform(rt, verb, words, progress),
+        Some(verb) => perform(rt, verb, words, progress, input),
         None => Err(Failure::Told),
     }
 }

@@ -3,7 +3,7 @@
 use cbm_bam::SectorSet;
 use cbm_medium::Address;
 use cbm_shell::texts::Charset;
-use cbm_shell::{Converted, Info, ShellFault};
+use cbm_shell::{Converted, Info, Listed, OpenDisk, ShellFault};
 use cbm_volume::{Entry, Unsound};
 use std::alloc::{AllocError, Global};
 
@@ -45,6 +45,13 @@ pub fn raw_directory(alloc: Global, image: &[u8], pattern: &[u8]) -> Result<Vec<
 /// The entries of an image's directory, empty slots too. Errors: `Image`, `Trouble`, `Memory`.
 pub fn entries(alloc: Global, image: &[u8]) -> Result<Vec<Entry>, ShellFault> {
     cbm_shell::entries(alloc, image)
+}
+
+/// The entries of an image's directory up to where it breaks off or comes back to a sector of its own, and why it does.
+/// Errors: `Image`, `Memory`.
+pub fn listed(alloc: Global, image: &[u8]) -> Result<Listed, ShellFault> {
+    let disk = OpenDisk::open(alloc, image)?;
+    Ok(disk.listed(alloc)?)
 }
 
 /// The bytes of the first file that a pattern means. Errors: `Image`, `NotFound`, `NotClosed`, `Trouble`, `Memory`.

@@ -82,6 +82,17 @@ pub fn validate(alloc: Global, image: &[u8]) -> Result<Order, ShellFault> {
     cbm_shell::validate(alloc, image)
 }
 
+/// The image with its BAM written anew, in which each block is free but those of the directory, of closed files and of GEOS.
+/// Errors: `Image`, `Unsound`, `Trouble`, `Memory`.
+pub fn map_around_geos(alloc: Global, image: &[u8]) -> Result<Vec<u8>, ShellFault> {
+    cbm_shell::map_around_geos(alloc, image)
+}
+
+/// The image with other five bytes after the title. Errors: `Image`, `Unsound`, `Memory`.
+pub fn remark(alloc: Global, image: &[u8], mark: &[u8; 5]) -> Result<Vec<u8>, ShellFault> {
+    cbm_shell::remark(alloc, image, mark)
+}
+
 /// The image of an empty disk with a title of at most sixteen codes. The one error is want of memory.
 pub fn new_image(
     alloc: Global,

@@ -1,6 +1,6 @@
 //! The disk of an image, with calls that promise nothing.
 use cbm_medium::Address;
-use cbm_shell::{DiskFlaw, OpenDisk, Salvaged, ShellFault};
+use cbm_shell::{DiskFlaw, Listed, OpenDisk, Salvaged, ShellFault};
 use cbm_volume::Entry;
 use std::alloc::{AllocError, Global};
 
@@ -20,6 +20,12 @@ impl Disk {
     /// The entries of its directory, empty slots too. Errors: `Trouble`, `Memory`.
     pub fn entries(&self, alloc: Global) -> Result<Vec<Entry>, ShellFault> {
         self.disk.entries(alloc)
+    }
+
+    /// The entries of its directory up to where it breaks off or comes back to a sector of its own, and why it does. The one
+    /// error is want of memory.
+    pub fn listed(&self, alloc: Global) -> Result<Listed, AllocError> {
+        self.disk.listed(alloc)
     }
 
     /// The bytes of an entry's file. Errors: `Trouble`, `Memory`.

@@ -1,5 +1,6 @@
 //! What went wrong, and the exit status.
-use crate::refusal::{tell_foreign, tell_refusal, tell_unmendable};
+use crate::break_off::BreakOff;
+use crate::refusal::{foreign_text, image_fault_text, tell_foreign, tell_refusal, tell_unmendable};
 use crate::word_fault::WordFault;
 use cbm_shell::{Foreign, ShellFault};
 use cbm_volume::{Trouble, Unsound};
@@ -41,14 +42,34 @@ pub enum Failure<'a> {
     Exists(&'a str),
     /// An image was changed while a command had it, so that nothing is saved.
     Changed(&'a str),
-    /// Putting the disk in order gives back blocks that GEOS uses, as was reported.
+    /// Putting the disk in order would give back blocks of files that lie in GEOS's border block.
     Geos(&'a str),
     /// An image's files are shown, and its title, its id and its free blocks can't be read.
     Untitled(&'a str),
+    /// An image's files are shown or taken out up to where its directory breaks off.
+    Broken(&'a str, BreakOff),
+    /// A disk has another DOS's map of tracks 36 to 40, which the change wouldn't follow.
+    OtherMap(&'a str),
     /// A G64 has no such track.
     NoTrack(&'a str),
     /// A D64 has sectors, and no circles of bits.
     NoCircles(&'a str),
+    /// An image has no error bytes.
+    NoErrorBytes(&'a str),
+    /// No file has the name or the slot that was said.
+    NoFile(&'a str),
+    /// A file is locked, and so isn't deleted or replaced.
+    Locked(&'a str),
+    /// A file of a disk that is to be replaced is locked.
+    LockedThere(&'a str),
+    /// The directory has 144 files, and no room for another.
+    DirectoryFull(&'a str),
+    /// Two files of a recipe have one name.
+    SameName(&'a str),
+    /// A file of GEOS isn't copied: its info and its records would be missing.
+    GeosCopy(&'a str),
+    /// A file that GEOS keeps in records isn't taken out: its index alone would be.
+    GeosRecords(&'a str),
     /// A relative file isn't copied.
     Records(&'a str),
     /// What went wrong was reported, and ends the program with this status.
@@ -81,7 +102,18 @@ pub fn in_memory<'a, T>(made: Result<T, AllocError>) -> Result<T, Failure<'a>> {
 
 /// Prints which file of this computer failed.
 fn tell_host(rt: &impl Eprint, call: &str, name: &str, kind: io::ErrorKind) -> io::Result<()> {
-    eprintln!(rt; "disk1541: can't {call} {name}: {kind}")
+    match kind {
+        io::ErrorKind::NotFound => {
+            eprintln!(rt; "disk1541: can't {call} {name}: no such file or folder")
+        }
+        io::ErrorKind::InvalidFilename => {
+            eprintln!(rt; "disk1541: can't {call} {name}: the name isn't UTF-8, or is too long")
+        }
+        io::ErrorKind::Uncategorized => {
+            eprintln!(rt; "disk1541: can't {call} {name}: the system refused it")
+        }
+        _ => eprintln!(rt; "disk1541: can't {call} {name}: {kind}"),
+    }
 }
 
 impl<'a> Failure<'a> {
@@ -105,6 +137,20 @@ impl<'a> Failure<'a> {
         }
     }
 
+    /// Why an image can't be looked at, without its name.
+    pub fn reason(self) -> &'static str {
+        match self {
+            Failure::Read(_, io::ErrorKind::NotFound) => "no such file or folder",
+            Failure::Read(_, io::ErrorKind::PermissionDenied) => "permission denied",
+            Failure::Read(_, io::ErrorKind::IsADirectory) => "a folder",
+            Failure::Read(..) => "it can't be read",
+            Failure::TooLong(..) => "it has more bytes than any image",
+            Failure::Foreign(_, foreign, _) => foreign_text(foreign),
+            Failure::Disk(_, ShellFault::Image(number)) => image_fault_text(number),
+            _ => "it can't be looked at",
+        }
+    }
+
     /// Prints the sentence on standard error.
     pub fn tell(self, rt: &impl Eprint) -> io::Result<()> {
         match self {
@@ -125,10 +171,42 @@ impl<'a> Failure<'a> {
                     "disk1541: {name}: track 18, sector 0 can't be read: the title, the id and how many blocks are free aren't known"
                 )
             }
+            Failure::Broken(name, end) => eprintln!(rt; "disk1541: {name}: {end}"),
+            Failure::OtherMap(name) => {
+                eprintln!(rt;
+                    "disk1541: {name} isn't changed: its map of tracks 36 to 40 is that of Dolphin DOS, and the drive would write another one; `describe` and `build` make a disk with the drive's map of its files"
+                )
+            }
             Failure::NoTrack(name) => eprintln!(rt; "disk1541: {name} has no such track"),
             Failure::NoCircles(name) => {
                 eprintln!(rt;
                     "disk1541: {name} is a D64, which has the bytes of sectors, and no sync marks: `sector` shows them"
+                )
+            }
+            Failure::NoErrorBytes(name) => eprintln!(rt; "disk1541: {name} has no error bytes"),
+            Failure::NoFile(name) => {
+                eprintln!(rt; "disk1541: no file of the disk has the name or the slot {name}")
+            }
+            Failure::Locked(name) => {
+                eprintln!(rt; "disk1541: {name} is locked: `unlock` it first")
+            }
+            Failure::LockedThere(name) => {
+                eprintln!(rt; "disk1541: {name}: a file of that name is locked: `unlock` it first")
+            }
+            Failure::DirectoryFull(name) => {
+                eprintln!(rt; "disk1541: {name}: the directory is full: it has room for 144 files")
+            }
+            Failure::SameName(name) => {
+                eprintln!(rt; "disk1541: {name}: two files of the recipe have one name")
+            }
+            Failure::GeosCopy(name) => {
+                eprintln!(rt;
+                    "disk1541: {name} is a file of GEOS, which the drive doesn't copy whole: its info and its records would be missing"
+                )
+            }
+            Failure::GeosRecords(name) => {
+                eprintln!(rt;
+                    "disk1541: {name} is a file that GEOS keeps in records: `get` takes its index alone, and does so by --salvage"
                 )
             }
             Failure::Records(name) => {
@@ -145,7 +223,7 @@ impl<'a> Failure<'a> {
             }
             Failure::Geos(name) => {
                 eprintln!(rt;
-                    "disk1541: {name} isn't put in order: GEOS uses these blocks; --force gives them back"
+                    "disk1541: {name} isn't put in order: files lie in GEOS's border block, and their blocks would be given back; --force does so"
                 )
             }
             Failure::Exists(name) => {

@@ -1,11 +1,10 @@
 //! Files of the host, standard input and standard output.
 use crate::failure::{Failure, in_memory};
 use cbm_shell::foreign_of;
-use host_files::Sync;
+use disk_facts::{WideMap, wide_map};
+use host_files::{GREATEST_IMAGE, Sync, read_whole};
 use std::alloc::Global;
-use std::fs;
 use std::io::{self, Read, Write};
-use std::path::Path;
 use std::rt::Runtime;
 
 /// The program's name, which its files beside have.
@@ -13,10 +12,6 @@ const PROGRAM: &str = "disk1541";
 
 /// The word that means standard input or output.
 const STANDARD: &str = "-";
-
-/// The most bytes of an image: a G64 with its head and tables (684 bytes), and 84 tracks, each of two bytes for its length,
-/// 7,928 bytes, and 1,982 bytes of a map of its speeds.
-const GREATEST_IMAGE: u64 = 833_292;
 
 /// The most bytes of a file that is put on a disk: 16 MB.
 const GREATEST_FILE: u64 = 16_777_216;
@@ -28,11 +23,9 @@ fn read_to_end<'a, I: Read + Drop>(
     input: I,
     most: u64,
 ) -> Result<Vec<u8>, Failure<'a>> {
-    let mut bytes = Vec::new(alloc);
-    let mut input = input.take(most.saturating_add(1));
-    match input.read_to_end(&mut bytes) {
-        Ok(count) if count as u64 > most => Err(Failure::TooLong(name, most)),
-        Ok(_) => Ok(bytes),
+    match read_whole(alloc, input, most) {
+        Ok(Some(bytes)) => Ok(bytes),
+        Ok(None) => Err(Failure::TooLong(name, most)),
         Err(error) => Err(Failure::Read(name, error.kind())),
     }
 }
@@ -46,7 +39,7 @@ fn read<'a, R: Runtime + AllocGlobal>(
     if name == STANDARD {
         return read_to_end(rt.alloc(), "standard input", rt.reader(), most);
     }
-    match fs::open(rt, name) {
+    match host_files::open(rt, name) {
         Ok(file) => read_to_end(rt.alloc(), name, file, most),
         Err(error) => Err(Failure::Read(name, error.kind())),
     }
@@ -65,12 +58,34 @@ pub fn read_image<'a, R: Runtime + AllocGlobal>(
     }
 }
 
+/// Reads an image that is changed by writing its BAM. Errors: those of `read_image`; `OtherMap`, where Dolphin DOS has its map
+/// of tracks 36 to 40 on the disk.
+pub fn read_to_change<'a, R: Runtime + AllocGlobal>(
+    rt: &R,
+    name: &'a str,
+) -> Result<Vec<u8>, Failure<'a>> {
+    let bytes = read_image(rt, name)?;
+    match wide_map(bytes.as_slice()) {
+        Some(WideMap::Dolphin | WideMap::Both) => Err(Failure::OtherMap(name)),
+        Some(WideMap::Speed) | None => Ok(bytes),
+    }
+}
+
 /// Reads a file that is put on a disk. Errors: `Read`; `TooLong`, for more than 16 MB.
 pub fn read_file<'a, R: Runtime + AllocGlobal>(
     rt: &R,
     name: &'a str,
 ) -> Result<Vec<u8>, Failure<'a>> {
     read(rt, name, GREATEST_FILE)
+}
+
+/// The path of a name that is written to. The one error is `Write`, where the name is no
+/// UTF-8 or memory runs out.
+pub fn path_of(alloc: Global, name: &str) -> Result<String, Failure<'_>> {
+    match host_files::path_of(alloc, name) {
+        Ok(path) => Ok(path),
+        Err(error) => Err(Failure::Write(name, error.kind())),
+    }
 }
 
 /// What writing to a name came to.
@@ -99,7 +114,11 @@ pub fn write<'a, R: Runtime + AllocGlobal>(
     if name == STANDARD {
         return print(rt, bytes);
     }
-    written(name, host_files::save_by(rt, PROGRAM, name, bytes, sync))
+    let path = path_of(rt.alloc(), name)?;
+    written(
+        name,
+        host_files::save_by(rt, PROGRAM, path.as_str(), bytes, sync),
+    )
 }
 
 /// Saves an image in place of the one that was read, as `write` does, if that is still there; or writes it to standard
@@ -113,7 +132,8 @@ pub fn replace<'a, R: Runtime + AllocGlobal>(
     if name == STANDARD {
         return print(rt, new);
     }
-    match host_files::replace(rt, PROGRAM, name, old, new) {
+    let path = path_of(rt.alloc(), name)?;
+    match host_files::replace(rt, PROGRAM, path.as_str(), old, new) {
         Ok(true) => Ok(()),
         Ok(false) => Err(Failure::Changed(name)),
         Err(error) => Err(Failure::Write(name, error.kind())),
@@ -139,7 +159,7 @@ pub fn require_new<'a, R: Runtime + AllocGlobal>(
 
 /// Whether something of that name is there.
 pub fn exists<R: Runtime + AllocGlobal>(rt: &R, name: &str) -> bool {
-    Path::new(name).exists(rt)
+    host_files::kind_of(rt, name).is_ok()
 }
 
 /// A text of parts, each after the one before. The one error is `NoMemory`.

@@ -1,8 +1,10 @@
 //! What the commands of `disk1541` stand on: failures in words, files of this computer, names, and calls that promise nothing.
 #![tactic(auto)]
 
+mod break_off;
 pub mod calls;
 pub mod changing;
+mod choice;
 mod disk;
 mod failure;
 mod flaws;
@@ -13,6 +15,8 @@ mod names;
 mod refusal;
 mod word_fault;
 
+pub use break_off::{BreakOff, Cause};
+pub use choice::{Choice, slot_chosen};
 pub use disk::Disk;
 pub use failure::{Failure, in_memory, on_disk};
 pub use flaws::{is_mendable, place_of, slots_of};

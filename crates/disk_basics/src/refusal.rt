@@ -1,4 +1,5 @@
 //! Why a disk refused a command, in words.
+use crate::break_off::Cause;
 use cbm_channel::{Code, Status};
 use cbm_shell::texts::words;
 use cbm_shell::{Foreign, ShellFault};
@@ -38,26 +39,31 @@ fn tell_unsound(rt: &impl Eprint, name: &str, unsound: Unsound) -> io::Result<()
     )
 }
 
-/// Prints which sector can't be read.
+/// Prints why a chain breaks off.
 fn tell_trouble(rt: &impl Eprint, name: &str, trouble: Trouble) -> io::Result<()> {
-    let code = trouble.code;
-    let track = trouble.track;
-    let sector = trouble.sector;
-    eprintln!(rt; "disk1541: {name}: track {track}, sector {sector} can't be read (error {code})")
+    let cause = Cause(trouble);
+    eprintln!(rt; "disk1541: {name}: {cause}")
+}
+
+/// What to do with a disk that can't be put in order: a file at fault goes, and where none is, another image of the same bytes.
+fn way_out(trouble: Trouble) -> &'static str {
+    match trouble.code {
+        20..=29 =>
+            "`disk1541 check --all` names the files at fault, which `delete --force` takes out; where it names none, `errors --drop` drops the error bytes of a D64, and `convert --lossy` makes a D64 of a G64",
+        _ =>
+            "`disk1541 check --all` names the files at fault, which `delete --force` takes out; where it names none, the directory is at fault: `get-all --salvage` takes the files out",
+    }
 }
 
 /// Prints why a disk can't be put in order, and what to do.
 pub fn tell_unmendable(rt: &impl Eprint, name: &str, trouble: Trouble) -> io::Result<()> {
-    let code = trouble.code;
-    let track = trouble.track;
-    let sector = trouble.sector;
-    eprintln!(rt;
-        "disk1541: {name} can't be put in order: track {track}, sector {sector}, error {code}; `disk1541 check --all {name}` names the files at fault, `disk1541 delete --force` takes them out"
-    )
+    let cause = Cause(trouble);
+    let way = way_out(trouble);
+    eprintln!(rt; "disk1541: {name} can't be put in order: {cause}; {way}")
 }
 
 /// What is wrong with a G64, by the number of its fault: a file that isn't known to be foreign is refused as a D64 never.
-fn flaw(number: u8) -> &'static str {
+pub fn image_fault_text(number: u8) -> &'static str {
     match number {
         2 => "its version isn't 0",
         3 => "its tables haven't 69 to 84 entries",
@@ -71,14 +77,14 @@ fn flaw(number: u8) -> &'static str {
 
 /// Prints what is wrong with a G64.
 fn tell_image(rt: &impl Eprint, name: &str, number: u8) -> io::Result<()> {
-    let text = flaw(number);
+    let text = image_fault_text(number);
     eprintln!(rt;
         "disk1541: {name} is a G64 that can't be used: {text} (fault {number} of its format)"
     )
 }
 
 /// What a file is that is no image of a 1541's disk, and what to do.
-fn told(foreign: Foreign) -> &'static str {
+pub fn foreign_text(foreign: Foreign) -> &'static str {
     match foreign {
         Foreign::T64 => "a T64, with files of a tape",
         Foreign::P64 => "a P64, with the pulses of a disk: make a G64 of it",
@@ -95,7 +101,7 @@ fn told(foreign: Foreign) -> &'static str {
 
 /// Prints what a file is that is no image of a 1541's disk.
 pub fn tell_foreign(rt: &impl Eprint, name: &str, foreign: Foreign, size: usize) -> io::Result<()> {
-    let text = told(foreign);
+    let text = foreign_text(foreign);
     eprintln!(rt; "disk1541: {name} is {text} ({size} bytes)")
 }
 

@@ -30,6 +30,12 @@ pub enum WordFault<'a> {
     LongName(&'a str),
     /// A name has one of `,` `=` `:` `"`, which divide the words of the drive's commands.
     Divided(&'a str),
+    /// No slot of a directory has such a number.
+    Slot(&'a str),
+    /// A command is about one file, and neither its name nor its slot is said.
+    NoFileName,
+    /// A file gets one new name, and is said by its old one or by its slot.
+    TwoNames,
     /// A file from standard input has no name.
     NoName,
     /// One name is given for several files.
@@ -50,7 +56,7 @@ pub enum WordFault<'a> {
     Order(&'a str),
     /// A disk's title has more than sixteen characters.
     Title(&'a str),
-    /// A disk's id hasn't two characters.
+    /// A disk's id hasn't two characters, nor five.
     Id(&'a str),
     /// No disk has this many tracks.
     Tracks(&'a str),
@@ -75,6 +81,13 @@ impl<'a> WordFault<'a> {
             WordFault::Name(name) => (NO_KEY, name, ANY_BYTE),
             WordFault::LongName(name) => ("a file's name has at most 16 characters: ", name, ""),
             WordFault::Divided(name) => (DIVIDING, name, ""),
+            WordFault::Slot(word) => ("", word, " is no slot: take 0 to 143"),
+            WordFault::NoFileName => ("say which file: its name, or --slot", "", ""),
+            WordFault::TwoNames => (
+                "say the old name and the new one, or --slot and the new one",
+                "",
+                "",
+            ),
             WordFault::NoName => ("name the file by --name", "", ""),
             WordFault::OneName => ("--name is for one file", "", ""),
             WordFault::Twice => ("`-` is the image or one file, and stands once", "", ""),
@@ -85,7 +98,7 @@ impl<'a> WordFault<'a> {
             WordFault::Recipe(name) => ("", name, " is no recipe of a disk: nothing is made"),
             WordFault::Order(word) => { ("", word, " is no order: take name, type or size") }
             WordFault::Title(title) => ("a title has at most 16 characters: ", title, ""),
-            WordFault::Id(id) => ("an id has two characters: ", id, ""),
+            WordFault::Id(id) => ("an id has two characters, or five: ", id, ""),
             WordFault::Tracks(tracks) => ("a disk has 35 or 40 tracks, not ", tracks, ""),
             WordFault::Charset(word) => ("", word, " is no character set: take upper or lower"),
             WordFault::Sector(word) => ("no disk has such a sector: ", word, SECTORS),

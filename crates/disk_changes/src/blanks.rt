@@ -3,9 +3,9 @@ ghost use Rattle.std.specs.Prelude.{◌≤◌, length, IfOk};
 
 use cbm_shell::Form;
 use cbm_shell::texts::Charset;
-use disk_basics::changing::new_image;
+use disk_basics::changing::{new_image, remark};
 use disk_basics::host::{require_new, write};
-use disk_basics::{Failure, WordFault, form, format, in_memory, petscii};
+use disk_basics::{Failure, WordFault, form, format, in_memory, on_disk, petscii};
 use host_files::Sync;
 use std::alloc::Global;
 use std::rt::Runtime;
@@ -41,10 +41,24 @@ pub fn title_of<'a>(alloc: Global, charset: Charset, title: &'a str) -> Result<V
     Ok(codes)
 }
 
-/// The two codes of an id.
-fn id_of<'a>(alloc: Global, charset: Charset, id: &'a str) -> Result<[u8; 2], Failure<'a>> {
+/// An id: its two codes, and the five that stand after the title, where they are said.
+#[derive(Clone, Copy)]
+struct Id {
+    id: [u8; 2],
+    mark: Option<[u8; 5]>,
+}
+
+/// The codes of an id.
+fn id_of<'a>(alloc: Global, charset: Charset, id: &'a str) -> Result<Id, Failure<'a>> {
     match petscii(alloc, charset, id)?.as_slice() {
-        [first, second] => Ok([*first, *second]),
+        [first, second] => Ok(Id {
+            id: [*first, *second],
+            mark: None,
+        }),
+        [first, second, third, dos, version] => Ok(Id {
+            id: [*first, *second],
+            mark: Some([*first, *second, *third, *dos, *version]),
+        }),
         _ => Err(Failure::Word(WordFault::Id(id))),
     }
 }
@@ -52,14 +66,19 @@ fn id_of<'a>(alloc: Global, charset: Charset, id: &'a str) -> Result<[u8; 2], Fa
 /// The image of an empty disk with a title.
 fn titled<'a>(
     alloc: Global,
+    image: &'a str,
     blank: &Blank<'a>,
     form: Form,
     title: &[u8],
 ) -> Result<Vec<u8>, Failure<'a>>
     requires { length title.now ≤ 16 }
 {
-    let id = id_of(alloc, blank.charset, blank.id)?;
-    in_memory(new_image(alloc, form, title, id))
+    let Id { id, mark } = id_of(alloc, blank.charset, blank.id)?;
+    let new = in_memory(new_image(alloc, form, title, id))?;
+    match mark {
+        Some(mark) => on_disk(image, remark(alloc, new.as_slice(), &mark)),
+        None => Ok(new),
+    }
 }
 
 /// The image of an empty disk, for a name that may say its format. Errors: `Word`, where the format, the tracks, the
@@ -72,7 +91,7 @@ pub fn blank_image<'a>(
     let kind = format(image, blank.format)?;
     let form = form(kind, blank.tracks)?;
     let title = title_of(alloc, blank.charset, blank.title)?;
-    titled(alloc, blank, form, title.as_slice())
+    titled(alloc, image, blank, form, title.as_slice())
 }
 
 /// Makes an image of an empty disk, if nothing is there. Errors: those of `blank_image`; `Exists`; `Write`.

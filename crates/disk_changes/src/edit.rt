@@ -2,10 +2,12 @@
 mod locking;
 
 use self::locking::{locked_all, retitled};
-use cbm_shell::DiskChange;
 use cbm_shell::texts::Charset;
+use cbm_shell::{DiskChange, ShellFault, geos_of};
+use cbm_volume::Entry;
+use disk_basics::calls::{entries, name_text};
 use disk_basics::changing::change;
-use disk_basics::host::{joined, read_image, replace};
+use disk_basics::host::{joined, read_image, read_to_change, replace};
 use disk_basics::{Failure, in_memory, on_disk, petscii};
 use std::alloc::Global;
 use std::rt::Runtime;
@@ -79,7 +81,24 @@ fn edited<'a>(
     }
 }
 
-/// Edits an image, and saves it. Errors: those of `read_image`; `Word`, where a word can't be typed or is too long;
+/// Reports what GEOS kept of files that were deleted, and stays taken on the disk.
+fn tell_left<R: Runtime + AllocGlobal>(rt: &R, old: &[u8], new: &[u8]) -> Result<(), ShellFault> {
+    let before = entries(rt.alloc(), old)?;
+    let after = entries(rt.alloc(), new)?;
+    for (slot, entry) in before.iter().enumerate() {
+        let is_gone = after.as_slice().get(slot).is_none_or(Entry::is_empty);
+        if is_gone && geos_of(entry).is_some() {
+            let shown = name_text(rt.alloc(), Charset::Upper, entry.name())?;
+            let name = shown.as_str();
+            let _ = eprintln!(rt;
+                "disk1541: \"{name}\" is deleted; the blocks of its info and of its records stay taken: `validate` gives them back"
+            );
+        }
+    }
+    Ok(())
+}
+
+/// Edits an image, and saves it. Errors: those of `read_image`, and of `read_to_change` where files are deleted; `Word`, where a word can't be typed or is too long;
 /// `NoneDeleted` or `NoMatch`, where a pattern means no file; `Disk`, where the drive or the disk refuses it; `NoMemory`;
 /// those of `replace`.
 pub fn save_edit<'a, R: Runtime + AllocGlobal>(
@@ -87,7 +106,14 @@ pub fn save_edit<'a, R: Runtime + AllocGlobal>(
     image: &'a str,
     edit: &Edit<'a, '_>,
 ) -> Result<(), Failure<'a>> {
-    let old = read_image(rt, image)?;
+    let old = match edit {
+        Edit::Delete(..) => read_to_change(rt, image)?,
+        _ => read_image(rt, image)?,
+    };
     let new = edited(rt.alloc(), image, old.as_slice(), edit)?;
-    replace(rt, image, old.as_slice(), new.as_slice())
+    replace(rt, image, old.as_slice(), new.as_slice())?;
+    if let Edit::Delete(..) = edit {
+        let _ = tell_left(rt, old.as_slice(), new.as_slice());
+    }
+    Ok(())
 }

@@ -31,7 +31,7 @@ fn meant_at_fault(
     flaws: &[DiskFlaw],
     pattern: &[u8],
 ) -> Result<Option<usize>, ShellFault> {
-    let entries = disk.entries(alloc)?;
+    let entries = disk.listed(alloc)?.entries;
     for flaw in flaws {
         if !is_mendable(flaw) {
             let slots = slots_of(alloc, disk, flaw)?;
@@ -96,17 +96,51 @@ fn without_word<'a>(
     }
 }
 
-/// The image without the files at fault that the words mean.
-fn without_words<'a>(
+/// Whether a word means a file that is at fault on a disk.
+fn is_at_fault<'a>(
     alloc: Global,
+    image: &'a str,
+    bytes: &[u8],
+    charset: Charset,
+    word: &'a str,
+) -> Result<bool, Failure<'a>> {
+    let pattern = petscii(alloc, charset, word)?;
+    let slot = on_disk(image, slot_at_fault(alloc, bytes, pattern.as_slice()))?;
+    Ok(slot.is_some())
+}
+
+/// The image without the files at fault that a word means; it is as it was where such a file was at fault at first and, as others
+/// are out, isn't any longer, which is reported.
+fn without_next<'a, R: Runtime + AllocGlobal>(
+    rt: &R,
+    image: &'a str,
+    old: &[u8],
+    now: Vec<u8>,
+    charset: Charset,
+    word: &'a str,
+) -> Result<Vec<u8>, Failure<'a>> {
+    match without_word(rt.alloc(), image, now.as_slice(), charset, word) {
+        Err(Failure::NoneAtFault(_)) if is_at_fault(rt.alloc(), image, old, charset, word)? => {
+            let _ = eprintln!(rt;
+                "disk1541: {word} stays: with the others out it has all its blocks to itself; after `validate` it can be deleted as any file"
+            );
+            Ok(now)
+        }
+        made => made,
+    }
+}
+
+/// The image without the files at fault that the words mean.
+fn without_words<'a, R: Runtime + AllocGlobal>(
+    rt: &R,
     image: &'a str,
     bytes: &[u8],
     charset: Charset,
     words: &[&'a str],
 ) -> Result<Vec<u8>, Failure<'a>> {
-    let mut new = in_memory(Vec::from_slice(alloc, bytes))?;
+    let mut new = in_memory(Vec::from_slice(rt.alloc(), bytes))?;
     for word in words {
-        new = without_word(alloc, image, new.as_slice(), charset, *word)?;
+        new = without_next(rt, image, bytes, new, charset, *word)?;
     }
     Ok(new)
 }
@@ -128,6 +162,6 @@ pub fn delete_at_fault<'a, R: Runtime + AllocGlobal>(
 ) -> Result<(), Failure<'a>> {
     let old = read_image(rt, image)?;
     require_unsound(rt.alloc(), image, old.as_slice())?;
-    let new = without_words(rt.alloc(), image, old.as_slice(), charset, words)?;
+    let new = without_words(rt, image, old.as_slice(), charset, words)?;
     replace(rt, image, old.as_slice(), new.as_slice())
 }

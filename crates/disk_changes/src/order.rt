@@ -1,85 +1,105 @@
-//! VALIDATE: the disk in order, unless GEOS uses blocks that it would give back.
+//! VALIDATE: the disk in order, around what GEOS keeps on it.
+mod border;
 mod plan;
 
-use self::plan::plan_of;
+use self::border::has_border_files;
+use self::plan::{Telling, plan_of};
 use cbm_shell::{Order, ShellFault};
-use disk_basics::changing::validate;
-use disk_basics::host::{print, read_image, replace};
+use disk_basics::changing::{map_around_geos, validate};
+use disk_basics::host::{print, read_to_change, replace};
 use disk_basics::{Failure, on_disk};
+use std::alloc::Global;
 use std::rt::Runtime;
 
 /// How a disk is put in order.
 #[derive(Clone, Copy)]
 pub struct Ordering {
-    /// What would go is reported, and nothing is changed.
+    /// What would be done is told, and nothing is changed.
     pub is_dry: bool,
     /// Blocks that GEOS uses are given back, too.
     pub is_forced: bool,
 }
 
-/// Whether a disk isn't put in order.
-fn is_refused(order: &Order, ordering: Ordering) -> bool {
-    order.freed.takes_geos && !ordering.is_forced
+/// A disk in order, and how that is told.
+#[derive(Drop)]
+struct Ordered {
+    image: Vec<u8>,
+    telling: Telling,
 }
 
-/// What there is to say of a refusal.
-fn refusal<'a>(image: &'a str, order: &Order, ordering: Ordering) -> Result<(), Failure<'a>> {
-    if is_refused(order, ordering) {
-        return Err(Failure::Geos(image));
-    }
-    Ok(())
-}
-
-/// Reports what would go, and whether the command is refused.
-fn tell_plan<'a, R: Runtime + AllocGlobal>(
-    rt: &R,
+/// The disk in order, in which GEOS keeps its blocks unless they are given back, too. Errors: `Geos`, where its border block has
+/// files, whose blocks nothing else names; `Disk`.
+fn around_geos<'a>(
+    alloc: Global,
     image: &'a str,
     old: &[u8],
-    order: &Order,
+    order: Order,
     ordering: Ordering,
-) -> Result<(), Failure<'a>> {
-    let plan = on_disk(
-        image,
-        plan_of(rt.alloc(), old, order, is_refused(order, ordering)),
-    )?;
-    if ordering.is_dry {
-        print(rt, plan.as_bytes())?;
-    } else {
-        let _ = eprint!(rt; "{plan}");
+) -> Result<Ordered, Failure<'a>> {
+    let Order { image: new, freed } = order;
+    let keeps_geos = freed.takes_geos && !ordering.is_forced;
+    let telling = Telling {
+        freed: freed.blocks,
+        is_dry: ordering.is_dry,
+        keeps_geos,
+    };
+    if !keeps_geos {
+        return Ok(Ordered {
+            image: new,
+            telling,
+        });
     }
-    refusal(image, order, ordering)
+    if on_disk(image, has_border_files(alloc, old))? {
+        return Err(Failure::Geos(image));
+    }
+    Ok(Ordered {
+        image: on_disk(image, map_around_geos(alloc, new.as_slice()))?,
+        telling,
+    })
 }
 
-/// Saves the disk that was put in order, or reports what would go.
+/// What putting a disk in order came to.
+fn order_of<'a>(
+    alloc: Global,
+    image: &'a str,
+    old: &[u8],
+    ordering: Ordering,
+) -> Result<Ordered, Failure<'a>> {
+    match validate(alloc, old) {
+        Ok(order) => around_geos(alloc, image, old, order, ordering),
+        Err(ShellFault::Trouble(trouble)) => Err(Failure::Unmendable(image, trouble)),
+        Err(fault) => Err(Failure::Disk(image, fault)),
+    }
+}
+
+/// Saves the disk that was put in order, unless nothing is to be changed, and tells what was done.
 fn save_order<'a, R: Runtime + AllocGlobal>(
     rt: &R,
     image: &'a str,
     old: &[u8],
-    order: &Order,
+    order: &Ordered,
     ordering: Ordering,
 ) -> Result<(), Failure<'a>> {
-    if ordering.is_dry || is_refused(order, ordering) {
-        return tell_plan(rt, image, old, order, ordering);
+    let plan = on_disk(image, plan_of(rt.alloc(), old, &order.telling))?;
+    if !ordering.is_dry {
+        replace(rt, image, old, order.image.as_slice())?;
     }
-    replace(rt, image, old, order.image.as_slice())
+    if disk_basics::host::is_standard(image) && !ordering.is_dry {
+        let _ = eprint!(rt; "{plan}");
+        return Ok(());
+    }
+    print(rt, plan.as_bytes())
 }
 
-/// What putting a disk in order came to.
-fn ordered<'a>(image: &'a str, order: Result<Order, ShellFault>) -> Result<Order, Failure<'a>> {
-    match order {
-        Err(ShellFault::Trouble(trouble)) => Err(Failure::Unmendable(image, trouble)),
-        _ => on_disk(image, order),
-    }
-}
-
-/// Puts the disk of an image in order, and saves it. Errors: those of `read_image`; `Unmendable`, where it can't be put
-/// in order; `Geos`, where that gives back blocks that GEOS uses; `Disk`; those of `replace`.
+/// Puts the disk of an image in order, saves it, and tells what was done. Errors: those of `read_to_change`; `Unmendable`, where it
+/// can't be put in order; `Geos`, where blocks of files in GEOS's border block would be given back; `Disk`; those of `replace`;
+/// `Write`.
 pub fn put_in_order<'a, R: Runtime + AllocGlobal>(
     rt: &R,
     image: &'a str,
     ordering: Ordering,
 ) -> Result<(), Failure<'a>> {
-    let old = read_image(rt, image)?;
-    let order = ordered(image, validate(rt.alloc(), old.as_slice()))?;
+    let old = read_to_change(rt, image)?;
+    let order = order_of(rt.alloc(), image, old.as_slice(), ordering)?;
     save_order(rt, image, old.as_slice(), &order, ordering)
 }

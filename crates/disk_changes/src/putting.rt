@@ -1,12 +1,12 @@
 //! PUT: files of the host into the image.
-use crate::stored::{Stored, open_text, with_stored};
+use crate::stored::{Stored, open_text, put_answer, with_stored};
 use cbm_shell::texts::Charset;
 use cbm_shell::{DiskChange, unwrapped};
 use disk_basics::changing::changes;
-use disk_basics::host::{is_standard, read_file, read_image, replace};
+use disk_basics::host::{is_standard, read_file, read_to_change, replace};
 use disk_basics::{
     Failure, FileKind, WordFault, file_name, in_memory, is_wrapped_name, kind_of_file,
-    name_of_file, on_disk, require_name,
+    name_of_file, require_name,
 };
 use std::alloc::{AllocError, Global};
 use std::rt::Runtime;
@@ -24,6 +24,8 @@ pub struct HostFiles<'a> {
     pub replaces: bool,
     /// The character set of names.
     pub charset: Charset,
+    /// What standard input gave, where it was read already.
+    pub input: Option<&'a [u8]>,
 }
 
 /// What is put on the disk of a file: its bytes, and the name and the length of records that they give.
@@ -111,6 +113,18 @@ fn put_body<'a>(
     with_stored(alloc, image, old, &file)
 }
 
+/// Reads a file, or takes what standard input gave.
+fn read_given<'a, R: Runtime + AllocGlobal>(
+    rt: &R,
+    file: &'a str,
+    put: &HostFiles<'a>,
+) -> Result<Vec<u8>, Failure<'a>> {
+    match put.input {
+        Some(input) if is_standard(file) => in_memory(Vec::from_slice(rt.alloc(), input)),
+        _ => read_file(rt, file),
+    }
+}
+
 /// The image with a file on it.
 fn put_one<'a, R: Runtime + AllocGlobal>(
     rt: &R,
@@ -119,7 +133,7 @@ fn put_one<'a, R: Runtime + AllocGlobal>(
     file: &'a str,
     put: &HostFiles<'a>,
 ) -> Result<Vec<u8>, Failure<'a>> {
-    let bytes = read_file(rt, file)?;
+    let bytes = read_given(rt, file, put)?;
     let body = body_of(file, bytes.as_slice());
     put_body(rt.alloc(), image, old, file, put, body)
 }
@@ -185,7 +199,7 @@ fn load_one<'a, R: Runtime + AllocGlobal>(
     put: &HostFiles<'a>,
     end: &[u8],
 ) -> Result<Loaded<'a>, Failure<'a>> {
-    let bytes = read_file(rt, file)?;
+    let bytes = read_given(rt, file, put)?;
     let body = body_of(file, bytes.as_slice());
     let head = bytes.len().saturating_sub(body.bytes.len());
     let text = text_for(rt.alloc(), file, put, body.name, end)?;
@@ -260,7 +274,7 @@ fn put_plain<'a, R: Runtime + AllocGlobal>(
     if new.is_err() {
         tell_refused(rt, old, all.as_slice(), puts.as_slice());
     }
-    on_disk(image, new)
+    put_answer(rt.alloc(), image, old, all.len(), put.replaces, new)
 }
 
 /// The image with several files on it, one after another.
@@ -320,13 +334,13 @@ fn save_files<'a, R: Runtime + AllocGlobal>(
     files: &[&'a str],
     put: &HostFiles<'a>,
 ) -> Result<(), Failure<'a>> {
-    let old = read_image(rt, image)?;
+    let old = read_to_change(rt, image)?;
     let new = put_all(rt, image, old.as_slice(), files, put)?;
     replace(rt, image, old.as_slice(), new.as_slice())
 }
 
 /// Puts files of the host on the disk, all of them or none. Errors: `Word`, where standard input is wanted twice, one
-/// name is given for several files, or a name, a type or a length can't be; those of `read_image` and of `read_file`;
+/// name is given for several files, or a name, a type or a length can't be; those of `read_to_change` and of `read_file`;
 /// `Disk`, where the drive or the disk refuses it; `NoMemory`; those of `replace`.
 pub fn put<'a, R: Runtime + AllocGlobal>(
     rt: &R,

@@ -1,10 +1,10 @@
 //! COPY and RENAME: a new name, and the old one.
 use crate::edit::{Edit, save_edit};
-use cbm_shell::DiskChange;
 use cbm_shell::texts::Charset;
+use cbm_shell::{DiskChange, geos_of};
 use disk_basics::calls::entries;
 use disk_basics::changing::change;
-use disk_basics::host::{joined, read_image, replace};
+use disk_basics::host::{joined, read_to_change, replace};
 use disk_basics::{Failure, file_name, on_disk};
 use disk_facts::first_meant;
 use std::alloc::Global;
@@ -31,7 +31,7 @@ fn text_of<'a>(alloc: Global, letter: &[u8], pair: &Pair<'a>) -> Result<Vec<u8>,
     )
 }
 
-/// Refuses to copy a relative file: the drive's COPY takes bytes one after another.
+/// Refuses to copy a file of GEOS or a relative file: the drive's COPY takes bytes one after another.
 fn require_plain<'a, R: Runtime + AllocGlobal>(
     rt: &R,
     image: &'a str,
@@ -41,6 +41,7 @@ fn require_plain<'a, R: Runtime + AllocGlobal>(
     let old = file_name(rt.alloc(), pair.charset, pair.old)?;
     let entries = on_disk(image, entries(rt.alloc(), bytes))?;
     match first_meant(entries.as_slice(), old.as_slice()) {
+        Some(entry) if geos_of(entry).is_some() => Err(Failure::GeosCopy(pair.old)),
         Some(entry) if entry.is_relative() => Err(Failure::Records(pair.old)),
         _ => Ok(()),
     }
@@ -65,12 +66,12 @@ fn copy_by<'a, R: Runtime + AllocGlobal>(
     text: &[u8],
     pair: &Pair<'a>,
 ) -> Result<(), Failure<'a>> {
-    let old = read_image(rt, image)?;
+    let old = read_to_change(rt, image)?;
     let new = copied(rt, image, old.as_slice(), text, pair)?;
     replace(rt, image, old.as_slice(), new.as_slice())
 }
 
-/// Copies a file under another name. Errors: those of `file_name` and of `read_image`; `Records`, where it is a relative
+/// Copies a file under another name. Errors: those of `file_name` and of `read_to_change`; `Records`, where it is a relative
 /// file; `Disk`, where the drive or the disk refuses it; those of `replace`.
 pub fn copy<'a, R: Runtime + AllocGlobal>(
     rt: &R,

@@ -1,10 +1,11 @@
 //! A file's bytes on a disk, as a file of its kind.
 use cbm_channel::{Code, Status};
 use cbm_shell::{DiskChange, Records, ShellFault};
-use disk_basics::calls::entries;
+use disk_basics::calls::{entries, listed};
 use disk_basics::changing::{change, put_records};
 use disk_basics::host::joined;
 use disk_basics::{Failure, FileKind, WordFault, in_memory, on_disk};
+use disk_facts::count_files;
 use std::alloc::{AllocError, Global};
 
 /// A file that is put on a disk.
@@ -33,6 +34,42 @@ pub fn open_text<'a>(
     joined(alloc, &[start, name, end])
 }
 
+/// How many files a directory has at most.
+const MOST_FILES: usize = 144;
+
+/// Whether the directory has no room for so many files more.
+fn is_directory_full(alloc: Global, image: &[u8], more: usize) -> bool {
+    match listed(alloc, image) {
+        Ok(listed) => {
+            let files = count_files(listed.entries.as_slice());
+            files.saturating_add(more) > MOST_FILES
+        }
+        Err(_) => false,
+    }
+}
+
+/// What a disk answered to so many files that are put, with the reason where the drive's status says less. Errors: `LockedThere`,
+/// where a file that is to be replaced is locked; `DirectoryFull`; `Disk`.
+pub fn put_answer<'a>(
+    alloc: Global,
+    image: &'a str,
+    old: &[u8],
+    files: usize,
+    replaces: bool,
+    answer: Result<Vec<u8>, ShellFault>,
+) -> Result<Vec<u8>, Failure<'a>> {
+    match answer {
+        Err(ShellFault::Refused(status)) if replaces && status.code == Code::FileExists => {
+            Err(Failure::LockedThere(image))
+        }
+        Err(ShellFault::Refused(status))
+            if status.code == Code::DiskFull && is_directory_full(alloc, old, files) => {
+            Err(Failure::DirectoryFull(image))
+        }
+        _ => on_disk(image, answer),
+    }
+}
+
 /// The image with a file of bytes one after another.
 fn plain<'a>(
     alloc: Global,
@@ -43,7 +80,8 @@ fn plain<'a>(
 ) -> Result<Vec<u8>, Failure<'a>> {
     let text = open_text(alloc, file.name, file.replaces, end)?;
     let put = DiskChange::File(text.as_slice(), file.bytes);
-    on_disk(image, change(alloc, old, &put))
+    let answer = change(alloc, old, &put);
+    put_answer(alloc, image, old, 1, file.replaces, answer)
 }
 
 /// The bytes cut into records; the last one may be shorter.

@@ -4,7 +4,7 @@ use cbm_shell::texts::Charset;
 use cbm_volume::{Entry, FileType};
 use disk_basics::calls::entries;
 use disk_basics::changing::undelete;
-use disk_basics::host::{read_image, replace};
+use disk_basics::host::{read_to_change, replace};
 use disk_basics::{Failure, WordFault, on_disk, petscii};
 use disk_facts::is_deleted;
 use std::alloc::Global;
@@ -71,7 +71,7 @@ fn given_back<'a>(
     }
 }
 
-/// Gives back a deleted file of an image, and saves it. Errors: those of `read_image` and of `petscii`; `Word`, where the
+/// Gives back a deleted file of an image, and saves it. Errors: those of `read_to_change` and of `petscii`; `Word`, where the
 /// type is none; `NotDeleted`, where no deleted file matches; `Overwritten`, where its blocks aren't free; `Disk`; those
 /// of `replace`.
 pub fn undelete_file<'a, R: Runtime + AllocGlobal>(
@@ -79,7 +79,7 @@ pub fn undelete_file<'a, R: Runtime + AllocGlobal>(
     image: &'a str,
     gone: &Gone<'a>,
 ) -> Result<(), Failure<'a>> {
-    let old = read_image(rt, image)?;
+    let old = read_to_change(rt, image)?;
     let new = given_back(rt.alloc(), image, old.as_slice(), gone)?;
     replace(rt, image, old.as_slice(), new.as_slice())
 }

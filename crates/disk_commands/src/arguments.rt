@@ -1,5 +1,5 @@
 //! The command line, as clap reads it.
-use crate::commands::{Command, EXAMPLES, changing_commands, examples_of, looking_commands};
+use crate::commands::{Command, changing_commands, examples_of, looking_commands};
 use crate::words::{Mark, Word};
 use clap::{Arg, ArgMatches, Error};
 use std::alloc::{AllocError, Global};
@@ -76,22 +76,25 @@ fn subcommands<'a>(alloc: Global) -> Result<Vec<clap::Command<'a>>, AllocError> 
     Ok(subcommands)
 }
 
-/// What may stand on the command line.
-fn program<'a>(alloc: Global) -> Result<clap::Command<'a>, AllocError> {
+/// What may stand on the command line; help prints this text.
+fn program<'a>(alloc: Global, help: &'a str) -> Result<clap::Command<'a>, AllocError> {
     let subcommands = subcommands(alloc)?;
     clap::Command::new(alloc, "disk1541")
-        .about("Looks into disk images of the Commodore 1541 and changes them")
-        .after_help(EXAMPLES)
+        .override_help(help)
         .version(VERSION)
         .subcommand_required(true)
         .arg_required_else_help(true)
         .subcommands(subcommands)
 }
 
-/// Reads the command line. Errors: clap's, for a word that can't stand there, and for help or the
-/// version, which are asked for so.
-pub fn parse<'a>(alloc: Global, words: &'a [String]) -> Result<ArgMatches<'a>, Error> {
-    program(alloc)?.try_get_matches_from(words)
+/// Reads the command line; `help` is the text of `help_text`. Errors: clap's, for a word that can't
+/// stand there, and for help or the version, which are asked for so.
+pub fn parse<'a>(
+    alloc: Global,
+    words: &'a [String],
+    help: &'a str,
+) -> Result<ArgMatches<'a>, Error> {
+    program(alloc, help)?.try_get_matches_from(words)
 }
 
 /// A word that the command line must have.

@@ -1,10 +1,10 @@
 //! The commands.
 use crate::words::{
-    ALL, BY, CHARSET, CIRCLE, CSV, DELETED, DRY_RUN, FILES, FILES_FOLDER, FOLDER, FORCE,
-    FORCE_FAULT, FORMAT, ID, IMAGE, IMAGES, JSON, LOSSY, MEANT, NAME, NAME_ON_DISK, NEW, NEW_TITLE,
-    OLD, ONLY, OUT, OUTPUT, RAW, RECIPE, RECORD, RECURSIVE, REPLACE_FILE, REPLACE_FILES,
-    REPLACE_IMAGE, REPLACE_NAME, SALVAGE, SECTOR, SVG, TITLE, TRACK, TRACKS, TYPE, TYPE_AGAIN,
-    WANTED, WITH_FILES, Word,
+    ALL, BY, CHARSET, CIRCLE, CSV, DELETED, DROP, DRY_RUN, EXACT, FILES, FILES_FOLDER, FOLDER,
+    FORCE, FORCE_FAULT, FORMAT, ID, IMAGE, IMAGES, JSON, LOSSY, MEANT, NAME, NAME_ON_DISK,
+    NAME_OR_SLOT, NEW, NEW_TITLE, OLD, ONLY, OUT, OUTPUT, RAW, RECIPE, RECORD, RECURSIVE,
+    REPLACE_FILE, REPLACE_FILES, REPLACE_IMAGE, REPLACE_NAME, SALVAGE, SECTOR, SLOT, SVG, TITLE,
+    TRACK, TRACKS, TYPE, TYPE_AGAIN, WANTED, WITH_FILES, Word,
 };
 
 /// What help says at the end: examples, and the exit statuses.
@@ -13,7 +13,7 @@ macro_rules! examples {
         concat!(
             "Examples:\n",
             $lines,
-            "\nExit status: 0 done, 1 the disk or the drive said no, 2 no image of a disk, 3 a file of this\ncomputer or its memory, 4 of several images some aren't sound or are none, 64 the command line"
+            "\nExit status: 0 done, 1 the disk or the drive refused, 2 not a disk image, 3 a file of this computer\nor memory, 4 some of several images are unsound or not images, 64 the command line"
         )
     };
 }
@@ -69,6 +69,8 @@ pub enum Verb {
     Sort,
     /// Gives lost blocks back.
     Validate,
+    /// Shows the error bytes of a D64, or drops them.
+    Errors,
 }
 
 /// A command.
@@ -86,7 +88,7 @@ pub struct Command {
 
 /// What the help of all commands says at the end.
 pub const EXAMPLES: &str = examples!(
-    "  disk1541 list game.d64                  what is on the disk\n  disk1541 get game.d64 'LOADER*' -o loader.prg\n  disk1541 check -r disks/                all images in a folder\n"
+    "  disk1541 list game.d64                  what is on the disk\n  disk1541 get game.d64 'LOADER*' -o loader.prg\n  disk1541 check -r disks/                all images in a folder\n  disk1541 help put                       the words of one command\n"
 );
 
 /// The commands that look at disks, in the order of help.
@@ -94,67 +96,76 @@ const LOOKING: &[Command] = &[
     Command {
         verb: Verb::List,
         name: "list",
-        about: "Shows the directory",
+        about: "Show the directory",
         words: &[IMAGES, RECURSIVE, ONLY, RAW, DELETED, JSON, CSV, CHARSET],
     },
     Command {
         verb: Verb::Find,
         name: "find",
-        about: "Shows which images have a file",
+        about: "Show which images have a file",
         words: &[WANTED, IMAGES, RECURSIVE, JSON, CSV, CHARSET],
     },
     Command {
         verb: Verb::Get,
         name: "get",
-        about: "Takes a file out",
-        words: &[IMAGE, NAME, OUTPUT, REPLACE_FILE, SALVAGE, CHARSET],
+        about: "Take a file out",
+        words: &[
+            IMAGE,
+            NAME_OR_SLOT,
+            OUTPUT,
+            REPLACE_FILE,
+            SALVAGE,
+            SLOT,
+            EXACT,
+            CHARSET,
+        ],
     },
     Command {
         verb: Verb::GetAll,
         name: "get-all",
-        about: "Takes all files out, into a folder",
+        about: "Take all files out, into a folder",
         words: &[IMAGE, FOLDER, REPLACE_FILES, SALVAGE],
     },
     Command {
         verb: Verb::Info,
         name: "info",
-        about: "Tells what disks are",
+        about: "Show information about disks",
         words: &[IMAGES, RECURSIVE, JSON, CSV, CHARSET],
     },
     Command {
         verb: Verb::Map,
         name: "map",
-        about: "Shows which sectors are free, used, lost",
+        about: "Show which sectors are free, used or lost",
         words: &[IMAGE, WITH_FILES, SVG, REPLACE_FILE, CHARSET],
     },
     Command {
         verb: Verb::Sector,
         name: "sector",
-        about: "Shows the bytes of a sector",
+        about: "Show the bytes of a sector",
         words: &[IMAGE, TRACK, SECTOR],
     },
     Command {
         verb: Verb::Track,
         name: "track",
-        about: "Shows the sync marks, headers, blocks and gaps of a G64's track",
+        about: "Show a G64's track: sync marks, headers, blocks, gaps",
         words: &[IMAGE, CIRCLE],
     },
     Command {
         verb: Verb::Check,
         name: "check",
-        about: "Tells whether disks are sound",
+        about: "Check whether disks are sound",
         words: &[IMAGES, RECURSIVE, ALL, JSON, CSV, CHARSET],
     },
     Command {
         verb: Verb::Hash,
         name: "hash",
-        about: "Shows a sum of each image's sectors (SHA-256)",
+        about: "Show a sum of each image's sectors (SHA-256)",
         words: &[IMAGES, RECURSIVE, JSON, CSV],
     },
     Command {
         verb: Verb::Describe,
         name: "describe",
-        about: "Shows the recipe of a disk, as build takes it",
+        about: "Show the recipe of a disk, as build takes it",
         words: &[IMAGE, FILES_FOLDER, CHARSET],
     },
 ];
@@ -164,25 +175,25 @@ const CHANGING: &[Command] = &[
     Command {
         verb: Verb::New,
         name: "new",
-        about: "Makes an image of an empty disk",
+        about: "Make an image of an empty disk",
         words: &[IMAGE, TITLE, ID, TRACKS, FORMAT, REPLACE_IMAGE, CHARSET],
     },
     Command {
         verb: Verb::Build,
         name: "build",
-        about: "Makes an image of the disk that a recipe describes",
+        about: "Make an image of the disk that a recipe describes",
         words: &[RECIPE, IMAGE, REPLACE_IMAGE, CHARSET],
     },
     Command {
         verb: Verb::Convert,
         name: "convert",
-        about: "Makes a G64 of a D64, or a D64 of a G64",
+        about: "Convert a D64 to a G64, or a G64 to a D64",
         words: &[IMAGE, OUT, FORMAT, LOSSY, REPLACE_IMAGE],
     },
     Command {
         verb: Verb::Put,
         name: "put",
-        about: "Puts files of this computer on the disk",
+        about: "Put files of this computer on the disk",
         words: &[
             IMAGE,
             FILES,
@@ -196,56 +207,62 @@ const CHANGING: &[Command] = &[
     Command {
         verb: Verb::Copy,
         name: "copy",
-        about: "Copies a file under a new name",
-        words: &[IMAGE, OLD, NEW, CHARSET],
+        about: "Copy a file under a new name",
+        words: &[IMAGE, OLD, NEW, SLOT, EXACT, CHARSET],
     },
     Command {
         verb: Verb::Rename,
         name: "rename",
-        about: "Gives a file another name",
-        words: &[IMAGE, OLD, NEW, CHARSET],
+        about: "Rename a file",
+        words: &[IMAGE, OLD, NEW, SLOT, EXACT, CHARSET],
     },
     Command {
         verb: Verb::Delete,
         name: "delete",
-        about: "Deletes the files that match",
-        words: &[IMAGE, MEANT, FORCE_FAULT, CHARSET],
+        about: "Delete files",
+        words: &[IMAGE, MEANT, FORCE_FAULT, SLOT, EXACT, CHARSET],
     },
     Command {
         verb: Verb::Undelete,
         name: "undelete",
-        about: "Gives back a file that was deleted",
+        about: "Restore a deleted file",
         words: &[IMAGE, NAME, TYPE_AGAIN, CHARSET],
     },
     Command {
         verb: Verb::Lock,
         name: "lock",
-        about: "Locks the files that match, so that they can't be deleted",
-        words: &[IMAGE, MEANT, CHARSET],
+        about: "Lock files, so that they can't be deleted",
+        words: &[IMAGE, MEANT, SLOT, EXACT, CHARSET],
     },
     Command {
         verb: Verb::Unlock,
         name: "unlock",
-        about: "Frees the files that match, so that they can be deleted",
-        words: &[IMAGE, MEANT, CHARSET],
+        about: "Unlock files",
+        words: &[IMAGE, MEANT, SLOT, EXACT, CHARSET],
     },
     Command {
         verb: Verb::Title,
         name: "title",
-        about: "Gives the disk another title",
+        about: "Change the disk's title",
         words: &[IMAGE, NEW_TITLE, CHARSET],
     },
     Command {
         verb: Verb::Sort,
         name: "sort",
-        about: "Sorts the directory",
+        about: "Sort the directory",
         words: &[IMAGE, BY],
     },
     Command {
         verb: Verb::Validate,
         name: "validate",
-        about: "Gives lost blocks back, and deletes files that were never closed",
+        about: "Validate: free unused blocks and remove unclosed files",
         words: &[IMAGE, DRY_RUN, FORCE],
+    },
+    Command {
+        verb: Verb::Errors,
+        name: "errors",
+        about: "Show the error bytes of a D64, or drop them",
+        words: &[IMAGE, DROP],
     },
 ];
 
@@ -287,7 +304,7 @@ pub fn examples_of(verb: Verb) -> &'static str {
             "  disk1541 find 'HISCORE*' *.d64\n  disk1541 find -r 'HISCORE*' disks/\n"
         ),
         Verb::Get => examples!(
-            "  disk1541 get game.d64 LOADER -o loader.prg\n  disk1541 get game.d64 '{c1}*' > first\n  disk1541 get bad.d64 --salvage 'LEVEL*' -o level.bin\n"
+            "  disk1541 get game.d64 LOADER -o loader.prg\n  disk1541 get game.d64 '{c1}*' > first\n  disk1541 get bad.d64 --salvage 'LEVEL*' -o level.bin\n  disk1541 get odd.d64 --exact 'ST*R1' -o star.prg\n"
         ),
         Verb::GetAll => examples!("  disk1541 get-all game.d64 files\n"),
         Verb::Info => examples!("  disk1541 info game.d64\n  disk1541 info -r disks/ --json\n"),
@@ -297,7 +314,7 @@ pub fn examples_of(verb: Verb) -> &'static str {
         Verb::Track => examples!("  disk1541 track game.g64 18\n  disk1541 track game.g64 17.5\n"),
         Verb::Sector => examples!("  disk1541 sector game.d64 18 0\n"),
         Verb::Check => examples!(
-            "  disk1541 check game.d64\n  disk1541 check -r disks/\n  disk1541 check --all bad.d64    every flaw, and the files that have it\n"
+            "  disk1541 check game.d64\n  disk1541 check -r disks/\n  disk1541 check --all bad.d64    every fault, and the files that have it\n"
         ),
         Verb::Hash => examples!("  disk1541 hash -r disks/ | sort    equal disks stand together\n"),
         Verb::Describe => examples!(
@@ -314,9 +331,11 @@ pub fn examples_of(verb: Verb) -> &'static str {
             "  disk1541 put work.d64 loader.prg levels.seq\n  disk1541 put work.d64 out.bin --name LOADER --replace\n"
         ),
         Verb::Copy => examples!("  disk1541 copy work.d64 LOADER BACKUP\n"),
-        Verb::Rename => examples!("  disk1541 rename work.d64 LOADER START\n"),
+        Verb::Rename => examples!(
+            "  disk1541 rename work.d64 LOADER START\n  disk1541 rename odd.d64 --exact 'ST*R1' STAR1\n  disk1541 rename odd.d64 --slot 3 START\n"
+        ),
         Verb::Delete => examples!(
-            "  disk1541 delete work.d64 BACKUP 'OLD*'\n  disk1541 delete --force bad.d64 'LEVEL*'    files at fault, where `validate` refuses the disk\n"
+            "  disk1541 delete work.d64 BACKUP 'OLD*'\n  disk1541 delete --force bad.d64 'LEVEL*'    remove files at fault, if `validate` refuses the disk\n"
         ),
         Verb::Undelete => examples!(
             "  disk1541 list --deleted work.d64    which files were deleted\n  disk1541 undelete work.d64 BACKUP\n"
@@ -325,6 +344,9 @@ pub fn examples_of(verb: Verb) -> &'static str {
         Verb::Unlock => examples!("  disk1541 unlock work.d64 '*'\n"),
         Verb::Sort => examples!("  disk1541 sort work.d64\n  disk1541 sort work.d64 --by size\n"),
         Verb::Title => examples!("  disk1541 title work.d64 'MY GAME'\n"),
+        Verb::Errors => {
+            examples!("  disk1541 errors game.d64\n  disk1541 errors game.d64 --drop\n")
+        }
         Verb::Validate => examples!(
             "  disk1541 validate work.d64 --dry-run    what would go\n  disk1541 validate work.d64\n"
         ),

@@ -3,7 +3,9 @@
 
 mod arguments;
 mod commands;
+mod help;
 mod words;
 
 pub use arguments::{flag, given, option, parse};
 pub use commands::{Verb, verb_of};
+pub use help::help_text;

@@ -73,7 +73,7 @@ pub const IMAGES: Word = Word {
 /// Images in folders.
 pub const RECURSIVE: Word = Word {
     name: "recursive",
-    help: "of a folder, all images in it and in its folders: files that end in .d64 or .g64",
+    help: "for a folder, all images in it and its folders: files that end in .d64 or .g64",
     mark: Mark::Short('r'),
     ..FLAG
 };
@@ -81,7 +81,7 @@ pub const RECURSIVE: Word = Word {
 /// The files that LIST shows.
 pub const ONLY: Word = Word {
     name: "only",
-    help: "the files that are meant: `?` for one character, `*` for the rest",
+    help: "file name or pattern (`?` one character, `*` the rest)",
     value: &["PATTERN"],
     default: &["*"],
     ..OPTION
@@ -90,7 +90,7 @@ pub const ONLY: Word = Word {
 /// The files that FIND looks for.
 pub const WANTED: Word = Word {
     name: "PATTERN",
-    help: "the files that are meant: `?` for one character, `*` for the rest",
+    help: "file name or pattern (`?` one character, `*` the rest)",
     ..NEEDED
 };
 
@@ -106,29 +106,50 @@ pub const CHARSET: Word = Word {
 /// LIST as the drive sends it.
 pub const RAW: Word = Word {
     name: "raw",
-    help: "the bytes that the drive sends",
+    help: "print the bytes that the drive sends",
     ..FLAG
 };
 
 /// What is looked at, for programs.
 pub const JSON: Word = Word {
     name: "json",
-    help: "as JSON, for programs: a line for each image",
+    help: "print JSON for programs, a line for each image",
     ..FLAG
 };
 
 /// Every flaw of a disk.
 pub const ALL: Word = Word {
     name: "all",
-    help: "every flaw, the files that have it, and whether it can be mended",
+    help: "show every fault, the files that have it, and whether it can be mended",
     ..FLAG
 };
 
 /// The file that GET takes out.
 pub const NAME: Word = Word {
     name: "NAME",
-    help: "the file's name, or a pattern",
+    help: "file name or pattern (`?` one character, `*` the rest)",
     ..NEEDED
+};
+
+/// One file, which may be said by its slot instead.
+pub const NAME_OR_SLOT: Word = Word {
+    is_needed: false,
+    ..NAME
+};
+
+/// The slot of a file.
+pub const SLOT: Word = Word {
+    name: "slot",
+    help: "instead of a name: the file in this slot of the directory, from 0 on, as `list --json` shows it",
+    value: &["N"],
+    ..OPTION
+};
+
+/// An exact name.
+pub const EXACT: Word = Word {
+    name: "exact",
+    help: "the name is exact: `*`, `?`, `,` and `\"` are characters of it",
+    ..FLAG
 };
 
 /// Where GET writes it.
@@ -151,7 +172,14 @@ pub const REPLACE_FILE: Word = Word {
 /// What can be read of damaged files.
 pub const SALVAGE: Word = Word {
     name: "salvage",
-    help: "take what can be read, also of files that are damaged or were never closed",
+    help: "take what can be read, also of damaged and unclosed files",
+    ..FLAG
+};
+
+/// ERRORS that drops them.
+pub const DROP: Word = Word {
+    name: "drop",
+    help: "save the image without its error bytes",
     ..FLAG
 };
 
@@ -194,7 +222,7 @@ pub const TITLE: Word = Word {
 /// Its id.
 pub const ID: Word = Word {
     name: "id",
-    help: "the disk's id, two characters",
+    help: "the disk's id: two characters, or five with those of the DOS after it, as `64 2A`",
     is_needed: true,
     value: &["XX"],
     ..OPTION
@@ -212,7 +240,7 @@ pub const TRACKS: Word = Word {
 /// The format of a new image.
 pub const FORMAT: Word = Word {
     name: "format",
-    help: "d64 or g64; without it the ending of the name says so",
+    help: "d64 or g64; without it the ending of the name decides",
     value: &["F"],
     ..OPTION
 };
@@ -233,7 +261,7 @@ pub const OUT: Word = Word {
 /// CONVERT with what is lost.
 pub const LOSSY: Word = Word {
     name: "lossy",
-    help: "also where the new image lacks something",
+    help: "convert even if something is lost",
     ..FLAG
 };
 
@@ -256,7 +284,7 @@ pub const NAME_ON_DISK: Word = Word {
 /// The files' type.
 pub const TYPE: Word = Word {
     name: "type",
-    help: "prg, seq, usr or rel; without it the name's ending says so, or else it is prg",
+    help: "prg, seq, usr or rel; without it the ending of the file's name decides, else prg",
     value: &["TYPE"],
     ..OPTION
 };
@@ -277,15 +305,17 @@ pub const OLD: Word = Word {
 /// Its new name.
 pub const NEW: Word = Word {
     name: "NEW",
-    help: "the new name",
+    help: "the new name; with --slot it is the one name",
+    is_needed: false,
     ..NEEDED
 };
 
 /// The files that DELETE deletes, LOCK locks and UNLOCK frees.
 pub const MEANT: Word = Word {
     name: "PATTERN",
-    help: "the files that are meant",
+    help: "file names or patterns (`?` one character, `*` the rest)",
     action: ArgAction::Append,
+    is_needed: false,
     ..NEEDED
 };
 
@@ -299,21 +329,21 @@ pub const NEW_TITLE: Word = Word {
 /// VALIDATE without a change.
 pub const DRY_RUN: Word = Word {
     name: "dry-run",
-    help: "tell what would go, and change nothing",
+    help: "show what would go, and change nothing",
     ..FLAG
 };
 
 /// VALIDATE of what GEOS uses.
 pub const FORCE: Word = Word {
     name: "force",
-    help: "also give back blocks that GEOS uses",
+    help: "free blocks that GEOS uses, too",
     ..FLAG
 };
 
 /// The length of a relative file's records.
 pub const RECORD: Word = Word {
     name: "record",
-    help: "the length of a relative file's records, 1 to 254; a file .r00 tells its own",
+    help: "the length of a relative file's records, 1 to 254; a file .r00 has its own",
     value: &["N"],
     ..OPTION
 };
@@ -346,14 +376,14 @@ pub const BY: Word = Word {
 /// What is looked at, as a table.
 pub const CSV: Word = Word {
     name: "csv",
-    help: "as a table (CSV), for programs: a line for each file or image, under a line of heads",
+    help: "print a table (CSV) for programs, with a head line and a line for each file or image",
     ..FLAG
 };
 
 /// MAP with the files of the sectors.
 pub const WITH_FILES: Word = Word {
     name: "files",
-    help: "a letter for each file, and which file it is",
+    help: "show a letter for each file, and which file it is",
     ..FLAG
 };
 
@@ -374,20 +404,20 @@ pub const CIRCLE: Word = Word {
 
 /// DELETE of files at fault.
 pub const FORCE_FAULT: Word = Word {
-    help: "on a disk that isn't sound: take the files at fault out of the directory; `validate` then puts it in order",
+    help: "on a disk that isn't sound, remove files at fault from the directory; then run `validate`",
     ..FORCE
 };
 
 /// LIST of the files that were deleted.
 pub const DELETED: Word = Word {
     name: "deleted",
-    help: "the files that were deleted: `undelete` gives one back while its blocks are free",
+    help: "show deleted files: `undelete` restores one while its blocks are free",
     ..FLAG
 };
 
 /// The type that UNDELETE gives a file.
 pub const TYPE_AGAIN: Word = Word {
-    help: "prg, seq or usr: its type was lost when it was deleted",
+    help: "prg, seq or usr: the type was lost when the file was deleted",
     default: &["prg"],
     ..TYPE
 };

@@ -4,11 +4,11 @@ use cbm_channel::FileType;
 use cbm_image::{Kind, kind_of};
 use cbm_medium::Address;
 use cbm_shell::texts::Charset;
-use cbm_shell::{Info, ShellFault, geos_of};
+use cbm_shell::{Info, Listed, ShellFault, geos_of};
 use cbm_volume::{Entry, Label, Trouble};
 use disk_basics::calls::{info, name_text, sector};
 use disk_basics::host::{print, read_image};
-use disk_basics::{Disk, Failure, on_disk};
+use disk_basics::{BreakOff, Disk, Failure, on_disk};
 use disk_facts::unfilled;
 use disk_recipes::{Recipe, RecipeLine, recipe_text};
 use std::alloc::{AllocError, Global};
@@ -233,9 +233,8 @@ fn labelled(
     tracks: u8,
     word: &str,
 ) -> Result<Recipe, AllocError> {
-    let [first, second, _, _, _] = label.mark;
     let title = name_text(alloc, charset, unfilled(label.title.as_slice()))?;
-    let id = name_text(alloc, charset, &[first, second])?;
+    let id = name_text(alloc, charset, id_of(&label.mark))?;
     let format = String::from_str(alloc, word)?;
     Ok(Recipe {
         title,
@@ -244,6 +243,14 @@ fn labelled(
         format: Some(format),
         lines: Vec::new(alloc),
     })
+}
+
+/// The id of the five bytes after the title: two of them, where the others are those of each new disk.
+fn id_of(mark: &[u8; 5]) -> &[u8] {
+    match mark {
+        [_, _, 0xa0, b'2', b'A'] => mark.get(..2).unwrap_or(mark),
+        _ => mark,
+    }
 }
 
 /// The recipe of a disk, with no line yet.
@@ -280,6 +287,19 @@ fn described_by<R: Runtime + AllocGlobal>(
     Ok((recipe, is_whole))
 }
 
+/// Whether a directory was followed to its end; where it breaks off is reported.
+fn is_followed(rt: &impl Eprint, listed: &Listed) -> bool {
+    let Some(trouble) = listed.trouble else {
+        return true;
+    };
+    let end = BreakOff {
+        entries: listed.entries.len(),
+        trouble,
+    };
+    let _ = eprintln!(rt; "disk1541: {end}");
+    false
+}
+
 /// The recipe of a disk, and whether it says all of it.
 fn described<R: Runtime + AllocGlobal>(
     rt: &R,
@@ -287,8 +307,10 @@ fn described<R: Runtime + AllocGlobal>(
     description: Description<'_>,
 ) -> Result<(Recipe, bool), ShellFault> {
     let disk = Disk::open(rt.alloc(), image)?;
-    let entries = disk.entries(rt.alloc())?;
-    described_by(rt, image, &disk, entries.as_slice(), description)
+    let listed = disk.listed(rt.alloc())?;
+    let entries = listed.entries.as_slice();
+    let (recipe, is_whole) = described_by(rt, image, &disk, entries, description)?;
+    Ok((recipe, is_whole && is_followed(rt, &listed)))
 }
 
 /// Prints a recipe.

@@ -1,26 +1,26 @@
 //! GET: a file out of the image, to a file of the host or to standard output.
-use crate::relative::packed_for;
+use crate::geos::tell_geos;
+use crate::relative::{packed_as, packed_for};
 use crate::salvage::salvaged_file;
-use cbm_shell::ShellFault;
-use cbm_shell::texts::Charset;
-use disk_basics::calls::file;
+use crate::taking::{Source, bytes_of_entry};
+use cbm_shell::{ShellFault, geos_of};
+use cbm_volume::Entry;
+use disk_basics::calls::{file, listed};
 use disk_basics::host::{read_image, require_new, write};
-use disk_basics::{Failure, on_disk, petscii};
-use disk_facts::without_errors;
+use disk_basics::{Choice, Disk, Failure, in_memory, on_disk, petscii, slot_chosen};
+use disk_facts::{first_meant, without_errors};
 use host_files::Sync;
 use std::rt::Runtime;
 
 /// A file that is taken out.
 #[derive(Clone, Copy)]
 pub struct OneFile<'a> {
-    /// Its name, or a pattern.
-    pub name: &'a str,
+    /// Which it is.
+    pub choice: Choice<'a>,
     /// Where it goes.
     pub output: &'a str,
     /// A file that is there is replaced.
     pub replaces: bool,
-    /// The character set of its name.
-    pub charset: Charset,
     /// What can be read of it is taken.
     pub salvages: bool,
 }
@@ -51,13 +51,85 @@ fn packed_of<R: Runtime + AllocGlobal>(
 }
 
 /// The file of this computer for the first file that a name means.
+fn meant<'a, R: Runtime + AllocGlobal>(
+    rt: &R,
+    image: &[u8],
+    taken: &OneFile<'a>,
+) -> Result<Vec<u8>, Failure<'a>> {
+    let name = taken.choice.name;
+    let pattern = petscii(rt.alloc(), taken.choice.charset, name)?;
+    require_whole(rt, image, pattern.as_slice(), taken)?;
+    on_disk(name, packed_of(rt, image, pattern.as_slice(), taken))
+}
+
+/// Refuses the first file that a pattern means where GEOS keeps it in records, unless what can be read is taken; what isn't taken
+/// of another file of GEOS is reported.
+fn require_whole<'a, R: Runtime + AllocGlobal>(
+    rt: &R,
+    image: &[u8],
+    pattern: &[u8],
+    taken: &OneFile<'a>,
+) -> Result<(), Failure<'a>> {
+    let word = taken.choice.word();
+    let listed = on_disk(word, listed(rt.alloc(), without_errors(image)))?;
+    match first_meant(listed.entries.as_slice(), pattern) {
+        Some(entry) => require_all(rt, entry, taken),
+        None => Ok(()),
+    }
+}
+
+/// The same of an entry's file.
+fn require_all<'a>(
+    rt: &impl Eprint,
+    entry: &Entry,
+    taken: &OneFile<'a>,
+) -> Result<(), Failure<'a>> {
+    let word = taken.choice.word();
+    match geos_of(entry) {
+        Some(geos) if geos.has_records && !taken.salvages => Err(Failure::GeosRecords(word)),
+        Some(geos) => {
+            let _ = tell_geos(rt, word, geos);
+            Ok(())
+        }
+        None => Ok(()),
+    }
+}
+
+/// The file of this computer for the file that is chosen by its slot or its exact name.
+fn chosen<'a, R: Runtime + AllocGlobal>(
+    rt: &R,
+    image: &[u8],
+    taken: &OneFile<'a>,
+) -> Result<Vec<u8>, Failure<'a>> {
+    let word = taken.choice.word();
+    let plain = if taken.salvages {
+        without_errors(image)
+    } else {
+        image
+    };
+    let disk = on_disk(word, Disk::open(rt.alloc(), plain))?;
+    let listed = in_memory(disk.listed(rt.alloc()))?;
+    let slot = slot_chosen(rt.alloc(), listed.entries.as_slice(), taken.choice)?;
+    let Some(entry) = listed.entries.as_slice().get(slot) else {
+        return Err(Failure::NoFile(word));
+    };
+    require_all(rt, entry, taken)?;
+    let source = Source { disk: &disk, image };
+    let bytes = on_disk(word, bytes_of_entry(rt, source, entry, taken.salvages))?;
+    in_memory(packed_as(rt, entry, taken.output, bytes))
+}
+
+/// The file of this computer for the file that is meant.
 fn file_of<'a, R: Runtime + AllocGlobal>(
     rt: &R,
     image: &[u8],
     taken: &OneFile<'a>,
 ) -> Result<Vec<u8>, Failure<'a>> {
-    let pattern = petscii(rt.alloc(), taken.charset, taken.name)?;
-    on_disk(taken.name, packed_of(rt, image, pattern.as_slice(), taken))
+    if taken.choice.is_pattern() {
+        meant(rt, image, taken)
+    } else {
+        chosen(rt, image, taken)
+    }
 }
 
 /// Takes a file out. One of the host that is there is kept, unless it is to be replaced.

@@ -2,6 +2,7 @@
 #![tactic(auto)]
 
 mod describing;
+mod geos;
 mod getting;
 mod map;
 mod naming;
@@ -9,6 +10,7 @@ mod progress;
 mod relative;
 mod salvage;
 mod sector;
+mod strays;
 mod taking;
 mod taking_all;
 mod track;

@@ -5,7 +5,7 @@ use cbm_medium::Address;
 use cbm_shell::ShellFault;
 use cbm_shell::texts::Charset;
 use cbm_volume::Entry;
-use disk_basics::calls::{convert, entries, file_blocks, geos_blocks, name_text, picture};
+use disk_basics::calls::{convert, file_blocks, geos_blocks, listed, name_text, picture};
 use disk_basics::host::{print, read_image, require_new, write};
 use disk_basics::{Failure, in_memory, on_disk};
 use disk_facts::{type_of, without_errors};
@@ -114,13 +114,10 @@ fn owners_among(
     Ok(owners)
 }
 
-/// The files of a disk's directory with their sectors; none where the directory can't be followed to its end.
+/// The files of a disk's directory with their sectors, up to where the directory breaks off.
 fn owners_of(alloc: Global, image: &[u8], charset: Charset) -> Result<Vec<Owner>, ShellFault> {
-    match entries(alloc, image) {
-        Ok(entries) => owners_among(alloc, image, entries.as_slice(), charset),
-        Err(ShellFault::Memory) => Err(ShellFault::Memory),
-        Err(_) => Ok(Vec::new(alloc)),
-    }
+    let listed = listed(alloc, image)?;
+    owners_among(alloc, image, listed.entries.as_slice(), charset)
 }
 
 /// The files of an image's disk with their sectors. Of a G64 the bytes of its sectors are looked at, so that its tracks are

@@ -2,7 +2,7 @@
 use cbm_shell::ShellFault;
 use cbm_shell::texts::Charset;
 use cbm_volume::Entry;
-use disk_basics::calls::{entries, name_text};
+use disk_basics::calls::{listed, name_text};
 use disk_basics::is_relative_name;
 use disk_facts::first_meant;
 use std::alloc::{AllocError, Global};
@@ -66,8 +66,9 @@ fn tell_records<R: Eprint + AllocGlobal>(rt: &R, entry: &Entry) -> Result<(), Al
     Ok(())
 }
 
-/// The file of this computer for an entry's file of these bytes, which goes to a file of a name.
-fn packed_as<R: Eprint + AllocGlobal>(
+/// The file of this computer for an entry's file of these bytes, which goes to a file of a name: with a head, if it is relative and
+/// that name says so. Without one the length of its records is reported. The one error is want of memory.
+pub fn packed_as<R: Eprint + AllocGlobal>(
     rt: &R,
     entry: &Entry,
     output: &str,
@@ -83,7 +84,7 @@ fn packed_as<R: Eprint + AllocGlobal>(
 }
 
 /// The file of this computer for the first file that a pattern means: with a head, if it is relative and goes to a file
-/// that is named so. Without one the length of its records is reported. Errors: `Image`, `Trouble`, `Memory`.
+/// that is named so. Without one the length of its records is reported. Errors: `Image`, `Memory`.
 pub fn packed_for<R: Eprint + AllocGlobal>(
     rt: &R,
     image: &[u8],
@@ -91,8 +92,8 @@ pub fn packed_for<R: Eprint + AllocGlobal>(
     output: &str,
     bytes: Vec<u8>,
 ) -> Result<Vec<u8>, ShellFault> {
-    let entries = entries(rt.alloc(), image)?;
-    match first_meant(entries.as_slice(), pattern) {
+    let listed = listed(rt.alloc(), image)?;
+    match first_meant(listed.entries.as_slice(), pattern) {
         Some(entry) => Ok(packed_as(rt, entry, output, bytes)?),
         None => Ok(bytes),
     }

@@ -1,10 +1,11 @@
 //! GET and GET-ALL of damaged disks: what can be read of a file.
+use crate::strays::with_strays;
 use cbm_medium::Fault;
 use cbm_shell::texts::Charset;
-use cbm_shell::{Salvaged, ShellFault};
+use cbm_shell::{Listed, Salvaged, ShellFault};
 use cbm_volume::Entry;
-use disk_basics::Disk;
 use disk_basics::calls::{file_blocks, info, name_text};
+use disk_basics::{BreakOff, Cause, Disk};
 use disk_facts::{first_meant, without_errors};
 use std::io;
 use std::rt::Runtime;
@@ -44,12 +45,8 @@ fn tell_end(rt: &impl Eprint, name: &str, entry: &Entry, salvaged: &Salvaged) ->
     let Some(trouble) = salvaged.trouble else {
         return Ok(());
     };
-    let track = trouble.track;
-    let sector = trouble.sector;
-    let code = trouble.code;
-    eprintln!(rt;
-        "disk1541: \"{name}\" is cut off after {count} bytes: track {track}, sector {sector} can't be read (error {code})"
-    )
+    let cause = Cause(trouble);
+    eprintln!(rt; "disk1541: \"{name}\" is cut off after {count} bytes: {cause}")
 }
 
 /// Reports what was read of a file.
@@ -78,27 +75,39 @@ pub fn salvaged<R: Runtime + AllocGlobal>(
     Ok(salvaged.bytes)
 }
 
-/// What can be read of the first of the files that a pattern means.
-fn salvaged_among<R: Runtime + AllocGlobal>(
+/// The entries of a disk's directory up to where that breaks off, and then those that no link leads to; where it breaks off is
+/// reported. Errors: `Image`, `Memory`.
+pub fn salvaged_entries<R: Runtime + AllocGlobal>(
     rt: &R,
     image: &[u8],
     disk: &Disk,
-    entries: &[Entry],
-    pattern: &[u8],
-) -> Result<Vec<u8>, ShellFault> {
-    match first_meant(entries, pattern) {
-        Some(entry) => salvaged(rt, image, disk, entry),
-        None => Err(ShellFault::NotFound),
+) -> Result<Vec<Entry>, ShellFault> {
+    let Listed {
+        sectors,
+        entries,
+        trouble,
+    } = disk.listed(rt.alloc())?;
+    if let Some(trouble) = trouble {
+        let end = BreakOff {
+            entries: entries.len(),
+            trouble,
+        };
+        let _ = eprintln!(rt; "disk1541: {end}");
     }
+    with_strays(rt, without_errors(image), sectors.as_slice(), entries)
 }
 
-/// What can be read of the first file that a pattern means. Errors: `Image`, `Trouble`, `NotFound`, `Memory`.
+/// What can be read of the first file that a pattern means, also of one whose entry no link leads to. Errors: `Image`,
+/// `NotFound`, `Memory`.
 pub fn salvaged_file<R: Runtime + AllocGlobal>(
     rt: &R,
     image: &[u8],
     pattern: &[u8],
 ) -> Result<Vec<u8>, ShellFault> {
     let disk = Disk::open(rt.alloc(), without_errors(image))?;
-    let entries = disk.entries(rt.alloc())?;
-    salvaged_among(rt, image, &disk, entries.as_slice(), pattern)
+    let entries = salvaged_entries(rt, image, &disk)?;
+    match first_meant(entries.as_slice(), pattern) {
+        Some(entry) => salvaged(rt, image, &disk, entry),
+        None => Err(ShellFault::NotFound),
+    }
 }

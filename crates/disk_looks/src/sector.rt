@@ -74,19 +74,23 @@ fn lines_of(alloc: Global, bytes: &[u8; 256]) -> Result<String, AllocError> {
 }
 
 /// The bytes of a sector, or why there are none.
-fn bytes_at(alloc: Global, image: &[u8], at: Address) -> Result<[u8; 256], ShellFault> {
-    match sector(alloc, image, at)? {
+fn bytes_at<'a>(
+    alloc: Global,
+    image: &'a str,
+    bytes: &[u8],
+    at: Address,
+) -> Result<[u8; 256], Failure<'a>> {
+    match on_disk(image, sector(alloc, bytes, at))? {
         Some(Ok(bytes)) => Ok(bytes),
-        Some(Err(code)) => Err(ShellFault::Trouble(Trouble {
-            code,
-            track: at.track(),
-            sector: at.sector(),
-        })),
-        None => Err(ShellFault::Trouble(Trouble {
-            code: 66,
-            track: at.track(),
-            sector: at.sector(),
-        })),
+        Some(Err(code)) => Err(Failure::Disk(
+            image,
+            ShellFault::Trouble(Trouble {
+                code,
+                track: at.track(),
+                sector: at.sector(),
+            }),
+        )),
+        None => Err(Failure::NoTrack(image)),
     }
 }
 
@@ -97,7 +101,7 @@ fn lines_at<'a>(
     bytes: &[u8],
     at: Address,
 ) -> Result<String, Failure<'a>> {
-    let sector = on_disk(image, bytes_at(alloc, bytes, at))?;
+    let sector = bytes_at(alloc, image, bytes, at)?;
     in_memory(lines_of(alloc, &sector))
 }
 
@@ -112,8 +116,8 @@ fn show_at<'a, R: Runtime + AllocGlobal>(
     print(rt, lines.as_bytes())
 }
 
-/// Shows the bytes of a sector. Errors: `Word`, where no disk has such a sector; those of `read_image`; `Disk`, where
-/// this one hasn't, or it doesn't read; `Write`; `NoMemory`.
+/// Shows the bytes of a sector. Errors: `Word`, where no disk has such a sector; those of `read_image`; `NoTrack`, where
+/// this one hasn't; `Disk`, where it doesn't read; `Write`; `NoMemory`.
 pub fn show_sector<'a, R: Runtime + AllocGlobal>(
     rt: &R,
     image: &'a str,

@@ -1,13 +1,14 @@
 //! Files that are taken out of an image into a folder.
+use crate::geos::{is_kept_in_records, tell_geos};
 use crate::naming::host_name;
 use crate::relative::{ENDING, packed};
 use crate::salvage::salvaged;
-use cbm_shell::ShellFault;
 use cbm_shell::texts::Charset;
+use cbm_shell::{ShellFault, geos_of};
 use cbm_volume::Entry;
-use disk_basics::Disk;
 use disk_basics::calls::name_text;
 use disk_basics::host::{exists, write};
+use disk_basics::{Cause, Disk};
 use disk_facts::type_of;
 use host_files::Sync;
 use std::alloc::{AllocError, Global};
@@ -94,12 +95,8 @@ fn numbered(alloc: Global, base: &str, end: &str, number: usize) -> Result<Strin
 fn tell_left(rt: &impl Eprint, name: &str, fault: ShellFault) -> io::Result<()> {
     match fault {
         ShellFault::Trouble(trouble) => {
-            let code = trouble.code;
-            let track = trouble.track;
-            let sector = trouble.sector;
-            eprintln!(rt;
-                "disk1541: \"{name}\" isn't taken out: track {track}, sector {sector} can't be read (error {code})"
-            )
+            let cause = Cause(trouble);
+            eprintln!(rt; "disk1541: \"{name}\" isn't taken out: {cause}")
         }
         _ => eprintln!(rt; "disk1541: \"{name}\" isn't taken out: {fault}"),
     }
@@ -115,7 +112,7 @@ pub struct Source<'d> {
 }
 
 /// The bytes of an entry's file, if it was closed, or what can be read of it.
-fn bytes_of<R: Runtime + AllocGlobal>(
+pub fn bytes_of_entry<R: Runtime + AllocGlobal>(
     rt: &R,
     source: Source<'_>,
     entry: &Entry,
@@ -137,7 +134,7 @@ fn file_for<R: Runtime + AllocGlobal>(
     entry: &Entry,
     salvages: bool,
 ) -> Result<Vec<u8>, ShellFault> {
-    let bytes = bytes_of(rt, source, entry, salvages)?;
+    let bytes = bytes_of_entry(rt, source, entry, salvages)?;
     Ok(packed(rt.alloc(), entry, bytes)?)
 }
 
@@ -180,14 +177,27 @@ fn take_to<R: Runtime + AllocGlobal>(
     place: Destination<'_>,
 ) -> Result<bool, AllocError> {
     let name = name_text(rt.alloc(), Charset::Upper, entry.name())?;
+    if !place.salvages && is_kept_in_records(entry) {
+        let shown = name.as_str();
+        let _ = eprintln!(rt;
+            "disk1541: \"{shown}\" isn't taken out: GEOS keeps it in records, and its index alone would be"
+        );
+        return Ok(false);
+    }
     match file_for(rt, source, entry, place.salvages) {
-        Ok(bytes) => Ok(save_as(
-            rt,
-            path.as_path(),
-            name.as_str(),
-            bytes.as_slice(),
-            place.replaces,
-        )),
+        Ok(bytes) => {
+            let is_saved = save_as(
+                rt,
+                path.as_path(),
+                name.as_str(),
+                bytes.as_slice(),
+                place.replaces,
+            );
+            if let Some(geos) = geos_of(entry) {
+                let _ = tell_geos(rt, name.as_str(), geos);
+            }
+            Ok(is_saved && geos_of(entry).is_none())
+        }
         Err(fault) => {
             let _ = tell_left(rt, name.as_str(), fault);
             Ok(false)

@@ -1,9 +1,11 @@
 //! GET-ALL: all files out of the image, to a folder of the host.
 use crate::progress::Progress;
+use crate::salvage::salvaged_entries;
 use crate::taking::{Destination, Names, Source, take};
+use cbm_shell::Listed;
 use cbm_volume::Entry;
-use disk_basics::host::read_image;
-use disk_basics::{Disk, Failure, on_disk};
+use disk_basics::host::{path_of, read_image};
+use disk_basics::{BreakOff, Disk, Failure, in_memory, on_disk};
 use disk_facts::{count_files, without_errors};
 use std::alloc::AllocError;
 use std::fs;
@@ -12,9 +14,10 @@ use std::rt::Runtime;
 
 /// Makes the folder, if it isn't there.
 fn make_folder<'a, R: Runtime + AllocGlobal>(rt: &R, folder: &'a str) -> Result<(), Failure<'a>> {
-    match fs::create_dir(rt, folder) {
+    let path = path_of(rt.alloc(), folder)?;
+    match fs::create_dir(rt, path.as_str()) {
         Ok(()) => Ok(()),
-        Err(_) if Path::new(folder).is_dir(rt) => Ok(()),
+        Err(_) if Path::new(path.as_str()).is_dir(rt) => Ok(()),
         Err(error) => Err(Failure::Write(folder, error.kind())),
     }
 }
@@ -69,6 +72,28 @@ fn opened_bytes<'b>(bytes: &'b [u8], place: Destination<'_>) -> &'b [u8] {
     }
 }
 
+/// What taking a disk's files out came to, where the directory breaks off, which is reported.
+fn require_whole<'a, R: Runtime + AllocGlobal>(
+    rt: &R,
+    image: &'a str,
+    listed: &Listed,
+    taken: Result<(), Failure<'a>>,
+) -> Result<(), Failure<'a>> {
+    let Some(trouble) = listed.trouble else {
+        return taken;
+    };
+    let end = BreakOff {
+        entries: listed.entries.len(),
+        trouble,
+    };
+    let broken = Failure::Broken(image, end);
+    if taken.is_ok() {
+        return Err(broken);
+    }
+    let _ = broken.tell(rt);
+    taken
+}
+
 /// Takes all files of an image out.
 fn take_image<'a, R: Runtime + AllocGlobal>(
     rt: &R,
@@ -78,12 +103,17 @@ fn take_image<'a, R: Runtime + AllocGlobal>(
     progress: Progress,
 ) -> Result<(), Failure<'a>> {
     let disk = on_disk(image, Disk::open(rt.alloc(), opened_bytes(bytes, place)))?;
-    let entries = on_disk(image, disk.entries(rt.alloc()))?;
     let source = Source {
         disk: &disk,
         image: bytes,
     };
-    take_disk(rt, source, entries.as_slice(), place, progress)
+    if place.salvages {
+        let entries = on_disk(image, salvaged_entries(rt, bytes, &disk))?;
+        return take_disk(rt, source, entries.as_slice(), place, progress);
+    }
+    let listed = in_memory(disk.listed(rt.alloc()))?;
+    let taken = take_disk(rt, source, listed.entries.as_slice(), place, progress);
+    require_whole(rt, image, &listed, taken)
 }
 
 /// Takes all files out, into a folder. Errors: those of `read_image`; `Disk`; `Write`, where the folder can't be made;

@@ -1,10 +1,11 @@
 //! LIST of the files that were deleted.
+use crate::broken::answer_by;
 use crate::view::{Look, LookAnswer};
 use cbm_command::matches;
 use cbm_shell::ShellFault;
 use cbm_shell::texts::Charset;
 use cbm_volume::Entry;
-use disk_basics::calls::{entries, name_text};
+use disk_basics::calls::{listed, name_text};
 use disk_facts::is_deleted;
 use std::alloc::{AllocError, Global};
 
@@ -21,18 +22,18 @@ fn add_line(
     text.extend_from_slice(format!(in alloc; "\"{name}\", {blocks} blocks\n")?.as_bytes())
 }
 
-/// Adds a line for each deleted file that matches. Errors: `Image`, `Trouble`, `Memory`.
+/// Adds a line for each deleted file that matches, up to where the directory breaks off. Errors: `Image`, `Memory`.
 pub fn add_deleted(
     alloc: Global,
     text: &mut Vec<u8>,
     image: &[u8],
     look: Look<'_>,
 ) -> Result<LookAnswer, ShellFault> {
-    let entries = entries(alloc, image)?;
-    for entry in entries.as_slice() {
+    let listed = listed(alloc, image)?;
+    for entry in listed.entries.as_slice() {
         if is_deleted(entry) && matches(look.pattern, entry.name()) {
             add_line(alloc, text, entry, look.charset)?;
         }
     }
-    Ok(LookAnswer::Fine)
+    Ok(answer_by(&listed, LookAnswer::Fine))
 }

@@ -1,8 +1,9 @@
 //! FIND: the files that match a pattern.
+use crate::broken::answer_by;
 use crate::view::{Look, LookAnswer};
 use cbm_shell::ShellFault;
 use cbm_volume::Entry;
-use disk_basics::calls::{entries, name_text};
+use disk_basics::calls::{listed, name_text};
 use disk_facts::{is_meant, type_of};
 use std::alloc::{AllocError, Global};
 
@@ -26,7 +27,7 @@ fn add_match(
     text.extend_from_slice(line.as_bytes())
 }
 
-/// Adds a line for each file that matches. Errors: `Image`, `Trouble`, `Memory`.
+/// Adds a line for each file that matches, up to where the directory breaks off. Errors: `Image`, `Memory`.
 pub fn add_matches(
     alloc: Global,
     text: &mut Vec<u8>,
@@ -35,12 +36,12 @@ pub fn add_matches(
     look: Look<'_>,
 ) -> Result<LookAnswer, ShellFault> {
     let mut answer = LookAnswer::NoMatch;
-    let entries = entries(alloc, image)?;
-    for entry in entries.as_slice() {
+    let listed = listed(alloc, image)?;
+    for entry in listed.entries.as_slice() {
         if is_meant(entry, look.pattern) {
             add_match(alloc, text, name, entry, look)?;
             answer = LookAnswer::Fine;
         }
     }
-    Ok(answer)
+    Ok(answer_by(&listed, answer))
 }

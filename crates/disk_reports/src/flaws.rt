@@ -14,7 +14,7 @@ use std::alloc::{AllocError, Global};
 /// What is wrong with a disk.
 #[derive(Drop)]
 struct Findings {
-    /// The entries of its directory; none where that can't be followed to its end.
+    /// The entries of its directory, up to where that breaks off.
     entries: Vec<Entry>,
     /// The flaws, in the order in which `check` looks.
     flaws: Vec<DiskFlaw>,
@@ -22,18 +22,9 @@ struct Findings {
     lost: Vec<Address>,
 }
 
-/// The entries of a disk; none where the directory can't be followed to its end.
-fn entries_of(alloc: Global, disk: &Disk) -> Result<Vec<Entry>, ShellFault> {
-    match disk.entries(alloc) {
-        Ok(entries) => Ok(entries),
-        Err(ShellFault::Memory) => Err(ShellFault::Memory),
-        Err(_) => Ok(Vec::new(alloc)),
-    }
-}
-
 /// What is wrong with a disk.
 fn found_in(alloc: Global, disk: &Disk) -> Result<Findings, ShellFault> {
-    let entries = entries_of(alloc, disk)?;
+    let entries = disk.listed(alloc)?.entries;
     let flaws = disk.flaws(alloc)?;
     let lost = disk.lost(alloc)?;
     Ok(Findings {

@@ -3,7 +3,7 @@ use crate::view::Look;
 use cbm_shell::texts::Charset;
 use cbm_shell::{Geos, ShellFault, geos_of};
 use cbm_volume::Entry;
-use disk_basics::calls::{entries, name_text};
+use disk_basics::calls::{listed, name_text};
 use disk_facts::{is_meant, kind_name};
 use std::alloc::{AllocError, Global};
 
@@ -50,19 +50,14 @@ fn add_files(
     Ok(())
 }
 
-/// Adds a line for each file of GEOS, where the directory can be followed to its end. The one error is `Memory`.
+/// Adds a line for each file of GEOS, up to where the directory breaks off. Errors: `Image`, `Memory`.
 pub fn add_geos(
     alloc: Global,
     text: &mut Vec<u8>,
     image: &[u8],
     look: Look<'_>,
 ) -> Result<(), ShellFault> {
-    match entries(alloc, image) {
-        Ok(entries) => {
-            add_files(alloc, text, entries.as_slice(), look)?;
-            Ok(())
-        }
-        Err(ShellFault::Memory) => Err(ShellFault::Memory),
-        Err(_) => Ok(()),
-    }
+    let listed = listed(alloc, image)?;
+    add_files(alloc, text, listed.entries.as_slice(), look)?;
+    Ok(())
 }

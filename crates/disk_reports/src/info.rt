@@ -2,8 +2,8 @@
 use cbm_shell::texts::Charset;
 use cbm_shell::{Info, ShellFault};
 use cbm_volume::Unsound;
-use disk_basics::calls::{entries, info, name_text, unsound_text};
-use disk_facts::{count_files, format_name, more_tracks, unfilled};
+use disk_basics::calls::{info, listed, name_text, unsound_text};
+use disk_facts::{count_files, format_name, more_tracks, unfilled, wide_map};
 use std::alloc::{AllocError, Global};
 
 /// The line of the format.
@@ -29,6 +29,14 @@ fn add_more_tracks(alloc: Global, text: &mut String, image: &[u8]) -> Result<(),
         text.push_str(name.as_str())?;
     }
     text.push('\n')
+}
+
+/// The line of whose map of tracks 36 to 40 a D64 has, if it has one.
+fn add_wide_map(text: &mut String, image: &[u8]) -> Result<(), AllocError> {
+    match wide_map(image) {
+        Some(map) => add_line(text, "map of 36-40 ", map.name()),
+        None => Ok(()),
+    }
 }
 
 /// A line.
@@ -69,13 +77,16 @@ fn add_label(
     text.push_str(format!(in alloc; "blocks free  {free}\n")?.as_str())
 }
 
-/// The line of how many files there are, where the directory can be followed to its end.
-fn add_files(alloc: Global, text: &mut String, image: &[u8]) -> Result<(), AllocError> {
-    let Ok(entries) = entries(alloc, image) else {
-        return Ok(());
-    };
-    let files = count_files(entries.as_slice());
-    text.push_str(format!(in alloc; "files        {files}\n")?.as_str())
+/// The line of how many files there are, up to where the directory breaks off.
+fn add_files(alloc: Global, text: &mut String, image: &[u8]) -> Result<(), ShellFault> {
+    let listed = listed(alloc, image)?;
+    let files = count_files(listed.entries.as_slice());
+    text.push_str(format!(in alloc; "files        {files}")?.as_str())?;
+    if listed.trouble.is_some() {
+        text.push_str(", up to where the directory breaks off")?;
+    }
+    text.push('\n')?;
+    Ok(())
 }
 
 /// What is wrong first.
@@ -102,12 +113,14 @@ fn add_lines(
     charset: Charset,
     info: &Info,
     image: &[u8],
-) -> Result<(), AllocError> {
+) -> Result<(), ShellFault> {
     add_format(alloc, text, image, info.tracks)?;
     add_more_tracks(alloc, text, image)?;
+    add_wide_map(text, image)?;
     add_label(alloc, text, charset, info)?;
     add_files(alloc, text, image)?;
-    add_faults(alloc, text, info)
+    add_faults(alloc, text, info)?;
+    Ok(())
 }
 
 /// What the disk is, as lines. Errors: `Image`, `Memory`.

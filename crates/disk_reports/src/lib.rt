@@ -1,6 +1,7 @@
 //! What an image shows: lines for people, and JSON and tables for programs.
 #![tactic(auto)]
 
+mod broken;
 mod deleted;
 mod find;
 mod flaws;
@@ -8,7 +9,6 @@ mod geos;
 mod info;
 mod report;
 mod sum;
-mod untitled;
 mod view;
 
 pub use report::{heads, refusal_line};

@@ -1,15 +1,18 @@
 //! Images for programs: as JSON, and as tables.
 mod table;
 
+use crate::broken::answer_by;
 use crate::flaws::flaw_report;
 use crate::sum::sum_text;
 use crate::view::{Look, LookAnswer, Shown, View, answer_of};
 use cbm_shell::texts::{Charset, words};
-use cbm_shell::{Geos, Info, ShellFault, geos_of};
+use cbm_shell::{Geos, Info, Listed, ShellFault, geos_of};
 use cbm_volume::{Entry, FileType, Unsound};
-use disk_basics::Disk;
 use disk_basics::calls::{info, name_text};
-use disk_facts::{format_name, hex, is_meant, kind_name, more_tracks, type_of, unfilled};
+use disk_basics::{BreakOff, Disk};
+use disk_facts::{
+    WideMap, format_name, hex, is_meant, kind_name, more_tracks, type_of, unfilled, wide_map,
+};
 use serde::Serialize;
 use std::alloc::{AllocError, Global};
 pub use table::{heads, table_lines};
@@ -43,6 +46,7 @@ struct GeosFacts {
 /// A file of a disk.
 #[derive(Drop, Serialize)]
 struct File {
+    slot: usize,
     name: String,
     petscii: String,
     #[serde(rename = "type")]
@@ -72,12 +76,24 @@ struct Report<'a> {
     format: &'static str,
     tracks: u8,
     more_tracks: Vec<String>,
+    map_36_40: Option<&'static str>,
     label: Option<LabelTexts>,
     free: Option<u16>,
     unreadable: usize,
     sound: bool,
     flaw: Option<Flaw>,
-    files: Option<Vec<File>>,
+    files: Vec<File>,
+    broken: Option<Broken>,
+}
+
+/// Where a directory breaks off.
+#[derive(Drop, Serialize)]
+struct Broken {
+    entries: usize,
+    track: u8,
+    sector: u8,
+    error: u8,
+    text: String,
 }
 
 /// The sum of an image.
@@ -87,11 +103,12 @@ struct Sum<'a> {
     sha256: &'a str,
 }
 
-/// An image that can't be looked at, with the exit status that says why.
+/// An image that can't be looked at, with the exit status, and why.
 #[derive(Drop, Serialize)]
 struct Refused<'a> {
     image: &'a str,
     status: u8,
+    error: &'a str,
 }
 
 /// A value as a line of JSON. The one error is want of memory.
@@ -165,11 +182,18 @@ fn record_of(entry: &Entry) -> Option<u8> {
 }
 
 /// A file, with its name and its size.
-fn file_of(alloc: Global, entry: &Entry, charset: Charset, size: Size) -> Result<File, AllocError> {
+fn file_of(
+    alloc: Global,
+    slot: usize,
+    entry: &Entry,
+    charset: Charset,
+    size: Size,
+) -> Result<File, AllocError> {
     let name = name_text(alloc, charset, entry.name())?;
     let petscii = hex(alloc, entry.name())?;
     let first = entry.first_block();
     Ok(File {
+        slot,
         name,
         petscii,
         kind: type_of(entry).unwrap_or("unknown"),
@@ -192,11 +216,12 @@ fn add_file(
     alloc: Global,
     files: &mut Vec<File>,
     disk: &Disk,
+    slot: usize,
     entry: &Entry,
     charset: Charset,
 ) -> Result<(), ShellFault> {
     let size = size_of(alloc, disk, entry)?;
-    let file = file_of(alloc, entry, charset, size)?;
+    let file = file_of(alloc, slot, entry, charset, size)?;
     files.push(file).map_err(AllocError::from)?;
     Ok(())
 }
@@ -214,27 +239,30 @@ fn files_of(
     look: Look<'_>,
 ) -> Result<Vec<File>, ShellFault> {
     let mut files = Vec::new(alloc);
-    for entry in entries {
+    for (slot, entry) in entries.iter().enumerate() {
         if files_meant(entry, look) {
-            add_file(alloc, &mut files, disk, entry, look.charset)?;
+            add_file(alloc, &mut files, disk, slot, entry, look.charset)?;
         }
     }
     Ok(files)
 }
 
-/// The files of a disk that are meant, where its directory can be followed to its end.
-fn files_on(alloc: Global, disk: &Disk, look: Look<'_>) -> Result<Option<Vec<File>>, ShellFault> {
-    match disk.entries(alloc) {
-        Ok(entries) => Ok(Some(files_of(alloc, disk, entries.as_slice(), look)?)),
-        Err(ShellFault::Memory) => Err(ShellFault::Memory),
-        Err(_) => Ok(None),
-    }
-}
-
-/// The files of an image that are meant, where its directory can be followed to its end.
-fn files_in(alloc: Global, image: &[u8], look: Look<'_>) -> Result<Option<Vec<File>>, ShellFault> {
-    let disk = Disk::open(alloc, image)?;
-    files_on(alloc, &disk, look)
+/// Where a directory breaks off.
+fn broken_of(alloc: Global, listed: &Listed) -> Result<Option<Broken>, AllocError> {
+    let Some(trouble) = listed.trouble else {
+        return Ok(None);
+    };
+    let end = BreakOff {
+        entries: listed.entries.len(),
+        trouble,
+    };
+    Ok(Some(Broken {
+        entries: end.entries,
+        track: trouble.track,
+        sector: trouble.sector,
+        error: trouble.code,
+        text: format!(in alloc; "{end}")?,
+    }))
 }
 
 /// What 18/0 says of a disk, where it can be read.
@@ -266,46 +294,90 @@ fn flaw_of(check: &Result<(), Unsound>) -> Option<Flaw> {
     }
 }
 
+/// Whose map of tracks 36 to 40 a D64 has, if it has one.
+fn map_word(image: &[u8]) -> Option<&'static str> {
+    match wide_map(image)? {
+        WideMap::Speed => Some("speed"),
+        WideMap::Dolphin => Some("dolphin"),
+        WideMap::Both => Some("both"),
+    }
+}
+
+/// What is known of an image.
+#[derive(Drop)]
+struct Known {
+    info: Info,
+    files: Vec<File>,
+    broken: Option<Broken>,
+    answer: LookAnswer,
+}
+
+/// What is known of an image whose directory has these entries.
+fn known_by(
+    alloc: Global,
+    image: &[u8],
+    disk: &Disk,
+    listed: &Listed,
+    look: Look<'_>,
+) -> Result<Known, ShellFault> {
+    let files = files_of(alloc, disk, listed.entries.as_slice(), look)?;
+    let info = info(alloc, image)?;
+    let broken = broken_of(alloc, listed)?;
+    let answer = image_answer(look, &info, listed);
+    Ok(Known {
+        info,
+        files,
+        broken,
+        answer,
+    })
+}
+
+/// What is known of an image.
+fn all_known(alloc: Global, image: &[u8], look: Look<'_>) -> Result<Known, ShellFault> {
+    let disk = Disk::open(alloc, image)?;
+    let listed = disk.listed(alloc)?;
+    known_by(alloc, image, &disk, &listed, look)
+}
+
 /// The line of an image, with what is known of it.
 fn image_line(
     alloc: Global,
     name: &str,
     image: &[u8],
     look: Look<'_>,
-    info: &Info,
-    files: Option<Vec<File>>,
+    known: Known,
 ) -> Result<Vec<u8>, AllocError> {
-    let label = label_of(alloc, look.charset, info)?;
+    let Known {
+        info,
+        files,
+        broken,
+        answer: _,
+    } = known;
+    let label = label_of(alloc, look.charset, &info)?;
     let more_tracks = more_tracks(alloc, image)?;
     let report = Report {
         image: name,
         format: format_name(image),
         tracks: info.tracks,
         more_tracks,
+        map_36_40: map_word(image),
         label,
         free: info.free,
         unreadable: info.unreadable.len(),
         sound: info.check.is_ok(),
         flaw: flaw_of(&info.check),
         files,
+        broken,
     };
     line(alloc, &report)
 }
 
-/// Whether a search found none of these files.
-fn has_none(look: Look<'_>, files: &Option<Vec<File>>) -> bool {
-    match files {
-        Some(files) => look.view == View::Matches && files.is_empty(),
-        None => look.view == View::Matches,
-    }
-}
-
 /// What a look came to.
-fn image_answer(look: Look<'_>, info: &Info) -> LookAnswer {
+fn image_answer(look: Look<'_>, info: &Info, listed: &Listed) -> LookAnswer {
     if look.view == View::Soundness {
         answer_of(&info.check)
     } else {
-        LookAnswer::Fine
+        answer_by(listed, LookAnswer::Fine)
     }
 }
 
@@ -316,19 +388,16 @@ fn image_report(
     image: &[u8],
     look: Look<'_>,
 ) -> Result<Shown, ShellFault> {
-    let files = files_in(alloc, image, look)?;
-    if has_none(look, &files) {
+    let known = all_known(alloc, image, look)?;
+    let answer = known.answer;
+    if look.view == View::Matches && known.files.is_empty() && known.broken.is_none() {
         return Ok(Shown {
             text: Vec::new(alloc),
             answer: LookAnswer::NoMatch,
         });
     }
-    let info = info(alloc, image)?;
-    let text = image_line(alloc, name, image, look, &info, files)?;
-    Ok(Shown {
-        text,
-        answer: image_answer(look, &info),
-    })
+    let text = image_line(alloc, name, image, look, known)?;
+    Ok(Shown { text, answer })
 }
 
 /// The sum of an image.
@@ -361,7 +430,19 @@ pub fn report_line(
     }
 }
 
-/// The line of an image that can't be looked at. The one error is want of memory.
-pub fn refusal_line(alloc: Global, image: &str, status: u8) -> Result<Vec<u8>, AllocError> {
-    line(alloc, &Refused { image, status })
+/// The line of an image that can't be looked at, and why. The one error is want of memory.
+pub fn refusal_line(
+    alloc: Global,
+    image: &str,
+    status: u8,
+    error: &str,
+) -> Result<Vec<u8>, AllocError> {
+    line(
+        alloc,
+        &Refused {
+            image,
+            status,
+            error,
+        },
+    )
 }

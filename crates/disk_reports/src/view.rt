@@ -1,4 +1,5 @@
 //! What an image shows.
+use crate::broken::{add_broken, answer_by};
 use crate::deleted::add_deleted;
 use crate::find::add_matches;
 use crate::flaws::add_all_flaws;
@@ -6,11 +7,11 @@ use crate::geos::add_geos;
 use crate::info::lines_of as info_lines;
 use crate::report::{report_line, table_lines};
 use crate::sum::add_sum;
-use crate::untitled::add_untitled;
 use cbm_shell::ShellFault;
 use cbm_shell::texts::Charset;
 use cbm_volume::Unsound;
-use disk_basics::calls::{check, check_text, directory, raw_directory};
+use disk_basics::BreakOff;
+use disk_basics::calls::{check, check_text, directory, listed, raw_directory};
 use std::alloc::{AllocError, Global};
 
 /// What is shown.
@@ -64,6 +65,8 @@ pub enum LookAnswer {
     NoMatch,
     /// Its files are shown, and 18/0 can't be read.
     Untitled,
+    /// Its files are shown up to where the directory breaks off.
+    Broken(BreakOff),
 }
 
 /// What an image shows.
@@ -99,7 +102,8 @@ fn add_directory(
 ) -> Result<LookAnswer, ShellFault> {
     match directory(alloc, image, look.charset, look.pattern) {
         Ok(lines) => text.extend_from_slice(lines.as_slice())?,
-        Err(fault) => return add_untitled(alloc, text, image, look, fault),
+        Err(ShellFault::Refused(_)) => return add_broken(alloc, text, image, look),
+        Err(fault) => return Err(fault),
     }
     add_geos(alloc, text, image, look)?;
     Ok(LookAnswer::Fine)
@@ -115,7 +119,8 @@ fn add_facts(
     let lines = info_lines(alloc, look.charset, image)?;
     text.extend_from_slice(lines.as_slice())?;
     add_geos(alloc, text, image, look)?;
-    Ok(LookAnswer::Fine)
+    let listed = listed(alloc, image)?;
+    Ok(answer_by(&listed, LookAnswer::Fine))
 }
 
 /// Adds lines that are made whole.

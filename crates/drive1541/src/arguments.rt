@@ -14,7 +14,7 @@ pub struct Arguments<'a> {
     pub image: &'a str,
     /// The file of the script.
     pub script: &'a str,
-    /// The file that the image is saved to; None where nothing is saved.
+    /// The file that the image is saved to; None if nothing is saved.
     pub out: Option<&'a str>,
     /// The drive's number, 8 to 11.
     pub device: u8,
@@ -34,9 +34,16 @@ pub struct Arguments<'a> {
 const STANDARD: &str = "-";
 
 /// What help ends with.
-const EXAMPLES: &str = "Examples:
-  drive1541 disk.d64 load.script           carry out the requests of a script
-  drive1541 reply disk.d64=new.d64         a bus for a program of your own: see `drive1541 reply --help`";
+const EXAMPLES: &str = "Commands, in place of IMAGE and SCRIPT:
+  judge  Judge a trace of the bus: is it a session, and who broke it
+  reply  Drives on a bus whose host is a program of your own
+
+Examples:
+  drive1541 disk.d64 load.script                print what the requests of a script give
+  drive1541 disk.d64 save.script new.d64        save the changed image, too
+  drive1541 disk.d64 load.script --draw         draw the lines of the bus
+  drive1541 judge bus.vcd --drive 8:20          see `drive1541 judge --help`
+  drive1541 reply disk.d64=new.d64              see `drive1541 reply --help`";
 
 /// Whether a name means standard input or standard output.
 pub fn is_standard(name: &str) -> bool {
@@ -130,10 +137,10 @@ fn command<'a>(alloc: Global) -> Result<Command<'a>, Error> {
         .value_name("FILE")
         .action(ArgAction::Set)
         .help(
-            "write each change of the bus's lines, as VCD where FILE ends with .vcd; `-` for standard output",
+            "write each change of the bus's lines, as VCD if FILE ends with .vcd; `-` for standard output",
         );
     let command = Command::new(alloc, "drive1541")
-        .about("Runs a script of requests on a disk image")
+        .about("Run a script of requests on a disk image")
         .version(VERSION)
         .after_help(EXAMPLES)
         .arg(file(
@@ -156,8 +163,8 @@ fn command<'a>(alloc: Global) -> Result<Command<'a>, Error> {
         ))?
         .arg(device)?
         .arg(pace)?
-        .arg(switch(alloc, "read-only", "protect the disk"))?
-        .arg(switch(alloc, "check", "print first whether the disk is sound"))?
+        .arg(switch(alloc, "read-only", "write-protect the disk"))?
+        .arg(switch(alloc, "check", "first print whether the disk is sound"))?
         .arg(switch(alloc, "dry-run", "save nothing"))?
         .arg(trace)?
         .arg(switch(alloc, "draw", "print a picture of the bus's lines"))?;

@@ -5,6 +5,7 @@ ghost use Rattle.drive1541.specs.Failure.{run_exit_status, failure_of, run_statu
 use crate::arguments::Arguments;
 use crate::reason::{Reason, image_words};
 use cbm_program::RunFault;
+use host_files::GREATEST_IMAGE;
 use std::io;
 
 /// A file of the command line, or standard output.
@@ -29,18 +30,27 @@ pub enum RunFailure {
     Script(u32, Reason),
     /// The image is refused, by its fault's number.
     Image(u8),
-    /// A file couldn't be read or written, and why, where that is known.
+    /// A file couldn't be read or written, and why, if that is known.
     File(Stream, Option<io::ErrorKind>),
+    /// The image has more bytes than any.
+    TooLong(Stream),
     /// Memory ran out.
     NoMemory,
 }
 
-/// Prints which file can't be read or written, and why, where that is known.
+/// Prints which file can't be read or written, and why, if that is known.
 fn tell_file(rt: &impl Eprint, name: &str, why: Option<io::ErrorKind>) -> io::Result<()> {
     match why {
         Some(kind) => eprintln!(rt; "file fault: {name}: {kind}"),
         None => eprintln!(rt; "file fault: {name}"),
     }
+}
+
+/// Prints which image has more bytes than any.
+pub fn tell_too_long(rt: &impl Eprint, name: &str) -> io::Result<()> {
+    eprintln!(rt;
+        "file fault: {name}: it has more than {GREATEST_IMAGE} bytes: too many to be read here"
+    )
 }
 
 /// The exit status of a program that ended so.
@@ -61,7 +71,7 @@ impl RunFailure {
         match self {
             RunFailure::Script(..) => 1,
             RunFailure::Image(_) => 2,
-            RunFailure::File(..) | RunFailure::NoMemory => 3,
+            RunFailure::File(..) | RunFailure::TooLong(_) | RunFailure::NoMemory => 3,
         }
     }
 
@@ -77,6 +87,7 @@ impl RunFailure {
                 eprintln!(rt; "image refused: {number}: {words}")
             }
             RunFailure::File(stream, why) => tell_file(rt, arguments.name_of(stream), why),
+            RunFailure::TooLong(stream) => tell_too_long(rt, arguments.name_of(stream)),
             RunFailure::NoMemory => eprintln!(rt; "no memory"),
         }
     }

@@ -1,12 +1,20 @@
 //! `drive1541 judge TRACE`: whether a trace of the bus is a session, and else who broke it.
-use cbm_iec::Party;
+use cbm_iec::{Pace, Party};
 use clap::{Arg, ArgAction, ArgMatches, Command, Error};
-use judge_report::{ReportFault, Timing, Verdict, judge_trace, party_of};
+use judge_report::{Judged, Moments, ReportFault, Timing, Verdict, judge_trace, party_of};
 use std::alloc::{AllocError, Global};
 use std::io::{BufReader, BufWriter, Read, Write};
 use std::process::ExitCode;
 use std::rt::Runtime;
 use std::{fs, io};
+
+/// What help ends with.
+const EXAMPLES: &str = "Examples:
+  drive1541 judge bus.vcd --drive 8:20 --drive 9:35
+  drive1541 judge c64.trace --drive 8:20:kernal --loosely
+
+Exit status: 0 a session, 1 the host broke it, 2 a drive did, 3 the trace can't be read or no
+line changes in it, 64 the command line";
 
 /// The word that asks for the judge.
 const JUDGE: &str = "judge";
@@ -22,10 +30,10 @@ const UNREAD: u8 = 3;
 
 const UNASKED: u8 = 64;
 
-/// The rest of the command line, where its first word asks for the judge.
+/// The rest of the command line, if its first word asks for the judge.
 pub fn asked(words: &[String]) -> Option<&[String]> {
     match words {
-        [_, first, ..] if first.as_str() == JUDGE => words.get(1..),
+        [_, first, ..] if first.as_str() == JUDGE => words.get(2..),
         _ => None,
     }
 }
@@ -46,12 +54,19 @@ fn command<'a>(alloc: Global) -> Result<Command<'a>, Error> {
     let loosely = Arg::new(alloc, "loosely")
         .long("loosely")
         .action(ArgAction::SetTrue)
-        .help("pass over changes of CLOCK and DATA that no drive heeds, as a KERNAL makes them");
-    let command = Command::new(alloc, JUDGE)
-        .about("Says whether a trace of the bus is a session, and who broke it")
+        .help("ignore changes of CLOCK and DATA that no drive looks at, as a KERNAL makes them");
+    let moments = Arg::new(alloc, "moments")
+        .long("moments")
+        .action(ArgAction::SetTrue)
+        .help("print the moment of each act, in microseconds");
+    let command = Command::new(alloc, "drive1541 judge")
+        .about("Judge a trace of the bus: is it a session, and who broke it")
+        .after_help(EXAMPLES)
+        .no_binary_name(true)
         .arg(trace)?
         .arg(drive)?
-        .arg(loosely)?;
+        .arg(loosely)?
+        .arg(moments)?;
     Ok(command)
 }
 
@@ -60,7 +75,7 @@ fn parse<'a>(alloc: Global, words: &'a [String]) -> Result<ArgMatches<'a>, Error
     command(alloc)?.try_get_matches_from(words)
 }
 
-/// The drives of the command line; None where a word is no drive.
+/// The drives of the command line; None if a word is no drive.
 fn parties_of(alloc: Global, matches: &ArgMatches<'_>) -> Result<Option<Vec<Party>>, AllocError> {
     let mut parties = Vec::new(alloc);
     for word in matches.get_strs("drive").unwrap_or(&[]) {
@@ -90,6 +105,7 @@ pub fn run(rt: &HostRuntime, words: &[String]) -> ExitCode {
     let task = JudgeTask {
         parties: parties.as_slice(),
         timing: timing_of(&matches),
+        moments: moments_of(&matches),
     };
     ExitCode::from(judge_named(rt, name, task))
 }
@@ -99,6 +115,15 @@ pub fn run(rt: &HostRuntime, words: &[String]) -> ExitCode {
 struct JudgeTask<'a> {
     parties: &'a [Party],
     timing: Timing,
+    moments: Moments,
+}
+
+fn moments_of(matches: &ArgMatches<'_>) -> Moments {
+    if matches.get_flag("moments") {
+        Moments::Told
+    } else {
+        Moments::Left
+    }
 }
 
 fn timing_of(matches: &ArgMatches<'_>) -> Timing {
@@ -129,15 +154,45 @@ fn judge_read<R: Runtime + AllocGlobal, I: io::Read + Drop>(
     task: JudgeTask<'_>,
 ) -> u8 {
     match judge_buffered(rt, trace, task) {
-        Ok(Ok(verdict)) => status_of(verdict),
+        Ok(Ok(judged)) => {
+            hint(rt, judged, task);
+            status_of(judged.verdict)
+        }
         Ok(Err(fault)) => {
-            let _ = eprintln!(rt; "error: {fault}");
+            let _ = tell_fault(rt, fault);
             status_of_fault(fault)
         }
-        Err(_) => {
-            let _ = eprintln!(rt; "no memory");
+        Err(error) => {
+            let _ = tell_stream(rt, &error);
             UNREAD
         }
+    }
+}
+
+/// Says how a trace is judged that begins as a computer's, if it was judged otherwise and is no session so.
+fn hint(rt: &impl Eprint, judged: Judged, task: JudgeTask<'_>) {
+    let is_kept = task.timing == Timing::Kept
+        || task.parties.iter().all(|it| it.pace == Pace::Profile);
+    if judged.is_of_kernal && is_kept && judged.verdict != Verdict::Session {
+        let _ = eprintln!(rt;
+            "hint: it begins as the trace of a computer with a KERNAL: --loosely, and drives as 8:20:kernal, judge such a trace"
+        );
+    }
+}
+
+/// Prints why a trace isn't judged.
+fn tell_fault(rt: &impl Eprint, fault: ReportFault) -> io::Result<()> {
+    match fault {
+        ReportFault::Writing => eprintln!(rt; "file fault: standard output"),
+        fault => eprintln!(rt; "error: {fault}"),
+    }
+}
+
+/// Prints what went wrong at standard output, or as a buffer was made.
+fn tell_stream(rt: &impl Eprint, error: &io::Error) -> io::Result<()> {
+    match error.kind() {
+        io::ErrorKind::OutOfMemory => eprintln!(rt; "no memory"),
+        kind => eprintln!(rt; "file fault: standard output: {kind}"),
     }
 }
 
@@ -145,10 +200,10 @@ fn judge_buffered<R: Runtime + AllocGlobal, I: io::Read + Drop>(
     rt: &R,
     trace: I,
     task: JudgeTask<'_>,
-) -> io::Result<Result<Verdict, ReportFault>> {
+) -> io::Result<Result<Judged, ReportFault>> {
     let input = BufReader::new(rt.alloc(), trace)?;
     let mut output = BufWriter::new(rt.alloc(), io::writer(rt))?;
-    let judged = judge_trace(input, &mut output, task.parties, task.timing);
+    let judged = judge_trace(input, &mut output, task.parties, task.timing, task.moments);
     output.flush()?;
     Ok(judged)
 }
@@ -164,6 +219,7 @@ fn status_of(verdict: Verdict) -> u8 {
 fn status_of_fault(fault: ReportFault) -> u8 {
     match fault {
         ReportFault::Drives(_) => UNASKED,
-        ReportFault::Trace(_) | ReportFault::Wires(_) | ReportFault::Writing => UNREAD,
+        ReportFault::Trace(_) | ReportFault::Wires(_) | ReportFault::Empty | ReportFault::Writing =>
+            UNREAD,
     }
 }

@@ -1,4 +1,4 @@
-//! The command line: an image, a script of requests, and where the image goes.
+//! The command line: an image, a script of requests, and if the image goes.
 #![tactic(auto)]
 
 mod arguments;

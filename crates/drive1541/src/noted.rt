@@ -4,7 +4,7 @@ use std::io::{self, Read};
 /// How many bytes are kept.
 const KEPT: usize = 8192;
 
-/// How many of them stay where more are read.
+/// How many of them stay if more are read.
 const STAY: usize = 4096;
 
 /// The first line of a script of line changes.
@@ -95,7 +95,7 @@ impl<R: Read> Noted<R> {
         self.kept.get(..self.length).unwrap_or(&[])
     }
 
-    /// Forgets what can't be of the line that is read, where there isn't room for so many bytes more.
+    /// Forgets what can't be of the line that is read, if there isn't room for so many bytes more.
     fn make_room(&mut self, more: usize) {
         let gone = self.length.saturating_sub(STAY);
         if self.length.saturating_add(more) <= KEPT {

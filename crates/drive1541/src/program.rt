@@ -8,14 +8,14 @@ use crate::reason::Reason;
 use crate::{judge, reply, traced};
 use cbm_program::Options;
 use clap::error::ErrorKind;
-use host_files::save;
+use host_files::{GREATEST_IMAGE, read_whole, save};
 use std::alloc::Global;
 use std::io::{BufWriter, Read, Write};
 use std::process::ExitCode;
 use std::rt::Runtime;
 use std::{env, fs, io};
 
-/// Carries out the command line, and answers the exit status, also where its line can't be written.
+/// Carries out the command line, and answers the exit status, also if its line can't be written.
 pub fn run_program(rt: &HostRuntime) -> ExitCode {
     let words = match words_of(rt) {
         Ok(words) => words,
@@ -83,20 +83,24 @@ fn words_of(rt: &HostRuntime) -> io::Result<Vec<String>> {
     Ok(words)
 }
 
-/// Reads to the end.
-fn read_all<I: io::Read + Drop>(alloc: Global, input: I) -> io::Result<Vec<u8>> {
-    let mut input = input;
-    let mut bytes = Vec::new(alloc);
-    input.read_to_end(&mut bytes)?;
-    Ok(bytes)
+/// Reads the image from what holds it.
+fn read_from<I: Read + Drop>(alloc: Global, input: I) -> Result<Vec<u8>, RunFailure> {
+    match read_whole(alloc, input, GREATEST_IMAGE) {
+        Ok(Some(image)) => Ok(image),
+        Ok(None) => Err(RunFailure::TooLong(Stream::Image)),
+        Err(error) => Err(RunFailure::of_file(error, Stream::Image)),
+    }
 }
 
-/// Reads the image.
+/// Reads the image, if it isn't longer than any is.
 fn read_image<R: Runtime + AllocGlobal>(rt: &R, name: &str) -> Result<Vec<u8>, RunFailure> {
-    if !is_standard(name) {
-        return fs::read(rt, name).map_err(|e| RunFailure::of_file(e, Stream::Image));
+    if is_standard(name) {
+        return read_from(rt.alloc(), rt.reader());
     }
-    read_all(rt.alloc(), rt.reader()).map_err(|e| RunFailure::of_file(e, Stream::Image))
+    match fs::open(rt, name) {
+        Ok(file) => read_from(rt.alloc(), file),
+        Err(error) => Err(RunFailure::of_file(error, Stream::Image)),
+    }
 }
 
 /// Prints the image.

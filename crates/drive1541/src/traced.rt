@@ -12,7 +12,7 @@ use std::io::{BufWriter, Printer, Read, Write};
 use std::rt::{Files, Runtime};
 use std::{env, fs, io};
 
-/// How wide a picture is where the terminal doesn't say.
+/// How wide a picture is if the terminal doesn't say.
 const COLUMNS: usize = 80;
 
 /// What writes to standard output.
@@ -114,7 +114,7 @@ fn recorder<'a, R: Runtime + AllocGlobal>(
     Recorder::begin(target, form_of(name), &[device])
 }
 
-/// How many columns the terminal has: what COLUMNS says, where it says something.
+/// How many columns the terminal has: what COLUMNS says, if it says something.
 fn columns<R: Runtime + AllocGlobal>(rt: &R) -> usize {
     match env::var(rt, "COLUMNS") {
         Ok(text) => text.as_str().parse::<usize>().unwrap_or(COLUMNS),
@@ -148,7 +148,7 @@ fn begin<'a, R: Runtime + AllocGlobal>(
     })
 }
 
-/// Runs a script, and writes its trace where one is asked for. What was traced before a fault is written too.
+/// Runs a script, and writes its trace if one is asked for. What was traced before a fault is written too.
 pub fn run<R: Runtime + AllocGlobal, S: Read, W: Write>(
     rt: &R,
     script: &mut Noted<S>,

@@ -1,4 +1,7 @@
 //! Saving a file so that half a file is never left.
+use crate::folders::names_in;
+use crate::names::text_of;
+use std::alloc::{AllocError, Global};
 use std::fs::{OpenFile, OpenOptions, Permissions};
 use std::io::{ErrorKind, Read, Write};
 use std::path::{Path, PathBuf};
@@ -34,7 +37,8 @@ struct Saving<'p, 'b, 'o> {
 /// there and is no regular file, as a device, is written to as it stands. A link stays a link, also one to nothing yet,
 /// and the file that was there leaves its mode to the new one.
 ///
-/// The file beside has the name of the program that saves, a number, and `.new`.
+/// The file beside has the names of the program that saves and of the file, the number of the process, another number, and `.new`.
+/// What earlier processes that were ended in a save of the file left beside is removed.
 pub fn save<R: Files + AllocGlobal>(
     rt: &R,
     program: &str,
@@ -128,16 +132,78 @@ fn require_writable<R: Files>(rt: &R, path: Path<'_>) -> io::Result<()> {
     Ok(())
 }
 
-// Numbers go on where files are left by programs that were ended in a save.
+/// The longest name of a file that the file beside repeats.
+const LONGEST_NAME: usize = 200;
+
+/// How the names of files beside a file begin, whichever process makes them. The one error is want of memory.
+fn beginning(alloc: Global, program: &str, path: Path<'_>) -> Result<String, AllocError> {
+    let file = path.file_name().unwrap_or("");
+    let file = if file.len() > LONGEST_NAME { "" } else { file };
+    format!(in alloc; "{program}.{file}.")
+}
+
+/// The number of this process, as text; empty where the system doesn't tell it.
+fn own_number<R: Files + AllocGlobal>(rt: &R) -> io::Result<String> {
+    match fs::read_link(rt, "/proc/self") {
+        Ok(link) => Ok(String::from_str(rt.alloc(), link.as_str())?),
+        Err(_) => Ok(String::new(rt.alloc())),
+    }
+}
+
+/// The number of the process in the name of a file beside that begins so.
+fn number_in<'n>(name: &'n str, beginning: &str) -> Option<&'n str> {
+    let rest = name.strip_prefix(beginning)?.strip_suffix(".new")?;
+    let (process, number) = rest.split_once('.')?;
+    let is_number = |text: &str| !text.is_empty() && text.bytes().all(|b| b.is_ascii_digit());
+    if is_number(process) && is_number(number) {
+        Some(process)
+    } else {
+        None
+    }
+}
+
+/// Whether no process has this number, where the system tells of processes.
+fn is_ended<R: Files + AllocGlobal>(rt: &R, process: &str) -> io::Result<bool> {
+    let place = format!(in rt.alloc(); "/proc/{process}")?;
+    match fs::metadata(rt, place.as_str()) {
+        Err(error) => Ok(error.kind() == ErrorKind::NotFound),
+        Ok(_) => Ok(false),
+    }
+}
+
+/// Removes what processes that were ended left beside a file, where this process has a number, by which others have.
+fn remove_left<R: Files + AllocGlobal>(rt: &R, path: Path<'_>, beginning: &str) -> io::Result<()> {
+    let folder = path.parent().unwrap_or(Path::new(""));
+    let named = if folder.as_str().is_empty() {
+        "."
+    } else {
+        folder.as_str()
+    };
+    let text = text_of(rt.alloc(), named.as_bytes())?;
+    for name in names_in(rt, text.as_str())?.as_slice() {
+        if let Some(process) = number_in(name.as_str(), beginning) {
+            if is_ended(rt, process)? {
+                let left = beside(rt, path, name.as_str())?;
+                let _ = fs::remove_file(rt, left.as_path());
+            }
+        }
+    }
+    Ok(())
+}
+
 fn save_beside<R: Files + AllocGlobal>(
     rt: &R,
     path: Path<'_>,
     save: Saving<'_, '_, '_>,
     permissions: Option<Permissions>,
 ) -> io::Result<bool> {
-    let program = save.program;
+    let beginning = beginning(rt.alloc(), save.program, path)?;
+    let process = own_number(rt)?;
+    if !process.is_empty() {
+        let _ = remove_left(rt, path, beginning.as_str());
+    }
     for number in 0..TRIES {
-        let name = format!(in rt.alloc(); "{program}.{number}.new")?;
+        let name = format!(in rt.alloc(); "{beginning}{process}.{number}.new")?;
         let new = beside(rt, path, name.as_str())?;
         let file = OpenOptions::new()
             .write(true)

@@ -18,8 +18,10 @@ use cbm_medium::{Geometry, Steady};
 use cbm_volume::{Entry, Volume};
 use std::alloc::Global;
 
+mod mark;
 mod title;
 
+pub use mark::remark;
 pub use title::retitle;
 pub(crate) use title::write_head;
 

@@ -1,25 +1,25 @@
 //! The disk of an image, for several looks.
 ghost use Rattle.std.specs.Prelude.{◌≡◌, ℕ, List, None, IfErr, IfOk, MatchResult};
 ghost use Rattle.cbm_file.specs.Files.{Disk};
-ghost use Rattle.cbm_medium.specs.Place.{sector_count};
 ghost use Rattle.cbm_directory.specs.Entries.{first_block};
-ghost use Rattle.cbm_chain.specs.Reading.{held_from};
-ghost use Rattle.cbm_directory.specs.Slots.{directory_of};
+ghost use Rattle.cbm_directory.specs.Slots.{all_entries, directory_of};
 ghost use Rattle.cbm_bam.specs.Map.{geometry_of};
 ghost use Rattle.cbm_volume.specs.Holding.{HasBytes, HoldsDisk, EntryStandsAt};
 ghost use Rattle.cbm_image.specs.Images.{image_fault, kind_of};
 ghost use Rattle.cbm_shell.specs.Images.{IsImageOpened, IsOpenFault};
 ghost use Rattle.cbm_shell.specs.OpenDisk.{open_disk_seen};
 ghost use Rattle.cbm_shell.specs.Reading.{IsReadFault};
+ghost use Rattle.cbm_shell.specs.Salvaging.{salvaged_of, directory_sectors};
 
 use crate::fault::ShellFault;
 use crate::images::opened;
 use crate::looking::entries_of;
 use crate::looking::reading::read_file;
-use crate::looking::salvaging::{Salvaged, salvage};
+use crate::looking::salvaging::{listed_of, salvage};
 use cbm_d64::D64Disk;
 use cbm_g64::G64Disk;
 use cbm_image::{Kind, kind_of};
+use cbm_salvage::{Listed, Salvaged};
 use cbm_volume::{Entry, Volume};
 use std::alloc::{AllocError, Global};
 
@@ -76,11 +76,25 @@ impl OpenDisk {
         }
     }
 
-    /// What can be read of the file of an entry, closed or not: the bytes of its chain up to where it breaks off, and why it
-    /// does. The one error is want of memory.
+    /// The entries of its directory in order, those of empty slots too, up to where it breaks off or comes back to a sector of
+    /// its own, and why it does. The one error is want of memory.
+    pub fn listed(&self, alloc: Global) -> Result<Listed, AllocError>
+        ensures sectors { let now = open_disk_seen self.now in
+            IfOk result (λ l. directory_sectors (geometry_of now.tracks now.content) now.content
+            ≡ (record { blocks = l.sectors.items; trouble = l.trouble })) }
+        ensures entries { IfOk result (λ l. l.entries.items ≡ all_entries (open_disk_seen self.now).content l.sectors.items) }
+    {
+        match self {
+            OpenDisk::D64(volume) => listed_of(alloc, volume),
+            OpenDisk::G64(volume) => listed_of(alloc, volume),
+        }
+    }
+
+    /// What can be read of the file of an entry, closed or not: the bytes of its chain up to where it breaks off or comes back
+    /// to a sector of its own, and why it does. The one error is want of memory.
     pub fn salvage(&self, alloc: Global, entry: &Entry) -> Result<Salvaged, AllocError>
-        ensures { let now = open_disk_seen self.now in let tracks = geometry_of now.tracks now.content in
-            IfOk result (λ s. held_from tracks now.content (sector_count tracks) (first_block entry.now)
+        ensures { let now = open_disk_seen self.now in
+            IfOk result (λ s. salvaged_of (geometry_of now.tracks now.content) now.content (first_block entry.now)
             ≡ (record { bytes = s.bytes.items; trouble = s.trouble })) }
     {
         match self {

@@ -2,7 +2,7 @@
 ghost use Rattle.std.specs.Prelude.{◌≡◌, ℕ, List, IfOk, IfErr, None, MatchResult};
 ghost use Rattle.cbm_file.specs.Files.{Disk};
 ghost use Rattle.cbm_volume.specs.Holding.{HoldsDisk, EntryStandsAt, HasBytes};
-ghost use Rattle.cbm_shell.specs.Reading.{IsReadFault, Gets, IsGetFault, file_held};
+ghost use Rattle.cbm_shell.specs.Reading.{IsReadFault, Gets, IsGetFault, ShowsFile, file_held};
 
 use crate::fault::ShellFault;
 use cbm_command::matches;
@@ -56,8 +56,11 @@ pub fn get<M: Medium>(
     volume: &Volume<M>,
     pattern: &[u8],
 ) -> Result<Vec<u8>, ShellFault>
-    ensures { (d : Disk) → HoldsDisk (M.seen volume.now).tracks (M.seen volume.now).content d →
+    ensures means { (d : Disk) → HoldsDisk (M.seen volume.now).tracks (M.seen volume.now).content d →
         MatchResult result (λ v. Gets d pattern.now v.items) (IsGetFault d pattern.now) }
+    // What stands before the place where the directory breaks off is got all the same.
+    ensures shown { (bytes : List ℕ) → ShowsFile (M.seen volume.now) pattern.now bytes →
+        MatchResult result (λ v. v.items ≡ bytes) (λ fault. fault ≡ ShellFault.Memory) }
 {
     let Some((_, entry)) = volume.find(&Named { pattern })? else {
         return Err(ShellFault::NotFound);

@@ -1,4 +1,5 @@
 //! What several images came to.
+use super::folders::Passed;
 use disk_basics::host::print;
 use disk_basics::{Failure, in_memory};
 use disk_reports::{Look, LookAnswer, View};
@@ -14,6 +15,10 @@ pub struct Counts {
     others: u32,
     // No images of disks, or unreadable.
     none: u32,
+    // Among those that were looked at, with a directory that breaks off.
+    broken: u32,
+    // What was passed over in folders.
+    passed: Passed,
 }
 
 impl Counts {
@@ -23,6 +28,12 @@ impl Counts {
             fine: 0,
             others: 0,
             none: 0,
+            broken: 0,
+            passed: Passed {
+                files: 0,
+                specials: 0,
+                unnamed: 0,
+            },
         }
     }
 
@@ -32,6 +43,10 @@ impl Counts {
             LookAnswer::Fine => self.fine = self.fine.wrapping_add(1),
             LookAnswer::Unsound(_) | LookAnswer::NoMatch | LookAnswer::Untitled => self.others =
                 self.others.wrapping_add(1),
+            LookAnswer::Broken(_) => {
+                self.others = self.others.wrapping_add(1);
+                self.broken = self.broken.wrapping_add(1);
+            }
         }
     }
 
@@ -40,22 +55,58 @@ impl Counts {
         self.none = self.none.wrapping_add(1);
     }
 
+    /// These were passed over in a folder.
+    pub fn add_passed(&mut self, passed: Passed) {
+        self.passed.files = self.passed.files.wrapping_add(passed.files);
+        self.passed.specials = self.passed.specials.wrapping_add(passed.specials);
+        self.passed.unnamed = self.passed.unnamed.wrapping_add(passed.unnamed);
+    }
+
+    /// What was passed over in folders, as the end of a line.
+    fn passed_text(self, alloc: Global) -> Result<String, AllocError> {
+        let mut text = String::new(alloc);
+        let Passed {
+            files,
+            specials,
+            unnamed,
+        } = self.passed;
+        if files != 0 {
+            let noun = if files == 1 { "file" } else { "files" };
+            text.push_str(format!(in alloc; ", and {files} other {noun}")?.as_str())?;
+        }
+        if specials != 0 {
+            text.push_str(format!(in alloc; ", {specials} pipes or devices")?.as_str())?;
+        }
+        if unnamed != 0 {
+            text.push_str(format!(in alloc; ", {unnamed} with no name in UTF-8")?.as_str())?;
+        }
+        Ok(text)
+    }
+
     /// The line that says it.
     fn line(self, alloc: Global, view: View) -> Result<String, AllocError> {
-        let Counts { fine, others, none } = self;
+        let Counts {
+            fine,
+            others,
+            none,
+            ..
+        } = self;
+        let end = self.passed_text(alloc)?;
         let all = fine.wrapping_add(others).wrapping_add(none);
         match view {
             View::Soundness | View::Flaws => {
-                format!(in alloc; "{all} images: {fine} sound, {others} not, {none} no images\n")
+                format!(in alloc;
+                    "{all} images: {fine} sound, {others} not, {none} no images{end}\n"
+                )
             }
             View::Matches => {
                 format!(in alloc;
-                    "{all} images: {fine} with a match, {others} without, {none} no images\n"
+                    "{all} images: {fine} with a match, {others} without, {none} no images{end}\n"
                 )
             }
             _ => {
                 let shown = fine.wrapping_add(others);
-                format!(in alloc; "{all} images: {shown} shown, {none} no images\n")
+                format!(in alloc; "{all} images: {shown} shown, {none} no images{end}\n")
             }
         }
     }
@@ -73,10 +124,10 @@ impl Counts {
         print(rt, line.as_bytes())
     }
 
-    /// What the command comes to. Errors: `Several`, where some images can't be looked at, aren't sound or have no title;
+    /// What the command comes to. Errors: `Several`, where some images can't be looked at, aren't sound, have no title or a directory that breaks off;
     /// `NoMatch`, where no image has such a file.
     pub fn outcome<'a>(self, look: Look<'_>) -> Result<(), Failure<'a>> {
-        if self.none != 0 {
+        if self.none != 0 || self.broken != 0 || self.passed.unnamed != 0 {
             return Err(Failure::Several);
         }
         match look.view {

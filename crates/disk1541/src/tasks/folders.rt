@@ -1,13 +1,25 @@
 //! The images in a folder and in its folders.
 use disk_basics::Failure;
 use disk_facts::is_image_name;
+use host_files::{Kind, kind_of, names_in, own_kind_of};
 use std::alloc::AllocError;
-use std::fs::FileType;
+use std::io;
+use std::path::Path;
 use std::rt::Runtime;
-use std::{fs, io};
 
 /// The most folders that are gone through.
 const FOLDERS: u32 = 1_000_000;
+
+/// What was passed over in folders.
+#[derive(Clone, Copy)]
+pub struct Passed {
+    /// Files that aren't named as images are.
+    pub files: u32,
+    /// Pipes, sockets and devices.
+    pub specials: u32,
+    /// What has no name in UTF-8, and so can't be reached: a file that isn't named as images are, or a folder.
+    pub unnamed: u32,
+}
 
 /// A walk through folders.
 #[derive(Drop)]
@@ -15,6 +27,7 @@ pub struct Walk {
     // The folders that are still to be gone through.
     folders: Vec<String>,
     images: Vec<String>,
+    passed: Passed,
     // Whether each folder could be read.
     is_whole: bool,
 }
@@ -25,6 +38,11 @@ impl Walk {
         let mut walk = Walk {
             folders: Vec::new(rt.alloc()),
             images: Vec::new(rt.alloc()),
+            passed: Passed {
+                files: 0,
+                specials: 0,
+                unnamed: 0,
+            },
             is_whole: true,
         };
         walk.enter(rt, folder)?;
@@ -35,6 +53,11 @@ impl Walk {
     /// The images that were met, sorted by their paths.
     pub fn images(&self) -> &[String] {
         self.images.as_slice()
+    }
+
+    /// What was passed over.
+    pub fn passed(&self) -> Passed {
+        self.passed
     }
 
     /// Whether each folder could be read.
@@ -69,24 +92,27 @@ impl Walk {
 
     /// Adds what is in a folder.
     fn add_all<R: Runtime + AllocGlobal>(&mut self, rt: &R, folder: &str) -> io::Result<()> {
-        for entry in fs::read_dir(rt, folder)? {
-            let entry = entry?;
-            self.add(rt, entry.path().as_str(), entry.file_type()?)?;
+        for name in names_in(rt, folder)?.as_slice() {
+            let path = Path::new(folder).join(rt.alloc(), name.as_str())?;
+            self.add(rt, path.as_path().as_str())?;
         }
         Ok(())
     }
 
     /// Adds a folder, or a file that is named as images are. A link to a folder isn't followed.
-    fn add<R: AllocGlobal>(
-        &mut self,
-        rt: &R,
-        path: &str,
-        kind: FileType,
-    ) -> Result<(), AllocError> {
-        if kind.is_dir() {
-            self.folders.push(String::from_str(rt.alloc(), path)?)?;
-        } else if is_image_name(path) {
-            self.images.push(String::from_str(rt.alloc(), path)?)?;
+    fn add<R: Runtime + AllocGlobal>(&mut self, rt: &R, path: &str) -> Result<(), AllocError> {
+        let alloc = rt.alloc();
+        match (own_kind_of(rt, path), kind_of(rt, path)) {
+            (Ok(Kind::Folder), _) => {
+                self.folders.push(String::from_str(alloc, path)?)?;
+            }
+            (Ok(Kind::Link), Ok(Kind::Folder)) => {}
+            (_, Ok(Kind::Other)) => self.passed.specials = self.passed.specials.wrapping_add(1),
+            _ if is_image_name(path) => self.images.push(String::from_str(alloc, path)?)?,
+            (Err(error), _) if error.kind() == io::ErrorKind::InvalidFilename => {
+                self.passed.unnamed = self.passed.unnamed.wrapping_add(1);
+            }
+            _ => self.passed.files = self.passed.files.wrapping_add(1),
         }
         Ok(())
     }

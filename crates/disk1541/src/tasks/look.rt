@@ -4,7 +4,7 @@ use super::folders::Walk;
 use disk_basics::host::{print, read_image};
 use disk_basics::{Failure, in_memory, on_disk};
 use disk_reports::{Look, LookAnswer, Shown, heads, lines_of, refusal_line};
-use std::path::Path;
+use host_files::{Kind, kind_of};
 use std::rt::Runtime;
 
 /// What an image shows.
@@ -30,6 +30,7 @@ fn look_at_one<'a, R: Runtime + AllocGlobal>(
         LookAnswer::Unsound(unsound) => Err(Failure::Unsound(unsound)),
         LookAnswer::NoMatch => Err(Failure::NoMatch),
         LookAnswer::Untitled => Err(Failure::Untitled(image)),
+        LookAnswer::Broken(end) => Err(Failure::Broken(image, end)),
     }
 }
 
@@ -44,8 +45,17 @@ fn tell_other<'a, R: Runtime + AllocGlobal>(
     if !look.is_json {
         return Ok(());
     }
-    let line = in_memory(refusal_line(rt.alloc(), image, failure.status()))?;
+    let line = in_memory(refusal_line(rt.alloc(), image, failure.status(), failure.reason()))?;
     print(rt, line.as_slice())
+}
+
+/// Reports what one of several images lacks.
+fn tell_answer(rt: &impl Eprint, image: &str, answer: LookAnswer) {
+    let _ = match answer {
+        LookAnswer::Untitled => Failure::Untitled(image).tell(rt),
+        LookAnswer::Broken(end) => Failure::Broken(image, end).tell(rt),
+        LookAnswer::Fine | LookAnswer::Unsound(_) | LookAnswer::NoMatch => Ok(()),
+    };
 }
 
 /// Looks at one of several images. Where it can't be read, or is none, that is reported, and the next one comes.
@@ -58,9 +68,7 @@ fn look_among<'a, R: Runtime + AllocGlobal>(
     match seen(rt, image, look) {
         Ok(shown) => {
             counts.add(shown.answer);
-            if matches!(shown.answer, LookAnswer::Untitled) {
-                let _ = Failure::Untitled(image).tell(rt);
-            }
+            tell_answer(rt, image, shown.answer);
             print(rt, shown.text.as_slice())
         }
         Err(Failure::NoMemory) => Err(Failure::NoMemory),
@@ -82,6 +90,7 @@ fn look_into<'a, R: Runtime + AllocGlobal>(
     for image in walk.images() {
         look_among(rt, image.as_str(), look, counts)?;
     }
+    counts.add_passed(walk.passed());
     if !walk.is_whole() {
         counts.pass_over();
     }
@@ -95,7 +104,7 @@ fn look_at<'a, R: Runtime + AllocGlobal>(
     look: Look<'_>,
     counts: &mut Counts,
 ) -> Result<(), Failure<'a>> {
-    if look.is_recursive && Path::new(name).is_dir(rt) {
+    if look.is_recursive && matches!(kind_of(rt, name), Ok(Kind::Folder)) {
         return look_into(rt, name, look, counts);
     }
     look_among(rt, name, look, counts)

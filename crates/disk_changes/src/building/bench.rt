@@ -40,7 +40,8 @@ pub fn read_beside<'a, R: Runtime + AllocGlobal>(
     folder: &str,
     file: &str,
 ) -> Result<Vec<u8>, Failure<'a>> {
-    let path = in_memory(Path::new(folder).join(rt.alloc(), file))?;
+    let name = in_memory(host_files::text_of(rt.alloc(), file.as_bytes()))?;
+    let path = in_memory(Path::new(folder).join(rt.alloc(), name.as_str()))?;
     told(rt, read_file(rt, path.as_path().as_str()))
 }
 

@@ -5,7 +5,6 @@ use super::bench::{Bench, any_name, read_beside};
 use super::ordered::ordered;
 use crate::putting::{Body, body_of};
 use crate::stored::{Stored, with_stored};
-use cbm_channel::{Code, Status};
 use cbm_shell::{Looks, ShellFault};
 use disk_basics::calls::entries;
 use disk_basics::changing::{add_art, dress};
@@ -102,6 +101,28 @@ fn with_put<'r, R: Runtime + AllocGlobal>(
     dressed(rt, bench, new.as_slice(), slot, line, name)
 }
 
+/// Refuses a name that an earlier file of the recipe has.
+fn require_new_name<'r>(
+    alloc: Global,
+    image: &'r str,
+    old: &[u8],
+    name: &[u8],
+) -> Result<(), Failure<'r>> {
+    let entries = on_disk(image, entries(alloc, old))?;
+    for entry in entries.as_slice() {
+        if !entry.is_empty() && entry.name() == name {
+            return Err(Failure::SameName(image));
+        }
+    }
+    Ok(())
+}
+
+/// Reports which entry of a recipe can't be built, counted from 1.
+fn tell_entry(rt: &impl Eprint, place: usize) {
+    let number = place.saturating_add(1);
+    let _ = eprintln!(rt; "disk1541: entry {number} of the recipe can't be built");
+}
+
 /// The image with the file of a line in the next slot.
 fn with_body<'r, R: Runtime + AllocGlobal>(
     rt: &R,
@@ -120,6 +141,7 @@ fn with_body<'r, R: Runtime + AllocGlobal>(
         bytes: body.bytes,
     };
     let name = name_of(rt, bench, line, file, body)?;
+    require_new_name(rt.alloc(), bench.image, old, name.as_slice())?;
     with_put(rt, bench, old, slot, line, name.as_slice(), &put)
 }
 
@@ -160,14 +182,7 @@ fn with_art<'r, R: Runtime + AllocGlobal>(
     };
     match on_disk(bench.image, add_art(rt.alloc(), old, looks))? {
         Some(new) => Ok(new),
-        None => Err(Failure::Disk(
-            bench.image,
-            ShellFault::Refused(Status {
-                code: Code::DiskFull,
-                first: 0,
-                second: 0,
-            }),
-        )),
+        None => Err(Failure::DirectoryFull(bench.image)),
     }
 }
 
@@ -180,9 +195,13 @@ fn with_files<'r, R: Runtime + AllocGlobal>(
 ) -> Result<Vec<u8>, Failure<'r>> {
     let mut image = blank;
     let mut slot: u8 = 0;
-    for line in lines {
+    for (place, line) in lines.iter().enumerate() {
         if let Some(file) = option(&line.file) {
-            image = with_file(rt, bench, image.as_slice(), slot, line, file)?;
+            let made = with_file(rt, bench, image.as_slice(), slot, line, file);
+            if made.is_err() {
+                tell_entry(rt, place);
+            }
+            image = made?;
             slot = slot.saturating_add(1);
         }
     }
@@ -197,9 +216,13 @@ fn with_arts<'r, R: Runtime + AllocGlobal>(
     filled: Vec<u8>,
 ) -> Result<Vec<u8>, Failure<'r>> {
     let mut image = filled;
-    for line in lines {
+    for (place, line) in lines.iter().enumerate() {
         if let Some(art) = option(&line.art) {
-            image = with_art(rt, bench, image.as_slice(), line, art)?;
+            let made = with_art(rt, bench, image.as_slice(), line, art);
+            if made.is_err() {
+                tell_entry(rt, place);
+            }
+            image = made?;
         }
     }
     Ok(image)

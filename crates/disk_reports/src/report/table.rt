@@ -1,5 +1,6 @@
 //! Images as tables, for programs: a line for each file, or for each image.
 use super::{LabelTexts, Size, files_meant, geos_kind, image_answer, label_of, record_of, size_of};
+use crate::broken::answer_by;
 use crate::sum::sum_text;
 use crate::view::{Look, LookAnswer, Shown, View};
 use cbm_shell::texts::{Charset, words};
@@ -7,7 +8,7 @@ use cbm_shell::{Info, ShellFault};
 use cbm_volume::{Entry, Unsound};
 use csv::WriterBuilder;
 use disk_basics::Disk;
-use disk_basics::calls::{info, name_text};
+use disk_basics::calls::{info, listed, name_text};
 use disk_facts::{format_name, hex, type_of};
 use serde::Serialize;
 use std::alloc::{AllocError, Global};
@@ -152,9 +153,9 @@ fn files_table(
     look: Look<'_>,
 ) -> Result<Shown, ShellFault> {
     let disk = Disk::open(alloc, image)?;
-    let entries = disk.entries(alloc)?;
-    let text = file_lines(alloc, name, &disk, entries.as_slice(), look)?;
-    let answer = files_answer(look, text.as_slice());
+    let listed = disk.listed(alloc)?;
+    let text = file_lines(alloc, name, &disk, listed.entries.as_slice(), look)?;
+    let answer = answer_by(&listed, files_answer(look, text.as_slice()));
     Ok(Shown { text, answer })
 }
 
@@ -234,10 +235,11 @@ fn image_table(
     look: Look<'_>,
 ) -> Result<Shown, ShellFault> {
     let info = info(alloc, image)?;
+    let listed = listed(alloc, image)?;
     let text = image_line(alloc, name, image, look, &info)?;
     Ok(Shown {
         text,
-        answer: image_answer(look, &info),
+        answer: image_answer(look, &info, &listed),
     })
 }
 

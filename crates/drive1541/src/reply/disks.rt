@@ -6,7 +6,7 @@ use cbm_bus::AnyDisk;
 use cbm_d64::D64Disk;
 use cbm_g64::G64Disk;
 use cbm_image::{DiskImage, ImageFault, Kind, kind_of};
-use host_files::save;
+use host_files::{GREATEST_IMAGE, read_whole, save};
 use std::alloc::{AllocError, Global};
 use std::fs;
 
@@ -26,6 +26,17 @@ fn image_of(alloc: Global, disk: &AnyDisk) -> Result<Vec<u8>, AllocError> {
     }
 }
 
+/// Reads the image of the drive at a place, if it isn't longer than any is.
+fn read_image(rt: &HostRuntime, place: usize, name: &str) -> Result<Vec<u8>, ReplyFailure> {
+    let of_file = |error| ReplyFailure::of_file(error, FailedAt::Image(place));
+    let file = fs::open(rt, name).map_err(of_file)?;
+    match read_whole(rt.alloc(), file, GREATEST_IMAGE) {
+        Ok(Some(image)) => Ok(image),
+        Ok(None) => Err(ReplyFailure::TooLong(place)),
+        Err(error) => Err(of_file(error)),
+    }
+}
+
 /// The disk of the drive at a place.
 fn open_disk(
     rt: &HostRuntime,
@@ -33,7 +44,7 @@ fn open_disk(
     name: &str,
     is_protected: bool,
 ) -> Result<AnyDisk, ReplyFailure> {
-    let image = fs::read(rt, name).map_err(|e| ReplyFailure::of_file(e, FailedAt::Image(place)))?;
+    let image = read_image(rt, place, name)?;
     match disk_of(rt.alloc(), image.as_slice(), is_protected) {
         Ok(disk) => Ok(disk),
         Err(ImageFault::Format(number)) => Err(ReplyFailure::Image(place, number)),

@@ -1,6 +1,7 @@
 //! How a talk ended: its exit status, and its line on standard error.
 
 use super::words::Words;
+use crate::failure::tell_too_long;
 use crate::reason::image_words;
 use bus_replies::{ReplyFault, ReplyRefusal};
 use std::io;
@@ -25,8 +26,10 @@ pub enum ReplyFailure {
     Line(u64, ReplyRefusal),
     /// The image of the drive at a place is refused, by its fault's number.
     Image(usize, u8),
-    /// A file couldn't be read or written, and why, where that is known.
+    /// A file couldn't be read or written, and why, if that is known.
     File(FailedAt, Option<io::ErrorKind>),
+    /// The image of the drive at a place has more bytes than any.
+    TooLong(usize),
     /// Memory ran out.
     NoMemory,
 }
@@ -53,7 +56,7 @@ impl ReplyFailure {
         match self {
             ReplyFailure::Line(..) => 1,
             ReplyFailure::Image(..) => 2,
-            ReplyFailure::File(..) | ReplyFailure::NoMemory => 3,
+            ReplyFailure::File(..) | ReplyFailure::TooLong(_) | ReplyFailure::NoMemory => 3,
         }
     }
 
@@ -73,6 +76,9 @@ impl ReplyFailure {
             ReplyFailure::File(place, None) => {
                 let name = name_of(place, words);
                 eprintln!(rt; "file fault: {name}")
+            }
+            ReplyFailure::TooLong(place) => {
+                tell_too_long(rt, name_of(FailedAt::Image(place), words))
             }
             ReplyFailure::NoMemory => eprintln!(rt; "no memory"),
         }

@@ -2,15 +2,15 @@
 
 use cbm_bus::{Pace, Party};
 
-/// How long a drive takes to react where the command line doesn't say, in microseconds.
+/// How long a drive takes to react if the command line doesn't say, in microseconds.
 const REACTION: u8 = 20;
 
-/// A drive, its disk's image, and where that goes.
+/// A drive, its disk's image, and if that goes.
 #[derive(Clone, Copy, Drop)]
 pub struct Seat<'a> {
     /// The file of the image.
     pub image: &'a str,
-    /// The file that it is saved to; None where it isn't.
+    /// The file that it is saved to; None if it isn't.
     pub out: Option<&'a str>,
     /// The drive.
     pub party: Party,
@@ -65,7 +65,7 @@ pub fn party_of(word: &str) -> Option<Party> {
     }
 }
 
-/// The files of a word `IMAGE` or `IMAGE=OUT`: its last `=` parts them, and nothing is saved where OUT is empty.
+/// The files of a word `IMAGE` or `IMAGE=OUT`: its last `=` parts them, and nothing is saved if OUT is empty.
 pub fn files_of(word: &str) -> (&str, Option<&str>) {
     match word.rsplit_once('=') {
         None => (word, None),

@@ -9,14 +9,15 @@ use std::alloc::Global;
 /// The most drives.
 const MOST: usize = 4;
 
-/// An example of each kind.
-const EXAMPLES: &str = "Each line read is answered by the changes on the bus and `ready MOMENT`:
+/// What help ends with.
+const EXAMPLES: &str = "Examples:
+  drive1541 reply disk.d64=new.d64
+  drive1541 reply a.d64 b.g64 --drive 8:20 --drive 9:35:kernal
+
+Each line of the host is answered by the changes on the bus and `ready MOMENT`:
   1000 atn pull    the host changes a line
   until 2000       all that the drives do up to a moment
-  end 3000         the same, and the images are saved
-
-  drive1541 reply disk.d64=new.d64
-  drive1541 reply a.d64 b.g64 --drive 8:20 --drive 9:35:kernal";
+  end 3000         the same, and the images are saved";
 
 /// What the command line asks for.
 #[derive(Drop)]
@@ -41,9 +42,9 @@ fn command<'a>(alloc: Global) -> Result<Command<'a>, Error> {
     let read_only = Arg::new(alloc, "read-only")
         .long("read-only")
         .action(ArgAction::SetTrue)
-        .help("protect the disks");
+        .help("write-protect the disks");
     let command = Command::new(alloc, "drive1541 reply")
-        .about("Drives with disks on a bus, whose host talks over standard input and output")
+        .about("Drives with disks on a bus whose host talks over standard input and output")
         .after_help(EXAMPLES)
         .no_binary_name(true)
         .arg(image)?

@@ -1,0 +1,73 @@
+//! One file of a disk: by its exact name, or by its slot.
+use crate::failure::Failure;
+use crate::names::petscii;
+use crate::word_fault::WordFault;
+use cbm_shell::texts::Charset;
+use cbm_volume::Entry;
+use std::alloc::Global;
+
+/// How one file is said.
+#[derive(Clone, Copy)]
+pub struct Choice<'a> {
+    /// Its name.
+    pub name: &'a str,
+    /// The number of its slot, as it was typed.
+    pub slot: Option<&'a str>,
+    /// The name is exact: `*` and `?` are characters of it.
+    pub is_exact: bool,
+    /// The character set of the name.
+    pub charset: Charset,
+}
+
+impl<'a> Choice<'a> {
+    /// Whether the name is a pattern, as the drive takes it.
+    pub fn is_pattern(self) -> bool {
+        self.slot.is_none() && !self.is_exact
+    }
+
+    /// What was said.
+    pub fn word(self) -> &'a str {
+        self.slot.unwrap_or(self.name)
+    }
+}
+
+/// The slot of the first file of exactly this name.
+fn slot_named(entries: &[Entry], codes: &[u8]) -> Option<usize> {
+    for (slot, entry) in entries.iter().enumerate() {
+        if !entry.is_empty() && entry.name() == codes {
+            return Some(slot);
+        }
+    }
+    None
+}
+
+/// The slot of a number, if it has a file.
+fn slot_numbered<'a>(entries: &[Entry], word: &'a str) -> Result<Option<usize>, Failure<'a>> {
+    let Ok(slot) = word.parse::<u8>() else {
+        return Err(Failure::Word(WordFault::Slot(word)));
+    };
+    match entries.get(usize::from(slot)) {
+        Some(entry) if !entry.is_empty() => Ok(Some(usize::from(slot))),
+        _ => Ok(None),
+    }
+}
+
+/// The slot of the file that is chosen, among these entries. Errors: `Word`, where the name can't be typed or the slot is no
+/// number; `NoFile`, where there is none; `NoMemory`.
+pub fn slot_chosen<'a>(
+    alloc: Global,
+    entries: &[Entry],
+    choice: Choice<'a>,
+) -> Result<usize, Failure<'a>> {
+    let slot = match choice.slot {
+        Some(word) => slot_numbered(entries, word)?,
+        None => {
+            let codes = petscii(alloc, choice.charset, choice.name)?;
+            slot_named(entries, codes.as_slice())
+        }
+    };
+    match slot {
+        Some(slot) => Ok(slot),
+        None => Err(Failure::NoFile(choice.word())),
+    }
+}

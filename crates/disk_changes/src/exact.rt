@@ -1,0 +1,302 @@
+//! RENAME, DELETE, COPY, LOCK and UNLOCK of one file that is chosen by its slot or its exact name. The drive's commands can't say
+//! every name: the file gets one that they can say, and afterwards its own.
+ghost use Rattle.std.specs.Prelude.{◌≤◌, length};
+
+use cbm_channel::{Code, Status};
+use cbm_shell::texts::Charset;
+use cbm_shell::{DiskChange, Looks, ShellFault, geos_of};
+use cbm_volume::Entry;
+use disk_basics::calls::entries;
+use disk_basics::changing::{change, dress};
+use disk_basics::host::{joined, read_image, read_to_change, replace};
+use disk_basics::{Choice, Failure, WordFault, on_disk, petscii, slot_chosen};
+use disk_facts::unfilled;
+use std::alloc::Global;
+use std::ops::Range;
+use std::rt::Runtime;
+
+/// Where an entry's name stands in its bytes.
+const NAME: Range<usize> = 3..19;
+
+/// The most bytes of a name.
+const LONGEST: usize = 16;
+
+/// What is done with the chosen file.
+#[derive(Clone, Copy)]
+pub enum Deed<'a> {
+    /// It gets this name.
+    Rename(&'a str),
+    /// A copy of this name is made.
+    Copy(&'a str),
+    /// It is deleted.
+    Delete,
+    /// It is locked, or freed.
+    Lock(bool),
+}
+
+/// A disk and its image's name.
+#[derive(Clone, Copy)]
+struct Desk<'a, 'b> {
+    image: &'a str,
+    bytes: &'b [u8],
+}
+
+/// A name of at most sixteen bytes, as all are here.
+fn sixteen(name: &[u8]) -> &[u8]
+    ensures { length result.now ≤ 16 }
+{
+    if name.len() > LONGEST {
+        return &[];
+    }
+    name
+}
+
+/// An entry's name with what stands after its end.
+fn whole_name(entry: &Entry) -> &[u8] {
+    unfilled(entry.bytes().get(NAME).unwrap_or(&[]))
+}
+
+/// Whether a file has a name.
+fn has_name(entries: &[Entry], name: &[u8]) -> bool {
+    for entry in entries {
+        if !entry.is_empty() && entry.name() == name {
+            return true;
+        }
+    }
+    false
+}
+
+/// A name that no file has and that each of the drive's commands can say; None where 288 names are taken.
+fn spare_name(entries: &[Entry], last: u8) -> Option<[u8; 3]> {
+    for first in 1..13u8 {
+        for second in 1..13u8 {
+            let name = [first, second, last];
+            if !has_name(entries, &name) {
+                return Some(name);
+            }
+        }
+    }
+    None
+}
+
+/// The fault that a name is there already.
+fn taken<'a>(image: &'a str) -> Failure<'a> {
+    Failure::Disk(
+        image,
+        ShellFault::Refused(Status {
+            code: Code::FileExists,
+            first: 0,
+            second: 0,
+        }),
+    )
+}
+
+/// The codes of a new name, whatever they are.
+fn new_name<'a>(alloc: Global, charset: Charset, name: &'a str) -> Result<Vec<u8>, Failure<'a>> {
+    let codes = petscii(alloc, charset, name)?;
+    if codes.is_empty() {
+        return Err(Failure::Word(WordFault::NoFileName));
+    }
+    if codes.len() > LONGEST {
+        return Err(Failure::Word(WordFault::LongName(name)));
+    }
+    Ok(codes)
+}
+
+/// The image whose entry in a slot has a name and a lock.
+fn named<'a>(
+    alloc: Global,
+    desk: Desk<'a, '_>,
+    slot: usize,
+    name: &[u8],
+    is_locked: bool,
+) -> Result<Vec<u8>, Failure<'a>> {
+    let entries = on_disk(desk.image, entries(alloc, desk.bytes))?;
+    let (Some(entry), Ok(number)) = (entries.as_slice().get(slot), u8::try_from(slot)) else {
+        return Err(Failure::NoFile(desk.image));
+    };
+    let looks = Looks {
+        name: sixteen(name),
+        blocks: entry.blocks(),
+        is_locked,
+    };
+    on_disk(desk.image, dress(alloc, desk.bytes, number, looks))
+}
+
+/// The image after a command of the drive.
+fn commanded<'a>(
+    alloc: Global,
+    desk: Desk<'a, '_>,
+    parts: &[&[u8]],
+) -> Result<Vec<u8>, Failure<'a>> {
+    let text = joined(alloc, parts)?;
+    let command = DiskChange::Command(text.as_slice());
+    on_disk(desk.image, change(alloc, desk.bytes, &command))
+}
+
+/// The image whose file in a slot has another name.
+fn renamed<'a>(
+    alloc: Global,
+    desk: Desk<'a, '_>,
+    entries: &[Entry],
+    slot: usize,
+    name: &[u8],
+) -> Result<Vec<u8>, Failure<'a>> {
+    let is_locked = entries.get(slot).is_some_and(Entry::is_locked);
+    if has_name(entries, name) {
+        return Err(taken(desk.image));
+    }
+    named(alloc, desk, slot, name, is_locked)
+}
+
+/// The image without the file in a slot.
+fn deleted<'a>(
+    alloc: Global,
+    desk: Desk<'a, '_>,
+    entries: &[Entry],
+    slot: usize,
+    word: &'a str,
+) -> Result<Vec<u8>, Failure<'a>> {
+    if entries.get(slot).is_some_and(Entry::is_locked) {
+        return Err(Failure::Locked(word));
+    }
+    let Some(spare) = spare_name(entries, 1) else {
+        return Err(taken(desk.image));
+    };
+    let image = named(alloc, desk, slot, &spare, false)?;
+    let there = Desk {
+        image: desk.image,
+        bytes: image.as_slice(),
+    };
+    commanded(alloc, there, &[b"S0:", &spare, b"\r"])
+}
+
+/// The image with a copy of the file of one spare name under another.
+fn copied_spare<'a>(
+    alloc: Global,
+    desk: Desk<'a, '_>,
+    slot: usize,
+    old: &[u8; 3],
+    new: &[u8; 3],
+) -> Result<Vec<u8>, Failure<'a>> {
+    let image = named(alloc, desk, slot, old, false)?;
+    let there = Desk {
+        image: desk.image,
+        bytes: image.as_slice(),
+    };
+    commanded(alloc, there, &[b"C0:", new, b"=", old, b"\r"])
+}
+
+/// The image whose file of a spare name has its own.
+fn unspared<'a>(
+    alloc: Global,
+    desk: Desk<'a, '_>,
+    spare: &[u8; 3],
+    name: &[u8],
+) -> Result<Vec<u8>, Failure<'a>> {
+    let all = on_disk(desk.image, entries(alloc, desk.bytes))?;
+    for (slot, entry) in all.iter().enumerate() {
+        if !entry.is_empty() && entry.name() == spare.as_slice() {
+            return named(alloc, desk, slot, name, false);
+        }
+    }
+    Err(Failure::NoFile(desk.image))
+}
+
+/// The image with a copy of the file in a slot.
+fn copied<'a>(
+    alloc: Global,
+    desk: Desk<'a, '_>,
+    entries: &[Entry],
+    slot: usize,
+    name: &[u8],
+) -> Result<Vec<u8>, Failure<'a>> {
+    let (Some(entry), Some(old), Some(new)) = (
+        entries.get(slot),
+        spare_name(entries, 1),
+        spare_name(entries, 2),
+    ) else {
+        return Err(taken(desk.image));
+    };
+    if has_name(entries, name) {
+        return Err(taken(desk.image));
+    }
+    let with_both = copied_spare(alloc, desk, slot, &old, &new)?;
+    let both = Desk {
+        image: desk.image,
+        bytes: with_both.as_slice(),
+    };
+    let with_old = named(alloc, both, slot, whole_name(entry), entry.is_locked())?;
+    let back = Desk {
+        image: desk.image,
+        bytes: with_old.as_slice(),
+    };
+    unspared(alloc, back, &new, name)
+}
+
+/// Refuses to copy what the drive's COPY doesn't take whole: a relative file, and one of GEOS.
+fn require_plain<'a>(entries: &[Entry], slot: usize, word: &'a str) -> Result<(), Failure<'a>> {
+    match entries.get(slot) {
+        Some(entry) if geos_of(entry).is_some() => Err(Failure::GeosCopy(word)),
+        Some(entry) if entry.is_relative() => Err(Failure::Records(word)),
+        _ => Ok(()),
+    }
+}
+
+/// The new image.
+fn done<'a>(
+    alloc: Global,
+    desk: Desk<'a, '_>,
+    choice: Choice<'a>,
+    deed: Deed<'a>,
+) -> Result<Vec<u8>, Failure<'a>> {
+    let entries = on_disk(desk.image, entries(alloc, desk.bytes))?;
+    let entries = entries.as_slice();
+    let slot = slot_chosen(alloc, entries, choice)?;
+    match deed {
+        Deed::Rename(word) => {
+            let name = new_name(alloc, choice.charset, word)?;
+            renamed(alloc, desk, entries, slot, name.as_slice())
+        }
+        Deed::Copy(word) => {
+            require_plain(entries, slot, choice.word())?;
+            let name = new_name(alloc, choice.charset, word)?;
+            copied(alloc, desk, entries, slot, name.as_slice())
+        }
+        Deed::Delete => deleted(alloc, desk, entries, slot, choice.word()),
+        Deed::Lock(is_locked) => match entries.get(slot) {
+            Some(entry) => named(alloc, desk, slot, whole_name(entry), is_locked),
+            None => Err(Failure::NoFile(choice.word())),
+        },
+    }
+}
+
+/// The image that is changed: where its BAM is written, none with another DOS's map.
+fn read_for<'a, R: Runtime + AllocGlobal>(
+    rt: &R,
+    image: &'a str,
+    deed: Deed<'_>,
+) -> Result<Vec<u8>, Failure<'a>> {
+    match deed {
+        Deed::Copy(_) | Deed::Delete => read_to_change(rt, image),
+        Deed::Rename(_) | Deed::Lock(_) => read_image(rt, image),
+    }
+}
+
+/// Does something with the file of an image that is chosen, and saves the image. Errors: those of `read_image`, of
+/// `read_to_change` and of `slot_chosen`; `Word`, where a new name can't be; `Disk`, where the name is there already or the disk
+/// refuses it; `Locked`; `Records` and `GeosCopy`; `NoMemory`; those of `replace`.
+pub fn do_with<'a, R: Runtime + AllocGlobal>(
+    rt: &R,
+    image: &'a str,
+    choice: Choice<'a>,
+    deed: Deed<'a>,
+) -> Result<(), Failure<'a>> {
+    let old = read_for(rt, image, deed)?;
+    let desk = Desk {
+        image,
+        bytes: old.as_slice(),
+    };
+    let new = done(rt.alloc(), desk, choice, deed)?;
+    replace(rt, image, old.as_slice(), new.as_slice())
+}

@@ -1,0 +1,113 @@
+//! The maps of tracks 36 to 40 that other DOSes keep in 18/0.
+use crate::formats::without_errors;
+use cbm_image::{Kind, kind_of};
+
+/// The size of a D64 of 40 tracks.
+const OF_40_TRACKS: usize = 196_608;
+
+/// Where the bytes of 18/0 begin in a D64.
+const HEAD: usize = 91_392;
+
+/// Where Dolphin DOS keeps its map of tracks 36 to 40 in 18/0.
+const DOLPHIN: usize = HEAD + 0xac;
+
+/// Where Speed DOS keeps it, and the drive here.
+const SPEED: usize = HEAD + 0xc0;
+
+/// How many bytes it has: four for each track.
+const BYTES: usize = 20;
+
+/// Whose map of tracks 36 to 40 a D64 of 40 tracks has.
+#[derive(Clone, Copy, Debug, PartialEq, Eq)]
+pub enum WideMap {
+    /// Speed DOS's, at $C0 of 18/0, by which the drive here goes.
+    Speed,
+    /// Dolphin DOS's, at $AC.
+    Dolphin,
+    /// Both.
+    Both,
+}
+
+impl WideMap {
+    /// How it is called.
+    pub fn name(self) -> &'static str {
+        match self {
+            WideMap::Speed => "Speed DOS, at $C0 of 18/0",
+            WideMap::Dolphin => "Dolphin DOS, at $AC of 18/0",
+            WideMap::Both => "Speed DOS, at $C0 of 18/0, and Dolphin DOS, at $AC",
+        }
+    }
+}
+
+/// Whether four bytes are the map of a track of 17 sectors: a count, and the bits of so many free ones.
+fn is_row(row: &[u8]) -> bool {
+    match row {
+        [count, first, second, third] => {
+            let free = first.count_ones() + second.count_ones() + u32::from(*third);
+            *third <= 1 && free == u32::from(*count)
+        }
+        _ => false,
+    }
+}
+
+/// Whether a map stands at a place: five rows, not all of them zeros.
+fn is_map_at(image: &[u8], place: usize) -> bool {
+    let Some(rows) = image.get(place..place.saturating_add(BYTES)) else {
+        return false;
+    };
+    for row in rows.chunks(4) {
+        if !is_row(row) {
+            return false;
+        }
+    }
+    rows.iter().any(|byte| *byte != 0)
+}
+
+/// Whose map of tracks 36 to 40 a D64 of 40 tracks has; None where it has none with a free sector, and for other images.
+pub fn wide_map(image: &[u8]) -> Option<WideMap> {
+    let image = without_errors(image);
+    if kind_of(image) != Kind::D64 || image.len() != OF_40_TRACKS {
+        return None;
+    }
+    match (is_map_at(image, SPEED), is_map_at(image, DOLPHIN)) {
+        (true, true) => Some(WideMap::Both),
+        (true, false) => Some(WideMap::Speed),
+        (false, true) => Some(WideMap::Dolphin),
+        (false, false) => None,
+    }
+}
+
+#[cfg(test)]
+mod tests {
+    use super::*;
+    use std::test::Fail;
+
+    // A D64 of 40 tracks with five rows of 17 free sectors at these places.
+    fn with_rows(rt: &HostRuntime, places: &[usize]) -> Result<Vec<u8>, Fail> {
+        let mut image = vec![in rt.alloc(); 0u8; OF_40_TRACKS]?;
+        for place in places {
+            for row in 0..5usize {
+                for (n, byte) in [17u8, 255, 255, 1].iter().enumerate() {
+                    let at = place.saturating_add(4 * row + n);
+                    if let Some(to) = image.as_mut_slice().get_mut(at) {
+                        *to = *byte;
+                    }
+                }
+            }
+        }
+        Ok(image)
+    }
+
+    #[test]
+    fn maps_are_told_apart(rt: HostRuntime) -> Result<(), Fail> {
+        let none = with_rows(&rt, &[])?;
+        assert_eq!(rt; wide_map(none.as_slice()), None);
+        let speed = with_rows(&rt, &[SPEED])?;
+        assert_eq!(rt; wide_map(speed.as_slice()), Some(WideMap::Speed));
+        let dolphin = with_rows(&rt, &[DOLPHIN])?;
+        assert_eq!(rt; wide_map(dolphin.as_slice()), Some(WideMap::Dolphin));
+        let both = with_rows(&rt, &[DOLPHIN, SPEED])?;
+        assert_eq!(rt; wide_map(both.as_slice()), Some(WideMap::Both));
+        Ok(())
+    }
+}
