@@ -1,7 +1,7 @@
 #!/usr/bin/env python3
-"""damaged_disks.py: 500 damaged disks, and what `check` and VALIDATE say of each, as a transcript (docs/CASES.md).
+"""damaged_disks.py: 500 damaged disks, and what `check` and VALIDATE say of each, as a transcript (docs/dev/transcripts.md).
 
-A plain reading of the D64 format and of the drive's rules (docs/DECISIONS.md), apart from the drive's own code: what it prints
+A plain reading of the D64 format and of the drive's rules (docs/quirks.md), apart from the drive's own code: what it prints
 is crates/cases/data/damaged.cases.
 """
 
@@ -258,7 +258,7 @@ def case(seed):
 
 
 if __name__ == "__main__":
-    print("; 500 damaged disks, written by tools/damaged_disks.py: what a check says of each, and what VALIDATE answers. Where it")
+    print("; 500 damaged disks, written by tools/make/damaged_disks.py: what a check says of each, and what VALIDATE answers. Where it")
     print("; refuses, the disk stays; else the disk is sound afterwards, and a second VALIDATE changes nothing.")
     print()
     print("== four files")

@@ -1,7 +1,7 @@
 """What a program's --help says, as a page for man, and as completions for bash, zsh and fish."""
 import re, subprocess
 
-OPTION = re.compile(r" +(?:(-\w), )?(--[\w-]+)(?: <([\w-]+)>)? {2,}(.*)")
+OPTION = re.compile(r" +(?:(-\w), )?(--[\w-]+)(?: <([^>]+)>)? {2,}(.*)")
 ARGUMENT = re.compile(r" +([<\[][\w-]+[>\]](?:\.\.\.)?) {2,}(.*)")
 COMMAND = re.compile(r"  ([\w-]+) {2,}(.*)")
 
@@ -25,8 +25,9 @@ class Help:
         for line in text.splitlines():
             if line.startswith("Usage: "):
                 self.usage = line.removeprefix("Usage: ")
-            elif line in ("Commands:", "Arguments:", "Options:"):
-                part = line
+            elif line.endswith(":") and line.startswith(("Commands", "Arguments", "Options")):
+                # (the commands may stand in several groups)
+                part = line.split()[0].strip(",:")
             elif line == "Examples:":
                 part = "end"
                 self.end.append(line)
@@ -34,11 +35,11 @@ class Help:
                 self.about += line
             elif part == "end":
                 self.end.append(line)
-            elif part == "Options:" and (it := OPTION.fullmatch(line)):
+            elif part == "Options" and (it := OPTION.fullmatch(line)):
                 self.options.append(Option(*it.groups()))
-            elif part == "Arguments:" and (it := ARGUMENT.fullmatch(line)):
+            elif part == "Arguments" and (it := ARGUMENT.fullmatch(line)):
                 self.arguments.append(it.groups())
-            elif part == "Commands:" and (it := COMMAND.fullmatch(line)):
+            elif part == "Commands" and (it := COMMAND.fullmatch(line)):
                 # (help is of clap's own)
                 self.commands += [it.groups()] if it[1] != "help" else []
             elif line:
@@ -49,6 +50,8 @@ class Program:
     def __init__(self, name, path):
         self.name, self.version, self.help = name, run(name, path, "--version").split()[-1], Help(run(name, path, "--help"))
         self.commands = [(command, about, Help(run(name, path, command, "--help"))) for command, about in self.help.commands]
+        # (its first word may be a file as well as a command)
+        self.takes_files = bool(self.help.arguments)
 
 
 # ---- the page for man
@@ -98,7 +101,8 @@ def marks_of(help):
 def bash(program):
     name = program.name
     cases = [f'        {command}) marks="{marks_of(help)}" ;;' for command, _, help in program.commands]
-    commands = " ".join(command for command, _, _ in program.commands)
+    commands = " ".join([*(command for command, _, _ in program.commands), *([] if program.takes_files else ["help"])])
+    files = " -f" if program.takes_files else ""
     lines = [
         f"_{name}() {{",
         "    local word=${COMP_WORDS[COMP_CWORD]} command= marks= i",
@@ -111,8 +115,8 @@ def bash(program):
         "    esac",
         "    if [[ $word == -* ]]; then",
         '        COMPREPLY=($(compgen -W "$marks" -- "$word"))',
-        f'    elif [[ -z $command && -n "{commands}" ]]; then',
-        f'        COMPREPLY=($(compgen -W "{commands} help" -- "$word"))',
+        "    elif [[ -z $command ]]; then",
+        f'        COMPREPLY=($(compgen -W "{commands}"{files} -- "$word"))',
         "    else",
         "        local IFS=$'\\n'",
         '        COMPREPLY=($(compgen -f -- "$word"))',
@@ -129,7 +133,7 @@ def quoted(text):
 
 def zsh_option(it):
     said = re.sub(r"([\[\]:\\])", r"\\\1", it.help)
-    value = f":{it.value}:_files" if it.value else ""
+    value = ":" + re.sub(r"([\[\]:])", r"\\\1", it.value) + ":_files" if it.value else ""
     if it.short:
         return quoted(f"({it.short} {it.long})") + "{" + f"{it.short},{it.long}" + "}" + quoted(f"[{said}]{value}")
     return quoted(f"{it.long}[{said}]{value}")
@@ -147,7 +151,7 @@ def zsh(program):
     if program.commands:
         lines += ["    local -a commands", "    commands=(", *described, "    )"]
         lines += ["    if (( CURRENT == 2 )); then", "        _describe command commands", f"        _arguments {zsh_words(program.help)}", "        return", "    fi"]
-        lines += ["    case $words[2] in", *cases, "    esac"]
+        lines += ["    case $words[2] in", *cases, f"        *) _arguments {zsh_words(program.help)} ;;", "    esac"]
     else:
         lines += [f"    _arguments {zsh_words(program.help)}"]
     return "\n".join([*lines, "}", f'_{name} "$@"']) + "\n"
@@ -168,7 +172,8 @@ def fish(program):
     name = program.name
     lines = []
     for command, about, help in program.commands:
-        lines.append(f"complete -c {name} -n __fish_use_subcommand -f -a {command} -d {fish_quoted(about)}")
+        alone = "" if program.takes_files else " -f"
+        lines.append(f"complete -c {name} -n __fish_use_subcommand{alone} -a {command} -d {fish_quoted(about)}")
         lines += fish_options(f"complete -c {name} -n '__fish_seen_subcommand_from {command}'", help)
     alone = " -n __fish_use_subcommand" if program.commands else ""
     lines += fish_options(f"complete -c {name}{alone}", program.help)

@@ -1,15 +1,16 @@
 #!/usr/bin/env python3
-"""definitions.py [--check]: makes docs/DEFINITIONS.md below its mark, from the comments in specs/: for each promise that the page speaks of the
-definitions that its contract reaches (tools/reached.py), each with its sentence, once, under the first promise that reaches it. What stands above the
-mark is written by hand and stays. --check changes nothing, and ends with 1 where the page isn't what this makes.
-In the crates of COMPLETE each definition must have a sentence of its own."""
+"""definitions.py [--check]: makes docs/proved/definitions/ from the comments in specs/: README.md below its mark (what is above it is written by hand), and a
+page for each part of PARTS. A page lists, promise by promise, the definitions that the contracts reach (tools/lib/reached.py), each once, under the first
+promise that reaches it. A definition has the comment above it as its sentence, or none; a sentence that stood before is given by the name that has it.
+--check changes nothing, and ends with 1 if a page isn't what this makes. In the crates of COMPLETE each definition must have a sentence of its own."""
 import dataclasses, pathlib, re, sys
 
+sys.path.insert(0, str(pathlib.Path(__file__).resolve().parents[1] / "lib"))
 from reached import Specs, contract, definitions
 
-ROOT = pathlib.Path(__file__).resolve().parent.parent
-PAGE = ROOT / "docs/DEFINITIONS.md"
-MARK = "<!-- What follows is made by tools/definitions.py, and isn't changed by hand. -->\n"
+ROOT = pathlib.Path(__file__).resolve().parents[2]
+FOLDER = ROOT / "docs/proved/definitions"
+MARK = "<!-- What follows is made by tools/docs/definitions.py, and isn't changed by hand. -->\n"
 
 
 @dataclasses.dataclass(frozen=True)
@@ -21,7 +22,7 @@ class Promise:
     names: tuple[str, ...]
 
 
-# From the lowest layer up; a part of the page is a heading and its promises.
+# From the lowest layer up: each part is a page, with its promises.
 PARTS = {
     "Sectors and images": [
         ("four bytes as five in group code", "cbm_gcr", "encode4 decode5"),
@@ -111,6 +112,8 @@ PARTS = {
     ],
 }
 
+# The page of each part, without its ending.
+PAGES = dict(zip(PARTS, "images content dos bus requests scripts tool library".split()))
 
 # The crates in which each definition has a sentence of its own.
 COMPLETE = (
@@ -120,23 +123,18 @@ COMPLETE = (
 
 
 def sentences(path):
-    """The sentence of each definition of a file: the comment above it, or that of the definition before it where it has none; the file's own; and the
-    definitions that have none."""
-    names, found, bare, comment, last = definitions(path), {}, [], [], ""
+    """The sentence of each definition of a file, which is the comment above it, or is empty; and the definitions that have none."""
+    names, found, comment = definitions(path), {}, []
     for line in path.read_text("utf-8").split("\n"):
         text = line.strip()
         start = re.match(r"(?:(?:abbrev|unfoldable|pub|record|data) )+([A-Za-z_][\w'-]*)", text)
         if text.startswith("-- ") and not text.startswith("-- ----"):
             comment.append(text[3:])
-        elif start and start[1] in names and start[1] not in found and not text.startswith("pub use"):
-            last = " ".join(comment) or last
-            found[start[1]] = last
-            bare += [] if comment else [start[1]]
-            comment = []
-        else:
-            comment = []
-    first = path.read_text("utf-8").split("\n")[0]
-    return found, first[3:] if first.startswith("-- ") else "", bare
+            continue
+        if start and start[1] in names and start[1] not in found and not text.startswith("pub use"):
+            found[start[1]] = " ".join(comment)
+        comment = []
+    return found, [it for it, sentence in found.items() if not sentence]
 
 
 def numbers_of(name, lines):
@@ -153,13 +151,13 @@ class Book:
     def __init__(self):
         self.specs = Specs(ROOT)
         crates = [it.split()[0].rstrip(":") for it in (ROOT / "crates.txt").read_text("utf-8").split("\n") if it and it[0] != "#"]
-        self.order, self.sentences, self.titles, self.bare = {}, {}, {}, []
+        self.order, self.sentences, self.bare, self.first, self.seen = {}, {}, [], {}, set()
         for module, (found, _, _) in self.specs.files.items():
             _, crate, _, file = module.split(".", 3)
             path = ROOT / "crates" / crate / "specs" / (file.replace(".", "/") + ".antt")
             lines = (ROOT / "crates" / crate / "specs/Lib.antt").read_text("utf-8").split("\n")
             place = [it.split()[-1] for it in lines if it.startswith("pub mod")]
-            self.sentences[module], self.titles[module], bare = sentences(path)
+            self.sentences[module], bare = sentences(path)
             self.bare += [f"{path.relative_to(ROOT)}: {it}" for it in bare if crate in COMPLETE]
             first = file.split(".")[0]
             for number, name in enumerate(found):
@@ -174,23 +172,31 @@ class Book:
     def lines(self, found):
         return sum(len(self.specs.files[module][0][name]) for module, name in found)
 
-    def rows(self, found):
-        """The rows of a table: file by file, the definitions that share a sentence in one row."""
+    def said(self, module, name):
+        """What a list says of a definition: its sentence, the name that had the same one before, or that it has none."""
+        sentence = self.sentences[module].get(name, "").rstrip(".")
+        before = self.first.setdefault(sentence, (module, name))
+        if not sentence:
+            sentence = "(no sentence)"
+        elif before != (module, name):
+            sentence = f"as `{before[1]}`" + ("" if before[0] == module else f" ({place_of(before[0])})")
+        numbers = numbers_of(name, self.specs.files[module][0][name])
+        return f"{sentence}: {numbers}" if numbers else sentence
+
+    def items(self, found):
+        """A list, file by file."""
         before = None
-        groups = []
         for module, name in sorted(found, key=self.order.get):
-            sentence = self.sentences[module].get(name, "") or self.titles[module]
-            numbers = numbers_of(name, self.specs.files[module][0][name])
-            sentence = f"{sentence.rstrip('.')}: {numbers}" if numbers else sentence
-            if groups and groups[-1][0] == module and groups[-1][1] == sentence:
-                groups[-1][2].append(name)
-            else:
-                groups.append((module, sentence, [name]))
-        for module, sentence, names in groups:
-            _, crate, _, file = module.split(".", 3)
-            where = "" if module == before else f"{crate} {file.replace('.', '/')}"
+            if module != before:
+                yield from ("", f"*{place_of(module)}*", "")
             before = module
-            yield f"| {where} | {', '.join(f'`{it}`' for it in names)} | {sentence.replace('|', chr(92) + '|')} |"
+            yield f"- `{name}`: {self.said(module, name)}"
+
+
+def place_of(module):
+    """The crate and the file of a module of definitions."""
+    _, crate, _, file = module.split(".", 3)
+    return f"{crate} {file.replace('.', '/')}"
 
 
 def counted(numbers):
@@ -203,50 +209,61 @@ def spelled(name):
 
 
 def made(book):
-    """What stands below the mark."""
-    every = {name: [Promise(text, crate, tuple(names.split())) for text, crate, names in rows] for name, rows in PARTS.items()}
+    """The pages, by name: of README.md what stands below the mark."""
+    every = {part: [Promise(text, crate, tuple(names.split())) for text, crate, names in rows] for part, rows in PARTS.items()}
     reached = {(it, name): book.reached(it.crate, name) for rows in every.values() for it in rows for name in it.names}
-    out = ["", "## How much a promise rests on", "", "| promise | contract | definitions | lines |", "|---|---|---|---|"]
-    for rows in every.values():
-        for it in rows:
-            found = [reached[it, name] for name in it.names]
-            out.append(f"| {it.text} | {it.crate} {', '.join(map(spelled, it.names))} | {counted(map(len, found))} | {counted(map(book.lines, found))} |")
-    seen = set()
+    return {"README.md": MARK + index(book, every, reached), **{f"{PAGES[it]}.md": part_page(book, it, every[it], reached) for it in every}}
+
+
+def index(book, every, reached):
+    """How much each promise rests on, with links to the pages."""
+    out = ["", "## How much a promise rests on", "", "Of each contract: how many definitions it reaches, and how many lines they have."]
     for part, rows in every.items():
-        out += ["", f"## {part}"]
+        out += ["", f"### [{part}]({PAGES[part]}.md)", ""]
         for it in rows:
-            found = set().union(*(reached[it, name] for name in it.names))
-            new, seen = found - seen, seen | found
-            out += ["", f"**{it.text[0].upper() + it.text[1:]}** ({it.crate} {', '.join(map(spelled, it.names))}): " + counts(len(found), len(new))]
-            if new:
-                out += ["", "| where | definition | the rule |", "|---|---|---|", *book.rows(new)]
+            sizes = (f"{spelled(name)} {len(reached[it, name]):,} ({book.lines(reached[it, name]):,} lines)" for name in it.names)
+            out.append(f"- {it.text} (in {it.crate}): {', '.join(sizes)}")
+    return "\n".join(out) + "\n"
+
+
+def part_page(book, part, rows, reached):
+    """The page of a part; what an earlier page lists isn't listed again."""
+    out = [f"# Definitions: {part[0].lower() + part[1:]}", "", MARK.rstrip("\n"), "", "A part of [the definitions, in plain words](README.md). Each is listed once, under the first promise that reaches it."]
+    for it in rows:
+        found = set().union(*(reached[it, name] for name in it.names))
+        new = found - book.seen
+        book.seen |= found
+        out += ["", f"## {it.text[0].upper() + it.text[1:]}", "", f"{it.crate} {', '.join(map(spelled, it.names))}: {counts(len(found), len(new))}", *book.items(new)]
     return "\n".join(out) + "\n"
 
 
 def counts(found, new):
-    """How many definitions a promise rests on, and how many of them stand in an earlier table."""
+    """How many definitions a promise rests on, and how many of them are listed earlier."""
     if not new:
-        return f"{found} definitions, all of which stand above."
-    return f"{found} definitions" + (f", of which {found - new} stand above." if found > new else ".")
+        return f"{found} definitions, all listed before."
+    return f"{found} definitions" + (f", {found - new} of them listed before." if found > new else ".")
 
 
 def main():
     if sys.argv[1:] not in ([], ["--check"]):
         sys.exit(__doc__)
-    page = PAGE.read_text("utf-8")
-    if page.count(MARK) != 1:
-        sys.exit(f"docs/DEFINITIONS.md: the mark must stand in it once: {MARK}")
+    above, mark, _ = (FOLDER / "README.md").read_text("utf-8").partition(MARK)
+    if not mark:
+        sys.exit(f"docs/proved/definitions/README.md: the mark must stand in it once: {MARK}")
     book = Book()
-    new = page.split(MARK)[0] + MARK + made(book)
+    pages = made(book)
+    pages["README.md"] = above + pages["README.md"]
     if sys.argv[1:] == []:
-        PAGE.write_text(new, "utf-8")
-    elif new != page:
-        line = next((n for n, (a, b) in enumerate(zip(page.split("\n"), new.split("\n")), 1) if a != b), "its end")
-        sys.exit(f"docs/DEFINITIONS.md: from line {line} on it isn't what tools/definitions.py makes of the sources")
+        for name, text in pages.items():
+            (FOLDER / name).write_text(text, "utf-8")
+    there = {it.name: it.read_text("utf-8") for it in FOLDER.glob("*.md")}
+    wrong = [it for it in sorted({*pages, *there}) if pages.get(it) != there.get(it)]
+    if wrong:
+        sys.exit("not what tools/docs/definitions.py makes of the sources: " + ", ".join(f"docs/proved/definitions/{it}" for it in wrong))
     if book.bare:
         sys.exit("definitions without a sentence:\n" + "\n".join(book.bare))
     if sys.argv[1:]:
-        print("the definitions: the page is what the sources say")
+        print("the definitions: the pages are what the sources say")
 
 
 if __name__ == "__main__":

@@ -1,12 +1,12 @@
 #!/usr/bin/env python3
-"""kernal_traces.py: jobs of a C64's KERNAL on the wires, as transcripts (docs/CASES.md).
+"""kernal_traces.py: jobs of a C64's KERNAL on the wires, as transcripts (docs/dev/transcripts.md).
 
 It plays the KERNAL's serial routines, counted in cycles from one access of the port to the next, in a closed loop with a drive
-that does what the rows of docs/BUS.md say, and writes the host's changes as requests and both parties' as answers. It knows
-nothing of the drive's code; the drive's disk is only what the jobs ask for. Moments are a model of these routines (docs/BUS.md,
+that does what the rows of docs/bus.md say, and writes the host's changes as requests and both parties' as answers. It knows
+nothing of the drive's code; the drive's disk is only what the jobs ask for. Moments are a model of these routines (docs/bus.md,
 "Real hosts"), and were measured at no computer.
 
-    tools/kernal_traces.py > crates/cases/data/kernal.cases
+    tools/make/kernal_traces.py > crates/cases/data/kernal.cases
 """
 
 PULL, FREE = "pull", "free"
@@ -19,7 +19,7 @@ NOT_FOUND = b"62,FILE NOT FOUND,00,00\r"
 
 
 class Drive:
-    """Drive 8: a row of docs/BUS.md for each cause. `waits` names the row, `due` is the moment of its reaction."""
+    """Drive 8: a row of docs/bus.md for each cause. `waits` names the row, `due` is the moment of its reaction."""
 
     def __init__(self, kernal):
         self.kernal = kernal
@@ -569,8 +569,8 @@ def unseen_pulse():
 
 
 def main():
-    print("; Jobs of a C64's KERNAL on the wires, written by tools/kernal_traces.py: what the computer changes is a model of its routines, what the")
-    print("; drive does are the rows of docs/BUS.md.")
+    print("; Jobs of a C64's KERNAL on the wires, written by tools/make/kernal_traces.py: what the computer changes is a model of its routines, what the")
+    print("; drive does are the rows of docs/bus.md.")
     print("\n== the disk of these jobs\ndisk empty\n> status\nstatus 73,CBM DOS V2.6 1541,00,00\nkeep old")
     directory()
     missing()

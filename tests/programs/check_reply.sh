@@ -1,0 +1,195 @@
+#!/bin/sh
+# Talks with drive1541 reply from outside: line changes and traces played by hand, a computer in Python, and what is refused.
+# Usage: sh check_reply.sh DRIVE1541 [DISK1541] (the paths of the built programs). Prints one line a case; ends with 1 if one is wrong.
+set -u
+drive=$(realpath "$1")
+tool=${2:+$(realpath "$2")}
+here=$(dirname "$(realpath "$0")")
+examples=$(realpath "$here/../../examples")
+work=$(mktemp -d)
+trap 'rm -rf "$work"' EXIT
+cd "$work" || exit 1
+cp "$examples/hello.d64" "$examples/hello.script" "$examples/listen.lines" "$examples/reply_host.py" .
+wrong=0
+
+is() {
+    name=$1
+    shift
+    if "$@"; then echo "ok    $name"; else echo "WRONG $name"; wrong=1; fi
+}
+
+# The changes among the answers; the marks; the host's changes of a trace as lines.
+changes() { grep -v '^ready\|^error' "$1"; }
+marks() { grep -c '^ready' "$1"; }
+host_of() { sed -n 's/ host / /p' "$1"; }
+
+# ---- the same as a script
+
+sed 1d listen.lines > listen.host
+"$drive" hello.d64 listen.lines > listen.trace
+"$drive" reply hello.d64 < listen.host > listen.answers
+is "line changes: ends well" test $? = 0
+changes listen.answers > listen.changes
+is "line changes: the changes of the script" cmp -s listen.trace listen.changes
+is "line changes: a mark for each line" test "$(marks listen.answers)" = "$(wc -l < listen.host)"
+
+"$drive" hello.d64 hello.script --trace hello.trace > /dev/null
+{ host_of hello.trace; echo "end 1000000"; } > hello.host
+for word in 8 8:20 8:20:profile; do
+    "$drive" reply hello.d64=hello.new --drive $word < hello.host > hello.answers
+    is "a script's lines, $word: ends well" test $? = 0
+    changes hello.answers > hello.changes
+    is "a script's lines, $word: its trace" cmp -s hello.trace hello.changes
+    is "a script's lines, $word: the disk stays" cmp -s hello.d64 hello.new
+done
+sed 's/$/\r/' hello.host > hello.dos
+"$drive" reply hello.d64 < hello.dos > hello.answers
+changes hello.answers > hello.changes
+is "lines that end with a return: the same" cmp -s hello.trace hello.changes
+
+# ---- a talk by hand: what comes of each line
+
+cat > talk.host <<'END'
+0 atn pull
+0 clock pull
+until 20
+
+; let go
+200 clock free
+until 220
+300 clock pull
+300 atn free
+end 1000
+END
+cat > talk.wanted <<'END'
+0 host atn pull
+ready 0 20
+0 host clock pull
+ready 0 20
+20 8 data pull
+ready 20
+ready 20
+ready 20
+200 host clock free
+ready 200 220
+220 8 data free
+ready 220 440
+300 host clock pull
+ready 300
+300 host atn free
+ready 300 320
+ready 1000
+END
+"$drive" reply hello.d64 < talk.host > talk.answers
+is "a talk: the answers of docs/reply.md" cmp -s talk.wanted talk.answers
+
+# A host that waits for each answer before it says more gets the same.
+python3 - "$drive" > talk.waited <<'END'
+import subprocess, sys
+drives = subprocess.Popen([sys.argv[1], "reply", "hello.d64"], stdin=subprocess.PIPE, stdout=subprocess.PIPE, text=True)
+for line in open("talk.host"):
+    drives.stdin.write(line)
+    drives.stdin.flush()
+    for answer in drives.stdout:
+        print(answer, end="")
+        if answer.startswith("ready"):
+            break
+sys.exit(drives.wait())
+END
+is "a talk, each answer waited for: ends well" test $? = 0
+is "a talk, each answer waited for: the same" cmp -s talk.wanted talk.waited
+
+# ---- a computer
+
+listing() {
+    cat <<END
+0 "TEST            " AB 2A
+1    "HELLO"            PRG
+1    "NOTE"             SEQ
+662 BLOCKS FREE.
+00, OK,00,00
+END
+}
+listing > listing.one
+for drives in "" "--drive 9:1" "--drive 8:60" "--drive 11:35:kernal" "--drive 8:20:kernal"; do
+    rm -f new.d64
+    python3 reply_host.py "$drive" hello.d64=new.d64 $drives > host.out
+    is "a computer, $drives: ends well" test $? = 0
+    is "a computer, $drives: the directory" cmp -s listing.one host.out
+    printf 'open 2 NOTE,S\nget 2 100\nstatus\n' > note.script
+    "$drive" new.d64 note.script > note.out
+    grep -q '^get 2 48454c4c4f20[0-9]*0d eoi$' note.out
+    is "a computer, $drives: the file" test $? = 0
+done
+if [ -n "$tool" ]; then "$tool" convert hello.d64 hello.g64; other=hello.g64; else other=hello.d64; fi
+listing > listing.all
+listing >> listing.all
+python3 reply_host.py "$drive" hello.d64=a.new $other=b.new > host.out
+is "two drives, $other: the directories" cmp -s listing.all host.out
+listing >> listing.all
+listing >> listing.all
+python3 reply_host.py "$drive" hello.d64=a.new $other=b.new hello.d64=c.new hello.d64=d.new --drive 11:60:kernal --drive 8:1 --drive 10:20 --drive 9:33:kernal > host.out
+is "four drives: the directories" cmp -s listing.all host.out
+for new in a b c d; do
+    "$drive" $new.new note.script > note.out
+    grep -q '^get 2 48454c4c4f20[0-9]*0d eoi$' note.out
+    is "four drives: the file of $new" test $? = 0
+done
+
+# ---- the end, and what is refused
+
+cp hello.d64 same.d64
+head -n -1 hello.host | "$drive" reply same.d64=same.d64 > ended.answers
+is "no end: ends well" test $? = 0
+is "no end: the image is saved" cmp -s hello.d64 same.d64
+
+# name, status, the last answer, the line on standard error, then the host's lines.
+refused() {
+    name=$1 status=$2 answer=$3 line=$4
+    shift 4
+    rm -f never.d64
+    printf '%s\n' "$@" | "$drive" reply hello.d64=never.d64 > refused.out 2> refused.err
+    is "$name: status $status" test $? = "$status"
+    is "$name: the answer" test "$(tail -n 1 refused.out)" = "$answer"
+    is "$name: the line" test "$(cat refused.err)" = "$line"
+    is "$name: nothing is saved" test ! -e never.d64
+}
+words="MOMENT LINE WAY is wanted, as 0 atn pull, or until MOMENT, or end MOMENT, with one space between two words"
+refused "no line" 1 "error 1: $words" "line 1 refused: $words" "0 reset pull"
+refused "two spaces" 1 "error 1: $words" "line 1 refused: $words" "0  atn pull"
+refused "a great moment" 1 "error 2: $words" "line 2 refused: $words" "until 1000000000000000" "until 1000000000000001"
+early="it comes too early, 21 is the first moment at which the host may change a line"
+refused "a change with a reaction" 1 "error 3: $early" "line 3 refused: $early" "0 atn pull" "until 20" "20 clock pull" "30 clock pull"
+early="it comes too early, 20 is the first moment at which the host may change a line"
+refused "a change before the last" 1 "error 2: $early" "line 2 refused: $early" "20 atn pull" "19 clock pull"
+over="its moment is over, the talk has come to 20"
+refused "a moment that is over" 1 "error 2: $over" "line 2 refused: $over" "20 atn pull" "until 19"
+refused "an end that is over" 1 "error 2: $over" "line 2 refused: $over" "until 20" "end 19"
+long=$(printf '%01001d' 0)
+refused "a long line" 1 "error 1: it has more than 1000 bytes" "line 1 refused: it has more than 1000 bytes" "$long"
+printf '; %0998d\nend 1\n' 0 | "$drive" reply hello.d64 > long.out
+is "a line of 1,000 bytes: ends well" test $? = 0
+is "a line of 1,000 bytes: two marks" test "$(marks long.out)" = 2
+
+# words of the command line that are refused, with their status
+not_asked() {
+    name=$1 status=$2
+    shift 2
+    echo "end 1" | "$drive" reply "$@" > asked.out 2> asked.err
+    is "$name: status $status" test $? = "$status"
+    is "$name: says why" test -s asked.err
+    is "$name: no answer" test ! -s asked.out
+}
+not_asked "no image" 1
+not_asked "five images" 1 hello.d64 hello.d64 hello.d64 hello.d64 hello.d64
+not_asked "two drives of one number" 1 hello.d64 hello.d64 --drive 9
+not_asked "more drives than images" 1 hello.d64 --drive 8 --drive 9
+not_asked "a number that is none" 1 hello.d64 --drive 12
+not_asked "no reaction" 1 hello.d64 --drive 8:0
+not_asked "a long reaction" 1 hello.d64 --drive 8:61
+not_asked "no pace" 1 hello.d64 --drive 8:20:c64
+not_asked "the same file twice" 1 hello.d64=x.d64 hello.d64=x.d64
+not_asked "standard output" 1 hello.d64=-
+not_asked "no such image" 3 missing.d64
+not_asked "no image of a disk" 2 hello.script
+exit $wrong
