@@ -62,6 +62,7 @@ typedef struct y1541_signal { uint64_t moment; uint8_t who, line, low; } y1541_s
 typedef struct y1541_place { uint8_t what, track, sector; } y1541_place; /* what: 1 to 9, docs/scripts.md */
 typedef struct y1541_title { uint16_t free; uint8_t title[16], mark[5]; } y1541_title;
 typedef struct y1541_entry { uint16_t blocks; uint8_t kind, closed, locked, record_length, name[16], track, sector; } y1541_entry; /* track, sector: of the file's first block */
+typedef struct y1541_flaw { uint8_t what, track, sector, whose; uint16_t slot, before; } y1541_flaw; /* whose sectors led to it: 0 nobody's, 1 the directory's, 2 those of the file in `slot`; before: how many of them */
 typedef struct y1541_lost { size_t unreadable; uint8_t tracks, errors, id; } y1541_lost;
 
 /* --- the library */
@@ -139,6 +140,13 @@ int32_t y1541_image_title(const uint8_t *image, size_t len, y1541_title *title);
  * directory can't be followed so far. */
 int32_t y1541_image_entry(const uint8_t *image, size_t len, uint8_t slot, y1541_entry *entry);
 
+/* [m] All entries of the directory, those of empty slots too: slot n is entries[n]. `count` gets how many there are, with NO_ROOM, too; 144 are
+ * always enough. A status: the directory breaks off after these, which are given all the same (71: it comes back to a sector of its own). */
+int32_t y1541_image_entries(const uint8_t *image, size_t len, y1541_entry *entries, size_t room, size_t *count);
+
+/* [m] Everything that is wrong with the disk, in the order in which a check looks: none if it is sound. `count` as above. */
+int32_t y1541_image_flaws(const uint8_t *image, size_t len, y1541_flaw *flaws, size_t room, size_t *count);
+
 /* [m] The directory as LOAD"$",8 gets it, with the files that match a pattern; all files if n is 0. NO_ROOM. A status. */
 int32_t y1541_image_list(const uint8_t *image, size_t len, const uint8_t *pattern, size_t n, uint8_t *out, size_t room, size_t *needed);
 
@@ -154,6 +162,34 @@ int32_t y1541_image_put(const uint8_t *image, size_t len, const uint8_t *text, s
 
 /* [m] The image after a command for channel 15, such as S0:NAME, R0:NEW=OLD, C0:NEW=OLD, N0:TITLE,ID or V0. As y1541_image_put. */
 int32_t y1541_image_command(const uint8_t *image, size_t len, const uint8_t *text, size_t n, uint8_t *out, size_t room, size_t *needed);
+
+/* The next calls take a file by the slot of its entry, whatever its name is. Each may answer ABSENT (no such slot, or it is empty), UNSOUND, and NO_ROOM. */
+
+/* [m] The bytes of the file in a slot; of a relative file all records. A status: its chain can't be followed. */
+int32_t y1541_image_read(const uint8_t *image, size_t len, uint8_t slot, uint8_t *out, size_t room, size_t *needed);
+
+/* [m] The image in which the file has another name, of 1 to 16 bytes. 63: a file has it already. INVALID: its length. */
+int32_t y1541_image_rename(const uint8_t *image, size_t len, uint8_t slot, const uint8_t *name, size_t n, uint8_t *out, size_t room, size_t *needed);
+
+/* [m] The image in which the file is locked against SCRATCH, or, with 0, isn't. */
+int32_t y1541_image_lock(const uint8_t *image, size_t len, uint8_t slot, uint8_t locked, uint8_t *out, size_t room, size_t *needed);
+
+/* [m] The image without the file, as SCRATCH leaves it. 26: it is locked. */
+int32_t y1541_image_delete(const uint8_t *image, size_t len, uint8_t slot, uint8_t *out, size_t room, size_t *needed);
+
+/* [m] The image with the deleted file of a slot again, as a file of this type (0 to 4). ABSENT: the slot has none, a block of it isn't free any more, or
+ * the disk has lost blocks (V0 first). INVALID: the type. */
+int32_t y1541_image_undelete(const uint8_t *image, size_t len, uint8_t slot, uint8_t kind, uint8_t *out, size_t room, size_t *needed);
+
+/* [m] The image in which the entries of two slots, empty or not, have changed places. */
+int32_t y1541_image_swap(const uint8_t *image, size_t len, uint8_t first, uint8_t second, uint8_t *out, size_t room, size_t *needed);
+
+/* [m] The image with another title, of at most 16 bytes. INVALID: its length. UNSOUND. NO_ROOM. */
+int32_t y1541_image_retitle(const uint8_t *image, size_t len, const uint8_t *title, size_t n, uint8_t *out, size_t room, size_t *needed);
+
+/* [m] The image with other five bytes after its title: the id, a byte, and the two of the DOS. INVALID: n isn't 5. UNSOUND. NO_ROOM. The ids in the
+ * sectors' headers stay. */
+int32_t y1541_image_remark(const uint8_t *image, size_t len, const uint8_t *mark, size_t n, uint8_t *out, size_t room, size_t *needed);
 
 /* [m] A new image of an empty disk: a y1541_form, a title of at most 16 bytes, and the two bytes of its id. INVALID: form or title. NO_ROOM. */
 int32_t y1541_image_new(uint8_t form, const uint8_t *title, size_t n, uint8_t id0, uint8_t id1, uint8_t *out, size_t room, size_t *needed);

@@ -199,15 +199,54 @@ int32_t y1541_image_title(const uint8_t *image, size_t len, y1541_title *title) 
     return said;
 }
 
+static void entry_from(const u8 *s, y1541_entry *entry) {
+    entry->blocks = (uint16_t)(s[0] | s[1] << 8);
+    entry->kind = s[2], entry->closed = s[3], entry->locked = s[4], entry->record_length = s[5];
+    memcpy(entry->name, s + 6, 16);
+    entry->track = s[22], entry->sector = s[23];
+}
+
 int32_t y1541_image_entry(const uint8_t *image, size_t len, uint8_t slot, y1541_entry *entry) {
     WITH_IMAGE
     said = signed32(IN(y1541_image_entry)(&m->in, copy, len, slot, m->small));
-    if (said == Y1541_OK) {
-        const u8 *s = at(m, m->small);
-        entry->blocks = (uint16_t)(s[0] | s[1] << 8);
-        entry->kind = s[2], entry->closed = s[3], entry->locked = s[4], entry->record_length = s[5];
-        memcpy(entry->name, s + 6, 16);
-        entry->track = s[22], entry->sector = s[23];
+    if (said == Y1541_OK) entry_from(at(m, m->small), entry);
+    machine_gone(m);
+    return said;
+}
+
+/* A call that gives structs: as many as the caller has room for, by their size in the module. No image has more than MOST_STRUCTS of them. */
+enum { ENTRY = 24, FLAW = 8, MOST_STRUCTS = 65536 };
+typedef u32 gives_structs(machine *m, u64 image, u64 len, u64 out, u64 room);
+
+static u32 call_entries(machine *m, u64 image, u64 len, u64 out, u64 room) { return IN(y1541_image_entries)(&m->in, image, len, out, room, m->small); }
+static u32 call_flaws(machine *m, u64 image, u64 len, u64 out, u64 room) { return IN(y1541_image_flaws)(&m->in, image, len, out, room, m->small); }
+
+/* The structs' place, or 0: there is no memory, or none were given. */
+static u64 structs_given(machine *m, gives_structs *call, u64 copy, size_t len, size_t size, size_t room, size_t *count, int32_t *said) {
+    size_t own = room < MOST_STRUCTS ? room : MOST_STRUCTS;
+    u64 place = room_in(m, own * size);
+    if (!place) return 0;
+    put_number(m, m->small, (u64)*count);
+    *said = signed32(call(m, copy, len, place, own));
+    *count = (size_t)number(m, m->small);
+    return *said >= Y1541_OK ? place : 0;
+}
+
+int32_t y1541_image_entries(const uint8_t *image, size_t len, y1541_entry *entries, size_t room, size_t *count) {
+    WITH_IMAGE
+    u64 place = structs_given(m, call_entries, copy, len, ENTRY, room, count, &said);
+    for (size_t i = 0; place && i < *count; i++) entry_from(at(m, place) + i * ENTRY, entries + i);
+    machine_gone(m);
+    return said;
+}
+
+int32_t y1541_image_flaws(const uint8_t *image, size_t len, y1541_flaw *flaws, size_t room, size_t *count) {
+    WITH_IMAGE
+    u64 place = structs_given(m, call_flaws, copy, len, FLAW, room, count, &said);
+    for (size_t i = 0; place && i < *count; i++) {
+        const u8 *s = at(m, place) + i * FLAW;
+        flaws[i].what = s[0], flaws[i].track = s[1], flaws[i].sector = s[2], flaws[i].whose = s[3];
+        flaws[i].slot = (uint16_t)(s[4] | s[5] << 8), flaws[i].before = (uint16_t)(s[6] | s[7] << 8);
     }
     machine_gone(m);
     return said;
@@ -230,6 +269,41 @@ static u32 call_new(machine *m, const u64 *a, u64 out, u64 room) {
 }
 static u32 call_convert(machine *m, const u64 *a, u64 out, u64 room) {
     return IN(y1541_image_convert)(&m->in, a[0], a[1], m->small + 8, out, room, m->small);
+}
+
+static u32 call_read(machine *m, const u64 *a, u64 out, u64 room) {
+    return IN(y1541_image_read)(&m->in, a[0], a[1], (u32)a[2], out, room, m->small);
+}
+static u32 call_rename(machine *m, const u64 *a, u64 out, u64 room) {
+    return IN(y1541_image_rename)(&m->in, a[0], a[1], (u32)a[2], a[3], a[4], out, room, m->small);
+}
+static u32 call_lock(machine *m, const u64 *a, u64 out, u64 room) {
+    return IN(y1541_image_lock)(&m->in, a[0], a[1], (u32)a[2], (u32)a[3], out, room, m->small);
+}
+static u32 call_delete(machine *m, const u64 *a, u64 out, u64 room) {
+    return IN(y1541_image_delete)(&m->in, a[0], a[1], (u32)a[2], out, room, m->small);
+}
+static u32 call_undelete(machine *m, const u64 *a, u64 out, u64 room) {
+    return IN(y1541_image_undelete)(&m->in, a[0], a[1], (u32)a[2], (u32)a[3], out, room, m->small);
+}
+static u32 call_swap(machine *m, const u64 *a, u64 out, u64 room) {
+    return IN(y1541_image_swap)(&m->in, a[0], a[1], (u32)a[2], (u32)a[3], out, room, m->small);
+}
+static u32 call_retitle(machine *m, const u64 *a, u64 out, u64 room) {
+    return IN(y1541_image_retitle)(&m->in, a[0], a[1], a[2], a[3], out, room, m->small);
+}
+static u32 call_remark(machine *m, const u64 *a, u64 out, u64 room) {
+    return IN(y1541_image_remark)(&m->in, a[0], a[1], a[2], a[3], out, room, m->small);
+}
+
+/* A call on a slot, and a number or nothing more. */
+static int32_t with_slot(gives *call, const uint8_t *image, size_t len, uint8_t slot, uint8_t more, uint8_t *out, size_t room, size_t *needed) {
+    WITH_IMAGE
+    u64 args[4];
+    args[0] = copy, args[1] = len, args[2] = slot, args[3] = more;
+    said = gave(m, call, args, out, room, needed);
+    machine_gone(m);
+    return said;
 }
 
 static int32_t with_text(gives *call, const uint8_t *image, size_t len, const uint8_t *text, size_t n, const uint8_t *bytes, size_t count, uint8_t *out, size_t room, size_t *needed) {
@@ -264,6 +338,43 @@ int32_t y1541_image_put(const uint8_t *image, size_t len, const uint8_t *text, s
 
 int32_t y1541_image_command(const uint8_t *image, size_t len, const uint8_t *text, size_t n, uint8_t *out, size_t room, size_t *needed) {
     return with_text(call_command, image, len, text, n, NULL, 0, out, room, needed);
+}
+
+int32_t y1541_image_read(const uint8_t *image, size_t len, uint8_t slot, uint8_t *out, size_t room, size_t *needed) {
+    return with_slot(call_read, image, len, slot, 0, out, room, needed);
+}
+
+int32_t y1541_image_rename(const uint8_t *image, size_t len, uint8_t slot, const uint8_t *name, size_t n, uint8_t *out, size_t room, size_t *needed) {
+    WITH_IMAGE
+    u64 args[5];
+    args[0] = copy, args[1] = len, args[2] = slot, args[3] = given(m, name, n), args[4] = n;
+    if (args[3]) said = gave(m, call_rename, args, out, room, needed);
+    machine_gone(m);
+    return said;
+}
+
+int32_t y1541_image_lock(const uint8_t *image, size_t len, uint8_t slot, uint8_t locked, uint8_t *out, size_t room, size_t *needed) {
+    return with_slot(call_lock, image, len, slot, locked, out, room, needed);
+}
+
+int32_t y1541_image_delete(const uint8_t *image, size_t len, uint8_t slot, uint8_t *out, size_t room, size_t *needed) {
+    return with_slot(call_delete, image, len, slot, 0, out, room, needed);
+}
+
+int32_t y1541_image_undelete(const uint8_t *image, size_t len, uint8_t slot, uint8_t kind, uint8_t *out, size_t room, size_t *needed) {
+    return with_slot(call_undelete, image, len, slot, kind, out, room, needed);
+}
+
+int32_t y1541_image_swap(const uint8_t *image, size_t len, uint8_t first, uint8_t second, uint8_t *out, size_t room, size_t *needed) {
+    return with_slot(call_swap, image, len, first, second, out, room, needed);
+}
+
+int32_t y1541_image_retitle(const uint8_t *image, size_t len, const uint8_t *title, size_t n, uint8_t *out, size_t room, size_t *needed) {
+    return with_text(call_retitle, image, len, title, n, NULL, 0, out, room, needed);
+}
+
+int32_t y1541_image_remark(const uint8_t *image, size_t len, const uint8_t *mark, size_t n, uint8_t *out, size_t room, size_t *needed) {
+    return with_text(call_remark, image, len, mark, n, NULL, 0, out, room, needed);
 }
 
 int32_t y1541_image_new(uint8_t form, const uint8_t *title, size_t n, uint8_t id0, uint8_t id1, uint8_t *out, size_t room, size_t *needed) {

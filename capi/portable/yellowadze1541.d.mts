@@ -82,6 +82,15 @@ export interface Entry {
   sector: number;
 }
 
+/** What is wrong: `what`, `track` and `sector` as in Place. */
+export interface Flaw extends Place {
+  /** Whose sectors led to it: 0 nobody's, 1 the directory's, 2 those of the file in `slot`. */
+  whose: number;
+  slot: number;
+  /** How many sectors of the chain come before it. */
+  before: number;
+}
+
 export interface Lost {
   unreadable: number;
   tracks: number;
@@ -114,11 +123,25 @@ export interface Library {
   title(image: Uint8Array): Title;
   /** The entry of a slot of the directory, or null past the last one. */
   entry(image: Uint8Array, slot: number): Entry | null;
+  /** All entries, those of empty slots too: the place in the list is the slot. The status is 0, or says why the directory breaks off after them. */
+  entries(image: Uint8Array): { entries: Entry[]; status: number };
+  flaws(image: Uint8Array): Flaw[];
   list(image: Uint8Array, pattern?: Bytes): Uint8Array;
   file(image: Uint8Array, pattern: Bytes): Uint8Array;
   sector(image: Uint8Array, track: number, sector: number): Uint8Array;
   put(image: Uint8Array, text: Bytes, data: Bytes): Uint8Array;
   command(image: Uint8Array, text: Bytes): Uint8Array;
+  /** The file in a slot, whatever its name is; the others give the image after the change. */
+  read(image: Uint8Array, slot: number): Uint8Array;
+  rename(image: Uint8Array, slot: number, name: Bytes): Uint8Array;
+  lock(image: Uint8Array, slot: number, isLocked: boolean): Uint8Array;
+  remove(image: Uint8Array, slot: number): Uint8Array;
+  undelete(image: Uint8Array, slot: number, kind: number): Uint8Array;
+  /** The entries of two slots change places. */
+  swap(image: Uint8Array, first: number, second: number): Uint8Array;
+  retitle(image: Uint8Array, title: Bytes): Uint8Array;
+  /** Other five bytes after the title: the id, a byte, and the two of the DOS. */
+  remark(image: Uint8Array, mark: Bytes): Uint8Array;
   create(form: Form, title: Bytes, id: Bytes): Uint8Array;
   convert(image: Uint8Array): { image: Uint8Array; lost: Lost };
   play(image: Uint8Array, changes: Omit<Signal, "who">[], end: number, settings?: Settings): { image: Uint8Array; events: Signal[] };

@@ -24,7 +24,8 @@ const TEXTS = {
   [NO_DRIVE]: "no drive, or one already",
 };
 // The sizes of structs in the header.
-const SIGNAL = 16, SECTOR = 256;
+const SIGNAL = 16, SECTOR = 256, ENTRY = 24, FLAW = 8;
+const SLOTS = 144, FLAWS = 4096;
 
 /** A call that the library refuses: a number below 0, or a status of the drive from 20 on. */
 export class Refused extends Error {
@@ -333,8 +334,30 @@ class Library {
   }
 
   entry(image, slot) {
-    const s = this.#struct("y1541_image_entry", 24, image, byte(slot, "slot"));
-    return s && { blocks: s[0] | (s[1] << 8), kind: s[2], closed: s[3] !== 0, locked: s[4] !== 0, recordLength: s[5], name: s.slice(6, 22), track: s[22], sector: s[23] };
+    const s = this.#struct("y1541_image_entry", ENTRY, image, byte(slot, "slot"));
+    return s && entryOf(s);
+  }
+
+  // The structs of this size that a call on an image gives, and what it answered. Where `room` of them are too few, it is asked again.
+  #structs(name, size, image, room) {
+    const it = this.#fresh(), out = it.room(size * room), count = it.put(new Uint8Array(8));
+    return it.with([image], (at, length) => {
+      const said = it.calls[name](at, length, out, BigInt(room), count);
+      const wanted = Number(it.view().getBigUint64(Number(count), true));
+      if (said === NO_ROOM) return this.#structs(name, size, image, wanted);
+      if (said < 0) throw new Refused(said);
+      const bytes = it.take(out, size * wanted);
+      return { said, structs: Array.from({ length: wanted }, (_, i) => bytes.subarray(size * i, size * (i + 1))) };
+    });
+  }
+
+  entries(image) {
+    const { said, structs } = this.#structs("y1541_image_entries", ENTRY, image, SLOTS);
+    return { entries: structs.map(entryOf), status: said };
+  }
+
+  flaws(image) {
+    return this.#structs("y1541_image_flaws", FLAW, image, FLAWS).structs.map(flawOf);
   }
 
   list(image, pattern = "") {
@@ -357,6 +380,45 @@ class Library {
 
   command(image, text) {
     return this.#made("y1541_image_command", [image, text], roomFor(image));
+  }
+
+  read(image, slot) {
+    return this.#made("y1541_image_read", [image], 0, byte(slot, "slot"));
+  }
+
+  // The image after a call that takes a slot before its other words.
+  #inSlot(name, image, slot, words, ...more) {
+    const it = this.#fresh();
+    return it.with([image, ...words], (at, size, ...rest) =>
+      it.given(roomFor(image), (...out) => it.calls[name](at, size, byte(slot, "slot"), ...rest, ...more, ...out)));
+  }
+
+  rename(image, slot, name) {
+    return this.#inSlot("y1541_image_rename", image, slot, [name]);
+  }
+
+  lock(image, slot, isLocked) {
+    return this.#inSlot("y1541_image_lock", image, slot, [], Number(!!isLocked));
+  }
+
+  remove(image, slot) {
+    return this.#inSlot("y1541_image_delete", image, slot, []);
+  }
+
+  undelete(image, slot, kind) {
+    return this.#inSlot("y1541_image_undelete", image, slot, [], byte(kind, "kind"));
+  }
+
+  swap(image, first, second) {
+    return this.#inSlot("y1541_image_swap", image, first, [], byte(second, "slot"));
+  }
+
+  retitle(image, title) {
+    return this.#made("y1541_image_retitle", [image, title], roomFor(image));
+  }
+
+  remark(image, mark) {
+    return this.#made("y1541_image_remark", [image, mark], roomFor(image));
   }
 
   create(form, title, id) {
@@ -392,6 +454,12 @@ class Library {
     });
   }
 }
+
+const entryOf = (s) => ({
+  blocks: s[0] | (s[1] << 8), kind: s[2], closed: s[3] !== 0, locked: s[4] !== 0, recordLength: s[5], name: s.slice(6, 22), track: s[22], sector: s[23],
+});
+
+const flawOf = (s) => ({ what: s[0], track: s[1], sector: s[2], whose: s[3], slot: s[4] | (s[5] << 8), before: s[6] | (s[7] << 8) });
 
 const signalBytes = (changes) => {
   const made = new Uint8Array(SIGNAL * changes.length), view = new DataView(made.buffer);

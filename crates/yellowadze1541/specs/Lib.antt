@@ -1,6 +1,2 @@
-pub mod Looks
-pub mod Changes
-pub mod Handles
-pub mod Drives
-pub mod Signals
-pub mod Plays
+pub mod Entries
+pub mod Slots

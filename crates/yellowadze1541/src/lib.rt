@@ -4,12 +4,14 @@
 mod changes;
 mod disks;
 mod drives;
+mod entries;
 mod handle;
 mod images;
 mod inner;
 mod plays;
 mod shapes;
+mod slots;
 
 pub use handle::Handle;
 pub use inner::Inner;
-pub use shapes::{Entry, Lost, Place, Pulls, Reacted, Signal, Title};
+pub use shapes::{Entry, Flaw, Lost, Place, Pulls, Reacted, Signal, Title};

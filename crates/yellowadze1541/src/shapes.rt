@@ -48,6 +48,24 @@ pub struct Entry {
     pub sector: u8,
 }
 
+/// Something that is wrong with a disk, and where.
+#[repr(C)]
+#[derive(Clone, Copy, Drop)]
+pub struct Flaw {
+    /// What: 1 to 9, as in `Place`.
+    pub what: u8,
+    /// The track.
+    pub track: u8,
+    /// The sector on it.
+    pub sector: u8,
+    /// Whose sectors were followed to it: 0 nobody's (it is a header or the BAM), 1 the directory's, 2 those of the file in `slot`.
+    pub whose: u8,
+    /// The slot of that file, else 0.
+    pub slot: u16,
+    /// How many sectors of the chain come before it.
+    pub before: u16,
+}
+
 /// What an image of the other format doesn't hold.
 #[repr(C)]
 #[derive(Clone, Copy, Drop)]

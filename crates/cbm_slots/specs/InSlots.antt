@@ -1,0 +1,145 @@
+-- A file by the slot of the directory in which its entry stands: another name, a lock, its end.
+use Rattle.std.specs.Prelude.{ℕ, ◌≡◌, ◌≢◌, ◌≤◌, ◌+◌, ◌*◌, ◌==◌, ◌&&◌, ◌⊎◌, ◌∷◌, [], not, Bool, true, false, List, Some, None, length, slice_get, slice_index, slice_range, bytes_eq, list_any}
+use Rattle.cbm_file.specs.Files.{Disk}
+use Rattle.cbm_directory.specs.Entries.{type_byte, bit_of, name_in}
+use Rattle.cbm_directory.specs.Slots.{Listed, directory_of}
+use Rattle.cbm_channel.specs.declared.Status.{Status}
+use Rattle.cbm_channel.specs.declared.Code.TheVariants.{FileExists, WriteProtected}
+use Rattle.cbm_machine.specs.Machines.{Machine}
+use Rattle.cbm_machine.specs.Calls.{after_open}
+use Rattle.cbm_image.specs.Images.{kind_of, content_of, ImageHolds}
+use Rattle.cbm_shell.specs.Images.{disk_tracks, machine_on, IsOpenFault, IsFailed}
+use Rattle.cbm_shell.specs.Reading.{IsReadFault}
+use Rattle.cbm_shell.specs.Editing.{IsUneditedIn, HasNoSlotIn}
+use Rattle.cbm_shell.specs.Changing.{IsFine}
+use Rattle.cbm_shell.specs.Art.{IsDressedIn}
+use Rattle.cbm_shell.specs.declared.changing.DiskChange.{DiskChange}
+use Rattle.cbm_shell.specs.declared.fault.ShellFault.{ShellFault}
+use Rattle.cbm_shell.specs.declared.fault.ShellFault.TheVariants as fault
+use Rattle.cbm_slots.specs.declared.meant.Meant.{Meant}
+
+-- what the directory of an image's disk lists
+abbrev pub directory_in : List ℕ → Listed
+directory_in image = directory_of (disk_tracks image) (content_of (kind_of image) image)
+
+-- the entries of an image's directory, which can be followed to its end
+abbrev pub entries_in : List ℕ → List (List ℕ) → Type 0
+entries_in image entries = directory_in image ≡ record { entries = entries; trouble = None }
+
+-- the slot of a list of entries has this one, and it isn't empty
+pub record HasFile (entries : List (List ℕ)) (slot : ℕ) (entry : List ℕ) : Type 0 where
+  pub there : slice_get entries slot ≡ Some entry
+  pub taken : (type_byte entry == 0) ≡ false
+
+-- an entry is that of a file of this name
+abbrev pub is_named : List ℕ → List ℕ → Bool
+is_named name entry = not (type_byte entry == 0) && bytes_eq (name_in entry) name
+
+-- one of the entries is
+abbrev pub has_name : List ℕ → List (List ℕ) → Bool
+has_name name entries = list_any (is_named name) entries
+
+-- how many blocks an entry says that its file has
+abbrev pub blocks_said : List ℕ → ℕ
+blocks_said entry = slice_index entry 28 + 256 * slice_index entry 29
+
+-- whether an entry's file is locked
+abbrev pub is_locked : List ℕ → Bool
+is_locked entry = bit_of (type_byte entry) 6
+
+-- the file of a slot is meant: what its entry says, beside all entries
+pub record IsMeant (slot : ℕ) (m : Meant) : Type 0 where
+  pub entry : List ℕ
+  pub there : HasFile m.entries.items slot entry
+  pub name : m.name ≡ slice_range entry 3 19
+  pub blocks : m.blocks ≡ blocks_said entry
+  pub locked : m.is_locked ≡ is_locked entry
+
+-- ---- changes of the entry
+
+-- THE FILE OF A SLOT HAS ANOTHER NAME, which no file had, and nothing else of the image is changed
+pub record IsRenamed (image : List ℕ) (slot : ℕ) (name new : List ℕ) : Type 0 where
+  pub entries : List (List ℕ)
+  pub entry : List ℕ
+  pub all : entries_in image entries
+  pub there : HasFile entries slot entry
+  pub free : has_name name entries ≡ false
+  pub dressed : IsDressedIn image slot name (blocks_said entry) (is_locked entry) new
+
+-- THE FILE OF A SLOT IS LOCKED, or freed, and nothing else of the image is changed
+pub record IsLocked (image : List ℕ) (slot : ℕ) (locked : Bool) (new : List ℕ) : Type 0 where
+  pub entries : List (List ℕ)
+  pub entry : List ℕ
+  pub all : entries_in image entries
+  pub there : HasFile entries slot entry
+  pub dressed : IsDressedIn image slot (slice_range entry 3 19) (blocks_said entry) locked new
+
+-- ---- SCRATCH
+
+-- the text of SCRATCH, with a name of two bytes
+abbrev pub scratch_text : List ℕ → List ℕ
+scratch_text name = 83 ∷ 48 ∷ 58 ∷ slice_index name 0 ∷ slice_index name 1 ∷ []
+
+-- the machine after a command
+abbrev pub commanded : List ℕ → Machine → Machine
+commanded text m = after_open 15 text m
+
+-- the drive carries out a command on an image's disk: of each disk that it holds, its machine reports no error, and the new image holds its disk
+abbrev pub IsCommanded : List ℕ → List ℕ → List ℕ → Type 0
+IsCommanded image text new = (d : Disk) → ImageHolds (kind_of image) image d →
+    IsFine (commanded text (machine_on image d)).status × ImageHolds (kind_of image) new (commanded text (machine_on image d)).disk
+
+-- THE FILE OF A SLOT IS DELETED: it isn't locked, its entry gets a name that no other file has, the drive scratches that, and the empty entry has its own name again
+pub record IsDeleted (image : List ℕ) (slot : ℕ) (new : List ℕ) : Type 0 where
+  pub entries : List (List ℕ)
+  pub entry : List ℕ
+  pub spare : List ℕ
+  pub hidden : List ℕ
+  pub all : entries_in image entries
+  pub there : HasFile entries slot entry
+  pub unlocked : is_locked entry ≡ false
+  pub free : has_name spare entries ≡ false
+  pub dressed : IsDressedIn image slot spare (blocks_said entry) false hidden
+  pub scratched : List ℕ
+  pub done : IsCommanded hidden (scratch_text spare) scratched
+  pub named : IsDressedIn scratched slot (slice_range entry 3 19) (blocks_said entry) false new
+
+-- ---- why nothing is changed
+
+-- a slot means no file: the image isn't opened, its directory breaks off, or the slot isn't there or is empty
+abbrev pub IsNoFile : List ℕ → ℕ → ShellFault → Type 0
+IsNoFile image slot f = (IsOpenFault image f ⊎ IsReadFault (directory_in image).trouble f) ⊎ (f ≡ fault.NotFound)
+
+-- the drive's refusal by a code
+abbrev pub IsRefusal : Status → ShellFault → Type 0
+IsRefusal s f = f ≡ fault.Refused s
+
+-- nothing is renamed: the slot means no file, a file has the name, or the disk isn't sound
+abbrev pub IsNotRenamed : List ℕ → ℕ → List ℕ → ShellFault → Type 0
+IsNotRenamed image slot name f = IsNoFile image slot f
+    ⊎ (((entries : List (List ℕ)) × entries_in image entries × (has_name name entries ≡ true) × IsRefusal (record { code = FileExists; first = 0; second = 0 }) f)
+    ⊎ IsUneditedIn image (HasNoSlotIn image slot) f)
+
+-- nothing is locked or freed: the slot means no file, or the disk isn't sound
+abbrev pub IsNotLocked : List ℕ → ℕ → ShellFault → Type 0
+IsNotLocked image slot f = IsNoFile image slot f ⊎ IsUneditedIn image (HasNoSlotIn image slot) f
+
+-- the drive doesn't scratch the file under its spare name: the new image isn't opened, memory runs out, or the machine refuses it
+pub record IsNotScratched (f : ShellFault) : Type 0 where
+  pub hidden : List ℕ
+  pub change : DiskChange
+  pub failed : (d : Disk) → ImageHolds (kind_of hidden) hidden d → IsFailed hidden change (machine_on hidden d) f
+
+-- the file is locked, and so isn't deleted
+abbrev pub IsKeptByLock : List ℕ → ℕ → ShellFault → Type 0
+IsKeptByLock image slot f = (entries : List (List ℕ)) × (entry : List ℕ) × entries_in image entries × HasFile entries slot entry × (is_locked entry ≡ true)
+    × IsRefusal (record { code = WriteProtected; first = 0; second = 0 }) f
+
+-- what is left after SCRATCH isn't dressed: want of memory, or a fault that no sound disk has
+abbrev pub IsNotNamed : ℕ → ShellFault → Type 0
+IsNotNamed slot f = (scratched : List ℕ) × IsUneditedIn scratched (HasNoSlotIn scratched slot) f
+
+-- nothing is deleted: the slot means no file, the file is locked, all spare names are taken, the disk isn't sound, or the drive refuses it
+abbrev pub IsNotDeleted : List ℕ → ℕ → ShellFault → Type 0
+IsNotDeleted image slot f = IsNoFile image slot f ⊎ (IsKeptByLock image slot f ⊎ (IsRefusal (record { code = FileExists; first = 0; second = 0 }) f
+    ⊎ (IsUneditedIn image (HasNoSlotIn image slot) f ⊎ (IsNotScratched f ⊎ IsNotNamed slot f))))

@@ -1,0 +1,70 @@
+//! DELETE: the drive's SCRATCH, of the one file that is meant.
+ghost use Rattle.std.specs.Prelude.{◌≡◌, ◌++◌, false, None, Some, IfOk, IfErr, IfSome, OnOk, MatchOption, length};
+ghost use Rattle.cbm_image.specs.Images.{kind_of, image_fault};
+ghost use Rattle.cbm_shell.specs.Images.{IsSoundImage};
+ghost use Rattle.cbm_slots.specs.InSlots.{has_name, scratch_text, IsDeleted, IsNotDeleted};
+
+use crate::meant::{has_name, meant, refused};
+use cbm_channel::Code;
+use cbm_shell::{DiskChange, Looks, ShellFault, change, dress};
+use cbm_volume::Entry;
+use std::alloc::Global;
+
+/// The first and the second byte of spare names are below this. No command of the drive gives a meaning to any of them.
+const SPARE: u8 = 13;
+
+/// A name that no file has and that SCRATCH takes for nothing else; None if all 144 are taken.
+fn spare_name(entries: &[Entry]) -> Option<[u8; 2]>
+    ensures { IfSome result (λ name. has_name name entries.now ≡ false) }
+{
+    for first in 1..SPARE {
+        for second in 1..SPARE {
+            let name = [first, second];
+            if !has_name(entries, &name) {
+                return Some(name);
+            }
+        }
+    }
+    None
+}
+
+/// SCRATCH of a name.
+fn scratch_text(name: &[u8; 2]) -> [u8; 5]
+    ensures { result ≡ scratch_text name.now }
+{
+    [b'S', b'0', b':', name[0], name[1]]
+}
+
+/// Deletes the file in a slot of an image: it gets a name that no other file has, the drive scratches that, and the empty entry
+/// gets its own name again, under which it can be given back. Errors: `Image`;
+/// `Trouble`, if the directory breaks off; `NotFound`, if the slot has no file; `Refused` with WRITE PROTECT ON, if it is locked;
+/// `Refused`, as the drive refuses SCRATCH; `Unsound`, with what is wrong first; `Memory`.
+pub fn delete(alloc: Global, image: &[u8], slot: u8) -> Result<Vec<u8>, ShellFault>
+    ensures deleted { IfOk result (λ v. IsDeleted image.now slot v.items) }
+    ensures sound { OnOk result (IsSoundImage (kind_of image.now) image.now) }
+    ensures stays { IfOk result (λ v. IsSoundImage (kind_of image.now) v.items) }
+    ensures opens { IfOk result (λ v. image_fault (kind_of image.now) v.items ≡ None) }
+    ensures fault { IfErr result (IsNotDeleted image.now slot) }
+{
+    let meant = meant(alloc, image, slot)?;
+    if meant.is_locked {
+        return Err(refused(Code::WriteProtected));
+    }
+    let Some(spare) = spare_name(meant.entries.as_slice()) else {
+        return Err(refused(Code::FileExists));
+    };
+    let looks = Looks {
+        name: &spare,
+        blocks: meant.blocks,
+        is_locked: false,
+    };
+    let hidden = dress(alloc, image, slot, looks)?;
+    let text = scratch_text(&spare);
+    let scratched = change(alloc, hidden.as_slice(), &DiskChange::Command(&text))?;
+    let looks = Looks {
+        name: &meant.name,
+        blocks: meant.blocks,
+        is_locked: false,
+    };
+    dress(alloc, scratched.as_slice(), slot, looks)
+}

@@ -1,0 +1,9 @@
+//! Files by the slot of the directory in which their entry stands, for those whose names no command of the drive can say, or that share one with another file.
+#![tactic(auto)]
+
+mod deleting;
+mod dressing;
+mod meant;
+
+pub use deleting::delete;
+pub use dressing::{lock, rename};
