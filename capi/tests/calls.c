@@ -108,6 +108,65 @@ static void form_of(uint8_t form, const char *what) {
     y1541_close(&b.drive[0]);
 }
 
+/* Whether the entry in a slot has this name, filled up with $A0, and is or isn't locked. */
+static int has_entry(const uint8_t *image, size_t len, uint8_t slot, const char *name, int locked) {
+    y1541_entry entry;
+    if (y1541_image_entry(image, len, slot, &entry) != Y1541_OK || entry.locked != locked) return 0;
+    for (size_t i = 0, n = strlen(name); i < 16; i++)
+        if (entry.name[i] != (i < n ? (uint8_t)name[i] : 0xa0)) return 0;
+    return 1;
+}
+
+/* Files by their slots: names that no command of the drive can say, and one that two files have. */
+static void by_slot(uint8_t form) {
+    static uint8_t a[ROOM], b[ROOM], bytes[1000];
+    size_t len = 0, needed = 0, n = 0;
+    y1541_entry entries[144];
+    y1541_flaw flaws[10];
+    y1541_title title;
+    expect(y1541_image_new(form, (const uint8_t *)"SLOTS", 5, 'I', 'D', a, ROOM, &len) == Y1541_OK, "a disk for slots");
+    expect(y1541_image_put(a, len, (const uint8_t *)"ONE,P,W", 7, program, sizeof program, b, ROOM, &needed) == Y1541_OK, "the first file");
+    expect(y1541_image_put(b, needed, (const uint8_t *)"TWO,S,W", 7, program, 2, a, ROOM, &len) == Y1541_OK, "the second");
+    expect(y1541_image_entries(a, len, entries, 144, &n) == Y1541_OK && n == 8 && entries[0].kind == 2 && entries[1].kind == 1 && entries[2].kind == 0 && entries[1].blocks == 1, "all entries of a sector");
+    expect(y1541_image_entries(a, len, entries, 7, &n) == Y1541_NO_ROOM && n == 8, "no room for the entries");
+    expect(y1541_image_read(a, len, 1, bytes, sizeof bytes, &n) == Y1541_OK && n == 2 && same_bytes(bytes, program, 2), "the bytes of the second");
+    expect(y1541_image_read(a, len, 8, bytes, sizeof bytes, &n) == Y1541_ABSENT && n == 2, "past the last slot");
+    expect(y1541_image_rename(a, len, 0, (const uint8_t *)"TWO", 3, b, ROOM, &needed) == 63, "a name that is there");
+    expect(y1541_image_rename(a, len, 0, (const uint8_t *)"", 0, b, ROOM, &needed) == Y1541_INVALID && y1541_image_rename(a, len, 0, program, 17, b, ROOM, &needed) == Y1541_INVALID, "no name, a long one");
+    expect(y1541_image_rename(a, len, 2, (const uint8_t *)"X", 1, b, ROOM, &needed) == Y1541_ABSENT, "an empty slot");
+    expect(y1541_image_rename(a, len, 0, (const uint8_t *)"T*,\"", 4, b, ROOM, &needed) == Y1541_OK && has_entry(b, needed, 0, "T*,\"", 0) && has_entry(b, needed, 1, "TWO", 0), "any name");
+    expect(y1541_image_lock(b, needed, 0, 1, a, ROOM, &len) == Y1541_OK && has_entry(a, len, 0, "T*,\"", 1), "locked");
+    expect(y1541_image_delete(a, len, 0, b, ROOM, &needed) == 26, "a locked file stays");
+    expect(y1541_image_lock(a, len, 0, 0, b, ROOM, &needed) == Y1541_OK && has_entry(b, needed, 0, "T*,\"", 0), "freed");
+    expect(y1541_image_swap(b, needed, 0, 1, a, ROOM, &len) == Y1541_OK && has_entry(a, len, 0, "TWO", 0) && has_entry(a, len, 1, "T*,\"", 0), "changed places");
+    expect(y1541_image_swap(a, len, 0, 8, b, ROOM, &needed) == Y1541_ABSENT, "no such slot");
+    expect(y1541_image_delete(a, len, 1, b, ROOM, &needed) == Y1541_OK && has_entry(b, needed, 0, "TWO", 0) && y1541_image_title(b, needed, &title) == Y1541_OK && title.free == (form == Y1541_D64_40 ? 748 : 663), "one is deleted, and no other");
+    expect(y1541_image_delete(b, needed, 1, a, ROOM, &len) == Y1541_ABSENT, "once");
+    expect(y1541_image_undelete(b, needed, 1, 5, a, ROOM, &len) == Y1541_INVALID && y1541_image_undelete(b, needed, 0, 2, a, ROOM, &len) == Y1541_ABSENT, "no type, no deleted file");
+    expect(y1541_image_undelete(b, needed, 1, 2, a, ROOM, &len) == Y1541_OK && has_entry(a, len, 1, "T*,\"", 0), "given back under its name");
+    expect(y1541_image_read(a, len, 1, bytes, sizeof bytes, &n) == Y1541_OK && n == sizeof program && same_bytes(bytes, program, sizeof program), "with its bytes");
+    expect(y1541_image_retitle(a, len, program, 17, b, ROOM, &needed) == Y1541_INVALID && y1541_image_remark(a, len, program, 4, b, ROOM, &needed) == Y1541_INVALID, "no title, no id");
+    expect(y1541_image_retitle(a, len, (const uint8_t *)"OTHER", 5, b, ROOM, &needed) == Y1541_OK && y1541_image_remark(b, needed, (const uint8_t *)"XY 2A", 5, a, ROOM, &len) == Y1541_OK
+        && y1541_image_title(a, len, &title) == Y1541_OK && same_bytes(title.title, (const uint8_t *)"OTHER\xa0", 6) && same_bytes(title.mark, (const uint8_t *)"XY 2A", 5), "another title and id");
+    expect(y1541_image_flaws(a, len, flaws, 10, &n) == Y1541_OK && n == 0, "nothing is wrong");
+}
+
+/* A directory that leads back to its first sector, and a file whose block is free: on a D64 of 35 tracks, where 18/1 begins at byte 91,648. */
+static void broken(void) {
+    static uint8_t a[ROOM], b[ROOM];
+    size_t len = 0, needed = 0, n = 0;
+    y1541_entry entries[144];
+    y1541_flaw flaws[10];
+    expect(y1541_image_new(Y1541_D64_35, (const uint8_t *)"B", 1, 'I', 'D', b, ROOM, &needed) == Y1541_OK && y1541_image_put(b, needed, (const uint8_t *)"F,P,W", 5, program, sizeof program, a, ROOM, &len) == Y1541_OK, "a disk to break");
+    uint8_t *map = a + 91392 + 4 * 17;
+    a[91648] = 18, a[91649] = 1, map[0]++, map[1] |= 1;
+    expect(y1541_image_entries(a, len, entries, 144, &n) == 71 && n == 8 && entries[0].kind == 2, "entries up to the loop");
+    expect(y1541_image_flaws(a, len, flaws, 1, &n) == Y1541_NO_ROOM && n == 2, "no room for the flaws");
+    expect(y1541_image_flaws(a, len, flaws, 10, &n) == Y1541_OK && n == 2 && flaws[0].what == 3 && flaws[0].whose == 1 && flaws[0].track == 18 && flaws[0].sector == 1, "the loop is told");
+    expect(flaws[1].what == 2 && flaws[1].whose == 2 && flaws[1].slot == 0 && flaws[1].track == 17 && flaws[1].sector == 0 && flaws[1].before == 0, "and the file's free block");
+    expect(y1541_image_rename(a, len, 0, (const uint8_t *)"G", 1, b, ROOM, &needed) > 0, "and nothing is changed");
+}
+
 /* A disk in a drive that goes on: its image while a file is being written, how often it was written, and another disk in its place. */
 static void exchanged(const uint8_t *image, size_t len, uint8_t form) {
     static uint8_t disk[ROOM], now[ROOM], other[ROOM], bytes[70000];
@@ -227,6 +286,7 @@ int main(int argc, char **argv) {
     expect(y1541_version() == Y1541_VERSION, "the version");
     refused(image, len);
     refused_images(image, len);
+    by_slot(Y1541_D64_35), by_slot(Y1541_D64_40), by_slot(Y1541_G64), broken();
     form_of(Y1541_D64_35, "a D64");
     form_of(Y1541_D64_40, "a D64 of 40 tracks");
     form_of(Y1541_G64, "a G64");

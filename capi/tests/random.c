@@ -81,11 +81,12 @@ static int32_t on_image(void) {
     uint8_t *a = some_image(&n), *text = some_text(&m), *out = malloc(room ? room : 1);
     y1541_place place;
     y1541_title title;
-    y1541_entry entry;
+    y1541_entry entry, entries[144];
+    y1541_flaw flaws[144];
     y1541_lost lost;
     int32_t said = 0;
     if (!out) exit(2);
-    switch (by_chance(10)) {
+    switch (by_chance(20)) {
     case 0: said = y1541_image_check(a, n, &place); break;
     case 1: said = y1541_image_title(a, n, &title); break;
     case 2: said = y1541_image_entry(a, n, (uint8_t)by_chance(256), &entry); break;
@@ -95,6 +96,16 @@ static int32_t on_image(void) {
     case 6: said = y1541_image_put(a, n, text, m, image, by_chance(3000), out, room, &needed); break;
     case 7: said = y1541_image_command(a, n, text, m, out, room, &needed); break;
     case 8: said = y1541_image_new((uint8_t)by_chance(4), text, m, (uint8_t)by_chance(256), (uint8_t)by_chance(256), out, room, &needed); break;
+    case 9: said = y1541_image_entries(a, n, entries, by_chance(145), &needed); break;
+    case 10: said = y1541_image_flaws(a, n, flaws, by_chance(145), &needed); break;
+    case 11: said = y1541_image_read(a, n, (uint8_t)by_chance(20), out, room, &needed); break;
+    case 12: said = y1541_image_rename(a, n, (uint8_t)by_chance(20), text, m, out, room, &needed); break;
+    case 13: said = y1541_image_lock(a, n, (uint8_t)by_chance(20), (uint8_t)by_chance(2), out, room, &needed); break;
+    case 14: said = y1541_image_delete(a, n, (uint8_t)by_chance(20), out, room, &needed); break;
+    case 15: said = y1541_image_undelete(a, n, (uint8_t)by_chance(20), (uint8_t)by_chance(6), out, room, &needed); break;
+    case 16: said = y1541_image_swap(a, n, (uint8_t)by_chance(20), (uint8_t)by_chance(20), out, room, &needed); break;
+    case 17: said = y1541_image_retitle(a, n, text, m, out, room, &needed); break;
+    case 18: said = y1541_image_remark(a, n, text, m, out, room, &needed); break;
     default: said = y1541_image_convert(a, n, &lost, out, room, &needed); break;
     }
     free(a), free(text), free(out);

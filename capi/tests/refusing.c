@@ -82,6 +82,16 @@ static int32_t makes(void) { return y1541_image_new(0, (const uint8_t *)"T", 1, 
 static int32_t makes_g64(void) { return y1541_image_new(2, (const uint8_t *)"T", 1, 1, 2, out, ROOM, &needed); }
 static int32_t converts(void) { y1541_lost l; return y1541_image_convert(image, len, &l, out, ROOM, &needed); }
 
+static int32_t enters_all(void) { static y1541_entry e[144]; return y1541_image_entries(image, len, e, 144, &needed); }
+static int32_t flaws_all(void) { static y1541_flaw f[10]; return y1541_image_flaws(image, len, f, 10, &needed); }
+static int32_t reads_slot(void) { return y1541_image_read(image, len, 0, out, ROOM, &needed); }
+static int32_t renames(void) { return y1541_image_rename(image, len, 0, (const uint8_t *)"*", 1, out, ROOM, &needed); }
+static int32_t locks(void) { return y1541_image_lock(image, len, 0, 1, out, ROOM, &needed); }
+static int32_t deletes(void) { return y1541_image_delete(image, len, 0, out, ROOM, &needed); }
+static int32_t swaps(void) { return y1541_image_swap(image, len, 0, 1, out, ROOM, &needed); }
+static int32_t retitles(void) { return y1541_image_retitle(image, len, (const uint8_t *)"T", 1, out, ROOM, &needed); }
+static int32_t remarks(void) { return y1541_image_remark(image, len, (const uint8_t *)"ID 2A", 5, out, ROOM, &needed); }
+
 static int32_t plays(void) {
     static const y1541_signal host[] = {{1000, 0, Y1541_ATN, 1}, {3000, 0, Y1541_ATN, 0}};
     static y1541_signal events[100];
@@ -91,7 +101,8 @@ static int32_t plays(void) {
 
 static const struct { const char *name; int32_t (*call)(void); } calls[] = {
     {"open", opens}, {"check", checks}, {"title", titles}, {"entry", enters}, {"list", lists}, {"file", files}, {"sector", reads},
-    {"put", puts_file}, {"command", commands}, {"new", makes}, {"new g64", makes_g64}, {"convert", converts}, {"play", plays},
+    {"entries", enters_all}, {"flaws", flaws_all}, {"read", reads_slot}, {"rename", renames}, {"lock", locks}, {"delete", deletes}, {"swap", swaps},
+    {"retitle", retitles}, {"remark", remarks}, {"put", puts_file}, {"command", commands}, {"new", makes}, {"new g64", makes_g64}, {"convert", converts}, {"play", plays},
     {"image", shows}, {"eject", ejects}, {"insert", inserts},
 };
 

@@ -106,6 +106,10 @@ static int32_t on_drive(y1541 *d, uint64_t *now) {
     }
 }
 
+static void saw_entry(const y1541_entry *e) {
+    saw(e->blocks), saw(e->kind), saw(e->closed), saw(e->locked), saw(e->record_length), saw_bytes(e->name, 16), saw(e->track), saw(e->sector);
+}
+
 /* A call on an image. */
 static int32_t on_image(void) {
     size_t n, m, needed = 0, room = by_chance(3) ? 400000 : by_chance(500);
@@ -114,10 +118,12 @@ static int32_t on_image(void) {
     y1541_title title;
     y1541_entry entry;
     y1541_lost lost = {7, 7, 7, 7};
-    memset(&title, 7, sizeof title), memset(&entry, 7, sizeof entry);
+    static y1541_entry entries[144];
+    static y1541_flaw flaws[144];
+    memset(&title, 7, sizeof title), memset(&entry, 7, sizeof entry), memset(entries, 7, sizeof entries), memset(flaws, 7, sizeof flaws);
     int32_t said = 0;
     if (!out) exit(2);
-    switch (by_chance(11)) {
+    switch (by_chance(21)) {
     case 10: {
         y1541_signal host[20], *events = malloc(60 * sizeof *events);
         size_t count = 9, changes = by_chance(21), events_room = by_chance(60);
@@ -144,11 +150,25 @@ static int32_t on_image(void) {
     case 6: said = y1541_image_put(a, n, text, m, image, by_chance(3000), out, room, &needed); break;
     case 7: said = y1541_image_command(a, n, text, m, out, room, &needed); break;
     case 8: b[0] = (uint8_t)by_chance(4), b[1] = (uint8_t)by_chance(256), b[2] = (uint8_t)by_chance(256), said = y1541_image_new(b[0], text, m, b[1], b[2], out, room, &needed); break;
+    case 9: said = y1541_image_entries(a, n, entries, by_chance(145), &needed); break;
+    case 11: said = y1541_image_flaws(a, n, flaws, by_chance(145), &needed); break;
+    case 12: said = y1541_image_read(a, n, (uint8_t)by_chance(20), out, room, &needed); break;
+    case 13: said = y1541_image_rename(a, n, (uint8_t)by_chance(20), text, m, out, room, &needed); break;
+    case 14: b[0] = (uint8_t)by_chance(20), b[1] = (uint8_t)by_chance(2), said = y1541_image_lock(a, n, b[0], b[1], out, room, &needed); break;
+    case 15: said = y1541_image_delete(a, n, (uint8_t)by_chance(20), out, room, &needed); break;
+    case 16: b[0] = (uint8_t)by_chance(20), b[1] = (uint8_t)by_chance(6), said = y1541_image_undelete(a, n, b[0], b[1], out, room, &needed); break;
+    case 17: b[0] = (uint8_t)by_chance(20), b[1] = (uint8_t)by_chance(20), said = y1541_image_swap(a, n, b[0], b[1], out, room, &needed); break;
+    case 18: said = y1541_image_retitle(a, n, text, m, out, room, &needed); break;
+    case 19: said = y1541_image_remark(a, n, text, m, out, room, &needed); break;
     default: said = y1541_image_convert(a, n, &lost, out, room, &needed); break;
+    }
+    for (size_t i = 0; i < 144; i++) {
+        saw_entry(&entries[i]);
+        saw(flaws[i].what), saw(flaws[i].track), saw(flaws[i].sector), saw(flaws[i].whose), saw(flaws[i].slot), saw(flaws[i].before);
     }
     saw_image(out, room, needed), saw(place.what), saw(place.track), saw(place.sector);
     saw(title.free), saw_bytes(title.title, 16), saw_bytes(title.mark, 5);
-    saw(entry.blocks), saw(entry.kind), saw(entry.closed), saw(entry.locked), saw(entry.record_length), saw_bytes(entry.name, 16), saw(entry.track), saw(entry.sector);
+    saw_entry(&entry);
     saw(lost.unreadable), saw(lost.tracks), saw(lost.errors), saw(lost.id);
     free(a), free(text), free(out);
     return said;

@@ -10,6 +10,7 @@ let wrong = 0;
 
 const expect = (is, what) => is || (wrong++, console.log(`WRONG: ${what}`));
 const same = (a, b) => Buffer.compare(a, b) === 0;
+const isEqual = (a, b) => JSON.stringify(a) === JSON.stringify(b);
 const thrown = (call) => {
   try {
     call();
@@ -52,6 +53,32 @@ for (const form of [0, 1, 2]) {
   expect(y1541.title(y1541.command(next, "S0:PROG")).free === title.free, "and scratched");
   expect(y1541.sector(next, 18, 0).length === 256 && y1541.list(next).length > y1541.list(next, "X*").length, "a sector, the directory");
 }
+// Files by their slots, whatever their names are: as tests/calls.c has them in C.
+for (const form of [0, 1, 2]) {
+  let disk = y1541.put(y1541.put(y1541.create(form, "SLOTS", "ID"), "ONE,P,W", program), "TWO,S,W", "ab");
+  const names = () => y1541.entries(disk).entries.filter((it) => it.kind).map((it) => Buffer.from(it.name).toString("latin1").replace(/\xa0*$/, "") + (it.locked ? "<" : ""));
+  const are = (wanted, what) => expect(isEqual(names(), wanted), `${what}: ${names()}`);
+  expect(y1541.entries(disk).entries.length === 8 && y1541.entries(disk).status === 0 && same(y1541.read(disk, 1), Buffer.from("ab")), "all entries, a file by its slot");
+  refused(63, () => y1541.rename(disk, 0, "TWO"), "a name that is there");
+  refused(-2, () => y1541.rename(disk, 0, ""), "no name");
+  refused(-4, () => y1541.read(disk, 8), "no slot");
+  disk = y1541.lock(y1541.rename(disk, 0, 'T*,"'), 0, true);
+  are(['T*,"<', "TWO"], "renamed and locked");
+  refused(26, () => y1541.remove(disk, 0), "a locked file");
+  disk = y1541.swap(y1541.lock(disk, 0, false), 0, 1);
+  are(["TWO", 'T*,"'], "freed, and changed places");
+  disk = y1541.remove(disk, 1);
+  are(["TWO"], "one is deleted");
+  disk = y1541.undelete(disk, 1, 2);
+  are(["TWO", 'T*,"'], "and given back");
+  disk = y1541.remark(y1541.retitle(disk, "OTHER"), "XY 2A");
+  const { title, mark } = y1541.title(disk);
+  expect(Buffer.from(title).toString("latin1").startsWith("OTHER\xa0") && Buffer.from(mark).toString("latin1") === "XY 2A" && y1541.flaws(disk).length === 0, "another title and id");
+}
+const loop = image.slice();
+loop.set([18, 1], 91648); // 18/1 leads to itself
+expect(y1541.entries(loop).status === 71 && y1541.entries(loop).entries.length === 8, "entries up to a loop");
+expect(isEqual(y1541.flaws(loop), [{ what: 3, track: 18, sector: 1, whose: 1, slot: 0, before: 1 }]), "a loop is told");
 const g64 = y1541.convert(image);
 expect(!g64.lost.unreadable && same(y1541.convert(g64.image).image, image), "a G64 of a D64, and back");
 const bad = image.slice();

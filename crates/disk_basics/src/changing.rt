@@ -1,5 +1,5 @@
-//! The calls of cbm_shell that make and change images. What they promise stands there, and isn't said again, so that no
-//! caller's proof carries it.
+//! The calls of cbm_shell and cbm_slots that make and change images. What they promise stands there, and isn't said again,
+//! so that no caller's proof carries it.
 ghost use Rattle.std.specs.Prelude.{◌≤◌, length};
 
 use cbm_shell::{DiskChange, Form, Looks, Order, Records, ShellFault, Swap};
@@ -52,6 +52,34 @@ pub fn lock(
     is_locked: bool,
 ) -> Result<Vec<u8>, ShellFault> {
     cbm_shell::lock(alloc, image, patterns, is_locked)
+}
+
+/// The image whose file in a slot has another name. Errors: `Image`, `Trouble`, `NotFound`, `Refused` where a file has it,
+/// `Unsound`, `Memory`.
+pub fn rename_in_slot(
+    alloc: Global,
+    image: &[u8],
+    slot: u8,
+    name: &[u8],
+) -> Result<Vec<u8>, ShellFault>
+    requires { length name.now ≤ 16 }
+{
+    cbm_slots::rename(alloc, image, slot, name)
+}
+
+/// The image with the file in a slot locked, or freed. Errors: `Image`, `Trouble`, `NotFound`, `Unsound`, `Memory`.
+pub fn lock_in_slot(
+    alloc: Global,
+    image: &[u8],
+    slot: u8,
+    is_locked: bool,
+) -> Result<Vec<u8>, ShellFault> {
+    cbm_slots::lock(alloc, image, slot, is_locked)
+}
+
+/// The image without the file in a slot. Errors: `Image`, `Trouble`, `NotFound`, `Refused`, `Unsound`, `Memory`.
+pub fn delete_in_slot(alloc: Global, image: &[u8], slot: u8) -> Result<Vec<u8>, ShellFault> {
+    cbm_slots::delete(alloc, image, slot)
 }
 
 /// The image with another title, of at most sixteen codes. Errors: `Image`, `Trouble`, `Memory`.

@@ -7,7 +7,7 @@ use cbm_shell::texts::Charset;
 use cbm_shell::{DiskChange, Looks, ShellFault, geos_of};
 use cbm_volume::Entry;
 use disk_basics::calls::entries;
-use disk_basics::changing::{change, dress};
+use disk_basics::changing::{change, delete_in_slot, dress, lock_in_slot, rename_in_slot};
 use disk_basics::host::{joined, read_image, read_to_change, replace};
 use disk_basics::{Choice, Failure, WordFault, on_disk, petscii, slot_chosen};
 use disk_facts::unfilled;
@@ -134,19 +134,9 @@ fn commanded<'a>(
     on_disk(desk.image, change(alloc, desk.bytes, &command))
 }
 
-/// The image whose file in a slot has another name.
-fn renamed<'a>(
-    alloc: Global,
-    desk: Desk<'a, '_>,
-    entries: &[Entry],
-    slot: usize,
-    name: &[u8],
-) -> Result<Vec<u8>, Failure<'a>> {
-    let is_locked = entries.get(slot).is_some_and(Entry::is_locked);
-    if has_name(entries, name) {
-        return Err(taken(desk.image));
-    }
-    named(alloc, desk, slot, name, is_locked)
+/// The number of a slot. Errors: `NoFile`, where it is none.
+fn slot_number<'a>(slot: usize, word: &'a str) -> Result<u8, Failure<'a>> {
+    u8::try_from(slot).map_err(|_| Failure::NoFile(word))
 }
 
 /// The image without the file in a slot.
@@ -160,15 +150,10 @@ fn deleted<'a>(
     if entries.get(slot).is_some_and(Entry::is_locked) {
         return Err(Failure::Locked(word));
     }
-    let Some(spare) = spare_name(entries, 1) else {
-        return Err(taken(desk.image));
-    };
-    let image = named(alloc, desk, slot, &spare, false)?;
-    let there = Desk {
-        image: desk.image,
-        bytes: image.as_slice(),
-    };
-    commanded(alloc, there, &[b"S0:", &spare, b"\r"])
+    on_disk(
+        desk.image,
+        delete_in_slot(alloc, desk.bytes, slot_number(slot, word)?),
+    )
 }
 
 /// The image with a copy of the file of one spare name under another.
@@ -256,7 +241,11 @@ fn done<'a>(
     match deed {
         Deed::Rename(word) => {
             let name = new_name(alloc, choice.charset, word)?;
-            renamed(alloc, desk, entries, slot, name.as_slice())
+            let slot = slot_number(slot, choice.word())?;
+            on_disk(
+                desk.image,
+                rename_in_slot(alloc, desk.bytes, slot, sixteen(name.as_slice())),
+            )
         }
         Deed::Copy(word) => {
             require_plain(entries, slot, choice.word())?;
@@ -264,10 +253,10 @@ fn done<'a>(
             copied(alloc, desk, entries, slot, name.as_slice())
         }
         Deed::Delete => deleted(alloc, desk, entries, slot, choice.word()),
-        Deed::Lock(is_locked) => match entries.get(slot) {
-            Some(entry) => named(alloc, desk, slot, whole_name(entry), is_locked),
-            None => Err(Failure::NoFile(choice.word())),
-        },
+        Deed::Lock(is_locked) => {
+            let slot = slot_number(slot, choice.word())?;
+            on_disk(desk.image, lock_in_slot(alloc, desk.bytes, slot, is_locked))
+        }
     }
 }
 
