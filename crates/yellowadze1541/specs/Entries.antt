@@ -47,12 +47,18 @@ abbrev pub after_trouble : Option Trouble → ℤ
 after_trouble None = fine
 after_trouble (Some t) = pos (max t.code 20)
 
--- THE ENTRIES OF AN IMAGE'S DIRECTORY are handed out, up to where it breaks off or comes back to a sector of its own
+-- the entries of an image's directory, up to where it breaks off or comes back to a sector of its own, and the answer after them
+pub record ListsEntries (image : List ℕ) (items : List Entry) (good : ℤ) : Type 0 where
+  pub blocks : List Place
+  pub trouble : Option Trouble
+  pub followed : directory_sectors (disk_tracks image) (content_of (kind_of image) image) ≡ record { blocks = blocks; trouble = trouble }
+  pub items : items ≡ map spelled (all_entries (content_of (kind_of image) image) blocks)
+  pub good : good ≡ after_trouble trouble
+
+-- THE ENTRIES OF AN IMAGE'S DIRECTORY are handed out
 abbrev pub IsEntryList : List ℕ → ℤ → List Entry → List Entry → ℕ → ℕ → Type 0
-IsEntryList image n old new before count = let content = content_of (kind_of image) image in
-    ((blocks : List Place) × (trouble : Option Trouble) × (directory_sectors (disk_tracks image) content ≡ record { blocks = blocks; trouble = trouble })
-    × AreHandedOut n (after_trouble trouble) old new count (map spelled (all_entries content blocks)))
-    ⊎ IsNothingOut image n old new before count
+IsEntryList image n old new before count =
+    ((items : List Entry) × (good : ℤ) × ListsEntries image items good × AreHandedOut n good old new count items) ⊎ IsNothingOut image n old new before count
 
 -- whose sectors led to a flaw, as a number
 abbrev pub number_of_whose : Whose → ℕ

@@ -5,7 +5,8 @@ ghost use Rattle.cbm_image.specs.Images.{kind_of, content_of};
 ghost use Rattle.cbm_shell.specs.Images.{disk_tracks};
 ghost use Rattle.cbm_shell.specs.Flaws.{flaws_of};
 ghost use Rattle.cbm_device.specs.Answers.{answer_number};
-ghost use Rattle.yellowadze1541.specs.Entries.{spelled, flaw_spelled, number_of_whose, slot_of_whose, after_trouble, IsEntryList, IsFlawList};
+ghost use Rattle.yellowadze1541.specs.Entries.{spelled, flaw_spelled, number_of_whose, slot_of_whose, after_trouble, ListsEntries, IsEntryList, IsFlawList};
+ghost use Rattle.cbm_device.specs.ImageDisks.{IsOpenRefusal};
 
 use crate::images;
 use crate::shapes::{Entry, Flaw};
@@ -54,20 +55,27 @@ fn after(trouble: Option<Trouble>) -> i32
     }
 }
 
-/// All entries of an image's directory are handed out. Errors: `NoImage`, `Memory`, `NoRoom`.
-fn all_entries(
-    alloc: Global,
-    image: &[u8],
-    out: &mut [Entry],
-    count: &mut usize,
-) -> Result<i32, DeviceRefusal> {
+/// The entries of an image's directory, and the answer after them.
+#[derive(Drop)]
+struct Listing {
+    items: Vec<Entry>,
+    status: i32,
+}
+
+/// All entries of an image's directory, as C has them. Errors: `NoImage`, `Memory`.
+fn listing(alloc: Global, image: &[u8]) -> Result<Listing, DeviceRefusal>
+    ensures ok { IfOk result (λ l. ListsEntries image.now l.items.items l.status) }
+    ensures err { IfErr result (IsOpenRefusal image.now) }
+{
     let volume = Volume::open(ImageDisk::open(alloc, image, true)?);
     let Ok(listed) = listed_of(alloc, &volume) else {
         return Err(DeviceRefusal::Memory);
     };
-    let entries = spelled(alloc, listed.entries.as_slice())?;
-    hand_out(entries.as_slice(), out, count)?;
-    Ok(after(listed.trouble))
+    let items = spelled(alloc, listed.entries.as_slice())?;
+    Ok(Listing {
+        items,
+        status: after(listed.trouble),
+    })
 }
 
 /// All entries of an image's directory, those of empty slots too, up to where it breaks off.
@@ -80,8 +88,12 @@ pub extern "C" fn y1541_image_entries(
 ) -> i32
     ensures { IsEntryList image.now result out.old out.new count.old count.new }
 {
-    match all_entries(alloc, image, out, count) {
-        Ok(status) => status,
+    let listing = match listing(alloc, image) {
+        Ok(listing) => listing,
+        Err(refusal) => return refusal.number(),
+    };
+    match hand_out(listing.items.as_slice(), out, count) {
+        Ok(()) => listing.status,
         Err(refusal) => refusal.number(),
     }
 }
