@@ -336,6 +336,8 @@ printf 'MNIB-1541-RAW' > foreign.d64
 foreign 13 map "a NIB, with the bytes of tracks: make a G64 of it"
 gzip -c hello.d64 > foreign.d64
 foreign "$(wc -c < foreign.d64)" info "packed by gzip: unpack it first"
+printf 'PK\003\004' > foreign.d64
+foreign 4 info "a ZIP archive: unpack it first"
 for size in $((1366 * 256)) $((1366 * 257)); do
     rm foreign.d64 && truncate -s $size foreign.d64
     foreign $size validate "a D71, the disk of a 1571"

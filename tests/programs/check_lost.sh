@@ -173,6 +173,8 @@ case_of "a locked file isn't deleted" 1 "" "disk1541: A\"B,C is locked: \`unlock
 case_of "unlock --slot" 0 "" "" "$disk" unlock odd.d64 --slot 1
 case_of "delete --exact" 0 "" "" "$disk" delete odd.d64 --exact 'A"B,C'
 case_of "the others are there" 0 "other" "" "$disk" get odd.d64 STAR
+case_of "undelete gives it back under its name" 0 "" any "$disk" undelete odd.d64 'A"B,C'
+case_of "with its bytes" 0 "star" "" "$disk" get odd.d64 --exact 'A"B,C'
 case_of "no such name" 1 "" "disk1541: no file of the disk has the name or the slot NONE" "$disk" get odd.d64 --exact NONE
 case_of "a name that is there" 1 "" any "$disk" rename odd.d64 --exact STAR 'D=E'
 case_of "and the disk is sound" 0 "sound" "" "$disk" check odd.d64

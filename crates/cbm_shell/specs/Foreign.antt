@@ -5,20 +5,21 @@ use Rattle.cbm_image.specs.declared.kind.Kind.{Kind}
 use Rattle.cbm_image.specs.declared.kind.Kind.TheVariants.{D64, G64}
 use Rattle.cbm_image.specs.Images.{kind_of}
 use Rattle.cbm_shell.specs.declared.images.formats.Foreign.{Foreign}
-use Rattle.cbm_shell.specs.declared.images.formats.Foreign.TheVariants.{T64, P64, Nib, Gzip, D71, D81, Longest, LongWithErrors, Short, Unknown}
+use Rattle.cbm_shell.specs.declared.images.formats.Foreign.TheVariants.{T64, P64, Nib, Gzip, Zip, D71, D81, Longest, LongWithErrors, Short, Unknown}
 
 -- whether a file of this format and size may be an image of a 1541's disk: a G64, or one of the sizes of a D64
 abbrev pub is_ours : Kind → ℕ → Bool
 is_ours G64 size = true
 is_ours D64 size = nat_eq size 174848 || nat_eq size 175531 || nat_eq size 196608
 
--- what a file is by its first bytes: `C64`, `P64-1541`, `MNIB-1541`, or gzip's two
+-- what a file is by its first bytes: `C64`, `P64-1541`, `MNIB-1541`, gzip's two, or the four of a ZIP
 abbrev pub begun_as : List ℕ → Option Foreign
 begun_as image =
     if bytes_eq (take 3 image) (codes "C64") then Some T64
     else if bytes_eq (take 8 image) (codes "P64-1541") then Some P64
     else if bytes_eq (take 9 image) (codes "MNIB-1541") then Some Nib
     else if bytes_eq (take 2 image) (0x1f ∷ 0x8b ∷ []) then Some Gzip
+    else if bytes_eq (take 4 image) (0x50 ∷ 0x4b ∷ 3 ∷ 4 ∷ []) then Some Zip
     else None
 
 -- what a file is by its size: 1,366 sectors of 256 bytes of a D71, 3,200 of a D81, 802 of a D64 of 42 tracks, each also with a byte

@@ -90,6 +90,7 @@ pub fn foreign_text(foreign: Foreign) -> &'static str {
         Foreign::P64 => "a P64, with the pulses of a disk: make a G64 of it",
         Foreign::Nib => "a NIB, with the bytes of tracks: make a G64 of it",
         Foreign::Gzip => "packed by gzip: unpack it first",
+        Foreign::Zip => "a ZIP archive: unpack it first",
         Foreign::D71 => "a D71, the disk of a 1571",
         Foreign::D81 => "a D81, the disk of a 1581",
         Foreign::Longest => "a D64 of 42 tracks: 35 and 40 are taken",

@@ -16,6 +16,8 @@ pub enum Foreign {
     Nib,
     /// A file that gzip packed.
     Gzip,
+    /// A ZIP archive.
+    Zip,
     /// A D71: the disk of a 1571.
     D71,
     /// A D81: the disk of a 1581.
@@ -52,6 +54,8 @@ fn begun_as(image: &[u8]) -> Option<Foreign>
         Some(Foreign::Nib)
     } else if image.starts_with(b"\x1f\x8b") {
         Some(Foreign::Gzip)
+    } else if image.starts_with(b"PK\x03\x04") {
+        Some(Foreign::Zip)
     } else {
         None
     }
