@@ -2,8 +2,9 @@
 use cbm_shell::texts::Charset;
 use clap::ArgMatches;
 use disk_basics::{Choice, Failure, WordFault};
-use disk_changes::{Blank, Build, Conversion, Gone, HostFiles, Ordering, Pair};
+use disk_changes::{Blank, Build, Conversion, HostFiles};
 use disk_commands::{flag, given, option};
+use disk_edits::{Gone, Ordering, Pair};
 use disk_looks::{Description, Destination, Mapping, OneFile};
 use disk_reports::View;
 

@@ -12,11 +12,12 @@ use cbm_shell::texts::Charset;
 use clap::ArgMatches;
 use disk_basics::host::is_standard;
 use disk_basics::{Choice, Failure, WordFault, petscii};
-use disk_changes::{
-    Deed, Edit, build_image, convert_image, copy, delete_at_fault, do_with, error_bytes,
-    key_of_word, make, put, put_in_order, rename, save_edit, sort, undelete_file,
-};
+use disk_changes::{build_image, convert_image, make, put};
 use disk_commands::{Verb, flag, given, verb_of};
+use disk_edits::{
+    Deed, Edit, copy, delete_at_fault, do_with, error_bytes, key_of_word, put_in_order, rename,
+    save_edit, sort, undelete_file,
+};
 use disk_looks::{Progress, describe, get, get_all, show_map, show_sector, show_track};
 use disk_reports::{Look, View};
 use std::rt::Runtime;

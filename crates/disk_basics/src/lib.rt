@@ -13,6 +13,7 @@ pub mod host;
 mod kinds;
 mod names;
 mod refusal;
+pub mod swaps;
 mod word_fault;
 
 pub use break_off::{BreakOff, Cause};
@@ -22,5 +23,5 @@ pub use failure::{Failure, in_memory, on_disk};
 pub use flaws::{is_mendable, place_of, slots_of};
 pub use formats::{form, format};
 pub use kinds::{FileKind, is_relative_name, is_wrapped_name, kind_of_file};
-pub use names::{file_name, name_of_file, petscii, require_name};
+pub use names::{file_name, name_of_file, petscii, require_name, title_of};
 pub use word_fault::WordFault;

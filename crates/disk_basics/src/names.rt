@@ -1,4 +1,6 @@
 //! Names on a disk and names of the host's files.
+ghost use Rattle.std.specs.Prelude.{◌≤◌, length, IfOk};
+
 use crate::calls::read_name;
 use crate::failure::Failure;
 use crate::host::is_standard;
@@ -7,7 +9,7 @@ use cbm_shell::texts::Charset;
 use std::alloc::Global;
 use std::path::Path;
 
-/// The most bytes of a name on a disk.
+/// The most bytes of a name on a disk, and of its title.
 const LONGEST: usize = 16;
 
 /// A name as PETSCII, as it is typed in a character set. Errors: `Word`, where a character of it is none that is typed;
@@ -18,6 +20,17 @@ pub fn petscii<'a>(alloc: Global, charset: Charset, name: &'a str) -> Result<Vec
         Ok(None) => Err(Failure::Word(WordFault::Name(name))),
         Err(_) => Err(Failure::NoMemory),
     }
+}
+
+/// The codes of a title. Errors: those of `petscii`; `Word`, for more than sixteen codes.
+pub fn title_of<'a>(alloc: Global, charset: Charset, title: &'a str) -> Result<Vec<u8>, Failure<'a>>
+    ensures { IfOk result (λ v. length v.items ≤ 16) }
+{
+    let codes = petscii(alloc, charset, title)?;
+    if codes.len() > LONGEST {
+        return Err(Failure::Word(WordFault::Title(title)));
+    }
+    Ok(codes)
 }
 
 /// Whether a code divides the words of the drive's commands.

@@ -1,17 +1,14 @@
 //! NEW: an image of an empty disk.
-ghost use Rattle.std.specs.Prelude.{◌≤◌, length, IfOk};
+ghost use Rattle.std.specs.Prelude.{◌≤◌, length};
 
 use cbm_shell::Form;
 use cbm_shell::texts::Charset;
 use disk_basics::changing::{new_image, remark};
 use disk_basics::host::{require_new, write};
-use disk_basics::{Failure, WordFault, form, format, in_memory, on_disk, petscii};
+use disk_basics::{Failure, WordFault, form, format, in_memory, on_disk, petscii, title_of};
 use host_files::Sync;
 use std::alloc::Global;
 use std::rt::Runtime;
-
-/// The most characters of a title.
-const LONGEST: usize = 16;
 
 /// An empty disk that is made.
 #[derive(Clone, Copy)]
@@ -28,17 +25,6 @@ pub struct Blank<'a> {
     pub replaces: bool,
     /// The character set of its title and its id.
     pub charset: Charset,
-}
-
-/// The codes of a title. Errors: those of `petscii`; `Word`, for more than sixteen codes.
-pub fn title_of<'a>(alloc: Global, charset: Charset, title: &'a str) -> Result<Vec<u8>, Failure<'a>>
-    ensures { IfOk result (λ v. length v.items ≤ 16) }
-{
-    let codes = petscii(alloc, charset, title)?;
-    if codes.len() > LONGEST {
-        return Err(Failure::Word(WordFault::Title(title)));
-    }
-    Ok(codes)
 }
 
 /// An id: its two codes, and the five that stand after the title, where they are said.

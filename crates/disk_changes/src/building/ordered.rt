@@ -1,7 +1,7 @@
 //! The order of a recipe's lines, where files stand before lines of art.
-use crate::sorting::bring;
 use cbm_shell::Swap;
 use disk_basics::changing::swap_entries;
+use disk_basics::swaps::bring;
 use disk_basics::{Failure, in_memory, on_disk};
 use disk_recipes::RecipeLine;
 use std::alloc::{AllocError, Global};

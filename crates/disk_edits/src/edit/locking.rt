@@ -1,10 +1,9 @@
 //! LOCK, UNLOCK and TITLE.
-use crate::blanks::title_of;
 use cbm_shell::texts::Charset;
 use cbm_volume::Entry;
 use disk_basics::calls::entries;
 use disk_basics::changing::{lock, retitle};
-use disk_basics::{Failure, in_memory, on_disk, petscii};
+use disk_basics::{Failure, in_memory, on_disk, petscii, title_of};
 use disk_facts::first_meant;
 use std::alloc::{AllocError, Global};
 
