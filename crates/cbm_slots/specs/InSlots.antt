@@ -1,5 +1,6 @@
 -- A file by the slot of the directory in which its entry stands: another name, a lock, its end.
-use Rattle.std.specs.Prelude.{ℕ, ◌≡◌, ◌≢◌, ◌≤◌, ◌+◌, ◌*◌, ◌==◌, ◌&&◌, ◌⊎◌, ◌∷◌, [], not, Bool, true, false, List, Some, None, length, slice_get, slice_index, slice_range, list_any}
+use Rattle.std.specs.Prelude.{ℕ, ◌≡◌, ◌≢◌, ◌≤◌, ◌+◌, ◌*◌, ◌==◌, ◌&&◌, ◌⊎◌, ◌∷◌, [], not, Bool, true, false, List, Some, None, length, slice_get, slice_index, slice_range}
+use Rattle.std.specs.List.{list_any}
 use Rattle.std.specs.Str.{bytes_eq}
 use Rattle.cbm_file.specs.Files.{Disk}
 use Rattle.cbm_directory.specs.Entries.{type_byte, bit_of, name_in}
