@@ -12,7 +12,7 @@ const PATIENCE: u64 = 1000;
 /// Whether a command changes its image.
 fn changes(verb: Verb) -> bool {
     match verb {
-        Verb::Put | Verb::Copy | Verb::Rename | Verb::Delete => true,
+        Verb::Put | Verb::Transfer | Verb::Copy | Verb::Rename | Verb::Delete => true,
         Verb::Undelete | Verb::Lock | Verb::Unlock | Verb::Title | Verb::Validate => true,
         Verb::Sort | Verb::Errors => true,
         Verb::Describe | Verb::Build | Verb::Track => false,

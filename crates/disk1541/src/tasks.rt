@@ -6,7 +6,7 @@ mod look;
 use self::look::look_at_all;
 use crate::reading::{
     blank, building, charset, checking, choice, conversion, description, gone, host_files, listing,
-    mapping, one_file, ordering, pair, pattern, place,
+    mapping, one_file, ordering, pair, pattern, place, transferring,
 };
 use cbm_shell::texts::Charset;
 use clap::ArgMatches;
@@ -18,8 +18,9 @@ use disk_edits::{
     Deed, Edit, copy, delete_at_fault, do_with, error_bytes, key_of_word, put_in_order, rename,
     save_edit, sort, undelete_file,
 };
-use disk_looks::{Progress, describe, get, get_all, show_map, show_sector, show_track};
+use disk_looks::{Progress, describe, show_map, show_sector, show_track};
 use disk_reports::{Look, View};
+use disk_sources::{get, get_all, transfer};
 use std::rt::Runtime;
 
 /// Carries out a command that looks at images.
@@ -158,6 +159,7 @@ fn perform<'a, R: Runtime + AllocGlobal>(
         Verb::New => make(rt, image, &blank(words, charset)),
         Verb::Convert => convert_image(rt, image, &conversion(words)),
         Verb::Put => put_with(rt, words, charset, input),
+        Verb::Transfer => transfer(rt, image, &transferring(words, charset)),
         Verb::Copy => copy_with(rt, words, charset),
         Verb::Rename => rename_with(rt, words, charset),
         Verb::Describe => describe(rt, image, description(words, charset)),

@@ -45,16 +45,30 @@ fn read<'a, R: Runtime + AllocGlobal>(
     }
 }
 
+/// Reads a file that may be an image or an archive of another kind. Errors: `Read`; `TooLong`, for more bytes than an image has.
+pub fn read_any<'a, R: Runtime + AllocGlobal>(
+    rt: &R,
+    name: &'a str,
+) -> Result<Vec<u8>, Failure<'a>> {
+    read(rt, name, GREATEST_IMAGE)
+}
+
 /// Reads an image. A file that by its first bytes or its size is none of a 1541's disk is refused. Errors: `Read`;
 /// `TooLong`, for more bytes than an image has; `Foreign`.
 pub fn read_image<'a, R: Runtime + AllocGlobal>(
     rt: &R,
     name: &'a str,
 ) -> Result<Vec<u8>, Failure<'a>> {
-    let bytes = read(rt, name, GREATEST_IMAGE)?;
-    match foreign_of(bytes.as_slice()) {
+    let bytes = read_any(rt, name)?;
+    require_ours(name, bytes.as_slice())?;
+    Ok(bytes)
+}
+
+/// Refuses a file that by its first bytes or its size is no image of a 1541's disk. The one error is `Foreign`.
+pub fn require_ours<'a>(name: &'a str, bytes: &[u8]) -> Result<(), Failure<'a>> {
+    match foreign_of(bytes) {
         Some(foreign) => Err(Failure::Foreign(name, foreign, bytes.len())),
-        None => Ok(bytes),
+        None => Ok(()),
     }
 }
 

@@ -1,6 +1,7 @@
 //! The types of files by the endings of their names.
 use crate::failure::Failure;
 use crate::word_fault::WordFault;
+use cbm_volume::{Entry, FileType};
 use std::path::Path;
 
 /// How the text of an OPEN ends that writes a program.
@@ -82,5 +83,16 @@ pub fn kind_of_file<'a>(kind: Option<&'a str>, file: &str) -> Result<FileKind, F
     match kind {
         Some(kind) => said(kind),
         None => Ok(told(Path::new(file).extension().unwrap_or(""))),
+    }
+}
+
+/// The kind of an entry's file; None of a deleted one, of a line of art, and of an unknown type.
+pub fn kind_of_entry(entry: &Entry) -> Option<FileKind> {
+    match entry.kind()? {
+        FileType::Del => None,
+        FileType::Seq => Some(FileKind::Plain(b",S,W")),
+        FileType::Prg => Some(FileKind::Plain(PROGRAM)),
+        FileType::Usr => Some(FileKind::Plain(b",U,W")),
+        FileType::Rel => Some(FileKind::Relative),
     }
 }

@@ -11,3 +11,4 @@ pub use blanks::{Blank, make};
 pub use building::{Build, build_image};
 pub use converting::{Conversion, convert_image};
 pub use putting::{HostFiles, put};
+pub use stored::{Stored, with_stored};

@@ -1,10 +1,10 @@
 //! The commands.
 use crate::words::{
     ALL, BY, CHARSET, CIRCLE, CSV, DELETED, DROP, DRY_RUN, EXACT, FILES, FILES_FOLDER, FOLDER,
-    FORCE, FORCE_FAULT, FORMAT, ID, IMAGE, IMAGES, JSON, LOSSY, MEANT, NAME, NAME_ON_DISK,
+    FORCE, FORCE_FAULT, FORMAT, FROM, ID, IMAGE, IMAGES, JSON, LOSSY, MEANT, NAME, NAME_ON_DISK,
     NAME_OR_SLOT, NEW, NEW_TITLE, OLD, ONLY, OUT, OUTPUT, RAW, RECIPE, RECORD, RECURSIVE,
     REPLACE_FILE, REPLACE_FILES, REPLACE_IMAGE, REPLACE_NAME, SALVAGE, SECTOR, SLOT, SVG, TITLE,
-    TRACK, TRACKS, TYPE, TYPE_AGAIN, WANTED, WITH_FILES, Word,
+    TRACK, TRACKS, TRANSFERRED, TYPE, TYPE_AGAIN, WANTED, WITH_FILES, Word,
 };
 
 /// What help says at the end: examples, and the exit statuses.
@@ -51,6 +51,8 @@ pub enum Verb {
     Convert,
     /// Puts files on the disk.
     Put,
+    /// Takes files of another disk or archive over.
+    Transfer,
     /// Copies a file.
     Copy,
     /// Gives a file another name.
@@ -205,6 +207,12 @@ const CHANGING: &[Command] = &[
         ],
     },
     Command {
+        verb: Verb::Transfer,
+        name: "transfer",
+        about: "Copy files from another disk or archive",
+        words: &[FROM, IMAGE, TRANSFERRED, REPLACE_NAME, CHARSET],
+    },
+    Command {
         verb: Verb::Copy,
         name: "copy",
         about: "Copy a file under a new name",
@@ -329,6 +337,9 @@ pub fn examples_of(verb: Verb) -> &'static str {
         Verb::Convert => examples!("  disk1541 convert game.d64 game.g64\n"),
         Verb::Put => examples!(
             "  disk1541 put work.d64 loader.prg levels.seq\n  disk1541 put work.d64 out.bin --name LOADER --replace\n"
+        ),
+        Verb::Transfer => examples!(
+            "  disk1541 transfer old.d64 work.d64\n  disk1541 transfer games.d81 work.d64 'LEVEL*'\n  disk1541 transfer tape.t64 work.d64\n"
         ),
         Verb::Copy => examples!("  disk1541 copy work.d64 LOADER BACKUP\n"),
         Verb::Rename => examples!(

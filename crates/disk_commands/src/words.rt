@@ -319,6 +319,19 @@ pub const MEANT: Word = Word {
     ..NEEDED
 };
 
+/// What TRANSFER takes files from.
+pub const FROM: Word = Word {
+    name: "FROM",
+    help: "the disk or the archive that has the files: D64, G64, D71, D81, T64, Lynx",
+    ..NEEDED
+};
+
+/// The files that TRANSFER takes.
+pub const TRANSFERRED: Word = Word {
+    help: "file names or patterns; all files if there is none",
+    ..MEANT
+};
+
 /// The title that TITLE gives.
 pub const NEW_TITLE: Word = Word {
     name: "TITLE",

@@ -9,6 +9,7 @@ use cbm_volume::Entry;
 use disk_basics::calls::entries;
 use disk_basics::changing::{change, delete_in_slot, dress, lock_in_slot, rename_in_slot};
 use disk_basics::host::{joined, read_image, read_to_change, replace};
+use disk_basics::spare::{has_name, spare_name};
 use disk_basics::{Choice, Failure, WordFault, on_disk, petscii, slot_chosen};
 use disk_facts::unfilled;
 use std::alloc::Global;
@@ -54,29 +55,6 @@ fn sixteen(name: &[u8]) -> &[u8]
 /// An entry's name with what stands after its end.
 fn whole_name(entry: &Entry) -> &[u8] {
     unfilled(entry.bytes().get(NAME).unwrap_or(&[]))
-}
-
-/// Whether a file has a name.
-fn has_name(entries: &[Entry], name: &[u8]) -> bool {
-    for entry in entries {
-        if !entry.is_empty() && entry.name() == name {
-            return true;
-        }
-    }
-    false
-}
-
-/// A name that no file has and that each of the drive's commands can say; None where 288 names are taken.
-fn spare_name(entries: &[Entry], last: u8) -> Option<[u8; 3]> {
-    for first in 1..13u8 {
-        for second in 1..13u8 {
-            let name = [first, second, last];
-            if !has_name(entries, &name) {
-                return Some(name);
-            }
-        }
-    }
-    None
 }
 
 /// The fault that a name is there already.

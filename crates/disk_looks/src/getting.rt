@@ -6,7 +6,7 @@ use crate::taking::{Source, bytes_of_entry};
 use cbm_shell::{ShellFault, geos_of};
 use cbm_volume::Entry;
 use disk_basics::calls::{file, listed};
-use disk_basics::host::{read_image, require_new, write};
+use disk_basics::host::{require_new, write};
 use disk_basics::{Choice, Disk, Failure, in_memory, on_disk, petscii, slot_chosen};
 use disk_facts::{first_meant, without_errors};
 use host_files::Sync;
@@ -132,24 +132,23 @@ fn file_of<'a, R: Runtime + AllocGlobal>(
     }
 }
 
-/// Takes a file out. One of the host that is there is kept, unless it is to be replaced.
-fn take_out<'a, R: Runtime + AllocGlobal>(
+/// Writes a file that was taken out. One of the host that is there is kept, unless it is to be replaced. Errors: `Exists`, `Write`.
+pub fn write_taken<'a, R: Runtime + AllocGlobal>(
+    rt: &R,
+    taken: &OneFile<'a>,
+    file: &[u8],
+) -> Result<(), Failure<'a>> {
+    require_new(rt, taken.output, taken.replaces)?;
+    write(rt, taken.output, file, Sync::Later)
+}
+
+/// Takes a file out of the bytes of an image. Errors: those of `petscii`; `Disk`, where the disk has no such file or it can't be
+/// read; `Exists`; `Write`.
+pub fn get_from<'a, R: Runtime + AllocGlobal>(
     rt: &R,
     image: &[u8],
     taken: &OneFile<'a>,
 ) -> Result<(), Failure<'a>> {
     let file = file_of(rt, image, taken)?;
-    require_new(rt, taken.output, taken.replaces)?;
-    write(rt, taken.output, file.as_slice(), Sync::Later)
-}
-
-/// Takes a file out of an image. Errors: those of `read_image` and of `petscii`; `Disk`, where the disk has no such file
-/// or it can't be read; `Exists`; `Write`.
-pub fn get<'a, R: Runtime + AllocGlobal>(
-    rt: &R,
-    image: &'a str,
-    taken: &OneFile<'a>,
-) -> Result<(), Failure<'a>> {
-    let bytes = read_image(rt, image)?;
-    take_out(rt, bytes.as_slice(), taken)
+    write_taken(rt, taken, file.as_slice())
 }

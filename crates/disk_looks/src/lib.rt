@@ -16,10 +16,11 @@ mod taking_all;
 mod track;
 
 pub use describing::{Description, describe};
-pub use getting::{OneFile, get};
+pub use getting::{OneFile, get_from, write_taken};
 pub use map::{Mapping, show_map};
 pub use progress::Progress;
+pub use relative::packed;
 pub use sector::show_sector;
-pub use taking::Destination;
-pub use taking_all::get_all;
+pub use taking::{Destination, Names, save_as};
+pub use taking_all::{get_all_from, make_folder};
 pub use track::show_track;

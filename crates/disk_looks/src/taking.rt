@@ -148,7 +148,7 @@ fn tell_name(rt: &impl Eprint, path: Path<'_>, name: &str) -> io::Result<()> {
 }
 
 /// Saves a file under a name, and reports the name where it isn't that of the disk. Answers whether it was saved.
-fn save_as<R: Runtime + AllocGlobal>(
+pub fn save_as<R: Runtime + AllocGlobal>(
     rt: &R,
     path: Path<'_>,
     name: &str,

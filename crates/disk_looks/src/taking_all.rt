@@ -4,7 +4,7 @@ use crate::salvage::salvaged_entries;
 use crate::taking::{Destination, Names, Source, take};
 use cbm_shell::Listed;
 use cbm_volume::Entry;
-use disk_basics::host::{path_of, read_image};
+use disk_basics::host::path_of;
 use disk_basics::{BreakOff, Disk, Failure, in_memory, on_disk};
 use disk_facts::{count_files, without_errors};
 use std::alloc::AllocError;
@@ -12,8 +12,11 @@ use std::fs;
 use std::path::Path;
 use std::rt::Runtime;
 
-/// Makes the folder, if it isn't there.
-fn make_folder<'a, R: Runtime + AllocGlobal>(rt: &R, folder: &'a str) -> Result<(), Failure<'a>> {
+/// Makes the folder, if it isn't there. The one error is `Write`.
+pub fn make_folder<'a, R: Runtime + AllocGlobal>(
+    rt: &R,
+    folder: &'a str,
+) -> Result<(), Failure<'a>> {
     let path = path_of(rt.alloc(), folder)?;
     match fs::create_dir(rt, path.as_str()) {
         Ok(()) => Ok(()),
@@ -94,8 +97,9 @@ fn require_whole<'a, R: Runtime + AllocGlobal>(
     taken
 }
 
-/// Takes all files of an image out.
-fn take_image<'a, R: Runtime + AllocGlobal>(
+/// Takes all files of an image's bytes out, into a folder. Errors: `Disk`; `Write`, where the folder can't be made; `Told`, where a
+/// file wasn't saved, as is reported; `Broken`; `NoMemory`.
+pub fn get_all_from<'a, R: Runtime + AllocGlobal>(
     rt: &R,
     image: &'a str,
     bytes: &[u8],
@@ -114,16 +118,4 @@ fn take_image<'a, R: Runtime + AllocGlobal>(
     let listed = in_memory(disk.listed(rt.alloc()))?;
     let taken = take_disk(rt, source, listed.entries.as_slice(), place, progress);
     require_whole(rt, image, &listed, taken)
-}
-
-/// Takes all files out, into a folder. Errors: those of `read_image`; `Disk`; `Write`, where the folder can't be made;
-/// `Told`, where a file wasn't saved, as is reported; `NoMemory`.
-pub fn get_all<'a, R: Runtime + AllocGlobal>(
-    rt: &R,
-    image: &'a str,
-    place: Destination<'a>,
-    progress: Progress,
-) -> Result<(), Failure<'a>> {
-    let bytes = read_image(rt, image)?;
-    take_image(rt, image, bytes.as_slice(), place, progress)
 }

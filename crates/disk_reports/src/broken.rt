@@ -57,8 +57,8 @@ fn add_line(
     text.push_str(" \n")
 }
 
-/// The lines of the files that are meant.
-fn lines_of(alloc: Global, entries: &[Entry], look: Look<'_>) -> Result<String, AllocError> {
+/// The lines of the files that are meant. The one error is want of memory.
+pub fn entry_lines(alloc: Global, entries: &[Entry], look: Look<'_>) -> Result<String, AllocError> {
     let mut text = String::new(alloc);
     for entry in entries {
         if is_meant(entry, look.pattern) {
@@ -131,7 +131,7 @@ pub fn add_broken(
     if let Some(label) = &info.label {
         add_title(alloc, text, label, look.charset)?;
     }
-    let lines = lines_of(alloc, listed.entries.as_slice(), look)?;
+    let lines = entry_lines(alloc, listed.entries.as_slice(), look)?;
     text.extend_from_slice(lines.as_bytes())?;
     if let Some(free) = info.free {
         add_free(alloc, text, free, look.charset)?;

@@ -11,5 +11,6 @@ mod report;
 mod sum;
 mod view;
 
+pub use broken::entry_lines;
 pub use report::{heads, refusal_line};
 pub use view::{Look, LookAnswer, Shown, View, lines_of};

@@ -67,6 +67,8 @@ pub enum LookAnswer {
     Untitled,
     /// Its files are shown up to where the directory breaks off.
     Broken(BreakOff),
+    /// What it lacks was reported.
+    Told,
 }
 
 /// What an image shows.

@@ -43,7 +43,7 @@ impl Counts {
             LookAnswer::Fine => self.fine = self.fine.wrapping_add(1),
             LookAnswer::Unsound(_) | LookAnswer::NoMatch | LookAnswer::Untitled => self.others =
                 self.others.wrapping_add(1),
-            LookAnswer::Broken(_) => {
+            LookAnswer::Broken(_) | LookAnswer::Told => {
                 self.others = self.others.wrapping_add(1);
                 self.broken = self.broken.wrapping_add(1);
             }

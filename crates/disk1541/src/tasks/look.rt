@@ -1,21 +1,12 @@
 //! The commands that look into images: one image, several, or those of folders.
 use super::counts::Counts;
 use super::folders::Walk;
-use disk_basics::host::{print, read_image};
-use disk_basics::{Failure, in_memory, on_disk};
-use disk_reports::{Look, LookAnswer, Shown, heads, lines_of, refusal_line};
+use disk_basics::host::print;
+use disk_basics::{Failure, in_memory};
+use disk_reports::{Look, LookAnswer, heads, refusal_line};
+use disk_sources::seen;
 use host_files::{Kind, kind_of};
 use std::rt::Runtime;
-
-/// What an image shows.
-fn seen<'a, R: Runtime + AllocGlobal>(
-    rt: &R,
-    image: &'a str,
-    look: Look<'_>,
-) -> Result<Shown, Failure<'a>> {
-    let bytes = read_image(rt, image)?;
-    on_disk(image, lines_of(rt.alloc(), image, bytes.as_slice(), look))
-}
 
 /// Looks at the one image of the command line.
 fn look_at_one<'a, R: Runtime + AllocGlobal>(
@@ -31,6 +22,7 @@ fn look_at_one<'a, R: Runtime + AllocGlobal>(
         LookAnswer::NoMatch => Err(Failure::NoMatch),
         LookAnswer::Untitled => Err(Failure::Untitled(image)),
         LookAnswer::Broken(end) => Err(Failure::Broken(image, end)),
+        LookAnswer::Told => Err(Failure::Told),
     }
 }
 
@@ -54,7 +46,8 @@ fn tell_answer(rt: &impl Eprint, image: &str, answer: LookAnswer) {
     let _ = match answer {
         LookAnswer::Untitled => Failure::Untitled(image).tell(rt),
         LookAnswer::Broken(end) => Failure::Broken(image, end).tell(rt),
-        LookAnswer::Fine | LookAnswer::Unsound(_) | LookAnswer::NoMatch => Ok(()),
+        LookAnswer::Fine | LookAnswer::Unsound(_) => Ok(()),
+        LookAnswer::NoMatch | LookAnswer::Told => Ok(()),
     };
 }
 

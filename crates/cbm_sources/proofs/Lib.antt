@@ -1,0 +1,5 @@
+pub mod Places
+pub mod ChainLemmas
+pub mod TapeLemmas
+pub mod LynxLemmas
+pub mod Sourced

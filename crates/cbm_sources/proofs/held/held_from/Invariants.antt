@@ -1,0 +1,17 @@
+use Rattle.std.proofs.Common.{◌≡◌, []}
+use Rattle.cbm_chain.specs.Data.{chain_bytes}
+use Rattle.cbm_sources.specs.Forms.{sector_count}
+use Rattle.cbm_sources.specs.Sectors.{content_of}
+use Rattle.cbm_sources.specs.Chains.{met, after_blocks, way_left}
+use Rattle.cbm_sources.proofs.held.held_from.Given as goal
+
+abbrev pub invariant-sectors : goal.invariant-sectors
+invariant-sectors l =
+    let content = content_of l.disk in
+    record {
+      whole : met content (sector_count l.disk.form) [] l.fn.first ≡ after_blocks l.trail.blocks (way_left content l.trail);
+      bytes : l.bytes.items ≡ chain_bytes content l.trail.blocks;
+    }
+
+abbrev pub decreases-sectors : goal.decreases-sectors
+decreases-sectors l = l.trail.left

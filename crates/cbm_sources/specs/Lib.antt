@@ -1,0 +1,9 @@
+pub mod Forms
+pub mod Sectors
+pub mod Chains
+pub mod Directories
+pub mod Answers
+pub mod Tapes
+pub mod Lynxes
+pub mod Sources
+pub mod Told

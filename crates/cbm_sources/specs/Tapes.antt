@@ -1,0 +1,114 @@
+-- The T64 format: a header of 64 bytes, records of 32 bytes each, and the bytes of the files.
+use Rattle.std.specs.Prelude.{ℕ, zero, suc, ◌+◌, ◌-◌, ◌*◌, ◌/◌, ◌^◌, ◌≤◌, ◌≡◌, ◌==◌, nat_lt, min, max, Bool, not, ◌&&◌, if◌then◌else◌, List, [], ◌∷◌, length, take, filter, map, slice_get, slice_index, slice_range, codes, Option, Some, None, Ok, Err}
+use Rattle.cbm_medium.specs.Place.{Place}
+use Rattle.cbm_file.specs.Files.{blocks_of}
+use Rattle.cbm_file.specs.declared.file_type.FileType.TheVariants.{Prg}
+use Rattle.cbm_directory.specs.Entries.{closed_entry}
+use Rattle.cbm_directory.specs.EntryChanges.{fresh_entry}
+use Rattle.cbm_sources.specs.declared.fault.Fault.TheVariants.{NoFile, Cut}
+use Rattle.cbm_sources.specs.Answers.{Told}
+
+-- a number of two bytes, low byte first, and one of four
+abbrev pub word : List ℕ → ℕ → ℕ
+word bytes n = slice_index bytes n + 256 * slice_index bytes (n + 1)
+
+abbrev pub long : List ℕ → ℕ → ℕ
+long bytes n = word bytes n + 65536 * word bytes (n + 2)
+
+-- A TAPE ARCHIVE begins with the letters C64 and has its whole header.
+abbrev pub IsTape : List ℕ → Type 0
+IsTape bytes = (64 ≤ length bytes) × (take 3 bytes ≡ 67 ∷ 54 ∷ 52 ∷ [])
+
+-- ---- records
+
+-- How many records there are: the greater of the header's two counts, since either may be 0 in archives that have a file, and at least one;
+-- but no more than stand in the archive.
+abbrev pub record_count : List ℕ → ℕ
+record_count bytes = min (max 1 (max (word bytes 34) (word bytes 36))) ((length bytes - 64) / 32)
+
+-- the record of a number
+abbrev pub record_of : List ℕ → ℕ → List ℕ
+record_of bytes n = slice_range bytes (64 + 32 * n) (96 + 32 * n)
+
+-- this many records, from a number on
+abbrev pub records_from : (count : ℕ) → List ℕ → ℕ → List (List ℕ)
+records_from zero bytes k = []
+records_from (suc n) bytes k = record_of bytes k ∷ records_from n bytes (k + 1)
+
+-- a record whose first byte isn't 0 is a file's
+abbrev pub is_used : List ℕ → Bool
+is_used r = not (slice_index r 0 == 0)
+
+-- the records of files
+unfoldable pub used_records : List ℕ → List (List ℕ)
+used_records bytes = filter is_used (records_from (record_count bytes) bytes 0)
+
+-- ---- what a record says
+
+-- where its file is loaded, and the address after its last byte
+abbrev pub start_of : List ℕ → ℕ
+start_of r = word r 2
+
+abbrev pub end_of : List ℕ → ℕ
+end_of r = word r 4
+
+-- where its file's bytes begin in the archive
+abbrev pub offset_of : List ℕ → ℕ
+offset_of r = long r 8
+
+-- a name without the spaces that fill it up
+abbrev pub without_space : ℕ → List ℕ → List ℕ
+without_space c [] = if c == 32 then [] else c ∷ []
+without_space c (d ∷ rest) = c ∷ d ∷ rest
+
+abbrev pub trimmed : List ℕ → List ℕ
+trimmed [] = []
+trimmed (c ∷ rest) = without_space c (trimmed rest)
+
+-- ---- the bytes of a file
+
+-- the first place after another where a file begins, or the end where none does
+abbrev pub nearer : ℕ → ℕ → ℕ → ℕ
+nearer from limit at = if nat_lt from at && nat_lt at limit then at else limit
+
+abbrev pub limit_after : ℕ → ℕ → List (List ℕ) → ℕ
+limit_after from limit [] = limit
+limit_after from limit (r ∷ rest) = limit_after from (nearer from limit (offset_of r)) rest
+
+-- how many bytes a record's file can have: up to where the next one begins or to the end of the archive
+unfoldable pub room_of : List ℕ → List ℕ → ℕ
+room_of bytes r = limit_after (offset_of r) (length bytes) (used_records bytes) - offset_of r
+
+-- How many bytes it has: those between its addresses. Many archives have a wrong end address; if it leaves no byte, or more than can be there, all
+-- that can be there are taken, up to the end of the memory.
+abbrev pub size_in : ℕ → ℕ → ℕ → ℕ
+size_in start stated room = if nat_lt 0 stated && nat_lt stated (room + 1) then stated else min room (65536 - start)
+
+abbrev pub size_of : List ℕ → List ℕ → ℕ
+size_of bytes r = size_in (start_of r) (end_of r - start_of r) (room_of bytes r)
+
+-- a file as a disk has it: its start address comes first
+abbrev pub program_of : List ℕ → List ℕ → List ℕ
+program_of bytes r = slice_index r 2 ∷ slice_index r 3 ∷ slice_range bytes (offset_of r) (offset_of r + size_of bytes r)
+
+-- the bytes of a record's file; none where they would begin after the end
+abbrev pub told_of : List ℕ → Option (List ℕ) → Told
+told_of bytes None = Err NoFile
+told_of bytes (Some r) = if nat_lt (offset_of r) (length bytes) then Ok (program_of bytes r) else Err (Cut (offset_of r))
+
+-- THE BYTES OF THE FILE OF A NUMBER, counted from 0 over the records of files
+unfoldable pub tape_file : List ℕ → ℕ → Told
+tape_file bytes n = told_of bytes (slice_get (used_records bytes) n)
+
+-- ---- the directory
+
+abbrev pub nowhere : Place
+nowhere = record { track = 0; sector = 0 }
+
+-- a closed program's entry, with its name and the blocks that it takes on a disk
+unfoldable pub tape_entry : List ℕ → List ℕ → List ℕ
+tape_entry bytes r = closed_entry (fresh_entry Prg (trimmed (slice_range r 16 32)) nowhere) nowhere (blocks_of (2 + size_of bytes r))
+
+-- THE ENTRIES OF AN ARCHIVE
+abbrev pub tape_entries : List ℕ → List (List ℕ)
+tape_entries bytes = map (tape_entry bytes) (used_records bytes)

@@ -1,0 +1,190 @@
+//! A Lynx archive.
+ghost use Rattle.std.specs.Prelude.{◌≡◌, ◌≤◌, ◌<◌, ◌+◌, ◌↔◌, ◌⊎◌, length, slice_get, IfOk, IfSome, IsSome, MatchResult, Some, Ok, Err};
+ghost use Rattle.cbm_sources.specs.Lynxes.{header_of, size_of, member_entry, members_in, members_of, piece_told, missing, told_in, lynx_file};
+
+use crate::fault::Fault;
+use crate::lines::{Header, Member, header_of, member_at};
+use cbm_directory::Entry;
+use cbm_medium::Link;
+use std::alloc::{AllocError, Global};
+use std::marker::Model;
+
+/// The bytes of a file in a block of a disk.
+const BLOCK: usize = 254;
+
+/// The longest name.
+const NAME: usize = 16;
+
+/// Where a file's bytes stand in the archive, and how many there are.
+#[derive(Clone, Copy, Drop)]
+pub(crate) struct Piece {
+    start: usize,
+    size: usize,
+}
+
+/// What can be read of an archive's directory.
+#[derive(Drop)]
+pub(crate) struct Found {
+    entries: Vec<Entry>,
+    pieces: Vec<Piece>,
+    // Where it can't be read any more.
+    broken: Option<usize>,
+}
+
+/// A Lynx archive.
+#[derive(Drop)]
+pub struct Lynx<'a> {
+    bytes: &'a [u8],
+}
+
+impl<'a> Model for Lynx<'a> {
+    ghost use Rattle.std.specs.Prelude.{List, ℕ};
+
+    ghost Value = { List ℕ };
+
+    ghost view = { λ l. l.bytes.now };
+}
+
+/// How many bytes a file has.
+fn size_of(member: Member) -> usize
+    ensures value { result ≡ size_of member }
+    ensures small { result < 16711680 }
+{
+    if member.blocks == 0 {
+        return 0;
+    }
+    let last = (member.last as usize).min(255).saturating_sub(1);
+    BLOCK * (member.blocks as usize - 1) + last
+}
+
+/// A closed file's entry.
+fn entry(bytes: &[u8], member: Member) -> Entry
+    requires order { member.name_from ≤ member.name_to }
+    requires inside { member.name_to < length bytes.now }
+    ensures { result ≡ member_entry bytes.now member }
+{
+    let name = &bytes[member.name_from..member.name_to];
+    let short = &name[..name.len().min(NAME)];
+    let nowhere = Link::new(0, 0);
+    Entry::fresh(member.kind, short, nowhere).closed(nowhere, member.blocks)
+}
+
+/// The files of a directory.
+fn members_after(alloc: Global, bytes: &[u8], header: Header) -> Result<Found, AllocError>
+    ensures { IfOk result (λ f. members_in bytes.now (Some header)
+        ≡ (record { entries = f.entries.items; pieces = f.pieces.items; broken = f.broken })) }
+{
+    let mut entries = Vec::new(alloc);
+    let mut pieces = Vec::new(alloc);
+    let mut at = header.next;
+    let mut start = BLOCK * header.blocks as usize;
+    for number in 0..header.count {
+        let Some(member) = member_at(bytes, at) else {
+            return Ok(Found {
+                entries,
+                pieces,
+                broken: Some(at),
+            });
+        };
+        entries
+            .push(entry(bytes, member))
+            .map_err(AllocError::from)?;
+        let size = size_of(member);
+        pieces
+            .push(Piece { start, size })
+            .map_err(AllocError::from)?;
+        at = member.next;
+        start += BLOCK * member.blocks as usize;
+    }
+    Ok(Found {
+        entries,
+        pieces,
+        broken: None,
+    })
+}
+
+/// The files of an archive.
+fn members_of(alloc: Global, bytes: &[u8]) -> Result<Found, AllocError>
+    ensures { IfOk result (λ f. members_of bytes.now
+        ≡ (record { entries = f.entries.items; pieces = f.pieces.items; broken = f.broken })) }
+{
+    match header_of(bytes) {
+        Some(header) => members_after(alloc, bytes, header),
+        None => Ok(Found {
+            entries: Vec::new(alloc),
+            pieces: Vec::new(alloc),
+            broken: None,
+        }),
+    }
+}
+
+/// The bytes of a file.
+fn bytes_of(alloc: Global, bytes: &[u8], piece: Piece) -> Result<Vec<u8>, Fault>
+    ensures { MatchResult result (λ v. piece_told bytes.now piece ≡ Ok v.items)
+        (λ fault. (fault ≡ Fault.Memory) ⊎ (piece_told bytes.now piece ≡ Err fault)) }
+{
+    if piece.start > bytes.len() || piece.size > bytes.len() - piece.start {
+        return Err(Fault::Cut(piece.start));
+    }
+    match Vec::from_slice(alloc, &bytes[piece.start..piece.start + piece.size]) {
+        Ok(file) => Ok(file),
+        Err(_) => Err(Fault::Memory),
+    }
+}
+
+/// Why there is no file: the directory has no more, or can't be read any more.
+fn missing(broken: Option<usize>) -> Fault
+    ensures { result ≡ missing broken }
+{
+    match broken {
+        Some(at) => Fault::Text(at),
+        None => Fault::NoFile,
+    }
+}
+
+/// The bytes of the file of a number among these.
+fn file_among(alloc: Global, bytes: &[u8], found: &Found, number: usize) -> Result<Vec<u8>, Fault>
+    ensures { let told = told_in bytes.now found.now.broken (slice_get found.now.pieces.items number) in
+        MatchResult result (λ v. told ≡ Ok v.items) (λ fault. (fault ≡ Fault.Memory) ⊎ (told ≡ Err fault)) }
+{
+    match found.pieces.as_slice().get(number) {
+        Some(piece) => bytes_of(alloc, bytes, *piece),
+        None => Err(missing(found.broken)),
+    }
+}
+
+impl<'a> Lynx<'a> {
+    /// The archive of these bytes, None if they are none.
+    pub fn of(bytes: &'a [u8]) -> Option<Lynx<'a>>
+        ensures some { IfSome result (λ l. l ≡ bytes.now) }
+        ensures is { IsSome result ↔ IsSome (header_of bytes.now) }
+    {
+        match header_of(bytes) {
+            Some(_) => Some(Lynx { bytes }),
+            None => None,
+        }
+    }
+
+    /// Its files' entries, and the place where its directory can't be read any more. The one error is want of memory.
+    pub fn entries(&self, alloc: Global) -> Result<(Vec<Entry>, Option<usize>), AllocError>
+        ensures { let m = members_of self.now in IfOk result (λ r. (r.0.items ≡ m.entries) × (r.1 ≡ m.broken)) }
+    {
+        let Found {
+            entries,
+            pieces: _,
+            broken,
+        } = members_of(alloc, self.bytes)?;
+        Ok((entries, broken))
+    }
+
+    /// The bytes of the file of a number.
+    pub fn file(&self, alloc: Global, number: usize) -> Result<Vec<u8>, Fault>
+        ensures { MatchResult result (λ v. lynx_file self.now number ≡ Ok v.items)
+            (λ fault. (fault ≡ Fault.Memory) ⊎ (lynx_file self.now number ≡ Err fault)) }
+    {
+        match members_of(alloc, self.bytes) {
+            Ok(found) => file_among(alloc, self.bytes, &found, number),
+            Err(_) => Err(Fault::Memory),
+        }
+    }
+}

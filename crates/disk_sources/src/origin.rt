@@ -1,0 +1,178 @@
+//! A disk or an archive from which files are taken.
+use cbm_shell::texts::Charset;
+use cbm_shell::{ShellFault, foreign_of};
+use cbm_sources::{Fault, Form, Source, SourceKind};
+use cbm_volume::Entry;
+use disk_basics::calls::name_text;
+use disk_basics::host::require_ours;
+use disk_basics::{BreakOff, Cause, Disk, Failure, in_memory, on_disk};
+use std::alloc::{AllocError, Global};
+use std::io;
+
+/// A disk, or a disk or an archive of another kind.
+#[derive(Drop)]
+pub enum Origin<'b> {
+    /// The disk of a 1541.
+    Disk(Disk),
+    /// Another one.
+    Other(Source<'b>),
+}
+
+/// Why a directory ends where it does.
+#[derive(Clone, Copy)]
+pub enum End {
+    /// It is whole.
+    Whole,
+    /// That of a 1541's disk breaks off.
+    Disk(BreakOff),
+    /// That of another one does.
+    Other(Fault),
+}
+
+/// The entries of a disk or an archive. A file's number is the place of its entry.
+#[derive(Drop)]
+pub struct Entries {
+    /// They.
+    pub entries: Vec<Entry>,
+    /// What ends them.
+    pub end: End,
+}
+
+/// Why a file isn't read.
+#[derive(Clone, Copy)]
+pub enum FileFault {
+    /// The disk of a 1541 refuses it.
+    Disk(ShellFault),
+    /// Another one does.
+    Other(Fault),
+}
+
+/// The source that bytes are, if a 1541's image has another form; None of one of its own, or of none.
+pub fn other_source(bytes: &[u8]) -> Option<Source<'_>> {
+    foreign_of(bytes)?;
+    Source::of(bytes)
+}
+
+/// What a source is called.
+pub fn kind_text(kind: SourceKind) -> &'static str {
+    match kind {
+        SourceKind::Image(Form::D71) => "a D71, the disk of a 1571",
+        SourceKind::Image(Form::D81) => "a D81, the disk of a 1581",
+        SourceKind::Image(Form::D64Of42) => "a D64 of 42 tracks",
+        SourceKind::Image(_) => "a D64",
+        SourceKind::TapeArchive => "a T64 archive",
+        SourceKind::LynxArchive => "a Lynx archive",
+    }
+}
+
+impl<'b> Origin<'b> {
+    /// The disk or the archive of these bytes. Errors: `Foreign`, where they are none; `Disk`; `NoMemory`.
+    pub fn open<'a>(
+        alloc: Global,
+        name: &'a str,
+        bytes: &'b [u8],
+    ) -> Result<Origin<'b>, Failure<'a>> {
+        if let Some(source) = other_source(bytes) {
+            return Ok(Origin::Other(source));
+        }
+        require_ours(name, bytes)?;
+        let disk = on_disk(name, Disk::open(alloc, bytes))?;
+        Ok(Origin::Disk(disk))
+    }
+
+    /// Its entries, as far as its directory can be followed. The one error is `NoMemory`.
+    pub fn entries<'a>(&self, alloc: Global) -> Result<Entries, Failure<'a>> {
+        match self {
+            Origin::Disk(disk) => disk_entries(alloc, disk),
+            Origin::Other(source) => source_entries(alloc, source),
+        }
+    }
+
+    /// The bytes of the file of an entry, by its number.
+    pub fn file(&self, alloc: Global, entry: &Entry, number: usize) -> Result<Vec<u8>, FileFault> {
+        if !entry.is_closed() {
+            return Err(FileFault::Disk(ShellFault::NotClosed));
+        }
+        match self {
+            Origin::Disk(disk) => disk.file_of(alloc, entry).map_err(FileFault::Disk),
+            Origin::Other(source) => source.file(alloc, number).map_err(FileFault::Other),
+        }
+    }
+}
+
+/// The entries of a 1541's disk.
+fn disk_entries<'a>(alloc: Global, disk: &Disk) -> Result<Entries, Failure<'a>> {
+    let listed = in_memory(disk.listed(alloc))?;
+    let end = match listed.trouble {
+        Some(trouble) => End::Disk(BreakOff {
+            entries: listed.entries.len(),
+            trouble,
+        }),
+        None => End::Whole,
+    };
+    Ok(Entries {
+        entries: listed.entries,
+        end,
+    })
+}
+
+/// The entries of another one.
+fn source_entries<'a>(alloc: Global, source: &Source<'_>) -> Result<Entries, Failure<'a>> {
+    let contents = in_memory(source.entries(alloc))?;
+    let end = match contents.fault {
+        Some(fault) => End::Other(fault),
+        None => End::Whole,
+    };
+    Ok(Entries {
+        entries: contents.entries,
+        end,
+    })
+}
+
+/// Prints why a file or a directory of another kind of disk or archive can't be read on.
+fn tell_fault(rt: &impl Eprint, name: &str, fault: Fault) -> io::Result<()> {
+    match fault {
+        Fault::NoFile => eprintln!(rt; "disk1541: {name}: no such file"),
+        Fault::Chain(trouble) => {
+            let cause = Cause(trouble);
+            eprintln!(rt; "disk1541: {name} breaks off: {cause}")
+        }
+        Fault::Cut(at) => {
+            eprintln!(rt;
+                "disk1541: {name} is cut off: it begins at byte {at}, and the archive ends before it does"
+            )
+        }
+        Fault::Text(at) => {
+            eprintln!(rt; "disk1541: {name}: the directory can't be read from byte {at} on")
+        }
+        Fault::Memory => eprintln!(rt; "disk1541: no memory"),
+    }
+}
+
+/// Prints that a directory breaks off; answers whether it is whole.
+pub fn tell_end(rt: &impl Eprint, name: &str, end: End) -> bool {
+    match end {
+        End::Whole => return true,
+        End::Disk(end) => {
+            let _ = Failure::Broken(name, end).tell(rt);
+        }
+        End::Other(fault) => {
+            let _ = tell_fault(rt, name, fault);
+        }
+    }
+    false
+}
+
+/// Prints why a file isn't taken.
+pub fn tell_file<R: Eprint + AllocGlobal>(
+    rt: &R,
+    entry: &Entry,
+    fault: FileFault,
+) -> Result<(), AllocError> {
+    let name = name_text(rt.alloc(), Charset::Upper, entry.name())?;
+    let _ = match fault {
+        FileFault::Disk(fault) => Failure::Disk(name.as_str(), fault).tell(rt),
+        FileFault::Other(fault) => tell_fault(rt, name.as_str(), fault),
+    };
+    Ok(())
+}

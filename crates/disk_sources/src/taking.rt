@@ -1,0 +1,160 @@
+//! GET and GET-ALL: files out of a disk or an archive of any kind.
+use crate::origin::{Entries, Origin, other_source, tell_end, tell_file};
+use cbm_shell::texts::Charset;
+use cbm_volume::Entry;
+use disk_basics::calls::name_text;
+use disk_basics::host::{read_any, require_ours};
+use disk_basics::{Failure, in_memory, petscii, slot_chosen};
+use disk_facts::is_meant;
+use disk_looks::{
+    Destination, Names, OneFile, Progress, get_all_from, get_from, make_folder, packed, save_as,
+    write_taken,
+};
+use std::alloc::AllocError;
+use std::path::Path;
+use std::rt::Runtime;
+
+/// The number of the first file that a pattern means.
+fn number_meant(entries: &[Entry], pattern: &[u8]) -> Option<usize> {
+    for (number, entry) in entries.iter().enumerate() {
+        if is_meant(entry, pattern) {
+            return Some(number);
+        }
+    }
+    None
+}
+
+/// The number of the file that is chosen.
+fn number_of<'a, R: Runtime + AllocGlobal>(
+    rt: &R,
+    entries: &[Entry],
+    taken: &OneFile<'a>,
+) -> Result<usize, Failure<'a>> {
+    if !taken.choice.is_pattern() {
+        return slot_chosen(rt.alloc(), entries, taken.choice);
+    }
+    let pattern = petscii(rt.alloc(), taken.choice.charset, taken.choice.name)?;
+    match number_meant(entries, pattern.as_slice()) {
+        Some(number) => Ok(number),
+        None => Err(Failure::NoFile(taken.choice.name)),
+    }
+}
+
+/// Takes a file out of a disk or an archive of another kind.
+fn get_other<'a, R: Runtime + AllocGlobal>(
+    rt: &R,
+    image: &'a str,
+    bytes: &[u8],
+    taken: &OneFile<'a>,
+) -> Result<(), Failure<'a>> {
+    let origin = Origin::open(rt.alloc(), image, bytes)?;
+    let found = origin.entries(rt.alloc())?;
+    let number = number_of(rt, found.entries.as_slice(), taken)?;
+    let Some(entry) = found.entries.as_slice().get(number) else {
+        return Err(Failure::NoFile(taken.choice.word()));
+    };
+    match origin.file(rt.alloc(), entry, number) {
+        Ok(file) => write_taken(rt, taken, file.as_slice()),
+        Err(fault) => {
+            in_memory(tell_file(rt, entry, fault))?;
+            Err(Failure::Told)
+        }
+    }
+}
+
+/// Takes a file out of an image, also one of another kind. Errors: those of `read_image` and of `petscii`; `Disk`, where the disk
+/// has no such file or it can't be read; `NoFile`; `Told`; `Exists`; `Write`.
+pub fn get<'a, R: Runtime + AllocGlobal>(
+    rt: &R,
+    image: &'a str,
+    taken: &OneFile<'a>,
+) -> Result<(), Failure<'a>> {
+    let bytes = read_any(rt, image)?;
+    if other_source(bytes.as_slice()).is_some() {
+        return get_other(rt, image, bytes.as_slice(), taken);
+    }
+    require_ours(image, bytes.as_slice())?;
+    get_from(rt, bytes.as_slice(), taken)
+}
+
+/// Saves the file of an entry in the folder. Answers whether it was saved. The one error is want of memory.
+fn save_one<R: Runtime + AllocGlobal>(
+    rt: &R,
+    origin: &Origin<'_>,
+    entry: &Entry,
+    number: usize,
+    names: &mut Names,
+    place: Destination<'_>,
+) -> Result<bool, AllocError> {
+    let alloc = rt.alloc();
+    let file = match origin.file(alloc, entry, number) {
+        Ok(file) => file,
+        Err(fault) => {
+            tell_file(rt, entry, fault)?;
+            return Ok(false);
+        }
+    };
+    let file = packed(alloc, entry, file)?;
+    let name = names.next(alloc, entry)?;
+    let path = Path::new(place.folder).join(alloc, name.as_str())?;
+    let shown = name_text(alloc, Charset::Upper, entry.name())?;
+    Ok(save_as(
+        rt,
+        path.as_path(),
+        shown.as_str(),
+        file.as_slice(),
+        place.replaces,
+    ))
+}
+
+/// Saves all files in the folder. Answers whether all were saved. The one error is want of memory.
+fn save_all<R: Runtime + AllocGlobal>(
+    rt: &R,
+    origin: &Origin<'_>,
+    found: &Entries,
+    place: Destination<'_>,
+) -> Result<bool, AllocError> {
+    let mut names = Names::new(rt.alloc());
+    let mut are_saved = true;
+    for (number, entry) in found.entries.iter().enumerate() {
+        if !entry.is_empty() {
+            let is_saved = save_one(rt, origin, entry, number, &mut names, place)?;
+            are_saved = are_saved && is_saved;
+        }
+    }
+    Ok(are_saved)
+}
+
+/// Takes all files of a disk or an archive of another kind out.
+fn get_all_other<'a, R: Runtime + AllocGlobal>(
+    rt: &R,
+    image: &'a str,
+    bytes: &[u8],
+    place: Destination<'a>,
+) -> Result<(), Failure<'a>> {
+    let origin = Origin::open(rt.alloc(), image, bytes)?;
+    let found = origin.entries(rt.alloc())?;
+    make_folder(rt, place.folder)?;
+    let are_saved = in_memory(save_all(rt, &origin, &found, place))?;
+    let is_whole = tell_end(rt, image, found.end);
+    if are_saved && is_whole {
+        return Ok(());
+    }
+    Err(Failure::Told)
+}
+
+/// Takes all files out of an image, also one of another kind, into a folder. Errors: those of `read_image`; `Disk`; `Write`, where the
+/// folder can't be made; `Told`, where a file wasn't saved, as is reported; `NoMemory`.
+pub fn get_all<'a, R: Runtime + AllocGlobal>(
+    rt: &R,
+    image: &'a str,
+    place: Destination<'a>,
+    progress: Progress,
+) -> Result<(), Failure<'a>> {
+    let bytes = read_any(rt, image)?;
+    if other_source(bytes.as_slice()).is_some() {
+        return get_all_other(rt, image, bytes.as_slice(), place);
+    }
+    require_ours(image, bytes.as_slice())?;
+    get_all_from(rt, image, bytes.as_slice(), place, progress)
+}
