@@ -1,5 +1,5 @@
 -- What a chain meets, step by step.
-use Rattle.std.proofs.Common.{◌≡◌, ◌≢◌, ◌⊎◌, ℕ, zero, suc, ◌+◌, ◌-◌, ◌<◌, ◌≤◌, List, [], ◌∷◌, ◌++◌, length, Bool, true, false, ◌||◌, Option, Some, None, Ok, Err, refl, ap, sym, subst, ◌∙◌, arith, inl, inr, append_assoc, append-nil, length-append}
+use Rattle.std.proofs.Common.{◌≡◌, ◌≢◌, ℕ, zero, suc, ◌+◌, ◌-◌, ◌<◌, ◌≤◌, List, [], ◌∷◌, ◌++◌, length, Bool, true, false, ◌||◌, Some, Ok, Err, refl, ap, sym, subst, ◌∙◌, arith, inl, inr, append_assoc, append-nil, length-append}
 use Rattle.std.specs.List.{list_any}
 use Rattle.std.proofs.lemmas.List.Folds.{list_any-append}
 use Rattle.std.proofs.lemmas.Bool.{eq-eqb, ne_eqb, cases_eq, false≢true}
@@ -12,7 +12,7 @@ use Rattle.cbm_chain.specs.Data.{data_of, chain_bytes}
 use Rattle.cbm_directory.specs.Entries.{entry_of, type_byte}
 use Rattle.cbm_directory.specs.Slots.{entries_from}
 use Rattle.cbm_sources.specs.Directories.{used, used_entries}
-use Rattle.cbm_sources.specs.Chains.{Way, way_left, after_blocks, GoesOn, Stands, is_among, met_after, met, Leads, AreApart, Breaks, IsWholeChain, IsBrokenChain, IsToldOf}
+use Rattle.cbm_sources.specs.Chains.{Way, way_left, after_blocks, GoesOn, Stands, is_among, met_after, met, Leads, AreApart, Breaks, IsToldOf}
 
 -- ---- one step
 

@@ -2,7 +2,7 @@
 use Rattle.std.proofs.Common.{◌≡◌, ℕ, suc, ◌+◌, ◌-◌, ◌*◌, ◌<◌, ◌≤◌, List, slice_get, [], ◌∷◌, ◌++◌, append_assoc, append-nil, None, Bool, false, if◌then◌else◌, Option, Some, ap, ◌∙◌, sym, arith}
 use Rattle.cbm_sources.specs.declared.lines.Member.{Member}
 use Rattle.cbm_sources.specs.declared.lynx.Piece.{Piece}
-use Rattle.cbm_sources.specs.Lynxes.{first_where, Members, member_at, member_entry, piece_at, size_of, after_members, members_after, members_from, members_of, told_in, lynx_file}
+use Rattle.cbm_sources.specs.Lynxes.{first_where, Members, member_at, member_entry, piece_of, after_members, members_after, members_from, members_of, told_in, lynx_file}
 
 -- a place that doesn't pass
 pub first_passed : (test : ℕ → Bool) (end k : ℕ) → k < end → test k ≡ false → first_where test (end - k) k ≡ first_where test (end - (k + 1)) (k + 1)
@@ -21,17 +21,17 @@ one_fewer bytes count n at start h =
 
 pub member_more : (bytes : List ℕ) (count n at start : ℕ) (whole : Members) (entries more_entries : List (List ℕ)) (pieces more_pieces : List Piece) (m : Member) → n < count
     → whole ≡ after_members entries pieces (members_from (count - n) bytes at start) → Some m ≡ member_at bytes at
-    → more_entries ≡ entries ++ member_entry bytes m ∷ [] → more_pieces ≡ pieces ++ piece_at start (size_of m) ∷ []
+    → more_entries ≡ entries ++ member_entry bytes m ∷ [] → more_pieces ≡ pieces ++ piece_of start m ∷ []
     → whole ≡ after_members more_entries more_pieces (members_from (count - (n + 1)) bytes m.next (start + 254 * m.blocks))
 member_more bytes count n at start whole entries more_entries pieces more_pieces m h w f e p =
     let rest = members_from (count - (n + 1)) bytes m.next (start + 254 * m.blocks) in
     w ∙ ap (after_members entries pieces) (one_fewer bytes count n at start h
     ∙ ap (λ o. members_after bytes o at start (λ q. members_from (count - (n + 1)) bytes q.next (start + 254 * q.blocks))) (sym f))
-    ∙ ap (λ xs. let r : Members = record { entries = xs; pieces = pieces ++ piece_at start (size_of m) ∷ rest.pieces; broken = rest.broken } in r)
+    ∙ ap (λ xs. let r : Members = record { entries = xs; pieces = pieces ++ piece_of start m ∷ rest.pieces; broken = rest.broken } in r)
     (sym (append_assoc entries (member_entry bytes m ∷ []) rest.entries))
     ∙ ap (λ xs. let r : Members = record { entries = (entries ++ member_entry bytes m ∷ []) ++ rest.entries; pieces = xs; broken = rest.broken } in r)
-    (sym (append_assoc pieces (piece_at start (size_of m) ∷ []) rest.pieces))
-    ∙ ap (λ xs. after_members xs (pieces ++ piece_at start (size_of m) ∷ []) rest) (sym e)
+    (sym (append_assoc pieces (piece_of start m ∷ []) rest.pieces))
+    ∙ ap (λ xs. after_members xs (pieces ++ piece_of start m ∷ []) rest) (sym e)
     ∙ ap (λ xs. after_members more_entries xs rest) (sym p)
 
 nothing_more : (entries : List (List ℕ)) (pieces : List Piece) (broken : Option ℕ)

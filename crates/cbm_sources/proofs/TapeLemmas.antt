@@ -1,5 +1,5 @@
 -- Tape archives: names, records, and how many bytes a file can have.
-use Rattle.std.proofs.Common.{◌≡◌, ◌≢◌, ℕ, zero, suc, ◌+◌, ◌-◌, ◌*◌, ◌<◌, ◌≤◌, List, [], ◌∷◌, ◌++◌, length, take, filter, get_or, min, slice_index, slice_range, slice_get, Option, Some, Ok, Err, Bool, true, false, refl, ap, sym, subst, ◌∙◌, arith, inl, inr, append_assoc, append-nil}
+use Rattle.std.proofs.Common.{◌≡◌, ◌≢◌, ℕ, suc, ◌+◌, ◌-◌, ◌<◌, ◌≤◌, List, [], ◌∷◌, ◌++◌, length, filter, slice_index, slice_range, slice_get, Option, Some, Ok, Err, Bool, true, false, refl, ap, sym, ◌∙◌, arith, append_assoc, append-nil}
 use Rattle.std.proofs.lemmas.Bool.{eq-eqb, ne_eqb, lt-ltb, le-ltb}
 use Rattle.cbm_sources.specs.declared.fault.Fault.TheVariants.{Cut}
 use Rattle.cbm_sources.specs.Answers.{Told}

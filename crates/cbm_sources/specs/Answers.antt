@@ -1,5 +1,5 @@
 -- What a source answers to the number of a file.
-use Rattle.std.specs.Prelude.{ℕ, ◌≡◌, ◌⊎◌, List, Option, Some, None, Result, Ok, Err}
+use Rattle.std.specs.Prelude.{ℕ, ◌≡◌, ◌⊎◌, List, Result, Ok, Err}
 use Rattle.cbm_sources.specs.declared.fault.Fault.{Fault}
 use Rattle.cbm_sources.specs.declared.fault.Fault.TheVariants.{Memory}
 

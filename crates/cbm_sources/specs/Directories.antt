@@ -1,12 +1,12 @@
 -- The directories of disks.
-use Rattle.std.specs.Prelude.{ℕ, ◌==◌, List, [], ◌∷◌, ◌++◌, not, filter, Option}
+use Rattle.std.specs.Prelude.{ℕ, ◌==◌, List, [], ◌∷◌, ◌++◌, not, filter}
 use Rattle.cbm_medium.specs.Place.{Place}
 use Rattle.cbm_medium.specs.Content.{Content}
 use Rattle.cbm_medium.specs.Links.{Followed, bytes_at}
 use Rattle.cbm_directory.specs.Entries.{first_directory, type_byte}
 use Rattle.cbm_directory.specs.Slots.{Listed, entries_from}
 use Rattle.cbm_sources.specs.declared.form.Form.{Form}
-use Rattle.cbm_sources.specs.declared.form.Form.TheVariants.{D64Of35, D64Of40, D64Of42, D71, D81}
+use Rattle.cbm_sources.specs.declared.form.Form.TheVariants.{D81}
 
 -- where the directory of each form begins
 abbrev pub directory_start : Form → Place

@@ -1,5 +1,6 @@
 -- The Lynx format: a BASIC program, the directory as lines of text, and the blocks of the files, 254 bytes each.
-use Rattle.std.specs.Prelude.{ℕ, zero, suc, ◌+◌, ◌-◌, ◌*◌, ◌==◌, nat_lt, min, Bool, ◌&&◌, ◌||◌, not, if◌then◌else◌, List, [], ◌∷◌, ◌++◌, length, map, take, drop, slice_get, slice_index, slice_range, Option, Some, None, Ok, Err}
+use Rattle.std.specs.Prelude.{ℕ, zero, suc, ◌+◌, ◌-◌, ◌*◌, ◌==◌, nat_lt, min, Bool, ◌&&◌, ◌||◌, not, if◌then◌else◌, List, [], ◌∷◌, ◌++◌, length, take, slice_get, slice_index, slice_range, Option, Some, None, Ok, Err}
+use Rattle.cbm_file.specs.Files.{parts}
 use Rattle.cbm_file.specs.Types.{is_same_type}
 use Rattle.cbm_file.specs.declared.file_type.FileType.{FileType}
 use Rattle.cbm_file.specs.declared.file_type.FileType.TheVariants.{Del, Seq, Prg, Usr, Rel}
@@ -131,17 +132,24 @@ member_at bytes at =
     given (kind_line bytes blocks.next) (λ kind.
     given (last_line bytes kind) (λ last. Some (member_with at to blocks kind.kind last)))))
 
+-- The side sectors of a relative file come before its data, one for 120 blocks that it names, and count among its blocks.
+abbrev pub side_blocks : Member → ℕ
+side_blocks m = if is_same_type m.kind Rel then parts m.blocks 121 else 0
+
+abbrev pub data_blocks : Member → ℕ
+data_blocks m = m.blocks - side_blocks m
+
 -- how many bytes a file has: those of its last block end with the one that is named, where the first two are the link's
 abbrev pub size_of : Member → ℕ
-size_of m = if m.blocks == 0 then 0 else 254 * (m.blocks - 1) + (min m.last 255 - 1)
+size_of m = if data_blocks m == 0 then 0 else 254 * (data_blocks m - 1) + (min m.last 255 - 1)
+
+-- where a file's bytes stand, whose blocks begin at a place
+abbrev pub piece_of : ℕ → Member → Piece
+piece_of start m = record { start = start + 254 * side_blocks m; size = size_of m }
 
 -- a closed file's entry
 abbrev pub member_entry : List ℕ → Member → List ℕ
 member_entry bytes m = closed_entry (fresh_entry m.kind (take 16 (slice_range bytes m.name_from m.name_to)) nowhere) nowhere m.blocks
-
--- where a file's bytes stand, of which there are so many
-abbrev pub piece_at : ℕ → ℕ → Piece
-piece_at start size = record { start = start; size = size }
 
 -- the files' entries, where their bytes stand, and the place where the directory can't be read
 pub record Members : Type 0 where
@@ -154,7 +162,7 @@ after_members entries pieces rest = record { entries = entries ++ rest.entries; 
 
 abbrev pub members_after : List ℕ → Option Member → ℕ → ℕ → (Member → Members) → Members
 members_after bytes None at start rest = record { entries = []; pieces = []; broken = Some at }
-members_after bytes (Some m) at start rest = after_members (member_entry bytes m ∷ []) (piece_at start (size_of m) ∷ []) (rest m)
+members_after bytes (Some m) at start rest = after_members (member_entry bytes m ∷ []) (piece_of start m ∷ []) (rest m)
 
 -- this many files, from a place on; their blocks follow one another
 unfoldable pub members_from : (count : ℕ) → List ℕ → ℕ → ℕ → Members

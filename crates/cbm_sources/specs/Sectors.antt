@@ -1,6 +1,5 @@
 -- What the sectors of an image hold.
 use Rattle.std.specs.Prelude.{ℕ, ◌+◌, ◌*◌, ◌==◌, List, if◌then◌else◌, length, slice_index, Option, Some, None, Err}
-use Rattle.cbm_medium.specs.Place.{Place}
 use Rattle.cbm_medium.specs.Content.{Cell, Content}
 use Rattle.cbm_d64.specs.Image.{code_of_error, cell_of, sector_at}
 use Rattle.cbm_sources.specs.declared.form.Form.{Form}

@@ -1,12 +1,11 @@
 -- Files of disks and archives, whatever the source is.
-use Rattle.std.specs.Prelude.{ℕ, List, [], slice_get, Option, Some, None, option_map, Ok, Err}
-use Rattle.cbm_medium.specs.Links.{Followed}
+use Rattle.std.specs.Prelude.{ℕ, List, [], slice_get, Option, Some, None, Ok, Err}
 use Rattle.cbm_medium.specs.declared.fault.Trouble.{Trouble}
 use Rattle.cbm_chain.specs.Reading.{RestOfFile, held_in}
 use Rattle.cbm_directory.specs.Entries.{first_block}
 use Rattle.cbm_directory.specs.Slots.{Listed}
 use Rattle.cbm_sources.specs.declared.fault.Fault.{Fault}
-use Rattle.cbm_sources.specs.declared.fault.Fault.TheVariants.{NoFile, Chain, Text}
+use Rattle.cbm_sources.specs.declared.fault.Fault.TheVariants.{NoFile, Chain}
 use Rattle.cbm_sources.specs.Forms.{sector_count}
 use Rattle.cbm_sources.specs.Sectors.{Image, content_of}
 use Rattle.cbm_sources.specs.Chains.{met}

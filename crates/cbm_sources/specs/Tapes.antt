@@ -1,5 +1,5 @@
 -- The T64 format: a header of 64 bytes, records of 32 bytes each, and the bytes of the files.
-use Rattle.std.specs.Prelude.{ℕ, zero, suc, ◌+◌, ◌-◌, ◌*◌, ◌/◌, ◌^◌, ◌≤◌, ◌≡◌, ◌==◌, nat_lt, min, max, Bool, not, ◌&&◌, if◌then◌else◌, List, [], ◌∷◌, length, take, filter, map, slice_get, slice_index, slice_range, codes, Option, Some, None, Ok, Err}
+use Rattle.std.specs.Prelude.{ℕ, zero, suc, ◌+◌, ◌-◌, ◌*◌, ◌/◌, ◌≤◌, ◌≡◌, ◌==◌, nat_lt, min, max, Bool, not, ◌&&◌, if◌then◌else◌, List, [], ◌∷◌, length, take, filter, map, slice_get, slice_index, slice_range, Option, Some, None, Ok, Err}
 use Rattle.cbm_medium.specs.Place.{Place}
 use Rattle.cbm_file.specs.Files.{blocks_of}
 use Rattle.cbm_file.specs.declared.file_type.FileType.TheVariants.{Prg}

@@ -201,7 +201,7 @@ pub(crate) fn header_of(bytes: &[u8]) -> Option<Header>
 }
 
 /// Whether a file is relative.
-fn is_relative(kind: FileType) -> bool
+pub(crate) fn is_relative(kind: FileType) -> bool
     ensures { result ≡ is_same_type kind FileType.Rel }
 {
     matches!(kind, FileType::Rel)

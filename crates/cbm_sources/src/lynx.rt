@@ -1,9 +1,9 @@
 //! A Lynx archive.
-ghost use Rattle.std.specs.Prelude.{◌≡◌, ◌≤◌, ◌<◌, ◌+◌, ◌↔◌, ◌⊎◌, length, slice_get, IfOk, IfSome, IsSome, MatchResult, Some, Ok, Err};
-ghost use Rattle.cbm_sources.specs.Lynxes.{header_of, size_of, member_entry, members_in, members_of, piece_told, missing, told_in, lynx_file};
+ghost use Rattle.std.specs.Prelude.{◌≡◌, ◌≤◌, ◌<◌, ◌^◌, ◌↔◌, ◌⊎◌, length, slice_get, IfOk, IfSome, IsSome, MatchResult, Some, Ok, Err};
+ghost use Rattle.cbm_sources.specs.Lynxes.{header_of, side_blocks, piece_of, member_entry, members_in, members_of, piece_told, missing, told_in, lynx_file};
 
 use crate::fault::Fault;
-use crate::lines::{Header, Member, header_of, member_at};
+use crate::lines::{Header, Member, header_of, is_relative, member_at};
 use cbm_directory::Entry;
 use cbm_medium::Link;
 use std::alloc::{AllocError, Global};
@@ -11,6 +11,9 @@ use std::marker::Model;
 
 /// The bytes of a file in a block of a disk.
 const BLOCK: usize = 254;
+
+/// The blocks that a side sector names, and itself.
+const SIDE: usize = 121;
 
 /// The longest name.
 const NAME: usize = 16;
@@ -45,16 +48,35 @@ impl<'a> Model for Lynx<'a> {
     ghost view = { λ l. l.bytes.now };
 }
 
-/// How many bytes a file has.
-fn size_of(member: Member) -> usize
-    ensures value { result ≡ size_of member }
-    ensures small { result < 16711680 }
+/// How many side sectors come before the data of a relative file: each names 120 blocks.
+fn side_blocks(member: Member) -> usize
+    ensures value { result ≡ side_blocks member }
+    ensures small { result ≤ member.blocks }
 {
-    if member.blocks == 0 {
-        return 0;
+    if is_relative(member.kind) {
+        (member.blocks as usize + SIDE - 1) / SIDE
+    } else {
+        0
     }
+}
+
+/// Where a file's bytes stand, whose blocks begin at a place.
+fn piece_of(start: usize, member: Member) -> Piece
+    requires { start < 2 ^ 48 }
+    ensures { result ≡ piece_of start member }
+{
+    let side = side_blocks(member);
+    let blocks = member.blocks as usize - side;
     let last = (member.last as usize).min(255).saturating_sub(1);
-    BLOCK * (member.blocks as usize - 1) + last
+    let size = if blocks == 0 {
+        0
+    } else {
+        BLOCK * (blocks - 1) + last
+    };
+    Piece {
+        start: start + BLOCK * side,
+        size,
+    }
 }
 
 /// A closed file's entry.
@@ -89,9 +111,8 @@ fn members_after(alloc: Global, bytes: &[u8], header: Header) -> Result<Found, A
         entries
             .push(entry(bytes, member))
             .map_err(AllocError::from)?;
-        let size = size_of(member);
         pieces
-            .push(Piece { start, size })
+            .push(piece_of(start, member))
             .map_err(AllocError::from)?;
         at = member.next;
         start += BLOCK * member.blocks as usize;

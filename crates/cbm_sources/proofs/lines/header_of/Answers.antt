@@ -1,4 +1,3 @@
-use Rattle.std.proofs.Common.{refl, ◌∙◌, sym}
 use Rattle.cbm_sources.specs.Lynxes.{header_of}
 use Rattle.cbm_sources.proofs.lines.header_of.Goals as goal
 

@@ -1,4 +1,4 @@
-use Rattle.std.proofs.Common.{refl, ◌∙◌, sym}
+use Rattle.std.proofs.Common.{◌∙◌, sym}
 use Rattle.cbm_sources.specs.Lynxes.{last_line}
 use Rattle.cbm_sources.proofs.lines.last_line.Goals as goal
 

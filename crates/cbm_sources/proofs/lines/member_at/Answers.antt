@@ -1,4 +1,4 @@
-use Rattle.std.proofs.Common.{refl, ◌∙◌, sym}
+use Rattle.std.proofs.Common.{refl}
 use Rattle.cbm_sources.specs.Lynxes.{member_at}
 use Rattle.cbm_sources.proofs.lines.member_at.Goals as goal
 

@@ -1,4 +1,4 @@
-use Rattle.std.proofs.Common.{◌≡◌, not, length, slice_index, ap, sym, ◌∙◌}
+use Rattle.std.proofs.Common.{not, length, slice_index, ap, sym, ◌∙◌}
 use Rattle.cbm_sources.specs.Lynxes.{is_numeric}
 use Rattle.cbm_sources.proofs.LynxLemmas.{first_passed}
 use Rattle.cbm_sources.proofs.lines.number_end.Goals as goal

@@ -1,4 +1,4 @@
-use Rattle.std.proofs.Common.{refl, ◌∙◌, sym}
+use Rattle.std.proofs.Common.{refl}
 use Rattle.cbm_sources.specs.Lynxes.{number_line}
 use Rattle.cbm_sources.proofs.lines.number_line.Goals as goal
 

@@ -1,4 +1,4 @@
-use Rattle.std.proofs.Common.{◌≡◌, ◌<◌, ◌-◌, ℕ, length, subst, sym, ◌∙◌}
+use Rattle.std.proofs.Common.{◌<◌, ◌-◌, ℕ, length, subst, sym, ◌∙◌}
 use Rattle.cbm_sources.specs.Lynxes.{ends_program}
 use Rattle.cbm_sources.proofs.LynxLemmas.{first_passed}
 use Rattle.cbm_sources.proofs.lines.text_start.Goals as goal

@@ -1,5 +1,4 @@
-use Rattle.std.proofs.Common.{rules, ◌≡◌, ◌≢◌, ◌∷◌, ◌++◌, [], ap, sym, subst, ◌∙◌}
-use Rattle.std.proofs.lemmas.Bool.{false≢true}
+use Rattle.std.proofs.Common.{rules, ◌≡◌, ◌≢◌, ◌∷◌, ◌++◌, []}
 use Rattle.cbm_directory.specs.Entries.{type_byte}
 use Rattle.cbm_directory.specs.Slots.{entries_from}
 use Rattle.cbm_sources.specs.Directories.{used}

@@ -1,4 +1,4 @@
-use Rattle.std.proofs.Common.{rules, []}
+use Rattle.std.proofs.Common.{[]}
 use Rattle.cbm_sources.specs.Forms.{sector_count}
 use Rattle.cbm_sources.specs.Sectors.{content_of}
 use Rattle.cbm_sources.specs.Chains.{met, GoesOn}

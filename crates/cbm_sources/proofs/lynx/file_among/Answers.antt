@@ -1,4 +1,4 @@
-use Rattle.std.proofs.Common.{◌≡◌, ◌⊎◌, ◌≤◌, length, slice_get, List, MatchResult, Some, None, Ok, Err, ap, sym, subst, ◌∙◌, refl, inr}
+use Rattle.std.proofs.Common.{◌≡◌, ◌⊎◌, ◌≤◌, length, slice_get, List, MatchResult, Ok, Err, ap, sym, subst, ◌∙◌, refl, inr}
 use Rattle.std.proofs.lemmas.Option.{slice_get_read, slice_get_past}
 use Rattle.cbm_sources.specs.declared.fault.Fault.{Fault}
 use Rattle.cbm_sources.specs.declared.fault.Fault.TheVariants.{Memory}

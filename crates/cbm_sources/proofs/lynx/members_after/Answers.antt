@@ -1,5 +1,5 @@
-use Rattle.std.proofs.Common.{◌≡◌, ◌≤◌, ◌<◌, ◌+◌, ◌-◌, ◌*◌, ◌∷◌, ◌++◌, [], Some, ap, sym, subst, ◌∙◌, arith, rules}
-use Rattle.cbm_sources.specs.Lynxes.{members_in, member_entry, piece_at, size_of}
+use Rattle.std.proofs.Common.{◌≡◌, ◌*◌, ◌∷◌, ◌++◌, [], Some, arith, rules}
+use Rattle.cbm_sources.specs.Lynxes.{members_in, member_entry, piece_of}
 use Rattle.cbm_sources.proofs.LynxLemmas.{member_more, members_broken, members_done, members_begin}
 use Rattle.cbm_sources.proofs.lynx.members_after.Goals as goal
 
@@ -13,7 +13,7 @@ loop-number-init c = record {
 pub loop-number-preserved : goal.loop-number-preserved
 loop-number-preserved c =
     let entered : c.push.new.self.items ≡ c.loop-number.entries.items ++ member_entry c.args.bytes.now c.in-Some.member ∷ [] = search rules in
-    let placed : c.push-in-loop-number.new.self.items ≡ c.loop-number.pieces.items ++ piece_at c.loop-number.start (size_of c.in-Some.member) ∷ [] = search rules in
+    let placed : c.push-in-loop-number.new.self.items ≡ c.loop-number.pieces.items ++ piece_of c.loop-number.start c.in-Some.member ∷ [] = search rules in
     record {
       whole = member_more c.args.bytes.now c.args.header.count c.loop-number.number c.loop-number.at c.loop-number.start (members_in c.args.bytes.now (Some c.args.header))
           c.loop-number.entries.items c.push.new.self.items c.loop-number.pieces.items c.push-in-loop-number.new.self.items c.in-Some.member c.loop-number-test.true

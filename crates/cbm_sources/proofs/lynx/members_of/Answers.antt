@@ -1,4 +1,4 @@
-use Rattle.std.proofs.Common.{◌≡◌, refl}
+use Rattle.std.proofs.Common.{refl}
 use Rattle.cbm_sources.specs.Lynxes.{members_of}
 use Rattle.cbm_sources.proofs.lynx.members_of.Goals as goal
 

@@ -1,4 +1,4 @@
-use Rattle.std.proofs.Common.{◌≡◌, ◌≢◌, ◌++◌, ◌∷◌, [], ap, sym, subst, ◌∙◌, arith, take, get_or}
+use Rattle.std.proofs.Common.{ap, sym, ◌∙◌, arith, take, get_or}
 use Rattle.std.proofs.lemmas.List.{take_more}
 use Rattle.cbm_sources.specs.Tapes.{trimmed}
 use Rattle.cbm_sources.proofs.TapeLemmas.{trimmed_space, trimmed_other}

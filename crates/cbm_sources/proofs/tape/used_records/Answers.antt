@@ -1,6 +1,6 @@
-use Rattle.std.proofs.Common.{◌≡◌, ◌≤◌, ◌<◌, ◌++◌, ◌∷◌, ◌-◌, ℕ, filter, [], subst, ap, sym, ◌∙◌, arith, rules}
+use Rattle.std.proofs.Common.{◌≡◌, ◌<◌, ◌++◌, ◌∷◌, ◌-◌, ℕ, filter, [], subst, ap, sym, ◌∙◌, rules}
 use Rattle.cbm_sources.specs.Tapes.{used_records, record_count, records_from, is_used}
-use Rattle.cbm_sources.proofs.TapeLemmas.{record_used, record_skipped, records_begin, records_done}
+use Rattle.cbm_sources.proofs.TapeLemmas.{record_used, record_skipped, records_begin}
 use Rattle.cbm_sources.proofs.tape.used_records.Goals.{then-is_used+in_ok-map_err, else-is_used}
 use Rattle.cbm_sources.proofs.tape.used_records.Goals as goal
 

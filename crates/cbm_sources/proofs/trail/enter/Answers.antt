@@ -1,4 +1,4 @@
-use Rattle.std.proofs.Common.{◌≡◌, ◌-◌, ap, sym, subst, ◌∙◌, arith, Some, []}
+use Rattle.std.proofs.Common.{◌-◌, sym, ◌∙◌, arith}
 use Rattle.std.proofs.lemmas.Result.{err_from_is_err_and}
 use Rattle.cbm_sources.specs.Sectors.{content_of}
 use Rattle.cbm_sources.proofs.ChainLemmas.{met_fault, met_full, met_again, met_next, cut_told}

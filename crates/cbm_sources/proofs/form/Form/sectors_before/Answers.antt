@@ -1,4 +1,4 @@
-use Rattle.std.proofs.Common.{◌≡◌, ◌∙◌, sym, arith}
+use Rattle.std.proofs.Common.{sym, arith}
 use Rattle.cbm_sources.proofs.Places.{one_track_more, no_track_yet}
 use Rattle.cbm_sources.proofs.form.Form.sectors_before.Goals as goal
 

@@ -1,4 +1,4 @@
-use Rattle.std.proofs.Common.{◌≡◌, Option, ap, sym, ◌∙◌}
+use Rattle.std.proofs.Common.{Option, ap, sym, ◌∙◌}
 use Rattle.cbm_directory.specs.Slots as slots
 use Rattle.cbm_sources.specs.declared.fault.Fault.{Fault}
 use Rattle.cbm_sources.specs.Told.{Listing, disk_fault, contents_of}

@@ -1,4 +1,4 @@
-use Rattle.std.proofs.Common.{◌≡◌, ◌<◌, ◌≤◌, ◌+◌, ◌∷◌, slice_index, slice_range, ℕ, List, length, ap, sym, subst, ◌∙◌, arith, rules, inl, inr}
+use Rattle.std.proofs.Common.{◌<◌, ◌≤◌, ◌+◌, ◌∷◌, slice_index, slice_range, ℕ, List, length, ap, subst, ◌∙◌, inr}
 use Rattle.cbm_sources.proofs.TapeLemmas.{told_cut, told_whole}
 use Rattle.cbm_sources.proofs.tape.Tape.bytes_of.Goals as goal
 

@@ -1,5 +1,4 @@
-use Rattle.std.proofs.Common.{◌≡◌, ◌≤◌, ap, sym, subst, ◌∙◌, arith}
-use Rattle.cbm_sources.specs.Tapes.{room_of, size_in, offset_of}
+use Rattle.std.proofs.Common.{arith}
 use Rattle.cbm_sources.proofs.TapeLemmas.{room_inside, room_is, size_is, size_inside, size_small}
 use Rattle.cbm_sources.proofs.tape.Tape.size.Goals as goal
 
