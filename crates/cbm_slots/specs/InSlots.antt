@@ -25,8 +25,8 @@ abbrev pub directory_in : List ℕ → Listed
 directory_in image = directory_of (disk_tracks image) (content_of (kind_of image) image)
 
 -- the entries of an image's directory, which can be followed to its end
-abbrev pub entries_in : List ℕ → List (List ℕ) → Type 0
-entries_in image entries = directory_in image ≡ record { entries = entries; trouble = None }
+abbrev pub AreEntriesOf : List ℕ → List (List ℕ) → Type 0
+AreEntriesOf image entries = directory_in image ≡ record { entries = entries; trouble = None }
 
 -- the slot of a list of entries has this one, and it isn't empty
 pub record HasFile (entries : List (List ℕ)) (slot : ℕ) (entry : List ℕ) : Type 0 where
@@ -60,19 +60,19 @@ pub record IsMeant (slot : ℕ) (m : Meant) : Type 0 where
 -- ---- changes of the entry
 
 -- THE FILE OF A SLOT HAS ANOTHER NAME, which no file had, and nothing else of the image is changed
-pub record IsRenamed (image : List ℕ) (slot : ℕ) (name new : List ℕ) : Type 0 where
+pub record IsRenamedInSlot (image : List ℕ) (slot : ℕ) (name new : List ℕ) : Type 0 where
   pub entries : List (List ℕ)
   pub entry : List ℕ
-  pub all : entries_in image entries
+  pub all : AreEntriesOf image entries
   pub there : HasFile entries slot entry
   pub free : has_name name entries ≡ false
   pub dressed : IsDressedIn image slot name (blocks_said entry) (is_locked entry) new
 
 -- THE FILE OF A SLOT IS LOCKED, or freed, and nothing else of the image is changed
-pub record IsLocked (image : List ℕ) (slot : ℕ) (locked : Bool) (new : List ℕ) : Type 0 where
+pub record IsLockedInSlot (image : List ℕ) (slot : ℕ) (locked : Bool) (new : List ℕ) : Type 0 where
   pub entries : List (List ℕ)
   pub entry : List ℕ
-  pub all : entries_in image entries
+  pub all : AreEntriesOf image entries
   pub there : HasFile entries slot entry
   pub dressed : IsDressedIn image slot (slice_range entry 3 19) (blocks_said entry) locked new
 
@@ -83,21 +83,21 @@ abbrev pub scratch_text : List ℕ → List ℕ
 scratch_text name = 83 ∷ 48 ∷ 58 ∷ slice_index name 0 ∷ slice_index name 1 ∷ []
 
 -- the machine after a command
-abbrev pub commanded : List ℕ → Machine → Machine
-commanded text m = after_open 15 text m
+abbrev pub told_to : List ℕ → Machine → Machine
+told_to text m = after_open 15 text m
 
 -- the drive carries out a command on an image's disk: of each disk that it holds, its machine reports no error, and the new image holds its disk
 abbrev pub IsCommanded : List ℕ → List ℕ → List ℕ → Type 0
 IsCommanded image text new = (d : Disk) → ImageHolds (kind_of image) image d →
-    IsFine (commanded text (machine_on image d)).status × ImageHolds (kind_of image) new (commanded text (machine_on image d)).disk
+    IsFine (told_to text (machine_on image d)).status × ImageHolds (kind_of image) new (told_to text (machine_on image d)).disk
 
 -- THE FILE OF A SLOT IS DELETED: it isn't locked, its entry gets a name that no other file has, the drive scratches that, and the empty entry has its own name again
-pub record IsDeleted (image : List ℕ) (slot : ℕ) (new : List ℕ) : Type 0 where
+pub record IsDeletedInSlot (image : List ℕ) (slot : ℕ) (new : List ℕ) : Type 0 where
   pub entries : List (List ℕ)
   pub entry : List ℕ
   pub spare : List ℕ
   pub hidden : List ℕ
-  pub all : entries_in image entries
+  pub all : AreEntriesOf image entries
   pub there : HasFile entries slot entry
   pub unlocked : is_locked entry ≡ false
   pub free : has_name spare entries ≡ false
@@ -117,14 +117,14 @@ abbrev pub IsRefusal : Status → ShellFault → Type 0
 IsRefusal s f = f ≡ fault.Refused s
 
 -- nothing is renamed: the slot means no file, a file has the name, or the disk isn't sound
-abbrev pub IsNotRenamed : List ℕ → ℕ → List ℕ → ShellFault → Type 0
-IsNotRenamed image slot name f = IsNoFile image slot f
-    ⊎ (((entries : List (List ℕ)) × entries_in image entries × (has_name name entries ≡ true) × IsRefusal (record { code = FileExists; first = 0; second = 0 }) f)
+abbrev pub IsNotRenamedInSlot : List ℕ → ℕ → List ℕ → ShellFault → Type 0
+IsNotRenamedInSlot image slot name f = IsNoFile image slot f
+    ⊎ (((entries : List (List ℕ)) × AreEntriesOf image entries × (has_name name entries ≡ true) × IsRefusal (record { code = FileExists; first = 0; second = 0 }) f)
     ⊎ IsUneditedIn image (HasNoSlotIn image slot) f)
 
 -- nothing is locked or freed: the slot means no file, or the disk isn't sound
-abbrev pub IsNotLocked : List ℕ → ℕ → ShellFault → Type 0
-IsNotLocked image slot f = IsNoFile image slot f ⊎ IsUneditedIn image (HasNoSlotIn image slot) f
+abbrev pub IsNotLockedInSlot : List ℕ → ℕ → ShellFault → Type 0
+IsNotLockedInSlot image slot f = IsNoFile image slot f ⊎ IsUneditedIn image (HasNoSlotIn image slot) f
 
 -- the drive doesn't scratch the file under its spare name: the new image isn't opened, memory runs out, or the machine refuses it
 pub record IsNotScratched (f : ShellFault) : Type 0 where
@@ -134,7 +134,7 @@ pub record IsNotScratched (f : ShellFault) : Type 0 where
 
 -- the file is locked, and so isn't deleted
 abbrev pub IsKeptByLock : List ℕ → ℕ → ShellFault → Type 0
-IsKeptByLock image slot f = (entries : List (List ℕ)) × (entry : List ℕ) × entries_in image entries × HasFile entries slot entry × (is_locked entry ≡ true)
+IsKeptByLock image slot f = (entries : List (List ℕ)) × (entry : List ℕ) × AreEntriesOf image entries × HasFile entries slot entry × (is_locked entry ≡ true)
     × IsRefusal (record { code = WriteProtected; first = 0; second = 0 }) f
 
 -- what is left after SCRATCH isn't dressed: want of memory, or a fault that no sound disk has
@@ -142,6 +142,6 @@ abbrev pub IsNotNamed : ℕ → ShellFault → Type 0
 IsNotNamed slot f = (scratched : List ℕ) × IsUneditedIn scratched (HasNoSlotIn scratched slot) f
 
 -- nothing is deleted: the slot means no file, the file is locked, all spare names are taken, the disk isn't sound, or the drive refuses it
-abbrev pub IsNotDeleted : List ℕ → ℕ → ShellFault → Type 0
-IsNotDeleted image slot f = IsNoFile image slot f ⊎ (IsKeptByLock image slot f ⊎ (IsRefusal (record { code = FileExists; first = 0; second = 0 }) f
+abbrev pub IsNotDeletedInSlot : List ℕ → ℕ → ShellFault → Type 0
+IsNotDeletedInSlot image slot f = IsNoFile image slot f ⊎ (IsKeptByLock image slot f ⊎ (IsRefusal (record { code = FileExists; first = 0; second = 0 }) f
     ⊎ (IsUneditedIn image (HasNoSlotIn image slot) f ⊎ (IsNotScratched f ⊎ IsNotNamed slot f))))

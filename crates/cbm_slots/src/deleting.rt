@@ -2,7 +2,7 @@
 ghost use Rattle.std.specs.Prelude.{◌≡◌, ◌++◌, false, None, Some, IfOk, IfErr, IfSome, OnOk, MatchOption, length};
 ghost use Rattle.cbm_image.specs.Images.{kind_of, image_fault};
 ghost use Rattle.cbm_shell.specs.Images.{IsSoundImage};
-ghost use Rattle.cbm_slots.specs.InSlots.{has_name, scratch_text, IsDeleted, IsNotDeleted};
+ghost use Rattle.cbm_slots.specs.InSlots.{has_name, scratch_text, IsDeletedInSlot, IsNotDeletedInSlot};
 
 use crate::meant::{has_name, meant, refused};
 use cbm_channel::Code;
@@ -40,11 +40,11 @@ fn scratch_text(name: &[u8; 2]) -> [u8; 5]
 /// `Trouble`, if the directory breaks off; `NotFound`, if the slot has no file; `Refused` with WRITE PROTECT ON, if it is locked;
 /// `Refused`, as the drive refuses SCRATCH; `Unsound`, with what is wrong first; `Memory`.
 pub fn delete(alloc: Global, image: &[u8], slot: u8) -> Result<Vec<u8>, ShellFault>
-    ensures deleted { IfOk result (λ v. IsDeleted image.now slot v.items) }
+    ensures deleted { IfOk result (λ v. IsDeletedInSlot image.now slot v.items) }
     ensures sound { OnOk result (IsSoundImage (kind_of image.now) image.now) }
     ensures stays { IfOk result (λ v. IsSoundImage (kind_of image.now) v.items) }
     ensures opens { IfOk result (λ v. image_fault (kind_of image.now) v.items ≡ None) }
-    ensures fault { IfErr result (IsNotDeleted image.now slot) }
+    ensures fault { IfErr result (IsNotDeletedInSlot image.now slot) }
 {
     let meant = meant(alloc, image, slot)?;
     if meant.is_locked {

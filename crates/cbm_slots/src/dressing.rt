@@ -2,7 +2,7 @@
 ghost use Rattle.std.specs.Prelude.{◌≡◌, ◌≤◌, None, IfOk, IfErr, OnOk, length};
 ghost use Rattle.cbm_image.specs.Images.{kind_of, image_fault};
 ghost use Rattle.cbm_shell.specs.Images.{IsSoundImage};
-ghost use Rattle.cbm_slots.specs.InSlots.{IsRenamed, IsLocked, IsNotRenamed, IsNotLocked};
+ghost use Rattle.cbm_slots.specs.InSlots.{IsRenamedInSlot, IsLockedInSlot, IsNotRenamedInSlot, IsNotLockedInSlot};
 
 use crate::meant::{has_name, meant, refused};
 use cbm_channel::Code;
@@ -15,11 +15,11 @@ use std::alloc::Global;
 pub fn rename(alloc: Global, image: &[u8], slot: u8, name: &[u8]) -> Result<Vec<u8>, ShellFault>
     requires { length name.now ≤ 16 }
     // The entry has the name, and nothing else of the image is changed.
-    ensures renamed { IfOk result (λ v. IsRenamed image.now slot name.now v.items) }
+    ensures renamed { IfOk result (λ v. IsRenamedInSlot image.now slot name.now v.items) }
     ensures sound { OnOk result (IsSoundImage (kind_of image.now) image.now) }
     ensures stays { IfOk result (λ v. IsSoundImage (kind_of image.now) v.items) }
     ensures opens { IfOk result (λ v. image_fault (kind_of image.now) v.items ≡ None) }
-    ensures fault { IfErr result (IsNotRenamed image.now slot name.now) }
+    ensures fault { IfErr result (IsNotRenamedInSlot image.now slot name.now) }
 {
     let meant = meant(alloc, image, slot)?;
     if has_name(meant.entries.as_slice(), name) {
@@ -37,11 +37,11 @@ pub fn rename(alloc: Global, image: &[u8], slot: u8, name: &[u8]) -> Result<Vec<
 /// slot has no file; `Unsound`, with what is wrong first; `Memory`.
 pub fn lock(alloc: Global, image: &[u8], slot: u8, is_locked: bool) -> Result<Vec<u8>, ShellFault>
     // The entry is locked or not, and nothing else of the image is changed.
-    ensures locked { IfOk result (λ v. IsLocked image.now slot is_locked v.items) }
+    ensures locked { IfOk result (λ v. IsLockedInSlot image.now slot is_locked v.items) }
     ensures sound { OnOk result (IsSoundImage (kind_of image.now) image.now) }
     ensures stays { IfOk result (λ v. IsSoundImage (kind_of image.now) v.items) }
     ensures opens { IfOk result (λ v. image_fault (kind_of image.now) v.items ≡ None) }
-    ensures fault { IfErr result (IsNotLocked image.now slot) }
+    ensures fault { IfErr result (IsNotLockedInSlot image.now slot) }
 {
     let meant = meant(alloc, image, slot)?;
     let looks = Looks {

@@ -1,7 +1,7 @@
 //! The file that a slot means, and the names that the others have.
 ghost use Rattle.std.specs.Prelude.{◌≡◌, IfOk, IfErr, slice_range};
 ghost use Rattle.cbm_shell.specs.declared.fault.ShellFault.{ShellFault};
-ghost use Rattle.cbm_slots.specs.InSlots.{is_named, has_name, entries_in, IsMeant, IsNoFile};
+ghost use Rattle.cbm_slots.specs.InSlots.{is_named, has_name, AreEntriesOf, IsMeant, IsNoFile};
 
 use cbm_channel::{Code, Status};
 use cbm_shell::{ShellFault, entries};
@@ -36,7 +36,7 @@ fn whole_name(entry: &Entry) -> [u8; 16]
 
 /// The file in a slot of an image's directory. Errors: those of `entries`; `NotFound`, if the slot has none.
 pub(crate) fn meant(alloc: Global, image: &[u8], slot: u8) -> Result<Meant, ShellFault>
-    ensures all { IfOk result (λ m. entries_in image.now m.entries.items) }
+    ensures all { IfOk result (λ m. AreEntriesOf image.now m.entries.items) }
     ensures there { IfOk result (IsMeant slot) }
     ensures err { IfErr result (IsNoFile image.now slot) }
 {

@@ -30,8 +30,8 @@ abbrev pub IsNothingOut : {A : Type 0} → List ℕ → ℤ → List A → List 
 IsNothingOut image n old new before count = (r : DeviceRefusal) × IsOpenRefusal image r × (n ≡ answer_number r) × (new ≡ old) × (count ≡ before)
 
 -- an entry's thirty bytes, as C has them
-abbrev pub spelled : List ℕ → Entry
-spelled e = record {
+abbrev pub entry_spelled : List ℕ → Entry
+entry_spelled e = record {
   blocks = slice_index e 28 + 256 * slice_index e 29;
   kind = type_byte e % 16;
   closed = flag (is_closed e);
@@ -52,7 +52,7 @@ pub record ListsEntries (image : List ℕ) (items : List Entry) (good : ℤ) : T
   pub blocks : List Place
   pub trouble : Option Trouble
   pub followed : directory_sectors (disk_tracks image) (content_of (kind_of image) image) ≡ record { blocks = blocks; trouble = trouble }
-  pub items : items ≡ map spelled (all_entries (content_of (kind_of image) image) blocks)
+  pub items : items ≡ map entry_spelled (all_entries (content_of (kind_of image) image) blocks)
   pub good : good ≡ after_trouble trouble
 
 -- THE ENTRIES OF AN IMAGE'S DIRECTORY are handed out

@@ -5,7 +5,7 @@ ghost use Rattle.cbm_image.specs.Images.{kind_of, content_of};
 ghost use Rattle.cbm_shell.specs.Images.{disk_tracks};
 ghost use Rattle.cbm_shell.specs.Flaws.{flaws_of};
 ghost use Rattle.cbm_device.specs.Answers.{answer_number};
-ghost use Rattle.yellowadze1541.specs.Entries.{spelled, flaw_spelled, number_of_whose, slot_of_whose, after_trouble, ListsEntries, IsEntryList, IsFlawList};
+ghost use Rattle.yellowadze1541.specs.Entries.{entry_spelled, flaw_spelled, number_of_whose, slot_of_whose, after_trouble, ListsEntries, IsEntryList, IsFlawList};
 ghost use Rattle.cbm_device.specs.ImageDisks.{IsOpenRefusal};
 
 use crate::images;
@@ -17,7 +17,7 @@ use std::alloc::Global;
 
 /// Entries as C has them. The one error is `Memory`.
 fn spelled(alloc: Global, entries: &[cbm_volume::Entry]) -> Result<Vec<Entry>, DeviceRefusal>
-    ensures ok { IfOk result (λ v. v.items ≡ map spelled entries.now) }
+    ensures ok { IfOk result (λ v. v.items ≡ map entry_spelled entries.now) }
     ensures err { IfErr result (λ r. r ≡ DeviceRefusal.Memory) }
 {
     let mut spelled = Vec::new(alloc);

@@ -7,7 +7,7 @@ ghost use Rattle.cbm_shell.specs.Reading.{Gets};
 ghost use Rattle.cbm_shell.specs.Listing.{IsSent};
 ghost use Rattle.cbm_device.specs.Answers.{GivesBytes};
 ghost use Rattle.cbm_device.specs.Looking.{IsAccepted, IsLookRefused, IsUnsent, IsUngot};
-ghost use Rattle.yellowadze1541.specs.Entries.{spelled};
+ghost use Rattle.yellowadze1541.specs.Entries.{entry_spelled};
 ghost use Rattle.yellowadze1541.specs.Looks.{IsCheck, IsTitle, IsEntry, IsSector, Spells};
 
 use crate::shapes::{Entry, Place, Title, flag};
@@ -92,7 +92,7 @@ pub extern "C" fn y1541_image_title(alloc: Global, image: &[u8], title: &mut Tit
 /// An entry, field by field.
 pub(crate) fn spelled(entry: &cbm_volume::Entry) -> Entry
     ensures says { Spells entry.now result }
-    ensures made { result ≡ spelled entry.now }
+    ensures made { result ≡ entry_spelled entry.now }
 {
     let bytes = entry.bytes();
     let mut name = [0; 16];

@@ -11,7 +11,7 @@ ghost use Rattle.cbm_shell.specs.Swapping.{AreSwappedIn, MissesSlotIn};
 ghost use Rattle.cbm_shell.specs.Locking.{IsRetitled, IsRemarked};
 ghost use Rattle.cbm_shell.specs.Editing.{IsUneditedIn};
 ghost use Rattle.cbm_shell.specs.declared.fault.ShellFault.{ShellFault};
-ghost use Rattle.cbm_slots.specs.InSlots.{IsRenamed, IsLocked, IsDeleted, IsNotRenamed, IsNotLocked, IsNotDeleted};
+ghost use Rattle.cbm_slots.specs.InSlots.{IsRenamedInSlot, IsLockedInSlot, IsDeletedInSlot, IsNotRenamedInSlot, IsNotLockedInSlot, IsNotDeletedInSlot};
 ghost use Rattle.yellowadze1541.specs.Changes.{IsRefusedNew};
 ghost use Rattle.yellowadze1541.specs.Slots.{IsSomeFault};
 
@@ -79,7 +79,7 @@ pub extern "C" fn y1541_image_rename(
     needed: &mut usize,
 ) -> i32
     ensures renamed { 1 ≤ length name.now → length name.now ≤ 16 → GivesBytes result out.old out.new needed.old needed.new
-        (IsRenamed image.now slot name.now) (IsSomeFault (IsNotRenamed image.now slot name.now)) }
+        (IsRenamedInSlot image.now slot name.now) (IsSomeFault (IsNotRenamedInSlot image.now slot name.now)) }
     ensures refused { (length name.now < 1) ⊎ (16 < length name.now) →
         IsRefusedNew result out.old out.new needed.old needed.new }
 {
@@ -100,9 +100,9 @@ pub extern "C" fn y1541_image_lock(
     needed: &mut usize,
 ) -> i32
     ensures freed { locked ≡ 0 → GivesBytes result out.old out.new needed.old needed.new
-        (IsLocked image.now slot false) (IsSomeFault (IsNotLocked image.now slot)) }
+        (IsLockedInSlot image.now slot false) (IsSomeFault (IsNotLockedInSlot image.now slot)) }
     ensures locked { 0 < locked → GivesBytes result out.old out.new needed.old needed.new
-        (IsLocked image.now slot true) (IsSomeFault (IsNotLocked image.now slot)) }
+        (IsLockedInSlot image.now slot true) (IsSomeFault (IsNotLockedInSlot image.now slot)) }
 {
     handed(
         cbm_slots::lock(alloc, image, slot, locked != 0),
@@ -121,7 +121,7 @@ pub extern "C" fn y1541_image_delete(
     needed: &mut usize,
 ) -> i32
     ensures { GivesBytes result out.old out.new needed.old needed.new
-        (IsDeleted image.now slot) (IsSomeFault (IsNotDeleted image.now slot)) }
+        (IsDeletedInSlot image.now slot) (IsSomeFault (IsNotDeletedInSlot image.now slot)) }
 {
     handed(cbm_slots::delete(alloc, image, slot), out, needed)
 }
