@@ -1,0 +1,55 @@
+// The page: two disks side by side, the character set, and what is said.
+import { withSlots } from "./calls.mjs";
+import { Panel } from "./panel.mjs";
+import { Sentence, sentence } from "./words.mjs";
+import { load } from "./yellowadze1541.mjs";
+
+const said = document.getElementById("said");
+
+const page = {
+  set: "upper",
+
+  say(text, isFault = false) {
+    said.textContent = text;
+    said.classList.toggle("fault", isFault);
+  },
+
+  // Does something with a disk; what it throws is said.
+  async try(work) {
+    try {
+      await work();
+    } catch (e) {
+      page.say(sentence(e), true);
+      if (!("number" in e) && !(e instanceof Sentence)) console.error(e);
+    }
+  },
+};
+
+// The bytes of the module: of the file beside the page, or of the page itself if all is in one file.
+async function moduleBytes() {
+  const inside = document.getElementById("module");
+  if (inside) return Uint8Array.from(atob(inside.textContent), (it) => it.charCodeAt(0));
+  const answer = await fetch("yellowadze1541.wasm");
+  if (!answer.ok) throw new Sentence("yellowadze1541.wasm isn't beside this page.");
+  return answer.arrayBuffer();
+}
+
+function listen(panels) {
+  for (const it of document.getElementsByName("set"))
+    it.addEventListener("change", () => {
+      page.set = it.value;
+      panels.forEach((panel) => panel.show());
+    });
+  addEventListener("beforeunload", (e) => panels.some((it) => it.disk?.isChanged) && e.preventDefault());
+  // A file that is dropped beside a disk isn't opened in the page's place.
+  for (const it of ["dragover", "drop"]) addEventListener(it, (e) => e.preventDefault());
+}
+
+page.try(async () => {
+  page.library = withSlots(await load(moduleBytes()));
+  const panels = ["Left disk", "Right disk"].map((label, i) => new Panel(page, label, `disk${i}`));
+  panels.forEach((it, i) => (it.other = panels[1 - i]));
+  panels.forEach((it) => it.show());
+  listen(panels);
+  page.say("Ready.");
+});
