@@ -1,5 +1,4 @@
 // The page: two disks side by side, the character set, and what is said.
-import { withSlots } from "./calls.mjs";
 import { Panel } from "./panel.mjs";
 import { Sentence, sentence } from "./words.mjs";
 import { load } from "./yellowadze1541.mjs";
@@ -46,7 +45,7 @@ function listen(panels) {
 }
 
 page.try(async () => {
-  page.library = withSlots(await load(moduleBytes()));
+  page.library = await load(moduleBytes());
   const panels = ["Left disk", "Right disk"].map((label, i) => new Panel(page, label, `disk${i}`));
   panels.forEach((it, i) => (it.other = panels[1 - i]));
   panels.forEach((it) => it.show());

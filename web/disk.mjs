@@ -5,24 +5,27 @@ import { REL } from "./names.mjs";
 import { join } from "./petscii.mjs";
 import { Sentence } from "./words.mjs";
 
-const PAD = 0xa0;
-const NAME_SIZE = 16;
+const PAD = 0xa0, NAME_SIZE = 16;
 const DEEP = 50; // images that are kept: at most some 15 MB
-const NO_IMAGE = -5;
+const ABSENT = -4, NO_IMAGE = -5;
 const DIVIDES = ',=:"?*'; // what the drive's OPEN can't say in a name
+const LETTERS = { 1: "S", 2: "P", 3: "U" }; // of the types that OPEN can write
+// What a directory can be sorted by; among the same the names count.
+const KEYS = { name: () => 0, type: (it) => it.kind, size: (it) => it.blocks };
+export const ORDERS = Object.keys(KEYS);
 
 export const same = (a, b) => a.length === b.length && a.every((it, i) => it === b[i]);
 
 // A name ends at its first shifted space.
 const nameOf = (codes) => (codes.includes(PAD) ? codes.slice(0, codes.indexOf(PAD)) : codes);
+const isEmpty = (it) => !it.kind && !it.closed && !it.locked;
 
-// What a call gives, or the drive's fault that it met; what else is thrown goes on.
-function orFault(call) {
+// What a call gives; another error in place of one that the library refuses with this number.
+function refusing(number, instead, call) {
   try {
     return call();
   } catch (e) {
-    if (!(e.number >= 20)) throw e;
-    return e;
+    throw e.number === number ? new Sentence(instead()) : e;
   }
 }
 
@@ -31,9 +34,7 @@ export class Disk {
   #saved;
 
   constructor(library, name, bytes, isSaved = true) {
-    this.library = library;
-    this.name = name;
-    this.bytes = bytes;
+    Object.assign(this, { library, name, bytes });
     this.#saved = isSaved ? bytes : null;
     this.#read();
   }
@@ -41,18 +42,23 @@ export class Disk {
   // --- what is on it
 
   #read() {
-    try {
-      this.title = orFault(() => this.library.title(this.bytes));
-    } catch (e) {
-      throw e.number === NO_IMAGE ? new Sentence(`It is ${foreign(this.bytes)}.`) : e;
-    }
-    const { entries, broken } = this.library.entries(this.bytes);
-    const all = entries.map((it, slot) => ({ ...it, slot, name: nameOf(it.name) }));
-    const isEmpty = (it) => !it.kind && !it.closed && !it.locked;
-    this.entries = all.filter((it) => !isEmpty(it));
-    this.deleted = all.filter((it) => isEmpty(it) && it.track && it.name.length);
-    this.broken = broken;
+    const { entries, status } = refusing(NO_IMAGE, () => `It is ${foreign(this.bytes)}.`, () => this.library.entries(this.bytes));
+    this.slots = entries.map((it, slot) => ({ ...it, slot, name: nameOf(it.name) }));
+    this.entries = this.slots.filter((it) => !isEmpty(it));
+    this.deleted = this.slots.filter((it) => isEmpty(it) && it.track && it.name.length);
+    this.broken = status;
     this.flaws = this.library.flaws(this.bytes);
+    this.title = this.#label();
+  }
+
+  // Title, id and free blocks; nothing if their sector can't be read.
+  #label() {
+    try {
+      return this.library.title(this.bytes);
+    } catch (e) {
+      if (!(e.number >= 20)) throw e;
+      return {};
+    }
   }
 
   get isG64() {
@@ -90,8 +96,7 @@ export class Disk {
   }
 
   undo() {
-    if (!this.canUndo) return;
-    ({ bytes: this.bytes, name: this.name } = this.#past.pop());
+    Object.assign(this, this.#past.pop());
     this.#read();
   }
 
@@ -112,20 +117,28 @@ export class Disk {
     if (hasDolphinMap(this.bytes)) throw new Sentence("Its map of tracks 36 to 40 is that of Dolphin DOS, and the drive would write another one. Nothing was changed.");
   }
 
-  // Files are put in all together, or none of them: [{ name, kind, data }].
-  put(files) {
-    this.#requireOwnMap();
-    return this.become(files.reduce((bytes, it) => this.#with(bytes, it), this.bytes));
+  get #geos() {
+    return geosSlots(this.library, this.bytes);
   }
 
+  // Makes a change of each of these, all or none.
+  #each(list, change) {
+    return this.become(list.reduce((bytes, it) => change(bytes, it), this.bytes));
+  }
+
+  // Files are { name, kind, data }.
+  put(files) {
+    this.#requireOwnMap();
+    return this.#each(files, (bytes, it) => this.#with(bytes, it));
+  }
+
+  // The image with a file. One whose name the drive's OPEN can't say gets another name first.
   #with(bytes, { name, kind, data }) {
-    if (kind < 1 || kind > 3) throw new Sentence("Relative and deleted files can't be put on a disk here; `disk1541 put` puts relative ones.");
-    const open = (it) => this.library.put(bytes, join("0:", it, `,${" SPU"[kind]},W`), data);
-    if (canBeSaid(name)) return open(name);
-    // The drive can't say such a name: the file gets another one first.
-    const standIn = this.#freeName();
-    const made = open(standIn);
-    const slot = this.library.entries(made).entries.findIndex((it) => it.kind && same(nameOf(it.name), standIn));
+    if (!(kind in LETTERS)) throw new Sentence("Relative and deleted files can't be put on a disk here; `disk1541 put` puts relative ones.");
+    const first = canBeSaid(name) ? name : this.#freeName();
+    const made = this.library.put(bytes, join("0:", first, `,${LETTERS[kind]},W`), data);
+    if (first === name) return made;
+    const slot = this.library.entries(made).entries.findIndex((it) => !isEmpty(it) && same(nameOf(it.name), first));
     return this.library.rename(made, slot, name);
   }
 
@@ -138,39 +151,46 @@ export class Disk {
   }
 
   copy(slot, name) {
-    this.#requireOwnMap();
-    if (geosSlots(this.library, this.bytes).has(slot)) throw new Sentence("A file of GEOS can't be copied: the drive copies only a part of it.");
-    if (this.entry(slot).kind === REL) throw new Sentence("The drive's COPY refuses relative files.");
-    return this.become(this.library.copy(this.bytes, slot, name));
+    if (this.#geos.has(slot)) throw new Sentence("A file of GEOS can't be copied: the drive copies only a part of it.");
+    const { kind } = this.entry(slot);
+    if (kind === REL) throw new Sentence("The drive's COPY refuses relative files.");
+    return this.put([{ name, kind, data: this.file(slot) }]);
   }
 
   remove(slots) {
     this.#requireOwnMap();
     if (slots.some((it) => this.entry(it).locked)) throw new Sentence("A locked file can't be deleted: unlock it first.");
-    return this.become(slots.reduce((bytes, slot) => this.library.remove(bytes, slot), this.bytes));
+    return this.#each(slots, (bytes, it) => this.library.remove(bytes, it));
   }
 
   lock(slots, isLocked) {
-    return this.become(slots.reduce((bytes, slot) => this.library.lock(bytes, slot, isLocked), this.bytes));
+    return this.#each(slots, (bytes, it) => this.library.lock(bytes, it, isLocked));
   }
 
   undelete(slot, kind) {
     this.#requireOwnMap();
-    return this.become(this.library.undelete(this.bytes, slot, kind));
+    const why = () => "It can't be given back: another file has got one of its blocks, or the disk has lost blocks. Validate frees those.";
+    return this.become(refusing(ABSENT, why, () => this.library.undelete(this.bytes, slot, kind)));
   }
 
   retitle(title, mark) {
-    return this.become(this.library.retitle(this.bytes, title, mark));
+    return this.become(this.library.remark(this.library.retitle(this.bytes, title), mark));
   }
 
+  // Each slot in turn gets the entry that comes first of those left.
   sort(by) {
-    return this.become(this.library.sort(this.bytes, by));
+    const left = [...this.slots];
+    return this.#each([...left.keys()], (bytes, place) => {
+      const first = left.reduce((least, it, i) => (i > place && isBefore(it, left[least], by) ? i : least), place);
+      [left[first], left[place]] = [left[place], left[first]];
+      return first === place ? bytes : this.library.swap(bytes, first, place);
+    });
   }
 
   // What validating would make: the image, the files that would go, and the blocks that would come free.
   validated() {
     this.#requireOwnMap();
-    if (geosSlots(this.library, this.bytes).size) throw new Sentence("The drive's VALIDATE would free blocks that files of GEOS use. `disk1541 validate` keeps them.");
+    if (this.#geos.size) throw new Sentence("The drive's VALIDATE would free blocks that files of GEOS use. `disk1541 validate` keeps them.");
     const after = new Disk(this.library, this.name, this.library.command(this.bytes, "V0"));
     const gone = this.entries.filter((it) => !after.entry(it.slot));
     return { bytes: after.bytes, gone, freed: after.title.free - this.title.free };
@@ -180,6 +200,13 @@ export class Disk {
   converted() {
     return this.library.convert(this.bytes);
   }
+}
+
+// Whether an entry comes before another one in a sorted directory; empty slots come last.
+function isBefore(one, other, by) {
+  if (isEmpty(one) || isEmpty(other)) return !isEmpty(one);
+  const difference = KEYS[by](one) - KEYS[by](other);
+  return difference ? difference < 0 : String.fromCharCode(...one.name) < String.fromCharCode(...other.name);
 }
 
 // Whether the drive's OPEN can name a file so.

@@ -1,6 +1,6 @@
 // What is done to a whole disk. Each action is a method of a panel.
 import { ask } from "./ask.mjs";
-import { Disk } from "./disk.mjs";
+import { Disk, ORDERS } from "./disk.mjs";
 import { LARGEST } from "./foreign.mjs";
 import { stem } from "./names.mjs";
 import { codes } from "./petscii.mjs";
@@ -10,7 +10,6 @@ import { Sentence, count, sentence } from "./words.mjs";
 
 const G64 = 2;
 const FORMS = [["0", "D64, 35 tracks"], ["1", "D64, 40 tracks"], [String(G64), "G64"]];
-const ORDERS = [["0", "name"], ["1", "type"], ["2", "size"]];
 const TITLE = 16, ID = 2, MARK = 5;
 const SPACE = 0x20, PAD = 0xa0;
 
@@ -113,9 +112,9 @@ export const diskActions = {
   },
 
   async sort() {
-    const got = await ask({ title: "Sort the directory", fields: [{ label: "By", options: ORDERS, value: "0" }], yes: "Sort" });
+    const got = await ask({ title: "Sort the directory", fields: [{ label: "By", options: ORDERS.map((it) => [it, it]) }], yes: "Sort" });
     if (!got) return;
-    this.done(this.disk.sort(Number(got[0])) ? "Sorted." : "It is in this order already.");
+    this.done(this.disk.sort(got[0]) ? "Sorted." : "It is in this order already.");
   },
 
   async validate() {

@@ -143,7 +143,7 @@ export class Panel {
   #showVerdict() {
     const { flaws, broken } = this.disk;
     const verdict = this.find(".verdict");
-    const parts = [flaws.length ? "The disk isn't sound:" : "The disk is sound.", broken && `The directory can't be followed to its end: ${sentence(broken)}`];
+    const parts = [flaws.length ? "The disk isn't sound:" : "The disk is sound.", broken && `The directory can't be followed to its end: ${sentence({ number: broken })}`];
     verdict.textContent = parts.filter(Boolean).join(" ");
     verdict.classList.toggle("fault", flaws.length > 0);
     this.find(".flaws").replaceChildren(...flaws.map((it) => this.#flawLine(it)));

@@ -131,7 +131,7 @@ class Browser:
                 field.find_element(By.XPATH, f"option[contains(., '{value}')]").click()
             else:
                 field.send_keys(Keys.CONTROL, "a")
-                field.send_keys(value)
+                field.send_keys(value or Keys.DELETE)
         dialog.find_element(By.CSS_SELECTOR, "button.first").click()
         self.until(lambda: staleness_of(dialog)(self.driver), "the dialog closes")
         return text

@@ -90,9 +90,9 @@ def keyboard(browser, left):
         ActionChains(browser.driver).send_keys(Keys.TAB).perform()
         stops.append(browser.run("const e = document.activeElement; return e.dataset.do ?? e.dataset.take ?? e.role ?? e.tagName"))
     wanted = ["open", "fresh", "save", "undo", "retitle", "sort", "validate", "convert", "listbox"]
-    wanted += ["put", "takeOut", "rename", "duplicate", "lock", "remove", "undelete", "across", "SUMMARY", "SUMMARY", "log"]
+    wanted += ["put", "takeOut", "rename", "duplicate", "lock", "remove", "undelete", "across", "SUMMARY", "P", "SUMMARY"]
     browser.expect(stops[: len(wanted)] == wanted, f"Tab goes by {stops}")
-    left.listing_empty = browser.run("arguments[0].focus()", left.find("[data-do=undo]"))
+    browser.run("arguments[0].focus()", left.find("[data-do=undo]"))
     ActionChains(browser.driver).send_keys(Keys.ENTER).perform()
     at = browser.run("return document.activeElement.dataset.do")
     browser.expect(browser.said() == "There is nothing to undo." and at == "undo", "a button that can't do anything says why, and keeps the focus")

@@ -143,7 +143,7 @@ def other_systems(browser, side, d64):
     side.do("validate")
     browser.until(lambda: "files of GEOS" in browser.said(), "GEOS")
     wide = browser.room / "wide.d64"
-    browser.kit("new", wide, "--tracks", "40")
+    browser.kit("new", wide, "--title", "WIDE", "--id", "64", "--tracks", "40")
     image = wide.read_bytes()
     dolphin = changed(image, (LABEL + 0xAC, b"\x11\xff\xff\x01" * 5))
     side.drop(("dolphin.d64", dolphin))
