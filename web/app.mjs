@@ -13,7 +13,7 @@ const page = {
     said.classList.toggle("fault", isFault);
   },
 
-  // Does something with a disk; what it throws is said.
+  // Does something; what it throws is said.
   async try(work) {
     try {
       await work();
@@ -33,22 +33,18 @@ async function moduleBytes() {
   return answer.arrayBuffer();
 }
 
-function listen(panels) {
-  for (const it of document.getElementsByName("set"))
-    it.addEventListener("change", () => {
-      page.set = it.value;
-      panels.forEach((panel) => panel.show());
-    });
+page.try(async () => {
+  page.library = await load(moduleBytes());
+  const panels = ["Left disk", "Right disk"].map((label) => new Panel(page, label));
+  panels.forEach((it, i) => (it.other = panels[1 - i]));
+  const show = () => panels.forEach((it) => it.show());
+  document.querySelector("fieldset").addEventListener("change", (e) => {
+    page.set = e.target.value;
+    show();
+  });
   addEventListener("beforeunload", (e) => panels.some((it) => it.disk?.isChanged) && e.preventDefault());
   // A file that is dropped beside a disk isn't opened in the page's place.
   for (const it of ["dragover", "drop"]) addEventListener(it, (e) => e.preventDefault());
-}
-
-page.try(async () => {
-  page.library = await load(moduleBytes());
-  const panels = ["Left disk", "Right disk"].map((label, i) => new Panel(page, label, `disk${i}`));
-  panels.forEach((it, i) => (it.other = panels[1 - i]));
-  panels.forEach((it) => it.show());
-  listen(panels);
+  show();
   page.say("Ready.");
 });

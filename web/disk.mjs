@@ -2,13 +2,13 @@
 import { geosSlots, hasDolphinMap, mapOf } from "./blocks.mjs";
 import { foreign, isG64 } from "./foreign.mjs";
 import { REL } from "./names.mjs";
-import { join } from "./petscii.mjs";
+import { PAD, join } from "./petscii.mjs";
 import { Sentence } from "./words.mjs";
 
-const PAD = 0xa0, NAME_SIZE = 16;
+const NAME = 16; // characters
 const DEEP = 50; // images that are kept: at most some 15 MB
 const ABSENT = -4, NO_IMAGE = -5;
-const DIVIDES = ',=:"?*'; // what the drive's OPEN can't say in a name
+const DIVIDES = join(',=:"?*'); // what the drive's OPEN can't say in a name
 const LETTERS = { 1: "S", 2: "P", 3: "U" }; // of the types that OPEN can write
 // What a directory can be sorted by; among the same the names count.
 const KEYS = { name: () => 0, type: (it) => it.kind, size: (it) => it.blocks };
@@ -20,13 +20,18 @@ export const same = (a, b) => a.length === b.length && a.every((it, i) => it ===
 const nameOf = (codes) => (codes.includes(PAD) ? codes.slice(0, codes.indexOf(PAD)) : codes);
 const isEmpty = (it) => !it.kind && !it.closed && !it.locked;
 
-// What a call gives; another error in place of one that the library refuses with this number.
-function refusing(number, instead, call) {
+// What a call gives, or else what `instead` gives if the library refuses it with such a number.
+function unless(isSuch, instead, call) {
   try {
     return call();
   } catch (e) {
-    throw e.number === number ? new Sentence(instead()) : e;
+    if (!isSuch(e.number)) throw e;
+    return instead();
   }
+}
+
+function refuse(why) {
+  throw new Sentence(why);
 }
 
 export class Disk {
@@ -34,31 +39,21 @@ export class Disk {
   #saved;
 
   constructor(library, name, bytes, isSaved = true) {
-    Object.assign(this, { library, name, bytes });
+    this.library = library;
     this.#saved = isSaved ? bytes : null;
-    this.#read();
+    this.#take({ bytes, name });
   }
 
-  // --- what is on it
-
-  #read() {
-    const { entries, status } = refusing(NO_IMAGE, () => `It is ${foreign(this.bytes)}.`, () => this.library.entries(this.bytes));
+  #take(image) {
+    Object.assign(this, image);
+    const { library, bytes } = this;
+    const { entries, status } = unless((it) => it === NO_IMAGE, () => refuse(`It is ${foreign(bytes)}.`), () => library.entries(bytes));
     this.slots = entries.map((it, slot) => ({ ...it, slot, name: nameOf(it.name) }));
     this.entries = this.slots.filter((it) => !isEmpty(it));
     this.deleted = this.slots.filter((it) => isEmpty(it) && it.track && it.name.length);
-    this.broken = status;
-    this.flaws = this.library.flaws(this.bytes);
-    this.title = this.#label();
-  }
-
-  // Title, id and free blocks; nothing if their sector can't be read.
-  #label() {
-    try {
-      return this.library.title(this.bytes);
-    } catch (e) {
-      if (!(e.number >= 20)) throw e;
-      return {};
-    }
+    this.broken = status; // why the directory can't be followed to its end, or 0
+    this.flaws = library.flaws(bytes);
+    this.title = unless((it) => it >= 20, () => ({}), () => library.title(bytes));
   }
 
   get isG64() {
@@ -96,8 +91,7 @@ export class Disk {
   }
 
   undo() {
-    Object.assign(this, this.#past.pop());
-    this.#read();
+    this.#take(this.#past.pop());
   }
 
   // Takes a new image in place of the old one. Answers whether that changes anything.
@@ -105,41 +99,35 @@ export class Disk {
     if (name === this.name && same(bytes, this.bytes)) return false;
     this.#past.push({ bytes: this.bytes, name: this.name });
     if (this.#past.length > DEEP) this.#past.shift();
-    Object.assign(this, { bytes, name });
-    this.#read();
+    this.#take({ bytes, name });
     return true;
   }
 
   // --- changes
 
-  // Dolphin DOS has its own map of tracks 36 to 40, and would not see what the drive writes there.
   #requireOwnMap() {
-    if (hasDolphinMap(this.bytes)) throw new Sentence("Its map of tracks 36 to 40 is that of Dolphin DOS, and the drive would write another one. Nothing was changed.");
+    if (hasDolphinMap(this.bytes)) refuse("Dolphin DOS has its own BAM of tracks 36 to 40 on this disk, and the drive would write another one.");
   }
 
-  get #geos() {
-    return geosSlots(this.library, this.bytes);
-  }
-
-  // Makes a change of each of these, all or none.
+  // Makes a change for each of these, all or none.
   #each(list, change) {
-    return this.become(list.reduce((bytes, it) => change(bytes, it), this.bytes));
+    this.#requireOwnMap();
+    return this.become(list.reduce(change, this.bytes));
   }
 
   // Files are { name, kind, data }.
   put(files) {
-    this.#requireOwnMap();
     return this.#each(files, (bytes, it) => this.#with(bytes, it));
   }
 
   // The image with a file. One whose name the drive's OPEN can't say gets another name first.
   #with(bytes, { name, kind, data }) {
-    if (!(kind in LETTERS)) throw new Sentence("Relative and deleted files can't be put on a disk here; `disk1541 put` puts relative ones.");
-    const first = canBeSaid(name) ? name : this.#freeName();
-    const made = this.library.put(bytes, join("0:", first, `,${LETTERS[kind]},W`), data);
-    if (first === name) return made;
-    const slot = this.library.entries(made).entries.findIndex((it) => !isEmpty(it) && same(nameOf(it.name), first));
-    return this.library.rename(made, slot, name);
+    const letter = LETTERS[kind] ?? refuse("Relative and deleted files can't be put on a disk here; `disk1541 put` puts relative ones.");
+    const canBeSaid = name.every((it) => it >= 0x20 && it !== PAD && !DIVIDES.includes(it));
+    const first = canBeSaid ? name : this.#freeName();
+    const made = this.library.put(bytes, join("0:", first, `,${letter},W`), data);
+    const slot = () => this.library.entries(made).entries.findIndex((it) => !isEmpty(it) && same(nameOf(it.name), first));
+    return canBeSaid ? made : this.library.rename(made, slot(), name);
   }
 
   #freeName() {
@@ -147,19 +135,18 @@ export class Disk {
   }
 
   rename(slot, name) {
-    return this.become(this.library.rename(this.bytes, slot, name));
+    return this.#each([slot], (bytes, it) => this.library.rename(bytes, it, name));
   }
 
   copy(slot, name) {
-    if (this.#geos.has(slot)) throw new Sentence("A file of GEOS can't be copied: the drive copies only a part of it.");
     const { kind } = this.entry(slot);
-    if (kind === REL) throw new Sentence("The drive's COPY refuses relative files.");
+    if (kind === REL) refuse("The drive's COPY refuses relative files.");
+    if (this.#geos.includes(slot)) refuse("A file of GEOS can't be copied: the drive copies only a part of it.");
     return this.put([{ name, kind, data: this.file(slot) }]);
   }
 
   remove(slots) {
-    this.#requireOwnMap();
-    if (slots.some((it) => this.entry(it).locked)) throw new Sentence("A locked file can't be deleted: unlock it first.");
+    if (slots.some((it) => this.entry(it).locked)) refuse("A locked file can't be deleted: unlock it first.");
     return this.#each(slots, (bytes, it) => this.library.remove(bytes, it));
   }
 
@@ -168,13 +155,12 @@ export class Disk {
   }
 
   undelete(slot, kind) {
-    this.#requireOwnMap();
-    const why = () => "It can't be given back: another file has got one of its blocks, or the disk has lost blocks. Validate frees those.";
-    return this.become(refusing(ABSENT, why, () => this.library.undelete(this.bytes, slot, kind)));
+    const why = () => refuse("It can't be given back: another file has got a block of it, or the disk has lost blocks. Validate frees those.");
+    return this.#each([slot], (bytes, it) => unless((n) => n === ABSENT, why, () => this.library.undelete(bytes, it, kind)));
   }
 
   retitle(title, mark) {
-    return this.become(this.library.remark(this.library.retitle(this.bytes, title), mark));
+    return this.#each([title], (bytes, it) => this.library.remark(this.library.retitle(bytes, it), mark));
   }
 
   // Each slot in turn gets the entry that comes first of those left.
@@ -187,10 +173,14 @@ export class Disk {
     });
   }
 
+  get #geos() {
+    return geosSlots(this.library, this.bytes);
+  }
+
   // What validating would make: the image, the files that would go, and the blocks that would come free.
   validated() {
     this.#requireOwnMap();
-    if (this.#geos.size) throw new Sentence("The drive's VALIDATE would free blocks that files of GEOS use. `disk1541 validate` keeps them.");
+    if (this.#geos.length) refuse("The drive's VALIDATE would free blocks that files of GEOS use. `disk1541 validate` keeps them.");
     const after = new Disk(this.library, this.name, this.library.command(this.bytes, "V0"));
     const gone = this.entries.filter((it) => !after.entry(it.slot));
     return { bytes: after.bytes, gone, freed: after.title.free - this.title.free };
@@ -209,12 +199,9 @@ function isBefore(one, other, by) {
   return difference ? difference < 0 : String.fromCharCode(...one.name) < String.fromCharCode(...other.name);
 }
 
-// Whether the drive's OPEN can name a file so.
-const canBeSaid = (name) => name.every((it) => it >= 0x20 && it !== PAD && !DIVIDES.includes(String.fromCharCode(it)));
-
 // Why a name can't be a file's, or an empty text.
 export function nameFault(name) {
   if (!name) return "This has a character that is on no key of a C64.";
   if (name.length === 0) return "A file needs a name.";
-  return name.length > NAME_SIZE ? "A name has at most 16 characters." : "";
+  return name.length > NAME ? "A name has at most 16 characters." : "";
 }

@@ -9,13 +9,12 @@ import { zip } from "./zip.mjs";
 
 const NAME = 16;
 const MOST = 200000; // a disk of 40 tracks holds 190,246 bytes
-const GIVEN_BACK = ["prg", "seq", "usr"].map((it) => [String(KINDS.indexOf(it)), it.toUpperCase()]);
-const TAKEN = "There is a file of this name already.";
+const GIVEN_BACK = ["prg", "seq", "usr"].map((it) => [KINDS.indexOf(it), it]);
 
 export const fileActions = {
   // Why a name can't be a new file's, or an empty text. `more` are files that come with it.
-  whyNot(name, more = []) {
-    return nameFault(name) || (this.disk.has(name) || more.some((it) => same(it.name, name)) ? TAKEN : "");
+  whyNot(name, more) {
+    return nameFault(name) || ([...this.disk.entries, ...more].some((it) => same(it.name, name)) ? "There is a file of this name already." : "");
   },
 
   // A name for a file of this disk, or null: it is asked for until it can be one.
@@ -23,7 +22,8 @@ export const fileActions = {
     for (;;) {
       const got = await ask({ title, why, fields: [{ label: "Name on the disk", value }], yes });
       if (!got) return null;
-      const name = codes((value = got[0]), this.page.set);
+      [value] = got;
+      const name = codes(value, this.page.set);
       why = this.whyNot(name, more);
       if (!why) return name;
     }
@@ -33,22 +33,18 @@ export const fileActions = {
 
   async put(files) {
     const out = [];
-    for (const file of files) {
-      const it = await this.asFile(file, out);
-      if (it) out.push(it);
-    }
+    for (const it of files) out.push(...(await this.asFile(it, out)));
     this.putIn(out, "put in");
   },
 
-  // What a file of this computer becomes; null if no name for it is given.
+  // What a file of this computer becomes; nothing if no name for it is given.
   async asFile(file, others) {
     if (file.size > MOST) throw new Sentence(`${file.name} has more bytes than a disk.`);
-    const it = unwrapped(file.name, new Uint8Array(await file.arrayBuffer()));
-    const wanted = it.name ? this.name(it.name) : stem(file.name);
-    const name = it.name ?? codes(wanted, this.page.set), why = this.whyNot(name, others);
-    if (!why) return { ...it, name };
-    const given = await this.askName(`${file.name} needs another name`, wanted.slice(0, NAME), "Put in", others, why);
-    return given && { ...it, name: given };
+    const { name: its, ...it } = unwrapped(file.name, new Uint8Array(await file.arrayBuffer()));
+    const wanted = its ? this.name(its) : stem(file.name), name = its ?? codes(wanted, this.page.set);
+    const why = this.whyNot(name, others);
+    const given = why ? await this.askName(`${file.name} needs another name`, wanted.slice(0, NAME), "Put in", others, why) : name;
+    return given ? [{ ...it, name: given }] : [];
   },
 
   putIn(files, what) {
@@ -57,77 +53,80 @@ export const fileActions = {
     this.done(`${count(files.length, "file")} ${what}.`);
   },
 
-  // The files of slots as { entry, data }, and sentences on those that can't be read.
-  readAll(slots) {
+  chosen() {
+    return [...this.listing.selected].map((it) => this.disk.entry(it));
+  },
+
+  chosenNames() {
+    return this.chosen().map((it) => this.name(it.name)).join(", ");
+  },
+
+  // Files with their bytes, and sentences on those that can't be read.
+  readAll(entries) {
     const files = [], left = [];
-    for (const entry of slots.map((it) => this.disk.entry(it))) {
+    for (const it of entries) {
       try {
-        files.push({ entry, data: this.disk.file(entry.slot) });
+        files.push({ ...it, data: this.disk.file(it.slot) });
       } catch (e) {
-        left.push(`${this.name(entry.name)} was left out: ${sentence(e)}`);
+        left.push(`${this.name(it.name)} was left out: ${sentence(e)}`);
       }
     }
     return { files, left };
   },
 
   takeOut() {
-    const selected = [...this.listing.selected];
-    const { files, left } = this.readAll(selected.length ? selected : this.disk.entries.map((it) => it.slot));
-    const out = hostFiles(files);
-    if (out.length === 1) download(out[0].name, out[0].data);
-    else if (out.length) download(`${stem(this.disk.name)}.zip`, zip(out));
-    const what = out.length ? `${count(out.length, "file")} taken out, to your downloads.` : "No file was taken out.";
+    const { files, left } = this.readAll(this.listing.selected.size ? this.chosen() : this.disk.entries);
+    const [first, ...more] = hostFiles(files);
+    if (more.length) download(`${stem(this.disk.name)}.zip`, zip([first, ...more]));
+    else if (first) download(first.name, first.data);
+    const what = first ? `${count(files.length, "file")} taken out, to your downloads.` : "No file was taken out.";
     this.page.say([what, ...left].join(" "), left.length > 0);
   },
 
   across() {
-    const { files, left } = this.readAll([...this.listing.selected]);
+    const { disk } = this.other, { files, left } = this.readAll(this.chosen());
     if (left.length) throw new Sentence(left.join(" "));
-    const its = files.map(({ entry, data }) => ({ ...entry, data }));
-    const taken = its.find((it) => this.other.disk.has(it.name));
-    if (taken) throw new Sentence(`${this.other.disk.name} has a file ${this.name(taken.name)} already: rename one of them first.`);
-    this.other.putIn(its, `copied to ${this.other.disk.name}`);
+    const taken = files.find((it) => disk.has(it.name));
+    if (taken) throw new Sentence(`${disk.name} has a file ${this.name(taken.name)} already: rename one of them first.`);
+    this.other.putIn(files, `copied to ${disk.name}`);
   },
 
   // --- changes
 
-  async rename() {
-    const [slot] = this.listing.selected;
-    const name = await this.askName("Rename", this.name(this.disk.entry(slot).name), "Rename");
-    if (!name) return;
-    this.disk.rename(slot, name);
-    this.done(`Renamed: ${this.name(name)}.`);
+  // Asks for the new name of the one file that is selected, and makes a change with it.
+  async named(title, change, done) {
+    const [{ slot, name }] = this.chosen();
+    const got = await this.askName(title, this.name(name), title);
+    if (!got) return;
+    change(slot, got);
+    this.done(`${done}: ${this.name(got)}.`);
   },
 
-  async duplicate() {
-    const [slot] = this.listing.selected;
-    const name = await this.askName("Copy", this.name(this.disk.entry(slot).name), "Copy");
-    if (!name) return;
-    this.disk.copy(slot, name);
-    this.done(`Copied: ${this.name(name)}.`);
+  rename() {
+    return this.named("Rename", (slot, name) => this.disk.rename(slot, name), "Renamed");
+  },
+
+  duplicate() {
+    return this.named("Copy", (slot, name) => this.disk.copy(slot, name), "Copied");
   },
 
   lock() {
     const isLocked = !this.areLocked;
     this.disk.lock([...this.listing.selected], isLocked);
-    this.done(`${isLocked ? "Locked" : "Unlocked"}: ${this.selectedNames()}.`);
+    this.done(`${isLocked ? "Locked" : "Unlocked"}: ${this.chosenNames()}.`);
   },
 
   // Undo brings them back, so nothing is asked.
   remove() {
-    const names = this.selectedNames();
+    const names = this.chosenNames();
     this.disk.remove([...this.listing.selected]);
     this.done(`Deleted: ${names}.`);
   },
 
-  selectedNames() {
-    return [...this.listing.selected].map((it) => this.name(this.disk.entry(it).name)).join(", ");
-  },
-
   async undelete() {
-    const options = this.disk.deleted.map((it) => [String(it.slot), `${this.name(it.name)}, ${count(it.blocks, "block")}`]);
-    const fields = [{ label: "File", options, value: options[0][0] }, { label: "Type, which was lost", options: GIVEN_BACK, value: GIVEN_BACK[0][0] }];
-    const got = await ask({ title: "Undelete", why: "This works if no other file has got its blocks.", fields, yes: "Undelete" });
+    const options = this.disk.deleted.map((it) => [it.slot, `${this.name(it.name)}, ${count(it.blocks, "block")}`]);
+    const fields = [{ label: "File", options }, { label: "Type, which was lost", options: GIVEN_BACK }];
+    const got = await ask({ title: "Undelete", fields, yes: "Undelete" });
     if (!got) return;
     const [slot, kind] = got.map(Number);
     this.disk.undelete(slot, kind);

@@ -5,22 +5,16 @@ import { glyph, join, text } from "./petscii.mjs";
 import { count } from "./words.mjs";
 
 const NAME = 16, PAGE = 10;
+const ACTIONS = { Enter: "takeOut", F2: "rename", Delete: "remove" };
 
-// A span of one look. Graphics get a cell each, as fonts have them in other widths.
-function span(isReversed, isCell) {
-  const out = document.createElement("span");
-  out.className = [isReversed && "reversed", isCell && "cell"].filter(Boolean).join(" ");
-  return out;
-}
-
-// Codes as they look, in as few spans as can be.
+// Codes as they look, in as few spans as can be. Graphics get a cell each, as fonts have them in other widths.
 function looks(codes, set, isReversed = false) {
   const out = document.createDocumentFragment();
   let run = null;
   for (const code of codes) {
     const it = glyph(code, set), isCell = it.shown > "~";
-    const next = span(it.isReversed !== isReversed, isCell);
-    if (!run || isCell || run.className !== next.className) out.append((run = next));
+    const look = `${it.isReversed === isReversed ? "" : "reversed"}${isCell ? " cell" : ""}`;
+    if (!run || isCell || run.className !== look) out.append((run = Object.assign(document.createElement("span"), { className: look })));
     run.append(it.shown);
     if (isCell) draw(run, it.shown);
   }
@@ -37,8 +31,7 @@ function lineOf({ name, kind, blocks, closed, locked }) {
 
 // What a screen reader says of a file.
 function label({ name, kind, blocks, locked, closed }, set) {
-  const more = [locked && "locked", !closed && "never closed"].filter(Boolean);
-  return [text(name, set), KINDS[kind] ?? "unknown type", count(blocks, "block"), ...more].join(", ");
+  return `${text(name, set)}, ${KINDS[kind] ?? "unknown type"}, ${count(blocks, "block")}${locked ? ", locked" : ""}${closed ? "" : ", never closed"}`;
 }
 
 export class Listing {
@@ -47,42 +40,38 @@ export class Listing {
   #at = 0;
   #anchor = 0;
 
-  // `does` has what keys and the mouse ask for: changed(), takeOut(), rename(), remove().
-  constructor(screen, does) {
+  // What keys and the mouse ask for goes to `act`; `changed` is called if other files are selected.
+  constructor(screen, name, act, changed) {
     [this.head, this.list, this.foot] = screen.children;
-    this.does = does;
+    Object.assign(this, { name, act, changed });
     this.list.addEventListener("keydown", (e) => this.#key(e));
     this.list.addEventListener("click", (e) => this.#click(e));
-    this.list.addEventListener("dblclick", (e) => this.slotAt(e.target) !== undefined && does.takeOut());
+    this.list.addEventListener("dblclick", (e) => this.#placeOf(e.target) >= 0 && act("takeOut"));
   }
 
   show({ entries, title }, set) {
     this.#slots = entries.map((it) => it.slot);
-    this.selected = new Set(this.#slots.filter((it) => this.selected.has(it)));
-    this.#at = Math.min(this.#at, Math.max(0, this.#slots.length - 1));
     const header = title.title ? join('"', title.title, '" ', title.mark) : join("UNREADABLE");
     this.head.replaceChildren("0 ", looks(header, set, true));
     this.foot.replaceChildren(`${title.free ?? "?"} `, looks(join("BLOCKS FREE."), set));
     this.list.replaceChildren(...entries.map((it) => this.#row(it, set)));
-    this.#mark();
+    this.#at = Math.min(this.#at, Math.max(0, this.#slots.length - 1));
+    this.#select(this.#slots.filter((it) => this.selected.has(it)));
   }
 
   #row(entry, set) {
-    const row = document.createElement("li");
-    row.id = `${this.list.closest("section").id}-${entry.slot}`;
-    row.role = "option";
-    row.draggable = true;
-    row.append(`${entry.blocks} `, looks(lineOf(entry), set));
+    const row = Object.assign(document.createElement("li"), { id: `${this.name[0]}${entry.slot}`, role: "option", draggable: true });
     row.ariaLabel = label(entry, set);
+    row.append(`${entry.blocks} `, looks(lineOf(entry), set));
     return row;
   }
 
-  // The slot of the row that has an element; undefined if none has.
-  slotAt(element) {
-    return this.#slots[[...this.list.children].indexOf(element.closest("[role=option]"))];
+  #placeOf(element) {
+    return [...this.list.children].indexOf(element.closest("[role=option]"));
   }
 
-  #mark() {
+  #select(slots) {
+    this.selected = new Set(slots);
     [...this.list.children].forEach((row, i) => {
       row.ariaSelected = String(this.selected.has(this.#slots[i]));
       row.classList.toggle("at", i === this.#at);
@@ -90,56 +79,46 @@ export class Listing {
     const at = this.list.children[this.#at];
     this.list.setAttribute("aria-activedescendant", at?.id ?? "");
     if (document.activeElement === this.list) at?.scrollIntoView({ block: "nearest" });
-    this.does.changed();
+    this.changed();
   }
 
   only(slot) {
-    this.selected = new Set([slot]);
-    this.#at = this.#anchor = this.#slots.indexOf(slot);
-    this.#mark();
+    this.#move(this.#slots.indexOf(slot));
   }
 
-  #all() {
-    this.selected = new Set(this.#slots);
-    this.#mark();
+  // A file that is dragged is selected; those that are selected with it go along.
+  drag(row) {
+    const place = this.#placeOf(row);
+    if (!this.selected.has(this.#slots[place])) this.#move(place);
   }
 
-  #move(to, isExtended) {
+  #move(to, isExtended = false) {
     this.#at = Math.max(0, Math.min(this.#slots.length - 1, to));
     if (!isExtended) this.#anchor = this.#at;
-    const [from, until] = [this.#anchor, this.#at].sort((a, b) => a - b);
-    this.selected = new Set(this.#slots.slice(from, until + 1));
-    this.#mark();
+    this.#select(this.#slots.slice(Math.min(this.#anchor, this.#at), Math.max(this.#anchor, this.#at) + 1));
   }
 
-  #toggle(i) {
-    this.#at = this.#anchor = i;
-    const slot = this.#slots[i];
-    if (!this.selected.delete(slot)) this.selected.add(slot);
-    this.#mark();
+  #toggle(place) {
+    this.#at = this.#anchor = place;
+    const slot = this.#slots[place], { selected } = this;
+    this.#select(selected.has(slot) ? [...selected].filter((it) => it !== slot) : [...selected, slot]);
   }
 
   #click(e) {
-    const i = this.#slots.indexOf(this.slotAt(e.target));
-    if (i < 0) return;
-    if (e.ctrlKey || e.metaKey) this.#toggle(i);
-    else this.#move(i, e.shiftKey);
-  }
-
-  #target(key) {
-    const step = this.selected.size ? 1 : 0; // with nothing selected an arrow selects where it stands
-    return { ArrowDown: this.#at + step, ArrowUp: this.#at - step, PageDown: this.#at + PAGE, PageUp: this.#at - PAGE, Home: 0, End: this.#slots.length - 1 }[key];
+    const place = this.#placeOf(e.target);
+    if (place < 0) return;
+    if (e.ctrlKey || e.metaKey) this.#toggle(place);
+    else this.#move(place, e.shiftKey);
   }
 
   #key(e) {
+    const { key, shiftKey } = e, step = this.selected.size ? 1 : 0; // with nothing selected an arrow selects where it stands
+    const moves = { ArrowDown: this.#at + step, ArrowUp: this.#at - step, PageDown: this.#at + PAGE, PageUp: this.#at - PAGE, Home: 0, End: Infinity };
     if (!this.#slots.length) return;
-    const to = this.#target(e.key), isCommand = e.ctrlKey || e.metaKey;
-    if (to !== undefined) this.#move(to, e.shiftKey);
-    else if (e.key === " ") this.#toggle(this.#at);
-    else if (e.key === "a" && isCommand) this.#all();
-    else if (e.key === "Enter") this.does.takeOut();
-    else if (e.key === "F2") this.does.rename();
-    else if (e.key === "Delete") this.does.remove();
+    if (key in moves) this.#move(moves[key], shiftKey);
+    else if (key in ACTIONS) this.act(ACTIONS[key]);
+    else if (key === " ") this.#toggle(this.#at);
+    else if (key === "a" && (e.ctrlKey || e.metaKey)) this.#select(this.#slots);
     else return;
     e.preventDefault();
   }

@@ -1,49 +1,38 @@
-// A picture of a disk's blocks: a column for each track, a colour for each file. A click on a block selects its file.
+// A picture of a disk's blocks: a column for each track, a colour for each file.
 
-const SVG = "http://www.w3.org/2000/svg";
 const CELL = 8, ROWS = 21;
 const CLASSES = { free: "free", used: "used", lost: "lost", "used, but marked free": "clash", "can't be read": "bad" };
 
-function element(tag, attributes) {
-  const out = document.createElementNS(SVG, tag);
+function element(tag, attributes, text = "") {
+  const out = document.createElementNS("http://www.w3.org/2000/svg", tag);
   for (const [name, value] of Object.entries(attributes)) out.setAttribute(name, value);
+  out.textContent = text;
   return out;
 }
-
-// Neighbours in the directory get colours far apart.
-const colour = (slot) => `hsl(${(slot * 137) % 360} 65% 55%)`;
 
 function square({ track, sector, slot, state }, selected, nameOf) {
-  const isFile = slot !== undefined && state !== "free";
-  const classes = [isFile && state === "used" ? "file" : CLASSES[state], isFile && selected.has(slot) && "chosen"];
-  const out = element("rect", { x: CELL * (track - 1) + 0.5, y: CELL * sector + 0.5, width: CELL - 1, height: CELL - 1, class: classes.filter(Boolean).join(" ") });
-  if (classes[0] === "file") out.setAttribute("fill", colour(slot));
+  const isFile = slot !== undefined && state !== "free", isGood = isFile && state === "used";
+  const out = element("rect", { x: CELL * track - 7.5, y: CELL * sector + 0.5, width: CELL - 1, height: CELL - 1, class: isGood ? "file" : CLASSES[state] });
+  out.classList.toggle("chosen", isFile && selected.has(slot));
+  if (isGood) out.style.fill = `hsl(${(slot * 137) % 360} 65% 55%)`; // neighbours in the directory get colours far apart
   if (isFile) out.dataset.slot = slot;
-  const title = element("title", {});
-  title.textContent = `${track}/${sector} ${[isFile && nameOf(slot), (!isFile || state !== "used") && state].filter(Boolean).join(": ")}`;
-  out.append(title);
+  const words = [isFile && nameOf(slot), !isGood && state];
+  out.append(element("title", {}, `${track}/${sector} ${words.filter(Boolean).join(": ")}`));
   return out;
 }
 
-// How many blocks are in each state, in words.
-function counts(blocks) {
-  const some = Object.keys(CLASSES).map((state) => [blocks.filter((it) => it.state === state).length, state]);
-  return some.filter(([n]) => n).map(([n, state]) => `${n} ${state}`).join(", ");
-}
-
-// The blocks of the selected files, for those who don't see the picture.
-function places(blocks, selected, nameOf) {
-  return [...selected].map((slot) => {
-    const its = blocks.filter((it) => it.slot === slot).map((it) => `${it.track}/${it.sector}`);
-    return `${nameOf(slot)}: ${its.join(" ") || "no block"}`;
-  });
+// How many blocks are in each state, and where the selected files' are, for those who don't see the picture.
+function words(blocks, selected, nameOf) {
+  const counts = Object.keys(CLASSES).map((state) => [blocks.filter((it) => it.state === state).length, state]);
+  const placesOf = (slot) => blocks.filter((it) => it.slot === slot).map((it) => `${it.track}/${it.sector}`);
+  const files = [...selected].map((slot) => `${nameOf(slot)}: ${placesOf(slot).join(" ") || "no block"}`);
+  return [`Blocks: ${counts.filter(([n]) => n).map((it) => it.join(" ")).join(", ")}.`, ...files].join("\n");
 }
 
 export function picture(blocks, selected, nameOf) {
-  const tracks = blocks.at(-1).track;
-  const svg = element("svg", { viewBox: `0 0 ${CELL * tracks} ${CELL * ROWS}`, role: "img", "aria-label": `Blocks of ${tracks} tracks: ${counts(blocks)}` });
+  const svg = element("svg", { viewBox: `0 0 ${CELL * blocks.at(-1).track} ${CELL * ROWS}`, role: "img", "aria-label": "Map; its words follow" });
   svg.append(...blocks.map((it) => square(it, selected, nameOf)));
-  const words = document.createElement("p");
-  words.textContent = [`Blocks: ${counts(blocks)}.`, ...places(blocks, selected, nameOf)].join("\n");
-  return [svg, words];
+  const text = document.createElement("p");
+  text.textContent = words(blocks, selected, nameOf);
+  return [svg, text];
 }

@@ -1,64 +1,46 @@
 // Names of files on this computer: what a dropped file becomes on a disk, and what a file of a disk is called here. The
 // rules are those of disk1541.
-import { text } from "./petscii.mjs";
+import { join, text } from "./petscii.mjs";
 
 // The types of files, in the order of their numbers.
 export const KINDS = ["del", "seq", "prg", "usr", "rel"];
 export const PRG = 2, REL = 4;
 
-const MARK = "C64File\0", HEAD = 26; // the head that the emulator PC64 gives a file: a mark, the name, the length of records
-const NAME = 8, NAME_END = 24, RECORD = 25;
+// The head that the emulator PC64 gives a file: a mark, the name, a zero, the length of records.
+const MARK = "C64File\0", NAME = 16, HEAD = 26;
+const WRAPPED = /^[psur]\d\d$/; // the endings of such files
 const UNSAFE = '/%\\:*?"<>|'; // what a name can't have on some computer
 
-const dotOf = (name) => (name.lastIndexOf(".") > 0 ? name.lastIndexOf(".") : name.length);
+const parts = (name) => /^(.+)\.([^.]*)$/s.exec(name) ?? ["", name, ""];
+export const stem = (name) => parts(name)[1];
 
-export const stem = (name) => name.slice(0, dotOf(name));
-const ending = (name) => name.slice(dotOf(name) + 1).toLowerCase();
-
-// The type that a file's ending means: prg, seq, usr, or a letter and two digits, as PC64 has them. Any other is a program.
-function kindOf(name) {
-  const its = ending(name);
-  const kind = KINDS.findIndex((it) => it === its || (/^[a-z]\d\d$/.test(its) && it[0] === its[0]));
-  return kind > 0 ? kind : PRG;
-}
-
-// What a file becomes on a disk: { kind, data }, and `name` if its head says it.
-export function unwrapped(name, data) {
-  const kind = kindOf(name);
-  const isWrapped = /^[a-z]\d\d$/.test(ending(name)) && data.length >= HEAD && String.fromCharCode(...data.subarray(0, NAME)) === MARK;
-  if (!isWrapped) return { kind, data };
-  const [its] = [data.subarray(NAME, NAME_END)], end = its.indexOf(0);
-  return { kind, data: data.subarray(HEAD), name: end < 0 ? its : its.subarray(0, end) };
+// What a file becomes on a disk: { kind, data }, and `name` if its head says it. The ending says the type.
+export function unwrapped(file, data) {
+  const ending = parts(file)[2].toLowerCase(), isNamed = WRAPPED.test(ending);
+  const kind = KINDS.findIndex((it) => it === ending || (isNamed && it[0] === ending[0]));
+  const its = { kind: kind > 0 ? kind : PRG, data };
+  if (!isNamed || data.length < HEAD || !join(MARK).every((it, i) => it === data[i])) return its;
+  const name = data.subarray(MARK.length, MARK.length + NAME), end = name.indexOf(0);
+  return { ...its, data: data.subarray(HEAD), name: end < 0 ? name : name.subarray(0, end) };
 }
 
 // A relative file's records under such a head; what follows the last whole one in its block is left out.
-function wrapped(entry, data) {
-  const records = data.subarray(0, data.length - (entry.recordLength ? data.length % entry.recordLength : 0));
-  const out = new Uint8Array(HEAD + records.length);
-  out.set(new TextEncoder().encode(MARK));
-  out.set(entry.name, NAME);
-  out[RECORD] = entry.recordLength;
-  out.set(records, HEAD);
-  return out;
-}
+const wrapped = ({ name, recordLength, data }) =>
+  join(MARK, name, "\0".repeat(NAME + 1 - name.length), [recordLength], data.subarray(0, data.length - (data.length % recordLength || 0)));
 
-function letter(code) {
+function letter(code, place) {
   if (code >= 0xc1 && code <= 0xda) return String.fromCharCode(code - 0x80);
   const shown = text([code >= 0x60 && code < 0x80 ? code + 0x60 : code], "upper");
-  return shown.length > 2 || UNSAFE.includes(shown) ? `%${code.toString(16).toUpperCase().padStart(2, "0")}` : shown;
+  return shown.length > 2 || UNSAFE.includes(shown) || (shown === "." && !place) ? `%${code.toString(16).toUpperCase().padStart(2, "0")}` : shown;
 }
 
-const hostName = (name) =>
-  Array.from(name, letter).join("").replace(/^\./, "%2E").replace(/[. ]$/, (it) => (it === "." ? "%2E" : "%20")) || "%A0";
-
-// The files of a computer for files of a disk, { entry, data }: each has a name of its own.
+// The files of a computer, { name, data }, for files of a disk: each has a name of its own.
 export function hostFiles(files) {
-  const taken = new Map();
-  return files.map(({ entry, data }) => {
-    const isRelative = entry.kind === REL;
-    const base = hostName(entry.name), end = isRelative ? "r00" : (KINDS[entry.kind] ?? "del");
-    const number = taken.get(`${base}.${end}`) ?? 0;
-    taken.set(`${base}.${end}`, number + 1);
-    return { name: `${base}${number ? `~${number}` : ""}.${end}`, data: isRelative ? wrapped(entry, data) : data };
+  const taken = {};
+  return files.map((file) => {
+    const isRelative = file.kind === REL;
+    const base = Array.from(file.name, letter).join("") || "%A0", end = isRelative ? "r00" : (KINDS[file.kind] ?? "del");
+    const number = (taken[`${base}.${end}`] = (taken[`${base}.${end}`] ?? -1) + 1);
+    return { name: `${base}${number ? `~${number}` : ""}.${end}`, data: isRelative ? wrapped(file) : file.data };
   });
 }

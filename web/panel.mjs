@@ -5,10 +5,9 @@ import { fileActions } from "./file_actions.mjs";
 import { Listing } from "./listing.mjs";
 import { picture } from "./map.mjs";
 import { text } from "./petscii.mjs";
-import { Sentence, flaw, sentence } from "./words.mjs";
+import { flaw, sentence } from "./words.mjs";
 
 const OURS = "application/x-1541-files"; // what a drag from one disk to the other has
-const IMAGE = /\.[dg]64$/i;
 // Why a button does nothing, by what it needs.
 const REASONS = {
   disk: "Open a disk first.",
@@ -18,27 +17,22 @@ const REASONS = {
   deleted: "The directory has no deleted file.",
   across: "Select a file, and open a disk on the other side.",
 };
+const KEYS = { z: "undo", s: "save" };
 
 export class Panel {
   disk = null;
   place = null; // where the disk can be saved in place
-  terminal = null;
 
-  constructor(page, label, id) {
+  constructor(page, label) {
     this.page = page;
     this.label = label;
     this.root = document.querySelector("template").content.firstElementChild.cloneNode(true);
-    Object.assign(this.root, { id, ariaLabel: label });
+    this.root.ariaLabel = label;
     document.querySelector("main").append(this.root);
-    const does = Object.fromEntries(["takeOut", "rename", "remove"].map((it) => [it, () => this.#press(it)]));
-    this.listing = new Listing(this.find(".screen"), { ...does, changed: () => this.#showSelected() });
+    this.find = (what) => this.root.querySelector(what);
+    this.listing = new Listing(this.find(".screen"), label, (what) => this.#press(what), () => this.#showSelected());
     this.#listen();
     this.#takeDrops();
-    this.#giveDrags();
-  }
-
-  find(what) {
-    return this.root.querySelector(what);
   }
 
   name(codes) {
@@ -48,15 +42,16 @@ export class Panel {
   // --- what is pressed
 
   #listen() {
+    const on = (what, event, does) => this.find(what).addEventListener(event, does);
     this.root.addEventListener("click", (e) => e.target.dataset.do && this.#press(e.target.dataset.do));
     this.root.addEventListener("keydown", (e) => this.#shortcut(e));
-    for (const it of this.root.querySelectorAll("[data-take]")) it.addEventListener("change", () => this.#taken(it));
-    this.find("[data-take=open]").addEventListener("click", (e) => this.#pick(e));
-    this.find(".map").addEventListener("toggle", () => this.#showMap());
-    this.find(".map div").addEventListener("click", (e) => e.target.dataset.slot && this.listing.only(Number(e.target.dataset.slot)));
-    this.find(".terminal form").addEventListener("submit", (e) => {
+    this.root.addEventListener("change", (e) => e.target.dataset.take && this.#taken(e.target));
+    on("[data-take=open]", "click", (e) => this.#pick(e));
+    on(".map", "toggle", () => this.#showMap());
+    on(".map", "click", (e) => e.target.dataset.slot && this.listing.only(Number(e.target.dataset.slot)));
+    on(".terminal form", "submit", (e) => {
       e.preventDefault();
-      this.send(e.target.querySelector("input"));
+      this.send(e.target.elements[0]);
     });
   }
 
@@ -67,10 +62,9 @@ export class Panel {
   }
 
   #shortcut(e) {
-    const what = { z: "undo", s: "save" }[e.key];
-    if (!what || !(e.ctrlKey || e.metaKey) || e.target.matches(".terminal input")) return;
+    if (!(e.ctrlKey || e.metaKey) || !KEYS[e.key] || e.target.form) return;
     e.preventDefault();
-    this.#press(what);
+    this.#press(KEYS[e.key]);
   }
 
   async #taken(input) {
@@ -91,46 +85,37 @@ export class Panel {
   // --- what is dropped and dragged
 
   #takeDrops() {
-    const mark = (isOver) => this.root.classList.toggle("over", isOver);
-    this.root.addEventListener("dragover", (e) => {
-      e.preventDefault();
-      mark(true);
-    });
-    this.root.addEventListener("dragleave", (e) => this.root.contains(e.relatedTarget) || mark(false));
-    this.root.addEventListener("drop", (e) => {
-      e.preventDefault();
-      mark(false);
-      this.page.try(() => this.#dropped(e.dataTransfer));
+    const on = (event, isOver, does) =>
+      this.root.addEventListener(event, (e) => {
+        e.preventDefault();
+        this.root.classList.toggle("over", isOver);
+        does?.(e.dataTransfer);
+      });
+    on("dragover", true);
+    on("dragleave", false);
+    on("drop", false, (data) => this.page.try(() => this.#dropped(data)));
+    this.listing.list.addEventListener("dragstart", (e) => {
+      this.listing.drag(e.target);
+      e.dataTransfer.setData(OURS, this.label);
     });
   }
 
   // What a drop has can only be asked for before anything is waited for.
   #dropped(data) {
-    if (data.types.includes(OURS)) return data.getData(OURS) === this.other.label && this.other.across();
+    const from = data.getData(OURS);
+    if (from) return from === this.other.label && this.other.across();
     const files = [...data.files];
-    if (this.disk && !files.some((it) => IMAGE.test(it.name))) return this.put(files);
+    if (this.disk && !files.some((it) => /\.[dg]64$/i.test(it.name))) return this.put(files);
     return this.open(files, data.items[0]?.getAsFileSystemHandle?.().catch(() => null));
-  }
-
-  #giveDrags() {
-    this.listing.list.addEventListener("dragstart", (e) => {
-      const slot = this.listing.slotAt(e.target);
-      if (!this.listing.selected.has(slot)) this.listing.only(slot);
-      e.dataTransfer.setData(OURS, this.label);
-      e.dataTransfer.effectAllowed = "copy";
-    });
   }
 
   // --- what is shown
 
   show() {
     const { disk } = this;
-    this.find("h2").textContent = disk?.name ?? this.label;
-    if (disk?.isChanged) this.find("h2").append(Object.assign(document.createElement("small"), { textContent: " changed, not saved" }));
+    this.find("h2 span").textContent = disk?.name ?? this.label;
     this.root.classList.toggle("changed", !!disk?.isChanged);
     this.root.classList.toggle("empty", !disk);
-    this.find(".hint").hidden = !!disk;
-    this.find(".inside").hidden = !disk;
     if (disk) {
       this.listing.show(disk, this.page.set);
       this.#showVerdict();
@@ -143,22 +128,16 @@ export class Panel {
   #showVerdict() {
     const { flaws, broken } = this.disk;
     const verdict = this.find(".verdict");
-    const parts = [flaws.length ? "The disk isn't sound:" : "The disk is sound.", broken && `The directory can't be followed to its end: ${sentence({ number: broken })}`];
-    verdict.textContent = parts.filter(Boolean).join(" ");
+    verdict.textContent = flaws.length ? "The disk isn't sound:" : "The disk is sound.";
     verdict.classList.toggle("fault", flaws.length > 0);
-    this.find(".flaws").replaceChildren(...flaws.map((it) => this.#flawLine(it)));
-  }
-
-  #flawLine(its) {
-    const line = document.createElement("li");
-    const file = its.whose === 2 && this.disk.entry(its.slot);
-    line.textContent = flaw(its) + (file ? ` (${this.name(file.name)})` : "");
-    return line;
+    if (broken) verdict.prepend(`The directory breaks off: ${sentence({ number: broken })} `);
+    const fileOf = ({ whose, slot }) => (whose === 2 && this.disk.entry(slot) ? ` (${this.name(this.disk.entry(slot).name)})` : "");
+    this.find(".flaws").replaceChildren(...flaws.map((it) => Object.assign(document.createElement("li"), { textContent: flaw(it) + fileOf(it) })));
   }
 
   #has(need) {
-    const count = this.disk ? this.listing.selected.size : 0;
-    return { disk: this.disk, past: this.disk?.canUndo, one: count === 1, some: count, deleted: this.disk?.deleted.length, across: count && this.other.disk }[need];
+    const { disk } = this, { size } = this.listing.selected;
+    return { disk, past: disk?.canUndo, one: size === 1, some: size, deleted: disk?.deleted.length, across: size && this.other.disk }[need];
   }
 
   // A button that can't do anything stays where the keyboard finds it, and says why.
@@ -167,8 +146,8 @@ export class Panel {
   }
 
   #showSelected() {
-    const count = this.disk ? this.listing.selected.size : 0;
-    this.find("[data-do=takeOut]").textContent = count === 1 ? "Take out" : count ? `Take ${count} out` : "Take all out";
+    const { size } = this.listing.selected;
+    this.find("[data-do=takeOut]").textContent = size === 1 ? "Take out" : size ? `Take ${size} out` : "Take all out";
     this.find("[data-do=lock]").textContent = this.areLocked ? "Unlock" : "Lock";
     this.#showNeeds();
     this.#showMap();
@@ -176,27 +155,19 @@ export class Panel {
 
   // Whether all selected files are locked.
   get areLocked() {
-    const slots = this.disk ? [...this.listing.selected] : [];
-    return slots.length > 0 && slots.every((it) => this.disk.entry(it)?.locked);
+    const slots = [...this.listing.selected];
+    return slots.length > 0 && slots.every((it) => this.disk.entry(it).locked);
   }
 
   #showMap() {
     if (!this.disk || !this.find(".map").open) return;
-    const nameOf = (slot) => this.name(this.disk.entry(slot)?.name ?? []);
-    const { blocks } = this.disk;
-    this.find(".map div").replaceChildren(...(blocks ? picture(blocks, this.listing.selected, nameOf) : ["The blocks of this disk can't be read, so there is no map."]));
+    this.find(".map div").replaceChildren(...picture(this.disk.blocks, this.listing.selected, (slot) => this.name(this.disk.entry(slot).name)));
   }
 
   // Shows the disk after something was done to it, and says what.
   done(what) {
     this.show();
     this.page.say(what);
-  }
-
-  // The codes of a text that was typed; refuses what is longer than a name.
-  codesOf(codes, most, what) {
-    if (!codes || codes.length > most) throw new Sentence(`${what} has at most ${most} characters, all of them on keys of a C64.`);
-    return codes;
   }
 }
 

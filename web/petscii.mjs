@@ -2,35 +2,30 @@
 // braces are those of disk1541 (Unicode, "Symbols for Legacy Computing"), so that a name is the same text in both.
 
 const NONE = Array(32).fill(null);
-const DIGITS = [..." !\"#$%&'()*+,-./0123456789:;<=>?"];
-const LETTERS = [..."@ABCDEFGHIJKLMNOPQRSTUVWXYZ[£]↑←"];
-const SMALL = [..."@abcdefghijklmnopqrstuvwxyz[£]↑←"];
-const LINES = [..."─♠🭲🭸🭷🭶🭺🭱🭴╮╰╯🭼╲╱🭽🭾●🭻♥🭰╭╳○♣🭵♦┼🮌│π◥"];
-const CAPITALS = [..."─ABCDEFGHIJKLMNOPQRSTUVWXYZ┼🮌│🮖🮘"];
-const BLOCKS = [null, ..."▌▄▔▁▏▒▕🮏◤🮇├▗└┐▂┌┴┬┤▎▍🮈🮂🮃▃🭿▖▝┘▘▚"];
-const FILLS = [null, ..."▌▄▔▁▏▒▕🮏🮙🮇├▗└┐▂┌┴┬┤▎▍🮈🮂🮃▃✓▖▝┘▘▚"];
+const DIGITS = " !\"#$%&'()*+,-./0123456789:;<=>?";
+const LETTERS = "@ABCDEFGHIJKLMNOPQRSTUVWXYZ[£]↑←";
+const LINES = "─♠🭲🭸🭷🭶🭺🭱🭴╮╰╯🭼╲╱🭽🭾●🭻♥🭰╭╳○♣🭵♦┼🮌│π◥";
+const CAPITALS = "─ABCDEFGHIJKLMNOPQRSTUVWXYZ┼🮌│🮖🮘";
+const BLOCKS = "▌▄▔▁▏▒▕🮏◤🮇├▗└┐▂┌┴┬┤▎▍🮈🮂🮃▃🭿▖▝┘▘▚";
+const FILLS = "▌▄▔▁▏▒▕🮏🮙🮇├▗└┐▂┌┴┬┤▎▍🮈🮂🮃▃✓▖▝┘▘▚";
 
 // The character on the key of each code, in the set of power up and in the other one.
-const KEYS = {
-  upper: [NONE, DIGITS, LETTERS, NONE, NONE, BLOCKS, LINES, NONE].flat(),
-  lower: [NONE, DIGITS, SMALL, NONE, NONE, FILLS, CAPITALS, NONE].flat(),
-};
+const keys = (letters, blocks, lines) => [...NONE, ...DIGITS, ...letters, ...NONE, ...NONE, null, ...blocks, ...lines, ...NONE];
+const KEYS = { upper: keys(LETTERS, BLOCKS, LINES), lower: keys(LETTERS.toLowerCase(), FILLS, CAPITALS) };
 // The 32 codes that each 32 codes look like: control codes look like letters, reversed.
 const LIKE = [2, 1, 2, 6, 6, 5, 6, 5];
-const PAD = 0xa0, PI = 0xff;
+const PI = 0xff;
+export const PAD = 0xa0; // the shifted space that ends a name
 
 // How a code looks between quotes.
 export function glyph(code, set) {
   const row = code >> 5;
   const like = code === PI ? 0xde : (LIKE[row] << 5) | (code & 31);
-  const shown = code === PAD ? " " : (KEYS[set][like] ?? " ");
-  return { shown, isReversed: row === 0 || row === 4 };
+  return { shown: KEYS[set][like] ?? " ", isReversed: row === 0 || row === 4 };
 }
 
-export const inHex = (code) => code.toString(16).padStart(2, "0");
-
 // A name as text; a code that no key types stands by its number, as in {c1}.
-export const text = (codes, set) => Array.from(codes, (code) => KEYS[set][code] ?? `{${inHex(code)}}`).join("");
+export const text = (codes, set) => Array.from(codes, (code) => KEYS[set][code] ?? `{${code.toString(16).padStart(2, "0")}}`).join("");
 
 function codeOf(character, set) {
   if (character === "_") return codeOf("▁", set);
@@ -47,3 +42,7 @@ const codesOf = (part) => (typeof part === "string" ? Array.from(part, (it) => i
 
 // Codes, and texts in ASCII's codes, one after another.
 export const join = (...parts) => Uint8Array.from(parts.flatMap(codesOf));
+
+// Codes without the shifted spaces at their end, and with them.
+export const unpadded = (its) => its.slice(0, its.findLastIndex((it) => it !== PAD) + 1);
+export const padded = (its, size) => Uint8Array.from({ length: size }, (_, i) => its[i] ?? PAD);

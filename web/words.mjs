@@ -1,38 +1,24 @@
 // What the library's numbers say, as sentences for people.
 
-// The drive's status, and what to do.
-const STATUS = {
-  25: "A sector couldn't be written.",
+// The refusals of the library, and the drive's status.
+const WORDS = {
+  "-1": "The browser gave no memory for it.",
+  "-2": "That isn't possible.",
+  "-4": "There is no such thing on the disk.",
+  "-6": "The disk isn't sound, so nothing was changed. Its flaws are listed under its files: Validate mends those of the BAM.",
   26: "The disk or the file is protected.",
-  28: "A sector couldn't be written.",
-  29: "The disk has another id there.",
   30: "The drive doesn't understand this.",
   31: "The drive knows no such command.",
   32: "The text is too long for the drive.",
   33: "A name can't have ? or * in it here.",
   34: "A name is missing.",
-  50: "There is no such record.",
-  51: "It is too long for a record.",
-  52: "The file is too large.",
   60: "The file was never closed: Validate removes it.",
-  61: "The file isn't open.",
   62: "There is no such file on the disk.",
   63: "There is a file of this name already: take another name.",
   64: "The file is of another type.",
   66: "A chain of blocks leads to a place that the disk doesn't have.",
-  67: "A chain of blocks leads to a place that the disk doesn't have.",
-  70: "No channel is free.",
   71: "The directory, or a chain of blocks, has no end.",
   72: "The disk is full: take files out, or use another disk.",
-  74: "There is no disk.",
-};
-const REFUSALS = {
-  "-1": "The browser gave no memory for it.",
-  "-2": "That isn't possible.",
-  "-4": "There is no such thing on the disk.",
-  "-5": "This is no image of a 1541's disk.",
-  "-6": "The disk isn't sound, so nothing was changed. Its flaws are listed under its files: Validate mends those of the BAM.",
-  "-7": "The drive stopped.",
 };
 // What is wrong, in disk1541's words.
 const FLAWS = [
@@ -53,9 +39,10 @@ export class Sentence extends Error {}
 
 export function sentence(error) {
   if (error instanceof Sentence) return error.message;
-  if (!("number" in error)) return `Something in this page went wrong: ${error.message}`;
-  const words = REFUSALS[error.number] ?? STATUS[error.number] ?? "A sector can't be read.";
-  return error.number >= 20 ? `${words} (status ${error.number})` : words;
+  const { number } = error;
+  if (number === undefined) return `Something in this page went wrong: ${error.message}`;
+  const words = WORDS[number] ?? (number < 30 ? "A sector can't be read." : "The drive refused it.");
+  return number >= 20 ? `${words} (status ${number})` : words;
 }
 
 export const flaw = ({ what, track, sector }) => `track ${track}, sector ${sector}: ${FLAWS[what] ?? FLAWS[0]}`;

@@ -144,7 +144,7 @@ def undeleted(disk):
     side.key(Keys.DELETE)
     browser.says("Deleted: LEVELS.")
     side.do("undelete")
-    browser.answer("LEVELS", "SEQ")
+    browser.answer("LEVELS", "seq")
     browser.says("Undeleted: LEVELS.")
     disk.kit("delete", "LEVELS")
     disk.kit("undelete", "LEVELS", "--type", "seq")
