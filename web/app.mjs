@@ -1,6 +1,6 @@
 // The page: two disks side by side, the character set, and what is said.
 import { Panel } from "./panel.mjs";
-import { Sentence, sentence } from "./words.mjs";
+import { Sentence, refuse, sentence } from "./words.mjs";
 import { load } from "./yellowadze1541.mjs";
 
 const said = document.getElementById("said");
@@ -13,7 +13,6 @@ const page = {
     said.classList.toggle("fault", isFault);
   },
 
-  // Does something; what it throws is said.
   async try(work) {
     try {
       await work();
@@ -29,7 +28,7 @@ async function moduleBytes() {
   const inside = document.getElementById("module");
   if (inside) return Uint8Array.from(atob(inside.textContent), (it) => it.charCodeAt(0));
   const answer = await fetch("yellowadze1541.wasm");
-  if (!answer.ok) throw new Sentence("yellowadze1541.wasm isn't beside this page.");
+  if (!answer.ok) refuse("yellowadze1541.wasm isn't beside this page.");
   return answer.arrayBuffer();
 }
 
@@ -38,8 +37,8 @@ page.try(async () => {
   const panels = ["Left disk", "Right disk"].map((label) => new Panel(page, label));
   panels.forEach((it, i) => (it.other = panels[1 - i]));
   const show = () => panels.forEach((it) => it.show());
-  document.querySelector("fieldset").addEventListener("change", (e) => {
-    page.set = e.target.value;
+  document.getElementById("small").addEventListener("change", (e) => {
+    page.set = e.target.checked ? "lower" : "upper";
     show();
   });
   addEventListener("beforeunload", (e) => panels.some((it) => it.disk?.isChanged) && e.preventDefault());

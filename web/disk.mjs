@@ -1,13 +1,10 @@
-// A disk's image with its past. Every change is a new image that the library made; the old ones are kept to undo.
-import { geosSlots, hasDolphinMap, mapOf } from "./blocks.mjs";
-import { foreign, isG64 } from "./foreign.mjs";
-import { REL } from "./names.mjs";
+// A disk's image with its past. Each change is a new image that the library made; the old ones are kept to undo.
+import { geosSlots, isG64, mapOf } from "./blocks.mjs";
 import { PAD, join } from "./petscii.mjs";
-import { Sentence } from "./words.mjs";
+import { refuse } from "./words.mjs";
 
-const NAME = 16; // characters
 const DEEP = 50; // images that are kept: at most some 15 MB
-const ABSENT = -4, NO_IMAGE = -5;
+const ABSENT = -4;
 const DIVIDES = join(',=:"?*'); // what the drive's OPEN can't say in a name
 const LETTERS = { 1: "S", 2: "P", 3: "U" }; // of the types that OPEN can write
 // What a directory can be sorted by; among the same the names count.
@@ -30,10 +27,6 @@ function unless(isSuch, instead, call) {
   }
 }
 
-function refuse(why) {
-  throw new Sentence(why);
-}
-
 export class Disk {
   #past = [];
   #saved;
@@ -47,7 +40,7 @@ export class Disk {
   #take(image) {
     Object.assign(this, image);
     const { library, bytes } = this;
-    const { entries, status } = unless((it) => it === NO_IMAGE, () => refuse(`It is ${foreign(bytes)}.`), () => library.entries(bytes));
+    const { entries, status } = library.entries(bytes);
     this.slots = entries.map((it, slot) => ({ ...it, slot, name: nameOf(it.name) }));
     this.entries = this.slots.filter((it) => !isEmpty(it));
     this.deleted = this.slots.filter((it) => isEmpty(it) && it.track && it.name.length);
@@ -76,8 +69,6 @@ export class Disk {
     return this.library.read(this.bytes, slot);
   }
 
-  // --- its past
-
   get isChanged() {
     return this.bytes !== this.#saved;
   }
@@ -94,7 +85,7 @@ export class Disk {
     this.#take(this.#past.pop());
   }
 
-  // Takes a new image in place of the old one. Answers whether that changes anything.
+  // Takes a new image. Answers whether that changes anything.
   become(bytes, name = this.name) {
     if (name === this.name && same(bytes, this.bytes)) return false;
     this.#past.push({ bytes: this.bytes, name: this.name });
@@ -103,15 +94,8 @@ export class Disk {
     return true;
   }
 
-  // --- changes
-
-  #requireOwnMap() {
-    if (hasDolphinMap(this.bytes)) refuse("Dolphin DOS has its own BAM of tracks 36 to 40 on this disk, and the drive would write another one.");
-  }
-
   // Makes a change for each of these, all or none.
   #each(list, change) {
-    this.#requireOwnMap();
     return this.become(list.reduce(change, this.bytes));
   }
 
@@ -139,10 +123,8 @@ export class Disk {
   }
 
   copy(slot, name) {
-    const { kind } = this.entry(slot);
-    if (kind === REL) refuse("The drive's COPY refuses relative files.");
     if (this.#geos.includes(slot)) refuse("A file of GEOS can't be copied: the drive copies only a part of it.");
-    return this.put([{ name, kind, data: this.file(slot) }]);
+    return this.put([{ ...this.entry(slot), name, data: this.file(slot) }]);
   }
 
   remove(slots) {
@@ -177,16 +159,13 @@ export class Disk {
     return geosSlots(this.library, this.bytes);
   }
 
-  // What validating would make: the image, the files that would go, and the blocks that would come free.
+  // What validating would make: the image, and the files that would go.
   validated() {
-    this.#requireOwnMap();
     if (this.#geos.length) refuse("The drive's VALIDATE would free blocks that files of GEOS use. `disk1541 validate` keeps them.");
     const after = new Disk(this.library, this.name, this.library.command(this.bytes, "V0"));
-    const gone = this.entries.filter((it) => !after.entry(it.slot));
-    return { bytes: after.bytes, gone, freed: after.title.free - this.title.free };
+    return { bytes: after.bytes, gone: this.entries.filter((it) => !after.entry(it.slot)) };
   }
 
-  // The other format: { image, lost }.
   converted() {
     return this.library.convert(this.bytes);
   }
@@ -197,11 +176,4 @@ function isBefore(one, other, by) {
   if (isEmpty(one) || isEmpty(other)) return !isEmpty(one);
   const difference = KEYS[by](one) - KEYS[by](other);
   return difference ? difference < 0 : String.fromCharCode(...one.name) < String.fromCharCode(...other.name);
-}
-
-// Why a name can't be a file's, or an empty text.
-export function nameFault(name) {
-  if (!name) return "This has a character that is on no key of a C64.";
-  if (name.length === 0) return "A file needs a name.";
-  return name.length > NAME ? "A name has at most 16 characters." : "";
 }

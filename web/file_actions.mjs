@@ -1,26 +1,28 @@
 // What is done to the files of a disk. Each action is a method of a panel.
 import { ask } from "./ask.mjs";
-import { nameFault, same } from "./disk.mjs";
+import { same } from "./disk.mjs";
 import { KINDS, hostFiles, stem, unwrapped } from "./names.mjs";
 import { codes } from "./petscii.mjs";
 import { download } from "./saving.mjs";
-import { Sentence, count, sentence } from "./words.mjs";
+import { count, refuse, sentence } from "./words.mjs";
 import { zip } from "./zip.mjs";
 
 const NAME = 16;
-const MOST = 200000; // a disk of 40 tracks holds 190,246 bytes
 const GIVEN_BACK = ["prg", "seq", "usr"].map((it) => [KINDS.indexOf(it), it]);
 
 export const fileActions = {
   // Why a name can't be a new file's, or an empty text. `more` are files that come with it.
   whyNot(name, more) {
-    return nameFault(name) || ([...this.disk.entries, ...more].some((it) => same(it.name, name)) ? "There is a file of this name already." : "");
+    if (!name) return "This has a character that is on no key of a C64.";
+    if (!name.length) return "A file needs a name.";
+    if (name.length > NAME) return "A name has at most 16 characters.";
+    return [...this.disk.entries, ...more].some((it) => same(it.name, name)) ? "There is a file of this name already." : "";
   },
 
   // A name for a file of this disk, or null: it is asked for until it can be one.
   async askName(title, value, yes, more = [], why = "") {
     for (;;) {
-      const got = await ask({ title, why, fields: [{ label: "Name on the disk", value }], yes });
+      const got = await ask(title, yes, [["Name on the disk", value]], why);
       if (!got) return null;
       [value] = got;
       const name = codes(value, this.page.set);
@@ -29,18 +31,14 @@ export const fileActions = {
     }
   },
 
-  // --- in and out
-
   async put(files) {
     const out = [];
     for (const it of files) out.push(...(await this.asFile(it, out)));
     this.putIn(out, "put in");
   },
 
-  // What a file of this computer becomes; nothing if no name for it is given.
   async asFile(file, others) {
-    if (file.size > MOST) throw new Sentence(`${file.name} has more bytes than a disk.`);
-    const { name: its, ...it } = unwrapped(file.name, new Uint8Array(await file.arrayBuffer()));
+    const { name: its, ...it } = unwrapped(file.name, await this.bytesOf(file));
     const wanted = its ? this.name(its) : stem(file.name), name = its ?? codes(wanted, this.page.set);
     const why = this.whyNot(name, others);
     const given = why ? await this.askName(`${file.name} needs another name`, wanted.slice(0, NAME), "Put in", others, why) : name;
@@ -79,35 +77,30 @@ export const fileActions = {
     const [first, ...more] = hostFiles(files);
     if (more.length) download(`${stem(this.disk.name)}.zip`, zip([first, ...more]));
     else if (first) download(first.name, first.data);
-    const what = first ? `${count(files.length, "file")} taken out, to your downloads.` : "No file was taken out.";
-    this.page.say([what, ...left].join(" "), left.length > 0);
+    this.page.say([`${count(files.length, "file")} taken out, to your downloads.`, ...left].join(" "), left.length > 0);
   },
 
   across() {
     const { disk } = this.other, { files, left } = this.readAll(this.chosen());
-    if (left.length) throw new Sentence(left.join(" "));
-    const taken = files.find((it) => disk.has(it.name));
-    if (taken) throw new Sentence(`${disk.name} has a file ${this.name(taken.name)} already: rename one of them first.`);
+    if (left.length) refuse(left.join(" "));
     this.other.putIn(files, `copied to ${disk.name}`);
   },
 
-  // --- changes
-
-  // Asks for the new name of the one file that is selected, and makes a change with it.
-  async named(title, change, done) {
+  // Asks for the new name of the one file that is selected, and makes a change of the disk with it.
+  async named(what, title, done) {
     const [{ slot, name }] = this.chosen();
     const got = await this.askName(title, this.name(name), title);
     if (!got) return;
-    change(slot, got);
+    this.disk[what](slot, got);
     this.done(`${done}: ${this.name(got)}.`);
   },
 
   rename() {
-    return this.named("Rename", (slot, name) => this.disk.rename(slot, name), "Renamed");
+    return this.named("rename", "Rename", "Renamed");
   },
 
   duplicate() {
-    return this.named("Copy", (slot, name) => this.disk.copy(slot, name), "Copied");
+    return this.named("copy", "Copy", "Copied");
   },
 
   lock() {
@@ -125,15 +118,12 @@ export const fileActions = {
 
   async undelete() {
     const options = this.disk.deleted.map((it) => [it.slot, `${this.name(it.name)}, ${count(it.blocks, "block")}`]);
-    const fields = [{ label: "File", options }, { label: "Type, which was lost", options: GIVEN_BACK }];
-    const got = await ask({ title: "Undelete", fields, yes: "Undelete" });
+    const got = await ask("Undelete a file", "Undelete", [["File", options], ["Type, which was lost", GIVEN_BACK]]);
     if (!got) return;
     const [slot, kind] = got.map(Number);
     this.disk.undelete(slot, kind);
     this.done(`Undeleted: ${this.name(this.disk.entry(slot).name)}.`);
   },
-
-  // --- the terminal
 
   send(input) {
     const log = this.find(".terminal pre"), line = input.value;

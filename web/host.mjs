@@ -1,10 +1,10 @@
-// A computer at the lines of a drive, which keeps the timing of this project's bus profile (docs/bus.md): what is typed in the
-// terminal goes over the lines bit by bit, and the drive answers as on a cable. Times are in microseconds.
+// A computer at the lines of a drive, which keeps the timing of the bus profile (docs/bus.md). Times are in microseconds.
 
 const LISTEN = 0x28, UNLISTEN = 0x3f, TALK = 0x48, UNTALK = 0x5f; // of device 8
 const CHANNEL = 0x60; // the secondary address for its bytes
 const PAUSE = 100, SETTLE = 30, PULSE = 60, LAST = 200; // LAST: a talker that begins no bit for so long has a last byte
 const PATIENCE = 10000;
+const BITS = [0, 1, 2, 3, 4, 5, 6, 7];
 
 export class Host {
   #now = 0;
@@ -30,29 +30,26 @@ export class Host {
   }
 
   // Waits until the drive holds a line, or doesn't. Answers whether it came to that.
-  #until(line, isLow, most = PATIENCE) {
+  #until(line, isLow, most) {
     const end = this.#now + most;
     while (this.#its[line] !== isLow) {
       const it = this.drive.due(end);
-      if (!it) {
-        this.#now = end;
-        return false;
-      }
+      this.#now = it?.moment ?? end;
+      if (!it) return false;
       this.#its = it;
-      this.#now = it.moment;
     }
     return true;
   }
 
   #must(line, isLow) {
-    if (!this.#until(line, isLow)) this.isStuck = true;
+    this.isStuck ||= !this.#until(line, isLow, PATIENCE);
   }
 
   #send(value, isLast = false) {
     this.#set(PAUSE, { clock: false });
     this.#must("data", false);
-    if (isLast) this.#must("data", true), this.#must("data", false);
-    for (let i = 0; i < 8; i++) {
+    if (isLast) for (const isLow of [true, false]) this.#must("data", isLow);
+    for (const i of BITS) {
       this.#set(SETTLE, { clock: true, data: !((value >> i) & 1) });
       this.#set(SETTLE, { clock: false });
     }
@@ -60,21 +57,20 @@ export class Host {
     this.#must("data", true);
   }
 
-  // Bytes in attention. It lasts until ATN is freed.
+  // Bytes in attention, which lasts until ATN is freed.
   #call(...values) {
     this.#set(PAUSE, { atn: true, clock: true, data: false });
     this.#must("data", true);
     for (const it of values) if (!this.isStuck) this.#send(it);
   }
 
-  // Ends what was talked or heard, with nobody left in a role.
   #end(value) {
     this.#call(value);
     this.#set(SETTLE, { atn: false, clock: false });
   }
 
   // Sends bytes after LISTEN and a secondary address.
-  tell(secondary, data = []) {
+  tell(secondary, data) {
     this.#call(LISTEN, secondary);
     this.#set(SETTLE, { atn: false });
     this.#pass(PAUSE);
@@ -84,7 +80,7 @@ export class Host {
   }
 
   // Takes bytes from a channel up to its end, or up to so many; null if it has none.
-  hear(channel, most = 70000) {
+  hear(channel, most = 254) {
     this.#call(TALK, CHANNEL | channel);
     this.#set(SETTLE, { data: true });
     this.#set(0, { atn: false });
@@ -93,7 +89,7 @@ export class Host {
     if (this.#until("clock", true, PAUSE)) while (!this.isStuck && out.length < most && this.#take(out));
     else this.#set(SETTLE, { data: false });
     this.#end(UNTALK);
-    return out.length && !this.isStuck ? Uint8Array.from(out) : null;
+    return out.length && !this.isStuck ? out : null;
   }
 
   // Takes a byte. Answers whether another one follows.
@@ -106,14 +102,14 @@ export class Host {
       this.#set(PULSE, { data: false });
       this.#must("clock", true);
     }
-    let value = 0;
-    for (let i = 0; i < 8; i++) {
+    const bits = BITS.map((i) => {
       this.#must("clock", false);
-      value |= Number(!this.#its.data) << i;
+      const bit = this.#its.data ? 0 : 1 << i;
       this.#must("clock", true);
-    }
+      return bit;
+    });
     this.#set(SETTLE, { data: true });
-    out.push(value);
+    out.push(bits.reduce((sum, it) => sum | it));
     return !isLast;
   }
 }

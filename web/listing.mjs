@@ -21,15 +21,12 @@ function looks(codes, set, isReversed = false) {
   return out;
 }
 
-const spaces = (count) => " ".repeat(Math.max(0, count));
-
-// The codes of a file's line, as LOAD"$" has them after the number of blocks.
+// The codes of a file's line, as LIST shows them.
 function lineOf({ name, kind, blocks, closed, locked }) {
   const type = (KINDS[kind] ?? "???").toUpperCase();
-  return join(spaces(4 - String(blocks).length), '"', name, '"', spaces(NAME - name.length), closed ? " " : "*", type, locked ? "<" : "");
+  return join(String(blocks).padEnd(5), '"', name, '"', " ".repeat(NAME - name.length), closed ? " " : "*", type, locked ? "<" : "");
 }
 
-// What a screen reader says of a file.
 function label({ name, kind, blocks, locked, closed }, set) {
   return `${text(name, set)}, ${KINDS[kind] ?? "unknown type"}, ${count(blocks, "block")}${locked ? ", locked" : ""}${closed ? "" : ", never closed"}`;
 }
@@ -53,7 +50,7 @@ export class Listing {
     this.#slots = entries.map((it) => it.slot);
     const header = title.title ? join('"', title.title, '" ', title.mark) : join("UNREADABLE");
     this.head.replaceChildren("0 ", looks(header, set, true));
-    this.foot.replaceChildren(`${title.free ?? "?"} `, looks(join("BLOCKS FREE."), set));
+    this.foot.replaceChildren(looks(join(`${title.free ?? "?"} BLOCKS FREE.`), set));
     this.list.replaceChildren(...entries.map((it) => this.#row(it, set)));
     this.#at = Math.min(this.#at, Math.max(0, this.#slots.length - 1));
     this.#select(this.#slots.filter((it) => this.selected.has(it)));
@@ -62,7 +59,7 @@ export class Listing {
   #row(entry, set) {
     const row = Object.assign(document.createElement("li"), { id: `${this.name[0]}${entry.slot}`, role: "option", draggable: true });
     row.ariaLabel = label(entry, set);
-    row.append(`${entry.blocks} `, looks(lineOf(entry), set));
+    row.append(looks(lineOf(entry), set));
     return row;
   }
 
@@ -72,11 +69,11 @@ export class Listing {
 
   #select(slots) {
     this.selected = new Set(slots);
-    [...this.list.children].forEach((row, i) => {
+    const rows = [...this.list.children], at = rows[this.#at];
+    rows.forEach((row, i) => {
       row.ariaSelected = String(this.selected.has(this.#slots[i]));
-      row.classList.toggle("at", i === this.#at);
+      row.classList.toggle("at", row === at);
     });
-    const at = this.list.children[this.#at];
     this.list.setAttribute("aria-activedescendant", at?.id ?? "");
     if (document.activeElement === this.list) at?.scrollIntoView({ block: "nearest" });
     this.changed();
@@ -86,7 +83,7 @@ export class Listing {
     this.#move(this.#slots.indexOf(slot));
   }
 
-  // A file that is dragged is selected; those that are selected with it go along.
+  // Selects what is dragged, unless it goes along with others that are selected.
   drag(row) {
     const place = this.#placeOf(row);
     if (!this.selected.has(this.#slots[place])) this.#move(place);

@@ -16,12 +16,11 @@ function square({ track, sector, slot, state }, selected, nameOf) {
   out.classList.toggle("chosen", isFile && selected.has(slot));
   if (isGood) out.style.fill = `hsl(${(slot * 137) % 360} 65% 55%)`; // neighbours in the directory get colours far apart
   if (isFile) out.dataset.slot = slot;
-  const words = [isFile && nameOf(slot), !isGood && state];
-  out.append(element("title", {}, `${track}/${sector} ${words.filter(Boolean).join(": ")}`));
+  out.append(element("title", {}, `${track}/${sector} ${isFile ? nameOf(slot) : state}`));
   return out;
 }
 
-// How many blocks are in each state, and where the selected files' are, for those who don't see the picture.
+// The same in words.
 function words(blocks, selected, nameOf) {
   const counts = Object.keys(CLASSES).map((state) => [blocks.filter((it) => it.state === state).length, state]);
   const placesOf = (slot) => blocks.filter((it) => it.slot === slot).map((it) => `${it.track}/${it.sector}`);

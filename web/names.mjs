@@ -1,30 +1,25 @@
-// Names of files on this computer: what a dropped file becomes on a disk, and what a file of a disk is called here. The
-// rules are those of disk1541.
+// What a file of this computer becomes on a disk, and the other way, by disk1541's rules.
 import { join, text } from "./petscii.mjs";
 
-// The types of files, in the order of their numbers.
+// The types of files by their numbers.
 export const KINDS = ["del", "seq", "prg", "usr", "rel"];
 export const PRG = 2, REL = 4;
 
-// The head that the emulator PC64 gives a file: a mark, the name, a zero, the length of records.
-const MARK = "C64File\0", NAME = 16, HEAD = 26;
-const WRAPPED = /^[psur]\d\d$/; // the endings of such files
 const UNSAFE = '/%\\:*?"<>|'; // what a name can't have on some computer
+const MARK = "C64File\0", NAME = 16; // the emulator PC64's head: a mark, the name, a zero, the length of records
 
 const parts = (name) => /^(.+)\.([^.]*)$/s.exec(name) ?? ["", name, ""];
 export const stem = (name) => parts(name)[1];
 
-// What a file becomes on a disk: { kind, data }, and `name` if its head says it. The ending says the type.
+// What a file becomes on a disk: { kind, data }, and the name of a head before it. The ending says the type.
 export function unwrapped(file, data) {
-  const ending = parts(file)[2].toLowerCase(), isNamed = WRAPPED.test(ending);
-  const kind = KINDS.findIndex((it) => it === ending || (isNamed && it[0] === ending[0]));
-  const its = { kind: kind > 0 ? kind : PRG, data };
-  if (!isNamed || data.length < HEAD || !join(MARK).every((it, i) => it === data[i])) return its;
-  const name = data.subarray(MARK.length, MARK.length + NAME), end = name.indexOf(0);
-  return { ...its, data: data.subarray(HEAD), name: end < 0 ? name : name.subarray(0, end) };
+  const ending = parts(file)[2].toLowerCase(), isPc64 = /^[psur]\d\d$/.test(ending);
+  const kind = KINDS.findIndex((it) => it === ending || (isPc64 && it[0] === ending[0]));
+  const its = { kind: kind > 0 ? kind : PRG, data }, [, name] = isPc64 ? (/^C64File\0([^\0]*)/s.exec(String.fromCharCode(...data.subarray(0, 24))) ?? []) : [];
+  return name === undefined ? its : { ...its, name: join(name), data: data.subarray(26) };
 }
 
-// A relative file's records under such a head; what follows the last whole one in its block is left out.
+// A relative file's records after such a head; what follows the last whole one in its block is left out.
 const wrapped = ({ name, recordLength, data }) =>
   join(MARK, name, "\0".repeat(NAME + 1 - name.length), [recordLength], data.subarray(0, data.length - (data.length % recordLength || 0)));
 

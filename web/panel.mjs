@@ -1,5 +1,4 @@
-// One of the two disks as it is shown: its buttons, keys, and what is dropped on it. What they do is in disk_actions.mjs and
-// file_actions.mjs.
+// One of the two disks as it is shown: its buttons, keys, and what is dropped on it.
 import { diskActions } from "./disk_actions.mjs";
 import { fileActions } from "./file_actions.mjs";
 import { Listing } from "./listing.mjs";
@@ -24,9 +23,7 @@ export class Panel {
   place = null; // where the disk can be saved in place
 
   constructor(page, label) {
-    this.page = page;
-    this.label = label;
-    this.root = document.querySelector("template").content.firstElementChild.cloneNode(true);
+    Object.assign(this, { page, label, root: document.querySelector("template").content.firstElementChild.cloneNode(true) });
     this.root.ariaLabel = label;
     document.querySelector("main").append(this.root);
     this.find = (what) => this.root.querySelector(what);
@@ -38,8 +35,6 @@ export class Panel {
   name(codes) {
     return text(codes, this.page.set);
   }
-
-  // --- what is pressed
 
   #listen() {
     const on = (what, event, does) => this.find(what).addEventListener(event, does);
@@ -72,7 +67,7 @@ export class Panel {
     input.value = "";
   }
 
-  // Where the browser gives a handle of an opened file, the disk can be saved in place.
+  // A browser that gives handles of files can save in place.
   #pick(e) {
     if (!window.showOpenFilePicker) return;
     e.preventDefault();
@@ -81,8 +76,6 @@ export class Panel {
       if (handle) await this.open([await handle.getFile()], handle);
     });
   }
-
-  // --- what is dropped and dragged
 
   #takeDrops() {
     const on = (event, isOver, does) =>
@@ -109,8 +102,6 @@ export class Panel {
     return this.open(files, data.items[0]?.getAsFileSystemHandle?.().catch(() => null));
   }
 
-  // --- what is shown
-
   show() {
     const { disk } = this;
     this.find("h2 span").textContent = disk?.name ?? this.label;
@@ -119,7 +110,7 @@ export class Panel {
     if (disk) {
       this.listing.show(disk, this.page.set);
       this.#showVerdict();
-      this.find("[data-do=convert]").textContent = disk.isG64 ? "Make it a D64" : "Make it a G64";
+      this.find("[data-do=convert]").textContent = `Make it a ${disk.isG64 ? "D64" : "G64"}`;
     }
     this.#showSelected();
     this.other.#showNeeds();
@@ -153,7 +144,6 @@ export class Panel {
     this.#showMap();
   }
 
-  // Whether all selected files are locked.
   get areLocked() {
     const slots = [...this.listing.selected];
     return slots.length > 0 && slots.every((it) => this.disk.entry(it).locked);
@@ -164,7 +154,6 @@ export class Panel {
     this.find(".map div").replaceChildren(...picture(this.disk.blocks, this.listing.selected, (slot) => this.name(this.disk.entry(slot).name)));
   }
 
-  // Shows the disk after something was done to it, and says what.
   done(what) {
     this.show();
     this.page.say(what);

@@ -1,5 +1,4 @@
-// The characters of a C64: what a code looks like, and names as text that can be typed. The tables and the numbers in
-// braces are those of disk1541 (Unicode, "Symbols for Legacy Computing"), so that a name is the same text in both.
+// The characters of a C64, and names as text that can be typed, by disk1541's tables (Unicode, "Symbols for Legacy Computing").
 
 const NONE = Array(32).fill(null);
 const DIGITS = " !\"#$%&'()*+,-./0123456789:;<=>?";
@@ -43,6 +42,5 @@ const codesOf = (part) => (typeof part === "string" ? Array.from(part, (it) => i
 // Codes, and texts in ASCII's codes, one after another.
 export const join = (...parts) => Uint8Array.from(parts.flatMap(codesOf));
 
-// Codes without the shifted spaces at their end, and with them.
+// Codes without the shifted spaces at their end.
 export const unpadded = (its) => its.slice(0, its.findLastIndex((it) => it !== PAD) + 1);
-export const padded = (its, size) => Uint8Array.from({ length: size }, (_, i) => its[i] ?? PAD);

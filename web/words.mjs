@@ -1,21 +1,13 @@
 // What the library's numbers say, as sentences for people.
 
-// The refusals of the library, and the drive's status.
 const WORDS = {
   "-1": "The browser gave no memory for it.",
-  "-2": "That isn't possible.",
-  "-4": "There is no such thing on the disk.",
+  "-5": "This is no image of a 1541's disk: no G64, and no D64 of 35 or 40 tracks. Perhaps it was cut off, or has to be unpacked first.",
   "-6": "The disk isn't sound, so nothing was changed. Its flaws are listed under its files: Validate mends those of the BAM.",
   26: "The disk or the file is protected.",
-  30: "The drive doesn't understand this.",
-  31: "The drive knows no such command.",
-  32: "The text is too long for the drive.",
-  33: "A name can't have ? or * in it here.",
-  34: "A name is missing.",
   60: "The file was never closed: Validate removes it.",
   62: "There is no such file on the disk.",
   63: "There is a file of this name already: take another name.",
-  64: "The file is of another type.",
   66: "A chain of blocks leads to a place that the disk doesn't have.",
   71: "The directory, or a chain of blocks, has no end.",
   72: "The disk is full: take files out, or use another disk.",
@@ -34,15 +26,18 @@ const FLAWS = [
   "the block is in use, but can't be read",
 ];
 
-// A sentence of the page's own, thrown to be said.
+// Throws a sentence of the page's own, to be said.
 export class Sentence extends Error {}
+export function refuse(why) {
+  throw new Sentence(why);
+}
 
 export function sentence(error) {
   if (error instanceof Sentence) return error.message;
   const { number } = error;
   if (number === undefined) return `Something in this page went wrong: ${error.message}`;
-  const words = WORDS[number] ?? (number < 30 ? "A sector can't be read." : "The drive refused it.");
-  return number >= 20 ? `${words} (status ${number})` : words;
+  if (number < 0) return WORDS[number] ?? "That isn't possible.";
+  return `${WORDS[number] ?? (number < 30 ? "A sector can't be read." : "The drive refused it.")} (status ${number})`;
 }
 
 export const flaw = ({ what, track, sector }) => `track ${track}, sector ${sector}: ${FLAWS[what] ?? FLAWS[0]}`;

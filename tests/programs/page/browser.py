@@ -108,7 +108,9 @@ class Browser:
         element.click()
 
     def characters(self, charset):
-        self.press(self.all(f"[value={charset}]")[0])
+        box = self.all("#small")[0]
+        if box.is_selected() != (charset == "lower"):
+            self.press(box)
 
     def forget(self):
         """Empties what is said, so that the same sentence can be waited for again."""

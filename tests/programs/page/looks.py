@@ -84,7 +84,7 @@ def pictures(browser, left, right, file, g64):
 
 def keyboard(browser, left):
     """Tab goes through all of a disk; what can't be done now says why, and keeps the focus."""
-    browser.run("document.querySelector('[name=set]:checked').focus()")
+    browser.run("document.getElementById('small').focus()")
     stops = []
     for _ in range(21):
         ActionChains(browser.driver).send_keys(Keys.TAB).perform()

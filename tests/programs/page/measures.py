@@ -54,7 +54,7 @@ def make_new(browser, side, form, name, *more):
 
 def new_disks(browser, side):
     for form, ending, more in FORMS:
-        file = make_new(browser, side, form, f"my-disk.{ending}", *more)
+        file = make_new(browser, side, form, f"new.{ending}", *more)
         got = browser.fetched(lambda: side.do("save"))
         browser.expect(got == (file.name, file.read_bytes()), f"a new disk: {form}")
 

@@ -16,23 +16,19 @@ def changed(image, *places):
 
 
 def foreign(browser, side, d64, g64):
-    """Each is refused in disk1541's words, and the disk that was there stays."""
+    """What disk1541 refuses as no image gets a sentence, and the disk that was there stays."""
     side.open(d64)
-    gzip, tape = b"\x1f\x8b" + bytes(5000), b"C64 tape image file" + bytes(2000)
-    odd = {"bad.d64": bytes(100), "empty.d64": b"", "packed.d64": gzip, "tape.t64": tape, "pulses.p64": b"P64-1541" + bytes(90), "bytes.nib": b"MNIB-1541-RAW" + bytes(90)}
-    odd |= {f"{size}.d64": bytes(size) for size in (205312, 197376, 349696, 819200, 300000)}
+    odd = {"bad.d64": bytes(100), "empty.d64": b"", "packed.d64": b"\x1f\x8b" + bytes(5000), "tape.t64": b"C64 tape image file" + bytes(2000)}
+    odd |= {"bytes.nib": b"MNIB-1541-RAW" + bytes(90), "cut.g64": g64.read_bytes()[:5000]}
+    odd |= {f"{size}.d64": bytes(size) for size in (205312, 197376, 349696, 819200)}
     for name, data in odd.items():
         (browser.room / name).write_bytes(data)
-        said = subprocess.run([browser.disk1541, "info", name], cwd=browser.room, capture_output=True, text=True).stderr
-        wanted = said.split(" is ", 1)[1].rsplit(" (", 1)[0]
-        browser.forget()
-        side.drop((name, data)) if name.endswith(".d64") else side.give("open", browser.room / name)
+        status = subprocess.run([browser.disk1541, "info", name], cwd=browser.room, capture_output=True).returncode
+        side.drop((name, data)) if name[-2:] == "64" and name[-3] != "t" else side.give("open", browser.room / name)
         browser.until(lambda: browser.said().startswith(f"{name}: "), f"a sentence on {name}")
-        browser.expect(browser.said() == f"{name}: It is {wanted}." and side.names() == ["HELLO"], f"{name}: {browser.said()}")
-    for name, data in ("cut.g64", g64.read_bytes()[:5000]), ("large.d64", bytes(900000)):
-        side.drop((name, data))
-        browser.until(lambda: browser.said().startswith(f"{name}: "), f"a sentence on {name}")
-        browser.expect(("can't be used" in browser.said() or "larger than any image" in browser.said()) and side.names() == ["HELLO"], browser.said())
+        browser.expect(status == 2 and "no image of a 1541's disk" in browser.said() and side.names() == ["HELLO"], browser.said())
+    side.drop(("large.d64", bytes(900000)))
+    browser.says("large.d64 is larger than any disk.")
 
 
 def flaws(browser, side, d64):
@@ -136,21 +132,18 @@ def refused_names(browser, side, d64):
     side.do("undo")
 
 
-def other_systems(browser, side, d64):
-    """GEOS's blocks aren't freed, and no second map of tracks 36 to 40 is made."""
-    side.drop(("geos.d64", changed(d64.read_bytes(), (DIRECTORY + 21, b"\x01\x00\x00\x07"))))
+def geos(browser, side, d64):
+    """The drive's VALIDATE would free the blocks of GEOS's files, so it isn't done; COPY would copy a part of one."""
+    image = changed(d64.read_bytes(), (DIRECTORY + 21, b"\x01\x00\x00\x07"))
+    side.drop(("geos.d64", image))
     browser.says("geos.d64 is open.")
     side.do("validate")
     browser.until(lambda: "files of GEOS" in browser.said(), "GEOS")
-    wide = browser.room / "wide.d64"
-    browser.kit("new", wide, "--title", "WIDE", "--id", "64", "--tracks", "40")
-    image = wide.read_bytes()
-    dolphin = changed(image, (LABEL + 0xAC, b"\x11\xff\xff\x01" * 5))
-    side.drop(("dolphin.d64", dolphin))
-    browser.says("dolphin.d64 is open.")
-    side.drop(("one.prg", [1, 8, 42]))
-    browser.until(lambda: "Dolphin DOS" in browser.said(), "Dolphin DOS")
-    browser.expect(side.saved() == dolphin, "a disk with a map of Dolphin DOS isn't changed")
+    side.select("HELLO")
+    side.do("duplicate")
+    browser.answer("second")
+    browser.until(lambda: "A file of GEOS" in browser.said(), "GEOS")
+    browser.expect(side.saved() == image, "what would harm files of GEOS isn't done")
 
 
 def play(browser, left, right, d64, g64):
@@ -162,6 +155,6 @@ def play(browser, left, right, d64, g64):
         lambda: all_codes(browser, left, d64),
         lambda: odd_names(browser, left, right, d64),
         lambda: refused_names(browser, left, d64),
-        lambda: other_systems(browser, left, d64),
+        lambda: geos(browser, left, d64),
     ):
         it()

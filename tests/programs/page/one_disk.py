@@ -40,7 +40,7 @@ def host_files(room):
         "plain.p01": b"no head of PC64 here, and longer than one",
         "a name that is much too long.prg": bytes([1, 8, 9]),
         "large.prg": bytes(185000),
-        "huge.prg": bytes(250000),
+        "huge.prg": bytes(900000),
     }
     for name, data in made.items():
         (room / name).write_bytes(data)
@@ -79,7 +79,7 @@ def asked_for_names(disk):
     side.give("put", browser.room / "large.prg")
     browser.until(lambda: browser.said().startswith("The disk is full"), "a full disk")
     side.give("put", browser.room / "huge.prg")
-    browser.says("huge.prg has more bytes than a disk.")
+    browser.says("huge.prg is larger than any disk.")
     disk.same("a file that is too large changes nothing")
 
 

@@ -25,7 +25,7 @@ def across(browser, left, right, d64, g64):
     left.until_names("HELLO", "WORLD")
     browser.expect(left.saved() == copied.read_bytes(), "a file dragged to the other disk")
     right.do("across")
-    browser.until(lambda: "has a file WORLD already" in browser.said(), "a name that is taken")
+    browser.until(lambda: "There is a file of this name already" in browser.said(), "a name that is taken")
     browser.expect(left.saved() == copied.read_bytes(), "a name that the other disk has changes nothing")
     return copied
 
