@@ -4,7 +4,6 @@ import { PAD, join } from "./petscii.mjs";
 import { refuse } from "./words.mjs";
 
 const DEEP = 50; // images that are kept: at most some 15 MB
-const ABSENT = -4;
 const DIVIDES = join(',=:"?*'); // what the drive's OPEN can't say in a name
 const LETTERS = { 1: "S", 2: "P", 3: "U" }; // of the types that OPEN can write
 // What a directory can be sorted by; among the same the names count.
@@ -17,13 +16,13 @@ export const same = (a, b) => a.length === b.length && a.every((it, i) => it ===
 const nameOf = (codes) => (codes.includes(PAD) ? codes.slice(0, codes.indexOf(PAD)) : codes);
 const isEmpty = (it) => !it.kind && !it.closed && !it.locked;
 
-// What a call gives, or else what `instead` gives if the library refuses it with such a number.
-function unless(isSuch, instead, call) {
+// Title, id and free blocks; nothing if their sector can't be read.
+function labelOf(library, bytes) {
   try {
-    return call();
+    return library.title(bytes);
   } catch (e) {
-    if (!isSuch(e.number)) throw e;
-    return instead();
+    if (!(e.number >= 20)) throw e;
+    return {};
   }
 }
 
@@ -38,7 +37,7 @@ export class Disk {
   }
 
   #take(image) {
-    Object.assign(this, image);
+    Object.assign(this, image, { geos: null });
     const { library, bytes } = this;
     const { entries, status } = library.entries(bytes);
     this.slots = entries.map((it, slot) => ({ ...it, slot, name: nameOf(it.name) }));
@@ -46,7 +45,7 @@ export class Disk {
     this.deleted = this.slots.filter((it) => isEmpty(it) && it.track && it.name.length);
     this.broken = status; // why the directory can't be followed to its end, or 0
     this.flaws = library.flaws(bytes);
-    this.title = unless((it) => it >= 20, () => ({}), () => library.title(bytes));
+    this.title = labelOf(library, bytes);
   }
 
   get isG64() {
@@ -57,15 +56,13 @@ export class Disk {
     return this.entries.find((it) => it.slot === slot);
   }
 
-  has(name) {
-    return this.entries.some((it) => same(it.name, name));
-  }
-
   get blocks() {
     return mapOf(this.library, this.bytes, this.flaws);
   }
 
   file(slot) {
+    if (!this.entry(slot).closed) refuse("It was never closed: Validate removes it.");
+    if (this.#geos.includes(slot)) refuse("It is a file of GEOS, of which the drive sees only a part.");
     return this.library.read(this.bytes, slot);
   }
 
@@ -115,7 +112,8 @@ export class Disk {
   }
 
   #freeName() {
-    for (let i = 0; ; i++) if (!this.has(join(`NEW ${i}`))) return join(`NEW ${i}`);
+    const names = this.entries.map((it) => String.fromCharCode(...it.name));
+    for (let i = 0; ; i++) if (!names.includes(`NEW ${i}`)) return join(`NEW ${i}`);
   }
 
   rename(slot, name) {
@@ -123,7 +121,6 @@ export class Disk {
   }
 
   copy(slot, name) {
-    if (this.#geos.includes(slot)) refuse("A file of GEOS can't be copied: the drive copies only a part of it.");
     return this.put([{ ...this.entry(slot), name, data: this.file(slot) }]);
   }
 
@@ -137,8 +134,7 @@ export class Disk {
   }
 
   undelete(slot, kind) {
-    const why = () => refuse("It can't be given back: another file has got a block of it, or the disk has lost blocks. Validate frees those.");
-    return this.#each([slot], (bytes, it) => unless((n) => n === ABSENT, why, () => this.library.undelete(bytes, it, kind)));
+    return this.#each([slot], (bytes, it) => this.library.undelete(bytes, it, kind));
   }
 
   retitle(title, mark) {
@@ -156,7 +152,7 @@ export class Disk {
   }
 
   get #geos() {
-    return geosSlots(this.library, this.bytes);
+    return (this.geos ??= geosSlots(this.library, this.bytes));
   }
 
   // What validating would make: the image, and the files that would go.

@@ -1,4 +1,4 @@
-// The directory as a C64 shows it, as a listbox: arrows move, Shift extends, Space adds, Ctrl+A takes all.
+// The directory as a C64 shows it, as a listbox: arrows move, Shift extends, Ctrl and Space add, Ctrl+A takes all.
 import { draw } from "./drawn.mjs";
 import { KINDS } from "./names.mjs";
 import { glyph, join, text } from "./petscii.mjs";
@@ -89,9 +89,11 @@ export class Listing {
     if (!this.selected.has(this.#slots[place])) this.#move(place);
   }
 
-  #move(to, isExtended = false) {
+  // The files from where it began to where it is are selected; with Ctrl it moves alone.
+  #move(to, { shiftKey, ctrlKey } = {}) {
     this.#at = Math.max(0, Math.min(this.#slots.length - 1, to));
-    if (!isExtended) this.#anchor = this.#at;
+    if (ctrlKey) return this.#select(this.selected);
+    if (!shiftKey) this.#anchor = this.#at;
     this.#select(this.#slots.slice(Math.min(this.#anchor, this.#at), Math.max(this.#anchor, this.#at) + 1));
   }
 
@@ -105,14 +107,14 @@ export class Listing {
     const place = this.#placeOf(e.target);
     if (place < 0) return;
     if (e.ctrlKey || e.metaKey) this.#toggle(place);
-    else this.#move(place, e.shiftKey);
+    else this.#move(place, e);
   }
 
   #key(e) {
-    const { key, shiftKey } = e, step = this.selected.size ? 1 : 0; // with nothing selected an arrow selects where it stands
+    const { key } = e, step = this.selected.size ? 1 : 0; // with nothing selected an arrow selects where it stands
     const moves = { ArrowDown: this.#at + step, ArrowUp: this.#at - step, PageDown: this.#at + PAGE, PageUp: this.#at - PAGE, Home: 0, End: Infinity };
     if (!this.#slots.length) return;
-    if (key in moves) this.#move(moves[key], shiftKey);
+    if (key in moves) this.#move(moves[key], e);
     else if (key in ACTIONS) this.act(ACTIONS[key]);
     else if (key === " ") this.#toggle(this.#at);
     else if (key === "a" && (e.ctrlKey || e.metaKey)) this.#select(this.#slots);

@@ -2,10 +2,10 @@
 
 const WORDS = {
   "-1": "The browser gave no memory for it.",
+  "-4": "It can't be given back: another file has got a block of it, or the disk has lost blocks. Validate frees those.",
   "-5": "This is no image of a 1541's disk: no G64, and no D64 of 35 or 40 tracks. Perhaps it was cut off, or has to be unpacked first.",
   "-6": "The disk isn't sound, so nothing was changed. Its flaws are listed under its files: Validate mends those of the BAM.",
   26: "The disk or the file is protected.",
-  60: "The file was never closed: Validate removes it.",
   62: "There is no such file on the disk.",
   63: "There is a file of this name already: take another name.",
   66: "A chain of blocks leads to a place that the disk doesn't have.",

@@ -38,6 +38,7 @@ def site(room, module):
 
 def play(browser, folder):
     """All subjects, one after another; what stops one is said, and the next one begins with the page loaded anew."""
+    import limits
     import looks
     import measures
     import odd_disks
@@ -48,9 +49,10 @@ def play(browser, folder):
     files = one_disk.host_files(browser.room)
     for subject in (
         lambda left, right: one_disk.play(browser, left, d64, files),
-        lambda left, right: one_disk.play(browser, right, g64, files),
+        lambda left, right: browser.by_keyboard(lambda: one_disk.play(browser, right, g64, files)),
         lambda left, right: two_disks.play(browser, left, right, d64, g64),
         lambda left, right: odd_disks.play(browser, left, right, d64, g64),
+        lambda left, right: limits.play(browser, left, right, d64, g64),
         lambda left, right: measures.play(browser, left, d64, folder),
         lambda left, right: looks.play(browser, left, right, g64),
         lambda left, right: looks.one_file(browser, ROOT, folder, d64),

@@ -1,4 +1,5 @@
 """Headless Chromium with the page, served from a folder over 127.0.0.1, and what a person does in it."""
+import base64
 import functools
 import http.server
 import pathlib
@@ -9,6 +10,7 @@ import time
 import traceback
 
 from selenium import webdriver
+from selenium.webdriver.common.action_chains import ActionChains
 from selenium.webdriver.chrome.service import Service
 from selenium.webdriver.common.by import By
 from selenium.webdriver.common.keys import Keys
@@ -39,6 +41,7 @@ class Browser:
         self.room, self.disk1541, self.pictures = room, disk1541, pictures
         self.downloads = self.fresh_folder()
         self.passed = self.failed = 0
+        self.is_keyboard = False  # whether things are done by keyboard alone
         self.server = http.server.ThreadingHTTPServer(("127.0.0.1", 0), functools.partial(Quiet, directory=folder))
         threading.Thread(target=self.server.serve_forever, daemon=True).start()
         self.driver = webdriver.Chrome(service=Service("/usr/bin/chromedriver"), options=options(self.downloads))
@@ -72,6 +75,13 @@ class Browser:
         except Exception:
             self.expect(False, traceback.format_exc())
 
+    def by_keyboard(self, part):
+        self.is_keyboard = True
+        try:
+            part()
+        finally:
+            self.is_keyboard = False
+
     def until(self, ask, what):
         end = time.monotonic() + PATIENCE
         while time.monotonic() < end:
@@ -104,8 +114,11 @@ class Browser:
         return self.driver.execute_async_script(script, *values)
 
     def press(self, element):
-        self.run("arguments[0].scrollIntoView({ block: 'center' })", element)
-        element.click()
+        if self.is_keyboard:
+            element.send_keys(Keys.ENTER)
+        else:
+            self.run("arguments[0].scrollIntoView({ block: 'center' })", element)
+            element.click()
 
     def characters(self, charset):
         box = self.all("#small")[0]
@@ -129,18 +142,26 @@ class Browser:
         dialog = self.dialog()
         text = dialog.text
         for field, value in zip(dialog.find_elements(By.CSS_SELECTOR, "input, select"), values):
-            if field.tag_name == "select":
-                field.find_element(By.XPATH, f"option[contains(., '{value}')]").click()
-            else:
-                field.send_keys(Keys.CONTROL, "a")
-                field.send_keys(value or Keys.DELETE)
-        dialog.find_element(By.CSS_SELECTOR, "button.first").click()
+            self.fill(field, value)
+        self.press(dialog.find_element(By.CSS_SELECTOR, "button.first"))
         self.until(lambda: staleness_of(dialog)(self.driver), "the dialog closes")
         return text
 
+    def fill(self, field, value):
+        if field.tag_name == "input":
+            field.send_keys(Keys.CONTROL, "a")
+            field.send_keys(value or Keys.DELETE)
+        elif self.is_keyboard:
+            field.send_keys(value)
+        else:
+            field.find_element(By.XPATH, f"option[contains(., '{value}')]").click()
+
     def cancel(self):
         dialog = self.dialog()
-        dialog.find_element(By.CSS_SELECTOR, "button[type=button]").click()
+        if self.is_keyboard:
+            ActionChains(self.driver).send_keys(Keys.ESCAPE).perform()
+        else:
+            dialog.find_element(By.CSS_SELECTOR, "button[type=button]").click()
         self.until(lambda: staleness_of(dialog)(self.driver), "the dialog closes")
 
     def fetched(self, do):
@@ -153,11 +174,12 @@ class Browser:
         file.unlink()
         return file.name, data
 
-    def picture(self, name, width, height, is_dark=False):
-        """Keeps a picture, if a folder is named, and sees that nothing is wider than the window."""
+    def picture(self, name, width, height, is_dark=False, at=None):
+        """Keeps a picture, if a folder is named, from the top or from an element on, and sees that nothing is wider than the window."""
         colours = [{"name": "prefers-color-scheme", "value": "dark" if is_dark else "light"}]
         self.driver.execute_cdp_cmd("Emulation.setEmulatedMedia", {"features": colours})
         self.driver.execute_cdp_cmd("Emulation.setDeviceMetricsOverride", {"width": width, "height": height, "deviceScaleFactor": 1, "mobile": False})
+        self.run("arguments[0] ? arguments[0].scrollIntoView() : scrollTo(0, 0)", at)
         time.sleep(0.2)
         if self.pictures:
             self.driver.save_screenshot(str(self.pictures / f"{name}.png"))
@@ -200,17 +222,23 @@ class Side:
 
     def drop(self, *files):
         """Drops files, each (name, bytes)."""
-        import base64
-
         self.browser.run(DROP, self.root, [[name, base64.b64encode(bytes(data)).decode()] for name, data in files])
 
     def select(self, *names):
-        from selenium.webdriver.common.action_chains import ActionChains
+        places = [self.names().index(it) for it in names]
+        if self.browser.is_keyboard:
+            return self.select_by_keys(places)
+        rows = self.rows()
+        self.browser.press(rows[places[0]])
+        for it in places[1:]:
+            ActionChains(self.browser.driver).key_down(Keys.CONTROL).click(rows[it]).key_up(Keys.CONTROL).perform()
 
-        rows = [self.rows()[self.names().index(it)] for it in names]
-        self.browser.press(rows[0])
-        for row in rows[1:]:
-            ActionChains(self.browser.driver).key_down(Keys.CONTROL).click(row).key_up(Keys.CONTROL).perform()
+    def select_by_keys(self, places):
+        self.key(Keys.HOME)
+        self.key(*[Keys.DOWN] * places[0])
+        for before, it in zip(places, places[1:]):
+            self.key(Keys.CONTROL, *[Keys.DOWN if it > before else Keys.UP] * abs(it - before))
+            self.key(Keys.SPACE)
 
     def key(self, *keys):
         self.find("[role=listbox]").send_keys(*keys)

@@ -142,7 +142,7 @@ def geos(browser, side, d64):
     side.select("HELLO")
     side.do("duplicate")
     browser.answer("second")
-    browser.until(lambda: "A file of GEOS" in browser.said(), "GEOS")
+    browser.until(lambda: "a file of GEOS" in browser.said(), "GEOS")
     browser.expect(side.saved() == image, "what would harm files of GEOS isn't done")
 
 

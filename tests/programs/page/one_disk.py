@@ -12,7 +12,7 @@ class OneDisk:
         self.browser, self.side = browser, side
         self.like = browser.room / file.name
         self.like.write_bytes(file.read_bytes())
-        self.ending = file.suffix[1:]
+        self.ending = f"{file.suffix[1:]}, by {'keyboard' if browser.is_keyboard else 'mouse'}"
         side.open(file)
 
     def kit(self, command, *words):
@@ -194,7 +194,7 @@ def by_terminal(disk):
 
 def converted(disk):
     side, browser = disk.side, disk.browser
-    other = disk.like.with_suffix(".g64" if disk.ending == "d64" else ".d64")
+    other = disk.like.with_suffix(".g64" if disk.like.suffix == ".d64" else ".d64")
     browser.kit("convert", "--replace", disk.like, other)
     side.do("convert")
     browser.until(lambda: "nothing was lost" in browser.said(), "it was converted")
