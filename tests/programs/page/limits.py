@@ -1,5 +1,7 @@
 """What can't be done, or would be lost: a sentence says so, and nothing is changed unasked."""
+import io
 import subprocess
+import zipfile
 
 from odd_disks import DIRECTORY, changed
 from selenium.webdriver.common.keys import Keys
@@ -48,7 +50,7 @@ def losses(browser, side, g64):
     file.write_bytes(image)
     side.open(file)
     side.do("convert")
-    browser.expect("sector that can't be read" in browser.dialog().text or "sectors that can't be read" in browser.dialog().text, browser.dialog().text)
+    browser.expect("sector that can't be read" in browser.dialog().text or "sectors that can't be read" in browser.dialog().text, browser.dialog().text.replace("\n", " "))
     browser.cancel()
     browser.expect(side.saved() == image, "a conversion that isn't wanted isn't made")
     side.do("convert")
@@ -81,18 +83,54 @@ def wide(browser, side):
 
 
 def overwritten(browser, side, d64):
-    """A deleted file whose blocks another one has got."""
-    file = browser.room / "overwritten.d64"
+    """A deleted file whose blocks another one has got can't be given back."""
+    file, second = browser.room / "overwritten.d64", browser.room / "second.prg"
     file.write_bytes(d64.read_bytes())
-    (browser.room / "second.prg").write_bytes(b"\1\x08" + bytes(9000))
+    second.write_bytes(b"\1\x08" + bytes(9000))
+    browser.kit("put", file, second)
     side.open(file)
-    side.key(Keys.HOME, Keys.DELETE)
-    side.give("put", browser.room / "second.prg")
+    browser.expect(side.find("[data-do=undelete]").get_attribute("aria-disabled") == "true", "nothing is deleted, so nothing can be given back")
+    side.key(Keys.CONTROL, "a")
+    side.key(Keys.DELETE)
+    browser.says("Deleted: HELLO, SECOND.")
+    side.give("put", browser.room / "loader.prg")
     browser.says("1 file put in.")
-    browser.expect(side.find("[data-do=undelete]").get_attribute("aria-disabled") == "true", "its slot is taken, so nothing can be undeleted")
-    browser.kit("delete", file, "HELLO")
-    browser.kit("put", file, browser.room / "second.prg")
-    browser.expect(side.saved() == file.read_bytes(), "a file in a deleted one's place")
+    side.do("undelete")
+    browser.answer("SECOND", "prg")
+    browser.until(lambda: browser.said().startswith("It can't be given back"), "it can't be given back")
+    browser.kit("delete", file, "HELLO", "SECOND")
+    browser.kit("put", file, browser.room / "loader.prg")
+    browser.expect(side.saved() == file.read_bytes(), "a deleted file whose blocks are taken isn't given back")
+
+
+def odd_host_names(browser, side, d64):
+    """Names that a computer can't have, or that look alike there, are those of get-all."""
+    file = browser.room / "named.d64"
+    file.write_bytes(d64.read_bytes())
+    for n, name in enumerate(("A/B", ".X", "ABC", "{c1}BC", "{61}BC", "50%", "{01}{a0}")):
+        browser.kit("put", file, browser.room / "loader.prg", "--name", f"N{n}")
+        browser.kit("rename", file, "--exact", f"N{n}", name)
+    side.open(file)
+    _, data = browser.fetched(lambda: side.do("takeOut"))
+    folder = browser.fresh_folder()
+    browser.kit("get-all", file, folder)
+    with zipfile.ZipFile(io.BytesIO(data)) as it:
+        names = sorted(it.namelist())
+    browser.expect(names == sorted(it.name for it in folder.iterdir()), f"names for this computer are those of get-all: {names}")
+
+
+def error_bytes(browser, side, d64):
+    """A D64 with error bytes: a sector that they call bad doesn't read, and a G64 doesn't hold them."""
+    file = browser.room / "errors.d64"
+    at = sum([21] * 16)
+    file.write_bytes(d64.read_bytes() + bytes([1]) * at + b"\5" + bytes([1]) * (682 - at))
+    side.open(file)
+    browser.expect("track 17, sector 0: the block is in use, but can't be read (HELLO)" in side.text(".flaws"), side.text(".flaws"))
+    side.do("takeOut")
+    browser.until(lambda: "HELLO was left out: A sector can't be read." in browser.said(), "a file that doesn't read is left out")
+    side.do("convert")
+    browser.expect("the error bytes" in browser.dialog().text, browser.dialog().text.replace("\n", " "))
+    browser.cancel()
 
 
 def session(browser, d64):
@@ -107,7 +145,8 @@ def session(browser, d64):
 
 
 TRACE = """const [image, done] = arguments;
-Promise.all(["./host.mjs", "./yellowadze1541.mjs", "./petscii.mjs"].map((it) => import(new URL(it, document.baseURI)))).then(async ([{ Host }, { PROFILE, load }, { join }]) => {
+const modules = ["host.mjs", "yellowadze1541.mjs", "petscii.mjs"].map((it) => import(new URL(it, document.baseURI)));
+Promise.all(modules).then(async ([{ Host }, { PROFILE, load }, { join }]) => {
   const library = await load(fetch("yellowadze1541.wasm")), drive = library.open(Uint8Array.from(image), { pace: PROFILE });
   const out = [], held = {}, note = (now, who, line, low) => out.push(`${now} ${who} ${line} ${low ? "pull" : "free"}\\n`);
   const spy = {
@@ -139,4 +178,6 @@ def play(browser, left, right, d64, g64):
     losses(browser, left, g64)
     wide(browser, right)
     overwritten(browser, left, d64)
+    odd_host_names(browser, right, d64)
+    error_bytes(browser, left, d64)
     session(browser, d64)

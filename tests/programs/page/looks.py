@@ -8,6 +8,10 @@ from selenium.webdriver.common.keys import Keys
 
 FILES = (("LOADER", "prg", 500), ("LEVELS 1-8", "seq", 9000), ("{ce}{cd}{ce}{cd} MAP", "prg", 20000), ("HIGH SCORES", "usr", 300), ("MUSIC{12}{c1}", "prg", 12000))
 
+BLOCK = "return [...arguments[0].querySelectorAll('rect')].find((it) => it.textContent.endsWith(' HIGH SCORES'))"
+NAMELESS = """const all = document.querySelectorAll("main button, main input, summary, [role=listbox], [role=log], [role=img], [role=group], section");
+return [...all].filter((it) => !(it.getAttribute("aria-label") ?? it.labels?.[0]?.textContent ?? it.textContent).trim()).map((it) => it.outerHTML);"""
+
 
 def shown_disk(browser):
     """A disk that has something to show: graphics, each type, a lock, a relative file, a lost block."""
@@ -44,7 +48,7 @@ def block_map(browser, side, file):
         got = browser.run("return [...arguments[0].querySelectorAll('rect title')].map((it) => it.textContent)", side.root)
         wrong = set(got) ^ set(wanted)
         browser.expect(len(got) == 683 and not wrong, f"the map of {image.name} is disk1541's {sorted(wrong)[:5]}")
-    block = browser.run("return [...arguments[0].querySelectorAll('rect')].find((it) => it.textContent.endsWith(' HIGH SCORES'))", side.root)
+    block = browser.run(BLOCK, side.root)
     browser.run("arguments[0].dispatchEvent(new MouseEvent('click', { bubbles: true }))", block)
     chosen = side.root.find_elements("css selector", "[aria-selected=true]")
     browser.expect(len(chosen) == 1 and "HIGH SCORES" in chosen[0].text and "HIGH SCORES: " in side.text(".map p"), "a click on a block selects its file, whose blocks are named")
@@ -98,8 +102,7 @@ def spoken(browser, side):
     """What a screen reader is told."""
     labels = [it.get_attribute("aria-label") for it in side.rows()]
     browser.expect(labels[0] == "LOADER, prg, 2 blocks, locked" and labels[1] == "LEVELS 1-8, seq, 36 blocks", f"files have labels: {labels[:2]}")
-    nameless = browser.run("""return [...document.querySelectorAll("main button, main input, main summary, [role=listbox], [role=log], [role=img], [role=group], main > section")]
-        .filter((it) => !(it.ariaLabel ?? it.getAttribute("aria-label") ?? it.labels?.[0]?.textContent ?? it.textContent).trim()).map((it) => it.outerHTML)""")
+    nameless = browser.run(NAMELESS)
     browser.expect(not nameless, f"all that can be used has a name {nameless}")
     side.key(Keys.HOME, Keys.DOWN)
     at = browser.run("return document.getElementById(arguments[0].getAttribute('aria-activedescendant'))?.ariaLabel", side.find("[role=listbox]"))
