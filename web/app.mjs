@@ -23,7 +23,7 @@ const page = {
   },
 };
 
-// The bytes of the module: of the file beside the page, or of the page itself if all is in one file.
+// The module's bytes: a file beside the page, or a part of it if all is in one file.
 async function moduleBytes() {
   const inside = document.getElementById("module");
   if (inside) return Uint8Array.from(atob(inside.textContent), (it) => it.charCodeAt(0));

@@ -8,7 +8,7 @@ const DIRECTORY = 18;
 const MAP = 0xc0; // where the BAM of tracks 36 to 40 stands in 18/0
 const CLOSED = 0x80;
 const UNREADABLE = [5, 9]; // the numbers of such flaws
-// What a block is, by whether it is used and whether the BAM has it as free; the last can't be read.
+// What a block is, by whether it is used, and free in the BAM; the last can't be read.
 const STATES = ["lost", "free", "used", "used, but marked free", "can't be read"];
 
 const sectorsOf = (track) => (track < 18 ? 21 : track < 25 ? 19 : track < 31 ? 18 : 17);

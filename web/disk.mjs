@@ -3,10 +3,10 @@ import { geosSlots, isG64, mapOf } from "./blocks.mjs";
 import { PAD, join } from "./petscii.mjs";
 import { refuse } from "./words.mjs";
 
-const DEEP = 50; // images that are kept: at most some 15 MB
+const DEEP = 50; // images that are kept
 const DIVIDES = join(',=:"?*'); // what the drive's OPEN can't say in a name
 const LETTERS = { 1: "S", 2: "P", 3: "U" }; // of the types that OPEN can write
-// What a directory can be sorted by; among the same the names count.
+// What a directory is sorted by; among the same the names count.
 const KEYS = { name: () => 0, type: (it) => it.kind, size: (it) => it.blocks };
 export const ORDERS = Object.keys(KEYS);
 

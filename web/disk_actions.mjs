@@ -36,7 +36,8 @@ export const diskActions = {
   },
 
   async bytesOf(file) {
-    return file.size > LARGEST ? refuse(`${file.name} is larger than any disk.`) : new Uint8Array(await file.arrayBuffer());
+    if (file.size > LARGEST) refuse(`${file.name} is larger than any disk.`);
+    return new Uint8Array(await file.arrayBuffer().catch(() => refuse(`${file.name} can't be read.`)));
   },
 
   async diskOf(file) {

@@ -86,7 +86,7 @@ export const fileActions = {
     this.other.putIn(files, `copied to ${disk.name}`);
   },
 
-  // Asks for the new name of the one file that is selected, and makes a change of the disk with it.
+  // Asks for a new name of the selected file, and makes a change with it.
   async named(what, title, done) {
     const [{ slot, name }] = this.chosen();
     const got = await this.askName(title, this.name(name), title);

@@ -29,7 +29,7 @@ export class Host {
     this.drive.lines(this.#now, atn, clock, data);
   }
 
-  // Waits until the drive holds a line, or doesn't. Answers whether it came to that.
+  // Waits until the drive holds a line, or doesn't. Answers whether that came.
   #until(line, isLow, most) {
     const end = this.#now + most;
     while (this.#its[line] !== isLow) {

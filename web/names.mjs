@@ -6,7 +6,7 @@ export const KINDS = ["del", "seq", "prg", "usr", "rel"];
 export const PRG = 2, REL = 4;
 
 const UNSAFE = '/%\\:*?"<>|'; // what a name can't have on some computer
-const MARK = "C64File\0", NAME = 16; // the emulator PC64's head: a mark, the name, a zero, the length of records
+const MARK = "C64File\0", NAME = 16, HEAD = 26; // the emulator PC64's head: a mark, the name, a zero, the length of records
 
 const parts = (name) => /^(.+)\.([^.]*)$/s.exec(name) ?? ["", name, ""];
 export const stem = (name) => parts(name)[1];
@@ -15,8 +15,9 @@ export const stem = (name) => parts(name)[1];
 export function unwrapped(file, data) {
   const ending = parts(file)[2].toLowerCase(), isPc64 = /^[psur]\d\d$/.test(ending);
   const kind = KINDS.findIndex((it) => it === ending || (isPc64 && it[0] === ending[0]));
-  const its = { kind: kind > 0 ? kind : PRG, data }, [, name] = isPc64 ? (/^C64File\0([^\0]*)/s.exec(String.fromCharCode(...data.subarray(0, 24))) ?? []) : [];
-  return name === undefined ? its : { ...its, name: join(name), data: data.subarray(26) };
+  const its = { kind: kind > 0 ? kind : PRG, data }, head = String.fromCharCode(...data.subarray(0, HEAD));
+  if (!isPc64 || head.length < HEAD || !head.startsWith(MARK)) return its;
+  return { ...its, name: join(head.slice(MARK.length, -2).split("\0")[0]), data: data.subarray(HEAD) };
 }
 
 // A relative file's records after such a head; what follows the last whole one in its block is left out.

@@ -22,7 +22,7 @@ export class Place {
     try {
       const { lastModified } = await this.handle.getFile();
       if (lastModified !== this.lastModified && !(await ask(`Another program changed ${this.name}.`, "Write over it"))) return null;
-      const out = await this.handle.createWritable(); // it writes beside the file, and takes its place when it is closed
+      const out = await this.handle.createWritable(); // takes the file's place when it is closed
       await out.write(bytes);
       await out.close();
       ({ lastModified: this.lastModified } = await this.handle.getFile());
