@@ -73,7 +73,7 @@ def main():
     disk1541, module = (pathlib.Path(it).resolve() for it in sys.argv[1:3])
     pictures = pathlib.Path(sys.argv[3]).resolve() if len(sys.argv) > 3 else None
     if missing():
-        print(f"{missing()} isn't installed: the page isn't tried\n0 passed, 0 failed")
+        print(f"skip  {missing()} isn't installed: the page isn't tried\n0 passed, 0 failed")
         return 0
     from browser import Browser
 

@@ -135,9 +135,10 @@ def error_bytes(browser, side, d64):
 
 def session(browser, d64):
     """The terminal's host keeps the timing of the bus profile: the judge calls what it does a session."""
-    judge = browser.disk1541.with_name("drive1541")
-    if not judge.exists():
-        return print(f"{judge.name} isn't beside disk1541: the terminal's host isn't judged")
+    places = browser.disk1541.with_name("drive1541"), browser.disk1541.parents[2] / "drive1541/out/drive1541"
+    judge = next((it for it in places if it.is_file()), None)
+    if not judge:
+        return print("skip  drive1541 isn't beside disk1541: the terminal's host isn't judged")
     trace = browser.room / "host.trace"
     trace.write_text(browser.wait(TRACE, list(d64.read_bytes())))
     ran = subprocess.run([judge, "judge", trace], capture_output=True, text=True)
