@@ -1,0 +1,389 @@
+"""Disk images: looks at them, and changes of them.
+
+Each change is the C library's: it opens the image, changes it and gives the new bytes, or refuses and leaves it as it was.
+"""
+import contextlib
+import ctypes
+import enum
+import os
+from typing import Any, Callable, Iterator, List, Optional, Tuple, Union
+
+from . import _library, foreign, petscii, saving
+from ._library import library
+from .entries import FILLER, Entry, FileType, file_type, name_in
+from .petscii import Charset, Name, name_codes
+from .refusals import EXISTS, NO_IMAGE, NO_ROOM, NOT_FOUND, UNSOUND, BrokenDirectory, Flaw, Lossy, Lost, Refused, Unsound
+
+__all__ = ["Form", "Image", "Order", "Which"]
+
+# (in the class `bytes` is the image's own)
+Bytes = bytes
+
+# A file of a disk: its entry, its slot, or its name, which means the first file that has it.
+Which = Union[Entry, int, Name]
+
+# The directory has at most this many slots, and a listing this many bytes.
+_SLOTS, _LISTING = 144, 4672
+# What whose of a flaw means.
+_OF_DIRECTORY, _OF_FILE = 1, 2
+# The size of a D64 of 40 tracks.
+_OF_40_TRACKS = 196_608
+_LETTERS = {FileType.SEQ: b"S", FileType.PRG: b"P", FileType.USR: b"U"}
+# Codes that a name may have in the text of an OPEN; any other name is given afterwards, by its slot.
+_PLAIN = frozenset(b" !%'()-./0123456789;<>ABCDEFGHIJKLMNOPQRSTUVWXYZ[]" + bytes(range(193, 219)))
+# The code that begins a line of a listing in reverse letters, and how many codes of a line are sure to come after its first.
+_REVERSE, _SURE = 0x12, 24
+
+
+class Form(enum.IntEnum):
+    """The form of a new image."""
+
+    D64 = 0  # 35 tracks
+    D64_40 = 1  # 40 tracks
+    G64 = 2
+
+
+class Order(enum.IntEnum):
+    """What a directory is sorted by."""
+
+    NAME = 0
+    TYPE = 1
+    SIZE = 2
+
+
+class Image:
+    """A disk image, D64 or G64, in memory. A method that raises has changed nothing.
+
+    Names are bytes, or text in the character set of power up; `petscii.codes` takes text in the other one.
+    """
+
+    def __init__(self, data: Bytes) -> None:
+        """The image of these bytes. Refused: they are none."""
+        self._data = bytes(data)
+        self._path: Optional[str] = None
+        self._saved: Optional[Bytes] = None
+        said = library.y1541_image_title(*self._given, _library.Title())
+        if said == NO_IMAGE:
+            raise Refused(said)
+
+    @classmethod
+    def open(cls, path: Union[str, "os.PathLike[str]"]) -> "Image":
+        """The image in a file. OSError; Refused: it has none."""
+        name = os.fspath(path)
+        image = cls(saving.read(name))
+        image._path, image._saved = name, image._data
+        return image
+
+    @classmethod
+    def new(cls, form: Form = Form.D64, title: Name = "", id: Name = "00") -> "Image":
+        """An empty disk: a title of at most 16 codes, and an id of two, or of five with the kind of DOS."""
+        codes, mark = name_codes(title), _mark(id)
+        data = _library.given(library.y1541_image_new, _library.FORMATTED_G64, form, codes, len(codes), mark[0], mark[1])
+        image = cls(data)
+        if len(mark) == 5:
+            image.retitle(codes, mark)
+        return image
+
+    @classmethod
+    @contextlib.contextmanager
+    def change(cls, path: Union[str, "os.PathLike[str]"]) -> Iterator["Image"]:
+        """The image in a file, saved when the block ends without an exception. Others that save in its folder wait meanwhile, as for a command of disk1541."""
+        name = os.fspath(path)
+        with saving.locked_folder(name):
+            image = cls.open(name)
+            yield image
+            if image._data != image._saved:
+                saving.write(name, image._data, image._saved)
+                image._saved = image._data
+
+    def save(self, path: Union[str, "os.PathLike[str]", None] = None, replace: bool = False) -> None:
+        """Saves the image in its file, or in another one, to which it belongs from then on. At any exception the file is as it was.
+
+        Changed: another program changed the file since it was opened. FileExistsError: another file is there, and isn't to be replaced.
+        """
+        if path is None and self._path is None:
+            raise ValueError("the image has no file yet: say a path")
+        name = self._path if path is None else os.fspath(path)
+        assert name is not None
+        is_own = name == self._path
+        with saving.locked_folder(name):
+            if not (is_own or replace) and os.path.lexists(name):
+                raise FileExistsError(f"{name} is there already")
+            saving.write(name, self._data, self._saved if is_own else None)
+        self._path, self._saved = name, self._data
+
+    # --- looks
+
+    @property
+    def bytes(self) -> Bytes:
+        """The image's bytes as they are now."""
+        return self._data
+
+    @property
+    def path(self) -> Optional[str]:
+        """The file that it was opened from or saved to last."""
+        return self._path
+
+    @property
+    def form(self) -> Form:
+        """The image's form."""
+        if self._data.startswith(b"GCR-1541"):
+            return Form.G64
+        return Form.D64_40 if len(self._data) == _OF_40_TRACKS else Form.D64
+
+    @property
+    def title(self) -> Bytes:
+        """The disk's title. Refused: 18/0 can't be read."""
+        return bytes(self._head().title).rstrip(FILLER)
+
+    @property
+    def id(self) -> Bytes:
+        """The two codes of the disk's id."""
+        return bytes(self._head().mark[:2])
+
+    @property
+    def dos(self) -> Bytes:
+        """The two codes of the kind of DOS."""
+        return bytes(self._head().mark[3:])
+
+    @property
+    def free(self) -> int:
+        """How many blocks are free."""
+        return int(self._head().free)
+
+    def slots(self) -> List[Entry]:
+        """All slots of the directory, empty ones too. BrokenDirectory: it breaks off."""
+        said, found = _library.all_of(library.y1541_image_entries, _library.EntryStruct, _SLOTS, self._data)
+        entries = [_entry(slot, it) for slot, it in enumerate(found)]
+        if said > 0:
+            raise BrokenDirectory(said, entries)
+        _library.check(said)
+        return entries
+
+    def files(self) -> List[Entry]:
+        """The files of the directory, in its order; those never closed, too."""
+        return [it for it in self.slots() if not it.is_empty]
+
+    def deleted(self) -> List[Entry]:
+        """The files that were deleted, and whose entries are still there."""
+        return [it for it in self.slots() if it.is_deleted]
+
+    def find(self, name: Name) -> Optional[Entry]:
+        """The first file of just this name. Characters of patterns mean themselves."""
+        codes = name_codes(name)
+        return next((it for it in self.files() if it.name == codes), None)
+
+    def read(self, which: Which) -> Bytes:
+        """The bytes of a file. Refused: there is none (62), it was never closed (60), or it can't be read."""
+        return _library.given(library.y1541_image_read, len(self._data), *self._given, self._slot_of(which))
+
+    def sector(self, track: int, sector: int) -> Bytes:
+        """The 256 bytes of a sector. Refused: the disk has none there, or it can't be read."""
+        out = ctypes.create_string_buffer(256)
+        numbers = _library.byte(track, "a track"), _library.byte(sector, "a sector")
+        _library.check(library.y1541_image_sector(*self._given, *numbers, out, 256))
+        return out.raw
+
+    def listing(self, charset: Charset = Charset.UPPER, only: Name = b"") -> str:
+        """The directory as `disk1541 list` shows it, without the lines on GEOS; `only` is a pattern. Refused: the drive can't list it."""
+        pattern = name_codes(only)
+        return _readable(_library.given(library.y1541_image_list, _LISTING, *self._given, pattern, len(pattern)), charset)
+
+    def check(self) -> Optional[Flaw]:
+        """What is wrong with the disk first; None: it is sound."""
+        first = _library.Place()
+        said = library.y1541_image_check(*self._given, first)
+        if said == UNSOUND:
+            return Flaw(first.what, first.track, first.sector)
+        _library.check(said)
+        return None
+
+    def flaws(self) -> List[Flaw]:
+        """Everything that is wrong with the disk."""
+        said, found = _library.all_of(library.y1541_image_flaws, _library.FlawStruct, 16, self._data)
+        _library.check(said)
+        return [_flaw(it) for it in found]
+
+    def convert(self, lossy: bool = False) -> "Image":
+        """The image in the other format, D64 or G64. Lossy: it would lose something, and that isn't wanted."""
+        lost = _library.LostStruct()
+        data = _library.given(library.y1541_image_convert, _library.FORMATTED_G64, *self._given, lost)
+        gone = Lost(lost.unreadable, bool(lost.tracks), bool(lost.errors), bool(lost.id))
+        if any(gone) and not lossy:
+            raise Lossy(gone)
+        return Image(data)
+
+    # --- changes
+
+    def write(self, name: Name, data: Bytes, type: FileType = FileType.PRG, replace: bool = False) -> None:
+        """Writes a file: a program, or of type SEQ or USR. An empty one becomes one byte, 13, as the drive closes it.
+
+        With `replace` the file of that name is deleted first. Refused: the name is there (63), the disk is full (72) ..
+        """
+        if type not in _LETTERS:
+            raise ValueError("only files of type SEQ, PRG and USR can be written")
+        foreign.require_no_dolphin(self._data)
+        codes = _file_name(name)
+        after = Image(self._data)
+        old = after.find(codes)
+        if old is not None and not replace:
+            raise Refused(EXISTS, petscii.text(codes))
+        if old is not None:
+            after.delete(old)
+        after._put(codes, bytes(data), _LETTERS[type])
+        self._data = after._data
+
+    def rename(self, which: Which, name: Name) -> None:
+        """Gives a file another name. Refused: a file has it already (63)."""
+        codes = _file_name(name)
+        self._change(library.y1541_image_rename, self._slot_of(which), codes, len(codes))
+
+    def copy(self, which: Which, name: Name) -> None:
+        """Copies a file on the disk. Refused: it is a relative file (64), was never closed (60) .. Foreign: it is GEOS's."""
+        foreign.require_no_dolphin(self._data)
+        codes, slot = _file_name(name), self._slot_of(which)
+        foreign.require_no_geos_file(self, slot)
+        self._change(library.y1541_image_copy, slot, codes, len(codes))
+
+    def delete(self, which: Which) -> None:
+        """Deletes a file. Refused: it is locked (26)."""
+        foreign.require_no_dolphin(self._data)
+        self._change(library.y1541_image_delete, self._slot_of(which))
+
+    def lock(self, which: Which, locked: bool = True) -> None:
+        """Protects a file from being deleted, or frees it again."""
+        self._change(library.y1541_image_lock, self._slot_of(which), int(locked))
+
+    def unlock(self, which: Which) -> None:
+        """Frees a file that is protected."""
+        self.lock(which, False)
+
+    def undelete(self, which: Union[Entry, int], type: FileType = FileType.PRG) -> None:
+        """Gives back the deleted file of an entry or a slot, whose type was lost. Refused: its blocks aren't free any more .."""
+        foreign.require_no_dolphin(self._data)
+        slot = self._same_slot(which) if isinstance(which, Entry) else which
+        self._change(library.y1541_image_undelete, _library.byte(slot, "a slot"), int(type))
+
+    def retitle(self, title: Name, id: Optional[Name] = None) -> None:
+        """Gives the disk another title, and another id of two codes, or of five with the kind of DOS; without one it keeps its own."""
+        codes, old = name_codes(title), bytes(self._head().mark)
+        mark = old if id is None else _mark(id)
+        self._change(library.y1541_image_retitle, codes, len(codes), mark + old[len(mark) :])
+
+    def sort(self, by: Order = Order.NAME) -> None:
+        """Sorts the directory."""
+        self._change(library.y1541_image_sort, int(by))
+
+    def validate(self) -> None:
+        """Removes files that were never closed and frees lost blocks, as the drive's VALIDATE. Foreign: the disk has files of GEOS, which it would split."""
+        foreign.require_no_dolphin(self._data)
+        foreign.require_no_geos(self)
+        self.command(b"V0")
+
+    def command(self, text: Name) -> None:
+        """Has the drive carry out a command of channel 15, such as `S0:NAME`. Its names are patterns, and may mean several files: the other methods mean one."""
+        codes = name_codes(text)
+        self._change(library.y1541_image_command, codes, len(codes))
+
+    def __repr__(self) -> str:
+        return f"<Image, {self.form.name}, {len(self._data)} bytes{f', of {self._path}' if self._path else ''}>"
+
+    # --- inside
+
+    @property
+    def _given(self) -> Tuple[Bytes, int]:
+        """The image as the library takes it."""
+        return self._data, len(self._data)
+
+    @property
+    def _room(self) -> int:
+        """How many bytes it may have after a change."""
+        return max(len(self._data), _library.FORMATTED_G64) if self.form == Form.G64 else len(self._data)
+
+    def _head(self) -> _library.Title:
+        """What 18/0 says."""
+        title = _library.Title()
+        _library.check(library.y1541_image_title(*self._given, title), "18/0")
+        return title
+
+    def _slot_of(self, which: Which) -> int:
+        """The slot of a file. Refused: there is no such file (62)."""
+        if isinstance(which, Entry):
+            return self._same_slot(which)
+        if isinstance(which, int):
+            return _library.byte(which, "a slot")
+        entry = self.find(which)
+        if entry is None:
+            raise Refused(NOT_FOUND, petscii.text(name_codes(which)))
+        return entry.slot
+
+    def _same_slot(self, entry: Entry) -> int:
+        """The slot of an entry, which still has that name and that first block. Refused: it hasn't (62)."""
+        now = self.slots()[entry.slot : entry.slot + 1]
+        if not now or (now[0].name, now[0].track, now[0].sector) != (entry.name, entry.track, entry.sector):
+            raise Refused(NOT_FOUND, f"slot {entry.slot} has another file than {entry.text()} now")
+        return entry.slot
+
+    def _change(self, call: Callable[..., int], *arguments: Any) -> None:
+        """Takes the image that a call gives. Unsound: the disk isn't sound."""
+        said, data = _library.filled(call, self._room, *self._given, *arguments)
+        if said == UNSOUND:
+            flaw = self.check()
+            if flaw is not None:
+                raise Unsound(flaw)
+        _library.check(said)
+        self._data = data
+
+    def _put(self, codes: Bytes, data: Bytes, letter: Bytes) -> None:
+        """Writes a file of a name that isn't there: where the text of an OPEN can't say the name, under another one first."""
+        first = codes if _PLAIN.issuperset(codes) else self._unused_name()
+        text = b"0:" + first + b"," + letter + b",W"
+        self._change(library.y1541_image_put, text, len(text), data, len(data))
+        if first != codes:
+            self.rename(first, codes)
+
+    def _unused_name(self) -> Bytes:
+        """A plain name that no file has."""
+        names = {it.name for it in self.files()}
+        return next(it for it in (b"NEW %d" % number for number in range(_SLOTS + 1)) if it not in names)
+
+
+def _entry(slot: int, it: _library.EntryStruct) -> Entry:
+    """An entry of the library's."""
+    field = bytes(it.name)
+    return Entry(slot, name_in(field), file_type(it.kind), it.blocks, bool(it.locked), bool(it.closed), it.record_length, it.track, it.sector, field)
+
+
+def _flaw(it: _library.FlawStruct) -> Flaw:
+    """A flaw of the library's."""
+    return Flaw(it.what, it.track, it.sector, it.slot if it.whose == _OF_FILE else None, it.before, it.whose == _OF_DIRECTORY)
+
+
+def _file_name(name: Name) -> bytes:
+    """The codes of a file's name. ValueError: none can be so."""
+    codes = name_codes(name)
+    if not 1 <= len(codes) <= 16 or FILLER in codes:
+        raise ValueError(f"a file's name has 1 to 16 codes, none of them $A0: {petscii.text(codes)}")
+    return codes
+
+
+def _mark(id: Name) -> bytes:
+    """The codes of an id. ValueError: there are neither two nor five."""
+    codes = name_codes(id)
+    if len(codes) not in (2, 5):
+        raise ValueError(f"an id has two codes, or five: {petscii.text(codes)}")
+    return codes
+
+
+def _readable(listing: bytes, charset: Charset) -> str:
+    """The lines of a directory that the drive sent as a BASIC program: each has its number and its text up to a 0."""
+    lines, at = [], 2
+    while at + 4 <= len(listing) and listing[at + 1]:
+        number = listing[at + 2] + 256 * listing[at + 3]
+        first = at + 4
+        end = listing.find(b"\0", first + 1 + _SURE)
+        end = len(listing) if end < 0 else end
+        shown = petscii.text(listing[first + (listing[first : first + 1] == bytes([_REVERSE])) : end], charset)
+        lines.append(f"{number} {shown}\n")
+        at = end + 1
+    return "".join(lines)
