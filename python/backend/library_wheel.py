@@ -20,7 +20,6 @@ CAPI = HERE.parent / "capi"
 PACKAGE = "yellowadze1541"
 # The machines of ELF, by their numbers: their names in a tag, and the oldest glibc for which pip knows a tag.
 MACHINES = {62: ("x86_64", (2, 5)), 183: ("aarch64", (2, 17))}
-SUMMARY = "Disk images of the Commodore 1541, and the drive itself, by a library proved from the wire to the sector"
 
 
 def header_version():
@@ -52,9 +51,14 @@ def platform_tag(library):
     return f"manylinux_{major}_{minor}_{name}"
 
 
+def said(key):
+    """What pyproject.toml says of the project."""
+    return re.search(rf'^{key} = "(.*)"$', (HERE / "pyproject.toml").read_text(encoding="utf-8"), re.MULTILINE)[1]
+
+
 def metadata():
     """METADATA, with the README as the description."""
-    head = f"Metadata-Version: 2.1\nName: {PACKAGE}\nVersion: {header_version()}\nSummary: {SUMMARY}\nRequires-Python: >=3.9\n"
+    head = f"Metadata-Version: 2.1\nName: {PACKAGE}\nVersion: {header_version()}\nSummary: {said('description')}\nRequires-Python: {said('requires-python')}\n"
     return f"{head}Description-Content-Type: text/markdown\n\n{(HERE / 'README.md').read_text(encoding='utf-8')}".encode()
 
 

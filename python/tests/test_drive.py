@@ -1,0 +1,200 @@
+"""A drive on the lines, and a computer at it, against the C example and the calls on images."""
+import os
+import shutil
+import subprocess
+import unittest
+
+from support import HELLO, ROOT, DiskCase, model_disk
+from yellowadze1541 import BusError, Drive, Form, Host, Image, Pace, Pulls, Refused
+from yellowadze1541.bus import Bus
+from yellowadze1541.kernal import Computer
+
+SAVED = bytes([0x00, 0xC0, 0x00, 0xFF, 0x55, 0xAA, 0x0F, 0xF0, 0x80, 0x01])
+# The runs of examples/c/kernal_host.c: what it calls them, the computer, the pace, and the drive's reaction.
+RUNS = [
+    ("a C64 for PAL, screen off, at the profile's pace", Computer.DARK_PAL, Pace.PROFILE, 20),
+    ("a C64 for PAL at the KERNAL's pace", Computer.PAL, Pace.KERNAL, 20),
+    ("a C64 for NTSC at the KERNAL's pace", Computer.NTSC, Pace.KERNAL, 60),
+    ("a VIC-20 at the KERNAL's pace", Computer.VIC, Pace.KERNAL, 1),
+]
+
+
+def shown(what, data):
+    """A line of kernal_host.c."""
+    text = "".join(f" {it:02x}" for it in data[:16])
+    return f"{what}: {len(data)} bytes:{text}{' ..' if len(data) > 16 else ''}"
+
+
+def jobs(host, asks_missing):
+    """The jobs of kernal_host.c, call for call, and the lines that it prints."""
+    lines = [f"status: {host.status()}"]
+    for name, what in (("$", 'LOAD"$",8'), ("HELLO", 'LOAD"HELLO",8')):
+        lines.append(shown(what, host.load(name)))
+    save(host, "NEW")
+    lines.append(shown('LOAD"NEW",8', host.load("NEW")))
+    save(host, "HELLO")
+    lines.append(f"status: {host.status()}")
+    if asks_missing:
+        host.open(0, "NONE")
+        try:
+            host.receive(0)
+        except BusError as error:
+            assert (error.status, error.stuck) == (0x42, False), error
+        lines += [f"status: {host.status()}", f"status: {host.status()}"]
+    return lines
+
+
+def save(host, name):
+    """SAVE as the C example does it, which doesn't read the status."""
+    host.open(1, name)
+    host.send(1, SAVED)
+    host.close(1)
+
+
+class AgainstC(DiskCase):
+    @unittest.skipUnless(shutil.which("cc") and os.environ.get("LIBRARY"), "no C compiler, or LIBRARY doesn't name the library")
+    def test_the_kernal_does_what_the_c_example_does(self):
+        library, program = os.environ["LIBRARY"], self.folder / "kernal_host"
+        words = ["cc", "-std=c99", "-I", ROOT / "capi", "-I", ROOT / "examples" / "c", "-o", program, ROOT / "examples" / "c" / "kernal_host.c", library]
+        subprocess.run([*map(str, words), f"-Wl,-rpath,{self.folder}"], check=True)
+        (self.folder / "libyellowadze1541.so.0.3").symlink_to(library)
+        ran = subprocess.run([program, HELLO, self.folder / "c.d64"], capture_output=True, text=True, check=True)
+        lines = []
+        for number, (name, computer, pace, reaction) in enumerate(RUNS):
+            with Drive(Image.open(HELLO), reaction=reaction, pace=pace) as drive:
+                host = Host(drive, computer=computer, seed=number)
+                lines += [f"-- {name}", *jobs(host, pace == Pace.KERNAL)]
+                image = drive.image
+        self.assertEqual(lines, ran.stdout.splitlines()[: len(lines)])
+        self.assertEqual(image.bytes, (self.folder / "c.d64").read_bytes())
+
+
+class Computers(unittest.TestCase):
+    def test_what_is_loaded_is_what_the_image_has(self):
+        disk = model_disk(4)
+        image = Image(disk.image)
+        with Drive(image) as drive:
+            host = Host(drive)
+            for file in disk.files:
+                # (a LOAD of a name that looks like a pattern is one)
+                if file.is_closed and len(file.bytes) < 1500 and file.name.isalnum():
+                    self.assertEqual(host.load(file.name), file.bytes)
+            self.assertEqual(drive.writes, 0)
+
+    def test_a_save_changes_the_disk_as_a_write_of_the_image(self):
+        image = Image.new(Form.D64, "DISK", "64")
+        with Drive(image) as drive:
+            Host(drive).save("SAVED", SAVED * 60)
+            self.assertGreater(drive.writes, 0)
+            image.write("SAVED", SAVED * 60)
+            self.assertEqual(drive.image.bytes, image.bytes)
+
+    def test_refusals_have_the_drives_number(self):
+        with Drive(Image.open(HELLO)) as drive:
+            host = Host(drive)
+            self.assertEqual(host.status(), "73,CBM DOS V2.6 1541,00,00")
+            for call, number in ((lambda: host.load("NONE"), 62), (lambda: host.save("HELLO", b"1"), 63)):
+                with self.assertRaises(Refused) as told:
+                    call()
+                self.assertEqual(told.exception.number, number)
+            self.assertEqual(host.command("R0:OTHER=HELLO"), "00, OK,00,00")
+            self.assertEqual([it.name for it in drive.image.files()], [b"OTHER"])
+
+    def test_a_covered_notch(self):
+        with Drive(Image.open(HELLO), protected=True) as drive:
+            with self.assertRaises(Refused) as told:
+                Host(drive).save("NEW", SAVED)
+            self.assertEqual((told.exception.number, drive.writes), (26, 0))
+
+    def test_a_sequential_file_from_one_disk_to_another(self):
+        with Drive(Image.open(HELLO)) as first, Drive(Image.new(Form.G64, "OTHER", "64"), device=9) as second:
+            data = Host(first).load("HELLO")
+            host = Host(second)
+            host.open(2, "COPY,S,W")
+            host.send(2, data)
+            host.close(2)
+            host.open(3, "COPY,S,R")
+            self.assertEqual(host.receive(3), data)
+            host.close(3)
+
+    def test_two_drives_on_one_bus(self):
+        with Drive(Image.open(HELLO)) as first, Drive(Image.new(Form.D64, "NINE", "99"), device=9) as second:
+            host = Host(first, second)
+            self.assertIn(b'"TEST', host.load("$"))
+            host.device = 9
+            self.assertIn(b'"NINE', host.load("$"))
+
+    def test_a_device_that_is_not_there(self):
+        with Drive(Image.open(HELLO)) as drive:
+            with self.assertRaises(BusError):
+                Host(drive, device=11).load("$")
+
+
+class Lines(unittest.TestCase):
+    def setUp(self):
+        self.image = Image.open(HELLO)
+
+    def test_the_reaction_to_attention(self):
+        # (docs/bus.md: a drive pulls DATA one reaction after ATN is pulled)
+        for reaction in (1, 20, 60):
+            with Drive(self.image, reaction=reaction) as drive:
+                self.assertIsNone(drive.next_due)
+                drive.lines(1000, True, False, False)
+                self.assertEqual(drive.next_due, 1000 + reaction)
+                self.assertIsNone(drive.due(999 + reaction))
+                self.assertEqual(drive.due(1000 + reaction), (1000 + reaction, False, True, False, True))
+                self.assertEqual(drive.pulls, Pulls(False, True))
+
+    def test_time_that_goes_back_is_refused(self):
+        with Drive(self.image) as drive:
+            drive.lines(1000, False, True, False)
+            for moment in (999, -1, 2**60, 2**64 + 5):
+                with self.assertRaises(Refused) as told:
+                    drive.lines(moment, False, False, False)
+                self.assertEqual(told.exception.number, -2)
+
+    def test_settings_out_of_their_range_are_refused(self):
+        for settings in ({"device": 7}, {"device": 12}, {"reaction": 0}, {"reaction": 61}, {"pace": 2}):
+            with self.assertRaises(Refused) as told:
+                Drive(self.image, **settings)
+            self.assertEqual(told.exception.number, -2)
+        with self.assertRaises(ValueError):
+            Drive(self.image, device=264)
+
+    def test_another_disk(self):
+        with Drive(self.image) as drive:
+            self.assertEqual(drive.eject().bytes, self.image.bytes)
+            with self.assertRaises(Refused) as told:
+                drive.image.bytes
+            self.assertEqual(told.exception.number, -4)
+            other = Image.new(Form.G64, "OTHER", "64")
+            drive.insert(other)
+            self.assertEqual(drive.image.bytes, other.bytes)
+
+    def test_reset_is_power_up(self):
+        with Drive(self.image) as drive:
+            Host(drive).status()
+            self.assertEqual(drive.status, 0)
+            drive.reset()
+            self.assertEqual(drive.status, 73)
+
+    def test_a_drive_that_is_closed_refuses(self):
+        drive = Drive(self.image)
+        drive.close()
+        drive.close()
+        self.assertIsNone(drive.next_due)
+        for call in (lambda: drive.status, lambda: drive.image, lambda: drive.lines(1, False, False, False), drive.reset):
+            with self.assertRaises(Refused) as told:
+                call()
+            self.assertEqual(told.exception.number, -7)
+
+    def test_the_bus_joins_the_lines(self):
+        with Drive(self.image) as first, Drive(self.image, device=9) as second:
+            bus = Bus(first, second)
+            bus.write(100, True, False, False)
+            self.assertEqual(bus.read(110), (False, False))
+            self.assertEqual(bus.read(200), (False, True))
+
+
+if __name__ == "__main__":
+    unittest.main()

@@ -1,0 +1,376 @@
+"""Looks into images, and changes of them, against disk1541 and the plain model of the format."""
+import json
+import subprocess
+import sys
+import unittest
+
+from support import HELLO, ROOT, DiskCase, disk1541, json_of, model, model_disk
+from yellowadze1541 import BrokenDirectory, Charset, FileType, Foreign, Form, Image, Lossy, Order, Refused, Unsound
+
+SEEDS = range(12)
+
+
+def said_of(entry):
+    """What disk1541 says of an entry, of the members that are compared."""
+    kind = entry.type.name.lower() if isinstance(entry.type, FileType) else None
+    return {
+        "slot": entry.slot,
+        "petscii": entry.name.hex(),
+        "type": kind,
+        "closed": entry.closed,
+        "locked": entry.locked,
+        "blocks": entry.blocks,
+    }
+
+
+def refused(number, call, *words, **more):
+    """Whether a call is refused with this number."""
+    try:
+        call(*words, **more)
+    except Refused as error:
+        return error.number == number
+    return False
+
+
+class Looks(DiskCase):
+    def both_forms(self, seed):
+        """A disk of the model, as a D64 and as a G64: paths."""
+        disk = model_disk(seed)
+        path = self.file(f"{seed}.d64", disk.image)
+        disk1541("convert", path, path.with_suffix(".g64"))
+        return disk, (path, path.with_suffix(".g64"))
+
+    def test_entries_title_and_room_are_as_disk1541_says(self):
+        for seed in SEEDS:
+            disk, paths = self.both_forms(seed)
+            for path in paths:
+                with self.subTest(path=path.name):
+                    image, said = Image.open(path), json_of(path)
+                    keys = ("slot", "petscii", "type", "closed", "locked", "blocks")
+                    self.assertEqual([said_of(it) for it in image.files()], [{key: it[key] for key in keys} for it in said["files"]])
+                    self.assertEqual((image.title, image.id, image.dos, image.free), (disk.title, b"ID", b"2A", disk.free))
+                    self.assertEqual(image.free, said["free"])
+                    self.assertIsNone(image.check())
+                    self.assertEqual(image.flaws(), [])
+
+    def test_files_have_the_bytes_that_were_put_on_the_disk(self):
+        for seed in SEEDS:
+            disk, paths = self.both_forms(seed)
+            for path in paths:
+                image = Image.open(path)
+                for file, entry in zip(disk.files, image.files()):
+                    if file.is_closed:
+                        self.assertEqual(image.read(entry), file.bytes)
+                        self.assertEqual(image.read(file.name), file.bytes)
+                    else:
+                        self.assertTrue(refused(60, image.read, entry))
+
+    def test_sectors_are_those_of_the_d64(self):
+        disk, paths = self.both_forms(3)
+        for path in paths:
+            image = Image.open(path)
+            for track in range(1, 36):
+                for sector in range(model.sectors_of(track)):
+                    at = model.place(track, sector)
+                    self.assertEqual(image.sector(track, sector), bytes(disk.image[at : at + 256]))
+            self.assertTrue(refused(-4, image.sector, 36, 0))
+
+    def test_listings_by_pattern_and_in_the_other_set(self):
+        path = self.file("a.d64", model_disk(5).image)
+        image = Image.open(path)
+        for charset in Charset:
+            self.assertEqual(image.listing(charset), disk1541("list", path, "--charset", charset.value).decode())
+        for file in model_disk(5).files:
+            only = model.text(file.name[:1])
+            if only not in "*?":
+                self.assertEqual(image.listing(only=f"{only}*"), disk1541("list", path, "--only", f"{only}*").decode())
+
+    def test_what_is_no_image_is_refused(self):
+        for data in (b"", b"abc", bytes(174_847), b"GCR-1541" + bytes(100)):
+            self.assertTrue(refused(-5, Image, data))
+        self.assertTrue(refused(-5, Image.open, self.file("big.d64", bytes(833_293))))
+
+    def test_what_is_wrong_is_what_disk1541_says(self):
+        disk = model_disk(7)
+        for at in (model.place(18, 0) + 4, model.place(18, 1) + 3, model.place(18, 1) + 35):
+            data = bytearray(disk.image)
+            data[at] ^= 9
+            path = self.file("wrong.d64", data)
+            said = json.loads(disk1541("check", "--all", "--json", path, status=1))["flaws"]
+            image = Image(data)
+            self.assertEqual([(it.number, it.track, it.sector) for it in image.flaws()], [(it["number"], it["track"], it["sector"]) for it in said])
+            first = image.check()
+            self.assertEqual((first.number, first.track, first.sector), (said[0]["number"], said[0]["track"], said[0]["sector"]))
+            with self.assertRaises(Unsound) as told:
+                image.write("NEW", b"1")
+            self.assertEqual(told.exception.flaw, first)
+            self.assertEqual(image.bytes, bytes(data))
+
+    def test_a_directory_that_breaks_off_gives_the_entries_before(self):
+        disk = model_disk(7)
+        data = bytearray(disk.image)
+        data[model.place(18, 1) : model.place(18, 1) + 2] = b"\xff\xff"
+        image, said = Image(data), json.loads(disk1541("list", "--json", self.file("a.d64", data), status=1))
+        with self.assertRaises(BrokenDirectory) as told:
+            image.files()
+        self.assertEqual(len(told.exception.entries), said["broken"]["entries"])
+        self.assertEqual(told.exception.number, said["broken"]["error"])
+        self.assertEqual([said_of(it)["petscii"] for it in told.exception.entries if not it.is_empty], [it["petscii"] for it in said["files"]])
+
+
+class New(DiskCase):
+    def test_new_images_are_those_of_disk1541(self):
+        rows = [(Form.D64, "a.d64", ()), (Form.D64_40, "b.d64", ("--tracks", 40)), (Form.G64, "c.g64", ())]
+        for form, name, words in rows:
+            for id in ("64", "64 3B"):
+                with self.subTest(form=form, id=id):
+                    path = self.folder / name
+                    disk1541("new", path, "--title", "NEW DISK", "--id", id, "--replace", *words)
+                    self.assertEqual(Image.new(form, "new disk", id).bytes, path.read_bytes())
+
+    def test_what_no_disk_can_be_called_is_refused(self):
+        self.assertTrue(refused(-2, Image.new, title="A" * 17))
+        for id in ("", "1", "123", "123456"):
+            with self.assertRaises(ValueError):
+                Image.new(id=id)
+
+
+class Changes(DiskCase):
+    """Each change gives the image that disk1541 makes, byte for byte."""
+
+    def setUp(self):
+        super().setUp()
+        self.paths = []
+        for seed in SEEDS:
+            path = self.file(f"{seed}.d64", model_disk(seed).image)
+            if seed % 3 == 0:
+                disk1541("convert", path, path.with_suffix(".g64"))
+                path = path.with_suffix(".g64")
+            self.paths.append(path)
+
+    def compare(self, change, *words):
+        """Makes a change of each image that has a closed file, and has disk1541 make it, with the words that `words` gives for that file's slot."""
+        count = 0
+        for path in self.paths:
+            image = Image.open(path)
+            entry = next((it for it in image.files() if it.closed and not it.locked), None)
+            if entry is not None:
+                with self.subTest(path=path.name):
+                    change(image, entry)
+                    disk1541(words[0], path, *(entry.slot if it == "SLOT" else it for it in words[1:]))
+                    self.assertEqual(image.bytes, path.read_bytes())
+                    self.assertIsNone(image.check())
+                    count += 1
+        self.assertGreater(count, 3)
+
+    def test_rename(self):
+        self.compare(lambda image, entry: image.rename(entry, "OTHER NAME"), "rename", "--slot", "SLOT", "OTHER NAME")
+
+    def test_rename_to_any_codes(self):
+        self.compare(lambda image, entry: image.rename(entry, b'A*,"\x01=?'), "rename", "--slot", "SLOT", 'A*,"{01}=?')
+
+    def test_copy(self):
+        self.compare(lambda image, entry: image.copy(entry, "COPY"), "copy", "--slot", "SLOT", "COPY")
+
+    def test_delete(self):
+        self.compare(lambda image, entry: image.delete(entry), "delete", "--slot", "SLOT")
+
+    def test_lock(self):
+        self.compare(lambda image, entry: image.lock(entry), "lock", "--slot", "SLOT")
+
+    def test_retitle(self):
+        self.compare(lambda image, entry: image.retitle("ANOTHER TITLE"), "title", "ANOTHER TITLE")
+
+    def test_sort(self):
+        for order in Order:
+            self.compare(lambda image, entry: image.sort(order), "sort", "--by", order.name.lower())
+
+    def test_validate(self):
+        self.compare(lambda image, entry: image.validate(), "validate")
+
+    def test_unlock(self):
+        self.compare(lambda image, entry: (image.lock(entry), image.unlock(entry)), "unlock", "--slot", "SLOT")
+
+    def test_undelete(self):
+        for path in self.paths:
+            image = Image.open(path)
+            entry = next((it for it in image.files() if it.closed and not it.locked), None)
+            if entry is None:
+                continue
+            before = image.bytes
+            image.delete(entry)
+            self.assertIn(entry.name, [it.name for it in image.deleted()])
+            image.undelete(entry.slot, entry.type)
+            self.assertEqual(image.bytes, before)
+
+    def test_write(self):
+        for kind in (FileType.PRG, FileType.SEQ, FileType.USR):
+            for size in (0, 1, 254, 255, 5000):
+                data = bytes(it * 7 % 256 for it in range(size))
+                name = f"{kind.name} {size}"
+                put = self.file("put.bin", data)
+                for path in self.paths[:4]:
+                    with self.subTest(path=path.name, kind=kind, size=size):
+                        image = Image.open(path)
+                        image.write(name, data, kind)
+                        disk1541("put", path, put, "--name", name, "--type", kind.name.lower())
+                        self.assertEqual(image.bytes, path.read_bytes())
+
+    def test_write_in_place_of_a_file(self):
+        for path in self.paths:
+            image = Image.open(path)
+            entry = next((it for it in image.files() if it.closed and not it.locked), None)
+            if entry is not None:
+                image.write(entry.name, b"replaced", FileType.USR, replace=True)
+                self.assertEqual(image.read(entry.name), b"replaced")
+                self.assertIsNone(image.check())
+                self.assertTrue(refused(63, image.write, entry.name, b""))
+
+    def test_convert(self):
+        for path in self.paths:
+            other = path.with_name("other").with_suffix(".g64" if path.suffix == ".d64" else ".d64")
+            disk1541("convert", path, other)
+            self.assertEqual(Image.open(path).convert().bytes, other.read_bytes())
+            other.unlink()
+
+    def test_convert_says_what_is_lost(self):
+        long = Image.new(Form.D64_40, "LONG", "64")
+        with self.assertRaises(Lossy) as told:
+            long.convert()
+        self.assertEqual(told.exception.lost, (0, True, False, False))
+        self.assertEqual(long.convert(lossy=True).form, Form.G64)
+
+    def test_an_id_of_two_codes_keeps_the_kind_of_dos(self):
+        image = Image.new(Form.D64, "TITLE", "64 3B")
+        image.retitle("OTHER", "AB")
+        self.assertEqual((image.title, image.id, image.dos), (b"OTHER", b"AB", b"3B"))
+        image.retitle("OTHER", "CD 2A")
+        self.assertEqual((image.id, image.dos), (b"CD", b"2A"))
+
+
+class OneFileAlone(DiskCase):
+    """A change by name changes that file alone, whatever patterns other names look like."""
+
+    NAMES = [b"A*", b"A,B", b"ABC", b"A", b"?", b"A=B", b"0:A", b"$", b"@A", b'"A"', b"#", b"*", b"\x01\xff", b"A:B", b"&A", b"A "]
+
+    def setUp(self):
+        super().setUp()
+        self.image = Image.new(Form.D64, "ODD NAMES", "64")
+        for name in self.NAMES:
+            self.image.write(name, name * 100)
+
+    def files(self):
+        return {it.name: self.image.read(it) for it in self.image.files()}
+
+    def test_each_can_be_written(self):
+        self.assertEqual(self.files(), {name: name * 100 for name in self.NAMES})
+        self.assertIsNone(self.image.check())
+
+    def test_disk1541_reads_the_same(self):
+        path = self.file("odd.d64", self.image.bytes)
+        for entry in self.image.files():
+            self.assertEqual(disk1541("get", path, "--slot", entry.slot), entry.name * 100)
+
+    def test_each_is_deleted_alone(self):
+        for name in self.NAMES:
+            before = self.files()
+            self.image.delete(name)
+            del before[name]
+            self.assertEqual(self.files(), before)
+
+    def test_each_is_renamed_copied_and_locked_alone(self):
+        for name in self.NAMES:
+            before = self.files()
+            self.image.rename(name, b"R*")
+            self.image.copy(b"R*", name)
+            self.image.lock(b"R*")
+            self.assertEqual(self.files(), {**before, b"R*": before[name]})
+            self.assertEqual([it.name for it in self.image.files() if it.locked], [b"R*"])
+            self.image.unlock(b"R*")
+            self.image.delete(b"R*")
+
+    def test_what_can_be_no_name_is_refused(self):
+        for name in (b"", b"A" * 17, b"A\xa0B", "é"):
+            with self.assertRaises(ValueError):
+                self.image.write(name, b"")
+
+
+class Refusals(DiskCase):
+    def setUp(self):
+        super().setUp()
+        self.image = Image.open(HELLO)
+
+    def test_a_refusal_leaves_the_image(self):
+        before = self.image.bytes
+        self.assertTrue(refused(62, self.image.delete, "NONE"))
+        self.assertTrue(refused(62, self.image.read, "H*"))
+        self.assertTrue(refused(63, self.image.write, "HELLO", b""))
+        self.assertTrue(refused(72, self.image.write, "BIG", bytes(663 * 254 + 1)))
+        self.assertTrue(refused(72, self.image.write, "HELLO", bytes(664 * 254 + 1), replace=True))
+        self.assertTrue(refused(33, self.image.command, "R0:A*=HELLO"))
+        self.assertEqual(self.image.bytes, before)
+
+    def test_a_locked_file_stays(self):
+        self.image.lock("HELLO")
+        self.assertTrue(refused(26, self.image.delete, "HELLO"))
+        self.assertTrue(refused(26, self.image.write, "HELLO", b"", replace=True))
+
+    def test_an_entry_that_is_another_files_by_now_is_refused(self):
+        self.image.write("AAA", b"1")
+        hello = self.image.find("HELLO")
+        self.image.sort()
+        self.assertTrue(refused(62, self.image.delete, hello))
+        self.assertEqual(len(self.image.files()), 2)
+
+    def test_a_full_directory(self):
+        image = Image.new(Form.D64, "FULL", "64")
+        for number in range(144):
+            image.write(f"F{number}", b"x")
+        self.assertTrue(refused(72, image.write, "ONE MORE", b"x"))
+        self.assertEqual(len(image.files()), 144)
+        self.assertIsNone(image.check())
+
+    def test_types_that_a_put_cannot_write(self):
+        for kind in (FileType.REL, FileType.DEL):
+            with self.assertRaises(ValueError):
+                self.image.write("NEW", b"", kind)
+
+    def test_the_words_of_a_refusal(self):
+        with self.assertRaises(Refused) as told:
+            self.image.write("HELLO", b"")
+        self.assertEqual((told.exception.number, told.exception.text), (63, "FILE EXISTS"))
+
+
+class OthersFiles(DiskCase):
+    """What other systems keep on a disk is refused or kept, as disk1541 does."""
+
+    def geos(self):
+        path = self.folder / "geos.d64"
+        subprocess.run([sys.executable, ROOT / "tests" / "programs" / "geos_disk.py", path], check=True, cwd=ROOT / "tests" / "programs")
+        return Image.open(path)
+
+    def test_geos(self):
+        image = self.geos()
+        before = image.bytes
+        with self.assertRaises(Foreign):
+            image.validate()
+        with self.assertRaises(Foreign):
+            image.copy("LETTER", "OTHER")
+        self.assertEqual(image.bytes, before)
+
+    def test_dolphin_dos(self):
+        data = bytearray(Image.new(Form.D64_40, "WIDE", "64").bytes)
+        head = model.place(18, 0)
+        rows = data[head + 0xC0 : head + 0xD4]
+        data[head + 0xAC : head + 0xC0], data[head + 0xC0 : head + 0xD4] = rows, bytes(20)
+        path = self.file("dolphin.d64", data)
+        self.assertEqual(json.loads(disk1541("info", "--json", path))["map_36_40"], "dolphin")
+        image = Image.open(path)
+        for change in (lambda: image.write("A", b""), image.validate, lambda: image.undelete(0)):
+            with self.assertRaises(Foreign):
+                change()
+        self.assertEqual(image.bytes, bytes(data))
+
+
+if __name__ == "__main__":
+    unittest.main()
