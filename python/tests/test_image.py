@@ -92,9 +92,12 @@ class Looks(DiskCase):
 
     def test_what_is_wrong_is_what_disk1541_says(self):
         disk = model_disk(7)
-        for at in (model.place(18, 0) + 4, model.place(18, 1) + 3, model.place(18, 1) + 35):
+        entry = Image(disk.image).find(next(it.name for it in disk.files if it.is_closed))
+        place = model.place(18, 1) + 32 * entry.slot
+        # (a count of the BAM, a file's type, its first track, and its first sector)
+        for at, value in ((model.place(18, 0) + 4, 99), (place + 2, 0x87), (place + 3, 77), (place + 4, 99)):
             data = bytearray(disk.image)
-            data[at] ^= 9
+            data[at] = value
             path = self.file("wrong.d64", data)
             said = json.loads(disk1541("check", "--all", "--json", path, status=1))["flaws"]
             image = Image(data)
@@ -148,16 +151,22 @@ class Changes(DiskCase):
                 path = path.with_suffix(".g64")
             self.paths.append(path)
 
+    @staticmethod
+    def plain_file(image):
+        """A closed file that isn't locked, whose name is no pattern; None: there is none."""
+        return next((it for it in image.files() if it.closed and not it.locked and not set(model.DIVIDES) & set(it.name)), None)
+
     def compare(self, change, *words):
-        """Makes a change of each image that has a closed file, and has disk1541 make it, with the words that `words` gives for that file's slot."""
+        """Makes a change of each image that has a plain file, and has disk1541 make it, with these words, among them SLOT and NAME of that file."""
         count = 0
         for path in self.paths:
             image = Image.open(path)
-            entry = next((it for it in image.files() if it.closed and not it.locked), None)
+            entry = self.plain_file(image)
             if entry is not None:
                 with self.subTest(path=path.name):
                     change(image, entry)
-                    disk1541(words[0], path, *(entry.slot if it == "SLOT" else it for it in words[1:]))
+                    meant = {"SLOT": entry.slot, "NAME": entry.text()}
+                    disk1541(words[0], path, *(meant.get(it, it) for it in words[1:]))
                     self.assertEqual(image.bytes, path.read_bytes())
                     self.assertIsNone(image.check())
                     count += 1
@@ -173,7 +182,7 @@ class Changes(DiskCase):
         self.compare(lambda image, entry: image.copy(entry, "COPY"), "copy", "--slot", "SLOT", "COPY")
 
     def test_delete(self):
-        self.compare(lambda image, entry: image.delete(entry), "delete", "--slot", "SLOT")
+        self.compare(lambda image, entry: image.delete(entry), "delete", "NAME")
 
     def test_lock(self):
         self.compare(lambda image, entry: image.lock(entry), "lock", "--slot", "SLOT")
@@ -194,7 +203,7 @@ class Changes(DiskCase):
     def test_undelete(self):
         for path in self.paths:
             image = Image.open(path)
-            entry = next((it for it in image.files() if it.closed and not it.locked), None)
+            entry = self.plain_file(image)
             if entry is None:
                 continue
             before = image.bytes
@@ -219,7 +228,7 @@ class Changes(DiskCase):
     def test_write_in_place_of_a_file(self):
         for path in self.paths:
             image = Image.open(path)
-            entry = next((it for it in image.files() if it.closed and not it.locked), None)
+            entry = self.plain_file(image)
             if entry is not None:
                 image.write(entry.name, b"replaced", FileType.USR, replace=True)
                 self.assertEqual(image.read(entry.name), b"replaced")

@@ -12,7 +12,7 @@ from . import _library, foreign, petscii, saving
 from ._library import library
 from .entries import FILLER, Entry, FileType, file_type, name_in
 from .petscii import Charset, Name, name_codes
-from .refusals import EXISTS, NO_IMAGE, NO_ROOM, NOT_FOUND, UNSOUND, BrokenDirectory, Flaw, Lossy, Lost, Refused, Unsound
+from .refusals import EXISTS, NEVER_CLOSED, NO_IMAGE, NOT_FOUND, UNSOUND, BrokenDirectory, Flaw, Lossy, Lost, Refused, Unsound
 
 __all__ = ["Form", "Image", "Order", "Which"]
 
@@ -175,7 +175,11 @@ class Image:
 
     def read(self, which: Which) -> Bytes:
         """The bytes of a file. Refused: there is none (62), it was never closed (60), or it can't be read."""
-        return _library.given(library.y1541_image_read, len(self._data), *self._given, self._slot_of(which))
+        slot = self._slot_of(which)
+        entry = self.slots()[slot : slot + 1]
+        if entry and not entry[0].closed and not entry[0].is_empty:
+            raise Refused(NEVER_CLOSED, entry[0].text())
+        return _library.given(library.y1541_image_read, len(self._data), *self._given, slot)
 
     def sector(self, track: int, sector: int) -> Bytes:
         """The 256 bytes of a sector. Refused: the disk has none there, or it can't be read."""
@@ -243,7 +247,11 @@ class Image:
         foreign.require_no_dolphin(self._data)
         codes, slot = _file_name(name), self._slot_of(which)
         foreign.require_no_geos_file(self, slot)
-        self._change(library.y1541_image_copy, slot, codes, len(codes))
+        if self.find(codes) is not None:
+            raise Refused(EXISTS, petscii.text(codes))
+        after = Image(self._data)
+        after._copy(slot, codes)
+        self._data = after._data
 
     def delete(self, which: Which) -> None:
         """Deletes a file. Refused: it is locked (26)."""
@@ -266,13 +274,24 @@ class Image:
 
     def retitle(self, title: Name, id: Optional[Name] = None) -> None:
         """Gives the disk another title, and another id of two codes, or of five with the kind of DOS; without one it keeps its own."""
-        codes, old = name_codes(title), bytes(self._head().mark)
-        mark = old if id is None else _mark(id)
-        self._change(library.y1541_image_retitle, codes, len(codes), mark + old[len(mark) :])
+        codes, mark = name_codes(title), b"" if id is None else _mark(id)
+        after = Image(self._data)
+        after._change(library.y1541_image_retitle, codes, len(codes))
+        if mark:
+            mark += bytes(self._head().mark)[len(mark) :]
+            after._change(library.y1541_image_remark, mark, len(mark))
+        self._data = after._data
 
     def sort(self, by: Order = Order.NAME) -> None:
-        """Sorts the directory."""
-        self._change(library.y1541_image_sort, int(by))
+        """Sorts the directory: by codes of names, or first by types or by the blocks that are shown. Empty slots come last."""
+        after = Image(self._data)
+        keys = [_key(it, by) for it in self.slots()]
+        for place in range(len(keys)):
+            first = keys.index(min(keys[place:]), place)
+            if first != place:
+                after._change(library.y1541_image_swap, place, first)
+                keys[place], keys[first] = keys[first], keys[place]
+        self._data = after._data
 
     def validate(self) -> None:
         """Removes files that were never closed and frees lost blocks, as the drive's VALIDATE. Foreign: the disk has files of GEOS, which it would split."""
@@ -342,6 +361,15 @@ class Image:
         if first != codes:
             self.rename(first, codes)
 
+    def _copy(self, slot: int, codes: Bytes) -> None:
+        """Copies the file in a slot to a name that isn't there: by COPY, while both files have names that it takes for nothing else."""
+        entry, old = self.slots()[slot], self._unused_name()
+        self._change(library.y1541_image_rename, slot, old, len(old))
+        new = self._unused_name()
+        self.command(b"C0:" + new + b"=" + old)
+        self._change(library.y1541_image_rename, slot, entry.field, len(entry.field))
+        self.rename(new, codes)
+
     def _unused_name(self) -> Bytes:
         """A plain name that no file has."""
         names = {it.name for it in self.files()}
@@ -373,6 +401,12 @@ def _mark(id: Name) -> bytes:
     if len(codes) not in (2, 5):
         raise ValueError(f"an id has two codes, or five: {petscii.text(codes)}")
     return codes
+
+
+def _key(entry: Entry, by: Order) -> Tuple[int, int, Bytes]:
+    """What an entry is sorted by: an empty one comes after all files."""
+    first = {Order.NAME: 0, Order.TYPE: int(entry.type), Order.SIZE: entry.blocks}[by]
+    return (1, 0, b"") if entry.is_empty else (0, first, entry.name)
 
 
 def _readable(listing: bytes, charset: Charset) -> str:

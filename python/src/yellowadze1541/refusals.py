@@ -6,7 +6,7 @@ __all__ = ["BrokenDirectory", "Changed", "Flaw", "Foreign", "Lossy", "Lost", "Re
 # The library's own numbers.
 NO_MEMORY, INVALID, NO_ROOM, ABSENT, NO_IMAGE, UNSOUND, NO_DRIVE = range(-1, -8, -1)
 # The drive's statuses that are named here.
-WRITE_PROTECT_ON, NOT_FOUND, EXISTS, TYPE_MISMATCH, DISK_FULL = 26, 62, 63, 64, 72
+WRITE_PROTECT_ON, NEVER_CLOSED, NOT_FOUND, EXISTS, DISK_FULL = 26, 60, 62, 63, 72
 
 _READ_ERRORS = dict.fromkeys((20, 21, 22, 23, 24, 27), "READ ERROR")
 _SYNTAX_ERRORS = dict.fromkeys(range(30, 35), "SYNTAX ERROR")
@@ -28,11 +28,11 @@ WORDS = {
     50: "RECORD NOT PRESENT",
     51: "OVERFLOW IN RECORD",
     52: "FILE TOO LARGE",
-    60: "WRITE FILE OPEN",
+    NEVER_CLOSED: "WRITE FILE OPEN",
     61: "FILE NOT OPEN",
     NOT_FOUND: "FILE NOT FOUND",
     EXISTS: "FILE EXISTS",
-    TYPE_MISMATCH: "FILE TYPE MISMATCH",
+    64: "FILE TYPE MISMATCH",
     66: "ILLEGAL TRACK OR SECTOR",
     70: "NO CHANNEL",
     71: "DIR ERROR",
