@@ -34,6 +34,7 @@ class Opened:
         self.data = bytearray(data)
         self.host_name = host_name  # of a file that is written
         self.is_changed = False  # it has to be put on the disk
+        self.is_refused = False  # it can't be, as bytes of it didn't fit
 
 
 class Folder:
@@ -109,7 +110,7 @@ class Folder:
         return bytes(self._opened[number].data[at : at + size])
 
     def write(self, number: int, data: bytes, at: int) -> int:
-        """Writes bytes at a place of an open file, and answers how many. ENOSPC: they don't fit on the disk."""
+        """Writes bytes at a place of an open file, and answers how many. ENOSPC: they don't fit on the disk, which then keeps the old file."""
         opened = self._opened[number]
         self._require_room(opened, at + len(data))
         opened.data.extend(bytes(max(0, at - len(opened.data))))
@@ -121,7 +122,7 @@ class Folder:
         """Gives an open file another size, with zeros after its end."""
         opened = self._opened[number]
         self._require_room(opened, size)
-        opened.is_changed = opened.is_changed or size != len(opened.data)
+        opened.is_changed, opened.is_refused = opened.is_changed or size != len(opened.data), False
         opened.data = bytearray(opened.data[:size].ljust(size, b"\0"))
 
     def truncate(self, name: str, size: int) -> None:
@@ -236,12 +237,13 @@ class Folder:
             raise OSError(errno.EBADF, os.strerror(errno.EBADF))
         old = blocks_for(self.disk.size_of(opened.host_name)) if opened.host_name in self.disk.files else 0
         if blocks_for(size) > self.disk.free + old:
+            opened.is_refused = True
             raise self.disk.refused(errno.ENOSPC, shown(opened.host_name), str(Refused(DISK_FULL)))
 
     def _put(self, opened: Opened, is_last: bool) -> None:
-        """Puts a file on the disk, if it was changed and isn't deleted."""
+        """Puts a file on the disk, if it was changed, isn't deleted, and all of it fits."""
         host_name = opened.host_name
-        if host_name is None or not self._is_on_disk(opened) or not opened.is_changed or not (opened.data or is_last):
+        if host_name is None or not self._is_on_disk(opened) or not opened.is_changed or opened.is_refused or not (opened.data or is_last):
             return
         opened.is_changed = False
         old = self.disk.files.get(host_name)

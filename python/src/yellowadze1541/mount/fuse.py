@@ -18,6 +18,8 @@ from .folder import Folder
 __all__ = ["NoFuse", "serve"]
 
 _LIBRARIES = ("libfuse3.so.3", "libfuse3.so.4")
+# What libfuse's loop ends with at a signal.
+_ENDED = 8
 # A flag of rename(2).
 _NO_REPLACE = 1
 # A flag of fuse_file_info: the file's bytes aren't kept by the kernel.
@@ -262,4 +264,4 @@ def serve(folder: Folder, place: str, name: str, read_only: bool, is_up: Callabl
     main: Any = library.fuse_main_real
     main.argtypes = [c_int, POINTER(c_char_p), POINTER(_Operations), c_size_t, c_void_p]
     answer: int = main(len(words), arguments, table, ctypes.sizeof(table), None)
-    return answer
+    return 0 if answer == _ENDED else answer
