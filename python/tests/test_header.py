@@ -58,6 +58,13 @@ class Header(unittest.TestCase):
             with self.subTest(name=name):
                 self.assertEqual(list(struct._fields_), fields_of(name))
 
+    def test_the_bytes_of_structs_lie_as_they_are_unpacked(self):
+        for struct, form in ((_library.EntryStruct, _library.ENTRY), (_library.FlawStruct, _library.FLAW)):
+            self.assertEqual(ctypes.sizeof(struct), form.size)
+            values = struct.from_buffer_copy(bytes(range(1, form.size + 1)))
+            there = [getattr(values, name) for name, _ in struct._fields_]
+            self.assertEqual([bytes(it) if isinstance(it, ctypes.Array) else it for it in there], list(form.unpack(bytes(values))))
+
     def test_the_calls_take_the_headers_arguments(self):
         for name, arguments in _library.CALLS.items():
             with self.subTest(name=name):

@@ -1,9 +1,10 @@
 """libyellowadze1541 by ctypes: its structs, its calls, and how what they give is taken. capi/yellowadze1541.h says what each does."""
 import ctypes
 import os
+import struct
 from ctypes import POINTER, c_char_p, c_int32, c_size_t, c_uint8, c_uint16, c_uint32, c_uint64
 from pathlib import Path
-from typing import Any, Callable, Tuple
+from typing import Any, Callable, List, Tuple
 
 from .refusals import NO_ROOM, Refused
 
@@ -49,8 +50,15 @@ class EntryStruct(ctypes.Structure):
     ]
 
 
+# The same, as its bytes lie.
+ENTRY = struct.Struct("=HBBBB16sBB")
+
+
 class FlawStruct(ctypes.Structure):
     _fields_ = [*((name, c_uint8) for name in ("what", "track", "sector", "whose")), ("slot", c_uint16), ("before", c_uint16)]
+
+
+FLAW = struct.Struct("=BBBBHH")
 
 
 class LostStruct(ctypes.Structure):
@@ -144,12 +152,12 @@ def given(call: Callable[..., int], room: int, *arguments: Any) -> bytes:
     return out
 
 
-def all_of(call: Callable[..., int], struct: Any, room: int, image: bytes) -> Tuple[int, Any]:
-    """What a call answers that gives structs, and these, with room for this many at first."""
+def all_of(call: Callable[..., int], form: struct.Struct, room: int, image: bytes) -> Tuple[int, List[Tuple[Any, ...]]]:
+    """What a call answers that gives structs, and their fields, with room for this many at first."""
     count = c_size_t()
     while True:
-        out = (struct * room)()
-        said = call(image, len(image), out, room, count)
+        out = bytearray(room * form.size)
+        said = call(image, len(image), (ctypes.c_char * len(out)).from_buffer(out), room, count)
         if said != NO_ROOM or count.value <= room:
-            return said, out[: count.value]
+            return said, list(form.iter_unpack(memoryview(out)[: count.value * form.size]))
         room = count.value

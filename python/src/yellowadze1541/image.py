@@ -32,7 +32,7 @@ _LETTERS = {FileType.SEQ: b"S", FileType.PRG: b"P", FileType.USR: b"U"}
 # Codes that a name may have in the text of an OPEN; any other name is given afterwards, by its slot.
 _PLAIN = frozenset(b" !%'()-./0123456789;<>ABCDEFGHIJKLMNOPQRSTUVWXYZ[]" + bytes(range(193, 219)))
 # The code that begins a line of a listing in reverse letters, and how many codes of a line are sure to come after its first.
-_REVERSE, _SURE = 0x12, 24
+_REVERSE, _SURE = b"\x12", 24
 
 
 class Form(enum.IntEnum):
@@ -62,6 +62,8 @@ class Image:
         self._data = bytes(data)
         self._path: Optional[str] = None
         self._saved: Optional[Bytes] = None
+        # (of these bytes: what was answered, and the entries)
+        self._listed: Optional[Tuple[Bytes, int, List[Entry]]] = None
         said = library.y1541_image_title(*self._given, _library.Title())
         if said == NO_IMAGE:
             raise Refused(said)
@@ -153,12 +155,14 @@ class Image:
 
     def slots(self) -> List[Entry]:
         """All slots of the directory, empty ones too. BrokenDirectory: it breaks off."""
-        said, found = _library.all_of(library.y1541_image_entries, _library.EntryStruct, _SLOTS, self._data)
-        entries = [_entry(slot, it) for slot, it in enumerate(found)]
+        if self._listed is None or self._listed[0] is not self._data:
+            said, found = _library.all_of(library.y1541_image_entries, _library.ENTRY, _SLOTS, self._data)
+            self._listed = (self._data, said, [_entry(slot, *it) for slot, it in enumerate(found)])
+        _, said, entries = self._listed
         if said > 0:
-            raise BrokenDirectory(said, entries)
+            raise BrokenDirectory(said, list(entries))
         _library.check(said)
-        return entries
+        return list(entries)
 
     def files(self) -> List[Entry]:
         """The files of the directory, in its order; those never closed, too."""
@@ -204,9 +208,9 @@ class Image:
 
     def flaws(self) -> List[Flaw]:
         """Everything that is wrong with the disk."""
-        said, found = _library.all_of(library.y1541_image_flaws, _library.FlawStruct, 16, self._data)
+        said, found = _library.all_of(library.y1541_image_flaws, _library.FLAW, 16, self._data)
         _library.check(said)
-        return [_flaw(it) for it in found]
+        return [_flaw(*it) for it in found]
 
     def convert(self, lossy: bool = False) -> "Image":
         """The image in the other format, D64 or G64. Lossy: it would lose something, and that isn't wanted."""
@@ -376,15 +380,14 @@ class Image:
         return next(it for it in (b"NEW %d" % number for number in range(_SLOTS + 1)) if it not in names)
 
 
-def _entry(slot: int, it: _library.EntryStruct) -> Entry:
-    """An entry of the library's."""
-    field = bytes(it.name)
-    return Entry(slot, name_in(field), file_type(it.kind), it.blocks, bool(it.locked), bool(it.closed), it.record_length, it.track, it.sector, field)
+def _entry(slot: int, blocks: int, kind: int, closed: int, locked: int, record_length: int, field: bytes, track: int, sector: int) -> Entry:
+    """An entry by the fields of the library's."""
+    return Entry(slot, name_in(field), file_type(kind), blocks, locked != 0, closed != 0, record_length, track, sector, field)
 
 
-def _flaw(it: _library.FlawStruct) -> Flaw:
-    """A flaw of the library's."""
-    return Flaw(it.what, it.track, it.sector, it.slot if it.whose == _OF_FILE else None, it.before, it.whose == _OF_DIRECTORY)
+def _flaw(what: int, track: int, sector: int, whose: int, slot: int, before: int) -> Flaw:
+    """A flaw by the fields of the library's."""
+    return Flaw(what, track, sector, slot if whose == _OF_FILE else None, before, whose == _OF_DIRECTORY)
 
 
 def _file_name(name: Name) -> bytes:
@@ -411,13 +414,13 @@ def _key(entry: Entry, by: Order) -> Tuple[int, int, Bytes]:
 
 def _readable(listing: bytes, charset: Charset) -> str:
     """The lines of a directory that the drive sent as a BASIC program: each has its number and its text up to a 0."""
+    shown = petscii.keys(listing, charset)
     lines, at = [], 2
     while at + 4 <= len(listing) and listing[at + 1]:
-        number = listing[at + 2] + 256 * listing[at + 3]
-        first = at + 4
-        end = listing.find(b"\0", first + 1 + _SURE)
+        first, number = at + 4, listing[at + 2] + 256 * listing[at + 3]
+        end = listing.find(0, first + 1 + _SURE)
         end = len(listing) if end < 0 else end
-        shown = petscii.text(listing[first + (listing[first : first + 1] == bytes([_REVERSE])) : end], charset)
-        lines.append(f"{number} {shown}\n")
+        begin = first + (listing[first : first + 1] == _REVERSE)
+        lines.append(f"{number} {shown[begin:end]}\n")
         at = end + 1
-    return "".join(lines)
+    return petscii.spelled("".join(lines))

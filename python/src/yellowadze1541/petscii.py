@@ -48,9 +48,25 @@ for _small, _large in zip(_LETTERS[1:27].lower(), _LETTERS[1:27]):
     _TYPED[Charset.UPPER][_small] = _TYPED[Charset.UPPER][_large]
 
 
+# A character for each code, also for those without a key, which have one of their own for the time being.
+_OWN = 0xF000
+_KEYS = {charset: "".join(shown if len(shown) == 1 else chr(_OWN + code) for code, shown in sorted(table.items())) for charset, table in _SHOWN.items()}
+_KEYLESS = re.compile(f"[{chr(_OWN)}-{chr(_OWN + 255)}]")
+
+
+def keys(name: bytes, charset: Charset) -> str:
+    """A character for each code of a name; `spelled` then makes text of them."""
+    return codecs.charmap_decode(name, "strict", _KEYS[charset])[0]
+
+
+def spelled(shown: str) -> str:
+    """Text in which a code without a key is its number."""
+    return _KEYLESS.sub(lambda it: f"{{{ord(it[0]) - _OWN:02x}}}", shown)
+
+
 def text(name: bytes, charset: Charset = Charset.UPPER) -> str:
     """A name as text: `codes` takes it back as the same bytes."""
-    return codecs.charmap_decode(name, "strict", _SHOWN[charset])[0]
+    return spelled(keys(name, charset))
 
 
 def codes(text: str, charset: Charset = Charset.UPPER) -> bytes:
