@@ -1,9 +1,9 @@
 """Builds the wheel of yellowadze1541: the Python files and the shared library. A backend as PEP 517 has it; needs Python alone.
 
-    pip wheel --no-build-isolation --no-index --no-deps -C library=PATH python
+    YELLOWADZE1541=PATH pip wheel --no-build-isolation --no-index --no-deps python
 
-PATH is libyellowadze1541.so; without -C it is what YELLOWADZE1541 says, or the one that `make` leaves in capi/out. The version is the header's. Equal files
-give an equal wheel, byte for byte.
+PATH is libyellowadze1541.so; -C library=PATH says the same, and without both it is the one that `make` leaves in capi/out. The version is the header's.
+Equal files give an equal wheel, byte for byte.
 """
 import base64
 import csv

@@ -14,7 +14,7 @@ if ! "$python" -c 'import pip, ensurepip, sys; sys.exit(sys.version_info < (3, 9
     echo "0 passed, 0 failed"
     exit 0
 fi
-"$python" -m pip wheel --quiet --no-build-isolation --no-index --no-deps -C library="$library" -w "$work/wheels" "$root/python"
+YELLOWADZE1541=$library "$python" -m pip wheel --quiet --no-build-isolation --no-index --no-deps -w "$work/wheels" "$root/python"
 "$python" -m venv "$work/venv"
 "$work/venv/bin/python" -m pip install --quiet --no-index --no-deps "$work"/wheels/*.whl
 cd "$work"
