@@ -11,10 +11,13 @@ ROOT = Path(__file__).resolve().parents[2]
 HELLO = ROOT / "examples" / "hello.d64"
 DISK1541 = os.environ.get("DISK1541", "disk1541")
 
+# The user and the group that own nothing.
+NOBODY = 65534
+
 sys.path.insert(0, str(ROOT / "tests" / "programs"))
 import generated_disks as model  # noqa: E402 (it is found by the line above)
 
-__all__ = ["HELLO", "ROOT", "DiskCase", "disk1541", "json_of", "model", "model_disk"]
+__all__ = ["HELLO", "ROOT", "DiskCase", "as_nobody", "disk1541", "json_of", "model", "model_disk"]
 
 
 def disk1541(*words, status=0, **more):
@@ -42,6 +45,21 @@ def model_disk(seed, names=None):
         disk.put_directory()
         disk.put_map()
     return disk
+
+
+def as_nobody(work):
+    """Whether some work answers true in a process that may not write the files of others."""
+    child = os.fork()
+    if child:
+        return os.waitstatus_to_exitcode(os.waitpid(child, 0)[1]) == 0
+    status = 1
+    try:
+        if os.geteuid() == 0:
+            os.setgid(NOBODY)
+            os.setuid(NOBODY)
+        status = 0 if work() else 1
+    finally:
+        os._exit(status)
 
 
 class DiskCase(unittest.TestCase):

@@ -11,9 +11,10 @@ import threading
 import time
 import unittest
 
-from support import HELLO, DiskCase, disk1541, model, model_disk
+from support import HELLO, DiskCase, as_nobody, disk1541, model, model_disk
 from yellowadze1541 import FileType, Form, Image
 from yellowadze1541.mount import names
+from yellowadze1541.mount.disk import Disk
 
 # How long is waited for a mount, in seconds.
 LIMIT = 20
@@ -128,6 +129,23 @@ class Looks(MountCase):
         self.refused(errno.EROFS, (folder / "new.prg").write_bytes, b"1")
         self.assertIn("isn't sound", (folder / ".status").read_text())
         self.assertEqual((self.folder / "wrong.d64").read_bytes(), bytes(data))
+
+    def test_an_image_that_may_not_be_written_can_be_read_alone(self):
+        path = self.file("hello.d64", HELLO.read_bytes())
+        self.folder.chmod(0o777)
+        path.chmod(0o644)
+        self.assertIsNone(Disk(str(path)).why_read_only)
+        self.assertTrue(as_nobody(lambda: "may not be written" in Disk(str(path)).why_read_only))
+        path.chmod(0o666)
+        self.assertTrue(as_nobody(lambda: Disk(str(path)).why_read_only is None))
+        self.folder.chmod(0o755)
+        self.assertTrue(as_nobody(lambda: "may not be written" in Disk(str(path)).why_read_only))
+
+    def test_a_folder_that_would_hide_the_image_is_refused(self):
+        path = self.file("hello.d64", HELLO.read_bytes())
+        for folder in (self.folder, self.folder.parent):
+            ran = subprocess.run([sys.executable, "-m", "yellowadze1541.mount", path, folder], capture_output=True, text=True, check=False)
+            self.assertEqual((ran.returncode, "take another folder" in ran.stderr), (1, True))
 
     def test_for_reading_alone(self):
         path = self.file("hello.d64", HELLO.read_bytes())

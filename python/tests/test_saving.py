@@ -8,7 +8,7 @@ import sys
 import time
 import unittest
 
-from support import DISK1541, HELLO, DiskCase, disk1541
+from support import DISK1541, HELLO, DiskCase, as_nobody, disk1541
 from yellowadze1541 import Changed, Form, Image, Refused
 
 # A program that saves an image for ever, each time with another title.
@@ -99,14 +99,20 @@ class Saving(DiskCase):
         image.save(self.folder / "new.d64")
         self.assertEqual(disk1541("check", self.folder / "new.d64"), b"sound\n")
 
-    @unittest.skipIf(os.geteuid() == 0, "root may write any file")
     def test_a_file_that_may_not_be_written_stays(self):
+        self.folder.chmod(0o777)
         self.path.chmod(0o444)
-        image = Image.open(self.path)
-        image.retitle("MINE")
-        with self.assertRaises(PermissionError):
-            image.save()
+
+        def is_refused():
+            image = Image.open(self.path)
+            image.retitle("MINE")
+            with self.assertRaises(PermissionError):
+                image.save()
+            return True
+
+        self.assertTrue(as_nobody(is_refused))
         self.assertEqual(os.listdir(self.folder), ["hello.d64"])
+        self.assertEqual(self.path.read_bytes(), HELLO.read_bytes())
 
     def test_a_folder_that_is_gone_is_told(self):
         image = Image.open(self.path)

@@ -1,7 +1,7 @@
 """The serial bus between a host and drives, as an emulator keeps it: examples/c/bus.h in Python."""
 from typing import List, Optional, Tuple
 
-from .drive import Drive
+from .drive import Drive, Pulls
 
 __all__ = ["Bus"]
 
@@ -11,7 +11,7 @@ class Bus:
 
     def __init__(self, *drives: Drive) -> None:
         self.drives: List[Drive] = []
-        self._pulls: List[Tuple[bool, bool]] = []
+        self._pulls: List[Pulls] = []
         self.atn = self.clock = self.data = False  # what the host holds
         for it in drives:
             self.add(it, 0)
@@ -19,7 +19,7 @@ class Bus:
     def add(self, drive: Drive, now: int) -> None:
         """Puts a drive on the bus, which is told what all others hold."""
         self.drives.append(drive)
-        self._pulls.append(tuple(drive.pulls))
+        self._pulls.append(drive.pulls)
         self._tell(len(self.drives) - 1, now)
 
     def write(self, now: int, atn: bool, clock: bool, data: bool) -> None:
@@ -43,14 +43,14 @@ class Bus:
             due, number = min(dues)
             reaction = self.drives[number].due(due)
             assert reaction is not None
-            self._pulls[number] = (reaction.clock, reaction.data)
+            self._pulls[number] = Pulls(reaction.clock, reaction.data)
             if reaction.clock_changed or reaction.data_changed:
                 self._tell_all(number, due)
 
     def _joined(self, but: Optional[int]) -> Tuple[bool, bool]:
         """Whether CLOCK and DATA are low by the host and all drives but one."""
         others = [it for number, it in enumerate(self._pulls) if number != but]
-        return self.clock or any(it[0] for it in others), self.data or any(it[1] for it in others)
+        return self.clock or any(it.clock for it in others), self.data or any(it.data for it in others)
 
     def _tell(self, number: int, now: int) -> None:
         self.drives[number].lines(now, self.atn, *self._joined(number))

@@ -177,10 +177,12 @@ class Kernal:
         self._attention(18, value)
 
     def listen(self, device: int) -> None:
+        """LISTEN to a device."""
         self._works()
         self._list1(62, 0x20 | device)
 
     def talk(self, device: int) -> None:
+        """TALK to a device."""
         self._works()
         self._list1(62, 0x40 | device)
 
@@ -207,6 +209,7 @@ class Kernal:
         self._buffered = value
 
     def unlisten(self) -> None:
+        """The byte that waits, as the last one, and UNLISTEN."""
         self._works()
         if self._buffered is None:
             self._list1(42, 0x3F)
@@ -217,6 +220,7 @@ class Kernal:
         self._release(36)
 
     def untalk(self) -> None:
+        """UNTALK."""
         self._works()
         self._store(31, clock=True)
         self._store(16, atn=True)

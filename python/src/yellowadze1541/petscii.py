@@ -5,7 +5,7 @@ A code with a key of its own is that key's character. Any other is its number, a
 import codecs
 import enum
 import re
-from typing import Dict, Union
+from typing import Any, Dict, Union
 
 __all__ = ["Charset", "Name", "codes", "name_codes", "text"]
 
@@ -50,13 +50,14 @@ for _small, _large in zip(_LETTERS[1:27].lower(), _LETTERS[1:27]):
 
 # A character for each code, also for those without a key, which have one of their own for the time being.
 _OWN = 0xF000
-_KEYS = {charset: "".join(shown if len(shown) == 1 else chr(_OWN + code) for code, shown in sorted(table.items())) for charset, table in _SHOWN.items()}
+_KEYS: Dict[Charset, Any] = {charset: "".join(shown if len(shown) == 1 else chr(_OWN + code) for code, shown in sorted(table.items())) for charset, table in _SHOWN.items()}
 _KEYLESS = re.compile(f"[{chr(_OWN)}-{chr(_OWN + 255)}]")
 
 
 def keys(name: bytes, charset: Charset) -> str:
     """A character for each code of a name; `spelled` then makes text of them."""
-    return codecs.charmap_decode(name, "strict", _KEYS[charset])[0]
+    shown: str = codecs.charmap_decode(name, "strict", _KEYS[charset])[0]
+    return shown
 
 
 def spelled(shown: str) -> str:

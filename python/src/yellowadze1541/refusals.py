@@ -1,6 +1,8 @@
 """What the library refuses, as exceptions with its numbers and words."""
 from typing import List, NamedTuple, Optional
 
+from .entries import Entry
+
 __all__ = ["BrokenDirectory", "Changed", "Flaw", "Foreign", "Lossy", "Lost", "Refused", "Unsound"]
 
 # The library's own numbers.
@@ -102,7 +104,7 @@ class Unsound(Refused):
 class BrokenDirectory(Refused):
     """The directory breaks off: `entries` has those before."""
 
-    def __init__(self, number: int, entries: List) -> None:
+    def __init__(self, number: int, entries: List[Entry]) -> None:
         super().__init__(number, f"the directory breaks off after {len(entries)} entries")
         self.entries = entries
 

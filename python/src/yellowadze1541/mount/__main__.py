@@ -16,7 +16,8 @@ from .fuse import NoFuse, serve
 
 def _words() -> argparse.Namespace:
     """The words of the command line."""
-    words = argparse.ArgumentParser(prog="python -m yellowadze1541.mount", description=__doc__.split(": ", 1)[1], formatter_class=argparse.RawDescriptionHelpFormatter)
+    about = __doc__.split(": ", 1)[1]
+    words = argparse.ArgumentParser(prog="python -m yellowadze1541.mount", description=about, formatter_class=argparse.RawDescriptionHelpFormatter)
     words.add_argument("image", metavar="IMAGE")
     words.add_argument("folder", metavar="FOLDER")
     words.add_argument("--read-only", action="store_true", help="nothing can be written")
@@ -51,6 +52,9 @@ def main() -> int:
         disk = Disk(words.image, words.read_only)
     except (OSError, Refused) as error:
         print(f"mount: {words.image}: {error}", file=sys.stderr)
+        return 1
+    if os.path.realpath(words.image).startswith(os.path.join(os.path.realpath(words.folder), "")):
+        print(f"mount: {words.image} lies in {words.folder}, and would be hidden by it: take another folder", file=sys.stderr)
         return 1
     why = disk.why_read_only
     if why and not words.read_only:

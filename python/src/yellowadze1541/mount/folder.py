@@ -5,6 +5,7 @@ A file that is open for writing is kept here, and put on the disk whole when it 
 import errno
 import os
 import stat
+from functools import partial
 from typing import Dict, List, NamedTuple, Optional, Tuple
 
 from ..entries import Entry
@@ -146,8 +147,9 @@ class Folder:
         try:
             self._put(opened, True)
         finally:
-            if self._is_on_disk(opened):
-                del self._written[opened.host_name]
+            host_name = self._name_of(opened)
+            if host_name is not None:
+                del self._written[host_name]
 
     # --- changes
 
@@ -155,8 +157,8 @@ class Folder:
         """Deletes a file. EPERM: it is locked."""
         self.disk.require_writable(name)
         host_name = self._known(name)
-        entry = self.disk.files.get(host_name)
-        if entry is not None:
+        if host_name in self.disk.files:
+            entry = self.disk.files[host_name]
             self.disk.change(name, lambda image: image.delete(entry))
         self._written.pop(host_name, None)
 
@@ -222,9 +224,10 @@ class Folder:
         entry = self.disk.files.get(host_name)
         return entry is not None and (entry.locked or host_name.type not in WRITABLE or host_name.number > 0)
 
-    def _is_on_disk(self, opened: Opened) -> bool:
-        """Whether an open file is written, and wasn't deleted meanwhile."""
-        return opened.host_name is not None and self._written.get(opened.host_name) is opened
+    def _name_of(self, opened: Opened) -> Optional[HostName]:
+        """The name of an open file that is written and wasn't deleted meanwhile; None of any other."""
+        is_there = opened.host_name is not None and self._written.get(opened.host_name) is opened
+        return opened.host_name if is_there else None
 
     def _numbered(self, opened: Opened) -> int:
         self._last_number += 1
@@ -242,12 +245,12 @@ class Folder:
 
     def _put(self, opened: Opened, is_last: bool) -> None:
         """Puts a file on the disk, if it was changed, isn't deleted, and all of it fits."""
-        host_name = opened.host_name
-        if host_name is None or not self._is_on_disk(opened) or not opened.is_changed or opened.is_refused or not (opened.data or is_last):
+        host_name = self._name_of(opened)
+        if host_name is None or not opened.is_changed or opened.is_refused or not (opened.data or is_last):
             return
         opened.is_changed = False
-        old = self.disk.files.get(host_name)
-        self.disk.change(shown(host_name), lambda image: _replace(image, old, host_name, bytes(opened.data)))
+        work = partial(_replace, old=self.disk.files.get(host_name), host_name=host_name, data=bytes(opened.data))
+        self.disk.change(shown(host_name), work)
 
     def _rename_opened(self, before: HostName, after: HostName) -> None:
         """A file that is open is written under its new name, and the one that had it isn't any more."""

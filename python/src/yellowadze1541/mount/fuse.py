@@ -10,7 +10,7 @@ import signal
 import stat
 import traceback
 from ctypes import CFUNCTYPE, POINTER, c_char, c_char_p, c_double, c_int, c_int32, c_int64, c_size_t, c_uint, c_uint32, c_uint64, c_ulong, c_void_p
-from typing import Any, Callable, Optional
+from typing import Any, Callable, Dict, Optional, Tuple
 
 from .disk import BLOCK, SLOTS
 from .folder import Folder
@@ -74,7 +74,7 @@ class _Settings(ctypes.Structure):
 _PATH, _INFO = c_char_p, POINTER(_FileInfo)
 _FILL = CFUNCTYPE(c_int, c_void_p, c_char_p, c_void_p, c_int64, c_int)
 # The operations in the order of struct fuse_operations, up to the last one that is used here: their arguments.
-_OPERATIONS = {
+_OPERATIONS: Dict[str, Tuple[Any, ...]] = {
     "getattr": (_PATH, POINTER(_Stat), _INFO),
     "readlink": (),
     "mknod": (),
@@ -109,7 +109,7 @@ _OPERATIONS = {
     "lock": (),
     "utimens": (_PATH, c_void_p, _INFO),
 }
-_TYPES = {name: CFUNCTYPE(c_void_p if name == "init" else c_int, *arguments) if arguments else c_void_p for name, arguments in _OPERATIONS.items()}
+_TYPES: Dict[str, Any] = {name: CFUNCTYPE(c_void_p if name == "init" else c_int, *arguments) if arguments else c_void_p for name, arguments in _OPERATIONS.items()}
 
 
 class _Operations(ctypes.Structure):
@@ -158,6 +158,7 @@ class _Served:
         self.is_up()
 
     def getattr(self, path: Optional[bytes], out: Any, info: Any) -> None:
+        """The mode and the size of a file, or of the folder."""
         it = out.contents
         ctypes.memset(out, 0, ctypes.sizeof(_Stat))
         it.uid, it.gid, it.links, it.block_size = os.getuid(), os.getgid(), 1, BLOCK
@@ -169,10 +170,12 @@ class _Served:
         it.blocks = -(-it.size // 512)
 
     def readdir(self, path: bytes, out: int, fill: Any, at: int, info: Any, flags: int) -> None:
+        """The names in the folder."""
         for name in (".", "..", *self.folder.names()):
             fill(out, name.encode(), None, 0, 0)
 
     def statfs(self, path: bytes, out: Any) -> None:
+        """How many blocks and slots there are, and are free."""
         it = out.contents
         it.free, it.files_free = self.folder.free()
         it.available, it.files_available = it.free, it.files_free
@@ -180,6 +183,7 @@ class _Served:
         it.blocks, it.files, it.longest_name = self.folder.disk.blocks, SLOTS, _LONGEST_NAME
 
     def open(self, path: bytes, info: Any) -> None:
+        """Opens a file for reading, or for writing."""
         it = info.contents
         if it.flags & os.O_ACCMODE == os.O_RDONLY:
             it.handle = self.folder.open_reading(_name(path))
@@ -188,40 +192,50 @@ class _Served:
         it.bits |= _DIRECT_IO if path.startswith(b"/.") else 0
 
     def create(self, path: bytes, mode: int, info: Any) -> None:
+        """Makes a file, and opens it."""
         info.contents.handle = self.folder.create(_name(path))
 
     def read(self, path: Optional[bytes], out: Any, size: int, at: int, info: Any) -> int:
+        """Bytes of an open file."""
         data = self.folder.read(info.contents.handle, size, at)
         ctypes.memmove(out, data, len(data))
         return len(data)
 
     def write(self, path: Optional[bytes], data: Any, size: int, at: int, info: Any) -> int:
+        """Writes bytes to an open file."""
         return self.folder.write(info.contents.handle, ctypes.string_at(data, size), at)
 
     def truncate(self, path: Optional[bytes], size: int, info: Any) -> None:
+        """Gives a file another size."""
         if info:
             self.folder.resize(info.contents.handle, size)
         else:
             self.folder.truncate(_name(path or b"/"), size)
 
     def flush(self, path: Optional[bytes], info: Any) -> None:
+        """A file is closed, perhaps not for the last time."""
         self.folder.flush(info.contents.handle)
 
     def fsync(self, path: Optional[bytes], only_data: int, info: Any) -> None:
+        """What was written has to be in the image."""
         self.folder.flush(info.contents.handle, True)
 
     def release(self, path: Optional[bytes], info: Any) -> None:
+        """A file is closed for the last time."""
         self.folder.close(info.contents.handle)
 
     def unlink(self, path: bytes) -> None:
+        """Deletes a file."""
         self.folder.delete(_name(path))
 
     def rename(self, old: bytes, new: bytes, flags: int) -> None:
+        """Gives a file another name."""
         if flags & ~_NO_REPLACE:
             raise OSError(errno.EINVAL, os.strerror(errno.EINVAL))
         self.folder.rename(_name(old), _name(new), not flags & _NO_REPLACE)
 
     def chmod(self, path: Optional[bytes], mode: int, info: Any) -> None:
+        """Locks a file, or frees it."""
         if path != b"/":
             self.folder.protect(_name(path or b"/"), mode)
 
@@ -234,9 +248,11 @@ class _Served:
         """A disk knows no times."""
 
     def mkdir(self, path: bytes, mode: int) -> None:
+        """A disk has no folders."""
         raise OSError(errno.EPERM, os.strerror(errno.EPERM))
 
     def rmdir(self, path: bytes) -> None:
+        """Nor can one be removed."""
         raise OSError(errno.EPERM, os.strerror(errno.EPERM))
 
 
