@@ -211,8 +211,13 @@ class Changes(DiskCase):
             before = image.bytes
             image.delete(entry)
             self.assertIn(entry.name, [it.name for it in image.deleted()])
-            image.undelete(entry.slot, entry.type)
-            self.assertEqual(image.bytes, before)
+            gone = next(it for it in image.deleted() if it.slot == entry.slot)
+            after = image.bytes
+            for which in (entry.slot, gone, entry.name):
+                image = Image(after)
+                image.undelete(which, entry.type)
+                self.assertEqual(image.bytes, before)
+            self.assertTrue(refused(62, image.undelete, entry.slot))
 
     def test_write(self):
         for kind in (FileType.PRG, FileType.SEQ, FileType.USR):
@@ -236,6 +241,18 @@ class Changes(DiskCase):
                 self.assertEqual(image.read(entry.name), b"replaced")
                 self.assertIsNone(image.check())
                 self.assertTrue(refused(63, image.write, entry.name, b""))
+
+    def test_a_file_that_is_replaced_keeps_its_slot(self):
+        put = self.file("put.bin", bytes(3000))
+        for path in self.paths:
+            image = Image.open(path)
+            entry = self.plain_file(image)
+            if entry is not None:
+                image.write(entry.name, bytes(3000), entry.type, replace=True)
+                disk1541("put", path, put, f"--name={entry.text()}", "--type", entry.type.name.lower(), "--replace")
+                files = [(it.slot, it.name, it.type) for it in image.files()]
+                self.assertEqual(files, [(it.slot, it.name, it.type) for it in Image.open(path).files()])
+                self.assertIsNone(image.check())
 
     def test_convert(self):
         for path in self.paths:

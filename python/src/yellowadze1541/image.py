@@ -71,7 +71,7 @@ class Image:
     @classmethod
     def open(cls, path: Union[str, "os.PathLike[str]"]) -> "Image":
         """The image in a file. OSError; Refused: it has none."""
-        name = os.fspath(path)
+        name = os.path.abspath(path)
         image = cls(saving.read(name))
         image._path, image._saved = name, image._data
         return image
@@ -90,7 +90,7 @@ class Image:
     @contextlib.contextmanager
     def change(cls, path: Union[str, "os.PathLike[str]"]) -> Iterator["Image"]:
         """The image in a file, saved when the block ends without an exception. Others that save in its folder wait meanwhile, as for a command of disk1541."""
-        name = os.fspath(path)
+        name = os.path.abspath(path)
         with saving.locked_folder(name):
             image = cls.open(name)
             yield image
@@ -105,7 +105,7 @@ class Image:
         """
         if path is None and self._path is None:
             raise ValueError("the image has no file yet: say a path")
-        name = self._path if path is None else os.fspath(path)
+        name = self._path if path is None else os.path.abspath(path)
         assert name is not None
         is_own = name == self._path
         with saving.locked_folder(name):
@@ -179,11 +179,10 @@ class Image:
 
     def read(self, which: Which) -> Bytes:
         """The bytes of a file. Refused: there is none (62), it was never closed (60), or it can't be read."""
-        slot = self._slot_of(which)
-        entry = self.slots()[slot : slot + 1]
-        if entry and not entry[0].closed and not entry[0].is_empty:
-            raise Refused(NEVER_CLOSED, entry[0].text())
-        return _library.given(library.y1541_image_read, len(self._data), *self._given, slot)
+        entry = self._entry_of(which)
+        if not entry.closed:
+            raise Refused(NEVER_CLOSED, entry.text())
+        return _library.given(library.y1541_image_read, len(self._data), *self._given, entry.slot)
 
     def sector(self, track: int, sector: int) -> Bytes:
         """The 256 bytes of a sector. Refused: the disk has none there, or it can't be read."""
@@ -226,30 +225,41 @@ class Image:
     def write(self, name: Name, data: Bytes, type: FileType = FileType.PRG, replace: bool = False) -> None:
         """Writes a file: a program, or of type SEQ or USR. An empty one becomes one byte, 13, as the drive closes it.
 
-        With `replace` the file of that name is deleted first. Refused: the name is there (63), the disk is full (72) ..
+        With `replace` a file of that name gets these bytes and this type. Refused: the name is there (63), the disk is full (72) ..
         """
-        if type not in _LETTERS:
-            raise ValueError("only files of type SEQ, PRG and USR can be written")
-        foreign.require_no_dolphin(self._data)
         codes = _file_name(name)
-        after = Image(self._data)
-        old = after.find(codes)
-        if old is not None and not replace:
-            raise Refused(EXISTS, petscii.text(codes))
+        old = self.find(codes)
+        if old is not None and replace:
+            self.rewrite(old, data, type)
+            return
+        letter = self._letter_to_write(type)
         if old is not None:
-            after.delete(old)
-        after._put(codes, bytes(data), _LETTERS[type])
+            raise Refused(EXISTS, petscii.text(codes))
+        after = Image(self._data)
+        after._put(codes, bytes(data), letter)
+        self._data = after._data
+
+    def rewrite(self, which: Which, data: Bytes, type: Optional[FileType] = None) -> None:
+        """Gives a file other bytes, and another type if one is said, in its place in the directory. The old blocks are free for them. Refused: it is locked (26) .."""
+        old = self._entry_of(which)
+        letter = self._letter_to_write(old.type if type is None else type)
+        after = Image(self._data)
+        after.delete(old)
+        after._put(old.name, bytes(data), letter)
+        new = after.find(old.name)
+        if new is not None and new.slot != old.slot:
+            after._change(library.y1541_image_swap, new.slot, old.slot)
         self._data = after._data
 
     def rename(self, which: Which, name: Name) -> None:
         """Gives a file another name. Refused: a file has it already (63)."""
         codes = _file_name(name)
-        self._change(library.y1541_image_rename, self._slot_of(which), codes, len(codes))
+        self._change(library.y1541_image_rename, self._entry_of(which).slot, codes, len(codes))
 
     def copy(self, which: Which, name: Name) -> None:
         """Copies a file on the disk. Refused: it is a relative file (64), was never closed (60) .. Foreign: it is GEOS's."""
         foreign.require_no_dolphin(self._data)
-        codes, slot = _file_name(name), self._slot_of(which)
+        codes, slot = _file_name(name), self._entry_of(which).slot
         foreign.require_no_geos_file(self, slot)
         if self.find(codes) is not None:
             raise Refused(EXISTS, petscii.text(codes))
@@ -260,21 +270,29 @@ class Image:
     def delete(self, which: Which) -> None:
         """Deletes a file. Refused: it is locked (26)."""
         foreign.require_no_dolphin(self._data)
-        self._change(library.y1541_image_delete, self._slot_of(which))
+        self._change(library.y1541_image_delete, self._entry_of(which).slot)
 
     def lock(self, which: Which, locked: bool = True) -> None:
         """Protects a file from being deleted, or frees it again."""
-        self._change(library.y1541_image_lock, self._slot_of(which), int(locked))
+        self._change(library.y1541_image_lock, self._entry_of(which).slot, int(locked))
 
     def unlock(self, which: Which) -> None:
         """Frees a file that is protected."""
         self.lock(which, False)
 
-    def undelete(self, which: Union[Entry, int], type: FileType = FileType.PRG) -> None:
-        """Gives back the deleted file of an entry or a slot, whose type was lost. Refused: its blocks aren't free any more .."""
+    def undelete(self, which: Which, type: FileType = FileType.PRG) -> None:
+        """Gives back a deleted file, whose type was lost. Refused: there is none, or its blocks aren't free any more, or the disk has lost blocks (`validate` it)."""
         foreign.require_no_dolphin(self._data)
-        slot = self._same_slot(which) if isinstance(which, Entry) else which
-        self._change(library.y1541_image_undelete, _library.byte(slot, "a slot"), int(type))
+        deleted = self.deleted()
+        if isinstance(which, (Entry, int)):
+            slot = which.slot if isinstance(which, Entry) else which
+            found = next((it for it in deleted if it.slot == slot), None)
+        else:
+            codes = name_codes(which)
+            found = next((it for it in deleted if it.name == codes), None)
+        if found is None:
+            raise Refused(NOT_FOUND, _said(which))
+        self._change(library.y1541_image_undelete, found.slot, int(type))
 
     def retitle(self, title: Name, id: Optional[Name] = None) -> None:
         """Gives the disk another title, and another id of two codes, or of five with the kind of DOS; without one it keeps its own."""
@@ -329,23 +347,25 @@ class Image:
         _library.check(library.y1541_image_title(*self._given, title), "18/0")
         return title
 
-    def _slot_of(self, which: Which) -> int:
-        """The slot of a file. Refused: there is no such file (62)."""
-        if isinstance(which, Entry):
-            return self._same_slot(which)
-        if isinstance(which, int):
-            return _library.byte(which, "a slot")
-        entry = self.find(which)
-        if entry is None:
-            raise Refused(NOT_FOUND, petscii.text(name_codes(which)))
-        return entry.slot
+    def _entry_of(self, which: Which) -> Entry:
+        """The entry of a file. Refused: there is no such file (62), or another one has come to the entry's slot."""
+        if isinstance(which, (Entry, int)):
+            slot = which.slot if isinstance(which, Entry) else which
+            found = next((it for it in self.files() if it.slot == slot), None)
+            if found is not None and isinstance(which, Entry) and _place(found) != _place(which):
+                found = None
+        else:
+            found = self.find(which)
+        if found is None:
+            raise Refused(NOT_FOUND, _said(which))
+        return found
 
-    def _same_slot(self, entry: Entry) -> int:
-        """The slot of an entry, which still has that name and that first block. Refused: it hasn't (62)."""
-        now = self.slots()[entry.slot : entry.slot + 1]
-        if not now or (now[0].name, now[0].track, now[0].sector) != (entry.name, entry.track, entry.sector):
-            raise Refused(NOT_FOUND, f"slot {entry.slot} has another file than {entry.text()} now")
-        return entry.slot
+    def _letter_to_write(self, type: Union[FileType, int]) -> Bytes:
+        """The letter of a type that can be written, on a disk that can. ValueError: it can't. Foreign: the disk can't."""
+        if type not in _LETTERS:
+            raise ValueError("only files of type SEQ, PRG and USR can be written")
+        foreign.require_no_dolphin(self._data)
+        return _LETTERS[FileType(type)]
 
     def _change(self, call: Callable[..., int], *arguments: Any) -> None:
         """Takes the image that a call gives. Unsound: the disk isn't sound."""
@@ -388,6 +408,18 @@ def _entry(slot: int, blocks: int, kind: int, closed: int, locked: int, record_l
 def _flaw(what: int, track: int, sector: int, whose: int, slot: int, before: int) -> Flaw:
     """A flaw by the fields of the library's."""
     return Flaw(what, track, sector, slot if whose == _OF_FILE else None, before, whose == _OF_DIRECTORY)
+
+
+def _place(entry: Entry) -> Tuple[bytes, int, int]:
+    """What tells a file from others: its name and its first block."""
+    return entry.name, entry.track, entry.sector
+
+
+def _said(which: Which) -> str:
+    """A file as it was said."""
+    if isinstance(which, Entry):
+        return f"{which.text()} in slot {which.slot}"
+    return f"slot {which}" if isinstance(which, int) else petscii.text(name_codes(which))
 
 
 def _file_name(name: Name) -> bytes:

@@ -262,17 +262,18 @@ class Folder:
 
 
 def _replace(image: Image, old: Optional[Entry], host_name: HostName, data: bytes) -> None:
-    """Writes a file in place of an old one."""
-    if old is not None:
-        image.delete(old)
-    image.write(host_name.name, data, host_name.type)
+    """Writes a file, in place of an old one if there is one."""
+    if old is None:
+        image.write(host_name.name, data, host_name.type)
+    else:
+        image.rewrite(old, data)
 
 
 def _rename(image: Image, entry: Entry, replaced: Optional[Entry], after: HostName) -> None:
-    """Gives a file another name, after the file that has it was deleted. One of another type is written anew."""
+    """Gives a file another name, after the file that has it was deleted, and another type."""
     if replaced is not None:
         image.delete(replaced)
-    if entry.type == after.type:
+    if entry.name != after.name:
         image.rename(entry, after.name)
-    else:
-        _replace(image, entry, after, image.read(entry))
+    if entry.type != after.type:
+        image.rewrite(entry.slot, image.read(entry.slot), after.type)
