@@ -1,4 +1,5 @@
 """A drive on the lines, and a computer at it, against the C example and the calls on images."""
+import contextlib
 import os
 import shutil
 import subprocess
@@ -51,22 +52,49 @@ def save(host, name):
     host.close(1)
 
 
+@unittest.skipUnless(shutil.which("cc") and os.environ.get("LIBRARY"), "no C compiler, or LIBRARY doesn't name the library")
 class AgainstC(DiskCase):
-    @unittest.skipUnless(shutil.which("cc") and os.environ.get("LIBRARY"), "no C compiler, or LIBRARY doesn't name the library")
-    def test_the_kernal_does_what_the_c_example_does(self):
-        library, program = os.environ["LIBRARY"], self.folder / "kernal_host"
-        words = ["cc", "-std=c99", "-I", ROOT / "capi", "-I", ROOT / "examples" / "c", "-o", program, ROOT / "examples" / "c" / "kernal_host.c", library]
-        subprocess.run([*map(str, words), f"-Wl,-rpath,{self.folder}"], check=True)
+    def printed(self, source, *words):
+        """What a C program prints, with the same library."""
+        library, program = os.environ["LIBRARY"], self.folder / source.stem
         (self.folder / "libyellowadze1541.so.0.3").symlink_to(library)
-        ran = subprocess.run([program, HELLO, self.folder / "c.d64"], capture_output=True, text=True, check=True)
+        folders = ["-I", ROOT / "capi", "-I", ROOT / "examples" / "c"]
+        subprocess.run(["cc", "-std=c99", *folders, "-o", program, source, library, f"-Wl,-rpath,{self.folder}"], check=True)
+        return subprocess.run([program, HELLO, *words], capture_output=True, text=True, check=True).stdout
+
+    def test_the_kernal_does_what_the_c_example_does(self):
+        said = self.printed(ROOT / "examples" / "c" / "kernal_host.c", self.folder / "c.d64")
         lines = []
         for number, (name, computer, pace, reaction) in enumerate(RUNS):
             with Drive(Image.open(HELLO), reaction=reaction, pace=pace) as drive:
                 host = Host(drive, computer=computer, seed=number)
                 lines += [f"-- {name}", *jobs(host, pace == Pace.KERNAL)]
                 image = drive.image
-        self.assertEqual(lines, ran.stdout.splitlines()[: len(lines)])
+        self.assertEqual(lines, said.splitlines()[: len(lines)])
         self.assertEqual(image.bytes, (self.folder / "c.d64").read_bytes())
+
+    def test_the_kernal_takes_the_cycles_of_the_c_example(self):
+        lines = []
+        for number in range(10):
+            with Drive(Image.open(HELLO), reaction=6 * number + 1) as first, Drive(Image.open(HELLO), device=9) as second:
+                host = Host(first, second, computer=list(Computer)[number % 5], seed=number)
+                lines.append(" ".join(map(str, self.cycles(host))))
+        self.assertEqual(lines, self.printed(ROOT / "python" / "tests" / "cycles.c").splitlines())
+
+    @staticmethod
+    def cycles(host):
+        """The jobs of cycles.c, and the cycles after each."""
+        host.load("$")
+        yield host.kernal.cycles
+        host.device = 9
+        host.open(1, "NEW")
+        host.send(1, bytes([1, 8, 0xFF, 0x55, 0]))
+        host.close(1)
+        yield host.kernal.cycles
+        host.open(0, "NONE")
+        with contextlib.suppress(BusError):
+            host.receive(0)
+        yield host.kernal.cycles
 
 
 class Computers(unittest.TestCase):
@@ -187,6 +215,20 @@ class Lines(unittest.TestCase):
             with self.assertRaises(Refused) as told:
                 call()
             self.assertEqual(told.exception.number, -7)
+
+    def test_the_bus_tells_each_drive_what_all_others_hold(self):
+        class Heard(Drive):
+            def lines(self, moment, atn, clock, data):
+                heard.append((self.device, moment, atn, clock, data))
+                super().lines(moment, atn, clock, data)
+
+        heard = []
+        with Heard(self.image, reaction=20) as first, Heard(self.image, device=9, reaction=30) as second:
+            bus = Bus(first, second)
+            bus.write(100, True, True, False)
+            bus.run_to(200)
+        both = [(device, moment, *rest) for moment, *rest in ((0, False, False, False), (100, True, True, False)) for device in (8, 9)]
+        self.assertEqual(heard, [*both, (9, 120, True, True, True), (8, 130, True, True, True)])
 
     def test_the_bus_joins_the_lines(self):
         with Drive(self.image) as first, Drive(self.image, device=9) as second:

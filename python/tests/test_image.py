@@ -181,6 +181,16 @@ class Changes(DiskCase):
     def test_copy(self):
         self.compare(lambda image, entry: image.copy(entry, "COPY"), "copy", "--slot", "SLOT", "COPY")
 
+    def test_a_copy_leaves_what_follows_the_name(self):
+        data = bytearray(HELLO.read_bytes())
+        field = model.place(18, 1) + 5
+        data[field : field + 16] = b"HELLO\xa0,8,1\xa0\xa0\xa0\xa0\xa0\xa0"
+        path, image = self.file("art.d64", data), Image(data)
+        image.copy("HELLO", "COPY")
+        disk1541("copy", path, "--slot", 0, "COPY")
+        self.assertEqual(image.bytes, path.read_bytes())
+        self.assertEqual(image.find("HELLO").field[:10], b"HELLO\xa0,8,1")
+
     def test_delete(self):
         self.compare(lambda image, entry: image.delete(entry), "delete", "NAME")
 

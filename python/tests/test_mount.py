@@ -90,8 +90,9 @@ class Looks(MountCase):
 
     def test_names_of_any_codes(self):
         codes = bytes(it for it in range(256) if it != 0xA0)
-        disk = model_disk(1, [codes[n : n + 15] for n in range(0, len(codes), 15)])
+        disk = model_disk(1, [*(codes[n : n + 15] for n in range(0, len(codes), 15)), b".HIDDEN", b"A.B", b"50%", b"A/B", b"A_B~"])
         folder = self.mount(self.file("names.d64", disk.image))
+        self.assertEqual(sorted(os.listdir(folder)), sorted([*map(host_name, disk.files), ".listing", ".status"]))
         for file in disk.files:
             self.assertEqual((folder / host_name(file)).read_bytes(), file.bytes)
 
@@ -204,6 +205,20 @@ class Changes(MountCase):
         (folder / "empty.prg").touch()
         self.assertEqual((folder / "empty.prg").read_bytes(), b"\r")
         self.assertEqual(self.files(path), {(b"EMPTY", 2): b"\r"})
+
+    def test_a_file_without_bytes_waits_until_it_is_closed_for_good(self):
+        path, folder = self.new()
+        before = path.read_bytes()
+        file = os.open(folder / "a.seq", os.O_WRONLY | os.O_CREAT | os.O_TRUNC)
+        os.close(os.dup(file))
+        self.assertEqual(path.read_bytes(), before)
+        os.write(file, b"one")
+        os.close(os.dup(file))
+        self.assertEqual(self.files(path), {(b"A", 1): b"one"})
+        os.write(file, b"two")
+        os.fsync(file)
+        self.assertEqual(self.files(path), {(b"A", 1): b"onetwo"})
+        os.close(file)
 
     def test_the_shell_redirects_into_a_file(self):
         path, folder = self.new()

@@ -46,7 +46,7 @@ class Kernal:
         self.status = 0
         self.stuck = False
         self._hertz, self._lines = computer.value
-        self._passed = 0
+        self.cycles = 0  # that have passed
         self._buffered: Optional[int] = None
         self._seed = seed * 2654435761 % 2**32
         self._bad_line = self._chance() * 2 if self._lines else 0
@@ -62,14 +62,14 @@ class Kernal:
 
     def _pass(self, cycles: int) -> None:
         """Cycles pass, and those that a bad line steals among them."""
-        self._passed += cycles
-        while self._lines and self._passed >= self._bad_line:
-            self._passed += 40 + self._chance() % 4
+        self.cycles += cycles
+        while self._lines and self.cycles >= self._bad_line:
+            self.cycles += 40 + self._chance() % 4
             self._bad_line += self._lines
 
     @property
     def _moment(self) -> int:
-        return (self._passed * 1_000_000 + self._hertz // 2) // self._hertz
+        return (self.cycles * 1_000_000 + self._hertz // 2) // self._hertz
 
     def _store(self, cycles: int, atn: Optional[bool] = None, clock: Optional[bool] = None, data: Optional[bool] = None) -> None:
         """A store to the port: a line is pulled or freed."""
@@ -103,13 +103,13 @@ class Kernal:
         return seen
 
     def _timer_end(self, high: int) -> int:
-        return self._passed + (high | self._timer_low)
+        return self.cycles + (high | self._timer_low)
 
     def _low_before(self, cycles: int, end: int, line: str) -> bool:
         """Whether a line is low before a timer ends."""
         self._pass(cycles)
         for _ in range(_PATIENCE):
-            if self._passed >= end:
+            if self.cycles >= end:
                 break
             if getattr(self._look_twice(14), line):
                 return True
