@@ -74,6 +74,17 @@ MJS
     [ "$(bare "$(command -v node)" "$room/list.mjs" "$image")" = '1 1 8 7' ]
 fi
 
+what="the page"
+if ls "$out"/yellowadze1541-*-page.tar.xz > /dev/null 2>&1; then
+    unpacked page
+    [ -s "$room/page/disks.html" ] && [ -s "$room/page/site/index.html" ] && [ -s "$room/page/site/yellowadze1541.wasm" ]
+fi
+what="the wheel"
+if ls "$out"/yellowadze1541-*.whl > /dev/null 2>&1 && there python3; then
+    python3 -m venv "$room/venv" && "$room/venv/bin/python" -m pip install --quiet --no-index "$out"/yellowadze1541-*.whl
+    [ "$(bare "$room/venv/bin/python" -c 'import sys; from yellowadze1541 import Image; print(Image.open(sys.argv[1]).files()[0].text())' "$image")" = HELLO ]
+fi
+
 # The packages in an empty root: older ones, these, none.
 what="the Debian packages"
 if ls "$out"/*.deb > /dev/null 2>&1 && there dpkg dpkg-deb; then

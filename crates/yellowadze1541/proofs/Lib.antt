@@ -1,5 +1,6 @@
 pub mod Flags
 pub mod Handing
 pub mod Signalling
+pub mod Slotting
 pub mod Types
 pub mod Values
