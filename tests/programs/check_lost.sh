@@ -179,6 +179,13 @@ case_of "no such name" 1 "" "disk1541: no file of the disk has the name or the s
 case_of "a name that is there" 1 "" any "$disk" rename odd.d64 --exact STAR 'D=E'
 case_of "and the disk is sound" 0 "sound" "" "$disk" check odd.d64
 
+case_of "title with an id" 0 "" "" "$disk" title odd.d64 OTHER --id 12
+is "that is shown, with the DOS as it was" test "$("$disk" list odd.d64 | head -1)" = '0 "OTHER           " 12 2A'
+case_of "title with an id of five" 0 "" "" "$disk" title odd.d64 OTHER --id '64 3B'
+is "that is shown whole" test "$("$disk" list odd.d64 | head -1)" = '0 "OTHER           " 64 3B'
+case_of "no id" 64 "" "disk1541: an id has two characters, or five: 123" "$disk" title odd.d64 OTHER --id 123
+case_of "a sound disk still" 0 "sound" "" "$disk" check odd.d64
+
 # ---- error bytes, and the way out where no file is at fault
 cp sound.d64 bytes.d64
 python3 -c 'open("bytes.d64", "ab").write(bytes([1] * 300 + [3] + [1] * 382))'

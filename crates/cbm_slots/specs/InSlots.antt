@@ -1,5 +1,5 @@
 -- A file by the slot of the directory in which its entry stands: another name, a lock, its end.
-use Rattle.std.specs.Prelude.{ℕ, ◌≡◌, ◌≢◌, ◌≤◌, ◌+◌, ◌*◌, ◌==◌, ◌&&◌, ◌⊎◌, ◌∷◌, [], not, Bool, true, false, List, Some, None, length, slice_get, slice_index, slice_range}
+use Rattle.std.specs.Prelude.{ℕ, ◌≡◌, ◌+◌, ◌*◌, ◌==◌, ◌&&◌, ◌⊎◌, ◌∷◌, [], not, Bool, true, false, List, Some, None, slice_get, slice_index, slice_range}
 use Rattle.std.specs.List.{list_any}
 use Rattle.std.specs.Str.{bytes_eq}
 use Rattle.cbm_file.specs.Files.{Disk}
@@ -9,8 +9,8 @@ use Rattle.cbm_channel.specs.declared.Status.{Status}
 use Rattle.cbm_channel.specs.declared.Code.TheVariants.{FileExists, WriteProtected}
 use Rattle.cbm_machine.specs.Machines.{Machine}
 use Rattle.cbm_machine.specs.Calls.{after_open}
-use Rattle.cbm_image.specs.Images.{kind_of, content_of, ImageHolds}
-use Rattle.cbm_shell.specs.Images.{disk_tracks, machine_on, IsOpenFault, IsFailed}
+use Rattle.cbm_image.specs.Images.{kind_of, image_fault, content_of, ImageHolds}
+use Rattle.cbm_shell.specs.Images.{disk_tracks, machine_on, IsOpenFault, IsFailed, IsSoundImage}
 use Rattle.cbm_shell.specs.Reading.{IsReadFault}
 use Rattle.cbm_shell.specs.Editing.{IsUneditedIn, HasNoSlotIn}
 use Rattle.cbm_shell.specs.Changing.{IsFine}
@@ -91,7 +91,8 @@ abbrev pub IsCommanded : List ℕ → List ℕ → List ℕ → Type 0
 IsCommanded image text new = (d : Disk) → ImageHolds (kind_of image) image d →
     IsFine (told_to text (machine_on image d)).status × ImageHolds (kind_of image) new (told_to text (machine_on image d)).disk
 
--- THE FILE OF A SLOT IS DELETED: it isn't locked, its entry gets a name that no other file has, the drive scratches that, and the empty entry has its own name again
+-- THE FILE OF A SLOT IS DELETED: it isn't locked, its entry gets a name that no other file has, the drive scratches that, and the empty entry has its own name again.
+-- The new image is sound, and opens again.
 pub record IsDeletedInSlot (image : List ℕ) (slot : ℕ) (new : List ℕ) : Type 0 where
   pub entries : List (List ℕ)
   pub entry : List ℕ
@@ -105,6 +106,8 @@ pub record IsDeletedInSlot (image : List ℕ) (slot : ℕ) (new : List ℕ) : Ty
   pub scratched : List ℕ
   pub done : IsCommanded hidden (scratch_text spare) scratched
   pub named : IsDressedIn scratched slot (slice_range entry 3 19) (blocks_said entry) false new
+  pub sound : IsSoundImage (kind_of scratched) new
+  pub opens : image_fault (kind_of scratched) new ≡ None
 
 -- ---- why nothing is changed
 

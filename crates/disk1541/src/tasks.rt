@@ -13,7 +13,7 @@ use clap::ArgMatches;
 use disk_basics::host::is_standard;
 use disk_basics::{Choice, Failure, WordFault, petscii};
 use disk_changes::{build_image, convert_image, make, put};
-use disk_commands::{Verb, flag, given, verb_of};
+use disk_commands::{Verb, flag, given, option, verb_of};
 use disk_edits::{
     Deed, Edit, copy, delete_at_fault, do_with, error_bytes, key_of_word, put_in_order, rename,
     save_edit, sort, undelete_file,
@@ -123,6 +123,16 @@ fn delete_with<'a, R: Runtime + AllocGlobal>(
     }
 }
 
+/// Gives the disk another title, and another id.
+fn title_with<'a, R: Runtime + AllocGlobal>(
+    rt: &R,
+    words: &ArgMatches<'a>,
+    charset: Charset,
+) -> Result<(), Failure<'a>> {
+    let edit = Edit::Title(given(words, "TITLE"), option(words, "id"), charset);
+    save_edit(rt, given(words, "IMAGE"), &edit)
+}
+
 /// Puts files on the disk.
 fn put_with<'a, R: Runtime + AllocGlobal>(
     rt: &R,
@@ -169,7 +179,7 @@ fn perform<'a, R: Runtime + AllocGlobal>(
         Verb::Undelete => undelete_file(rt, image, &gone(words, charset)),
         Verb::Lock => lock_with(rt, words, charset, true),
         Verb::Unlock => lock_with(rt, words, charset, false),
-        Verb::Title => save_edit(rt, image, &Edit::Title(given(words, "TITLE"), charset)),
+        Verb::Title => title_with(rt, words, charset),
         Verb::Validate => put_in_order(rt, image, ordering(words)),
         Verb::Errors => error_bytes(rt, image, flag(words, "drop")),
     }

@@ -24,5 +24,5 @@ pub use failure::{Failure, in_memory, on_disk};
 pub use flaws::{is_mendable, place_of, slots_of};
 pub use formats::{form, format};
 pub use kinds::{FileKind, is_relative_name, is_wrapped_name, kind_of_entry, kind_of_file};
-pub use names::{file_name, name_of_file, petscii, require_name, title_of};
+pub use names::{file_name, id_codes, name_of_file, petscii, require_name, title_of};
 pub use word_fault::WordFault;

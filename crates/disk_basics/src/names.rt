@@ -12,6 +12,11 @@ use std::path::Path;
 /// The most bytes of a name on a disk, and of its title.
 const LONGEST: usize = 16;
 
+/// How many codes an id has, and with those of the DOS.
+const SHORT_ID: usize = 2;
+
+const LONG_ID: usize = 5;
+
 /// A name as PETSCII, as it is typed in a character set. Errors: `Word`, where a character of it is none that is typed;
 /// `NoMemory`.
 pub fn petscii<'a>(alloc: Global, charset: Charset, name: &'a str) -> Result<Vec<u8>, Failure<'a>> {
@@ -31,6 +36,15 @@ pub fn title_of<'a>(alloc: Global, charset: Charset, title: &'a str) -> Result<V
         return Err(Failure::Word(WordFault::Title(title)));
     }
     Ok(codes)
+}
+
+/// The codes of an id: two, or five with those of the DOS. Errors: those of `petscii`; `Word`, for any other count.
+pub fn id_codes<'a>(alloc: Global, charset: Charset, id: &'a str) -> Result<Vec<u8>, Failure<'a>> {
+    let codes = petscii(alloc, charset, id)?;
+    if codes.len() == SHORT_ID || codes.len() == LONG_ID {
+        return Ok(codes);
+    }
+    Err(Failure::Word(WordFault::Id(id)))
 }
 
 /// Whether a code divides the words of the drive's commands.

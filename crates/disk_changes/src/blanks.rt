@@ -5,7 +5,7 @@ use cbm_shell::Form;
 use cbm_shell::texts::Charset;
 use disk_basics::changing::{new_image, remark};
 use disk_basics::host::{require_new, write};
-use disk_basics::{Failure, WordFault, form, format, in_memory, on_disk, petscii, title_of};
+use disk_basics::{Failure, WordFault, form, format, id_codes, in_memory, on_disk, title_of};
 use host_files::Sync;
 use std::alloc::Global;
 use std::rt::Runtime;
@@ -36,7 +36,7 @@ struct Id {
 
 /// The codes of an id.
 fn id_of<'a>(alloc: Global, charset: Charset, id: &'a str) -> Result<Id, Failure<'a>> {
-    match petscii(alloc, charset, id)?.as_slice() {
+    match id_codes(alloc, charset, id)?.as_slice() {
         [first, second] => Ok(Id {
             id: [*first, *second],
             mark: None,

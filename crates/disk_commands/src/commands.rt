@@ -2,7 +2,7 @@
 use crate::words::{
     ALL, BY, CHARSET, CIRCLE, CSV, DELETED, DROP, DRY_RUN, EXACT, FILES, FILES_FOLDER, FOLDER,
     FORCE, FORCE_FAULT, FORMAT, FROM, ID, IMAGE, IMAGES, JSON, LOSSY, MEANT, NAME, NAME_ON_DISK,
-    NAME_OR_SLOT, NEW, NEW_TITLE, OLD, ONLY, OUT, OUTPUT, RAW, RECIPE, RECORD, RECURSIVE,
+    NAME_OR_SLOT, NEW, NEW_ID, NEW_TITLE, OLD, ONLY, OUT, OUTPUT, RAW, RECIPE, RECORD, RECURSIVE,
     REPLACE_FILE, REPLACE_FILES, REPLACE_IMAGE, REPLACE_NAME, SALVAGE, SECTOR, SLOT, SVG, TITLE,
     TRACK, TRACKS, TRANSFERRED, TYPE, TYPE_AGAIN, WANTED, WITH_FILES, Word,
 };
@@ -251,8 +251,8 @@ const CHANGING: &[Command] = &[
     Command {
         verb: Verb::Title,
         name: "title",
-        about: "Change the disk's title",
-        words: &[IMAGE, NEW_TITLE, CHARSET],
+        about: "Change the disk's title, and its id",
+        words: &[IMAGE, NEW_TITLE, NEW_ID, CHARSET],
     },
     Command {
         verb: Verb::Sort,
@@ -354,7 +354,9 @@ pub fn examples_of(verb: Verb) -> &'static str {
         Verb::Lock => examples!("  disk1541 lock work.d64 START 'LEVEL*'\n"),
         Verb::Unlock => examples!("  disk1541 unlock work.d64 '*'\n"),
         Verb::Sort => examples!("  disk1541 sort work.d64\n  disk1541 sort work.d64 --by size\n"),
-        Verb::Title => examples!("  disk1541 title work.d64 'MY GAME'\n"),
+        Verb::Title => examples!(
+            "  disk1541 title work.d64 'MY GAME'\n  disk1541 title work.d64 'MY GAME' --id 64\n"
+        ),
         Verb::Errors => {
             examples!("  disk1541 errors game.d64\n  disk1541 errors game.d64 --drop\n")
         }

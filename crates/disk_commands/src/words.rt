@@ -228,6 +228,13 @@ pub const ID: Word = Word {
     ..OPTION
 };
 
+/// The id that TITLE gives.
+pub const NEW_ID: Word = Word {
+    help: "another id, too: two characters, or five with those of the DOS after it",
+    is_needed: false,
+    ..ID
+};
+
 /// How many tracks it has.
 pub const TRACKS: Word = Word {
     name: "tracks",

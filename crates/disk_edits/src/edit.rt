@@ -1,7 +1,7 @@
 //! Changes of an image.
 mod locking;
 
-use self::locking::{locked_all, retitled};
+use self::locking::{identified, locked_all, retitled};
 use cbm_shell::texts::Charset;
 use cbm_shell::{DiskChange, ShellFault, geos_of};
 use cbm_volume::Entry;
@@ -21,8 +21,8 @@ pub enum Edit<'a, 'c> {
     Delete(&'c [&'a str], Charset),
     /// The files that match the patterns are locked, or freed.
     Lock(&'c [&'a str], Charset, bool),
-    /// The disk gets another title.
-    Title(&'a str, Charset),
+    /// The disk gets another title, and another id, where one is said.
+    Title(&'a str, Option<&'a str>, Charset),
 }
 
 /// The drive's command that deletes the files of a pattern, with its return, as a name may end with one.
@@ -64,6 +64,22 @@ fn deleted_all<'a>(
     Ok(new)
 }
 
+/// The image with another title, and another id, where one is said.
+fn named<'a>(
+    alloc: Global,
+    image: &'a str,
+    bytes: &[u8],
+    charset: Charset,
+    title: &'a str,
+    id: Option<&'a str>,
+) -> Result<Vec<u8>, Failure<'a>> {
+    let new = retitled(alloc, image, bytes, charset, title)?;
+    match id {
+        Some(id) => identified(alloc, image, new.as_slice(), charset, id),
+        None => Ok(new),
+    }
+}
+
 /// The new image.
 fn edited<'a>(
     alloc: Global,
@@ -77,7 +93,7 @@ fn edited<'a>(
         Edit::Lock(patterns, charset, is_locked) => {
             locked_all(alloc, image, bytes, *charset, *patterns, *is_locked)
         }
-        Edit::Title(title, charset) => retitled(alloc, image, bytes, *charset, *title),
+        Edit::Title(title, id, charset) => named(alloc, image, bytes, *charset, *title, *id),
     }
 }
 

@@ -1,9 +1,9 @@
 //! LOCK, UNLOCK and TITLE.
 use cbm_shell::texts::Charset;
 use cbm_volume::Entry;
-use disk_basics::calls::entries;
-use disk_basics::changing::{lock, retitle};
-use disk_basics::{Failure, in_memory, on_disk, petscii, title_of};
+use disk_basics::calls::{entries, info};
+use disk_basics::changing::{lock, remark, retitle};
+use disk_basics::{Failure, id_codes, in_memory, on_disk, petscii, title_of};
 use disk_facts::first_meant;
 use std::alloc::{AllocError, Global};
 
@@ -81,6 +81,31 @@ pub fn locked_all<'a>(
 ) -> Result<Vec<u8>, Failure<'a>> {
     let patterns = patterns_on(alloc, image, bytes, charset, words)?;
     locked_by(alloc, image, bytes, patterns.as_slice(), is_locked)
+}
+
+/// The five bytes after a disk's title, the first of which are these.
+fn mark_with(old: &[u8; 5], codes: &[u8]) -> [u8; 5] {
+    let mut mark = *old;
+    for (place, code) in mark.iter_mut().zip(codes) {
+        *place = *code;
+    }
+    mark
+}
+
+/// The image with another id. Errors: those of `id_codes`; `Disk`; `Untitled`, where 18/0 can't be read.
+pub fn identified<'a>(
+    alloc: Global,
+    image: &'a str,
+    bytes: &[u8],
+    charset: Charset,
+    id: &'a str,
+) -> Result<Vec<u8>, Failure<'a>> {
+    let codes = id_codes(alloc, charset, id)?;
+    let Some(label) = on_disk(image, info(alloc, bytes))?.label else {
+        return Err(Failure::Untitled(image));
+    };
+    let mark = mark_with(&label.mark, codes.as_slice());
+    on_disk(image, remark(alloc, bytes, &mark))
 }
 
 /// The image with another title. Errors: those of `title_of`; `Disk`.

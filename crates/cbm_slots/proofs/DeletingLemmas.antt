@@ -1,0 +1,28 @@
+-- A file that is deleted by its slot, step by step.
+use Rattle.std.proofs.Common.{◌≡◌, ℕ, List, None, inl, inr, subst, sym}
+use Rattle.std.specs.Prelude.{false, Result, Ok, Err, IfErr, IfOk}
+use Rattle.std.specs.Result.{IsErrAnd}
+use Rattle.cbm_image.specs.Images.{kind_of, image_fault}
+use Rattle.cbm_shell.specs.declared.fault.ShellFault.{ShellFault}
+use Rattle.cbm_shell.specs.Images.{IsSoundImage}
+use Rattle.cbm_shell.specs.Editing.{IsUneditedIn, HasNoSlotIn}
+use Rattle.cbm_shell.specs.Art.{IsDressedIn}
+use Rattle.cbm_slots.specs.InSlots.{IsDeletedInSlot, IsNotDeletedInSlot, IsNotScratched}
+
+-- the entry has its name again
+pub named_again : {A : Type 0} (items : A → List ℕ) (r : Result A ShellFault) (image scratched name : List ℕ) (slot blocks : ℕ)
+    → ((new : List ℕ) → IsDressedIn scratched slot name blocks false new → IsSoundImage (kind_of scratched) new → image_fault (kind_of scratched) new ≡ None → IsDeletedInSlot image slot new)
+    → IfOk r (λ v. IsDressedIn scratched slot name blocks false (items v)) → IfOk r (λ v. IsSoundImage (kind_of scratched) (items v)) → IfOk r (λ v. image_fault (kind_of scratched) (items v) ≡ None)
+    → IfOk r (λ v. IsDeletedInSlot image slot (items v))
+named_again items (Ok v) image scratched name slot blocks make dressed sound opens = make (items v) dressed sound opens
+named_again items (Err f) image scratched name slot blocks make dressed sound opens = tt
+
+-- or it hasn't
+pub not_named : {A : Type 0} (r : Result A ShellFault) (image scratched : List ℕ) (slot : ℕ) → IfErr r (IsUneditedIn scratched (HasNoSlotIn scratched slot)) → IfErr r (IsNotDeletedInSlot image slot)
+not_named (Ok v) image scratched slot h = tt
+not_named (Err f) image scratched slot h = inr (inr (inr (inr (inr (scratched, h)))))
+
+-- the drive doesn't scratch it
+pub not_scratched : {A : Type 0} (r : Result A ShellFault) (image : List ℕ) (slot : ℕ) (f : ShellFault) → IsErrAnd r (λ g. g ≡ f) → IsNotScratched f → IfErr r (IsNotDeletedInSlot image slot)
+not_scratched (Ok v) image slot f is h = tt
+not_scratched (Err g) image slot f is h = inr (inr (inr (inr (inl (subst (λ x. IsNotScratched x) (sym is) h)))))
