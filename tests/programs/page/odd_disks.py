@@ -5,6 +5,9 @@ import subprocess
 from selenium.webdriver.common.keys import Keys
 
 LABEL, DIRECTORY = 0x16500, 0x16600  # 18/0 and 18/1 in a D64
+TYPED = """const done = arguments[0], all = Array.from({ length: 256 }, (_, code) => code);
+import(new URL("petscii.mjs", document.baseURI)).then(({ codes, text }) =>
+  done(["upper", "lower"].flatMap((set) => all.filter((code) => String(codes(text([code], set), set)) !== String(code)).map((code) => [set, code]))));"""
 
 
 def changed(image, *places):
@@ -92,6 +95,21 @@ def all_codes(browser, side, d64):
             if (charset, first) == ("upper", 192):
                 browser.expect(len(side.root.find_elements("css selector", "li .drawn")) == 9, "letters that fonts lack are drawn")
     browser.expect(not wrong, f"all codes in names are written as by disk1541 {wrong or ''}")
+    wrong = browser.wait(TYPED)
+    browser.expect(not wrong, f"and what is written so can be typed, and means the same code {wrong or ''}")
+    small_letters(browser, side, d64)
+
+
+def small_letters(browser, side, d64):
+    """A name that is typed in the other character set."""
+    file = browser.room / "small.d64"
+    file.write_bytes(d64.read_bytes())
+    side.open(file)
+    side.key(Keys.HOME, Keys.F2)
+    browser.answer("New Name")
+    browser.says("Renamed: New Name.")
+    browser.kit("rename", "--charset", "lower", file, "hello", "New Name")
+    browser.expect(side.saved() == file.read_bytes(), "a name of small and capital letters")
     browser.characters("upper")
 
 
