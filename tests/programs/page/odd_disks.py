@@ -45,8 +45,10 @@ def flaws(browser, side, d64):
     lines = [it.text for it in side.root.find_elements("css selector", ".flaws li")]
     browser.expect(len(wanted) > 2 and len(lines) == len(wanted) and all(a.startswith(b) for a, b in zip(lines, wanted)), f"every flaw in words: {lines} {wanted}")
     side.select("HELLO")
+    side.show("map")
     side.key(Keys.DELETE)
     browser.until(lambda: "isn't sound" in browser.said(), "a disk that isn't sound isn't changed")
+    browser.picture("flawed", 800, 1000)
     browser.expect(side.saved() == image, "a disk that isn't sound isn't changed")
 
 

@@ -94,7 +94,7 @@ def taken_out(disk, files):
     disk.kit("get-all", folder)
     with zipfile.ZipFile(io.BytesIO(data)) as it:
         inside = {each: it.read(each) for each in it.namelist()}
-        browser.expect(it.testzip() is None and name == f"hello.zip", f"{disk.ending}: all as a zip")
+        browser.expect(it.testzip() is None and name == "hello.zip", f"{disk.ending}: all as a zip")
     wanted = {it.name: it.read_bytes() for it in folder.iterdir()}
     browser.expect(inside == wanted, f"{disk.ending}: the zip has what get-all writes, under the same names {sorted(inside)} {sorted(wanted)}")
 
