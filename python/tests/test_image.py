@@ -118,7 +118,13 @@ class Looks(DiskCase):
             image.files()
         self.assertEqual(len(told.exception.entries), said["broken"]["entries"])
         self.assertEqual(told.exception.number, said["broken"]["error"])
-        self.assertEqual([said_of(it)["petscii"] for it in told.exception.entries if not it.is_empty], [it["petscii"] for it in said["files"]])
+        there = [it for it in told.exception.entries if not it.is_empty]
+        self.assertEqual([it.name.hex() for it in there], [it["petscii"] for it in said["files"]])
+        for file in disk.files:
+            if file.name in {it.name for it in there if it.closed}:
+                self.assertEqual(image.read(file.name), file.bytes)
+        with self.assertRaises(BrokenDirectory):
+            image.read("NONE")
 
 
 class New(DiskCase):
@@ -189,6 +195,7 @@ class Changes(DiskCase):
         image.copy("HELLO", "COPY")
         disk1541("copy", path, "--slot", 0, "COPY")
         self.assertEqual(image.bytes, path.read_bytes())
+        image.write("HELLO", b"other", replace=True)
         self.assertEqual(image.find("HELLO").field[:10], b"HELLO\xa0,8,1")
 
     def test_delete(self):
@@ -260,8 +267,8 @@ class Changes(DiskCase):
             if entry is not None:
                 image.write(entry.name, bytes(3000), entry.type, replace=True)
                 disk1541("put", path, put, f"--name={entry.text()}", "--type", entry.type.name.lower(), "--replace")
-                files = [(it.slot, it.name, it.type) for it in image.files()]
-                self.assertEqual(files, [(it.slot, it.name, it.type) for it in Image.open(path).files()])
+                files = [(it.slot, it.field, it.type) for it in image.files()]
+                self.assertEqual(files, [(it.slot, it.field, it.type) for it in Image.open(path).files()])
                 self.assertIsNone(image.check())
 
     def test_convert(self):

@@ -51,7 +51,7 @@ class MountCase(DiskCase):
         """Mounts an image in the background, and gives its folder."""
         folder = self.folder / f"{path.stem} mounted"
         folder.mkdir(exist_ok=True)
-        self.addCleanup(subprocess.run, ["fusermount3", "-q", "-u", folder], check=False)
+        self.addCleanup(subprocess.run, ["fusermount3", "-q", "-u", "-z", folder], check=False)
         ran = subprocess.run([sys.executable, "-m", "yellowadze1541.mount", path, folder, *words], capture_output=True, text=True, check=False)
         self.assertEqual(ran.returncode, status, ran.stderr)
         self.said = ran.stderr
@@ -345,14 +345,15 @@ class Stops(MountCase):
         versions = [bytes([number]) * (3000 + 500 * number) for number in range(10)]
         for number in range(8):
             server, folder = self.serve(path)
-            writer = threading.Thread(target=self.write_until_it_fails, args=(folder, versions))
+            writer = threading.Thread(target=self.write_until_it_fails, args=(folder, versions), daemon=True)
             writer.start()
             time.sleep(0.05 + 0.037 * number)
             server.send_signal(signal.SIGKILL)
             server.wait()
-            subprocess.run(["fusermount3", "-q", "-u", "-z", folder], check=False)
+            # (the folder without its server refuses everything; unmounted it would be a plain one)
             writer.join(LIMIT)
             self.assertFalse(writer.is_alive())
+            subprocess.run(["fusermount3", "-q", "-u", "-z", folder], check=True)
             for (name, _), data in self.files(path).items():
                 self.assertIn(name, (b"A", b"B"))
                 self.assertIn(data, versions)

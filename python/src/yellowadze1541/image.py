@@ -155,14 +155,10 @@ class Image:
 
     def slots(self) -> List[Entry]:
         """All slots of the directory, empty ones too. BrokenDirectory: it breaks off."""
-        if self._listed is None or self._listed[0] is not self._data:
-            said, found = _library.all_of(library.y1541_image_entries, _library.ENTRY, _SLOTS, self._data)
-            self._listed = (self._data, said, [_entry(slot, *it) for slot, it in enumerate(found)])
-        _, said, entries = self._listed
-        if said > 0:
-            raise BrokenDirectory(said, list(entries))
-        _library.check(said)
-        return list(entries)
+        said, entries = self._entries()
+        if said:
+            raise BrokenDirectory(said, entries)
+        return entries
 
     def files(self) -> List[Entry]:
         """The files of the directory, in its order; those never closed, too."""
@@ -178,7 +174,7 @@ class Image:
         return next((it for it in self.files() if it.name == codes), None)
 
     def read(self, which: Which) -> Bytes:
-        """The bytes of a file. Refused: there is none (62), it was never closed (60), or it can't be read."""
+        """The bytes of a file, of one of GEOS those of its first chain. Refused: there is none (62), it was never closed (60), or it can't be read."""
         entry = self._entry_of(which)
         if not entry.closed:
             raise Refused(NEVER_CLOSED, entry.text())
@@ -246,9 +242,11 @@ class Image:
         after = Image(self._data)
         after.delete(old)
         after._put(old.name, bytes(data), letter)
-        new = after.find(old.name)
-        if new is not None and new.slot != old.slot:
+        new = after._entry_of(old.name)
+        if new.slot != old.slot:
             after._change(library.y1541_image_swap, new.slot, old.slot)
+        if new.field != old.field:
+            after._change(library.y1541_image_rename, old.slot, old.field, len(old.field))
         self._data = after._data
 
     def rename(self, which: Which, name: Name) -> None:
@@ -283,16 +281,7 @@ class Image:
     def undelete(self, which: Which, type: FileType = FileType.PRG) -> None:
         """Gives back a deleted file, whose type was lost. Refused: there is none, or its blocks aren't free any more, or the disk has lost blocks (`validate` it)."""
         foreign.require_no_dolphin(self._data)
-        deleted = self.deleted()
-        if isinstance(which, (Entry, int)):
-            slot = which.slot if isinstance(which, Entry) else which
-            found = next((it for it in deleted if it.slot == slot), None)
-        else:
-            codes = name_codes(which)
-            found = next((it for it in deleted if it.name == codes), None)
-        if found is None:
-            raise Refused(NOT_FOUND, _said(which))
-        self._change(library.y1541_image_undelete, found.slot, int(type))
+        self._change(library.y1541_image_undelete, _meant(which, self.deleted()).slot, int(type))
 
     def retitle(self, title: Name, id: Optional[Name] = None) -> None:
         """Gives the disk another title, and another id of two codes, or of five with the kind of DOS; without one it keeps its own."""
@@ -347,18 +336,24 @@ class Image:
         _library.check(library.y1541_image_title(*self._given, title), "18/0")
         return title
 
+    def _entries(self) -> Tuple[int, List[Entry]]:
+        """The slots of the directory, and with which status it breaks off after them; 0: it doesn't."""
+        if self._listed is None or self._listed[0] is not self._data:
+            said, found = _library.all_of(library.y1541_image_entries, _library.ENTRY, _SLOTS, self._data)
+            if said < 0:
+                raise Refused(said)
+            self._listed = (self._data, said, [_entry(slot, *it) for slot, it in enumerate(found)])
+        return self._listed[1], list(self._listed[2])
+
     def _entry_of(self, which: Which) -> Entry:
-        """The entry of a file. Refused: there is no such file (62), or another one has come to the entry's slot."""
-        if isinstance(which, (Entry, int)):
-            slot = which.slot if isinstance(which, Entry) else which
-            found = next((it for it in self.files() if it.slot == slot), None)
-            if found is not None and isinstance(which, Entry) and _place(found) != _place(which):
-                found = None
-        else:
-            found = self.find(which)
-        if found is None:
-            raise Refused(NOT_FOUND, _said(which))
-        return found
+        """The entry of a file, which may come before the directory breaks off. BrokenDirectory, Refused: there is no such file (62)."""
+        said, entries = self._entries()
+        try:
+            return _meant(which, [it for it in entries if not it.is_empty])
+        except Refused:
+            if said:
+                raise BrokenDirectory(said, entries) from None
+            raise
 
     def _letter_to_write(self, type: Union[FileType, int]) -> Bytes:
         """The letter of a type that can be written, on a disk that can. ValueError: it can't. Foreign: the disk can't."""
@@ -413,6 +408,19 @@ def _flaw(what: int, track: int, sector: int, whose: int, slot: int, before: int
 def _place(entry: Entry) -> Tuple[bytes, int, int]:
     """What tells a file from others: its name and its first block."""
     return entry.name, entry.track, entry.sector
+
+
+def _meant(which: Which, among: List[Entry]) -> Entry:
+    """The entry that is meant. Refused: there is none (62), or another file has come to the slot of the one that was given."""
+    if isinstance(which, Entry):
+        found = [it for it in among if it.slot == which.slot and _place(it) == _place(which)]
+    elif isinstance(which, int):
+        found = [it for it in among if it.slot == which]
+    else:
+        found = [it for it in among if it.name == name_codes(which)]
+    if not found:
+        raise Refused(NOT_FOUND, _said(which))
+    return found[0]
 
 
 def _said(which: Which) -> str:
