@@ -28,21 +28,28 @@ def shown(what, data):
 
 def jobs(host, asks_missing):
     """The jobs of kernal_host.c, call for call, and the lines that it prints."""
-    lines = [f"status: {host.status()}"]
+    lines = [status(host)]
     for name, what in (("$", 'LOAD"$",8'), ("HELLO", 'LOAD"HELLO",8')):
         lines.append(shown(what, host.load(name)))
     save(host, "NEW")
     lines.append(shown('LOAD"NEW",8', host.load("NEW")))
     save(host, "HELLO")
-    lines.append(f"status: {host.status()}")
+    lines.append(status(host))
     if asks_missing:
         host.open(0, "NONE")
         try:
             host.receive(0)
         except BusError as error:
             assert (error.status, error.stuck) == (0x42, False), error
-        lines += [f"status: {host.status()}", f"status: {host.status()}"]
+        lines += [status(host), status(host)]
     return lines
+
+
+def status(host):
+    """A line of the C example, which closes channel 15 each time."""
+    line = f"status: {host.status()}"
+    host.close(15)
+    return line
 
 
 def save(host, name):

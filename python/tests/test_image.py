@@ -5,7 +5,7 @@ import sys
 import unittest
 
 from support import HELLO, ROOT, DiskCase, disk1541, json_of, model, model_disk
-from yellowadze1541 import BrokenDirectory, Charset, FileType, Foreign, Form, Image, Lossy, Order, Refused, Unsound
+from yellowadze1541 import BrokenDirectory, Charset, Drive, FileType, Foreign, Form, Host, Image, Lossy, Order, Refused, Unsound
 
 SEEDS = range(12)
 
@@ -291,6 +291,60 @@ class Changes(DiskCase):
         self.assertEqual((image.title, image.id, image.dos), (b"OTHER", b"AB", b"3B"))
         image.retitle("OTHER", "CD 2A")
         self.assertEqual((image.id, image.dos), (b"CD", b"2A"))
+
+
+    def test_validate_of_another_flaw_is_refused(self):
+        data = bytearray(HELLO.read_bytes())
+        data[model.place(18, 1) + 3] = 77
+        image, path = Image(data), self.file("wrong.d64", data)
+        disk1541("validate", path, status=1)
+        with self.assertRaises(Refused):
+            image.validate()
+        self.assertEqual(image.bytes, bytes(data))
+
+    def test_validate_mends_a_map(self):
+        data = bytearray(HELLO.read_bytes())
+        data[model.place(18, 0) + 4 * 17 + 1] ^= 0x30
+        data[model.place(18, 0) + 4] = 99
+        path, image = self.file("wrong.d64", data), Image(data)
+        self.assertIsNotNone(image.check())
+        image.validate()
+        self.assertIsNone(image.check())
+        disk1541("validate", path)
+        self.assertEqual(image.bytes, path.read_bytes())
+
+
+class RelativeFiles(DiskCase):
+    def setUp(self):
+        super().setUp()
+        self.path = self.folder / "rel.d64"
+        disk1541("new", self.path, "--title", "REL", "--id", "64")
+        self.records = b"".join(b"record %02d\r" % number for number in range(60))
+        disk1541("put", self.path, self.file("records.bin", self.records), "--type", "rel", "--record", len(b"record 00\r"))
+
+    def test_they_are_read_renamed_locked_and_deleted(self):
+        image = Image.open(self.path)
+        entry = image.find("RECORDS")
+        self.assertEqual((entry.type, entry.record_length), (FileType.REL, 10))
+        self.assertEqual(image.read(entry)[: len(self.records)], self.records)
+        self.assertEqual(image.read(entry), disk1541("get", self.path, "RECORDS"))
+        self.assertTrue(refused(64, image.copy, entry, "COPY"))
+        with self.assertRaises(ValueError):
+            image.write("RECORDS", b"", FileType.REL, replace=True)
+        for change in (lambda: image.rename("RECORDS", "OTHER"), lambda: image.lock("OTHER"), lambda: image.unlock("OTHER"), lambda: image.delete("OTHER")):
+            change()
+            self.assertIsNone(image.check())
+        self.assertEqual(image.free, 664)
+
+    def test_a_drive_writes_them(self):
+        image = Image.open(self.path)
+        with Drive(image) as drive:
+            host = Host(drive)
+            host.open(2, "RECORDS,L,{0a}")
+            self.assertEqual(host.command(b"P\x62\x03\x00\x01"), "00, OK,00,00")
+            host.send(2, b"changed 2\r")
+            host.close(2)
+            self.assertEqual(drive.image.read("RECORDS")[20:30], b"changed 2\r")
 
 
 class OneFileAlone(DiskCase):

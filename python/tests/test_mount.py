@@ -121,6 +121,19 @@ class Looks(MountCase):
         (folder / "mine.prg").write_bytes(b"1")
         self.assertEqual(self.files(path), {(b"OTHER", 2): b"\x01\x02\x03", (b"MINE", 2): b"1"})
 
+    def test_relative_files_can_be_read_renamed_and_deleted(self):
+        path = self.folder / "rel.d64"
+        disk1541("new", path, "--title", "REL", "--id", "64")
+        disk1541("put", path, self.file("records.bin", b"record one" * 30), "--type", "rel", "--record", 10)
+        folder = self.mount(path)
+        self.assertEqual((folder / "records.rel").read_bytes(), disk1541("get", path, "RECORDS"))
+        self.refused(errno.EPERM, (folder / "records.rel").write_bytes, b"1")
+        self.refused(errno.EINVAL, os.rename, folder / "records.rel", folder / "records.prg")
+        os.rename(folder / "records.rel", folder / "other.rel")
+        self.assertEqual(disk1541("list", path, "--only", "OTHER").count(b"REL"), 2)
+        os.unlink(folder / "other.rel")
+        self.assertEqual((self.files(path), Image.open(path).free), ({}, 664))
+
     def test_a_disk_that_is_not_sound_can_be_read_alone(self):
         data = bytearray(HELLO.read_bytes())
         data[model.place(18, 0) + 4] = 99

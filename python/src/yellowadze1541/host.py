@@ -57,10 +57,8 @@ class Host:
             raise refusal
 
     def status(self) -> str:
-        """The line of channel 15, such as `00, OK,00,00`, which is then read."""
-        line = self.receive(_COMMANDS)
-        self.close(_COMMANDS)
-        return line.rstrip(b"\r").decode("latin-1")
+        """The line of channel 15, such as `00, OK,00,00`, which is then read. The channel isn't closed, as that would close all others."""
+        return self.receive(_COMMANDS).rstrip(b"\r").decode("latin-1")
 
     def command(self, text: Name) -> str:
         """Sends a command to channel 15, and answers the status line."""
@@ -116,11 +114,15 @@ class Host:
 
     def _refusal(self) -> Optional[Refused]:
         """What the drive's status refuses; None: nothing."""
-        line = ""
         with contextlib.suppress(BusError):
-            line = self.status()
-        number = int(line[:2]) if line[:2].isdigit() else 0
-        return Refused(number) if number >= _ERRORS and number != _POWER_UP else None
+            return refusal_of(self.status())
+        return None
+
+
+def refusal_of(line: str) -> Optional[Refused]:
+    """What a line of channel 15 refuses; None: nothing."""
+    number = int(line[:2]) if line[:2].isdigit() else 0
+    return Refused(number) if number >= _ERRORS and number != _POWER_UP else None
 
 
 def _channel(number: int) -> int:

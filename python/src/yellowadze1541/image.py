@@ -305,10 +305,16 @@ class Image:
         self._data = after._data
 
     def validate(self) -> None:
-        """Removes files that were never closed and frees lost blocks, as the drive's VALIDATE. Foreign: the disk has files of GEOS, which it would split."""
+        """Removes files that were never closed and frees lost blocks, as the drive's VALIDATE, also on a disk whose BAM is wrong.
+
+        Foreign: the disk has files of GEOS, whose blocks it would free. Refused: the disk has another flaw.
+        """
         foreign.require_no_dolphin(self._data)
         foreign.require_no_geos(self)
-        self.command(b"V0")
+        if self.check() is None:
+            self.command(b"V0")
+        else:
+            self._data = self._mended()
 
     def command(self, text: Name) -> None:
         """Has the drive carry out a command of channel 15, such as `S0:NAME`. Its names are patterns, and may mean several files: the other methods mean one."""
@@ -371,6 +377,18 @@ class Image:
                 raise Unsound(flaw)
         _library.check(said)
         self._data = data
+
+    def _mended(self) -> Bytes:
+        """The image after VALIDATE by a drive: the library's command takes a sound disk alone."""
+        # (both import this file)
+        from .drive import Drive
+        from .host import Host, refusal_of
+
+        with Drive(self._data) as drive:
+            refusal = refusal_of(Host(drive).command(b"V0"))
+            if refusal is not None:
+                raise refusal
+            return drive.image.bytes
 
     def _put(self, codes: Bytes, data: Bytes, letter: Bytes) -> None:
         """Writes a file of a name that isn't there: where the text of an OPEN can't say the name, under another one first."""
