@@ -1,4 +1,4 @@
-"""How long looks into images take: the best of several tries, as other programs run meanwhile. Run as a program it prints them."""
+"""How long looks into images take: the processor's time, and the best of several tries, as other programs run meanwhile. Run as a program it prints them."""
 import time
 import unittest
 
@@ -9,12 +9,12 @@ TRIES = 7
 
 
 def best(work):
-    """The least time of several tries, in seconds."""
+    """The least time of the processor for some work, in seconds."""
     times = []
     for _ in range(TRIES):
-        begun = time.perf_counter()
+        begun = time.process_time()
         work()
-        times.append(time.perf_counter() - begun)
+        times.append(time.process_time() - begun)
     return min(times)
 
 
