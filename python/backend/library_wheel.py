@@ -1,6 +1,6 @@
 """Builds the wheel of yellowadze1541: the Python files and the shared library. A backend as PEP 517 has it; needs Python alone.
 
-    YELLOWADZE1541=PATH pip wheel --no-build-isolation --no-index --no-deps python
+    YELLOWADZE1541=PATH pip wheel --no-build-isolation --no-index --no-deps ./python
 
 PATH is libyellowadze1541.so; -C library=PATH says the same, and without both it is the one that `make` leaves in capi/out. The version is the header's.
 Equal files give an equal wheel, byte for byte.
