@@ -66,7 +66,9 @@ class MountCase(DiskCase):
     def refused(self, number, call, *words):
         with self.assertRaises(OSError) as told:
             call(*words)
-        self.assertEqual(told.exception.errno, number)
+        # (of another user than root the kernel itself asks for the file's mode)
+        may_be = (errno.EPERM, errno.EACCES) if number == errno.EPERM else (number,)
+        self.assertIn(told.exception.errno, may_be)
 
     def files(self, path):
         """The files of a disk as disk1541 gives them, by name and type; the disk must be sound."""
@@ -144,6 +146,7 @@ class Looks(MountCase):
         self.assertIn("isn't sound", (folder / ".status").read_text())
         self.assertEqual((self.folder / "wrong.d64").read_bytes(), bytes(data))
 
+    @unittest.skipUnless(os.geteuid() == 0, "only root can become a user that may not write the image")
     def test_an_image_that_may_not_be_written_can_be_read_alone(self):
         path = self.file("hello.d64", HELLO.read_bytes())
         self.folder.chmod(0o777)
