@@ -2,7 +2,7 @@
 use Rattle.std.proofs.Common.{◌≡◌, ℕ, suc, ◌+◌, ◌-◌, ◌*◌, ◌<◌, ◌≤◌, List, slice_get, [], ◌∷◌, ◌++◌, append_assoc, append-nil, None, Bool, false, if◌then◌else◌, Option, Some, ap, ◌∙◌, sym, arith}
 use Rattle.cbm_sources.specs.declared.lines.Member.{Member}
 use Rattle.cbm_sources.specs.declared.lynx.Piece.{Piece}
-use Rattle.cbm_sources.specs.Lynxes.{first_where, Members, member_at, member_entry, piece_of, after_members, members_after, members_from, members_of, told_in, lynx_file}
+use Rattle.cbm_sources.specs.Lynxes.{first_where, Members, member_at, member_entry, piece_of, after_members, members_after, members_from, members_of, lynx_told, lynx_file}
 
 -- a place that doesn't pass
 pub first_passed : (test : ℕ → Bool) (end k : ℕ) → k < end → test k ≡ false → first_where test (end - k) k ≡ first_where test (end - (k + 1)) (k + 1)
@@ -64,8 +64,8 @@ members_begin bytes count at start entries pieces e p =
     ap (λ k. members_from k bytes at start) same
     ∙ ap (λ xs. after_members xs [] (members_from (count - 0) bytes at start)) (sym e) ∙ ap (λ xs. after_members entries xs (members_from (count - 0) bytes at start)) (sym p)
 
-pub file_is : (bytes inner : List ℕ) (n : ℕ) (m : Members) → inner ≡ bytes → members_of inner ≡ m → lynx_file bytes n ≡ told_in inner m.broken (slice_get m.pieces n)
+pub file_is : (bytes inner : List ℕ) (n : ℕ) (m : Members) → inner ≡ bytes → members_of inner ≡ m → lynx_file bytes n ≡ lynx_told inner m.broken (slice_get m.pieces n)
 unfolding lynx_file
 file_is bytes inner n m i e =
-    ap (λ (xs : List ℕ). told_in xs (members_of xs).broken (slice_get (members_of xs).pieces n)) (sym i)
-    ∙ ap (λ (x : Members). told_in inner x.broken (slice_get x.pieces n)) e
+    ap (λ (xs : List ℕ). lynx_told xs (members_of xs).broken (slice_get (members_of xs).pieces n)) (sym i)
+    ∙ ap (λ (x : Members). lynx_told inner x.broken (slice_get x.pieces n)) e

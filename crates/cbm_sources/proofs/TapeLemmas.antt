@@ -2,8 +2,8 @@
 use Rattle.std.proofs.Common.{◌≡◌, ◌≢◌, ℕ, suc, ◌+◌, ◌-◌, ◌<◌, ◌≤◌, List, [], ◌∷◌, ◌++◌, length, filter, slice_index, slice_range, slice_get, Option, Some, Ok, Err, Bool, true, false, refl, ap, sym, ◌∙◌, arith, append_assoc, append-nil}
 use Rattle.std.proofs.lemmas.Bool.{eq-eqb, ne_eqb, lt-ltb, le-ltb}
 use Rattle.cbm_sources.specs.declared.fault.Fault.TheVariants.{Cut}
-use Rattle.cbm_sources.specs.Answers.{Told}
-use Rattle.cbm_sources.specs.Tapes.{trimmed, without_space, record_count, record_of, records_from, is_used, used_records, offset_of, nearer, limit_after, room_of, size_in, size_of, start_of, end_of, told_of, tape_file}
+use Rattle.cbm_sources.specs.Answers.{FileTold}
+use Rattle.cbm_sources.specs.Tapes.{trimmed, without_space, tape_record_count, tape_record, records_from, is_used, used_records, offset_of, nearer, limit_after, room_of, size_in, tape_size, start_address, end_address, tape_told, tape_file}
 
 -- ---- names
 
@@ -22,7 +22,7 @@ trimmed_other (x ∷ xs) c ne = ap (without_space x) (trimmed_other xs c ne) ∙
 -- ---- records
 
 one_fewer : (bytes : List ℕ) (count n : ℕ) → n < count
-    → filter is_used (records_from (count - n) bytes n) ≡ filter is_used (record_of bytes n ∷ records_from (count - (n + 1)) bytes (n + 1))
+    → filter is_used (records_from (count - n) bytes n) ≡ filter is_used (tape_record bytes n ∷ records_from (count - (n + 1)) bytes (n + 1))
 one_fewer bytes count n k = let less : count - n ≡ suc (count - (n + 1)) = omega (arith, k) in ap (λ m. filter is_used (records_from m bytes n)) less
 
 kept : (r : List ℕ) (rest : List (List ℕ)) (b : Bool) → is_used r ≡ b → b ≡ true → filter is_used (r ∷ rest) ≡ r ∷ filter is_used rest
@@ -32,21 +32,21 @@ passed : (r : List ℕ) (rest : List (List ℕ)) (b : Bool) → is_used r ≡ b 
 passed r rest b e h = rw (e ∙ h) refl
 
 pub record_used : (bytes : List ℕ) (count n : ℕ) (whole now after : List (List ℕ)) (r : List ℕ) → n < count → now ++ filter is_used (records_from (count - n) bytes n) ≡ whole
-    → r ≡ record_of bytes n → is_used r ≡ true → after ≡ now ++ r ∷ [] → after ++ filter is_used (records_from (count - (n + 1)) bytes (n + 1)) ≡ whole
+    → r ≡ tape_record bytes n → is_used r ≡ true → after ≡ now ++ r ∷ [] → after ++ filter is_used (records_from (count - (n + 1)) bytes (n + 1)) ≡ whole
 record_used bytes count n whole now after r k w e u a =
     let rest = records_from (count - (n + 1)) bytes (n + 1) in
     ap (λ x. x ++ filter is_used rest) a ∙ append_assoc now (r ∷ []) (filter is_used rest)
     ∙ ap (λ x. now ++ x) (sym (kept r rest true u refl) ∙ ap (λ x. filter is_used (x ∷ rest)) e ∙ sym (one_fewer bytes count n k)) ∙ w
 
 pub record_skipped : (bytes : List ℕ) (count n : ℕ) (whole now : List (List ℕ)) (r : List ℕ) → n < count → now ++ filter is_used (records_from (count - n) bytes n) ≡ whole
-    → r ≡ record_of bytes n → is_used r ≡ false → now ++ filter is_used (records_from (count - (n + 1)) bytes (n + 1)) ≡ whole
+    → r ≡ tape_record bytes n → is_used r ≡ false → now ++ filter is_used (records_from (count - (n + 1)) bytes (n + 1)) ≡ whole
 record_skipped bytes count n whole now r k w e u =
     let rest = records_from (count - (n + 1)) bytes (n + 1) in
     ap (λ x. now ++ x) (sym (passed r rest false u refl) ∙ ap (λ x. filter is_used (x ∷ rest)) e ∙ sym (one_fewer bytes count n k)) ∙ w
 
-pub records_begin : (bytes : List ℕ) → filter is_used (records_from (record_count bytes - 0) bytes 0) ≡ used_records bytes
+pub records_begin : (bytes : List ℕ) → filter is_used (records_from (tape_record_count bytes - 0) bytes 0) ≡ used_records bytes
 unfolding used_records
-records_begin bytes = let e : record_count bytes - 0 ≡ record_count bytes = omega arith in ap (λ m. filter is_used (records_from m bytes 0)) e
+records_begin bytes = let e : tape_record_count bytes - 0 ≡ tape_record_count bytes = omega arith in ap (λ m. filter is_used (records_from m bytes 0)) e
 
 pub records_done : (bytes : List ℕ) (count n : ℕ) (whole now : List (List ℕ)) → count ≤ n → now ++ filter is_used (records_from (count - n) bytes n) ≡ whole → now ≡ whole
 records_done bytes count n whole now k w =
@@ -74,10 +74,10 @@ room_is bytes inner r records from limit room i e f l h =
     h ∙ ap (λ n. n - from) (l ∙ ap (λ xs. limit_after from (length xs) records) i ∙ ap (λ x. limit_after from (length bytes) x) e)
     ∙ ap (λ n. limit_after n (length bytes) (used_records bytes) - n) f
 
-pub size_is : (bytes r : List ℕ) (start end stated room size : ℕ) → start ≡ start_of r → end ≡ end_of r → stated ≡ end - start → room ≡ room_of bytes r
-    → size ≡ size_in start stated room → size ≡ size_of bytes r
+pub size_is : (bytes r : List ℕ) (start end stated room size : ℕ) → start ≡ start_address r → end ≡ end_address r → stated ≡ end - start → room ≡ room_of bytes r
+    → size ≡ size_in start stated room → size ≡ tape_size bytes r
 size_is bytes r start end stated room size s e t h i =
-    i ∙ ap (λ n. size_in start n room) (t ∙ ap (λ n. n - start) e) ∙ ap (λ n. size_in n (end_of r - n) room) s ∙ ap (λ n. size_in (start_of r) (end_of r - start_of r) n) h
+    i ∙ ap (λ n. size_in start n room) (t ∙ ap (λ n. n - start) e) ∙ ap (λ n. size_in n (end_address r - n) room) s ∙ ap (λ n. size_in (start_address r) (end_address r - start_address r) n) h
 
 pub size_inside : (start stated room : ℕ) → size_in start stated room ≤ room
 size_inside start stated room = grind arith
@@ -87,18 +87,18 @@ size_small start stated room h = grind arith
 
 -- ---- the bytes of a file
 
-pub told_cut : (bytes r : List ℕ) (at : ℕ) → length bytes ≤ at → at ≡ offset_of r → told_of bytes (Some r) ≡ Err (Cut at)
-told_cut bytes r at h e = rw (le-ltb (offset_of r) (length bytes) (omega arith)) (ap (λ n. let t : Told = Err (Cut n) in t) (sym e))
+pub told_cut : (bytes r : List ℕ) (at : ℕ) → length bytes ≤ at → at ≡ offset_of r → tape_told bytes (Some r) ≡ Err (Cut at)
+told_cut bytes r at h e = rw (le-ltb (offset_of r) (length bytes) (omega arith)) (ap (λ n. let t : FileTold = Err (Cut n) in t) (sym e))
 
-pub told_whole : (bytes r file : List ℕ) (from size : ℕ) → from < length bytes → from ≡ offset_of r → size ≡ size_of bytes r
-    → file ≡ slice_index r 2 ∷ slice_index r 3 ∷ slice_range bytes from (from + size) → told_of bytes (Some r) ≡ Ok file
+pub told_whole : (bytes r file : List ℕ) (from size : ℕ) → from < length bytes → from ≡ offset_of r → size ≡ tape_size bytes r
+    → file ≡ slice_index r 2 ∷ slice_index r 3 ∷ slice_range bytes from (from + size) → tape_told bytes (Some r) ≡ Ok file
 told_whole bytes r file from size h e s f =
     rw (lt-ltb (offset_of r) (length bytes) (omega arith))
-    (ap (λ n. let t : Told = Ok (slice_index r 2 ∷ slice_index r 3 ∷ slice_range bytes n (n + size_of bytes r)) in t) (sym e)
-    ∙ ap (λ n. let t : Told = Ok (slice_index r 2 ∷ slice_index r 3 ∷ slice_range bytes from (from + n)) in t) (sym s)
-    ∙ ap (λ x. let t : Told = Ok x in t) (sym f))
+    (ap (λ n. let t : FileTold = Ok (slice_index r 2 ∷ slice_index r 3 ∷ slice_range bytes n (n + tape_size bytes r)) in t) (sym e)
+    ∙ ap (λ n. let t : FileTold = Ok (slice_index r 2 ∷ slice_index r 3 ∷ slice_range bytes from (from + n)) in t) (sym s)
+    ∙ ap (λ x. let t : FileTold = Ok x in t) (sym f))
 
 pub file_is : (bytes : List ℕ) (n : ℕ) (records : List (List ℕ)) (found : Option (List ℕ)) → records ≡ used_records bytes → slice_get records n ≡ found
-    → tape_file bytes n ≡ told_of bytes found
+    → tape_file bytes n ≡ tape_told bytes found
 unfolding tape_file
-file_is bytes n records found e f = ap (told_of bytes) (ap (λ x. slice_get x n) (sym e) ∙ f)
+file_is bytes n records found e f = ap (tape_told bytes) (ap (λ x. slice_get x n) (sym e) ∙ f)

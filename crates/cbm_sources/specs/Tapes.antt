@@ -6,12 +6,13 @@ use Rattle.cbm_file.specs.declared.file_type.FileType.TheVariants.{Prg}
 use Rattle.cbm_directory.specs.Entries.{closed_entry}
 use Rattle.cbm_directory.specs.EntryChanges.{fresh_entry}
 use Rattle.cbm_sources.specs.declared.fault.Fault.TheVariants.{NoFile, Cut}
-use Rattle.cbm_sources.specs.Answers.{Told}
+use Rattle.cbm_sources.specs.Answers.{FileTold}
 
--- a number of two bytes, low byte first, and one of four
+-- a number of two bytes, low byte first
 abbrev pub word : List ℕ → ℕ → ℕ
 word bytes n = slice_index bytes n + 256 * slice_index bytes (n + 1)
 
+-- a number of four bytes
 abbrev pub long : List ℕ → ℕ → ℕ
 long bytes n = word bytes n + 65536 * word bytes (n + 2)
 
@@ -23,17 +24,17 @@ IsTape bytes = (64 ≤ length bytes) × (take 3 bytes ≡ 67 ∷ 54 ∷ 52 ∷ [
 
 -- How many records there are: the greater of the header's two counts, since either may be 0 in archives that have a file, and at least one;
 -- but no more than stand in the archive.
-abbrev pub record_count : List ℕ → ℕ
-record_count bytes = min (max 1 (max (word bytes 34) (word bytes 36))) ((length bytes - 64) / 32)
+abbrev pub tape_record_count : List ℕ → ℕ
+tape_record_count bytes = min (max 1 (max (word bytes 34) (word bytes 36))) ((length bytes - 64) / 32)
 
 -- the record of a number
-abbrev pub record_of : List ℕ → ℕ → List ℕ
-record_of bytes n = slice_range bytes (64 + 32 * n) (96 + 32 * n)
+abbrev pub tape_record : List ℕ → ℕ → List ℕ
+tape_record bytes n = slice_range bytes (64 + 32 * n) (96 + 32 * n)
 
 -- this many records, from a number on
 abbrev pub records_from : (count : ℕ) → List ℕ → ℕ → List (List ℕ)
 records_from zero bytes k = []
-records_from (suc n) bytes k = record_of bytes k ∷ records_from n bytes (k + 1)
+records_from (suc n) bytes k = tape_record bytes k ∷ records_from n bytes (k + 1)
 
 -- a record whose first byte isn't 0 is a file's
 abbrev pub is_used : List ℕ → Bool
@@ -41,36 +42,39 @@ is_used r = not (slice_index r 0 == 0)
 
 -- the records of files
 unfoldable pub used_records : List ℕ → List (List ℕ)
-used_records bytes = filter is_used (records_from (record_count bytes) bytes 0)
+used_records bytes = filter is_used (records_from (tape_record_count bytes) bytes 0)
 
 -- ---- what a record says
 
--- where its file is loaded, and the address after its last byte
-abbrev pub start_of : List ℕ → ℕ
-start_of r = word r 2
+-- where its file is loaded
+abbrev pub start_address : List ℕ → ℕ
+start_address r = word r 2
 
-abbrev pub end_of : List ℕ → ℕ
-end_of r = word r 4
+-- the address after the file's last byte
+abbrev pub end_address : List ℕ → ℕ
+end_address r = word r 4
 
 -- where its file's bytes begin in the archive
 abbrev pub offset_of : List ℕ → ℕ
 offset_of r = long r 8
 
--- a name without the spaces that fill it up
+-- a byte before what is left of a name: a space at the end is left out
 abbrev pub without_space : ℕ → List ℕ → List ℕ
 without_space c [] = if c == 32 then [] else c ∷ []
 without_space c (d ∷ rest) = c ∷ d ∷ rest
 
+-- a name without the spaces that fill it up
 abbrev pub trimmed : List ℕ → List ℕ
 trimmed [] = []
 trimmed (c ∷ rest) = without_space c (trimmed rest)
 
 -- ---- the bytes of a file
 
--- the first place after another where a file begins, or the end where none does
+-- a place where a file begins, if it comes after another and before the limit
 abbrev pub nearer : ℕ → ℕ → ℕ → ℕ
 nearer from limit at = if nat_lt from at && nat_lt at limit then at else limit
 
+-- the first place after another where a file begins, or the end where none does
 abbrev pub limit_after : ℕ → ℕ → List (List ℕ) → ℕ
 limit_after from limit [] = limit
 limit_after from limit (r ∷ rest) = limit_after from (nearer from limit (offset_of r)) rest
@@ -79,35 +83,37 @@ limit_after from limit (r ∷ rest) = limit_after from (nearer from limit (offse
 unfoldable pub room_of : List ℕ → List ℕ → ℕ
 room_of bytes r = limit_after (offset_of r) (length bytes) (used_records bytes) - offset_of r
 
--- How many bytes it has: those between its addresses. Many archives have a wrong end address; if it leaves no byte, or more than can be there, all
--- that can be there are taken, up to the end of the memory.
+-- Many archives have a wrong end address. If it leaves no byte, or more than can be there, all that can be there are taken, up to the end of the
+-- memory; else the bytes between the addresses.
 abbrev pub size_in : ℕ → ℕ → ℕ → ℕ
 size_in start stated room = if nat_lt 0 stated && nat_lt stated (room + 1) then stated else min room (65536 - start)
 
-abbrev pub size_of : List ℕ → List ℕ → ℕ
-size_of bytes r = size_in (start_of r) (end_of r - start_of r) (room_of bytes r)
+-- how many bytes a record's file has
+abbrev pub tape_size : List ℕ → List ℕ → ℕ
+tape_size bytes r = size_in (start_address r) (end_address r - start_address r) (room_of bytes r)
 
 -- a file as a disk has it: its start address comes first
 abbrev pub program_of : List ℕ → List ℕ → List ℕ
-program_of bytes r = slice_index r 2 ∷ slice_index r 3 ∷ slice_range bytes (offset_of r) (offset_of r + size_of bytes r)
+program_of bytes r = slice_index r 2 ∷ slice_index r 3 ∷ slice_range bytes (offset_of r) (offset_of r + tape_size bytes r)
 
 -- the bytes of a record's file; none where they would begin after the end
-abbrev pub told_of : List ℕ → Option (List ℕ) → Told
-told_of bytes None = Err NoFile
-told_of bytes (Some r) = if nat_lt (offset_of r) (length bytes) then Ok (program_of bytes r) else Err (Cut (offset_of r))
+abbrev pub tape_told : List ℕ → Option (List ℕ) → FileTold
+tape_told bytes None = Err NoFile
+tape_told bytes (Some r) = if nat_lt (offset_of r) (length bytes) then Ok (program_of bytes r) else Err (Cut (offset_of r))
 
 -- THE BYTES OF THE FILE OF A NUMBER, counted from 0 over the records of files
-unfoldable pub tape_file : List ℕ → ℕ → Told
-tape_file bytes n = told_of bytes (slice_get (used_records bytes) n)
+unfoldable pub tape_file : List ℕ → ℕ → FileTold
+tape_file bytes n = tape_told bytes (slice_get (used_records bytes) n)
 
 -- ---- the directory
 
-abbrev pub nowhere : Place
-nowhere = record { track = 0; sector = 0 }
+-- no block: the first block of a file that is on no disk
+abbrev pub no_block : Place
+no_block = record { track = 0; sector = 0 }
 
 -- a closed program's entry, with its name and the blocks that it takes on a disk
 unfoldable pub tape_entry : List ℕ → List ℕ → List ℕ
-tape_entry bytes r = closed_entry (fresh_entry Prg (trimmed (slice_range r 16 32)) nowhere) nowhere (blocks_of (2 + size_of bytes r))
+tape_entry bytes r = closed_entry (fresh_entry Prg (trimmed (slice_range r 16 32)) no_block) no_block (blocks_of (2 + tape_size bytes r))
 
 -- THE ENTRIES OF AN ARCHIVE
 abbrev pub tape_entries : List ℕ → List (List ℕ)

@@ -1,8 +1,8 @@
 //! The sectors of an image.
 ghost use Rattle.std.specs.Prelude.{◌≡◌, ◌<◌, ◌≤◌, ◌+◌, ◌*◌, length, IfOk, IfErr, IfSome, Some, None, Err};
 ghost use Rattle.cbm_d64.specs.Image.{code_of_error, sector_at};
-ghost use Rattle.cbm_sources.specs.Forms.{sector_count, IsSizeOf};
-ghost use Rattle.cbm_sources.specs.Sectors.{Image, error_of, content_of};
+ghost use Rattle.cbm_sources.specs.Forms.{form_sectors, IsSizeOf};
+ghost use Rattle.cbm_sources.specs.Sectors.{SourceImage, error_of, image_content};
 
 use crate::form::{Form, form_of};
 use cbm_medium::codes::{DISK_ID_MISMATCH, HEADER_CHECKSUM, ILLEGAL_LINK};
@@ -19,9 +19,9 @@ pub struct Disk<'a> {
 impl<'a> Model for Disk<'a> {
     ghost use Rattle.std.specs.Prelude.{length};
     ghost use Rattle.cbm_sources.specs.Forms.{IsSizeOf};
-    ghost use Rattle.cbm_sources.specs.Sectors.{Image};
+    ghost use Rattle.cbm_sources.specs.Sectors.{SourceImage};
 
-    ghost Value = { Image };
+    ghost Value = { SourceImage };
 
     ghost view = { λ d. record { form = d.form; bytes = d.bytes.now } };
 
@@ -43,7 +43,7 @@ fn fault_code(error: u8) -> Option<u8>
 /// The fault of a sector, if its error byte is one.
 fn code_at(form: Form, image: &[u8], place: usize) -> Option<u8>
     requires size { IsSizeOf form (length image.now) }
-    requires place { place < sector_count form }
+    requires place { place < form_sectors form }
     ensures { result ≡ code_of_error (error_of form image.now place) }
 {
     let sectors = form.sectors() as usize;
@@ -83,10 +83,10 @@ impl<'a> Disk<'a> {
     }
 
     /// The 256 bytes of a sector: 66 if the disk has no such sector, else the fault that its error byte means, if one does.
-    #[tactic(auto, unfolding(crate::specs::Sectors::content_of))]
+    #[tactic(auto, unfolding(crate::specs::Sectors::image_content))]
     pub fn read(&self, at: Link) -> Result<[u8; 256], Trouble>
-        ensures ok { IfOk result (λ bytes. content_of self.now at ≡ Ok bytes) }
-        ensures err { IfErr result (λ t. content_of self.now at ≡ Err t.code) }
+        ensures ok { IfOk result (λ bytes. image_content self.now at ≡ Ok bytes) }
+        ensures err { IfErr result (λ t. image_content self.now at ≡ Err t.code) }
         ensures named { IfErr result (λ t. t ≡ (record { code = t.code; track = at.track; sector = at.sector })) }
     {
         let Some(place) = self.form.index(at) else {

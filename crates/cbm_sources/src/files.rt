@@ -1,6 +1,6 @@
 //! A file of a disk by its number.
 ghost use Rattle.std.specs.Prelude.{◌≡◌, ◌⊎◌, slice_get, MatchResult, Ok, Err};
-ghost use Rattle.cbm_sources.specs.Sources.{whole, missing, told_in, disk_file};
+ghost use Rattle.cbm_sources.specs.Sources.{whole, chain_missing, disk_told, disk_file};
 
 use crate::disk::Disk;
 use crate::fault::Fault;
@@ -23,7 +23,7 @@ fn whole(held: Held) -> Result<Vec<u8>, Fault>
 
 /// Why there is no file: the directory has no more, or breaks off.
 fn missing(trouble: Option<Trouble>) -> Fault
-    ensures { result ≡ missing trouble }
+    ensures { result ≡ chain_missing trouble }
 {
     match trouble {
         Some(trouble) => Fault::Chain(trouble),
@@ -33,7 +33,7 @@ fn missing(trouble: Option<Trouble>) -> Fault
 
 /// The bytes of the file of a number in a directory.
 fn file_among(alloc: Global, disk: &Disk, listed: &Listed, number: usize) -> Result<Vec<u8>, Fault>
-    ensures { let told = told_in disk.now listed.now.trouble (slice_get listed.now.entries.items number) in
+    ensures { let told = disk_told disk.now listed.now.trouble (slice_get listed.now.entries.items number) in
         MatchResult result (λ v. told ≡ Ok v.items) (λ fault. (fault ≡ Fault.Memory) ⊎ (told ≡ Err fault)) }
 {
     let Some(entry) = listed.entries.as_slice().get(number) else {

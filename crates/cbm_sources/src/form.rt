@@ -1,6 +1,6 @@
 ghost use Rattle.std.specs.Prelude.{◌≡◌, ◌<◌, ◌+◌, IfSome, None};
 ghost use Rattle.cbm_medium.specs.Place.{Place};
-ghost use Rattle.cbm_sources.specs.Forms.{tracks_of, sector_count, sectors_of, sectors_before, place_in_image, index_of, HasSector, IsSizeOf};
+ghost use Rattle.cbm_sources.specs.Forms.{form_tracks, form_sectors, sectors_on_track, sectors_ahead, place_in_image, index_in_image, HasSector, IsSizeOf};
 
 use cbm_medium::Link;
 
@@ -37,7 +37,7 @@ pub fn form_of(bytes: usize) -> Option<Form>
 impl Form {
     /// How many tracks its disk has.
     pub fn tracks(self) -> u8
-        ensures { result ≡ tracks_of self }
+        ensures { result ≡ form_tracks self }
     {
         match self {
             Form::D64Of35 => 35,
@@ -50,7 +50,7 @@ impl Form {
 
     /// How many sectors its disk has.
     pub fn sectors(self) -> u16
-        ensures { result ≡ sector_count self }
+        ensures { result ≡ form_sectors self }
     {
         match self {
             Form::D64Of35 => 683,
@@ -63,7 +63,7 @@ impl Form {
 
     /// How many sectors a track of its disk has, 0 if there is no such track.
     pub fn sectors_of(self, track: u8) -> u8
-        ensures { result ≡ sectors_of self track }
+        ensures { result ≡ sectors_on_track self track }
     {
         if track > self.tracks() {
             return 0;
@@ -80,7 +80,7 @@ impl Form {
 
     /// How many sectors come before a track.
     fn sectors_before(self, track: u8) -> usize
-        ensures { result ≡ sectors_before self track }
+        ensures { result ≡ sectors_ahead self track }
     {
         let mut before = 0;
         for earlier in 0..track {
@@ -93,7 +93,7 @@ impl Form {
     #[tactic(auto, using(crate::proofs::Places::index_inside))]
     pub(crate) fn index(self, at: Link) -> Option<usize>
         ensures value { result ≡ place_in_image self at }
-        ensures inside { IfSome result (λ place. place < sector_count self) }
+        ensures inside { IfSome result (λ place. place < form_sectors self) }
     {
         if at.sector() < self.sectors_of(at.track()) {
             Some(self.sectors_before(at.track()) + at.sector() as usize)
@@ -105,5 +105,5 @@ impl Form {
 
 /// No two sectors of a disk stand at one place of its image.
 pub fn sectors_lie_apart()
-    ensures { (form : Form) (p q : Place) → HasSector form p → HasSector form q → index_of form p ≡ index_of form q → p ≡ q }
+    ensures { (form : Form) (p q : Place) → HasSector form p → HasSector form q → index_in_image form p ≡ index_in_image form q → p ≡ q }
 {}

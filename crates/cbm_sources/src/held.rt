@@ -2,9 +2,9 @@
 ghost use Rattle.std.specs.Prelude.{◌≡◌, [], IfOk};
 ghost use Rattle.cbm_chain.specs.Data.{data_of};
 ghost use Rattle.cbm_chain.specs.Reading.{held_in};
-ghost use Rattle.cbm_sources.specs.Forms.{sector_count};
-ghost use Rattle.cbm_sources.specs.Sectors.{content_of};
-ghost use Rattle.cbm_sources.specs.Chains.{met};
+ghost use Rattle.cbm_sources.specs.Forms.{form_sectors};
+ghost use Rattle.cbm_sources.specs.Sectors.{image_content};
+ghost use Rattle.cbm_sources.specs.Chains.{met_once};
 
 use crate::disk::Disk;
 use crate::trail::Trail;
@@ -35,8 +35,8 @@ fn data_of(sector: &[u8; 256]) -> &[u8]
 /// What can be read of the chain that begins at a sector: its bytes, up to where it ends or breaks off. The one error is want of
 /// memory.
 pub fn held_from(alloc: Global, disk: &Disk, first: Link) -> Result<Held, AllocError>
-    ensures { let content = content_of disk.now in IfOk result (λ h.
-        held_in content (met content (sector_count disk.now.form) [] first)
+    ensures { let content = image_content disk.now in IfOk result (λ h.
+        held_in content (met_once content (form_sectors disk.now.form) [] first)
         ≡ (record { bytes = h.bytes.items; trouble = h.trouble })) }
 {
     let mut trail = Trail::begin(alloc, disk.form().sectors(), first);

@@ -1,7 +1,7 @@
 //! The lines of a Lynx archive's directory.
 ghost use Rattle.std.specs.Prelude.{◌≡◌, ◌<◌, ◌≤◌, ◌+◌, ◌-◌, length, slice_index, IfSome};
 ghost use Rattle.cbm_file.specs.Types.{is_same_type};
-ghost use Rattle.cbm_sources.specs.Lynxes.{line_end, is_digit, with_digit, number_from, number_line, type_of_letter, kind_line, ends_program, text_start, is_numeric, number_end, is_word, is_signature, header_at, header_of, last_line, member_at};
+ghost use Rattle.cbm_sources.specs.Lynxes.{line_end, is_numeral, with_digit, spelled_from, number_line, type_of_letter, kind_line, ends_program, text_start, is_numeric, number_end, is_word, is_signature, lynx_header_at, lynx_header, last_byte_line, member_at};
 
 use cbm_file::FileType;
 
@@ -78,7 +78,7 @@ fn with_digit(number: u16, byte: u8) -> Option<u16>
 
 /// The number that digits and spaces spell, below 65536.
 fn number(text: &[u8]) -> Option<u16>
-    ensures { result ≡ number_from 0 text.now }
+    ensures { result ≡ spelled_from 0 text.now }
 {
     let mut number = 0;
     for byte in text {
@@ -177,7 +177,7 @@ fn is_signature(bytes: &[u8], at: usize) -> bool
 
 /// What the lines at a place say first.
 fn header_at(bytes: &[u8], at: usize) -> Option<Header>
-    ensures { result ≡ header_at bytes.now at }
+    ensures { result ≡ lynx_header_at bytes.now at }
 {
     let stop = number_end(bytes, at)?;
     if !is_signature(bytes, stop) {
@@ -195,7 +195,7 @@ fn header_at(bytes: &[u8], at: usize) -> Option<Header>
 
 /// What an archive's directory says first; None if the bytes are no Lynx archive.
 pub(crate) fn header_of(bytes: &[u8]) -> Option<Header>
-    ensures { result ≡ header_of bytes.now }
+    ensures { result ≡ lynx_header bytes.now }
 {
     header_at(bytes, text_start(bytes)?)
 }
@@ -210,7 +210,7 @@ pub(crate) fn is_relative(kind: FileType) -> bool
 /// The number of the last byte, in the lines after a file's type: a relative file has a line before it, with the length of its
 /// records.
 fn last_line(bytes: &[u8], kind: Kind) -> Option<Numbered>
-    ensures { result ≡ last_line bytes.now kind }
+    ensures { result ≡ last_byte_line bytes.now kind }
 {
     if !is_relative(kind.kind) {
         return number_line(bytes, kind.next);

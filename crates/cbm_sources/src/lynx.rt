@@ -1,6 +1,6 @@
 //! A Lynx archive.
 ghost use Rattle.std.specs.Prelude.{◌≡◌, ◌≤◌, ◌<◌, ◌^◌, ◌↔◌, ◌⊎◌, length, slice_get, IfOk, IfSome, IsSome, MatchResult, Some, Ok, Err};
-ghost use Rattle.cbm_sources.specs.Lynxes.{header_of, side_blocks, piece_of, member_entry, members_in, members_of, piece_told, missing, told_in, lynx_file};
+ghost use Rattle.cbm_sources.specs.Lynxes.{lynx_header, side_blocks, piece_of, member_entry, members_in, members_of, piece_told, text_missing, lynx_told, lynx_file};
 
 use crate::fault::Fault;
 use crate::lines::{Header, Member, header_of, is_relative, member_at};
@@ -155,7 +155,7 @@ fn bytes_of(alloc: Global, bytes: &[u8], piece: Piece) -> Result<Vec<u8>, Fault>
 
 /// Why there is no file: the directory has no more, or can't be read any more.
 fn missing(broken: Option<usize>) -> Fault
-    ensures { result ≡ missing broken }
+    ensures { result ≡ text_missing broken }
 {
     match broken {
         Some(at) => Fault::Text(at),
@@ -165,7 +165,7 @@ fn missing(broken: Option<usize>) -> Fault
 
 /// The bytes of the file of a number among these.
 fn file_among(alloc: Global, bytes: &[u8], found: &Found, number: usize) -> Result<Vec<u8>, Fault>
-    ensures { let told = told_in bytes.now found.now.broken (slice_get found.now.pieces.items number) in
+    ensures { let told = lynx_told bytes.now found.now.broken (slice_get found.now.pieces.items number) in
         MatchResult result (λ v. told ≡ Ok v.items) (λ fault. (fault ≡ Fault.Memory) ⊎ (told ≡ Err fault)) }
 {
     match found.pieces.as_slice().get(number) {
@@ -178,7 +178,7 @@ impl<'a> Lynx<'a> {
     /// The archive of these bytes, None if they are none.
     pub fn of(bytes: &'a [u8]) -> Option<Lynx<'a>>
         ensures some { IfSome result (λ l. l ≡ bytes.now) }
-        ensures is { IsSome result ↔ IsSome (header_of bytes.now) }
+        ensures is { IsSome result ↔ IsSome (lynx_header bytes.now) }
     {
         match header_of(bytes) {
             Some(_) => Some(Lynx { bytes }),

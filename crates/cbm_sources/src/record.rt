@@ -1,6 +1,6 @@
 //! A record of a tape archive.
 ghost use Rattle.std.specs.Prelude.{◌≡◌, ◌≤◌, ◌<◌, ◌+◌, ◌-◌, ◌*◌, ◌^◌, [], ◌∷◌, length, slice_index, slice_range};
-ghost use Rattle.cbm_sources.specs.Tapes.{record_of, is_used, start_of, end_of, offset_of, trimmed};
+ghost use Rattle.cbm_sources.specs.Tapes.{tape_record, is_used, start_address, end_address, offset_of, trimmed};
 
 use std::marker::Model;
 
@@ -38,7 +38,7 @@ impl Record {
     /// The record of a number.
     pub(crate) fn of(archive: &[u8], number: usize) -> Record
         requires { 96 + 32 * number ≤ length archive.now }
-        ensures { result ≡ record_of archive.now number }
+        ensures { result ≡ tape_record archive.now number }
     {
         let mut bytes = [0; 32];
         let from = 64 + 32 * number;
@@ -62,14 +62,14 @@ impl Record {
 
     /// The address where its file is loaded.
     pub(crate) fn start(&self) -> u16
-        ensures { result ≡ start_of self.now }
+        ensures { result ≡ start_address self.now }
     {
         self.bytes[2] as u16 + 256 * self.bytes[3] as u16
     }
 
     /// The address after the last byte.
     pub(crate) fn end(&self) -> u16
-        ensures { result ≡ end_of self.now }
+        ensures { result ≡ end_address self.now }
     {
         self.bytes[4] as u16 + 256 * self.bytes[5] as u16
     }

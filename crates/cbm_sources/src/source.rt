@@ -1,6 +1,6 @@
 //! A disk image or an archive.
 ghost use Rattle.std.specs.Prelude.{◌≡◌, ◌⊎◌, IfOk, IfSome, MatchResult, None, Ok, Err};
-ghost use Rattle.cbm_sources.specs.Told.{bytes_in, kind_of, IsNoSource, disk_fault, text_fault, contents_of, file_of};
+ghost use Rattle.cbm_sources.specs.Told.{source_kind, IsSourceOf, IsNoSource, disk_fault, text_fault, contents_of, source_file};
 
 use crate::disk::Disk;
 use crate::fault::Fault;
@@ -67,7 +67,7 @@ fn text_fault(broken: Option<usize>) -> Option<Fault>
 impl<'a> Source<'a> {
     /// The source that these bytes are: an image if a form has their size, else an archive; None if they are none.
     pub fn of(bytes: &'a [u8]) -> Option<Source<'a>>
-        ensures some { IfSome result (λ s. bytes_in s ≡ bytes.now) }
+        ensures some { IfSome result (IsSourceOf bytes.now) }
         ensures none { result ≡ None → IsNoSource bytes.now }
     {
         if let Some(disk) = Disk::of(bytes) {
@@ -84,7 +84,7 @@ impl<'a> Source<'a> {
 
     /// What it is.
     pub fn kind(&self) -> SourceKind
-        ensures { result ≡ kind_of self.now }
+        ensures { result ≡ source_kind self.now }
     {
         match self {
             Source::Image(disk) => SourceKind::Image(disk.form()),
@@ -125,8 +125,8 @@ impl<'a> Source<'a> {
 
     /// The bytes of the file of a number, counted from 0 over its entries.
     pub fn file(&self, alloc: Global, number: usize) -> Result<Vec<u8>, Fault>
-        ensures { MatchResult result (λ v. file_of self.now number ≡ Ok v.items)
-            (λ fault. (fault ≡ Fault.Memory) ⊎ (file_of self.now number ≡ Err fault)) }
+        ensures { MatchResult result (λ v. source_file self.now number ≡ Ok v.items)
+            (λ fault. (fault ≡ Fault.Memory) ⊎ (source_file self.now number ≡ Err fault)) }
     {
         match self {
             Source::Image(disk) => disk_file(alloc, disk, number),

@@ -1,7 +1,7 @@
 //! A tape archive.
 ghost use Rattle.std.specs.Prelude.{◌≡◌, ◌<◌, ◌≤◌, ◌+◌, ◌-◌, ◌∷◌, ◌↔◌, ◌⊎◌, length, map, slice_index, IfOk, IfSome, IsSome, MatchResult, Some, Ok, Err};
 ghost use Rattle.cbm_file.specs.Files.{blocks_of};
-ghost use Rattle.cbm_sources.specs.Tapes.{IsTape, record_count, used_records, offset_of, limit_after, size_in, size_of, tape_entry, tape_entries, told_of, tape_file};
+ghost use Rattle.cbm_sources.specs.Tapes.{IsTape, tape_record_count, used_records, offset_of, limit_after, size_in, tape_size, tape_entry, tape_entries, tape_told, tape_file};
 
 use crate::fault::Fault;
 use crate::record::Record;
@@ -41,7 +41,7 @@ impl<'a> Model for Tape<'a> {
 /// How many records an archive has.
 fn record_count(bytes: &[u8]) -> usize
     requires { 64 ≤ length bytes.now }
-    ensures { result ≡ record_count bytes.now }
+    ensures { result ≡ tape_record_count bytes.now }
 {
     let most = bytes[34] as usize + 256 * bytes[35] as usize;
     let used = bytes[36] as usize + 256 * bytes[37] as usize;
@@ -122,7 +122,7 @@ impl<'a> Tape<'a> {
     /// How many bytes a record's file has.
     fn size(&self, records: &[Record], record: &Record) -> usize
         requires { records.now ≡ used_records self.now }
-        ensures value { result ≡ size_of self.now record.now }
+        ensures value { result ≡ tape_size self.now record.now }
         ensures small { result ≤ 65536 }
         ensures inside { result ≤ length self.now - offset_of record.now }
     {
@@ -168,8 +168,8 @@ impl<'a> Tape<'a> {
     /// The bytes of a record's file.
     fn bytes_of(&self, alloc: Global, records: &[Record], record: &Record) -> Result<Vec<u8>, Fault>
         requires { records.now ≡ used_records self.now }
-        ensures { MatchResult result (λ v. told_of self.now (Some record.now) ≡ Ok v.items)
-            (λ fault. (fault ≡ Fault.Memory) ⊎ (told_of self.now (Some record.now) ≡ Err fault)) }
+        ensures { MatchResult result (λ v. tape_told self.now (Some record.now) ≡ Ok v.items)
+            (λ fault. (fault ≡ Fault.Memory) ⊎ (tape_told self.now (Some record.now) ≡ Err fault)) }
     {
         let from = record.offset();
         if from >= self.bytes.len() {

@@ -1,10 +1,11 @@
 //! A way along a chain that comes to no sector twice.
-ghost use Rattle.std.specs.Prelude.{ℕ, ◌≡◌, ◌≢◌, ◌≤◌, ◌<◌, ◌+◌, ◌-◌, [], ◌∷◌, ◌++◌, IfOk, IfErr, OnOk, Some, None};
+ghost use Rattle.std.specs.Prelude.{ℕ, List, Option, ◌≡◌, ◌≢◌, ◌≤◌, ◌<◌, ◌+◌, ◌-◌, [], ◌∷◌, ◌++◌, IfOk, IfErr, OnOk, Some, None};
 ghost use Rattle.cbm_medium.specs.Place.{Place};
 ghost use Rattle.cbm_medium.specs.Content.{Content};
 ghost use Rattle.cbm_medium.specs.Links.{bytes_at, link, with_block};
-ghost use Rattle.cbm_sources.specs.Sectors.{content_of};
-ghost use Rattle.cbm_sources.specs.Chains.{is_among, met, Way, GivesSector, AreApart, IsToldOf};
+ghost use Rattle.cbm_medium.specs.declared.fault.Trouble.{Trouble};
+ghost use Rattle.cbm_sources.specs.Sectors.{image_content};
+ghost use Rattle.cbm_sources.specs.Chains.{came_already, met_once, Way, EntersNext, IsToldOf};
 
 use crate::disk::Disk;
 use cbm_medium::codes::ENDLESS_CHAIN;
@@ -34,7 +35,7 @@ impl Model for Trail {
 
 /// Whether a sector is one of these.
 fn is_among(at: Link, blocks: &[Link]) -> bool
-    ensures { result ≡ is_among at blocks.now }
+    ensures { result ≡ came_already at blocks.now }
 {
     blocks.iter().any(|block| at.track() == block.track() && at.sector() == block.sector())
 }
@@ -42,11 +43,11 @@ fn is_among(at: Link, blocks: &[Link]) -> bool
 /// The bytes of the next sector of a chain: 71 if it came already or is one too many, else what the disk answers.
 fn enter(disk: &Disk, blocks: &[Link], left: u16, at: Link) -> Result<[u8; 256], Trouble>
     requires { at.track ≢ 0 }
-    ensures ok { let content = content_of disk.now in IfOk result (λ bytes.
-        met content left blocks.now at ≡ with_block at (met content (left - 1) (blocks.now ++ at ∷ []) (link bytes))) }
-    ensures read { IfOk result (λ bytes. bytes_at (content_of disk.now) at ≡ bytes) }
+    ensures ok { let content = image_content disk.now in IfOk result (λ bytes.
+        met_once content left blocks.now at ≡ with_block at (met_once content (left - 1) (blocks.now ++ at ∷ []) (link bytes))) }
+    ensures read { IfOk result (λ bytes. bytes_at (image_content disk.now) at ≡ bytes) }
     ensures left { OnOk result (0 < left) }
-    ensures err { IfErr result (λ t. met (content_of disk.now) left blocks.now at ≡ (record { blocks = []; trouble = Some t })) }
+    ensures err { IfErr result (λ t. met_once (image_content disk.now) left blocks.now at ≡ (record { blocks = []; trouble = Some t })) }
 {
     let bytes = disk.read(at)?;
     if left == 0 || is_among(at, blocks) {
@@ -77,7 +78,7 @@ impl Trail {
 
     /// The next sector; None where the chain has ended, or is broken off. The one error is want of memory.
     pub(crate) fn next(&mut self, disk: &Disk) -> Result<Option<[u8; 256]>, AllocError>
-        ensures { GivesSector (content_of disk.now) self.old self.new result }
+        ensures { EntersNext (image_content disk.now) self.old self.new result }
     {
         self.trouble = None;
         if self.next.is_end() {
@@ -98,9 +99,11 @@ impl Trail {
     }
 }
 
-/// A chain never comes to a sector twice. It leads to its end, or to the place that the trouble names, and there is the cause.
+/// What is met of a chain is what it is: its sectors, each once, up to its end or to the trouble that breaks it off, and nothing
+/// else is.
 pub fn chains_are_followed()
-    ensures once { (content : Content) (most : ℕ) (a : Place) → AreApart (met content most [] a).blocks }
     ensures told { (content : Content) (most : ℕ) (a : Place) →
-        let m = met content most [] a in IsToldOf content most a m.blocks m.trouble }
+        let m = met_once content most [] a in IsToldOf content most a m.blocks m.trouble }
+    ensures only { (content : Content) (most : ℕ) (a : Place) (blocks : List Place) (trouble : Option Trouble) →
+        IsToldOf content most a blocks trouble → met_once content most [] a ≡ (record { blocks = blocks; trouble = trouble }) }
 {}

@@ -1,6 +1,6 @@
 use Rattle.std.proofs.Common.{◌≡◌, ◌⊎◌, MatchResult, Ok, Err, sym, subst}
 use Rattle.cbm_sources.specs.declared.fault.Fault.TheVariants.{Memory}
-use Rattle.cbm_sources.specs.Answers.{Told}
+use Rattle.cbm_sources.specs.Answers.{FileTold}
 use Rattle.cbm_sources.specs.Lynxes.{Members}
 use Rattle.cbm_sources.proofs.LynxLemmas.{file_is}
 use Rattle.cbm_sources.proofs.lynx.Lynx.file.Goals as goal
@@ -8,5 +8,5 @@ use Rattle.cbm_sources.proofs.lynx.Lynx.file.Goals as goal
 pub returns-in-Ok : goal.returns-in-Ok
 returns-in-Ok c =
     let found : Members = record { entries = c.in-Ok.found.entries.items; pieces = c.in-Ok.found.pieces.items; broken = c.in-Ok.found.broken } in
-    subst (λ (told : Told). MatchResult c.file_among.result (λ v. told ≡ Ok v.items) (λ fault. (fault ≡ Memory) ⊎ (told ≡ Err fault)))
+    subst (λ (told : FileTold). MatchResult c.file_among.result (λ v. told ≡ Ok v.items) (λ fault. (fault ≡ Memory) ⊎ (told ≡ Err fault)))
     (sym (file_is c.args.self.now c.self.inside.bytes.now c.args.number found c.self.view_is c.in-Ok.ensures)) c.file_among.ensures
