@@ -29,10 +29,10 @@ returns-clause-deleted c =
       unlocked = sym there.locked ∙ c.if-meant.false;
       free = subst (λ es. has_name spare es ≡ false) c.as_slice.ensures.value c.in-Some.ensures;
       dressed = subst (λ n. IsDressedIn image slot spare n false hidden) there.blocks
-      (subst (λ xs. IsDressedIn image slot spare meant.blocks false xs) (sym c.as_slice-2.ensures.value) c.in_ok-hidden.ensures.dressed);
+          (subst (λ xs. IsDressedIn image slot spare meant.blocks false xs) (sym c.as_slice-2.ensures.value) c.in_ok-hidden.ensures.dressed);
       scratched = scratched;
       done = subst (λ t. IsCommanded hidden t scratched) c.scratch_text-text.ensures
-      (subst (λ xs. IsCommanded hidden text xs) (sym c.as_slice-3.ensures.value) c.in_ok-scratched.ensures.made);
+          (subst (λ xs. IsCommanded hidden text xs) (sym c.as_slice-3.ensures.value) c.in_ok-scratched.ensures.made);
       named = subst (λ n. IsDressedIn scratched slot n (blocks_said there.entry) false new) there.name (subst (λ n. IsDressedIn scratched slot meant.name n false new) there.blocks dressed);
       sound = sound;
       opens = opens;
