@@ -5,8 +5,7 @@ use Rattle.cbm_iec.specs.declared.lines.Change.{Change}
 use Rattle.cbm_device.specs.declared.refusal.DeviceRefusal.{DeviceRefusal}
 use Rattle.cbm_device.specs.Answers.{answer, fine}
 use Rattle.cbm_device.proofs.Giving.{never_fine}
-use Rattle.yellowadze1541.specs.declared.shapes.Signal.{Signal}
-use Rattle.yellowadze1541.specs.Signals.{change_of, changes_of, put_before, all_before}
+use Rattle.yellowadze1541.specs.Signals.{put_before, all_before}
 
 -- none is known yet
 pub none_known : (o : Option (List Change)) → all_before [] o ≡ o

@@ -52,8 +52,8 @@ pub record ListsEntries (image : List ℕ) (items : List Entry) (good : ℤ) : T
   pub blocks : List Place
   pub trouble : Option Trouble
   pub followed : directory_sectors (disk_tracks image) (content_of (kind_of image) image) ≡ record { blocks = blocks; trouble = trouble }
-  pub items : items ≡ map entry_spelled (all_entries (content_of (kind_of image) image) blocks)
-  pub good : good ≡ after_trouble trouble
+  pub all : items ≡ map entry_spelled (all_entries (content_of (kind_of image) image) blocks)
+  pub after : good ≡ after_trouble trouble
 
 -- THE ENTRIES OF AN IMAGE'S DIRECTORY are handed out
 abbrev pub IsEntryList : List ℕ → ℤ → List Entry → List Entry → ℕ → ℕ → Type 0

@@ -63,7 +63,7 @@ struct Listing {
 }
 
 /// All entries of an image's directory, as C has them. Errors: `NoImage`, `Memory`.
-fn listing(alloc: Global, image: &[u8]) -> Result<Listing, DeviceRefusal>
+fn list_all(alloc: Global, image: &[u8]) -> Result<Listing, DeviceRefusal>
     ensures ok { IfOk result (λ l. ListsEntries image.now l.items.items l.status) }
     ensures err { IfErr result (IsOpenRefusal image.now) }
 {
@@ -88,7 +88,7 @@ pub extern "C" fn y1541_image_entries(
 ) -> i32
     ensures { IsEntryList image.now result out.old out.new count.old count.new }
 {
-    let listing = match listing(alloc, image) {
+    let listing = match list_all(alloc, image) {
         Ok(listing) => listing,
         Err(refusal) => return refusal.number(),
     };

@@ -1,5 +1,5 @@
 //! Files by the slot of the directory in which their entry stands, whatever their names are, and changes that no command of the drive makes.
-ghost use Rattle.std.specs.Prelude.{◌≡◌, ◌≤◌, ◌<◌, ◌⊎◌, ◌∷◌, [], ℕ, List, None, IfOk, IfErr, length, MatchResult, Some, true, false};
+ghost use Rattle.std.specs.Prelude.{◌≡◌, ◌≤◌, ◌<◌, ◌⊎◌, ◌∷◌, [], ℕ, List, None, IfOk, IfErr, length, MatchResult, Some, not, ◌==◌};
 ghost use Rattle.cbm_file.specs.Files.{Disk};
 ghost use Rattle.cbm_file.specs.Types.{type_with};
 ghost use Rattle.cbm_volume.specs.Holding.{EntryStandsAt, HasBytes};
@@ -99,10 +99,8 @@ pub extern "C" fn y1541_image_lock(
     out: &mut [u8],
     needed: &mut usize,
 ) -> i32
-    ensures freed { locked ≡ 0 → GivesBytes result out.old out.new needed.old needed.new
-        (IsLockedInSlot image.now slot false) (IsSomeFault (IsNotLockedInSlot image.now slot)) }
-    ensures locked { 0 < locked → GivesBytes result out.old out.new needed.old needed.new
-        (IsLockedInSlot image.now slot true) (IsSomeFault (IsNotLockedInSlot image.now slot)) }
+    ensures { GivesBytes result out.old out.new needed.old needed.new
+        (IsLockedInSlot image.now slot (not (locked == 0))) (IsSomeFault (IsNotLockedInSlot image.now slot)) }
 {
     handed(
         cbm_slots::lock(alloc, image, slot, locked != 0),

@@ -4,7 +4,7 @@ use Rattle.cbm_image.specs.Images.{kind_of, tracks_of}
 use Rattle.cbm_device.specs.ImageDisks.{counted_seen}
 use Rattle.cbm_device.specs.Plays.{HasPlayedAll}
 use Rattle.cbm_device.proofs.Opening.{holds_of, same_start}
-use Rattle.yellowadze1541.proofs.Handing.{has_played, not_asked, not_opened}
+use Rattle.yellowadze1541.proofs.Handing.{has_played}
 use Rattle.yellowadze1541.proofs.Signalling.{of_ok}
 use Rattle.yellowadze1541.proofs.plays.played.Goals as goal
 
