@@ -329,7 +329,7 @@ foreign() {
     case_of "no image: $3" 2 "" "disk1541: foreign.d64 is $3 ($1 bytes)" "$disk" "$2" foreign.d64
 }
 printf 'C64 tape image file' > foreign.d64
-foreign 19 list "a T64, with files of a tape"
+foreign 19 info "a T64, with files of a tape"
 printf 'P64-1541' > foreign.d64
 foreign 8 check "a P64, with the pulses of a disk: make a G64 of it"
 printf 'MNIB-1541-RAW' > foreign.d64
@@ -344,14 +344,14 @@ for size in $((1366 * 256)) $((1366 * 257)); do
 done
 for size in $((3200 * 256)) $((3200 * 257)); do
     rm foreign.d64 && truncate -s $size foreign.d64
-    foreign $size list "a D81, the disk of a 1581"
+    foreign $size check "a D81, the disk of a 1581"
 done
 for size in $((802 * 256)) $((802 * 257)); do
     rm foreign.d64 && truncate -s $size foreign.d64
-    foreign $size list "a D64 of 42 tracks: 35 and 40 are taken"
+    foreign $size check "a D64 of 42 tracks: 35 and 40 are taken"
 done
 rm foreign.d64 && truncate -s $((768 * 257)) foreign.d64
-foreign $((768 * 257)) list "a D64 of 40 tracks with error bytes: with them 35 are taken"
+foreign $((768 * 257)) check "a D64 of 40 tracks with error bytes: with them 35 are taken"
 rm foreign.d64 && truncate -s 200000 foreign.d64
 foreign 200000 list "no image of a disk: no G64, nor of a D64's size"
 head -c 100000 there.g64 > foreign.d64
