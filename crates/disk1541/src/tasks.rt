@@ -20,7 +20,7 @@ use disk_edits::{
 };
 use disk_looks::{Progress, describe, show_map, show_sector, show_track};
 use disk_reports::{Look, View};
-use disk_sources::{get, get_all, transfer};
+use disk_sources::{get, get_all, transfer_files};
 use std::rt::Runtime;
 
 /// Carries out a command that looks at images.
@@ -169,7 +169,7 @@ fn perform<'a, R: Runtime + AllocGlobal>(
         Verb::New => make(rt, image, &blank(words, charset)),
         Verb::Convert => convert_image(rt, image, &conversion(words)),
         Verb::Put => put_with(rt, words, charset, input),
-        Verb::Transfer => transfer(rt, image, &transferring(words, charset)),
+        Verb::Transfer => transfer_files(rt, image, &transferring(words, charset)),
         Verb::Copy => copy_with(rt, words, charset),
         Verb::Rename => rename_with(rt, words, charset),
         Verb::Describe => describe(rt, image, description(words, charset)),

@@ -7,5 +7,5 @@ mod origin;
 mod taking;
 
 pub use listing::seen;
-pub use moving::{Transfer, transfer};
+pub use moving::{Transfer, transfer_files};
 pub use taking::{get, get_all};

@@ -289,7 +289,7 @@ fn with_all<'a, R: Runtime + AllocGlobal>(
 /// Transfers files from a disk or an archive onto an image, all of them or none, and saves it. Errors: `Read`, `TooLong`, `Foreign`;
 /// `Told`, where the directory or a file can't be read, as is reported; `NoFile`; those of `read_to_change`; `Disk`, where a name is
 /// there already or the disk refuses a file; `GeosCopy`, `Records`, `DirectoryFull`; `NoMemory`; those of `replace`.
-pub fn transfer<'a, R: Runtime + AllocGlobal>(
+pub fn transfer_files<'a, R: Runtime + AllocGlobal>(
     rt: &R,
     to: &'a str,
     wanted: &Transfer<'a, '_>,
