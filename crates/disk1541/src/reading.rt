@@ -7,7 +7,6 @@ use disk_commands::{flag, given, option};
 use disk_edits::{Gone, Ordering, Pair};
 use disk_looks::{Description, Destination, Mapping, OneFile};
 use disk_reports::View;
-use disk_sources::Transfer;
 
 /// The character set of a command's names. Errors: `Word`, where a C64 has no such set.
 pub fn charset<'a>(words: &ArgMatches<'a>) -> Result<Charset, Failure<'a>> {
@@ -183,15 +182,5 @@ pub fn mapping<'a>(words: &ArgMatches<'a>, charset: Charset, is_coloured: bool) 
         replaces: flag(words, "replace"),
         charset,
         is_coloured,
-    }
-}
-
-/// What is transferred.
-pub fn transferring<'a, 'c>(words: &'c ArgMatches<'a>, charset: Charset) -> Transfer<'a, 'c> {
-    Transfer {
-        from: given(words, "FROM"),
-        patterns: words.get_strs("PATTERN").unwrap_or(&[]),
-        replaces: flag(words, "replace"),
-        charset,
     }
 }

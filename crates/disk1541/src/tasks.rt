@@ -6,7 +6,7 @@ mod look;
 use self::look::look_at_all;
 use crate::reading::{
     blank, building, charset, checking, choice, conversion, description, gone, host_files, listing,
-    mapping, one_file, ordering, pair, pattern, place, transferring,
+    mapping, one_file, ordering, pair, pattern, place,
 };
 use cbm_shell::texts::Charset;
 use clap::ArgMatches;
@@ -20,7 +20,7 @@ use disk_edits::{
 };
 use disk_looks::{Progress, describe, show_map, show_sector, show_track};
 use disk_reports::{Look, View};
-use disk_sources::{get, get_all, transfer_files};
+use disk_sources::{Transfer, get, get_all, transfer_files};
 use std::rt::Runtime;
 
 /// Carries out a command that looks at images.
@@ -123,6 +123,21 @@ fn delete_with<'a, R: Runtime + AllocGlobal>(
     }
 }
 
+/// Takes files of another disk or archive over.
+fn transfer_with<'a, R: Runtime + AllocGlobal>(
+    rt: &R,
+    words: &ArgMatches<'a>,
+    charset: Charset,
+) -> Result<(), Failure<'a>> {
+    let wanted = Transfer {
+        from: given(words, "FROM"),
+        patterns: words.get_strs("PATTERN").unwrap_or(&[]),
+        replaces: flag(words, "replace"),
+        charset,
+    };
+    transfer_files(rt, given(words, "IMAGE"), &wanted)
+}
+
 /// Gives the disk another title, and another id.
 fn title_with<'a, R: Runtime + AllocGlobal>(
     rt: &R,
@@ -169,7 +184,7 @@ fn perform<'a, R: Runtime + AllocGlobal>(
         Verb::New => make(rt, image, &blank(words, charset)),
         Verb::Convert => convert_image(rt, image, &conversion(words)),
         Verb::Put => put_with(rt, words, charset, input),
-        Verb::Transfer => transfer_files(rt, image, &transferring(words, charset)),
+        Verb::Transfer => transfer_with(rt, words, charset),
         Verb::Copy => copy_with(rt, words, charset),
         Verb::Rename => rename_with(rt, words, charset),
         Verb::Describe => describe(rt, image, description(words, charset)),
