@@ -11,7 +11,7 @@
  * Threads: the library has no state but its handles. Different handles may be used by different threads at once, one handle by one call at a
  * time. A handle may be passed to another thread; the caller must synchronise.
  * Memory comes from malloc, realloc and free, in the calls marked [m] alone. If there is none, the call answers Y1541_NO_MEMORY.
- * Stack: y1541_open takes up to 298 kB, put and command up to 259 kB, list 201 kB, play 143 kB, y1541_lines and y1541_due up to 80 kB, eject, insert
+ * Stack: y1541_open takes up to 298 kB, put and command up to 259 kB, list 206 kB, play 143 kB, y1541_lines and y1541_due up to 80 kB, eject, insert
  * and reset 71 kB, all others less. docs/emulators.md has what was measured, and answers to questions.
  */
 #ifndef YELLOWADZE1541_H

@@ -80,8 +80,8 @@ static const struct { const char *name; void (*call)(void); size_t most; } calls
     {"image_check", checks, 36000}, {"image_list", lists, 207000}, {"image_file", files, 4000}, {"image_put", puts_file, 222000},
     {"image_command V", command_validates, 220000}, {"image_command C", command_copies, 220000}, {"image_command N", command_formats, 235000},
     {"image_new", makes, 53000}, {"image_convert", converts, 37000}, {"play", plays, 148000},
-    {"LOAD $", host_lists, 40000}, {"LOAD", host_loads, 40000}, {"SAVE", host_saves, 40000}, {"R", host_renames, 40000}, {"C", host_copies, 40000},
-    {"S", host_scratches, 40000}, {"V", host_validates, 40000}, {"N", host_formats, 53000}, {"their close", hosts_end, 1000},
+    {"LOAD $", host_lists, 46000}, {"LOAD", host_loads, 46000}, {"SAVE", host_saves, 46000}, {"R", host_renames, 46000}, {"C", host_copies, 46000},
+    {"S", host_scratches, 46000}, {"V", host_validates, 46000}, {"N", host_formats, 53000}, {"their close", hosts_end, 1000},
 };
 
 static void *runs(void *call) {
