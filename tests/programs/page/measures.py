@@ -1,6 +1,5 @@
 """New disks, full disks, how long they take, how large the page is, and saving in place."""
 import base64
-import os
 import time
 
 MOST_BYTES = 60_000  # of the page, beside the module and its .mjs
@@ -27,12 +26,10 @@ HELD = "const done = arguments[0]; handle.getFile().then((it) => it.arrayBuffer(
 
 
 def in_time(browser, time, most, what):
-    """A time is judged only if this machine has a processor for it."""
-    is_busy = os.getloadavg()[0] > (os.cpu_count() or 1)
-    if is_busy and time >= most:
-        print(f"      {what}: not judged, as the machine is busy")
-    else:
-        browser.expect(time < most, what)
+    """What is slower than wanted is said. It fails if it takes ten times as long, as a machine with other work may take some times as long."""
+    if time >= most:
+        print(f"      slower than wanted: {what}")
+    browser.expect(time < 10 * most, what)
 
 
 def size(browser, folder):
