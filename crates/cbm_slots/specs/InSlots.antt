@@ -1,5 +1,5 @@
 -- A file by the slot of the directory in which its entry stands: another name, a lock, its end.
-use Rattle.std.specs.Prelude.{ℕ, ◌≡◌, ◌+◌, ◌*◌, ◌==◌, ◌&&◌, ◌⊎◌, ◌∷◌, [], not, Bool, true, false, List, Some, None, slice_get, slice_index, slice_range}
+use Rattle.std.specs.Prelude.{ℕ, ◌≡◌, ◌+◌, ◌*◌, ◌==◌, ◌&&◌, ◌⊎◌, ◌∷◌, [], not, Bool, true, false, List, Some, None, slice_get, slice_index, slice_range, ◌/◌, ◌%◌, ◌<◌, ◌≤◌, length}
 use Rattle.std.specs.List.{list_any}
 use Rattle.std.specs.Str.{bytes_eq}
 use Rattle.cbm_file.specs.Files.{Disk}
@@ -13,7 +13,7 @@ use Rattle.cbm_image.specs.Images.{kind_of, image_fault, content_of, ImageHolds}
 use Rattle.cbm_shell.specs.Images.{disk_tracks, machine_on, IsOpenFault, IsFailed, IsSoundImage}
 use Rattle.cbm_shell.specs.Reading.{IsReadFault}
 use Rattle.cbm_shell.specs.Editing.{IsUneditedIn, HasNoSlotIn}
-use Rattle.cbm_shell.specs.Changing.{IsFine}
+use Rattle.cbm_shell.specs.Changing.{IsFine, begun}
 use Rattle.cbm_shell.specs.Art.{IsDressedIn}
 use Rattle.cbm_shell.specs.declared.changing.DiskChange.{DiskChange}
 use Rattle.cbm_shell.specs.declared.fault.ShellFault.{ShellFault}
@@ -40,6 +40,14 @@ is_named name entry = not (type_byte entry == 0) && bytes_eq (name_in entry) nam
 -- one of the entries is
 abbrev pub has_name : List ℕ → List (List ℕ) → Bool
 has_name name entries = list_any (is_named name) entries
+
+-- the spare names, by their number from 0 to 143: two bytes to which no command of the drive gives a meaning
+abbrev pub spare_of : ℕ → List ℕ
+spare_of n = (1 + n / 12) ∷ (1 + n % 12) ∷ []
+
+-- files have all of them
+abbrev pub AreSparesTaken : List (List ℕ) → Type 0
+AreSparesTaken entries = (n : ℕ) → n < 144 → has_name (spare_of n) entries ≡ true
 
 -- how many blocks an entry says that its file has
 abbrev pub blocks_said : List ℕ → ℕ
@@ -82,14 +90,10 @@ pub record IsLockedInSlot (image : List ℕ) (slot : ℕ) (locked : Bool) (new :
 abbrev pub scratch_text : List ℕ → List ℕ
 scratch_text name = 83 ∷ 48 ∷ 58 ∷ slice_index name 0 ∷ slice_index name 1 ∷ []
 
--- the machine after a command
-abbrev pub told_to : List ℕ → Machine → Machine
-told_to text m = after_open 15 text m
-
 -- the drive carries out a command on an image's disk: of each disk that it holds, its machine reports no error, and the new image holds its disk
 abbrev pub IsCommanded : List ℕ → List ℕ → List ℕ → Type 0
 IsCommanded image text new = (d : Disk) → ImageHolds (kind_of image) image d →
-    IsFine (told_to text (machine_on image d)).status × ImageHolds (kind_of image) new (told_to text (machine_on image d)).disk
+    IsFine (after_open 15 text (machine_on image d)).status × ImageHolds (kind_of image) new (after_open 15 text (machine_on image d)).disk
 
 -- THE FILE OF A SLOT IS DELETED: it isn't locked, its entry gets a name that no other file has, the drive scratches that, and the empty entry has its own name again.
 -- The new image is sound, and opens again.
@@ -111,9 +115,14 @@ pub record IsDeletedInSlot (image : List ℕ) (slot : ℕ) (new : List ℕ) : Ty
 
 -- ---- why nothing is changed
 
+-- a slot of a list of entries has no file: the list ends before it, or its entry is empty
+abbrev pub HasNoFile : List (List ℕ) → ℕ → Type 0
+HasNoFile entries slot = (length entries ≤ slot) ⊎ ((entry : List ℕ) × (slice_get entries slot ≡ Some entry) × ((type_byte entry == 0) ≡ true))
+
 -- a slot means no file: the image isn't opened, its directory breaks off, or the slot isn't there or is empty
 abbrev pub IsNoFile : List ℕ → ℕ → ShellFault → Type 0
-IsNoFile image slot f = (IsOpenFault image f ⊎ IsReadFault (directory_in image).trouble f) ⊎ (f ≡ fault.NotFound)
+IsNoFile image slot f = (IsOpenFault image f ⊎ IsReadFault (directory_in image).trouble f)
+    ⊎ ((entries : List (List ℕ)) × AreEntriesOf image entries × HasNoFile entries slot × (f ≡ fault.NotFound))
 
 -- the drive's refusal by a code
 abbrev pub IsRefusal : Status → ShellFault → Type 0
@@ -129,22 +138,37 @@ IsNotRenamedInSlot image slot name f = IsNoFile image slot f
 abbrev pub IsNotLockedInSlot : List ℕ → ℕ → ShellFault → Type 0
 IsNotLockedInSlot image slot f = IsNoFile image slot f ⊎ IsUneditedIn image (HasNoSlotIn image slot) f
 
--- the drive doesn't scratch the file under its spare name: the new image isn't opened, memory runs out, or the machine refuses it
-pub record IsNotScratched (f : ShellFault) : Type 0 where
-  pub hidden : List ℕ
-  pub change : DiskChange
-  pub failed : (d : Disk) → ImageHolds (kind_of hidden) hidden d → IsFailed hidden change (machine_on hidden d) f
-
 -- the file is locked, and so isn't deleted
 abbrev pub IsKeptByLock : List ℕ → ℕ → ShellFault → Type 0
 IsKeptByLock image slot f = (entries : List (List ℕ)) × (entry : List ℕ) × AreEntriesOf image entries × HasFile entries slot entry × (is_locked entry ≡ true)
     × IsRefusal (record { code = WriteProtected; first = 0; second = 0 }) f
 
--- what is left after SCRATCH isn't dressed: want of memory, or a fault that no sound disk has
-abbrev pub IsNotNamed : ℕ → ShellFault → Type 0
-IsNotNamed slot f = (scratched : List ℕ) × IsUneditedIn scratched (HasNoSlotIn scratched slot) f
+-- all spare names are taken
+abbrev pub IsWithoutSpare : List ℕ → ShellFault → Type 0
+IsWithoutSpare image f = (entries : List (List ℕ)) × AreEntriesOf image entries × AreSparesTaken entries × IsRefusal (record { code = FileExists; first = 0; second = 0 }) f
+
+-- the file has a spare name, and the drive doesn't scratch it: the image isn't opened, memory runs out, or the machine refuses it
+pub record IsNotScratched (image : List ℕ) (slot : ℕ) (f : ShellFault) : Type 0 where
+  pub entry : List ℕ
+  pub spare : List ℕ
+  pub hidden : List ℕ
+  pub change : DiskChange
+  pub dressed : IsDressedIn image slot spare (blocks_said entry) false hidden
+  pub sound : IsSoundImage (kind_of image) hidden
+  pub scratch : (m : Machine) → begun change m ≡ after_open 15 (scratch_text spare) m
+  pub failed : (d : Disk) → ImageHolds (kind_of hidden) hidden d → IsFailed hidden change (machine_on hidden d) f
+
+-- it was scratched, and the empty entry doesn't get its name: memory runs out, or a fault that no sound disk has
+pub record IsNotNamed (image : List ℕ) (slot : ℕ) (f : ShellFault) : Type 0 where
+  pub entry : List ℕ
+  pub spare : List ℕ
+  pub hidden : List ℕ
+  pub scratched : List ℕ
+  pub dressed : IsDressedIn image slot spare (blocks_said entry) false hidden
+  pub done : IsCommanded hidden (scratch_text spare) scratched
+  pub failed : IsUneditedIn scratched (HasNoSlotIn scratched slot) f
 
 -- nothing is deleted: the slot means no file, the file is locked, all spare names are taken, the disk isn't sound, or the drive refuses it
 abbrev pub IsNotDeletedInSlot : List ℕ → ℕ → ShellFault → Type 0
-IsNotDeletedInSlot image slot f = IsNoFile image slot f ⊎ (IsKeptByLock image slot f ⊎ (IsRefusal (record { code = FileExists; first = 0; second = 0 }) f
-    ⊎ (IsUneditedIn image (HasNoSlotIn image slot) f ⊎ (IsNotScratched f ⊎ IsNotNamed slot f))))
+IsNotDeletedInSlot image slot f = IsNoFile image slot f ⊎ (IsKeptByLock image slot f ⊎ (IsWithoutSpare image f
+    ⊎ (IsUneditedIn image (HasNoSlotIn image slot) f ⊎ (IsNotScratched image slot f ⊎ IsNotNamed image slot f))))

@@ -1,8 +1,8 @@
 //! DELETE: the drive's SCRATCH, of the one file that is meant.
-ghost use Rattle.std.specs.Prelude.{◌≡◌, ◌++◌, false, None, Some, IfOk, IfErr, IfSome, OnOk, MatchOption, length};
+ghost use Rattle.std.specs.Prelude.{◌≡◌, ◌<◌, false, None, Some, IfOk, IfErr, IfSome, OnOk, MatchOption, length};
 ghost use Rattle.cbm_image.specs.Images.{kind_of};
 ghost use Rattle.cbm_shell.specs.Images.{IsSoundImage};
-ghost use Rattle.cbm_slots.specs.InSlots.{has_name, scratch_text, IsDeletedInSlot, IsNotDeletedInSlot};
+ghost use Rattle.cbm_slots.specs.InSlots.{has_name, scratch_text, spare_of, AreSparesTaken, IsDeletedInSlot, IsNotDeletedInSlot};
 
 use crate::meant::{find_meant, has_name, refused};
 use cbm_channel::Code;
@@ -10,20 +10,29 @@ use cbm_shell::{DiskChange, Looks, ShellFault, change, dress};
 use cbm_volume::Entry;
 use std::alloc::Global;
 
-/// The first and the second byte of spare names are below this. No command of the drive gives a meaning to any of them.
-const SPARE: u8 = 13;
+/// How many spare names there are.
+const SPARES: u8 = 144;
 
-/// A name that no file has and that SCRATCH takes for nothing else; None if all 144 are taken.
-fn spare_name(entries: &[Entry]) -> Option<[u8; 2]>
-    ensures { IfSome result (λ name. has_name name entries.now ≡ false) }
+/// The spare name of a number. No command of the drive gives a meaning to its bytes, 1 to 12.
+fn spare_of(number: u8) -> [u8; 2]
+    requires { number < 144 }
+    ensures { result ≡ spare_of number }
 {
-    for first in 1..SPARE {
-        for second in 1..SPARE {
-            let name = [first, second];
-            if !has_name(entries, &name) {
-                return Some(name);
-            }
+    [1 + number / 12, 1 + number % 12]
+}
+
+/// A name that no file has and that SCRATCH takes for nothing else; None if files have all of them.
+fn spare_name(entries: &[Entry]) -> Option<[u8; 2]>
+    ensures free { IfSome result (λ name. has_name name entries.now ≡ false) }
+    ensures none { result ≡ None → AreSparesTaken entries.now }
+{
+    let mut number = 0;
+    'names: while number < SPARES {
+        let name = spare_of(number);
+        if !has_name(entries, &name) {
+            return Some(name);
         }
+        number += 1;
     }
     None
 }

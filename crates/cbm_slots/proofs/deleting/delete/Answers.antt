@@ -1,13 +1,31 @@
-use Rattle.std.proofs.Common.{◌≡◌, false, subst, sym, ◌∙◌}
+use Rattle.std.proofs.Common.{◌≡◌, false, subst, sym, ◌∙◌, ap}
+use Rattle.cbm_machine.specs.Calls.{after_open}
+use Rattle.cbm_shell.specs.Images.{IsSoundImage}
 use Rattle.cbm_shell.specs.Art.{IsDressedIn}
+use Rattle.cbm_image.specs.Images.{kind_of}
 use Rattle.cbm_slots.specs.InSlots.{has_name, blocks_said, IsCommanded}
 use Rattle.cbm_slots.proofs.DeletingLemmas.{named_again, not_named, not_scratched}
 use Rattle.cbm_slots.proofs.deleting.delete.Goals as goal
 
 pub returns-in_err-scratched-clause-fault : goal.returns-in_err-scratched-clause-fault
 returns-in_err-scratched-clause-fault c =
-    not_scratched c.from_residual-in_err-scratched.result c.args.image.now c.args.slot c.in_err-scratched.field-0.0 c.from_residual-in_err-scratched.ensures.1
-    (record { hidden = c.as_slice-2.result.now; change = _; failed = c.in_err-scratched.ensures.made })
+    let image = c.args.image.now in
+    let slot = c.args.slot in
+    let meant = c.in_ok-meant.meant in
+    let there = c.in_ok-meant.ensures.there in
+    let hidden = c.as_slice-2.result.now in
+    let spare = c.in-Some.spare in
+    not_scratched c.from_residual-in_err-scratched.result image slot c.in_err-scratched.field-0.0 c.from_residual-in_err-scratched.ensures.1 (record {
+      entry = there.entry;
+      spare = spare;
+      hidden = hidden;
+      change = _;
+      dressed = subst (λ n. IsDressedIn image slot spare n false hidden) there.blocks
+          (subst (λ xs. IsDressedIn image slot spare meant.blocks false xs) (sym c.as_slice-2.ensures.value) c.in_ok-hidden.ensures.dressed);
+      sound = subst (λ xs. IsSoundImage (kind_of image) xs) (sym c.as_slice-2.ensures.value) c.in_ok-hidden.ensures.stays;
+      scratch = λ m. ap (λ t. after_open 15 t m) c.scratch_text-text.ensures;
+      failed = c.in_err-scratched.ensures.made;
+    })
 
 pub returns-clause-deleted : goal.returns-clause-deleted
 returns-clause-deleted c =
@@ -27,7 +45,7 @@ returns-clause-deleted c =
       all = c.in_ok-meant.ensures.all;
       there = there.there;
       unlocked = sym there.locked ∙ c.if-meant.false;
-      free = subst (λ es. has_name spare es ≡ false) c.as_slice.ensures.value c.in-Some.ensures;
+      free = subst (λ es. has_name spare es ≡ false) c.as_slice.ensures.value c.in-Some.ensures.free;
       dressed = subst (λ n. IsDressedIn image slot spare n false hidden) there.blocks
           (subst (λ xs. IsDressedIn image slot spare meant.blocks false xs) (sym c.as_slice-2.ensures.value) c.in_ok-hidden.ensures.dressed);
       scratched = scratched;
@@ -39,4 +57,22 @@ returns-clause-deleted c =
     }) c.dress-2.ensures.dressed c.dress-2.ensures.stays c.dress-2.ensures.opens
 
 pub returns-clause-fault : goal.returns-clause-fault
-returns-clause-fault c = not_named c.dress-2.result c.args.image.now c.as_slice-3.result.now c.args.slot c.dress-2.ensures.fault
+returns-clause-fault c =
+    let image = c.args.image.now in
+    let slot = c.args.slot in
+    let meant = c.in_ok-meant.meant in
+    let there = c.in_ok-meant.ensures.there in
+    let hidden = c.as_slice-2.result.now in
+    let scratched = c.as_slice-3.result.now in
+    let spare = c.in-Some.spare in
+    not_named c.dress-2.result image scratched slot (λ f failed. record {
+      entry = there.entry;
+      spare = spare;
+      hidden = hidden;
+      scratched = scratched;
+      dressed = subst (λ n. IsDressedIn image slot spare n false hidden) there.blocks
+          (subst (λ xs. IsDressedIn image slot spare meant.blocks false xs) (sym c.as_slice-2.ensures.value) c.in_ok-hidden.ensures.dressed);
+      done = subst (λ t. IsCommanded hidden t scratched) c.scratch_text-text.ensures
+          (subst (λ xs. IsCommanded hidden c.scratch_text-text.result xs) (sym c.as_slice-3.ensures.value) c.in_ok-scratched.ensures.made);
+      failed = failed;
+    }) c.dress-2.ensures.fault
