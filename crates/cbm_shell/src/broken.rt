@@ -7,5 +7,4 @@ pub(crate) mod undeleting;
 pub use around_geos::map_around_geos;
 pub use flaws::{DiskFlaw, Whose, error_at, flaws_of, lost_of, users_of};
 pub use forgetting::forget;
-pub(crate) use undeleting::sound_image;
-pub use undeleting::undelete;
+pub use undeleting::{remapped, sound_image, undelete};

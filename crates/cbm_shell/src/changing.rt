@@ -80,7 +80,7 @@ fn apply<M: Steady>(dos: &mut Dos<M>, change: &DiskChange<'_>) -> Result<(), She
 }
 
 /// Refuses a disk that isn't sound.
-pub(crate) fn require_sound<M: Medium>(volume: &Volume<M>) -> Result<(), ShellFault>
+pub fn require_sound<M: Medium>(volume: &Volume<M>) -> Result<(), ShellFault>
     ensures sound { let now = M.seen volume.now in
         OnOk result (IsSoundDisk now.tracks now.content) }
     ensures exact { let now = M.seen volume.now in (d : Disk) → HoldsDisk now.tracks now.content d → IsOk result }

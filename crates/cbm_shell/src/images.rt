@@ -33,7 +33,7 @@ use std::alloc::Global;
 pub use wrapped::{Wrapped, unwrapped};
 
 /// The disk of an image. Errors: `Image` with the number of the format's first fault, `Memory`.
-pub(crate) fn opened<I: DiskImage>(alloc: Global, image: &[u8]) -> Result<I, ShellFault>
+pub fn opened<I: DiskImage>(alloc: Global, image: &[u8]) -> Result<I, ShellFault>
     requires { kind_of image.now ≡ I.kind }
     ensures ok { IfOk result (λ disk. IsImageOpened image.now (I.seen disk)) }
     ensures err { IfErr result (IsOpenFault image.now) }
@@ -46,7 +46,7 @@ pub(crate) fn opened<I: DiskImage>(alloc: Global, image: &[u8]) -> Result<I, She
 }
 
 /// The image of a disk. The one error is `Memory`.
-pub(crate) fn saved<I: DiskImage>(alloc: Global, disk: &I) -> Result<Vec<u8>, ShellFault>
+pub fn saved<I: DiskImage>(alloc: Global, disk: &I) -> Result<Vec<u8>, ShellFault>
     ensures ok { IfOk result (λ v. IsSaved I.kind v.items (I.seen disk.now)) }
     ensures err { IfErr result (λ fault. fault ≡ ShellFault.Memory) }
 {

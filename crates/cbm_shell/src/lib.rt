@@ -6,6 +6,7 @@ mod changing;
 mod fault;
 mod images;
 mod looking;
+pub mod parts;
 pub mod texts;
 
 pub use broken::{

@@ -108,7 +108,7 @@ fn restored<M: Medium + Drop>(
 
 /// The disk with its BAM written anew, in which each block is free but these. Errors: `Trouble`, where 18/0 can't be read or
 /// written.
-pub(crate) fn remapped<M: Steady + Drop>(
+pub fn remapped<M: Steady + Drop>(
     medium: M,
     geometry: Geometry,
     held: &SectorSet,
@@ -184,10 +184,7 @@ fn undeleted<M: Steady + Drop>(
 }
 
 /// The image of a disk, if that is sound.
-pub(crate) fn sound_image<I: DiskImage + Drop>(
-    alloc: Global,
-    disk: I,
-) -> Result<Vec<u8>, ShellFault>
+pub fn sound_image<I: DiskImage + Drop>(alloc: Global, disk: I) -> Result<Vec<u8>, ShellFault>
     ensures saved { IfOk result (λ v. IsSaved I.kind v.items (I.seen disk)) }
     ensures sound { let now = I.seen disk in OnOk result (IsSoundDisk now.tracks now.content) }
     ensures image { IfOk result (λ v. IsSoundImage I.kind v.items) }

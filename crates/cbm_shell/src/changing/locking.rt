@@ -22,8 +22,7 @@ mod mark;
 mod title;
 
 pub use mark::remark;
-pub use title::retitle;
-pub(crate) use title::write_head;
+pub use title::{retitle, write_head};
 
 /// Whether two answers aren't the same.
 fn is_other(first: bool, second: bool) -> bool
@@ -57,7 +56,7 @@ fn locked_type(byte: u8, is_locked: bool) -> u8
 }
 
 /// The entry of these thirty bytes.
-pub(crate) fn entry_of(bytes: &[u8; 30]) -> Entry
+pub fn entry_of(bytes: &[u8; 30]) -> Entry
     ensures { result ≡ bytes.now }
 {
     let mut sector = [0; 256];

@@ -76,7 +76,7 @@ fn mark_of<M: Medium>(medium: &M, at: Address, used: &SectorSet, free: bool) -> 
 }
 
 /// Puts the sectors of a chain into the set, up to its end or to what cuts it off.
-pub(crate) fn use_chain<M: Medium>(medium: &M, geometry: Geometry, from: Link, used: &mut SectorSet)
+pub fn use_chain<M: Medium>(medium: &M, geometry: Geometry, from: Link, used: &mut SectorSet)
     requires { geometry ≤ (M.seen medium.now).tracks }
     ensures { is_marked used.new
         ≡ with_places (is_marked used.old) (chain_of geometry (M.seen medium.now).content from) }
@@ -127,11 +127,7 @@ fn use_files<M: Medium>(medium: &M, geometry: Geometry, entries: &[Entry], used:
 }
 
 /// The sectors that the directory and the closed files use.
-pub(crate) fn used_sectors<M: Medium>(
-    medium: &M,
-    geometry: Geometry,
-    entries: &[Entry],
-) -> SectorSet
+pub fn used_sectors<M: Medium>(medium: &M, geometry: Geometry, entries: &[Entry]) -> SectorSet
     requires { geometry ≤ (M.seen medium.now).tracks }
     ensures { is_marked result ≡ is_among (used_in geometry (M.seen medium.now).content entries.now) }
 {
@@ -225,7 +221,7 @@ fn add_track<M: Medium>(
 }
 
 /// The entries of a disk's directory; none where it can't be followed to its end.
-pub(crate) fn entries_or_none<M: Medium>(
+pub fn entries_or_none<M: Medium>(
     alloc: Global,
     volume: &Volume<M>,
 ) -> Result<Vec<Entry>, ShellFault>

@@ -32,7 +32,7 @@ fn put_title(head: &mut [u8; 256], title: &[u8])
 }
 
 /// Writes 18/0. Errors: `Trouble`, but never where 18/0 reads and can be written.
-pub(crate) fn write_head<M: Steady>(medium: &mut M, head: &[u8; 256]) -> Result<(), ShellFault>
+pub fn write_head<M: Steady>(medium: &mut M, head: &[u8; 256]) -> Result<(), ShellFault>
     ensures content { OnOk result ((M.seen medium.new).content ≡ written (M.seen medium.old).content directory_head head.now) }
     ensures tracks { (M.seen medium.new).tracks ≡ (M.seen medium.old).tracks }
     ensures never { let old = M.seen medium.old in

@@ -1,0 +1,6 @@
+//! What the calls on images are made of, for the crates that make other calls of them.
+pub use crate::broken::{remapped, sound_image};
+pub use crate::changing::locking::{entry_of, write_head};
+pub use crate::changing::require_sound;
+pub use crate::images::{opened, saved};
+pub use crate::looking::{entries_or_none, use_chain, used_sectors};
