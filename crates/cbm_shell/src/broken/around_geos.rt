@@ -20,7 +20,7 @@ use cbm_volume::{Entry, Volume};
 use std::alloc::Global;
 
 /// The sectors of the directory, of the closed files, and of GEOS.
-fn held_around<M: Medium>(medium: &M, geometry: Geometry, entries: &[Entry]) -> SectorSet
+pub fn held_around<M: Medium>(medium: &M, geometry: Geometry, entries: &[Entry]) -> SectorSet
     requires { geometry ≤ (M.seen medium.now).tracks }
     ensures { is_marked result ≡ is_among (held_around geometry (M.seen medium.now).content entries.now) }
 {
