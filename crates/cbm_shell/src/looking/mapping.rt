@@ -139,7 +139,7 @@ pub fn used_sectors<M: Medium>(medium: &M, geometry: Geometry, entries: &[Entry]
 }
 
 /// Whether the BAM has a sector as free; no sector where 18/0 can't be read.
-pub(crate) fn is_free_at<M: Medium>(medium: &M, geometry: Geometry, at: Address) -> bool
+pub fn is_free_at<M: Medium>(medium: &M, geometry: Geometry, at: Address) -> bool
     requires { geometry ≤ (M.seen medium.now).tracks }
     ensures { result ≡ free_by ((M.seen medium.now).content directory_head) at }
 {
