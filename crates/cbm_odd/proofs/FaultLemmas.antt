@@ -1,0 +1,92 @@
+-- Why odd entries aren't put away or back.
+use Rattle.std.proofs.Common.{◌≡◌, ℕ, List, [], ◌∷◌, Bool, sym, subst, ap, inl, inr}
+use Rattle.std.specs.Prelude.{Result, Ok, Err, IfErr}
+use Rattle.cbm_medium.specs.Place.{Place, directory_head}
+use Rattle.cbm_medium.specs.Content.{Cell, Content}
+use Rattle.cbm_medium.specs.Seen.{Seen}
+use Rattle.cbm_bam.specs.Map.{geometry_of}
+use Rattle.cbm_directory.specs.Slots.{directory_of}
+use Rattle.cbm_volume.specs.declared.Unsound.{Unsound}
+use Rattle.cbm_volume.specs.check.Claims.{fault_at}
+use Rattle.cbm_shell.specs.declared.fault.ShellFault.{ShellFault}
+use Rattle.cbm_shell.specs.declared.fault.ShellFault.TheVariants as fault
+use Rattle.cbm_shell.specs.Images.{IsImageOpened}
+use Rattle.cbm_shell.specs.Mapping.{used_in, is_among, entries_shown}
+use Rattle.cbm_image.specs.Images.{kind_of, tracks_of, content_of}
+use Rattle.cbm_odd.specs.declared.odd.Odd.{Odd}
+use Rattle.cbm_odd.specs.Odd.{AreOddOf}
+use Rattle.cbm_odd.specs.Held.{IsSpoiltAmong, held_places}
+use Rattle.cbm_odd.specs.Away.{ArePutAway, IsUnclear, IsNotLeft, IsNotAwayIn}
+use Rattle.cbm_odd.specs.Back.{IsNotBackFrom}
+
+-- a sector that is spoilt makes a disk unsound
+spoilt_is : (head : Cell) (used : Place → Bool) (held : List Place) (f : ShellFault) → IsSpoiltAmong head used held f → (u : Unsound) × (f ≡ fault.Unsound u)
+spoilt_is head used [] f h = absurd h
+spoilt_is head used (p ∷ rest) f (inl h) = (fault_at h.0 p, h.2)
+spoilt_is head used (p ∷ rest) f (inr h) = spoilt_is head used rest f h
+
+unclear_by : (tracks : ℕ) (content : Content) (held : List Place) (f : ShellFault)
+    → IsSpoiltAmong (content directory_head) (is_among (used_in (geometry_of tracks content) content (entries_shown (directory_of (geometry_of tracks content) content)))) held f
+    → IsUnclear tracks content held f
+unclear_by tracks content held f h =
+    let bound = geometry_of tracks content in
+    let used = is_among (used_in bound content (entries_shown (directory_of bound content))) in
+    let u = spoilt_is (content directory_head) used held f h in
+    subst (λ x. IsUnclear tracks content held x) (sym u.1) (inr (subst (λ x. IsSpoiltAmong (content directory_head) used held x) u.1 h))
+
+pub clear_refused : (tracks : ℕ) (content : Content) (head : Cell) (used : Place → Bool) (held : List Place) (r : Result (Unit {0}) ShellFault) → head ≡ content directory_head
+    → used ≡ is_among (used_in (geometry_of tracks content) content (entries_shown (directory_of (geometry_of tracks content) content)))
+    → IfErr r (IsSpoiltAmong head used held) → IfErr r (IsUnclear tracks content held)
+clear_refused tracks content head used held (Ok v) a b h = tt
+clear_refused tracks content head used held (Err f) a b h =
+    unclear_by tracks content held f (subst (λ u. IsSpoiltAmong (content directory_head) u held f) b (subst (λ x. IsSpoiltAmong x used held f) a h))
+
+-- what is left isn't clear
+not_left_by : (tracks : ℕ) (old left : Content) (odds : List Odd) (f : ShellFault) → ArePutAway (geometry_of tracks old) odds old left
+    → IsUnclear tracks left (held_places (geometry_of tracks old) old odds) f → IsNotLeft tracks old odds f
+not_left_by tracks old left odds (fault.Unsound u) away h = (left, away, h)
+not_left_by tracks old left odds fault.Memory away h = h
+not_left_by tracks old left odds (fault.Image n) away h = h
+not_left_by tracks old left odds (fault.Refused s) away h = h
+not_left_by tracks old left odds (fault.Trouble t) away h = h
+not_left_by tracks old left odds fault.NotFound away h = h
+not_left_by tracks old left odds fault.NotClosed away h = h
+not_left_by tracks old left odds fault.Mistaken away h = h
+
+pub not_left : {A : Type 0} (tracks after : ℕ) (old left : Content) (odds : List Odd) (held : List Place) (r : Result A ShellFault) → after ≡ tracks → held ≡ held_places (geometry_of tracks old) old odds
+    → ArePutAway (geometry_of tracks old) odds old left → IfErr r (IsUnclear after left held) → IfErr r (IsNotLeft tracks old odds)
+not_left tracks after old left odds held (Ok v) a b away h = tt
+not_left tracks after old left odds held (Err f) a b away h =
+    not_left_by tracks old left odds f away (subst (λ l. IsUnclear tracks left l f) b (subst (λ n. IsUnclear n left held f) a h))
+
+-- of an image
+not_away_by : (image : List ℕ) (odds : List Odd) (f : ShellFault)
+    → AreOddOf (geometry_of (tracks_of (kind_of image) image) (content_of (kind_of image) image)) (content_of (kind_of image) image) odds
+    → IsNotLeft (tracks_of (kind_of image) image) (content_of (kind_of image) image) odds f → IsNotAwayIn image f
+not_away_by image odds (fault.Unsound u) are h = inr (odds, are, h)
+not_away_by image odds fault.Memory are h = h
+not_away_by image odds (fault.Image n) are h = absurd h
+not_away_by image odds (fault.Refused s) are h = h
+not_away_by image odds (fault.Trouble t) are h = h
+not_away_by image odds fault.NotFound are h = h
+not_away_by image odds fault.NotClosed are h = h
+not_away_by image odds fault.Mistaken are h = h
+
+pub not_away : {M : Type 0} (see : M → Seen) (image : List ℕ) (volume opened : M) (odds given : List Odd) (f : ShellFault) → volume ≡ opened → IsImageOpened image (see opened) → given ≡ odds
+    → AreOddOf (geometry_of (see volume).tracks (see volume).content) (see volume).content odds → IsNotLeft (see volume).tracks (see volume).content given f → IsNotAwayIn image f
+not_away see image volume opened odds given f same is e are h =
+    let seen = see opened in
+    let are2 = subst (λ v. AreOddOf (geometry_of (see v).tracks (see v).content) (see v).content odds) same are in
+    let h2 = subst (λ v. IsNotLeft (see v).tracks (see v).content odds f) same (subst (λ o. IsNotLeft (see volume).tracks (see volume).content o f) e h) in
+    not_away_by image odds f
+    (subst (λ c. AreOddOf (geometry_of (tracks_of (kind_of image) image) c) c odds) is.same_content (subst (λ n. AreOddOf (geometry_of n seen.content) seen.content odds) is.same_tracks are2))
+    (subst (λ c. IsNotLeft (tracks_of (kind_of image) image) c odds f) is.same_content (subst (λ n. IsNotLeft n seen.content odds f) is.same_tracks h2))
+
+-- memory runs out on the way back
+memory_back : (tracks : ℕ) (odds : List Odd) (now : Content) → IsNotBackFrom tracks odds now fault.Memory
+memory_back tracks [] now = tt
+memory_back tracks (odd ∷ rest) now = inl tt
+
+pub back_saved : {A : Type 0} (tracks : ℕ) (odds : List Odd) (now : Content) (r : Result A ShellFault) → IfErr r (λ f. f ≡ fault.Memory) → IfErr r (IsNotBackFrom tracks odds now)
+back_saved tracks odds now (Ok v) h = tt
+back_saved tracks odds now (Err f) h = subst (λ x. IsNotBackFrom tracks odds now x) (sym h) (memory_back tracks odds now)

@@ -1,0 +1,6 @@
+pub mod OddLemmas
+pub mod ReachLemmas
+pub mod AwayLemmas
+pub mod HeldLemmas
+pub mod ChangeLemmas
+pub mod FaultLemmas

@@ -1,0 +1,68 @@
+-- Odd entries that are put away.
+use Rattle.std.specs.Prelude.{ℕ, ◌≡◌, ◌⊎◌, true, List, [], ◌∷◌, Some, None, Err, slice_set}
+use Rattle.cbm_medium.specs.Place.{Place, directory_head}
+use Rattle.cbm_medium.specs.Content.{Content}
+use Rattle.cbm_bam.specs.Map.{geometry_of}
+use Rattle.cbm_directory.specs.Entries.{EntersLed}
+use Rattle.cbm_directory.specs.Slots.{directory_of}
+use Rattle.cbm_image.specs.declared.kind.Kind.{Kind}
+use Rattle.cbm_image.specs.Images.{kind_of, image_fault, tracks_of, content_of}
+use Rattle.cbm_shell.specs.Images.{IsSoundDisk, IsSoundImage}
+use Rattle.cbm_shell.specs.Mapping.{used_in, is_among, entries_shown}
+use Rattle.cbm_odd.specs.declared.odd.Odd.{Odd}
+use Rattle.cbm_odd.specs.declared.away.Away.{Away}
+use Rattle.cbm_volume.specs.check.WholeDisk.{DiskFault}
+use Rattle.cbm_shell.specs.declared.fault.ShellFault.{ShellFault}
+use Rattle.cbm_shell.specs.declared.fault.ShellFault.TheVariants as fault
+use Rattle.cbm_shell.specs.Flaws.{flaws_of, first_flaw}
+use Rattle.cbm_odd.specs.Odd.{AreOddOf, IsUnread}
+use Rattle.cbm_odd.specs.Held.{held_places, are_kept, IsSpoiltAmong}
+
+-- what stands in an odd entry's place: a DEL, closed and locked, without a block; its name and all else as they were
+abbrev pub away_entry : List ℕ → List ℕ
+away_entry e = slice_set (slice_set (slice_set e 0 192) 1 0) 2 0
+
+-- odd entries are put away, one after another, and nothing else is changed
+abbrev pub ArePutAway : ℕ → List Odd → Content → Content → Type 0
+ArePutAway tracks [] old new = new ≡ old
+ArePutAway tracks (odd ∷ rest) old new =
+    (between : Content) × EntersLed tracks old between odd.slot (away_entry odd.entry) × ArePutAway tracks rest between new
+
+-- A DISK IS CLEAR of these sectors: it is sound, and each of them is taken in its BAM, and no file's
+pub record IsClear (tracks : ℕ) (content : Content) (held : List Place) : Type 0 where
+  pub sound : IsSoundDisk tracks content
+  pub kept : let bound = geometry_of tracks content in
+      are_kept (content directory_head) (is_among (used_in bound content (entries_shown (directory_of bound content)))) held ≡ true
+
+-- a disk isn't clear of these sectors: this is its first fault, or one of them is free or a file's; or it can't be read
+abbrev pub IsUnclear : ℕ → Content → List Place → ShellFault → Type 0
+IsUnclear tracks content held (fault.Unsound u) = DiskFault (geometry_of tracks content) content u ⊎ (let bound = geometry_of tracks content in
+    IsSpoiltAmong (content directory_head) (is_among (used_in bound content (entries_shown (directory_of bound content)))) held (fault.Unsound u))
+IsUnclear tracks content held f = IsUnread f
+
+-- the disk's odd entries are put away in the new image, which is sound, and clear of the sectors that they lead to
+pub record IsAway (kind : Kind) (tracks : ℕ) (content : Content) (odds : List Odd) (new : List ℕ) : Type 0 where
+  pub away : ArePutAway (geometry_of tracks content) odds content (content_of kind new)
+  pub clear : IsClear tracks (content_of kind new) (held_places (geometry_of tracks content) content odds)
+  pub sound : IsSoundImage kind new
+  pub opens : image_fault kind new ≡ None
+
+-- what is left without the odd entries isn't clear of the sectors that they lead to; or it can't be read or written
+abbrev pub IsNotLeft : ℕ → Content → List Odd → ShellFault → Type 0
+IsNotLeft tracks content odds (fault.Unsound u) = (left : Content) × ArePutAway (geometry_of tracks content) odds content left
+    × IsUnclear tracks left (held_places (geometry_of tracks content) content odds) (fault.Unsound u)
+IsNotLeft tracks content odds f = IsUnread f
+
+-- THE ODD ENTRIES OF AN IMAGE ARE PUT AWAY: they are all that is wrong with its disk
+pub record IsAwayIn (image : List ℕ) (a : Away) : Type 0 where
+  pub odd : let tracks = tracks_of (kind_of image) image in let content = content_of (kind_of image) image in
+      AreOddOf (geometry_of tracks content) content a.odds.items
+  pub put : IsAway (kind_of image) (tracks_of (kind_of image) image) (content_of (kind_of image) image) a.odds.items a.image.items
+
+-- why they aren't: the image's own fault; the disk's first one, where more is wrong than entries; what is left isn't clear; or it can't be read or written
+abbrev pub IsNotAwayIn : List ℕ → ShellFault → Type 0
+IsNotAwayIn image (fault.Image n) = image_fault (kind_of image) image ≡ Some n
+IsNotAwayIn image (fault.Unsound u) = let tracks = tracks_of (kind_of image) image in let content = content_of (kind_of image) image in
+    (first_flaw (flaws_of (geometry_of tracks content) content) ≡ Err u)
+    ⊎ ((odds : List Odd) × AreOddOf (geometry_of tracks content) content odds × IsNotLeft tracks content odds (fault.Unsound u))
+IsNotAwayIn image f = IsUnread f

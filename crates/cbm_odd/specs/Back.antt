@@ -1,0 +1,80 @@
+-- Odd entries that are put back after a change of what is left.
+use Rattle.std.specs.Prelude.{ℕ, ◌≡◌, ◌≢◌, ◌⊎◌, ◌==◌, ◌&&◌, not, Bool, true, List, [], ◌∷◌, None, Some, Ok, slice_range}
+use Rattle.std.specs.Str.{bytes_eq}
+use Rattle.cbm_medium.specs.Place.{Place}
+use Rattle.cbm_medium.specs.Content.{Content}
+use Rattle.cbm_bam.specs.Map.{geometry_of}
+use Rattle.cbm_directory.specs.Entries.{type_byte, EntersLed}
+use Rattle.cbm_directory.specs.Slots.{Listed, Answers, directory_of}
+use Rattle.cbm_image.specs.declared.kind.Kind.{Kind}
+use Rattle.cbm_image.specs.Images.{kind_of, image_fault, tracks_of, content_of}
+use Rattle.cbm_medium.specs.Seen.{Seen}
+use Rattle.cbm_channel.specs.declared.Status.{Status}
+use Rattle.cbm_channel.specs.declared.Code.TheVariants.{WriteProtected}
+use Rattle.cbm_shell.specs.Images.{IsImageOpened, IsOpenFault}
+use Rattle.cbm_shell.specs.declared.fault.ShellFault.{ShellFault}
+use Rattle.cbm_shell.specs.declared.fault.ShellFault.TheVariants as fault
+use Rattle.cbm_odd.specs.declared.odd.Odd.{Odd}
+use Rattle.cbm_odd.specs.Odd.{IsUnread}
+use Rattle.cbm_odd.specs.Held.{held_places, are_same_cells, IsChangedAmong}
+use Rattle.cbm_odd.specs.Away.{IsClear, IsUnclear}
+
+-- what is found in an odd entry's slot still stands for it: it isn't empty, and only its type and its link may be others
+abbrev pub stands_for : List ℕ → List ℕ → Bool
+stands_for e found = not (type_byte found == 0) && bytes_eq (slice_range found 3 30) (slice_range e 3 30)
+
+-- a directory still has in its slot what stands for an odd entry
+pub record StandsIn (listed : Listed) (odd : Odd) : Type 0 where
+  pub found : List ℕ
+  pub there : Answers listed odd.slot (Ok (Some found))
+  pub stands : stands_for odd.entry found ≡ true
+
+-- the drive's status for an odd entry that is touched: WRITE PROTECT ON
+abbrev pub protected : Status
+protected = record { code = WriteProtected; first = 0; second = 0 }
+
+-- nothing stands for an odd entry any more; or the directory can't be read or written
+abbrev pub IsMissing : Listed → Odd → ShellFault → Type 0
+IsMissing listed odd (fault.Refused s) = (s ≡ protected) × (StandsIn listed odd → ⊥)
+IsMissing listed odd f = IsUnread f
+
+-- an odd entry is in its slot again, byte for byte, where something still stood for it; nothing else is changed
+pub record IsPutBack (tracks : ℕ) (odd : Odd) (old new : Content) : Type 0 where
+  pub stood : StandsIn (directory_of tracks old) odd
+  pub entered : EntersLed tracks old new odd.slot odd.entry
+
+-- odd entries are, one after another
+abbrev pub ArePutBack : ℕ → List Odd → Content → Content → Type 0
+ArePutBack tracks [] old new = new ≡ old
+ArePutBack tracks (odd ∷ rest) old new = (between : Content) × IsPutBack tracks odd old between × ArePutBack tracks rest between new
+
+-- one of them can't be put back, after those before it
+abbrev pub IsNotBackFrom : ℕ → List Odd → Content → ShellFault → Type 0
+IsNotBackFrom tracks [] now f = IsUnread f
+IsNotBackFrom tracks (odd ∷ rest) now f =
+    IsMissing (directory_of tracks now) odd f ⊎ ((between : Content) × IsPutBack tracks odd now between × IsNotBackFrom tracks rest between f)
+
+-- A CHANGE LEFT ODD ENTRIES' SECTORS ALONE: each holds what it held, is taken in the new BAM, and no file's; what is left is sound
+pub record IsLeftAlone (tracks : ℕ) (old : Content) (after : ℕ) (new : Content) (odds : List Odd) : Type 0 where
+  pub clear : IsClear after new (held_places (geometry_of tracks old) old odds)
+  pub same : are_same_cells old new (held_places (geometry_of tracks old) old odds) ≡ true
+
+-- what is left isn't clear of these sectors, or one of them has changed
+abbrev pub IsNotLeftAlone : Seen → Seen → List Odd → ShellFault → Type 0
+IsNotLeftAlone old new odds f =
+    IsUnclear new.tracks new.content (held_places (geometry_of old.tracks old.content) old.content odds) f
+    ⊎ IsChangedAmong old new (held_places (geometry_of old.tracks old.content) old.content odds) f
+
+-- THE ODD ENTRIES OF AN IMAGE ARE PUT BACK into the image that was made of it without them
+pub record IsBackIn (kind : Kind) (image : List ℕ) (odds : List Odd) (changed new : List ℕ) : Type 0 where
+  pub alone : IsLeftAlone (tracks_of kind image) (content_of kind image) (tracks_of kind changed) (content_of kind changed) odds
+  pub back : let tracks = tracks_of kind changed in let content = content_of kind changed in
+      ArePutBack (geometry_of tracks content) odds content (content_of kind new)
+  pub opens : image_fault kind new ≡ None
+
+-- why they aren't: one of the images is refused, or they aren't of one format; the change didn't leave the sectors alone; or it touched one of the entries
+abbrev pub IsNotBackIn : List ℕ → List Odd → List ℕ → ShellFault → Type 0
+IsNotBackIn image odds changed f =
+    (((f ≡ fault.Mistaken) × (kind_of image ≢ kind_of changed)) ⊎ (IsOpenFault image f ⊎ IsOpenFault changed f))
+    ⊎ ((old : Seen) × (new : Seen) × IsImageOpened image old × IsImageOpened changed new
+    × (IsNotLeftAlone old new odds f ⊎ IsNotBackFrom (geometry_of new.tracks new.content) odds new.content f))

@@ -1,0 +1,5 @@
+pub mod Odd
+pub mod Held
+pub mod Away
+pub mod Back
+pub mod Changes

@@ -1,0 +1,162 @@
+//! Odd entries put away: what is left is a sound disk, which is changed as any other.
+ghost use Rattle.std.specs.Prelude.{◌≡◌, ◌≤◌, None, IfOk, IfErr, OnOk};
+ghost use Rattle.cbm_bam.specs.Map.{geometry_of};
+ghost use Rattle.cbm_directory.specs.Entries.{EntersLed};
+ghost use Rattle.cbm_image.specs.Images.{kind_of, image_fault, content_of};
+ghost use Rattle.cbm_shell.specs.Images.{IsSoundImage, IsSoundDisk};
+ghost use Rattle.cbm_odd.specs.Away.{away_entry, ArePutAway, IsClear, IsUnclear, IsAway, IsNotLeft, IsAwayIn, IsNotAwayIn};
+ghost use Rattle.cbm_odd.specs.Odd.{IsUnread};
+
+use crate::held::{held_places, require_kept};
+use crate::odd::{Odd, odds_of};
+use cbm_d64::D64Disk;
+use cbm_directory::put_slot;
+use cbm_g64::G64Disk;
+use cbm_image::{DiskImage, Kind, kind_of};
+use cbm_medium::{Address, Geometry, Medium, Steady};
+use cbm_shell::ShellFault;
+use cbm_shell::parts::{entries_or_none, entry_of, opened, require_sound, saved, used_sectors};
+use cbm_volume::{Entry, Volume};
+use std::alloc::Global;
+
+/// The type byte of what stands in an odd entry's place: a DEL, closed and locked.
+const PLAIN: u8 = 192;
+
+/// An image with its odd entries put away.
+#[derive(Drop)]
+pub struct Away {
+    /// The image, whose disk is sound.
+    pub image: Vec<u8>,
+    /// What was put away, in order of the slots.
+    pub odds: Vec<Odd>,
+}
+
+/// What stands in an odd entry's place: a locked DEL of its name, without a block.
+fn away_entry(entry: &Entry) -> Entry
+    ensures { result ≡ away_entry entry.now }
+{
+    let mut bytes = *entry.bytes();
+    bytes[0] = PLAIN;
+    bytes[1] = 0;
+    bytes[2] = 0;
+    entry_of(&bytes)
+}
+
+/// Writes an entry into the slot of an odd one. The one error is `Trouble`.
+pub(crate) fn put_entry<M: Steady>(
+    medium: &mut M,
+    geometry: Geometry,
+    slot: u8,
+    entry: &Entry,
+) -> Result<(), ShellFault>
+    requires { geometry ≤ (M.seen medium.old).tracks }
+    ensures tracks { (M.seen medium.new).tracks ≡ (M.seen medium.old).tracks }
+    ensures entered { OnOk result (EntersLed geometry (M.seen medium.old).content (M.seen medium.new).content slot entry.now) }
+    ensures fault { IfErr result IsUnread }
+{
+    put_slot(medium, geometry, slot, entry)?;
+    Ok(())
+}
+
+/// Puts odd entries away, one after another. Errors: those of one.
+fn put_each_away<M: Steady>(
+    medium: &mut M,
+    geometry: Geometry,
+    odds: &[Odd],
+) -> Result<(), ShellFault>
+    requires { geometry ≤ (M.seen medium.old).tracks }
+    ensures tracks { (M.seen medium.new).tracks ≡ (M.seen medium.old).tracks }
+    ensures away { OnOk result (ArePutAway geometry odds.now (M.seen medium.old).content (M.seen medium.new).content) }
+    ensures fault { IfErr result IsUnread }
+{
+    for odd in odds {
+        put_entry(medium, geometry, odd.slot, &away_entry(&odd.entry))?;
+    }
+    Ok(())
+}
+
+/// The disk without its odd entries. Errors: those of one.
+fn without<M: Steady + Drop>(volume: Volume<M>, odds: &[Odd]) -> Result<M, ShellFault>
+    ensures tracks { IfOk result (λ after. (M.seen after).tracks ≡ (M.seen volume).tracks) }
+    ensures away { let old = M.seen volume in IfOk result (λ after.
+        ArePutAway (geometry_of old.tracks old.content) odds.now old.content (M.seen after).content) }
+    ensures fault { IfErr result IsUnread }
+{
+    let geometry = volume.geometry();
+    let mut medium = volume.into_medium();
+    put_each_away(&mut medium, geometry, odds)?;
+    Ok(medium)
+}
+
+/// Refuses a disk that isn't sound, or on which these sectors are free or a file's. Errors: `Unsound`; `Trouble`; `Memory`.
+pub(crate) fn require_clear<M: Medium>(
+    alloc: Global,
+    volume: &Volume<M>,
+    held: &[Address],
+) -> Result<(), ShellFault>
+    ensures clear { let now = M.seen volume.now in OnOk result (IsClear now.tracks now.content held.now) }
+    ensures fault { let now = M.seen volume.now in IfErr result (IsUnclear now.tracks now.content held.now) }
+{
+    require_sound(volume)?;
+    let geometry = volume.geometry();
+    let entries = entries_or_none(alloc, volume)?;
+    let used = used_sectors(volume.medium(), geometry, entries.as_slice());
+    require_kept(volume.medium(), geometry, &used, held)
+}
+
+/// The image of a disk, if it is sound and these sectors are neither free nor a file's. Errors: `Unsound`; `Trouble`; `Memory`.
+pub(crate) fn clear_image<I: DiskImage + Drop>(
+    alloc: Global,
+    disk: I,
+    held: &[Address],
+) -> Result<Vec<u8>, ShellFault>
+    ensures clear { let now = I.seen disk in OnOk result (IsClear now.tracks now.content held.now) }
+    ensures sound { IfOk result (λ v. IsSoundImage I.kind v.items) }
+    ensures content { IfOk result (λ v. content_of I.kind v.items ≡ (I.seen disk).content) }
+    ensures opens { IfOk result (λ v. image_fault I.kind v.items ≡ None) }
+    ensures fault { let now = I.seen disk in IfErr result (IsUnclear now.tracks now.content held.now) }
+{
+    let volume = Volume::open(disk);
+    require_clear(alloc, &volume, held)?;
+    saved(alloc, &volume.into_medium())
+}
+
+/// The image of a disk without its odd entries. Errors: those of its parts.
+fn image_without<I: DiskImage + Drop>(
+    alloc: Global,
+    volume: Volume<I>,
+    odds: &[Odd],
+) -> Result<Vec<u8>, ShellFault>
+    ensures away { let old = I.seen volume in IfOk result (λ v. IsAway I.kind old.tracks old.content odds.now v.items) }
+    ensures fault { let old = I.seen volume in IfErr result (IsNotLeft old.tracks old.content odds.now) }
+{
+    let held = held_places(alloc, volume.medium(), volume.geometry(), odds)?;
+    let disk = without(volume, odds)?;
+    clear_image(alloc, disk, held.as_slice())
+}
+
+/// Puts the odd entries of an image of one format away.
+fn put_away_in<I: DiskImage + Drop>(alloc: Global, image: &[u8]) -> Result<Away, ShellFault>
+    requires { kind_of image.now ≡ I.kind }
+    ensures away { IfOk result (IsAwayIn image.now) }
+    ensures fault { IfErr result (IsNotAwayIn image.now) }
+{
+    let volume = Volume::open(opened::<I>(alloc, image)?);
+    let odds = odds_of(alloc, &volume)?;
+    let image = image_without(alloc, volume, odds.as_slice())?;
+    Ok(Away { image, odds })
+}
+
+/// Puts the odd entries of an image away: in each one's slot a locked DEL of its name stands, without a block, and nothing else is
+/// changed. Errors: `Image`; `Unsound`, with what is wrong first, if more is wrong than entries; with a sector that an odd entry
+/// leads to, if that is free or another file's; `Trouble`; `Memory`.
+pub fn put_away(alloc: Global, image: &[u8]) -> Result<Away, ShellFault>
+    // What is left is sound; each sector that the odd entries lead to is taken, and no file's.
+    ensures away { IfOk result (IsAwayIn image.now) }
+    ensures fault { IfErr result (IsNotAwayIn image.now) }
+{
+    match kind_of(image) {
+        Kind::D64 => put_away_in::<D64Disk>(alloc, image),
+        Kind::G64 => put_away_in::<G64Disk>(alloc, image),
+    }
+}

@@ -1,0 +1,172 @@
+//! Odd entries put back.
+ghost use Rattle.std.specs.Prelude.{◌≡◌, ◌≤◌, None, IfOk, IfErr, OnOk, slice_range};
+ghost use Rattle.std.specs.Str.{bytes_eq};
+ghost use Rattle.cbm_bam.specs.Map.{geometry_of};
+ghost use Rattle.cbm_directory.specs.Slots.{directory_of};
+ghost use Rattle.cbm_image.specs.Images.{kind_of, image_fault, content_of};
+ghost use Rattle.cbm_odd.specs.Back.{stands_for, protected, StandsIn, IsMissing, IsPutBack, ArePutBack, IsNotBackFrom, IsLeftAlone, IsNotLeftAlone, IsBackIn, IsNotBackIn};
+
+use crate::away::{put_entry, require_clear};
+use crate::held::{held_places, require_same};
+use crate::odd::Odd;
+use cbm_channel::{Code, Status};
+use cbm_d64::D64Disk;
+use cbm_directory::slot;
+use cbm_g64::G64Disk;
+use cbm_image::{DiskImage, Kind, kind_of};
+use cbm_medium::{Geometry, Medium, Steady};
+use cbm_shell::ShellFault;
+use cbm_shell::parts::{opened, saved};
+use cbm_volume::{Entry, Volume};
+use std::alloc::Global;
+
+/// The refusal of a change that touches an odd entry: it is protected.
+fn touched() -> ShellFault
+    ensures { result ≡ ShellFault.Refused protected }
+{
+    ShellFault::Refused(Status {
+        code: Code::WriteProtected,
+        first: 0,
+        second: 0,
+    })
+}
+
+/// Whether two entries are the same but for their type and their link.
+fn is_same_from_name(entry: &Entry, found: &Entry) -> bool
+    ensures { result ≡ bytes_eq (slice_range found.now 3 30) (slice_range entry.now 3 30) }
+{
+    found.bytes()[3..30] == entry.bytes()[3..30]
+}
+
+/// Whether what is found in an odd entry's slot still stands for it: only its type and its link are others.
+fn stands_for(entry: &Entry, found: &Entry) -> bool
+    ensures { result ≡ stands_for entry.now found.now }
+{
+    !found.is_empty() && is_same_from_name(entry, found)
+}
+
+/// Refuses a disk on which nothing stands for an odd entry any more. Errors: `Refused`; `Trouble`.
+fn require_standing<M: Medium>(medium: &M, geometry: Geometry, odd: &Odd) -> Result<(), ShellFault>
+    requires { geometry ≤ (M.seen medium.now).tracks }
+    ensures stands { OnOk result (StandsIn (directory_of geometry (M.seen medium.now).content) odd.now) }
+    ensures fault { IfErr result (IsMissing (directory_of geometry (M.seen medium.now).content) odd.now) }
+{
+    match slot(medium, geometry, odd.slot)? {
+        Some(found) if stands_for(&odd.entry, &found) => Ok(()),
+        Some(_) | None => Err(touched()),
+    }
+}
+
+/// Puts an odd entry back. Errors: `Refused`, if nothing stands for it any more; `Trouble`.
+fn put_one_back<M: Steady>(medium: &mut M, geometry: Geometry, odd: &Odd) -> Result<(), ShellFault>
+    requires { geometry ≤ (M.seen medium.old).tracks }
+    ensures tracks { (M.seen medium.new).tracks ≡ (M.seen medium.old).tracks }
+    ensures back { OnOk result (IsPutBack geometry odd.now (M.seen medium.old).content (M.seen medium.new).content) }
+    ensures fault { IfErr result (IsMissing (directory_of geometry (M.seen medium.old).content) odd.now) }
+{
+    require_standing(medium, geometry, odd)?;
+    put_entry(medium, geometry, odd.slot, &odd.entry)
+}
+
+/// Puts odd entries back, one after another. Errors: those of one.
+fn put_each_back<M: Steady>(
+    medium: &mut M,
+    geometry: Geometry,
+    odds: &[Odd],
+) -> Result<(), ShellFault>
+    requires { geometry ≤ (M.seen medium.old).tracks }
+    ensures tracks { (M.seen medium.new).tracks ≡ (M.seen medium.old).tracks }
+    ensures back { OnOk result (ArePutBack geometry odds.now (M.seen medium.old).content (M.seen medium.new).content) }
+    ensures fault { IfErr result (IsNotBackFrom geometry odds.now (M.seen medium.old).content) }
+{
+    for odd in odds {
+        put_one_back(medium, geometry, odd)?;
+    }
+    Ok(())
+}
+
+/// The disk with its odd entries. Errors: those of one.
+fn with_odds<M: Steady + Drop>(volume: Volume<M>, odds: &[Odd]) -> Result<M, ShellFault>
+    ensures tracks { IfOk result (λ after. (M.seen after).tracks ≡ (M.seen volume).tracks) }
+    ensures back { let old = M.seen volume in IfOk result (λ after.
+        ArePutBack (geometry_of old.tracks old.content) odds.now old.content (M.seen after).content) }
+    ensures fault { let old = M.seen volume in
+        IfErr result (IsNotBackFrom (geometry_of old.tracks old.content) odds.now old.content) }
+{
+    let geometry = volume.geometry();
+    let mut medium = volume.into_medium();
+    put_each_back(&mut medium, geometry, odds)?;
+    Ok(medium)
+}
+
+/// Refuses a changed disk that isn't clear of the sectors that odd entries led to, or on which one of them has changed. Errors:
+/// `Unsound`; `Trouble`; `Memory`.
+fn require_left_alone<M: Medium>(
+    alloc: Global,
+    old: &Volume<M>,
+    new: &Volume<M>,
+    odds: &[Odd],
+) -> Result<(), ShellFault>
+    ensures alone { let before = M.seen old.now in let now = M.seen new.now in
+        OnOk result (IsLeftAlone before.tracks before.content now.tracks now.content odds.now) }
+    ensures fault { let before = M.seen old.now in let now = M.seen new.now in
+        IfErr result (IsNotLeftAlone before now odds.now) }
+{
+    let held = held_places(alloc, old.medium(), old.geometry(), odds)?;
+    require_clear(alloc, new, held.as_slice())?;
+    require_same(old.medium(), new.medium(), held.as_slice())
+}
+
+/// The image of a changed disk with its odd entries. Errors: those of its parts.
+fn image_with<I: DiskImage + Drop>(
+    alloc: Global,
+    volume: Volume<I>,
+    odds: &[Odd],
+) -> Result<Vec<u8>, ShellFault>
+    ensures back { let old = I.seen volume in IfOk result (λ v.
+        ArePutBack (geometry_of old.tracks old.content) odds.now old.content (content_of I.kind v.items)) }
+    ensures opens { IfOk result (λ v. image_fault I.kind v.items ≡ None) }
+    ensures fault { let old = I.seen volume in
+        IfErr result (IsNotBackFrom (geometry_of old.tracks old.content) odds.now old.content) }
+{
+    let disk = with_odds(volume, odds)?;
+    saved(alloc, &disk)
+}
+
+/// Puts the odd entries of an image of one format back into the changed one.
+fn put_back_in<I: DiskImage + Drop>(
+    alloc: Global,
+    image: &[u8],
+    odds: &[Odd],
+    changed: &[u8],
+) -> Result<Vec<u8>, ShellFault>
+    requires old { kind_of image.now ≡ I.kind }
+    requires new { kind_of changed.now ≡ I.kind }
+    ensures back { IfOk result (λ v. IsBackIn I.kind image.now odds.now changed.now v.items) }
+    ensures fault { IfErr result (IsNotBackIn image.now odds.now changed.now) }
+{
+    let old = Volume::open(opened::<I>(alloc, image)?);
+    let new = Volume::open(opened::<I>(alloc, changed)?);
+    require_left_alone(alloc, &old, &new, odds)?;
+    image_with(alloc, new, odds)
+}
+
+/// Puts the odd entries of an image back into the image that was made of it without them. Errors: `Image`; `Refused`, with WRITE PROTECT ON, if the
+/// change touched one of them; `Unsound`, if what is left isn't sound, or the change touched a sector that one leads to; `Mistaken`, if
+/// the two images aren't of one format; `Trouble`; `Memory`.
+pub fn put_back(
+    alloc: Global,
+    image: &[u8],
+    odds: &[Odd],
+    changed: &[u8],
+) -> Result<Vec<u8>, ShellFault>
+    // Each odd entry is in its slot, byte for byte. Each sector that it leads to holds what it held, and is no file's.
+    ensures back { IfOk result (λ v. IsBackIn (kind_of image.now) image.now odds.now changed.now v.items) }
+    ensures fault { IfErr result (IsNotBackIn image.now odds.now changed.now) }
+{
+    match (kind_of(image), kind_of(changed)) {
+        (Kind::D64, Kind::D64) => put_back_in::<D64Disk>(alloc, image, odds, changed),
+        (Kind::G64, Kind::G64) => put_back_in::<G64Disk>(alloc, image, odds, changed),
+        (Kind::D64, Kind::G64) | (Kind::G64, Kind::D64) => Err(ShellFault::Mistaken),
+    }
+}
