@@ -149,7 +149,7 @@ is "and shows what is used" grep -q '^18     ##\.\.\.' out.txt
 case_of "map of an image with error bytes" 0 any "" "$disk" map bad.d64
 is "shows what can't be read" grep -q '^ 1     \.\.\.x\.' out.txt
 # The file of three bytes, 01 02 03, lies in 17/0: loaded to $0201.
-json='{"image":"there.d64","format":"D64","tracks":35,"more_tracks":[],"map_36_40":null,"label":{"title":"TEST","id":"AB","dos":"2A"},"free":663,"unreadable":0,"sound":true,"flaw":null,"files":[{"slot":0,"name":"HELLO","petscii":"48454c4c4f","type":"prg","closed":true,"locked":false,"blocks":1,"bytes":3,"load":513,"first":{"track":17,"sector":0},"record":null,"geos":null}],"broken":null}'
+json='{"image":"there.d64","format":"D64","tracks":35,"more_tracks":[],"map_36_40":null,"label":{"title":"TEST","id":"AB","dos":"2A"},"free":663,"unreadable":0,"sound":true,"flaw":null,"odd":[],"files":[{"slot":0,"name":"HELLO","petscii":"48454c4c4f","type":"prg","closed":true,"locked":false,"blocks":1,"bytes":3,"load":513,"first":{"track":17,"sector":0},"record":null,"geos":null}],"broken":null}'
 for word in list info check; do
     case_of "$word as JSON" 0 "$json" "" "$disk" $word there.d64 --json
 done
@@ -826,10 +826,12 @@ END
 case_of "check --all of a sound disk" 0 "sound" "" "$disk" check --all salvage.d64
 case_of "check --all, a sector that doesn't read" 1 "$track/$sector  the block is in use, but can't be read: checksum (error 23), in \"BIG\", 1 of its 4 blocks come before it
 lost: $rest
-can be mended: 2 lost blocks. can't: 1 file" "" "$disk" check --all checksum.d64
+can be mended: 2 lost blocks. can't: 1 file
+sound but for 1 odd entry: all else can be changed" "" "$disk" check --all checksum.d64
 case_of "check --all, a chain that is cut off" 1 "99/$after  a file's chain leads here, where no block of a file can be, in \"BIG\", 2 of its 4 blocks come before it
 lost: $others
-can be mended: 3 lost blocks. can't: 1 file" "" "$disk" check --all cut.d64
+can be mended: 3 lost blocks. can't: 1 file
+sound but for 1 odd entry: all else can be changed" "" "$disk" check --all cut.d64
 case_of "check --all, a block that is used twice" 1 "$twice  the block is used twice, in \"ONE\", \"BIG\", 0 of its 1 blocks come before it
 lost: $unused
 can be mended: 1 lost block. can't: 1 file" "" "$disk" check --all shared.d64
@@ -837,16 +839,19 @@ case_of "check --all, a block that is free in the map" 1 "$uncounted/0  the coun
 $unmarked  the block is in use, but marked free, in \"BIG\", 3 of its 4 blocks come before it
 can be mended: the map" "" "$disk" check --all free.d64
 case_of "which validate mends" 0 "" "" "$disk" validate free.d64
-case_of "check --all as JSON" 1 '{"image":"shared.d64","sound":false,"flaws":[{"track":'"${twice%/*}"',"sector":'"${twice#*/}"',"number":3,"text":"the block is used twice","error":null,"files":["ONE","BIG"],"before":0,"mendable":false}],"lost":[{"track":'"${unused%/*}"',"sector":'"${unused#*/}"'}]}' "" "$disk" check --all --json shared.d64
+case_of "check --all as JSON" 1 '{"image":"shared.d64","sound":false,"flaws":[{"track":'"${twice%/*}"',"sector":'"${twice#*/}"',"number":3,"text":"the block is used twice","error":null,"files":["ONE","BIG"],"before":0,"mendable":false}],"lost":[{"track":'"${unused%/*}"',"sector":'"${unused#*/}"'}],"odd":[]}' "" "$disk" check --all --json shared.d64
 "$disk" check checksum.d64 > first.txt
-is "check names the first of them" test "$(cat first.txt)" = "track $track, sector $sector: the block is in use, but can't be read"
+is "check names the first of them" test "$(cat first.txt)" = "track $track, sector $sector: the block is in use, but can't be read; sound but for 1 odd entry"
 case_of "check --all of several" 4 any "" "$disk" check --all salvage.d64 cut.d64
 is "with a line for all" test "$(tail -n 1 out.txt)" = "2 images: 1 sound, 1 not, 0 no images"
 
 # what validate refuses: the file at fault goes out of the directory, and then it doesn't
 cp cut.d64 before.d64
 case_of "validate of a cut chain" 1 "" "disk1541: cut.d64 can't be put in order: a link leads to track 99, sector $after, which the disk doesn't have (error 66); \`disk1541 check --all\` names the files at fault, which \`delete --force\` takes out; where it names none, the directory is at fault: \`get-all --salvage\` takes the files out" "$disk" validate cut.d64
-case_of "put on it" 1 "" "disk1541: cut.d64 isn't sound, and so isn't changed: track 99, sector $after: a file's chain leads here, where no block of a file can be; \`disk1541 check --all cut.d64\` says what mends it" "$disk" put cut.d64 one.prg --name NEW
+cp cut.d64 put.d64
+case_of "put beside it" 0 "" "" "$disk" put put.d64 one.prg --name NEW
+is "leaves what is left of its chain" test "$("$disk" get --salvage put.d64 BIG -o - 2> told.txt | cksum; cat told.txt)" = "$("$disk" get --salvage cut.d64 BIG -o - 2> told.txt | cksum; cat told.txt)"
+case_of "put on a disk with a block that is used twice" 1 "" "disk1541: shared.d64 isn't sound, and so isn't changed: track ${twice%/*}, sector ${twice#*/}: the block is used twice; \`disk1541 check --all shared.d64\` says what mends it" "$disk" put shared.d64 one.prg --name NEW
 case_of "delete --force of a file without fault" 1 "" "disk1541: nothing is deleted: no file at fault matches ONE" "$disk" delete --force cut.d64 ONE
 is "changes nothing" cmp -s cut.d64 before.d64
 case_of "delete --force" 0 "" "" "$disk" delete --force cut.d64 'B*'

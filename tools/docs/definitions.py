@@ -104,6 +104,7 @@ PARTS = {
         ("an image is checked, put in order, and looked at", "cbm_shell", "check validate info picture geos_blocks sector file_blocks"),
         ("entries locked, dressed, swapped; titles and art", "cbm_shell", "lock retitle add_art dress swap_entries"),
         ("one file by its slot: another name, a lock, its end", "cbm_slots", "rename lock delete"),
+        ("a disk with odd entries: they are put away, a change is made, they are put back", "cbm_odd", "put_away put_back change map_around"),
         ("disks and archives of other kinds", "cbm_sources", "of entries file"),
         ("damaged disks: all flaws, what is salvaged, forgotten and given back", "cbm_shell", "flaws users lost salvage forget undelete"),
     ],
@@ -121,7 +122,7 @@ PAGES = dict(zip(PARTS, "images content dos bus requests scripts tool library".s
 # The crates in which each definition has a sentence of its own.
 COMPLETE = (
     "cbm_iec cbm_session cbm_drive cbm_bus cbm_host cbm_command cbm_listing cbm_machine cbm_talk cbm_image cbm_program drive1541 cbm_shell disk_basics "
-    "cbm_device cbm_slots yellowadze1541"
+    "cbm_device cbm_odd cbm_slots yellowadze1541"
 ).split()
 
 

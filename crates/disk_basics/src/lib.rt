@@ -12,6 +12,7 @@ mod formats;
 pub mod host;
 mod kinds;
 mod names;
+pub mod odd;
 mod refusal;
 pub mod spare;
 pub mod swaps;

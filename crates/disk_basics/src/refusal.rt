@@ -17,6 +17,8 @@ fn advice(code: Code) -> &'static str {
         Code::WildName => "`*` and `?` can't stand in a new name",
         Code::Syntax => "that name can't be used",
         Code::LongText => "the names are too long",
+        Code::WriteProtected =>
+            "it is locked, or an odd entry, which stays as it is: `delete` takes that out",
         Code::WriteFileOpen => "the file was never closed: `validate` removes it",
         _ => "the drive refused it",
     }

@@ -6,8 +6,9 @@ use cbm_shell::texts::Charset;
 use cbm_shell::{DiskChange, ShellFault, geos_of};
 use cbm_volume::Entry;
 use disk_basics::calls::{entries, name_text};
-use disk_basics::changing::change;
+use disk_basics::changing::{change, delete_in_slot};
 use disk_basics::host::{joined, read_image, read_to_change, replace};
+use disk_basics::odd::put_away;
 use disk_basics::{Failure, in_memory, on_disk, petscii};
 use std::alloc::Global;
 use std::rt::Runtime;
@@ -31,6 +32,30 @@ fn text_of<'a>(alloc: Global, charset: Charset, pattern: &'a str) -> Result<Vec<
     joined(alloc, &[b"S0:", codes.as_slice(), b"\r"])
 }
 
+/// The slot of the odd entry of exactly this name, on a disk that is sound but for such entries. The one error is `Memory`.
+fn odd_slot(alloc: Global, bytes: &[u8], name: &[u8]) -> Result<Option<u8>, ShellFault> {
+    match put_away(alloc, bytes) {
+        Ok(away) => Ok(away.slot_named(name)),
+        Err(ShellFault::Memory) => Err(ShellFault::Memory),
+        Err(_) => Ok(None),
+    }
+}
+
+/// The image without the odd entry of exactly this name. The drive's SCRATCH passes odd entries over. Errors: `NoneDeleted`; `Disk`.
+fn deleted_odd<'a>(
+    alloc: Global,
+    image: &'a str,
+    bytes: &[u8],
+    charset: Charset,
+    word: &'a str,
+) -> Result<Vec<u8>, Failure<'a>> {
+    let name = petscii(alloc, charset, word)?;
+    match on_disk(image, odd_slot(alloc, bytes, name.as_slice()))? {
+        Some(slot) => on_disk(image, delete_in_slot(alloc, bytes, slot)),
+        None => Err(Failure::NoneDeleted(word)),
+    }
+}
+
 /// The image without the files that match. Where none does, or those are locked, the drive changes nothing; that is
 /// reported, and the image isn't saved anew.
 fn deleted<'a>(
@@ -44,7 +69,7 @@ fn deleted<'a>(
     let command = DiskChange::Command(text.as_slice());
     let changed = on_disk(image, change(alloc, bytes, &command))?;
     if changed.as_slice() == bytes {
-        return Err(Failure::NoneDeleted(pattern));
+        return deleted_odd(alloc, image, bytes, charset, pattern);
     }
     Ok(changed)
 }

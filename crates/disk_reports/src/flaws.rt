@@ -1,12 +1,13 @@
 //! CHECK --ALL: each flaw of a disk, the files that have it, and whether it can be mended.
 mod facts;
 
-use crate::view::{Look, LookAnswer};
+use crate::view::{Look, LookAnswer, odd_text};
 use cbm_medium::Address;
 use cbm_shell::texts::{Charset, words};
 use cbm_shell::{DiskFlaw, ShellFault, Whose};
 use cbm_volume::Entry;
 use disk_basics::calls::name_text;
+use disk_basics::odd::odd_slots;
 use disk_basics::{Disk, is_mendable, place_of, slots_of};
 pub use facts::flaw_report;
 use std::alloc::{AllocError, Global};
@@ -20,17 +21,21 @@ struct Findings {
     flaws: Vec<DiskFlaw>,
     /// The blocks that nothing uses, and that aren't free.
     lost: Vec<Address>,
+    /// The slots of the odd entries, if those are all that is wrong.
+    odd: Vec<usize>,
 }
 
 /// What is wrong with a disk.
-fn found_in(alloc: Global, disk: &Disk) -> Result<Findings, ShellFault> {
+fn found_in(alloc: Global, image: &[u8], disk: &Disk) -> Result<Findings, ShellFault> {
     let entries = disk.listed(alloc)?.entries;
     let flaws = disk.flaws(alloc)?;
     let lost = disk.lost(alloc)?;
+    let odd = odd_slots(alloc, image)?;
     Ok(Findings {
         entries,
         flaws,
         lost,
+        odd,
     })
 }
 
@@ -322,6 +327,16 @@ fn add_sum(alloc: Global, text: &mut String, findings: &Findings) -> Result<(), 
     add_lists(text, mended.as_str(), broken.as_str())
 }
 
+/// Adds how many entries are odd, if those are all that is wrong.
+fn add_odd(alloc: Global, text: &mut String, odd: usize) -> Result<(), AllocError> {
+    if odd == 0 {
+        return Ok(());
+    }
+    text.push_str("sound but for ")?;
+    text.push_str(odd_text(alloc, odd)?.as_str())?;
+    text.push_str(": all else can be changed\n")
+}
+
 /// What a look at the disk came to.
 fn outcome(flaws: &[DiskFlaw]) -> LookAnswer {
     match flaws.first() {
@@ -366,6 +381,7 @@ fn add_findings(
     add_flaws(alloc, &mut lines, disk, charset, findings)?;
     add_lost(alloc, &mut lines, findings.lost.as_slice())?;
     add_sum(alloc, &mut lines, findings)?;
+    add_odd(alloc, &mut lines, findings.odd.len())?;
     text.extend_from_slice(lines.as_bytes())?;
     Ok(())
 }
@@ -379,7 +395,7 @@ pub fn add_all_flaws(
     look: Look<'_>,
 ) -> Result<LookAnswer, ShellFault> {
     let disk = Disk::open(alloc, image)?;
-    let findings = found_in(alloc, &disk)?;
+    let findings = found_in(alloc, image, &disk)?;
     add_findings(alloc, text, &disk, look.charset, &findings)?;
     Ok(outcome(findings.flaws.as_slice()))
 }

@@ -3,6 +3,7 @@ use cbm_shell::texts::Charset;
 use cbm_shell::{Info, ShellFault};
 use cbm_volume::Unsound;
 use disk_basics::calls::{info, listed, name_text, unsound_text};
+use disk_basics::odd::odd_slots;
 use disk_facts::{count_files, format_name, more_tracks, unfilled, wide_map};
 use std::alloc::{AllocError, Global};
 
@@ -96,14 +97,32 @@ fn add_unsound(alloc: Global, text: &mut String, unsound: Unsound) -> Result<(),
     text.push_str(std::str::from_utf8(line.as_slice()).unwrap_or("\n"))
 }
 
+/// The line of the odd entries, if that is all that is wrong.
+fn add_odd(alloc: Global, text: &mut String, image: &[u8]) -> Result<(), ShellFault> {
+    let count = odd_slots(alloc, image)?.len();
+    if count > 0 {
+        text.push_str(format!(in alloc; "odd entries  {count}\n")?.as_str())?;
+    }
+    Ok(())
+}
+
 /// The lines of what is wrong.
-fn add_faults(alloc: Global, text: &mut String, info: &Info) -> Result<(), AllocError> {
+fn add_faults(
+    alloc: Global,
+    text: &mut String,
+    info: &Info,
+    image: &[u8],
+) -> Result<(), ShellFault> {
     let count = info.unreadable.len();
     text.push_str(format!(in alloc; "unreadable   {count}\nsound        ")?.as_str())?;
     match info.check {
-        Ok(()) => text.push_str("yes\n"),
-        Err(unsound) => add_unsound(alloc, text, unsound),
+        Ok(()) => text.push_str("yes\n")?,
+        Err(unsound) => {
+            add_unsound(alloc, text, unsound)?;
+            add_odd(alloc, text, image)?;
+        }
     }
+    Ok(())
 }
 
 /// All lines.
@@ -119,7 +138,7 @@ fn add_lines(
     add_wide_map(text, image)?;
     add_label(alloc, text, charset, info)?;
     add_files(alloc, text, image)?;
-    add_faults(alloc, text, info)?;
+    add_faults(alloc, text, info, image)?;
     Ok(())
 }
 

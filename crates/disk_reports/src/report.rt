@@ -9,6 +9,7 @@ use cbm_shell::texts::{Charset, words};
 use cbm_shell::{Geos, Info, Listed, ShellFault, geos_of};
 use cbm_volume::{Entry, FileType, Unsound};
 use disk_basics::calls::{info, name_text};
+use disk_basics::odd::odd_slots;
 use disk_basics::{BreakOff, Disk};
 use disk_facts::{
     WideMap, format_name, hex, is_meant, kind_name, more_tracks, type_of, unfilled, wide_map,
@@ -82,6 +83,7 @@ struct Report<'a> {
     unreadable: usize,
     sound: bool,
     flaw: Option<Flaw>,
+    odd: Vec<usize>,
     files: Vec<File>,
     broken: Option<Broken>,
 }
@@ -307,9 +309,18 @@ fn map_word(image: &[u8]) -> Option<&'static str> {
 #[derive(Drop)]
 struct Known {
     info: Info,
+    odd: Vec<usize>,
     files: Vec<File>,
     broken: Option<Broken>,
     answer: LookAnswer,
+}
+
+/// The slots of the odd entries, if those are all that is wrong.
+fn odd_of(alloc: Global, image: &[u8], info: &Info) -> Result<Vec<usize>, ShellFault> {
+    match info.check {
+        Ok(()) => Ok(Vec::new(alloc)),
+        Err(_) => odd_slots(alloc, image),
+    }
 }
 
 /// What is known of an image whose directory has these entries.
@@ -322,10 +333,12 @@ fn known_by(
 ) -> Result<Known, ShellFault> {
     let files = files_of(alloc, disk, listed.entries.as_slice(), look)?;
     let info = info(alloc, image)?;
+    let odd = odd_of(alloc, image, &info)?;
     let broken = broken_of(alloc, listed)?;
     let answer = image_answer(look, &info, listed);
     Ok(Known {
         info,
+        odd,
         files,
         broken,
         answer,
@@ -349,6 +362,7 @@ fn image_line(
 ) -> Result<Vec<u8>, AllocError> {
     let Known {
         info,
+        odd,
         files,
         broken,
         answer: _,
@@ -366,6 +380,7 @@ fn image_line(
         unreadable: info.unreadable.len(),
         sound: info.check.is_ok(),
         flaw: flaw_of(&info.check),
+        odd,
         files,
         broken,
     };

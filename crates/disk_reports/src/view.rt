@@ -12,6 +12,7 @@ use cbm_shell::texts::Charset;
 use cbm_volume::Unsound;
 use disk_basics::BreakOff;
 use disk_basics::calls::{check, check_text, directory, listed, raw_directory};
+use disk_basics::odd::odd_slots;
 use std::alloc::{AllocError, Global};
 
 /// What is shown.
@@ -88,10 +89,39 @@ pub fn answer_of(check: &Result<(), Unsound>) -> LookAnswer {
     }
 }
 
+/// How many entries are odd, in words.
+pub fn odd_text(alloc: Global, count: usize) -> Result<String, AllocError> {
+    let noun = if count == 1 { "entry" } else { "entries" };
+    format!(in alloc; "{count} odd {noun}")
+}
+
+/// Adds what is wrong first, and whether that is odd entries alone.
+fn add_unsound(
+    alloc: Global,
+    text: &mut Vec<u8>,
+    image: &[u8],
+    line: &[u8],
+) -> Result<(), ShellFault> {
+    let odd = odd_slots(alloc, image)?.len();
+    if odd == 0 {
+        text.extend_from_slice(line)?;
+        return Ok(());
+    }
+    text.extend_from_slice(line.strip_suffix(b"\n").unwrap_or(line))?;
+    text.extend_from_slice(b"; sound but for ")?;
+    text.extend_from_slice(odd_text(alloc, odd)?.as_bytes())?;
+    text.extend_from_slice(b"\n")?;
+    Ok(())
+}
+
 /// Adds whether the disk is sound.
 fn add_check(alloc: Global, text: &mut Vec<u8>, image: &[u8]) -> Result<LookAnswer, ShellFault> {
     let found = check(alloc, image)?;
-    text.extend_from_slice(check_text(alloc, &found)?.as_slice())?;
+    let line = check_text(alloc, &found)?;
+    match found {
+        Ok(()) => text.extend_from_slice(line.as_slice())?,
+        Err(_) => add_unsound(alloc, text, image, line.as_slice())?,
+    }
     Ok(answer_of(&found))
 }
 

@@ -30,6 +30,7 @@ struct FlawReport<'a> {
     sound: bool,
     flaws: Vec<FlawFacts>,
     lost: Vec<Sector>,
+    odd: Vec<usize>,
 }
 
 /// A flaw, for programs.
@@ -91,11 +92,13 @@ fn report_of(
 ) -> Result<Vec<u8>, ShellFault> {
     let flaws = all_facts(alloc, disk, charset, findings)?;
     let lost = sectors_of(alloc, findings.lost.as_slice())?;
+    let odd = Vec::from_slice(alloc, findings.odd.as_slice())?;
     let report = FlawReport {
         image: name,
         sound: findings.flaws.is_empty(),
         flaws,
         lost,
+        odd,
     };
     Ok(line(alloc, &report)?)
 }
@@ -121,6 +124,6 @@ pub fn flaw_report(
     look: Look<'_>,
 ) -> Result<Shown, ShellFault> {
     let disk = Disk::open(alloc, image)?;
-    let findings = found_in(alloc, &disk)?;
+    let findings = found_in(alloc, image, &disk)?;
     shown_flaws(alloc, name, &disk, look.charset, &findings)
 }
