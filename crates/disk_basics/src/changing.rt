@@ -10,11 +10,7 @@ use std::alloc::{AllocError, Global};
 /// The image after a change. Errors: `Image`, `Unsound`, `Refused`, `Memory`.
 pub fn change(alloc: Global, image: &[u8], change: &DiskChange<'_>) -> Result<Vec<u8>, ShellFault> {
     match cbm_shell::change(alloc, image, change) {
-        Err(ShellFault::Unsound(_)) => {
-            let away = put_away(alloc, image)?;
-            let changed = cbm_shell::change(alloc, away.image.as_slice(), change)?;
-            put_back(alloc, image, &away, &changed)
-        }
+        Err(ShellFault::Unsound(_)) => cbm_odd::change(alloc, image, change),
         made => made,
     }
 }
@@ -205,9 +201,9 @@ pub fn undelete(
 
 /// The image put in order, and what that gave back. Errors: `Image`, `Trouble`, `Memory`.
 pub fn validate(alloc: Global, image: &[u8]) -> Result<Order, ShellFault> {
-    match cbm_shell::validate(alloc, image) {
-        Ok(order) => Ok(order),
-        Err(fault) => validate_around(alloc, image, fault),
+    match cbm_shell::check(alloc, image)? {
+        Ok(()) => cbm_shell::validate(alloc, image),
+        Err(unsound) => validate_around(alloc, image, unsound),
     }
 }
 

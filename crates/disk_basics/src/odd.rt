@@ -3,6 +3,7 @@ use cbm_bam::SectorSet;
 use cbm_medium::Address;
 use cbm_odd::Odd;
 use cbm_shell::{Freed, OpenDisk, Order, ShellFault, file_blocks};
+use cbm_volume::Unsound;
 use std::alloc::{AllocError, Global};
 
 /// An image with its odd entries put away.
@@ -28,11 +29,6 @@ impl Away {
             }
         }
         None
-    }
-
-    /// How many there are.
-    pub fn count(&self) -> usize {
-        self.odds.len()
     }
 }
 
@@ -128,23 +124,25 @@ fn ordered_around(alloc: Global, image: &[u8], away: &Away) -> Result<Option<Ord
     }))
 }
 
-/// The image put in order around its odd entries. Errors: this fault, if it has none, if more is wrong, or if blocks that nothing uses
-/// may be GEOS's or the rest of an odd entry's chain; `Memory`.
-pub fn validate_around(
-    alloc: Global,
-    image: &[u8],
-    fault: ShellFault,
-) -> Result<Order, ShellFault> {
+/// The refusal of a disk with odd entries that isn't put in order: what the drive's VALIDATE meets, or this flaw.
+fn refused_order(alloc: Global, image: &[u8], unsound: Unsound) -> ShellFault {
+    match cbm_shell::validate(alloc, image) {
+        Ok(_) => ShellFault::Unsound(unsound),
+        Err(fault) => fault,
+    }
+}
+
+/// The image of an unsound disk put in order: around its odd entries, if those are all that is wrong, else as the drive does it. Errors:
+/// `Unsound`, with this flaw, or what the drive meets, if blocks that nothing uses may be GEOS's or the rest of an odd entry's chain;
+/// `Trouble`; `Memory`.
+pub fn validate_around(alloc: Global, image: &[u8], unsound: Unsound) -> Result<Order, ShellFault> {
     let away = match put_away(alloc, image) {
         Ok(away) => away,
         Err(ShellFault::Memory) => return Err(ShellFault::Memory),
-        Err(_) => return Err(fault),
+        Err(_) => return cbm_shell::validate(alloc, image),
     };
-    if away.count() == 0 {
-        return Err(fault);
-    }
     match ordered_around(alloc, image, &away)? {
         Some(order) => Ok(order),
-        None => Err(fault),
+        None => Err(refused_order(alloc, image, unsound)),
     }
 }
