@@ -1,27 +1,19 @@
 //! TRANSFER: files of another disk or archive onto an image, with their names, types and locks.
-ghost use Rattle.std.specs.Prelude.{◌≤◌, length};
-
 use crate::origin::{Entries, Origin, tell_end, tell_file};
-use cbm_channel::{Code, Status};
 use cbm_shell::texts::Charset;
-use cbm_shell::{Looks, ShellFault, geos_of};
+use cbm_shell::{Looks, geos_of};
 use cbm_volume::Entry;
 use disk_basics::calls::{entries, name_text};
-use disk_basics::changing::{add_art, delete_in_slot, dress};
+use disk_basics::changing::{add_art, delete_in_slot};
 use disk_basics::host::{read_any, read_to_change, replace};
-use disk_basics::spare::spare_name;
-use disk_basics::{Failure, FileKind, in_memory, kind_of_entry, on_disk, petscii};
+use disk_basics::spare::{spare_name, taken, unspared, whole_name};
+use disk_basics::{
+    Failure, FileKind, in_memory, kind_of_entry, on_disk, petscii, slot_named, slot_number,
+};
 use disk_changes::{Stored, with_stored};
 use disk_facts::is_meant;
 use std::alloc::{AllocError, Global};
-use std::ops::Range;
 use std::rt::Runtime;
-
-/// Where an entry's name stands in its bytes.
-const NAME: Range<usize> = 3..19;
-
-/// The most bytes of a name.
-const LONGEST: usize = 16;
 
 /// What is transferred.
 #[derive(Clone, Copy)]
@@ -45,82 +37,27 @@ struct Moved<'a, 'b> {
     replaces: bool,
 }
 
-/// The bytes of an entry's name, with what stands after its end: at most sixteen.
-fn whole_name(entry: &Entry) -> &[u8]
-    ensures { length result.now ≤ 16 }
-{
-    let name = entry.bytes().get(NAME).unwrap_or(&[]);
-    if name.len() > LONGEST {
-        return &[];
-    }
-    name
-}
-
-/// The slot of the first file of a name.
-fn slot_of(entries: &[Entry], name: &[u8]) -> Option<u8> {
-    for (slot, entry) in entries.iter().enumerate() {
-        if !entry.is_empty() && entry.name() == name {
-            return u8::try_from(slot).ok();
-        }
-    }
-    None
-}
-
-/// The fault that a name is there already.
-fn taken<'a>(to: &'a str) -> Failure<'a> {
-    Failure::Disk(
-        to,
-        ShellFault::Refused(Status {
-            code: Code::FileExists,
-            first: 0,
-            second: 0,
-        }),
-    )
-}
-
 /// The image without the file of a slot that is in the way. Errors: where it isn't to be replaced, or is locked.
 fn without<'a>(
     alloc: Global,
     old: &[u8],
-    slot: u8,
+    slot: usize,
     moved: Moved<'a, '_>,
 ) -> Result<Vec<u8>, Failure<'a>> {
     if !moved.replaces {
         return Err(taken(moved.to));
     }
+    let slot = slot_number(slot, moved.to)?;
     on_disk(moved.to, delete_in_slot(alloc, old, slot))
 }
 
 /// The image on which no file has the name.
 fn freed<'a>(alloc: Global, old: &[u8], moved: Moved<'a, '_>) -> Result<Vec<u8>, Failure<'a>> {
     let there = on_disk(moved.to, entries(alloc, old))?;
-    match slot_of(there.as_slice(), moved.entry.name()) {
+    match slot_named(there.as_slice(), moved.entry.name()) {
         Some(slot) => without(alloc, old, slot, moved),
         None => in_memory(Vec::from_slice(alloc, old)),
     }
-}
-
-/// The image whose file of a spare name has its own, and its lock.
-fn named<'a>(
-    alloc: Global,
-    image: &[u8],
-    spare: &[u8],
-    moved: Moved<'a, '_>,
-) -> Result<Vec<u8>, Failure<'a>> {
-    let there = on_disk(moved.to, entries(alloc, image))?;
-    let Some(slot) = slot_of(there.as_slice(), spare) else {
-        return Err(Failure::NoFile(moved.to));
-    };
-    let blocks = there
-        .as_slice()
-        .get(usize::from(slot))
-        .map_or(0, Entry::blocks);
-    let looks = Looks {
-        name: whole_name(moved.entry),
-        blocks,
-        is_locked: moved.entry.is_locked(),
-    };
-    on_disk(moved.to, dress(alloc, image, slot, looks))
 }
 
 /// The image with a file of a kind: under a name that none has, and then under its own.
@@ -142,7 +79,9 @@ fn with_file<'a>(
         bytes: moved.bytes,
     };
     let image = with_stored(alloc, moved.to, old, &file)?;
-    named(alloc, image.as_slice(), &spare, moved)
+    let own = whole_name(moved.entry);
+    let is_locked = moved.entry.is_locked();
+    unspared(alloc, moved.to, image.as_slice(), &spare, own, is_locked)
 }
 
 /// The image with a line of art.
