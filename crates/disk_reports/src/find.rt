@@ -27,6 +27,22 @@ fn add_match(
     text.extend_from_slice(line.as_bytes())
 }
 
+/// The lines of the files that match. The one error is want of memory.
+pub fn match_lines(
+    alloc: Global,
+    image: &str,
+    entries: &[Entry],
+    look: Look<'_>,
+) -> Result<Vec<u8>, AllocError> {
+    let mut text = Vec::new(alloc);
+    for entry in entries {
+        if is_meant(entry, look.pattern) {
+            add_match(alloc, &mut text, image, entry, look)?;
+        }
+    }
+    Ok(text)
+}
+
 /// Adds a line for each file that matches, up to where the directory breaks off. Errors: `Image`, `Memory`.
 pub fn add_matches(
     alloc: Global,
@@ -35,13 +51,13 @@ pub fn add_matches(
     image: &[u8],
     look: Look<'_>,
 ) -> Result<LookAnswer, ShellFault> {
-    let mut answer = LookAnswer::NoMatch;
     let listed = listed(alloc, image)?;
-    for entry in listed.entries.as_slice() {
-        if is_meant(entry, look.pattern) {
-            add_match(alloc, text, name, entry, look)?;
-            answer = LookAnswer::Fine;
-        }
-    }
+    let lines = match_lines(alloc, name, listed.entries.as_slice(), look)?;
+    text.extend_from_slice(lines.as_slice())?;
+    let answer = if lines.is_empty() {
+        LookAnswer::NoMatch
+    } else {
+        LookAnswer::Fine
+    };
     Ok(answer_by(&listed, answer))
 }

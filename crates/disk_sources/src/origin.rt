@@ -1,7 +1,8 @@
 //! A disk or an archive from which files are taken.
+use crate::other::Other;
+use cbm_shell::ShellFault;
 use cbm_shell::texts::Charset;
-use cbm_shell::{ShellFault, foreign_of};
-use cbm_sources::{Fault, Form, Source, SourceKind};
+use cbm_sources::Fault;
 use cbm_volume::Entry;
 use disk_basics::calls::name_text;
 use disk_basics::host::require_ours;
@@ -15,7 +16,7 @@ pub enum Origin<'b> {
     /// The disk of a 1541.
     Disk(Disk),
     /// Another one.
-    Other(Source<'b>),
+    Other(Other<'b>),
 }
 
 /// Why a directory ends where it does.
@@ -27,6 +28,16 @@ pub enum End {
     Disk(BreakOff),
     /// That of another one does.
     Other(Fault),
+}
+
+impl End {
+    /// That of another kind's directory.
+    pub fn of(fault: Option<Fault>) -> End {
+        match fault {
+            Some(fault) => End::Other(fault),
+            None => End::Whole,
+        }
+    }
 }
 
 /// The entries of a disk or an archive. A file's number is the place of its entry.
@@ -47,24 +58,6 @@ pub enum FileFault {
     Other(Fault),
 }
 
-/// The source that bytes are, if a 1541's image has another form; None of one of its own, or of none.
-pub fn other_source(bytes: &[u8]) -> Option<Source<'_>> {
-    foreign_of(bytes)?;
-    Source::of(bytes)
-}
-
-/// What a source is called.
-pub fn kind_text(kind: SourceKind) -> &'static str {
-    match kind {
-        SourceKind::Image(Form::D71) => "a D71, the disk of a 1571",
-        SourceKind::Image(Form::D81) => "a D81, the disk of a 1581",
-        SourceKind::Image(Form::D64Of42) => "a D64 of 42 tracks",
-        SourceKind::Image(_) => "a D64",
-        SourceKind::TapeArchive => "a T64 archive",
-        SourceKind::LynxArchive => "a Lynx archive",
-    }
-}
-
 impl<'b> Origin<'b> {
     /// The disk or the archive of these bytes. Errors: `Foreign`, where they are none; `Disk`; `NoMemory`.
     pub fn open<'a>(
@@ -72,8 +65,8 @@ impl<'b> Origin<'b> {
         name: &'a str,
         bytes: &'b [u8],
     ) -> Result<Origin<'b>, Failure<'a>> {
-        if let Some(source) = other_source(bytes) {
-            return Ok(Origin::Other(source));
+        if let Some(other) = Other::of(bytes) {
+            return Ok(Origin::Other(other));
         }
         require_ours(name, bytes)?;
         let disk = on_disk(name, Disk::open(alloc, bytes))?;
@@ -84,20 +77,31 @@ impl<'b> Origin<'b> {
     pub fn entries<'a>(&self, alloc: Global) -> Result<Entries, Failure<'a>> {
         match self {
             Origin::Disk(disk) => disk_entries(alloc, disk),
-            Origin::Other(source) => source_entries(alloc, source),
+            Origin::Other(other) => other_entries(alloc, other),
         }
     }
 
     /// The bytes of the file of an entry, by its number.
     pub fn file(&self, alloc: Global, entry: &Entry, number: usize) -> Result<Vec<u8>, FileFault> {
-        if !entry.is_closed() {
-            return Err(FileFault::Disk(ShellFault::NotClosed));
-        }
         match self {
+            Origin::Disk(_) if !entry.is_closed() => Err(FileFault::Disk(ShellFault::NotClosed)),
             Origin::Disk(disk) => disk.file_of(alloc, entry).map_err(FileFault::Disk),
-            Origin::Other(source) => source.file(alloc, number).map_err(FileFault::Other),
+            Origin::Other(other) => other_file(alloc, other, entry, number),
         }
     }
+}
+
+/// The bytes of the file of another kind's entry, by its number.
+pub fn other_file(
+    alloc: Global,
+    other: &Other<'_>,
+    entry: &Entry,
+    number: usize,
+) -> Result<Vec<u8>, FileFault> {
+    if !entry.is_closed() {
+        return Err(FileFault::Disk(ShellFault::NotClosed));
+    }
+    other.file(alloc, number).map_err(FileFault::Other)
 }
 
 /// The entries of a 1541's disk.
@@ -116,16 +120,12 @@ fn disk_entries<'a>(alloc: Global, disk: &Disk) -> Result<Entries, Failure<'a>> 
     })
 }
 
-/// The entries of another one.
-fn source_entries<'a>(alloc: Global, source: &Source<'_>) -> Result<Entries, Failure<'a>> {
-    let contents = in_memory(source.entries(alloc))?;
-    let end = match contents.fault {
-        Some(fault) => End::Other(fault),
-        None => End::Whole,
-    };
+/// The entries of another one. The one error is `NoMemory`.
+pub fn other_entries<'a>(alloc: Global, other: &Other<'_>) -> Result<Entries, Failure<'a>> {
+    let contents = in_memory(other.contents(alloc))?;
     Ok(Entries {
         entries: contents.entries,
-        end,
+        end: End::of(contents.fault),
     })
 }
 
