@@ -6,7 +6,7 @@ use cbm_volume::Entry;
 use disk_basics::calls::name_text;
 use disk_basics::host::{read_any, require_ours};
 use disk_basics::{Failure, in_memory, petscii, slot_chosen};
-use disk_facts::is_meant;
+use disk_facts::number_meant;
 use disk_looks::{
     Destination, Names, OneFile, Progress, get_all_from, get_from, make_folder, packed, save_as,
     write_taken,
@@ -14,16 +14,6 @@ use disk_looks::{
 use std::alloc::AllocError;
 use std::path::Path;
 use std::rt::Runtime;
-
-/// The number of the first file that a pattern means.
-fn number_meant(entries: &[Entry], pattern: &[u8]) -> Option<usize> {
-    for (number, entry) in entries.iter().enumerate() {
-        if is_meant(entry, pattern) {
-            return Some(number);
-        }
-    }
-    None
-}
 
 /// The number of the file that is chosen.
 fn number_of<'a, R: Runtime + AllocGlobal>(
