@@ -51,24 +51,15 @@ fn without<'a>(
     on_disk(moved.to, delete_in_slot(alloc, old, slot))
 }
 
-/// The image on which no file has the name.
-fn freed<'a>(alloc: Global, old: &[u8], moved: Moved<'a, '_>) -> Result<Vec<u8>, Failure<'a>> {
-    let there = on_disk(moved.to, entries(alloc, old))?;
-    match slot_named(there.as_slice(), moved.entry.name()) {
-        Some(slot) => without(alloc, old, slot, moved),
-        None => in_memory(Vec::from_slice(alloc, old)),
-    }
-}
-
-/// The image with a file of a kind: under a name that none has, and then under its own.
+/// The image with a file of a kind: under a name that none of these entries has, and then under its own.
 fn with_file<'a>(
     alloc: Global,
     old: &[u8],
+    there: &[Entry],
     kind: FileKind,
     moved: Moved<'a, '_>,
 ) -> Result<Vec<u8>, Failure<'a>> {
-    let there = on_disk(moved.to, entries(alloc, old))?;
-    let Some(spare) = spare_name(there.as_slice(), 3) else {
+    let Some(spare) = spare_name(there, 3) else {
         return Err(taken(moved.to));
     };
     let file = Stored {
@@ -82,6 +73,24 @@ fn with_file<'a>(
     let own = whole_name(moved.entry);
     let is_locked = moved.entry.is_locked();
     unspared(alloc, moved.to, image.as_slice(), &spare, own, is_locked)
+}
+
+/// The image with a file of a kind, in place of the one that has its name, if one does.
+fn with_kind<'a>(
+    alloc: Global,
+    old: &[u8],
+    kind: FileKind,
+    moved: Moved<'a, '_>,
+) -> Result<Vec<u8>, Failure<'a>> {
+    let all = on_disk(moved.to, entries(alloc, old))?;
+    let there = all.as_slice();
+    match slot_named(there, moved.entry.name()) {
+        Some(slot) => {
+            let free = without(alloc, old, slot, moved)?;
+            with_file(alloc, free.as_slice(), there, kind, moved)
+        }
+        None => with_file(alloc, old, there, kind, moved),
+    }
 }
 
 /// The image with a line of art.
@@ -110,8 +119,7 @@ fn with_entry<'a>(alloc: Global, old: &[u8], moved: Moved<'a, '_>) -> Result<Vec
     let Some(kind) = kind_of_entry(moved.entry) else {
         return Err(Failure::Records(moved.to));
     };
-    let free = freed(alloc, old, moved)?;
-    with_file(alloc, free.as_slice(), kind, moved)
+    with_kind(alloc, old, kind, moved)
 }
 
 /// Reports which file isn't transferred, so that none is.
