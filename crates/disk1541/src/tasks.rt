@@ -133,6 +133,7 @@ fn transfer_with<'a, R: Runtime + AllocGlobal>(
         from: given(words, "FROM"),
         patterns: words.get_strs("PATTERN").unwrap_or(&[]),
         replaces: flag(words, "replace"),
+        is_dry: flag(words, "dry-run"),
         charset,
     };
     transfer_files(rt, given(words, "IMAGE"), &wanted)

@@ -210,7 +210,7 @@ const CHANGING: &[Command] = &[
         verb: Verb::Transfer,
         name: "transfer",
         about: "Copy files from another disk or archive",
-        words: &[FROM, IMAGE, TRANSFERRED, REPLACE_NAME, CHARSET],
+        words: &[FROM, IMAGE, TRANSFERRED, REPLACE_NAME, DRY_RUN, CHARSET],
     },
     Command {
         verb: Verb::Copy,
@@ -339,7 +339,7 @@ pub fn examples_of(verb: Verb) -> &'static str {
             "  disk1541 put work.d64 loader.prg levels.seq\n  disk1541 put work.d64 out.bin --name LOADER --replace\n"
         ),
         Verb::Transfer => examples!(
-            "  disk1541 transfer old.d64 work.d64\n  disk1541 transfer games.d81 work.d64 'LEVEL*'\n  disk1541 transfer tape.t64 work.d64\n"
+            "  disk1541 transfer old.d64 work.d64\n  disk1541 transfer games.d81 work.d64 'LEVEL*'\n  disk1541 transfer tape.t64 work.d64 --dry-run    what would be transferred\n"
         ),
         Verb::Copy => examples!("  disk1541 copy work.d64 LOADER BACKUP\n"),
         Verb::Rename => examples!(

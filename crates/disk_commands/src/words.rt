@@ -346,10 +346,10 @@ pub const NEW_TITLE: Word = Word {
     ..NEEDED
 };
 
-/// VALIDATE without a change.
+/// VALIDATE or TRANSFER without a change.
 pub const DRY_RUN: Word = Word {
     name: "dry-run",
-    help: "show what would go, and change nothing",
+    help: "show what would be done, and change nothing",
     ..FLAG
 };
 

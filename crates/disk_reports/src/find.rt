@@ -2,29 +2,24 @@
 use crate::broken::answer_by;
 use crate::view::{Look, LookAnswer};
 use cbm_shell::ShellFault;
+use cbm_shell::texts::Charset;
 use cbm_volume::Entry;
 use disk_basics::calls::{listed, name_text};
 use disk_facts::{is_meant, type_of};
 use std::alloc::{AllocError, Global};
 
-/// The line of a file of a name.
-fn match_line(alloc: Global, image: &str, entry: &Entry, name: &str) -> Result<String, AllocError> {
+/// The line of a file. The one error is want of memory.
+pub fn match_line(
+    alloc: Global,
+    image: &str,
+    entry: &Entry,
+    charset: Charset,
+) -> Result<String, AllocError> {
+    let shown = name_text(alloc, charset, entry.name())?;
+    let name = shown.as_str();
     let kind = type_of(entry).unwrap_or("???");
     let blocks = entry.blocks();
     format!(in alloc; "{image}: \"{name}\" {kind}, {blocks} blocks\n")
-}
-
-/// Adds the line of a file.
-fn add_match(
-    alloc: Global,
-    text: &mut Vec<u8>,
-    image: &str,
-    entry: &Entry,
-    look: Look<'_>,
-) -> Result<(), AllocError> {
-    let name = name_text(alloc, look.charset, entry.name())?;
-    let line = match_line(alloc, image, entry, name.as_str())?;
-    text.extend_from_slice(line.as_bytes())
 }
 
 /// The lines of the files that match. The one error is want of memory.
@@ -37,7 +32,8 @@ pub fn match_lines(
     let mut text = Vec::new(alloc);
     for entry in entries {
         if is_meant(entry, look.pattern) {
-            add_match(alloc, &mut text, image, entry, look)?;
+            let line = match_line(alloc, image, entry, look.charset)?;
+            text.extend_from_slice(line.as_bytes())?;
         }
     }
     Ok(text)

@@ -12,6 +12,7 @@ mod report;
 mod sum;
 mod view;
 
+pub use find::match_line;
 pub use other::{OtherKind, other_lines};
 pub use report::{Broken, Facts, Files, heads, refusal_line};
 pub use view::{Look, LookAnswer, Shown, View, lines_of};

@@ -6,7 +6,8 @@ mod origin;
 mod other;
 mod showing;
 mod taking;
+mod transferring;
 
-pub use moving::{Transfer, transfer_files};
 pub use showing::{Seen, is_for_all, seen};
 pub use taking::{get, get_all};
+pub use transferring::{Transfer, transfer_files};

@@ -73,6 +73,14 @@ impl<'b> Origin<'b> {
         Ok(Origin::Disk(disk))
     }
 
+    /// Whether it is a disk.
+    pub fn is_disk(&self) -> bool {
+        match self {
+            Origin::Disk(_) => true,
+            Origin::Other(other) => other.form().is_some(),
+        }
+    }
+
     /// Its entries, as far as its directory can be followed. The one error is `NoMemory`.
     pub fn entries<'a>(&self, alloc: Global) -> Result<Entries, Failure<'a>> {
         match self {
