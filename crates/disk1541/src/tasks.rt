@@ -12,7 +12,7 @@ use cbm_shell::texts::Charset;
 use clap::ArgMatches;
 use disk_basics::host::is_standard;
 use disk_basics::{Choice, Failure, WordFault, petscii};
-use disk_changes::{build_image, convert_image, make, put};
+use disk_changes::{build_image, make, put};
 use disk_commands::{Verb, flag, given, option, verb_of};
 use disk_edits::{
     Deed, Edit, copy, delete_at_fault, do_with, error_bytes, key_of_word, put_in_order, rename,
@@ -20,7 +20,7 @@ use disk_edits::{
 };
 use disk_looks::{Progress, describe, show_map, show_sector, show_track};
 use disk_reports::{Look, View};
-use disk_sources::{Transfer, get, get_all, transfer_files};
+use disk_sources::{Transfer, convert_image, get, get_all, transfer_files};
 use std::rt::Runtime;
 
 /// Carries out a command that looks at images.

@@ -10,6 +10,9 @@ use std::alloc::{AllocError, Global};
 /// The bytes of a sector.
 const SECTOR: usize = 256;
 
+/// The bytes of the sectors of a 1541's tracks 1 to 40.
+const UP_TO_40: usize = 196_608;
+
 /// A disk or an archive of another kind, and its bytes.
 #[derive(Drop)]
 pub struct Other<'b> {
@@ -128,6 +131,26 @@ impl<'b> Other<'b> {
                 self.bytes.get(..size).unwrap_or(self.bytes)
             }
             None => self.bytes,
+        }
+    }
+
+    /// The disk of its sectors up to track 40 without error bytes, if its tracks are those of a 1541's disk.
+    pub fn up_to_40(&self) -> Option<Other<'b>> {
+        match self.form()? {
+            Form::D71 | Form::D81 => None,
+            _ => {
+                let bytes = self.bytes.get(..UP_TO_40)?;
+                let source = Source::of(bytes)?;
+                Some(Other { bytes, source })
+            }
+        }
+    }
+
+    /// Its sectors beyond track 40, if its tracks up to there are those of a 1541's disk.
+    pub fn beyond_40(&self) -> &'b [u8] {
+        match self.form() {
+            Some(Form::D64Of42) => self.sectors().get(UP_TO_40..).unwrap_or(&[]),
+            _ => &[],
         }
     }
 
