@@ -3,7 +3,7 @@ mod beyond;
 
 use self::beyond::{tell_lost, tell_unheld};
 use crate::moving::Way;
-use crate::origin::{Origin, other_entries, tell_end};
+use crate::origin::{Origin, other_entries};
 use crate::other::Other;
 use crate::transferring::with_all;
 use cbm_image::Kind;
@@ -55,7 +55,7 @@ fn filled<'a, R: Runtime + AllocGlobal>(
 ) -> Result<Vec<u8>, Failure<'a>> {
     let blank = blank_for(rt.alloc(), &other, output, kind)?;
     let found = other_entries(rt.alloc(), &other)?;
-    if !tell_end(rt, image, found.end) {
+    if !found.end.tell(rt, image) {
         return Err(Failure::Told);
     }
     let origin = Origin::Other(other);
@@ -107,7 +107,7 @@ fn convert_other<'a, R: Runtime + AllocGlobal>(
     kind: Kind,
 ) -> Result<(), Failure<'a>> {
     require_new(rt, wanted.output, wanted.replaces)?;
-    if let Some(cut) = other.up_to_40() {
+    if let Some(cut) = in_memory(other.up_to_40(rt.alloc()))? {
         return convert_cut(rt, image, &other, &cut, wanted, kind);
     }
     require_unlost(rt, &other, wanted)?;
@@ -126,7 +126,7 @@ pub fn convert_image<'a, R: Runtime + AllocGlobal>(
 ) -> Result<(), Failure<'a>> {
     let kind = format(wanted.output, wanted.format)?;
     let bytes = read_any(rt, image)?;
-    if let Some(other) = Other::of(bytes.as_slice()) {
+    if let Some(other) = in_memory(Other::of(rt.alloc(), bytes.as_slice()))? {
         return convert_other(rt, image, other, wanted, kind);
     }
     require_ours(image, bytes.as_slice())?;

@@ -2,6 +2,7 @@
 #![tactic(auto)]
 
 mod converting;
+mod end;
 mod moving;
 mod origin;
 mod other;

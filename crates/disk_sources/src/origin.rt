@@ -1,4 +1,5 @@
 //! A disk or an archive from which files are taken.
+use crate::end::End;
 use crate::other::Other;
 use cbm_shell::ShellFault;
 use cbm_shell::texts::Charset;
@@ -17,27 +18,6 @@ pub enum Origin<'b> {
     Disk(Disk),
     /// Another one.
     Other(Other<'b>),
-}
-
-/// Why a directory ends where it does.
-#[derive(Clone, Copy)]
-pub enum End {
-    /// It is whole.
-    Whole,
-    /// That of a 1541's disk breaks off.
-    Disk(BreakOff),
-    /// That of another one does.
-    Other(Fault),
-}
-
-impl End {
-    /// That of another kind's directory.
-    pub fn of(fault: Option<Fault>) -> End {
-        match fault {
-            Some(fault) => End::Other(fault),
-            None => End::Whole,
-        }
-    }
 }
 
 /// The entries of a disk or an archive. A file's number is the place of its entry.
@@ -65,7 +45,7 @@ impl<'b> Origin<'b> {
         name: &'a str,
         bytes: &'b [u8],
     ) -> Result<Origin<'b>, Failure<'a>> {
-        if let Some(other) = Other::of(bytes) {
+        if let Some(other) = in_memory(Other::of(alloc, bytes))? {
             return Ok(Origin::Other(other));
         }
         require_ours(name, bytes)?;
@@ -131,13 +111,14 @@ fn disk_entries<'a>(alloc: Global, disk: &Disk) -> Result<Entries, Failure<'a>> 
 /// The entries of another one. The one error is `NoMemory`.
 pub fn other_entries<'a>(alloc: Global, other: &Other<'_>) -> Result<Entries, Failure<'a>> {
     let contents = in_memory(other.contents(alloc))?;
+    let end = End::of(other.end(&contents));
     Ok(Entries {
         entries: contents.entries,
-        end: End::of(contents.fault),
+        end,
     })
 }
 
-/// Prints why a file or a directory of another kind of disk or archive can't be read on.
+/// Prints why a file of another kind isn't read.
 fn tell_fault(rt: &impl Eprint, name: &str, fault: Fault) -> io::Result<()> {
     match fault {
         Fault::NoFile => eprintln!(rt; "disk1541: {name}: no such file"),
@@ -155,20 +136,6 @@ fn tell_fault(rt: &impl Eprint, name: &str, fault: Fault) -> io::Result<()> {
         }
         Fault::Memory => eprintln!(rt; "disk1541: no memory"),
     }
-}
-
-/// Prints that a directory breaks off; answers whether it is whole.
-pub fn tell_end(rt: &impl Eprint, name: &str, end: End) -> bool {
-    match end {
-        End::Whole => return true,
-        End::Disk(end) => {
-            let _ = Failure::Broken(name, end).tell(rt);
-        }
-        End::Other(fault) => {
-            let _ = tell_fault(rt, name, fault);
-        }
-    }
-    false
 }
 
 /// Prints why a file isn't taken.

@@ -1,9 +1,9 @@
 //! A disk or an archive of another kind.
+use crate::end::OtherEnd;
 use cbm_medium::{Link, Trouble};
 use cbm_shell::foreign_of;
 use cbm_sources::{Contents, Fault, Form, Source, SourceKind};
 use cbm_volume::{Entry, Label};
-use disk_basics::Cause;
 use disk_reports::{Broken, Facts, Files, OtherKind};
 use std::alloc::{AllocError, Global};
 
@@ -64,50 +64,40 @@ fn unreadable_of(disk: &cbm_sources::Disk<'_>) -> (usize, Option<Trouble>) {
     (count, first)
 }
 
-/// Where a disk's directory breaks off, after so many entries.
-fn broken_chain(alloc: Global, entries: usize, trouble: Trouble) -> Result<Broken, AllocError> {
-    let cause = Cause(trouble);
-    Ok(Broken {
-        entries,
-        track: Some(trouble.track),
-        sector: Some(trouble.sector),
-        error: Some(trouble.code),
-        text: format!(in alloc; "the directory breaks off after {entries} entries: {cause}")?,
-    })
-}
-
-/// Where an archive's directory can't be read any more, after so many entries.
-fn broken_text(alloc: Global, entries: usize, at: usize) -> Result<Broken, AllocError> {
-    Ok(Broken {
-        entries,
-        track: None,
-        sector: None,
-        error: None,
-        text: format!(in alloc;
-            "the directory can't be read after {entries} entries, from byte {at} on"
-        )?,
-    })
-}
-
-/// Where a directory breaks off, after so many entries; None where it is whole. The one error is want of memory.
-fn broken_of(
-    alloc: Global,
-    entries: usize,
-    fault: Option<Fault>,
-) -> Result<Option<Broken>, AllocError> {
-    match fault {
-        Some(Fault::Chain(trouble)) => Ok(Some(broken_chain(alloc, entries, trouble)?)),
-        Some(Fault::Text(at)) => Ok(Some(broken_text(alloc, entries, at)?)),
-        _ => Ok(None),
-    }
+/// Where a directory breaks off; None where it is whole. The one error is want of memory.
+fn broken_of(alloc: Global, end: Option<OtherEnd>) -> Result<Option<Broken>, AllocError> {
+    let Some(end) = end else {
+        return Ok(None);
+    };
+    let trouble = match end.fault {
+        Fault::Chain(trouble) => Some(trouble),
+        _ => None,
+    };
+    Ok(Some(Broken {
+        entries: end.entries,
+        track: trouble.map(|at| at.track),
+        sector: trouble.map(|at| at.sector),
+        error: trouble.map(|at| at.code),
+        text: format!(in alloc; "{end}")?,
+    }))
 }
 
 impl<'b> Other<'b> {
-    /// The disk or the archive of another kind that these bytes are; None of a 1541's image, and of none.
-    pub fn of(bytes: &'b [u8]) -> Option<Other<'b>> {
-        foreign_of(bytes)?;
-        let source = Source::of(bytes)?;
-        Some(Other { bytes, source })
+    /// The disk or the archive of another kind that these bytes are; None of a 1541's image, and of none. The one error is want of
+    /// memory.
+    pub fn of(alloc: Global, bytes: &'b [u8]) -> Result<Option<Other<'b>>, AllocError> {
+        if foreign_of(bytes).is_none() {
+            return Ok(None);
+        }
+        Other::read(alloc, bytes)
+    }
+
+    /// The disk or the archive that these bytes are.
+    fn read(alloc: Global, bytes: &'b [u8]) -> Result<Option<Other<'b>>, AllocError> {
+        match Source::of(alloc, bytes)? {
+            Some(source) => Ok(Some(Other { bytes, source })),
+            None => Ok(None),
+        }
     }
 
     /// Its bytes.
@@ -134,15 +124,12 @@ impl<'b> Other<'b> {
         }
     }
 
-    /// The disk of its sectors up to track 40 without error bytes, if its tracks are those of a 1541's disk.
-    pub fn up_to_40(&self) -> Option<Other<'b>> {
-        match self.form()? {
-            Form::D71 | Form::D81 => None,
-            _ => {
-                let bytes = self.bytes.get(..UP_TO_40)?;
-                let source = Source::of(bytes)?;
-                Some(Other { bytes, source })
-            }
+    /// The disk of its sectors up to track 40 without error bytes, if its tracks are those of a 1541's disk. The one error is want of
+    /// memory.
+    pub fn up_to_40(&self, alloc: Global) -> Result<Option<Other<'b>>, AllocError> {
+        match (self.form(), self.bytes.get(..UP_TO_40)) {
+            (None | Some(Form::D71 | Form::D81), _) | (_, None) => Ok(None),
+            (Some(_), Some(bytes)) => Other::read(alloc, bytes),
         }
     }
 
@@ -198,6 +185,19 @@ impl<'b> Other<'b> {
         self.source.entries(alloc)
     }
 
+    /// Where its directory breaks off, after these contents; None where it is whole.
+    pub fn end(&self, contents: &Contents) -> Option<OtherEnd> {
+        let most = match self.form() {
+            Some(form) => form.directory_sectors(),
+            None => 0,
+        };
+        Some(OtherEnd {
+            entries: contents.entries.len(),
+            fault: contents.fault?,
+            most,
+        })
+    }
+
     /// The bytes of the file of an entry's number.
     pub fn file(&self, alloc: Global, number: usize) -> Result<Vec<u8>, Fault> {
         self.source.file(alloc, number)
@@ -231,12 +231,11 @@ impl<'b> Other<'b> {
         alloc: Global,
         contents: &'s Contents,
     ) -> Result<OtherKind<'s>, AllocError> {
-        let entries = contents.entries.as_slice();
         Ok(OtherKind {
             kind: self.kind(alloc)?,
             facts: self.facts(alloc),
-            entries,
-            broken: broken_of(alloc, entries.len(), contents.fault)?,
+            entries: contents.entries.as_slice(),
+            broken: broken_of(alloc, self.end(contents))?,
             summed: self.sectors(),
         })
     }

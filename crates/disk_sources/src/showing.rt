@@ -1,5 +1,5 @@
 //! What images show, and disks and archives of other kinds.
-use crate::origin::{End, tell_end};
+use crate::end::End;
 use crate::other::Other;
 use disk_basics::host::{read_any, require_ours};
 use disk_basics::{Failure, in_memory, on_disk};
@@ -32,7 +32,7 @@ fn other_seen<'a, R: Runtime + AllocGlobal>(
 ) -> Result<Shown, Failure<'a>> {
     let contents = in_memory(other.contents(rt.alloc()))?;
     if look.view != View::Sum {
-        let _ = tell_end(rt, name, End::of(contents.fault));
+        let _ = End::of(other.end(&contents)).tell(rt, name);
     }
     let kind = in_memory(other.looked_at(rt.alloc(), &contents))?;
     in_memory(other_lines(rt.alloc(), name, other, kind, look))
@@ -47,7 +47,7 @@ pub fn seen<'a, R: Runtime + AllocGlobal>(
 ) -> Result<Seen, Failure<'a>> {
     let bytes = read_any(rt, name)?;
     if is_for_all(look.view) {
-        if let Some(other) = Other::of(bytes.as_slice()) {
+        if let Some(other) = in_memory(Other::of(rt.alloc(), bytes.as_slice()))? {
             let shown = other_seen(rt, name, &other, look)?;
             return Ok(Seen {
                 shown,

@@ -1,5 +1,5 @@
 //! GET and GET-ALL: files out of a disk or an archive of any kind.
-use crate::origin::{Entries, other_entries, other_file, tell_end, tell_file};
+use crate::origin::{Entries, other_entries, other_file, tell_file};
 use crate::other::Other;
 use cbm_shell::texts::Charset;
 use cbm_volume::Entry;
@@ -59,7 +59,7 @@ pub fn get<'a, R: Runtime + AllocGlobal>(
     taken: &OneFile<'a>,
 ) -> Result<(), Failure<'a>> {
     let bytes = read_any(rt, image)?;
-    if let Some(other) = Other::of(bytes.as_slice()) {
+    if let Some(other) = in_memory(Other::of(rt.alloc(), bytes.as_slice()))? {
         return get_other(rt, &other, taken);
     }
     require_ours(image, bytes.as_slice())?;
@@ -124,7 +124,7 @@ fn get_all_other<'a, R: Runtime + AllocGlobal>(
     let found = other_entries(rt.alloc(), other)?;
     make_folder(rt, place.folder)?;
     let are_saved = in_memory(save_all(rt, other, &found, place))?;
-    let is_whole = tell_end(rt, image, found.end);
+    let is_whole = found.end.tell(rt, image);
     if are_saved && is_whole {
         return Ok(());
     }
@@ -140,7 +140,7 @@ pub fn get_all<'a, R: Runtime + AllocGlobal>(
     progress: Progress,
 ) -> Result<(), Failure<'a>> {
     let bytes = read_any(rt, image)?;
-    if let Some(other) = Other::of(bytes.as_slice()) {
+    if let Some(other) = in_memory(Other::of(rt.alloc(), bytes.as_slice()))? {
         return get_all_other(rt, image, &other, place);
     }
     require_ours(image, bytes.as_slice())?;

@@ -1,6 +1,6 @@
 //! TRANSFER: files of another disk or archive onto an image.
 use crate::moving::{Way, with_one};
-use crate::origin::{Origin, tell_end};
+use crate::origin::Origin;
 use cbm_shell::texts::Charset;
 use cbm_volume::Entry;
 use disk_basics::calls::name_text;
@@ -169,7 +169,7 @@ pub fn transfer_files<'a, R: Runtime + AllocGlobal>(
     let bytes = read_any(rt, wanted.from)?;
     let origin = Origin::open(rt.alloc(), wanted.from, bytes.as_slice())?;
     let found = origin.entries(rt.alloc())?;
-    if !tell_end(rt, wanted.from, found.end) {
+    if !found.end.tell(rt, wanted.from) {
         return Err(Failure::Told);
     }
     let entries = found.entries.as_slice();
