@@ -271,7 +271,7 @@ def dry_runs(rng, room):
     ran = run("transfer", "dry.d81", "dry.d64", "--dry-run")
     is_so("a dry run", ran == (0, f"{lines}2 files would be transferred\n".encode(), "") and open("dry.d64", "rb").read() == saved, ran)
     ran = run("transfer", "dry.d81", "dry.d64", "T*", "--dry-run")
-    is_so("of a pattern", ran == (0, b'dry.d81: "TWO" seq, 2 blocks\n1 files would be transferred\n', ""), ran)
+    is_so("of a pattern", ran == (0, b'dry.d81: "TWO" seq, 2 blocks\n1 file would be transferred\n', ""), ran)
     open("dry.d81", "wb").write(disk_of(SHAPES["d81"], [files[0], (b"BIG", "prg", False, data_of(rng, 200000)), files[1]]))
     status, out, said = run("transfer", "dry.d81", "dry.d64", "--dry-run")
     wanted = f"{lines}2 of 3 files could be transferred, and so none would be\n"

@@ -189,7 +189,7 @@ const CHANGING: &[Command] = &[
     Command {
         verb: Verb::Convert,
         name: "convert",
-        about: "Convert a D64 to a G64, or a G64 to a D64",
+        about: "Convert a D64 to a G64 or back, other disks and archives to either",
         words: &[IMAGE, OUT, FORMAT, LOSSY, REPLACE_IMAGE],
     },
     Command {
@@ -309,7 +309,7 @@ pub fn examples_of(verb: Verb) -> &'static str {
             "  disk1541 list game.d64\n  disk1541 list game.d64 --only 'A*' --charset lower\n  disk1541 list -r disks/ --json\n  disk1541 list -r disks/ --csv > files.csv\n"
         ),
         Verb::Find => examples!(
-            "  disk1541 find 'HISCORE*' *.d64\n  disk1541 find -r 'HISCORE*' disks/\n"
+            "  disk1541 find 'HISCORE*' *.d64 *.d81\n  disk1541 find -r 'HISCORE*' disks/\n"
         ),
         Verb::Get => examples!(
             "  disk1541 get game.d64 LOADER -o loader.prg\n  disk1541 get game.d64 '{c1}*' > first\n  disk1541 get bad.d64 --salvage 'LEVEL*' -o level.bin\n  disk1541 get odd.d64 --exact 'ST*R1' -o star.prg\n"
@@ -334,7 +334,9 @@ pub fn examples_of(verb: Verb) -> &'static str {
         Verb::New => examples!(
             "  disk1541 new work.d64 --title WORK --id 64\n  disk1541 new work.g64 --title WORK --id 64\n"
         ),
-        Verb::Convert => examples!("  disk1541 convert game.d64 game.g64\n"),
+        Verb::Convert => examples!(
+            "  disk1541 convert game.d64 game.g64\n  disk1541 convert games.d81 games.d64    its files, on a new disk\n"
+        ),
         Verb::Put => examples!(
             "  disk1541 put work.d64 loader.prg levels.seq\n  disk1541 put work.d64 out.bin --name LOADER --replace\n"
         ),

@@ -73,7 +73,7 @@ pub const IMAGES: Word = Word {
 /// Images in folders.
 pub const RECURSIVE: Word = Word {
     name: "recursive",
-    help: "for a folder, all images in it and its folders: files that end in .d64 or .g64",
+    help: "for a folder, all images in it and its folders: .d64, .g64; but for check also .d71, .d81, .t64, .lnx",
     mark: Mark::Short('r'),
     ..FLAG
 };

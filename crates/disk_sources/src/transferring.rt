@@ -97,7 +97,8 @@ impl Plan {
     fn line(self, alloc: Global) -> Result<String, AllocError> {
         let Plan { fine, left } = self;
         if left == 0 {
-            return format!(in alloc; "{fine} files would be transferred\n");
+            let noun = if fine == 1 { "file" } else { "files" };
+            return format!(in alloc; "{fine} {noun} would be transferred\n");
         }
         let all = fine.saturating_add(left);
         format!(in alloc; "{fine} of {all} files could be transferred, and so none would be\n")
