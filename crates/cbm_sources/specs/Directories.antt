@@ -14,9 +14,9 @@ directory_start D81 = record { track = 40; sector = 3 }
 directory_start _ = first_directory
 
 -- how many sectors the directory of each form has at most: those of its track but the header's, and on a 1581's disk those of the BAM
-abbrev pub directory_sectors : Form → ℕ
-directory_sectors D81 = 37
-directory_sectors _ = 18
+abbrev pub directory_limit : Form → ℕ
+directory_limit D81 = 37
+directory_limit _ = 18
 
 -- the entries that aren't empty
 abbrev pub used : List (List ℕ) → List (List ℕ)

@@ -52,7 +52,7 @@ pub fn listed_of(alloc: Global, disk: &Disk) -> Result<Listed, AllocError>
     ensures { IfOk result (λ l. disk_listed disk.now ≡ (record { entries = l.entries.items; trouble = l.trouble })) }
 {
     let form = disk.form();
-    let mut trail = Trail::begin(alloc, form.directory_sectors(), directory_start(form));
+    let mut trail = Trail::begin(alloc, form.directory_limit(), directory_start(form));
     let mut entries = Vec::new(alloc);
     'sectors: while let Some(sector) = trail.next(disk)? {
         add_entries(&mut entries, &sector)?;

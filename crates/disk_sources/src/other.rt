@@ -188,7 +188,7 @@ impl<'b> Other<'b> {
     /// Where its directory breaks off, after these contents; None where it is whole.
     pub fn end(&self, contents: &Contents) -> Option<OtherEnd> {
         let most = match self.form() {
-            Some(form) => form.directory_sectors(),
+            Some(form) => form.directory_limit(),
             None => 0,
         };
         Some(OtherEnd {
