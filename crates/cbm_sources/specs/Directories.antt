@@ -13,7 +13,7 @@ abbrev pub directory_start : Form → Place
 directory_start D81 = record { track = 40; sector = 3 }
 directory_start _ = first_directory
 
--- how many sectors the directory of each form has at most: those of its track but the header's, and on a 1581's disk those of the BAM
+-- how many sectors the directory of each form has at most: those of its track after the header, or on a 1581's disk after the BAM
 abbrev pub directory_limit : Form → ℕ
 directory_limit D81 = 37
 directory_limit _ = 18
