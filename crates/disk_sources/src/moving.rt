@@ -128,6 +128,13 @@ fn kind_of<'a, R: Runtime + AllocGlobal>(rt: &R, entry: &Entry) -> Result<FileKi
         );
     }
     match kind_of_entry(entry) {
+        Some(FileKind::Relative) if !matches!(entry.record_length(), 1..=254) => {
+            tell_other(
+                rt,
+                entry,
+                "is a relative file, and how long its records are isn't known",
+            )
+        }
         Some(kind) => Ok(kind),
         None => tell_other(
             rt,
