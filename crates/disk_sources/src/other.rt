@@ -53,7 +53,7 @@ fn label_of(disk: &cbm_sources::Disk<'_>) -> Option<Label> {
 fn unreadable_of(disk: &cbm_sources::Disk<'_>) -> (usize, Option<Trouble>) {
     let mut count: usize = 0;
     let mut first = None;
-    for track in 1..=disk.form().tracks() {
+    for track in 1..disk.form().tracks().saturating_add(1) {
         for sector in 0..disk.form().sectors_of(track) {
             if let Err(trouble) = disk.read(Link::new(track, sector)) {
                 count = count.saturating_add(1);
@@ -69,15 +69,19 @@ fn broken_of(alloc: Global, end: Option<OtherEnd>) -> Result<Option<Broken>, All
     let Some(end) = end else {
         return Ok(None);
     };
-    let trouble = match end.fault {
-        Fault::Chain(trouble) => Some(trouble),
-        _ => None,
+    let (track, sector, error) = match end.fault {
+        Fault::Chain(trouble) => (
+            Some(trouble.track),
+            Some(trouble.sector),
+            Some(trouble.code),
+        ),
+        _ => (None, None, None),
     };
     Ok(Some(Broken {
         entries: end.entries,
-        track: trouble.map(|at| at.track),
-        sector: trouble.map(|at| at.sector),
-        error: trouble.map(|at| at.code),
+        track,
+        sector,
+        error,
         text: format!(in alloc; "{end}")?,
     }))
 }
