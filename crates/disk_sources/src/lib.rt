@@ -11,6 +11,6 @@ mod taking;
 mod transferring;
 
 pub use converting::convert_image;
-pub use showing::{Seen, is_for_all, seen};
+pub use showing::{Sight, is_for_all, seen};
 pub use taking::{get, get_all};
 pub use transferring::{Transfer, transfer_files};

@@ -8,7 +8,7 @@ use std::rt::Runtime;
 
 /// What a file shows.
 #[derive(Drop)]
-pub struct Seen {
+pub struct Sight {
     /// Its lines, and what they come to.
     pub shown: Shown,
     /// It is a disk or an archive of another kind.
@@ -44,12 +44,12 @@ pub fn seen<'a, R: Runtime + AllocGlobal>(
     rt: &R,
     name: &'a str,
     look: Look<'_>,
-) -> Result<Seen, Failure<'a>> {
+) -> Result<Sight, Failure<'a>> {
     let bytes = read_any(rt, name)?;
     if is_for_all(look.view) {
         if let Some(other) = in_memory(Other::of(rt.alloc(), bytes.as_slice()))? {
             let shown = other_seen(rt, name, &other, look)?;
-            return Ok(Seen {
+            return Ok(Sight {
                 shown,
                 is_other: true,
             });
@@ -57,7 +57,7 @@ pub fn seen<'a, R: Runtime + AllocGlobal>(
     }
     require_ours(name, bytes.as_slice())?;
     let shown = on_disk(name, lines_of(rt.alloc(), name, bytes.as_slice(), look))?;
-    Ok(Seen {
+    Ok(Sight {
         shown,
         is_other: false,
     })

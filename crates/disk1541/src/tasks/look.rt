@@ -4,7 +4,7 @@ use super::folders::Walk;
 use disk_basics::host::print;
 use disk_basics::{Failure, in_memory};
 use disk_reports::{Look, LookAnswer, heads, refusal_line};
-use disk_sources::{Seen, is_for_all, seen};
+use disk_sources::{Sight, is_for_all, seen};
 use host_files::{Kind, kind_of};
 use std::rt::Runtime;
 
@@ -59,7 +59,7 @@ fn look_among<'a, R: Runtime + AllocGlobal>(
     counts: &mut Counts,
 ) -> Result<(), Failure<'a>> {
     match seen(rt, image, look) {
-        Ok(Seen { shown, is_other }) => {
+        Ok(Sight { shown, is_other }) => {
             counts.add(shown.answer, is_other);
             tell_answer(rt, image, shown.answer);
             print(rt, shown.text.as_slice())
