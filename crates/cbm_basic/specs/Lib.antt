@@ -1,0 +1,4 @@
+pub mod Links
+pub mod Lines
+pub mod Signs
+pub mod Words

@@ -1,0 +1,24 @@
+-- The lines of a BASIC program, as LIST shows them.
+use Rattle.std.specs.Prelude.{ℕ, ◌+◌, ◌*◌, ◌==◌, Bool, false, if◌then◌else◌, List, [], ◌∷◌, ◌++◌, drop, decimal}
+use Rattle.cbm_basic.specs.Signs.{characters, signs_of, quoted_after}
+use Rattle.cbm_basic.specs.declared.sign.Sign.{Sign}
+use Rattle.cbm_basic.specs.declared.sign.Sign.TheVariants.{Character, LineEnd}
+
+-- a line's number, and a space
+abbrev pub number_signs : ℕ → List Sign
+number_signs number = characters (decimal number) ++ (Character 32 ∷ [])
+
+unfoldable mutual
+  -- From the beginning of a line on: its link, its number, its text. A link whose second byte is 0 ends the program.
+  pub lines : List ℕ → List Sign
+  lines (first ∷ second ∷ low ∷ high ∷ rest) = if second == 0 then [] else number_signs (low + 256 * high) ++ text false rest
+  lines _ = []
+
+  -- From a place in a line's text on: a 0 ends the line, or the file does.
+  pub text : Bool → List ℕ → List Sign
+  text quoted [] = LineEnd ∷ []
+  text quoted (code ∷ rest) = if code == 0 then LineEnd ∷ lines rest else signs_of quoted code ++ text (quoted_after quoted code) rest
+
+-- THE LISTING of a program: its load address isn't shown
+abbrev pub listing : List ℕ → List Sign
+listing program = lines (drop 2 program)
