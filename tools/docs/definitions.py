@@ -105,6 +105,7 @@ PARTS = {
         ("entries locked, dressed, swapped; titles and art", "cbm_shell", "lock retitle add_art dress swap_entries"),
         ("one file by its slot: another name, a lock, its end", "cbm_slots", "rename lock delete"),
         ("disks and archives of other kinds", "cbm_sources", "of entries file"),
+        ("a BASIC program on the screen", "cbm_basic", "listing is_program"),
         ("damaged disks: all flaws, what is salvaged, forgotten and given back", "cbm_shell", "flaws users lost salvage forget undelete"),
     ],
     "The C library": [
@@ -121,7 +122,7 @@ PAGES = dict(zip(PARTS, "images content dos bus requests scripts tool library".s
 # The crates in which each definition has a sentence of its own.
 COMPLETE = (
     "cbm_iec cbm_session cbm_drive cbm_bus cbm_host cbm_command cbm_listing cbm_machine cbm_talk cbm_image cbm_program drive1541 cbm_shell disk_basics "
-    "cbm_device cbm_slots yellowadze1541"
+    "cbm_basic cbm_device cbm_slots yellowadze1541"
 ).split()
 
 

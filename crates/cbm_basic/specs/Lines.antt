@@ -10,15 +10,15 @@ number_signs number = characters (decimal number) ++ (Character 32 ∷ [])
 
 unfoldable mutual
   -- From the beginning of a line on: its link, its number, its text. A link whose second byte is 0 ends the program.
-  pub lines : List ℕ → List Sign
-  lines (first ∷ second ∷ low ∷ high ∷ rest) = if second == 0 then [] else number_signs (low + 256 * high) ++ text false rest
-  lines _ = []
+  pub listed_lines : List ℕ → List Sign
+  listed_lines (first ∷ second ∷ low ∷ high ∷ rest) = if second == 0 then [] else number_signs (low + 256 * high) ++ listed_text false rest
+  listed_lines _ = []
 
   -- From a place in a line's text on: a 0 ends the line, or the file does.
-  pub text : Bool → List ℕ → List Sign
-  text quoted [] = LineEnd ∷ []
-  text quoted (code ∷ rest) = if code == 0 then LineEnd ∷ lines rest else signs_of quoted code ++ text (quoted_after quoted code) rest
+  pub listed_text : Bool → List ℕ → List Sign
+  listed_text quoted [] = LineEnd ∷ []
+  listed_text quoted (code ∷ rest) = if code == 0 then LineEnd ∷ listed_lines rest else signs_of quoted code ++ listed_text (quoted_after quoted code) rest
 
 -- THE LISTING of a program: its load address isn't shown
-abbrev pub listing : List ℕ → List Sign
-listing program = lines (drop 2 program)
+abbrev pub basic_listing : List ℕ → List Sign
+basic_listing program = listed_lines (drop 2 program)

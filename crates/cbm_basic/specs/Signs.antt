@@ -1,6 +1,6 @@
 -- What LIST shows for a code.
 use Rattle.std.specs.Prelude.{ℕ, ◌==◌, nat_lt, Bool, true, false, not, if◌then◌else◌, List, [], ◌∷◌, Option, Some, None}
-use Rattle.cbm_basic.specs.Words.{row_of}
+use Rattle.cbm_basic.specs.Words.{word_row}
 use Rattle.cbm_basic.specs.declared.sign.Sign.{Sign}
 use Rattle.cbm_basic.specs.declared.sign.Sign.TheVariants.{Character, NoWord}
 
@@ -26,7 +26,7 @@ signs_of true code = Character code ∷ []
 signs_of false code =
     if nat_lt code 128 then Character code ∷ []
     else if code == 255 then Character 222 ∷ []
-    else word_signs code (row_of code)
+    else word_signs code (word_row code)
 
 -- a quotation mark begins what is quoted, or ends it
 abbrev pub quoted_after : Bool → ℕ → Bool

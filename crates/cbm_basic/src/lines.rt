@@ -1,6 +1,6 @@
 //! A BASIC program as LIST shows it.
 ghost use Rattle.std.specs.Prelude.{◌≡◌, ◌≤◌, ◌<◌, ◌∷◌, ◌++◌, [], length, false, IfOk, IfSome, MatchOption, OnOk};
-ghost use Rattle.cbm_basic.specs.Lines.{lines, text, number_signs, listing};
+ghost use Rattle.cbm_basic.specs.Lines.{listed_lines, listed_text, number_signs, basic_listing};
 
 use crate::sign::{Sign, add, add_characters, add_code, quoted_after};
 use itoa::Buffer;
@@ -17,7 +17,7 @@ fn end_line<'a>(signs: &mut Vec<Sign>, afterwards: &'a [u8]) -> Result<&'a [u8],
 /// Adds the text of a line and its end. Returns what follows its 0.
 fn add_text<'a>(signs: &mut Vec<Sign>, bytes: &'a [u8]) -> Result<&'a [u8], AllocError>
     ensures text { IfOk result (λ rest.
-        signs.new.items ++ lines rest.now ≡ signs.old.items ++ text false bytes.now) }
+        signs.new.items ++ listed_lines rest.now ≡ signs.old.items ++ listed_text false bytes.now) }
     ensures shorter { IfOk result (λ rest. length rest.now ≤ length bytes.now) }
 {
     let mut rest = bytes;
@@ -34,10 +34,10 @@ fn add_text<'a>(signs: &mut Vec<Sign>, bytes: &'a [u8]) -> Result<&'a [u8], Allo
 }
 
 /// The number of the next line, and its text with what follows; None where the program ends.
-#[tactic(auto, unfolding(crate::specs::Lines::lines))]
+#[tactic(auto, unfolding(crate::specs::Lines::listed_lines))]
 fn next_line(bytes: &[u8]) -> Option<(u16, &[u8])>
-    ensures line { MatchOption result (lines bytes.now ≡ [])
-        (λ p. lines bytes.now ≡ number_signs p.0 ++ text false p.1.now) }
+    ensures line { MatchOption result (listed_lines bytes.now ≡ [])
+        (λ p. listed_lines bytes.now ≡ number_signs p.0 ++ listed_text false p.1.now) }
     ensures shorter { IfSome result (λ p. length p.1.now < length bytes.now) }
 {
     let (_, rest) = bytes.split_first()?;
@@ -62,7 +62,7 @@ fn add_number(signs: &mut Vec<Sign>, number: u16) -> Result<(), AllocError>
 /// A BASIC program as LIST shows it, its load address left out: of each line the number, a space, the text. Links are read only for the
 /// program's end, since a C64 mends them as it loads. A program that is cut off ends with its bytes. The one error is want of memory.
 pub fn listing(alloc: Global, program: &[u8]) -> Result<Vec<Sign>, AllocError>
-    ensures { IfOk result (λ v. v.items ≡ listing program.now) }
+    ensures { IfOk result (λ v. v.items ≡ basic_listing program.now) }
 {
     let mut signs = Vec::new(alloc);
     let mut rest = program.get(2..).unwrap_or(&[]);

@@ -37,7 +37,7 @@ fn is_end(bytes: &[u8]) -> bool
 
 /// Where the line begins to which the link of a line at an address leads, and its bytes; None where no line begins there.
 #[tactic(auto, unfolding(crate::specs::Links::links_hold, crate::specs::Links::number_holds))]
-fn next_line(at: usize, bytes: &[u8]) -> Option<(usize, &[u8])>
+fn linked_line(at: usize, bytes: &[u8]) -> Option<(usize, &[u8])>
     requires { at + length bytes.now ≤ usize.MAX }
     ensures holds { is_end bytes.now ≡ false → MatchOption result (links_hold at bytes.now ≡ false)
         (λ p. links_hold at bytes.now ≡ links_hold p.0 p.1.now) }
@@ -63,7 +63,7 @@ fn links_hold(bytes: &[u8]) -> bool
     let mut rest = bytes;
     let mut at = ADDRESS;
     'lines: while !is_end(rest) {
-        let Some((next, afterwards)) = next_line(at, rest) else {
+        let Some((next, afterwards)) = linked_line(at, rest) else {
             return false;
         };
         at = next;

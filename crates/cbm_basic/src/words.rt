@@ -1,6 +1,6 @@
 //! The words of BASIC 2.0.
 ghost use Rattle.std.specs.Prelude.{◌≡◌, None, MatchOption, Some};
-ghost use Rattle.cbm_basic.specs.Words.{row_of};
+ghost use Rattle.cbm_basic.specs.Words.{word_row};
 
 /// The words in the order of their tokens from $80 on, each filled up with spaces. `^` is the arrow upwards, whose code it is.
 pub const WORDS: [[u8; 7]; 76] = [
@@ -87,7 +87,7 @@ const COUNT: u8 = 76;
 
 /// The row of a token's word; None where BASIC 2.0 has none.
 pub fn row_of(token: u8) -> Option<[u8; 7]>
-    ensures { MatchOption result (row_of token ≡ None) (λ row. row_of token ≡ Some row) }
+    ensures { MatchOption result (word_row token ≡ None) (λ row. word_row token ≡ Some row) }
 {
     let place = token.checked_sub(128)?;
     if place < COUNT {

@@ -6,7 +6,7 @@ mod look;
 use self::look::look_at_all;
 use crate::reading::{
     blank, building, charset, checking, choice, conversion, description, gone, host_files, listing,
-    mapping, one_file, ordering, pair, pattern, place,
+    mapping, one_file, ordering, pair, pattern, place, wanted,
 };
 use cbm_shell::texts::Charset;
 use clap::ArgMatches;
@@ -14,6 +14,7 @@ use disk_basics::host::is_standard;
 use disk_basics::{Choice, Failure, WordFault, petscii};
 use disk_changes::{build_image, convert_image, make, put};
 use disk_commands::{Verb, flag, given, option, verb_of};
+use disk_compare::{Comparison, diff, show};
 use disk_edits::{
     Deed, Edit, copy, delete_at_fault, do_with, error_bytes, key_of_word, put_in_order, rename,
     save_edit, sort, undelete_file,
@@ -148,6 +149,21 @@ fn title_with<'a, R: Runtime + AllocGlobal>(
     save_edit(rt, given(words, "IMAGE"), &edit)
 }
 
+/// Shows what differs between two images.
+fn diff_with<'a, R: Runtime + AllocGlobal>(
+    rt: &R,
+    words: &ArgMatches<'a>,
+    charset: Charset,
+) -> Result<(), Failure<'a>> {
+    let comparison = Comparison {
+        first: given(words, "FIRST"),
+        second: given(words, "SECOND"),
+        charset,
+        is_json: flag(words, "json"),
+    };
+    diff(rt, comparison)
+}
+
 /// Puts files on the disk.
 fn put_with<'a, R: Runtime + AllocGlobal>(
     rt: &R,
@@ -180,6 +196,8 @@ fn perform<'a, R: Runtime + AllocGlobal>(
         Verb::Check => look_with(rt, words, charset, checking(words)),
         Verb::Hash => look_with(rt, words, charset, View::Sum),
         Verb::Get => get(rt, image, &one_file(words, charset)?),
+        Verb::Show => show(rt, image, wanted(words, charset)?),
+        Verb::Diff => diff_with(rt, words, charset),
         Verb::GetAll => get_all(rt, image, place(words), progress),
         Verb::New => make(rt, image, &blank(words, charset)),
         Verb::Convert => convert_image(rt, image, &conversion(words)),

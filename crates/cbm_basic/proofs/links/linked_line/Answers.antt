@@ -1,7 +1,7 @@
 use Rattle.std.proofs.Common.{rules, ◌≡◌, false, ◌∙◌}
 use Rattle.cbm_basic.specs.Links.{links_hold}
 use Rattle.cbm_basic.proofs.LinkLemmas.{line-holds, line-short, line-cut, link-holds, link-fails}
-use Rattle.cbm_basic.proofs.links.next_line.Goals as goal
+use Rattle.cbm_basic.proofs.links.linked_line.Goals as goal
 
 -- it breaks off before its number, or within it
 pub returns-in_err-rest-clause-holds : goal.returns-in_err-rest-clause-holds
