@@ -4,7 +4,7 @@ use cbm_shell::ShellFault;
 use cbm_volume::Entry;
 use disk_basics::host::{print, read_image};
 use disk_basics::{Choice, Disk, Failure, in_memory, on_disk, petscii, slot_chosen};
-use disk_facts::is_meant;
+use disk_facts::first_meant;
 use std::alloc::Global;
 use std::rt::Runtime;
 
@@ -17,27 +17,21 @@ pub struct Wanted<'a> {
     pub form: Form,
 }
 
-/// The slot of the first file that a name means.
-fn slot_meant<'a>(
+/// The entry of the file that is said.
+fn entry_of<'a, 'e>(
     alloc: Global,
-    entries: &[Entry],
+    entries: &'e [Entry],
     choice: Choice<'a>,
-) -> Result<usize, Failure<'a>> {
-    let pattern = petscii(alloc, choice.charset, choice.name)?;
-    for (slot, entry) in entries.iter().enumerate() {
-        if is_meant(entry, pattern.as_slice()) {
-            return Ok(slot);
-        }
-    }
-    Err(Failure::NoFile(choice.name))
-}
-
-/// The slot of the file that is said.
-fn slot_of<'a>(alloc: Global, entries: &[Entry], choice: Choice<'a>) -> Result<usize, Failure<'a>> {
-    if choice.is_pattern() {
-        slot_meant(alloc, entries, choice)
+) -> Result<&'e Entry, Failure<'a>> {
+    let entry = if choice.is_pattern() {
+        let pattern = petscii(alloc, choice.charset, choice.name)?;
+        first_meant(entries, pattern.as_slice())
     } else {
-        slot_chosen(alloc, entries, choice)
+        entries.get(slot_chosen(alloc, entries, choice)?)
+    };
+    match entry {
+        Some(entry) => Ok(entry),
+        None => Err(Failure::NoFile(choice.word())),
     }
 }
 
@@ -58,11 +52,8 @@ fn file_of<'a>(
 ) -> Result<Vec<u8>, Failure<'a>> {
     let disk = on_disk(image, Disk::open(alloc, bytes))?;
     let listed = in_memory(disk.listed(alloc))?;
-    let slot = slot_of(alloc, listed.entries.as_slice(), choice)?;
-    match listed.entries.as_slice().get(slot) {
-        Some(entry) => on_disk(choice.word(), closed_file(alloc, &disk, entry)),
-        None => Err(Failure::NoFile(choice.word())),
-    }
+    let entry = entry_of(alloc, listed.entries.as_slice(), choice)?;
+    on_disk(choice.word(), closed_file(alloc, &disk, entry))
 }
 
 /// Shows a file of an image. Errors: those of `read_image`; `Word`, where the name can't be typed or the slot is no number; `NoFile`;
