@@ -424,7 +424,7 @@ def word(token, charset):
 
 
 def basic(program, charset):
-    """A program as LIST shows it: numbers, words of tokens, characters within quotation marks."""
+    """A program as LIST shows it: numbers, words of tokens, characters within quotation marks. And how many bytes follow it."""
     out, at = "", 2
     while at + 4 <= len(program) and program[at + 1]:
         out += f"{program[at + 2] + 256 * program[at + 3]} "
@@ -440,7 +440,7 @@ def basic(program, charset):
             quoted ^= code == 34
             at += 1
         out, at = out + "\n", at + 1
-    return out
+    return out, max(0, len(program) - at - 2)
 
 
 def is_basic(program):
@@ -472,13 +472,18 @@ def written(data, charset):
     return "".join(text(it, charset) + "\n" for it in ends)
 
 
-def program_of(r, lines):
-    """A program of these lines, each a number and its codes."""
+def followed_by(count):
+    """What standard error says of the bytes that follow a program."""
+    return count and f"disk1541: {count} byte{'' if count == 1 else 's'} follow{'s' if count == 1 else ''} the program\n" or ""
+
+
+def program_of(lines, more=b""):
+    """A program of these lines, each a number and its codes, and what follows it."""
     out, address = b"", 2049
     for number, codes in lines:
         address += 5 + len(codes)
         out += address.to_bytes(3, "little")[:2] + number.to_bytes(2, "little") + codes + b"\0"
-    return b"\1\x08" + out + bytes(2) + r.randbytes(r.choice([0, 0, 100]))
+    return b"\1\x08" + out + bytes(2) + more
 
 
 def random_line(r):
@@ -489,8 +494,9 @@ def random_line(r):
 
 
 def files_of(r):
-    yield program_of(r, [(10 * n, random_line(r)) for n in range(1, r.randint(2, 30))])
-    broken = bytearray(program_of(r, [(r.randrange(65536), random_line(r)) for n in range(1, r.randint(2, 9))]))
+    more = r.randbytes(r.choice([0, 0, 1, 100]))
+    yield program_of([(10 * n, random_line(r)) for n in range(1, r.randint(2, 30))], more)
+    broken = bytearray(program_of([(r.randrange(65536), random_line(r)) for n in range(1, r.randint(2, 9))], more))
     broken[r.randrange(len(broken))] = r.choice([0, 8, 255])
     yield bytes(broken[: r.randint(0, len(broken))]) or b"\1"
     yield r.choice([b"\1\x08", b"\1", b"\0\xc0", b""]) + r.randbytes(r.randrange(1, 600))
@@ -508,14 +514,14 @@ def screens(count=40):
             charset = r.choice(list(KEYS))
             kinds.add(is_basic(data))
             wanted = {
-                (): basic(data, charset) if is_basic(data) else dump(data, charset),
+                (): basic(data, charset) if is_basic(data) else (dump(data, charset), 0),
                 ("--basic",): basic(data, charset),
-                ("--hex",): dump(data, charset),
-                ("--text",): written(data, charset),
+                ("--hex",): (dump(data, charset), 0),
+                ("--text",): (written(data, charset), 0),
             }
-            for words, out in wanted.items():
+            for words, (out, more) in wanted.items():
                 got = run("show", "screen.d64", "file", *words, "--charset", charset)
-                bad += [] if got == (0, out, "") else [f"{seed} {words} {charset} {data.hex()}\n{got[0]} {got[2]} {got[1]}wanted\n{out}"]
+                bad += [] if got == (0, out, followed_by(more)) else [f"{seed} {words} {charset} {data.hex()}\n{got[0]} {got[2]} {got[1]}wanted\n{out}{more}"]
     is_so(f"{4 * count} files on the screen, each in four ways", not bad, "\n".join(bad[:2]))
     is_so("of which some are programs, and some not", kinds == {True, False}, kinds)
 
@@ -523,15 +529,15 @@ def screens(count=40):
 def by_hand():
     """Listings that are written here by hand."""
     lines = [(10, b'\x99"HELLO ' + bytes([211]) + b'"'), (20, b"\x8b A\xb31 \xa7 \x89 10"), (63999, b"\x8f " + bytes([0xcc, 0xff]))]
-    saved("hand.prg", program_of(random.Random(3), lines))
+    saved("hand.prg", program_of(lines))
     run("new", "hand.d64", "--title", "HAND", "--id", "64")
     run("put", "hand.d64", "hand.prg")
     is_so("a program is listed", run("show", "hand.d64", "HAND") == (0, '10 PRINT"HELLO ♥"\n20 IF A<1 THEN GOTO 10\n63999 REM {cc}π\n', ""), run("show", "hand.d64", "HAND"))
     is_so("in small letters, too", run("show", "hand.d64", "hand", "--charset", "lower")[1].startswith('10 print"hello S"\n20 if a<1 then goto 10\n'))
-    saved("all.prg", program_of(random.Random(1), [(n, bytes([n])) for n in range(128, 204)]))
+    saved("all.prg", program_of([(n, bytes([n])) for n in range(128, 204)]))
     run("put", "hand.d64", "all.prg")
     is_so("each token has its word", run("show", "hand.d64", "ALL")[1] == "".join(f"{n} {WORDS[n - 128]}\n" for n in range(128, 204)))
-    saved("many.prg", program_of(random.Random(1), [(n, b"") for n in range(11000)]))
+    saved("many.prg", program_of([(n, b"") for n in range(11000)]))
     run("put", "hand.d64", "many.prg")
     is_so("11,000 lines", run("show", "hand.d64", "MANY")[1] == "".join(f"{n} \n" for n in range(11000)))
     saved("more.prg", b"\1\x08" + b"".join(b"\1\1" + (n % 65536).to_bytes(2, "little") + b"\0" for n in range(33000)))
@@ -541,6 +547,9 @@ def by_hand():
     is_so("which is no program", run("show", "more.d64", "MORE")[1].startswith("0000  01 08 01 01 00 00 00"))
     is_so("a file by its slot", run("show", "hand.d64", "--slot", "0")[1] == run("show", "hand.d64", "H*")[1])
     is_so("no such file", run("show", "hand.d64", "NONE") == (1, "", "disk1541: no file of the disk has the name or the slot NONE\n"))
+    saved("code.prg", program_of([(10, b"\x9e2061")], bytes(1000)))
+    run("put", "hand.d64", "code.prg")
+    is_so("machine code after a program is counted", run("show", "hand.d64", "CODE") == (0, "10 SYS2061\n", "disk1541: 1000 bytes follow the program\n"), run("show", "hand.d64", "CODE"))
     is_so("two forms at once", run("show", "hand.d64", "HAND", "--hex", "--text")[0] == 64)
     is_so("no name", run("show", "hand.d64")[0] == 64)
     image = bytearray(open("hand.d64", "rb").read())
@@ -558,7 +567,7 @@ def by_petcat():
     r, bad = random.Random(7), []
     for n in range(20):
         lines = [(10 * k, b'\x99"HELLO"' + bytes(r.choice([r.randint(128, 203), r.randint(48, 57), r.randint(65, 90)]) for _ in range(20))) for k in range(1, 30)]
-        saved("cat.prg", program_of(random.Random(0), lines)[: 2 + sum(5 + len(it) for _, it in lines) + 2])
+        saved("cat.prg", program_of(lines))
         run("put", "hand.d64", "cat.prg", "--replace")
         ran = subprocess.run(["petcat", "-2", "-nh", "-o", "cat.txt", "--", "cat.prg"], capture_output=True)
         wanted = [it.split() for it in open("cat.txt", encoding="latin-1").read().replace("^", "↑").splitlines() if it.strip()]

@@ -105,7 +105,7 @@ PARTS = {
         ("entries locked, dressed, swapped; titles and art", "cbm_shell", "lock retitle add_art dress swap_entries"),
         ("one file by its slot: another name, a lock, its end", "cbm_slots", "rename lock delete"),
         ("disks and archives of other kinds", "cbm_sources", "of entries file"),
-        ("a BASIC program on the screen", "cbm_basic", "listing is_program"),
+        ("a BASIC program on the screen", "cbm_basic", "listing is_program after_program programs_are_listed"),
         ("damaged disks: all flaws, what is salvaged, forgotten and given back", "cbm_shell", "flaws users lost salvage forget undelete"),
     ],
     "The C library": [

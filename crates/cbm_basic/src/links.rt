@@ -9,7 +9,7 @@ const ADDRESS: usize = 2049;
 const HEAD: usize = 4;
 
 /// Where the line begins that follows a text at an address, and its bytes; None where no 0 ends the text.
-fn after_text(at: usize, bytes: &[u8]) -> Option<(usize, &[u8])>
+fn next_place(at: usize, bytes: &[u8]) -> Option<(usize, &[u8])>
     requires { at + length bytes.now ≤ usize.MAX }
     ensures holds { (link : ℕ) → MatchOption result (text_holds at link bytes.now ≡ false)
         (λ p. text_holds at link bytes.now ≡ (link == p.0) && links_hold p.0 p.1.now) }
@@ -29,7 +29,7 @@ fn after_text(at: usize, bytes: &[u8]) -> Option<(usize, &[u8])>
 }
 
 /// Whether the program ends here: the second byte of the link is 0.
-fn is_end(bytes: &[u8]) -> bool
+pub fn is_end(bytes: &[u8]) -> bool
     ensures { result ≡ is_end bytes.now }
 {
     matches!(bytes, [_, 0, ..])
@@ -48,7 +48,7 @@ fn linked_line(at: usize, bytes: &[u8]) -> Option<(usize, &[u8])>
     let (high, rest) = rest.split_first()?;
     let (_, rest) = rest.split_first()?;
     let (_, rest) = rest.split_first()?;
-    let (next, afterwards) = after_text(at + HEAD, rest)?;
+    let (next, afterwards) = next_place(at + HEAD, rest)?;
     if next == *low as usize + 256 * *high as usize {
         Some((next, afterwards))
     } else {

@@ -150,6 +150,15 @@ fn basic_lines(alloc: Global, charset: Charset, file: &[u8]) -> Result<String, A
     Ok(text)
 }
 
+/// Whether a file is listed as a BASIC program.
+pub fn is_listed(form: Form, file: &[u8]) -> bool {
+    match form {
+        Form::Basic => true,
+        Form::Either => is_program(file),
+        Form::Hex | Form::Text => false,
+    }
+}
+
 /// A file as it is shown. The one error is want of memory.
 pub fn screen_of(
     alloc: Global,
@@ -157,10 +166,12 @@ pub fn screen_of(
     form: Form,
     file: &[u8],
 ) -> Result<String, AllocError> {
-    match form {
-        Form::Basic => basic_lines(alloc, charset, file),
-        Form::Either if is_program(file) => basic_lines(alloc, charset, file),
-        Form::Either | Form::Hex => hex_lines(alloc, charset, file),
-        Form::Text => text_lines(alloc, charset, file),
+    if is_listed(form, file) {
+        return basic_lines(alloc, charset, file);
+    }
+    if form == Form::Text {
+        text_lines(alloc, charset, file)
+    } else {
+        hex_lines(alloc, charset, file)
     }
 }

@@ -1,11 +1,13 @@
 //! SHOW: a file on the screen.
-use crate::screen::{Form, screen_of};
+use crate::screen::{Form, is_listed, screen_of};
+use cbm_basic::after_program;
 use cbm_shell::ShellFault;
 use cbm_volume::Entry;
 use disk_basics::host::{print, read_image};
 use disk_basics::{Choice, Disk, Failure, in_memory, on_disk, petscii, slot_chosen};
 use disk_facts::first_meant;
 use std::alloc::Global;
+use std::io;
 use std::rt::Runtime;
 
 /// The file that is shown, and how.
@@ -56,6 +58,18 @@ fn file_of<'a>(
     on_disk(choice.word(), closed_file(alloc, &disk, entry))
 }
 
+/// Reports how many bytes follow a program that is listed.
+fn tell_more(rt: &impl Eprint, form: Form, file: &[u8]) -> io::Result<()> {
+    if !is_listed(form, file) {
+        return Ok(());
+    }
+    match after_program(file).len() {
+        0 => Ok(()),
+        1 => eprintln!(rt; "disk1541: 1 byte follows the program"),
+        count => eprintln!(rt; "disk1541: {count} bytes follow the program"),
+    }
+}
+
 /// Shows a file of an image. Errors: those of `read_image`; `Word`, where the name can't be typed or the slot is no number; `NoFile`;
 /// `Disk`, where the file was never closed or can't be read; `Write`; `NoMemory`.
 pub fn show<'a, R: Runtime + AllocGlobal>(
@@ -71,5 +85,7 @@ pub fn show<'a, R: Runtime + AllocGlobal>(
         wanted.form,
         file.as_slice(),
     );
-    print(rt, in_memory(text)?.as_bytes())
+    print(rt, in_memory(text)?.as_bytes())?;
+    let _ = tell_more(rt, wanted.form, file.as_slice());
+    Ok(())
 }

@@ -1,6 +1,6 @@
 use Rattle.std.proofs.Common.{rules, sym, ◌∙◌}
 use Rattle.cbm_basic.proofs.LinkLemmas.{holds-more, holds-zero, holds-none}
-use Rattle.cbm_basic.proofs.links.after_text.Goals as goal
+use Rattle.cbm_basic.proofs.links.next_place.Goals as goal
 
 pub codes-preserved : goal.codes-preserved
 codes-preserved c = record {

@@ -1,6 +1,6 @@
 use Rattle.std.proofs.Common.{◌≡◌, ◌≤◌, ◌+◌, ℕ, length}
 use Rattle.cbm_basic.specs.Links.{text_holds}
-use Rattle.cbm_basic.proofs.links.after_text.Given as goal
+use Rattle.cbm_basic.proofs.links.next_place.Given as goal
 
 abbrev pub invariant-codes : goal.invariant-codes
 invariant-codes l = record {
