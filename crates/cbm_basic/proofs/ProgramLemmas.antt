@@ -3,9 +3,9 @@ use Rattle.std.proofs.Common.{◌≡◌, ◌≢◌, ℕ, ◌+◌, ◌*◌, ◌/�
 use Rattle.std.proofs.Math.Nat.{mod-add-div}
 use Rattle.std.specs.Prelude.{◌==◌, ◌&&◌, if◌then◌else◌}
 use Rattle.cbm_basic.specs.Signs.{signs_of, quoted_after}
-use Rattle.cbm_basic.specs.Lines.{listed_lines, listed_text, number_signs, after_lines, after_number, after_text}
+use Rattle.cbm_basic.specs.Lines.{listed_lines, listed_text, number_signs, after_basic, after_number, after_text}
 use Rattle.cbm_basic.specs.Links.{links_hold, number_holds, text_holds}
-use Rattle.cbm_basic.specs.Programs.{BasicLine, line_after, kept_from, HasNoZero, AreKept, code_signs, lines_shown}
+use Rattle.cbm_basic.specs.Programs.{BasicLine, line_after, kept_from, HasNoZero, AreBasicLines, code_signs, lines_shown}
 use Rattle.cbm_basic.specs.declared.sign.Sign.TheVariants.{LineEnd}
 
 -- the two bytes of a number
@@ -44,7 +44,7 @@ end-listed (x ∷ []) = refl
 end-listed (x ∷ y ∷ more) = refl
 
 -- ALL LINES of a program are listed
-pub lines-whole : (at : ℕ) (lines : List BasicLine) (more : List ℕ) → 256 ≤ at → AreKept at lines → listed_lines (kept_from at lines more) ≡ lines_shown lines
+pub lines-whole : (at : ℕ) (lines : List BasicLine) (more : List ℕ) → 256 ≤ at → AreBasicLines at lines → listed_lines (kept_from at lines more) ≡ lines_shown lines
 unfolding listed_lines
 lines-whole at [] more r h = end-listed more
 lines-whole at (line ∷ lines) more r h =
@@ -57,7 +57,7 @@ lines-whole at (line ∷ lines) more r h =
     ∙ ap (λ t. code_signs false line.codes ++ (LineEnd ∷ t)) (lines-whole next lines more (omega arith) h.3)))
 
 -- ALL LINKS of a program hold
-pub links-whole : (at : ℕ) (lines : List BasicLine) (more : List ℕ) → 256 ≤ at → AreKept at lines → links_hold at (kept_from at lines more) ≡ true
+pub links-whole : (at : ℕ) (lines : List BasicLine) (more : List ℕ) → 256 ≤ at → AreBasicLines at lines → links_hold at (kept_from at lines more) ≡ true
 unfolding links_hold number_holds
 links-whole at [] more r h = refl
 links-whole at (line ∷ lines) more r h =
@@ -72,16 +72,16 @@ links-whole at (line ∷ lines) more r h =
     ∙ links-whole next lines more (omega arith) h.3)))
 
 -- the text of a line is passed over
-text-after : (codes more : List ℕ) → HasNoZero codes → after_text (codes ++ 0 ∷ more) ≡ after_lines more
+text-after : (codes more : List ℕ) → HasNoZero codes → after_text (codes ++ 0 ∷ more) ≡ after_basic more
 unfolding after_text
 text-after [] more h = refl
 text-after (code ∷ codes) more h =
     let other : code == 0 ≡ false = grind (arith, h.0) in
-    ap (λ (b : Bool). if b then after_lines (codes ++ 0 ∷ more) else after_text (codes ++ 0 ∷ more)) other ∙ text-after codes more h.1
+    ap (λ (b : Bool). if b then after_basic (codes ++ 0 ∷ more) else after_text (codes ++ 0 ∷ more)) other ∙ text-after codes more h.1
 
 -- WHAT FOLLOWS a program is what stands after its end
-pub after-whole : (at : ℕ) (lines : List BasicLine) (more : List ℕ) → 256 ≤ at → AreKept at lines → after_lines (kept_from at lines more) ≡ more
-unfolding after_lines after_number
+pub after-whole : (at : ℕ) (lines : List BasicLine) (more : List ℕ) → 256 ≤ at → AreBasicLines at lines → after_basic (kept_from at lines more) ≡ more
+unfolding after_basic after_number
 after-whole at [] more r h = refl
 after-whole at (line ∷ lines) more r h =
     let next = line_after at line.codes in

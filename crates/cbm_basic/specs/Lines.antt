@@ -25,9 +25,9 @@ basic_listing program = listed_lines (drop 2 program)
 
 unfoldable mutual
   -- What follows a program, from the beginning of a line on: all after the link that ends it. Nothing follows one that is cut off.
-  pub after_lines : List ℕ → List ℕ
-  after_lines (first ∷ second ∷ rest) = if second == 0 then rest else after_number rest
-  after_lines _ = []
+  pub after_basic : List ℕ → List ℕ
+  after_basic (first ∷ second ∷ rest) = if second == 0 then rest else after_number rest
+  after_basic _ = []
 
   -- The same from a line's number on.
   pub after_number : List ℕ → List ℕ
@@ -37,8 +37,8 @@ unfoldable mutual
   -- The same from a place in a line's text on.
   pub after_text : List ℕ → List ℕ
   after_text [] = []
-  after_text (code ∷ rest) = if code == 0 then after_lines rest else after_text rest
+  after_text (code ∷ rest) = if code == 0 then after_basic rest else after_text rest
 
 -- WHAT FOLLOWS a program in its file
 abbrev pub after_program : List ℕ → List ℕ
-after_program program = after_lines (drop 2 program)
+after_program program = after_basic (drop 2 program)

@@ -28,10 +28,10 @@ HasNoZero [] = Unit {0}
 HasNoZero (code ∷ rest) = (code ≢ 0) × HasNoZero rest
 
 -- lines that have room in 65,536 bytes from an address on
-abbrev pub AreKept : ℕ → List BasicLine → Type 0
-AreKept at [] = Unit {0}
-AreKept at (line ∷ lines) =
-    (line.number < 65536) × HasNoZero line.codes × (line_after at line.codes < 65536) × AreKept (line_after at line.codes) lines
+abbrev pub AreBasicLines : ℕ → List BasicLine → Type 0
+AreBasicLines at [] = Unit {0}
+AreBasicLines at (line ∷ lines) =
+    (line.number < 65536) × HasNoZero line.codes × (line_after at line.codes < 65536) × AreBasicLines (line_after at line.codes) lines
 
 -- what LIST shows of codes
 abbrev pub code_signs : Bool → List ℕ → List Sign

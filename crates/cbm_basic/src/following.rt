@@ -1,13 +1,13 @@
 //! What follows a BASIC program in its file.
 ghost use Rattle.std.specs.Prelude.{◌≡◌, ◌≤◌, ◌<◌, [], false, true, length, IfSome, MatchOption};
-ghost use Rattle.cbm_basic.specs.Lines.{after_lines, after_text, after_program};
+ghost use Rattle.cbm_basic.specs.Lines.{after_basic, after_text, after_program};
 ghost use Rattle.cbm_basic.specs.Links.{is_end};
 
 use crate::links::is_end;
 
 /// What follows the text of a line and its 0.
 fn after_text(bytes: &[u8]) -> &[u8]
-    ensures lines { after_lines result.now ≡ after_text bytes.now }
+    ensures lines { after_basic result.now ≡ after_text bytes.now }
     ensures shorter { length result.now ≤ length bytes.now }
 {
     let mut rest = bytes;
@@ -21,10 +21,10 @@ fn after_text(bytes: &[u8]) -> &[u8]
 }
 
 /// The text of a line, and what follows; None where the line breaks off before it.
-#[tactic(auto, unfolding(crate::specs::Lines::after_lines, crate::specs::Lines::after_number))]
+#[tactic(auto, unfolding(crate::specs::Lines::after_basic, crate::specs::Lines::after_number))]
 fn text_of(bytes: &[u8]) -> Option<&[u8]>
-    ensures text { is_end bytes.now ≡ false → MatchOption result (after_lines bytes.now ≡ [])
-        (λ text. after_lines bytes.now ≡ after_text text.now) }
+    ensures text { is_end bytes.now ≡ false → MatchOption result (after_basic bytes.now ≡ [])
+        (λ text. after_basic bytes.now ≡ after_text text.now) }
     ensures shorter { IfSome result (λ text. length text.now < length bytes.now) }
 {
     let (_, rest) = bytes.split_first()?;
@@ -35,9 +35,9 @@ fn text_of(bytes: &[u8]) -> Option<&[u8]>
 }
 
 /// What follows the link that ends a program.
-#[tactic(auto, unfolding(crate::specs::Lines::after_lines))]
+#[tactic(auto, unfolding(crate::specs::Lines::after_basic))]
 fn after_link(bytes: &[u8]) -> &[u8]
-    ensures { is_end bytes.now ≡ true → after_lines bytes.now ≡ result.now }
+    ensures { is_end bytes.now ≡ true → after_basic bytes.now ≡ result.now }
 {
     match bytes {
         [_, _, rest @ ..] => rest,
