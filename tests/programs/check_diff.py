@@ -440,7 +440,8 @@ def basic(program, charset):
             quoted ^= code == 34
             at += 1
         out, at = out + "\n", at + 1
-    return out, max(0, len(program) - at - 2)
+    # (nothing follows a program that is cut off)
+    return out, len(program) - at - 2 if at + 1 < len(program) and not program[at + 1] else 0
 
 
 def is_basic(program):
