@@ -5,7 +5,8 @@ ghost use Rattle.cbm_image.specs.Images.{kind_of, content_of};
 ghost use Rattle.cbm_shell.specs.Images.{disk_tracks};
 ghost use Rattle.cbm_shell.specs.Flaws.{flaws_of};
 ghost use Rattle.cbm_device.specs.Answers.{answer_number};
-ghost use Rattle.yellowadze1541.specs.Entries.{entry_spelled, flaw_spelled, number_of_whose, slot_of_whose, after_trouble, ListsEntries, IsEntryList, IsFlawList};
+ghost use Rattle.yellowadze1541.specs.Looks.{entry_spelled};
+ghost use Rattle.yellowadze1541.specs.Entries.{flaw_spelled, number_of_whose, slot_of_whose, after_trouble, ListsEntries, IsEntryList, IsFlawList};
 ghost use Rattle.cbm_device.specs.ImageDisks.{IsOpenRefusal};
 
 use crate::images;
