@@ -1,5 +1,7 @@
+pub mod CommandLemmas
 pub mod Flags
 pub mod Handing
+pub mod PuttingLemmas
 pub mod Signalling
 pub mod Slotting
 pub mod Types

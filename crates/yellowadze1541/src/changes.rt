@@ -3,7 +3,7 @@ ghost use Rattle.std.specs.Prelude.{◌≡◌, ◌≤◌, ◌<◌, ◌⊎◌, �
 ghost use Rattle.cbm_file.specs.Files.{Disk};
 ghost use Rattle.cbm_machine.specs.Machines.{start};
 ghost use Rattle.cbm_image.specs.Images.{kind_of, tracks_of, ImageHolds};
-ghost use Rattle.cbm_shell.specs.Changing.{begun, disk_after_change, IsFine};
+ghost use Rattle.cbm_shell.specs.Changing.{IsFine};
 ghost use Rattle.cbm_shell.specs.Making.{IsNew};
 ghost use Rattle.cbm_shell.specs.Converting.{IsConverted, IsConvertFault};
 ghost use Rattle.cbm_device.specs.Answers.{refusal_of, GivesBytes};
@@ -13,31 +13,15 @@ ghost use Rattle.cbm_shell.specs.declared.fault.ShellFault.{ShellFault};
 ghost use Rattle.yellowadze1541.specs.Looks.{flag};
 ghost use Rattle.yellowadze1541.specs.Changes.{form_of, IsRefusedNew, IsLossOf};
 
-use crate::shapes::{Lost, flag};
-use cbm_device::{DeviceRefusal, change, give, given, number};
-use cbm_shell::{DiskChange, Form, Losses, convert, new_image};
+use crate::commands::{unsaid, with_command};
+use crate::putting::with_files;
+use crate::shapes::{File, Lost, flag};
+use cbm_device::{DeviceRefusal, give, given, number};
+use cbm_shell::{Form, Losses, convert, new_image};
 use std::alloc::Global;
 
 /// The longest title.
 const TITLE: usize = 16;
-
-/// A change is made on an image's disk, and the new image is given.
-fn changed(
-    alloc: Global,
-    image: &[u8],
-    wanted: &DiskChange<'_>,
-    out: &mut [u8],
-    needed: &mut usize,
-) -> i32
-    ensures made { let kind = kind_of image.now in (d : Disk) → ImageHolds kind image.now d →
-        let m = start d false (tracks_of kind image.now) in let after = disk_after_change wanted.now m in
-        GivesBytes result out.old out.new needed.old needed.new
-        (λ bytes. IsFine after.status × ImageHolds kind bytes after.disk) (IsUnmade image.now (begun wanted.now m) after) }
-    ensures sound { GivesBytes result out.old out.new needed.old needed.new
-        (λ _. IsAccepted image.now × IsSound image.now) (IsUnchanged image.now) }
-{
-    number(given(change(alloc, image, wanted), out, needed))
-}
 
 /// A command for the drive, such as `S0:NAME`, is carried out on an image's disk, and the new image is given.
 #[unsafe(no_mangle)]
@@ -56,7 +40,8 @@ pub extern "C" fn y1541_image_command(
     ensures sound { GivesBytes result out.old out.new needed.old needed.new
         (λ _. IsAccepted image.now × IsSound image.now) (IsUnchanged image.now) }
 {
-    changed(alloc, image, &DiskChange::Command(text), out, needed)
+    let mut said = unsaid();
+    number(given(with_command(alloc, image, text, &mut said), out, needed))
 }
 
 /// A file is put on an image's disk, as an OPEN with this text, such as `NAME,P,W`, would write it, and the new image is given.
@@ -78,7 +63,9 @@ pub extern "C" fn y1541_image_put(
     ensures sound { GivesBytes result out.old out.new needed.old needed.new
         (λ _. IsAccepted image.now × IsSound image.now) (IsUnchanged image.now) }
 {
-    changed(alloc, image, &DiskChange::File(text, bytes), out, needed)
+    let mut put = 0;
+    let files = [File { text, bytes }];
+    number(given(with_files(alloc, image, &files, &mut put), out, needed))
 }
 
 /// The form of a number.
