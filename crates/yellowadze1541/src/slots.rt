@@ -11,7 +11,7 @@ ghost use Rattle.cbm_shell.specs.Swapping.{AreSwappedIn, MissesSlotIn};
 ghost use Rattle.cbm_shell.specs.Locking.{IsRetitled, IsRemarked};
 ghost use Rattle.cbm_shell.specs.Editing.{IsUneditedIn};
 ghost use Rattle.cbm_shell.specs.declared.fault.ShellFault.{ShellFault};
-ghost use Rattle.cbm_slots.specs.InSlots.{IsRenamedInSlot, IsLockedInSlot, IsDeletedInSlot, IsNotRenamedInSlot, IsNotLockedInSlot, IsNotDeletedInSlot};
+ghost use Rattle.cbm_slots.specs.InSlots.{IsRenamedInSlot, IsLockedInSlot, IsDeletedInSlot, IsCopiedInSlot, IsNotRenamedInSlot, IsNotLockedInSlot, IsNotDeletedInSlot, IsNotCopiedInSlot};
 ghost use Rattle.yellowadze1541.specs.Changes.{IsRefusedNew};
 ghost use Rattle.yellowadze1541.specs.Slots.{IsReadIn, IsSomeFault, IsUnreadIn};
 
@@ -92,6 +92,27 @@ pub extern "C" fn y1541_image_rename(
         return DeviceRefusal::Invalid.number();
     }
     handed(cbm_slots::rename(alloc, image, slot, name), out, needed)
+}
+
+/// The file in a slot is copied to another name, of 1 to 16 bytes, and the new image is given. The copy isn't locked.
+#[unsafe(no_mangle)]
+pub extern "C" fn y1541_image_copy(
+    alloc: Global,
+    image: &[u8],
+    slot: u8,
+    name: &[u8],
+    out: &mut [u8],
+    needed: &mut usize,
+) -> i32
+    ensures copied { 1 ≤ length name.now → length name.now ≤ 16 → GivesBytes result out.old out.new needed.old needed.new
+        (IsCopiedInSlot image.now slot name.now) (IsSomeFault (IsNotCopiedInSlot image.now slot name.now)) }
+    ensures refused { (length name.now < 1) ⊎ (16 < length name.now) →
+        IsRefusedNew result out.old out.new needed.old needed.new }
+{
+    if name.is_empty() || name.len() > LONGEST {
+        return DeviceRefusal::Invalid.number();
+    }
+    handed(cbm_slots::copy(alloc, image, slot, name), out, needed)
 }
 
 /// The file in a slot is locked against SCRATCH, or freed, and the new image is given.
