@@ -103,7 +103,7 @@ PARTS = {
         ("a new image, and one of the other format", "cbm_shell", "new_image convert"),
         ("an image is checked, put in order, and looked at", "cbm_shell", "check validate info picture geos_blocks sector file_blocks"),
         ("entries locked, dressed, swapped; titles and art", "cbm_shell", "lock retitle add_art dress swap_entries"),
-        ("one file by its slot: another name, a lock, its end", "cbm_slots", "rename lock delete"),
+        ("one file by its slot: another name, a lock, a copy, its end", "cbm_slots", "rename lock copy delete"),
         ("disks and archives of other kinds", "cbm_sources", "of entries file"),
         ("damaged disks: all flaws, what is salvaged, forgotten and given back", "cbm_shell", "flaws users lost salvage forget undelete"),
     ],
@@ -111,7 +111,8 @@ PARTS = {
         ("a drive on lines, with the disk of an image", "cbm_device", "open lines next_due due image insert eject reset status"),
         ("images by calls, and a bus played", "cbm_device", "check blank list file entry title sector play"),
         ("what C may pass, and the numbers of refusals", "yellowadze1541", "y1541_open y1541_lines y1541_due y1541_image y1541_play y1541_image_list"),
-        ("all entries and flaws of an image, and files by their slot", "yellowadze1541", "y1541_image_entries y1541_image_flaws y1541_image_rename y1541_image_delete"),
+        ("all entries and flaws of an image, and files by their slot", "yellowadze1541", "y1541_image_entries y1541_image_flaws y1541_image_rename y1541_image_delete y1541_image_copy y1541_image_read"),
+        ("several files in one call, and a command with the drive's status", "yellowadze1541", "y1541_image_put_all y1541_image_command_status"),
     ],
 }
 
