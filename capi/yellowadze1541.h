@@ -11,7 +11,7 @@
  * Threads: the library has no state but its handles. Different handles may be used by different threads at once, one handle by one call at a
  * time. A handle may be passed to another thread; the caller must synchronise.
  * Memory comes from malloc, realloc and free, in the calls marked [m] alone. If there is none, the call answers Y1541_NO_MEMORY.
- * Stack: y1541_open takes up to 298 kB, put and command up to 259 kB, list 206 kB, play 143 kB, y1541_lines and y1541_due up to 80 kB, eject, insert
+ * Stack: y1541_open takes up to 285 kB, copy and delete 243 kB, put, command, list and play 214 kB, y1541_lines and y1541_due up to 80 kB, eject, insert
  * and reset 71 kB, all others less. docs/emulators.md has what was measured, and answers to questions.
  */
 #ifndef YELLOWADZE1541_H
@@ -64,6 +64,8 @@ typedef struct y1541_title { uint16_t free; uint8_t title[16], mark[5]; } y1541_
 typedef struct y1541_entry { uint16_t blocks; uint8_t kind, closed, locked, record_length, name[16], track, sector; } y1541_entry; /* track, sector: of the file's first block */
 typedef struct y1541_flaw { uint8_t what, track, sector, whose; uint16_t slot, before; } y1541_flaw; /* whose sectors led to it: 0 nobody's, 1 the directory's, 2 those of the file in `slot`; before: how many of them */
 typedef struct y1541_lost { size_t unreadable; uint8_t tracks, errors, id; } y1541_lost;
+typedef struct y1541_file { const uint8_t *text; size_t n; const uint8_t *bytes; size_t count; } y1541_file; /* as y1541_image_put takes it */
+typedef struct y1541_said { uint8_t number, first, second, line[33]; } y1541_said; /* line: as text in C, such as 01, FILES SCRATCHED,05,00 */
 
 /* --- the library */
 
@@ -160,8 +162,15 @@ int32_t y1541_image_sector(const uint8_t *image, size_t len, uint8_t track, uint
  * UNSOUND: the disk isn't sound. A status: the drive refused it. NO_ROOM. */
 int32_t y1541_image_put(const uint8_t *image, size_t len, const uint8_t *text, size_t n, const uint8_t *bytes, size_t count, uint8_t *out, size_t room, size_t *needed);
 
+/* [m] The image after these files were put, one after another, or none where one is refused. `put` gets how many were put: with a status just those before
+ * the one that is refused. As y1541_image_put. */
+int32_t y1541_image_put_all(const uint8_t *image, size_t len, const y1541_file *files, size_t n, size_t *put, uint8_t *out, size_t room, size_t *needed);
+
 /* [m] The image after a command for channel 15, such as S0:NAME, R0:NEW=OLD, C0:NEW=OLD, N0:TITLE,ID or V0. As y1541_image_put. */
 int32_t y1541_image_command(const uint8_t *image, size_t len, const uint8_t *text, size_t n, uint8_t *out, size_t room, size_t *needed);
+
+/* [m] As y1541_image_command; `status` gets what channel 15 says after the command, also if the drive refused it. */
+int32_t y1541_image_command_status(const uint8_t *image, size_t len, const uint8_t *text, size_t n, y1541_said *status, uint8_t *out, size_t room, size_t *needed);
 
 /* The next calls take a file by the slot of its entry, whatever its name is. Each may answer ABSENT (no such slot, or it is empty), UNSOUND, and NO_ROOM. */
 
@@ -170,6 +179,10 @@ int32_t y1541_image_read(const uint8_t *image, size_t len, uint8_t slot, uint8_t
 
 /* [m] The image in which the file has another name, of 1 to 16 bytes. 63: a file has it already. INVALID: its length. */
 int32_t y1541_image_rename(const uint8_t *image, size_t len, uint8_t slot, const uint8_t *name, size_t n, uint8_t *out, size_t room, size_t *needed);
+
+/* [m] The image with a copy of the file at its end, under a name of 1 to 16 bytes, unlocked. 63: a file has the name already. 64: a relative file. 60: it was
+ * never closed. 72: the disk is full. INVALID: the length of the name. */
+int32_t y1541_image_copy(const uint8_t *image, size_t len, uint8_t slot, const uint8_t *name, size_t n, uint8_t *out, size_t room, size_t *needed);
 
 /* [m] The image in which the file is locked against SCRATCH, or, with 0, isn't. */
 int32_t y1541_image_lock(const uint8_t *image, size_t len, uint8_t slot, uint8_t locked, uint8_t *out, size_t room, size_t *needed);

@@ -14,7 +14,10 @@ export const same = (a, b) => a.length === b.length && a.every((it, i) => it ===
 
 // A name ends at its first shifted space.
 const nameOf = (codes) => (codes.includes(PAD) ? codes.slice(0, codes.indexOf(PAD)) : codes);
+const latin = (it) => String.fromCharCode(...it.name);
 const isEmpty = (it) => !it.kind && !it.closed && !it.locked;
+const canBeSaid = (name) => name.every((it) => it >= 0x20 && it !== PAD && !DIVIDES.includes(it));
+const letterOf = (kind) => LETTERS[kind] ?? refuse("Relative and deleted files can't be put on a disk here; `disk1541 put` puts relative ones.");
 
 // Title, id and free blocks; nothing if their sector can't be read.
 function labelOf(library, bytes) {
@@ -96,32 +99,23 @@ export class Disk {
     return this.become(list.reduce(change, this.bytes));
   }
 
-  // Files are { name, kind, data }.
+  // Files are { name, kind, data }: all, or none. One whose name the drive's OPEN can't say gets another name first.
   put(files) {
-    return this.#each(files, (bytes, it) => this.#with(bytes, it));
-  }
-
-  // The image with a file. One whose name the drive's OPEN can't say gets another name first.
-  #with(bytes, { name, kind, data }) {
-    const letter = LETTERS[kind] ?? refuse("Relative and deleted files can't be put on a disk here; `disk1541 put` puts relative ones.");
-    const canBeSaid = name.every((it) => it >= 0x20 && it !== PAD && !DIVIDES.includes(it));
-    const first = canBeSaid ? name : this.#freeName();
-    const made = this.library.put(bytes, join("0:", first, `,${letter},W`), data);
-    const slot = () => this.library.entries(made).entries.findIndex((it) => !isEmpty(it) && same(nameOf(it.name), first));
-    return canBeSaid ? made : this.library.rename(made, slot(), name);
-  }
-
-  #freeName() {
-    const names = this.entries.map((it) => String.fromCharCode(...it.name));
-    for (let i = 0; ; i++) if (!names.includes(`NEW ${i}`)) return join(`NEW ${i}`);
+    const taken = [...this.entries, ...files].map(latin);
+    const free = (i) => (taken.includes(`NEW ${i}`) ? free(i + files.length) : join(`NEW ${i}`));
+    const first = files.map(({ name }, i) => (canBeSaid(name) ? name : free(i)));
+    const made = this.library.putAll(this.bytes, files.map(({ kind, data }, i) => ({ text: join("0:", first[i], `,${letterOf(kind)},W`), data })));
+    const slotOf = (name) => new Disk(this.library, this.name, made).entries.find((it) => same(it.name, name)).slot;
+    return this.become(files.reduce((bytes, { name }, i) => (first[i] === name ? bytes : this.library.rename(bytes, slotOf(first[i]), name)), made));
   }
 
   rename(slot, name) {
-    return this.#each([slot], (bytes, it) => this.library.rename(bytes, it, name));
+    return this.become(this.library.rename(this.bytes, slot, name));
   }
 
   copy(slot, name) {
-    return this.put([{ ...this.entry(slot), name, data: this.file(slot) }]);
+    if (this.file(slot)) letterOf(this.entry(slot).kind);
+    return this.become(this.library.copy(this.bytes, slot, name));
   }
 
   remove(slots) {
@@ -134,11 +128,11 @@ export class Disk {
   }
 
   undelete(slot, kind) {
-    return this.#each([slot], (bytes, it) => this.library.undelete(bytes, it, kind));
+    return this.become(this.library.undelete(this.bytes, slot, kind));
   }
 
   retitle(title, mark) {
-    return this.#each([title], (bytes, it) => this.library.remark(this.library.retitle(bytes, it), mark));
+    return this.become(this.library.remark(this.library.retitle(this.bytes, title), mark));
   }
 
   // Each slot in turn gets the entry that comes first of those left.
@@ -171,5 +165,5 @@ export class Disk {
 function isBefore(one, other, by) {
   if (isEmpty(one) || isEmpty(other)) return !isEmpty(one);
   const difference = KEYS[by](one) - KEYS[by](other);
-  return difference ? difference < 0 : String.fromCharCode(...one.name) < String.fromCharCode(...other.name);
+  return difference ? difference < 0 : latin(one) < latin(other);
 }

@@ -261,6 +261,12 @@ static u32 call_file(machine *m, const u64 *a, u64 out, u64 room) {
 static u32 call_command(machine *m, const u64 *a, u64 out, u64 room) {
     return IN(y1541_image_command)(&m->in, a[0], a[1], a[2], a[3], out, room, m->small);
 }
+static u32 call_put_all(machine *m, const u64 *a, u64 out, u64 room) {
+    return IN(y1541_image_put_all)(&m->in, a[0], a[1], a[2], a[3], m->small + 8, out, room, m->small);
+}
+static u32 call_command_status(machine *m, const u64 *a, u64 out, u64 room) {
+    return IN(y1541_image_command_status)(&m->in, a[0], a[1], a[2], a[3], m->small + 8, out, room, m->small);
+}
 static u32 call_put(machine *m, const u64 *a, u64 out, u64 room) {
     return IN(y1541_image_put)(&m->in, a[0], a[1], a[2], a[3], a[4], a[5], out, room, m->small);
 }
@@ -276,6 +282,9 @@ static u32 call_read(machine *m, const u64 *a, u64 out, u64 room) {
 }
 static u32 call_rename(machine *m, const u64 *a, u64 out, u64 room) {
     return IN(y1541_image_rename)(&m->in, a[0], a[1], (u32)a[2], a[3], a[4], out, room, m->small);
+}
+static u32 call_copy(machine *m, const u64 *a, u64 out, u64 room) {
+    return IN(y1541_image_copy)(&m->in, a[0], a[1], (u32)a[2], a[3], a[4], out, room, m->small);
 }
 static u32 call_lock(machine *m, const u64 *a, u64 out, u64 room) {
     return IN(y1541_image_lock)(&m->in, a[0], a[1], (u32)a[2], (u32)a[3], out, room, m->small);
@@ -340,17 +349,63 @@ int32_t y1541_image_command(const uint8_t *image, size_t len, const uint8_t *tex
     return with_text(call_command, image, len, text, n, NULL, 0, out, room, needed);
 }
 
+int32_t y1541_image_command_status(const uint8_t *image, size_t len, const uint8_t *text, size_t n, y1541_said *status, uint8_t *out, size_t room, size_t *needed) {
+    WITH_IMAGE
+    u64 args[4];
+    args[0] = copy, args[1] = len, args[2] = given(m, text, n), args[3] = n;
+    /* (a struct of bytes alone, which lies as it does in the module) */
+    memcpy(at(m, m->small + 8), status, sizeof *status);
+    if (args[2]) said = gave(m, call_command_status, args, out, room, needed);
+    memcpy(status, at(m, m->small + 8), sizeof *status);
+    machine_gone(m);
+    return said;
+}
+
+/* FILE_SIZE: of a y1541_file in the module, which is four numbers of eight bytes. */
+enum { FILE_SIZE = 32, MOST_FILES = 65536 };
+
+/* The place of copies of the files, or 0: no memory. */
+static u64 files_given(machine *m, const y1541_file *files, size_t n) {
+    u64 list = n > MOST_FILES ? 0 : room_in(m, n * FILE_SIZE);
+    for (size_t i = 0; list && i < n; i++) {
+        u64 place = list + i * FILE_SIZE, text = given(m, files[i].text, files[i].n), bytes = given(m, files[i].bytes, files[i].count);
+        if (!text || !bytes) return 0;
+        put_number(m, place, text), put_number(m, place + 8, files[i].n), put_number(m, place + 16, bytes), put_number(m, place + 24, files[i].count);
+    }
+    return list;
+}
+
+int32_t y1541_image_put_all(const uint8_t *image, size_t len, const y1541_file *files, size_t n, size_t *put, uint8_t *out, size_t room, size_t *needed) {
+    WITH_IMAGE
+    u64 args[4];
+    args[0] = copy, args[1] = len, args[2] = files_given(m, files, n), args[3] = n;
+    put_number(m, m->small + 8, (u64)*put);
+    if (args[2]) said = gave(m, call_put_all, args, out, room, needed);
+    *put = (size_t)number(m, m->small + 8);
+    machine_gone(m);
+    return said;
+}
+
 int32_t y1541_image_read(const uint8_t *image, size_t len, uint8_t slot, uint8_t *out, size_t room, size_t *needed) {
     return with_slot(call_read, image, len, slot, 0, out, room, needed);
 }
 
-int32_t y1541_image_rename(const uint8_t *image, size_t len, uint8_t slot, const uint8_t *name, size_t n, uint8_t *out, size_t room, size_t *needed) {
+/* A call on a slot, and a name. */
+static int32_t with_name(gives *call, const uint8_t *image, size_t len, uint8_t slot, const uint8_t *name, size_t n, uint8_t *out, size_t room, size_t *needed) {
     WITH_IMAGE
     u64 args[5];
     args[0] = copy, args[1] = len, args[2] = slot, args[3] = given(m, name, n), args[4] = n;
-    if (args[3]) said = gave(m, call_rename, args, out, room, needed);
+    if (args[3]) said = gave(m, call, args, out, room, needed);
     machine_gone(m);
     return said;
+}
+
+int32_t y1541_image_rename(const uint8_t *image, size_t len, uint8_t slot, const uint8_t *name, size_t n, uint8_t *out, size_t room, size_t *needed) {
+    return with_name(call_rename, image, len, slot, name, n, out, room, needed);
+}
+
+int32_t y1541_image_copy(const uint8_t *image, size_t len, uint8_t slot, const uint8_t *name, size_t n, uint8_t *out, size_t room, size_t *needed) {
+    return with_name(call_copy, image, len, slot, name, n, out, room, needed);
 }
 
 int32_t y1541_image_lock(const uint8_t *image, size_t len, uint8_t slot, uint8_t locked, uint8_t *out, size_t room, size_t *needed) {

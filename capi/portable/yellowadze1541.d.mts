@@ -33,6 +33,8 @@ export interface Place {
 export class Refused extends Error {
   readonly number: number;
   readonly place?: Place;
+  /** At putAll the number of the file that the drive refused, counted from 0. */
+  readonly file?: number;
 }
 
 /** A module trapped: the drive, and what its disk held, can't be had any more. */
@@ -98,6 +100,14 @@ export interface Lost {
   id: boolean;
 }
 
+/** What the drive says on channel 15: its line is such as 01, FILES SCRATCHED,05,00. */
+export interface Said {
+  number: number;
+  first: number;
+  second: number;
+  line: string;
+}
+
 /** A drive on lines. Moments are microseconds since it was opened, and never go back. */
 export interface Drive {
   readonly isOpen: boolean;
@@ -130,10 +140,15 @@ export interface Library {
   file(image: Uint8Array, pattern: Bytes): Uint8Array;
   sector(image: Uint8Array, track: number, sector: number): Uint8Array;
   put(image: Uint8Array, text: Bytes, data: Bytes): Uint8Array;
+  /** All of the files, or none. */
+  putAll(image: Uint8Array, files: { text: Bytes; data: Bytes }[]): Uint8Array;
   command(image: Uint8Array, text: Bytes): Uint8Array;
+  /** What the drive says after a command, and the image; null if the drive refused it. */
+  commandStatus(image: Uint8Array, text: Bytes): { image: Uint8Array | null; status: Said };
   /** The file in a slot, whatever its name is; the others give the image after the change. */
   read(image: Uint8Array, slot: number): Uint8Array;
   rename(image: Uint8Array, slot: number, name: Bytes): Uint8Array;
+  copy(image: Uint8Array, slot: number, name: Bytes): Uint8Array;
   lock(image: Uint8Array, slot: number, isLocked: boolean): Uint8Array;
   remove(image: Uint8Array, slot: number): Uint8Array;
   undelete(image: Uint8Array, slot: number, kind: number): Uint8Array;

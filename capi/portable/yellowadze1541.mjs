@@ -13,7 +13,7 @@ export const D64_35 = 0, D64_40 = 1, G64 = 2;
 export const ATN = 0, CLOCK = 1, DATA = 2;
 export const NEVER = Infinity;
 
-const NO_MEMORY = -1, NO_ROOM = -3, ABSENT = -4, UNSOUND = -6, NO_DRIVE = -7;
+const NO_MEMORY = -1, NO_ROOM = -3, ABSENT = -4, UNSOUND = -6, NO_DRIVE = -7, STATUS = 20; // from STATUS on it is the drive's
 const TEXTS = {
   [NO_MEMORY]: "no memory",
   "-2": "an argument is out of its range",
@@ -24,7 +24,7 @@ const TEXTS = {
   [NO_DRIVE]: "no drive, or one already",
 };
 // The sizes of structs in the header.
-const SIGNAL = 16, SECTOR = 256, ENTRY = 24, FLAW = 8;
+const SIGNAL = 16, SECTOR = 256, ENTRY = 24, FLAW = 8, FILE = 32, SAID = 36;
 const SLOTS = 144, FLAWS = 4096;
 
 /** A call that the library refuses: a number below 0, or a status of the drive from 20 on. */
@@ -378,8 +378,34 @@ class Library {
     return this.#made("y1541_image_put", [image, text, data], roomFor(image));
   }
 
+  putAll(image, files) {
+    const it = this.#fresh(), list = it.room(FILE * files.length), put = it.put(new Uint8Array(8));
+    try {
+      // (a file is the places and lengths of its text and its bytes, as `with` has them)
+      return it.with([image, ...files.flatMap(({ text, data }) => [text, data])], (at, size, ...fields) => {
+        fields.forEach((field, i) => it.view().setBigUint64(Number(list) + 8 * i, field, true));
+        return it.given(roomFor(image), (...out) => it.calls.y1541_image_put_all(at, size, list, BigInt(files.length), put, ...out));
+      });
+    } catch (e) {
+      if (e.number >= STATUS) e.file = Number(it.view().getBigUint64(Number(put), true));
+      throw e;
+    }
+  }
+
   command(image, text) {
     return this.#made("y1541_image_command", [image, text], roomFor(image));
+  }
+
+  commandStatus(image, text) {
+    const it = this.#fresh(), said = it.put(new Uint8Array(SAID));
+    let after = null;
+    try {
+      after = it.with([image, text], (...args) => it.given(roomFor(image), (...out) => it.calls.y1541_image_command_status(...args, said, ...out)));
+    } catch (e) {
+      if (!(e.number >= STATUS)) throw e;
+    }
+    const [number, first, second, ...line] = it.take(said, SAID);
+    return { image: after, status: { number, first, second, line: String.fromCharCode(...line.slice(0, line.indexOf(0))) } };
   }
 
   read(image, slot) {
@@ -395,6 +421,10 @@ class Library {
 
   rename(image, slot, name) {
     return this.#inSlot("y1541_image_rename", image, slot, [name]);
+  }
+
+  copy(image, slot, name) {
+    return this.#inSlot("y1541_image_copy", image, slot, [name]);
   }
 
   lock(image, slot, isLocked) {

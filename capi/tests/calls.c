@@ -84,6 +84,41 @@ static void refused_images(const uint8_t *image, size_t len) {
     expect(y1541_image_convert(image, 1, &lost, out, ROOM, &needed) == Y1541_NO_IMAGE, "no image to convert");
 }
 
+static y1541_file file_of(const char *text, const uint8_t *bytes, size_t count) { return (y1541_file){(const uint8_t *)text, strlen(text), bytes, count}; }
+
+/* Several files in one call, all or none; and a command with what the drive says after it. */
+static void in_one_call(uint8_t form) {
+    static uint8_t a[ROOM], b[ROOM], bytes[200000];
+    size_t len = 0, needed = 5, put = 7, n = 0;
+    y1541_place place;
+    y1541_title title;
+    y1541_said said;
+    y1541_file files[3] = {file_of("ONE,P,W", program, sizeof program), file_of("TWO,S,W", program, 2), file_of("0:THREE,U,W", bytes, 1000)};
+    memset(bytes, 'x', sizeof bytes), memset(&said, 7, sizeof said), b[0] = 9;
+    expect(y1541_image_new(form, (const uint8_t *)"ALL", 3, 'I', 'D', a, ROOM, &len) == Y1541_OK, "a disk for several files");
+    expect(y1541_image_put_all(a, 3, files, 3, &put, b, ROOM, &needed) == Y1541_NO_IMAGE && put == 0 && needed == 5 && b[0] == 9, "files on no image");
+    expect(y1541_image_put_all(a, len, files, 3, &put, b, 4, &needed) == Y1541_NO_ROOM && needed == len && b[0] == 9, "no room for the image with files");
+    expect(y1541_image_put_all(a, len, files, 0, &put, b, ROOM, &needed) == Y1541_OK && put == 0 && needed == len && same_bytes(a, b, len), "no file");
+    expect(y1541_image_put_all(a, len, files, 3, &put, b, ROOM, &needed) == Y1541_OK && put == 3 && needed == len, "three files");
+    expect(y1541_image_check(b, needed, &place) == Y1541_OK && y1541_image_title(b, needed, &title) == Y1541_OK && title.free == (form == Y1541_D64_40 ? 743 : 658), "and their six blocks");
+    for (uint8_t i = 0; i < 3; i++)
+        expect(y1541_image_read(b, needed, i, a, ROOM, &n) == Y1541_OK && n == files[i].count && same_bytes(a, files[i].bytes, n), "the bytes of each");
+    files[0] = file_of("FOUR,P,W", program, 1), files[1] = file_of("FIVE", program, 1);
+    put = 7, len = 5, a[0] = 9;
+    expect(y1541_image_put_all(b, needed, files, 2, &put, a, ROOM, &len) == 62 && put == 1 && len == 5 && a[0] == 9, "the second isn't opened for writing");
+    files[1] = file_of("FIVE,P,W", bytes, sizeof bytes);
+    expect(y1541_image_put_all(b, needed, files, 2, &put, a, ROOM, &len) == 72 && put == 1 && len == 5 && a[0] == 9, "the second is too long");
+    expect(y1541_image_command_status(b, needed, (const uint8_t *)"S0:T*", 5, &said, a, ROOM, &len) == Y1541_OK && said.number == 1 && said.first == 2 && said.second == 0
+        && !strcmp((const char *)said.line, "01, FILES SCRATCHED,02,00"), "how many files were scratched");
+    expect(y1541_image_title(a, len, &title) == Y1541_OK && title.free == (form == Y1541_D64_40 ? 748 : 663), "and their blocks are free");
+    len = 5, a[0] = 9;
+    expect(y1541_image_command_status(b, needed, (const uint8_t *)"R0:TWO=ONE", 10, &said, a, ROOM, &len) == 63 && len == 5 && a[0] == 9 && said.number == 63
+        && !strcmp((const char *)said.line, "63,FILE EXISTS,00,00"), "what the drive says of what it refuses");
+    memset(&said, 7, sizeof said);
+    expect(y1541_image_command_status(b, 3, (const uint8_t *)"V0", 2, &said, a, ROOM, &len) == Y1541_NO_IMAGE && said.number == 7 && said.line[0] == 7, "no image to say anything of");
+    expect(y1541_image_command_status(b, needed, (const uint8_t *)"V0", 2, &said, a, 4, &len) == Y1541_NO_ROOM && len == needed && said.number == 0 && !strcmp((const char *)said.line, "00, OK,00,00"), "no room, but a status");
+}
+
 /* A new image of a form: a file is put, found, scratched; a drive with it serves a KERNAL. */
 static void form_of(uint8_t form, const char *what) {
     static uint8_t image[ROOM], next[ROOM], bytes[70000];
@@ -124,6 +159,7 @@ static void by_slot(uint8_t form) {
     y1541_entry entries[144];
     y1541_flaw flaws[10];
     y1541_title title;
+    y1541_place place;
     expect(y1541_image_new(form, (const uint8_t *)"SLOTS", 5, 'I', 'D', a, ROOM, &len) == Y1541_OK, "a disk for slots");
     expect(y1541_image_put(a, len, (const uint8_t *)"ONE,P,W", 7, program, sizeof program, b, ROOM, &needed) == Y1541_OK, "the first file");
     expect(y1541_image_put(b, needed, (const uint8_t *)"TWO,S,W", 7, program, 2, a, ROOM, &len) == Y1541_OK, "the second");
@@ -145,6 +181,12 @@ static void by_slot(uint8_t form) {
     expect(y1541_image_undelete(b, needed, 1, 5, a, ROOM, &len) == Y1541_INVALID && y1541_image_undelete(b, needed, 0, 2, a, ROOM, &len) == Y1541_ABSENT, "no type, no deleted file");
     expect(y1541_image_undelete(b, needed, 1, 2, a, ROOM, &len) == Y1541_OK && has_entry(a, len, 1, "T*,\"", 0), "given back under its name");
     expect(y1541_image_read(a, len, 1, bytes, sizeof bytes, &n) == Y1541_OK && n == sizeof program && same_bytes(bytes, program, sizeof program), "with its bytes");
+    expect(y1541_image_copy(a, len, 1, (const uint8_t *)"TWO", 3, b, ROOM, &needed) == 63 && y1541_image_copy(a, len, 2, (const uint8_t *)"X", 1, b, ROOM, &needed) == Y1541_ABSENT, "no copy to a name that is there, nor of no file");
+    expect(y1541_image_copy(a, len, 1, (const uint8_t *)"", 0, b, ROOM, &needed) == Y1541_INVALID && y1541_image_copy(a, len, 1, program, 17, b, ROOM, &needed) == Y1541_INVALID, "no name for a copy, a long one");
+    expect(y1541_image_lock(a, len, 1, 1, b, ROOM, &needed) == Y1541_OK && y1541_image_copy(b, needed, 1, (const uint8_t *)"C=:\x03", 4, a, ROOM, &len) == Y1541_OK && y1541_image_check(a, len, &place) == Y1541_OK, "a copy of a locked file");
+    expect(has_entry(a, len, 0, "TWO", 0) && has_entry(a, len, 1, "T*,\"", 1) && has_entry(a, len, 2, "C=:\x03", 0), "any name for it, and the others as they were");
+    expect(y1541_image_read(a, len, 2, bytes, sizeof bytes, &n) == Y1541_OK && n == sizeof program && same_bytes(bytes, program, n), "with the same bytes");
+    expect(y1541_image_delete(a, len, 2, b, ROOM, &needed) == Y1541_OK && y1541_image_lock(b, needed, 1, 0, a, ROOM, &len) == Y1541_OK, "it is deleted, and the file freed");
     expect(y1541_image_retitle(a, len, program, 17, b, ROOM, &needed) == Y1541_INVALID && y1541_image_remark(a, len, program, 4, b, ROOM, &needed) == Y1541_INVALID, "no title, no id");
     expect(y1541_image_retitle(a, len, (const uint8_t *)"OTHER", 5, b, ROOM, &needed) == Y1541_OK && y1541_image_remark(b, needed, (const uint8_t *)"XY 2A", 5, a, ROOM, &len) == Y1541_OK
         && y1541_image_title(a, len, &title) == Y1541_OK && same_bytes(title.title, (const uint8_t *)"OTHER\xa0", 6) && same_bytes(title.mark, (const uint8_t *)"XY 2A", 5), "another title and id");
@@ -287,6 +329,7 @@ int main(int argc, char **argv) {
     refused(image, len);
     refused_images(image, len);
     by_slot(Y1541_D64_35), by_slot(Y1541_D64_40), by_slot(Y1541_G64), broken();
+    in_one_call(Y1541_D64_35), in_one_call(Y1541_D64_40), in_one_call(Y1541_G64);
     form_of(Y1541_D64_35, "a D64");
     form_of(Y1541_D64_40, "a D64 of 40 tracks");
     form_of(Y1541_G64, "a G64");

@@ -18,7 +18,7 @@ def c_parameters(words):
         kind = it.partition(":")[2].strip()
         if not kind or kind == "Global":
             continue
-        mutable, inner = kind.startswith("&mut "), kind.removeprefix("&mut ").removeprefix("&")
+        mutable, inner = kind.startswith("&mut "), kind.removeprefix("&mut ").removeprefix("&").replace("<'_>", "")
         if inner.startswith("["):
             found += [("" if mutable else "const ") + c_name(inner[1:-1]) + " *", "size_t"]
         elif kind.startswith("&"):
@@ -31,15 +31,23 @@ def c_parameters(words):
 def exports(sources):
     text = "\n".join(it.read_text("utf-8") for it in sorted(pathlib.Path(sources).rglob("*.rt")))
     rows = re.findall(r'#\[unsafe\(no_mangle\)\]\s*pub extern "C" fn (\w+)\(([^)]*)\)(?: -> (\w+))?', text)
-    structs = re.findall(r"#\[repr\(C\)\][^{]*pub struct (\w+) \{(.*?)\n\}", text, re.S)
+    structs = re.findall(r"#\[repr\(C\)\][^{]*pub struct (\w+)(?:<'a>)? \{(.*?)\n\}", text, re.S)
     functions = {name: (c_name(result) if result else "void", c_parameters(words)) for name, words, result in rows}
     return functions, {c_name(name): fields_of(body) for name, body in structs}
+
+
+def length_of(name):
+    """In place of the name that a slice's length has in C, and nowhere else."""
+    return f"the length of {name}"
 
 
 def fields_of(body):
     found = []
     for name, kind in re.findall(r"^\s*pub(?:\(crate\))? (\w+): ([^\n]*),$", body, re.M):
-        array = re.fullmatch(r"\[(\w+); (\d+)\]", kind)
+        array, slice_of = re.fullmatch(r"\[(\w+); (\d+)\]", kind), re.fullmatch(r"&'a \[(\w+)\]", kind)
+        if slice_of:
+            found += [(name, f"const {c_name(slice_of[1])} *"), (length_of(name), "size_t")]
+            continue
         found.append((name, f"{c_name(array[1])}[{array[2]}]" if array else "void *" if kind.startswith("*mut") else c_name(kind)))
     return found
 
@@ -53,10 +61,12 @@ def declared(header):
     for name, body in re.findall(r"typedef struct (\w+) \{(.*?)\}", text, re.S):
         structs[name] = []
         for row in filter(None, map(str.strip, body.split(";"))):
-            kind, _, names = row.partition(" ")
+            kind, names = re.fullmatch(r"((?:const )?\w+) (.*)", row).groups()
             for it in names.split(","):
                 array = re.fullmatch(r"\s*(\w+)\[(\d+)\]\s*", it)
                 bare = it.strip()
+                if structs[name] and structs[name][-1][1].startswith("const "):
+                    bare = length_of(structs[name][-1][0])
                 structs[name].append((array[1], f"{kind}[{array[2]}]") if array else (bare.lstrip("*"), f"{kind} *" if bare.startswith("*") else kind))
     return functions, structs
 

@@ -84,9 +84,20 @@ static int32_t on_image(void) {
     y1541_entry entry, entries[144];
     y1541_flaw flaws[144];
     y1541_lost lost;
+    y1541_said status;
     int32_t said = 0;
     if (!out) exit(2);
-    switch (by_chance(20)) {
+    switch (by_chance(23)) {
+    case 19: {
+        y1541_file files[3];
+        size_t put, count = by_chance(4);
+        for (size_t i = 0; i < count; i++) files[i].text = some_text(&files[i].n), files[i].count = by_chance(3000), files[i].bytes = block(image, files[i].count, 1);
+        said = y1541_image_put_all(a, n, files, count, &put, out, room, &needed);
+        for (size_t i = 0; i < count; i++) free((void *)files[i].text), free((void *)files[i].bytes);
+        break;
+    }
+    case 20: said = y1541_image_command_status(a, n, text, m, &status, out, room, &needed); break;
+    case 21: said = y1541_image_copy(a, n, (uint8_t)by_chance(20), text, m, out, room, &needed); break;
     case 0: said = y1541_image_check(a, n, &place); break;
     case 1: said = y1541_image_title(a, n, &title); break;
     case 2: said = y1541_image_entry(a, n, (uint8_t)by_chance(256), &entry); break;

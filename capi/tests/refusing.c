@@ -78,6 +78,12 @@ static int32_t files(void) { return y1541_image_file(image, len, (const uint8_t 
 static int32_t reads(void) { return y1541_image_sector(image, len, 18, 0, out, ROOM); }
 static int32_t puts_file(void) { return y1541_image_put(image, len, (const uint8_t *)"N,P,W", 5, image, 3000, out, ROOM, &needed); }
 static int32_t commands(void) { return y1541_image_command(image, len, (const uint8_t *)"R0:N=HELLO", 10, out, ROOM, &needed); }
+static int32_t puts_all(void) {
+    const y1541_file files[2] = {{(const uint8_t *)"N,P,W", 5, image, 3000}, {(const uint8_t *)"M,P,W", 5, image, 10}};
+    size_t put;
+    return y1541_image_put_all(image, len, files, 2, &put, out, ROOM, &needed);
+}
+static int32_t commands_status(void) { y1541_said said; return y1541_image_command_status(image, len, (const uint8_t *)"R0:N=HELLO", 10, &said, out, ROOM, &needed); }
 static int32_t makes(void) { return y1541_image_new(0, (const uint8_t *)"T", 1, 1, 2, out, ROOM, &needed); }
 static int32_t makes_g64(void) { return y1541_image_new(2, (const uint8_t *)"T", 1, 1, 2, out, ROOM, &needed); }
 static int32_t converts(void) { y1541_lost l; return y1541_image_convert(image, len, &l, out, ROOM, &needed); }
@@ -86,6 +92,7 @@ static int32_t enters_all(void) { static y1541_entry e[144]; return y1541_image_
 static int32_t flaws_all(void) { static y1541_flaw f[10]; return y1541_image_flaws(image, len, f, 10, &needed); }
 static int32_t reads_slot(void) { return y1541_image_read(image, len, 0, out, ROOM, &needed); }
 static int32_t renames(void) { return y1541_image_rename(image, len, 0, (const uint8_t *)"*", 1, out, ROOM, &needed); }
+static int32_t copies(void) { return y1541_image_copy(image, len, 0, (const uint8_t *)"*", 1, out, ROOM, &needed); }
 static int32_t locks(void) { return y1541_image_lock(image, len, 0, 1, out, ROOM, &needed); }
 static int32_t deletes(void) { return y1541_image_delete(image, len, 0, out, ROOM, &needed); }
 static int32_t swaps(void) { return y1541_image_swap(image, len, 0, 1, out, ROOM, &needed); }
@@ -101,8 +108,9 @@ static int32_t plays(void) {
 
 static const struct { const char *name; int32_t (*call)(void); } calls[] = {
     {"open", opens}, {"check", checks}, {"title", titles}, {"entry", enters}, {"list", lists}, {"file", files}, {"sector", reads},
-    {"entries", enters_all}, {"flaws", flaws_all}, {"read", reads_slot}, {"rename", renames}, {"lock", locks}, {"delete", deletes}, {"swap", swaps},
-    {"retitle", retitles}, {"remark", remarks}, {"put", puts_file}, {"command", commands}, {"new", makes}, {"new g64", makes_g64}, {"convert", converts}, {"play", plays},
+    {"entries", enters_all}, {"flaws", flaws_all}, {"read", reads_slot}, {"rename", renames}, {"copy", copies}, {"lock", locks}, {"delete", deletes}, {"swap", swaps},
+    {"retitle", retitles}, {"remark", remarks}, {"put", puts_file}, {"put_all", puts_all}, {"command", commands}, {"command_status", commands_status},
+    {"new", makes}, {"new g64", makes_g64}, {"convert", converts}, {"play", plays},
     {"image", shows}, {"eject", ejects}, {"insert", inserts},
 };
 

@@ -29,6 +29,19 @@ static void checks(void) { y1541_place p; y1541_image_check(image, len, &p), y15
 static void lists(void) { y1541_image_list(image, len, image, 0, out, ROOM, &needed); }
 static void files(void) { y1541_image_file(image, len, (const uint8_t *)"H*", 2, out, ROOM, &needed); }
 static void puts_file(void) { y1541_image_put(image, len, (const uint8_t *)"N,P,W", 5, image, 3000, out, ROOM, &needed), y1541_image_put(g64, g64_len, (const uint8_t *)"N,P,W", 5, image, 3000, out, ROOM, &needed); }
+static void puts_all(void) {
+    static const uint8_t text[2][6] = {"N,P,W", "M,P,W"};
+    const y1541_file files[2] = {{text[0], 5, image, 3000}, {text[1], 5, image, 3000}};
+    size_t put;
+    y1541_image_put_all(image, len, files, 2, &put, out, ROOM, &needed), y1541_image_put_all(g64, g64_len, files, 2, &put, out, ROOM, &needed);
+}
+static void command_status(void) {
+    y1541_said said;
+    y1541_image_command_status(image, len, (const uint8_t *)"N0:NEW,ID", 9, &said, out, ROOM, &needed);
+    y1541_image_command_status(g64, g64_len, (const uint8_t *)"N0:NEW,ID", 9, &said, out, ROOM, &needed);
+}
+static void copies(void) { y1541_image_copy(image, len, 0, (const uint8_t *)"N", 1, out, ROOM, &needed), y1541_image_copy(g64, g64_len, 0, (const uint8_t *)"N", 1, out, ROOM, &needed); }
+static void deletes(void) { y1541_image_delete(image, len, 0, out, ROOM, &needed), y1541_image_delete(g64, g64_len, 0, out, ROOM, &needed); }
 /* A command on an image of each format. */
 static void command(const char *text) {
     y1541_image_command(image, len, (const uint8_t *)text, strlen(text), out, ROOM, &needed);
@@ -75,11 +88,12 @@ static void hosts_end(void) {
 
 /* In bytes. */
 static const struct { const char *name; void (*call)(void); size_t most; } calls[] = {
-    {"open", opens, 272000}, {"open a G64", opens_g64, 305000}, {"lines, ATN", lines, 1000}, {"next_due", next_due, 1000}, {"due, ATN", due, 1000},
+    {"open", opens, 292000}, {"open a G64", opens_g64, 292000}, {"lines, ATN", lines, 1000}, {"next_due", next_due, 1000}, {"due, ATN", due, 1000},
     {"pulls_now", pulls, 1000}, {"image", shows, 2000}, {"eject", ejects, 73000}, {"insert", inserts, 73000}, {"reset", resets, 73000}, {"close", closes, 1000},
-    {"image_check", checks, 36000}, {"image_list", lists, 207000}, {"image_file", files, 4000}, {"image_put", puts_file, 222000},
-    {"image_command V", command_validates, 220000}, {"image_command C", command_copies, 220000}, {"image_command N", command_formats, 235000},
-    {"image_new", makes, 53000}, {"image_convert", converts, 37000}, {"play", plays, 148000},
+    {"image_check", checks, 36000}, {"image_list", lists, 222000}, {"image_file", files, 4000}, {"image_put", puts_file, 222000},
+    {"image_put_all", puts_all, 222000}, {"image_command_status", command_status, 222000}, {"image_copy", copies, 250000}, {"image_delete", deletes, 250000},
+    {"image_command V", command_validates, 220000}, {"image_command C", command_copies, 220000}, {"image_command N", command_formats, 222000},
+    {"image_new", makes, 53000}, {"image_convert", converts, 37000}, {"play", plays, 222000},
     {"LOAD $", host_lists, 46000}, {"LOAD", host_loads, 46000}, {"SAVE", host_saves, 46000}, {"R", host_renames, 46000}, {"C", host_copies, 46000},
     {"S", host_scratches, 46000}, {"V", host_validates, 46000}, {"N", host_formats, 53000}, {"their close", hosts_end, 1000},
 };

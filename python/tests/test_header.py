@@ -19,6 +19,8 @@ STRUCTS = {
     "y1541_entry": _library.EntryStruct,
     "y1541_flaw": _library.FlawStruct,
     "y1541_lost": _library.LostStruct,
+    "y1541_file": _library.FileStruct,
+    "y1541_said": _library.SaidStruct,
 }
 
 
@@ -32,10 +34,11 @@ def fields_of(name):
     """The fields of a struct of the header: names and C types, with the count of an array."""
     body = re.search(rf"typedef struct {name} \{{(.*?)\}} {name};", CODE, re.DOTALL)[1]
     fields = []
-    for kind, names in re.findall(r"(\w+) ([^;]+);", body):
+    for kind, names in re.findall(r"(?:const )?(\w+) ([^;]+);", body):
         for one in names.split(","):
             field, count = re.fullmatch(r"\s*\**(\w+)(?:\[(\d+)\])?", one).groups()
-            fields.append((field, ctypes.c_void_p if "*" in one else NUMBERS[kind] * int(count) if count else NUMBERS[kind]))
+            pointer = ctypes.c_char_p if kind == "uint8_t" else ctypes.c_void_p
+            fields.append((field, pointer if "*" in one else NUMBERS[kind] * int(count) if count else NUMBERS[kind]))
     return fields
 
 

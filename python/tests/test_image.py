@@ -178,6 +178,18 @@ class Changes(DiskCase):
                     count += 1
         self.assertGreater(count, 3)
 
+    def test_several_files_are_written_in_one_call(self):
+        files = [(b"PLAIN", b"1" * 300), (b'A*,"\x01=?', b"2"), (b"NEW 0", b"3" * 600, FileType.SEQ), (b"NEW 1", b"4", FileType.USR)]
+        for form in Form:
+            image, path = Image.new(form, "SEVERAL", "64"), self.folder / f"several{form}.d64"
+            image.write_all(files)
+            image.save(path)
+            self.assertEqual([it.name for it in image.files()], [name for name, *_ in files])
+            self.assertEqual([it.type for it in image.files()], [FileType.PRG, FileType.PRG, FileType.SEQ, FileType.USR])
+            for slot, (_, data, *_) in enumerate(files):
+                self.assertEqual(disk1541("get", path, "--slot", slot), data)
+            self.assertIsNone(image.check())
+
     def test_rename(self):
         self.compare(lambda image, entry: image.rename(entry, "OTHER NAME"), "rename", "--slot", "SLOT", "OTHER NAME")
 
@@ -408,6 +420,23 @@ class Refusals(DiskCase):
         self.assertTrue(refused(72, self.image.write, "HELLO", bytes(664 * 254 + 1), replace=True))
         self.assertTrue(refused(33, self.image.command, "R0:A*=HELLO"))
         self.assertEqual(self.image.bytes, before)
+
+    def test_of_several_files_all_are_written_or_none(self):
+        before = self.image.bytes
+        with self.assertRaises(Refused) as told:
+            self.image.write_all([("GOOD", b"1"), ("A*", b"2"), ("BIG", bytes(664 * 254))])
+        self.assertEqual((told.exception.number, str(told.exception)), (72, "BIG: 72, DISK FULL"))
+        for twice in ([("HELLO", b"")], [("A", b""), ("A", b"")], [("A*", b""), ("A*", b"")]):
+            self.assertTrue(refused(63, self.image.write_all, twice))
+        self.assertEqual(self.image.bytes, before)
+
+    def test_a_command_answers_the_status_line(self):
+        self.image.write_all([("A1", b""), ("A2", b"")])
+        self.assertEqual(self.image.command("S0:A*"), "01, FILES SCRATCHED,02,00")
+        self.assertEqual(self.image.command("R0:OTHER=HELLO"), "00, OK,00,00")
+        with self.assertRaises(Refused) as told:
+            self.image.command("R0:NEW=HELLO")
+        self.assertEqual((told.exception.number, told.exception.line), (62, "62,FILE NOT FOUND,00,00"))
 
     def test_a_locked_file_stays(self):
         self.image.lock("HELLO")

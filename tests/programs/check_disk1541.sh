@@ -375,10 +375,10 @@ case_of "a limit on memory" 3 "" "disk1541: can't read long.img: out of memory" 
 # Each request for memory is refused in turn: the command ends well, or with 3, one sentence and the image as it was.
 if command -v cc > /dev/null; then
     cc -shared -fPIC -o refusing.so "$here/refusing.c"
-    for words in "list" "put game.prg"; do
+    for words in "list" "put game.prg" "show HELLO" "diff $examples/hello.d64"; do
         cp "$examples/hello.d64" whole.d64
         "$disk" ${words%% *} whole.d64 ${words#"${words%% *}"} > whole.txt
-        for number in $(seq 0 199); do
+        for number in $(seq 0 479); do
             cp "$examples/hello.d64" refused.d64
             REFUSED=$number LD_PRELOAD=./refusing.so "$disk" ${words%% *} refused.d64 ${words#"${words%% *}"} > out.txt 2> err.txt
             got=$?

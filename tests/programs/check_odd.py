@@ -3,8 +3,8 @@
 entries, the sectors that they lead to, and the files. Each command that changes a disk must change what is left as it changes a disk without such entries,
 and leave them alone: each in its slot byte for byte, each sector that it leads to as it was, taken in the BAM, and given to no file. Where that can't be,
 nothing is changed, and the sentence names the sector. With N disks (60 by default), every fifth also as a G64; beyond
-60 one command is tried on each, and 10,000 take some minutes. Prints one line a case, which begins with ok or WRONG;
-last line 'N passed, M failed'; ends with 1 if one is wrong."""
+60 one command is tried on each, and 10,000 take some minutes. Prints a line for what holds, with the number of disks, and one for each that is WRONG;
+ends with 1 if one is."""
 import argparse, collections, os, random, shutil, subprocess, sys, tempfile
 
 words = argparse.ArgumentParser(description=__doc__, formatter_class=argparse.RawDescriptionHelpFormatter)
@@ -12,14 +12,15 @@ words.add_argument("disk1541")
 words.add_argument("--disks", type=int, default=60)
 words = words.parse_args()
 DISK1541 = os.path.realpath(words.disk1541)
-passed = wrong = 0
+cases, wrong = {}, 0
 
 
-def is_so(name, holds, said=""):
-    global passed, wrong
+def is_so(disk, case, holds, said=""):
+    global wrong
     if not holds:
-        print(f"WRONG {name}: {said}", flush=True)
-    passed, wrong = passed + bool(holds), wrong + (not holds)
+        print(f"WRONG {disk}: {case}: {said}", flush=True)
+        wrong += 1
+    cases[case] = cases.get(case, 0) + bool(holds)
 
 
 def run(*call, feed=None):
@@ -243,15 +244,15 @@ def compare(disk, name, call, room):
     left = run(*(f"{room}/left.d64" if it == "{}" else it for it in call))
     new, rest = open(disk.name, "rb").read(), bytearray(open(f"{room}/left.d64", "rb").read())
     if name == "validate" and disk.lost and disk.is_cut:
-        is_so(f"{disk.name}: blocks that may be the rest of a cut chain aren't freed", ran[0] == 1 and new == disk.image, ran)
+        is_so(disk.name, "blocks that may be the rest of a cut chain aren't freed", ran[0] == 1 and new == disk.image, ran)
         return new
     if name == "validate":
         for where in disk.held:
             mark(rest, *where, free=False)
-    is_so(f"{disk.name}: {name}: status", ran[0] == left[0], (ran, left))
-    is_so(f"{disk.name}: {name}: as on what is left", new == with_odd(disk, rest), ran)
+    is_so(disk.name, f"{name}: status", ran[0] == left[0], (ran, left))
+    is_so(disk.name, f"{name}: as on what is left", new == with_odd(disk, rest), ran)
     if ran[0] == 0:
-        is_so(f"{disk.name}: {name}: odd entries", not disk.is_left_alone(new), disk.is_left_alone(new))
+        is_so(disk.name, f"{name}: odd entries", not disk.is_left_alone(new), disk.is_left_alone(new))
     return new
 
 
@@ -263,7 +264,7 @@ def as_g64(disk, name, call, expected, room):
     run("convert", disk.name, g64, "--replace", "--lossy")
     run(*(g64 if it == "{}" else it for it in call))
     run("convert", g64, back, "--replace", "--lossy")
-    is_so(f"{disk.name}: {name} on a G64", open(back, "rb").read() == expected, name)
+    is_so(disk.name, f"{name} on a G64", open(back, "rb").read() == expected, name)
 
 
 def told(disk):
@@ -272,12 +273,12 @@ def told(disk):
         out.write(disk.image)
     noun = "entry" if len(disk.odd) == 1 else "entries"
     status, out, _ = run("check", disk.name)
-    is_so(f"{disk.name}: check", status == 1 and f"; sound but for {len(disk.odd)} odd {noun}\n" in out, out)
+    is_so(disk.name, "check", status == 1 and f"; sound but for {len(disk.odd)} odd {noun}\n" in out, out)
     status, out, _ = run("check", "--all", disk.name)
-    is_so(f"{disk.name}: check --all", status == 1 and f"sound but for {len(disk.odd)} odd {noun}: all else can be changed" in out, out)
-    is_so(f"{disk.name}: info", f"odd entries  {len(disk.odd)}\n" in run("info", disk.name)[1])
+    is_so(disk.name, "check --all", status == 1 and f"sound but for {len(disk.odd)} odd {noun}: all else can be changed" in out, out)
+    is_so(disk.name, "info", f"odd entries  {len(disk.odd)}\n" in run("info", disk.name)[1])
     slots = ",".join(map(str, sorted(disk.odd)))
-    is_so(f"{disk.name}: JSON", f'"odd":[{slots}]' in run("info", "--json", disk.name)[1], slots)
+    is_so(disk.name, "JSON", f'"odd":[{slots}]' in run("info", "--json", disk.name)[1], slots)
 
 
 def named(disk, room):
@@ -286,7 +287,7 @@ def named(disk, room):
         out.write(disk.image)
     slot = min(disk.odd)
     status, _, said = run("rename", disk.name, "--slot", slot, "OTHER")
-    is_so(f"{disk.name}: an odd entry isn't renamed", status == 1 and "odd entry" in said and open(disk.name, "rb").read() == disk.image, (status, said))
+    is_so(disk.name, "an odd entry isn't renamed", status == 1 and "odd entry" in said and open(disk.name, "rb").read() == disk.image, (status, said))
     for slot in disk.odd:
         if entry(open(disk.name, "rb").read(), slot)[0] & 0x40:
             continue
@@ -294,7 +295,7 @@ def named(disk, room):
         status, _, said = run("delete", disk.name, "--slot", slot)
         cleared = bytearray(before)
         cleared[slot_place(disk.image, slot)] = 0
-        is_so(f"{disk.name}: an odd entry is deleted", status == 0 and open(disk.name, "rb").read() == cleared, (status, said))
+        is_so(disk.name, "an odd entry is deleted", status == 0 and open(disk.name, "rb").read() == cleared, (status, said))
 
 
 def sorted_around(disk, room):
@@ -304,9 +305,9 @@ def sorted_around(disk, room):
     status, _, said = run("sort", disk.name)
     new = open(disk.name, "rb").read()
     names = [it[3:19].split(b"\xa0")[0] for slot, it in enumerate(entries(new)) if it[0] and slot not in disk.odd]
-    is_so(f"{disk.name}: sort", status == 0 and names == sorted(names) and not disk.is_left_alone(new), (status, said, names))
+    is_so(disk.name, "sort", status == 0 and names == sorted(names) and not disk.is_left_alone(new), (status, said, names))
     before = collections.Counter(it for slot, it in enumerate(entries(disk.image)) if slot not in disk.odd)
-    is_so(f"{disk.name}: sort keeps all", collections.Counter(it for slot, it in enumerate(entries(new)) if slot not in disk.odd) == before)
+    is_so(disk.name, "sort keeps all", collections.Counter(it for slot, it in enumerate(entries(new)) if slot not in disk.odd) == before)
 
 
 def refused(rng, room):
@@ -324,7 +325,7 @@ def refused(rng, room):
             with open(f"{room}/bad.d64", "wb") as out:
                 out.write(disk)
             status, _, said = run("title", f"{room}/bad.d64", "NO")
-            is_so(f"base {n}: a {what} sector", status == 1 and f"track {where[0]}, sector {where[1]}" in said and open(f"{room}/bad.d64", "rb").read() == disk, (status, said))
+            is_so(f"base {n}", f"an odd entry that leads to a {what} sector is refused", status == 1 and f"track {where[0]}, sector {where[1]}" in said and open(f"{room}/bad.d64", "rb").read() == disk, (status, said))
 
 
 def bases(rng, room):
@@ -367,7 +368,8 @@ def main():
                 compare(disk, *rng.choice(calls(rng, disk, room)), room)
         refused(rng, room)
         peers(rng, room)
-    print(f"{passed} passed, {wrong} failed")
+    for case, count in cases.items():
+        print(f"ok    {case}: on {count} disks")
     return int(wrong > 0)
 
 
@@ -378,7 +380,7 @@ def peers(rng, room):
         return
     with open(f"{room}/p.prg", "wb") as out:
         out.write(rng.randbytes(900))
-    for name, extra in (("loop", ("-f", "one", "-w", "p.prg", "-l", "again")), ("type", ("-T", "5", "-f", "odd", "-w", "p.prg", "-T", "2", "-f", "one", "-w", "p.prg"))):
+    for name, extra in (("loop", ("-", "one", "-w", "p.prg", "-l", "again")), ("type", ("-T", "5", "-", "odd", "-w", "p.prg", "-T", "2", "-", "one", "-w", "p.prg"))):
         image = f"{room}/peer.d64"
         subprocess.run(["cc1541", "-q", "-n", "peer", *extra, image], check=False, capture_output=True, cwd=room)
         if not os.path.exists(image):
@@ -390,7 +392,7 @@ def peers(rng, room):
         odd = {slot: it for slot, it in enumerate(entries(before)) if it[3:8] in (b"AGAIN", b"ODD\xa0\xa0")}
         status, _, said = run("rename", image, "ONE", "TWO")
         after = open(image, "rb").read()
-        is_so(f"cc1541: {name}", status == 0 and all(entry(after, slot) == it for slot, it in odd.items()), said)
+        is_so("peer.d64", f"cc1541: {name}", status == 0 and all(entry(after, slot) == it for slot, it in odd.items()), said)
         os.unlink(image)
 
 

@@ -118,12 +118,24 @@ static int32_t on_image(void) {
     y1541_title title;
     y1541_entry entry;
     y1541_lost lost = {7, 7, 7, 7};
+    y1541_said status;
     static y1541_entry entries[144];
     static y1541_flaw flaws[144];
-    memset(&title, 7, sizeof title), memset(&entry, 7, sizeof entry), memset(entries, 7, sizeof entries), memset(flaws, 7, sizeof flaws);
+    memset(&status, 7, sizeof status), memset(&title, 7, sizeof title), memset(&entry, 7, sizeof entry), memset(entries, 7, sizeof entries), memset(flaws, 7, sizeof flaws);
     int32_t said = 0;
     if (!out) exit(2);
-    switch (by_chance(21)) {
+    switch (by_chance(24)) {
+    case 20: {
+        y1541_file files[3];
+        size_t put = 9, count = by_chance(4);
+        for (size_t i = 0; i < count; i++) files[i].text = some_text(&files[i].n), files[i].count = by_chance(3000), files[i].bytes = block(image, files[i].count, 1);
+        said = y1541_image_put_all(a, n, files, count, &put, out, room, &needed);
+        saw(put);
+        for (size_t i = 0; i < count; i++) free((void *)files[i].text), free((void *)files[i].bytes);
+        break;
+    }
+    case 21: said = y1541_image_command_status(a, n, text, m, &status, out, room, &needed); break;
+    case 22: b[0] = (uint8_t)by_chance(20), said = y1541_image_copy(a, n, b[0], text, m, out, room, &needed); break;
     case 10: {
         y1541_signal host[20], *events = malloc(60 * sizeof *events);
         size_t count = 9, changes = by_chance(21), events_room = by_chance(60);
@@ -170,6 +182,7 @@ static int32_t on_image(void) {
     saw(title.free), saw_bytes(title.title, 16), saw_bytes(title.mark, 5);
     saw_entry(&entry);
     saw(lost.unreadable), saw(lost.tracks), saw(lost.errors), saw(lost.id);
+    saw(status.number), saw(status.first), saw(status.second), saw_bytes(status.line, sizeof status.line);
     free(a), free(text), free(out);
     return said;
 }

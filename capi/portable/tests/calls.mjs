@@ -75,6 +75,24 @@ for (const form of [0, 1, 2]) {
   const { title, mark } = y1541.title(disk);
   expect(Buffer.from(title).toString("latin1").startsWith("OTHER\xa0") && Buffer.from(mark).toString("latin1") === "XY 2A" && y1541.flaws(disk).length === 0, "another title and id");
 }
+// Several files in one call, and a command with its status.
+for (const form of [0, 1, 2]) {
+  const disk = y1541.create(form, "ALL", "ID"), files = [{ text: "ONE,P,W", data: program }, { text: "TWO,S,W", data: "ab" }];
+  const both = y1541.putAll(disk, files);
+  expect(same(both, files.reduce((it, { text, data }) => y1541.put(it, text, data), disk)) && same(y1541.putAll(disk, []), disk), "two files as by two calls, and none");
+  for (const [text, number] of [["THREE", 62], ["ONE,P,W", 63]]) {
+    const it = thrown(() => y1541.putAll(disk, [...files, { text, data: "c" }]));
+    expect(it instanceof Refused && it.number === number && it.file === 2, `which file is refused: ${it} ${it.file}`);
+  }
+  const { image: less, status } = y1541.commandStatus(both, "S0:*");
+  expect(isEqual(status, { number: 1, first: 2, second: 0, line: "01, FILES SCRATCHED,02,00" }) && y1541.title(less).free === y1541.title(disk).free, "how many were scratched");
+  expect(isEqual(y1541.commandStatus(both, "R0:TWO=ONE"), { image: null, status: { number: 63, first: 0, second: 0, line: "63,FILE EXISTS,00,00" } }), "what the drive says of what it refuses");
+  refused(-5, () => y1541.commandStatus(new Uint8Array(3), "V0"), "no image for a command");
+  refused(-5, () => y1541.putAll(new Uint8Array(3), files), "no image for files");
+  const copy = y1541.copy(both, 0, "C=:*");
+  expect(isEqual(y1541.entries(copy).entries.filter((it) => it.kind).map((it) => Buffer.from(it.name).toString("latin1").replace(/\xa0*$/, "")), ["ONE", "TWO", "C=:*"]) && same(y1541.read(copy, 2), program), "a copy");
+  refused(63, () => y1541.copy(both, 0, "TWO"), "a copy to a name that is there");
+}
 const loop = image.slice();
 loop.set([18, 1], 91648); // 18/1 leads to itself
 expect(y1541.entries(loop).status === 71 && y1541.entries(loop).entries.length === 8, "entries up to a loop");

@@ -23,7 +23,9 @@ calls.y1541_image_convert(...d64, small, ...result);
 const g64 = [put(memory().slice(Number(out), Number(out) + Number(number(needed)))), number(needed)];
 const host = new Uint8Array(32), view = new DataView(host.buffer);
 view.setBigUint64(0, 1000n, true), view.setBigUint64(16, 3000n, true), (host[10] = 1);
-const changes = put(host), events = calls.room(1000n);
+const twice = new Uint8Array(64), fields = new DataView(twice.buffer);
+[...text("N,P,W"), image, 3000n, ...text("M,P,W"), image, 3000n].forEach((it, i) => fields.setBigUint64(8 * i, it, true));
+const files = put(twice), changes = put(host), events = calls.room(1000n);
 
 const measured = {
   open: () => calls.y1541_open(drive, ...d64, 0, 8, 20, 0),
@@ -39,6 +41,9 @@ const measured = {
   image_list: () => calls.y1541_image_list(...g64, ...text(""), ...result),
   image_file: () => calls.y1541_image_file(...d64, ...text("H*"), ...result),
   image_put: () => calls.y1541_image_put(...g64, ...text("N,P,W"), image, 3000n, ...result),
+  image_put_all: () => calls.y1541_image_put_all(...g64, files, 2n, small, ...result),
+  image_copy: () => calls.y1541_image_copy(...g64, 0, ...text("N"), ...result),
+  "image_command_status N, of a G64": () => calls.y1541_image_command_status(...g64, ...text("N0:NEW,ID"), small, ...result),
   "image_command V": () => calls.y1541_image_command(...d64, ...text("V0"), ...result),
   "image_command N, of a G64": () => calls.y1541_image_command(...g64, ...text("N0:NEW,ID"), ...result),
   "image_command C": () => calls.y1541_image_command(...g64, ...text("C0:TWO=HELLO"), ...result),

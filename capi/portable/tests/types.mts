@@ -16,6 +16,8 @@ try {
   else if (it instanceof Gone) console.log(it.cause);
 }
 const played = y1541.play(image, [{ moment: 1, line: ATN, low: true }], 100);
+const { image: after, status } = y1541.commandStatus(y1541.putAll(disk, [{ text: "A,P,W", data: "x" }]), "S0:A");
+console.log(after?.length, status.line.length, y1541.copy(image, 0, "B").length);
 console.log(played.events[0].who, y1541.entry(image, 0)?.name);
 
 // @ts-expect-error: no image
@@ -24,5 +26,7 @@ y1541.open("x");
 y1541.create(3, "X", "AB");
 // @ts-expect-error: it may be null
 y1541.entry(image, 0).name;
+// @ts-expect-error: it may be null
+y1541.commandStatus(image, "V0").image.length;
 // @ts-expect-error: no such call
 drive.list();

@@ -15,7 +15,7 @@ use Rattle.cbm_volume.specs.check.WholeDisk.{DiskFault}
 use Rattle.cbm_shell.specs.declared.fault.ShellFault.{ShellFault}
 use Rattle.cbm_shell.specs.declared.fault.ShellFault.TheVariants as fault
 use Rattle.cbm_shell.specs.Flaws.{flaws_of, first_flaw}
-use Rattle.cbm_odd.specs.Odd.{AreOddOf, IsUnread}
+use Rattle.cbm_odd.specs.Odd.{AreOddOf, IsUnreadable}
 use Rattle.cbm_odd.specs.Held.{held_places, are_kept, IsSpoiltAmong}
 
 -- what stands in an odd entry's place: a DEL, closed and locked, without a block; its name and all else as they were
@@ -29,7 +29,7 @@ ArePutAway tracks (odd ∷ rest) old new =
     (between : Content) × EntersLed tracks old between odd.slot (away_entry odd.entry) × ArePutAway tracks rest between new
 
 -- A DISK IS CLEAR of these sectors: it is sound, and each of them is taken in its BAM, and no file's
-pub record IsClear (tracks : ℕ) (content : Content) (held : List Place) : Type 0 where
+pub record IsClearOf (tracks : ℕ) (content : Content) (held : List Place) : Type 0 where
   pub sound : IsSoundDisk tracks content
   pub kept : let bound = geometry_of tracks content in
       are_kept (content directory_head) (is_among (used_in bound content (entries_shown (directory_of bound content)))) held ≡ true
@@ -38,12 +38,12 @@ pub record IsClear (tracks : ℕ) (content : Content) (held : List Place) : Type
 abbrev pub IsUnclear : ℕ → Content → List Place → ShellFault → Type 0
 IsUnclear tracks content held (fault.Unsound u) = DiskFault (geometry_of tracks content) content u ⊎ (let bound = geometry_of tracks content in
     IsSpoiltAmong (content directory_head) (is_among (used_in bound content (entries_shown (directory_of bound content)))) held (fault.Unsound u))
-IsUnclear tracks content held f = IsUnread f
+IsUnclear tracks content held f = IsUnreadable f
 
 -- the disk's odd entries are put away in the new image, which is sound, and clear of the sectors that they lead to
 pub record IsAway (kind : Kind) (tracks : ℕ) (content : Content) (odds : List Odd) (new : List ℕ) : Type 0 where
   pub away : ArePutAway (geometry_of tracks content) odds content (content_of kind new)
-  pub clear : IsClear tracks (content_of kind new) (held_places (geometry_of tracks content) content odds)
+  pub clear : IsClearOf tracks (content_of kind new) (held_places (geometry_of tracks content) content odds)
   pub sound : IsSoundImage kind new
   pub opens : image_fault kind new ≡ None
 
@@ -51,7 +51,7 @@ pub record IsAway (kind : Kind) (tracks : ℕ) (content : Content) (odds : List 
 abbrev pub IsNotLeft : ℕ → Content → List Odd → ShellFault → Type 0
 IsNotLeft tracks content odds (fault.Unsound u) = (left : Content) × ArePutAway (geometry_of tracks content) odds content left
     × IsUnclear tracks left (held_places (geometry_of tracks content) content odds) (fault.Unsound u)
-IsNotLeft tracks content odds f = IsUnread f
+IsNotLeft tracks content odds f = IsUnreadable f
 
 -- THE ODD ENTRIES OF AN IMAGE ARE PUT AWAY: they are all that is wrong with its disk
 pub record IsAwayIn (image : List ℕ) (a : Away) : Type 0 where
@@ -65,4 +65,4 @@ IsNotAwayIn image (fault.Image n) = image_fault (kind_of image) image ≡ Some n
 IsNotAwayIn image (fault.Unsound u) = let tracks = tracks_of (kind_of image) image in let content = content_of (kind_of image) image in
     (first_flaw (flaws_of (geometry_of tracks content) content) ≡ Err u)
     ⊎ ((odds : List Odd) × AreOddOf (geometry_of tracks content) content odds × IsNotLeft tracks content odds (fault.Unsound u))
-IsNotAwayIn image f = IsUnread f
+IsNotAwayIn image f = IsUnreadable f

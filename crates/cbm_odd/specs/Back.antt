@@ -15,9 +15,9 @@ use Rattle.cbm_shell.specs.Images.{IsImageOpened, IsOpenFault}
 use Rattle.cbm_shell.specs.declared.fault.ShellFault.{ShellFault}
 use Rattle.cbm_shell.specs.declared.fault.ShellFault.TheVariants as fault
 use Rattle.cbm_odd.specs.declared.odd.Odd.{Odd}
-use Rattle.cbm_odd.specs.Odd.{IsUnread}
+use Rattle.cbm_odd.specs.Odd.{IsUnreadable}
 use Rattle.cbm_odd.specs.Held.{held_places, are_same_cells, IsChangedAmong}
-use Rattle.cbm_odd.specs.Away.{IsClear, IsUnclear}
+use Rattle.cbm_odd.specs.Away.{IsClearOf, IsUnclear}
 
 -- what is found in an odd entry's slot still stands for it: it isn't empty, and only its type and its link may be others
 abbrev pub stands_for : List ℕ → List ℕ → Bool
@@ -36,7 +36,7 @@ protected = record { code = WriteProtected; first = 0; second = 0 }
 -- nothing stands for an odd entry any more; or the directory can't be read or written
 abbrev pub IsMissing : Listed → Odd → ShellFault → Type 0
 IsMissing listed odd (fault.Refused s) = (s ≡ protected) × (StandsIn listed odd → ⊥)
-IsMissing listed odd f = IsUnread f
+IsMissing listed odd f = IsUnreadable f
 
 -- an odd entry is in its slot again, byte for byte, where something still stood for it; nothing else is changed
 pub record IsPutBack (tracks : ℕ) (odd : Odd) (old new : Content) : Type 0 where
@@ -50,24 +50,24 @@ ArePutBack tracks (odd ∷ rest) old new = (between : Content) × IsPutBack trac
 
 -- one of them can't be put back, after those before it
 abbrev pub IsNotBackFrom : ℕ → List Odd → Content → ShellFault → Type 0
-IsNotBackFrom tracks [] now f = IsUnread f
+IsNotBackFrom tracks [] now f = IsUnreadable f
 IsNotBackFrom tracks (odd ∷ rest) now f =
     IsMissing (directory_of tracks now) odd f ⊎ ((between : Content) × IsPutBack tracks odd now between × IsNotBackFrom tracks rest between f)
 
 -- A CHANGE LEFT ODD ENTRIES' SECTORS ALONE: each holds what it held, is taken in the new BAM, and no file's; what is left is sound
-pub record IsLeftAlone (tracks : ℕ) (old : Content) (after : ℕ) (new : Content) (odds : List Odd) : Type 0 where
-  pub clear : IsClear after new (held_places (geometry_of tracks old) old odds)
+pub record LeavesHeld (tracks : ℕ) (old : Content) (after : ℕ) (new : Content) (odds : List Odd) : Type 0 where
+  pub clear : IsClearOf after new (held_places (geometry_of tracks old) old odds)
   pub same : are_same_cells old new (held_places (geometry_of tracks old) old odds) ≡ true
 
 -- what is left isn't clear of these sectors, or one of them has changed
-abbrev pub IsNotLeftAlone : Seen → Seen → List Odd → ShellFault → Type 0
-IsNotLeftAlone old new odds f =
+abbrev pub ChangesHeld : Seen → Seen → List Odd → ShellFault → Type 0
+ChangesHeld old new odds f =
     IsUnclear new.tracks new.content (held_places (geometry_of old.tracks old.content) old.content odds) f
     ⊎ IsChangedAmong old new (held_places (geometry_of old.tracks old.content) old.content odds) f
 
 -- THE ODD ENTRIES OF AN IMAGE ARE PUT BACK into the image that was made of it without them
 pub record IsBackIn (kind : Kind) (image : List ℕ) (odds : List Odd) (changed new : List ℕ) : Type 0 where
-  pub alone : IsLeftAlone (tracks_of kind image) (content_of kind image) (tracks_of kind changed) (content_of kind changed) odds
+  pub alone : LeavesHeld (tracks_of kind image) (content_of kind image) (tracks_of kind changed) (content_of kind changed) odds
   pub back : let tracks = tracks_of kind changed in let content = content_of kind changed in
       ArePutBack (geometry_of tracks content) odds content (content_of kind new)
   pub opens : image_fault kind new ≡ None
@@ -77,4 +77,4 @@ abbrev pub IsNotBackIn : List ℕ → List Odd → List ℕ → ShellFault → T
 IsNotBackIn image odds changed f =
     (((f ≡ fault.Mistaken) × (kind_of image ≢ kind_of changed)) ⊎ (IsOpenFault image f ⊎ IsOpenFault changed f))
     ⊎ ((old : Seen) × (new : Seen) × IsImageOpened image old × IsImageOpened changed new
-    × (IsNotLeftAlone old new odds f ⊎ IsNotBackFrom (geometry_of new.tracks new.content) odds new.content f))
+    × (ChangesHeld old new odds f ⊎ IsNotBackFrom (geometry_of new.tracks new.content) odds new.content f))

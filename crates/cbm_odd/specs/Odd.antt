@@ -51,16 +51,16 @@ pub record AreOddOf (tracks : ℕ) (content : Content) (odds : List Odd) : Type 
   pub odd : odds ≡ odds_among (flaws_of tracks content) 0 entries
 
 -- the first of these flaws
-abbrev pub IsFirstOf : List DiskFlaw → ShellFault → Type 0
-IsFirstOf flaws f = (u : Unsound) × (first_flaw flaws ≡ Err u) × (f ≡ fault.Unsound u)
+abbrev pub IsFirstFlaw : List DiskFlaw → ShellFault → Type 0
+IsFirstFlaw flaws f = (u : Unsound) × (first_flaw flaws ≡ Err u) × (f ≡ fault.Unsound u)
 
 -- memory ran out, or a sector can't be read
-abbrev pub IsUnread : ShellFault → Type 0
-IsUnread fault.Memory = Unit {0}
-IsUnread (fault.Trouble t) = Unit {0}
-IsUnread f = ⊥
+abbrev pub IsUnreadable : ShellFault → Type 0
+IsUnreadable fault.Memory = Unit {0}
+IsUnreadable (fault.Trouble t) = Unit {0}
+IsUnreadable f = ⊥
 
 -- why a disk's odd entries aren't known: more is wrong than entries, and this is the first flaw; or it can't be read
 abbrev pub IsNotOddOf : ℕ → Content → ShellFault → Type 0
 IsNotOddOf tracks content (fault.Unsound u) = first_flaw (flaws_of tracks content) ≡ Err u
-IsNotOddOf tracks content f = IsUnread f
+IsNotOddOf tracks content f = IsUnreadable f

@@ -4,8 +4,8 @@ ghost use Rattle.cbm_bam.specs.Map.{geometry_of};
 ghost use Rattle.cbm_directory.specs.Entries.{EntersLed};
 ghost use Rattle.cbm_image.specs.Images.{kind_of, image_fault, content_of};
 ghost use Rattle.cbm_shell.specs.Images.{IsSoundImage, IsSoundDisk};
-ghost use Rattle.cbm_odd.specs.Away.{away_entry, ArePutAway, IsClear, IsUnclear, IsAway, IsNotLeft, IsAwayIn, IsNotAwayIn};
-ghost use Rattle.cbm_odd.specs.Odd.{IsUnread};
+ghost use Rattle.cbm_odd.specs.Away.{away_entry, ArePutAway, IsClearOf, IsUnclear, IsAway, IsNotLeft, IsAwayIn, IsNotAwayIn};
+ghost use Rattle.cbm_odd.specs.Odd.{IsUnreadable};
 
 use crate::held::{held_places, require_kept};
 use crate::odd::{Odd, odds_of};
@@ -52,7 +52,7 @@ pub(crate) fn put_entry<M: Steady>(
     requires { geometry ≤ (M.seen medium.old).tracks }
     ensures tracks { (M.seen medium.new).tracks ≡ (M.seen medium.old).tracks }
     ensures entered { OnOk result (EntersLed geometry (M.seen medium.old).content (M.seen medium.new).content slot entry.now) }
-    ensures fault { IfErr result IsUnread }
+    ensures fault { IfErr result IsUnreadable }
 {
     put_slot(medium, geometry, slot, entry)?;
     Ok(())
@@ -67,7 +67,7 @@ fn put_each_away<M: Steady>(
     requires { geometry ≤ (M.seen medium.old).tracks }
     ensures tracks { (M.seen medium.new).tracks ≡ (M.seen medium.old).tracks }
     ensures away { OnOk result (ArePutAway geometry odds.now (M.seen medium.old).content (M.seen medium.new).content) }
-    ensures fault { IfErr result IsUnread }
+    ensures fault { IfErr result IsUnreadable }
 {
     for odd in odds {
         put_entry(medium, geometry, odd.slot, &away_entry(&odd.entry))?;
@@ -80,7 +80,7 @@ fn without<M: Steady + Drop>(volume: Volume<M>, odds: &[Odd]) -> Result<M, Shell
     ensures tracks { IfOk result (λ after. (M.seen after).tracks ≡ (M.seen volume).tracks) }
     ensures away { let old = M.seen volume in IfOk result (λ after.
         ArePutAway (geometry_of old.tracks old.content) odds.now old.content (M.seen after).content) }
-    ensures fault { IfErr result IsUnread }
+    ensures fault { IfErr result IsUnreadable }
 {
     let geometry = volume.geometry();
     let mut medium = volume.into_medium();
@@ -94,7 +94,7 @@ pub(crate) fn require_clear<M: Medium>(
     volume: &Volume<M>,
     held: &[Address],
 ) -> Result<(), ShellFault>
-    ensures clear { let now = M.seen volume.now in OnOk result (IsClear now.tracks now.content held.now) }
+    ensures clear { let now = M.seen volume.now in OnOk result (IsClearOf now.tracks now.content held.now) }
     ensures fault { let now = M.seen volume.now in IfErr result (IsUnclear now.tracks now.content held.now) }
 {
     require_sound(volume)?;
@@ -110,7 +110,7 @@ pub(crate) fn clear_image<I: DiskImage + Drop>(
     disk: I,
     held: &[Address],
 ) -> Result<Vec<u8>, ShellFault>
-    ensures clear { let now = I.seen disk in OnOk result (IsClear now.tracks now.content held.now) }
+    ensures clear { let now = I.seen disk in OnOk result (IsClearOf now.tracks now.content held.now) }
     ensures sound { IfOk result (λ v. IsSoundImage I.kind v.items) }
     ensures content { IfOk result (λ v. content_of I.kind v.items ≡ (I.seen disk).content) }
     ensures opens { IfOk result (λ v. image_fault I.kind v.items ≡ None) }

@@ -4,7 +4,7 @@ ghost use Rattle.std.specs.Str.{bytes_eq};
 ghost use Rattle.cbm_bam.specs.Map.{geometry_of};
 ghost use Rattle.cbm_directory.specs.Slots.{directory_of};
 ghost use Rattle.cbm_image.specs.Images.{kind_of, image_fault, content_of};
-ghost use Rattle.cbm_odd.specs.Back.{stands_for, protected, StandsIn, IsMissing, IsPutBack, ArePutBack, IsNotBackFrom, IsLeftAlone, IsNotLeftAlone, IsBackIn, IsNotBackIn};
+ghost use Rattle.cbm_odd.specs.Back.{stands_for, protected, StandsIn, IsMissing, IsPutBack, ArePutBack, IsNotBackFrom, LeavesHeld, ChangesHeld, IsBackIn, IsNotBackIn};
 
 use crate::away::{put_entry, require_clear};
 use crate::held::{held_places, require_same};
@@ -108,9 +108,9 @@ fn require_left_alone<M: Medium>(
     odds: &[Odd],
 ) -> Result<(), ShellFault>
     ensures alone { let before = M.seen old.now in let now = M.seen new.now in
-        OnOk result (IsLeftAlone before.tracks before.content now.tracks now.content odds.now) }
+        OnOk result (LeavesHeld before.tracks before.content now.tracks now.content odds.now) }
     ensures fault { let before = M.seen old.now in let now = M.seen new.now in
-        IfErr result (IsNotLeftAlone before now odds.now) }
+        IfErr result (ChangesHeld before now odds.now) }
 {
     let held = held_places(alloc, old.medium(), old.geometry(), odds)?;
     require_clear(alloc, new, held.as_slice())?;

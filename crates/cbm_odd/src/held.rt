@@ -6,7 +6,7 @@ ghost use Rattle.cbm_volume.specs.check.Claims.{fault_at};
 ghost use Rattle.cbm_shell.specs.Mapping.{is_among};
 ghost use Rattle.cbm_shell.specs.Marking.{with_places};
 ghost use Rattle.cbm_shell.specs.Passing.{place_if, places_on, places_in};
-ghost use Rattle.cbm_odd.specs.Held.{reach_of, reached_by, is_held, held_places, spoilt, are_kept, IsSpoiltAmong, is_same_cell, are_same_cells, IsChangedAmong};
+ghost use Rattle.cbm_odd.specs.Held.{reach_of, reached_by, is_only_reached, held_places, spoilt, are_kept, IsSpoiltAmong, is_same_cell, are_same_cells, IsChangedAmong};
 
 use crate::odd::Odd;
 use cbm_bam::SectorSet;
@@ -61,17 +61,17 @@ fn reached_by<M: Medium>(medium: &M, geometry: Geometry, odds: &[Odd]) -> Sector
 }
 
 /// Whether a sector is in the first set, and not in the other.
-fn is_held(reached: &SectorSet, own: &SectorSet, at: Address) -> bool
-    ensures { result ≡ is_held (is_marked reached.now) (is_marked own.now) at }
+fn is_only_reached(reached: &SectorSet, own: &SectorSet, at: Address) -> bool
+    ensures { result ≡ is_only_reached (is_marked reached.now) (is_marked own.now) at }
 {
     reached.has(at) && !own.has(at)
 }
 
 /// Adds a sector, if it is held.
-fn add_held(out: &mut Vec<Address>, is_held: bool, at: Address) -> Result<(), AllocError>
-    ensures { OnOk result (out.new.items ≡ out.old.items ++ place_if is_held at) }
+fn add_held(out: &mut Vec<Address>, is_only_reached: bool, at: Address) -> Result<(), AllocError>
+    ensures { OnOk result (out.new.items ≡ out.old.items ++ place_if is_only_reached at) }
 {
-    if is_held {
+    if is_only_reached {
         out.push(at).map_err(AllocError::from)?;
     }
     Ok(())
@@ -85,12 +85,12 @@ fn add_track(
     track: u8,
 ) -> Result<(), AllocError>
     requires { track ≤ 40 }
-    ensures { let held = is_held (is_marked reached.now) (is_marked own.now) in
+    ensures { let held = is_only_reached (is_marked reached.now) (is_marked own.now) in
         OnOk result (out.new.items ≡ out.old.items ++ places_on held track (sectors_on track)) }
 {
     for sector in 0..sectors_of(track) {
         match Address::new(track, sector) {
-            Some(at) => add_held(out, is_held(reached, own, at), at)?,
+            Some(at) => add_held(out, is_only_reached(reached, own, at), at)?,
             None => unreachable!(),
         }
     }
@@ -104,7 +104,7 @@ fn held_in(
     reached: &SectorSet,
     own: &SectorSet,
 ) -> Result<Vec<Address>, AllocError>
-    ensures { let held = is_held (is_marked reached.now) (is_marked own.now) in
+    ensures { let held = is_only_reached (is_marked reached.now) (is_marked own.now) in
         IfOk result (λ v. v.items ≡ places_in held geometry) }
 {
     let mut held = Vec::new(alloc);

@@ -2,7 +2,7 @@
 ghost use Rattle.std.specs.Prelude.{◌≡◌, ◌++◌, true, IfOk, IfErr, OnOk};
 ghost use Rattle.cbm_bam.specs.Map.{geometry_of};
 ghost use Rattle.cbm_shell.specs.Flaws.{flaws_of};
-ghost use Rattle.cbm_odd.specs.Odd.{is_of_entry, are_of_entries, is_of_slot, is_slot_flawed, odd_if, odds_among, AreOddOf, IsFirstOf, IsUnread, IsNotOddOf};
+ghost use Rattle.cbm_odd.specs.Odd.{is_of_entry, are_of_entries, is_of_slot, is_slot_flawed, odd_if, odds_among, AreOddOf, IsFirstFlaw, IsUnreadable, IsNotOddOf};
 
 use cbm_medium::Medium;
 use cbm_shell::parts::entry_of;
@@ -49,7 +49,7 @@ fn are_of_entries(flaws: &[DiskFlaw]) -> bool
 /// Refuses a disk on which more is wrong than its entries, with what is wrong first.
 fn require_entries(flaws: &[DiskFlaw]) -> Result<(), ShellFault>
     ensures fine { OnOk result (are_of_entries flaws.now ≡ true) }
-    ensures fault { IfErr result (IsFirstOf flaws.now) }
+    ensures fault { IfErr result (IsFirstFlaw flaws.now) }
 {
     match flaws.first() {
         None => Ok(()),
@@ -113,7 +113,7 @@ fn odds_among(alloc: Global, flaws: &[DiskFlaw], entries: &[Entry]) -> Result<Ve
 fn all_flaws<M: Medium>(alloc: Global, volume: &Volume<M>) -> Result<Vec<DiskFlaw>, ShellFault>
     ensures all { let now = M.seen volume.now in
         IfOk result (λ v. v.items ≡ flaws_of (geometry_of now.tracks now.content) now.content) }
-    ensures fault { IfErr result IsUnread }
+    ensures fault { IfErr result IsUnreadable }
 {
     match flaws_of(alloc, volume) {
         Ok(flaws) => Ok(flaws),

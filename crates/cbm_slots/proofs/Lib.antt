@@ -1,1 +1,2 @@
+pub mod CopyingLemmas
 pub mod DeletingLemmas

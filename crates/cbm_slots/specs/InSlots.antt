@@ -1,4 +1,4 @@
--- A file by the slot of the directory in which its entry stands: another name, a lock, its end.
+-- A file by the slot of the directory in which its entry stands: another name, a lock, a copy, its end.
 use Rattle.std.specs.Prelude.{ℕ, ◌≡◌, ◌+◌, ◌*◌, ◌==◌, ◌&&◌, ◌⊎◌, ◌∷◌, [], not, Bool, true, false, List, Some, None, slice_get, slice_index, slice_range, ◌/◌, ◌%◌, ◌<◌, ◌≤◌, length}
 use Rattle.std.specs.List.{list_any}
 use Rattle.std.specs.Str.{bytes_eq}
@@ -48,6 +48,10 @@ spare_of n = (1 + n / 12) ∷ (1 + n % 12) ∷ []
 -- files have all of them
 abbrev pub AreSparesTaken : List (List ℕ) → Type 0
 AreSparesTaken entries = (n : ℕ) → n < 144 → has_name (spare_of n) entries ≡ true
+
+-- of each two of them files have one
+abbrev pub ArePairsTaken : List (List ℕ) → Type 0
+ArePairsTaken entries = (n : ℕ) → n < 72 → (has_name (spare_of (2 * n)) entries ≡ true) ⊎ (has_name (spare_of (2 * n + 1)) entries ≡ true)
 
 -- how many blocks an entry says that its file has
 abbrev pub blocks_said : List ℕ → ℕ
@@ -113,6 +117,53 @@ pub record IsDeletedInSlot (image : List ℕ) (slot : ℕ) (new : List ℕ) : Ty
   pub sound : IsSoundImage (kind_of scratched) new
   pub opens : image_fault (kind_of scratched) new ≡ None
 
+-- ---- COPY
+
+-- the text of COPY, with names of two bytes
+abbrev pub copy_text : List ℕ → List ℕ → List ℕ
+copy_text new old = 67 ∷ 48 ∷ 58 ∷ slice_index new 0 ∷ slice_index new 1 ∷ 61 ∷ slice_index old 0 ∷ slice_index old 1 ∷ []
+
+-- A FILE AND ITS COPY: the entry of a slot gets one spare name, the drive copies that to another, and the entry has its own name and lock again
+pub record IsDoubled (image : List ℕ) (slot : ℕ) (name : List ℕ) (blocks : ℕ) (locked : Bool) (old new both : List ℕ) : Type 0 where
+  pub hidden : List ℕ
+  pub copied : List ℕ
+  pub dressed : IsDressedIn image slot old blocks false hidden
+  pub done : IsCommanded hidden (copy_text new old) copied
+  pub named : IsDressedIn copied slot name blocks locked both
+
+-- this place of a directory has a file of a name, with so many blocks
+pub record IsPlaceOf (entries : List (List ℕ)) (name : List ℕ) (place count : ℕ) : Type 0 where
+  pub entry : List ℕ
+  pub there : slice_get entries place ≡ Some entry
+  pub named : is_named name entry ≡ true
+  pub blocks : count ≡ blocks_said entry
+
+-- the file of a spare name gets another one, and nothing else of the image is changed
+pub record IsNamedAs (image spare name new : List ℕ) : Type 0 where
+  pub entries : List (List ℕ)
+  pub place : ℕ
+  pub blocks : ℕ
+  pub all : AreEntriesOf image entries
+  pub there : IsPlaceOf entries spare place blocks
+  pub dressed : IsDressedIn image place name blocks false new
+
+-- THE FILE OF A SLOT IS COPIED to a name that no file had: the drive copies it between spare names, and the copy gets the name. The new image is sound, and opens again.
+pub record IsCopiedInSlot (image : List ℕ) (slot : ℕ) (name new : List ℕ) : Type 0 where
+  pub entries : List (List ℕ)
+  pub entry : List ℕ
+  pub old : List ℕ
+  pub spare : List ℕ
+  pub both : List ℕ
+  pub all : AreEntriesOf image entries
+  pub there : HasFile entries slot entry
+  pub free : has_name name entries ≡ false
+  pub old_free : has_name old entries ≡ false
+  pub spare_free : has_name spare entries ≡ false
+  pub doubled : IsDoubled image slot (slice_range entry 3 19) (blocks_said entry) (is_locked entry) old spare both
+  pub named : IsNamedAs both spare name new
+  pub sound : IsSoundImage (kind_of both) new
+  pub opens : image_fault (kind_of both) new ≡ None
+
 -- ---- why nothing is changed
 
 -- a slot of a list of entries has no file: the list ends before it, or its entry is empty
@@ -128,11 +179,14 @@ IsNoFile image slot f = (IsOpenFault image f ⊎ IsReadFault (directory_in image
 abbrev pub IsRefusal : Status → ShellFault → Type 0
 IsRefusal s f = f ≡ fault.Refused s
 
+-- a file has the name
+abbrev pub IsNameTaken : List ℕ → List ℕ → ShellFault → Type 0
+IsNameTaken image name f =
+    (entries : List (List ℕ)) × AreEntriesOf image entries × (has_name name entries ≡ true) × IsRefusal (record { code = FileExists; first = 0; second = 0 }) f
+
 -- nothing is renamed: the slot means no file, a file has the name, or the disk isn't sound
 abbrev pub IsNotRenamedInSlot : List ℕ → ℕ → List ℕ → ShellFault → Type 0
-IsNotRenamedInSlot image slot name f = IsNoFile image slot f
-    ⊎ (((entries : List (List ℕ)) × AreEntriesOf image entries × (has_name name entries ≡ true) × IsRefusal (record { code = FileExists; first = 0; second = 0 }) f)
-    ⊎ IsUneditedIn image (HasNoSlotIn image slot) f)
+IsNotRenamedInSlot image slot name f = IsNoFile image slot f ⊎ (IsNameTaken image name f ⊎ IsUneditedIn image (HasNoSlotIn image slot) f)
 
 -- nothing is locked or freed: the slot means no file, or the disk isn't sound
 abbrev pub IsNotLockedInSlot : List ℕ → ℕ → ShellFault → Type 0
@@ -172,3 +226,58 @@ pub record IsNotNamed (image : List ℕ) (slot : ℕ) (f : ShellFault) : Type 0 
 abbrev pub IsNotDeletedInSlot : List ℕ → ℕ → ShellFault → Type 0
 IsNotDeletedInSlot image slot f = IsNoFile image slot f ⊎ (IsKeptByLock image slot f ⊎ (IsWithoutSpare image f
     ⊎ (IsUneditedIn image (HasNoSlotIn image slot) f ⊎ (IsNotScratched image slot f ⊎ IsNotNamed image slot f))))
+
+-- of each two spare names one is taken
+abbrev pub IsWithoutPair : List ℕ → ShellFault → Type 0
+IsWithoutPair image f = (entries : List (List ℕ)) × AreEntriesOf image entries × ArePairsTaken entries × IsRefusal (record { code = FileExists; first = 0; second = 0 }) f
+
+-- the file has a spare name, and the drive doesn't copy it: the image isn't opened, memory runs out, or the machine refuses it
+pub record IsCopyRefused (image : List ℕ) (slot : ℕ) (f : ShellFault) : Type 0 where
+  pub blocks : ℕ
+  pub old : List ℕ
+  pub new : List ℕ
+  pub hidden : List ℕ
+  pub change : DiskChange
+  pub dressed : IsDressedIn image slot old blocks false hidden
+  pub copies : (m : Machine) → begun change m ≡ after_open 15 (copy_text new old) m
+  pub failed : (d : Disk) → ImageHolds (kind_of hidden) hidden d → IsFailed hidden change (machine_on hidden d) f
+
+-- it was copied, and the file doesn't get its own name again: memory runs out, or a fault that no sound disk has
+pub record IsNotItself (image : List ℕ) (slot : ℕ) (f : ShellFault) : Type 0 where
+  pub blocks : ℕ
+  pub old : List ℕ
+  pub new : List ℕ
+  pub hidden : List ℕ
+  pub copied : List ℕ
+  pub dressed : IsDressedIn image slot old blocks false hidden
+  pub done : IsCommanded hidden (copy_text new old) copied
+  pub failed : IsUneditedIn copied (HasNoSlotIn copied slot) f
+
+-- a file doesn't get its copy: the disk isn't sound, or as above
+abbrev pub IsNotDoubled : List ℕ → ℕ → ShellFault → Type 0
+IsNotDoubled image slot f = IsUneditedIn image (HasNoSlotIn image slot) f ⊎ (IsCopyRefused image slot f ⊎ IsNotItself image slot f)
+
+-- no file has the spare name, or the directory has more entries than there are numbers of slots
+abbrev pub IsNowhere : List (List ℕ) → List ℕ → Type 0
+IsNowhere entries name = (has_name name entries ≡ false) ⊎ (255 ≤ length entries)
+
+-- the file of a spare name gets no other one: memory runs out, or a fault that no sound disk has
+abbrev pub IsNotNamedAs : List ℕ → List ℕ → ShellFault → Type 0
+IsNotNamedAs image spare f = (IsOpenFault image f ⊎ IsReadFault (directory_in image).trouble f)
+    ⊎ (((entries : List (List ℕ)) × AreEntriesOf image entries × IsNowhere entries spare × (f ≡ fault.NotFound))
+    ⊎ ((place : ℕ) × IsUneditedIn image (HasNoSlotIn image place) f))
+
+-- the copy doesn't get its name
+pub record IsCopyUnnamed (image : List ℕ) (slot : ℕ) (f : ShellFault) : Type 0 where
+  pub name : List ℕ
+  pub blocks : ℕ
+  pub locked : Bool
+  pub old : List ℕ
+  pub spare : List ℕ
+  pub both : List ℕ
+  pub doubled : IsDoubled image slot name blocks locked old spare both
+  pub failed : IsNotNamedAs both spare f
+
+-- nothing is copied: the slot means no file, a file has the name, no two spare names are free, the disk isn't sound, or the drive refuses it
+abbrev pub IsNotCopiedInSlot : List ℕ → ℕ → List ℕ → ShellFault → Type 0
+IsNotCopiedInSlot image slot name f = IsNoFile image slot f ⊎ (IsNameTaken image name f ⊎ (IsWithoutPair image f ⊎ (IsNotDoubled image slot f ⊎ IsCopyUnnamed image slot f)))

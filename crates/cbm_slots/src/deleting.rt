@@ -1,41 +1,14 @@
 //! DELETE: the drive's SCRATCH, of the one file that is meant.
-ghost use Rattle.std.specs.Prelude.{◌≡◌, ◌<◌, false, None, Some, IfOk, IfErr, IfSome, OnOk, MatchOption, length};
+ghost use Rattle.std.specs.Prelude.{◌≡◌, IfOk, IfErr, OnOk};
 ghost use Rattle.cbm_image.specs.Images.{kind_of};
 ghost use Rattle.cbm_shell.specs.Images.{IsSoundImage};
-ghost use Rattle.cbm_slots.specs.InSlots.{has_name, scratch_text, spare_of, AreSparesTaken, IsDeletedInSlot, IsNotDeletedInSlot};
+ghost use Rattle.cbm_slots.specs.InSlots.{scratch_text, IsDeletedInSlot, IsNotDeletedInSlot};
 
-use crate::meant::{find_meant, has_name, refused};
+use crate::meant::{find_meant, refused};
+use crate::spares::spare_name;
 use cbm_channel::Code;
 use cbm_shell::{DiskChange, Looks, ShellFault, change, dress};
-use cbm_volume::Entry;
 use std::alloc::Global;
-
-/// How many spare names there are.
-const SPARES: u8 = 144;
-
-/// The spare name of a number. No command of the drive gives a meaning to its bytes, 1 to 12.
-fn spare_of(number: u8) -> [u8; 2]
-    requires { number < 144 }
-    ensures { result ≡ spare_of number }
-{
-    [1 + number / 12, 1 + number % 12]
-}
-
-/// A name that no file has and that SCRATCH takes for nothing else; None if files have all of them.
-fn spare_name(entries: &[Entry]) -> Option<[u8; 2]>
-    ensures free { IfSome result (λ name. has_name name entries.now ≡ false) }
-    ensures none { result ≡ None → AreSparesTaken entries.now }
-{
-    let mut number = 0;
-    'names: while number < SPARES {
-        let name = spare_of(number);
-        if !has_name(entries, &name) {
-            return Some(name);
-        }
-        number += 1;
-    }
-    None
-}
 
 /// SCRATCH of a name.
 fn scratch_text(name: &[u8; 2]) -> [u8; 5]

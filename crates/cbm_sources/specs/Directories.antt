@@ -13,6 +13,11 @@ abbrev pub directory_start : Form → Place
 directory_start D81 = record { track = 40; sector = 3 }
 directory_start _ = first_directory
 
+-- how many sectors the directory of each form has at most: those of its track after the header, or on a 1581's disk after the BAM
+abbrev pub directory_limit : Form → ℕ
+directory_limit D81 = 37
+directory_limit _ = 18
+
 -- the entries that aren't empty
 abbrev pub used : List (List ℕ) → List (List ℕ)
 used entries = filter (λ e. not (type_byte e == 0)) entries

@@ -9,12 +9,12 @@ use Rattle.cbm_sources.specs.declared.fault.Fault.TheVariants.{NoFile, Chain}
 use Rattle.cbm_sources.specs.Forms.{form_sectors}
 use Rattle.cbm_sources.specs.Sectors.{SourceImage, image_content}
 use Rattle.cbm_sources.specs.Chains.{met_once}
-use Rattle.cbm_sources.specs.Directories.{directory_start, listed_of}
+use Rattle.cbm_sources.specs.Directories.{directory_start, directory_limit, listed_of}
 use Rattle.cbm_sources.specs.Answers.{FileTold}
 
 -- the directory of an image's disk
 unfoldable pub disk_listed : SourceImage → Listed
-disk_listed image = listed_of (image_content image) (met_once (image_content image) (form_sectors image.form) [] (directory_start image.form))
+disk_listed image = listed_of (image_content image) (met_once (image_content image) (directory_limit image.form) [] (directory_start image.form))
 
 -- all bytes of a chain, or the trouble that breaks it off
 abbrev pub whole : RestOfFile → FileTold

@@ -1,6 +1,7 @@
 ghost use Rattle.std.specs.Prelude.{◌≡◌, ◌<◌, ◌+◌, IfSome, None};
 ghost use Rattle.cbm_medium.specs.Place.{Place};
 ghost use Rattle.cbm_sources.specs.Forms.{form_tracks, form_sectors, sectors_on_track, sectors_ahead, place_in_image, index_in_image, HasSector, IsSizeOf};
+ghost use Rattle.cbm_sources.specs.Directories.{directory_limit};
 
 use cbm_medium::Link;
 
@@ -58,6 +59,16 @@ impl Form {
             Form::D64Of42 => 802,
             Form::D71 => 1366,
             Form::D81 => 3200,
+        }
+    }
+
+    /// How many sectors the directory of its disk has at most: those that its track has for it.
+    pub fn directory_limit(self) -> u16
+        ensures { result ≡ directory_limit self }
+    {
+        match self {
+            Form::D81 => 37,
+            _ => 18,
         }
     }
 

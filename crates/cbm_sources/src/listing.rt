@@ -46,13 +46,13 @@ fn add_entries(entries: &mut Vec<Entry>, sector: &[u8; 256]) -> Result<(), Alloc
     Ok(())
 }
 
-/// The entries of a disk's directory that aren't empty, up to where it ends or breaks off. The one error is want of memory.
+/// The entries of a disk's directory that aren't empty, up to where it ends or breaks off, or has as many sectors as it may have. The one error is want of memory.
 #[tactic(auto, unfolding(crate::specs::Sources::disk_listed))]
 pub fn listed_of(alloc: Global, disk: &Disk) -> Result<Listed, AllocError>
     ensures { IfOk result (λ l. disk_listed disk.now ≡ (record { entries = l.entries.items; trouble = l.trouble })) }
 {
     let form = disk.form();
-    let mut trail = Trail::begin(alloc, form.sectors(), directory_start(form));
+    let mut trail = Trail::begin(alloc, form.directory_limit(), directory_start(form));
     let mut entries = Vec::new(alloc);
     'sectors: while let Some(sector) = trail.next(disk)? {
         add_entries(&mut entries, &sector)?;

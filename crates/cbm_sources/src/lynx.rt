@@ -34,18 +34,23 @@ pub(crate) struct Found {
     broken: Option<usize>,
 }
 
-/// A Lynx archive.
+/// A Lynx archive, and what can be read of its directory.
 #[derive(Drop)]
 pub struct Lynx<'a> {
     bytes: &'a [u8],
+    found: Found,
 }
 
 impl<'a> Model for Lynx<'a> {
-    ghost use Rattle.std.specs.Prelude.{List, ℕ};
+    ghost use Rattle.std.specs.Prelude.{◌≡◌, List, ℕ};
+    ghost use Rattle.cbm_sources.specs.Lynxes.{members_of};
 
     ghost Value = { List ℕ };
 
     ghost view = { λ l. l.bytes.now };
+
+    ghost invariant = { λ l. members_of l.bytes.now
+        ≡ (record { entries = l.found.entries.items; pieces = l.found.pieces.items; broken = l.found.broken }) };
 }
 
 /// How many side sectors come before the data of a relative file: each names 120 blocks.
@@ -175,15 +180,16 @@ fn file_among(alloc: Global, bytes: &[u8], found: &Found, number: usize) -> Resu
 }
 
 impl<'a> Lynx<'a> {
-    /// The archive of these bytes, None if they are none.
-    pub fn of(bytes: &'a [u8]) -> Option<Lynx<'a>>
-        ensures some { IfSome result (λ l. l ≡ bytes.now) }
-        ensures is { IsSome result ↔ IsSome (lynx_header bytes.now) }
+    /// The archive of these bytes, None if they are none. The one error is want of memory.
+    pub fn of(alloc: Global, bytes: &'a [u8]) -> Result<Option<Lynx<'a>>, AllocError>
+        ensures some { IfOk result (λ o. IfSome o (λ l. l ≡ bytes.now)) }
+        ensures is { IfOk result (λ o. IsSome o ↔ IsSome (lynx_header bytes.now)) }
     {
-        match header_of(bytes) {
-            Some(_) => Some(Lynx { bytes }),
-            None => None,
+        if header_of(bytes).is_none() {
+            return Ok(None);
         }
+        let found = members_of(alloc, bytes)?;
+        Ok(Some(Lynx { bytes, found }))
     }
 
     /// Its files' entries, and the place where its directory can't be read any more. The one error is want of memory.
@@ -203,9 +209,6 @@ impl<'a> Lynx<'a> {
         ensures { MatchResult result (λ v. lynx_file self.now number ≡ Ok v.items)
             (λ fault. (fault ≡ Fault.Memory) ⊎ (lynx_file self.now number ≡ Err fault)) }
     {
-        match members_of(alloc, self.bytes) {
-            Ok(found) => file_among(alloc, self.bytes, &found, number),
-            Err(_) => Err(Fault::Memory),
-        }
+        file_among(alloc, self.bytes, &self.found, number)
     }
 }

@@ -65,20 +65,21 @@ fn text_fault(broken: Option<usize>) -> Option<Fault>
 }
 
 impl<'a> Source<'a> {
-    /// The source that these bytes are: an image if a form has their size, else an archive; None if they are none.
-    pub fn of(bytes: &'a [u8]) -> Option<Source<'a>>
-        ensures some { IfSome result (IsSourceOf bytes.now) }
-        ensures none { result ≡ None → IsNoSource bytes.now }
+    /// The source that these bytes are: an image if a form has their size, else an archive; None if they are none. The one error is
+    /// want of memory.
+    pub fn of(alloc: Global, bytes: &'a [u8]) -> Result<Option<Source<'a>>, AllocError>
+        ensures some { IfOk result (λ o. IfSome o (IsSourceOf bytes.now)) }
+        ensures none { IfOk result (λ o. o ≡ None → IsNoSource bytes.now) }
     {
         if let Some(disk) = Disk::of(bytes) {
-            return Some(Source::Image(disk));
+            return Ok(Some(Source::Image(disk)));
         }
-        if let Some(tape) = Tape::of(bytes) {
-            return Some(Source::TapeArchive(tape));
+        if let Some(tape) = Tape::of(alloc, bytes)? {
+            return Ok(Some(Source::TapeArchive(tape)));
         }
-        match Lynx::of(bytes) {
-            Some(lynx) => Some(Source::LynxArchive(lynx)),
-            None => None,
+        match Lynx::of(alloc, bytes)? {
+            Some(lynx) => Ok(Some(Source::LynxArchive(lynx))),
+            None => Ok(None),
         }
     }
 

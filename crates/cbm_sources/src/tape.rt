@@ -20,22 +20,22 @@ const MEMORY: usize = 65_536;
 /// The bytes of a file in a block of a disk.
 const BLOCK: usize = 254;
 
-/// A T64 archive.
+/// A T64 archive, and its records of files.
 #[derive(Drop)]
 pub struct Tape<'a> {
     bytes: &'a [u8],
+    records: Vec<Record>,
 }
 
 impl<'a> Model for Tape<'a> {
-    ghost use Rattle.std.specs.Prelude.{List, ℕ};
-    ghost use Rattle.cbm_file.specs.Files.{blocks_of};
-    ghost use Rattle.cbm_sources.specs.Tapes.{IsTape};
+    ghost use Rattle.std.specs.Prelude.{◌≡◌, List, ℕ};
+    ghost use Rattle.cbm_sources.specs.Tapes.{IsTape, used_records};
 
     ghost Value = { List ℕ };
 
     ghost view = { λ t. t.bytes.now };
 
-    ghost invariant = { λ t. IsTape t.bytes.now };
+    ghost invariant = { λ t. IsTape t.bytes.now × (t.records.items ≡ used_records t.bytes.now) };
 }
 
 /// How many records an archive has.
@@ -107,15 +107,16 @@ fn program(alloc: Global, record: &Record, bytes: &[u8]) -> Result<Vec<u8>, Allo
 }
 
 impl<'a> Tape<'a> {
-    /// The archive of these bytes, None if they are none.
-    pub fn of(bytes: &'a [u8]) -> Option<Tape<'a>>
-        ensures some { IfSome result (λ t. t ≡ bytes.now) }
-        ensures is { IsSome result ↔ IsTape bytes.now }
+    /// The archive of these bytes, None if they are none. The one error is want of memory.
+    pub fn of(alloc: Global, bytes: &'a [u8]) -> Result<Option<Tape<'a>>, AllocError>
+        ensures some { IfOk result (λ o. IfSome o (λ t. t ≡ bytes.now)) }
+        ensures is { IfOk result (λ o. IsSome o ↔ IsTape bytes.now) }
     {
         if bytes.len() >= HEADER && bytes.starts_with(b"C64") {
-            Some(Tape { bytes })
+            let records = used_records(alloc, bytes)?;
+            Ok(Some(Tape { bytes, records }))
         } else {
-            None
+            Ok(None)
         }
     }
 
@@ -161,8 +162,7 @@ impl<'a> Tape<'a> {
     pub fn entries(&self, alloc: Global) -> Result<Vec<Entry>, AllocError>
         ensures { IfOk result (λ v. v.items ≡ tape_entries self.now) }
     {
-        let records = used_records(alloc, self.bytes)?;
-        self.entries_of(alloc, records.as_slice())
+        self.entries_of(alloc, self.records.as_slice())
     }
 
     /// The bytes of a record's file.
@@ -199,9 +199,6 @@ impl<'a> Tape<'a> {
         ensures { MatchResult result (λ v. tape_file self.now number ≡ Ok v.items)
             (λ fault. (fault ≡ Fault.Memory) ⊎ (tape_file self.now number ≡ Err fault)) }
     {
-        match used_records(alloc, self.bytes) {
-            Ok(records) => self.file_among(alloc, records.as_slice(), number),
-            Err(_) => Err(Fault::Memory),
-        }
+        self.file_among(alloc, self.records.as_slice(), number)
     }
 }

@@ -4,6 +4,7 @@ use clap::ArgMatches;
 use disk_basics::{Choice, Failure, WordFault};
 use disk_changes::{Blank, Build, Conversion, HostFiles};
 use disk_commands::{flag, given, option};
+use disk_compare::{Form, Wanted};
 use disk_edits::{Gone, Ordering, Pair};
 use disk_looks::{Description, Destination, Mapping, OneFile};
 use disk_reports::View;
@@ -69,13 +70,41 @@ fn two_names<'a>(words: &ArgMatches<'a>) -> Result<(&'a str, &'a str), Failure<'
     }
 }
 
-/// The file that GET takes out. Errors: `Word`, where it isn't said by its name or by its slot.
-pub fn one_file<'a>(words: &ArgMatches<'a>, charset: Charset) -> Result<OneFile<'a>, Failure<'a>> {
+/// One file, by its name or by its slot. Errors: `Word`, where it isn't said by one of them.
+fn one_choice<'a>(words: &ArgMatches<'a>, charset: Charset) -> Result<Choice<'a>, Failure<'a>> {
     if option(words, "NAME").is_some() == option(words, "slot").is_some() {
         return Err(Failure::Word(WordFault::NoFileName));
     }
+    Ok(choice(words, given(words, "NAME"), charset))
+}
+
+/// How SHOW shows a file.
+fn form(words: &ArgMatches<'_>) -> Form {
+    if flag(words, "basic") {
+        return Form::Basic;
+    }
+    if flag(words, "hex") {
+        return Form::Hex;
+    }
+    if flag(words, "text") {
+        Form::Text
+    } else {
+        Form::Either
+    }
+}
+
+/// The file that SHOW shows. Errors: those of `one_choice`.
+pub fn wanted<'a>(words: &ArgMatches<'a>, charset: Charset) -> Result<Wanted<'a>, Failure<'a>> {
+    Ok(Wanted {
+        choice: one_choice(words, charset)?,
+        form: form(words),
+    })
+}
+
+/// The file that GET takes out. Errors: those of `one_choice`.
+pub fn one_file<'a>(words: &ArgMatches<'a>, charset: Charset) -> Result<OneFile<'a>, Failure<'a>> {
     Ok(OneFile {
-        choice: choice(words, given(words, "NAME"), charset),
+        choice: one_choice(words, charset)?,
         output: given(words, "output"),
         replaces: flag(words, "replace"),
         salvages: flag(words, "salvage"),

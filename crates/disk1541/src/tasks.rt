@@ -6,21 +6,22 @@ mod look;
 use self::look::look_at_all;
 use crate::reading::{
     blank, building, charset, checking, choice, conversion, description, gone, host_files, listing,
-    mapping, one_file, ordering, pair, pattern, place,
+    mapping, one_file, ordering, pair, pattern, place, wanted,
 };
 use cbm_shell::texts::Charset;
 use clap::ArgMatches;
 use disk_basics::host::is_standard;
 use disk_basics::{Choice, Failure, WordFault, petscii};
-use disk_changes::{build_image, convert_image, make, put};
+use disk_changes::{build_image, make, put};
 use disk_commands::{Verb, flag, given, option, verb_of};
+use disk_compare::{Comparison, diff, show};
 use disk_edits::{
     Deed, Edit, copy, delete_at_fault, do_with, error_bytes, key_of_word, put_in_order, rename,
     save_edit, sort, undelete_file,
 };
 use disk_looks::{Progress, describe, show_map, show_sector, show_track};
 use disk_reports::{Look, View};
-use disk_sources::{Transfer, get, get_all, transfer_files};
+use disk_sources::{Transfer, convert_image, get, get_all, transfer_files};
 use std::rt::Runtime;
 
 /// Carries out a command that looks at images.
@@ -133,6 +134,7 @@ fn transfer_with<'a, R: Runtime + AllocGlobal>(
         from: given(words, "FROM"),
         patterns: words.get_strs("PATTERN").unwrap_or(&[]),
         replaces: flag(words, "replace"),
+        is_dry: flag(words, "dry-run"),
         charset,
     };
     transfer_files(rt, given(words, "IMAGE"), &wanted)
@@ -146,6 +148,21 @@ fn title_with<'a, R: Runtime + AllocGlobal>(
 ) -> Result<(), Failure<'a>> {
     let edit = Edit::Title(given(words, "TITLE"), option(words, "id"), charset);
     save_edit(rt, given(words, "IMAGE"), &edit)
+}
+
+/// Shows what differs between two images.
+fn diff_with<'a, R: Runtime + AllocGlobal>(
+    rt: &R,
+    words: &ArgMatches<'a>,
+    charset: Charset,
+) -> Result<(), Failure<'a>> {
+    let comparison = Comparison {
+        first: given(words, "FIRST"),
+        second: given(words, "SECOND"),
+        charset,
+        is_json: flag(words, "json"),
+    };
+    diff(rt, comparison)
 }
 
 /// Puts files on the disk.
@@ -180,6 +197,8 @@ fn perform<'a, R: Runtime + AllocGlobal>(
         Verb::Check => look_with(rt, words, charset, checking(words)),
         Verb::Hash => look_with(rt, words, charset, View::Sum),
         Verb::Get => get(rt, image, &one_file(words, charset)?),
+        Verb::Show => show(rt, image, wanted(words, charset)?),
+        Verb::Diff => diff_with(rt, words, charset),
         Verb::GetAll => get_all(rt, image, place(words), progress),
         Verb::New => make(rt, image, &blank(words, charset)),
         Verb::Convert => convert_image(rt, image, &conversion(words)),

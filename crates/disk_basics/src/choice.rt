@@ -31,14 +31,19 @@ impl<'a> Choice<'a> {
     }
 }
 
-/// The slot of the first file of exactly this name.
-fn slot_named(entries: &[Entry], codes: &[u8]) -> Option<usize> {
+/// The slot of the first file of exactly this name; None where no file has it.
+pub fn slot_named(entries: &[Entry], codes: &[u8]) -> Option<usize> {
     for (slot, entry) in entries.iter().enumerate() {
         if !entry.is_empty() && entry.name() == codes {
             return Some(slot);
         }
     }
     None
+}
+
+/// The number of a slot. The one error is `NoFile`, with the word for the file, where no slot has it.
+pub fn slot_number<'a>(slot: usize, word: &'a str) -> Result<u8, Failure<'a>> {
+    u8::try_from(slot).map_err(|_| Failure::NoFile(word))
 }
 
 /// The slot of a number, if it has a file.

@@ -19,7 +19,7 @@ pub mod swaps;
 mod word_fault;
 
 pub use break_off::{BreakOff, Cause};
-pub use choice::{Choice, slot_chosen};
+pub use choice::{Choice, slot_chosen, slot_named, slot_number};
 pub use disk::Disk;
 pub use failure::{Failure, in_memory, on_disk};
 pub use flaws::{is_mendable, place_of, slots_of};

@@ -5,8 +5,8 @@ use self::losses::tell_lost;
 use cbm_image::{Kind, kind_of};
 use cbm_shell::Converted;
 use disk_basics::calls::convert;
-use disk_basics::host::{read_image, require_new, write};
-use disk_basics::{Failure, WordFault, format, on_disk};
+use disk_basics::host::{require_new, write};
+use disk_basics::{Failure, WordFault, on_disk};
 use host_files::Sync;
 use std::rt::Runtime;
 
@@ -43,8 +43,9 @@ fn require_other<'a>(image: &'a str, old: Kind, kind: Kind) -> Result<(), Failur
     Ok(())
 }
 
-/// Makes the new image, if it has the other format and nothing is there, and reports what it lacks.
-fn convert_bytes<'a, R: Runtime + AllocGlobal>(
+/// Makes a G64 of the bytes of a D64, or a D64 of a G64's, if nothing is there, and reports what it lacks. Errors: `Word`, where the
+/// image has that format already; `Exists`; `Disk`; `Lossy`, where the new image would lack something; `Write`.
+pub fn convert_from<'a, R: Runtime + AllocGlobal>(
     rt: &R,
     image: &'a str,
     bytes: &[u8],
@@ -57,16 +58,4 @@ fn convert_bytes<'a, R: Runtime + AllocGlobal>(
     let new = on_disk(image, convert(rt.alloc(), bytes))?;
     let _ = tell_lost(rt, wanted.output, &new.lost, old);
     write_converted(rt, wanted, &new)
-}
-
-/// Makes a G64 of a D64, or a D64 of a G64. Errors: `Word`, where no format is said or the image has it already; those of
-/// `read_image`; `Exists`; `Disk`; `Lossy`, where the new image would lack something; `Write`.
-pub fn convert_image<'a, R: Runtime + AllocGlobal>(
-    rt: &R,
-    image: &'a str,
-    wanted: &Conversion<'a>,
-) -> Result<(), Failure<'a>> {
-    let kind = format(wanted.output, wanted.format)?;
-    let bytes = read_image(rt, image)?;
-    convert_bytes(rt, image, bytes.as_slice(), wanted, kind)
 }

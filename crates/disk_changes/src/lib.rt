@@ -9,6 +9,6 @@ mod stored;
 
 pub use blanks::{Blank, make};
 pub use building::{Build, build_image};
-pub use converting::{Conversion, convert_image};
+pub use converting::{Conversion, convert_from};
 pub use putting::{HostFiles, put};
 pub use stored::{Stored, with_stored};

@@ -1,9 +1,10 @@
 //! A file's bytes on a disk, as a file of its kind.
-use cbm_channel::{Code, Status};
+use cbm_channel::Code;
 use cbm_shell::{DiskChange, Records, ShellFault};
 use disk_basics::calls::{entries, listed};
 use disk_basics::changing::{change, put_records};
 use disk_basics::host::joined;
+use disk_basics::spare::{has_name, taken};
 use disk_basics::{Failure, FileKind, WordFault, in_memory, on_disk};
 use disk_facts::count_files;
 use std::alloc::{AllocError, Global};
@@ -112,16 +113,15 @@ fn without<'a>(
 }
 
 /// Refuses a name that a file has: the drive's OPEN would take a relative file of it, and write over its records.
-fn require_free(alloc: Global, image: &[u8], name: &[u8]) -> Result<(), ShellFault> {
-    let entries = entries(alloc, image)?;
-    for entry in entries.as_slice() {
-        if !entry.is_empty() && entry.name() == name {
-            return Err(ShellFault::Refused(Status {
-                code: Code::FileExists,
-                first: 0,
-                second: 0,
-            }));
-        }
+fn require_free<'a>(
+    alloc: Global,
+    image: &'a str,
+    old: &[u8],
+    name: &[u8],
+) -> Result<(), Failure<'a>> {
+    let entries = on_disk(image, entries(alloc, old))?;
+    if has_name(entries.as_slice(), name) {
+        return Err(taken(image));
     }
     Ok(())
 }
@@ -134,7 +134,7 @@ fn with_records<'a>(
     file: &Stored<'_>,
     length: u8,
 ) -> Result<Vec<u8>, Failure<'a>> {
-    on_disk(image, require_free(alloc, old, file.name))?;
+    require_free(alloc, image, old, file.name)?;
     let text = joined(alloc, &[b"0:", file.name, b",L,", &[length]])?;
     let records = in_memory(records_of(alloc, file.bytes, length))?;
     let made = Records {

@@ -8,30 +8,31 @@ use std::alloc::{AllocError, Global};
 const VERSION: &str = "0.3.0";
 
 /// A word without its mark.
-fn unmarked<'a>(alloc: Global, word: &Word) -> Arg<'a> {
+fn unmarked<'a>(alloc: Global, word: &Word) -> Result<Arg<'a>, AllocError> {
     Arg::new(alloc, word.name)
         .help(word.help)
         .required(word.is_needed)
         .action(word.action)
         .value_names(word.value)
         .default_values(word.default)
+        .conflicts_with_all(word.excludes)
 }
 
 /// A word.
-fn arg<'a>(alloc: Global, word: &Word) -> Arg<'a> {
-    let arg = unmarked(alloc, word);
-    match word.mark {
+fn arg<'a>(alloc: Global, word: &Word) -> Result<Arg<'a>, AllocError> {
+    let arg = unmarked(alloc, word)?;
+    Ok(match word.mark {
         Mark::Place => arg,
         Mark::Long => arg.long(word.name),
         Mark::Short(letter) => arg.short(letter).long(word.name),
-    }
+    })
 }
 
 /// The words of a command.
 fn args<'a>(alloc: Global, words: &[Word]) -> Result<Vec<Arg<'a>>, AllocError> {
     let mut args = Vec::new(alloc);
     for word in words {
-        args.push(arg(alloc, word))?;
+        args.push(arg(alloc, word)?)?;
     }
     Ok(args)
 }

@@ -1,10 +1,11 @@
 //! The commands.
 use crate::words::{
-    ALL, BY, CHARSET, CIRCLE, CSV, DELETED, DROP, DRY_RUN, EXACT, FILES, FILES_FOLDER, FOLDER,
-    FORCE, FORCE_FAULT, FORMAT, FROM, ID, IMAGE, IMAGES, JSON, LOSSY, MEANT, NAME, NAME_ON_DISK,
-    NAME_OR_SLOT, NEW, NEW_ID, NEW_TITLE, OLD, ONLY, OUT, OUTPUT, RAW, RECIPE, RECORD, RECURSIVE,
-    REPLACE_FILE, REPLACE_FILES, REPLACE_IMAGE, REPLACE_NAME, SALVAGE, SECTOR, SLOT, SVG, TITLE,
-    TRACK, TRACKS, TRANSFERRED, TYPE, TYPE_AGAIN, WANTED, WITH_FILES, Word,
+    ALL, BASIC, BY, CHARSET, CIRCLE, CSV, DELETED, DROP, DRY_RUN, EXACT, FILES, FILES_FOLDER,
+    FIRST, FOLDER, FORCE, FORCE_FAULT, FORMAT, FROM, HEX, ID, IMAGE, IMAGES, JSON, JSON_OBJECT,
+    LOSSY, MEANT, NAME, NAME_ON_DISK, NAME_OR_SLOT, NEW, NEW_ID, NEW_TITLE, OLD, ONLY, OUT, OUTPUT,
+    RAW, RECIPE, RECORD, RECURSIVE, REPLACE_FILE, REPLACE_FILES, REPLACE_IMAGE, REPLACE_NAME,
+    SALVAGE, SCREEN_CHARSET, SECOND, SECTOR, SLOT, SVG, TEXT, TITLE, TRACK, TRACKS, TRANSFERRED,
+    TYPE, TYPE_AGAIN, WANTED, WITH_FILES, Word,
 };
 
 /// What help says at the end: examples, and the exit statuses.
@@ -29,6 +30,8 @@ pub enum Verb {
     Get,
     /// Takes all files out.
     GetAll,
+    /// Shows a file.
+    Show,
     /// Shows what the disk is.
     Info,
     /// Shows a picture of its sectors.
@@ -41,6 +44,8 @@ pub enum Verb {
     Check,
     /// Shows a sum of its bytes.
     Hash,
+    /// Shows what differs between two images.
+    Diff,
     /// Shows the recipe of a disk.
     Describe,
     /// Makes an image of an empty disk.
@@ -129,6 +134,21 @@ const LOOKING: &[Command] = &[
         words: &[IMAGE, FOLDER, REPLACE_FILES, SALVAGE],
     },
     Command {
+        verb: Verb::Show,
+        name: "show",
+        about: "Show a file: a BASIC program, bytes, or text",
+        words: &[
+            IMAGE,
+            NAME_OR_SLOT,
+            BASIC,
+            HEX,
+            TEXT,
+            SLOT,
+            EXACT,
+            SCREEN_CHARSET,
+        ],
+    },
+    Command {
         verb: Verb::Info,
         name: "info",
         about: "Show information about disks",
@@ -165,6 +185,12 @@ const LOOKING: &[Command] = &[
         words: &[IMAGES, RECURSIVE, JSON, CSV],
     },
     Command {
+        verb: Verb::Diff,
+        name: "diff",
+        about: "Show what differs between two images",
+        words: &[FIRST, SECOND, JSON_OBJECT, CHARSET],
+    },
+    Command {
         verb: Verb::Describe,
         name: "describe",
         about: "Show the recipe of a disk, as build takes it",
@@ -189,7 +215,7 @@ const CHANGING: &[Command] = &[
     Command {
         verb: Verb::Convert,
         name: "convert",
-        about: "Convert a D64 to a G64, or a G64 to a D64",
+        about: "Convert a D64 to a G64 or back, other disks and archives to either",
         words: &[IMAGE, OUT, FORMAT, LOSSY, REPLACE_IMAGE],
     },
     Command {
@@ -210,7 +236,7 @@ const CHANGING: &[Command] = &[
         verb: Verb::Transfer,
         name: "transfer",
         about: "Copy files from another disk or archive",
-        words: &[FROM, IMAGE, TRANSFERRED, REPLACE_NAME, CHARSET],
+        words: &[FROM, IMAGE, TRANSFERRED, REPLACE_NAME, DRY_RUN, CHARSET],
     },
     Command {
         verb: Verb::Copy,
@@ -309,12 +335,15 @@ pub fn examples_of(verb: Verb) -> &'static str {
             "  disk1541 list game.d64\n  disk1541 list game.d64 --only 'A*' --charset lower\n  disk1541 list -r disks/ --json\n  disk1541 list -r disks/ --csv > files.csv\n"
         ),
         Verb::Find => examples!(
-            "  disk1541 find 'HISCORE*' *.d64\n  disk1541 find -r 'HISCORE*' disks/\n"
+            "  disk1541 find 'HISCORE*' *.d64 *.d81\n  disk1541 find -r 'HISCORE*' disks/\n"
         ),
         Verb::Get => examples!(
             "  disk1541 get game.d64 LOADER -o loader.prg\n  disk1541 get game.d64 '{c1}*' > first\n  disk1541 get bad.d64 --salvage 'LEVEL*' -o level.bin\n  disk1541 get odd.d64 --exact 'ST*R1' -o star.prg\n"
         ),
         Verb::GetAll => examples!("  disk1541 get-all game.d64 files\n"),
+        Verb::Show => examples!(
+            "  disk1541 show game.d64 LOADER\n  disk1541 show game.d64 SCORES --hex\n  disk1541 show game.d64 README --text --charset lower\n"
+        ),
         Verb::Info => examples!("  disk1541 info game.d64\n  disk1541 info -r disks/ --json\n"),
         Verb::Map => examples!(
             "  disk1541 map game.d64\n  disk1541 map game.d64 --files\n  disk1541 map game.d64 --svg game.svg\n"
@@ -325,6 +354,9 @@ pub fn examples_of(verb: Verb) -> &'static str {
             "  disk1541 check game.d64\n  disk1541 check -r disks/\n  disk1541 check --all bad.d64    every fault, and the files that have it\n"
         ),
         Verb::Hash => examples!("  disk1541 hash -r disks/ | sort    equal disks stand together\n"),
+        Verb::Diff => examples!(
+            "  disk1541 diff old.d64 new.d64\n  disk1541 diff game.d64 game.g64    status 1 if something differs\n"
+        ),
         Verb::Describe => examples!(
             "  disk1541 describe game.d64 > game.toml\n  disk1541 describe game.d64 --folder files > game.toml\n"
         ),
@@ -334,12 +366,14 @@ pub fn examples_of(verb: Verb) -> &'static str {
         Verb::New => examples!(
             "  disk1541 new work.d64 --title WORK --id 64\n  disk1541 new work.g64 --title WORK --id 64\n"
         ),
-        Verb::Convert => examples!("  disk1541 convert game.d64 game.g64\n"),
+        Verb::Convert => examples!(
+            "  disk1541 convert game.d64 game.g64\n  disk1541 convert games.d81 games.d64    its files, on a new disk\n"
+        ),
         Verb::Put => examples!(
             "  disk1541 put work.d64 loader.prg levels.seq\n  disk1541 put work.d64 out.bin --name LOADER --replace\n"
         ),
         Verb::Transfer => examples!(
-            "  disk1541 transfer old.d64 work.d64\n  disk1541 transfer games.d81 work.d64 'LEVEL*'\n  disk1541 transfer tape.t64 work.d64\n"
+            "  disk1541 transfer old.d64 work.d64\n  disk1541 transfer games.d81 work.d64 'LEVEL*'\n  disk1541 transfer tape.t64 work.d64 --dry-run    what would be transferred\n"
         ),
         Verb::Copy => examples!("  disk1541 copy work.d64 LOADER BACKUP\n"),
         Verb::Rename => examples!(

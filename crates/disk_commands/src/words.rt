@@ -29,6 +29,8 @@ pub struct Word {
     pub value: &'static [&'static str],
     /// What it is where it is missing.
     pub default: &'static [&'static str],
+    /// The words that can't stand beside it.
+    pub excludes: &'static [&'static str],
 }
 
 /// A word that must be there.
@@ -40,6 +42,7 @@ const NEEDED: Word = Word {
     action: ArgAction::Set,
     value: &[],
     default: &[],
+    excludes: &[],
 };
 
 /// A word with a value that may be missing.
@@ -73,7 +76,7 @@ pub const IMAGES: Word = Word {
 /// Images in folders.
 pub const RECURSIVE: Word = Word {
     name: "recursive",
-    help: "for a folder, all images in it and its folders: files that end in .d64 or .g64",
+    help: "for a folder, all images in it and its folders: .d64, .g64; but for check also .d71, .d81, .t64, .lnx",
     mark: Mark::Short('r'),
     ..FLAG
 };
@@ -115,6 +118,56 @@ pub const JSON: Word = Word {
     name: "json",
     help: "print JSON for programs, a line for each image",
     ..FLAG
+};
+
+/// What differs between two images, for programs.
+pub const JSON_OBJECT: Word = Word {
+    help: "print JSON for programs",
+    ..JSON
+};
+
+/// The image that DIFF compares with another one.
+pub const FIRST: Word = Word {
+    name: "FIRST",
+    help: "the first disk image",
+    ..NEEDED
+};
+
+/// The other one.
+pub const SECOND: Word = Word {
+    name: "SECOND",
+    help: "the second disk image",
+    ..NEEDED
+};
+
+/// SHOW of a BASIC program.
+pub const BASIC: Word = Word {
+    name: "basic",
+    help: "as a BASIC program; without an option a program that is loaded at $0801 is shown so",
+    excludes: &["hex", "text"],
+    ..FLAG
+};
+
+/// SHOW of bytes.
+pub const HEX: Word = Word {
+    name: "hex",
+    help: "as bytes in digits, and the characters that they are",
+    excludes: &["basic", "text"],
+    ..FLAG
+};
+
+/// SHOW of text.
+pub const TEXT: Word = Word {
+    name: "text",
+    help: "as text",
+    excludes: &["basic", "hex"],
+    ..FLAG
+};
+
+/// The character set of SHOW.
+pub const SCREEN_CHARSET: Word = Word {
+    help: "names and the file as a C64 shows them: upper, as at power up, or lower",
+    ..CHARSET
 };
 
 /// Every flaw of a disk.
@@ -346,10 +399,10 @@ pub const NEW_TITLE: Word = Word {
     ..NEEDED
 };
 
-/// VALIDATE without a change.
+/// VALIDATE or TRANSFER without a change.
 pub const DRY_RUN: Word = Word {
     name: "dry-run",
-    help: "show what would go, and change nothing",
+    help: "show what would be done, and change nothing",
     ..FLAG
 };
 

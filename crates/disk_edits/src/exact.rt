@@ -1,23 +1,15 @@
 //! RENAME, DELETE, COPY, LOCK and UNLOCK of one file that is chosen by its slot or its exact name. The drive's commands can't say
 //! every name: the file gets one that they can say, and afterwards its own.
-ghost use Rattle.std.specs.Prelude.{◌≤◌, length};
-
-use cbm_channel::{Code, Status};
 use cbm_shell::texts::Charset;
-use cbm_shell::{DiskChange, Looks, ShellFault, geos_of};
+use cbm_shell::{DiskChange, geos_of};
 use cbm_volume::Entry;
 use disk_basics::calls::entries;
-use disk_basics::changing::{change, delete_in_slot, dress, lock_in_slot, rename_in_slot};
+use disk_basics::changing::{change, delete_in_slot, lock_in_slot, rename_in_slot};
 use disk_basics::host::{joined, read_image, read_to_change, replace};
-use disk_basics::spare::{has_name, spare_name};
-use disk_basics::{Choice, Failure, WordFault, on_disk, petscii, slot_chosen};
-use disk_facts::unfilled;
+use disk_basics::spare::{has_name, named, sixteen, spare_name, taken, unspared, whole_name};
+use disk_basics::{Choice, Failure, WordFault, on_disk, petscii, slot_chosen, slot_number};
 use std::alloc::Global;
-use std::ops::Range;
 use std::rt::Runtime;
-
-/// Where an entry's name stands in its bytes.
-const NAME: Range<usize> = 3..19;
 
 /// The most bytes of a name.
 const LONGEST: usize = 16;
@@ -42,33 +34,6 @@ struct Desk<'a, 'b> {
     bytes: &'b [u8],
 }
 
-/// A name of at most sixteen bytes, as all are here.
-fn sixteen(name: &[u8]) -> &[u8]
-    ensures { length result.now ≤ 16 }
-{
-    if name.len() > LONGEST {
-        return &[];
-    }
-    name
-}
-
-/// An entry's name with what stands after its end.
-fn whole_name(entry: &Entry) -> &[u8] {
-    unfilled(entry.bytes().get(NAME).unwrap_or(&[]))
-}
-
-/// The fault that a name is there already.
-fn taken<'a>(image: &'a str) -> Failure<'a> {
-    Failure::Disk(
-        image,
-        ShellFault::Refused(Status {
-            code: Code::FileExists,
-            first: 0,
-            second: 0,
-        }),
-    )
-}
-
 /// The codes of a new name, whatever they are.
 fn new_name<'a>(alloc: Global, charset: Charset, name: &'a str) -> Result<Vec<u8>, Failure<'a>> {
     let codes = petscii(alloc, charset, name)?;
@@ -81,26 +46,6 @@ fn new_name<'a>(alloc: Global, charset: Charset, name: &'a str) -> Result<Vec<u8
     Ok(codes)
 }
 
-/// The image whose entry in a slot has a name and a lock.
-fn named<'a>(
-    alloc: Global,
-    desk: Desk<'a, '_>,
-    slot: usize,
-    name: &[u8],
-    is_locked: bool,
-) -> Result<Vec<u8>, Failure<'a>> {
-    let entries = on_disk(desk.image, entries(alloc, desk.bytes))?;
-    let (Some(entry), Ok(number)) = (entries.as_slice().get(slot), u8::try_from(slot)) else {
-        return Err(Failure::NoFile(desk.image));
-    };
-    let looks = Looks {
-        name: sixteen(name),
-        blocks: entry.blocks(),
-        is_locked,
-    };
-    on_disk(desk.image, dress(alloc, desk.bytes, number, looks))
-}
-
 /// The image after a command of the drive.
 fn commanded<'a>(
     alloc: Global,
@@ -110,11 +55,6 @@ fn commanded<'a>(
     let text = joined(alloc, parts)?;
     let command = DiskChange::Command(text.as_slice());
     on_disk(desk.image, change(alloc, desk.bytes, &command))
-}
-
-/// The number of a slot. Errors: `NoFile`, where it is none.
-fn slot_number<'a>(slot: usize, word: &'a str) -> Result<u8, Failure<'a>> {
-    u8::try_from(slot).map_err(|_| Failure::NoFile(word))
 }
 
 /// The image without the file in a slot.
@@ -142,28 +82,12 @@ fn copied_spare<'a>(
     old: &[u8; 3],
     new: &[u8; 3],
 ) -> Result<Vec<u8>, Failure<'a>> {
-    let image = named(alloc, desk, slot, old, false)?;
+    let image = named(alloc, desk.image, desk.bytes, slot, old, false)?;
     let there = Desk {
         image: desk.image,
         bytes: image.as_slice(),
     };
     commanded(alloc, there, &[b"C0:", new, b"=", old, b"\r"])
-}
-
-/// The image whose file of a spare name has its own.
-fn unspared<'a>(
-    alloc: Global,
-    desk: Desk<'a, '_>,
-    spare: &[u8; 3],
-    name: &[u8],
-) -> Result<Vec<u8>, Failure<'a>> {
-    let all = on_disk(desk.image, entries(alloc, desk.bytes))?;
-    for (slot, entry) in all.iter().enumerate() {
-        if !entry.is_empty() && entry.name() == spare.as_slice() {
-            return named(alloc, desk, slot, name, false);
-        }
-    }
-    Err(Failure::NoFile(desk.image))
 }
 
 /// The image with a copy of the file in a slot.
@@ -185,16 +109,10 @@ fn copied<'a>(
         return Err(taken(desk.image));
     }
     let with_both = copied_spare(alloc, desk, slot, &old, &new)?;
-    let both = Desk {
-        image: desk.image,
-        bytes: with_both.as_slice(),
-    };
-    let with_old = named(alloc, both, slot, whole_name(entry), entry.is_locked())?;
-    let back = Desk {
-        image: desk.image,
-        bytes: with_old.as_slice(),
-    };
-    unspared(alloc, back, &new, name)
+    let both = with_both.as_slice();
+    let own = whole_name(entry);
+    let with_old = named(alloc, desk.image, both, slot, own, entry.is_locked())?;
+    unspared(alloc, desk.image, with_old.as_slice(), &new, name, false)
 }
 
 /// Refuses to copy what the drive's COPY doesn't take whole: a relative file, and one of GEOS.

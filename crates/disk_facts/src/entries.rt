@@ -32,14 +32,19 @@ pub fn is_meant(entry: &Entry, pattern: &[u8]) -> bool {
     !entry.is_empty() && matches(pattern, entry.name())
 }
 
-/// The first file that a pattern means; None where it means none.
-pub fn first_meant<'e>(entries: &'e [Entry], pattern: &[u8]) -> Option<&'e Entry> {
-    for entry in entries {
+/// The number of the first file that a pattern means; None where it means none.
+pub fn number_meant(entries: &[Entry], pattern: &[u8]) -> Option<usize> {
+    for (number, entry) in entries.iter().enumerate() {
         if is_meant(entry, pattern) {
-            return Some(entry);
+            return Some(number);
         }
     }
     None
+}
+
+/// The first file that a pattern means; None where it means none.
+pub fn first_meant<'e>(entries: &'e [Entry], pattern: &[u8]) -> Option<&'e Entry> {
+    entries.get(number_meant(entries, pattern)?)
 }
 
 /// How many files are in a directory.

@@ -33,6 +33,20 @@ pub fn is_image_name(path: &str) -> bool {
     kind_of_name(path).is_some()
 }
 
+/// The endings of the names of disks and archives of other kinds.
+const OTHERS: [&str; 4] = ["d71", "d81", "t64", "lnx"];
+
+/// Whether a file is named as disks and archives of other kinds are.
+pub fn is_other_name(path: &str) -> bool {
+    let ending = Path::new(path).extension().unwrap_or("");
+    for other in &OTHERS {
+        if other.eq_ignore_ascii_case(ending) {
+            return true;
+        }
+    }
+    false
+}
+
 /// How many bytes the sectors of a D64 with error bytes have.
 const OF_35_TRACKS: usize = 174_848;
 

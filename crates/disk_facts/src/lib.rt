@@ -10,7 +10,11 @@ mod maps;
 
 pub use circles::{more_tracks, track_at, track_name};
 pub use digits::hex;
-pub use entries::{count_files, first_meant, is_deleted, is_meant, type_of, unfilled};
-pub use formats::{format_name, is_image_name, kind_of_name, kind_of_word, without_errors};
+pub use entries::{
+    count_files, first_meant, is_deleted, is_meant, number_meant, type_of, unfilled,
+};
+pub use formats::{
+    format_name, is_image_name, is_other_name, kind_of_name, kind_of_word, without_errors,
+};
 pub use geos::kind_name;
 pub use maps::{WideMap, wide_map};

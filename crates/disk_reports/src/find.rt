@@ -2,29 +2,41 @@
 use crate::broken::answer_by;
 use crate::view::{Look, LookAnswer};
 use cbm_shell::ShellFault;
+use cbm_shell::texts::Charset;
 use cbm_volume::Entry;
 use disk_basics::calls::{listed, name_text};
 use disk_facts::{is_meant, type_of};
 use std::alloc::{AllocError, Global};
 
-/// The line of a file of a name.
-fn match_line(alloc: Global, image: &str, entry: &Entry, name: &str) -> Result<String, AllocError> {
+/// The line of a file. The one error is want of memory.
+pub fn match_line(
+    alloc: Global,
+    image: &str,
+    entry: &Entry,
+    charset: Charset,
+) -> Result<String, AllocError> {
+    let shown = name_text(alloc, charset, entry.name())?;
+    let name = shown.as_str();
     let kind = type_of(entry).unwrap_or("???");
     let blocks = entry.blocks();
     format!(in alloc; "{image}: \"{name}\" {kind}, {blocks} blocks\n")
 }
 
-/// Adds the line of a file.
-fn add_match(
+/// The lines of the files that match. The one error is want of memory.
+pub fn match_lines(
     alloc: Global,
-    text: &mut Vec<u8>,
     image: &str,
-    entry: &Entry,
+    entries: &[Entry],
     look: Look<'_>,
-) -> Result<(), AllocError> {
-    let name = name_text(alloc, look.charset, entry.name())?;
-    let line = match_line(alloc, image, entry, name.as_str())?;
-    text.extend_from_slice(line.as_bytes())
+) -> Result<Vec<u8>, AllocError> {
+    let mut text = Vec::new(alloc);
+    for entry in entries {
+        if is_meant(entry, look.pattern) {
+            let line = match_line(alloc, image, entry, look.charset)?;
+            text.extend_from_slice(line.as_bytes())?;
+        }
+    }
+    Ok(text)
 }
 
 /// Adds a line for each file that matches, up to where the directory breaks off. Errors: `Image`, `Memory`.
@@ -35,13 +47,13 @@ pub fn add_matches(
     image: &[u8],
     look: Look<'_>,
 ) -> Result<LookAnswer, ShellFault> {
-    let mut answer = LookAnswer::NoMatch;
     let listed = listed(alloc, image)?;
-    for entry in listed.entries.as_slice() {
-        if is_meant(entry, look.pattern) {
-            add_match(alloc, text, name, entry, look)?;
-            answer = LookAnswer::Fine;
-        }
-    }
+    let lines = match_lines(alloc, name, listed.entries.as_slice(), look)?;
+    text.extend_from_slice(lines.as_slice())?;
+    let answer = if lines.is_empty() {
+        LookAnswer::NoMatch
+    } else {
+        LookAnswer::Fine
+    };
     Ok(answer_by(&listed, answer))
 }

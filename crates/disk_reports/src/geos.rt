@@ -32,8 +32,8 @@ fn add_file(
     text.extend_from_slice(line.as_bytes())
 }
 
-/// Adds a line for each of these files that GEOS made.
-fn add_files(
+/// Adds a line for each of these files that GEOS made. The one error is want of memory.
+pub fn add_geos_files(
     alloc: Global,
     text: &mut Vec<u8>,
     entries: &[Entry],
@@ -58,6 +58,6 @@ pub fn add_geos(
     look: Look<'_>,
 ) -> Result<(), ShellFault> {
     let listed = listed(alloc, image)?;
-    add_files(alloc, text, listed.entries.as_slice(), look)?;
+    add_geos_files(alloc, text, listed.entries.as_slice(), look)?;
     Ok(())
 }

@@ -1,7 +1,8 @@
 //! INFO: what the disk is.
+use crate::report::Facts;
 use cbm_shell::texts::Charset;
 use cbm_shell::{Info, ShellFault};
-use cbm_volume::Unsound;
+use cbm_volume::{Label, Unsound};
 use disk_basics::calls::{info, listed, name_text, unsound_text};
 use disk_basics::odd::odd_slots;
 use disk_facts::{count_files, format_name, more_tracks, unfilled, wide_map};
@@ -59,6 +60,20 @@ fn add_shown(
     add_line(text, name, codes.as_str())
 }
 
+/// The lines of the title and the id.
+fn add_names(
+    alloc: Global,
+    text: &mut String,
+    charset: Charset,
+    label: &Label,
+) -> Result<(), AllocError> {
+    let [first, second, _, dos, version] = label.mark;
+    let title = unfilled(label.title.as_slice());
+    add_shown(alloc, text, charset, "title        ", title)?;
+    add_shown(alloc, text, charset, "id           ", &[first, second])?;
+    add_shown(alloc, text, charset, "DOS          ", &[dos, version])
+}
+
 /// The lines of the title, the id and the free blocks.
 fn add_label(
     alloc: Global,
@@ -69,24 +84,30 @@ fn add_label(
     let Some(label) = info.label else {
         return text.push_str("title        unknown: track 18, sector 0 can't be read\n");
     };
-    let [first, second, _, dos, version] = label.mark;
     let free = info.free.unwrap_or(0);
-    let title = unfilled(label.title.as_slice());
-    add_shown(alloc, text, charset, "title        ", title)?;
-    add_shown(alloc, text, charset, "id           ", &[first, second])?;
-    add_shown(alloc, text, charset, "DOS          ", &[dos, version])?;
+    add_names(alloc, text, charset, &label)?;
     text.push_str(format!(in alloc; "blocks free  {free}\n")?.as_str())
 }
 
 /// The line of how many files there are, up to where the directory breaks off.
+fn add_count(
+    alloc: Global,
+    text: &mut String,
+    files: usize,
+    is_whole: bool,
+) -> Result<(), AllocError> {
+    text.push_str(format!(in alloc; "files        {files}")?.as_str())?;
+    if !is_whole {
+        text.push_str(", up to where the directory breaks off")?;
+    }
+    text.push('\n')
+}
+
+/// The line of how many files an image has.
 fn add_files(alloc: Global, text: &mut String, image: &[u8]) -> Result<(), ShellFault> {
     let listed = listed(alloc, image)?;
     let files = count_files(listed.entries.as_slice());
-    text.push_str(format!(in alloc; "files        {files}")?.as_str())?;
-    if listed.trouble.is_some() {
-        text.push_str(", up to where the directory breaks off")?;
-    }
-    text.push('\n')?;
+    add_count(alloc, text, files, listed.trouble.is_none())?;
     Ok(())
 }
 
@@ -140,6 +161,31 @@ fn add_lines(
     add_files(alloc, text, image)?;
     add_faults(alloc, text, info, image)?;
     Ok(())
+}
+
+/// What a disk or an archive of another kind is, as lines. The one error is want of memory.
+pub fn other_facts(
+    alloc: Global,
+    charset: Charset,
+    facts: &Facts,
+    files: usize,
+    is_whole: bool,
+) -> Result<String, AllocError> {
+    let mut text = String::new(alloc);
+    let format = facts.format;
+    text.push_str(format!(in alloc; "format       {format}")?.as_str())?;
+    if let Some(tracks) = facts.tracks {
+        text.push_str(format!(in alloc; ", {tracks} tracks")?.as_str())?;
+    }
+    text.push('\n')?;
+    if let Some(label) = facts.label {
+        add_names(alloc, &mut text, charset, &label)?;
+    }
+    add_count(alloc, &mut text, files, is_whole)?;
+    if let Some(count) = facts.unreadable {
+        text.push_str(format!(in alloc; "unreadable   {count}\n")?.as_str())?;
+    }
+    Ok(text)
 }
 
 /// What the disk is, as lines. Errors: `Image`, `Memory`.

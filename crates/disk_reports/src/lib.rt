@@ -7,10 +7,12 @@ mod find;
 mod flaws;
 mod geos;
 mod info;
+mod other;
 mod report;
 mod sum;
 mod view;
 
-pub use broken::entry_lines;
-pub use report::{heads, refusal_line};
+pub use find::match_line;
+pub use other::{OtherKind, other_lines};
+pub use report::{Broken, Facts, Files, heads, refusal_line};
 pub use view::{Look, LookAnswer, Shown, View, lines_of};

@@ -1,22 +1,24 @@
 //! Images for programs: as JSON, and as tables.
+mod facts;
+mod files;
 mod table;
 
+use self::files::{Size, size_of};
 use crate::broken::answer_by;
 use crate::flaws::flaw_report;
 use crate::sum::sum_text;
 use crate::view::{Look, LookAnswer, Shown, View, answer_of};
 use cbm_shell::texts::{Charset, words};
 use cbm_shell::{Geos, Info, Listed, ShellFault, geos_of};
-use cbm_volume::{Entry, FileType, Unsound};
+use cbm_volume::{Entry, Label, Unsound};
 use disk_basics::calls::{info, name_text};
-use disk_basics::odd::odd_slots;
 use disk_basics::{BreakOff, Disk};
-use disk_facts::{
-    WideMap, format_name, hex, is_meant, kind_name, more_tracks, type_of, unfilled, wide_map,
-};
+use disk_facts::{WideMap, hex, is_meant, kind_name, type_of, unfilled};
+pub use facts::Facts;
+pub use files::Files;
 use serde::Serialize;
 use std::alloc::{AllocError, Global};
-pub use table::{heads, table_lines};
+pub use table::{facts_line, file_lines, heads, sum_row, table_lines};
 
 /// A sector.
 #[derive(Drop, Serialize)]
@@ -46,7 +48,7 @@ struct GeosFacts {
 
 /// A file of a disk.
 #[derive(Drop, Serialize)]
-struct File {
+pub struct File {
     slot: usize,
     name: String,
     petscii: String,
@@ -75,13 +77,13 @@ struct LabelTexts {
 struct Report<'a> {
     image: &'a str,
     format: &'static str,
-    tracks: u8,
+    tracks: Option<u8>,
     more_tracks: Vec<String>,
     map_36_40: Option<&'static str>,
     label: Option<LabelTexts>,
     free: Option<u16>,
-    unreadable: usize,
-    sound: bool,
+    unreadable: Option<usize>,
+    sound: Option<bool>,
     flaw: Option<Flaw>,
     odd: Vec<usize>,
     files: Vec<File>,
@@ -90,12 +92,17 @@ struct Report<'a> {
 
 /// Where a directory breaks off.
 #[derive(Drop, Serialize)]
-struct Broken {
-    entries: usize,
-    track: u8,
-    sector: u8,
-    error: u8,
-    text: String,
+pub struct Broken {
+    /// After how many entries.
+    pub entries: usize,
+    /// The sector to which a link leads; None where none does.
+    pub track: Option<u8>,
+    /// Its number on the track.
+    pub sector: Option<u8>,
+    /// Why it isn't read.
+    pub error: Option<u8>,
+    /// The same in words.
+    pub text: String,
 }
 
 /// The sum of an image.
@@ -121,40 +128,6 @@ pub fn line<T: Serialize>(alloc: Global, value: &T) -> Result<Vec<u8>, AllocErro
             Ok(text)
         }
         Err(_) => Err(AllocError),
-    }
-}
-
-/// How long a file is and where it is loaded, where that is known.
-#[derive(Clone, Copy)]
-struct Size {
-    bytes: Option<usize>,
-    load: Option<u16>,
-}
-
-/// The load address of a program.
-fn load_of(entry: &Entry, bytes: &[u8]) -> Option<u16> {
-    match (entry.kind()?, bytes) {
-        (FileType::Prg, [low, high, ..]) => Some(u16::from(*low) + 256 * u16::from(*high)),
-        _ => None,
-    }
-}
-
-/// How long the file of an entry is, where it was closed and can be read.
-fn size_of(alloc: Global, disk: &Disk, entry: &Entry) -> Result<Size, ShellFault> {
-    let unknown = Size {
-        bytes: None,
-        load: None,
-    };
-    if !entry.is_closed() {
-        return Ok(unknown);
-    }
-    match disk.file_of(alloc, entry) {
-        Ok(bytes) => Ok(Size {
-            bytes: Some(bytes.len()),
-            load: load_of(entry, bytes.as_slice()),
-        }),
-        Err(ShellFault::Memory) => Err(ShellFault::Memory),
-        Err(_) => Ok(unknown),
     }
 }
 
@@ -213,37 +186,24 @@ fn file_of(
     })
 }
 
-/// Adds the file of an entry.
-fn add_file(
-    alloc: Global,
-    files: &mut Vec<File>,
-    disk: &Disk,
-    slot: usize,
-    entry: &Entry,
-    charset: Charset,
-) -> Result<(), ShellFault> {
-    let size = size_of(alloc, disk, entry)?;
-    let file = file_of(alloc, slot, entry, charset, size)?;
-    files.push(file).map_err(AllocError::from)?;
-    Ok(())
-}
-
 /// Whether the file of an entry is meant.
 fn files_meant(entry: &Entry, look: Look<'_>) -> bool {
     is_meant(entry, look.pattern)
 }
 
-/// The files that are meant.
-fn files_of(
+/// The files that are meant. The one error is want of memory.
+pub fn files_of<F: Files>(
     alloc: Global,
-    disk: &Disk,
+    disk: &F,
     entries: &[Entry],
     look: Look<'_>,
-) -> Result<Vec<File>, ShellFault> {
+) -> Result<Vec<File>, AllocError> {
     let mut files = Vec::new(alloc);
     for (slot, entry) in entries.iter().enumerate() {
         if files_meant(entry, look) {
-            add_file(alloc, &mut files, disk, slot, entry, look.charset)?;
+            let size = size_of(alloc, disk, entry, slot)?;
+            let file = file_of(alloc, slot, entry, look.charset, size)?;
+            files.push(file).map_err(AllocError::from)?;
         }
     }
     Ok(files)
@@ -260,9 +220,9 @@ fn broken_of(alloc: Global, listed: &Listed) -> Result<Option<Broken>, AllocErro
     };
     Ok(Some(Broken {
         entries: end.entries,
-        track: trouble.track,
-        sector: trouble.sector,
-        error: trouble.code,
+        track: Some(trouble.track),
+        sector: Some(trouble.sector),
+        error: Some(trouble.code),
         text: format!(in alloc; "{end}")?,
     }))
 }
@@ -271,9 +231,9 @@ fn broken_of(alloc: Global, listed: &Listed) -> Result<Option<Broken>, AllocErro
 fn label_of(
     alloc: Global,
     charset: Charset,
-    info: &Info,
+    label: Option<Label>,
 ) -> Result<Option<LabelTexts>, AllocError> {
-    let Some(label) = info.label else {
+    let Some(label) = label else {
         return Ok(None);
     };
     let [first, second, _, dos, version] = label.mark;
@@ -284,43 +244,32 @@ fn label_of(
 }
 
 /// What is wrong with a disk first.
-fn flaw_of(check: &Result<(), Unsound>) -> Option<Flaw> {
-    match check {
-        Ok(()) => None,
-        Err(unsound) => Some(Flaw {
-            track: unsound.track,
-            sector: unsound.sector,
-            number: unsound.number,
-            text: std::str::from_utf8(words(unsound.number)).unwrap_or("it isn't sound"),
-        }),
-    }
+fn flaw_of(unsound: Option<Unsound>) -> Option<Flaw> {
+    let unsound = unsound?;
+    Some(Flaw {
+        track: unsound.track,
+        sector: unsound.sector,
+        number: unsound.number,
+        text: std::str::from_utf8(words(unsound.number)).unwrap_or("it isn't sound"),
+    })
 }
 
 /// Whose map of tracks 36 to 40 a D64 has, if it has one.
-fn map_word(image: &[u8]) -> Option<&'static str> {
-    match wide_map(image)? {
+fn map_word(map: Option<WideMap>) -> Option<&'static str> {
+    match map? {
         WideMap::Speed => Some("speed"),
         WideMap::Dolphin => Some("dolphin"),
         WideMap::Both => Some("both"),
     }
 }
 
-/// What is known of an image.
+/// What is known of an image, and what a look at it came to.
 #[derive(Drop)]
 struct Known {
-    info: Info,
-    odd: Vec<usize>,
+    facts: Facts,
     files: Vec<File>,
     broken: Option<Broken>,
     answer: LookAnswer,
-}
-
-/// The slots of the odd entries, if those are all that is wrong.
-fn odd_of(alloc: Global, image: &[u8], info: &Info) -> Result<Vec<usize>, ShellFault> {
-    match info.check {
-        Ok(()) => Ok(Vec::new(alloc)),
-        Err(_) => odd_slots(alloc, image),
-    }
 }
 
 /// What is known of an image whose directory has these entries.
@@ -333,12 +282,10 @@ fn known_by(
 ) -> Result<Known, ShellFault> {
     let files = files_of(alloc, disk, listed.entries.as_slice(), look)?;
     let info = info(alloc, image)?;
-    let odd = odd_of(alloc, image, &info)?;
     let broken = broken_of(alloc, listed)?;
     let answer = image_answer(look, &info, listed);
     Ok(Known {
-        info,
-        odd,
+        facts: Facts::of_image(alloc, image, &info)?,
         files,
         broken,
         answer,
@@ -352,35 +299,31 @@ fn all_known(alloc: Global, image: &[u8], look: Look<'_>) -> Result<Known, Shell
     known_by(alloc, image, &disk, &listed, look)
 }
 
-/// The line of an image, with what is known of it.
-fn image_line(
+/// The line of an image or of another disk or archive, with what is known of it. The one error is want of memory.
+pub fn known_line(
     alloc: Global,
     name: &str,
-    image: &[u8],
-    look: Look<'_>,
-    known: Known,
+    charset: Charset,
+    facts: Facts,
+    files: Vec<File>,
+    broken: Option<Broken>,
 ) -> Result<Vec<u8>, AllocError> {
-    let Known {
-        info,
-        odd,
-        files,
-        broken,
-        answer: _,
-    } = known;
-    let label = label_of(alloc, look.charset, &info)?;
-    let more_tracks = more_tracks(alloc, image)?;
+    let label = label_of(alloc, charset, facts.label)?;
+    let sound = facts.is_sound();
+    let flaw = flaw_of(facts.flaw());
+    let map_36_40 = map_word(facts.map);
     let report = Report {
         image: name,
-        format: format_name(image),
-        tracks: info.tracks,
-        more_tracks,
-        map_36_40: map_word(image),
+        format: facts.format,
+        tracks: facts.tracks,
+        more_tracks: facts.more_tracks,
+        map_36_40,
         label,
-        free: info.free,
-        unreadable: info.unreadable.len(),
-        sound: info.check.is_ok(),
-        flaw: flaw_of(&info.check),
-        odd,
+        free: facts.free,
+        unreadable: facts.unreadable,
+        sound,
+        flaw,
+        odd: facts.odd,
         files,
         broken,
     };
@@ -403,30 +346,32 @@ fn image_report(
     image: &[u8],
     look: Look<'_>,
 ) -> Result<Shown, ShellFault> {
-    let known = all_known(alloc, image, look)?;
-    let answer = known.answer;
-    if look.view == View::Matches && known.files.is_empty() && known.broken.is_none() {
+    let Known {
+        facts,
+        files,
+        broken,
+        answer,
+    } = all_known(alloc, image, look)?;
+    if look.view == View::Matches && files.is_empty() && broken.is_none() {
         return Ok(Shown {
             text: Vec::new(alloc),
             answer: LookAnswer::NoMatch,
         });
     }
-    let text = image_line(alloc, name, image, look, known)?;
+    let text = known_line(alloc, name, look.charset, facts, files, broken)?;
     Ok(Shown { text, answer })
+}
+
+/// The line of a sum. The one error is want of memory.
+pub fn sum_line(alloc: Global, image: &str, sha256: &str) -> Result<Vec<u8>, AllocError> {
+    line(alloc, &Sum { image, sha256 })
 }
 
 /// The sum of an image.
 fn sum_report(alloc: Global, name: &str, image: &[u8]) -> Result<Shown, ShellFault> {
     let sum = sum_text(alloc, image)?;
-    let text = line(
-        alloc,
-        &Sum {
-            image: name,
-            sha256: sum.as_str(),
-        },
-    )?;
     Ok(Shown {
-        text,
+        text: sum_line(alloc, name, sum.as_str())?,
         answer: LookAnswer::Fine,
     })
 }

@@ -184,8 +184,8 @@ fn add_lines(
     }
 }
 
-/// Adds the name of one of several images, where its lines don't have it.
-fn add_heading(text: &mut Vec<u8>, name: &str, look: Look<'_>) -> Result<(), AllocError> {
+/// Adds the name of one of several images, where its lines don't have it. The one error is want of memory.
+pub fn add_heading(text: &mut Vec<u8>, name: &str, look: Look<'_>) -> Result<(), AllocError> {
     if !look.is_among {
         return Ok(());
     }

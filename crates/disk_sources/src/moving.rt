@@ -1,39 +1,25 @@
-//! TRANSFER: files of another disk or archive onto an image, with their names, types and locks.
-ghost use Rattle.std.specs.Prelude.{◌≤◌, length};
-
-use crate::origin::{Entries, Origin, tell_end, tell_file};
-use cbm_channel::{Code, Status};
+//! One file of a disk or an archive onto an image, with its name, its type and its lock.
+use crate::origin::{Origin, tell_file};
 use cbm_shell::texts::Charset;
-use cbm_shell::{Looks, ShellFault, geos_of};
+use cbm_shell::{Looks, geos_of};
 use cbm_volume::Entry;
 use disk_basics::calls::{entries, name_text};
-use disk_basics::changing::{add_art, delete_in_slot, dress};
-use disk_basics::host::{read_any, read_to_change, replace};
-use disk_basics::spare::spare_name;
-use disk_basics::{Failure, FileKind, in_memory, kind_of_entry, on_disk, petscii};
+use disk_basics::changing::{add_art, delete_in_slot};
+use disk_basics::spare::{spare_name, taken, unspared, whole_name};
+use disk_basics::{Failure, FileKind, in_memory, kind_of_entry, on_disk, slot_named, slot_number};
 use disk_changes::{Stored, with_stored};
-use disk_facts::is_meant;
-use std::alloc::{AllocError, Global};
-use std::ops::Range;
+use std::alloc::Global;
 use std::rt::Runtime;
 
-/// Where an entry's name stands in its bytes.
-const NAME: Range<usize> = 3..19;
-
-/// The most bytes of a name.
-const LONGEST: usize = 16;
-
-/// What is transferred.
+/// A way from a disk or an archive to an image.
 #[derive(Clone, Copy)]
-pub struct Transfer<'a, 'c> {
+pub struct Way<'a, 'o, 'b> {
     /// The disk or the archive that has the files.
-    pub from: &'a str,
-    /// Patterns of the files; all files where there is none.
-    pub patterns: &'c [&'a str],
+    pub origin: &'o Origin<'b>,
+    /// The image's name.
+    pub to: &'a str,
     /// Files of the image that have the names are replaced.
     pub replaces: bool,
-    /// The character set of the patterns.
-    pub charset: Charset,
 }
 
 /// A file on its way, and the image's name.
@@ -45,93 +31,29 @@ struct Moved<'a, 'b> {
     replaces: bool,
 }
 
-/// The bytes of an entry's name, with what stands after its end: at most sixteen.
-fn whole_name(entry: &Entry) -> &[u8]
-    ensures { length result.now ≤ 16 }
-{
-    let name = entry.bytes().get(NAME).unwrap_or(&[]);
-    if name.len() > LONGEST {
-        return &[];
-    }
-    name
-}
-
-/// The slot of the first file of a name.
-fn slot_of(entries: &[Entry], name: &[u8]) -> Option<u8> {
-    for (slot, entry) in entries.iter().enumerate() {
-        if !entry.is_empty() && entry.name() == name {
-            return u8::try_from(slot).ok();
-        }
-    }
-    None
-}
-
-/// The fault that a name is there already.
-fn taken<'a>(to: &'a str) -> Failure<'a> {
-    Failure::Disk(
-        to,
-        ShellFault::Refused(Status {
-            code: Code::FileExists,
-            first: 0,
-            second: 0,
-        }),
-    )
-}
-
 /// The image without the file of a slot that is in the way. Errors: where it isn't to be replaced, or is locked.
 fn without<'a>(
     alloc: Global,
     old: &[u8],
-    slot: u8,
+    slot: usize,
     moved: Moved<'a, '_>,
 ) -> Result<Vec<u8>, Failure<'a>> {
     if !moved.replaces {
         return Err(taken(moved.to));
     }
+    let slot = slot_number(slot, moved.to)?;
     on_disk(moved.to, delete_in_slot(alloc, old, slot))
 }
 
-/// The image on which no file has the name.
-fn freed<'a>(alloc: Global, old: &[u8], moved: Moved<'a, '_>) -> Result<Vec<u8>, Failure<'a>> {
-    let there = on_disk(moved.to, entries(alloc, old))?;
-    match slot_of(there.as_slice(), moved.entry.name()) {
-        Some(slot) => without(alloc, old, slot, moved),
-        None => in_memory(Vec::from_slice(alloc, old)),
-    }
-}
-
-/// The image whose file of a spare name has its own, and its lock.
-fn named<'a>(
-    alloc: Global,
-    image: &[u8],
-    spare: &[u8],
-    moved: Moved<'a, '_>,
-) -> Result<Vec<u8>, Failure<'a>> {
-    let there = on_disk(moved.to, entries(alloc, image))?;
-    let Some(slot) = slot_of(there.as_slice(), spare) else {
-        return Err(Failure::NoFile(moved.to));
-    };
-    let blocks = there
-        .as_slice()
-        .get(usize::from(slot))
-        .map_or(0, Entry::blocks);
-    let looks = Looks {
-        name: whole_name(moved.entry),
-        blocks,
-        is_locked: moved.entry.is_locked(),
-    };
-    on_disk(moved.to, dress(alloc, image, slot, looks))
-}
-
-/// The image with a file of a kind: under a name that none has, and then under its own.
+/// The image with a file of a kind: under a name that none of these entries has, and then under its own.
 fn with_file<'a>(
     alloc: Global,
     old: &[u8],
+    there: &[Entry],
     kind: FileKind,
     moved: Moved<'a, '_>,
 ) -> Result<Vec<u8>, Failure<'a>> {
-    let there = on_disk(moved.to, entries(alloc, old))?;
-    let Some(spare) = spare_name(there.as_slice(), 3) else {
+    let Some(spare) = spare_name(there, 3) else {
         return Err(taken(moved.to));
     };
     let file = Stored {
@@ -142,7 +64,27 @@ fn with_file<'a>(
         bytes: moved.bytes,
     };
     let image = with_stored(alloc, moved.to, old, &file)?;
-    named(alloc, image.as_slice(), &spare, moved)
+    let own = whole_name(moved.entry);
+    let is_locked = moved.entry.is_locked();
+    unspared(alloc, moved.to, image.as_slice(), &spare, own, is_locked)
+}
+
+/// The image with a file of a kind, in place of the one that has its name, if one does.
+fn with_kind<'a>(
+    alloc: Global,
+    old: &[u8],
+    kind: FileKind,
+    moved: Moved<'a, '_>,
+) -> Result<Vec<u8>, Failure<'a>> {
+    let all = on_disk(moved.to, entries(alloc, old))?;
+    let there = all.as_slice();
+    match slot_named(there, moved.entry.name()) {
+        Some(slot) => {
+            let free = without(alloc, old, slot, moved)?;
+            with_file(alloc, free.as_slice(), there, kind, moved)
+        }
+        None => with_file(alloc, old, there, kind, moved),
+    }
 }
 
 /// The image with a line of art.
@@ -158,41 +100,57 @@ fn with_art<'a>(alloc: Global, old: &[u8], moved: Moved<'a, '_>) -> Result<Vec<u
     }
 }
 
-/// Whether an entry is a line of art: it has no block.
-fn is_art(entry: &Entry) -> bool {
-    kind_of_entry(entry).is_none() && entry.first_block().track() == 0
+/// Whether an entry is a line of art: a disk has no block for it, an archive no file.
+fn is_art(origin: &Origin<'_>, entry: &Entry) -> bool {
+    let is_without = entry.first_block().track() == 0 && (origin.is_disk() || entry.blocks() == 0);
+    kind_of_entry(entry).is_none() && is_without
 }
 
-/// The image with what an entry stands for.
-fn with_entry<'a>(alloc: Global, old: &[u8], moved: Moved<'a, '_>) -> Result<Vec<u8>, Failure<'a>> {
-    if is_art(moved.entry) {
-        return with_art(alloc, old, moved);
-    }
-    let Some(kind) = kind_of_entry(moved.entry) else {
-        return Err(Failure::Records(moved.to));
-    };
-    let free = freed(alloc, old, moved)?;
-    with_file(alloc, free.as_slice(), kind, moved)
-}
-
-/// Reports which file isn't transferred, so that none is.
-fn tell_left<R: Eprint + AllocGlobal>(rt: &R, entry: &Entry) -> Result<(), AllocError> {
-    let name = name_text(rt.alloc(), Charset::Upper, entry.name())?;
+/// Reports why a file isn't one that the drive writes.
+fn tell_other<'a, R: Runtime + AllocGlobal, T>(
+    rt: &R,
+    entry: &Entry,
+    why: &str,
+) -> Result<T, Failure<'a>> {
+    let name = in_memory(name_text(rt.alloc(), Charset::Upper, entry.name()))?;
     let name = name.as_str();
-    let _ = eprintln!(rt; "disk1541: \"{name}\" can't be transferred, and so no file is");
-    Ok(())
+    let _ = eprintln!(rt; "disk1541: \"{name}\" {why}");
+    Err(Failure::Told)
 }
 
-/// The bytes of an entry's file; none of a line of art. What isn't read is reported.
+/// The kind of an entry's file. What the drive doesn't write is reported.
+fn kind_of<'a, R: Runtime + AllocGlobal>(rt: &R, entry: &Entry) -> Result<FileKind, Failure<'a>> {
+    if geos_of(entry).is_some() {
+        return tell_other(
+            rt,
+            entry,
+            "is a file of GEOS: its info and its records would be missing",
+        );
+    }
+    match kind_of_entry(entry) {
+        Some(FileKind::Relative) if !matches!(entry.record_length(), 1..=254) => {
+            tell_other(
+                rt,
+                entry,
+                "is a relative file, and how long its records are isn't known",
+            )
+        }
+        Some(kind) => Ok(kind),
+        None => tell_other(
+            rt,
+            entry,
+            "has blocks, and a type that the drive doesn't write",
+        ),
+    }
+}
+
+/// The bytes of an entry's file. What isn't read is reported.
 fn bytes_of<'a, R: Runtime + AllocGlobal>(
     rt: &R,
     origin: &Origin<'_>,
     entry: &Entry,
     number: usize,
 ) -> Result<Vec<u8>, Failure<'a>> {
-    if is_art(entry) {
-        return Ok(Vec::new(rt.alloc()));
-    }
     match origin.file(rt.alloc(), entry, number) {
         Ok(bytes) => Ok(bytes),
         Err(fault) => {
@@ -202,105 +160,26 @@ fn bytes_of<'a, R: Runtime + AllocGlobal>(
     }
 }
 
-/// The image with the file of an entry.
-fn with_one<'a, R: Runtime + AllocGlobal>(
+/// The image with the file of an entry, by its number, or with a line of art. Errors: `Told`, where the file isn't read, or is none that
+/// the drive writes, as is reported; `Disk`, where the name is there already or the disk refuses the file; `DirectoryFull`; `NoMemory`.
+pub fn with_one<'a, R: Runtime + AllocGlobal>(
     rt: &R,
-    origin: &Origin<'_>,
+    way: Way<'a, '_, '_>,
     old: &[u8],
     entry: &Entry,
     number: usize,
-    to: &'a str,
-    replaces: bool,
 ) -> Result<Vec<u8>, Failure<'a>> {
-    if geos_of(entry).is_some() {
-        return Err(Failure::GeosCopy(to));
-    }
-    let bytes = bytes_of(rt, origin, entry, number)?;
     let moved = Moved {
-        to,
+        to: way.to,
         entry,
-        bytes: bytes.as_slice(),
-        replaces,
+        bytes: &[],
+        replaces: way.replaces,
     };
-    with_entry(rt.alloc(), old, moved)
-}
-
-/// Whether one of the patterns means the file of an entry, or there is none.
-fn is_wanted(entry: &Entry, patterns: &[Vec<u8>]) -> bool {
-    if entry.is_empty() {
-        return false;
+    if is_art(way.origin, entry) {
+        return with_art(rt.alloc(), old, moved);
     }
-    for pattern in patterns {
-        if is_meant(entry, pattern.as_slice()) {
-            return true;
-        }
-    }
-    patterns.is_empty()
-}
-
-/// The patterns of words, of which each means a file. Errors: `NoFile`, where one means none.
-fn patterns_of<'a>(
-    alloc: Global,
-    entries: &[Entry],
-    wanted: &Transfer<'a, '_>,
-) -> Result<Vec<Vec<u8>>, Failure<'a>> {
-    let mut patterns = Vec::new(alloc);
-    for word in wanted.patterns {
-        let pattern = petscii(alloc, wanted.charset, *word)?;
-        if disk_facts::first_meant(entries, pattern.as_slice()).is_none() {
-            return Err(Failure::NoFile(*word));
-        }
-        in_memory(patterns.push(pattern).map_err(AllocError::from))?;
-    }
-    Ok(patterns)
-}
-
-/// The image with the files that are wanted.
-fn with_all<'a, R: Runtime + AllocGlobal>(
-    rt: &R,
-    origin: &Origin<'_>,
-    found: &Entries,
-    old: &[u8],
-    to: &'a str,
-    wanted: &Transfer<'a, '_>,
-) -> Result<Vec<u8>, Failure<'a>> {
-    let patterns = patterns_of(rt.alloc(), found.entries.as_slice(), wanted)?;
-    let mut image = in_memory(Vec::from_slice(rt.alloc(), old))?;
-    for (number, entry) in found.entries.iter().enumerate() {
-        if is_wanted(entry, patterns.as_slice()) {
-            let next = with_one(
-                rt,
-                origin,
-                image.as_slice(),
-                entry,
-                number,
-                to,
-                wanted.replaces,
-            );
-            if next.is_err() {
-                in_memory(tell_left(rt, entry))?;
-            }
-            image = next?;
-        }
-    }
-    Ok(image)
-}
-
-/// Transfers files from a disk or an archive onto an image, all of them or none, and saves it. Errors: `Read`, `TooLong`, `Foreign`;
-/// `Told`, where the directory or a file can't be read, as is reported; `NoFile`; those of `read_to_change`; `Disk`, where a name is
-/// there already or the disk refuses a file; `GeosCopy`, `Records`, `DirectoryFull`; `NoMemory`; those of `replace`.
-pub fn transfer_files<'a, R: Runtime + AllocGlobal>(
-    rt: &R,
-    to: &'a str,
-    wanted: &Transfer<'a, '_>,
-) -> Result<(), Failure<'a>> {
-    let bytes = read_any(rt, wanted.from)?;
-    let origin = Origin::open(rt.alloc(), wanted.from, bytes.as_slice())?;
-    let found = origin.entries(rt.alloc())?;
-    if !tell_end(rt, wanted.from, found.end) {
-        return Err(Failure::Told);
-    }
-    let old = read_to_change(rt, to)?;
-    let new = with_all(rt, &origin, &found, old.as_slice(), to, wanted)?;
-    replace(rt, to, old.as_slice(), new.as_slice())
+    let kind = kind_of(rt, entry)?;
+    let bytes = bytes_of(rt, way.origin, entry, number)?;
+    let bytes = bytes.as_slice();
+    with_kind(rt.alloc(), old, kind, Moved { bytes, ..moved })
 }

@@ -1,7 +1,9 @@
 //! A disk or an archive from which files are taken.
+use crate::end::End;
+use crate::other::Other;
+use cbm_shell::ShellFault;
 use cbm_shell::texts::Charset;
-use cbm_shell::{ShellFault, foreign_of};
-use cbm_sources::{Fault, Form, Source, SourceKind};
+use cbm_sources::Fault;
 use cbm_volume::Entry;
 use disk_basics::calls::name_text;
 use disk_basics::host::require_ours;
@@ -15,18 +17,7 @@ pub enum Origin<'b> {
     /// The disk of a 1541.
     Disk(Disk),
     /// Another one.
-    Other(Source<'b>),
-}
-
-/// Why a directory ends where it does.
-#[derive(Clone, Copy)]
-pub enum End {
-    /// It is whole.
-    Whole,
-    /// That of a 1541's disk breaks off.
-    Disk(BreakOff),
-    /// That of another one does.
-    Other(Fault),
+    Other(Other<'b>),
 }
 
 /// The entries of a disk or an archive. A file's number is the place of its entry.
@@ -47,24 +38,6 @@ pub enum FileFault {
     Other(Fault),
 }
 
-/// The source that bytes are, if a 1541's image has another form; None of one of its own, or of none.
-pub fn other_source(bytes: &[u8]) -> Option<Source<'_>> {
-    foreign_of(bytes)?;
-    Source::of(bytes)
-}
-
-/// What a source is called.
-pub fn kind_text(kind: SourceKind) -> &'static str {
-    match kind {
-        SourceKind::Image(Form::D71) => "a D71, the disk of a 1571",
-        SourceKind::Image(Form::D81) => "a D81, the disk of a 1581",
-        SourceKind::Image(Form::D64Of42) => "a D64 of 42 tracks",
-        SourceKind::Image(_) => "a D64",
-        SourceKind::TapeArchive => "a T64 archive",
-        SourceKind::LynxArchive => "a Lynx archive",
-    }
-}
-
 impl<'b> Origin<'b> {
     /// The disk or the archive of these bytes. Errors: `Foreign`, where they are none; `Disk`; `NoMemory`.
     pub fn open<'a>(
@@ -72,32 +45,51 @@ impl<'b> Origin<'b> {
         name: &'a str,
         bytes: &'b [u8],
     ) -> Result<Origin<'b>, Failure<'a>> {
-        if let Some(source) = other_source(bytes) {
-            return Ok(Origin::Other(source));
+        if let Some(other) = in_memory(Other::of(alloc, bytes))? {
+            return Ok(Origin::Other(other));
         }
         require_ours(name, bytes)?;
         let disk = on_disk(name, Disk::open(alloc, bytes))?;
         Ok(Origin::Disk(disk))
     }
 
+    /// Whether it is a disk.
+    pub fn is_disk(&self) -> bool {
+        match self {
+            Origin::Disk(_) => true,
+            Origin::Other(other) => other.form().is_some(),
+        }
+    }
+
     /// Its entries, as far as its directory can be followed. The one error is `NoMemory`.
     pub fn entries<'a>(&self, alloc: Global) -> Result<Entries, Failure<'a>> {
         match self {
             Origin::Disk(disk) => disk_entries(alloc, disk),
-            Origin::Other(source) => source_entries(alloc, source),
+            Origin::Other(other) => other_entries(alloc, other),
         }
     }
 
     /// The bytes of the file of an entry, by its number.
     pub fn file(&self, alloc: Global, entry: &Entry, number: usize) -> Result<Vec<u8>, FileFault> {
-        if !entry.is_closed() {
-            return Err(FileFault::Disk(ShellFault::NotClosed));
-        }
         match self {
+            Origin::Disk(_) if !entry.is_closed() => Err(FileFault::Disk(ShellFault::NotClosed)),
             Origin::Disk(disk) => disk.file_of(alloc, entry).map_err(FileFault::Disk),
-            Origin::Other(source) => source.file(alloc, number).map_err(FileFault::Other),
+            Origin::Other(other) => other_file(alloc, other, entry, number),
         }
     }
+}
+
+/// The bytes of the file of another kind's entry, by its number.
+pub fn other_file(
+    alloc: Global,
+    other: &Other<'_>,
+    entry: &Entry,
+    number: usize,
+) -> Result<Vec<u8>, FileFault> {
+    if !entry.is_closed() {
+        return Err(FileFault::Disk(ShellFault::NotClosed));
+    }
+    other.file(alloc, number).map_err(FileFault::Other)
 }
 
 /// The entries of a 1541's disk.
@@ -116,20 +108,17 @@ fn disk_entries<'a>(alloc: Global, disk: &Disk) -> Result<Entries, Failure<'a>> 
     })
 }
 
-/// The entries of another one.
-fn source_entries<'a>(alloc: Global, source: &Source<'_>) -> Result<Entries, Failure<'a>> {
-    let contents = in_memory(source.entries(alloc))?;
-    let end = match contents.fault {
-        Some(fault) => End::Other(fault),
-        None => End::Whole,
-    };
+/// The entries of another one. The one error is `NoMemory`.
+pub fn other_entries<'a>(alloc: Global, other: &Other<'_>) -> Result<Entries, Failure<'a>> {
+    let contents = in_memory(other.contents(alloc))?;
+    let end = End::of(other.end(&contents));
     Ok(Entries {
         entries: contents.entries,
         end,
     })
 }
 
-/// Prints why a file or a directory of another kind of disk or archive can't be read on.
+/// Prints why a file of another kind isn't read.
 fn tell_fault(rt: &impl Eprint, name: &str, fault: Fault) -> io::Result<()> {
     match fault {
         Fault::NoFile => eprintln!(rt; "disk1541: {name}: no such file"),
@@ -147,20 +136,6 @@ fn tell_fault(rt: &impl Eprint, name: &str, fault: Fault) -> io::Result<()> {
         }
         Fault::Memory => eprintln!(rt; "disk1541: no memory"),
     }
-}
-
-/// Prints that a directory breaks off; answers whether it is whole.
-pub fn tell_end(rt: &impl Eprint, name: &str, end: End) -> bool {
-    match end {
-        End::Whole => return true,
-        End::Disk(end) => {
-            let _ = Failure::Broken(name, end).tell(rt);
-        }
-        End::Other(fault) => {
-            let _ = tell_fault(rt, name, fault);
-        }
-    }
-    false
 }
 
 /// Prints why a file isn't taken.

@@ -1,11 +1,12 @@
 //! GET and GET-ALL: files out of a disk or an archive of any kind.
-use crate::origin::{Entries, Origin, other_source, tell_end, tell_file};
+use crate::origin::{Entries, other_entries, other_file, tell_file};
+use crate::other::Other;
 use cbm_shell::texts::Charset;
 use cbm_volume::Entry;
 use disk_basics::calls::name_text;
 use disk_basics::host::{read_any, require_ours};
 use disk_basics::{Failure, in_memory, petscii, slot_chosen};
-use disk_facts::is_meant;
+use disk_facts::number_meant;
 use disk_looks::{
     Destination, Names, OneFile, Progress, get_all_from, get_from, make_folder, packed, save_as,
     write_taken,
@@ -13,16 +14,6 @@ use disk_looks::{
 use std::alloc::AllocError;
 use std::path::Path;
 use std::rt::Runtime;
-
-/// The number of the first file that a pattern means.
-fn number_meant(entries: &[Entry], pattern: &[u8]) -> Option<usize> {
-    for (number, entry) in entries.iter().enumerate() {
-        if is_meant(entry, pattern) {
-            return Some(number);
-        }
-    }
-    None
-}
 
 /// The number of the file that is chosen.
 fn number_of<'a, R: Runtime + AllocGlobal>(
@@ -43,17 +34,15 @@ fn number_of<'a, R: Runtime + AllocGlobal>(
 /// Takes a file out of a disk or an archive of another kind.
 fn get_other<'a, R: Runtime + AllocGlobal>(
     rt: &R,
-    image: &'a str,
-    bytes: &[u8],
+    other: &Other<'_>,
     taken: &OneFile<'a>,
 ) -> Result<(), Failure<'a>> {
-    let origin = Origin::open(rt.alloc(), image, bytes)?;
-    let found = origin.entries(rt.alloc())?;
+    let found = other_entries(rt.alloc(), other)?;
     let number = number_of(rt, found.entries.as_slice(), taken)?;
     let Some(entry) = found.entries.as_slice().get(number) else {
         return Err(Failure::NoFile(taken.choice.word()));
     };
-    match origin.file(rt.alloc(), entry, number) {
+    match other_file(rt.alloc(), other, entry, number) {
         Ok(file) => write_taken(rt, taken, file.as_slice()),
         Err(fault) => {
             in_memory(tell_file(rt, entry, fault))?;
@@ -70,8 +59,8 @@ pub fn get<'a, R: Runtime + AllocGlobal>(
     taken: &OneFile<'a>,
 ) -> Result<(), Failure<'a>> {
     let bytes = read_any(rt, image)?;
-    if other_source(bytes.as_slice()).is_some() {
-        return get_other(rt, image, bytes.as_slice(), taken);
+    if let Some(other) = in_memory(Other::of(rt.alloc(), bytes.as_slice()))? {
+        return get_other(rt, &other, taken);
     }
     require_ours(image, bytes.as_slice())?;
     get_from(rt, bytes.as_slice(), taken)
@@ -80,14 +69,14 @@ pub fn get<'a, R: Runtime + AllocGlobal>(
 /// Saves the file of an entry in the folder. Answers whether it was saved. The one error is want of memory.
 fn save_one<R: Runtime + AllocGlobal>(
     rt: &R,
-    origin: &Origin<'_>,
+    other: &Other<'_>,
     entry: &Entry,
     number: usize,
     names: &mut Names,
     place: Destination<'_>,
 ) -> Result<bool, AllocError> {
     let alloc = rt.alloc();
-    let file = match origin.file(alloc, entry, number) {
+    let file = match other_file(alloc, other, entry, number) {
         Ok(file) => file,
         Err(fault) => {
             tell_file(rt, entry, fault)?;
@@ -110,7 +99,7 @@ fn save_one<R: Runtime + AllocGlobal>(
 /// Saves all files in the folder. Answers whether all were saved. The one error is want of memory.
 fn save_all<R: Runtime + AllocGlobal>(
     rt: &R,
-    origin: &Origin<'_>,
+    other: &Other<'_>,
     found: &Entries,
     place: Destination<'_>,
 ) -> Result<bool, AllocError> {
@@ -118,7 +107,7 @@ fn save_all<R: Runtime + AllocGlobal>(
     let mut are_saved = true;
     for (number, entry) in found.entries.iter().enumerate() {
         if !entry.is_empty() {
-            let is_saved = save_one(rt, origin, entry, number, &mut names, place)?;
+            let is_saved = save_one(rt, other, entry, number, &mut names, place)?;
             are_saved = are_saved && is_saved;
         }
     }
@@ -129,14 +118,13 @@ fn save_all<R: Runtime + AllocGlobal>(
 fn get_all_other<'a, R: Runtime + AllocGlobal>(
     rt: &R,
     image: &'a str,
-    bytes: &[u8],
+    other: &Other<'_>,
     place: Destination<'a>,
 ) -> Result<(), Failure<'a>> {
-    let origin = Origin::open(rt.alloc(), image, bytes)?;
-    let found = origin.entries(rt.alloc())?;
+    let found = other_entries(rt.alloc(), other)?;
     make_folder(rt, place.folder)?;
-    let are_saved = in_memory(save_all(rt, &origin, &found, place))?;
-    let is_whole = tell_end(rt, image, found.end);
+    let are_saved = in_memory(save_all(rt, other, &found, place))?;
+    let is_whole = found.end.tell(rt, image);
     if are_saved && is_whole {
         return Ok(());
     }
@@ -152,8 +140,8 @@ pub fn get_all<'a, R: Runtime + AllocGlobal>(
     progress: Progress,
 ) -> Result<(), Failure<'a>> {
     let bytes = read_any(rt, image)?;
-    if other_source(bytes.as_slice()).is_some() {
-        return get_all_other(rt, image, bytes.as_slice(), place);
+    if let Some(other) = in_memory(Other::of(rt.alloc(), bytes.as_slice()))? {
+        return get_all_other(rt, image, &other, place);
     }
     require_ours(image, bytes.as_slice())?;
     get_all_from(rt, image, bytes.as_slice(), place, progress)

@@ -2,10 +2,7 @@
 use Rattle.std.proofs.Common.{◌≡◌, ℕ, List, length, refl, ap, inl, inr, subst, sym}
 use Rattle.std.specs.Prelude.{Option, Some, None, ℤ, Result, Ok, Err, IfErr, IfOk, MatchResult}
 use Rattle.cbm_shell.specs.declared.fault.ShellFault.{ShellFault}
-use Rattle.cbm_shell.specs.declared.fault.ShellFault.TheVariants as fault
-use Rattle.cbm_shell.specs.Images.{OrOpenFault}
 use Rattle.cbm_device.specs.Answers.{answer_number, refusal_of, AreGiven, GivesBytes}
-use Rattle.cbm_device.specs.ImageDisks.{IsOpenRefusal}
 use Rattle.yellowadze1541.specs.Slots.{IsSomeFault}
 
 -- the new image is given, or the fault is told
@@ -26,17 +23,6 @@ gives_shell {A = A} items Are Why made n k old new before needed e ok err given 
 pub any_fault : {A : Type 0} (made : Result A ShellFault) → IfErr made (λ _. Unit {0})
 any_fault (Ok v) = tt
 any_fault (Err f) = tt
-
--- an image that isn't opened is refused for that
-pub open_refusal : (image : List ℕ) (f : ShellFault) → OrOpenFault image (λ g. g ≡ fault.Memory) f → IsOpenRefusal image (refusal_of f)
-open_refusal image fault.Memory h = tt
-open_refusal image (fault.Image n) h = (n, h)
-open_refusal image (fault.Unsound u) h = absurd cc
-open_refusal image (fault.Refused s) h = absurd cc
-open_refusal image (fault.Trouble t) h = absurd cc
-open_refusal image fault.NotFound h = absurd cc
-open_refusal image fault.NotClosed h = absurd cc
-open_refusal image fault.Mistaken h = absurd cc
 
 -- a type is one type
 pub same_some : {A : Type 0} (x y : A) → Some x ≡ Some y → x ≡ y

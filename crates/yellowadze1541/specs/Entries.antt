@@ -1,8 +1,7 @@
 -- All entries of a directory and all flaws of a disk, as C is told of them.
-use Rattle.std.specs.Prelude.{ℕ, ℤ, pos, max, ◌≡◌, ◌<◌, ◌⊎◌, ◌+◌, ◌*◌, ◌%◌, List, ◌++◌, length, drop, map, Option, Some, None, slice_index, slice_range}
+use Rattle.std.specs.Prelude.{ℕ, ℤ, pos, max, ◌≡◌, ◌<◌, ◌⊎◌, List, ◌++◌, length, drop, map, Option, Some, None}
 use Rattle.cbm_medium.specs.declared.fault.Trouble.{Trouble}
 use Rattle.cbm_medium.specs.Place.{Place}
-use Rattle.cbm_directory.specs.Entries.{type_byte, bit_of, is_closed, width_of}
 use Rattle.cbm_directory.specs.Slots.{all_entries}
 use Rattle.cbm_image.specs.Images.{kind_of, content_of}
 use Rattle.cbm_shell.specs.Images.{disk_tracks}
@@ -17,7 +16,7 @@ use Rattle.cbm_device.specs.Answers.{fine, answer_number}
 use Rattle.cbm_device.specs.ImageDisks.{IsOpenRefusal}
 use Rattle.yellowadze1541.specs.declared.shapes.Entry.{Entry}
 use Rattle.yellowadze1541.specs.declared.shapes.Flaw.{Flaw}
-use Rattle.yellowadze1541.specs.Looks.{flag}
+use Rattle.yellowadze1541.specs.Looks.{entry_spelled}
 
 -- THE ITEMS ARE HANDED OUT with this answer: how many they are is reported, and they are the beginning of the caller's room, in which all else is as it was; or the
 -- room is too small for them, and as it was
@@ -28,19 +27,6 @@ AreHandedOut n good old new count items = (count ≡ length items)
 -- nothing is handed out: the image isn't opened, or memory runs out
 abbrev pub IsNothingOut : {A : Type 0} → List ℕ → ℤ → List A → List A → ℕ → ℕ → Type 0
 IsNothingOut image n old new before count = (r : DeviceRefusal) × IsOpenRefusal image r × (n ≡ answer_number r) × (new ≡ old) × (count ≡ before)
-
--- an entry's thirty bytes, as C has them
-abbrev pub entry_spelled : List ℕ → Entry
-entry_spelled e = record {
-  blocks = slice_index e 28 + 256 * slice_index e 29;
-  kind = type_byte e % 16;
-  closed = flag (is_closed e);
-  locked = flag (bit_of (type_byte e) 6);
-  record_length = width_of e;
-  name = slice_range e 3 19;
-  track = slice_index e 1;
-  sector = slice_index e 2;
-}
 
 -- the answer after entries: all is well if the directory was followed to its end, else the status of what breaks it off
 abbrev pub after_trouble : Option Trouble → ℤ

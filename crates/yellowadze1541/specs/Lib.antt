@@ -1,8 +1,11 @@
 pub mod Changes
+pub mod Commands
 pub mod Drives
 pub mod Entries
 pub mod Handles
 pub mod Looks
 pub mod Plays
+pub mod Putting
 pub mod Signals
 pub mod Slots
+pub mod Odd

@@ -52,21 +52,23 @@ abbrev pub flag : Bool → ℕ
 flag true = 1
 flag false = 0
 
--- an entry's thirty bytes, field by field
-pub record Spells (e : List ℕ) (s : Entry) : Type 0 where
-  pub blocks : s.blocks ≡ slice_index e 28 + 256 * slice_index e 29
-  pub kind : s.kind ≡ type_byte e % 16
-  pub closed : s.closed ≡ flag (is_closed e)
-  pub locked : s.locked ≡ flag (bit_of (type_byte e) 6)
-  pub record_length : s.record_length ≡ width_of e
-  pub name : s.name ≡ slice_range e 3 19
-  pub track : s.track ≡ slice_index e 1
-  pub sector : s.sector ≡ slice_index e 2
+-- an entry's thirty bytes, field by field, as C has them
+abbrev pub entry_spelled : List ℕ → Entry
+entry_spelled e = record {
+  blocks = slice_index e 28 + 256 * slice_index e 29;
+  kind = type_byte e % 16;
+  closed = flag (is_closed e);
+  locked = flag (bit_of (type_byte e) 6);
+  record_length = width_of e;
+  name = slice_range e 3 19;
+  track = slice_index e 1;
+  sector = slice_index e 2;
+}
 
 -- AN ENTRY OF AN IMAGE: 0 says that it is the one that stands in the slot, any other number why there is none.
 abbrev pub IsEntry : List ℕ → ℕ → ℤ → Entry → Entry → Type 0
 IsEntry image slot n old new =
-    ((e : List ℕ) × EntryStandsAt (tracks_of (kind_of image) image) (image_held image) slot e × (n ≡ fine) × Spells e new)
+    ((e : List ℕ) × EntryStandsAt (tracks_of (kind_of image) image) (image_held image) slot e × (n ≡ fine) × (new ≡ entry_spelled e))
     ⊎ ((r : DeviceRefusal) × IsNoDeviceEntry image slot r × (n ≡ answer_number r) × (new ≡ old))
 
 -- A SECTOR OF AN IMAGE: its bytes are given, or any other number says why not.

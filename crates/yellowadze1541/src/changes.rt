@@ -3,7 +3,7 @@ ghost use Rattle.std.specs.Prelude.{◌≡◌, ◌≤◌, ◌<◌, ◌⊎◌, �
 ghost use Rattle.cbm_file.specs.Files.{Disk};
 ghost use Rattle.cbm_machine.specs.Machines.{start};
 ghost use Rattle.cbm_image.specs.Images.{kind_of, tracks_of, ImageHolds};
-ghost use Rattle.cbm_shell.specs.Changing.{begun, disk_after_change, IsFine};
+ghost use Rattle.cbm_shell.specs.Changing.{IsFine};
 ghost use Rattle.cbm_shell.specs.Making.{IsNew};
 ghost use Rattle.cbm_shell.specs.Converting.{IsConverted, IsConvertFault};
 ghost use Rattle.cbm_device.specs.Answers.{refusal_of, GivesBytes};
@@ -11,33 +11,20 @@ ghost use Rattle.cbm_device.specs.Looking.{IsAccepted, IsSound};
 ghost use Rattle.cbm_device.specs.Making.{after_command, after_put, opened_for, IsUnmade, IsUnchanged, IsWantOfMemory};
 ghost use Rattle.cbm_shell.specs.declared.fault.ShellFault.{ShellFault};
 ghost use Rattle.yellowadze1541.specs.Looks.{flag};
+ghost use Rattle.yellowadze1541.specs.Slots.{IsSomeFault};
+ghost use Rattle.yellowadze1541.specs.Odd.{IsMadeAround, IsNotMadeAround};
 ghost use Rattle.yellowadze1541.specs.Changes.{form_of, IsRefusedNew, IsLossOf};
 
-use crate::shapes::{Lost, flag};
-use cbm_device::{DeviceRefusal, change, give, given, number};
+use crate::commands::{unsaid, with_command};
+use crate::odd::or_around;
+use crate::putting::with_files;
+use crate::shapes::{File, Lost, flag};
+use cbm_device::{DeviceRefusal, give, given, number};
 use cbm_shell::{DiskChange, Form, Losses, convert, new_image};
 use std::alloc::Global;
 
 /// The longest title.
 const TITLE: usize = 16;
-
-/// A change is made on an image's disk, and the new image is given.
-fn changed(
-    alloc: Global,
-    image: &[u8],
-    wanted: &DiskChange<'_>,
-    out: &mut [u8],
-    needed: &mut usize,
-) -> i32
-    ensures made { let kind = kind_of image.now in (d : Disk) → ImageHolds kind image.now d →
-        let m = start d false (tracks_of kind image.now) in let after = disk_after_change wanted.now m in
-        GivesBytes result out.old out.new needed.old needed.new
-        (λ bytes. IsFine after.status × ImageHolds kind bytes after.disk) (IsUnmade image.now (begun wanted.now m) after) }
-    ensures sound { GivesBytes result out.old out.new needed.old needed.new
-        (λ _. IsAccepted image.now × IsSound image.now) (IsUnchanged image.now) }
-{
-    number(given(change(alloc, image, wanted), out, needed))
-}
 
 /// A command for the drive, such as `S0:NAME`, is carried out on an image's disk, and the new image is given.
 #[unsafe(no_mangle)]
@@ -52,11 +39,15 @@ pub extern "C" fn y1541_image_command(
         let m = start d false (tracks_of kind image.now) in let after = after_command text.now m in
         GivesBytes result out.old out.new needed.old needed.new
         (λ bytes. IsFine after.status × ImageHolds kind bytes after.disk) (IsUnmade image.now after after) }
-    // Of any disk: one that isn't sound isn't changed.
+    // Of any disk: it is sound, or it is changed around its odd entries.
     ensures sound { GivesBytes result out.old out.new needed.old needed.new
-        (λ _. IsAccepted image.now × IsSound image.now) (IsUnchanged image.now) }
+        (λ bytes. (IsAccepted image.now × IsSound image.now) ⊎ IsMadeAround image.now (after_command text.now) bytes)
+        (λ r. IsUnchanged image.now r ⊎ IsSomeFault (IsNotMadeAround image.now (after_command text.now)) r) }
 {
-    changed(alloc, image, &DiskChange::Command(text), out, needed)
+    let mut said = unsaid();
+    let made = with_command(alloc, image, text, &mut said);
+    let change = DiskChange::Command(text);
+    number(given(or_around(alloc, image, made, &change), out, needed))
 }
 
 /// A file is put on an image's disk, as an OPEN with this text, such as `NAME,P,W`, would write it, and the new image is given.
@@ -74,11 +65,16 @@ pub extern "C" fn y1541_image_put(
         GivesBytes result out.old out.new needed.old needed.new
         (λ image. IsFine after.status × ImageHolds kind image after.disk)
         (IsUnmade image.now (opened_for text.now m) after) }
-    // Of any disk: one that isn't sound isn't changed.
+    // Of any disk: it is sound, or it is changed around its odd entries.
     ensures sound { GivesBytes result out.old out.new needed.old needed.new
-        (λ _. IsAccepted image.now × IsSound image.now) (IsUnchanged image.now) }
+        (λ image_new. (IsAccepted image.now × IsSound image.now) ⊎ IsMadeAround image.now (after_put text.now bytes.now) image_new)
+        (λ r. IsUnchanged image.now r ⊎ IsSomeFault (IsNotMadeAround image.now (after_put text.now bytes.now)) r) }
 {
-    changed(alloc, image, &DiskChange::File(text, bytes), out, needed)
+    let mut put = 0;
+    let files = [File { text, bytes }];
+    let made = with_files(alloc, image, &files, &mut put);
+    let change = DiskChange::File(text, bytes);
+    number(given(or_around(alloc, image, made, &change), out, needed))
 }
 
 /// The form of a number.

@@ -5,7 +5,8 @@ ghost use Rattle.cbm_image.specs.Images.{kind_of, content_of};
 ghost use Rattle.cbm_shell.specs.Images.{disk_tracks};
 ghost use Rattle.cbm_shell.specs.Flaws.{flaws_of};
 ghost use Rattle.cbm_device.specs.Answers.{answer_number};
-ghost use Rattle.yellowadze1541.specs.Entries.{entry_spelled, flaw_spelled, number_of_whose, slot_of_whose, after_trouble, ListsEntries, IsEntryList, IsFlawList};
+ghost use Rattle.yellowadze1541.specs.Looks.{entry_spelled};
+ghost use Rattle.yellowadze1541.specs.Entries.{flaw_spelled, number_of_whose, slot_of_whose, after_trouble, ListsEntries, IsEntryList, IsFlawList};
 ghost use Rattle.cbm_device.specs.ImageDisks.{IsOpenRefusal};
 
 use crate::images;
@@ -31,17 +32,17 @@ fn spelled(alloc: Global, entries: &[cbm_volume::Entry]) -> Result<Vec<Entry>, D
     Ok(spelled)
 }
 
-/// Entries go to the caller's room, if it is large enough, and how many they are is reported. The one error is `NoRoom`.
-fn hand_out(entries: &[Entry], out: &mut [Entry], count: &mut usize) -> Result<(), DeviceRefusal>
-    ensures count { count.new ≡ length entries.now }
-    ensures ok { OnOk result (out.new ≡ entries.now ++ drop (length entries.now) out.old) }
-    ensures err { IfErr result (λ r. (r ≡ DeviceRefusal.NoRoom) × (out.new ≡ out.old) × (length out.old < length entries.now)) }
+/// Items go to the caller's room, if it is large enough, and how many they are is reported. The one error is `NoRoom`.
+fn hand_out<T: Copy>(items: &[T], out: &mut [T], count: &mut usize) -> Result<(), DeviceRefusal>
+    ensures count { count.new ≡ length items.now }
+    ensures ok { OnOk result (out.new ≡ items.now ++ drop (length items.now) out.old) }
+    ensures err { IfErr result (λ r. (r ≡ DeviceRefusal.NoRoom) × (out.new ≡ out.old) × (length out.old < length items.now)) }
 {
-    *count = entries.len();
-    if out.len() < entries.len() {
+    *count = items.len();
+    if out.len() < items.len() {
         return Err(DeviceRefusal::NoRoom);
     }
-    out[..entries.len()].copy_from_slice(entries);
+    out[..items.len()].copy_from_slice(items);
     Ok(())
 }
 
@@ -139,20 +140,6 @@ fn flaws_spelled(alloc: Global, flaws: &[DiskFlaw]) -> Result<Vec<Flaw>, DeviceR
     Ok(spelled)
 }
 
-/// Flaws go to the caller's room, if it is large enough, and how many they are is reported. The one error is `NoRoom`.
-fn tell_flaws(flaws: &[Flaw], out: &mut [Flaw], count: &mut usize) -> Result<(), DeviceRefusal>
-    ensures count { count.new ≡ length flaws.now }
-    ensures ok { OnOk result (out.new ≡ flaws.now ++ drop (length flaws.now) out.old) }
-    ensures err { IfErr result (λ r. (r ≡ DeviceRefusal.NoRoom) × (out.new ≡ out.old) × (length out.old < length flaws.now)) }
-{
-    *count = flaws.len();
-    if out.len() < flaws.len() {
-        return Err(DeviceRefusal::NoRoom);
-    }
-    out[..flaws.len()].copy_from_slice(flaws);
-    Ok(())
-}
-
 /// All that is wrong with an image's disk, as C has it. Errors: `NoImage`, `Memory`; a status, if a sector doesn't read any more.
 fn all_flaws(alloc: Global, image: &[u8]) -> Result<Vec<Flaw>, DeviceRefusal>
     ensures { IfOk result (λ v. v.items ≡ map flaw_spelled (flaws_of (disk_tracks image.now) (content_of (kind_of image.now) image.now))) }
@@ -175,7 +162,7 @@ pub extern "C" fn y1541_image_flaws(
     ensures { IsFlawList image.now result out.old out.new count.old count.new }
 {
     match all_flaws(alloc, image) {
-        Ok(flaws) => number(tell_flaws(flaws.as_slice(), out, count)),
+        Ok(flaws) => number(hand_out(flaws.as_slice(), out, count)),
         Err(refusal) => refusal.number(),
     }
 }

@@ -7,8 +7,7 @@ ghost use Rattle.cbm_shell.specs.Reading.{Gets};
 ghost use Rattle.cbm_shell.specs.Listing.{IsSent};
 ghost use Rattle.cbm_device.specs.Answers.{GivesBytes};
 ghost use Rattle.cbm_device.specs.Looking.{IsAccepted, IsLookRefused, IsUnsent, IsUngot};
-ghost use Rattle.yellowadze1541.specs.Entries.{entry_spelled};
-ghost use Rattle.yellowadze1541.specs.Looks.{IsCheck, IsTitle, IsEntry, IsSector, Spells};
+ghost use Rattle.yellowadze1541.specs.Looks.{entry_spelled, IsCheck, IsTitle, IsEntry, IsSector};
 
 use crate::shapes::{Entry, Place, Title, flag};
 use cbm_device::{DeviceRefusal, file, give, given, list, number};
@@ -91,8 +90,7 @@ pub extern "C" fn y1541_image_title(alloc: Global, image: &[u8], title: &mut Tit
 
 /// An entry, field by field.
 pub(crate) fn spelled(entry: &cbm_volume::Entry) -> Entry
-    ensures says { Spells entry.now result }
-    ensures made { result ≡ entry_spelled entry.now }
+    ensures { result ≡ entry_spelled entry.now }
 {
     let bytes = entry.bytes();
     let mut name = [0; 16];

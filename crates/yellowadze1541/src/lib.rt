@@ -2,16 +2,20 @@
 #![tactic(auto)]
 
 mod changes;
+mod commands;
 mod disks;
 mod drives;
 mod entries;
 mod handle;
 mod images;
 mod inner;
+mod odd;
 mod plays;
+mod putting;
 mod shapes;
 mod slots;
+mod sound;
 
 pub use handle::Handle;
 pub use inner::Inner;
-pub use shapes::{Entry, Flaw, Lost, Place, Pulls, Reacted, Signal, Title};
+pub use shapes::{Entry, File, Flaw, Lost, Place, Pulls, Reacted, Said, Signal, Title};

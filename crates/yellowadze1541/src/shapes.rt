@@ -80,6 +80,30 @@ pub struct Lost {
     pub id: u8,
 }
 
+/// A file that is put on a disk.
+#[repr(C)]
+#[derive(Clone, Copy)]
+pub struct File<'a> {
+    /// The text of the OPEN that writes it, such as `NAME,P,W`.
+    pub text: &'a [u8],
+    /// Its bytes.
+    pub bytes: &'a [u8],
+}
+
+/// What the drive says on channel 15.
+#[repr(C)]
+#[derive(Clone, Copy, Drop)]
+pub struct Said {
+    /// The number of the status, 0 to 74.
+    pub number: u8,
+    /// Its first number: a track, or how many files.
+    pub first: u8,
+    /// Its second number: a sector.
+    pub second: u8,
+    /// Its line without the return, such as `01, FILES SCRATCHED,05,00`, and zeros after it.
+    pub line: [u8; 33],
+}
+
 /// The lines that a drive holds low.
 #[repr(C)]
 #[derive(Clone, Copy, Drop)]

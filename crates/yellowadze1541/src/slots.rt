@@ -11,13 +11,14 @@ ghost use Rattle.cbm_shell.specs.Swapping.{AreSwappedIn, MissesSlotIn};
 ghost use Rattle.cbm_shell.specs.Locking.{IsRetitled, IsRemarked};
 ghost use Rattle.cbm_shell.specs.Editing.{IsUneditedIn};
 ghost use Rattle.cbm_shell.specs.declared.fault.ShellFault.{ShellFault};
-ghost use Rattle.cbm_slots.specs.InSlots.{IsRenamedInSlot, IsLockedInSlot, IsDeletedInSlot, IsNotRenamedInSlot, IsNotLockedInSlot, IsNotDeletedInSlot};
+ghost use Rattle.cbm_slots.specs.InSlots.{IsRenamedInSlot, IsLockedInSlot, IsDeletedInSlot, IsCopiedInSlot, IsNotRenamedInSlot, IsNotLockedInSlot, IsNotDeletedInSlot, IsNotCopiedInSlot};
 ghost use Rattle.yellowadze1541.specs.Changes.{IsRefusedNew};
-ghost use Rattle.yellowadze1541.specs.Slots.{IsSomeFault};
+ghost use Rattle.yellowadze1541.specs.Slots.{IsReadIn, IsSomeFault, IsUnreadIn};
 
-use cbm_device::{DeviceRefusal, entry, given, number};
+use cbm_device::{DeviceRefusal, ImageDisk, entry, given, number};
 use cbm_file::FileType;
-use cbm_shell::{ShellFault, Swap};
+use cbm_shell::{ShellFault, Swap, read_file};
+use cbm_volume::Volume;
 use std::alloc::Global;
 
 /// The longest name, and the longest title.
@@ -27,7 +28,7 @@ const LONGEST: usize = 16;
 const MARK: usize = 5;
 
 /// What was made of an image goes to the caller's room, or why nothing was made is reported.
-fn handed(made: Result<Vec<u8>, ShellFault>, out: &mut [u8], needed: &mut usize) -> i32
+pub(crate) fn handed(made: Result<Vec<u8>, ShellFault>, out: &mut [u8], needed: &mut usize) -> i32
     ensures { MatchResult made
         (λ v. (needed.new ≡ length v.items) × AreGiven result out.old out.new v.items)
         (λ fault. (result ≡ answer_number (refusal_of fault)) × (out.new ≡ out.old) × (needed.new ≡ needed.old)) }
@@ -40,12 +41,14 @@ fn handed(made: Result<Vec<u8>, ShellFault>, out: &mut [u8], needed: &mut usize)
 
 /// The bytes of the file in a slot, closed or not.
 fn read(alloc: Global, image: &[u8], slot: u8) -> Result<Vec<u8>, DeviceRefusal>
-    ensures { let kind = kind_of image.now in (d : Disk) (e : List ℕ) (bytes : List ℕ) → ImageHolds kind image.now d →
+    ensures held { MatchResult result (λ v. IsReadIn image.now slot v.items) (IsUnreadIn image.now slot) }
+    ensures means { let kind = kind_of image.now in (d : Disk) (e : List ℕ) (bytes : List ℕ) → ImageHolds kind image.now d →
         EntryStandsAt (tracks_of kind image.now) (content_of kind image.now) slot e → HasBytes d slot bytes →
         MatchResult result (λ v. v.items ≡ bytes) (IsOpenRefusal image.now) }
 {
     let entry = entry(alloc, image, slot)?;
-    match cbm_shell::file_of(alloc, image, &entry) {
+    let volume = Volume::open(ImageDisk::open(alloc, image, true)?);
+    match read_file(alloc, &volume, &entry) {
         Ok(bytes) => Ok(bytes),
         Err(fault) => Err(DeviceRefusal::from(fault)),
     }
@@ -60,8 +63,10 @@ pub extern "C" fn y1541_image_read(
     out: &mut [u8],
     needed: &mut usize,
 ) -> i32
+    // Of any disk: what the chain of the entry in the slot holds to its end.
+    ensures held { GivesBytes result out.old out.new needed.old needed.new (IsReadIn image.now slot) (IsUnreadIn image.now slot) }
     // A closed file without records on a sound disk is given byte for byte.
-    ensures { let kind = kind_of image.now in (d : Disk) (e : List ℕ) (bytes : List ℕ) → ImageHolds kind image.now d →
+    ensures means { let kind = kind_of image.now in (d : Disk) (e : List ℕ) (bytes : List ℕ) → ImageHolds kind image.now d →
         EntryStandsAt (tracks_of kind image.now) (content_of kind image.now) slot e → HasBytes d slot bytes →
         GivesBytes result out.old out.new needed.old needed.new (λ got. got ≡ bytes) (IsOpenRefusal image.now) }
 {
@@ -87,6 +92,27 @@ pub extern "C" fn y1541_image_rename(
         return DeviceRefusal::Invalid.number();
     }
     handed(cbm_slots::rename(alloc, image, slot, name), out, needed)
+}
+
+/// The file in a slot is copied to another name, of 1 to 16 bytes, and the new image is given. The copy isn't locked.
+#[unsafe(no_mangle)]
+pub extern "C" fn y1541_image_copy(
+    alloc: Global,
+    image: &[u8],
+    slot: u8,
+    name: &[u8],
+    out: &mut [u8],
+    needed: &mut usize,
+) -> i32
+    ensures copied { 1 ≤ length name.now → length name.now ≤ 16 → GivesBytes result out.old out.new needed.old needed.new
+        (IsCopiedInSlot image.now slot name.now) (IsSomeFault (IsNotCopiedInSlot image.now slot name.now)) }
+    ensures refused { (length name.now < 1) ⊎ (16 < length name.now) →
+        IsRefusedNew result out.old out.new needed.old needed.new }
+{
+    if name.is_empty() || name.len() > LONGEST {
+        return DeviceRefusal::Invalid.number();
+    }
+    handed(cbm_slots::copy(alloc, image, slot, name), out, needed)
 }
 
 /// The file in a slot is locked against SCRATCH, or freed, and the new image is given.

@@ -65,6 +65,14 @@ class LostStruct(ctypes.Structure):
     _fields_ = [("unreadable", c_size_t), ("tracks", c_uint8), ("errors", c_uint8), ("id", c_uint8)]
 
 
+class FileStruct(ctypes.Structure):
+    _fields_ = [("text", c_char_p), ("n", c_size_t), ("bytes", c_char_p), ("count", c_size_t)]
+
+
+class SaidStruct(ctypes.Structure):
+    _fields_ = [("number", c_uint8), ("first", c_uint8), ("second", c_uint8), ("line", c_uint8 * 33)]
+
+
 _BYTES = (c_char_p, c_size_t)
 _OUT = (ctypes.c_void_p, c_size_t, POINTER(c_size_t))
 _DRIVE = (POINTER(Handle),)
@@ -89,9 +97,10 @@ CALLS = {
     "y1541_image_list": (*_BYTES, *_BYTES, *_OUT),
     "y1541_image_read": (*_BYTES, c_uint8, *_OUT),
     "y1541_image_sector": (*_BYTES, c_uint8, c_uint8, ctypes.c_void_p, c_size_t),
-    "y1541_image_put": (*_BYTES, *_BYTES, *_BYTES, *_OUT),
-    "y1541_image_command": (*_BYTES, *_BYTES, *_OUT),
+    "y1541_image_put_all": (*_BYTES, POINTER(FileStruct), c_size_t, POINTER(c_size_t), *_OUT),
+    "y1541_image_command_status": (*_BYTES, *_BYTES, POINTER(SaidStruct), *_OUT),
     "y1541_image_rename": (*_BYTES, c_uint8, *_BYTES, *_OUT),
+    "y1541_image_copy": (*_BYTES, c_uint8, *_BYTES, *_OUT),
     "y1541_image_delete": (*_BYTES, c_uint8, *_OUT),
     "y1541_image_lock": (*_BYTES, c_uint8, c_uint8, *_OUT),
     "y1541_image_undelete": (*_BYTES, c_uint8, c_uint8, *_OUT),

@@ -5,8 +5,9 @@ Each change is the C library's: it opens the image, changes it and gives the new
 import contextlib
 import ctypes
 import enum
+import itertools
 import os
-from typing import Any, Callable, Iterator, List, Optional, Tuple, Union
+from typing import Any, Callable, Iterable, Iterator, List, Optional, Set, Tuple, Union
 
 from . import _library, foreign, petscii, saving
 from ._library import library
@@ -21,6 +22,9 @@ Bytes = bytes
 
 # A file of a disk: its entry, its slot, or its name, which means the first file that has it.
 Which = Union[Entry, int, Name]
+
+# A file that is to be written: its name, its bytes, and its type if it is no program.
+NewFile = Union[Tuple[Name, Bytes], Tuple[Name, Bytes, FileType]]
 
 # The directory has at most this many slots, and a listing this many bytes.
 _SLOTS, _LISTING = 144, 4672
@@ -232,7 +236,17 @@ class Image:
         if old is not None:
             raise Refused(EXISTS, petscii.text(codes))
         after = Image(self._data)
-        after._put(codes, bytes(data), letter)
+        after._put([(codes, bytes(data), letter)])
+        self._data = after._data
+
+    def write_all(self, files: Iterable[NewFile]) -> None:
+        """Writes several files, all or none, in one call: of each its name, its bytes, and its type if it is no program. Refused: as `write`."""
+        new = [(_file_name(name), bytes(data), self._letter_to_write(type[0] if type else FileType.PRG)) for name, data, *type in files]
+        for codes, _, _ in new:
+            if self.find(codes) is not None:
+                raise Refused(EXISTS, petscii.text(codes))
+        after = Image(self._data)
+        after._put(new)
         self._data = after._data
 
     def rewrite(self, which: Which, data: Bytes, type: Optional[FileType] = None) -> None:
@@ -241,7 +255,7 @@ class Image:
         letter = self._letter_to_write(old.type if type is None else type)
         after = Image(self._data)
         after.delete(old)
-        after._put(old.name, bytes(data), letter)
+        after._put([(old.name, bytes(data), letter)])
         new = after._entry_of(old.name)
         if new.slot != old.slot:
             after._change(library.y1541_image_swap, new.slot, old.slot)
@@ -259,11 +273,7 @@ class Image:
         foreign.require_no_dolphin(self._data)
         codes, slot = _file_name(name), self._entry_of(which).slot
         foreign.require_no_geos_file(self, slot)
-        if self.find(codes) is not None:
-            raise Refused(EXISTS, petscii.text(codes))
-        after = Image(self._data)
-        after._copy(slot, codes)
-        self._data = after._data
+        self._change(library.y1541_image_copy, slot, codes, len(codes))
 
     def delete(self, which: Which) -> None:
         """Deletes a file. Refused: it is locked (26)."""
@@ -316,10 +326,19 @@ class Image:
         else:
             self._data = self._mended()
 
-    def command(self, text: Name) -> None:
-        """Has the drive carry out a command of channel 15, such as `S0:NAME`. Its names are patterns, and may mean several files: the other methods mean one."""
-        codes = name_codes(text)
-        self._change(library.y1541_image_command, codes, len(codes))
+    def command(self, text: Name) -> str:
+        """Has the drive carry out a command of channel 15, such as `S0:NAME`, and answers the status line, such as `01, FILES SCRATCHED,02,00`.
+
+        Its names are patterns, and may mean several files: the other methods mean one. Refused: with that line.
+        """
+        codes, status = name_codes(text), _library.SaidStruct()
+        try:
+            self._change(library.y1541_image_command_status, codes, len(codes), status)
+        except Refused as error:
+            if error.number != status.number:
+                raise
+            raise Refused(error.number, line=_line(status)) from None
+        return _line(status)
 
     def __repr__(self) -> str:
         return f"<Image, {self.form.name}, {len(self._data)} bytes{f', of {self._path}' if self._path else ''}>"
@@ -390,27 +409,27 @@ class Image:
                 raise refusal
             return drive.image.bytes
 
-    def _put(self, codes: Bytes, data: Bytes, letter: Bytes) -> None:
-        """Writes a file of a name that isn't there: where the text of an OPEN can't say the name, under another one first."""
-        first = codes if _PLAIN.issuperset(codes) else self._unused_name()
-        text = b"0:" + first + b"," + letter + b",W"
-        self._change(library.y1541_image_put, text, len(text), data, len(data))
-        if first != codes:
-            self.rename(first, codes)
+    def _put(self, files: List[Tuple[Bytes, Bytes, Bytes]]) -> None:
+        """Writes files of names that aren't there, of bytes and of a letter: where the text of an OPEN can't say a name, under another one first."""
+        unused = self._unused_names({codes for codes, _, _ in files})
+        first = [codes if _PLAIN.issuperset(codes) else next(unused) for codes, _, _ in files]
+        texts = [b"0:" + name + b"," + letter + b",W" for name, (_, _, letter) in zip(first, files)]
+        structs = (_library.FileStruct * len(files))(*((text, len(text), data, len(data)) for text, (_, data, _) in zip(texts, files)))
+        put = ctypes.c_size_t()
+        try:
+            self._change(library.y1541_image_put_all, structs, len(files), put)
+        except Refused as error:
+            if error.number < 0:
+                raise
+            raise Refused(error.number, petscii.text(files[put.value][0])) from None
+        for name, (codes, _, _) in zip(first, files):
+            if name != codes:
+                self.rename(name, codes)
 
-    def _copy(self, slot: int, codes: Bytes) -> None:
-        """Copies the file in a slot to a name that isn't there: by COPY, while both files have names that it takes for nothing else."""
-        entry, old = self.slots()[slot], self._unused_name()
-        self._change(library.y1541_image_rename, slot, old, len(old))
-        new = self._unused_name()
-        self.command(b"C0:" + new + b"=" + old)
-        self._change(library.y1541_image_rename, slot, entry.field, len(entry.field))
-        self.rename(new, codes)
-
-    def _unused_name(self) -> Bytes:
-        """A plain name that no file has."""
-        names = {it.name for it in self.files()}
-        return next(it for it in (b"NEW %d" % number for number in range(_SLOTS + 1)) if it not in names)
+    def _unused_names(self, besides: Set[Bytes]) -> Iterator[Bytes]:
+        """Plain names that no file has, and that aren't among these."""
+        names = {it.name for it in self.files()} | besides
+        return (it for it in (b"NEW %d" % number for number in itertools.count()) if it not in names)
 
 
 def _entry(slot: int, blocks: int, kind: int, closed: int, locked: int, record_length: int, field: bytes, track: int, sector: int) -> Entry:
@@ -421,6 +440,11 @@ def _entry(slot: int, blocks: int, kind: int, closed: int, locked: int, record_l
 def _flaw(what: int, track: int, sector: int, whose: int, slot: int, before: int) -> Flaw:
     """A flaw by the fields of the library's."""
     return Flaw(what, track, sector, slot if whose == _OF_FILE else None, before, whose == _OF_DIRECTORY)
+
+
+def _line(status: _library.SaidStruct) -> str:
+    """The line of a status as text."""
+    return bytes(status.line).split(b"\0")[0].decode("latin-1")
 
 
 def _place(entry: Entry) -> Tuple[bytes, int, int]:

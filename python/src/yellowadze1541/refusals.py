@@ -84,12 +84,12 @@ class Lost(NamedTuple):
 
 
 class Refused(Exception):
-    """The library, or the drive, refuses a call: `number` is below 0, or a status of the drive; `text` has its words."""
+    """The library, or the drive, refuses a call: `number` is below 0, or a status of the drive; `text` has its words, `line` what channel 15 said to a command."""
 
-    def __init__(self, number: int, about: str = "") -> None:
-        self.number = number
+    def __init__(self, number: int, about: str = "", line: str = "") -> None:
+        self.number, self.line = number, line
         self.text = WORDS.get(number, "an unknown number")
-        said = self.text if number <= 0 else f"{number:02d}, {self.text}"
+        said = line or (self.text if number <= 0 else f"{number:02d}, {self.text}")
         super().__init__(f"{about}: {said}" if about else said)
 
 

@@ -17,6 +17,8 @@ pub struct Counts {
     none: u32,
     // Among those that were looked at, with a directory that breaks off.
     broken: u32,
+    // Among them, disks and archives of other kinds.
+    foreign: u32,
     // What was passed over in folders.
     passed: Passed,
 }
@@ -29,6 +31,7 @@ impl Counts {
             others: 0,
             none: 0,
             broken: 0,
+            foreign: 0,
             passed: Passed {
                 files: 0,
                 specials: 0,
@@ -37,8 +40,9 @@ impl Counts {
         }
     }
 
-    /// One more was looked at.
-    pub fn add(&mut self, answer: LookAnswer) {
+    /// One more was looked at, maybe a disk or an archive of another kind.
+    pub fn add(&mut self, answer: LookAnswer, is_other: bool) {
+        self.foreign = self.foreign.wrapping_add(u32::from(is_other));
         match answer {
             LookAnswer::Fine => self.fine = self.fine.wrapping_add(1),
             LookAnswer::Unsound(_) | LookAnswer::NoMatch | LookAnswer::Untitled => self.others =
@@ -62,9 +66,13 @@ impl Counts {
         self.passed.unnamed = self.passed.unnamed.wrapping_add(passed.unnamed);
     }
 
-    /// What was passed over in folders, as the end of a line.
-    fn passed_text(self, alloc: Global) -> Result<String, AllocError> {
+    /// How many are of other kinds, and what was passed over in folders, as the end of a line.
+    fn end_text(self, alloc: Global) -> Result<String, AllocError> {
         let mut text = String::new(alloc);
+        let foreign = self.foreign;
+        if foreign != 0 {
+            text.push_str(format!(in alloc; ", {foreign} of other kinds")?.as_str())?;
+        }
         let Passed {
             files,
             specials,
@@ -91,7 +99,7 @@ impl Counts {
             none,
             ..
         } = self;
-        let end = self.passed_text(alloc)?;
+        let end = self.end_text(alloc)?;
         let all = fine.wrapping_add(others).wrapping_add(none);
         match view {
             View::Soundness | View::Flaws => {

@@ -1,6 +1,6 @@
 //! The images in a folder and in its folders.
 use disk_basics::Failure;
-use disk_facts::is_image_name;
+use disk_facts::{is_image_name, is_other_name};
 use host_files::{Kind, kind_of, names_in, own_kind_of};
 use std::alloc::AllocError;
 use std::io;
@@ -30,11 +30,18 @@ pub struct Walk {
     passed: Passed,
     // Whether each folder could be read.
     is_whole: bool,
+    // Disks and archives of other kinds are images, too.
+    has_others: bool,
 }
 
 impl Walk {
-    /// The walk through a folder to its end. A folder that can't be read is reported. The one error is want of memory.
-    pub fn through<R: Runtime + AllocGlobal>(rt: &R, folder: &str) -> Result<Walk, AllocError> {
+    /// The walk through a folder to its end, to images, and to disks and archives of other kinds, if they count as such. A folder
+    /// that can't be read is reported. The one error is want of memory.
+    pub fn through<R: Runtime + AllocGlobal>(
+        rt: &R,
+        folder: &str,
+        has_others: bool,
+    ) -> Result<Walk, AllocError> {
         let mut walk = Walk {
             folders: Vec::new(rt.alloc()),
             images: Vec::new(rt.alloc()),
@@ -44,6 +51,7 @@ impl Walk {
                 unnamed: 0,
             },
             is_whole: true,
+            has_others,
         };
         walk.enter(rt, folder)?;
         walk.go_on(rt)?;
@@ -99,6 +107,11 @@ impl Walk {
         Ok(())
     }
 
+    /// Whether a file is named as images are.
+    fn is_image(&self, path: &str) -> bool {
+        is_image_name(path) || self.has_others && is_other_name(path)
+    }
+
     /// Adds a folder, or a file that is named as images are. A link to a folder isn't followed.
     fn add<R: Runtime + AllocGlobal>(&mut self, rt: &R, path: &str) -> Result<(), AllocError> {
         let alloc = rt.alloc();
@@ -108,7 +121,7 @@ impl Walk {
             }
             (Ok(Kind::Link), Ok(Kind::Folder)) => {}
             (_, Ok(Kind::Other)) => self.passed.specials = self.passed.specials.wrapping_add(1),
-            _ if is_image_name(path) => self.images.push(String::from_str(alloc, path)?)?,
+            _ if self.is_image(path) => self.images.push(String::from_str(alloc, path)?)?,
             (Err(error), _) if error.kind() == io::ErrorKind::InvalidFilename => {
                 self.passed.unnamed = self.passed.unnamed.wrapping_add(1);
             }

@@ -4,7 +4,7 @@ use super::folders::Walk;
 use disk_basics::host::print;
 use disk_basics::{Failure, in_memory};
 use disk_reports::{Look, LookAnswer, heads, refusal_line};
-use disk_sources::seen;
+use disk_sources::{Sight, is_for_all, seen};
 use host_files::{Kind, kind_of};
 use std::rt::Runtime;
 
@@ -14,7 +14,7 @@ fn look_at_one<'a, R: Runtime + AllocGlobal>(
     image: &'a str,
     look: Look<'_>,
 ) -> Result<(), Failure<'a>> {
-    let shown = seen(rt, image, look)?;
+    let shown = seen(rt, image, look)?.shown;
     print(rt, shown.text.as_slice())?;
     match shown.answer {
         LookAnswer::Fine => Ok(()),
@@ -59,8 +59,8 @@ fn look_among<'a, R: Runtime + AllocGlobal>(
     counts: &mut Counts,
 ) -> Result<(), Failure<'a>> {
     match seen(rt, image, look) {
-        Ok(shown) => {
-            counts.add(shown.answer);
+        Ok(Sight { shown, is_other }) => {
+            counts.add(shown.answer, is_other);
             tell_answer(rt, image, shown.answer);
             print(rt, shown.text.as_slice())
         }
@@ -79,7 +79,7 @@ fn look_into<'a, R: Runtime + AllocGlobal>(
     look: Look<'_>,
     counts: &mut Counts,
 ) -> Result<(), Failure<'a>> {
-    let walk = in_memory(Walk::through(rt, folder))?;
+    let walk = in_memory(Walk::through(rt, folder, is_for_all(look.view)))?;
     for image in walk.images() {
         look_among(rt, image.as_str(), look, counts)?;
     }

@@ -1,15 +1,17 @@
 //! Images as tables, for programs: a line for each file, or for each image.
-use super::{LabelTexts, Size, files_meant, geos_kind, image_answer, label_of, record_of, size_of};
+use super::facts::Facts;
+use super::files::{Files, Size, size_of};
+use super::{LabelTexts, files_meant, geos_kind, image_answer, label_of, record_of};
 use crate::broken::answer_by;
 use crate::sum::sum_text;
 use crate::view::{Look, LookAnswer, Shown, View};
+use cbm_shell::ShellFault;
 use cbm_shell::texts::{Charset, words};
-use cbm_shell::{Info, ShellFault};
 use cbm_volume::{Entry, Unsound};
 use csv::WriterBuilder;
 use disk_basics::Disk;
 use disk_basics::calls::{info, listed, name_text};
-use disk_facts::{format_name, hex, type_of};
+use disk_facts::{hex, type_of};
 use serde::Serialize;
 use std::alloc::{AllocError, Global};
 
@@ -47,13 +49,13 @@ struct FileRow<'a> {
 struct ImageRow<'a> {
     image: &'a str,
     format: &'static str,
-    tracks: u8,
+    tracks: Option<u8>,
     title: Option<String>,
     id: Option<String>,
     dos: Option<String>,
     free: Option<u16>,
-    unreadable: usize,
-    sound: bool,
+    unreadable: Option<usize>,
+    sound: Option<bool>,
     track: Option<u8>,
     sector: Option<u8>,
     number: Option<u8>,
@@ -117,18 +119,18 @@ fn file_line(
     line(alloc, &row)
 }
 
-/// The lines of the files that are meant.
-fn file_lines(
+/// The lines of the files that are meant. The one error is want of memory.
+pub fn file_lines<F: Files>(
     alloc: Global,
     name: &str,
-    disk: &Disk,
+    disk: &F,
     entries: &[Entry],
     look: Look<'_>,
-) -> Result<Vec<u8>, ShellFault> {
+) -> Result<Vec<u8>, AllocError> {
     let mut text = Vec::new(alloc);
-    for entry in entries {
+    for (number, entry) in entries.iter().enumerate() {
         if files_meant(entry, look) {
-            let size = size_of(alloc, disk, entry)?;
+            let size = size_of(alloc, disk, entry, number)?;
             let line = file_line(alloc, name, entry, look.charset, size)?;
             text.extend_from_slice(line.as_slice())?;
         }
@@ -157,14 +159,6 @@ fn files_table(
     let text = file_lines(alloc, name, &disk, listed.entries.as_slice(), look)?;
     let answer = answer_by(&listed, files_answer(look, text.as_slice()));
     Ok(Shown { text, answer })
-}
-
-/// What is wrong first.
-fn flaw_of(check: &Result<(), Unsound>) -> Option<Unsound> {
-    match check {
-        Ok(()) => None,
-        Err(unsound) => Some(*unsound),
-    }
 }
 
 /// The texts of 18/0, none where it can't be read.
@@ -199,26 +193,25 @@ fn text_of(flaw: Option<Unsound>) -> Option<&'static str> {
     Some(std::str::from_utf8(words(flaw.number)).unwrap_or("it isn't sound"))
 }
 
-/// The line of an image.
-fn image_line(
+/// The line of an image or of another disk or archive. The one error is want of memory.
+pub fn facts_line(
     alloc: Global,
     name: &str,
-    image: &[u8],
-    look: Look<'_>,
-    info: &Info,
+    charset: Charset,
+    facts: &Facts,
 ) -> Result<Vec<u8>, AllocError> {
-    let (title, id, dos) = texts_of(label_of(alloc, look.charset, info)?);
-    let flaw = flaw_of(&info.check);
+    let (title, id, dos) = texts_of(label_of(alloc, charset, facts.label)?);
+    let flaw = facts.flaw();
     let row = ImageRow {
         image: name,
-        format: format_name(image),
-        tracks: info.tracks,
+        format: facts.format,
+        tracks: facts.tracks,
         title,
         id,
         dos,
-        free: info.free,
-        unreadable: info.unreadable.len(),
-        sound: info.check.is_ok(),
+        free: facts.free,
+        unreadable: facts.unreadable,
+        sound: facts.is_sound(),
         track: track_of(flaw),
         sector: sector_of(flaw),
         number: number_of(flaw),
@@ -236,22 +229,24 @@ fn image_table(
 ) -> Result<Shown, ShellFault> {
     let info = info(alloc, image)?;
     let listed = listed(alloc, image)?;
-    let text = image_line(alloc, name, image, look, &info)?;
+    let facts = Facts::of_image(alloc, image, &info)?;
+    let text = facts_line(alloc, name, look.charset, &facts)?;
     Ok(Shown {
         text,
         answer: image_answer(look, &info, &listed),
     })
 }
 
+/// The line of a sum. The one error is want of memory.
+pub fn sum_row(alloc: Global, image: &str, sha256: &str) -> Result<Vec<u8>, AllocError> {
+    line(alloc, &SumRow { image, sha256 })
+}
+
 /// The sum of an image.
 fn sum_table(alloc: Global, name: &str, image: &[u8]) -> Result<Shown, ShellFault> {
     let sum = sum_text(alloc, image)?;
-    let row = SumRow {
-        image: name,
-        sha256: sum.as_str(),
-    };
     Ok(Shown {
-        text: line(alloc, &row)?,
+        text: sum_row(alloc, name, sum.as_str())?,
         answer: LookAnswer::Fine,
     })
 }

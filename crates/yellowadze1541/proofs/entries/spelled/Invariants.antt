@@ -1,5 +1,5 @@
 use Rattle.std.proofs.Common.{◌≡◌, ◌++◌, length, map}
-use Rattle.yellowadze1541.specs.Entries.{entry_spelled}
+use Rattle.yellowadze1541.specs.Looks.{entry_spelled}
 use Rattle.yellowadze1541.proofs.entries.spelled.Given as goal
 
 abbrev pub invariant-entries : goal.invariant-entries

@@ -5,8 +5,9 @@ use Rattle.cbm_sources.specs.Lynxes.{Members}
 use Rattle.cbm_sources.proofs.LynxLemmas.{file_is}
 use Rattle.cbm_sources.proofs.lynx.Lynx.file.Goals as goal
 
-pub returns-in-Ok : goal.returns-in-Ok
-returns-in-Ok c =
-    let found : Members = record { entries = c.in-Ok.found.entries.items; pieces = c.in-Ok.found.pieces.items; broken = c.in-Ok.found.broken } in
+pub returns : goal.returns
+returns c =
+    let inside = c.self.inside in
+    let found : Members = record { entries = inside.found.entries.items; pieces = inside.found.pieces.items; broken = inside.found.broken } in
     subst (λ (told : FileTold). MatchResult c.file_among.result (λ v. told ≡ Ok v.items) (λ fault. (fault ≡ Memory) ⊎ (told ≡ Err fault)))
-    (sym (file_is c.args.self.now c.self.inside.bytes.now c.args.number found c.self.view_is c.in-Ok.ensures)) c.file_among.ensures
+    (sym (file_is c.args.self.now inside.bytes.now c.args.number found c.self.view_is c.self.invariant)) c.file_among.ensures

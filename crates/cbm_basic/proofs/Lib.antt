@@ -1,0 +1,5 @@
+pub mod FollowingLemmas
+pub mod LineLemmas
+pub mod LinkLemmas
+pub mod ProgramLemmas
+pub mod SignLemmas

@@ -1,0 +1,5 @@
+pub mod Links
+pub mod Lines
+pub mod Programs
+pub mod Signs
+pub mod Words

@@ -1,0 +1,91 @@
+//! SHOW: a file on the screen.
+use crate::screen::{Form, is_listed, screen_of};
+use cbm_basic::after_program;
+use cbm_shell::ShellFault;
+use cbm_volume::Entry;
+use disk_basics::host::{print, read_image};
+use disk_basics::{Choice, Disk, Failure, in_memory, on_disk, petscii, slot_chosen};
+use disk_facts::first_meant;
+use std::alloc::Global;
+use std::io;
+use std::rt::Runtime;
+
+/// The file that is shown, and how.
+#[derive(Clone, Copy)]
+pub struct Wanted<'a> {
+    /// Which it is.
+    pub choice: Choice<'a>,
+    /// How it is shown, in the character set of its name.
+    pub form: Form,
+}
+
+/// The entry of the file that is said.
+fn entry_of<'a, 'e>(
+    alloc: Global,
+    entries: &'e [Entry],
+    choice: Choice<'a>,
+) -> Result<&'e Entry, Failure<'a>> {
+    let entry = if choice.is_pattern() {
+        let pattern = petscii(alloc, choice.charset, choice.name)?;
+        first_meant(entries, pattern.as_slice())
+    } else {
+        entries.get(slot_chosen(alloc, entries, choice)?)
+    };
+    match entry {
+        Some(entry) => Ok(entry),
+        None => Err(Failure::NoFile(choice.word())),
+    }
+}
+
+/// The bytes of an entry's file, if it was closed.
+fn closed_file(alloc: Global, disk: &Disk, entry: &Entry) -> Result<Vec<u8>, ShellFault> {
+    if !entry.is_closed() {
+        return Err(ShellFault::NotClosed);
+    }
+    disk.file_of(alloc, entry)
+}
+
+/// The bytes of the file that is said.
+fn file_of<'a>(
+    alloc: Global,
+    image: &'a str,
+    bytes: &[u8],
+    choice: Choice<'a>,
+) -> Result<Vec<u8>, Failure<'a>> {
+    let disk = on_disk(image, Disk::open(alloc, bytes))?;
+    let listed = in_memory(disk.listed(alloc))?;
+    let entry = entry_of(alloc, listed.entries.as_slice(), choice)?;
+    on_disk(choice.word(), closed_file(alloc, &disk, entry))
+}
+
+/// Reports how many bytes follow a program that is listed.
+fn tell_more(rt: &impl Eprint, form: Form, file: &[u8]) -> io::Result<()> {
+    if !is_listed(form, file) {
+        return Ok(());
+    }
+    match after_program(file).len() {
+        0 => Ok(()),
+        1 => eprintln!(rt; "disk1541: 1 byte follows the program"),
+        count => eprintln!(rt; "disk1541: {count} bytes follow the program"),
+    }
+}
+
+/// Shows a file of an image. Errors: those of `read_image`; `Word`, where the name can't be typed or the slot is no number; `NoFile`;
+/// `Disk`, where the file was never closed or can't be read; `Write`; `NoMemory`.
+pub fn show<'a, R: Runtime + AllocGlobal>(
+    rt: &R,
+    image: &'a str,
+    wanted: Wanted<'a>,
+) -> Result<(), Failure<'a>> {
+    let bytes = read_image(rt, image)?;
+    let file = file_of(rt.alloc(), image, bytes.as_slice(), wanted.choice)?;
+    let text = screen_of(
+        rt.alloc(),
+        wanted.choice.charset,
+        wanted.form,
+        file.as_slice(),
+    );
+    print(rt, in_memory(text)?.as_bytes())?;
+    let _ = tell_more(rt, wanted.form, file.as_slice());
+    Ok(())
+}

@@ -1,0 +1,189 @@
+//! TRANSFER: files of another disk or archive onto an image.
+use crate::moving::{Way, with_one};
+use crate::origin::Origin;
+use cbm_shell::texts::Charset;
+use cbm_volume::Entry;
+use disk_basics::calls::name_text;
+use disk_basics::host::{print, read_any, read_to_change, replace};
+use disk_basics::{Failure, in_memory, petscii};
+use disk_facts::{first_meant, is_meant};
+use disk_reports::match_line;
+use std::alloc::{AllocError, Global};
+use std::rt::Runtime;
+
+/// What is transferred.
+#[derive(Clone, Copy)]
+pub struct Transfer<'a, 'c> {
+    /// The disk or the archive that has the files.
+    pub from: &'a str,
+    /// Patterns of the files; all files where there is none.
+    pub patterns: &'c [&'a str],
+    /// Files of the image that have the names are replaced.
+    pub replaces: bool,
+    /// What would be transferred is shown, and nothing is changed.
+    pub is_dry: bool,
+    /// The character set of names.
+    pub charset: Charset,
+}
+
+/// Whether one of the patterns means the file of an entry, or there is none.
+fn is_wanted(entry: &Entry, patterns: &[Vec<u8>]) -> bool {
+    if entry.is_empty() {
+        return false;
+    }
+    for pattern in patterns {
+        if is_meant(entry, pattern.as_slice()) {
+            return true;
+        }
+    }
+    patterns.is_empty()
+}
+
+/// The patterns of words, of which each means a file. Errors: `NoFile`, where one means none.
+fn patterns_of<'a>(
+    alloc: Global,
+    entries: &[Entry],
+    wanted: &Transfer<'a, '_>,
+) -> Result<Vec<Vec<u8>>, Failure<'a>> {
+    let mut patterns = Vec::new(alloc);
+    for word in wanted.patterns {
+        let pattern = petscii(alloc, wanted.charset, *word)?;
+        if first_meant(entries, pattern.as_slice()).is_none() {
+            return Err(Failure::NoFile(*word));
+        }
+        in_memory(patterns.push(pattern).map_err(AllocError::from))?;
+    }
+    Ok(patterns)
+}
+
+/// Reports a file that can't be transferred.
+fn tell_left<R: Eprint + AllocGlobal>(rt: &R, entry: &Entry, end: &str) -> Result<(), AllocError> {
+    let name = name_text(rt.alloc(), Charset::Upper, entry.name())?;
+    let name = name.as_str();
+    let _ = eprintln!(rt; "disk1541: \"{name}\" can't be transferred{end}");
+    Ok(())
+}
+
+/// The image with all files that are wanted. The first that can't be transferred is reported. Errors: those of `with_one`.
+pub fn with_all<'a, R: Runtime + AllocGlobal>(
+    rt: &R,
+    way: Way<'a, '_, '_>,
+    old: &[u8],
+    entries: &[Entry],
+    patterns: &[Vec<u8>],
+) -> Result<Vec<u8>, Failure<'a>> {
+    let mut image = in_memory(Vec::from_slice(rt.alloc(), old))?;
+    for (number, entry) in entries.iter().enumerate() {
+        if is_wanted(entry, patterns) {
+            let next = with_one(rt, way, image.as_slice(), entry, number);
+            if next.is_err() {
+                in_memory(tell_left(rt, entry, ", and so no file is"))?;
+            }
+            image = next?;
+        }
+    }
+    Ok(image)
+}
+
+/// How many files could be transferred, and how many couldn't.
+#[derive(Clone, Copy)]
+struct Plan {
+    fine: usize,
+    left: usize,
+}
+
+impl Plan {
+    /// The line that says it.
+    fn line(self, alloc: Global) -> Result<String, AllocError> {
+        let Plan { fine, left } = self;
+        if left == 0 {
+            let noun = if fine == 1 { "file" } else { "files" };
+            return format!(in alloc; "{fine} {noun} would be transferred\n");
+        }
+        let all = fine.saturating_add(left);
+        format!(in alloc; "{fine} of {all} files could be transferred, and so none would be\n")
+    }
+}
+
+/// Shows a file that could be transferred to an image, which it then has; one that couldn't is reported.
+fn show_one<'a, R: Runtime + AllocGlobal>(
+    rt: &R,
+    wanted: &Transfer<'a, '_>,
+    entry: &Entry,
+    next: Result<Vec<u8>, Failure<'a>>,
+    plan: &mut Plan,
+) -> Result<Option<Vec<u8>>, Failure<'a>> {
+    match next {
+        Ok(image) => {
+            plan.fine = plan.fine.saturating_add(1);
+            let line = in_memory(match_line(rt.alloc(), wanted.from, entry, wanted.charset))?;
+            print(rt, line.as_bytes())?;
+            Ok(Some(image))
+        }
+        Err(Failure::NoMemory) => Err(Failure::NoMemory),
+        Err(failure) => {
+            plan.left = plan.left.saturating_add(1);
+            in_memory(tell_left(rt, entry, ""))?;
+            let _ = failure.tell(rt);
+            Ok(None)
+        }
+    }
+}
+
+/// Shows which of the files that are wanted could be transferred, each after those before it. Errors: `Told`, where one couldn't.
+fn show_all<'a, R: Runtime + AllocGlobal>(
+    rt: &R,
+    way: Way<'a, '_, '_>,
+    old: Vec<u8>,
+    entries: &[Entry],
+    patterns: &[Vec<u8>],
+    wanted: &Transfer<'a, '_>,
+) -> Result<(), Failure<'a>> {
+    let mut plan = Plan { fine: 0, left: 0 };
+    let mut image = old;
+    for (number, entry) in entries.iter().enumerate() {
+        if is_wanted(entry, patterns) {
+            let next = with_one(rt, way, image.as_slice(), entry, number);
+            if let Some(next) = show_one(rt, wanted, entry, next, &mut plan)? {
+                image = next;
+            }
+        }
+    }
+    let line = in_memory(plan.line(rt.alloc()))?;
+    print(rt, line.as_bytes())?;
+    if plan.left == 0 {
+        Ok(())
+    } else {
+        Err(Failure::Told)
+    }
+}
+
+/// Transfers files from a disk or an archive onto an image, all of them or none, and saves it; or shows what would be transferred. Errors:
+/// `Read`, `TooLong`, `Foreign`; `Told`, where the directory or a file can't be read, or isn't one that the drive writes, as is reported;
+/// `NoFile`; those of `read_to_change`; `Disk`, where a name is there already or the disk refuses a file; `DirectoryFull`; `NoMemory`;
+/// those of `replace`.
+pub fn transfer_files<'a, R: Runtime + AllocGlobal>(
+    rt: &R,
+    to: &'a str,
+    wanted: &Transfer<'a, '_>,
+) -> Result<(), Failure<'a>> {
+    let bytes = read_any(rt, wanted.from)?;
+    let origin = Origin::open(rt.alloc(), wanted.from, bytes.as_slice())?;
+    let found = origin.entries(rt.alloc())?;
+    if !found.end.tell(rt, wanted.from) {
+        return Err(Failure::Told);
+    }
+    let entries = found.entries.as_slice();
+    let old = read_to_change(rt, to)?;
+    let patterns = patterns_of(rt.alloc(), entries, wanted)?;
+    let way = Way {
+        origin: &origin,
+        to,
+        replaces: wanted.replaces,
+    };
+    if wanted.is_dry {
+        return show_all(rt, way, old, entries, patterns.as_slice(), wanted);
+    }
+    let new = with_all(rt, way, old.as_slice(), entries, patterns.as_slice())?;
+    replace(rt, to, old.as_slice(), new.as_slice())
+}

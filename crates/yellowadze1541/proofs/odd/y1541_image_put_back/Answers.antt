@@ -1,0 +1,10 @@
+use Rattle.std.proofs.Common.{◌≡◌, rules, to_z, of_z, w32}
+use Rattle.yellowadze1541.specs.Odd.{IsWholeOf, IsNotWholeOf}
+use Rattle.yellowadze1541.proofs.Slotting.{gives_shell}
+use Rattle.yellowadze1541.proofs.odd.y1541_image_put_back.Goals as goal
+
+pub returns : goal.returns
+returns c =
+    let same : to_z w32 (of_z w32 c.handed.result) ≡ c.handed.result = search rules in
+    gives_shell (λ v. v.items) (IsWholeOf c.args.image.now c.args.changed.now) (IsNotWholeOf c.args.image.now c.args.changed.now) c.whole_of.result (to_z w32 (of_z w32 c.handed.result)) c.handed.result c.args.out.now c.handed.new.out c.args.needed.now c.handed.new.needed
+    same c.whole_of.ensures.whole c.whole_of.ensures.fault c.handed.ensures
