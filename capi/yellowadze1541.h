@@ -159,17 +159,18 @@ int32_t y1541_image_file(const uint8_t *image, size_t len, const uint8_t *patter
 int32_t y1541_image_sector(const uint8_t *image, size_t len, uint8_t track, uint8_t sector, uint8_t *out, size_t room);
 
 /* [m] The image after a file was opened with a text such as NAME,P,W (without ,P,W it is opened for reading, so 62), given these bytes, and closed.
- * UNSOUND: the disk isn't sound. A status: the drive refused it. NO_ROOM. */
+ * UNSOUND: the disk isn't sound, unless odd entries alone are wrong (y1541_image_put_away), which are left alone. A status: the drive refused it. NO_ROOM. */
 int32_t y1541_image_put(const uint8_t *image, size_t len, const uint8_t *text, size_t n, const uint8_t *bytes, size_t count, uint8_t *out, size_t room, size_t *needed);
 
 /* [m] The image after these files were put, one after another, or none where one is refused. `put` gets how many were put: with a status just those before
- * the one that is refused. As y1541_image_put. */
+ * the one that is refused. As y1541_image_put, but UNSOUND also if odd entries alone are wrong. */
 int32_t y1541_image_put_all(const uint8_t *image, size_t len, const y1541_file *files, size_t n, size_t *put, uint8_t *out, size_t room, size_t *needed);
 
 /* [m] The image after a command for channel 15, such as S0:NAME, R0:NEW=OLD, C0:NEW=OLD, N0:TITLE,ID or V0. As y1541_image_put. */
 int32_t y1541_image_command(const uint8_t *image, size_t len, const uint8_t *text, size_t n, uint8_t *out, size_t room, size_t *needed);
 
-/* [m] As y1541_image_command; `status` gets what channel 15 says after the command, also if the drive refused it. */
+/* [m] As y1541_image_command; `status` gets what channel 15 says after the command, also if the drive refused it. UNSOUND also if odd entries alone are
+ * wrong. */
 int32_t y1541_image_command_status(const uint8_t *image, size_t len, const uint8_t *text, size_t n, y1541_said *status, uint8_t *out, size_t room, size_t *needed);
 
 /* The next calls take a file by the slot of its entry, whatever its name is. Each may answer ABSENT (no such slot, or it is empty), UNSOUND, and NO_ROOM. */
@@ -203,6 +204,19 @@ int32_t y1541_image_retitle(const uint8_t *image, size_t len, const uint8_t *tit
 /* [m] The image with other five bytes after its title: the id, a byte, and the two of the DOS. INVALID: n isn't 5. UNSOUND. NO_ROOM. The ids in the
  * sectors' headers stay. */
 int32_t y1541_image_remark(const uint8_t *image, size_t len, const uint8_t *mark, size_t n, uint8_t *out, size_t room, size_t *needed);
+
+/* An entry is odd if the drive's rules don't allow it: a line of art that leads to 18/0, a chain that comes back to itself, an unknown type. Where nothing
+ * else is wrong, any call changes the disk in three steps: y1541_image_put_away, the call on what is left, y1541_image_put_back. */
+
+/* [m] What is left of an image without its odd entries: a sound disk, on which in each one's slot a locked DEL of its name stands, without a block. The image
+ * itself if its disk is sound. UNSOUND: more is wrong than entries, or an odd entry leads to a block that is free or a file's. A status: a sector can't be
+ * read, or the directory not be followed (66, 71). NO_ROOM. */
+int32_t y1541_image_put_away(const uint8_t *image, size_t len, uint8_t *out, size_t room, size_t *needed);
+
+/* [m] The image `changed`, which was made of what was left of `image`, with the odd entries of `image` again: each in its slot, byte for byte, and what it
+ * leads to as it was. 26: the change touched one of them. UNSOUND: `changed` isn't sound, or the change touched a sector that an odd entry leads to. NO_IMAGE:
+ * one of the two is none, or they aren't of one format. Otherwise as y1541_image_put_away of `image`. */
+int32_t y1541_image_put_back(const uint8_t *image, size_t len, const uint8_t *changed, size_t count, uint8_t *out, size_t room, size_t *needed);
 
 /* [m] A new image of an empty disk: a y1541_form, a title of at most 16 bytes, and the two bytes of its id. INVALID: form or title. NO_ROOM. */
 int32_t y1541_image_new(uint8_t form, const uint8_t *title, size_t n, uint8_t id0, uint8_t id1, uint8_t *out, size_t room, size_t *needed);

@@ -304,6 +304,12 @@ static u32 call_retitle(machine *m, const u64 *a, u64 out, u64 room) {
 static u32 call_remark(machine *m, const u64 *a, u64 out, u64 room) {
     return IN(y1541_image_remark)(&m->in, a[0], a[1], a[2], a[3], out, room, m->small);
 }
+static u32 call_put_away(machine *m, const u64 *a, u64 out, u64 room) {
+    return IN(y1541_image_put_away)(&m->in, a[0], a[1], out, room, m->small);
+}
+static u32 call_put_back(machine *m, const u64 *a, u64 out, u64 room) {
+    return IN(y1541_image_put_back)(&m->in, a[0], a[1], a[2], a[3], out, room, m->small);
+}
 
 /* A call on a slot, and a number or nothing more. */
 static int32_t with_slot(gives *call, const uint8_t *image, size_t len, uint8_t slot, uint8_t more, uint8_t *out, size_t room, size_t *needed) {
@@ -430,6 +436,14 @@ int32_t y1541_image_retitle(const uint8_t *image, size_t len, const uint8_t *tit
 
 int32_t y1541_image_remark(const uint8_t *image, size_t len, const uint8_t *mark, size_t n, uint8_t *out, size_t room, size_t *needed) {
     return with_text(call_remark, image, len, mark, n, NULL, 0, out, room, needed);
+}
+
+int32_t y1541_image_put_away(const uint8_t *image, size_t len, uint8_t *out, size_t room, size_t *needed) {
+    return with_slot(call_put_away, image, len, 0, 0, out, room, needed);
+}
+
+int32_t y1541_image_put_back(const uint8_t *image, size_t len, const uint8_t *changed, size_t count, uint8_t *out, size_t room, size_t *needed) {
+    return with_text(call_put_back, image, len, changed, count, NULL, 0, out, room, needed);
 }
 
 int32_t y1541_image_new(uint8_t form, const uint8_t *title, size_t n, uint8_t id0, uint8_t id1, uint8_t *out, size_t room, size_t *needed) {

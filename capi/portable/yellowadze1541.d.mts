@@ -157,6 +157,10 @@ export interface Library {
   retitle(image: Uint8Array, title: Bytes): Uint8Array;
   /** Other five bytes after the title: the id, a byte, and the two of the DOS. */
   remark(image: Uint8Array, mark: Bytes): Uint8Array;
+  /** What is left of a disk without its odd entries: a sound disk, with a locked DEL in the slot of each. */
+  putAway(image: Uint8Array): Uint8Array;
+  /** An image that was made of what was left, with the odd entries of `image` again. Throws Refused, 26, if the change touched one of them. */
+  putBack(image: Uint8Array, changed: Uint8Array): Uint8Array;
   create(form: Form, title: Bytes, id: Bytes): Uint8Array;
   convert(image: Uint8Array): { image: Uint8Array; lost: Lost };
   play(image: Uint8Array, changes: Omit<Signal, "who">[], end: number, settings?: Settings): { image: Uint8Array; events: Signal[] };

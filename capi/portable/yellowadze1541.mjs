@@ -451,6 +451,14 @@ class Library {
     return this.#made("y1541_image_remark", [image, mark], roomFor(image));
   }
 
+  putAway(image) {
+    return this.#made("y1541_image_put_away", [image], roomFor(image));
+  }
+
+  putBack(image, changed) {
+    return this.#made("y1541_image_put_back", [image, changed], roomFor(image));
+  }
+
   create(form, title, id) {
     const [first, second] = bytesOf(id);
     const it = this.#fresh();

@@ -209,6 +209,66 @@ static void broken(void) {
     expect(y1541_image_rename(a, len, 0, (const uint8_t *)"G", 1, b, ROOM, &needed) > 0, "and nothing is changed");
 }
 
+/* A D64 with a file, and in slot 1 a line of art that leads to a sector; 18/1 begins at byte 91,648. Its length. */
+static size_t with_art(uint8_t *image, uint8_t track, uint8_t sector) {
+    static uint8_t fresh[ROOM];
+    size_t len = 0, needed = 0;
+    expect(y1541_image_new(Y1541_D64_35, (const uint8_t *)"ART", 3, 'I', 'D', fresh, ROOM, &len) == Y1541_OK, "a disk for art");
+    expect(y1541_image_put(fresh, len, (const uint8_t *)"ONE,P,W", 7, program, sizeof program, image, ROOM, &needed) == Y1541_OK, "and its file");
+    uint8_t *entry = image + 91648 + 34;
+    entry[0] = 0x82, entry[1] = track, entry[2] = sector, memcpy(entry + 3, "----------------", 16), entry[28] = 99;
+    return needed;
+}
+
+/* Odd entries are left alone: a disk with a line of art that leads to 18/0. */
+static void odd_entries(void) {
+    static uint8_t art[ROOM], left[ROOM], changed[ROOM], b[ROOM], wanted[ROOM];
+    size_t len = with_art(art, 18, 0), needed = 0, n = 5;
+    y1541_place place;
+    y1541_entry entry;
+    uint8_t *slots = wanted + 91648;
+    expect(y1541_image_check(art, len, &place) == Y1541_UNSOUND && place.what == 4 && place.track == 18 && place.sector == 0, "art isn't sound");
+    expect(y1541_image_put(art, len, (const uint8_t *)"TWO,P,W", 7, program, 3, b, ROOM, &needed) == Y1541_OK && needed == len && has_entry(b, len, 2, "TWO", 0)
+        && same_bytes(b + 91648 + 32, art + 91648 + 32, 32), "a file is put, and the art stays");
+    memcpy(wanted, art, len), memcpy(slots + 5, "NEW", 3);
+    expect(y1541_image_command(art, len, (const uint8_t *)"R0:NEW=ONE", 10, b, ROOM, &needed) == Y1541_OK && needed == len && same_bytes(b, wanted, len), "a command leaves it alone");
+    expect(y1541_image_rename(art, len, 0, (const uint8_t *)"NEW", 3, b, ROOM, &needed) == Y1541_UNSOUND, "a call by slot wants what is left");
+    memcpy(wanted, art, len), slots[34] = 0xc0, slots[35] = slots[36] = 0;
+    expect(y1541_image_put_away(art, len, left, ROOM, &n) == Y1541_OK && n == len && same_bytes(left, wanted, len) && y1541_image_check(left, len, &place) == Y1541_OK, "what is left is sound");
+    expect(y1541_image_entry(left, len, 1, &entry) == Y1541_OK && entry.kind == 0 && entry.closed && entry.locked && !entry.track && has_entry(left, len, 1, "----------------", 1), "with a locked DEL");
+    expect(y1541_image_put_away(left, len, b, ROOM, &n) == Y1541_OK && n == len && same_bytes(b, left, len), "of a sound disk all is left");
+    expect(y1541_image_put_back(art, len, left, len, b, ROOM, &n) == Y1541_OK && n == len && same_bytes(b, art, len), "and back without a change");
+    memcpy(wanted, art, len), memcpy(slots + 5, "A*\xa0", 3);
+    expect(y1541_image_rename(left, len, 0, (const uint8_t *)"A*", 2, changed, ROOM, &n) == Y1541_OK && y1541_image_put_back(art, len, changed, n, b, ROOM, &needed) == Y1541_OK
+        && needed == len && same_bytes(b, wanted, len), "renamed by its slot, and the art put back");
+    needed = n = 5, b[0] = 9;
+    expect(y1541_image_put_away(art, len, b, 4, &n) == Y1541_NO_ROOM && n == len && b[0] == 9 && y1541_image_put_back(art, len, changed, len, b, 4, &needed) == Y1541_NO_ROOM && needed == len && b[0] == 9, "no room");
+    expect(y1541_image_delete(left, len, 1, changed, ROOM, &n) == 26, "what stands for the art is locked");
+    expect(y1541_image_rename(left, len, 1, (const uint8_t *)"X", 1, changed, ROOM, &n) == Y1541_OK && y1541_image_put_back(art, len, changed, n, b, ROOM, &needed) == 26, "another name for the art");
+    expect(y1541_image_swap(left, len, 0, 1, changed, ROOM, &n) == Y1541_OK && y1541_image_put_back(art, len, changed, n, b, ROOM, &needed) == 26 && b[0] == 9, "another slot for it");
+    expect(y1541_image_put_back(art, len, left, 3, b, ROOM, &needed) == Y1541_NO_IMAGE && y1541_image_put_back(art, 3, left, len, b, ROOM, &needed) == Y1541_NO_IMAGE && y1541_image_put_away(art, 3, b, ROOM, &needed) == Y1541_NO_IMAGE, "no image to put away");
+    left[91392 + 4]--;
+    expect(y1541_image_put_back(art, len, left, len, b, ROOM, &needed) == Y1541_UNSOUND, "what was changed isn't sound");
+    art[91392 + 4]--;
+    expect(y1541_image_put_away(art, len, b, ROOM, &needed) == Y1541_UNSOUND && y1541_image_put(art, len, (const uint8_t *)"TWO,P,W", 7, program, 3, b, ROOM, &needed) == Y1541_UNSOUND, "a wrong BAM isn't an entry's");
+    len = with_art(art, 1, 0);
+    expect(y1541_image_put_away(art, len, b, ROOM, &needed) == Y1541_UNSOUND && y1541_image_command(art, len, (const uint8_t *)"V0", 2, b, ROOM, &needed) == Y1541_UNSOUND && b[0] == 9, "art that leads to a free block");
+}
+
+/* The same on a G64, which the D64 is converted to and from; and two images that aren't of one format. */
+static void odd_entries_of_g64(void) {
+    static uint8_t art[ROOM], g64[ROOM], left[ROOM], changed[ROOM], back[ROOM];
+    size_t len = with_art(art, 18, 1), size = 0, n = 0;
+    y1541_lost lost;
+    y1541_place place;
+    expect(y1541_image_convert(art, len, &lost, g64, ROOM, &size) == Y1541_OK && y1541_image_put_away(g64, size, left, ROOM, &n) == Y1541_OK && n == size && y1541_image_check(left, n, &place) == Y1541_OK, "what is left of a G64");
+    expect(y1541_image_rename(left, n, 0, (const uint8_t *)"NEW", 3, changed, ROOM, &n) == Y1541_OK && y1541_image_put_back(g64, size, changed, n, back, ROOM, &n) == Y1541_OK && n == size, "and put back");
+    expect(y1541_image_convert(back, n, &lost, left, ROOM, &n) == Y1541_OK && n == len, "a D64 of it");
+    memcpy(art + 91648 + 5, "NEW", 3);
+    expect(same_bytes(left, art, len), "only the name is another one");
+    expect(y1541_image_put_back(art, len, changed, size, back, ROOM, &n) == Y1541_NO_IMAGE, "images of two formats");
+}
+
 /* A disk in a drive that goes on: its image while a file is being written, how often it was written, and another disk in its place. */
 static void exchanged(const uint8_t *image, size_t len, uint8_t form) {
     static uint8_t disk[ROOM], now[ROOM], other[ROOM], bytes[70000];
@@ -328,7 +388,7 @@ int main(int argc, char **argv) {
     expect(y1541_version() == Y1541_VERSION, "the version");
     refused(image, len);
     refused_images(image, len);
-    by_slot(Y1541_D64_35), by_slot(Y1541_D64_40), by_slot(Y1541_G64), broken();
+    by_slot(Y1541_D64_35), by_slot(Y1541_D64_40), by_slot(Y1541_G64), broken(), odd_entries(), odd_entries_of_g64();
     in_one_call(Y1541_D64_35), in_one_call(Y1541_D64_40), in_one_call(Y1541_G64);
     form_of(Y1541_D64_35, "a D64");
     form_of(Y1541_D64_40, "a D64 of 40 tracks");

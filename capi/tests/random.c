@@ -87,7 +87,7 @@ static int32_t on_image(void) {
     y1541_said status;
     int32_t said = 0;
     if (!out) exit(2);
-    switch (by_chance(23)) {
+    switch (by_chance(25)) {
     case 19: {
         y1541_file files[3];
         size_t put, count = by_chance(4);
@@ -98,6 +98,14 @@ static int32_t on_image(void) {
     }
     case 20: said = y1541_image_command_status(a, n, text, m, &status, out, room, &needed); break;
     case 21: said = y1541_image_copy(a, n, (uint8_t)by_chance(20), text, m, out, room, &needed); break;
+    case 22: said = y1541_image_put_away(a, n, out, room, &needed); break;
+    case 23: {
+        size_t count;
+        uint8_t *changed = some_image(&count);
+        said = y1541_image_put_back(a, n, changed, count, out, room, &needed);
+        free(changed);
+        break;
+    }
     case 0: said = y1541_image_check(a, n, &place); break;
     case 1: said = y1541_image_title(a, n, &title); break;
     case 2: said = y1541_image_entry(a, n, (uint8_t)by_chance(256), &entry); break;

@@ -99,6 +99,20 @@ static int32_t swaps(void) { return y1541_image_swap(image, len, 0, 1, out, ROOM
 static int32_t retitles(void) { return y1541_image_retitle(image, len, (const uint8_t *)"T", 1, out, ROOM, &needed); }
 static int32_t remarks(void) { return y1541_image_remark(image, len, (const uint8_t *)"ID 2A", 5, out, ROOM, &needed); }
 
+/* The disk with a line of art that leads to 18/0 in slot 1, and what is left of that. */
+static const uint8_t *with(const char *entry) {
+    static uint8_t its[2][ROOM];
+    uint8_t *it = its[(uint8_t)entry[0] == 0x82];
+    memcpy(it, image, len), memcpy(it + 91648 + 34, entry, 19);
+    return it;
+}
+static const uint8_t *art(void) { return with("\x82\x12\0----------------"); }
+static const uint8_t *left(void) { return with("\xc0\0\0----------------"); }
+static int32_t puts_away(void) { return y1541_image_put_away(art(), len, out, ROOM, &needed); }
+static int32_t puts_back(void) { return y1541_image_put_back(art(), len, left(), len, out, ROOM, &needed); }
+static int32_t puts_around(void) { return y1541_image_put(art(), len, (const uint8_t *)"N,P,W", 5, image, 3000, out, ROOM, &needed); }
+static int32_t commands_around(void) { return y1541_image_command(art(), len, (const uint8_t *)"R0:N=HELLO", 10, out, ROOM, &needed); }
+
 static int32_t plays(void) {
     static const y1541_signal host[] = {{1000, 0, Y1541_ATN, 1}, {3000, 0, Y1541_ATN, 0}};
     static y1541_signal events[100];
@@ -109,7 +123,7 @@ static int32_t plays(void) {
 static const struct { const char *name; int32_t (*call)(void); } calls[] = {
     {"open", opens}, {"check", checks}, {"title", titles}, {"entry", enters}, {"list", lists}, {"file", files}, {"sector", reads},
     {"entries", enters_all}, {"flaws", flaws_all}, {"read", reads_slot}, {"rename", renames}, {"copy", copies}, {"lock", locks}, {"delete", deletes}, {"swap", swaps},
-    {"retitle", retitles}, {"remark", remarks}, {"put", puts_file}, {"put_all", puts_all}, {"command", commands}, {"command_status", commands_status},
+    {"retitle", retitles}, {"remark", remarks}, {"put_away", puts_away}, {"put_back", puts_back}, {"put, art", puts_around}, {"command, art", commands_around}, {"put", puts_file}, {"put_all", puts_all}, {"command", commands}, {"command_status", commands_status},
     {"new", makes}, {"new g64", makes_g64}, {"convert", converts}, {"play", plays},
     {"image", shows}, {"eject", ejects}, {"insert", inserts},
 };

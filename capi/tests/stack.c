@@ -41,6 +41,27 @@ static void command_status(void) {
     y1541_image_command_status(g64, g64_len, (const uint8_t *)"N0:NEW,ID", 9, &said, out, ROOM, &needed);
 }
 static void copies(void) { y1541_image_copy(image, len, 0, (const uint8_t *)"N", 1, out, ROOM, &needed), y1541_image_copy(g64, g64_len, 0, (const uint8_t *)"N", 1, out, ROOM, &needed); }
+/* A disk with a line of art that leads to 18/0 in slot 1, in both formats. */
+static uint8_t *art, *art_g64;
+static size_t art_g64_len;
+static void art_is_made(void) {
+    y1541_lost lost;
+    art = malloc(ROOM), art_g64 = malloc(ROOM);
+    memcpy(art, image, len), memcpy(art + 91648 + 34, "\x82\x12\0----------------", 19);
+    y1541_image_convert(art, len, &lost, art_g64, ROOM, &art_g64_len);
+}
+static void puts_away(void) { y1541_image_put_away(art_g64, art_g64_len, out, ROOM, &needed), y1541_image_put_away(art, len, out, ROOM, &needed); }
+/* (of the D64 that puts_away left) */
+static void puts_back(void) {
+    static uint8_t back[ROOM];
+    expect(y1541_image_put_back(art, len, out, needed, back, ROOM, &needed) == Y1541_OK, "put back");
+    y1541_image_put_away(art_g64, art_g64_len, out, ROOM, &needed), y1541_image_put_back(art_g64, art_g64_len, out, needed, back, ROOM, &needed);
+}
+static void puts_around(void) { y1541_image_put(art, len, (const uint8_t *)"N,P,W", 5, image, 3000, out, ROOM, &needed), y1541_image_put(art_g64, art_g64_len, (const uint8_t *)"N,P,W", 5, image, 3000, out, ROOM, &needed); }
+static void command_around(void) {
+    y1541_image_command(art, len, (const uint8_t *)"N0:NEW,ID", 9, out, ROOM, &needed), y1541_image_command(art_g64, art_g64_len, (const uint8_t *)"V0", 2, out, ROOM, &needed);
+    y1541_image_command(art, len, (const uint8_t *)"C0:TWO=HELLO", 12, out, ROOM, &needed), y1541_image_command(art_g64, art_g64_len, (const uint8_t *)"C0:TWO=HELLO", 12, out, ROOM, &needed);
+}
 static void deletes(void) { y1541_image_delete(image, len, 0, out, ROOM, &needed), y1541_image_delete(g64, g64_len, 0, out, ROOM, &needed); }
 /* A command on an image of each format. */
 static void command(const char *text) {
@@ -93,6 +114,7 @@ static const struct { const char *name; void (*call)(void); size_t most; } calls
     {"image_check", checks, 36000}, {"image_list", lists, 222000}, {"image_file", files, 4000}, {"image_put", puts_file, 222000},
     {"image_put_all", puts_all, 222000}, {"image_command_status", command_status, 222000}, {"image_copy", copies, 250000}, {"image_delete", deletes, 250000},
     {"image_command V", command_validates, 220000}, {"image_command C", command_copies, 220000}, {"image_command N", command_formats, 222000},
+    {"image_put_away", puts_away, 999000}, {"image_put_back", puts_back, 999000}, {"image_put, art", puts_around, 999000}, {"image_command, art", command_around, 999000},
     {"image_new", makes, 53000}, {"image_convert", converts, 37000}, {"play", plays, 222000},
     {"LOAD $", host_lists, 46000}, {"LOAD", host_loads, 46000}, {"SAVE", host_saves, 46000}, {"R", host_renames, 46000}, {"C", host_copies, 46000},
     {"S", host_scratches, 46000}, {"V", host_validates, 46000}, {"N", host_formats, 53000}, {"their close", hosts_end, 1000},
@@ -130,15 +152,16 @@ int main(int argc, char **argv) {
     y1541_lost lost;
     image = read_file(argv[1], &len), out = malloc(ROOM), g64 = malloc(ROOM);
     y1541_image_convert(image, len, &lost, g64, ROOM, &g64_len);
+    art_is_made();
     host_begins(&hosts[0], image, len), host_begins(&hosts[1], g64, g64_len);
     size_t none = touched(nothing);
     printf("stack in bytes:\n");
     for (size_t i = 0; i < sizeof calls / sizeof calls[0]; i++) {
         size_t used = touched(calls[i].call) - none;
-        printf("  %-16s %6zu, at most %6zu\n", calls[i].name, used, calls[i].most);
+        printf("  %-18s %6zu, at most %6zu\n", calls[i].name, used, calls[i].most);
         expect(used <= calls[i].most, calls[i].name);
     }
     printf("stack: %d wrong\n", wrong);
-    free(image), free(out), free(g64);
+    free(image), free(out), free(g64), free(art), free(art_g64);
     return wrong != 0;
 }

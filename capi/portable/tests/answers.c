@@ -124,7 +124,7 @@ static int32_t on_image(void) {
     memset(&status, 7, sizeof status), memset(&title, 7, sizeof title), memset(&entry, 7, sizeof entry), memset(entries, 7, sizeof entries), memset(flaws, 7, sizeof flaws);
     int32_t said = 0;
     if (!out) exit(2);
-    switch (by_chance(24)) {
+    switch (by_chance(26)) {
     case 20: {
         y1541_file files[3];
         size_t put = 9, count = by_chance(4);
@@ -136,6 +136,14 @@ static int32_t on_image(void) {
     }
     case 21: said = y1541_image_command_status(a, n, text, m, &status, out, room, &needed); break;
     case 22: b[0] = (uint8_t)by_chance(20), said = y1541_image_copy(a, n, b[0], text, m, out, room, &needed); break;
+    case 23: said = y1541_image_put_away(a, n, out, room, &needed); break;
+    case 24: {
+        size_t count;
+        uint8_t *changed = some_image(&count);
+        said = y1541_image_put_back(a, n, changed, count, out, room, &needed);
+        free(changed);
+        break;
+    }
     case 10: {
         y1541_signal host[20], *events = malloc(60 * sizeof *events);
         size_t count = 9, changes = by_chance(21), events_room = by_chance(60);

@@ -93,6 +93,25 @@ for (const form of [0, 1, 2]) {
   expect(isEqual(y1541.entries(copy).entries.filter((it) => it.kind).map((it) => Buffer.from(it.name).toString("latin1").replace(/\xa0*$/, "")), ["ONE", "TWO", "C=:*"]) && same(y1541.read(copy, 2), program), "a copy");
   refused(63, () => y1541.copy(both, 0, "TWO"), "a copy to a name that is there");
 }
+// Odd entries are left alone: a line of art in slot 1 that leads to 18/0, as tests/calls.c has it in C.
+{
+  const art = y1541.put(y1541.create(0, "ART", "ID"), "ONE,P,W", program), entry = [0x82, 18, 0, ...Buffer.from("----------------")];
+  art.set(entry, 91648 + 34);
+  const wanted = art.slice();
+  wanted.set(Buffer.from("NEW"), 91648 + 5);
+  expect(same(y1541.command(art, "R0:NEW=ONE"), wanted), "a command leaves art alone");
+  expect(same(y1541.put(art, "TWO,P,W", "ab").slice(91648 + 34, 91648 + 34 + entry.length), Buffer.from(entry)), "and so does a put");
+  for (const [disk, its] of [[art, wanted], [y1541.convert(art).image, null]]) {
+    const left = y1541.putAway(disk), back = y1541.putBack(disk, y1541.rename(left, 0, "NEW"));
+    y1541.check(left);
+    expect(same(its ? back : y1541.convert(back).image, wanted) && same(y1541.putAway(left), left), "renamed by its slot, and the art put back");
+    refused(-6, () => y1541.rename(disk, 0, "NEW"), "not without it");
+    refused(26, () => y1541.putBack(disk, y1541.swap(left, 0, 1)), "the art's slot");
+    refused(-5, () => y1541.putBack(disk, left.subarray(1)), "no image to put back into");
+  }
+  art[91392 + 4]--;
+  refused(-6, () => y1541.putAway(art), "a wrong BAM");
+}
 const loop = image.slice();
 loop.set([18, 1], 91648); // 18/1 leads to itself
 expect(y1541.entries(loop).status === 71 && y1541.entries(loop).entries.length === 8, "entries up to a loop");

@@ -20,12 +20,21 @@ const bytes = fs.readFileSync(name), image = put(bytes), length = BigInt(bytes.l
 const [needed, small, drive, other] = [8, 64, 8, 8].map((it) => put(new Uint8Array(it)));
 const out = calls.room(room), result = [out, room, needed];
 calls.y1541_image_convert(...d64, small, ...result);
-const g64 = [put(memory().slice(Number(out), Number(out) + Number(number(needed)))), number(needed)];
+const taken = () => [put(memory().slice(Number(out), Number(out) + Number(number(needed)))), number(needed)];
+const g64 = taken();
 const host = new Uint8Array(32), view = new DataView(host.buffer);
 view.setBigUint64(0, 1000n, true), view.setBigUint64(16, 3000n, true), (host[10] = 1);
 const twice = new Uint8Array(64), fields = new DataView(twice.buffer);
 [...text("N,P,W"), image, 3000n, ...text("M,P,W"), image, 3000n].forEach((it, i) => fields.setBigUint64(8 * i, it, true));
 const files = put(twice), changes = put(host), events = calls.room(1000n);
+
+// A disk with a line of art in slot 1, which leads to 18/0, as a G64; and what is left of it.
+const art = bytes.slice();
+art.set([0x82, 18, 0, ...Buffer.from("----------------")], 91648 + 34);
+calls.y1541_image_convert(put(art), length, small, ...result);
+const art64 = taken();
+calls.y1541_image_put_away(...art64, ...result);
+const left = taken();
 
 const measured = {
   open: () => calls.y1541_open(drive, ...d64, 0, 8, 20, 0),
@@ -47,6 +56,10 @@ const measured = {
   "image_command V": () => calls.y1541_image_command(...d64, ...text("V0"), ...result),
   "image_command N, of a G64": () => calls.y1541_image_command(...g64, ...text("N0:NEW,ID"), ...result),
   "image_command C": () => calls.y1541_image_command(...g64, ...text("C0:TWO=HELLO"), ...result),
+  image_put_away: () => calls.y1541_image_put_away(...art64, ...result),
+  image_put_back: () => calls.y1541_image_put_back(...art64, ...left, ...result),
+  "image_put, art": () => calls.y1541_image_put(...art64, ...text("N,P,W"), image, 3000n, ...result),
+  "image_command C, art": () => calls.y1541_image_command(...art64, ...text("C0:TWO=HELLO"), ...result),
   image_new: () => calls.y1541_image_new(2, image, 0n, 0, 0, ...result),
   image_convert: () => calls.y1541_image_convert(...g64, small, ...result),
   play: () => calls.y1541_play(...d64, 8, 20, 0, changes, 2n, 5000n, events, 8n, small, ...result),
