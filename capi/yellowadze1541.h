@@ -11,8 +11,8 @@
  * Threads: the library has no state but its handles. Different handles may be used by different threads at once, one handle by one call at a
  * time. A handle may be passed to another thread; the caller must synchronise.
  * Memory comes from malloc, realloc and free, in the calls marked [m] alone. If there is none, the call answers Y1541_NO_MEMORY.
- * Stack: y1541_open takes up to 285 kB, copy and delete 243 kB, put, command, list and play 214 kB, y1541_lines and y1541_due up to 80 kB, eject, insert
- * and reset 71 kB, all others less. docs/emulators.md has what was measured, and answers to questions.
+ * Stack: y1541_open takes up to 285 kB, copy, delete, and put and command around odd entries 262 kB, put, command, list and play 214 kB, y1541_lines and
+ * y1541_due up to 80 kB, eject, insert and reset 71 kB, all others less. docs/emulators.md has what was measured, and answers to questions.
  */
 #ifndef YELLOWADZE1541_H
 #define YELLOWADZE1541_H

@@ -48,6 +48,7 @@ export class Disk {
     this.deleted = this.slots.filter((it) => isEmpty(it) && it.track && it.name.length);
     this.broken = status; // why the directory can't be followed to its end, or 0
     this.flaws = library.flaws(bytes);
+    this.odd = library.odd(bytes) ?? [];
     this.title = labelOf(library, bytes);
   }
 
@@ -94,9 +95,15 @@ export class Disk {
     return true;
   }
 
+  // Makes a change, around odd entries if the disk is sound but for these.
+  #change(change) {
+    const { library, bytes, odd } = this;
+    return this.become(odd.length ? library.putBack(bytes, change(library.putAway(bytes))) : change(bytes));
+  }
+
   // Makes a change for each of these, all or none.
   #each(list, change) {
-    return this.become(list.reduce(change, this.bytes));
+    return this.#change((bytes) => list.reduce(change, bytes));
   }
 
   // Files are { name, kind, data }: all, or none. One whose name the drive's OPEN can't say gets another name first.
@@ -104,18 +111,21 @@ export class Disk {
     const taken = [...this.entries, ...files].map(latin);
     const free = (i) => (taken.includes(`NEW ${i}`) ? free(i + files.length) : join(`NEW ${i}`));
     const first = files.map(({ name }, i) => (canBeSaid(name) ? name : free(i)));
-    const made = this.library.putAll(this.bytes, files.map(({ kind, data }, i) => ({ text: join("0:", first[i], `,${letterOf(kind)},W`), data })));
-    const slotOf = (name) => new Disk(this.library, this.name, made).entries.find((it) => same(it.name, name)).slot;
-    return this.become(files.reduce((bytes, { name }, i) => (first[i] === name ? bytes : this.library.rename(bytes, slotOf(first[i]), name)), made));
+    const texts = files.map(({ kind, data }, i) => ({ text: join("0:", first[i], `,${letterOf(kind)},W`), data }));
+    return this.#change((old) => {
+      const made = this.library.putAll(old, texts);
+      const slotOf = (name) => new Disk(this.library, this.name, made).entries.find((it) => same(it.name, name)).slot;
+      return files.reduce((bytes, { name }, i) => (first[i] === name ? bytes : this.library.rename(bytes, slotOf(first[i]), name)), made);
+    });
   }
 
   rename(slot, name) {
-    return this.become(this.library.rename(this.bytes, slot, name));
+    return this.#change((bytes) => this.library.rename(bytes, slot, name));
   }
 
   copy(slot, name) {
     if (this.file(slot)) letterOf(this.entry(slot).kind);
-    return this.become(this.library.copy(this.bytes, slot, name));
+    return this.#change((bytes) => this.library.copy(bytes, slot, name));
   }
 
   remove(slots) {
@@ -128,20 +138,20 @@ export class Disk {
   }
 
   undelete(slot, kind) {
-    return this.become(this.library.undelete(this.bytes, slot, kind));
+    return this.#change((bytes) => this.library.undelete(bytes, slot, kind));
   }
 
   retitle(title, mark) {
-    return this.become(this.library.remark(this.library.retitle(this.bytes, title), mark));
+    return this.#change((bytes) => this.library.remark(this.library.retitle(bytes, title), mark));
   }
 
-  // Each slot in turn gets the entry that comes first of those left.
+  // Each slot in turn gets the entry that comes first of those left; odd entries stay.
   sort(by) {
-    const left = [...this.slots];
+    const left = this.slots.filter((it) => !this.odd.includes(it.slot)), slots = left.map((it) => it.slot);
     return this.#each([...left.keys()], (bytes, place) => {
       const first = left.reduce((least, it, i) => (i > place && isBefore(it, left[least], by) ? i : least), place);
       [left[first], left[place]] = [left[place], left[first]];
-      return first === place ? bytes : this.library.swap(bytes, first, place);
+      return first === place ? bytes : this.library.swap(bytes, slots[first], slots[place]);
     });
   }
 

@@ -4,7 +4,8 @@ import { fileActions } from "./file_actions.mjs";
 import { Listing } from "./listing.mjs";
 import { picture } from "./map.mjs";
 import { text } from "./petscii.mjs";
-import { flaw, sentence } from "./words.mjs";
+import { sentence } from "./words.mjs";
+import { flawText } from "./yellowadze1541.mjs";
 
 const OURS = "application/x-1541-files"; // what a drag from one disk to the other has
 // Why a button does nothing, by what it needs.
@@ -117,13 +118,13 @@ export class Panel {
   }
 
   #showVerdict() {
-    const { flaws, broken } = this.disk;
+    const { flaws, broken, odd } = this.disk;
     const verdict = this.find(".verdict");
-    verdict.textContent = flaws.length ? "The disk isn't sound:" : "The disk is sound.";
+    verdict.textContent = odd.length ? `The disk is sound but for ${odd.length} odd ${odd.length === 1 ? "entry" : "entries"}:` : flaws.length ? "The disk isn't sound:" : "The disk is sound.";
     verdict.classList.toggle("fault", flaws.length > 0);
     if (broken) verdict.prepend(`The directory breaks off: ${sentence({ number: broken })} `);
     const fileOf = ({ whose, slot }) => (whose === 2 && this.disk.entry(slot) ? ` (${this.name(this.disk.entry(slot).name)})` : "");
-    this.find(".flaws").replaceChildren(...flaws.map((it) => Object.assign(document.createElement("li"), { textContent: flaw(it) + fileOf(it) })));
+    this.find(".flaws").replaceChildren(...flaws.map((it) => Object.assign(document.createElement("li"), { textContent: flawText(it) + fileOf(it) })));
   }
 
   #has(need) {

@@ -5,26 +5,13 @@ const WORDS = {
   "-4": "It can't be given back: another file has got a block of it, or the disk has lost blocks. Validate frees those.",
   "-5": "This is no image of a 1541's disk: no G64, and no D64 of 35 or 40 tracks. Perhaps it was cut off, or has to be unpacked first.",
   "-6": "The disk isn't sound, so nothing was changed. Its flaws are listed under its files: Validate mends those of the BAM.",
-  26: "The disk or the file is protected.",
+  26: "The disk or the file is protected, or its entry is odd.",
   62: "There is no such file on the disk.",
   63: "There is a file of this name already: take another name.",
   66: "A chain of blocks leads to a place that the disk doesn't have.",
   71: "The directory, or a chain of blocks, has no end.",
   72: "The disk is full: take files out, or use another disk.",
 };
-// What is wrong, in disk1541's words.
-const FLAWS = [
-  "it isn't sound",
-  "the count of the track's free blocks isn't the number of blocks marked free",
-  "the block is in use, but marked free",
-  "the block is used twice",
-  "a file's chain leads here, where no block of a file can be",
-  "the sector's header can't be read",
-  "the directory's chain leads here, off the directory's track",
-  "the side sectors that begin here don't list the blocks of their relative file",
-  "an entry in this sector of the directory has a type that no file has",
-  "the block is in use, but can't be read",
-];
 
 // Throws a sentence of the page's own, to be said.
 export class Sentence extends Error {}
@@ -39,7 +26,5 @@ export function sentence(error) {
   if (number < 0) return WORDS[number] ?? "That isn't possible.";
   return `${WORDS[number] ?? (number < 30 ? "A sector can't be read." : "The drive refused it.")} (status ${number})`;
 }
-
-export const flaw = ({ what, track, sector }) => `track ${track}, sector ${sector}: ${FLAWS[what] ?? FLAWS[0]}`;
 
 export const count = (n, what) => `${n} ${what}${n === 1 ? "" : "s"}`;

@@ -37,6 +37,9 @@ export class Refused extends Error {
   readonly file?: number;
 }
 
+/** Where something is wrong, and what, in the words of `disk1541 check`. */
+export function flawText(flaw: Place): string;
+
 /** A module trapped: the drive, and what its disk held, can't be had any more. */
 export class Gone extends Error {}
 
@@ -136,6 +139,8 @@ export interface Library {
   /** All entries, those of empty slots too: the place in the list is the slot. The status is 0, or says why the directory breaks off after them. */
   entries(image: Uint8Array): { entries: Entry[]; status: number };
   flaws(image: Uint8Array): Flaw[];
+  /** The slots of the odd entries, if nothing else is wrong with the disk; null if more is. */
+  odd(image: Uint8Array): number[] | null;
   list(image: Uint8Array, pattern?: Bytes): Uint8Array;
   file(image: Uint8Array, pattern: Bytes): Uint8Array;
   sector(image: Uint8Array, track: number, sector: number): Uint8Array;

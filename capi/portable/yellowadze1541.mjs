@@ -23,6 +23,19 @@ const TEXTS = {
   [UNSOUND]: "the disk isn't sound",
   [NO_DRIVE]: "no drive, or one already",
 };
+// What is wrong, in disk1541's words.
+const FLAW_TEXTS = [
+  "it isn't sound",
+  "the count of the track's free blocks isn't the number of blocks marked free",
+  "the block is in use, but marked free",
+  "the block is used twice",
+  "a file's chain leads here, where no block of a file can be",
+  "the sector's header can't be read",
+  "the directory's chain leads here, off the directory's track",
+  "the side sectors that begin here don't list the blocks of their relative file",
+  "an entry in this sector of the directory has a type that no file has",
+  "the block is in use, but can't be read",
+];
 // The sizes of structs in the header.
 const SIGNAL = 16, SECTOR = 256, ENTRY = 24, FLAW = 8, FILE = 32, SAID = 36;
 const SLOTS = 144, FLAWS = 4096;
@@ -36,6 +49,9 @@ export class Refused extends Error {
     if (place) this.place = place;
   }
 }
+
+/** Where something is wrong, and what. */
+export const flawText = ({ what, track, sector }) => `track ${track}, sector ${sector}: ${FLAW_TEXTS[what] ?? FLAW_TEXTS[0]}`;
 
 /** A module trapped, as one does whose stack is too small: what it held can't be had any more. */
 export class Gone extends Error {
@@ -358,6 +374,17 @@ class Library {
 
   flaws(image) {
     return this.#structs("y1541_image_flaws", FLAW, image, FLAWS).structs.map(flawOf);
+  }
+
+  odd(image) {
+    const slots = new Set(this.flaws(image).map((it) => it.slot));
+    try {
+      if (slots.size) this.putAway(image);
+    } catch (e) {
+      if (e.number === UNSOUND || e.number >= STATUS) return null;
+      throw e;
+    }
+    return [...slots];
   }
 
   list(image, pattern = "") {

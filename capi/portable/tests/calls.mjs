@@ -2,7 +2,7 @@
 import fs from "node:fs";
 import * as library from "../yellowadze1541.mjs";
 
-const { load, Refused, Gone, NEVER, PROFILE, ATN, CLOCK, DATA } = library;
+const { load, flawText, Refused, Gone, NEVER, PROFILE, ATN, CLOCK, DATA } = library;
 const [file, smallStack, traps, name] = process.argv.slice(2);
 const y1541 = await load(fs.readFileSync(file)), image = new Uint8Array(fs.readFileSync(name));
 const program = Uint8Array.of(1, 8, 65, 0, 255, 90);
@@ -109,7 +109,10 @@ for (const form of [0, 1, 2]) {
     refused(26, () => y1541.putBack(disk, y1541.swap(left, 0, 1)), "the art's slot");
     refused(-5, () => y1541.putBack(disk, left.subarray(1)), "no image to put back into");
   }
+  expect(isEqual([y1541.odd(art), y1541.odd(image)], [[1], []]), "the slots of odd entries");
+  expect(flawText(y1541.flaws(art)[0]) === "track 18, sector 0: a file's chain leads here, where no block of a file can be", "a flaw in words");
   art[91392 + 4]--;
+  expect(y1541.odd(art) === null, "more is wrong than entries");
   refused(-6, () => y1541.putAway(art), "a wrong BAM");
 }
 const loop = image.slice();

@@ -107,6 +107,8 @@ CALLS = {
     "y1541_image_swap": (*_BYTES, c_uint8, c_uint8, *_OUT),
     "y1541_image_retitle": (*_BYTES, *_BYTES, *_OUT),
     "y1541_image_remark": (*_BYTES, *_BYTES, *_OUT),
+    "y1541_image_put_away": (*_BYTES, *_OUT),
+    "y1541_image_put_back": (*_BYTES, *_BYTES, *_OUT),
     "y1541_image_new": (c_uint8, *_BYTES, c_uint8, c_uint8, *_OUT),
     "y1541_image_convert": (*_BYTES, POINTER(LostStruct), *_OUT),
 }

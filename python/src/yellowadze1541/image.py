@@ -211,6 +211,16 @@ class Image:
         _library.check(said)
         return [_flaw(*it) for it in found]
 
+    def odd(self) -> List[Entry]:
+        """The odd entries of a disk that is sound but for these, as lines of art or loops: none if it is sound. Unsound: something else is wrong.
+
+        A change leaves them alone. Refused: a change of one of them (26).
+        """
+        odd = {it.slot for it in self.flaws()}
+        if odd:
+            self._left()
+        return [it for it in self.slots() if it.slot in odd]
+
     def convert(self, lossy: bool = False) -> "Image":
         """The image in the other format, D64 or G64. Lossy: it would lose something, and that isn't wanted."""
         lost = _library.LostStruct()
@@ -304,13 +314,15 @@ class Image:
         self._data = after._data
 
     def sort(self, by: Order = Order.NAME) -> None:
-        """Sorts the directory: by codes of names, or first by types or by the blocks that are shown. Empty slots come last."""
-        after = Image(self._data)
-        keys = [_key(it, by) for it in self.slots()]
+        """Sorts the directory: by codes of names, or first by types or by the blocks that are shown. Empty slots come last, and odd entries stay."""
+        after, entries = Image(self._data), self.slots()
+        odd = self.odd()
+        slots = [it.slot for it in entries if it not in odd]
+        keys = [_key(entries[it], by) for it in slots]
         for place in range(len(keys)):
             first = keys.index(min(keys[place:]), place)
             if first != place:
-                after._change(library.y1541_image_swap, place, first)
+                after._change(library.y1541_image_swap, slots[place], slots[first])
                 keys[place], keys[first] = keys[first], keys[place]
         self._data = after._data
 
@@ -321,7 +333,7 @@ class Image:
         """
         foreign.require_no_dolphin(self._data)
         foreign.require_no_geos(self)
-        if self.check() is None:
+        if self._is_sound_but_for_odd():
             self.command(b"V0")
         else:
             self._data = self._mended()
@@ -388,14 +400,32 @@ class Image:
         return _LETTERS[FileType(type)]
 
     def _change(self, call: Callable[..., int], *arguments: Any) -> None:
-        """Takes the image that a call gives. Unsound: the disk isn't sound."""
+        """Takes the image that a call gives, around odd entries if the disk is sound but for these. Unsound: it isn't sound."""
         said, data = _library.filled(call, self._room, *self._given, *arguments)
         if said == UNSOUND:
-            flaw = self.check()
-            if flaw is not None:
-                raise Unsound(flaw)
-        _library.check(said)
+            left = self._left()
+            said, data = _library.filled(call, self._room, left, len(left), *arguments)
+            if said == 0:
+                said, data = _library.filled(library.y1541_image_put_back, self._room, *self._given, data, len(data))
+        self._check(said)
         self._data = data
+
+    def _check(self, said: int) -> None:
+        """Raises what a change was refused for."""
+        flaw = self.check() if said == UNSOUND else None
+        if flaw is not None:
+            raise Unsound(flaw)
+        _library.check(said)
+
+    def _left(self) -> Bytes:
+        """What is left of the image without its odd entries. Unsound: more is wrong."""
+        said, data = _library.filled(library.y1541_image_put_away, self._room, *self._given)
+        self._check(UNSOUND if said > 0 else said)
+        return data
+
+    def _is_sound_but_for_odd(self) -> bool:
+        """Whether nothing is wrong but odd entries."""
+        return _library.filled(library.y1541_image_put_away, self._room, *self._given)[0] == 0
 
     def _mended(self) -> Bytes:
         """The image after VALIDATE by a drive: the library's command takes a sound disk alone."""
