@@ -95,7 +95,7 @@ export class Disk {
     return true;
   }
 
-  // Makes a change, around odd entries if the disk is sound but for these.
+  // Makes a change, around odd entries if only these are wrong.
   #change(change) {
     const { library, bytes, odd } = this;
     return this.become(odd.length ? library.putBack(bytes, change(library.putAway(bytes))) : change(bytes));
@@ -120,12 +120,12 @@ export class Disk {
   }
 
   rename(slot, name) {
-    return this.#change((bytes) => this.library.rename(bytes, slot, name));
+    return this.#change((it) => this.library.rename(it, slot, name));
   }
 
   copy(slot, name) {
     if (this.file(slot)) letterOf(this.entry(slot).kind);
-    return this.#change((bytes) => this.library.copy(bytes, slot, name));
+    return this.#change((it) => this.library.copy(it, slot, name));
   }
 
   remove(slots) {
@@ -138,11 +138,11 @@ export class Disk {
   }
 
   undelete(slot, kind) {
-    return this.#change((bytes) => this.library.undelete(bytes, slot, kind));
+    return this.#change((it) => this.library.undelete(it, slot, kind));
   }
 
   retitle(title, mark) {
-    return this.#change((bytes) => this.library.remark(this.library.retitle(bytes, title), mark));
+    return this.#change((it) => this.library.remark(this.library.retitle(it, title), mark));
   }
 
   // Each slot in turn gets the entry that comes first of those left; odd entries stay.
@@ -163,6 +163,7 @@ export class Disk {
   validated() {
     if (this.#geos.length) refuse("The drive's VALIDATE would free blocks that files of GEOS use. `disk1541 validate` keeps them.");
     const after = new Disk(this.library, this.name, this.library.command(this.bytes, "V0"));
+    if (this.odd.length && after.title.free > this.title.free) refuse("It may free an odd entry's blocks: `disk1541 validate` doesn't.");
     return { bytes: after.bytes, gone: this.entries.filter((it) => !after.entry(it.slot)) };
   }
 

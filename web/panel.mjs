@@ -118,9 +118,9 @@ export class Panel {
   }
 
   #showVerdict() {
-    const { flaws, broken, odd } = this.disk;
+    const { flaws, broken, odd: { length } } = this.disk;
     const verdict = this.find(".verdict");
-    verdict.textContent = odd.length ? `The disk is sound but for ${odd.length} odd ${odd.length === 1 ? "entry" : "entries"}:` : flaws.length ? "The disk isn't sound:" : "The disk is sound.";
+    verdict.textContent = length ? `Sound but for ${length} odd ${length === 1 ? "entry" : "entries"}:` : flaws.length ? "The disk isn't sound:" : "The disk is sound.";
     verdict.classList.toggle("fault", flaws.length > 0);
     if (broken) verdict.prepend(`The directory breaks off: ${sentence({ number: broken })} `);
     const fileOf = ({ whose, slot }) => (whose === 2 && this.disk.entry(slot) ? ` (${this.name(this.disk.entry(slot).name)})` : "");

@@ -95,7 +95,7 @@ class Looks(DiskCase):
         entry = Image(disk.image).find(next(it.name for it in disk.files if it.is_closed))
         place = model.place(18, 1) + 32 * entry.slot
         # (a count of the BAM, a file's type, its first track, and its first sector)
-        for at, value in ((model.place(18, 0) + 4, 99), (place + 2, 0x87), (place + 3, 77), (place + 4, 99)):
+        for at, value, is_odd in ((model.place(18, 0) + 4, 99, False), (place + 2, 0x87, True), (place + 3, 77, True), (place + 4, 99, True)):
             data = bytearray(disk.image)
             data[at] = value
             path = self.file("wrong.d64", data)
@@ -104,6 +104,9 @@ class Looks(DiskCase):
             self.assertEqual([(it.number, it.track, it.sector) for it in image.flaws()], [(it["number"], it["track"], it["sector"]) for it in said])
             first = image.check()
             self.assertEqual((first.number, first.track, first.sector), (said[0]["number"], said[0]["track"], said[0]["sector"]))
+            if is_odd:
+                self.assertEqual([it.slot for it in image.odd()], [entry.slot])
+                continue
             with self.assertRaises(Unsound) as told:
                 image.write("NEW", b"1")
             self.assertEqual(told.exception.flaw, first)
@@ -305,6 +308,74 @@ class Changes(DiskCase):
         self.assertEqual((image.id, image.dos), (b"CD", b"2A"))
 
 
+    def art(self):
+        """A sound disk with lines of art that lead to 18/0, 18/1 and to no sector, one in the middle of the files, and one of an unknown type: two paths."""
+        image = Image.new(Form.D64, "ART", "64")
+        image.write_all([(b"ZEBRA", b"1" * 300), (b"LINE 1", b""), (b"LION", b"2", FileType.SEQ), (b"LINE 2", b""), (b"LINE 3", b""), (b"APE", b"3" * 600)])
+        data = bytearray(image.bytes)
+        for slot, start in ((1, b"\x82\x12\x00"), (3, b"\x82\x12\x01"), (4, b"\x85\x63\x00")):
+            place = model.place(18, 1) + 32 * slot + 2
+            data[place : place + 19] = start + b"-" * 16
+        # (the blocks of what became art are free)
+        for it in (1, 3, 4):
+            track, sector = image.slots()[it].track, image.slots()[it].sector
+            row = model.place(18, 0) + 4 * track
+            data[row] += 1
+            data[row + 1 + sector // 8] |= 1 << sector % 8
+        path = self.file("art.d64", data)
+        disk1541("convert", "--replace", path, path.with_suffix(".g64"))
+        return path, path.with_suffix(".g64")
+
+    def test_odd_entries_are_left_alone(self):
+        new = self.file("new.prg", b"new" * 500)
+        changes = [
+            (lambda image: image.rename("ZEBRA", "A*"), ("rename", "--slot", 0, "A*")),
+            (lambda image: image.write("NEW", b"new" * 500), ("put", new)),
+            (lambda image: image.write_all([("NEW", b"new" * 500)]), ("put", new)),
+            (lambda image: image.copy("ZEBRA", "COPY"), ("copy", "ZEBRA", "COPY")),
+            (lambda image: image.delete("LION"), ("delete", "LION")),
+            (lambda image: image.lock("APE"), ("lock", "APE")),
+            (lambda image: image.retitle("ANOTHER"), ("title", "ANOTHER")),
+            (lambda image: image.sort(), ("sort", "--by", "name")),
+            (lambda image: image.sort(Order.SIZE), ("sort", "--by", "size")),
+            (lambda image: image.validate(), ("validate",)),
+        ]
+        for change, (command, *words) in changes:
+            for path in self.art():
+                with self.subTest(path=path.name, command=command):
+                    image = Image.open(path)
+                    self.assertEqual([it.slot for it in image.odd()], [1, 3, 4])
+                    before = [image.slots()[it] for it in (1, 3, 4)]
+                    change(image)
+                    disk1541(command, path, *words)
+                    self.assertEqual(image.bytes, path.read_bytes())
+                    self.assertEqual(image.odd(), before)
+
+    def test_a_command_leaves_odd_entries_alone(self):
+        for path in self.art():
+            image = Image.open(path)
+            self.assertEqual(image.command("S0:Z*"), "01, FILES SCRATCHED,01,00")
+            disk1541("delete", path, "Z*")
+            self.assertEqual(image.bytes, path.read_bytes())
+
+    def test_a_change_of_an_odd_entry_is_refused(self):
+        for path in self.art():
+            image, data = Image.open(path), path.read_bytes()
+            self.assertTrue(refused(26, image.rename, 1, "NEW"))
+            self.assertTrue(refused(26, image.delete, 1))
+            disk1541("rename", path, "--slot", 1, "NEW", status=1)
+            self.assertEqual(image.bytes, data)
+
+    def test_more_is_wrong_than_odd_entries(self):
+        self.assertEqual(Image.open(HELLO).odd(), [])
+        data = bytearray(self.art()[0].read_bytes())
+        data[model.place(18, 0) + 4] -= 1
+        image = Image(data)
+        for call in (image.odd, image.sort, lambda: image.rename("APE", "NEW"), lambda: image.write("NEW", b"")):
+            with self.assertRaises(Unsound) as told:
+                call()
+            self.assertEqual(told.exception.flaw, image.check())
+
     def test_validate_of_another_flaw_is_refused(self):
         data = bytearray(HELLO.read_bytes())
         data[model.place(18, 1) + 3] = 77
@@ -313,6 +384,22 @@ class Changes(DiskCase):
         with self.assertRaises(Refused):
             image.validate()
         self.assertEqual(image.bytes, bytes(data))
+
+    def test_validate_keeps_what_may_be_the_rest_of_an_odd_entry(self):
+        for start, is_cut in ((b"\x82\x12\x00", False), (b"\x82\x63\x00", True)):
+            data = bytearray(HELLO.read_bytes())
+            data[model.place(18, 1) + 34 : model.place(18, 1) + 53] = start + b"-" * 16
+            # (a block that no file uses)
+            data[model.place(18, 0) + 4] -= 1
+            data[model.place(18, 0) + 5] &= 0xFE
+            image, path = Image(data), self.file("rest.d64", data)
+            disk1541("validate", path, status=int(is_cut))
+            if is_cut:
+                with self.assertRaises(Unsound):
+                    image.validate()
+            else:
+                image.validate()
+            self.assertEqual(image.bytes, path.read_bytes())
 
     def test_validate_mends_a_map(self):
         data = bytearray(HELLO.read_bytes())

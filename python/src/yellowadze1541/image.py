@@ -329,14 +329,18 @@ class Image:
     def validate(self) -> None:
         """Removes files that were never closed and frees lost blocks, as the drive's VALIDATE, also on a disk whose BAM is wrong.
 
-        Foreign: the disk has files of GEOS, whose blocks it would free. Refused: the disk has another flaw.
+        Foreign: the disk has files of GEOS, whose blocks it would free. Refused: the disk has another flaw. Unsound: lost blocks may be the rest of an odd entry.
         """
         foreign.require_no_dolphin(self._data)
         foreign.require_no_geos(self)
-        if self._is_sound_but_for_odd():
-            self.command(b"V0")
-        else:
+        if not self._is_sound_but_for_odd():
             self._data = self._mended()
+            return
+        after = Image(self._data)
+        after.command(b"V0")
+        if after.free > self.free:
+            self._require_whole_odd()
+        self._data = after._data
 
     def command(self, text: Name) -> str:
         """Has the drive carry out a command of channel 15, such as `S0:NAME`, and answers the status line, such as `01, FILES SCRATCHED,02,00`.
@@ -422,6 +426,12 @@ class Image:
         said, data = _library.filled(library.y1541_image_put_away, self._room, *self._given)
         self._check(UNSOUND if said > 0 else said)
         return data
+
+    def _require_whole_odd(self) -> None:
+        """Unsound: the chain of an odd entry breaks off, so that blocks which no file uses may be its rest."""
+        for it in self.odd():
+            said, _ = _library.filled(library.y1541_image_read, len(self._data), *self._given, it.slot)
+            self._check(UNSOUND if said else said)
 
     def _is_sound_but_for_odd(self) -> bool:
         """Whether nothing is wrong but odd entries."""

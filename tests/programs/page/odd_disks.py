@@ -81,6 +81,44 @@ def broken(browser, side, d64, g64):
         browser.expect(words in side.text(".verdict") + side.text(".flaws"), f"{name}: {side.text('.verdict')} {side.text('.flaws')}")
 
 
+def art(browser, side, d64):
+    """Odd entries, here lines of art that lead into the directory, are left alone: each change is as disk1541's."""
+    file = browser.room / "art.d64"
+    file.write_bytes(d64.read_bytes())
+    for name in "ZEBRA", "APE":
+        browser.kit("put", file, browser.room / "world.prg", "--name", name)
+    line = b"-" * 16
+    file.write_bytes(changed(file.read_bytes(), (DIRECTORY + 98, b"\x82\x12\0" + line), (DIRECTORY + 130, b"\x82\x12\x01" + line)))
+    circles = file.with_name("art.g64")
+    browser.kit("convert", file, circles)
+    said = subprocess.run([browser.disk1541, "check", file], capture_output=True, text=True).stdout
+    for it in file, circles:
+        side.open(it)
+        shown = side.text(".verdict")
+        browser.expect("sound but for 2 odd entries" in said and shown == "Sound but for 2 odd entries:", f"{it.name}: {shown} {said}")
+        side.select("HELLO")
+        side.key(Keys.F2)
+        browser.answer("start")
+        browser.says("Renamed: START.")
+        browser.kit("rename", it, "HELLO", "START")
+        browser.expect(side.saved() == it.read_bytes(), f"{it.name}: renamed, and the art is left alone")
+        browser.forget()
+        side.give("put", browser.room / "world.prg")
+        browser.says("1 file put in.")
+        browser.kit("put", it, browser.room / "world.prg")
+        browser.expect(side.saved() == it.read_bytes(), f"{it.name}: a file put in beside art")
+        side.do("sort")
+        browser.answer("name")
+        browser.says("Sorted.")
+        browser.kit("sort", it, "--by", "name")
+        browser.expect(side.saved() == it.read_bytes(), f"{it.name}: sorted around the art")
+        image = it.read_bytes()
+        side.select(line.decode())
+        side.key(Keys.DELETE)
+        browser.until(lambda: "protected" in browser.said(), "an odd entry isn't deleted here")
+        browser.expect(side.saved() == image, f"{it.name}: an odd entry isn't deleted here")
+
+
 def all_codes(browser, side, d64):
     """Every code in a name is written as by disk1541, in both character sets; letters that fonts lack are drawn."""
     wrong = []
@@ -172,6 +210,7 @@ def play(browser, left, right, d64, g64):
         lambda: flaws(browser, left, d64),
         lambda: mended(browser, left, d64),
         lambda: broken(browser, left, d64, g64),
+        lambda: art(browser, left, d64),
         lambda: all_codes(browser, left, d64),
         lambda: odd_names(browser, left, right, d64),
         lambda: refused_names(browser, left, d64),
