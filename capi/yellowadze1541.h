@@ -205,7 +205,7 @@ int32_t y1541_image_retitle(const uint8_t *image, size_t len, const uint8_t *tit
  * sectors' headers stay. */
 int32_t y1541_image_remark(const uint8_t *image, size_t len, const uint8_t *mark, size_t n, uint8_t *out, size_t room, size_t *needed);
 
-/* An entry is odd if the drive's rules don't allow it: a line of art that leads to 18/0, a chain that comes back to itself, an unknown type. Where nothing
+/* An entry is odd if the drive's rules don't allow it: a line of art that leads to 18/0, a chain that comes back to itself, an unknown type. If nothing
  * else is wrong, any call changes the disk in three steps: y1541_image_put_away, the call on what is left, y1541_image_put_back. */
 
 /* [m] What is left of an image without its odd entries: a sound disk, on which in each one's slot a locked DEL of its name stands, without a block. The image
