@@ -146,6 +146,20 @@ class Looks(MountCase):
         self.assertIn("isn't sound", (folder / ".status").read_text())
         self.assertEqual((self.folder / "wrong.d64").read_bytes(), bytes(data))
 
+    def test_odd_entries_are_left_alone(self):
+        data = bytearray(HELLO.read_bytes())
+        at = model.place(18, 1) + 34
+        data[at : at + 19] = b"\x80\x12\x00" + b"ART".ljust(16, b"\xa0")
+        path = self.file("art.d64", data)
+        folder = self.mount(path)
+        (folder / "new.prg").write_bytes(b"\x01\x08new")
+        os.rename(folder / "hello.prg", folder / "start.prg")
+        self.assertEqual((folder / "start.prg").read_bytes(), b"\x01\x02\x03")
+        image = Image.open(path)
+        self.assertEqual([it.slot for it in image.odd()], [1])
+        self.assertEqual(path.read_bytes()[at : at + 30], bytes(data[at : at + 30]))
+        self.assertEqual(image.read("NEW"), b"\x01\x08new")
+
     @unittest.skipUnless(os.geteuid() == 0, "only root can become a user that may not write the image")
     def test_an_image_that_may_not_be_written_can_be_read_alone(self):
         path = self.file("hello.d64", HELLO.read_bytes())

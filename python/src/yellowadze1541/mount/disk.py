@@ -9,7 +9,7 @@ from typing import Callable, Dict, Iterator, List, Optional, Tuple
 
 from ..entries import Entry, FileType
 from ..image import Form, Image
-from ..refusals import DISK_FULL, EXISTS, NOT_FOUND, UNSOUND, WRITE_PROTECT_ON, BrokenDirectory, Changed, Foreign, Refused
+from ..refusals import DISK_FULL, EXISTS, NOT_FOUND, UNSOUND, WRITE_PROTECT_ON, BrokenDirectory, Changed, Foreign, Refused, Unsound
 from .names import HostName
 
 __all__ = ["BLOCK", "SLOTS", "WRITABLE", "Disk", "blocks_for"]
@@ -136,7 +136,7 @@ class Disk:
         """From now on the disk is this one."""
         self._image, self._stamp = image, stamp
         flaw = image.check()
-        self.flaw = flaw.text if flaw else None
+        self.flaw = flaw.text if flaw and not _is_changed_around_odd(image) else None
         self.files = dict(_named(image))
         self._bytes: Dict[HostName, bytes] = {}
 
@@ -144,6 +144,15 @@ class Disk:
 def blocks_for(size: int) -> int:
     """How many blocks a file of this size has."""
     return max(1, -(-size // BLOCK))
+
+
+def _is_changed_around_odd(image: Image) -> bool:
+    """Whether the disk is sound but for odd entries, which a change leaves alone."""
+    try:
+        image.odd()
+    except Unsound:
+        return False
+    return True
 
 
 def _named(image: Image) -> Iterator[Tuple[HostName, Entry]]:
