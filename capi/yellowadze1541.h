@@ -166,7 +166,8 @@ int32_t y1541_image_put(const uint8_t *image, size_t len, const uint8_t *text, s
  * the one that is refused. As y1541_image_put, but UNSOUND also if odd entries alone are wrong. */
 int32_t y1541_image_put_all(const uint8_t *image, size_t len, const y1541_file *files, size_t n, size_t *put, uint8_t *out, size_t room, size_t *needed);
 
-/* [m] The image after a command for channel 15, such as S0:NAME, R0:NEW=OLD, C0:NEW=OLD, N0:TITLE,ID or V0. As y1541_image_put. */
+/* [m] The image after a command for channel 15, such as S0:NAME, R0:NEW=OLD, C0:NEW=OLD, N0:TITLE,ID or V0. As y1541_image_put, but V0 is
+ * UNSOUND also if odd entries alone are wrong: blocks that no file uses may be the rest of what one of them led to. */
 int32_t y1541_image_command(const uint8_t *image, size_t len, const uint8_t *text, size_t n, uint8_t *out, size_t room, size_t *needed);
 
 /* [m] As y1541_image_command; `status` gets what channel 15 says after the command, also if the drive refused it. UNSOUND also if odd entries alone are

@@ -162,8 +162,8 @@ export class Disk {
   // What validating would make: the image, and the files that would go.
   validated() {
     if (this.#geos.length) refuse("The drive's VALIDATE would free blocks that files of GEOS use. `disk1541 validate` keeps them.");
+    if (this.odd.length) refuse("It may free an odd entry's blocks: `disk1541 validate` doesn't.");
     const after = new Disk(this.library, this.name, this.library.command(this.bytes, "V0"));
-    if (this.odd.length && after.title.free > this.title.free) refuse("It may free an odd entry's blocks: `disk1541 validate` doesn't.");
     return { bytes: after.bytes, gone: this.entries.filter((it) => !after.entry(it.slot)) };
   }
 

@@ -232,6 +232,7 @@ static void odd_entries(void) {
         && same_bytes(b + 91648 + 32, art + 91648 + 32, 32), "a file is put, and the art stays");
     memcpy(wanted, art, len), memcpy(slots + 5, "NEW", 3);
     expect(y1541_image_command(art, len, (const uint8_t *)"R0:NEW=ONE", 10, b, ROOM, &needed) == Y1541_OK && needed == len && same_bytes(b, wanted, len), "a command leaves it alone");
+    expect(y1541_image_command(art, len, (const uint8_t *)"V0", 2, b, ROOM, &needed) == Y1541_UNSOUND && same_bytes(b, wanted, len), "VALIDATE isn't carried out beside it");
     expect(y1541_image_rename(art, len, 0, (const uint8_t *)"NEW", 3, b, ROOM, &needed) == Y1541_UNSOUND, "a call by slot wants what is left");
     memcpy(wanted, art, len), slots[34] = 0xc0, slots[35] = slots[36] = 0;
     expect(y1541_image_put_away(art, len, left, ROOM, &n) == Y1541_OK && n == len && same_bytes(left, wanted, len) && y1541_image_check(left, len, &place) == Y1541_OK, "what is left is sound");

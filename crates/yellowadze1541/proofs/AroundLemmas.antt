@@ -63,8 +63,13 @@ by_either items r s true image change after X W is means same around h = made_ar
 by_either items r s false image change after X W is means same around h = by_same items s image after X W (subst (λ x. MatchResult x (λ v. X) W) (sym (same is)) h)
 
 -- of any disk
-pub any_made : {A : Type 0} (items : A → List ℕ) (r s : Result A DeviceRefusal) (image : List ℕ) (change : DiskChange) (after : Machine → Machine) (X : Type 0) (W : DeviceRefusal → Type 0)
-    → ((m : Machine) → disk_after_change change m ≡ after m) → (is_unsound r ≡ false → s ≡ r)
-    → (is_unsound r ≡ true → MatchResult s (λ v. IsChangedAround image change (items v)) (IsSomeFault (IsNotChangedAround image change)))
+pub any_made : {A : Type 0} (items : A → List ℕ) (r s : Result A DeviceRefusal) (may : Bool) (image : List ℕ) (change : DiskChange) (after : Machine → Machine) (X : Type 0) (W : DeviceRefusal → Type 0)
+    → ((m : Machine) → disk_after_change change m ≡ after m) → (is_unsound r ≡ false → s ≡ r) → (may ≡ false → s ≡ r)
+    → (is_unsound r ≡ true → may ≡ true → MatchResult s (λ v. IsChangedAround image change (items v)) (IsSomeFault (IsNotChangedAround image change)))
     → MatchResult r (λ v. X) W → MatchResult s (λ v. X ⊎ IsMadeAround image after (items v)) (λ q. W q ⊎ IsSomeFault (IsNotMadeAround image after) q)
-any_made items r s image change after X W means same around h = by_either items r s (is_unsound r) image change after X W refl means same around h
+any_made items r s true image change after X W means same stays around h = by_either items r s (is_unsound r) image change after X W refl means same (λ is. around is refl) h
+any_made items r s false image change after X W means same stays around h = by_same items s image after X W (subst (λ x. MatchResult x (λ v. X) W) (sym (stays refl)) h)
+
+-- what doesn't go around them is the change
+pub stays_made : {A : Type 0} (r s : Result A DeviceRefusal) (P : A → Type 0) (Q : DeviceRefusal → Type 0) → s ≡ r → MatchResult r P Q → MatchResult s P Q
+stays_made r s P Q e h = subst (λ x. MatchResult x P Q) (sym e) h

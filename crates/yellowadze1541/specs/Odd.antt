@@ -1,5 +1,5 @@
 -- Disks that are sound but for odd entries, as C has them changed.
-use Rattle.std.specs.Prelude.{ℕ, ◌≡◌, ◌⊎◌, Bool, true, false, List, Result, Ok, Err}
+use Rattle.std.specs.Prelude.{ℕ, ◌≡◌, ◌⊎◌, ◌==◌, Bool, true, false, List, [], ◌∷◌, Result, Ok, Err}
 use Rattle.cbm_machine.specs.Machines.{Machine}
 use Rattle.cbm_image.specs.Images.{kind_of}
 use Rattle.cbm_shell.specs.declared.changing.DiskChange.{DiskChange}
@@ -17,6 +17,11 @@ abbrev pub is_unsound : {A : Type 0} → Result A DeviceRefusal → Bool
 is_unsound (Ok v) = false
 is_unsound (Err Unsound) = true
 is_unsound (Err r) = false
+
+-- the text of a command begins as VALIDATE's
+abbrev pub is_validate : List ℕ → Bool
+is_validate [] = false
+is_validate (code ∷ rest) = code == 86
 
 -- WHAT IS LEFT OF AN IMAGE without its odd entries
 abbrev pub IsLeftOf : List ℕ → List ℕ → Type 0

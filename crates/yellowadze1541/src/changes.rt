@@ -1,5 +1,5 @@
 //! New images, and changes of one.
-ghost use Rattle.std.specs.Prelude.{◌≡◌, ◌≤◌, ◌<◌, ◌⊎◌, ◌∷◌, [], false, length, MatchResult};
+ghost use Rattle.std.specs.Prelude.{◌≡◌, ◌≤◌, ◌<◌, ◌⊎◌, ◌∷◌, [], true, false, length, MatchResult};
 ghost use Rattle.cbm_file.specs.Files.{Disk};
 ghost use Rattle.cbm_machine.specs.Machines.{start};
 ghost use Rattle.cbm_image.specs.Images.{kind_of, tracks_of, ImageHolds};
@@ -12,11 +12,11 @@ ghost use Rattle.cbm_device.specs.Making.{after_command, after_put, opened_for, 
 ghost use Rattle.cbm_shell.specs.declared.fault.ShellFault.{ShellFault};
 ghost use Rattle.yellowadze1541.specs.Looks.{flag};
 ghost use Rattle.yellowadze1541.specs.Slots.{IsSomeFault};
-ghost use Rattle.yellowadze1541.specs.Odd.{IsMadeAround, IsNotMadeAround};
+ghost use Rattle.yellowadze1541.specs.Odd.{is_validate, IsMadeAround, IsNotMadeAround};
 ghost use Rattle.yellowadze1541.specs.Changes.{form_of, IsRefusedNew, IsLossOf};
 
 use crate::commands::{unsaid, with_command};
-use crate::odd::or_around;
+use crate::odd::{is_validate, or_around};
 use crate::putting::with_files;
 use crate::shapes::{File, Lost, flag};
 use cbm_device::{DeviceRefusal, give, given, number};
@@ -39,15 +39,18 @@ pub extern "C" fn y1541_image_command(
         let m = start d false (tracks_of kind image.now) in let after = after_command text.now m in
         GivesBytes result out.old out.new needed.old needed.new
         (λ bytes. IsFine after.status × ImageHolds kind bytes after.disk) (IsUnmade image.now after after) }
-    // Of any disk: it is sound, or it is changed around its odd entries.
+    // Of any disk: it is sound, or it is changed around its odd entries; but VALIDATE changes sound ones alone.
     ensures sound { GivesBytes result out.old out.new needed.old needed.new
         (λ bytes. (IsAccepted image.now × IsSound image.now) ⊎ IsMadeAround image.now (after_command text.now) bytes)
         (λ r. IsUnchanged image.now r ⊎ IsSomeFault (IsNotMadeAround image.now (after_command text.now)) r) }
+    ensures validate { is_validate text.now ≡ true → GivesBytes result out.old out.new needed.old needed.new
+        (λ _. IsAccepted image.now × IsSound image.now) (IsUnchanged image.now) }
 {
     let mut said = unsaid();
     let made = with_command(alloc, image, text, &mut said);
     let change = DiskChange::Command(text);
-    number(given(or_around(alloc, image, made, &change), out, needed))
+    let made = or_around(alloc, image, made, &change, !is_validate(text));
+    number(given(made, out, needed))
 }
 
 /// A file is put on an image's disk, as an OPEN with this text, such as `NAME,P,W`, would write it, and the new image is given.
@@ -74,7 +77,8 @@ pub extern "C" fn y1541_image_put(
     let files = [File { text, bytes }];
     let made = with_files(alloc, image, &files, &mut put);
     let change = DiskChange::File(text, bytes);
-    number(given(or_around(alloc, image, made, &change), out, needed))
+    let made = or_around(alloc, image, made, &change, true);
+    number(given(made, out, needed))
 }
 
 /// The form of a number.

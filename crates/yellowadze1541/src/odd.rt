@@ -4,7 +4,7 @@ ghost use Rattle.cbm_device.specs.Answers.{GivesBytes};
 ghost use Rattle.cbm_odd.specs.Away.{IsNotAwayIn};
 ghost use Rattle.cbm_odd.specs.Changes.{IsChangedAround, IsNotChangedAround};
 ghost use Rattle.yellowadze1541.specs.Slots.{IsSomeFault};
-ghost use Rattle.yellowadze1541.specs.Odd.{is_unsound, IsLeftOf, IsWholeOf, IsNotWholeOf};
+ghost use Rattle.yellowadze1541.specs.Odd.{is_unsound, is_validate, IsLeftOf, IsWholeOf, IsNotWholeOf};
 
 use crate::slots::handed;
 use cbm_device::DeviceRefusal;
@@ -41,19 +41,29 @@ fn around(alloc: Global, image: &[u8], change: &DiskChange<'_>) -> Result<Vec<u8
     }
 }
 
-/// What a change made of an image; if its disk isn't sound, what the same change makes around its odd entries.
+/// Whether a command is VALIDATE. Beside odd entries it isn't carried out: blocks that no file uses may be the rest of what one of
+/// them led to.
+pub(crate) fn is_validate(text: &[u8]) -> bool
+    ensures { result ≡ is_validate text.now }
+{
+    text.first() == Some(&b'V')
+}
+
+/// What a change made of an image; if its disk isn't sound, and the change may be made around odd entries, what it makes so.
 pub(crate) fn or_around(
     alloc: Global,
     image: &[u8],
     made: Result<Vec<u8>, DeviceRefusal>,
     change: &DiskChange<'_>,
+    may_go_around: bool,
 ) -> Result<Vec<u8>, DeviceRefusal>
     ensures same { is_unsound made ≡ false → result ≡ made }
-    ensures around { is_unsound made ≡ true → MatchResult result (λ v. IsChangedAround image.now change.now v.items)
+    ensures stays { may_go_around ≡ false → result ≡ made }
+    ensures around { is_unsound made ≡ true → may_go_around ≡ true → MatchResult result (λ v. IsChangedAround image.now change.now v.items)
         (IsSomeFault (IsNotChangedAround image.now change.now)) }
 {
     match made {
-        Err(DeviceRefusal::Unsound) => around(alloc, image, change),
+        Err(DeviceRefusal::Unsound) if may_go_around => around(alloc, image, change),
         Ok(new) => Ok(new),
         Err(refusal) => Err(refusal),
     }

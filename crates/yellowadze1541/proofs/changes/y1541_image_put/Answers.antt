@@ -1,4 +1,4 @@
-use Rattle.std.proofs.Common.{◌≡◌, ◌⊎◌, false, refl, rules, to_z, of_z, w32}
+use Rattle.std.proofs.Common.{◌≡◌, ◌⊎◌, false, refl, true, rules, to_z, of_z, w32}
 use Rattle.cbm_machine.specs.Machines.{start}
 use Rattle.cbm_image.specs.Images.{kind_of, tracks_of, ImageHolds}
 use Rattle.cbm_shell.specs.Changing.{IsFine}
@@ -23,9 +23,9 @@ returns-clause-made c = λ d h.
     let bytes = c.args.bytes in
     let m = start d false (tracks_of (kind_of image) image) in
     let after = after_put text.now bytes.now m in
-    gives (λ v. v.items) (λ b. IsFine after.status × ImageHolds (kind_of image) b after.disk) (IsUnmade image (opened_for text.now m) after) c.or_around.result c.given.result n
+    gives (λ v. v.items) (λ b. IsFine after.status × ImageHolds (kind_of image) b after.disk) (IsUnmade image (opened_for text.now m) after) c.or_around-made.result c.given.result n
     c.args.out.now c.given.new.out c.args.needed.now c.given.new.needed
-    (kept_made c.with_files-made.result c.or_around.result (λ v. IsFine after.status × ImageHolds (kind_of image) v.items after.disk) (IsUnmade image (opened_for text.now m) after) c.or_around.ensures.same (λ never. never)
+    (kept_made c.with_files-made.result c.or_around-made.result (λ v. IsFine after.status × ImageHolds (kind_of image) v.items after.disk) (IsUnmade image (opened_for text.now m) after) c.or_around-made.ensures.same (λ never. never)
     (one_put (λ v. v.items) c.with_files-made.result image (record { text = text; bytes = bytes }) m c.with_files-made.new.put (c.with_files-made.ensures.made d h))) c.given.ensures same
 
 pub returns-clause-sound : goal.returns-clause-sound
@@ -34,7 +34,7 @@ returns-clause-sound c =
     let same : n ≡ answer c.given.result = search rules in
     let image = c.args.image.now in
     let after = after_put c.args.text.now c.args.bytes.now in
-    gives (λ v. v.items) (λ b. (IsAccepted image × IsSound image) ⊎ IsMadeAround image after b) (λ r. IsUnchanged image r ⊎ IsSomeFault (IsNotMadeAround image after) r) c.or_around.result c.given.result n
+    gives (λ v. v.items) (λ b. (IsAccepted image × IsSound image) ⊎ IsMadeAround image after b) (λ r. IsUnchanged image r ⊎ IsSomeFault (IsNotMadeAround image after) r) c.or_around-made.result c.given.result n
     c.args.out.now c.given.new.out c.args.needed.now c.given.new.needed
-    (any_made (λ v. v.items) c.with_files-made.result c.or_around.result image (File c.args.text c.args.bytes) after (IsAccepted image × IsSound image) (IsUnchanged image) (λ m. refl) c.or_around.ensures.same
-    c.or_around.ensures.around c.with_files-made.ensures.sound) c.given.ensures same
+    (any_made (λ v. v.items) c.with_files-made.result c.or_around-made.result true image (File c.args.text c.args.bytes) after (IsAccepted image × IsSound image) (IsUnchanged image) (λ m. refl) c.or_around-made.ensures.same c.or_around-made.ensures.stays
+    c.or_around-made.ensures.around c.with_files-made.ensures.sound) c.given.ensures same
