@@ -373,26 +373,32 @@ def main():
     return int(wrong > 0)
 
 
+# What cc1541 writes beside the file ONE, and whether the disk is changed then: an alias leads into ONE.
+PEERS = (
+    ("a file on the directory's track", ("-r", "18", "-t", "-f", "odd", "-w", "p.prg"), True),
+    ("another type", ("-T", "5", "-f", "odd", "-w", "p.prg"), True),
+    ("an alias", ("-f", "odd", "-l", "one"), False),
+)
+
+
 def peers(rng, room):
-    """Art of cc1541: a loop entry, a file on track 18, another type."""
+    """Odd entries of cc1541."""
     if not shutil.which("cc1541"):
-        print("skip: cc1541 isn't installed: its art isn't tried")
+        print("skip: cc1541 isn't installed: its odd entries aren't tried")
         return
     with open(f"{room}/p.prg", "wb") as out:
         out.write(rng.randbytes(900))
-    for name, extra in (("loop", ("-", "one", "-w", "p.prg", "-l", "again")), ("type", ("-T", "5", "-", "odd", "-w", "p.prg", "-T", "2", "-", "one", "-w", "p.prg"))):
-        image = f"{room}/peer.d64"
-        subprocess.run(["cc1541", "-q", "-n", "peer", *extra, image], check=False, capture_output=True, cwd=room)
-        if not os.path.exists(image):
-            continue
+    image = f"{room}/peer.d64"
+    for name, extra, is_changed in PEERS:
+        subprocess.run(["cc1541", "-q", "-n", "peer", "-f", "one", "-w", "p.prg", *extra, image], check=True, capture_output=True, cwd=room)
         before = open(image, "rb").read()
-        status, out, _ = run("check", image)
-        if "odd" not in out:
-            continue
-        odd = {slot: it for slot, it in enumerate(entries(before)) if it[3:8] in (b"AGAIN", b"ODD\xa0\xa0")}
+        odd = {slot: it for slot, it in enumerate(entries(before)) if it[3:7] == b"ODD\xa0"}
         status, _, said = run("rename", image, "ONE", "TWO")
         after = open(image, "rb").read()
-        is_so("peer.d64", f"cc1541: {name}", status == 0 and all(entry(after, slot) == it for slot, it in odd.items()), said)
+        if is_changed:
+            is_so("peer.d64", f"cc1541: {name}", status == 0 and len(odd) == 1 and all(entry(after, slot) == it for slot, it in odd.items()), said)
+        else:
+            is_so("peer.d64", f"cc1541: {name} is refused", status == 1 and "track " in said and after == before, said)
         os.unlink(image)
 
 
