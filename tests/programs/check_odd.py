@@ -251,6 +251,9 @@ def compare(disk, name, call, room):
             mark(rest, *where, free=False)
     is_so(disk.name, f"{name}: status", ran[0] == left[0], (ran, left))
     is_so(disk.name, f"{name}: as on what is left", new == with_odd(disk, rest), ran)
+    if "*" in call:
+        told = sum(line.endswith("is an odd entry, and stays as it is") for line in ran[2].splitlines())
+        is_so(disk.name, f"{name}: each odd entry that it means is told", told == (len(disk.odd) if ran[0] == 0 else 0), ran)
     if ran[0] == 0:
         is_so(disk.name, f"{name}: odd entries", not disk.is_left_alone(new), disk.is_left_alone(new))
     return new

@@ -8,8 +8,9 @@ use cbm_volume::Entry;
 use disk_basics::calls::{entries, name_text};
 use disk_basics::changing::{change, delete_in_slot};
 use disk_basics::host::{joined, read_image, read_to_change, replace};
-use disk_basics::odd::put_away;
+use disk_basics::odd::{odd_slots, put_away};
 use disk_basics::{Failure, in_memory, on_disk, petscii};
+use disk_facts::is_meant;
 use std::alloc::Global;
 use std::rt::Runtime;
 
@@ -139,6 +140,53 @@ fn tell_left<R: Runtime + AllocGlobal>(rt: &R, old: &[u8], new: &[u8]) -> Result
     Ok(())
 }
 
+/// Whether one of the words means an entry.
+fn is_meant_by(alloc: Global, entry: &Entry, charset: Charset, words: &[&str]) -> bool {
+    for word in words {
+        if let Ok(pattern) = petscii(alloc, charset, *word) {
+            if is_meant(entry, pattern.as_slice()) {
+                return true;
+            }
+        }
+    }
+    false
+}
+
+/// Reports the odd entries that the words mean: they stay as they are.
+fn tell_odd<R: Runtime + AllocGlobal>(
+    rt: &R,
+    new: &[u8],
+    charset: Charset,
+    words: &[&str],
+) -> Result<(), ShellFault> {
+    let entries = entries(rt.alloc(), new)?;
+    for slot in odd_slots(rt.alloc(), new)?.as_slice() {
+        let Some(entry) = entries.as_slice().get(*slot) else {
+            return Ok(());
+        };
+        if is_meant_by(rt.alloc(), entry, charset, words) {
+            let shown = name_text(rt.alloc(), charset, entry.name())?;
+            let name = shown.as_str();
+            let _ = eprintln!(rt; "disk1541: \"{name}\" is an odd entry, and stays as it is");
+        }
+    }
+    Ok(())
+}
+
+/// Reports what an edit leaves on the disk that its words mean.
+fn tell_rest<R: Runtime + AllocGlobal>(rt: &R, old: &[u8], new: &[u8], edit: &Edit<'_, '_>) {
+    match edit {
+        Edit::Delete(patterns, charset) => {
+            let _ = tell_left(rt, old, new);
+            let _ = tell_odd(rt, new, *charset, *patterns);
+        }
+        Edit::Lock(patterns, charset, _) => {
+            let _ = tell_odd(rt, new, *charset, *patterns);
+        }
+        Edit::Change(_) | Edit::Title(..) => {}
+    }
+}
+
 /// Edits an image, and saves it. Errors: those of `read_image`, and of `read_to_change` where files are deleted; `Word`, where a word can't be typed or is too long;
 /// `NoneDeleted` or `NoMatch`, where a pattern means no file; `Disk`, where the drive or the disk refuses it; `NoMemory`;
 /// those of `replace`.
@@ -153,8 +201,6 @@ pub fn save_edit<'a, R: Runtime + AllocGlobal>(
     };
     let new = edited(rt.alloc(), image, old.as_slice(), edit)?;
     replace(rt, image, old.as_slice(), new.as_slice())?;
-    if let Edit::Delete(..) = edit {
-        let _ = tell_left(rt, old.as_slice(), new.as_slice());
-    }
+    tell_rest(rt, old.as_slice(), new.as_slice(), edit);
     Ok(())
 }
