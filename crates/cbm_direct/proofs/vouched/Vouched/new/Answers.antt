@@ -1,0 +1,12 @@
+use Rattle.std.proofs.Common.{ap, sym, subst, ◌≡◌}
+use Rattle.std.specs.Prelude.{IfSome}
+use Rattle.cbm_direct.specs.Vouching.{ShowsDisk}
+use Rattle.cbm_direct.proofs.Sounds.{begun}
+use Rattle.cbm_direct.proofs.vouched.Vouched.new.Goals as goal
+
+pub invariant_of-result : goal.invariant_of-result
+invariant_of-result g c =
+    let seen = g.M.Medium.seen in
+    begun seen c.sound_since-sound_since.result (seen c.into_medium.result) c.new.result (ap seen c.new.ensures.medium)
+    (subst (λ x. IfSome c.sound_since-sound_since.result (λ n. (n ≡ (seen x).failures) × ShowsDisk (seen x))) (sym c.into_medium.ensures) c.sound_since-sound_since.ensures.shown)
+    c.new.ensures.stands

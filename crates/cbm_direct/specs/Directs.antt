@@ -1,0 +1,102 @@
+-- A drive with direct access: its DOS, its three buffers, and what is left of M-R's answer.
+use Rattle.std.specs.Prelude.{ℕ, ◌+◌, ◌≤◌, ◌≡◌, ◌≢◌, ◌⊎◌, ◌==◌, Bool, true, false, List, [], Option, Some, None, Ok, if◌then◌else◌}
+use Rattle.cbm_medium.specs.Place.{Place}
+use Rattle.cbm_medium.specs.Seen.{Seen}
+use Rattle.cbm_medium.specs.declared.fault.Trouble.{Trouble}
+use Rattle.cbm_machine.specs.declared.code.Code.{Code}
+use Rattle.cbm_machine.specs.declared.code.Code.TheVariants.{Fine, NoChannel, Syntax, DriveNotReady}
+use Rattle.cbm_machine.specs.declared.status.Status.{Status}
+use Rattle.cbm_machine.specs.Statuses.{plain, trouble_status}
+use Rattle.cbm_channel.specs.Standing.{Kept}
+use Rattle.cbm_channel.specs.Parts.{OnlyText}
+use Rattle.cbm_channel.specs.Shown.{shown_by}
+use Rattle.cbm_direct.specs.declared.asked.Block.{Block}
+use Rattle.cbm_direct.specs.declared.asked.Asked.{Asked}
+use Rattle.cbm_direct.specs.declared.asked.Asked.TheVariants.{Read, ReadCounted, Seek, Memory, Restart, Nothing, Unread}
+use Rattle.cbm_direct.specs.declared.memory.Reply.{Reply}
+use Rattle.cbm_direct.specs.Buffered.{Buffered, ThreeBuffers, three_free, has_buffer, on_buffer, shown_in, with_block, with_counted_block, at_place}
+use Rattle.cbm_direct.specs.Memories.{reply_shown, reply_behind}
+use Rattle.cbm_direct.specs.Vouching.{Vouching, IsUnread, OnlyStatus}
+
+-- the drive
+pub record Direct (M : Type 0) : Type 0 where
+  pub vouched : Vouching M
+  pub buffers : ThreeBuffers
+  pub reply : Option Reply
+
+-- The status has become this one; the buffers are these, and the reply is this. All else is as it was.
+pub record Tells {M : Type 0} (status : Status) (have : ThreeBuffers) (answer : Option Reply) (old new : Direct M) : Type 0 where
+  pub only : OnlyStatus status old.vouched.dos new.vouched.dos
+  pub since : new.vouched.sound_since ≡ old.vouched.sound_since
+  pub buffers : new.buffers ≡ have
+  pub reply : new.reply ≡ answer
+
+-- the status alone has become this one
+abbrev pub Answers : {M : Type 0} → Status → Direct M → Direct M → Type 0
+Answers status old new = Tells status old.buffers old.reply old new
+
+-- the sector of a command
+abbrev pub place_of : Block → Place
+place_of block = record { track = block.track; sector = block.sector }
+
+-- A SECTOR WAS READ into the channel's buffer, and the status is 00; or the status is why it wasn't, and the buffers are as they were.
+abbrev pub WasRead : {M : Type 0} → (M → Seen) → (List ℕ → Buffered → Buffered) → Block → Direct M → Direct M → Type 0
+WasRead seen fill block old new =
+    ((bytes : List ℕ) × ((seen old.vouched.dos.medium).content (place_of block) ≡ Ok bytes) × Tells (plain Fine) (on_buffer (fill bytes) block.channel old.buffers) old.reply old new)
+    ⊎ ((t : Trouble) × IsUnread (seen old.vouched.dos.medium) (place_of block) t × Answers (trouble_status t) old new)
+
+-- A command on a sector: 70 if the channel has no buffer, 74 if it names another drive, else the sector is read.
+abbrev pub IsReadAsked : {M : Type 0} → (M → Seen) → (List ℕ → Buffered → Buffered) → Block → Direct M → Direct M → Type 0
+IsReadAsked seen fill block old new =
+    ((has_buffer block.channel old.buffers ≡ false) × Answers (plain NoChannel) old new)
+    ⊎ ((has_buffer block.channel old.buffers ≡ true) × (block.drive ≢ 0) × Answers (plain DriveNotReady) old new)
+    ⊎ ((has_buffer block.channel old.buffers ≡ true) × (block.drive ≡ 0) × WasRead seen fill block old new)
+
+-- B-P: 70 if the channel has no buffer, else its next byte is the one of this place
+abbrev pub IsSought : {M : Type 0} → ℕ → ℕ → Direct M → Direct M → Type 0
+IsSought ch place old new =
+    ((has_buffer ch old.buffers ≡ false) × Answers (plain NoChannel) old new)
+    ⊎ ((has_buffer ch old.buffers ≡ true) × Tells (plain Fine) (on_buffer (at_place place) ch old.buffers) old.reply old new)
+
+-- the drive has started again: its medium stays, and no channel has a buffer
+pub record HasStarted {M : Type 0} (old new : Direct M) : Type 0 where
+  pub medium : new.vouched.dos.medium ≡ old.vouched.dos.medium
+  pub since : new.vouched.sound_since ≡ old.vouched.sound_since
+  pub buffers : new.buffers ≡ three_free
+  pub reply : new.reply ≡ None
+
+-- WHAT A COMMAND OF DIRECT ACCESS DOES
+abbrev pub IsCarriedOut : {M : Type 0} → (M → Seen) → Asked → Direct M → Direct M → Type 0
+IsCarriedOut seen (Read block) old new = IsReadAsked seen with_block block old new
+IsCarriedOut seen (ReadCounted block) old new = IsReadAsked seen with_counted_block block old new
+IsCarriedOut seen (Seek ch place) old new = IsSought ch place old new
+IsCarriedOut seen (Memory address count) old new = Tells (plain Fine) old.buffers (Some (record { address = address; left = count })) old new
+IsCarriedOut seen Restart old new = HasStarted old new
+IsCarriedOut seen Nothing old new = Answers (plain Fine) old new
+IsCarriedOut seen Unread old new = Answers (plain Syntax) old new
+
+-- what channel 15 shows: what is left of M-R's answer, else the status
+abbrev pub told_or : Option Reply → Option (ℕ × Bool) → Option (ℕ × Bool)
+told_or None told = told
+told_or (Some reply) told = Some (reply_shown reply)
+
+-- WHAT A CHANNEL SHOWS: channel 15 the answer of M-R or the status, a channel with a buffer its next byte, any other what the DOS shows
+abbrev pub direct_shown : {M : Type 0} → ℕ → Direct M → Option (ℕ × Bool)
+direct_shown ch d =
+    if ch == 15 then told_or d.reply (shown_by 15 d.vouched.dos)
+    else if has_buffer ch d.buffers then shown_in ch d.buffers
+    else shown_by ch d.vouched.dos
+
+-- A call of the DOS: it does this, and the buffers are as they were.
+pub record OfDos {M : Type 0} (does : Kept M → Kept M → Type 0) (answer : Option Reply) (old new : Direct M) : Type 0 where
+  pub call : does old.vouched.dos new.vouched.dos
+  pub buffers : new.buffers ≡ old.buffers
+  pub reply : new.reply ≡ answer
+
+-- nothing but the buffers has changed, which have become these
+abbrev pub OnlyBuffers : {M : Type 0} → ThreeBuffers → Direct M → Direct M → Type 0
+OnlyBuffers buffers old new = new ≡ record old { buffers = buffers }
+
+-- A command of direct access: what was put to channel 15 and M-R's answer go, and it is carried out.
+abbrev pub IsCommanded : {M : Type 0} → (M → Seen) → Asked → Direct M → Direct M → Type 0
+IsCommanded {M} seen asked old new = (mid : Direct M) × OfDos OnlyText None old mid × IsCarriedOut seen asked mid new
