@@ -1,5 +1,5 @@
 -- A drive with direct access: its DOS, its three buffers, and what is left of M-R's answer.
-use Rattle.std.specs.Prelude.{ℕ, ◌+◌, ◌≤◌, ◌≡◌, ◌≢◌, ◌⊎◌, ◌==◌, Bool, true, false, List, [], Option, Some, None, Ok, if◌then◌else◌}
+use Rattle.std.specs.Prelude.{ℕ, ◌+◌, ◌≤◌, ◌≡◌, ◌≢◌, ◌⊎◌, ◌==◌, Bool, true, false, List, [], Option, Some, None, Ok, sum_by, if◌then◌else◌}
 use Rattle.cbm_medium.specs.Place.{Place}
 use Rattle.cbm_medium.specs.Seen.{Seen}
 use Rattle.cbm_medium.specs.declared.fault.Trouble.{Trouble}
@@ -9,12 +9,18 @@ use Rattle.cbm_machine.specs.declared.status.Status.{Status}
 use Rattle.cbm_machine.specs.Statuses.{plain, trouble_status}
 use Rattle.cbm_channel.specs.Standing.{Kept}
 use Rattle.cbm_channel.specs.Parts.{OnlyText}
-use Rattle.cbm_channel.specs.Shown.{shown_by}
+use Rattle.cbm_channel.specs.Going.{Goes, closing}
+use Rattle.cbm_channel.specs.Opening.{OpensFrom}
+use Rattle.cbm_direct.specs.declared.wanted.Wanted.{Wanted}
+use Rattle.cbm_direct.specs.declared.wanted.Wanted.TheVariants.{Any, Number}
+use Rattle.cbm_direct.specs.declared.wanted.Wanted.TheVariants as wanted
+use Rattle.cbm_channel.specs.Shown.{shown_by, cost_on}
 use Rattle.cbm_direct.specs.declared.asked.Block.{Block}
 use Rattle.cbm_direct.specs.declared.asked.Asked.{Asked}
 use Rattle.cbm_direct.specs.declared.asked.Asked.TheVariants.{Read, ReadCounted, Seek, Memory, Restart, Nothing, Unread}
 use Rattle.cbm_direct.specs.declared.memory.Reply.{Reply}
-use Rattle.cbm_direct.specs.Buffered.{Buffered, ThreeBuffers, three_free, has_buffer, on_buffer, shown_in, with_block, with_counted_block, at_place}
+use Rattle.cbm_direct.specs.Buffered.{Buffered, ThreeBuffers, three_free, has_buffer, on_buffer, shown_in, with_block, with_counted_block, at_place, given_back, taken_count, with_any_for, with_number_for}
+use Rattle.cbm_direct.specs.Asking.{buffer_wanted}
 use Rattle.cbm_direct.specs.Memories.{reply_shown, reply_behind}
 use Rattle.cbm_direct.specs.Vouching.{Vouching, IsUnread, OnlyStatus}
 
@@ -100,3 +106,50 @@ OnlyBuffers buffers old new = new ≡ record old { buffers = buffers }
 -- A command of direct access: what was put to channel 15 and M-R's answer go, and it is carried out.
 abbrev pub IsCommanded : {M : Type 0} → (M → Seen) → Asked → Direct M → Direct M → Type 0
 IsCommanded {M} seen asked old new = (mid : Direct M) × OfDos OnlyText None old mid × IsCarriedOut seen asked mid new
+
+-- A channel was closed: its buffer was given back, or the DOS closed it.
+abbrev pub IsClosedHere : {M : Type 0} → (M → Seen) → ℕ → Direct M → Direct M → Type 0
+IsClosedHere seen ch old new =
+    ((has_buffer ch old.buffers ≡ true) × OnlyBuffers (on_buffer given_back ch old.buffers) old new)
+    ⊎ ((has_buffer ch old.buffers ≡ false) × OfDos (λ before after. Goes seen before after (closing ch)) old.reply old new)
+
+-- the buffers after an OPEN with `#`, if it gets one
+abbrev pub opened_by : Wanted → ℕ → ThreeBuffers → Option ThreeBuffers
+opened_by Any ch b = with_any_for ch b
+opened_by (Number n) ch b = with_number_for n ch b
+opened_by wanted.Unread ch b = None
+
+-- WHAT AN OPEN WITH `#` DOES to a closed channel: 30 if its text can't be read, 70 if all three buffers are taken or the one that it asks for is,
+-- else the buffer is the channel's, and the status is 00.
+abbrev pub IsBufferOpened : {M : Type 0} → Wanted → ℕ → Direct M → Direct M → Type 0
+IsBufferOpened w ch old new =
+    ((w ≡ wanted.Unread) × Answers (plain Syntax) old new)
+    ⊎ ((3 ≤ sum_by cost_on old.vouched.dos.channels + taken_count old.buffers) × Answers (plain NoChannel) old new)
+    ⊎ ((opened_by w ch old.buffers ≡ None) × Answers (plain NoChannel) old new)
+    ⊎ ((have : ThreeBuffers) × (opened_by w ch old.buffers ≡ Some have) × Tells (plain Fine) have old.reply old new)
+
+-- WHAT ANOTHER OPEN DOES to a closed channel while channels have buffers: what the DOS does, or 70; the disk has what the DOS left there.
+abbrev pub IsOpenedBeside : {M : Type 0} → (M → Seen) → ℕ → List ℕ → Direct M → Direct M → Type 0
+IsOpenedBeside {M} seen ch text old new =
+    Answers (plain NoChannel) old new
+    ⊎ OfDos (OpensFrom seen ch text) old.reply old new
+    ⊎ ((mid : Direct M) × (closed : Direct M) × OfDos (OpensFrom seen ch text) old.reply old mid
+    × OfDos (λ before after. Goes seen before after (closing ch)) old.reply mid closed × Answers (plain NoChannel) closed new)
+
+-- all channels were closed: the DOS's, and those with a buffer
+pub record AreAllClosed {M : Type 0} (seen : M → Seen) (old new : Direct M) : Type 0 where
+  pub dos : Goes seen old.vouched.dos new.vouched.dos (closing 15)
+  pub buffers : new.buffers ≡ (record { first = given_back old.buffers.first; second = given_back old.buffers.second; third = given_back old.buffers.third })
+  pub reply : new.reply ≡ None
+
+-- nothing but the buffers has changed, which were opened so
+abbrev pub OnlyBuffersOf : {M : Type 0} → Option ThreeBuffers → Direct M → Direct M → Type 0
+OnlyBuffersOf opened old new = (opened ≡ Some new.buffers) × OnlyBuffers new.buffers old new
+
+-- AN OPEN OF A CHANNEL FROM 0 TO 14: with `#` the channel is closed, and gets a buffer; any other is the DOS's, and while channels have buffers
+-- the channel is closed first.
+abbrev pub IsOpened : {M : Type 0} → (M → Seen) → ℕ → List ℕ → Direct M → Direct M → Type 0
+IsOpened {M} seen ch text old new =
+    ((w : Wanted) × (closed : Direct M) × (buffer_wanted text ≡ Some w) × IsClosedHere seen ch old closed × IsBufferOpened w ch closed new)
+    ⊎ ((buffer_wanted text ≡ None) × (taken_count old.buffers ≡ 0) × OfDos (OpensFrom seen ch text) old.reply old new)
+    ⊎ ((closed : Direct M) × (buffer_wanted text ≡ None) × IsClosedHere seen ch old closed × IsOpenedBeside seen ch text closed new)

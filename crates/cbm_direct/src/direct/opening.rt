@@ -24,18 +24,19 @@ fn needed(channel: u8, text: &[u8]) -> usize
 }
 
 impl<M: Medium> DirectDos<M> {
-    ghost use Rattle.std.specs.Prelude.{◌≡◌, ◌≤◌, ◌<◌, true, false, None, Some};
+    ghost use Rattle.std.specs.Prelude.{◌≡◌, ◌≤◌, ◌<◌, None, Some, MatchBool};
     ghost use Rattle.cbm_channel.specs.Opening.{OpensFrom};
-    ghost use Rattle.cbm_channel.specs.Going.{Goes, closing};
     ghost use Rattle.cbm_direct.specs.declared.asked.Asked.{Asked};
     ghost use Rattle.cbm_direct.specs.Asking.{command_asked};
-    ghost use Rattle.cbm_direct.specs.Buffered.{has_buffer, on_buffer, given_back, taken_count};
     ghost use Rattle.cbm_direct.specs.Vouching.{KeepsVouch};
-    ghost use Rattle.cbm_direct.specs.Directs.{OfDos, OnlyBuffers, IsCommanded};
+    ghost use Rattle.cbm_direct.specs.Directs.{OfDos, OnlyBuffersOf, IsCarriedOut, AreAllClosed, IsClosedHere, IsOpened, IsOpenedBeside, IsBufferOpened, opened_by};
 
     /// OPEN: on channel 15 the text is a command; `#` asks for a buffer; all else is the DOS's. A channel that is open is closed first.
     pub fn open(&mut self, channel: u8, text: &[u8])
         requires { channel ≤ 15 }
+        ensures direct { channel ≡ 15 → (a : Asked) → command_asked text.now ≡ Some a → IsCarriedOut M.seen a (record self.old { reply = None }) self.new }
+        ensures command { channel ≡ 15 → command_asked text.now ≡ None → OfDos (OpensFrom M.seen 15 text.now) None self.old self.new }
+        ensures opened { channel < 15 → IsOpened M.seen channel text.now self.old self.new }
         ensures keeps { KeepsVouch M.seen self.old.vouched self.new.vouched }
     {
         if channel == 15 {
@@ -53,6 +54,8 @@ impl<M: Medium> DirectDos<M> {
 
     /// A command as the text of an OPEN of channel 15.
     fn open_command(&mut self, text: &[u8])
+        ensures direct { (a : Asked) → command_asked text.now ≡ Some a → IsCarriedOut M.seen a (record self.old { reply = None }) self.new }
+        ensures dos { command_asked text.now ≡ None → OfDos (OpensFrom M.seen 15 text.now) None self.old self.new }
         ensures keeps { KeepsVouch M.seen self.old.vouched self.new.vouched }
     {
         self.reply = None;
@@ -65,6 +68,7 @@ impl<M: Medium> DirectDos<M> {
     /// OPEN of a closed channel with `#`: the status is 70 if no buffer is free or not the one that is asked for, 30 if the text can't
     /// be read, else 00.
     fn open_buffer(&mut self, channel: u8, wanted: Wanted)
+        ensures opened { IsBufferOpened wanted channel self.old self.new }
         ensures keeps { KeepsVouch M.seen self.old.vouched self.new.vouched }
     {
         if wanted == Wanted::Unread {
@@ -80,7 +84,8 @@ impl<M: Medium> DirectDos<M> {
 
     /// The buffer that is asked for becomes the channel's; false if it isn't free.
     fn has_opened(&mut self, channel: u8, wanted: Wanted) -> bool
-        ensures vouched { self.new.vouched ≡ self.old.vouched }
+        ensures opened { MatchBool result (OnlyBuffersOf (opened_by wanted channel self.old.buffers) self.old self.new)
+            ((opened_by wanted channel self.old.buffers ≡ None) × (self.new ≡ self.old)) }
     {
         match wanted {
             Wanted::Any => self.buffers.open_any(channel),
@@ -92,6 +97,7 @@ impl<M: Medium> DirectDos<M> {
     /// OPEN of a closed channel by the DOS while channels have buffers: 70 if more than three would be taken.
     fn open_beside(&mut self, channel: u8, text: &[u8])
         requires { channel < 15 }
+        ensures opened { IsOpenedBeside M.seen channel text.now self.old self.new }
         ensures keeps { KeepsVouch M.seen self.old.vouched self.new.vouched }
     {
         let others = self.vouched.cost() + self.buffers.count();
@@ -110,6 +116,8 @@ impl<M: Medium> DirectDos<M> {
     /// CLOSE of a channel: its buffer is given back. On 15 all channels are closed.
     pub fn close(&mut self, channel: u8)
         requires { channel ≤ 15 }
+        ensures one { channel < 15 → IsClosedHere M.seen channel self.old self.new }
+        ensures all { channel ≡ 15 → AreAllClosed M.seen self.old self.new }
         ensures keeps { KeepsVouch M.seen self.old.vouched self.new.vouched }
     {
         if channel == 15 {
@@ -123,6 +131,7 @@ impl<M: Medium> DirectDos<M> {
 
     /// CLOSE of channel 15.
     fn close_all(&mut self)
+        ensures all { AreAllClosed M.seen self.old self.new }
         ensures keeps { KeepsVouch M.seen self.old.vouched self.new.vouched }
     {
         self.vouched.close(15);
