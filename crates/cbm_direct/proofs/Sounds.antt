@@ -6,7 +6,7 @@ use Rattle.cbm_file.specs.Files.{Disk}
 use Rattle.cbm_bam.specs.Map.{geometry_of}
 use Rattle.cbm_volume.specs.Holding.{HoldsDisk, HasSoundLayout}
 use Rattle.cbm_volume.proofs.layouts.Meaning.{sound_means}
-use Rattle.cbm_machine.specs.Machines.{Machine, start}
+use Rattle.cbm_machine.specs.Machines.{Machine}
 use Rattle.cbm_channel.specs.Standing.{Kept, Stands}
 use Rattle.cbm_direct.specs.Vouching.{ShowsDisk, StandsIfSound}
 
@@ -14,13 +14,14 @@ use Rattle.cbm_direct.specs.Vouching.{ShowsDisk, StandsIfSound}
 pub shows_disk : (now : Seen) → HasSoundLayout now → ShowsDisk now
 shows_disk now l = sound_means (geometry_of now.tracks now.content) now.content l.0 l.1
 
--- at power up
-pub begun : {M : Type 0} (seen : M → Seen) (s : Option ℕ) (now : Seen) (k : Kept M) → seen k.medium ≡ now → IfSome s (λ n. (n ≡ now.failures) × ShowsDisk now)
-    → ((d : Disk) → HoldsDisk now.tracks now.content d → Stands seen k (start d now.protected now.tracks)) → StandsIfSound seen s k
-begun seen None now k same h stands = tt
-begun seen (Some n) now k same h stands = record {
+-- put in, with a machine for each disk that it may show
+pub begun : {M : Type 0} (seen : M → Seen) (s : Option ℕ) (now : Seen) (k : Kept M) (made : Disk → Machine) → seen k.medium ≡ now
+    → IfSome s (λ n. (n ≡ now.failures) × ShowsDisk now)
+    → ((d : Disk) → HoldsDisk now.tracks now.content d → Stands seen k (made d)) → StandsIfSound seen s k
+begun seen None now k made same h stands = tt
+begun seen (Some n) now k made same h stands = record {
   counted = (let e : (seen k.medium).failures ≡ n = rw same (sym h.0) in omega (arith, e));
-  stands = λ few. (start h.1.0 now.protected now.tracks, stands h.1.0 h.1.1);
+  stands = λ few. (made h.1.0, stands h.1.0 h.1.1);
 }
 
 module _ {M : Type 0} (seen : M → Seen) (old new : Kept M) where

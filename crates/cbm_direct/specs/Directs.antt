@@ -6,8 +6,9 @@ use Rattle.cbm_medium.specs.declared.fault.Trouble.{Trouble}
 use Rattle.cbm_machine.specs.declared.code.Code.{Code}
 use Rattle.cbm_machine.specs.declared.code.Code.TheVariants.{Fine, NoChannel, Syntax, DriveNotReady}
 use Rattle.cbm_machine.specs.declared.status.Status.{Status}
+use Rattle.cbm_machine.specs.Talking.{taken}
 use Rattle.cbm_machine.specs.Statuses.{plain, trouble_status}
-use Rattle.cbm_channel.specs.Standing.{Kept}
+use Rattle.cbm_channel.specs.Standing.{Kept, Leads}
 use Rattle.cbm_channel.specs.Parts.{OnlyText}
 use Rattle.cbm_channel.specs.Going.{Goes, closing}
 use Rattle.cbm_channel.specs.Opening.{OpensFrom}
@@ -22,7 +23,7 @@ use Rattle.cbm_direct.specs.declared.memory.Reply.{Reply}
 use Rattle.cbm_direct.specs.Buffered.{Buffered, ThreeBuffers, three_free, has_buffer, on_buffer, shown_in, with_block, with_counted_block, at_place, given_back, taken_count, with_any_for, with_number_for}
 use Rattle.cbm_direct.specs.Asking.{buffer_wanted}
 use Rattle.cbm_direct.specs.Memories.{reply_shown, reply_behind}
-use Rattle.cbm_direct.specs.Vouching.{Vouching, IsUnread, OnlyStatus}
+use Rattle.cbm_direct.specs.Vouching.{Vouching, IsUnread, OnlyStatus, StandsAtStart}
 
 -- the drive
 pub record Direct (M : Type 0) : Type 0 where
@@ -64,8 +65,9 @@ IsSought ch place old new =
     ((has_buffer ch old.buffers ≡ false) × Answers (plain NoChannel) old new)
     ⊎ ((has_buffer ch old.buffers ≡ true) × Tells (plain Fine) (on_buffer (at_place place) ch old.buffers) old.reply old new)
 
--- the drive has started again: its medium stays, and no channel has a buffer
-pub record HasStarted {M : Type 0} (old new : Direct M) : Type 0 where
+-- The drive has started again: its medium stays, no channel is open, and none has a buffer.
+pub record HasStarted {M : Type 0} (seen : M → Seen) (old new : Direct M) : Type 0 where
+  pub stands : StandsAtStart seen old.vouched.dos.medium new.vouched.dos
   pub medium : new.vouched.dos.medium ≡ old.vouched.dos.medium
   pub since : new.vouched.sound_since ≡ old.vouched.sound_since
   pub buffers : new.buffers ≡ three_free
@@ -77,7 +79,7 @@ IsCarriedOut seen (Read block) old new = IsReadAsked seen with_block block old n
 IsCarriedOut seen (ReadCounted block) old new = IsReadAsked seen with_counted_block block old new
 IsCarriedOut seen (Seek ch place) old new = IsSought ch place old new
 IsCarriedOut seen (Memory address count) old new = Tells (plain Fine) old.buffers (Some (record { address = address; left = count })) old new
-IsCarriedOut seen Restart old new = HasStarted old new
+IsCarriedOut seen Restart old new = HasStarted seen old new
 IsCarriedOut seen Nothing old new = Answers (plain Fine) old new
 IsCarriedOut seen Unread old new = Answers (plain Syntax) old new
 
@@ -153,3 +155,8 @@ IsOpened {M} seen ch text old new =
     ((w : Wanted) × (closed : Direct M) × (buffer_wanted text ≡ Some w) × IsClosedHere seen ch old closed × IsBufferOpened w ch closed new)
     ⊎ ((buffer_wanted text ≡ None) × (taken_count old.buffers ≡ 0) × OfDos (OpensFrom seen ch text) old.reply old new)
     ⊎ ((closed : Direct M) × (buffer_wanted text ≡ None) × IsClosedHere seen ch old closed × IsOpenedBeside seen ch text closed new)
+
+-- The byte that channel 15 showed was sent: the next one of M-R's answer, else one of the status.
+abbrev pub IsToldOn : {M : Type 0} → (M → Seen) → Option Reply → Direct M → Direct M → Type 0
+IsToldOn seen None old new = OfDos (λ before after. Leads seen before after (taken 15)) None old new
+IsToldOn seen (Some reply) old new = new ≡ record old { reply = reply_behind reply }

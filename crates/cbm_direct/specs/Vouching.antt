@@ -5,7 +5,7 @@ use Rattle.cbm_medium.specs.Seen.{Seen}
 use Rattle.cbm_medium.specs.declared.fault.Trouble.{Trouble}
 use Rattle.cbm_file.specs.Files.{Disk}
 use Rattle.cbm_volume.specs.Holding.{HoldsDisk}
-use Rattle.cbm_machine.specs.Machines.{Machine}
+use Rattle.cbm_machine.specs.Machines.{Machine, start}
 use Rattle.cbm_machine.specs.declared.status.Status.{Status}
 use Rattle.cbm_channel.specs.Standing.{Kept, Stands}
 
@@ -54,3 +54,7 @@ pub record OnlyStatus {M : Type 0} (status : Status) (old new : Kept M) : Type 0
   pub medium : new.medium ≡ old.medium
   pub channels : new.channels ≡ old.channels
   pub told : new.told ≡ (record { status = status; told = 0 })
+
+-- With a sound disk the drive represents the machine that is switched on with it.
+abbrev pub StandsAtStart : {M : Type 0} → (M → Seen) → M → Kept M → Type 0
+StandsAtStart seen medium k = (d : Disk) → HoldsDisk (seen medium).tracks (seen medium).content d → Stands seen k (start d (seen medium).protected (seen medium).tracks)

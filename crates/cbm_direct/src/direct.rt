@@ -33,12 +33,13 @@ impl<M: Medium> DirectDos<M> {
     ghost use Rattle.std.specs.Prelude.{◌≡◌, None, Some};
     ghost use Rattle.cbm_machine.specs.Statuses.{plain};
     ghost use Rattle.cbm_direct.specs.Buffered.{three_free};
-    ghost use Rattle.cbm_direct.specs.Vouching.{ShowsDisk, IsSoundSince, KeepsVouch};
+    ghost use Rattle.cbm_direct.specs.Vouching.{ShowsDisk, IsSoundSince, KeepsVouch, StandsAtStart};
     ghost use Rattle.cbm_direct.specs.Directs.{Answers, HasStarted};
 
     /// The drive at power up with this medium: no channel is open. It looks whether the disk is sound.
     pub fn new(medium: M) -> DirectDos<M>
         ensures medium { result.vouched.dos.medium ≡ medium }
+        ensures stands { StandsAtStart M.seen medium result.vouched.dos }
         ensures sound { ShowsDisk (M.seen medium) → result.vouched.sound_since ≡ Some (M.seen medium).failures }
         ensures buffers { result.buffers ≡ three_free }
         ensures reply { result.reply ≡ None }
@@ -52,10 +53,26 @@ impl<M: Medium> DirectDos<M> {
 
     /// The drive is switched off and on with its disk: no channel is open, and what was being written isn't closed.
     pub fn restart(&mut self)
-        ensures started { HasStarted self.old self.new }
+        ensures started { HasStarted M.seen self.old self.new }
         ensures keeps { KeepsVouch M.seen self.old.vouched self.new.vouched }
     {
         self.vouched.restart();
+        self.buffers = Buffers::free();
+        self.reply = None;
+    }
+
+    /// Another disk is put in: no channel is open, what was being written isn't closed, and the status stays. It looks whether the
+    /// disk is sound.
+    pub fn insert(&mut self, medium: M)
+    where
+        M: Drop,
+        ensures medium { self.new.vouched.dos.medium ≡ medium }
+        ensures told { self.new.vouched.dos.told ≡ self.old.vouched.dos.told }
+        ensures sound { ShowsDisk (M.seen medium) → self.new.vouched.sound_since ≡ Some (M.seen medium).failures }
+        ensures buffers { self.new.buffers ≡ three_free }
+        ensures reply { self.new.reply ≡ None }
+    {
+        self.vouched.insert(medium);
         self.buffers = Buffers::free();
         self.reply = None;
     }

@@ -44,11 +44,12 @@ impl<M: Medium> Vouched<M> {
     ghost use Rattle.cbm_machine.specs.Calls.{text_for};
     ghost use Rattle.cbm_channel.specs.Shown.{cost_on};
     ghost use Rattle.cbm_channel.specs.Shown.{shown_by};
-    ghost use Rattle.cbm_direct.specs.Vouching.{ShowsDisk, IsSoundSince, KeepsVouch};
+    ghost use Rattle.cbm_direct.specs.Vouching.{ShowsDisk, IsSoundSince, KeepsVouch, StandsAtStart};
 
     /// The drive at power up with this medium. It looks whether the disk is sound.
     pub fn new(medium: M) -> Vouched<M>
         ensures medium { result.dos.medium ≡ medium }
+        ensures stands { StandsAtStart M.seen medium result.dos }
         ensures sound { ShowsDisk (M.seen medium) → result.sound_since ≡ Some (M.seen medium).failures }
     {
         let volume = Volume::open(medium);
@@ -63,8 +64,24 @@ impl<M: Medium> Vouched<M> {
     pub fn restart(&mut self)
         ensures keeps { KeepsVouch M.seen self.old self.new }
         ensures medium { self.new.dos.medium ≡ self.old.dos.medium }
+        ensures stands { StandsAtStart M.seen self.old.dos.medium self.new.dos }
     {
         self.dos.restart();
+    }
+
+    /// Another disk is put in: no channel is open, what was being written isn't closed, and the status stays. It looks whether the
+    /// disk is sound.
+    pub fn insert(&mut self, medium: M)
+    where
+        M: Drop,
+        ensures medium { self.new.dos.medium ≡ medium }
+        ensures told { self.new.dos.told ≡ self.old.dos.told }
+        ensures sound { ShowsDisk (M.seen medium) → self.new.sound_since ≡ Some (M.seen medium).failures }
+    {
+        let volume = Volume::open(medium);
+        let sound_since = sound_since(&volume);
+        self.dos.insert(volume.into_medium());
+        self.sound_since = sound_since;
     }
 
     /// The medium, to look at.

@@ -15,7 +15,7 @@ impl<M: Medium> DirectDos<M> {
     ghost use Rattle.cbm_direct.specs.Asking.{command_asked};
     ghost use Rattle.cbm_direct.specs.Buffered.{has_buffer, on_buffer, gone_on, with_byte_put};
     ghost use Rattle.cbm_direct.specs.Vouching.{KeepsVouch};
-    ghost use Rattle.cbm_direct.specs.Directs.{OfDos, OnlyBuffers, IsCommanded, direct_shown};
+    ghost use Rattle.cbm_direct.specs.Directs.{OfDos, OnlyBuffers, IsCommanded, IsToldOn, direct_shown};
 
     /// A byte for a channel: if it has a buffer, the next byte there becomes this one.
     pub fn put(&mut self, channel: u8, byte: u8)
@@ -157,6 +157,9 @@ impl<M: Medium> DirectDos<M> {
     /// The byte that `peek` shows was sent; nothing happens if it shows none.
     pub fn taken(&mut self, channel: u8)
         requires { channel ≤ 15 }
+        ensures told { channel ≡ 15 → IsToldOn M.seen self.old.reply self.old self.new }
+        ensures buffer { channel ≢ 15 → has_buffer channel self.old.buffers ≡ true → OnlyBuffers (on_buffer gone_on channel self.old.buffers) self.old self.new }
+        ensures dos { channel ≢ 15 → has_buffer channel self.old.buffers ≡ false → OfDos (λ old new. Leads M.seen old new (taken channel)) self.old.reply self.old self.new }
         ensures keeps { KeepsVouch M.seen self.old.vouched self.new.vouched }
         // After a byte that isn't the last (EOI) another one waits.
         ensures next { (n : ℕ) → direct_shown channel self.old ≡ Some (n, false) → IsSome (direct_shown channel self.new) }
@@ -172,6 +175,7 @@ impl<M: Medium> DirectDos<M> {
 
     /// The byte that channel 15 shows was sent.
     fn told_taken(&mut self)
+        ensures told { IsToldOn M.seen self.old.reply self.old self.new }
         ensures keeps { KeepsVouch M.seen self.old.vouched self.new.vouched }
         ensures next { (n : ℕ) → direct_shown 15 self.old ≡ Some (n, false) → IsSome (direct_shown 15 self.new) }
     {
