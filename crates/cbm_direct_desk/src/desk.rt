@@ -1,7 +1,7 @@
 //! A drive with direct access, addressed by LISTEN, TALK and secondary addresses.
 
 use cbm_direct::DirectDos;
-use cbm_drive::{Act, Addressee, Ended, Machine, Pace, Secondary};
+use cbm_drive::{Act, Addressee, Ended, Machine, Pace, Restarts, Secondary, Takes};
 use cbm_iec::Role;
 use cbm_medium::Medium;
 use std::marker::Model;
@@ -221,4 +221,25 @@ impl<M: Medium> Machine for DirectDesk<M> {
     ghost byte = { λ x m n last s e. absurd s };
 
     ghost more = { never_more };
+}
+
+impl<M: Medium> Restarts for DirectDesk<M> {
+    ghost use Rattle.cbm_direct_desk.specs.DirectDesks.{IsStartedAgain};
+
+    ghost restarts = { λ old new. IsStartedAgain M.seen old new };
+
+    fn restart(&mut self) {
+        self.dos.restart();
+        self.addressee.restart();
+    }
+}
+
+impl<M: Medium + Drop> Takes<M> for DirectDesk<M> {
+    ghost use Rattle.cbm_direct_desk.specs.DirectDesks.{HasTaken};
+
+    ghost takes = { λ medium old new. HasTaken M.seen medium old new };
+
+    fn take(&mut self, medium: M) {
+        self.dos.insert(medium);
+    }
 }
