@@ -1,5 +1,6 @@
 -- A drive with direct access on the bus. It represents no machine of named files: what its sectors say isn't a function of such a machine.
 use Rattle.std.specs.Prelude.{ℕ, ◌≡◌, ◌≤◌, Bool, false, Option, Some, None}
+use Rattle.std.proofs.Common.{subst}
 use Rattle.cbm_medium.specs.Seen.{Seen}
 use Rattle.cbm_direct.specs.Directs.{Direct, HasStarted, direct_shown}
 use Rattle.cbm_drive.specs.Addressing.{Addressed, channel_said, paced, unaddressed}
@@ -19,9 +20,14 @@ direct_shown_from (Some channel) d = direct_shown channel d
 abbrev pub direct_desk_shows : {M : Type 0} → DirectAddressed M → Option (ℕ × Bool)
 direct_desk_shows d = direct_shown_from (channel_said d.addressed.role d.addressed.channel) d.dos
 
+-- there is nothing to say
+abbrev pub IsNothing : Option (ℕ × Bool) → Type 0
+IsNothing None = Unit {0}
+IsNothing (Some said) = ⊥
+
 -- A machine that has nothing to say has said no byte before another.
 abbrev pub never_more : (m : Unit {0}) (n : ℕ) → ◌≡◌ {A = Option (ℕ × Bool)} None (Some (n, false)) → (x : ℕ × Bool) × (◌≡◌ {A = Option (ℕ × Bool)} None (Some x))
-never_more m n e = absurd cc
+never_more m n e = absurd (subst IsNothing e tt)
 
 -- Each act leaves: whether the disk was sound when it was put in; failures only grow.
 pub record KeepsDesk {M : Type 0} (seen : M → Seen) (old new : DirectAddressed M) : Type 0 where
