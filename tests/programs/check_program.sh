@@ -37,6 +37,20 @@ is "OUT equals IMAGE" cmp -s hello.d64 out.d64
 case_of "a bad line" 1 "script line 2 refused: it begins with none of open, put, fill, get, close, status" "$drive" hello.d64 bad.script none.d64
 is "what was printed before it stays" grep -q "^status 73,CBM DOS V2.6 1541,00,00$" out.txt
 is "OUT isn't written" test ! -e none.d64
+printf 'open 2 #\nput 15 U1 2 0 18 1\nstatus\nget 2 2\nput 15 M-R\\c6\\e5\\02\nget 15 2\n' > direct.script
+case_of "direct access" 0 "" "$drive" hello.d64 direct.script out.d64 --direct
+is "reads a block and the ROM" test "$(cat out.txt)" = "$(printf 'status 00, OK,00,00\nget 2 00ff\nget 15 34b1 eoi')"
+is "direct access leaves the image as it is" cmp -s hello.d64 out.d64
+case_of "no direct access unasked" 0 "" "$drive" hello.d64 direct.script
+is "answers 31, and no block" test "$(head -n 2 out.txt)" = "$(printf 'status 31,SYNTAX ERROR,00,00\nget 2 none')"
+case_of "a trace of direct access" 0 "" "$drive" hello.d64 direct.script --direct --trace direct.trace
+is "has the bus's events" grep -q "^[0-9]* 8 clock" direct.trace
+printf 'lines\n0 atn pull\n0 clock pull\nend 30\n' > direct.lines
+"$drive" hello.d64 direct.lines > plain.txt; "$drive" --direct hello.d64 direct.lines > out.txt
+is "line changes are answered alike" cmp -s plain.txt out.txt
+is "line changes are answered" grep -q "^20 8 data pull$" out.txt
+"$drive" --direct "$here/../../examples/hello.d64" "$examples/listen.lines" > out.txt; "$drive" hello.d64 "$examples/listen.lines" > plain.txt
+is "LISTEN bit by bit is answered alike" cmp -s plain.txt out.txt
 case_of "a truncated image" 2 "image refused: 1: it is no G64, nor of a D64's size" "$drive" short.d64 hello.script none.d64
 case_of "no image" 3 "file fault: nothing.d64: entity not found" "$drive" nothing.d64 hello.script none.d64
 case_of "no script" 3 "file fault: nothing.script: entity not found" "$drive" hello.d64 nothing.script none.d64

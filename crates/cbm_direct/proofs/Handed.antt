@@ -10,7 +10,7 @@ use Rattle.cbm_channel.specs.Opening.{OpensFrom}
 use Rattle.cbm_machine.specs.Statuses.{plain}
 use Rattle.cbm_machine.specs.declared.code.Code.TheVariants.{NoChannel}
 use Rattle.cbm_direct.specs.Vouching.{Vouching}
-use Rattle.cbm_direct.specs.Directs.{Direct, OfDos, IsCommanded, IsCarriedOut, Answers, IsOpenedBeside}
+use Rattle.cbm_direct.specs.Directs.{Direct, OfDos, IsDirectCommand, IsAskedDone, DirectAnswers, IsOpenedBeside}
 
 -- of a drive that is known by its parts
 pub handed : {M : Type 0} (does : Kept M → Kept M → Type 0) (answer : Option Reply) (inside now new : Direct M) → inside ≡ now
@@ -19,8 +19,8 @@ handed does answer inside now new e h = subst (λ v. OfDos does answer v new) e 
 
 -- the command that was read is the one that is carried out
 pub commanded : {M : Type 0} (seen : M → Seen) (asked a : Asked) (old mid new : Direct M) → Some asked ≡ Some a
-    → OfDos OnlyText None old mid → IsCarriedOut seen asked mid new → IsCommanded seen a old new
-commanded seen asked a old mid new e h k = (mid, h, subst (λ x. IsCarriedOut seen x mid new) (cc) k)
+    → OfDos OnlyText None old mid → IsAskedDone seen asked mid new → IsDirectCommand seen a old new
+commanded seen asked a old mid new e h k = (mid, h, subst (λ x. IsAskedDone seen x mid new) (cc) k)
 
 -- the same if M-R's answer stays
 pub handed_beside : {M : Type 0} (does : Kept M → Kept M → Type 0) (inside now new : Direct M) → inside ≡ now
@@ -34,7 +34,7 @@ taken_over relates inside now new e h = subst (λ v. relates v new) e h
 module _ {M : Type 0} (seen : M → Seen) (ch : ℕ) (text : List ℕ) (inside now new : Direct M) (e : inside ≡ now) where
   -- an OPEN that takes more buffers than there are is closed again
   pub taken_back : (v w : Vouching M) → OpensFrom seen ch text inside.vouched.dos v.dos → Goes seen v.dos w.dos (closing ch)
-      → Answers (plain NoChannel) (record inside { vouched = w }) new → IsOpenedBeside seen ch text now new
+      → DirectAnswers (plain NoChannel) (record inside { vouched = w }) new → IsOpenedBeside seen ch text now new
   taken_back v w opens closes says = subst (λ x. IsOpenedBeside seen ch text x new) e (inr (inr (
     record inside { vouched = v },
     record inside { vouched = w },

@@ -21,9 +21,9 @@ without_gap [] = []
 without_gap (c ∷ text) = if is_gap c then without_gap text else c ∷ text
 
 -- the number that the first digits spell behind these, of which what is above 255 counts as 256
-abbrev pub spelled : ℕ → List ℕ → ℕ
-spelled n [] = n
-spelled n (c ∷ text) = if is_figure c then spelled (min 256 (10 * n + (c - 48))) text else n
+abbrev pub figures_spelled : ℕ → List ℕ → ℕ
+figures_spelled n [] = n
+figures_spelled n (c ∷ text) = if is_figure c then figures_spelled (min 256 (10 * n + (c - 48))) text else n
 
 -- the text behind its first digits
 abbrev pub without_figures : List ℕ → List ℕ
@@ -33,11 +33,11 @@ without_figures (c ∷ text) = if is_figure c then without_figures text else c �
 -- whether a text begins with a number of at most 255
 abbrev pub begins_with_number : List ℕ → Bool
 begins_with_number [] = false
-begins_with_number (c ∷ text) = is_figure c && nat_lt (spelled 0 (c ∷ text)) 256
+begins_with_number (c ∷ text) = is_figure c && nat_lt (figures_spelled 0 (c ∷ text)) 256
 
 -- THE FIRST NUMBER of a text, from 0 to 255: what may stand before it, and at least one digit
-abbrev pub number_in : List ℕ → Option ℕ
-number_in text = if begins_with_number (without_gap text) then Some (spelled 0 (without_gap text)) else None
+abbrev pub first_number : List ℕ → Option ℕ
+first_number text = if begins_with_number (without_gap text) then Some (figures_spelled 0 (without_gap text)) else None
 
 -- the text behind its first number
 abbrev pub behind_number : List ℕ → List ℕ
@@ -67,7 +67,7 @@ abbrev pub block_in : List ℕ → Option Block
 block_in text =
     let second = behind_number text in
     let third = behind_number second in
-    block_from (number_in text) (number_in second) (number_in third) (number_in (behind_number third))
+    block_from (first_number text) (first_number second) (first_number third) (first_number (behind_number third))
 
 -- a command on a sector, or that its numbers can't be read
 abbrev pub on_block : (Block → Asked) → Option Block → Asked
@@ -101,7 +101,7 @@ abbrev pub block_asked : List ℕ → List ℕ → Option Asked
 block_asked text [] = None
 block_asked text (c ∷ rest) =
     if c == 82 then Some (on_block ReadCounted (block_in (numbers_of 2 text)))
-    else if c == 80 then Some (place_from (number_in (numbers_of 2 text)) (number_in (behind_number (numbers_of 2 text))))
+    else if c == 80 then Some (place_from (first_number (numbers_of 2 text)) (first_number (behind_number (numbers_of 2 text))))
     else None
 
 -- B without a dash is nothing that direct access knows

@@ -27,16 +27,16 @@ is_free None = true
 is_free (Some own) = false
 
 -- opened for a channel: its bytes stay, and the next byte is byte 1
-abbrev pub opened_for : ℕ → Buffered → Buffered
-opened_for ch b = record b { channel = Some ch; pointer = 1; last = 255 }
+abbrev pub with_channel_open : ℕ → Buffered → Buffered
+with_channel_open ch b = record b { channel = Some ch; pointer = 1; last = 255 }
 
 -- given back
 abbrev pub given_back : Buffered → Buffered
 given_back b = record b { channel = None }
 
 -- it has a sector's bytes, and the next one is byte 0
-abbrev pub with_block : List ℕ → Buffered → Buffered
-with_block bytes b = record b { bytes = bytes; pointer = 0; last = 255 }
+abbrev pub with_sector_read : List ℕ → Buffered → Buffered
+with_sector_read bytes b = record b { bytes = bytes; pointer = 0; last = 255 }
 
 -- it has a sector's bytes, of which byte 0 says where EOI comes, and the next one is byte 1
 abbrev pub with_counted_block : List ℕ → Buffered → Buffered
@@ -47,8 +47,8 @@ abbrev pub at_place : ℕ → Buffered → Buffered
 at_place pointer b = record b { pointer = pointer }
 
 -- the next byte is the one behind; byte 0 comes behind byte 255
-abbrev pub gone_on : Buffered → Buffered
-gone_on b = record b { pointer = (b.pointer + 1) % 256 }
+abbrev pub pointer_on : Buffered → Buffered
+pointer_on b = record b { pointer = (b.pointer + 1) % 256 }
 
 -- the next byte becomes this one
 abbrev pub with_byte_put : ℕ → Buffered → Buffered
@@ -100,15 +100,15 @@ taken_count b = taken_one b.first.channel + taken_one b.second.channel + taken_o
 -- the first that is free becomes a channel's
 abbrev pub with_any_for : ℕ → ThreeBuffers → Option ThreeBuffers
 with_any_for ch b =
-    if is_free b.first.channel then Some (record b { first = opened_for ch b.first })
-    else if is_free b.second.channel then Some (record b { second = opened_for ch b.second })
-    else if is_free b.third.channel then Some (record b { third = opened_for ch b.third })
+    if is_free b.first.channel then Some (record b { first = with_channel_open ch b.first })
+    else if is_free b.second.channel then Some (record b { second = with_channel_open ch b.second })
+    else if is_free b.third.channel then Some (record b { third = with_channel_open ch b.third })
     else None
 
 -- the buffer of this number, 0 to 2, becomes a channel's, if it is free
 abbrev pub with_number_for : ℕ → ℕ → ThreeBuffers → Option ThreeBuffers
 with_number_for number ch b =
-    if number == 0 then (if is_free b.first.channel then Some (record b { first = opened_for ch b.first }) else None)
-    else if number == 1 then (if is_free b.second.channel then Some (record b { second = opened_for ch b.second }) else None)
-    else if number == 2 then (if is_free b.third.channel then Some (record b { third = opened_for ch b.third }) else None)
+    if number == 0 then (if is_free b.first.channel then Some (record b { first = with_channel_open ch b.first }) else None)
+    else if number == 1 then (if is_free b.second.channel then Some (record b { second = with_channel_open ch b.second }) else None)
+    else if number == 2 then (if is_free b.third.channel then Some (record b { third = with_channel_open ch b.third }) else None)
     else None

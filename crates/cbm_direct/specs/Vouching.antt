@@ -39,7 +39,7 @@ IsSoundSince None now = Unit {0}
 IsSoundSince (Some since) now = now.failures ≤ since → ShowsDisk now
 
 -- a sector isn't read: 66 if the disk has none such, else the fault that stands there; with its address
-pub record IsUnread (now : Seen) (p : Place) (t : Trouble) : Type 0 where
+pub record IsSectorUnread (now : Seen) (p : Place) (t : Trouble) : Type 0 where
   pub track : t.track ≡ p.track
   pub sector : t.sector ≡ p.sector
   pub why : ((t.code ≡ 66) × (Has now.tracks p → ⊥)) ⊎ (now.content p ≡ Err t.code)

@@ -39,7 +39,7 @@ impl Model for Buffer {
 
 impl Buffer {
     ghost use Rattle.std.specs.Prelude.{◌≡◌, ◌<◌, ◌≤◌};
-    ghost use Rattle.cbm_direct.specs.Buffered.{free_buffer, has_it, opened_for, given_back, with_block, with_counted_block, at_place, gone_on, with_byte_put, next_in};
+    ghost use Rattle.cbm_direct.specs.Buffered.{free_buffer, has_it, with_channel_open, given_back, with_sector_read, with_counted_block, at_place, pointer_on, with_byte_put, next_in};
 
     /// A buffer at power up: zeros that no channel has.
     pub fn free() -> Buffer
@@ -80,7 +80,7 @@ impl Buffer {
 
     /// This channel has it from now on; its bytes stay, and the next one is byte 1.
     pub fn open(&mut self, channel: u8)
-        ensures { self.new ≡ opened_for channel self.old }
+        ensures { self.new ≡ with_channel_open channel self.old }
     {
         self.channel = Some(channel);
         self.pointer = 1;
@@ -96,7 +96,7 @@ impl Buffer {
 
     /// It gets a sector's bytes. The next one is byte 0, and EOI comes with byte 255.
     pub fn load(&mut self, bytes: &[u8; 256])
-        ensures { self.new ≡ with_block bytes.now self.old }
+        ensures { self.new ≡ with_sector_read bytes.now self.old }
     {
         self.bytes = *bytes;
         self.pointer = 0;
@@ -121,7 +121,7 @@ impl Buffer {
 
     /// The next byte is the one behind; byte 0 comes behind byte 255.
     pub fn go_on(&mut self)
-        ensures { self.new ≡ gone_on self.old }
+        ensures { self.new ≡ pointer_on self.old }
     {
         self.pointer = self.pointer.wrapping_add(1);
     }

@@ -19,7 +19,7 @@ impl Model for Buffers {
 
 impl Buffers {
     ghost use Rattle.std.specs.Prelude.{◌≡◌, ◌<◌, ◌≤◌, true, false, IfSome, MatchOption, MatchBool, None, Some};
-    ghost use Rattle.cbm_direct.specs.Buffered.{three_free, has_buffer, on_buffer, shown_in, taken_count, with_any_for, with_number_for, given_back, with_block, with_counted_block, at_place, gone_on, with_byte_put};
+    ghost use Rattle.cbm_direct.specs.Buffered.{three_free, has_buffer, on_buffer, shown_in, taken_count, with_any_for, with_number_for, given_back, with_sector_read, with_counted_block, at_place, pointer_on, with_byte_put};
 
     /// Three buffers at power up.
     pub fn free() -> Buffers
@@ -105,7 +105,7 @@ impl Buffers {
 
     /// The channel's buffer gets a sector's bytes from byte 0 on.
     pub fn load(&mut self, channel: u8, bytes: &[u8; 256])
-        ensures { self.new ≡ on_buffer (with_block bytes.now) channel self.old }
+        ensures { self.new ≡ on_buffer (with_sector_read bytes.now) channel self.old }
     {
         if self.first.is_on(channel) {
             self.first.load(bytes);
@@ -144,7 +144,7 @@ impl Buffers {
 
     /// The next byte of the channel's buffer was sent.
     pub fn go_on(&mut self, channel: u8)
-        ensures { self.new ≡ on_buffer gone_on channel self.old }
+        ensures { self.new ≡ on_buffer pointer_on channel self.old }
     {
         if self.first.is_on(channel) {
             self.first.go_on();

@@ -34,7 +34,7 @@ impl<M: Medium> DirectDos<M> {
     ghost use Rattle.cbm_machine.specs.Statuses.{plain};
     ghost use Rattle.cbm_direct.specs.Buffered.{three_free};
     ghost use Rattle.cbm_direct.specs.Vouching.{ShowsDisk, IsSoundSince, KeepsVouch, StandsAtStart};
-    ghost use Rattle.cbm_direct.specs.Directs.{Answers, HasStarted};
+    ghost use Rattle.cbm_direct.specs.Directs.{DirectAnswers, HasStarted};
 
     /// The drive at power up with this medium: no channel is open. It looks whether the disk is sound.
     pub fn new(medium: M) -> DirectDos<M>
@@ -102,7 +102,7 @@ impl<M: Medium> DirectDos<M> {
 
     /// Sets the status.
     fn tell(&mut self, status: Status)
-        ensures done { Answers status self.old self.new }
+        ensures done { DirectAnswers status self.old self.new }
         ensures keeps { KeepsVouch M.seen self.old.vouched self.new.vouched }
     {
         self.vouched.tell(status);
@@ -110,7 +110,7 @@ impl<M: Medium> DirectDos<M> {
 
     /// Sets a status whose numbers are 0.
     fn say(&mut self, code: Code)
-        ensures done { Answers (plain code) self.old self.new }
+        ensures done { DirectAnswers (plain code) self.old self.new }
         ensures keeps { KeepsVouch M.seen self.old.vouched self.new.vouched }
     {
         self.tell(Status::plain(code));

@@ -1,6 +1,6 @@
 //! The numbers of a command.
 ghost use Rattle.std.specs.Prelude.{◌≡◌, ◌≤◌, true};
-ghost use Rattle.cbm_direct.specs.Asking.{is_gap, is_figure, without_gap, spelled, without_figures, begins_with_number, number_in, behind_number};
+ghost use Rattle.cbm_direct.specs.Asking.{is_gap, is_figure, without_gap, figures_spelled, without_figures, begins_with_number, first_number, behind_number};
 
 /// What may stand before a number.
 fn is_gap(byte: u8) -> bool
@@ -33,16 +33,16 @@ fn without_gap(text: &[u8]) -> &[u8]
 }
 
 /// The number that the first digits spell behind these; what is above 255 counts as 256.
-fn spelled(number: u32, text: &[u8]) -> u32
+fn figures_spelled(number: u32, text: &[u8]) -> u32
     requires { number ≤ 256 }
-    ensures value { result ≡ spelled number text.now }
+    ensures value { result ≡ figures_spelled number text.now }
     ensures bound { result ≤ 256 }
 {
     match text.split_first() {
         None => number,
         Some((first, rest)) => {
             if is_figure(*first) {
-                spelled((10 * number + u32::from(*first - b'0')).min(256), rest)
+                figures_spelled((10 * number + u32::from(*first - b'0')).min(256), rest)
             } else {
                 number
             }
@@ -72,17 +72,17 @@ fn begins_with_number(text: &[u8]) -> bool
 {
     match text.split_first() {
         None => false,
-        Some((first, _)) => is_figure(*first) && spelled(0, text) < 256,
+        Some((first, _)) => is_figure(*first) && figures_spelled(0, text) < 256,
     }
 }
 
 /// The first number of a text, from 0 to 255; None if it doesn't begin with one.
-pub(crate) fn number_in(text: &[u8]) -> Option<u8>
-    ensures { result ≡ number_in text.now }
+pub(crate) fn first_number(text: &[u8]) -> Option<u8>
+    ensures { result ≡ first_number text.now }
 {
     let text = without_gap(text);
     if begins_with_number(text) {
-        return Some(spelled(0, text) as u8);
+        return Some(figures_spelled(0, text) as u8);
     }
     None
 }

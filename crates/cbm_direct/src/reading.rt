@@ -1,11 +1,11 @@
 //! Reading the text of a command of direct access.
 ghost use Rattle.std.specs.Prelude.{◌≡◌, option_map};
 ghost use Rattle.cbm_machine.specs.Calls.{without_return};
-ghost use Rattle.cbm_direct.specs.Asking.{behind_byte, behind_number, number_in, numbers_of, block_in, on_block, place_from, start_asked, user_asked, block_asked, memory_read, memory_asked, asked_in, command_asked};
+ghost use Rattle.cbm_direct.specs.Asking.{behind_byte, behind_number, first_number, numbers_of, block_in, on_block, place_from, start_asked, user_asked, block_asked, memory_read, memory_asked, asked_in, command_asked};
 ghost use Rattle.cbm_direct.specs.declared.asked.Asked.TheVariants.{Read, ReadCounted};
 
 use crate::asked::{Asked, Block};
-use crate::numbers::{behind_number, number_in};
+use crate::numbers::{behind_number, first_number};
 
 /// The text behind the first such byte.
 fn behind_byte(byte: u8, text: &[u8]) -> Option<&[u8]>
@@ -40,10 +40,10 @@ fn block_in(text: &[u8]) -> Option<Block>
     let second = behind_number(text);
     let third = behind_number(second);
     match (
-        number_in(text),
-        number_in(second),
-        number_in(third),
-        number_in(behind_number(third)),
+        first_number(text),
+        first_number(second),
+        first_number(third),
+        first_number(behind_number(third)),
     ) {
         (Some(channel), Some(drive), Some(track), Some(sector)) => Some(Block {
             channel,
@@ -77,9 +77,9 @@ fn counted_asked(text: &[u8]) -> Asked
 
 /// B-P: a channel and a place.
 fn seek_asked(text: &[u8]) -> Asked
-    ensures { result ≡ place_from (number_in text.now) (number_in (behind_number text.now)) }
+    ensures { result ≡ place_from (first_number text.now) (first_number (behind_number text.now)) }
 {
-    match (number_in(text), number_in(behind_number(text))) {
+    match (first_number(text), first_number(behind_number(text))) {
         (Some(channel), Some(place)) => Asked::Seek(channel, place),
         _ => Asked::Unread,
     }

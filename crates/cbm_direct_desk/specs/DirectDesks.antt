@@ -40,7 +40,7 @@ pub record IsStartedAgain {M : Type 0} (seen : M → Seen) (old new : DirectAddr
   pub addressed : new.addressed ≡ paced old.addressed.pace (unaddressed old.addressed.device)
 
 -- It was given another disk: who is addressed and the status stay.
-pub record HasTaken {M : Type 0} (seen : M → Seen) (medium : M) (old new : DirectAddressed M) : Type 0 where
+pub record IsGivenDisk {M : Type 0} (seen : M → Seen) (medium : M) (old new : DirectAddressed M) : Type 0 where
   pub given : new.dos.vouched.dos.medium ≡ medium
   pub sound : ShowsDisk (seen medium) → new.dos.vouched.sound_since ≡ Some (seen medium).failures
   pub told : new.dos.vouched.dos.told ≡ old.dos.vouched.dos.told

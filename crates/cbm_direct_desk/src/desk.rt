@@ -235,9 +235,9 @@ impl<M: Medium> Restarts for DirectDesk<M> {
 }
 
 impl<M: Medium + Drop> Takes<M> for DirectDesk<M> {
-    ghost use Rattle.cbm_direct_desk.specs.DirectDesks.{HasTaken};
+    ghost use Rattle.cbm_direct_desk.specs.DirectDesks.{IsGivenDisk};
 
-    ghost takes = { λ medium old new. HasTaken M.seen medium old new };
+    ghost takes = { λ medium old new. IsGivenDisk M.seen medium old new };
 
     fn take(&mut self, medium: M) {
         self.dos.insert(medium);

@@ -10,13 +10,13 @@ use cbm_medium::{Address, Medium, Trouble};
 impl<M: Medium> DirectDos<M> {
     ghost use Rattle.std.specs.Prelude.{◌≡◌, Ok, IfOk, IfErr};
     ghost use Rattle.cbm_direct.specs.declared.asked.Asked.TheVariants.{Memory};
-    ghost use Rattle.cbm_direct.specs.Buffered.{with_block, with_counted_block};
-    ghost use Rattle.cbm_direct.specs.Vouching.{IsUnread, KeepsVouch};
-    ghost use Rattle.cbm_direct.specs.Directs.{WasRead, IsReadAsked, IsSought, IsCarriedOut};
+    ghost use Rattle.cbm_direct.specs.Buffered.{with_sector_read, with_counted_block};
+    ghost use Rattle.cbm_direct.specs.Vouching.{IsSectorUnread, KeepsVouch};
+    ghost use Rattle.cbm_direct.specs.Directs.{WasBlockRead, IsReadAsked, IsSought, IsAskedDone};
 
     /// Carries a command of direct access out.
     pub fn carry_out(&mut self, asked: Asked)
-        ensures carried { IsCarriedOut M.seen asked self.old self.new }
+        ensures carried { IsAskedDone M.seen asked self.old self.new }
         ensures keeps { KeepsVouch M.seen self.old.vouched self.new.vouched }
     {
         match asked {
@@ -36,7 +36,7 @@ impl<M: Medium> DirectDos<M> {
     /// U1: the channel's buffer gets a sector. The status is 70 if it has none, 74 if another drive is named, why the sector isn't
     /// read, or 00.
     fn read(&mut self, block: Block)
-        ensures done { IsReadAsked M.seen with_block block self.old self.new }
+        ensures done { IsReadAsked M.seen with_sector_read block self.old self.new }
         ensures keeps { KeepsVouch M.seen self.old.vouched self.new.vouched }
     {
         if !self.buffers.has(block.channel) {
@@ -50,7 +50,7 @@ impl<M: Medium> DirectDos<M> {
 
     /// The channel's buffer gets a sector.
     fn load(&mut self, block: Block)
-        ensures done { WasRead M.seen with_block block self.old self.new }
+        ensures done { WasBlockRead M.seen with_sector_read block self.old self.new }
         ensures keeps { KeepsVouch M.seen self.old.vouched self.new.vouched }
     {
         match self.sector(block.track, block.sector) {
@@ -78,7 +78,7 @@ impl<M: Medium> DirectDos<M> {
 
     /// The channel's buffer gets a sector whose byte 0 says which byte is the last.
     fn load_counted(&mut self, block: Block)
-        ensures done { WasRead M.seen with_counted_block block self.old self.new }
+        ensures done { WasBlockRead M.seen with_counted_block block self.old self.new }
         ensures keeps { KeepsVouch M.seen self.old.vouched self.new.vouched }
     {
         match self.sector(block.track, block.sector) {
@@ -93,7 +93,7 @@ impl<M: Medium> DirectDos<M> {
     /// What a sector holds. Errors: 66 if the disk has none such, or the fault that stands there.
     fn sector(&self, track: u8, sector: u8) -> Result<[u8; 256], Trouble>
         ensures ok { IfOk result (λ bytes. (M.seen self.now.vouched.dos.medium).content (record { track = track; sector = sector }) ≡ Ok bytes) }
-        ensures err { IfErr result (IsUnread (M.seen self.now.vouched.dos.medium) (record { track = track; sector = sector })) }
+        ensures err { IfErr result (IsSectorUnread (M.seen self.now.vouched.dos.medium) (record { track = track; sector = sector })) }
     {
         let medium = self.vouched.medium();
         if let Some(at) = Address::new(track, sector)
@@ -123,7 +123,7 @@ impl<M: Medium> DirectDos<M> {
 
     /// M-R: channel 15 sends these bytes before it tells 00.
     fn answer(&mut self, reply: Reply)
-        ensures done { IsCarriedOut M.seen (Memory reply.address reply.left) self.old self.new }
+        ensures done { IsAskedDone M.seen (Memory reply.address reply.left) self.old self.new }
         ensures keeps { KeepsVouch M.seen self.old.vouched self.new.vouched }
     {
         self.reply = Some(reply);

@@ -29,14 +29,14 @@ impl<M: Medium> DirectDos<M> {
     ghost use Rattle.cbm_direct.specs.declared.asked.Asked.{Asked};
     ghost use Rattle.cbm_direct.specs.Asking.{command_asked};
     ghost use Rattle.cbm_direct.specs.Vouching.{KeepsVouch};
-    ghost use Rattle.cbm_direct.specs.Directs.{OfDos, OnlyBuffersOf, IsCarriedOut, AreAllClosed, IsClosedHere, IsOpened, IsOpenedBeside, IsBufferOpened, opened_by};
+    ghost use Rattle.cbm_direct.specs.Directs.{OfDos, OnlyBuffersOf, IsAskedDone, AreAllClosed, IsClosedHere, IsOpenedHere, IsOpenedBeside, IsBufferOpened, buffer_opened_by};
 
     /// OPEN: on channel 15 the text is a command; `#` asks for a buffer; all else is the DOS's. A channel that is open is closed first.
     pub fn open(&mut self, channel: u8, text: &[u8])
         requires { channel ≤ 15 }
-        ensures direct { channel ≡ 15 → (a : Asked) → command_asked text.now ≡ Some a → IsCarriedOut M.seen a (record self.old { reply = None }) self.new }
+        ensures direct { channel ≡ 15 → (a : Asked) → command_asked text.now ≡ Some a → IsAskedDone M.seen a (record self.old { reply = None }) self.new }
         ensures command { channel ≡ 15 → command_asked text.now ≡ None → OfDos (OpensFrom M.seen 15 text.now) None self.old self.new }
-        ensures opened { channel < 15 → IsOpened M.seen channel text.now self.old self.new }
+        ensures opened { channel < 15 → IsOpenedHere M.seen channel text.now self.old self.new }
         ensures keeps { KeepsVouch M.seen self.old.vouched self.new.vouched }
     {
         if channel == 15 {
@@ -54,7 +54,7 @@ impl<M: Medium> DirectDos<M> {
 
     /// A command as the text of an OPEN of channel 15.
     fn open_command(&mut self, text: &[u8])
-        ensures direct { (a : Asked) → command_asked text.now ≡ Some a → IsCarriedOut M.seen a (record self.old { reply = None }) self.new }
+        ensures direct { (a : Asked) → command_asked text.now ≡ Some a → IsAskedDone M.seen a (record self.old { reply = None }) self.new }
         ensures dos { command_asked text.now ≡ None → OfDos (OpensFrom M.seen 15 text.now) None self.old self.new }
         ensures keeps { KeepsVouch M.seen self.old.vouched self.new.vouched }
     {
@@ -84,8 +84,8 @@ impl<M: Medium> DirectDos<M> {
 
     /// The buffer that is asked for becomes the channel's; false if it isn't free.
     fn has_opened(&mut self, channel: u8, wanted: Wanted) -> bool
-        ensures opened { MatchBool result (OnlyBuffersOf (opened_by wanted channel self.old.buffers) self.old self.new)
-            ((opened_by wanted channel self.old.buffers ≡ None) × (self.new ≡ self.old)) }
+        ensures opened { MatchBool result (OnlyBuffersOf (buffer_opened_by wanted channel self.old.buffers) self.old self.new)
+            ((buffer_opened_by wanted channel self.old.buffers ≡ None) × (self.new ≡ self.old)) }
     {
         match wanted {
             Wanted::Any => self.buffers.open_any(channel),

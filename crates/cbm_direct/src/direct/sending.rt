@@ -13,9 +13,9 @@ impl<M: Medium> DirectDos<M> {
     ghost use Rattle.cbm_channel.specs.Parts.{EndsGathered, OnlyText};
     ghost use Rattle.cbm_direct.specs.declared.asked.Asked.{Asked};
     ghost use Rattle.cbm_direct.specs.Asking.{command_asked};
-    ghost use Rattle.cbm_direct.specs.Buffered.{has_buffer, on_buffer, gone_on, with_byte_put};
+    ghost use Rattle.cbm_direct.specs.Buffered.{has_buffer, on_buffer, pointer_on, with_byte_put};
     ghost use Rattle.cbm_direct.specs.Vouching.{KeepsVouch};
-    ghost use Rattle.cbm_direct.specs.Directs.{OfDos, OnlyBuffers, IsCommanded, IsToldOn, direct_shown};
+    ghost use Rattle.cbm_direct.specs.Directs.{OfDos, OnlyBuffers, IsDirectCommand, IsToldOn, direct_shown};
 
     /// A byte for a channel: if it has a buffer, the next byte there becomes this one.
     pub fn put(&mut self, channel: u8, byte: u8)
@@ -34,7 +34,7 @@ impl<M: Medium> DirectDos<M> {
     /// The end of the bytes for a channel: on 15 a command is carried out.
     pub fn end_put(&mut self, channel: u8)
         requires { channel ≤ 15 }
-        ensures command { channel ≡ 15 → (a : Asked) → command_asked (text_for 15 self.old.vouched.dos.text) ≡ Some a → IsCommanded M.seen a self.old self.new }
+        ensures command { channel ≡ 15 → (a : Asked) → command_asked (text_for 15 self.old.vouched.dos.text) ≡ Some a → IsDirectCommand M.seen a self.old self.new }
         ensures dos { channel ≡ 15 → command_asked (text_for 15 self.old.vouched.dos.text) ≡ None →
             OfDos (EndsGathered M.seen 15) None self.old self.new }
         ensures other { channel ≢ 15 → OfDos (EndsGathered M.seen channel) self.old.reply self.old self.new }
@@ -49,7 +49,7 @@ impl<M: Medium> DirectDos<M> {
 
     /// What was put to channel 15 is a command.
     fn end_command(&mut self)
-        ensures command { (a : Asked) → command_asked (text_for 15 self.old.vouched.dos.text) ≡ Some a → IsCommanded M.seen a self.old self.new }
+        ensures command { (a : Asked) → command_asked (text_for 15 self.old.vouched.dos.text) ≡ Some a → IsDirectCommand M.seen a self.old self.new }
         ensures dos { command_asked (text_for 15 self.old.vouched.dos.text) ≡ None → OfDos (EndsGathered M.seen 15) None self.old self.new }
         ensures keeps { KeepsVouch M.seen self.old.vouched self.new.vouched }
     {
@@ -158,7 +158,7 @@ impl<M: Medium> DirectDos<M> {
     pub fn taken(&mut self, channel: u8)
         requires { channel ≤ 15 }
         ensures told { channel ≡ 15 → IsToldOn M.seen self.old.reply self.old self.new }
-        ensures buffer { channel ≢ 15 → has_buffer channel self.old.buffers ≡ true → OnlyBuffers (on_buffer gone_on channel self.old.buffers) self.old self.new }
+        ensures buffer { channel ≢ 15 → has_buffer channel self.old.buffers ≡ true → OnlyBuffers (on_buffer pointer_on channel self.old.buffers) self.old self.new }
         ensures dos { channel ≢ 15 → has_buffer channel self.old.buffers ≡ false → OfDos (λ old new. Leads M.seen old new (taken channel)) self.old.reply self.old self.new }
         ensures keeps { KeepsVouch M.seen self.old.vouched self.new.vouched }
         // After a byte that isn't the last (EOI) another one waits.
