@@ -1,7 +1,7 @@
 //! A drive alone on a cable with a host, whatever its machine is.
 ghost use Rattle.std.specs.Prelude.{◌≡◌, ◌≤◌, ◌<◌, ◌^◌};
 
-use cbm_direct_desk::DirectDesk;
+use cbm_direct_desk::{DirectDesk, disk_of, drive_with};
 use cbm_drive::{Bus, Desk, Drive, Event, Pace, Party, Player};
 use cbm_host::Performer;
 use cbm_medium::Steady;
@@ -73,6 +73,11 @@ impl<M: Steady> Cable for PlainCable<M> {
     }
 }
 
+/// A drive alone on a cable.
+fn bus_of<M: Steady>(drive: Drive<DirectDesk<M>>) -> Bus<DirectDesk<M>, 1> {
+    Bus::new([drive])
+}
+
 /// The cable of a drive with direct access.
 #[derive(Drop)]
 pub(crate) struct DirectCable<M: Steady> {
@@ -84,9 +89,8 @@ impl<M: Steady> DirectCable<M> {
     pub(crate) fn new(medium: M, device: u8, pace: Pace) -> DirectCable<M>
         requires { device ≤ 11 }
     {
-        let desk = DirectDesk::at_power_up(medium, device).with_pace(pace);
         DirectCable {
-            bus: Bus::new([Drive::new(desk, party_of(device, pace))]),
+            bus: bus_of(drive_with(medium, party_of(device, pace))),
         }
     }
 }
@@ -104,7 +108,6 @@ impl<M: Steady> Cable for DirectCable<M> {
 
     fn into_medium(self) -> M {
         let DirectCable { bus, .. } = self;
-        let [drive] = bus.into_drives();
-        drive.into_machine().into_medium()
+        disk_of(bus)
     }
 }
