@@ -19,10 +19,11 @@ class Drive:
     """Three buffers, and the commands that read, by the rules of docs/direct.md."""
 
     def __init__(self, image):
-        self.image, self.memory = image, [bytearray(256) for _ in range(3)]
+        self.image = image
         self.start()
 
     def start(self):
+        self.memory = [bytearray(256) for _ in range(3)]
         self.owner, self.at, self.last, self.reply, self.status = [None] * 3, [0] * 3, [255] * 3, b"", (73, 0, 0)
 
     def buffer(self, channel):
