@@ -10,8 +10,9 @@ ghost use Rattle.bus_judge.specs.Judging.{JudgeStands, IsTooSoon, NoneBegins, Is
 ghost use Rattle.bus_judge.specs.Views.{whole_of};
 ghost use Rattle.bus_judge.specs.declared.step.Mark.{Mark as OwnMark};
 
+pub(crate) mod awaiting;
 mod guessing;
-mod refusal;
+pub(crate) mod refusal;
 
 use crate::breach::{Breach, Cause};
 use crate::drives::{NotABus, check_drives};
