@@ -3,7 +3,7 @@ use Rattle.std.proofs.Common.{◌≡◌, ℕ, List, [], ◌∷◌, ◌++◌, ref
 use Rattle.bus_judge.specs.Judging.{JudgeStands, BeginsSo, and_then}
 use Rattle.bus_judge.specs.Varied.{Timed, timed, steps_in, ComesLater, AreInRange}
 use Rattle.bus_judge.specs.declared.judge.Judge.{Judge}
-use Rattle.bus_judge.specs.declared.range.Range.{Range}
+use Rattle.bus_judge.specs.declared.varied.range.Range.{Range}
 use Rattle.bus_judge.specs.declared.varied.Taken.{Taken}
 use Rattle.cbm_iec.specs.declared.event.Event.{Event}
 use Rattle.cbm_iec.specs.declared.party.Party.{Party}

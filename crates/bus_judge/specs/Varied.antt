@@ -2,7 +2,7 @@
 use Rattle.std.specs.Prelude.{◌≡◌, ℕ, ◌+◌, ◌≤◌, max, List, [], ◌∷◌, ◌++◌, nat_eq, if◌then◌else◌, Option, None, Some, slice_get, remove}
 use Rattle.bus_judge.specs.Judging.{JudgeStands, BeginsSo}
 use Rattle.bus_judge.specs.Views.{step_mark}
-use Rattle.bus_judge.specs.declared.range.Range.{Range}
+use Rattle.bus_judge.specs.declared.varied.range.Range.{Range}
 use Rattle.bus_judge.specs.declared.varied.Come.{Come}
 use Rattle.bus_judge.specs.declared.varied.Taken.{Taken}
 use Rattle.bus_judge.specs.declared.varied.VariedJudge.{VariedJudge}
@@ -33,10 +33,10 @@ abbrev pub steps_in : List Timed → List Step
 steps_in [] = []
 steps_in (t ∷ ts) = t.step ∷ steps_in ts
 
--- A change that is due in that session at a moment comes in the trace at another one. The trace was `lag` later than the session at the host's last change, and is `next` later from this one on: a drive's change comes so much later and up to its range more, and the host's change has waited for at most the greatest range.
+-- A change that is due in that session at a moment comes in the trace at another one. The trace was `lag` later than the session before it, and is `next` later from it on: the change is counted from changes of drives, of which each may be later by up to its range. The host's comes just so much later, a drive's up to its range more.
 abbrev pub ComesLater : List Range → ℕ → Who → ℕ → ℕ → ℕ → Type 0
-ComesLater rs lag Host due moment next = (moment ≡ due + next) × (lag ≤ next) × (next ≤ lag + widest rs)
-ComesLater rs lag (Drive d) due moment next = (due + lag ≤ moment) × (moment ≤ due + lag + range_at d rs) × (next ≡ lag)
+ComesLater rs lag Host due moment next = (lag ≤ next) × (next ≤ lag + widest rs) × (moment ≡ due + next)
+ComesLater rs lag (Drive d) due moment next = (lag ≤ next) × (next ≤ lag + widest rs) × (due + next ≤ moment) × (moment ≤ due + next + range_at d rs)
 
 -- each change comes so, one after another; after the last the trace is so much later than the session
 abbrev pub AreInRange : List Range → ℕ → List Timed → ℕ → Type 0
@@ -44,7 +44,7 @@ AreInRange rs lag [] end = end ≡ lag
 AreInRange rs lag (t ∷ ts) end = (next : ℕ) × (ComesLater rs lag t.step.event.who (moment_of t.step) t.moment next × AreInRange rs next ts end)
 
 -- these changes begin a session of drives that take their least time to react or more, within these ranges
-pub record BeginsInRange (bs : List Party) (rs : List Range) (trail : List Timed) : Type 0 where
+pub record BeginsVaried (bs : List Party) (rs : List Range) (trail : List Timed) : Type 0 where
   pub begins : BeginsSo bs (steps_in trail)
   pub end : ℕ
   pub in_range : AreInRange rs 0 trail end
@@ -65,7 +65,7 @@ pub record VariedStands (bs : List Party) (rs : List Range) (j : VariedJudge) (t
 -- one change more was taken, with which the trace begins a session in range; or none
 abbrev pub IsOneMore : List Party → List Range → VariedJudge → List Timed → Option Taken → Type 0
 IsOneMore bs rs j trail None = VariedStands bs rs j trail
-IsOneMore bs rs j trail (Some t) = VariedStands bs rs j (trail ++ timed t ∷ []) × BeginsInRange bs rs (trail ++ timed t ∷ [])
+IsOneMore bs rs j trail (Some t) = VariedStands bs rs j (trail ++ timed t ∷ []) × BeginsVaried bs rs (trail ++ timed t ∷ [])
 
 -- of the changes that wait the one that was taken is gone, and the others stay
 abbrev pub IsTakenOut : List Come → List Come → Option Taken → Type 0

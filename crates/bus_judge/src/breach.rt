@@ -58,7 +58,8 @@ impl Breach {
     }
 }
 
-fn line_name(line: Line) -> &'static str {
+/// The word of a line.
+pub fn line_name(line: Line) -> &'static str {
     match line {
         Line::Atn => "atn",
         Line::Clock => "clock",
@@ -66,7 +67,8 @@ fn line_name(line: Line) -> &'static str {
     }
 }
 
-fn way_name(way: Way) -> &'static str {
+/// The word of a change.
+pub fn way_name(way: Way) -> &'static str {
     match way {
         Way::Pull => "pull",
         Way::Free => "free",

@@ -1,21 +1,23 @@
 //! The judge of drives whose reactions vary. It judges the session of the quickest drives: each change of a drive may come
 //! later by up to its range, and what the host does after it is counted from it.
 
-ghost use Rattle.std.specs.Prelude.{◌≡◌, ◌∷◌, ◌++◌, [], List, IfSome, IfOk, OnOk};
-ghost use Rattle.bus_judge.specs.Varied.{VariedStands, BeginsInRange, ComesLater, Timed, timed, IsOneMore, IsTakenOut};
-ghost use Rattle.bus_judge.specs.declared.range.Range.{Range as OwnRange};
+ghost use Rattle.std.specs.Prelude.{true, ◌≡◌, ◌∷◌, ◌++◌, [], List, IfSome, IfOk, OnOk};
+ghost use Rattle.bus_judge.specs.Varied.{VariedStands, BeginsVaried, ComesLater, Timed, timed, IsOneMore, IsTakenOut};
+ghost use Rattle.bus_judge.specs.declared.varied.range.Range.{Range as OwnRange};
 ghost use Rattle.cbm_iec.specs.Ports.{change_at};
 ghost use Rattle.cbm_iec.specs.declared.party.Party.{Party as ThisParty};
 
 mod looking;
+pub(crate) mod range;
 mod waited;
 
 use crate::breach::{Breach, Cause};
 use crate::drives::NotABus;
 use crate::judge::Judge;
 use crate::judge::refusal::breach_of;
-use crate::range::{Range, Ranges, check_ranges, range_at, widest};
 use crate::step::{Mark, Step};
+pub use crate::varied::range::Range;
+use crate::varied::range::{Ranges, check_ranges, range_at, widest};
 use crate::varied::waited::{Waited, completed};
 use arrayvec::ArrayVec;
 use cbm_iec::{Change, Event, Party, Who};
@@ -56,9 +58,9 @@ pub struct Taken {
 pub struct VariedJudge {
     judge: Judge,
     ranges: Ranges,
-    /// How much later than the session of the quickest drives the trace is, since the host's last change.
+    /// How much later than the session of the quickest drives the trace is.
     lag: u64,
-    /// The changes of drives since then for which the host waits.
+    /// The changes of drives since then for which the next change waits.
     waited: Option<Waited>,
     waiting: Waiting,
     /// The last change that came, and when a drive's last came.
@@ -103,29 +105,35 @@ impl VariedJudge {
         })
     }
 
-    /// How much later than the session the trace is from a change on, if it is within the range there.
-    fn lag_from(&self, who: Who, due: u64, moment: u64) -> Option<u64>
-        ensures { IfSome result (λ next. ComesLater self.now.ranges.items self.now.lag who due moment next) }
+    /// Whether a change comes within its range, if the trace is `next` later than the session from it on.
+    fn is_in_range(&self, who: Who, due: u64, moment: u64, next: u64) -> bool
+        ensures { result ≡ true → ComesLater self.now.ranges.items self.now.lag who due moment next }
     {
-        let later = moment.checked_sub(due)?;
-        let more = later.checked_sub(self.lag)?;
-        match who {
-            Who::Host if more <= widest(&self.ranges) => Some(later),
-            Who::Drive(device) if more <= range_at(device, &self.ranges) => Some(self.lag),
-            _ => None,
-        }
+        let (Some(more), Some(earliest)) = (next.checked_sub(self.lag), due.checked_add(next))
+        else {
+            return false;
+        };
+        let Some(late) = moment.checked_sub(earliest) else {
+            return false;
+        };
+        let range = match who {
+            Who::Host => 0,
+            Who::Drive(device) => range_at(device, &self.ranges),
+        };
+        more <= widest(&self.ranges) && late <= range
     }
 
     /// Takes a change as one that is due at a moment.
     fn take(&mut self, event: Event, due: u64) -> Result<Taken, Breach>
         ensures stands { (bs : List ThisParty) → (rs : List OwnRange) → (trail : List Timed) → VariedStands bs rs self.old trail → IfOk result (λ taken. VariedStands bs rs self.new (trail ++ timed taken ∷ [])) }
-        ensures begins { (bs : List ThisParty) → (rs : List OwnRange) → (trail : List Timed) → VariedStands bs rs self.old trail → IfOk result (λ taken. BeginsInRange bs rs (trail ++ timed taken ∷ [])) }
+        ensures begins { (bs : List ThisParty) → (rs : List OwnRange) → (trail : List Timed) → VariedStands bs rs self.old trail → IfOk result (λ taken. BeginsVaried bs rs (trail ++ timed taken ∷ [])) }
         ensures event { IfOk result (λ taken. taken.event ≡ event) }
         ensures waiting { OnOk result (self.new.waiting ≡ self.old.waiting) }
     {
-        let Some(lag) = self.lag_from(event.who, due, event.change.moment) else {
+        let lag = self.base(event, due);
+        if !self.is_in_range(event.who, due, event.change.moment, lag) {
             return Err(breach_of(event, Cause::Unasked));
-        };
+        }
         let waited = self.waited_with(event, due);
         let mark = match self.judge.see(moved(event, due)) {
             Ok(mark) => mark,
@@ -136,7 +144,14 @@ impl VariedJudge {
         Ok(Taken { event, mark, due })
     }
 
-    /// The next change of the trace. Error: it comes before one that came, or at the moment of a drive's if it is the
+    /// When the last change came that was heard, in microseconds.
+    pub fn moment(&self) -> u64
+        ensures { result ≡ self.now.last }
+    {
+        self.last
+    }
+
+    /// The next change of the trace; `next` takes it, once those of its moment were heard. Error: it comes before one that came, or at the moment of a drive's if it is the
     /// host's; or too many wait.
     pub fn hear(&mut self, event: Event) -> Result<(), Breach>
         ensures stands { (bs : List ThisParty) → (rs : List OwnRange) → (trail : List Timed) → VariedStands bs rs self.old trail → VariedStands bs rs self.new trail }
@@ -191,7 +206,7 @@ impl VariedJudge {
             Some(_) if self.is_patient(self.last) => Ok(None),
             Some(come) => {
                 let event = come.event;
-                Err(self.broken(event))
+                Err(self.broken(event, self.last))
             }
         }
     }

@@ -84,4 +84,12 @@ impl Judge {
             _ => false,
         }
     }
+
+    /// Whether DATA's next pull by a drive begins a pulse for EOI: CLOCK is free for a byte, and its bits aren't begun.
+    pub(crate) fn may_pulse(&self) -> bool {
+        match self.whole {
+            Some(Whole::Byte { .. }) => self.counts.host_clocks == 1,
+            _ => false,
+        }
+    }
 }

@@ -5,11 +5,12 @@ ghost use Rattle.std.specs.Prelude.{◌≡◌};
 use crate::breach::{Breach, Cause};
 use crate::judge::awaiting::pulls_atn;
 use crate::judge::refusal::{breach_of, is_like};
-use crate::range::range_at;
+use crate::judge::scene::{Due, Scene};
 use crate::step::Step;
+use crate::varied::range::range_at;
 use crate::varied::waited::Waited;
 use crate::varied::{VariedJudge, moved};
-use cbm_iec::{Change, Event, Who};
+use cbm_iec::{Change, Event, Line, Way, Who};
 
 impl VariedJudge {
     /// How much later than the session the trace is from the changes on that the host waited for.
@@ -20,19 +21,51 @@ impl VariedJudge {
         }
     }
 
-    /// The changes that the host waits for, with a change that is due at a moment.
+    /// Whether a change begins the first pulse for EOI.
+    fn begins_pulses(&self, event: Event) -> bool {
+        let is_pulse = match self.waited {
+            None => false,
+            Some(waited) => waited.is_pulse,
+        };
+        event.change.line == Line::Data
+            && event.change.way == Way::Pull
+            && self.judge.may_pulse()
+            && !is_pulse
+    }
+
+    /// How much later than the session the trace is at the changes from which one is counted: of a drive the host's
+    /// last, and at a pulse for EOI the last release of DATA; of the host those that it waited for, and at a pull of
+    /// ATN that comes in place of a drive's change as much as may be.
+    pub(crate) fn base(&self, event: Event, due: u64) -> u64 {
+        match event.who {
+            Who::Host => event.change.moment.saturating_sub(due),
+            Who::Drive(_) if self.begins_pulses(event) => self.lag_now(),
+            Who::Drive(_) => self.lag,
+        }
+    }
+
+    /// The changes that the next one waits for, with a change that is due at a moment.
     pub(crate) fn waited_with(&self, event: Event, due: u64) -> Option<Waited> {
+        let came = event.change.moment;
         match event.who {
             Who::Host => None,
+            Who::Drive(_) if self.begins_pulses(event) => {
+                Some(Waited::after(None, due, came, true))
+            }
             Who::Drive(device) if self.judge.waits_for(device) => {
-                Some(Waited::after(self.waited, due, event.change.moment))
+                let is_pulse = match self.waited {
+                    None => false,
+                    Some(waited) => waited.is_pulse,
+                };
+                Some(Waited::after(self.waited, due, came, is_pulse))
             }
             Who::Drive(_) => self.waited,
         }
     }
 
-    /// The place of a change that came and goes on with the session, and when it is due.
+    /// The place of the change that came, goes on with the session and is due first, and when it is due.
     pub(crate) fn ready(&self) -> Option<(usize, u64)> {
+        let mut found: Option<(usize, u64)> = None;
         for (place, come) in self.waiting.iter().enumerate() {
             let is_next = !self
                 .waiting
@@ -40,10 +73,13 @@ impl VariedJudge {
                 .take(place)
                 .any(|it| it.event.who == come.event.who);
             if is_next && let Some(due) = self.due_of(come.event) {
-                return Some((place, due));
+                found = match found {
+                    Some((other, first)) if first <= due => Some((other, first)),
+                    _ => Some((place, due)),
+                };
             }
         }
-        None
+        found
     }
 
     fn due_of(&self, event: Event) -> Option<u64> {
@@ -73,7 +109,8 @@ impl VariedJudge {
 
     /// A change of a drive comes when it is due, or up to its range later.
     fn drive_due(&self, event: Event, device: u8) -> Option<u64> {
-        let earliest = event.change.moment.checked_sub(self.lag)?;
+        let base = self.base(event, 0);
+        let earliest = event.change.moment.checked_sub(base)?;
         for more in 0..=range_at(device, &self.ranges) {
             let due = earliest.checked_sub(more)?;
             if self.judge.awaits(moved(event, due)) {
@@ -88,7 +125,7 @@ impl VariedJudge {
         match step.event.who {
             Who::Host => None,
             Who::Drive(device) => {
-                let earliest = step.moment().checked_add(self.lag)?;
+                let earliest = step.moment().checked_add(self.base(step.event, 0))?;
                 earliest.checked_add(range_at(device, &self.ranges))
             }
         }
@@ -102,18 +139,15 @@ impl VariedJudge {
         }
     }
 
-    /// What broke the session: the drive that is late, or the first change that doesn't go on with it.
-    pub(crate) fn broken(&mut self, event: Event) -> Breach {
+    /// What broke the session by a moment: the drive that is late, or the first change that doesn't go on with it.
+    pub(crate) fn broken(&mut self, event: Event, moment: u64) -> Breach {
         if let Some(step) = self.judge.due()
             && let Some(latest) = self.latest(step)
-            && latest < event.change.moment
+            && latest < moment
         {
             return self.late(step, latest);
         }
-        let lag = match event.who {
-            Who::Host => self.lag_now(),
-            Who::Drive(_) => self.lag,
-        };
+        let lag = self.lag_of(event);
         let due = event.change.moment.saturating_sub(lag);
         match self.judge.see(moved(event, due)) {
             Ok(_) => breach_of(event, Cause::Unasked),
@@ -140,7 +174,7 @@ impl VariedJudge {
             None => Ok(()),
             Some(come) => {
                 let event = come.event;
-                Err(self.broken(event))
+                Err(self.broken(event, moment.saturating_add(1)))
             }
         }
     }
@@ -170,7 +204,7 @@ impl VariedJudge {
 
     /// The drive's change that is due didn't come in time.
     fn late(&self, step: Step, latest: u64) -> Breach {
-        let first = step.moment().saturating_add(self.lag);
+        let first = step.moment().saturating_add(self.lag_of(step.event));
         for come in self.waiting.iter() {
             if is_like(step.event, come.event) {
                 return breach_of(come.event, Cause::Within(first, latest));
@@ -188,18 +222,46 @@ impl VariedJudge {
                 moment,
                 ..breach.change
             },
-            cause: self.shown_cause(breach.who, breach.cause, lag),
+            cause: self.shown_cause(breach, lag),
         }
     }
 
-    fn shown_cause(&self, who: Who, cause: Cause, lag: u64) -> Cause {
-        match cause {
+    fn shown_cause(&self, breach: Breach, lag: u64) -> Cause {
+        match breach.cause {
             Cause::Moved(due) => {
-                let first = due.saturating_add(self.lag);
-                Cause::Within(first, first.saturating_add(self.range_of(who)))
+                let first = due.saturating_add(lag);
+                Cause::Within(first, first.saturating_add(self.range_of(breach.who)))
             }
             Cause::Backwards(last) => Cause::Backwards(last.saturating_add(lag)),
             cause => cause,
+        }
+    }
+
+    /// How much later than the session the trace is where a change is due.
+    fn lag_of(&self, event: Event) -> u64 {
+        match event.who {
+            Who::Host => self.lag_now(),
+            Who::Drive(_) => self.base(event, 0),
+        }
+    }
+
+    /// Where the session stands that was seen so far, by the trace's moments.
+    pub fn scene(&self) -> Scene {
+        let scene = self.judge.scene();
+        let Some(due) = scene.next else {
+            return scene;
+        };
+        let lag = self.lag_of(due.event);
+        let moment = due.event.change.moment.saturating_add(lag);
+        let next = Due {
+            event: moved(due.event, moment),
+            is_known: due.is_known,
+            latest: moment.saturating_add(self.range_of(due.event.who)),
+        };
+        Scene {
+            turn: scene.turn,
+            bit: scene.bit,
+            next: Some(next),
         }
     }
 

@@ -12,11 +12,13 @@ pub struct Waited {
     last_came: u64,
     /// The host goes on by the first of them, as after the accept of a byte, and else by the last.
     is_first: bool,
+    /// They are the listeners' pulses for EOI.
+    pub is_pulse: bool,
 }
 
 impl Waited {
-    /// A change that was due at a moment and came then, after those that are known.
-    pub fn after(known: Option<Waited>, due: u64, came: u64) -> Waited {
+    /// A change that was due at a moment and came at another one, after those that are known.
+    pub fn after(known: Option<Waited>, due: u64, came: u64, is_pulse: bool) -> Waited {
         match known {
             None => Waited {
                 first_due: due,
@@ -24,6 +26,7 @@ impl Waited {
                 last_due: due,
                 last_came: came,
                 is_first: false,
+                is_pulse,
             },
             Some(known) => Waited {
                 first_due: known.first_due.min(due),
@@ -31,6 +34,7 @@ impl Waited {
                 last_due: known.last_due.max(due),
                 last_came: known.last_came.max(came),
                 is_first: false,
+                is_pulse,
             },
         }
     }
