@@ -44,12 +44,25 @@ case_of "a directory as script" 3 "file fault: ." "$drive" hello.d64 . none.d64
 case_of "no folder for OUT" 3 "file fault: no/out.d64: entity not found" "$drive" hello.d64 hello.script no/out.d64
 case_of "a directory as OUT" 3 "file fault: .: is a directory" "$drive" hello.d64 hello.script .
 case_of "too few words" 1 "" "$drive" hello.d64
+# Lines that end as those of DOS: the same is printed and saved, also without the last line feed. A return elsewhere stays.
+"$drive" hello.d64 hello.script > unix.txt
+for end in '\r\n' '\r'; do
+    { sed '$d' hello.script | awk '{ printf "%s\r\n", $0 }'; tail -n 1 hello.script | tr -d '\n'; printf "$end"; } > dos.script
+    case_of "a script of DOS" 0 "" "$drive" hello.d64 dos.script dos.d64
+    is "prints the same" cmp -s out.txt unix.txt
+    is "saves the same" cmp -s hello.d64 dos.d64
+done
+printf 'lines\n0 atn pull\nend 100\n' > wires.script
+"$drive" hello.d64 wires.script > unix.txt
+sed 's/$/\r/' wires.script > dos.script
+case_of "line changes of DOS" 0 "" "$drive" hello.d64 dos.script
+is "prints the same of line changes" cmp -s out.txt unix.txt
 # Why a line is refused: each of these is line 2, and the first flaw that it has.
 reason_of() {
     printf 'status\n%b\nstatus\n' "$1" > reason.script
     case_of "a line that is refused: $2" 1 "script line 2 refused: $2" "$drive" hello.d64 reason.script none.d64
 }
-reason_of 'get 0 5000\r' "it ends with a carriage return, as lines of DOS do: save the script with line feeds alone, or send it through \`tr -d '\\r'\`"
+reason_of 'get 0 50\r00' "after the channel get wants a count, 1 to 200000, and fill a count and two hexadecimal digits"
 reason_of ' status' "it begins with a space: take that away"
 reason_of "status$(printf '%1000d' 0)" "it has more than 1,000 bytes"
 reason_of 'load 0' "it begins with none of open, put, fill, get, close, status"

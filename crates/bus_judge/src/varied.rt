@@ -201,6 +201,9 @@ impl VariedJudge {
     fn wait(&mut self) -> Result<Option<Taken>, Breach>
         ensures { IfOk result (λ taken. (taken ≡ None) × (self.new ≡ self.old)) }
     {
+        if let Some(event) = self.too_soon() {
+            return Err(self.broken(event, 0));
+        }
         match self.waiting.first() {
             None => Ok(None),
             Some(_) if self.is_patient(self.last) => Ok(None),

@@ -139,6 +139,18 @@ impl VariedJudge {
         }
     }
 
+    /// The first change that waits, and comes before the one that is due next may.
+    pub(crate) fn too_soon(&self) -> Option<Event> {
+        let due = self.judge.due()?.moment();
+        for come in self.waiting.iter() {
+            let moment = come.event.change.moment;
+            if moment < due.saturating_add(self.lag_of(come.event)) {
+                return Some(come.event);
+            }
+        }
+        None
+    }
+
     /// What broke the session by a moment: the drive that is late, or the first change that doesn't go on with it.
     pub(crate) fn broken(&mut self, event: Event, moment: u64) -> Breach {
         if let Some(step) = self.judge.due()
