@@ -220,6 +220,10 @@ judged "a range above 60" 64 "error: a reaction is 1 to 60 microseconds" range.t
 judged "a range that goes back" 64 "error: a drive is DEVICE:REACTION or DEVICE:REACTION:PACE, as 8:20, and REACTION may be a range, as 10-40" range.trace --drive 8:40-10
 judged "a range and the wires alone" 64 "error: a range of reactions needs a trace of the parties' own lines: the wires alone don't say whose a change is" wires.vcd --drive 8:10-40
 judged "a range and a VCD of the parties" 0 "$("$drive" judge hello.vcd | tail -n 1)" hello.vcd --drive 8:10-40
+"$drive" judge hello.vcd > unix.txt
+sed 's/$/\r/' hello.vcd > dos.vcd
+"$drive" judge dos.vcd > dos.txt
+is "judge, a VCD of DOS: the same" cmp -s unix.txt dos.txt
 # The verdict as JSON.
 judged "JSON of a session" 0 '{"verdict":"session","moment":140}' range.trace --drive 8:10-40 --json
 judged "JSON of a breach" 1 '{"verdict":"breach","moment":340,"party":"host","device":null,"line":"clock","change":"pull","rule":"200 after T, 199 at most","place":"in attention","byte":1,"bit":null,"expected":{"party":"host","device":null,"line":"clock","change":"pull","from":null,"to":339},"trace_line":6}' start.trace --drive 8:10-40 --json
