@@ -103,7 +103,7 @@ PARTS = {
         ("a new image, and one of the other format", "cbm_shell", "new_image convert"),
         ("an image is checked, put in order, and looked at", "cbm_shell", "check validate info picture geos_blocks sector file_blocks"),
         ("entries locked, dressed, swapped; titles and art", "cbm_shell", "lock retitle add_art dress swap_entries"),
-        ("one file by its slot: another name, a lock, a copy, its end", "cbm_slots", "rename lock copy delete"),
+        ("one file by its slot: another name, a lock, another type, a copy, its end", "cbm_slots", "rename lock retype copy delete"),
         ("a disk with odd entries: they are put away, a change is made, they are put back", "cbm_odd", "put_away put_back change map_around"),
         ("disks and archives of other kinds", "cbm_sources", "of entries file"),
         ("a BASIC program on the screen", "cbm_basic", "listing is_program after_program programs_are_listed"),

@@ -5,7 +5,7 @@ use disk_basics::{Choice, Failure, WordFault};
 use disk_changes::{Blank, Build, Conversion, HostFiles};
 use disk_commands::{flag, given, option};
 use disk_compare::{Form, Wanted};
-use disk_edits::{Gone, Ordering, Pair};
+use disk_edits::{ErrorDeed, Gone, Pair};
 use disk_looks::{Description, Destination, Mapping, OneFile};
 use disk_reports::View;
 
@@ -70,6 +70,38 @@ fn two_names<'a>(words: &ArgMatches<'a>) -> Result<(&'a str, &'a str), Failure<'
     }
 }
 
+/// The files that DELETE, LOCK and UNLOCK are about: what `--only` says, else the words after the image.
+pub fn patterns<'m, 'a>(words: &'m ArgMatches<'a>) -> &'m [&'a str] {
+    match words.get_strs("only") {
+        Some(only) => only,
+        None => words.get_strs("PATTERN").unwrap_or(&[]),
+    }
+}
+
+/// The new type of a file, and how it is said: with a slot there is one word. Errors: `Word`, where one is missing.
+pub fn type_and_choice<'a>(
+    words: &ArgMatches<'a>,
+    charset: Charset,
+) -> Result<(&'a str, Choice<'a>), Failure<'a>> {
+    let has_slot = option(words, "slot").is_some();
+    match (option(words, "NAME"), option(words, "TYPE")) {
+        (Some(kind), None) if has_slot => Ok((kind, choice(words, "", charset))),
+        (Some(name), Some(kind)) if !has_slot => Ok((kind, choice(words, name, charset))),
+        _ => Err(Failure::Word(WordFault::NameAndType)),
+    }
+}
+
+/// What ERRORS does.
+pub fn error_deed(words: &ArgMatches<'_>) -> ErrorDeed {
+    if flag(words, "add") {
+        return ErrorDeed::Add;
+    }
+    if flag(words, "drop") {
+        return ErrorDeed::Drop(flag(words, "lossy"));
+    }
+    ErrorDeed::Show
+}
+
 /// One file, by its name or by its slot. Errors: `Word`, where it isn't said by one of them.
 fn one_choice<'a>(words: &ArgMatches<'a>, charset: Charset) -> Result<Choice<'a>, Failure<'a>> {
     if option(words, "NAME").is_some() == option(words, "slot").is_some() {
@@ -108,6 +140,7 @@ pub fn one_file<'a>(words: &ArgMatches<'a>, charset: Charset) -> Result<OneFile<
         output: given(words, "output"),
         replaces: flag(words, "replace"),
         salvages: flag(words, "salvage"),
+        is_cvt: flag(words, "cvt"),
     })
 }
 
@@ -117,6 +150,7 @@ pub fn place<'a>(words: &ArgMatches<'a>) -> Destination<'a> {
         folder: given(words, "DIR"),
         replaces: flag(words, "replace"),
         salvages: flag(words, "salvage"),
+        is_cvt: flag(words, "cvt"),
     }
 }
 
@@ -137,6 +171,7 @@ pub fn conversion<'a>(words: &ArgMatches<'a>) -> Conversion<'a> {
     Conversion {
         output: given(words, "OUT"),
         format: option(words, "format"),
+        tracks: option(words, "tracks"),
         is_lossy: flag(words, "lossy"),
         replaces: flag(words, "replace"),
     }
@@ -164,14 +199,6 @@ pub fn gone<'a>(words: &ArgMatches<'a>, charset: Charset) -> Gone<'a> {
         name: given(words, "NAME"),
         kind: option(words, "type").unwrap_or("prg"),
         charset,
-    }
-}
-
-/// How VALIDATE puts a disk in order.
-pub fn ordering(words: &ArgMatches<'_>) -> Ordering {
-    Ordering {
-        is_dry: flag(words, "dry-run"),
-        is_forced: flag(words, "force"),
     }
 }
 

@@ -132,6 +132,24 @@ pub fn lock_in_slot(
     }
 }
 
+/// The image whose file in a slot has another type. Errors: `Image`, `Trouble`, `NotFound`, `Refused` where it has records,
+/// `Unsound`, `Memory`.
+pub fn retype_in_slot(
+    alloc: Global,
+    image: &[u8],
+    slot: u8,
+    kind: FileType,
+) -> Result<Vec<u8>, ShellFault> {
+    match cbm_slots::retype(alloc, image, slot, kind) {
+        Err(ShellFault::Unsound(_)) => {
+            let away = put_away(alloc, image)?;
+            let changed = cbm_slots::retype(alloc, away.image.as_slice(), slot, kind)?;
+            put_back(alloc, image, &away, &changed)
+        }
+        made => made,
+    }
+}
+
 /// The image without the file in a slot. Errors: `Image`, `Trouble`, `NotFound`, `Refused`, `Unsound`, `Memory`.
 pub fn delete_in_slot(alloc: Global, image: &[u8], slot: u8) -> Result<Vec<u8>, ShellFault> {
     match cbm_slots::delete(alloc, image, slot) {

@@ -56,6 +56,16 @@ pub enum Failure<'a> {
     NoCircles(&'a str),
     /// An image has no error bytes.
     NoErrorBytes(&'a str),
+    /// An image has error bytes already.
+    HasErrorBytes(&'a str),
+    /// An image can't have error bytes.
+    NoErrorRoom(&'a str),
+    /// A file isn't one of GEOS.
+    NotGeos(&'a str),
+    /// A file of GEOS lies on a disk or in an archive of another kind, of which no CVT is made.
+    GeosElsewhere(&'a str),
+    /// A relative file has no other type.
+    RelativeType(&'a str),
     /// No file has the name or the slot that was said.
     NoFile(&'a str),
     /// A file is locked, and so isn't deleted or replaced.
@@ -184,6 +194,29 @@ impl<'a> Failure<'a> {
                 )
             }
             Failure::NoErrorBytes(name) => eprintln!(rt; "disk1541: {name} has no error bytes"),
+            Failure::HasErrorBytes(name) => {
+                eprintln!(rt; "disk1541: {name} has error bytes already")
+            }
+            Failure::NoErrorRoom(name) => {
+                eprintln!(rt;
+                    "disk1541: {name} can't have error bytes: a D64 of 35 tracks has them, and no other image here"
+                )
+            }
+            Failure::NotGeos(name) => {
+                eprintln!(rt;
+                    "disk1541: {name} is no file of GEOS, and so no CVT is made of it: leave --cvt out"
+                )
+            }
+            Failure::GeosElsewhere(name) => {
+                eprintln!(rt;
+                    "disk1541: {name}: a CVT is made of the files of a D64 or a G64 alone"
+                )
+            }
+            Failure::RelativeType(name) => {
+                eprintln!(rt;
+                    "disk1541: {name} is a relative file, and stays one: its records are found by side sectors, which no other type has"
+                )
+            }
             Failure::NoFile(name) => {
                 eprintln!(rt; "disk1541: no file of the disk has the name or the slot {name}")
             }
@@ -206,7 +239,7 @@ impl<'a> Failure<'a> {
             }
             Failure::GeosRecords(name) => {
                 eprintln!(rt;
-                    "disk1541: {name} is a file that GEOS keeps in records: `get` takes its index alone, and does so by --salvage"
+                    "disk1541: {name} is a file that GEOS keeps in records: `get --cvt` takes it whole, --salvage its index alone"
                 )
             }
             Failure::Records(name) => {

@@ -3,7 +3,7 @@ use crate::stored::{Stored, open_text, put_answer, with_stored};
 use cbm_shell::texts::Charset;
 use cbm_shell::{DiskChange, unwrapped};
 use disk_basics::changing::changes;
-use disk_basics::host::{is_standard, read_file, read_to_change, replace};
+use disk_basics::host::{is_standard, read_file, require_own_map};
 use disk_basics::{
     Failure, FileKind, WordFault, file_name, in_memory, is_wrapped_name, kind_of_file,
     name_of_file, require_name,
@@ -327,28 +327,28 @@ fn require_one<'a>(files: &[&str], put: &HostFiles<'a>) -> Result<(), Failure<'a
     Ok(())
 }
 
-/// Puts the files on the disk of an image, and saves it.
-fn save_files<'a, R: Runtime + AllocGlobal>(
-    rt: &R,
-    image: &'a str,
-    files: &[&'a str],
-    put: &HostFiles<'a>,
-) -> Result<(), Failure<'a>> {
-    let old = read_to_change(rt, image)?;
-    let new = put_all(rt, image, old.as_slice(), files, put)?;
-    replace(rt, image, old.as_slice(), new.as_slice())
-}
-
-/// Puts files of the host on the disk, all of them or none. Errors: `Word`, where standard input is wanted twice, one
-/// name is given for several files, or a name, a type or a length can't be; those of `read_to_change` and of `read_file`;
-/// `Disk`, where the drive or the disk refuses it; `NoMemory`; those of `replace`.
-pub fn put<'a, R: Runtime + AllocGlobal>(
-    rt: &R,
-    image: &'a str,
+/// Refuses words that don't fit together. The one error is `Word`, where standard input is wanted twice, or one name is given for
+/// several files.
+pub fn require_files<'a>(
+    image: &str,
     files: &[&'a str],
     put: &HostFiles<'a>,
 ) -> Result<(), Failure<'a>> {
     require_once(image, files)?;
-    require_one(files, put)?;
-    save_files(rt, image, files, put)
+    require_one(files, put)
+}
+
+/// The image with files of the host on its disk, all of them or none. Errors: those of `require_files` and of `read_file`;
+/// `OtherMap`, where Dolphin DOS has its map on the disk; `Word`, where a name, a type or a length can't be; `Disk`, where the drive
+/// or the disk refuses it; `NoMemory`.
+pub fn with_files<'a, R: Runtime + AllocGlobal>(
+    rt: &R,
+    image: &'a str,
+    old: &[u8],
+    files: &[&'a str],
+    put: &HostFiles<'a>,
+) -> Result<Vec<u8>, Failure<'a>> {
+    require_files(image, files, put)?;
+    require_own_map(image, old)?;
+    put_all(rt, image, old, files, put)
 }

@@ -229,10 +229,33 @@ pub const SALVAGE: Word = Word {
     ..FLAG
 };
 
+/// GET of a file of GEOS.
+pub const CVT: Word = Word {
+    name: "cvt",
+    help: "a file of GEOS as CVT, with its info block and its records",
+    excludes: &["salvage"],
+    ..FLAG
+};
+
+/// GET-ALL of files of GEOS.
+pub const CVT_ALL: Word = Word {
+    help: "files of GEOS as CVT, with their info blocks and their records",
+    ..CVT
+};
+
 /// ERRORS that drops them.
 pub const DROP: Word = Word {
     name: "drop",
     help: "save the image without its error bytes",
+    excludes: &["add"],
+    ..FLAG
+};
+
+/// ERRORS that adds them.
+pub const ADD: Word = Word {
+    name: "add",
+    help: "save the image with error bytes, each 1 (no error)",
+    excludes: &["drop"],
     ..FLAG
 };
 
@@ -325,6 +348,19 @@ pub const LOSSY: Word = Word {
     ..FLAG
 };
 
+/// ERRORS that drops those that tell of an error, too.
+pub const LOSSY_DROP: Word = Word {
+    help: "with --drop: also if some tell of an error",
+    ..LOSSY
+};
+
+/// How many tracks CONVERT's D64 has.
+pub const NEW_TRACKS: Word = Word {
+    help: "35 or 40: the D64 of a D64 with other tracks",
+    default: &[],
+    ..TRACKS
+};
+
 /// The files that PUT reads.
 pub const FILES: Word = Word {
     name: "FILE",
@@ -375,6 +411,38 @@ pub const MEANT: Word = Word {
     name: "PATTERN",
     help: "file names or patterns (`?` one character, `*` the rest)",
     action: ArgAction::Append,
+    is_needed: false,
+    ..NEEDED
+};
+
+/// The files of several images.
+pub const OF_ALL: Word = Word {
+    name: "only",
+    help: "file name or pattern, of which there may be several; then each PATTERN is one more IMAGE",
+    action: ArgAction::Append,
+    value: &["PATTERN"],
+    ..OPTION
+};
+
+/// The images that VALIDATE puts in order.
+pub const ORDERED: Word = Word {
+    help: "the disk images",
+    ..IMAGES
+};
+
+/// The type that RETYPE gives.
+pub const NEW_TYPE: Word = Word {
+    name: "TYPE",
+    help: "prg, seq or usr; with --slot it is the one word",
+    is_needed: false,
+    ..NEEDED
+};
+
+/// The commands that RUN carries out.
+pub const LINES: Word = Word {
+    name: "FILE",
+    help: "the commands, a line for each, without the image; standard input if it isn't said",
+    default: &["-"],
     is_needed: false,
     ..NEEDED
 };

@@ -5,11 +5,10 @@ use cbm_shell::{DiskChange, geos_of};
 use cbm_volume::Entry;
 use disk_basics::calls::entries;
 use disk_basics::changing::{change, delete_in_slot, lock_in_slot, rename_in_slot};
-use disk_basics::host::{joined, read_image, read_to_change, replace};
+use disk_basics::host::{joined, require_own_map};
 use disk_basics::spare::{has_name, named, sixteen, spare_name, taken, unspared, whole_name};
 use disk_basics::{Choice, Failure, WordFault, on_disk, petscii, slot_chosen, slot_number};
 use std::alloc::Global;
-use std::rt::Runtime;
 
 /// The most bytes of a name.
 const LONGEST: usize = 16;
@@ -29,9 +28,11 @@ pub enum Deed<'a> {
 
 /// A disk and its image's name.
 #[derive(Clone, Copy)]
-struct Desk<'a, 'b> {
-    image: &'a str,
-    bytes: &'b [u8],
+pub struct Desk<'a, 'b> {
+    /// The name.
+    pub image: &'a str,
+    /// The image's bytes.
+    pub bytes: &'b [u8],
 }
 
 /// The codes of a new name, whatever they are.
@@ -124,13 +125,24 @@ fn require_plain<'a>(entries: &[Entry], slot: usize, word: &'a str) -> Result<()
     }
 }
 
-/// The new image.
-fn done<'a>(
+/// Refuses to write the BAM of a disk on which another DOS has its map.
+fn require_map<'a>(desk: Desk<'a, '_>, deed: Deed<'_>) -> Result<(), Failure<'a>> {
+    match deed {
+        Deed::Copy(_) | Deed::Delete => require_own_map(desk.image, desk.bytes),
+        Deed::Rename(_) | Deed::Lock(_) => Ok(()),
+    }
+}
+
+/// The image after something was done with the file that is chosen. Errors: `OtherMap`, where the BAM is written and Dolphin DOS has
+/// its map on the disk; those of `slot_chosen`; `Word`, where a new name can't be; `Disk`, where the name is there already or the disk
+/// refuses it; `Locked`; `Records` and `GeosCopy`; `NoMemory`.
+pub fn done_with<'a>(
     alloc: Global,
     desk: Desk<'a, '_>,
     choice: Choice<'a>,
     deed: Deed<'a>,
 ) -> Result<Vec<u8>, Failure<'a>> {
+    require_map(desk, deed)?;
     let entries = on_disk(desk.image, entries(alloc, desk.bytes))?;
     let entries = entries.as_slice();
     let slot = slot_chosen(alloc, entries, choice)?;
@@ -154,34 +166,4 @@ fn done<'a>(
             on_disk(desk.image, lock_in_slot(alloc, desk.bytes, slot, is_locked))
         }
     }
-}
-
-/// The image that is changed: where its BAM is written, none with another DOS's map.
-fn read_for<'a, R: Runtime + AllocGlobal>(
-    rt: &R,
-    image: &'a str,
-    deed: Deed<'_>,
-) -> Result<Vec<u8>, Failure<'a>> {
-    match deed {
-        Deed::Copy(_) | Deed::Delete => read_to_change(rt, image),
-        Deed::Rename(_) | Deed::Lock(_) => read_image(rt, image),
-    }
-}
-
-/// Does something with the file of an image that is chosen, and saves the image. Errors: those of `read_image`, of
-/// `read_to_change` and of `slot_chosen`; `Word`, where a new name can't be; `Disk`, where the name is there already or the disk
-/// refuses it; `Locked`; `Records` and `GeosCopy`; `NoMemory`; those of `replace`.
-pub fn do_with<'a, R: Runtime + AllocGlobal>(
-    rt: &R,
-    image: &'a str,
-    choice: Choice<'a>,
-    deed: Deed<'a>,
-) -> Result<(), Failure<'a>> {
-    let old = read_for(rt, image, deed)?;
-    let desk = Desk {
-        image,
-        bytes: old.as_slice(),
-    };
-    let new = done(rt.alloc(), desk, choice, deed)?;
-    replace(rt, image, old.as_slice(), new.as_slice())
 }
