@@ -44,7 +44,7 @@ mkdir how_to
 cp "$examples/hello.d64" how_to
 printf '\001\010game' > how_to/game.prg
 printf 'level' > how_to/levels.seq
-printf "rename GAME START\ntitle 'OUR DISK'\n" > how_to/changes.txt
+printf "put game.prg\ntitle 'OUR DISK'\n" > how_to/changes.txt
 ln -s "$disk" how_to/disk1541
 sed -n '/^## How to/,/^## Exit/p' "$here/../../docs/disk1541.md" | grep -o '`disk1541 [^`]*`' | tr -d '`' > commands.txt
 while read -r line; do

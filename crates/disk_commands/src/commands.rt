@@ -204,8 +204,8 @@ const LOOKING: &[Command] = &[
     },
 ];
 
-/// The commands that make and change disks, in the order of help.
-const CHANGING: &[Command] = &[
+/// The commands that make disks and bring files to them, in the order of help.
+const MAKING: &[Command] = &[
     Command {
         verb: Verb::New,
         name: "new",
@@ -244,6 +244,10 @@ const CHANGING: &[Command] = &[
         about: "Copy files from another disk or archive",
         words: &[FROM, IMAGE, TRANSFERRED, REPLACE_NAME, DRY_RUN, CHARSET],
     },
+];
+
+/// The commands that change what is on disks, in the order of help.
+const CHANGING: &[Command] = &[
     Command {
         verb: Verb::Copy,
         name: "copy",
@@ -332,7 +336,12 @@ pub fn looking_commands() -> &'static [Command] {
     LOOKING
 }
 
-/// The commands that make and change disks, in the order of help.
+/// The commands that make disks and bring files to them, in the order of help.
+pub fn making_commands() -> &'static [Command] {
+    MAKING
+}
+
+/// The commands that change what is on disks, in the order of help.
 pub fn changing_commands() -> &'static [Command] {
     CHANGING
 }
@@ -349,7 +358,10 @@ fn verb_in(commands: &[Command], name: &str) -> Option<Verb> {
 
 /// The command of a name; None where there is none.
 pub fn verb_of(name: &str) -> Option<Verb> {
-    match verb_in(looking_commands(), name) {
+    if let Some(verb) = verb_in(looking_commands(), name) {
+        return Some(verb);
+    }
+    match verb_in(making_commands(), name) {
         Some(verb) => Some(verb),
         None => verb_in(changing_commands(), name),
     }
