@@ -270,8 +270,9 @@ fn carry_all<'a, R: Runtime + AllocGlobal>(
     lines: &[u8],
     course: &mut Course,
 ) -> Result<(), Failure<'a>> {
-    for (place, line) in lines.split(|byte| *byte == b'\n').enumerate() {
-        let number = place.saturating_add(1);
+    let mut number: usize = 0;
+    for line in lines.split(|byte| *byte == b'\n') {
+        number = number.saturating_add(1);
         if let Err(status) = carry_line(rt, script, number, line, course) {
             tell_line(rt, script, number);
             return Err(Failure::Ended(status));
