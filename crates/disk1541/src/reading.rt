@@ -70,14 +70,13 @@ fn two_names<'a>(words: &ArgMatches<'a>) -> Result<(&'a str, &'a str), Failure<'
     }
 }
 
-/// The files that DELETE, LOCK and UNLOCK are about: what `--only` says, else the words after the image.
-pub fn patterns<'m, 'a>(words: &'m ArgMatches<'a>) -> &'m [&'a str] {
-    let name = if words.get_strs("only").is_some() {
+/// The word that says the files of DELETE, LOCK and UNLOCK: `--only`, if it is there, else those after the image.
+pub fn patterns_word(words: &ArgMatches<'_>) -> &'static str {
+    if words.get_strs("only").is_some() {
         "only"
     } else {
         "PATTERN"
-    };
-    words.get_strs(name).unwrap_or(&[])
+    }
 }
 
 /// The new type of a file, and how it is said: with a slot there is one word. Errors: `Word`, where one is missing.

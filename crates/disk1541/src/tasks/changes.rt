@@ -1,5 +1,5 @@
 //! What a command makes of the bytes of an image.
-use crate::reading::{choice, gone, host_files, pair, patterns, type_and_choice};
+use crate::reading::{choice, gone, host_files, pair, patterns_word, type_and_choice};
 use cbm_shell::texts::Charset;
 use clap::ArgMatches;
 use disk_basics::{Choice, Failure, WordFault};
@@ -65,7 +65,7 @@ fn one_chosen<'a>(
     charset: Charset,
 ) -> Result<Option<Choice<'a>>, Failure<'a>> {
     let named = choice(words, "", charset);
-    match patterns(words) {
+    match words.get_strs(patterns_word(words)).unwrap_or(&[]) {
         [] if named.slot.is_some() => Ok(Some(named)),
         [name] if named.is_exact && named.slot.is_none() => {
             Ok(Some(choice(words, *name, charset)))
@@ -113,11 +113,10 @@ fn lock_of<'a>(
 ) -> Result<Made, Failure<'a>> {
     match one_chosen(words, charset)? {
         Some(choice) => plain(done_with(alloc, desk, choice, Deed::Lock(is_locked))),
-        None => edit_of(
-            alloc,
-            desk,
-            &Edit::Lock(patterns(words), charset, is_locked),
-        ),
+        None => {
+            let patterns = words.get_strs(patterns_word(words)).unwrap_or(&[]);
+            edit_of(alloc, desk, &Edit::Lock(patterns, charset, is_locked))
+        }
     }
 }
 
@@ -128,7 +127,7 @@ fn delete_of<'a, R: Runtime + AllocGlobal>(
     charset: Charset,
     desk: Desk<'a, '_>,
 ) -> Result<Made, Failure<'a>> {
-    let patterns = patterns(words);
+    let patterns = words.get_strs(patterns_word(words)).unwrap_or(&[]);
     if flag(words, "force") {
         if patterns.is_empty() || !choice(words, "", charset).is_pattern() {
             return Err(Failure::Word(WordFault::NoFileName));
