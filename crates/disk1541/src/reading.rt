@@ -1,11 +1,13 @@
 //! The words of a command as plain values.
+use cbm_medium::Address;
 use cbm_shell::texts::Charset;
 use clap::ArgMatches;
+use disk_basics::placing::Head;
 use disk_basics::{Choice, Failure, WordFault};
 use disk_changes::{Blank, Build, Conversion, HostFiles};
 use disk_commands::{flag, given, option};
 use disk_compare::{Form, Wanted};
-use disk_edits::{Gone, Ordering, Pair};
+use disk_edits::{Gone, Ordering, Pair, Placement};
 use disk_looks::{Description, Destination, Mapping, OneFile};
 use disk_reports::View;
 
@@ -118,6 +120,47 @@ pub fn place<'a>(words: &ArgMatches<'a>) -> Destination<'a> {
         replaces: flag(words, "replace"),
         salvages: flag(words, "salvage"),
     }
+}
+
+/// How far apart blocks are laid. Errors: `Word`, if it isn't 1 to 20.
+fn interleave<'a>(word: &'a str) -> Result<u8, Failure<'a>> {
+    match word.parse::<u8>() {
+        Ok(interleave @ 1..=20) => Ok(interleave),
+        _ => Err(Failure::Word(WordFault::Interleave(word))),
+    }
+}
+
+/// The sector at which PLACE begins. Errors: `Word`, if no disk has it, or it is the directory's.
+fn first_sector<'a>(track: &'a str, sector: &'a str) -> Result<Address, Failure<'a>> {
+    let Ok(track_number) = track.parse::<u8>() else {
+        return Err(Failure::Word(WordFault::Sector(track)));
+    };
+    let Ok(sector_number) = sector.parse::<u8>() else {
+        return Err(Failure::Word(WordFault::Sector(sector)));
+    };
+    match Address::new(track_number, sector_number) {
+        Some(at) if at.track() == 18 => Err(Failure::Word(WordFault::DirectoryTrack)),
+        Some(at) => Ok(at),
+        None => Err(Failure::Word(WordFault::Sector(sector))),
+    }
+}
+
+/// The files that PLACE lays elsewhere, and where. Errors: `Word`, if a number can't be.
+pub fn placement<'a, 'c>(
+    words: &'c ArgMatches<'a>,
+    charset: Charset,
+) -> Result<Placement<'a, 'c>, Failure<'a>> {
+    let first = first_sector(given(words, "track"), given(words, "sector"))?;
+    Ok(Placement {
+        patterns: words.get_strs("PATTERN").unwrap_or(&[]),
+        charset,
+        head: Head {
+            track: first.track(),
+            sector: first.sector(),
+            interleave: interleave(given(words, "interleave"))?,
+        },
+        is_dry: flag(words, "dry-run"),
+    })
 }
 
 /// The disk that NEW makes.

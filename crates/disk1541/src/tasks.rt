@@ -6,7 +6,7 @@ mod look;
 use self::look::look_at_all;
 use crate::reading::{
     blank, building, charset, checking, choice, conversion, description, gone, host_files, listing,
-    mapping, one_file, ordering, pair, pattern, place, wanted,
+    mapping, one_file, ordering, pair, pattern, place, placement, wanted,
 };
 use cbm_shell::texts::Charset;
 use clap::ArgMatches;
@@ -16,8 +16,8 @@ use disk_changes::{build_image, make, put};
 use disk_commands::{Verb, flag, given, option, verb_of};
 use disk_compare::{Comparison, diff, show};
 use disk_edits::{
-    Deed, Edit, copy, delete_at_fault, do_with, error_bytes, key_of_word, put_in_order, rename,
-    save_edit, sort, undelete_file,
+    Deed, Edit, copy, delete_at_fault, do_with, error_bytes, key_of_word, place_files,
+    put_in_order, rename, save_edit, sort, undelete_file,
 };
 use disk_looks::{Progress, describe, show_map, show_sector, show_track};
 use disk_reports::{Look, View};
@@ -208,6 +208,7 @@ fn perform<'a, R: Runtime + AllocGlobal>(
         Verb::Rename => rename_with(rt, words, charset),
         Verb::Describe => describe(rt, image, description(words, charset)),
         Verb::Build => build_image(rt, &building(words, charset)),
+        Verb::Place => place_files(rt, image, &placement(words, charset)?),
         Verb::Sort => sort(rt, image, key_of_word(given(words, "by"))?),
         Verb::Delete => delete_with(rt, words, charset),
         Verb::Undelete => undelete_file(rt, image, &gone(words, charset)),

@@ -3,6 +3,7 @@
 ghost use Rattle.std.specs.Prelude.{◌≤◌, length};
 
 use crate::odd::{put_away, put_back, validate_around};
+use cbm_medium::Address;
 use cbm_shell::{DiskChange, Form, Looks, Order, Records, ShellFault, Swap};
 use cbm_volume::FileType;
 use std::alloc::{AllocError, Global};
@@ -151,6 +152,24 @@ fn delete_around(alloc: Global, image: &[u8], slot: u8) -> Result<Vec<u8>, Shell
     }
     let changed = cbm_slots::delete(alloc, away.image.as_slice(), slot)?;
     put_back(alloc, image, &away, &changed)
+}
+
+/// The image whose file in a slot lies at these places. Errors: `Image`, `Unsound`, `NotFound`, `NotClosed`, `Mistaken`, `Trouble`,
+/// `Memory`.
+pub fn place(
+    alloc: Global,
+    image: &[u8],
+    slot: u8,
+    places: &[Address],
+) -> Result<Vec<u8>, ShellFault> {
+    match cbm_place::place(alloc, image, slot, places) {
+        Err(ShellFault::Unsound(_)) => {
+            let away = put_away(alloc, image)?;
+            let changed = cbm_place::place(alloc, away.image.as_slice(), slot, places)?;
+            put_back(alloc, image, &away, &changed)
+        }
+        made => made,
+    }
 }
 
 /// The image with another title, of at most sixteen codes. Errors: `Image`, `Trouble`, `Memory`.

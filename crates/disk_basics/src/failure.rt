@@ -72,6 +72,10 @@ pub enum Failure<'a> {
     GeosRecords(&'a str),
     /// A relative file isn't copied.
     Records(&'a str),
+    /// A relative file isn't laid elsewhere.
+    RecordsPlace(&'a str),
+    /// Too few blocks are free for a file from the place on that was said.
+    NoPlace(&'a str),
     /// What went wrong was reported, and ends the program with this status.
     Ended(u8),
     /// No file of an image matches what is looked for.
@@ -212,6 +216,16 @@ impl<'a> Failure<'a> {
             Failure::Records(name) => {
                 eprintln!(rt;
                     "disk1541: {name} is a relative file, which the drive doesn't copy: take it out by `get -o FILE.r00`, and put that by --name"
+                )
+            }
+            Failure::RecordsPlace(name) => {
+                eprintln!(rt;
+                    "disk1541: {name} is a relative file, whose side sectors name its blocks: it stays where it is"
+                )
+            }
+            Failure::NoPlace(name) => {
+                eprintln!(rt;
+                    "disk1541: {name}: too few blocks are free from there on: take a lower track"
                 )
             }
             Failure::NoMemory => eprintln!(rt; "disk1541: memory ran out"),

@@ -18,6 +18,10 @@ const FORMATS: &str = " tells no format: say --format d64 or --format g64";
 /// Which sectors disks have.
 const SECTORS: &str = " (tracks are 1 to 40, sectors 0 to 20)";
 
+/// Where a recipe may lay files.
+const LAYING: &str =
+    "in a recipe, `interleave` is 1 to 20, `track` 1 to 40 but not 18, and `sector` one of that track";
+
 /// What a track may be.
 const TRACKS: &str = " is no track: take 1 to 42, and 17.5 for the half track after 17";
 
@@ -66,6 +70,12 @@ pub enum WordFault<'a> {
     Sector(&'a str),
     /// A G64 has 35 tracks.
     LongG64,
+    /// No interleave is that.
+    Interleave(&'a str),
+    /// No file of a recipe is laid there.
+    Laying,
+    /// No file is laid on the directory's track.
+    DirectoryTrack,
     /// A C64 has no such character set.
     Charset(&'a str),
     /// No image has such a format, or the name doesn't say it.
@@ -103,6 +113,9 @@ impl<'a> WordFault<'a> {
             WordFault::Charset(word) => ("", word, " is no character set: take upper or lower"),
             WordFault::Sector(word) => ("no disk has such a sector: ", word, SECTORS),
             WordFault::Track(word) => ("", word, TRACKS),
+            WordFault::Interleave(word) => ("an interleave is 1 to 20, not ", word, ""),
+            WordFault::DirectoryTrack => ("track 18 is the directory's: take another one", "", ""),
+            WordFault::Laying => (LAYING, "", ""),
             WordFault::LongG64 => ("a G64 has 35 tracks here, not 40", "", ""),
             WordFault::SameFormat(name) => ("", name, " has that format already"),
             WordFault::Format(word) => ("", word, FORMATS),

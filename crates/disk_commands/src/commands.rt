@@ -1,11 +1,12 @@
 //! The commands.
 use crate::words::{
     ALL, BASIC, BY, CHARSET, CIRCLE, CSV, DELETED, DROP, DRY_RUN, EXACT, FILES, FILES_FOLDER,
-    FIRST, FOLDER, FORCE, FORCE_FAULT, FORMAT, FROM, HEX, ID, IMAGE, IMAGES, JSON, JSON_OBJECT,
-    LOSSY, MEANT, NAME, NAME_ON_DISK, NAME_OR_SLOT, NEW, NEW_ID, NEW_TITLE, OLD, ONLY, OUT, OUTPUT,
-    RAW, RECIPE, RECORD, RECURSIVE, REPLACE_FILE, REPLACE_FILES, REPLACE_IMAGE, REPLACE_NAME,
-    SALVAGE, SCREEN_CHARSET, SECOND, SECTOR, SLOT, SVG, TEXT, TITLE, TRACK, TRACKS, TRANSFERRED,
-    TYPE, TYPE_AGAIN, WANTED, WITH_FILES, Word,
+    FIRST, FOLDER, FORCE, FORCE_FAULT, FORMAT, FROM, HEX, ID, IMAGE, IMAGES, INTERLEAVE, JSON,
+    JSON_OBJECT, LOSSY, MEANT, NAME, NAME_ON_DISK, NAME_OR_SLOT, NEW, NEW_ID, NEW_TITLE, OLD, ONLY,
+    OUT, OUTPUT, PLACED, RAW, RECIPE, RECORD, RECURSIVE, REPLACE_FILE, REPLACE_FILES,
+    REPLACE_IMAGE, REPLACE_NAME, SALVAGE, SCREEN_CHARSET, SECOND, SECTOR, SECTOR_FROM, SLOT, SVG,
+    TEXT, TITLE, TRACK, TRACK_FROM, TRACKS, TRANSFERRED, TYPE, TYPE_AGAIN, WANTED, WITH_FILES,
+    Word,
 };
 
 /// What help says at the end: examples, and the exit statuses.
@@ -66,6 +67,8 @@ pub enum Verb {
     Delete,
     /// Gives a deleted file back.
     Undelete,
+    /// Lays files on other blocks.
+    Place,
     /// Locks files against DELETE.
     Lock,
     /// Frees them.
@@ -281,6 +284,20 @@ const CHANGING: &[Command] = &[
         words: &[IMAGE, NEW_TITLE, NEW_ID, CHARSET],
     },
     Command {
+        verb: Verb::Place,
+        name: "place",
+        about: "Move files to other blocks, for loaders that go by their order",
+        words: &[
+            IMAGE,
+            PLACED,
+            INTERLEAVE,
+            TRACK_FROM,
+            SECTOR_FROM,
+            DRY_RUN,
+            CHARSET,
+        ],
+    },
+    Command {
         verb: Verb::Sort,
         name: "sort",
         about: "Sort the directory",
@@ -387,6 +404,9 @@ pub fn examples_of(verb: Verb) -> &'static str {
         ),
         Verb::Lock => examples!("  disk1541 lock work.d64 START 'LEVEL*'\n"),
         Verb::Unlock => examples!("  disk1541 unlock work.d64 '*'\n"),
+        Verb::Place => examples!(
+            "  disk1541 place demo.d64 LOADER --track 17 --interleave 4\n  disk1541 place demo.d64 'PART*' --interleave 4 --dry-run    where they would lie\n"
+        ),
         Verb::Sort => examples!("  disk1541 sort work.d64\n  disk1541 sort work.d64 --by size\n"),
         Verb::Title => examples!(
             "  disk1541 title work.d64 'MY GAME'\n  disk1541 title work.d64 'MY GAME' --id 64\n"

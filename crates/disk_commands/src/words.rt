@@ -379,6 +379,40 @@ pub const MEANT: Word = Word {
     ..NEEDED
 };
 
+/// The files that PLACE moves.
+pub const PLACED: Word = Word {
+    help: "file names or patterns, in the order in which they are laid",
+    is_needed: true,
+    ..MEANT
+};
+
+/// How far apart PLACE lays blocks.
+pub const INTERLEAVE: Word = Word {
+    name: "interleave",
+    help: "how many sectors behind one block the next is laid, 1 to 20",
+    value: &["N"],
+    default: &["10"],
+    ..OPTION
+};
+
+/// The track on which PLACE begins.
+pub const TRACK_FROM: Word = Word {
+    name: "track",
+    help: "the first track; blocks are laid there and on those behind it, but not on 18",
+    value: &["T"],
+    default: &["1"],
+    ..OPTION
+};
+
+/// The sector at which PLACE begins.
+pub const SECTOR_FROM: Word = Word {
+    name: "sector",
+    help: "the first sector of the first file",
+    value: &["S"],
+    default: &["0"],
+    ..OPTION
+};
+
 /// What TRANSFER takes files from.
 pub const FROM: Word = Word {
     name: "FROM",

@@ -1,0 +1,12 @@
+//! Where a file's blocks lie: a file is moved to blocks that are named.
+#![tactic(auto)]
+
+mod bam;
+mod chain;
+mod laying;
+mod moving;
+mod placing;
+mod room;
+
+pub use placing::place;
+pub use room::{Room, room_of};
