@@ -104,6 +104,7 @@ PARTS = {
         ("an image is checked, put in order, and looked at", "cbm_shell", "check validate info picture geos_blocks sector file_blocks"),
         ("entries locked, dressed, swapped; titles and art", "cbm_shell", "lock retitle add_art dress swap_entries"),
         ("one file by its slot: another name, a lock, a copy, its end", "cbm_slots", "rename lock copy delete"),
+        ("a file moved to blocks that are named, and where it may go", "cbm_place", "place room_of blocks_of"),
         ("a disk with odd entries: they are put away, a change is made, they are put back", "cbm_odd", "put_away put_back change map_around"),
         ("disks and archives of other kinds", "cbm_sources", "of entries file"),
         ("a BASIC program on the screen", "cbm_basic", "listing is_program after_program programs_are_listed"),
@@ -125,7 +126,7 @@ PAGES = dict(zip(PARTS, "images content dos bus requests scripts tool library".s
 # The crates in which each definition has a sentence of its own.
 COMPLETE = (
     "cbm_iec cbm_session cbm_drive cbm_bus cbm_host cbm_command cbm_listing cbm_machine cbm_talk cbm_image cbm_program drive1541 cbm_shell disk_basics "
-    "cbm_basic cbm_device cbm_odd cbm_slots yellowadze1541"
+    "cbm_basic cbm_device cbm_odd cbm_place cbm_slots yellowadze1541"
 ).split()
 
 

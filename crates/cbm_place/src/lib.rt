@@ -2,11 +2,13 @@
 #![tactic(auto)]
 
 mod bam;
+mod blocks;
 mod chain;
 mod laying;
 mod moving;
 mod placing;
 mod room;
 
+pub use blocks::blocks_of;
 pub use placing::place;
 pub use room::{Room, room_of};

@@ -28,7 +28,9 @@ pub fn listing(words: &ArgMatches<'_>) -> View {
     if flag(words, "raw") {
         return View::Sent;
     }
-    if flag(words, "deleted") {
+    if flag(words, "blocks") {
+        View::Blocks
+    } else if flag(words, "deleted") {
         View::Deleted
     } else {
         View::Directory

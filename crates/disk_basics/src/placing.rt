@@ -1,9 +1,12 @@
 //! Where the blocks of files go: from a place on, each so many sectors behind the one before, round the track, and on to the next.
+use crate::calls::name_text;
 use crate::changing::place;
 use cbm_bam::SectorSet;
 use cbm_medium::{Address, sectors_of};
 use cbm_place::{Room, room_of};
 use cbm_shell::ShellFault;
+use cbm_shell::texts::Charset;
+use cbm_volume::Entry;
 use std::alloc::{AllocError, Global};
 
 /// The directory's track, which no file's block is laid on.
@@ -45,7 +48,9 @@ fn first_on(taken: &SectorSet, track: u8, from: u8) -> Option<Address> {
 
 /// The first sector that isn't taken: on the track of the head, else on one behind it, from its sector 0.
 fn first_from(room: &Room, head: Head) -> Option<Address> {
-    if let Some(at) = first_on(&room.taken, head.track, head.sector) {
+    if head.track <= room.tracks
+        && let Some(at) = first_on(&room.taken, head.track, head.sector)
+    {
         return Some(at);
     }
     for track in head.track..room.tracks {
@@ -102,4 +107,28 @@ pub fn lay(alloc: Global, image: &[u8], slot: u8, head: Head) -> Result<Option<L
         places,
         head,
     }))
+}
+
+/// Adds a place, as `17/4`.
+fn add_place(text: &mut Vec<u8>, alloc: Global, at: Address) -> Result<(), AllocError> {
+    let place = format!(in alloc; " {}/{}", at.track(), at.sector())?;
+    text.extend_from_slice(place.as_bytes())
+}
+
+/// Adds the line of a file: its name, and where its blocks lie. The one error is want of memory.
+pub fn add_places(
+    text: &mut Vec<u8>,
+    alloc: Global,
+    charset: Charset,
+    entry: &Entry,
+    places: &[Address],
+) -> Result<(), AllocError> {
+    let name = name_text(alloc, charset, entry.name())?;
+    text.extend_from_slice(b"\"")?;
+    text.extend_from_slice(name.as_str().as_bytes())?;
+    text.extend_from_slice(b"\":")?;
+    for at in places {
+        add_place(text, alloc, *at)?;
+    }
+    text.extend_from_slice(b"\n")
 }

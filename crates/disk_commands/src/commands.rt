@@ -1,12 +1,12 @@
 //! The commands.
 use crate::words::{
-    ALL, BASIC, BY, CHARSET, CIRCLE, CSV, DELETED, DROP, DRY_RUN, EXACT, FILES, FILES_FOLDER,
-    FIRST, FOLDER, FORCE, FORCE_FAULT, FORMAT, FROM, HEX, ID, IMAGE, IMAGES, INTERLEAVE, JSON,
-    JSON_OBJECT, LOSSY, MEANT, NAME, NAME_ON_DISK, NAME_OR_SLOT, NEW, NEW_ID, NEW_TITLE, OLD, ONLY,
-    OUT, OUTPUT, PLACED, RAW, RECIPE, RECORD, RECURSIVE, REPLACE_FILE, REPLACE_FILES,
-    REPLACE_IMAGE, REPLACE_NAME, SALVAGE, SCREEN_CHARSET, SECOND, SECTOR, SECTOR_FROM, SLOT, SVG,
-    TEXT, TITLE, TRACK, TRACK_FROM, TRACKS, TRANSFERRED, TYPE, TYPE_AGAIN, WANTED, WITH_FILES,
-    Word,
+    ALL, BASIC, BLOCKS, BY, CHARSET, CIRCLE, CSV, DELETED, DROP, DRY_RUN, EXACT, FILES,
+    FILES_FOLDER, FIRST, FOLDER, FORCE, FORCE_FAULT, FORMAT, FROM, HEX, ID, IMAGE, IMAGES,
+    INTERLEAVE, JSON, JSON_OBJECT, LOSSY, MEANT, NAME, NAME_ON_DISK, NAME_OR_SLOT, NEW, NEW_ID,
+    NEW_TITLE, OLD, ONLY, OUT, OUTPUT, PLACED, RAW, RECIPE, RECORD, RECURSIVE, REPLACE_FILE,
+    REPLACE_FILES, REPLACE_IMAGE, REPLACE_NAME, SALVAGE, SCREEN_CHARSET, SECOND, SECTOR,
+    SECTOR_FROM, SLOT, SVG, TEXT, TITLE, TRACK, TRACK_FROM, TRACKS, TRANSFERRED, TYPE, TYPE_AGAIN,
+    WANTED, WITH_FILES, Word,
 };
 
 /// What help says at the end: examples, and the exit statuses.
@@ -107,7 +107,9 @@ const LOOKING: &[Command] = &[
         verb: Verb::List,
         name: "list",
         about: "Show the directory",
-        words: &[IMAGES, RECURSIVE, ONLY, RAW, DELETED, JSON, CSV, CHARSET],
+        words: &[
+            IMAGES, RECURSIVE, ONLY, RAW, DELETED, BLOCKS, JSON, CSV, CHARSET,
+        ],
     },
     Command {
         verb: Verb::Find,
@@ -349,7 +351,7 @@ pub fn verb_of(name: &str) -> Option<Verb> {
 pub fn examples_of(verb: Verb) -> &'static str {
     match verb {
         Verb::List => examples!(
-            "  disk1541 list game.d64\n  disk1541 list game.d64 --only 'A*' --charset lower\n  disk1541 list -r disks/ --json\n  disk1541 list -r disks/ --csv > files.csv\n"
+            "  disk1541 list game.d64\n  disk1541 list game.d64 --only 'A*' --charset lower\n  disk1541 list game.d64 --blocks    where each file lies\n  disk1541 list -r disks/ --json\n  disk1541 list -r disks/ --csv > files.csv\n"
         ),
         Verb::Find => examples!(
             "  disk1541 find 'HISCORE*' *.d64 *.d81\n  disk1541 find -r 'HISCORE*' disks/\n"

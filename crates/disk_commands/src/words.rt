@@ -515,6 +515,13 @@ pub const FORCE_FAULT: Word = Word {
     ..FORCE
 };
 
+/// LIST of where files lie.
+pub const BLOCKS: Word = Word {
+    name: "blocks",
+    help: "show where each file's blocks lie, in order, as track/sector",
+    ..FLAG
+};
+
 /// LIST of the files that were deleted.
 pub const DELETED: Word = Word {
     name: "deleted",

@@ -1,13 +1,12 @@
 //! PLACE: files laid on other blocks of their disk.
-use cbm_medium::Address;
 use cbm_shell::texts::Charset;
 use cbm_volume::Entry;
-use disk_basics::calls::{entries, name_text};
+use disk_basics::calls::entries;
 use disk_basics::host::{print, read_to_change, replace};
-use disk_basics::placing::{Head, Laid, lay};
+use disk_basics::placing::{Head, Laid, add_places, lay};
 use disk_basics::{Failure, in_memory, on_disk, petscii};
 use disk_facts::{is_meant, number_meant};
-use std::alloc::{AllocError, Global};
+use std::alloc::Global;
 use std::rt::Runtime;
 
 /// Which files are laid elsewhere, and where.
@@ -32,30 +31,6 @@ struct Laying {
     head: Head,
     /// What is told of each file.
     told: Vec<u8>,
-}
-
-/// Adds a place, as `17/4`.
-fn add_place(told: &mut Vec<u8>, alloc: Global, at: Address) -> Result<(), AllocError> {
-    let text = format!(in alloc; " {}/{}", at.track(), at.sector())?;
-    told.extend_from_slice(text.as_bytes())
-}
-
-/// Adds the line of a file: its name, and where its blocks lie.
-fn add_line(
-    told: &mut Vec<u8>,
-    alloc: Global,
-    charset: Charset,
-    entry: &Entry,
-    places: &[Address],
-) -> Result<(), AllocError> {
-    let name = name_text(alloc, charset, entry.name())?;
-    told.extend_from_slice(b"\"")?;
-    told.extend_from_slice(name.as_str().as_bytes())?;
-    told.extend_from_slice(b"\":")?;
-    for at in places {
-        add_place(told, alloc, *at)?;
-    }
-    told.extend_from_slice(b"\n")
 }
 
 /// Lays the file in a slot. Errors: `RecordsPlace`, `NoPlace`, `Disk`, `NoMemory`.
@@ -83,7 +58,7 @@ fn lay_one<'a>(
     else {
         return Err(Failure::NoPlace(word));
     };
-    in_memory(add_line(&mut laying.told, alloc, charset, entry, places.as_slice()))?;
+    in_memory(add_places(&mut laying.told, alloc, charset, entry, places.as_slice()))?;
     laying.image = new;
     laying.head = head;
     Ok(())
