@@ -27,11 +27,6 @@ abbrev pub IsCrowded : ℕ → Content → ℕ → List Place → Type 0
 IsCrowded tracks content slot places =
     HasEntry tracks content slot (λ entry. IsMovable tracks content slot entry × (IsRoom tracks content (chain_of tracks content (first_block entry)) places → ⊥))
 
--- a sector can't be read or written
-abbrev pub IsTroubled : ShellFault → Type 0
-IsTroubled (fault.Trouble t) = Unit {0}
-IsTroubled f = ⊥
-
 -- why a slot has no file that can be moved
 abbrev pub IsNoMovable : ℕ → Content → ℕ → ShellFault → Type 0
 IsNoMovable tracks content slot fault.NotFound = HasNoSlot tracks content slot ⊎ HasEntry tracks content slot (λ entry. (type_byte entry == 0) ≡ true)

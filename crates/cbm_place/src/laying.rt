@@ -3,7 +3,7 @@ ghost use Rattle.std.specs.Prelude.{◌≡◌, OnOk, IfErr, replicate};
 ghost use Rattle.cbm_medium.specs.Content.{written};
 ghost use Rattle.cbm_place.specs.Moves.{led, laid, wiped_at, wiped};
 ghost use Rattle.cbm_bam.specs.Marks.{is_marked};
-ghost use Rattle.cbm_place.specs.Placed.{IsTroubled};
+ghost use Rattle.cbm_shell.specs.Remaking.{IsTroubled};
 
 use cbm_bam::SectorSet;
 use cbm_medium::codes::ILLEGAL_LINK;

@@ -7,7 +7,8 @@ ghost use Rattle.cbm_directory.specs.Entries.{EntersLed};
 ghost use Rattle.cbm_shell.specs.Mapping.{is_among};
 ghost use Rattle.cbm_shell.specs.Undeleting.{IsMapAnew};
 ghost use Rattle.cbm_place.specs.Moves.{is_open, are_open, entry_at_first, laid, taken_places, wiped, IsMovable, IsRoom, IsCarried, IsMoved};
-ghost use Rattle.cbm_place.specs.Placed.{IsNoMovable, IsTroubled, IsUnmoved};
+ghost use Rattle.cbm_place.specs.Placed.{IsNoMovable, IsUnmoved};
+ghost use Rattle.cbm_shell.specs.Remaking.{IsTroubled};
 
 use crate::bam::{Change, taken_sectors};
 use crate::chain::{Chain, chain_of, set_of};
