@@ -44,6 +44,7 @@ mkdir how_to
 cp "$examples/hello.d64" how_to
 printf '\001\010game' > how_to/game.prg
 printf 'level' > how_to/levels.seq
+printf "put game.prg\ntitle 'OUR DISK'\n" > how_to/changes.txt
 ln -s "$disk" how_to/disk1541
 sed -n '/^## How to/,/^## Exit/p' "$here/../../docs/disk1541.md" | grep -o '`disk1541 [^`]*`' | tr -d '`' > commands.txt
 while read -r line; do
@@ -52,7 +53,7 @@ while read -r line; do
 done < commands.txt | sed 's/^[0-9a-f]\{64\}  /SUM  /' > told.txt
 is "the how-tos of the document print what they should" cmp told.txt "$here/how_to.txt"
 is "with equal sums of an image and the one made of it" test "$(cd how_to && ./disk1541 hash hello.d64 hello.g64 | cut -d' ' -f1 | uniq | wc -l)" = 1
-is "and take out, put in and make what they say" test "$(cd how_to && echo *)" = "FOLDER built.d64 disk1541 empty.d64 game.prg hello.d64 hello.g64 hello.prg hello.svg hello.toml levels.seq parts saved.prg"
+is "and take out, put in and make what they say" test "$(cd how_to && echo *)" = "FOLDER built.d64 changes.txt disk1541 empty.d64 game.prg hello.d64 hello.g64 hello.prg hello.svg hello.toml levels.seq long.d64 parts saved.prg"
 is "a disk built of a recipe has the files" test "$(cd how_to && ./disk1541 list built.d64)" = "$(cd how_to && ./disk1541 list hello.d64)"
 
 # each command, its refusals too

@@ -135,7 +135,7 @@ fi
 
 # ---- GEOS: LETTER of records, TOOL in one sequence, DRAFT never closed; 2/5 is lost
 python3 "$here/geos_disk.py" geos.d64
-case_of "get of a file of records" 1 "" "disk1541: LETTER is a file that GEOS keeps in records: \`get\` takes its index alone, and does so by --salvage" "$disk" get geos.d64 LETTER -o letter
+case_of "get of a file of records" 1 "" "disk1541: LETTER is a file that GEOS keeps in records: \`get --cvt\` takes it whole, --salvage its index alone" "$disk" get geos.d64 LETTER -o letter
 case_of "get-all leaves it, and tells" 1 "" any "$disk" get-all geos.d64 geos
 is "by its name" grep -q '^disk1541: "LETTER" isn.t taken out: GEOS keeps it in records' err.txt
 is "and that of TOOL the info isn't taken" grep -q '^disk1541: "TOOL" is a file of GEOS: its info block isn.t taken$' err.txt
@@ -191,8 +191,8 @@ cp sound.d64 bytes.d64
 python3 -c 'open("bytes.d64", "ab").write(bytes([1] * 300 + [3] + [1] * 382))'
 case_of "errors shows the sector" 0 "15/6  error 21" "" "$disk" errors bytes.d64
 case_of "validate names the way out" 1 "" any "$disk" validate bytes.d64
-is "in its sentence" grep -q 'errors --drop' err.txt
-case_of "errors --drop" 0 "" "" "$disk" errors bytes.d64 --drop
+is "in its sentence" grep -q 'errors --drop --lossy' err.txt
+case_of "errors --drop" 0 "" "disk1541: bytes.d64 loses 1 error bytes other than 1 (no error)" "$disk" errors bytes.d64 --drop --lossy
 is "leaves the sectors alone" cmp -s sound.d64 bytes.d64
 case_of "an image without error bytes" 1 "" "disk1541: bytes.d64 has no error bytes" "$disk" errors bytes.d64
 

@@ -37,6 +37,20 @@ is "OUT equals IMAGE" cmp -s hello.d64 out.d64
 case_of "a bad line" 1 "script line 2 refused: it begins with none of open, put, fill, get, close, status" "$drive" hello.d64 bad.script none.d64
 is "what was printed before it stays" grep -q "^status 73,CBM DOS V2.6 1541,00,00$" out.txt
 is "OUT isn't written" test ! -e none.d64
+printf 'open 2 #\nput 15 U1 2 0 18 1\nstatus\nget 2 2\nput 15 M-R\\c6\\e5\\02\nget 15 2\n' > direct.script
+case_of "direct access" 0 "" "$drive" hello.d64 direct.script out.d64 --direct
+is "reads a block and the ROM" test "$(cat out.txt)" = "$(printf 'status 00, OK,00,00\nget 2 00ff\nget 15 34b1 eoi')"
+is "direct access leaves the image as it is" cmp -s hello.d64 out.d64
+case_of "no direct access unasked" 0 "" "$drive" hello.d64 direct.script
+is "answers 31, and no block" test "$(head -n 2 out.txt)" = "$(printf 'status 31,SYNTAX ERROR,00,00\nget 2 none')"
+case_of "a trace of direct access" 0 "" "$drive" hello.d64 direct.script --direct --trace direct.trace
+is "has the bus's events" grep -q "^[0-9]* 8 clock" direct.trace
+printf 'lines\n0 atn pull\n0 clock pull\nend 30\n' > direct.lines
+"$drive" hello.d64 direct.lines > plain.txt; "$drive" --direct hello.d64 direct.lines > out.txt
+is "line changes are answered alike" cmp -s plain.txt out.txt
+is "line changes are answered" grep -q "^20 8 data pull$" out.txt
+"$drive" --direct "$here/../../examples/hello.d64" "$examples/listen.lines" > out.txt; "$drive" hello.d64 "$examples/listen.lines" > plain.txt
+is "LISTEN bit by bit is answered alike" cmp -s plain.txt out.txt
 case_of "a truncated image" 2 "image refused: 1: it is no G64, nor of a D64's size" "$drive" short.d64 hello.script none.d64
 case_of "no image" 3 "file fault: nothing.d64: entity not found" "$drive" nothing.d64 hello.script none.d64
 case_of "no script" 3 "file fault: nothing.script: entity not found" "$drive" hello.d64 nothing.script none.d64
@@ -44,12 +58,25 @@ case_of "a directory as script" 3 "file fault: ." "$drive" hello.d64 . none.d64
 case_of "no folder for OUT" 3 "file fault: no/out.d64: entity not found" "$drive" hello.d64 hello.script no/out.d64
 case_of "a directory as OUT" 3 "file fault: .: is a directory" "$drive" hello.d64 hello.script .
 case_of "too few words" 1 "" "$drive" hello.d64
+# Lines that end as those of DOS: the same is printed and saved, also without the last line feed. A return elsewhere stays.
+"$drive" hello.d64 hello.script > unix.txt
+for end in '\r\n' '\r'; do
+    { sed '$d' hello.script | awk '{ printf "%s\r\n", $0 }'; tail -n 1 hello.script | tr -d '\n'; printf "$end"; } > dos.script
+    case_of "a script of DOS" 0 "" "$drive" hello.d64 dos.script dos.d64
+    is "prints the same" cmp -s out.txt unix.txt
+    is "saves the same" cmp -s hello.d64 dos.d64
+done
+printf 'lines\n0 atn pull\nend 100\n' > wires.script
+"$drive" hello.d64 wires.script > unix.txt
+sed 's/$/\r/' wires.script > dos.script
+case_of "line changes of DOS" 0 "" "$drive" hello.d64 dos.script
+is "prints the same of line changes" cmp -s out.txt unix.txt
 # Why a line is refused: each of these is line 2, and the first flaw that it has.
 reason_of() {
     printf 'status\n%b\nstatus\n' "$1" > reason.script
     case_of "a line that is refused: $2" 1 "script line 2 refused: $2" "$drive" hello.d64 reason.script none.d64
 }
-reason_of 'get 0 5000\r' "it ends with a carriage return, as lines of DOS do: save the script with line feeds alone, or send it through \`tr -d '\\r'\`"
+reason_of 'get 0 50\r00' "after the channel get wants a count, 1 to 200000, and fill a count and two hexadecimal digits"
 reason_of ' status' "it begins with a space: take that away"
 reason_of "status$(printf '%1000d' 0)" "it has more than 1,000 bytes"
 reason_of 'load 0' "it begins with none of open, put, fill, get, close, status"

@@ -47,6 +47,24 @@ sed 's/$/\r/' hello.host > hello.dos
 changes hello.answers > hello.changes
 is "lines that end with a return: the same" cmp -s hello.trace hello.changes
 
+# ---- direct access
+
+printf 'open 2 #\nput 15 U1 2 0 18 1\nget 2 256\nput 15 M-R\\c6\\e5\\02\nget 15 2\nput 15 UI\nstatus\n' > direct.script
+"$drive" --direct hello.d64 direct.script --trace direct.trace > direct.said
+{ host_of direct.trace; echo "end 60000000"; } > direct.host
+"$drive" reply --direct hello.d64=direct.new < direct.host > direct.answers
+is "direct access: ends well" test $? = 0
+changes direct.answers > direct.changes
+is "direct access: its trace" cmp -s direct.trace direct.changes
+is "direct access: a block is 256 bytes and more of ROM" test "$(grep -c '^get' direct.said)" = 2
+is "direct access: the disk stays" cmp -s hello.d64 direct.new
+"$drive" reply hello.d64 < direct.host > direct.plain
+is "direct access: none unasked" test "$(changes direct.plain | cksum)" != "$(cksum < direct.trace)"
+"$drive" reply --direct hello.d64 hello.d64 hello.d64 hello.d64=four.new < direct.host > direct.four
+is "direct access: four drives end well" test $? = 0
+is "direct access: with four drives the host's lines stay" test "$(grep -c ' host ' direct.four)" = "$(grep -c ' host ' direct.trace)"
+is "direct access: the fourth disk stays" cmp -s hello.d64 four.new
+
 # ---- a talk by hand: what comes of each line
 
 cat > talk.host <<'END'

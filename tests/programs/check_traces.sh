@@ -139,7 +139,7 @@ is "judge, the wires alone: have no party" test "$(grep -c 'host_\|drive8_' wire
 "$drive" judge wires.vcd > judged.txt
 is "judge, the wires alone: a session" test $? = 0
 is "judge, the wires alone: the same acts" test "$(acts wires.vcd)" = "$(acts hello.vcd)"
-judged "the wires, of a drive that would take 21" 1 "1020 us host data pull: no session has it there" wires.vcd --drive 8:21
+judged "the wires, of a drive that would take 21" 1 "1020 us host data pull: no session has it there (in attention; next: drive 8 data pull at 1021)" wires.vcd --drive 8:21
 printf '$timescale 1us $end $var wire 1 a ATN $end $var wire 1 c CLK $end $var wire 1 d DATA $end\n$enddefinitions $end\n#0 0a 0c\n#20 0d\n#99 1c\n' > early.vcd
 judged "the wires of a host too early" 1 "99 us host clock free: 99 after ATN's pull, 100 at least" early.vcd
 printf '$timescale 1us $end $var wire 1 a ATN $end $var wire 1 c CLK $end $var wire 1 d DATA $end\n$enddefinitions $end\n#0 0a 0c\n#21 0d\n' > late.vcd
@@ -198,8 +198,40 @@ if [ -w /dev/full ]; then
     is "judge, standard output is full: ends with 3" test $? = 3
     is "judge, standard output is full: says so" grep -q '^file fault: standard output' judged.err
 fi
+# Drives whose reactions vary: the least and the greatest reaction belong to the range, and the first of two reactions doesn't decide the second.
+printf '0 host atn pull\r\n0 host clock pull\r\n10 8 data pull\r\n100 host clock free\r\n140 8 data free\r\n' > range.trace
+judged "a range, at both its ends, in lines of DOS" 0 "a session to 140 us" range.trace --drive 8:10-40
+judged "a range that ends before" 2 "140 us drive 8 data free: due at 110 to 139" range.trace --drive 8:10-39
+judged "a range that begins later" 2 "10 us drive 8 data pull: due at 11 to 40" range.trace --drive 8:11-40
+judged "one number stays exact" 2 "140 us drive 8 data free: due at 110" range.trace --drive 8:10
+printf '0 host atn pull\n0 host clock pull\n100 host clock free\n' > missing.trace
+judged "a range, and no reaction" 2 "40 us drive 8 data pull: missing, was due from 10 on" missing.trace --drive 8:10-40
+judged "a range, and the end before it is over" 0 "a session to 10 us" - --drive 8:10-40 <<'END'
+0 host atn pull
+0 host clock pull
+10 8 data pull
+END
+# The bits are counted from DATA's release by the drive, T: 1 to 199 later.
+printf '0 host atn pull\n0 host clock pull\n10 8 data pull\n100 host clock free\n140 8 data free\n340 host clock pull\n' > start.trace
+judged "the host's bound goes by the drive that was late" 1 "340 us host clock pull: 200 after T, 199 at most" start.trace --drive 8:10-40
+sed 's/^340/339/' start.trace > kept.trace
+judged "and is kept by 1" 0 "a session to 339 us" kept.trace --drive 8:10-40
+judged "a range above 60" 64 "error: a reaction is 1 to 60 microseconds" range.trace --drive 8:10-61
+judged "a range that goes back" 64 "error: a drive is DEVICE:REACTION or DEVICE:REACTION:PACE, as 8:20, and REACTION may be a range, as 10-40" range.trace --drive 8:40-10
+judged "a range and the wires alone" 64 "error: a range of reactions needs a trace of the parties' own lines: the wires alone don't say whose a change is" wires.vcd --drive 8:10-40
+judged "a range and a VCD of the parties" 0 "$("$drive" judge hello.vcd | tail -n 1)" hello.vcd --drive 8:10-40
+"$drive" judge hello.vcd > unix.txt
+sed 's/$/\r/' hello.vcd > dos.vcd
+"$drive" judge dos.vcd > dos.txt
+is "judge, a VCD of DOS: the same" cmp -s unix.txt dos.txt
+# The verdict as JSON.
+judged "JSON of a session" 0 '{"verdict":"session","moment":140}' range.trace --drive 8:10-40 --json
+judged "JSON of a breach" 1 '{"verdict":"breach","moment":340,"party":"host","device":null,"line":"clock","change":"pull","rule":"200 after T, 199 at most","place":"in attention","byte":1,"bit":null,"expected":{"party":"host","device":null,"line":"clock","change":"pull","from":null,"to":339},"trace_line":6}' start.trace --drive 8:10-40 --json
+# The host's first bit is 0, and ATN is pulled again in it, which no session has: byte and bit are counted from 1 on.
+printf '0 host atn pull\n0 host clock pull\n20 8 data pull\n100 host clock free\n120 8 data free\n140 host clock pull\n140 host data pull\n160 host clock free\n170 host atn free\n' > inside.trace
+judged "a change for which no rule has a place" 1 "170 us host atn free: no session has it there (byte 1 in attention, bit 1; next: host clock pull)" inside.trace
 judged "a device that is none" 64 "error: a device number is 8 to 11" early.trace --drive 12:20
-judged "a drive without a reaction" 64 "error: a drive is DEVICE:REACTION or DEVICE:REACTION:PACE, as 8:20" early.trace --drive 8
+judged "a drive without a reaction" 64 "error: a drive is DEVICE:REACTION or DEVICE:REACTION:PACE, as 8:20, and REACTION may be a range, as 10-40" early.trace --drive 8
 
 # The bytes as another program finds them: OPEN of HELLO, its three bytes, and the status.
 if command -v sigrok-cli > /dev/null; then

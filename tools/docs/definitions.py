@@ -62,6 +62,8 @@ PARTS = {
         ("an OPEN is the machine's", "cbm_channel", "open"),
         ("a byte put to a file, and CLOSE, with a stop at any sector write", "cbm_channel", "put close"),
         ("the end of a text, the next byte, and LISTEN and TALK are the machine's", "cbm_channel", "end_put peek taken listen talk"),
+        ("direct access: the text of a command, what it does, and what is shown", "cbm_direct", "asked_by carry_out open close put end_put peek taken"),
+        ("direct access: the disk stays sound", "cbm_direct", "new insert into_medium"),
     ],
     "The bus": [
         ("a trace has one reading", "cbm_session", "one_reading"),
@@ -76,6 +78,7 @@ PARTS = {
         ("a list of changes played, of any machines: a host that keeps the timing gets a session", "cbm_drive", "play:kept"),
         ("a list of changes played: all that is promised of it", "cbm_drive", "play"),
         ("the same event by event", "cbm_drive", "next half keeps"),
+        ("a drive with direct access: its disk is sound after any list of changes", "cbm_direct_desk", "play_alone play_out play"),
         ("the headline: drives with disks, the machine of named files and sound disks in it", "cbm_bus", "play:headline"),
         ("the same under a host that keeps the timing loosely", "cbm_bus", "play:loosely"),
         ("drives with disks: all that is promised of a list of changes", "cbm_bus", "play at_rest"),
@@ -103,7 +106,8 @@ PARTS = {
         ("a new image, and one of the other format", "cbm_shell", "new_image convert"),
         ("an image is checked, put in order, and looked at", "cbm_shell", "check validate info picture geos_blocks sector file_blocks"),
         ("entries locked, dressed, swapped; titles and art", "cbm_shell", "lock retitle add_art dress swap_entries"),
-        ("one file by its slot: another name, a lock, a copy, its end", "cbm_slots", "rename lock copy delete"),
+        ("one file by its slot: another name, a lock, another type, a copy, its end", "cbm_slots", "rename lock retype copy delete"),
+        ("a file moved to blocks that are named, and where it may go", "cbm_place", "place room_of blocks_of"),
         ("a disk with odd entries: they are put away, a change is made, they are put back", "cbm_odd", "put_away put_back change map_around"),
         ("disks and archives of other kinds", "cbm_sources", "of entries file"),
         ("a BASIC program on the screen", "cbm_basic", "listing is_program after_program programs_are_listed"),
@@ -124,8 +128,8 @@ PAGES = dict(zip(PARTS, "images content dos bus requests scripts tool library".s
 
 # The crates in which each definition has a sentence of its own.
 COMPLETE = (
-    "cbm_iec cbm_session cbm_drive cbm_bus cbm_host cbm_command cbm_listing cbm_machine cbm_talk cbm_image cbm_program drive1541 cbm_shell disk_basics "
-    "cbm_basic cbm_device cbm_odd cbm_slots yellowadze1541"
+    "cbm_direct cbm_direct_desk cbm_iec cbm_session cbm_drive cbm_bus cbm_host cbm_command cbm_listing cbm_machine cbm_talk cbm_image cbm_program drive1541 cbm_shell disk_basics "
+    "cbm_basic cbm_device cbm_odd cbm_place cbm_slots yellowadze1541"
 ).split()
 
 

@@ -53,7 +53,12 @@ let child;
 const end = (said, status) => {
   console.log(`browser: ${said}`);
   child.once("exit", () => {
-    fs.rmSync(profile, { recursive: true, force: true, maxRetries: 5 });
+    try {
+      fs.rmSync(profile, { recursive: true, force: true, maxRetries: 20 });
+    } catch (error) {
+      // (a process of the browser still writes there: what is left is no fault of the module)
+      console.log(`browser: ${profile} is left: ${error.code}`);
+    }
     process.exit(status);
   });
   child.kill();

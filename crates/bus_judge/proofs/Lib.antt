@@ -3,3 +3,4 @@ pub mod Quiet
 pub mod Refusing
 pub mod Standing
 pub mod Strangers
+mod Ranging

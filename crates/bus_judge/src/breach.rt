@@ -15,6 +15,10 @@ pub enum Cause {
     Missing,
     /// A drive made its change at another moment than that one, when it is due.
     Moved(u64),
+    /// A drive made its change before the first of these moments, or after the other one.
+    Within(u64, u64),
+    /// The reaction of a drive was due from that moment up to then, and didn't come.
+    Awaited(u64),
     /// No session has that change there.
     Unasked,
     /// The change comes before one that was already seen, at that moment.
@@ -54,7 +58,8 @@ impl Breach {
     }
 }
 
-fn line_name(line: Line) -> &'static str {
+/// The word of a line.
+pub fn line_name(line: Line) -> &'static str {
     match line {
         Line::Atn => "atn",
         Line::Clock => "clock",
@@ -62,7 +67,8 @@ fn line_name(line: Line) -> &'static str {
     }
 }
 
-fn way_name(way: Way) -> &'static str {
+/// The word of a change.
+pub fn way_name(way: Way) -> &'static str {
     match way {
         Way::Pull => "pull",
         Way::Free => "free",
@@ -77,6 +83,8 @@ impl fmt::Display for Cause {
             Cause::LeftOut(broken) => write!(f, "left out, {broken}"),
             Cause::Missing => write!(f, "missing, was due then"),
             Cause::Moved(due) => write!(f, "due at {due}"),
+            Cause::Within(first, last) => write!(f, "due at {first} to {last}"),
+            Cause::Awaited(first) => write!(f, "missing, was due from {first} on"),
             Cause::Unasked => write!(f, "no session has it there"),
             Cause::Backwards(last) => write!(f, "comes before an event at {last}"),
             Cause::Far => write!(f, "the moment is too great"),

@@ -10,14 +10,18 @@ ghost use Rattle.bus_judge.specs.Judging.{JudgeStands, IsTooSoon, NoneBegins, Is
 ghost use Rattle.bus_judge.specs.Views.{whole_of};
 ghost use Rattle.bus_judge.specs.declared.step.Mark.{Mark as OwnMark};
 
+pub(crate) mod awaiting;
 mod guessing;
-mod refusal;
+pub(crate) mod refusal;
+pub(crate) mod scene;
+mod scenes;
 
 use crate::breach::{Breach, Cause};
 use crate::drives::{NotABus, check_drives};
 use crate::fits::fits;
 use crate::guess::{Counts, offer};
 use crate::judge::refusal::breach_of;
+pub use crate::judge::scene::{Due, Scene, Turn};
 use crate::parts::steps_of;
 use crate::same::same_event;
 use crate::step::{Mark, Step, Steps, Unmade};

@@ -14,10 +14,12 @@ mod same;
 mod seat;
 mod step;
 mod trying;
+mod varied;
 mod whole;
 
 pub use bound::{Bound, Broken, Limit, Since};
-pub use breach::{Breach, Cause, Verdict};
+pub use breach::{Breach, Cause, Verdict, line_name, way_name};
 pub use drives::NotABus;
-pub use judge::Judge;
+pub use judge::{Due, Judge, Scene, Turn};
 pub use step::{Mark, Step};
+pub use varied::{Range, Taken, VariedJudge};

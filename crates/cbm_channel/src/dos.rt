@@ -4,6 +4,7 @@ use cbm_machine::{Code, Status, Telling};
 use cbm_volume::{Medium, Volume};
 use std::marker::Model;
 
+mod beside;
 mod closing;
 mod copying;
 mod exchanging;

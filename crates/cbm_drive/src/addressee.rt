@@ -26,7 +26,7 @@ fn keep(name: &mut ArrayVec<u8, 256>, byte: u8)
 
 /// How a drive is addressed on the bus: its role, the channel of its secondary address, and what came after it.
 #[derive(Drop)]
-pub(crate) struct Addressee {
+pub struct Addressee {
     device: u8,
     pace: Pace,
     role: Role,
@@ -49,7 +49,7 @@ impl Model for Addressee {
 
 impl Addressee {
     /// As the drive is switched on, with a device number below 31.
-    pub(crate) fn new(device: u8) -> Addressee
+    pub fn new(device: u8) -> Addressee
         requires { device < 31 }
         ensures { result ≡ unaddressed device }
     {
@@ -65,7 +65,7 @@ impl Addressee {
     }
 
     /// As the drive is switched on again, with its number and its pace.
-    pub(crate) fn restart(&mut self)
+    pub fn restart(&mut self)
         ensures { self.new ≡ paced self.old.pace (unaddressed self.old.device) }
     {
         self.role = Role::Absent;
@@ -76,28 +76,28 @@ impl Addressee {
     }
 
     /// It keeps this pace from now on.
-    pub(crate) fn keep_pace(&mut self, pace: Pace)
+    pub fn keep_pace(&mut self, pace: Pace)
         ensures { self.new ≡ paced pace self.old }
     {
         self.pace = pace;
     }
 
     /// Its pace.
-    pub(crate) fn pace(&self) -> Pace
+    pub fn pace(&self) -> Pace
         ensures { result ≡ self.now.pace }
     {
         self.pace
     }
 
     /// Its role.
-    pub(crate) fn role(&self) -> Role
+    pub fn role(&self) -> Role
         ensures { result ≡ self.now.role }
     {
         self.role
     }
 
     /// The channel to which a listener's bytes go.
-    pub(crate) fn channel_heard(&self) -> Option<u8>
+    pub fn channel_heard(&self) -> Option<u8>
         ensures value { result ≡ channel_heard self.now.role self.now.channel }
         ensures channel { IfSome result (λ c. c ≤ 15) }
     {
@@ -108,7 +108,7 @@ impl Addressee {
     }
 
     /// The channel from which a talker's bytes come.
-    pub(crate) fn channel_said(&self) -> Option<u8>
+    pub fn channel_said(&self) -> Option<u8>
         ensures value { result ≡ channel_said self.now.role self.now.channel }
         ensures channel { IfSome result (λ c. c ≤ 15) }
     {
@@ -119,14 +119,14 @@ impl Addressee {
     }
 
     /// Whether a listener's bytes are the name of an OPEN.
-    pub(crate) fn is_naming(&self) -> bool
+    pub fn is_naming(&self) -> bool
         ensures { result ≡ self.now.naming }
     {
         self.naming
     }
 
     /// A byte in attention: the role first, then a secondary address for it.
-    pub(crate) fn attend(&mut self, byte: u8)
+    pub fn attend(&mut self, byte: u8)
         ensures { self.new ≡ attended byte self.old }
     {
         self.call(byte);
@@ -168,14 +168,14 @@ impl Addressee {
     }
 
     /// ATN was freed: what comes now is for the channel.
-    pub(crate) fn release(&mut self)
+    pub fn release(&mut self)
         ensures { self.new ≡ atn_released self.old }
     {
         self.freed = self.channel.is_some();
     }
 
     /// A byte came to the listener: of a name the first 256 bytes are kept.
-    pub(crate) fn hear(&mut self, byte: u8)
+    pub fn hear(&mut self, byte: u8)
         ensures { self.new ≡ name_heard byte self.old }
     {
         if self.naming {
@@ -184,7 +184,7 @@ impl Addressee {
     }
 
     /// What a listener was sent and would end with a pull of ATN.
-    pub(crate) fn ended(&self) -> Option<Ended>
+    pub fn ended(&self) -> Option<Ended>
         ensures value { result ≡ channel_ended self.now }
         ensures channel { IfSome result (λ e. ended_channel e ≤ 15) }
     {
@@ -200,7 +200,7 @@ impl Addressee {
     }
 
     /// The secondary address goes. The answer is what came of a name.
-    pub(crate) fn end(&mut self) -> ArrayVec<u8, 256>
+    pub fn end(&mut self) -> ArrayVec<u8, 256>
         ensures value { self.new ≡ waiting self.old }
         ensures name { result.items ≡ self.old.name }
     {

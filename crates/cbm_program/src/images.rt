@@ -26,7 +26,7 @@ mod traced;
 
 use checking::print_check;
 use scripted::RunsScripts;
-pub use traced::run_traced;
+pub use traced::{run_direct, run_traced};
 
 /// How a run is made.
 #[derive(Clone, Copy, Debug, PartialEq, Eq)]

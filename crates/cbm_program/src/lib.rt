@@ -17,7 +17,7 @@ mod word;
 pub use bus_traces::Watches;
 pub use cbm_drive::Pace;
 pub use fault::RunFault;
-pub use images::{Options, run, run_at, run_traced};
+pub use images::{Options, run, run_at, run_direct, run_traced};
 pub use line::{ScriptLine, parse};
 pub use request::{ScriptRequest, Text};
 pub use text::{decode, what_is_written_reads_back};

@@ -29,3 +29,4 @@ pub mod RecordLemmas
 pub mod ForgetLemmas
 pub mod UndeleteLemmas
 pub mod SeveralLemmas
+pub mod RemakeLemmas

@@ -1,5 +1,5 @@
 -- Several changes: those that are left, after those that were made, are the whole.
-use Rattle.std.proofs.Common.{◌≡◌, ℕ, suc, ◌+◌, ◌<◌, List, [], ◌∷◌, length, drop, drop-cons, get_or, arith, Bool, false, Result, Ok, Err, refl, sym, ap, subst, ◌∙◌, inl, inr}
+use Rattle.std.proofs.Common.{◌≡◌, ℕ, zero, suc, ◌+◌, ◌<◌, List, [], ◌∷◌, length, drop, drop-cons, get_or, arith, Bool, false, Result, Ok, Err, refl, sym, ap, subst, ◌∙◌, inl, inr}
 use Rattle.std.specs.Prelude.{MatchResult, IfOk, IfErr}
 use Rattle.cbm_medium.specs.Seen.{Seen}
 use Rattle.cbm_file.specs.Files.{Disk}
@@ -74,3 +74,8 @@ pub saved_after : {A : Type 0} (image : List ℕ) (items : A → List ℕ) (chan
     → MatchResult r (λ v. ImageAfter changes other tracks d (items v)) (OrOpenFault image (AreUndone changes false tracks d))
 saved_after image items changes kind other tracks d seen (Ok v) same s m h = record { disk = h.disk; made = h.made; holds = saved_holds kind other (items v) seen h.disk same s h.holds }
 saved_after image items changes kind other tracks d seen (Err f) same s m h = subst (λ g. OrOpenFault image (AreUndone changes false tracks d) g) (sym m) tt
+
+-- the first of several changes is made on a sound disk, so each later one is, too
+pub first_sound : (A : Type 0) (index : ℕ) → (index ≡ 0 → A) → (0 < index → A) → A
+first_sound A zero first later = first refl
+first_sound A (suc n) first later = later (omega arith)

@@ -31,3 +31,4 @@ pub mod Forgetting
 pub mod Undeleting
 pub mod AroundGeos
 pub mod Several
+pub mod Remaking

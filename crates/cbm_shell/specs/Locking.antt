@@ -1,5 +1,5 @@
 -- Files that are locked against SCRATCH, and the disk's title: two changes that no command of the drive makes.
-use Rattle.std.specs.Prelude.{ℕ, zero, suc, ◌≡◌, ◌+◌, ◌*◌, ◌/◌, ◌%◌, ◌&&◌, Bool, true, false, List, [], ◌∷◌, ◌++◌, take, drop, slice_set, Some, None, Ok, MatchBool}
+use Rattle.std.specs.Prelude.{ℕ, zero, suc, ◌≡◌, ◌+◌, ◌*◌, ◌/◌, ◌%◌, ◌&&◌, ◌⊎◌, Bool, true, false, List, [], ◌∷◌, ◌++◌, take, drop, slice_set, Some, None, Ok, MatchBool}
 use Rattle.cbm_medium.specs.Place.{directory_head}
 use Rattle.cbm_medium.specs.Content.{Content, written}
 use Rattle.cbm_medium.specs.Links.{bytes_at}
@@ -10,7 +10,9 @@ use Rattle.cbm_directory.specs.Slots.{Answers, directory_of}
 use Rattle.cbm_channel.specs.Sought.{is_sought}
 use Rattle.cbm_image.specs.Images.{kind_of, content_of}
 use Rattle.cbm_shell.specs.Editing.{HasNoSlot}
-use Rattle.cbm_shell.specs.Images.{disk_tracks}
+use Rattle.cbm_shell.specs.Images.{disk_tracks, OrOpenFault}
+use Rattle.cbm_shell.specs.declared.fault.ShellFault.{ShellFault}
+use Rattle.cbm_shell.specs.Remaking.{IsFirstFault, MakesFault, IsHaltedBy}
 
 -- two answers that aren't the same
 abbrev pub is_other : Bool → Bool → Bool
@@ -93,6 +95,10 @@ IsRetitled image title new = content_of (kind_of image) new ≡ titled title (co
 -- the new image has these five bytes after the title
 abbrev pub IsRemarked : List ℕ → List ℕ → List ℕ → Type 0
 IsRemarked image mark new = content_of (kind_of image) new ≡ marked_as mark (content_of (kind_of image) image)
+
+-- why it isn't made: the image's own fault; its disk isn't sound, or the one with these bytes isn't, and this is the first fault; 18/0 can't be read or written; or memory runs out
+abbrev pub IsNotRemarked : List ℕ → List ℕ → ShellFault → Type 0
+IsNotRemarked image mark = OrOpenFault image (IsHaltedBy (λ u. IsFirstFault image u ⊎ MakesFault image (λ new. new ≡ marked_as mark (content_of (kind_of image) image)) u))
 
 -- the file in a slot is locked or freed, if its name matches; or the directory ends before the slot, and nothing has changed
 abbrev pub LocksOrEnds : Bool → ℕ → List ℕ → ℕ → Content → Content → Bool → Type 0

@@ -12,7 +12,9 @@ use Rattle.cbm_shell.specs.Geos.{border_in, in_geos}
 use Rattle.cbm_shell.specs.Lost.{lost_of}
 use Rattle.cbm_image.specs.Images.{kind_of, content_of}
 use Rattle.cbm_shell.specs.Editing.{HasNoSlot}
-use Rattle.cbm_shell.specs.Images.{disk_tracks}
+use Rattle.cbm_shell.specs.Images.{disk_tracks, OrOpenFault}
+use Rattle.cbm_shell.specs.declared.fault.ShellFault.{ShellFault}
+use Rattle.cbm_shell.specs.Remaking.{IsFirstFault, MakesFault, IsHaltedBy}
 
 -- the entry with a type, closed, and all else as it was
 abbrev pub restored_entry : FileType → List ℕ → List ℕ
@@ -83,3 +85,8 @@ IsNotGivenIn image slot = IsNotGiven (disk_tracks image) (content_of (kind_of im
 -- the deleted file of a slot is given back in the new image
 abbrev pub IsUndeletedIn : List ℕ → List ℕ → ℕ → FileType → Type 0
 IsUndeletedIn image new slot kind = IsUndeleted (disk_tracks image) (content_of (kind_of image) image) (content_of (kind_of image) new) slot kind
+
+-- why the image isn't made: its own fault; its disk isn't sound, or the disk with the file isn't, and this is the first fault; a sector can't be read or written; or memory runs out
+abbrev pub IsNotUndeleted : List ℕ → ℕ → FileType → ShellFault → Type 0
+IsNotUndeleted image slot kind = OrOpenFault image (IsHaltedBy (λ u. IsFirstFault image u
+    ⊎ MakesFault image (λ new. IsUndeleted (disk_tracks image) (content_of (kind_of image) image) new slot kind) u))

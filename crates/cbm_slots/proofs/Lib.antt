@@ -1,2 +1,3 @@
 pub mod CopyingLemmas
 pub mod DeletingLemmas
+pub mod RetypingLemmas

@@ -1,1 +1,2 @@
 pub mod InSlots
+pub mod Retyping

@@ -5,8 +5,10 @@ mod copying;
 mod deleting;
 mod dressing;
 mod meant;
+mod retyping;
 mod spares;
 
 pub use copying::copy;
 pub use deleting::delete;
 pub use dressing::{lock, rename};
+pub use retyping::retype;

@@ -14,7 +14,7 @@ fn changes(verb: Verb) -> bool {
     match verb {
         Verb::Put | Verb::Transfer | Verb::Copy | Verb::Rename | Verb::Delete => true,
         Verb::Undelete | Verb::Lock | Verb::Unlock | Verb::Title | Verb::Validate => true,
-        Verb::Sort | Verb::Errors => true,
+        Verb::Sort | Verb::Errors | Verb::Retype | Verb::Place | Verb::Run => true,
         Verb::Describe | Verb::Build | Verb::Track | Verb::Show | Verb::Diff => false,
         Verb::List | Verb::Find | Verb::Get | Verb::GetAll | Verb::Info => false,
         Verb::Map | Verb::Sector | Verb::Check | Verb::Hash | Verb::New | Verb::Convert => false,
@@ -60,7 +60,11 @@ fn waits_briefly(rt: &HostRuntime, folder: &File) -> bool {
 /// the answer is dropped, or this program ends in whatever way. None where no image is changed, or where the folder can't be
 /// locked.
 pub fn lock(rt: &HostRuntime, line: &ArgMatches<'_>) -> Option<File> {
-    let image = changed_image(line)?;
+    lock_folder(rt, changed_image(line)?)
+}
+
+/// The same for an image that is changed.
+pub fn lock_folder(rt: &HostRuntime, image: &str) -> Option<File> {
     let path = path_of(rt.alloc(), folder_of(image)).ok()?;
     let folder = File::open(rt, path.as_str()).ok()?;
     if !waits_briefly(rt, &folder) {

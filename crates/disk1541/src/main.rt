@@ -4,6 +4,7 @@
 mod lock;
 mod program;
 mod reading;
+mod several;
 mod tasks;
 
 use std::process::ExitCode;

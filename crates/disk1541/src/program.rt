@@ -1,10 +1,12 @@
 //! The program: the words of the command line, the command, the exit status.
 use crate::lock::lock;
+use crate::several::{change_each, images_of};
 use crate::tasks::{carry_out, reads_input};
 use clap::ArgMatches;
 use clap::error::ErrorKind;
-use disk_basics::Failure;
 use disk_basics::host::read_file;
+use disk_basics::{Failure, in_memory};
+use disk_commands::verb_of;
 use disk_looks::Progress;
 use host_files::text_of;
 use std::alloc::AllocError;
@@ -35,10 +37,7 @@ pub fn run_program(rt: &HostRuntime) -> ExitCode {
     if let Some(status) = read_input(rt, &line, &mut input) {
         return ExitCode::from(status);
     }
-    let others_wait = lock(rt, &line);
-    let answer = carry_out(rt, &line, progress, given_of(&line, input.as_slice()));
-    drop(others_wait);
-    match answer {
+    match carried_out(rt, &line, progress, input.as_slice()) {
         Ok(()) => ExitCode::from(0),
         Err(failure) => ended(rt, failure),
     }
@@ -65,6 +64,27 @@ fn read_input(rt: &HostRuntime, line: &ArgMatches<'_>, input: &mut Vec<u8>) -> O
 // Its bytes, if it was read.
 fn given_of<'b>(line: &ArgMatches<'_>, input: &'b [u8]) -> Option<&'b [u8]> {
     if reads_input(line) { Some(input) } else { None }
+}
+
+/// Carries out the command line, on one image or on several.
+fn carried_out<'a>(
+    rt: &HostRuntime,
+    line: &ArgMatches<'a>,
+    progress: Progress,
+    input: &'a [u8],
+) -> Result<(), Failure<'a>> {
+    if let Some((name, words)) = line.subcommand() {
+        if let Some(verb) = verb_of(name) {
+            let images = in_memory(images_of(rt.alloc(), verb, words))?;
+            if images.len() > 1 {
+                return change_each(rt, verb, words, images.as_slice());
+            }
+        }
+    }
+    let others_wait = lock(rt, line);
+    let answer = carry_out(rt, line, progress, given_of(line, input));
+    drop(others_wait);
+    answer
 }
 
 // Reports what went wrong.

@@ -1,11 +1,13 @@
 //! The words of a command as plain values.
+use cbm_medium::Address;
 use cbm_shell::texts::Charset;
 use clap::ArgMatches;
+use disk_basics::placing::Head;
 use disk_basics::{Choice, Failure, WordFault};
 use disk_changes::{Blank, Build, Conversion, HostFiles};
 use disk_commands::{flag, given, option};
 use disk_compare::{Form, Wanted};
-use disk_edits::{Gone, Ordering, Pair};
+use disk_edits::{ErrorDeed, Gone, Pair};
 use disk_looks::{Description, Destination, Mapping, OneFile};
 use disk_reports::View;
 
@@ -26,7 +28,9 @@ pub fn listing(words: &ArgMatches<'_>) -> View {
     if flag(words, "raw") {
         return View::Sent;
     }
-    if flag(words, "deleted") {
+    if flag(words, "blocks") {
+        View::Blocks
+    } else if flag(words, "deleted") {
         View::Deleted
     } else {
         View::Directory
@@ -70,6 +74,39 @@ fn two_names<'a>(words: &ArgMatches<'a>) -> Result<(&'a str, &'a str), Failure<'
     }
 }
 
+/// The word that says the files of DELETE, LOCK and UNLOCK: `--only`, if it is there, else those after the image.
+pub fn patterns_word(words: &ArgMatches<'_>) -> &'static str {
+    if words.get_strs("only").is_some() {
+        "only"
+    } else {
+        "PATTERN"
+    }
+}
+
+/// The new type of a file, and how it is said: with a slot there is one word. Errors: `Word`, where one is missing.
+pub fn type_and_choice<'a>(
+    words: &ArgMatches<'a>,
+    charset: Charset,
+) -> Result<(&'a str, Choice<'a>), Failure<'a>> {
+    let has_slot = option(words, "slot").is_some();
+    match (option(words, "NAME"), option(words, "TYPE")) {
+        (Some(kind), None) if has_slot => Ok((kind, choice(words, "", charset))),
+        (Some(name), Some(kind)) if !has_slot => Ok((kind, choice(words, name, charset))),
+        _ => Err(Failure::Word(WordFault::NameAndType)),
+    }
+}
+
+/// What ERRORS does.
+pub fn error_deed(words: &ArgMatches<'_>) -> ErrorDeed {
+    if flag(words, "add") {
+        return ErrorDeed::Add;
+    }
+    if flag(words, "drop") {
+        return ErrorDeed::Drop(flag(words, "lossy"));
+    }
+    ErrorDeed::Show
+}
+
 /// One file, by its name or by its slot. Errors: `Word`, where it isn't said by one of them.
 fn one_choice<'a>(words: &ArgMatches<'a>, charset: Charset) -> Result<Choice<'a>, Failure<'a>> {
     if option(words, "NAME").is_some() == option(words, "slot").is_some() {
@@ -108,6 +145,7 @@ pub fn one_file<'a>(words: &ArgMatches<'a>, charset: Charset) -> Result<OneFile<
         output: given(words, "output"),
         replaces: flag(words, "replace"),
         salvages: flag(words, "salvage"),
+        is_cvt: flag(words, "cvt"),
     })
 }
 
@@ -117,7 +155,41 @@ pub fn place<'a>(words: &ArgMatches<'a>) -> Destination<'a> {
         folder: given(words, "DIR"),
         replaces: flag(words, "replace"),
         salvages: flag(words, "salvage"),
+        is_cvt: flag(words, "cvt"),
     }
+}
+
+/// How far apart blocks are laid. Errors: `Word`, if it isn't 1 to 20.
+fn interleave<'a>(word: &'a str) -> Result<u8, Failure<'a>> {
+    match word.parse::<u8>() {
+        Ok(interleave @ 1..=20) => Ok(interleave),
+        _ => Err(Failure::Word(WordFault::Interleave(word))),
+    }
+}
+
+/// The sector at which PLACE begins. Errors: `Word`, if no disk has it, or it is the directory's.
+fn first_sector<'a>(track: &'a str, sector: &'a str) -> Result<Address, Failure<'a>> {
+    let Ok(track_number) = track.parse::<u8>() else {
+        return Err(Failure::Word(WordFault::Sector(track)));
+    };
+    let Ok(sector_number) = sector.parse::<u8>() else {
+        return Err(Failure::Word(WordFault::Sector(sector)));
+    };
+    match Address::new(track_number, sector_number) {
+        Some(at) if at.track() == 18 => Err(Failure::Word(WordFault::DirectoryTrack)),
+        Some(at) => Ok(at),
+        None => Err(Failure::Word(WordFault::Sector(sector))),
+    }
+}
+
+/// Where PLACE looks for the first block. Errors: `Word`, if a number can't be.
+pub fn head<'a>(words: &ArgMatches<'a>) -> Result<Head, Failure<'a>> {
+    let first = first_sector(given(words, "track"), given(words, "sector"))?;
+    Ok(Head {
+        track: first.track(),
+        sector: first.sector(),
+        interleave: interleave(given(words, "interleave"))?,
+    })
 }
 
 /// The disk that NEW makes.
@@ -137,6 +209,7 @@ pub fn conversion<'a>(words: &ArgMatches<'a>) -> Conversion<'a> {
     Conversion {
         output: given(words, "OUT"),
         format: option(words, "format"),
+        tracks: option(words, "tracks"),
         is_lossy: flag(words, "lossy"),
         replaces: flag(words, "replace"),
     }
@@ -164,14 +237,6 @@ pub fn gone<'a>(words: &ArgMatches<'a>, charset: Charset) -> Gone<'a> {
         name: given(words, "NAME"),
         kind: option(words, "type").unwrap_or("prg"),
         charset,
-    }
-}
-
-/// How VALIDATE puts a disk in order.
-pub fn ordering(words: &ArgMatches<'_>) -> Ordering {
-    Ordering {
-        is_dry: flag(words, "dry-run"),
-        is_forced: flag(words, "force"),
     }
 }
 

@@ -3,8 +3,9 @@
 ghost use Rattle.std.specs.Prelude.{◌≤◌, length};
 
 use crate::odd::{put_away, put_back, validate_around};
+use cbm_medium::Address;
 use cbm_shell::{DiskChange, Form, Looks, Order, Records, ShellFault, Swap};
-use cbm_volume::FileType;
+use cbm_volume::{Entry, FileType};
 use std::alloc::{AllocError, Global};
 
 /// The image after a change. Errors: `Image`, `Unsound`, `Refused`, `Memory`.
@@ -132,6 +133,24 @@ pub fn lock_in_slot(
     }
 }
 
+/// The image whose file in a slot has another type. Errors: `Image`, `Trouble`, `NotFound`, `Refused` where it has records,
+/// `Unsound`, `Memory`.
+pub fn retype_in_slot(
+    alloc: Global,
+    image: &[u8],
+    slot: u8,
+    kind: FileType,
+) -> Result<Vec<u8>, ShellFault> {
+    match cbm_slots::retype(alloc, image, slot, kind) {
+        Err(ShellFault::Unsound(_)) => {
+            let away = put_away(alloc, image)?;
+            let changed = cbm_slots::retype(alloc, away.image.as_slice(), slot, kind)?;
+            put_back(alloc, image, &away, &changed)
+        }
+        made => made,
+    }
+}
+
 /// The image without the file in a slot. Errors: `Image`, `Trouble`, `NotFound`, `Refused`, `Unsound`, `Memory`.
 pub fn delete_in_slot(alloc: Global, image: &[u8], slot: u8) -> Result<Vec<u8>, ShellFault> {
     match cbm_slots::delete(alloc, image, slot) {
@@ -151,6 +170,43 @@ fn delete_around(alloc: Global, image: &[u8], slot: u8) -> Result<Vec<u8>, Shell
     }
     let changed = cbm_slots::delete(alloc, away.image.as_slice(), slot)?;
     put_back(alloc, image, &away, &changed)
+}
+
+/// The image whose file in a slot lies at these places. Errors: `Image`, `Unsound`, `NotFound`, `NotClosed`, `Mistaken`, `Trouble`,
+/// `Memory`.
+pub fn place(
+    alloc: Global,
+    image: &[u8],
+    slot: u8,
+    places: &[Address],
+) -> Result<Vec<u8>, ShellFault> {
+    match cbm_place::place(alloc, image, slot, places) {
+        Err(ShellFault::Unsound(_)) => {
+            let away = put_away(alloc, image)?;
+            let changed = cbm_place::place(alloc, away.image.as_slice(), slot, places)?;
+            put_back(alloc, image, &away, &changed)
+        }
+        made => made,
+    }
+}
+
+/// The image whose file in a slot has these blocks, as many as before, and this entry. Errors: `Image`, `Unsound`, `NotFound`,
+/// `NotClosed`, `Mistaken`, `Trouble`, `Memory`.
+pub fn carve(
+    alloc: Global,
+    image: &[u8],
+    slot: u8,
+    entry: &Entry,
+    blocks: &[[u8; 256]],
+) -> Result<Vec<u8>, ShellFault> {
+    match cbm_place::carve(alloc, image, slot, entry, blocks) {
+        Err(ShellFault::Unsound(_)) => {
+            let away = put_away(alloc, image)?;
+            let changed = cbm_place::carve(alloc, away.image.as_slice(), slot, entry, blocks)?;
+            put_back(alloc, image, &away, &changed)
+        }
+        made => made,
+    }
 }
 
 /// The image with another title, of at most sixteen codes. Errors: `Image`, `Trouble`, `Memory`.

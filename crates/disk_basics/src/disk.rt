@@ -38,6 +38,11 @@ impl Disk {
         self.disk.salvage(alloc, entry)
     }
 
+    /// Where the blocks of an entry's file lie, in order. The one error is want of memory.
+    pub fn blocks(&self, alloc: Global, entry: &Entry) -> Result<Vec<Address>, AllocError> {
+        cbm_place::blocks_of(alloc, &self.disk, entry)
+    }
+
     /// All that is wrong with it. Errors: `Trouble`, `Memory`.
     pub fn flaws(&self, alloc: Global) -> Result<Vec<DiskFlaw>, ShellFault> {
         self.disk.flaws(alloc)

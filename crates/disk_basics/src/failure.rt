@@ -56,6 +56,16 @@ pub enum Failure<'a> {
     NoCircles(&'a str),
     /// An image has no error bytes.
     NoErrorBytes(&'a str),
+    /// An image has error bytes already.
+    HasErrorBytes(&'a str),
+    /// An image can't have error bytes.
+    NoErrorRoom(&'a str),
+    /// A file isn't one of GEOS.
+    NotGeos(&'a str),
+    /// A file of GEOS lies on a disk or in an archive of another kind, of which no CVT is made.
+    GeosElsewhere(&'a str),
+    /// A relative file has no other type.
+    RelativeType(&'a str),
     /// No file has the name or the slot that was said.
     NoFile(&'a str),
     /// A file is locked, and so isn't deleted or replaced.
@@ -72,6 +82,14 @@ pub enum Failure<'a> {
     GeosRecords(&'a str),
     /// A relative file isn't copied.
     Records(&'a str),
+    /// A relative file isn't laid elsewhere.
+    RecordsPlace(&'a str),
+    /// A CVT ends before the blocks that it says it has.
+    CutOff(&'a str),
+    /// A file has the name of a CVT's, and isn't replaced.
+    GeosThere(&'a str),
+    /// Too few blocks are free for a file from the place on that was said.
+    NoPlace(&'a str),
     /// What went wrong was reported, and ends the program with this status.
     Ended(u8),
     /// No file of an image matches what is looked for.
@@ -184,6 +202,29 @@ impl<'a> Failure<'a> {
                 )
             }
             Failure::NoErrorBytes(name) => eprintln!(rt; "disk1541: {name} has no error bytes"),
+            Failure::HasErrorBytes(name) => {
+                eprintln!(rt; "disk1541: {name} has error bytes already")
+            }
+            Failure::NoErrorRoom(name) => {
+                eprintln!(rt;
+                    "disk1541: {name} can't have error bytes: a D64 of 35 tracks has them, and no other image here"
+                )
+            }
+            Failure::NotGeos(name) => {
+                eprintln!(rt;
+                    "disk1541: {name} is no file of GEOS, and so no CVT is made of it: leave --cvt out"
+                )
+            }
+            Failure::GeosElsewhere(name) => {
+                eprintln!(rt;
+                    "disk1541: {name}: a CVT is made of the files of a D64 or a G64 alone"
+                )
+            }
+            Failure::RelativeType(name) => {
+                eprintln!(rt;
+                    "disk1541: {name} is a relative file, and stays one: its records are found by side sectors, which no other type has"
+                )
+            }
             Failure::NoFile(name) => {
                 eprintln!(rt; "disk1541: no file of the disk has the name or the slot {name}")
             }
@@ -206,12 +247,30 @@ impl<'a> Failure<'a> {
             }
             Failure::GeosRecords(name) => {
                 eprintln!(rt;
-                    "disk1541: {name} is a file that GEOS keeps in records: `get` takes its index alone, and does so by --salvage"
+                    "disk1541: {name} is a file that GEOS keeps in records: `get --cvt` takes it whole, --salvage its index alone"
                 )
             }
             Failure::Records(name) => {
                 eprintln!(rt;
                     "disk1541: {name} is a relative file, which the drive doesn't copy: take it out by `get -o FILE.r00`, and put that by --name"
+                )
+            }
+            Failure::RecordsPlace(name) => {
+                eprintln!(rt;
+                    "disk1541: {name} is a relative file, whose side sectors name its blocks: it stays where it is"
+                )
+            }
+            Failure::CutOff(name) => {
+                eprintln!(rt; "disk1541: {name} is a CVT that was cut off: it isn't put")
+            }
+            Failure::GeosThere(name) => {
+                eprintln!(rt;
+                    "disk1541: {name}: a file of that name is there: take another by --name, or `delete` it and `validate`"
+                )
+            }
+            Failure::NoPlace(name) => {
+                eprintln!(rt;
+                    "disk1541: {name}: too few blocks are free from there on: take a lower track"
                 )
             }
             Failure::NoMemory => eprintln!(rt; "disk1541: memory ran out"),

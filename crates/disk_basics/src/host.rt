@@ -79,9 +79,15 @@ pub fn read_to_change<'a, R: Runtime + AllocGlobal>(
     name: &'a str,
 ) -> Result<Vec<u8>, Failure<'a>> {
     let bytes = read_image(rt, name)?;
-    match wide_map(bytes.as_slice()) {
+    require_own_map(name, bytes.as_slice())?;
+    Ok(bytes)
+}
+
+/// Refuses an image on which Dolphin DOS has its map of tracks 36 to 40. The one error is `OtherMap`.
+pub fn require_own_map<'a>(name: &'a str, image: &[u8]) -> Result<(), Failure<'a>> {
+    match wide_map(image) {
         Some(WideMap::Dolphin | WideMap::Both) => Err(Failure::OtherMap(name)),
-        Some(WideMap::Speed) | None => Ok(bytes),
+        Some(WideMap::Speed) | None => Ok(()),
     }
 }
 

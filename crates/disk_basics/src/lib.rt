@@ -13,6 +13,7 @@ pub mod host;
 mod kinds;
 mod names;
 pub mod odd;
+pub mod placing;
 mod refusal;
 pub mod spare;
 pub mod swaps;

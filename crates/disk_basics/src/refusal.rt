@@ -51,7 +51,7 @@ fn tell_trouble(rt: &impl Eprint, name: &str, trouble: Trouble) -> io::Result<()
 fn way_out(trouble: Trouble) -> &'static str {
     match trouble.code {
         20..=29 =>
-            "`disk1541 check --all` names the files at fault, which `delete --force` takes out; where it names none, `errors --drop` drops the error bytes of a D64, and `convert --lossy` makes a D64 of a G64",
+            "`disk1541 check --all` names the files at fault, which `delete --force` takes out; where it names none, `errors --drop --lossy` drops the error bytes of a D64, and `convert --lossy` makes a D64 of a G64",
         _ =>
             "`disk1541 check --all` names the files at fault, which `delete --force` takes out; where it names none, the directory is at fault: `get-all --salvage` takes the files out",
     }

@@ -1,9 +1,11 @@
 //! BUILD: an image of the disk that a recipe describes.
 mod bench;
+mod laid;
 mod lines;
 mod ordered;
 
 use self::bench::{Bench, told};
+use self::laid::Lane;
 use self::lines::with_lines;
 use crate::blanks::{Blank, blank_image};
 use cbm_shell::texts::Charset;
@@ -104,7 +106,8 @@ fn built<'r, R: Runtime + AllocGlobal>(
         folder,
         charset,
     };
-    with_lines(rt, bench, recipe.lines.as_slice(), blank)
+    let lane = Lane::of(recipe)?;
+    with_lines(rt, bench, lane, recipe.lines.as_slice(), blank)
 }
 
 /// The image of the disk that a recipe describes; what is wrong with its lines is reported.

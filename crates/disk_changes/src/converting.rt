@@ -1,9 +1,10 @@
-//! CONVERT: the image in the other format.
+//! CONVERT: the image in the other format, or with other tracks.
 mod losses;
+mod tracks;
 
 use self::losses::tell_lost;
+use self::tracks::with_tracks;
 use cbm_image::{Kind, kind_of};
-use cbm_shell::Converted;
 use disk_basics::calls::convert;
 use disk_basics::host::{require_new, write};
 use disk_basics::{Failure, WordFault, on_disk};
@@ -17,6 +18,8 @@ pub struct Conversion<'a> {
     pub output: &'a str,
     /// The word that says its format.
     pub format: Option<&'a str>,
+    /// The word that says how many tracks it has.
+    pub tracks: Option<&'a str>,
     /// It may lack something.
     pub is_lossy: bool,
     /// An image that is there is replaced.
@@ -27,12 +30,26 @@ pub struct Conversion<'a> {
 fn write_converted<'a, R: Runtime + AllocGlobal>(
     rt: &R,
     wanted: &Conversion<'a>,
-    new: &Converted,
+    new: &[u8],
+    is_lossy: bool,
 ) -> Result<(), Failure<'a>> {
-    if !wanted.is_lossy && !new.lost.is_none() {
+    if !wanted.is_lossy && is_lossy {
         return Err(Failure::Lossy(wanted.output));
     }
-    write(rt, wanted.output, new.image.as_slice(), Sync::Before)
+    write(rt, wanted.output, new, Sync::Before)
+}
+
+/// Makes a D64 of the bytes of another one, with 35 tracks or 40.
+fn convert_tracks<'a, R: Runtime + AllocGlobal>(
+    rt: &R,
+    image: &'a str,
+    bytes: &[u8],
+    wanted: &Conversion<'a>,
+    tracks: &'a str,
+) -> Result<(), Failure<'a>> {
+    require_new(rt, wanted.output, wanted.replaces)?;
+    let (new, is_lossy) = with_tracks(rt, image, bytes, wanted.output, tracks)?;
+    write_converted(rt, wanted, new.as_slice(), is_lossy)
 }
 
 /// Refuses to make an image in the format that it has.
@@ -43,8 +60,17 @@ fn require_other<'a>(image: &'a str, old: Kind, kind: Kind) -> Result<(), Failur
     Ok(())
 }
 
-/// Makes a G64 of the bytes of a D64, or a D64 of a G64's, if nothing is there, and reports what it lacks. Errors: `Word`, where the
-/// image has that format already; `Exists`; `Disk`; `Lossy`, where the new image would lack something; `Write`.
+/// A disk of one of the two formats has 35 tracks in the other one.
+fn require_35<'a>(tracks: Option<&'a str>) -> Result<(), Failure<'a>> {
+    match tracks {
+        None | Some("35") => Ok(()),
+        Some("40") => Err(Failure::Word(WordFault::LongG64)),
+        Some(word) => Err(Failure::Word(WordFault::Tracks(word))),
+    }
+}
+
+/// Makes a G64 of the bytes of a D64, a D64 of a G64's, or a D64 of a D64 with other tracks, if nothing is there, and reports what it
+/// lacks. Errors: those of `with_tracks`; `Word`, where the image has that format already; `Exists`; `Disk`; `Lossy`, where the new image would lack something; `Write`.
 pub fn convert_from<'a, R: Runtime + AllocGlobal>(
     rt: &R,
     image: &'a str,
@@ -53,9 +79,13 @@ pub fn convert_from<'a, R: Runtime + AllocGlobal>(
     kind: Kind,
 ) -> Result<(), Failure<'a>> {
     let old = kind_of(bytes);
+    if let (Kind::D64, Kind::D64, Some(tracks)) = (old, kind, wanted.tracks) {
+        return convert_tracks(rt, image, bytes, wanted, tracks);
+    }
     require_other(image, old, kind)?;
+    require_35(wanted.tracks)?;
     require_new(rt, wanted.output, wanted.replaces)?;
     let new = on_disk(image, convert(rt.alloc(), bytes))?;
     let _ = tell_lost(rt, wanted.output, &new.lost, old);
-    write_converted(rt, wanted, &new)
+    write_converted(rt, wanted, new.image.as_slice(), !new.lost.is_none())
 }

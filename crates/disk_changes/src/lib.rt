@@ -4,11 +4,12 @@
 mod blanks;
 mod building;
 mod converting;
+mod cvt;
 mod putting;
 mod stored;
 
 pub use blanks::{Blank, make};
 pub use building::{Build, build_image};
 pub use converting::{Conversion, convert_from};
-pub use putting::{HostFiles, put};
+pub use putting::{HostFiles, require_files, with_files};
 pub use stored::{Stored, with_stored};

@@ -1,9 +1,10 @@
 //! PUT: files of the host into the image.
+use crate::cvt::{Cvt, cvt_of, is_cvt_name, name_in, with_cvt};
 use crate::stored::{Stored, open_text, put_answer, with_stored};
 use cbm_shell::texts::Charset;
 use cbm_shell::{DiskChange, unwrapped};
 use disk_basics::changing::changes;
-use disk_basics::host::{is_standard, read_file, read_to_change, replace};
+use disk_basics::host::{is_standard, read_file, require_own_map};
 use disk_basics::{
     Failure, FileKind, WordFault, file_name, in_memory, is_wrapped_name, kind_of_file,
     name_of_file, require_name,
@@ -125,6 +126,22 @@ fn read_given<'a, R: Runtime + AllocGlobal>(
     }
 }
 
+/// The image with the file of GEOS on it that a CVT is.
+fn put_cvt<'a>(
+    alloc: Global,
+    image: &'a str,
+    old: &[u8],
+    file: &'a str,
+    put: &HostFiles<'a>,
+    cvt: &Cvt<'_>,
+) -> Result<Vec<u8>, Failure<'a>> {
+    let name = match put.name {
+        Some(name) => file_name(alloc, put.charset, name)?,
+        None => in_memory(Vec::from_slice(alloc, name_in(cvt)))?,
+    };
+    with_cvt(alloc, image, old, file, cvt, name.as_slice())
+}
+
 /// The image with a file on it.
 fn put_one<'a, R: Runtime + AllocGlobal>(
     rt: &R,
@@ -134,6 +151,9 @@ fn put_one<'a, R: Runtime + AllocGlobal>(
     put: &HostFiles<'a>,
 ) -> Result<Vec<u8>, Failure<'a>> {
     let bytes = read_given(rt, file, put)?;
+    if let Some(cvt) = cvt_of(file, bytes.as_slice()) {
+        return put_cvt(rt.alloc(), image, old, file, put, &cvt);
+    }
     let body = body_of(file, bytes.as_slice());
     put_body(rt.alloc(), image, old, file, put, body)
 }
@@ -173,7 +193,7 @@ fn end_of(put: &HostFiles<'_>, file: &str) -> Option<&'static [u8]> {
 /// Whether all files are files of bytes.
 fn are_plain(files: &[&str], put: &HostFiles<'_>) -> bool {
     for file in files {
-        if end_of(put, *file).is_none() {
+        if is_cvt_name(*file) || end_of(put, *file).is_none() {
             return false;
         }
     }
@@ -327,28 +347,28 @@ fn require_one<'a>(files: &[&str], put: &HostFiles<'a>) -> Result<(), Failure<'a
     Ok(())
 }
 
-/// Puts the files on the disk of an image, and saves it.
-fn save_files<'a, R: Runtime + AllocGlobal>(
-    rt: &R,
-    image: &'a str,
-    files: &[&'a str],
-    put: &HostFiles<'a>,
-) -> Result<(), Failure<'a>> {
-    let old = read_to_change(rt, image)?;
-    let new = put_all(rt, image, old.as_slice(), files, put)?;
-    replace(rt, image, old.as_slice(), new.as_slice())
-}
-
-/// Puts files of the host on the disk, all of them or none. Errors: `Word`, where standard input is wanted twice, one
-/// name is given for several files, or a name, a type or a length can't be; those of `read_to_change` and of `read_file`;
-/// `Disk`, where the drive or the disk refuses it; `NoMemory`; those of `replace`.
-pub fn put<'a, R: Runtime + AllocGlobal>(
-    rt: &R,
-    image: &'a str,
+/// Refuses words that don't fit together. The one error is `Word`, where standard input is wanted twice, or one name is given for
+/// several files.
+pub fn require_files<'a>(
+    image: &str,
     files: &[&'a str],
     put: &HostFiles<'a>,
 ) -> Result<(), Failure<'a>> {
     require_once(image, files)?;
-    require_one(files, put)?;
-    save_files(rt, image, files, put)
+    require_one(files, put)
+}
+
+/// The image with files of the host on its disk, all of them or none. Errors: those of `require_files` and of `read_file`;
+/// `OtherMap`, where Dolphin DOS has its map on the disk; `Word`, where a name, a type or a length can't be; `Disk`, where the drive
+/// or the disk refuses it; `NoMemory`.
+pub fn with_files<'a, R: Runtime + AllocGlobal>(
+    rt: &R,
+    image: &'a str,
+    old: &[u8],
+    files: &[&'a str],
+    put: &HostFiles<'a>,
+) -> Result<Vec<u8>, Failure<'a>> {
+    require_files(image, files, put)?;
+    require_own_map(image, old)?;
+    put_all(rt, image, old, files, put)
 }

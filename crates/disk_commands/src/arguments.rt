@@ -1,5 +1,5 @@
 //! The command line, as clap reads it.
-use crate::commands::{Command, changing_commands, examples_of, looking_commands};
+use crate::commands::{Command, changing_commands, examples_of, looking_commands, making_commands};
 use crate::words::{Mark, Word};
 use clap::{Arg, ArgMatches, Error};
 use std::alloc::{AllocError, Global};
@@ -73,6 +73,7 @@ fn add_subcommands<'a>(
 fn subcommands<'a>(alloc: Global) -> Result<Vec<clap::Command<'a>>, AllocError> {
     let mut subcommands = Vec::new(alloc);
     add_subcommands(alloc, &mut subcommands, looking_commands())?;
+    add_subcommands(alloc, &mut subcommands, making_commands())?;
     add_subcommands(alloc, &mut subcommands, changing_commands())?;
     Ok(subcommands)
 }

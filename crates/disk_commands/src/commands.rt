@@ -1,11 +1,12 @@
 //! The commands.
 use crate::words::{
-    ALL, BASIC, BY, CHARSET, CIRCLE, CSV, DELETED, DROP, DRY_RUN, EXACT, FILES, FILES_FOLDER,
-    FIRST, FOLDER, FORCE, FORCE_FAULT, FORMAT, FROM, HEX, ID, IMAGE, IMAGES, JSON, JSON_OBJECT,
-    LOSSY, MEANT, NAME, NAME_ON_DISK, NAME_OR_SLOT, NEW, NEW_ID, NEW_TITLE, OLD, ONLY, OUT, OUTPUT,
-    RAW, RECIPE, RECORD, RECURSIVE, REPLACE_FILE, REPLACE_FILES, REPLACE_IMAGE, REPLACE_NAME,
-    SALVAGE, SCREEN_CHARSET, SECOND, SECTOR, SLOT, SVG, TEXT, TITLE, TRACK, TRACKS, TRANSFERRED,
-    TYPE, TYPE_AGAIN, WANTED, WITH_FILES, Word,
+    ADD, ALL, BASIC, BLOCKS, BY, CHARSET, CIRCLE, CSV, CVT, CVT_ALL, DELETED, DROP, DRY_RUN, EXACT,
+    FILES, FILES_FOLDER, FIRST, FOLDER, FORCE, FORCE_FAULT, FORMAT, FROM, HEX, ID, IMAGE, IMAGES,
+    INTERLEAVE, JSON, JSON_OBJECT, LINES, LOSSY, LOSSY_DROP, MEANT, NAME, NAME_ON_DISK,
+    NAME_OR_SLOT, NEW, NEW_ID, NEW_TITLE, NEW_TRACKS, NEW_TYPE, OF_ALL, OLD, ONLY, ORDERED, OUT,
+    OUTPUT, PLACED, RAW, RECIPE, RECORD, RECURSIVE, REPLACE_FILE, REPLACE_FILES, REPLACE_IMAGE,
+    REPLACE_NAME, SALVAGE, SCREEN_CHARSET, SECOND, SECTOR, SECTOR_FROM, SLOT, SVG, TEXT, TITLE,
+    TRACK, TRACK_FROM, TRACKS, TRANSFERRED, TYPE, TYPE_AGAIN, WANTED, WITH_FILES, Word,
 };
 
 /// What help says at the end: examples, and the exit statuses.
@@ -14,7 +15,7 @@ macro_rules! examples {
         concat!(
             "Examples:\n",
             $lines,
-            "\nExit status: 0 done, 1 the disk or the drive refused, 2 not a disk image, 3 a file of this computer\nor memory, 4 some of several images are unsound or not images, 64 the command line"
+            "\nExit status: 0 done, 1 the disk or the drive refused, 2 not a disk image, 3 a file of this computer\nor memory, 4 some of several images are refused, unsound or not images, 64 the command line"
         )
     };
 }
@@ -66,6 +67,8 @@ pub enum Verb {
     Delete,
     /// Gives a deleted file back.
     Undelete,
+    /// Lays files on other blocks.
+    Place,
     /// Locks files against DELETE.
     Lock,
     /// Frees them.
@@ -76,8 +79,12 @@ pub enum Verb {
     Sort,
     /// Gives lost blocks back.
     Validate,
-    /// Shows the error bytes of a D64, or drops them.
+    /// Shows the error bytes of a D64, adds them or drops them.
     Errors,
+    /// Gives a file another type.
+    Retype,
+    /// Carries out several commands in one save.
+    Run,
 }
 
 /// A command.
@@ -104,7 +111,9 @@ const LOOKING: &[Command] = &[
         verb: Verb::List,
         name: "list",
         about: "Show the directory",
-        words: &[IMAGES, RECURSIVE, ONLY, RAW, DELETED, JSON, CSV, CHARSET],
+        words: &[
+            IMAGES, RECURSIVE, ONLY, RAW, DELETED, BLOCKS, JSON, CSV, CHARSET,
+        ],
     },
     Command {
         verb: Verb::Find,
@@ -122,6 +131,7 @@ const LOOKING: &[Command] = &[
             OUTPUT,
             REPLACE_FILE,
             SALVAGE,
+            CVT,
             SLOT,
             EXACT,
             CHARSET,
@@ -131,7 +141,7 @@ const LOOKING: &[Command] = &[
         verb: Verb::GetAll,
         name: "get-all",
         about: "Take all files out, into a folder",
-        words: &[IMAGE, FOLDER, REPLACE_FILES, SALVAGE],
+        words: &[IMAGE, FOLDER, REPLACE_FILES, SALVAGE, CVT_ALL],
     },
     Command {
         verb: Verb::Show,
@@ -198,8 +208,8 @@ const LOOKING: &[Command] = &[
     },
 ];
 
-/// The commands that make and change disks, in the order of help.
-const CHANGING: &[Command] = &[
+/// The commands that make disks and bring files to them, in the order of help.
+const MAKING: &[Command] = &[
     Command {
         verb: Verb::New,
         name: "new",
@@ -215,8 +225,8 @@ const CHANGING: &[Command] = &[
     Command {
         verb: Verb::Convert,
         name: "convert",
-        about: "Convert a D64 to a G64 or back, other disks and archives to either",
-        words: &[IMAGE, OUT, FORMAT, LOSSY, REPLACE_IMAGE],
+        about: "Convert a D64 to a G64, to other tracks, or back; other disks to either",
+        words: &[IMAGE, OUT, FORMAT, NEW_TRACKS, LOSSY, REPLACE_IMAGE],
     },
     Command {
         verb: Verb::Put,
@@ -238,6 +248,10 @@ const CHANGING: &[Command] = &[
         about: "Copy files from another disk or archive",
         words: &[FROM, IMAGE, TRANSFERRED, REPLACE_NAME, DRY_RUN, CHARSET],
     },
+];
+
+/// The commands that change what is on disks, in the order of help.
+const CHANGING: &[Command] = &[
     Command {
         verb: Verb::Copy,
         name: "copy",
@@ -254,7 +268,16 @@ const CHANGING: &[Command] = &[
         verb: Verb::Delete,
         name: "delete",
         about: "Delete files",
-        words: &[IMAGE, MEANT, FORCE_FAULT, SLOT, EXACT, CHARSET],
+        words: &[
+            IMAGE,
+            MEANT,
+            OF_ALL,
+            DRY_RUN,
+            FORCE_FAULT,
+            SLOT,
+            EXACT,
+            CHARSET,
+        ],
     },
     Command {
         verb: Verb::Undelete,
@@ -266,19 +289,39 @@ const CHANGING: &[Command] = &[
         verb: Verb::Lock,
         name: "lock",
         about: "Lock files, so that they can't be deleted",
-        words: &[IMAGE, MEANT, SLOT, EXACT, CHARSET],
+        words: &[IMAGE, MEANT, OF_ALL, DRY_RUN, SLOT, EXACT, CHARSET],
     },
     Command {
         verb: Verb::Unlock,
         name: "unlock",
         about: "Unlock files",
-        words: &[IMAGE, MEANT, SLOT, EXACT, CHARSET],
+        words: &[IMAGE, MEANT, OF_ALL, DRY_RUN, SLOT, EXACT, CHARSET],
     },
     Command {
         verb: Verb::Title,
         name: "title",
         about: "Change the disk's title, and its id",
         words: &[IMAGE, NEW_TITLE, NEW_ID, CHARSET],
+    },
+    Command {
+        verb: Verb::Place,
+        name: "place",
+        about: "Move files to other blocks, for loaders that go by their order",
+        words: &[
+            IMAGE,
+            PLACED,
+            INTERLEAVE,
+            TRACK_FROM,
+            SECTOR_FROM,
+            DRY_RUN,
+            CHARSET,
+        ],
+    },
+    Command {
+        verb: Verb::Retype,
+        name: "retype",
+        about: "Change a file's type",
+        words: &[IMAGE, NAME_OR_SLOT, NEW_TYPE, SLOT, EXACT, CHARSET],
     },
     Command {
         verb: Verb::Sort,
@@ -290,13 +333,19 @@ const CHANGING: &[Command] = &[
         verb: Verb::Validate,
         name: "validate",
         about: "Validate: free unused blocks and remove unclosed files",
-        words: &[IMAGE, DRY_RUN, FORCE],
+        words: &[ORDERED, DRY_RUN, FORCE],
     },
     Command {
         verb: Verb::Errors,
         name: "errors",
-        about: "Show the error bytes of a D64, or drop them",
-        words: &[IMAGE, DROP],
+        about: "Show the error bytes of a D64, add them or drop them",
+        words: &[IMAGE, ADD, DROP, LOSSY_DROP],
+    },
+    Command {
+        verb: Verb::Run,
+        name: "run",
+        about: "Carry out several commands on an image, all or none",
+        words: &[IMAGE, LINES, DRY_RUN],
     },
 ];
 
@@ -305,7 +354,12 @@ pub fn looking_commands() -> &'static [Command] {
     LOOKING
 }
 
-/// The commands that make and change disks, in the order of help.
+/// The commands that make disks and bring files to them, in the order of help.
+pub fn making_commands() -> &'static [Command] {
+    MAKING
+}
+
+/// The commands that change what is on disks, in the order of help.
 pub fn changing_commands() -> &'static [Command] {
     CHANGING
 }
@@ -322,7 +376,10 @@ fn verb_in(commands: &[Command], name: &str) -> Option<Verb> {
 
 /// The command of a name; None where there is none.
 pub fn verb_of(name: &str) -> Option<Verb> {
-    match verb_in(looking_commands(), name) {
+    if let Some(verb) = verb_in(looking_commands(), name) {
+        return Some(verb);
+    }
+    match verb_in(making_commands(), name) {
         Some(verb) => Some(verb),
         None => verb_in(changing_commands(), name),
     }
@@ -332,13 +389,13 @@ pub fn verb_of(name: &str) -> Option<Verb> {
 pub fn examples_of(verb: Verb) -> &'static str {
     match verb {
         Verb::List => examples!(
-            "  disk1541 list game.d64\n  disk1541 list game.d64 --only 'A*' --charset lower\n  disk1541 list -r disks/ --json\n  disk1541 list -r disks/ --csv > files.csv\n"
+            "  disk1541 list game.d64\n  disk1541 list game.d64 --only 'A*' --charset lower\n  disk1541 list game.d64 --blocks    where each file lies\n  disk1541 list -r disks/ --json\n  disk1541 list -r disks/ --csv > files.csv\n"
         ),
         Verb::Find => examples!(
             "  disk1541 find 'HISCORE*' *.d64 *.d81\n  disk1541 find -r 'HISCORE*' disks/\n"
         ),
         Verb::Get => examples!(
-            "  disk1541 get game.d64 LOADER -o loader.prg\n  disk1541 get game.d64 '{c1}*' > first\n  disk1541 get bad.d64 --salvage 'LEVEL*' -o level.bin\n  disk1541 get odd.d64 --exact 'ST*R1' -o star.prg\n"
+            "  disk1541 get game.d64 LOADER -o loader.prg\n  disk1541 get game.d64 '{c1}*' > first\n  disk1541 get bad.d64 --salvage 'LEVEL*' -o level.bin\n  disk1541 get geos.d64 LETTER --cvt -o letter.cvt\n  disk1541 get odd.d64 --exact 'ST*R1' -o star.prg\n"
         ),
         Verb::GetAll => examples!("  disk1541 get-all game.d64 files\n"),
         Verb::Show => examples!(
@@ -367,7 +424,7 @@ pub fn examples_of(verb: Verb) -> &'static str {
             "  disk1541 new work.d64 --title WORK --id 64\n  disk1541 new work.g64 --title WORK --id 64\n"
         ),
         Verb::Convert => examples!(
-            "  disk1541 convert game.d64 game.g64\n  disk1541 convert games.d81 games.d64    its files, on a new disk\n"
+            "  disk1541 convert game.d64 game.g64\n  disk1541 convert games.d81 games.d64    its files, on a new disk\n  disk1541 convert game.d64 long.d64 --tracks 40\n"
         ),
         Verb::Put => examples!(
             "  disk1541 put work.d64 loader.prg levels.seq\n  disk1541 put work.d64 out.bin --name LOADER --replace\n"
@@ -380,22 +437,35 @@ pub fn examples_of(verb: Verb) -> &'static str {
             "  disk1541 rename work.d64 LOADER START\n  disk1541 rename odd.d64 --exact 'ST*R1' STAR1\n  disk1541 rename odd.d64 --slot 3 START\n"
         ),
         Verb::Delete => examples!(
-            "  disk1541 delete work.d64 BACKUP 'OLD*'\n  disk1541 delete --force bad.d64 'LEVEL*'    remove files at fault, if `validate` refuses the disk\n"
+            "  disk1541 delete work.d64 BACKUP 'OLD*'\n  disk1541 delete --force bad.d64 'LEVEL*'    remove files at fault, if `validate` refuses the disk\n  disk1541 delete *.d64 --only 'OLD*' --dry-run    what would go from several images\n"
         ),
         Verb::Undelete => examples!(
             "  disk1541 list --deleted work.d64    which files were deleted\n  disk1541 undelete work.d64 BACKUP\n"
         ),
-        Verb::Lock => examples!("  disk1541 lock work.d64 START 'LEVEL*'\n"),
+        Verb::Lock => examples!(
+            "  disk1541 lock work.d64 START 'LEVEL*'\n  disk1541 lock *.d64 --only 'LEVEL*'    files of several images\n"
+        ),
         Verb::Unlock => examples!("  disk1541 unlock work.d64 '*'\n"),
+        Verb::Place => examples!(
+            "  disk1541 place demo.d64 LOADER --track 17 --interleave 4\n  disk1541 place demo.d64 'PART*' --interleave 4 --dry-run    where they would lie\n"
+        ),
         Verb::Sort => examples!("  disk1541 sort work.d64\n  disk1541 sort work.d64 --by size\n"),
         Verb::Title => examples!(
             "  disk1541 title work.d64 'MY GAME'\n  disk1541 title work.d64 'MY GAME' --id 64\n"
         ),
         Verb::Errors => {
-            examples!("  disk1541 errors game.d64\n  disk1541 errors game.d64 --drop\n")
+            examples!(
+                "  disk1541 errors game.d64\n  disk1541 errors game.d64 --add\n  disk1541 errors game.d64 --drop\n"
+            )
         }
+        Verb::Retype => examples!(
+            "  disk1541 retype work.d64 NOTES seq\n  disk1541 retype work.d64 --slot 3 usr\n"
+        ),
+        Verb::Run => examples!(
+            "  disk1541 run work.d64 changes.txt    lines as: rename LOADER START\n  disk1541 run work.d64 changes.txt --dry-run    what would change\n"
+        ),
         Verb::Validate => examples!(
-            "  disk1541 validate work.d64 --dry-run    what would go\n  disk1541 validate work.d64\n"
+            "  disk1541 validate work.d64 --dry-run    what would go\n  disk1541 validate work.d64\n  disk1541 validate *.d64\n"
         ),
     }
 }

@@ -1,5 +1,5 @@
 //! The help of all commands: those that look, and those that change.
-use crate::commands::{Command, EXAMPLES, changing_commands, looking_commands};
+use crate::commands::{Command, EXAMPLES, changing_commands, looking_commands, making_commands};
 use std::alloc::{AllocError, Global};
 
 /// What stands above the commands.
@@ -43,8 +43,9 @@ pub fn help_text(alloc: Global) -> Result<String, AllocError> {
     push_group(
         &mut text,
         "\nCommands that change disks:\n",
-        changing_commands(),
+        making_commands(),
     )?;
+    push_group(&mut text, "", changing_commands())?;
     text.push_str(OPTIONS)?;
     text.push_str(EXAMPLES)?;
     Ok(text)

@@ -229,10 +229,33 @@ pub const SALVAGE: Word = Word {
     ..FLAG
 };
 
+/// GET of a file of GEOS.
+pub const CVT: Word = Word {
+    name: "cvt",
+    help: "a file of GEOS as CVT, with its info block and its records",
+    excludes: &["salvage"],
+    ..FLAG
+};
+
+/// GET-ALL of files of GEOS.
+pub const CVT_ALL: Word = Word {
+    help: "files of GEOS as CVT, with their info blocks and their records",
+    ..CVT
+};
+
 /// ERRORS that drops them.
 pub const DROP: Word = Word {
     name: "drop",
     help: "save the image without its error bytes",
+    excludes: &["add"],
+    ..FLAG
+};
+
+/// ERRORS that adds them.
+pub const ADD: Word = Word {
+    name: "add",
+    help: "save the image with error bytes, each 1 (no error)",
+    excludes: &["drop"],
     ..FLAG
 };
 
@@ -325,6 +348,19 @@ pub const LOSSY: Word = Word {
     ..FLAG
 };
 
+/// ERRORS that drops those that tell of an error, too.
+pub const LOSSY_DROP: Word = Word {
+    help: "with --drop: also if some tell of an error",
+    ..LOSSY
+};
+
+/// How many tracks CONVERT's D64 has.
+pub const NEW_TRACKS: Word = Word {
+    help: "35 or 40: the D64 of a D64 with other tracks",
+    default: &[],
+    ..TRACKS
+};
+
 /// The files that PUT reads.
 pub const FILES: Word = Word {
     name: "FILE",
@@ -375,6 +411,72 @@ pub const MEANT: Word = Word {
     name: "PATTERN",
     help: "file names or patterns (`?` one character, `*` the rest)",
     action: ArgAction::Append,
+    is_needed: false,
+    ..NEEDED
+};
+
+/// The files that PLACE moves.
+pub const PLACED: Word = Word {
+    help: "file names or patterns, in the order in which they are laid",
+    is_needed: true,
+    ..MEANT
+};
+
+/// How far apart PLACE lays blocks.
+pub const INTERLEAVE: Word = Word {
+    name: "interleave",
+    help: "how many sectors behind one block the next is laid, 1 to 20",
+    value: &["N"],
+    default: &["10"],
+    ..OPTION
+};
+
+/// The track on which PLACE begins.
+pub const TRACK_FROM: Word = Word {
+    name: "track",
+    help: "the first track; blocks are laid there and on those behind it, but not on 18",
+    value: &["T"],
+    default: &["1"],
+    ..OPTION
+};
+
+/// The sector at which PLACE begins.
+pub const SECTOR_FROM: Word = Word {
+    name: "sector",
+    help: "the first sector of the first file",
+    value: &["S"],
+    default: &["0"],
+    ..OPTION
+};
+
+/// The files of several images.
+pub const OF_ALL: Word = Word {
+    name: "only",
+    help: "file name or pattern, of which there may be several; then each PATTERN is one more IMAGE",
+    action: ArgAction::Append,
+    value: &["PATTERN"],
+    ..OPTION
+};
+
+/// The images that VALIDATE puts in order.
+pub const ORDERED: Word = Word {
+    help: "the disk images",
+    ..IMAGES
+};
+
+/// The type that RETYPE gives.
+pub const NEW_TYPE: Word = Word {
+    name: "TYPE",
+    help: "prg, seq or usr; with --slot it is the one word",
+    is_needed: false,
+    ..NEEDED
+};
+
+/// The commands that RUN carries out.
+pub const LINES: Word = Word {
+    name: "FILE",
+    help: "the commands, a line for each, without the image; standard input if it isn't said",
+    default: &["-"],
     is_needed: false,
     ..NEEDED
 };
@@ -479,6 +581,13 @@ pub const CIRCLE: Word = Word {
 pub const FORCE_FAULT: Word = Word {
     help: "on a disk that isn't sound, remove files at fault from the directory; then run `validate`",
     ..FORCE
+};
+
+/// LIST of where files lie.
+pub const BLOCKS: Word = Word {
+    name: "blocks",
+    help: "show where each file's blocks lie, in order, as track/sector",
+    ..FLAG
 };
 
 /// LIST of the files that were deleted.

@@ -1,4 +1,4 @@
-//! Changes of an image.
+//! Changes of an image by patterns, and of its title.
 mod locking;
 
 use self::locking::{identified, locked_all, retitled};
@@ -7,12 +7,11 @@ use cbm_shell::{DiskChange, ShellFault, geos_of};
 use cbm_volume::Entry;
 use disk_basics::calls::{entries, name_text};
 use disk_basics::changing::{change, delete_in_slot};
-use disk_basics::host::{joined, read_image, read_to_change, replace};
+use disk_basics::host::{joined, require_own_map};
 use disk_basics::odd::{odd_slots, put_away};
 use disk_basics::{Failure, in_memory, on_disk, petscii};
 use disk_facts::is_meant;
 use std::alloc::Global;
-use std::rt::Runtime;
 
 /// What is done with the disk of an image.
 #[derive(Clone, Copy)]
@@ -106,8 +105,10 @@ fn named<'a>(
     }
 }
 
-/// The new image.
-fn edited<'a>(
+/// The image after an edit. Errors: `OtherMap`, where files are deleted and Dolphin DOS has its map on the disk; `Word`, where a word
+/// can't be typed or is too long; `NoneDeleted` or `NoMatch`, where a pattern means no file; `Disk`, where the drive or the disk
+/// refuses it; `NoMemory`.
+pub fn edited<'a>(
     alloc: Global,
     image: &'a str,
     bytes: &[u8],
@@ -115,7 +116,10 @@ fn edited<'a>(
 ) -> Result<Vec<u8>, Failure<'a>> {
     match edit {
         Edit::Change(made) => on_disk(image, change(alloc, bytes, made)),
-        Edit::Delete(patterns, charset) => deleted_all(alloc, image, bytes, *charset, *patterns),
+        Edit::Delete(patterns, charset) => {
+            require_own_map(image, bytes)?;
+            deleted_all(alloc, image, bytes, *charset, *patterns)
+        }
         Edit::Lock(patterns, charset, is_locked) => {
             locked_all(alloc, image, bytes, *charset, *patterns, *is_locked)
         }
@@ -123,18 +127,18 @@ fn edited<'a>(
     }
 }
 
-/// Reports what GEOS kept of files that were deleted, and stays taken on the disk.
-fn tell_left<R: Runtime + AllocGlobal>(rt: &R, old: &[u8], new: &[u8]) -> Result<(), ShellFault> {
-    let before = entries(rt.alloc(), old)?;
-    let after = entries(rt.alloc(), new)?;
+/// Adds what GEOS kept of files that were deleted, and stays taken on the disk.
+fn add_left(alloc: Global, text: &mut String, old: &[u8], new: &[u8]) -> Result<(), ShellFault> {
+    let before = entries(alloc, old)?;
+    let after = entries(alloc, new)?;
     for (slot, entry) in before.iter().enumerate() {
         let is_gone = after.as_slice().get(slot).is_none_or(Entry::is_empty);
         if is_gone && geos_of(entry).is_some() {
-            let shown = name_text(rt.alloc(), Charset::Upper, entry.name())?;
+            let shown = name_text(alloc, Charset::Upper, entry.name())?;
             let name = shown.as_str();
-            let _ = eprintln!(rt;
-                "disk1541: \"{name}\" is deleted; the blocks of its info and of its records stay taken: `validate` gives them back"
-            );
+            text.push_str(format!(in alloc;
+                "disk1541: \"{name}\" is deleted; the blocks of its info and of its records stay taken: `validate` gives them back\n"
+            )?.as_str())?;
         }
     }
     Ok(())
@@ -152,55 +156,42 @@ fn is_meant_by(alloc: Global, entry: &Entry, charset: Charset, words: &[&str]) -
     false
 }
 
-/// Reports the odd entries that the words mean: they stay as they are.
-fn tell_odd<R: Runtime + AllocGlobal>(
-    rt: &R,
+/// Adds the odd entries that the words mean: they stay as they are.
+fn add_odd(
+    alloc: Global,
+    text: &mut String,
     new: &[u8],
     charset: Charset,
     words: &[&str],
 ) -> Result<(), ShellFault> {
-    let entries = entries(rt.alloc(), new)?;
-    for slot in odd_slots(rt.alloc(), new)?.as_slice() {
+    let entries = entries(alloc, new)?;
+    for slot in odd_slots(alloc, new)?.as_slice() {
         let Some(entry) = entries.as_slice().get(*slot) else {
             return Ok(());
         };
-        if is_meant_by(rt.alloc(), entry, charset, words) {
-            let shown = name_text(rt.alloc(), charset, entry.name())?;
+        if is_meant_by(alloc, entry, charset, words) {
+            let shown = name_text(alloc, charset, entry.name())?;
             let name = shown.as_str();
-            let _ = eprintln!(rt; "disk1541: \"{name}\" is an odd entry, and stays as it is");
+            text.push_str(format!(in alloc;
+                "disk1541: \"{name}\" is an odd entry, and stays as it is\n"
+            )?.as_str())?;
         }
     }
     Ok(())
 }
 
-/// Reports what an edit leaves on the disk that its words mean.
-fn tell_rest<R: Runtime + AllocGlobal>(rt: &R, old: &[u8], new: &[u8], edit: &Edit<'_, '_>) {
+/// What an edit leaves on the disk that its words mean, in lines; if memory runs out, as far as it sufficed.
+pub fn rest_of(alloc: Global, old: &[u8], new: &[u8], edit: &Edit<'_, '_>) -> String {
+    let mut text = String::new(alloc);
     match edit {
         Edit::Delete(patterns, charset) => {
-            let _ = tell_left(rt, old, new);
-            let _ = tell_odd(rt, new, *charset, *patterns);
+            let _ = add_left(alloc, &mut text, old, new);
+            let _ = add_odd(alloc, &mut text, new, *charset, *patterns);
         }
         Edit::Lock(patterns, charset, _) => {
-            let _ = tell_odd(rt, new, *charset, *patterns);
+            let _ = add_odd(alloc, &mut text, new, *charset, *patterns);
         }
         Edit::Change(_) | Edit::Title(..) => {}
     }
-}
-
-/// Edits an image, and saves it. Errors: those of `read_image`, and of `read_to_change` where files are deleted; `Word`, where a word can't be typed or is too long;
-/// `NoneDeleted` or `NoMatch`, where a pattern means no file; `Disk`, where the drive or the disk refuses it; `NoMemory`;
-/// those of `replace`.
-pub fn save_edit<'a, R: Runtime + AllocGlobal>(
-    rt: &R,
-    image: &'a str,
-    edit: &Edit<'a, '_>,
-) -> Result<(), Failure<'a>> {
-    let old = match edit {
-        Edit::Delete(..) => read_to_change(rt, image)?,
-        _ => read_image(rt, image)?,
-    };
-    let new = edited(rt.alloc(), image, old.as_slice(), edit)?;
-    replace(rt, image, old.as_slice(), new.as_slice())?;
-    tell_rest(rt, old.as_slice(), new.as_slice(), edit);
-    Ok(())
+    text
 }

@@ -1,11 +1,32 @@
-//! ERRORS: the error bytes of a D64, shown or dropped.
+//! ERRORS: the error bytes of a D64, shown, added or dropped.
+use cbm_image::{Kind, kind_of};
 use cbm_medium::Fault;
 use disk_basics::calls::info;
-use disk_basics::host::{print, read_image, replace};
+use disk_basics::host::{joined, print, read_image, replace};
 use disk_basics::{Failure, in_memory, on_disk};
 use disk_facts::without_errors;
 use std::alloc::{AllocError, Global};
 use std::rt::Runtime;
+
+/// The error byte of a sector that reads.
+const FINE: u8 = 1;
+
+/// How many sectors a D64 of 35 tracks has, and how many error bytes.
+const SECTORS: usize = 683;
+
+/// The bytes of those sectors.
+const OF_35_TRACKS: usize = 174_848;
+
+/// What is done with error bytes.
+#[derive(Clone, Copy)]
+pub enum ErrorDeed {
+    /// The sectors that don't read with them are shown.
+    Show,
+    /// They are added, each of which says that all is well.
+    Add,
+    /// They are dropped, also those that say more, if so.
+    Drop(bool),
+}
 
 /// The lines of sectors that don't read with the error bytes.
 fn lines_of(alloc: Global, faults: &[Fault]) -> Result<String, AllocError> {
@@ -30,20 +51,76 @@ fn show<'a, R: Runtime + AllocGlobal>(
     print(rt, lines.as_bytes())
 }
 
-/// Shows the sectors of a D64 that don't read with its error bytes, or saves it without these. Errors: those of `read_image`;
-/// `NoErrorBytes`, where it has none; `Disk`; those of `replace`; `Write`; `NoMemory`.
+/// How many error bytes say more than that all is well.
+fn count_other(errors: &[u8]) -> usize {
+    let mut count: usize = 0;
+    for byte in errors {
+        if *byte != FINE {
+            count = count.saturating_add(1);
+        }
+    }
+    count
+}
+
+/// Reports error bytes that would be lost, and refuses that, unless it is wanted.
+fn require_fine<'a>(
+    rt: &impl Eprint,
+    image: &'a str,
+    errors: &[u8],
+    is_lossy: bool,
+) -> Result<(), Failure<'a>> {
+    let count = count_other(errors);
+    if count == 0 {
+        return Ok(());
+    }
+    let _ = eprintln!(rt; "disk1541: {image} loses {count} error bytes other than 1 (no error)");
+    if is_lossy {
+        Ok(())
+    } else {
+        Err(Failure::Lossy(image))
+    }
+}
+
+/// Saves an image without its error bytes.
+fn drop_all<'a, R: Runtime + AllocGlobal>(
+    rt: &R,
+    image: &'a str,
+    bytes: &[u8],
+    is_lossy: bool,
+) -> Result<(), Failure<'a>> {
+    let plain = without_errors(bytes);
+    require_fine(rt, image, bytes.get(plain.len()..).unwrap_or(&[]), is_lossy)?;
+    replace(rt, image, bytes, plain)
+}
+
+/// Saves an image with error bytes, each of which says that all is well.
+fn add_all<'a, R: Runtime + AllocGlobal>(
+    rt: &R,
+    image: &'a str,
+    bytes: &[u8],
+) -> Result<(), Failure<'a>> {
+    if kind_of(bytes) != Kind::D64 || bytes.len() != OF_35_TRACKS {
+        return Err(Failure::NoErrorRoom(image));
+    }
+    let new = joined(rt.alloc(), &[bytes, &[FINE; SECTORS]])?;
+    replace(rt, image, bytes, new.as_slice())
+}
+
+/// Shows the sectors of a D64 that don't read with its error bytes, or saves it with such bytes or without them. Errors: those of
+/// `read_image`; `NoErrorBytes` and `HasErrorBytes`, where it has none or has some; `NoErrorRoom`, where it can't; `Lossy`, where bytes
+/// that say more would be lost; `Disk`; those of `replace`; `Write`; `NoMemory`.
 pub fn error_bytes<'a, R: Runtime + AllocGlobal>(
     rt: &R,
     image: &'a str,
-    drops: bool,
+    deed: ErrorDeed,
 ) -> Result<(), Failure<'a>> {
     let bytes = read_image(rt, image)?;
-    let plain = without_errors(bytes.as_slice());
-    if plain.len() == bytes.len() {
-        return Err(Failure::NoErrorBytes(image));
+    let has_some = without_errors(bytes.as_slice()).len() != bytes.len();
+    match deed {
+        ErrorDeed::Add if has_some => Err(Failure::HasErrorBytes(image)),
+        ErrorDeed::Add => add_all(rt, image, bytes.as_slice()),
+        _ if !has_some => Err(Failure::NoErrorBytes(image)),
+        ErrorDeed::Drop(is_lossy) => drop_all(rt, image, bytes.as_slice(), is_lossy),
+        ErrorDeed::Show => show(rt, image, bytes.as_slice()),
     }
-    if drops {
-        return replace(rt, image, bytes.as_slice(), plain);
-    }
-    show(rt, image, bytes.as_slice())
 }

@@ -1,15 +1,15 @@
 //! RENAME, DELETE, COPY, LOCK and UNLOCK of one file that is chosen by its slot or its exact name. The drive's commands can't say
 //! every name: the file gets one that they can say, and afterwards its own.
+use cbm_channel::{Code, Status};
 use cbm_shell::texts::Charset;
-use cbm_shell::{DiskChange, geos_of};
+use cbm_shell::{DiskChange, ShellFault, geos_of};
 use cbm_volume::Entry;
 use disk_basics::calls::entries;
 use disk_basics::changing::{change, delete_in_slot, lock_in_slot, rename_in_slot};
-use disk_basics::host::{joined, read_image, read_to_change, replace};
+use disk_basics::host::{joined, require_own_map};
 use disk_basics::spare::{has_name, named, sixteen, spare_name, taken, unspared, whole_name};
 use disk_basics::{Choice, Failure, WordFault, on_disk, petscii, slot_chosen, slot_number};
 use std::alloc::Global;
-use std::rt::Runtime;
 
 /// The most bytes of a name.
 const LONGEST: usize = 16;
@@ -29,9 +29,11 @@ pub enum Deed<'a> {
 
 /// A disk and its image's name.
 #[derive(Clone, Copy)]
-struct Desk<'a, 'b> {
-    image: &'a str,
-    bytes: &'b [u8],
+pub struct Desk<'a, 'b> {
+    /// The name.
+    pub image: &'a str,
+    /// The image's bytes.
+    pub bytes: &'b [u8],
 }
 
 /// The codes of a new name, whatever they are.
@@ -115,6 +117,41 @@ fn copied<'a>(
     unspared(alloc, desk.image, with_old.as_slice(), &new, name, false)
 }
 
+/// The refusal of a change that leaves an odd entry as it was.
+pub(crate) fn protected(image: &str) -> Failure<'_> {
+    let status = Status {
+        code: Code::WriteProtected,
+        first: 0,
+        second: 0,
+    };
+    Failure::Disk(image, ShellFault::Refused(status))
+}
+
+/// Whether the file in a slot is locked.
+fn is_locked_in(alloc: Global, image: &[u8], slot: usize) -> Result<bool, ShellFault> {
+    let entries = entries(alloc, image)?;
+    Ok(entries.as_slice().get(slot).is_some_and(Entry::is_locked))
+}
+
+/// The image with the file in a slot locked, or free. An odd entry stays as it is, which is refused.
+fn locked<'a>(
+    alloc: Global,
+    desk: Desk<'a, '_>,
+    slot: usize,
+    is_locked: bool,
+    word: &'a str,
+) -> Result<Vec<u8>, Failure<'a>> {
+    let number = slot_number(slot, word)?;
+    let new = on_disk(
+        desk.image,
+        lock_in_slot(alloc, desk.bytes, number, is_locked),
+    )?;
+    if on_disk(desk.image, is_locked_in(alloc, new.as_slice(), slot))? == is_locked {
+        return Ok(new);
+    }
+    Err(protected(desk.image))
+}
+
 /// Refuses to copy what the drive's COPY doesn't take whole: a relative file, and one of GEOS.
 fn require_plain<'a>(entries: &[Entry], slot: usize, word: &'a str) -> Result<(), Failure<'a>> {
     match entries.get(slot) {
@@ -124,13 +161,24 @@ fn require_plain<'a>(entries: &[Entry], slot: usize, word: &'a str) -> Result<()
     }
 }
 
-/// The new image.
-fn done<'a>(
+/// Refuses to write the BAM of a disk on which another DOS has its map.
+fn require_map<'a>(desk: Desk<'a, '_>, deed: Deed<'_>) -> Result<(), Failure<'a>> {
+    match deed {
+        Deed::Copy(_) | Deed::Delete => require_own_map(desk.image, desk.bytes),
+        Deed::Rename(_) | Deed::Lock(_) => Ok(()),
+    }
+}
+
+/// The image after something was done with the file that is chosen. Errors: `OtherMap`, where the BAM is written and Dolphin DOS has
+/// its map on the disk; those of `slot_chosen`; `Word`, where a new name can't be; `Disk`, where the name is there already or the disk
+/// refuses it; `Locked`; `Records` and `GeosCopy`; `NoMemory`.
+pub fn done_with<'a>(
     alloc: Global,
     desk: Desk<'a, '_>,
     choice: Choice<'a>,
     deed: Deed<'a>,
 ) -> Result<Vec<u8>, Failure<'a>> {
+    require_map(desk, deed)?;
     let entries = on_disk(desk.image, entries(alloc, desk.bytes))?;
     let entries = entries.as_slice();
     let slot = slot_chosen(alloc, entries, choice)?;
@@ -149,39 +197,6 @@ fn done<'a>(
             copied(alloc, desk, entries, slot, name.as_slice())
         }
         Deed::Delete => deleted(alloc, desk, entries, slot, choice.word()),
-        Deed::Lock(is_locked) => {
-            let slot = slot_number(slot, choice.word())?;
-            on_disk(desk.image, lock_in_slot(alloc, desk.bytes, slot, is_locked))
-        }
+        Deed::Lock(is_locked) => locked(alloc, desk, slot, is_locked, choice.word()),
     }
-}
-
-/// The image that is changed: where its BAM is written, none with another DOS's map.
-fn read_for<'a, R: Runtime + AllocGlobal>(
-    rt: &R,
-    image: &'a str,
-    deed: Deed<'_>,
-) -> Result<Vec<u8>, Failure<'a>> {
-    match deed {
-        Deed::Copy(_) | Deed::Delete => read_to_change(rt, image),
-        Deed::Rename(_) | Deed::Lock(_) => read_image(rt, image),
-    }
-}
-
-/// Does something with the file of an image that is chosen, and saves the image. Errors: those of `read_image`, of
-/// `read_to_change` and of `slot_chosen`; `Word`, where a new name can't be; `Disk`, where the name is there already or the disk
-/// refuses it; `Locked`; `Records` and `GeosCopy`; `NoMemory`; those of `replace`.
-pub fn do_with<'a, R: Runtime + AllocGlobal>(
-    rt: &R,
-    image: &'a str,
-    choice: Choice<'a>,
-    deed: Deed<'a>,
-) -> Result<(), Failure<'a>> {
-    let old = read_for(rt, image, deed)?;
-    let desk = Desk {
-        image,
-        bytes: old.as_slice(),
-    };
-    let new = done(rt.alloc(), desk, choice, deed)?;
-    replace(rt, image, old.as_slice(), new.as_slice())
 }

@@ -4,7 +4,6 @@ use cbm_shell::{DiskFlaw, ShellFault};
 use cbm_volume::Entry;
 use disk_basics::calls::check;
 use disk_basics::changing::forget;
-use disk_basics::host::{read_image, replace};
 use disk_basics::{Disk, Failure, in_memory, is_mendable, on_disk, petscii, slots_of};
 use disk_facts::is_meant;
 use std::alloc::Global;
@@ -153,15 +152,15 @@ fn require_unsound<'a>(alloc: Global, image: &'a str, bytes: &[u8]) -> Result<()
     }
 }
 
-/// Takes the files at fault that the words mean out of the directory of an image, and saves it.
-pub fn delete_at_fault<'a, R: Runtime + AllocGlobal>(
+/// The image without the files at fault that the words mean. Errors: `IsSound`, where no file is at fault; those of `petscii`;
+/// `NoneAtFault`, where a word means no such file; `Disk`; `NoMemory`.
+pub fn without_fault<'a, R: Runtime + AllocGlobal>(
     rt: &R,
     image: &'a str,
+    bytes: &[u8],
     words: &[&'a str],
     charset: Charset,
-) -> Result<(), Failure<'a>> {
-    let old = read_image(rt, image)?;
-    require_unsound(rt.alloc(), image, old.as_slice())?;
-    let new = without_words(rt, image, old.as_slice(), charset, words)?;
-    replace(rt, image, old.as_slice(), new.as_slice())
+) -> Result<Vec<u8>, Failure<'a>> {
+    require_unsound(rt.alloc(), image, bytes)?;
+    without_words(rt, image, bytes, charset, words)
 }

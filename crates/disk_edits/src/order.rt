@@ -6,10 +6,9 @@ use self::border::has_border_files;
 use self::plan::{Telling, plan_of};
 use cbm_shell::{Order, ShellFault};
 use disk_basics::changing::{map_around_geos, validate};
-use disk_basics::host::{print, read_to_change, replace};
+use disk_basics::host::require_own_map;
 use disk_basics::{Failure, on_disk};
 use std::alloc::Global;
-use std::rt::Runtime;
 
 /// How a disk is put in order.
 #[derive(Clone, Copy)]
@@ -72,34 +71,28 @@ fn order_of<'a>(
     }
 }
 
-/// Saves the disk that was put in order, unless nothing is to be changed, and tells what was done.
-fn save_order<'a, R: Runtime + AllocGlobal>(
-    rt: &R,
-    image: &'a str,
-    old: &[u8],
-    order: &Ordered,
-    ordering: Ordering,
-) -> Result<(), Failure<'a>> {
-    let plan = on_disk(image, plan_of(rt.alloc(), old, &order.telling))?;
-    if !ordering.is_dry {
-        replace(rt, image, old, order.image.as_slice())?;
-    }
-    if disk_basics::host::is_standard(image) && !ordering.is_dry {
-        let _ = eprint!(rt; "{plan}");
-        return Ok(());
-    }
-    print(rt, plan.as_bytes())
+/// A disk in order, and what that does, in lines.
+#[derive(Drop)]
+pub struct InOrder {
+    /// The image.
+    pub image: Vec<u8>,
+    /// What is given back, and what goes.
+    pub plan: String,
 }
 
-/// Puts the disk of an image in order, saves it, and tells what was done. Errors: those of `read_to_change`; `Unmendable`, where it
-/// can't be put in order; `Geos`, where blocks of files in GEOS's border block would be given back; `Disk`; those of `replace`;
-/// `Write`.
-pub fn put_in_order<'a, R: Runtime + AllocGlobal>(
-    rt: &R,
+/// The image put in order. Errors: `OtherMap`, where Dolphin DOS has its map on the disk; `Unmendable`, where it can't be put in
+/// order; `Geos`, where blocks of files in GEOS's border block would be given back; `Disk`.
+pub fn in_order<'a>(
+    alloc: Global,
     image: &'a str,
+    old: &[u8],
     ordering: Ordering,
-) -> Result<(), Failure<'a>> {
-    let old = read_to_change(rt, image)?;
-    let order = order_of(rt.alloc(), image, old.as_slice(), ordering)?;
-    save_order(rt, image, old.as_slice(), &order, ordering)
+) -> Result<InOrder, Failure<'a>> {
+    require_own_map(image, old)?;
+    let order = order_of(alloc, image, old, ordering)?;
+    let plan = on_disk(image, plan_of(alloc, old, &order.telling))?;
+    Ok(InOrder {
+        image: order.image,
+        plan,
+    })
 }

@@ -1,14 +1,12 @@
 //! COPY and RENAME: a new name, and the old one.
-use crate::edit::{Edit, save_edit};
 use cbm_shell::texts::Charset;
 use cbm_shell::{DiskChange, geos_of};
 use disk_basics::calls::entries;
 use disk_basics::changing::change;
-use disk_basics::host::{joined, read_to_change, replace};
+use disk_basics::host::{joined, require_own_map};
 use disk_basics::{Failure, file_name, on_disk};
 use disk_facts::first_meant;
 use std::alloc::Global;
-use std::rt::Runtime;
 
 /// Two names of a file.
 #[derive(Clone, Copy)]
@@ -32,14 +30,14 @@ fn text_of<'a>(alloc: Global, letter: &[u8], pair: &Pair<'a>) -> Result<Vec<u8>,
 }
 
 /// Refuses to copy a file of GEOS or a relative file: the drive's COPY takes bytes one after another.
-fn require_plain<'a, R: Runtime + AllocGlobal>(
-    rt: &R,
+fn require_plain<'a>(
+    alloc: Global,
     image: &'a str,
     bytes: &[u8],
     pair: &Pair<'a>,
 ) -> Result<(), Failure<'a>> {
-    let old = file_name(rt.alloc(), pair.charset, pair.old)?;
-    let entries = on_disk(image, entries(rt.alloc(), bytes))?;
+    let old = file_name(alloc, pair.charset, pair.old)?;
+    let entries = on_disk(image, entries(alloc, bytes))?;
     match first_meant(entries.as_slice(), old.as_slice()) {
         Some(entry) if geos_of(entry).is_some() => Err(Failure::GeosCopy(pair.old)),
         Some(entry) if entry.is_relative() => Err(Failure::Records(pair.old)),
@@ -47,51 +45,39 @@ fn require_plain<'a, R: Runtime + AllocGlobal>(
     }
 }
 
-/// The image with the copy that a command makes.
-fn copied<'a, R: Runtime + AllocGlobal>(
-    rt: &R,
+/// The image with a copy of a file under another name. Errors: those of `file_name`; `OtherMap`, where Dolphin DOS has its map on the
+/// disk; `Records`, where it is a relative file, and `GeosCopy`; `Disk`, where the drive or the disk refuses it.
+pub fn copied<'a>(
+    alloc: Global,
     image: &'a str,
-    old: &[u8],
-    text: &[u8],
+    bytes: &[u8],
     pair: &Pair<'a>,
 ) -> Result<Vec<u8>, Failure<'a>> {
-    require_plain(rt, image, old, pair)?;
-    on_disk(image, change(rt.alloc(), old, &DiskChange::Command(text)))
-}
-
-/// Copies a file by a command, and saves the image.
-fn copy_by<'a, R: Runtime + AllocGlobal>(
-    rt: &R,
-    image: &'a str,
-    text: &[u8],
-    pair: &Pair<'a>,
-) -> Result<(), Failure<'a>> {
-    let old = read_to_change(rt, image)?;
-    let new = copied(rt, image, old.as_slice(), text, pair)?;
-    replace(rt, image, old.as_slice(), new.as_slice())
-}
-
-/// Copies a file under another name. Errors: those of `file_name` and of `read_to_change`; `Records`, where it is a relative
-/// file; `Disk`, where the drive or the disk refuses it; those of `replace`.
-pub fn copy<'a, R: Runtime + AllocGlobal>(
-    rt: &R,
-    image: &'a str,
-    pair: &Pair<'a>,
-) -> Result<(), Failure<'a>> {
-    let text = text_of(rt.alloc(), b"C0:", pair)?;
-    copy_by(rt, image, text.as_slice(), pair)
-}
-
-/// Gives a file another name. Errors: those of `file_name` and of `save_edit`.
-pub fn rename<'a, R: Runtime + AllocGlobal>(
-    rt: &R,
-    image: &'a str,
-    pair: &Pair<'a>,
-) -> Result<(), Failure<'a>> {
-    let text = text_of(rt.alloc(), b"R0:", pair)?;
-    save_edit(
-        rt,
+    let text = text_of(alloc, b"C0:", pair)?;
+    require_own_map(image, bytes)?;
+    require_plain(alloc, image, bytes, pair)?;
+    on_disk(
         image,
-        &Edit::Change(DiskChange::Command(text.as_slice())),
+        change(alloc, bytes, &DiskChange::Command(text.as_slice())),
     )
+}
+
+/// The image whose file has another name. Errors: those of `file_name`; `Disk`, where the drive or the disk refuses it.
+pub fn renamed<'a>(
+    alloc: Global,
+    image: &'a str,
+    bytes: &[u8],
+    pair: &Pair<'a>,
+) -> Result<Vec<u8>, Failure<'a>> {
+    let text = text_of(alloc, b"R0:", pair)?;
+    on_disk(
+        image,
+        change(alloc, bytes, &DiskChange::Command(text.as_slice())),
+    )
+}
+
+/// Refuses two names of which one can't be said. Errors: those of `file_name`.
+pub fn require_names<'a>(alloc: Global, pair: &Pair<'a>) -> Result<(), Failure<'a>> {
+    text_of(alloc, b"R0:", pair)?;
+    Ok(())
 }

@@ -4,11 +4,10 @@ use cbm_shell::texts::Charset;
 use cbm_volume::{Entry, FileType};
 use disk_basics::calls::entries;
 use disk_basics::changing::undelete;
-use disk_basics::host::{read_to_change, replace};
+use disk_basics::host::require_own_map;
 use disk_basics::{Failure, WordFault, on_disk, petscii};
 use disk_facts::is_deleted;
 use std::alloc::Global;
-use std::rt::Runtime;
 
 /// A file that is given back.
 #[derive(Clone, Copy)]
@@ -56,30 +55,19 @@ fn slot_meant<'a>(
     }
 }
 
-/// The image with the file.
-fn given_back<'a>(
+/// The image with a deleted file given back. Errors: `OtherMap`, where Dolphin DOS has its map on the disk; those of `petscii`; `Word`,
+/// where the type is none; `NotDeleted`, where no deleted file matches; `Overwritten`, where its blocks aren't free; `Disk`.
+pub fn given_back<'a>(
     alloc: Global,
     image: &'a str,
     bytes: &[u8],
     gone: &Gone<'a>,
 ) -> Result<Vec<u8>, Failure<'a>> {
+    require_own_map(image, bytes)?;
     let kind = kind_of(gone.kind)?;
     let slot = slot_meant(alloc, image, bytes, gone)?;
     match on_disk(image, undelete(alloc, bytes, slot, kind))? {
         Some(new) => Ok(new),
         None => Err(Failure::Overwritten(gone.name)),
     }
-}
-
-/// Gives back a deleted file of an image, and saves it. Errors: those of `read_to_change` and of `petscii`; `Word`, where the
-/// type is none; `NotDeleted`, where no deleted file matches; `Overwritten`, where its blocks aren't free; `Disk`; those
-/// of `replace`.
-pub fn undelete_file<'a, R: Runtime + AllocGlobal>(
-    rt: &R,
-    image: &'a str,
-    gone: &Gone<'a>,
-) -> Result<(), Failure<'a>> {
-    let old = read_to_change(rt, image)?;
-    let new = given_back(rt.alloc(), image, old.as_slice(), gone)?;
-    replace(rt, image, old.as_slice(), new.as_slice())
 }

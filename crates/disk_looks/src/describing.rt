@@ -51,6 +51,9 @@ fn art_line(alloc: Global, entry: &Entry, charset: Charset) -> Result<RecipeLine
         record: None,
         blocks: Some(entry.blocks()),
         locked: lock_of(entry),
+        interleave: None,
+        track: None,
+        sector: None,
     })
 }
 
@@ -102,6 +105,9 @@ fn file_line(
         record: None,
         blocks: shown_blocks(entry, bytes),
         locked: lock_of(entry),
+        interleave: None,
+        track: None,
+        sector: None,
     })
 }
 
@@ -241,6 +247,9 @@ fn labelled(
         id,
         tracks: Some(tracks),
         format: Some(format),
+        interleave: None,
+        track: None,
+        sector: None,
         lines: Vec::new(alloc),
     })
 }

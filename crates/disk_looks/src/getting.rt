@@ -1,4 +1,5 @@
 //! GET: a file out of the image, to a file of the host or to standard output.
+use crate::cvt::cvt_of;
 use crate::geos::tell_geos;
 use crate::relative::{packed_as, packed_for};
 use crate::salvage::salvaged_file;
@@ -8,8 +9,9 @@ use cbm_volume::Entry;
 use disk_basics::calls::{file, listed};
 use disk_basics::host::{require_new, write};
 use disk_basics::{Choice, Disk, Failure, in_memory, on_disk, petscii, slot_chosen};
-use disk_facts::{first_meant, without_errors};
+use disk_facts::{first_meant, number_meant, without_errors};
 use host_files::Sync;
+use std::alloc::Global;
 use std::rt::Runtime;
 
 /// A file that is taken out.
@@ -23,6 +25,8 @@ pub struct OneFile<'a> {
     pub replaces: bool,
     /// What can be read of it is taken.
     pub salvages: bool,
+    /// It is taken as CVT, as a file of GEOS.
+    pub is_cvt: bool,
 }
 
 /// The bytes of the first file that a pattern means, or what can be read of it.
@@ -119,12 +123,46 @@ fn chosen<'a, R: Runtime + AllocGlobal>(
     in_memory(packed_as(rt, entry, taken.output, bytes))
 }
 
+/// The slot of the file that is meant, by its slot, its exact name or a pattern.
+fn slot_meant<'a>(
+    alloc: Global,
+    entries: &[Entry],
+    choice: Choice<'a>,
+) -> Result<usize, Failure<'a>> {
+    if !choice.is_pattern() {
+        return slot_chosen(alloc, entries, choice);
+    }
+    let pattern = petscii(alloc, choice.charset, choice.name)?;
+    match number_meant(entries, pattern.as_slice()) {
+        Some(slot) => Ok(slot),
+        None => Err(Failure::NoFile(choice.name)),
+    }
+}
+
+/// The file of GEOS that is meant, as CVT.
+fn cvt_meant<'a>(alloc: Global, image: &[u8], taken: &OneFile<'a>) -> Result<Vec<u8>, Failure<'a>> {
+    let word = taken.choice.word();
+    let disk = on_disk(word, Disk::open(alloc, image))?;
+    let listed = in_memory(disk.listed(alloc))?;
+    let slot = slot_meant(alloc, listed.entries.as_slice(), taken.choice)?;
+    let Some(entry) = listed.entries.as_slice().get(slot) else {
+        return Err(Failure::NoFile(word));
+    };
+    match geos_of(entry) {
+        Some(geos) => on_disk(word, cvt_of(alloc, &disk, entry, geos)),
+        None => Err(Failure::NotGeos(word)),
+    }
+}
+
 /// The file of this computer for the file that is meant.
 fn file_of<'a, R: Runtime + AllocGlobal>(
     rt: &R,
     image: &[u8],
     taken: &OneFile<'a>,
 ) -> Result<Vec<u8>, Failure<'a>> {
+    if taken.is_cvt {
+        return cvt_meant(rt.alloc(), image, taken);
+    }
     if taken.choice.is_pattern() {
         meant(rt, image, taken)
     } else {

@@ -1,6 +1,7 @@
 //! The commands of `disk1541` that look at one image, and those that take files out of it.
 #![tactic(auto)]
 
+mod cvt;
 mod describing;
 mod geos;
 mod getting;

@@ -1,10 +1,11 @@
 //! Files that are taken out of an image into a folder.
+use crate::cvt::cvt_of;
 use crate::geos::{is_kept_in_records, tell_geos};
 use crate::naming::host_name;
 use crate::relative::{ENDING, packed};
 use crate::salvage::salvaged;
 use cbm_shell::texts::Charset;
-use cbm_shell::{ShellFault, geos_of};
+use cbm_shell::{Geos, ShellFault, geos_of};
 use cbm_volume::Entry;
 use disk_basics::calls::name_text;
 use disk_basics::host::{exists, write};
@@ -16,6 +17,9 @@ use std::io;
 use std::path::{Path, PathBuf};
 use std::rt::Runtime;
 
+/// The ending of the name of a CVT.
+const CVT: &str = "cvt";
+
 /// Where files are written.
 #[derive(Clone, Copy)]
 pub struct Destination<'a> {
@@ -25,6 +29,8 @@ pub struct Destination<'a> {
     pub replaces: bool,
     /// What can be read of the files is taken.
     pub salvages: bool,
+    /// Files of GEOS are taken as CVT.
+    pub is_cvt: bool,
 }
 
 /// The names of the host's files so far, without their numbers.
@@ -44,8 +50,17 @@ impl Names {
     /// The name of a host's file for the next entry; from the second of one name on it has a number. The one error is
     /// want of memory.
     pub fn next(&mut self, alloc: Global, entry: &Entry) -> Result<String, AllocError> {
+        self.next_as(alloc, entry, ending_of(entry))
+    }
+
+    /// The same with another ending.
+    pub fn next_as(
+        &mut self,
+        alloc: Global,
+        entry: &Entry,
+        end: &str,
+    ) -> Result<String, AllocError> {
         let base = host_name(alloc, entry.name())?;
-        let end = ending_of(entry);
         let number = self.number_of(alloc, base.as_str(), end)?;
         numbered(alloc, base.as_str(), end, number)
     }
@@ -205,6 +220,31 @@ fn take_to<R: Runtime + AllocGlobal>(
     }
 }
 
+/// Takes the file of an entry of GEOS out as CVT, to a path. Answers whether it was saved.
+fn take_cvt<R: Runtime + AllocGlobal>(
+    rt: &R,
+    source: Source<'_>,
+    entry: &Entry,
+    geos: Geos,
+    path: &PathBuf,
+    place: Destination<'_>,
+) -> Result<bool, AllocError> {
+    let name = name_text(rt.alloc(), Charset::Upper, entry.name())?;
+    match cvt_of(rt.alloc(), source.disk, entry, geos) {
+        Ok(bytes) => Ok(save_as(
+            rt,
+            path.as_path(),
+            name.as_str(),
+            bytes.as_slice(),
+            place.replaces,
+        )),
+        Err(fault) => {
+            let _ = tell_left(rt, name.as_str(), fault);
+            Ok(false)
+        }
+    }
+}
+
 /// Takes the file of the next entry out. Answers whether it was saved. The one error is want of memory.
 pub fn take<R: Runtime + AllocGlobal>(
     rt: &R,
@@ -214,7 +254,14 @@ pub fn take<R: Runtime + AllocGlobal>(
     place: Destination<'_>,
 ) -> Result<bool, AllocError> {
     let alloc = rt.alloc();
-    let name = names.next(alloc, entry)?;
+    let geos = if place.is_cvt { geos_of(entry) } else { None };
+    let name = match geos {
+        Some(_) => names.next_as(alloc, entry, CVT)?,
+        None => names.next(alloc, entry)?,
+    };
     let path = Path::new(place.folder).join(alloc, name.as_str())?;
-    take_to(rt, source, entry, &path, place)
+    match geos {
+        Some(geos) => take_cvt(rt, source, entry, geos, &path, place),
+        None => take_to(rt, source, entry, &path, place),
+    }
 }

@@ -15,6 +15,12 @@ pub struct Recipe {
     pub tracks: Option<u8>,
     /// The format of its image; that of the image's name, where it isn't said.
     pub format: Option<String>,
+    /// How many sectors behind one block of a file the next is laid; as the drive lays them, where nothing is said of that.
+    pub interleave: Option<u8>,
+    /// The track on which the first file begins.
+    pub track: Option<u8>,
+    /// The sector at which it begins.
+    pub sector: Option<u8>,
     /// Its directory, line by line.
     #[serde(default, rename = "entry")]
     pub lines: Vec<RecipeLine>,
@@ -39,6 +45,12 @@ pub struct RecipeLine {
     pub blocks: Option<u16>,
     /// Whether it is locked; it isn't, where that isn't said.
     pub locked: Option<bool>,
+    /// How many sectors behind one block of the file the next is laid.
+    pub interleave: Option<u8>,
+    /// The track on which the file begins.
+    pub track: Option<u8>,
+    /// The sector at which it begins.
+    pub sector: Option<u8>,
 }
 
 /// The recipe that a text is. Errors: `Text`, with its place where the text is no TOML; `Memory`.

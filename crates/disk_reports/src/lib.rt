@@ -1,6 +1,7 @@
 //! What an image shows: lines for people, and JSON and tables for programs.
 #![tactic(auto)]
 
+mod blocks;
 mod broken;
 mod deleted;
 mod find;

@@ -1,4 +1,5 @@
 //! What an image shows.
+use crate::blocks::add_blocks;
 use crate::broken::{add_broken, answer_by};
 use crate::deleted::add_deleted;
 use crate::find::add_matches;
@@ -24,6 +25,8 @@ pub enum View {
     Sent,
     /// The files that were deleted.
     Deleted,
+    /// Where the blocks of files lie.
+    Blocks,
     /// The files that match.
     Matches,
     /// What the disk is.
@@ -176,6 +179,7 @@ fn add_lines(
         View::Directory => add_directory(alloc, text, image, look),
         View::Sent => add_whole(text, raw_directory(alloc, image, look.pattern)),
         View::Deleted => add_deleted(alloc, text, image, look),
+        View::Blocks => add_blocks(alloc, text, image, look),
         View::Matches => add_matches(alloc, text, name, image, look),
         View::Facts => add_facts(alloc, text, image, look),
         View::Soundness => add_check(alloc, text, image),
@@ -190,7 +194,7 @@ pub fn add_heading(text: &mut Vec<u8>, name: &str, look: Look<'_>) -> Result<(),
         return Ok(());
     }
     let end: &[u8] = match look.view {
-        View::Directory | View::Deleted | View::Facts | View::Flaws => b":\n",
+        View::Directory | View::Deleted | View::Blocks | View::Facts | View::Flaws => b":\n",
         View::Soundness => b": ",
         View::Sent | View::Matches | View::Sum => return Ok(()),
     };

@@ -11,7 +11,7 @@ use cbm_shell::texts::Charset;
 use disk_basics::changing::new_image;
 use disk_basics::host::{read_any, require_new, require_ours, write};
 use disk_basics::spare::sixteen;
-use disk_basics::{Failure, form, format, in_memory, name_of_file};
+use disk_basics::{Failure, WordFault, form, format, in_memory, name_of_file};
 use disk_changes::{Conversion, convert_from};
 use disk_facts::unfilled;
 use host_files::Sync;
@@ -98,6 +98,14 @@ fn require_unlost<'a>(
     Ok(())
 }
 
+/// Refuses a number of tracks for the image of another disk or archive: it has its own, or 35.
+fn require_no_tracks<'a>(image: &'a str, wanted: &Conversion<'a>) -> Result<(), Failure<'a>> {
+    match wanted.tracks {
+        None => Ok(()),
+        Some(_) => Err(Failure::Word(WordFault::OtherTracks(image))),
+    }
+}
+
 /// Makes an image of another disk or archive, if nothing is there, and reports what it lacks.
 fn convert_other<'a, R: Runtime + AllocGlobal>(
     rt: &R,
@@ -106,6 +114,7 @@ fn convert_other<'a, R: Runtime + AllocGlobal>(
     wanted: &Conversion<'a>,
     kind: Kind,
 ) -> Result<(), Failure<'a>> {
+    require_no_tracks(image, wanted)?;
     require_new(rt, wanted.output, wanted.replaces)?;
     if let Some(cut) = in_memory(other.up_to_40(rt.alloc()))? {
         return convert_cut(rt, image, &other, &cut, wanted, kind);

@@ -51,6 +51,15 @@ fn get_other<'a, R: Runtime + AllocGlobal>(
     }
 }
 
+/// Refuses to make a CVT of a file of another kind of disk. The one error is `GeosElsewhere`.
+fn require_no_cvt<'a>(image: &'a str, is_cvt: bool) -> Result<(), Failure<'a>> {
+    if is_cvt {
+        Err(Failure::GeosElsewhere(image))
+    } else {
+        Ok(())
+    }
+}
+
 /// Takes a file out of an image, also one of another kind. Errors: those of `read_image` and of `petscii`; `Disk`, where the disk
 /// has no such file or it can't be read; `NoFile`; `Told`; `Exists`; `Write`.
 pub fn get<'a, R: Runtime + AllocGlobal>(
@@ -60,6 +69,7 @@ pub fn get<'a, R: Runtime + AllocGlobal>(
 ) -> Result<(), Failure<'a>> {
     let bytes = read_any(rt, image)?;
     if let Some(other) = in_memory(Other::of(rt.alloc(), bytes.as_slice()))? {
+        require_no_cvt(image, taken.is_cvt)?;
         return get_other(rt, &other, taken);
     }
     require_ours(image, bytes.as_slice())?;
@@ -141,6 +151,7 @@ pub fn get_all<'a, R: Runtime + AllocGlobal>(
 ) -> Result<(), Failure<'a>> {
     let bytes = read_any(rt, image)?;
     if let Some(other) = in_memory(Other::of(rt.alloc(), bytes.as_slice()))? {
+        require_no_cvt(image, place.is_cvt)?;
         return get_all_other(rt, image, &other, place);
     }
     require_ours(image, bytes.as_slice())?;

@@ -28,6 +28,8 @@ pub struct Arguments<'a> {
     pub trace: Option<&'a str>,
     /// The bus is drawn.
     pub is_drawn: bool,
+    /// The drive has direct access.
+    pub is_direct: bool,
 }
 
 /// The word that means standard input or standard output.
@@ -165,6 +167,7 @@ fn command<'a>(alloc: Global) -> Result<Command<'a>, Error> {
         .arg(pace)?
         .arg(switch(alloc, "read-only", "write-protect the disk"))?
         .arg(switch(alloc, "check", "first print whether the disk is sound"))?
+        .arg(switch(alloc, "direct", "let channels read single blocks"))?
         .arg(switch(alloc, "dry-run", "save nothing"))?
         .arg(trace)?
         .arg(switch(alloc, "draw", "print a picture of the bus's lines"))?;
@@ -197,5 +200,6 @@ fn arguments_of<'a>(matches: &ArgMatches<'a>) -> Arguments<'a> {
         is_checked: matches.get_flag("check"),
         trace: matches.get_str("trace"),
         is_drawn: matches.get_flag("draw"),
+        is_direct: matches.get_flag("direct"),
     }
 }

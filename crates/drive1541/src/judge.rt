@@ -1,7 +1,10 @@
 //! `drive1541 judge TRACE`: whether a trace of the bus is a session, and else who broke it.
+use crate::returns::Returns;
 use cbm_iec::{Pace, Party};
 use clap::{Arg, ArgAction, ArgMatches, Command, Error};
-use judge_report::{Judged, Moments, ReportFault, Timing, Verdict, judge_trace, party_of};
+use judge_report::{
+    Asked, Form, Judged, Range, ReportFault, Timing, Verdict, judge_trace, seat_of,
+};
 use std::alloc::{AllocError, Global};
 use std::io::{BufReader, BufWriter, Read, Write};
 use std::process::ExitCode;
@@ -11,6 +14,7 @@ use std::{fs, io};
 /// What help ends with.
 const EXAMPLES: &str = "Examples:
   drive1541 judge bus.vcd --drive 8:20 --drive 9:35
+  drive1541 judge board.trace --drive 8:10-40
   drive1541 judge c64.trace --drive 8:20:kernal --loosely
 
 Exit status: 0 a session, 1 the host broke it, 2 a drive did, 3 the trace can't be read or no
@@ -45,11 +49,11 @@ fn command<'a>(alloc: Global) -> Result<Command<'a>, Error> {
         .help("the trace, lines or a VCD, `-` for standard input");
     let drive = Arg::new(alloc, "drive")
         .long("drive")
-        .value_name("DEVICE:REACTION[:PACE]")
+        .value_name("DEVICE:REACTION[-GREATEST][:PACE]")
         .action(ArgAction::Append)
         .default_value("8:20")
         .help(
-            "a drive of the bus: its number, 8 to 11, its reaction, 1 to 60, and `profile` or `kernal`",
+            "a drive of the bus: its number, 8 to 11, its reaction, 1 to 60, or a range as 10-40, and `profile` or `kernal`",
         );
     let loosely = Arg::new(alloc, "loosely")
         .long("loosely")
@@ -59,6 +63,10 @@ fn command<'a>(alloc: Global) -> Result<Command<'a>, Error> {
         .long("moments")
         .action(ArgAction::SetTrue)
         .help("print the moment of each act, in microseconds");
+    let json = Arg::new(alloc, "json")
+        .long("json")
+        .action(ArgAction::SetTrue)
+        .help("print the verdict alone, as an object of JSON");
     let command = Command::new(alloc, "drive1541 judge")
         .about("Judge a trace of the bus: is it a session, and who broke it")
         .after_help(EXAMPLES)
@@ -66,7 +74,8 @@ fn command<'a>(alloc: Global) -> Result<Command<'a>, Error> {
         .arg(trace)?
         .arg(drive)?
         .arg(loosely)?
-        .arg(moments)?;
+        .arg(moments)?
+        .arg(json)?;
     Ok(command)
 }
 
@@ -75,16 +84,27 @@ fn parse<'a>(alloc: Global, words: &'a [String]) -> Result<ArgMatches<'a>, Error
     command(alloc)?.try_get_matches_from(words)
 }
 
+/// The drives of the command line, and how much longer those may take that have a range.
+#[derive(Drop)]
+struct Seats {
+    parties: Vec<Party>,
+    ranges: Vec<Range>,
+}
+
 /// The drives of the command line; None if a word is no drive.
-fn parties_of(alloc: Global, matches: &ArgMatches<'_>) -> Result<Option<Vec<Party>>, AllocError> {
+fn seats_of(alloc: Global, matches: &ArgMatches<'_>) -> Result<Option<Seats>, AllocError> {
     let mut parties = Vec::new(alloc);
+    let mut ranges = Vec::new(alloc);
     for word in matches.get_strs("drive").unwrap_or(&[]) {
-        let Some(party) = party_of(word) else {
+        let Some(seat) = seat_of(word) else {
             return Ok(None);
         };
-        parties.push(party)?;
+        parties.push(seat.party)?;
+        if seat.range.more > 0 {
+            ranges.push(seat.range)?;
+        }
     }
-    Ok(Some(parties))
+    Ok(Some(Seats { parties, ranges }))
 }
 
 /// Judges the trace that the rest of the command line names, and answers the exit status.
@@ -97,32 +117,29 @@ pub fn run(rt: &HostRuntime, words: &[String]) -> ExitCode {
             return ExitCode::from(status);
         }
     };
-    let Ok(Some(parties)) = parties_of(rt.alloc(), &matches) else {
-        let _ = eprintln!(rt; "error: a drive is DEVICE:REACTION or DEVICE:REACTION:PACE, as 8:20");
+    let Ok(Some(seats)) = seats_of(rt.alloc(), &matches) else {
+        let _ = eprintln!(rt;
+            "error: a drive is DEVICE:REACTION or DEVICE:REACTION:PACE, as 8:20, and REACTION may be a range, as 10-40"
+        );
         return ExitCode::from(UNASKED);
     };
     let name = matches.get_str("TRACE").unwrap_or("");
-    let task = JudgeTask {
-        parties: parties.as_slice(),
+    let asked = Asked {
+        parties: seats.parties.as_slice(),
+        ranges: seats.ranges.as_slice(),
         timing: timing_of(&matches),
-        moments: moments_of(&matches),
+        form: form_of(&matches),
     };
-    ExitCode::from(judge_named(rt, name, task))
+    ExitCode::from(judge_named(rt, name, asked))
 }
 
-/// What is asked of a trace.
-#[derive(Clone, Copy, Drop)]
-struct JudgeTask<'a> {
-    parties: &'a [Party],
-    timing: Timing,
-    moments: Moments,
-}
-
-fn moments_of(matches: &ArgMatches<'_>) -> Moments {
-    if matches.get_flag("moments") {
-        Moments::Told
+fn form_of(matches: &ArgMatches<'_>) -> Form {
+    if matches.get_flag("json") {
+        Form::Json
+    } else if matches.get_flag("moments") {
+        Form::ActsWithMoments
     } else {
-        Moments::Left
+        Form::Acts
     }
 }
 
@@ -134,12 +151,12 @@ fn timing_of(matches: &ArgMatches<'_>) -> Timing {
     }
 }
 
-fn judge_named<R: Runtime + AllocGlobal>(rt: &R, name: &str, task: JudgeTask<'_>) -> u8 {
+fn judge_named<R: Runtime + AllocGlobal>(rt: &R, name: &str, asked: Asked<'_>) -> u8 {
     if name == "-" {
-        return judge_read(rt, rt.reader(), task);
+        return judge_read(rt, rt.reader(), asked);
     }
     match fs::open(rt, name) {
-        Ok(trace) => judge_read(rt, trace, task),
+        Ok(trace) => judge_read(rt, trace, asked),
         Err(error) => {
             let kind = error.kind();
             let _ = eprintln!(rt; "file fault: {name}: {kind}");
@@ -151,11 +168,11 @@ fn judge_named<R: Runtime + AllocGlobal>(rt: &R, name: &str, task: JudgeTask<'_>
 fn judge_read<R: Runtime + AllocGlobal, I: io::Read + Drop>(
     rt: &R,
     trace: I,
-    task: JudgeTask<'_>,
+    asked: Asked<'_>,
 ) -> u8 {
-    match judge_buffered(rt, trace, task) {
+    match judge_buffered(rt, trace, asked) {
         Ok(Ok(judged)) => {
-            hint(rt, judged, task);
+            hint(rt, judged, asked);
             status_of(judged.verdict)
         }
         Ok(Err(fault)) => {
@@ -170,9 +187,9 @@ fn judge_read<R: Runtime + AllocGlobal, I: io::Read + Drop>(
 }
 
 /// Says how a trace is judged that begins as a computer's, if it was judged otherwise and is no session so.
-fn hint(rt: &impl Eprint, judged: Judged, task: JudgeTask<'_>) {
-    let is_kept = task.timing == Timing::Kept
-        || task.parties.iter().all(|it| it.pace == Pace::Profile);
+fn hint(rt: &impl Eprint, judged: Judged, asked: Asked<'_>) {
+    let is_kept = asked.timing == Timing::Kept
+        || asked.parties.iter().all(|it| it.pace == Pace::Profile);
     if judged.is_of_kernal && is_kept && judged.verdict != Verdict::Session {
         let _ = eprintln!(rt;
             "hint: it begins as the trace of a computer with a KERNAL: --loosely, and drives as 8:20:kernal, judge such a trace"
@@ -199,11 +216,11 @@ fn tell_stream(rt: &impl Eprint, error: &io::Error) -> io::Result<()> {
 fn judge_buffered<R: Runtime + AllocGlobal, I: io::Read + Drop>(
     rt: &R,
     trace: I,
-    task: JudgeTask<'_>,
+    asked: Asked<'_>,
 ) -> io::Result<Result<Judged, ReportFault>> {
     let input = BufReader::new(rt.alloc(), trace)?;
     let mut output = BufWriter::new(rt.alloc(), io::writer(rt))?;
-    let judged = judge_trace(input, &mut output, task.parties, task.timing, task.moments);
+    let judged = judge_trace(rt.alloc(), Returns::new(input), &mut output, &asked);
     output.flush()?;
     Ok(judged)
 }
@@ -218,8 +235,7 @@ fn status_of(verdict: Verdict) -> u8 {
 
 fn status_of_fault(fault: ReportFault) -> u8 {
     match fault {
-        ReportFault::Drives(_) => UNASKED,
-        ReportFault::Trace(_) | ReportFault::Wires(_) | ReportFault::Empty | ReportFault::Writing =>
-            UNREAD,
+        ReportFault::Drives(_) | ReportFault::Range => UNASKED,
+        _ => UNREAD,
     }
 }

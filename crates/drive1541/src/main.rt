@@ -8,6 +8,7 @@ mod noted;
 mod program;
 mod reason;
 mod reply;
+mod returns;
 mod traced;
 
 use std::process::ExitCode;

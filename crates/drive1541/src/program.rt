@@ -5,6 +5,7 @@ use crate::arguments::{self, Arguments, is_standard};
 use crate::failure::{RunFailure, Stream, exit_status};
 use crate::noted::Noted;
 use crate::reason::Reason;
+use crate::returns::Returns;
 use crate::{judge, reply, traced};
 use cbm_program::Options;
 use clap::error::ErrorKind;
@@ -159,7 +160,7 @@ fn run_read<R: Runtime + AllocGlobal, S: io::Read + Drop>(
     image: &[u8],
     arguments: &Arguments<'_>,
 ) -> Result<Vec<u8>, RunFailure> {
-    let mut noted = Noted::new(script);
+    let mut noted = Noted::new(Returns::new(script));
     let ended = if arguments.prints_aside() {
         run_aside(rt, &mut noted, image, arguments)
     } else {

@@ -5,8 +5,6 @@
 pub enum Reason {
     /// The line isn't known.
     Unknown,
-    /// It ends with a return.
-    Return,
     /// It begins with a space.
     Space,
     /// It has more than 1,000 bytes.
@@ -89,9 +87,6 @@ fn of_request(line: &[u8]) -> Reason {
 impl Reason {
     /// What is wrong first with a line that is refused.
     pub fn of(line: &[u8], is_wires: bool) -> Reason {
-        if line.ends_with(b"\r") {
-            return Reason::Return;
-        }
         if line.starts_with(b" ") {
             return Reason::Space;
         }
@@ -108,9 +103,6 @@ impl Reason {
     pub fn words(self) -> &'static str {
         match self {
             Reason::Unknown => "it is no request",
-            Reason::Return => {
-                "it ends with a carriage return, as lines of DOS do: save the script with line feeds alone, or send it through `tr -d '\\r'`"
-            }
             Reason::Space => "it begins with a space: take that away",
             Reason::Long => "it has more than 1,000 bytes",
             Reason::Verb => "it begins with none of open, put, fill, get, close, status",

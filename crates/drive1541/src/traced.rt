@@ -6,7 +6,7 @@ use crate::noted::Noted;
 use crate::program::options_of;
 use bus_traces::{Picture, Recorder, TraceForm};
 use cbm_iec::Event;
-use cbm_program::{Watches, run_at, run_traced};
+use cbm_program::{RunFault, Watches, run_at, run_direct, run_traced};
 use either::Either;
 use std::io::{BufWriter, Printer, Read, Write};
 use std::rt::{Files, Runtime};
@@ -148,6 +148,23 @@ fn begin<'a, R: Runtime + AllocGlobal>(
     })
 }
 
+/// Runs a script whose events are watched, on a drive with direct access if that is asked for.
+fn run_watched<R: Runtime + AllocGlobal, S: Read, W: Write, T: Watches>(
+    rt: &R,
+    script: &mut Noted<S>,
+    output: &mut W,
+    watcher: &mut T,
+    image: &[u8],
+    arguments: &Arguments<'_>,
+) -> Result<Vec<u8>, RunFault> {
+    let options = options_of(arguments);
+    let pace = arguments.pace;
+    if arguments.is_direct {
+        return run_direct(rt.alloc(), pace, script, output, watcher, image, &options);
+    }
+    run_traced(rt.alloc(), pace, script, output, watcher, image, &options)
+}
+
 /// Runs a script, and writes its trace if one is asked for. What was traced before a fault is written too.
 pub fn run<R: Runtime + AllocGlobal, S: Read, W: Write>(
     rt: &R,
@@ -157,21 +174,13 @@ pub fn run<R: Runtime + AllocGlobal, S: Read, W: Write>(
     arguments: &Arguments<'_>,
 ) -> Result<Vec<u8>, RunFailure> {
     let options = options_of(arguments);
-    if !arguments.is_traced() {
+    if !arguments.is_traced() && !arguments.is_direct {
         return run_at(rt.alloc(), arguments.pace, script, output, image, &options).map_err(
             RunFailure::of_run,
         );
     }
     let mut tracer = begin(rt, arguments)?;
-    let ended = run_traced(
-        rt.alloc(),
-        arguments.pace,
-        script,
-        output,
-        &mut tracer,
-        image,
-        &options,
-    );
+    let ended = run_watched(rt, script, output, &mut tracer, image, arguments);
     let traced = tracer.end();
     let saved = ended.map_err(RunFailure::of_run)?;
     traced?;

@@ -3,6 +3,7 @@
 use bus_judge::NotABus;
 use bus_traces::TraceFault;
 use bus_wires::Unread;
+use std::alloc::AllocError;
 use thiserror::Error;
 
 /// Why a trace isn't judged.
@@ -20,6 +21,12 @@ pub enum ReportFault {
     /// No line changes in it, so nothing was captured.
     #[error("no line changes in the trace: nothing was captured")]
     Empty,
+    /// A drive's reactions vary, and the trace has the wires alone.
+    #[error("a range of reactions needs a trace of the parties' own lines: the wires alone don't say whose a change is")]
+    Range,
+    /// Memory ran out.
+    #[error("no memory")]
+    NoMemory,
     /// What is said can't be written.
     #[error("writing failed")]
     Writing,
@@ -40,5 +47,11 @@ impl From<TraceFault> for ReportFault {
 impl From<Unread> for ReportFault {
     fn from(fault: Unread) -> ReportFault {
         ReportFault::Wires(fault)
+    }
+}
+
+impl From<AllocError> for ReportFault {
+    fn from(_error: AllocError) -> ReportFault {
+        ReportFault::NoMemory
     }
 }

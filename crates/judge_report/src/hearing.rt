@@ -1,13 +1,14 @@
 //! What is known of a trace so far: the judge, the acts that were printed, the wires if they alone are known, and a tidy
 //! host if the host keeps the timing loosely.
 
+use crate::bench::Bench;
 use crate::fault::ReportFault;
-use crate::report::written;
-use crate::teller::{Moments, Teller};
-use bus_judge::{Breach, Judge, NotABus};
+use crate::report::{Asked, written};
+use crate::teller::Teller;
+use bus_judge::{Breach, NotABus, Scene};
 use bus_tidy::Tidy;
 use bus_wires::Wires;
-use cbm_iec::{Change, Event, Party, Who};
+use cbm_iec::{Change, Event, Who};
 use std::io::Write;
 
 /// How closely the host is to keep the timing of the bus.
@@ -22,7 +23,7 @@ pub enum Timing {
 /// A trace that is judged.
 #[derive(Drop)]
 pub struct Hearing {
-    judge: Judge,
+    bench: Bench,
     teller: Teller,
     wires: Wires,
     /// The wires alone are known.
@@ -33,15 +34,15 @@ pub struct Hearing {
 
 impl Hearing {
     /// Nothing of a trace of these drives was seen. Error: they are no bus.
-    pub fn new(parties: &[Party], timing: Timing, moments: Moments) -> Result<Hearing, NotABus> {
+    pub fn new(asked: &Asked<'_>) -> Result<Hearing, NotABus> {
         Ok(Hearing {
-            judge: Judge::new(parties)?,
-            teller: Teller::new(moments),
-            wires: Wires::new(parties).ok_or(NotABus::Count)?,
+            bench: Bench::new(asked.parties, asked.ranges)?,
+            teller: Teller::new(asked.form),
+            wires: Wires::new(asked.parties).ok_or(NotABus::Count)?,
             is_by_wires: false,
-            tidy: match timing {
+            tidy: match asked.timing {
                 Timing::Kept => None,
-                Timing::Loosely => Some(Tidy::new(parties)),
+                Timing::Loosely => Some(Tidy::new(asked.parties)),
             },
         })
     }
@@ -92,13 +93,7 @@ impl Hearing {
         event: Event,
         output: &mut W,
     ) -> Result<Option<Breach>, ReportFault> {
-        match self.judge.see(event) {
-            Ok(mark) => {
-                written(self.teller.tell(output, event, mark))?;
-                Ok(None)
-            }
-            Err(breach) => Ok(Some(breach)),
-        }
+        self.bench.see(event, &mut self.teller, output)
     }
 
     /// Judges what a change of a wire shows.
@@ -139,11 +134,17 @@ impl Hearing {
                 return Ok(breach);
             }
         }
-        Ok(self.judge.end(moment.saturating_sub(1)).err())
+        self.bench
+            .end(moment.saturating_sub(1), &mut self.teller, output)
     }
 
     /// Ends the line that was begun.
     pub fn end_line<W: Write>(&mut self, output: &mut W) -> Result<(), ReportFault> {
         written(self.teller.end_line(output))
+    }
+
+    /// Where the session stands, and the number of the byte that is under way, since ATN was pulled or freed.
+    pub fn scene(&self) -> (Scene, u32) {
+        (self.bench.scene(), self.teller.byte())
     }
 }

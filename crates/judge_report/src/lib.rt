@@ -1,15 +1,17 @@
 //! What the judge says of a trace, in words.
 #![tactic(auto)]
 
+mod bench;
 mod fault;
 mod hearing;
 mod report;
 mod seats;
 mod teller;
+mod told;
 
-pub use bus_judge::Verdict;
+pub use bus_judge::{Range, Verdict};
 pub use fault::ReportFault;
 pub use hearing::Timing;
-pub use report::{Judged, judge_trace};
-pub use seats::party_of;
-pub use teller::Moments;
+pub use report::{Asked, Judged, judge_trace};
+pub use seats::{Seat, seat_of};
+pub use teller::Form;

@@ -2,14 +2,29 @@
 
 use crate::fault::ReportFault;
 use crate::hearing::{Hearing, Timing};
-use crate::teller::Moments;
-use bus_judge::{Breach, Verdict};
+use crate::teller::Form;
+use crate::told::{Place, tell_breach, tell_session};
+use bus_judge::{Breach, Range, Verdict};
 use bus_traces::{Told, Traces};
 use cbm_iec::{Line, Party, Way, Who};
+use std::alloc::Global;
 use std::io::{self, Read, Write};
 
 pub(crate) fn written(outcome: io::Result<()>) -> Result<(), ReportFault> {
     outcome.map_err(|_| ReportFault::Writing)
+}
+
+/// What is asked of a trace.
+#[derive(Clone, Copy, Drop)]
+pub struct Asked<'a> {
+    /// The drives of the bus, in the order of ties, as they always react in their least time.
+    pub parties: &'a [Party],
+    /// How much longer drives may take; none if each always takes the same time.
+    pub ranges: &'a [Range],
+    /// How closely the host is to keep the timing.
+    pub timing: Timing,
+    /// How what is said is printed.
+    pub form: Form,
 }
 
 /// Judges one change of the trace; what broke the session, if it did.
@@ -64,32 +79,42 @@ pub struct Judged {
     pub is_of_kernal: bool,
 }
 
-/// Judges a trace of these drives, as lines or as a VCD: of the parties' own lines, or of the wires alone, whose changes
-/// are the host's but for those that a drive owes at their moment. Prints the acts that were completed, one a line, and
-/// the verdict. If the host is to keep the timing loosely, the trace is judged as a tidy host has it. With `moments` each
-/// act begins with the moment, in microseconds, at which it was completed, or an attention began.
+/// Judges a trace as it is asked, as lines or as a VCD: of the parties' own lines, or of the wires alone, whose changes
+/// are the host's but for those that a drive owes at their moment. Prints what is asked for: the acts that were
+/// completed, one a line, and the verdict, or the verdict alone as an object of JSON. If the host is to keep the timing
+/// loosely, the trace is judged as a tidy host has it.
 ///
-/// Errors: the drives are no bus, the trace can't be read, or has no change of a line; then the verdict isn't printed.
+/// Errors: the drives are no bus, the trace can't be read, or has no change of a line; it has the wires alone, and a drive's
+/// reactions vary. Then the verdict isn't printed.
 pub fn judge_trace<R: Read + Drop, W: Write>(
+    alloc: Global,
     input: R,
     output: &mut W,
-    parties: &[Party],
-    timing: Timing,
-    moments: Moments,
+    asked: &Asked<'_>,
 ) -> Result<Judged, ReportFault> {
-    let mut hearing = Hearing::new(parties, timing, moments)?;
+    let mut hearing = Hearing::new(asked)?;
     let mut traces = Traces::new(input);
     let first = traces.next()?.ok_or(ReportFault::Empty)?;
+    if let Told::Wire(_) = first
+        && !asked.ranges.is_empty()
+    {
+        return Err(ReportFault::Range);
+    }
     let breach = hear_all(&mut hearing, first, &mut traces, output);
     hearing.end_line(output)?;
     let verdict = match breach? {
         Some(breach) => {
-            written(writeln!(output, "{breach}"))?;
+            let (scene, byte) = hearing.scene();
+            let place = Place {
+                scene,
+                byte,
+                line: traces.line().saturating_sub(1),
+            };
+            tell_breach(alloc, output, asked.form, breach, place)?;
             breach.verdict()
         }
         None => {
-            let moment = traces.moment();
-            written(writeln!(output, "a session to {moment} us"))?;
+            tell_session(alloc, output, asked.form, traces.moment())?;
             Verdict::Session
         }
     };

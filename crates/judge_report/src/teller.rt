@@ -4,13 +4,15 @@ use bus_judge::Mark;
 use cbm_iec::{Act, Event, Who};
 use std::io::{self, Write};
 
-/// Whether each act begins with its moment.
+/// How what is said of a trace is printed.
 #[derive(Clone, Copy, Debug, PartialEq, Eq, Drop)]
-pub enum Moments {
-    /// It does, in microseconds: when it was completed, or an attention began.
-    Told,
-    /// It has no moment.
-    Left,
+pub enum Form {
+    /// The acts, one a line, and the verdict.
+    Acts,
+    /// The same; each act begins with its moment in microseconds: when it was completed, or an attention began.
+    ActsWithMoments,
+    /// The verdict alone, as an object of JSON.
+    Json,
 }
 
 /// Prints acts as they come: an attention with its bytes in one line, and each other act in a line. A byte that several
@@ -21,7 +23,9 @@ pub struct Teller {
     attends: bool,
     /// The host changed a line since a byte of its own was printed.
     is_fresh: bool,
-    moments: Moments,
+    /// How many bytes were completed since ATN was pulled or freed.
+    bytes: u32,
+    form: Form,
 }
 
 fn signal(is_last: bool) -> &'static str {
@@ -29,19 +33,38 @@ fn signal(is_last: bool) -> &'static str {
 }
 
 impl Teller {
-    pub fn new(moments: Moments) -> Teller {
+    /// Nothing was told.
+    pub fn new(form: Form) -> Teller {
         Teller {
             attends: false,
             is_fresh: true,
-            moments,
+            bytes: 0,
+            form,
+        }
+    }
+
+    /// The number of the byte that isn't completed, from 1 on, since ATN was pulled or freed.
+    pub fn byte(&self) -> u32 {
+        self.bytes.saturating_add(1)
+    }
+
+    /// Counts the byte that an act completes; one that several drives hear counts once.
+    fn count(&mut self, mark: Mark) {
+        match mark {
+            Mark::ForEach(Act::Pulled | Act::Released) => self.bytes = 0,
+            Mark::For(_, Act::Said(_, _)) => self.bytes = self.bytes.saturating_add(1),
+            Mark::For(_, Act::Attention(_) | Act::Heard(_, _)) if self.is_fresh => {
+                self.bytes = self.bytes.saturating_add(1);
+            }
+            _ => {}
         }
     }
 
     /// Begins a line: with a moment, if these are told.
     fn begin<W: Write>(&self, output: &mut W, moment: u64) -> io::Result<()> {
-        match self.moments {
-            Moments::Told => write!(output, "{moment} us "),
-            Moments::Left => Ok(()),
+        match self.form {
+            Form::ActsWithMoments => write!(output, "{moment} us "),
+            Form::Acts | Form::Json => Ok(()),
         }
     }
 
@@ -59,6 +82,17 @@ impl Teller {
         if event.who == Who::Host {
             self.is_fresh = true;
         }
+        self.count(mark);
+        if self.form == Form::Json {
+            if let Mark::For(_, Act::Attention(_) | Act::Heard(_, _)) = mark {
+                self.is_fresh = false;
+            }
+            return Ok(());
+        }
+        self.print(output, event, mark)
+    }
+
+    fn print<W: Write>(&mut self, output: &mut W, event: Event, mark: Mark) -> io::Result<()> {
         match mark {
             Mark::Plain => Ok(()),
             Mark::ForEach(Act::Pulled) => {

@@ -29,7 +29,7 @@ pub(crate) fn breach_of(event: Event, cause: Cause) -> Breach {
 }
 
 /// The same change of the same party, at any moment.
-fn is_like(event: Event, other: Event) -> bool {
+pub(crate) fn is_like(event: Event, other: Event) -> bool {
     event.who == other.who
         && event.change.line == other.change.line
         && event.change.way == other.change.way

@@ -55,6 +55,8 @@ pub struct Way {
     /// Its pace on the bus.
     pub pace: Pace,
     pub protected: bool,
+    /// It has direct access.
+    pub direct: bool,
     /// The same is asked of a G64.
     pub circles: bool,
     /// The same is asked by the drive's calls, without wires.
@@ -65,10 +67,10 @@ pub struct Way {
 }
 
 impl Way {
-    /// Whether it can be played so: by the drive's calls there is no pace of a bus.
+    /// Whether it can be played so: by the drive's calls there is no pace of a bus, and no direct access.
     fn is_possible(&self) -> bool {
         let by_calls = self.calls || !matches!(self.refusals, Refusals::None);
-        self.pace == Pace::Profile || !by_calls
+        self.pace == Pace::Profile && !self.direct || !by_calls
     }
 
     /// A drive 8 of the profile's pace that may be written.
@@ -76,6 +78,7 @@ impl Way {
         device: 8,
         pace: Pace::Profile,
         protected: false,
+        direct: false,
         circles: false,
         calls: false,
         refusals: Refusals::None,
@@ -86,6 +89,7 @@ impl Way {
     fn add(&mut self, word: &str) -> Option<()> {
         match word {
             "protected" => self.protected = true,
+            "direct" => self.direct = true,
             "g64 too" => self.circles = true,
             "by calls too" => self.calls = true,
             "no last line feed" => self.unended = true,

@@ -2,7 +2,8 @@
 
 use crate::desk::Desk;
 use crate::drive::Drive;
-use cbm_iec::Port;
+use crate::restarting::{Restarts, Takes};
+use cbm_iec::{Machine, Port};
 use cbm_medium::Medium;
 
 impl<M: Medium> Drive<Desk<M>> {
@@ -42,5 +43,33 @@ impl<M: Medium> Drive<Desk<M>> {
             }) }
     {
         self.machine.insert(medium);
+    }
+}
+
+impl<D: Restarts> Drive<D> {
+    ghost use Rattle.std.specs.Prelude.{◌≡◌};
+    ghost use Rattle.cbm_iec.specs.Ports.{resting};
+
+    /// It is switched off and on, whatever its machine is: its lines are free.
+    pub fn switch_on_again(&mut self)
+        ensures port { self.new.port ≡ resting self.old.port.party }
+        ensures machine { D.restarts self.old.machine self.new.machine }
+    {
+        self.port = Port::new(self.port.party);
+        self.machine.restart();
+    }
+}
+
+impl<D: Machine> Drive<D> {
+    ghost use Rattle.std.specs.Prelude.{◌≡◌};
+
+    /// Its machine is given another disk; its lines stay.
+    pub fn put_in<M>(&mut self, medium: M)
+    where
+        D: Takes<M>,
+        ensures port { self.new.port ≡ self.old.port }
+        ensures machine { D.takes medium self.old.machine self.new.machine }
+    {
+        self.machine.take(medium);
     }
 }

@@ -11,7 +11,7 @@ ghost use Rattle.cbm_program.specs.Traces.{WritesTrace};
 use crate::fault::RunFault;
 use crate::line::ScriptLine;
 use crate::session::run_requests;
-use crate::watched::{Bench, serve_watched};
+use crate::watched::{Bench, DirectCable, PlainCable, change_watched, serve_watched};
 use crate::wires::{Stage, run_changes};
 use bus_traces::{Source, Watches};
 use cbm_d64::D64Disk;
@@ -73,6 +73,29 @@ pub(crate) trait RunsScripts: DiskImage {
     ) -> Result<Self, RunFault>
         requires first { IfSome first LineIsInRange }
         requires last { device ≤ 11 };
+
+    /// Carries out a script of requests, after its first line, on a drive with direct access, and hands on each event on the bus.
+    fn watch_direct<R: Read, W: Write, T: Watches>(
+        self,
+        device: u8,
+        pace: Pace,
+        lines: &mut Source<R>,
+        first: Option<ScriptLine>,
+        writer: &mut W,
+        watcher: &mut T,
+    ) -> Result<Self, RunFault>
+        requires first { IfSome first LineIsInRange }
+        requires last { device ≤ 11 };
+
+    /// Plays a script of line changes, after its first line, on a drive with direct access.
+    fn change_direct<R: Read, W: Write>(
+        self,
+        device: u8,
+        pace: Pace,
+        lines: &mut Source<R>,
+        writer: &mut W,
+    ) -> Result<Self, RunFault>
+        requires { device ≤ 11 };
 }
 
 impl RunsScripts for D64Disk {
@@ -106,8 +129,31 @@ impl RunsScripts for D64Disk {
         writer: &mut W,
         watcher: &mut T,
     ) -> Result<D64Disk, RunFault> {
-        let bench = Bench::new(self, device, pace);
+        let bench = Bench::new(PlainCable::new(self, device, pace), device, pace);
         serve_watched(bench, lines, first, writer, watcher)
+    }
+
+    fn watch_direct<R: Read, W: Write, T: Watches>(
+        self,
+        device: u8,
+        pace: Pace,
+        lines: &mut Source<R>,
+        first: Option<ScriptLine>,
+        writer: &mut W,
+        watcher: &mut T,
+    ) -> Result<D64Disk, RunFault> {
+        let bench = Bench::new(DirectCable::new(self, device, pace), device, pace);
+        serve_watched(bench, lines, first, writer, watcher)
+    }
+
+    fn change_direct<R: Read, W: Write>(
+        self,
+        device: u8,
+        pace: Pace,
+        lines: &mut Source<R>,
+        writer: &mut W,
+    ) -> Result<D64Disk, RunFault> {
+        change_watched(DirectCable::new(self, device, pace), lines, writer)
     }
 }
 
@@ -142,7 +188,30 @@ impl RunsScripts for G64Disk {
         writer: &mut W,
         watcher: &mut T,
     ) -> Result<G64Disk, RunFault> {
-        let bench = Bench::new(self, device, pace);
+        let bench = Bench::new(PlainCable::new(self, device, pace), device, pace);
         serve_watched(bench, lines, first, writer, watcher)
+    }
+
+    fn watch_direct<R: Read, W: Write, T: Watches>(
+        self,
+        device: u8,
+        pace: Pace,
+        lines: &mut Source<R>,
+        first: Option<ScriptLine>,
+        writer: &mut W,
+        watcher: &mut T,
+    ) -> Result<G64Disk, RunFault> {
+        let bench = Bench::new(DirectCable::new(self, device, pace), device, pace);
+        serve_watched(bench, lines, first, writer, watcher)
+    }
+
+    fn change_direct<R: Read, W: Write>(
+        self,
+        device: u8,
+        pace: Pace,
+        lines: &mut Source<R>,
+        writer: &mut W,
+    ) -> Result<G64Disk, RunFault> {
+        change_watched(DirectCable::new(self, device, pace), lines, writer)
     }
 }

@@ -90,3 +90,77 @@ fn traced_script<M: RunsScripts + Drop, R: Read + Drop, W: Write, T: Watches>(
         }
     }
 }
+
+/// Runs a script as `run_traced` does, on a drive with direct access (`#`, U1, B-R, B-P, UI, UJ, M-R). What it prints and saves is
+/// tested; that the disk stays sound if it was is proved of the drive (`DirectDesk`).
+pub fn run_direct<R: Read + Drop, W: Write, T: Watches>(
+    alloc: Global,
+    pace: Pace,
+    reader: R,
+    writer: &mut W,
+    watcher: &mut T,
+    image: &[u8],
+    options: &Options,
+) -> Result<Vec<u8>, RunFault>
+    requires device { IsDevice options.now.device }
+    ensures given { options.now.protected ≡ true → IfOk result (λ v. v.items ≡ image.now) }
+{
+    match kind_of(image) {
+        Kind::D64 => direct_image::<D64Disk, R, W, T>(
+            alloc, pace, reader, writer, watcher, image, options,
+        ),
+        Kind::G64 => direct_image::<G64Disk, R, W, T>(
+            alloc, pace, reader, writer, watcher, image, options,
+        ),
+    }
+}
+
+/// The same on the disk of an image of one format.
+fn direct_image<I: RunsScripts + Drop, R: Read + Drop, W: Write, T: Watches>(
+    alloc: Global,
+    pace: Pace,
+    reader: R,
+    writer: &mut W,
+    watcher: &mut T,
+    image: &[u8],
+    options: &Options,
+) -> Result<Vec<u8>, RunFault>
+    requires device { IsDevice options.now.device }
+    ensures given { options.now.protected ≡ true → IfOk result (λ v. v.items ≡ image.now) }
+{
+    let disk = opened::<I>(alloc, image, options.protected)?;
+    let volume = Volume::open(disk);
+    print_check(&volume, options.check, writer)?;
+    let disk = direct_script(
+        volume.into_medium(),
+        options.device,
+        pace,
+        reader,
+        writer,
+        watcher,
+    )?;
+    image_after(alloc, &disk, image, options.protected)
+}
+
+/// Runs a script on a drive with direct access.
+fn direct_script<M: RunsScripts + Drop, R: Read + Drop, W: Write, T: Watches>(
+    medium: M,
+    device: u8,
+    pace: Pace,
+    reader: R,
+    writer: &mut W,
+    watcher: &mut T,
+) -> Result<M, RunFault>
+    requires { IsDevice device }
+{
+    let mut lines = Source::new(reader);
+    match read_first(&mut lines)? {
+        Beginning::Requests(first) => {
+            medium.watch_direct(device, pace, &mut lines, first, writer, watcher)
+        }
+        Beginning::Changes => {
+            let mut echo = Echo::new(&mut *writer, &mut *watcher);
+            medium.change_direct(device, pace, &mut lines, &mut echo)
+        }
+    }
+}

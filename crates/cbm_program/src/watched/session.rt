@@ -3,6 +3,7 @@ ghost use Rattle.std.specs.Prelude.{◌<◌, ◌≤◌, ◌^◌, IfSome};
 ghost use Rattle.cbm_host.specs.Engines.{channel_of};
 ghost use Rattle.cbm_program.specs.Running.{IsInRange, LineIsInRange};
 
+use super::cable::Cable;
 use super::printing::Printing;
 use crate::fault::RunFault;
 use crate::line::{ScriptLine, parse};
@@ -11,13 +12,9 @@ use crate::output::flush;
 use crate::request::ScriptRequest;
 use arrayvec::ArrayVec;
 use bus_traces::{Source, Watches};
-use cbm_drive::{Bus, Desk, Drive, Pace, Party};
+use cbm_drive::Pace;
 use cbm_host::{self, Performer};
-use cbm_medium::Steady;
 use std::io::{Read, Write};
-
-/// How long the drive takes to react, in microseconds.
-const REACTION: u8 = 20;
 
 /// When the first request begins, in microseconds.
 const FIRST: u64 = 1000;
@@ -30,8 +27,8 @@ const LATEST: u64 = 100_000_000_000_000_000;
 
 /// A drive alone on a cable with a host, and when the host's next request begins.
 #[derive(Drop)]
-pub(crate) struct Bench<M: Steady> {
-    bus: Bus<Desk<M>, 1>,
+pub(crate) struct Bench<C: Cable> {
+    cable: C,
     device: u8,
     pace: Pace,
     moment: u64,
@@ -55,19 +52,13 @@ fn asked(request: &ScriptRequest) -> cbm_host::Request<'_>
     }
 }
 
-impl<M: Steady> Bench<M> {
-    /// A drive of this pace at power up with this medium.
-    pub(crate) fn new(medium: M, device: u8, pace: Pace) -> Bench<M>
+impl<C: Cable> Bench<C> {
+    /// A drive of this pace and device number at power up, on its cable.
+    pub(crate) fn new(cable: C, device: u8, pace: Pace) -> Bench<C>
         requires { device ≤ 11 }
     {
-        let desk = Desk::at_power_up(medium, device).with_pace(pace);
-        let party = Party {
-            device,
-            reaction: REACTION,
-            pace,
-        };
         Bench {
-            bus: Bus::new([Drive::new(desk, party)]),
+            cable,
             device,
             pace,
             moment: FIRST,
@@ -87,7 +78,7 @@ impl<M: Steady> Bench<M> {
         let mut performer = Performer::with_pace(start, self.device, asked(request), self.pace);
         let mut printing = Printing::of(request);
         for _ in 0..u64::MAX {
-            let Some(event) = performer.next(&mut self.bus) else {
+            let Some(event) = self.cable.next(&mut performer) else {
                 break;
             };
             watcher.event(event);
@@ -118,22 +109,21 @@ impl<M: Steady> Bench<M> {
     }
 
     /// The medium, with all that was written to it.
-    fn into_medium(self) -> M {
-        let Bench { bus, .. } = self;
-        let [drive] = bus.into_drives();
-        drive.into_machine().into_medium()
+    fn into_medium(self) -> C::Medium {
+        let Bench { cable, .. } = self;
+        cable.into_medium()
     }
 }
 
 /// Carries out a script of requests, after its first line, on a drive at power up, hands on each event as it comes, and gives the
 /// drive's medium back with what came of it. It prints what a run prints that isn't watched. Errors: `Script`, `Reading` or `Writing`.
-pub(crate) fn serve_watched<M: Steady + Drop, R: Read, W: Write, T: Watches>(
-    bench: Bench<M>,
+pub(crate) fn serve_watched<C: Cable + Drop, R: Read, W: Write, T: Watches>(
+    bench: Bench<C>,
     lines: &mut Source<R>,
     first: Option<ScriptLine>,
     writer: &mut W,
     watcher: &mut T,
-) -> Result<M, RunFault>
+) -> Result<C::Medium, RunFault>
     requires { IfSome first LineIsInRange }
 {
     let mut bench = bench;

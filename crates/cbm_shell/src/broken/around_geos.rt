@@ -1,10 +1,11 @@
 //! Putting a disk in order around what GEOS keeps on it.
-ghost use Rattle.std.specs.Prelude.{◌≡◌, ◌≤◌, None, IfOk};
+ghost use Rattle.std.specs.Prelude.{◌≡◌, ◌≤◌, None, IfOk, IfErr};
 ghost use Rattle.cbm_bam.specs.Marks.{is_marked};
 ghost use Rattle.cbm_bam.specs.Map.{geometry_of};
 ghost use Rattle.cbm_image.specs.Images.{kind_of, image_fault};
 ghost use Rattle.cbm_shell.specs.Mapping.{is_among};
-ghost use Rattle.cbm_shell.specs.AroundGeos.{held_around, IsMappedAround, IsMappedAroundIn};
+ghost use Rattle.cbm_shell.specs.AroundGeos.{held_around, IsMappedAround, IsMappedAroundIn, IsNotMappedAround};
+ghost use Rattle.cbm_shell.specs.Remaking.{IsHalted};
 ghost use Rattle.cbm_shell.specs.Images.{IsSoundImage};
 
 use super::undeleting::{remapped, sound_image};
@@ -35,6 +36,7 @@ fn mapped_around<M: Steady + Drop>(alloc: Global, volume: Volume<M>) -> Result<M
     ensures tracks { IfOk result (λ after. (M.seen after).tracks ≡ (M.seen volume).tracks) }
     ensures mapped { let now = M.seen volume in IfOk result (λ after.
         IsMappedAround (geometry_of now.tracks now.content) now.content (M.seen after).content) }
+    ensures fault { IfErr result IsHalted }
 {
     let geometry = volume.geometry();
     let entries = entries_or_none(alloc, &volume)?;
@@ -51,6 +53,7 @@ fn map_around_geos_in<I: DiskImage + Drop>(
     ensures mapped { IfOk result (λ v. IsMappedAroundIn image.now v.items) }
     ensures sound { IfOk result (λ v. IsSoundImage (kind_of image.now) v.items) }
     ensures opens { IfOk result (λ v. image_fault (kind_of image.now) v.items ≡ None) }
+    ensures fault { IfErr result (IsNotMappedAround image.now) }
 {
     let volume = Volume::open(opened::<I>(alloc, image)?);
     let disk = mapped_around(alloc, volume)?;
@@ -64,6 +67,7 @@ pub fn map_around_geos(alloc: Global, image: &[u8]) -> Result<Vec<u8>, ShellFaul
     ensures mapped { IfOk result (λ v. IsMappedAroundIn image.now v.items) }
     ensures sound { IfOk result (λ v. IsSoundImage (kind_of image.now) v.items) }
     ensures opens { IfOk result (λ v. image_fault (kind_of image.now) v.items ≡ None) }
+    ensures fault { IfErr result (IsNotMappedAround image.now) }
 {
     match kind_of(image) {
         Kind::D64 => map_around_geos_in::<D64Disk>(alloc, image),

@@ -1,11 +1,12 @@
 //! Giving back a file that was deleted.
-ghost use Rattle.std.specs.Prelude.{◌≡◌, ◌≤◌, None, IfOk, IfSome, OnOk, MatchBool, MatchOption};
+ghost use Rattle.std.specs.Prelude.{◌≡◌, ◌≤◌, None, IfOk, IfErr, IfSome, OnOk, MatchBool, MatchOption};
 ghost use Rattle.cbm_bam.specs.Marks.{is_marked};
 ghost use Rattle.cbm_bam.specs.Map.{geometry_of};
 ghost use Rattle.cbm_directory.specs.Entries.{EntersLed};
 ghost use Rattle.cbm_image.specs.Images.{kind_of, image_fault};
 ghost use Rattle.cbm_shell.specs.Mapping.{chain_of, is_among};
-ghost use Rattle.cbm_shell.specs.Undeleting.{restored_entry, all_blocks_free, held_with, HasNoDeleted, IsDeleted, IsMapAnew, IsClear, IsInTheWay, IsNotGiven, IsGivenAgain, IsUndeleted, IsNotGivenIn, IsUndeletedIn};
+ghost use Rattle.cbm_shell.specs.Undeleting.{restored_entry, all_blocks_free, held_with, HasNoDeleted, IsDeleted, IsMapAnew, IsClear, IsInTheWay, IsNotGiven, IsGivenAgain, IsUndeleted, IsNotGivenIn, IsUndeletedIn, IsNotUndeleted};
+ghost use Rattle.cbm_shell.specs.Remaking.{IsTroubled, IsHalted, IsNotSaved};
 ghost use Rattle.cbm_shell.specs.Images.{IsSaved, IsSoundDisk, IsSoundImage};
 
 use crate::broken::flaws::lost_of;
@@ -37,8 +38,9 @@ fn restored_entry(entry: &Entry, kind: FileType) -> Entry
 /// The entry in a slot, if it is that of a deleted file; None where it is another, or the directory ends before. Errors:
 /// `Trouble`, where the directory breaks off before.
 fn deleted_entry<M: Medium>(volume: &Volume<M>, slot: u8) -> Result<Option<Entry>, ShellFault>
-    ensures { let now = M.seen volume.now in let tracks = geometry_of now.tracks now.content in
+    ensures found { let now = M.seen volume.now in let tracks = geometry_of now.tracks now.content in
         IfOk result (λ o. MatchOption o (HasNoDeleted tracks now.content slot) (λ e. IsDeleted tracks now.content slot e)) }
+    ensures fault { IfErr result IsTroubled }
 {
     let Some(entry) = volume.slot(slot)? else {
         return Ok(None);
@@ -99,6 +101,7 @@ fn restored<M: Medium + Drop>(
     ensures tracks { IfOk result (λ after. (M.seen after).tracks ≡ (M.seen volume).tracks) }
     ensures entered { let old = M.seen volume in IfOk result (λ after. EntersLed (geometry_of old.tracks old.content)
         old.content (M.seen after).content slot (restored_entry kind entry.now)) }
+    ensures fault { IfErr result IsTroubled }
 {
     let geometry = volume.geometry();
     let mut medium = volume.into_medium();
@@ -117,6 +120,7 @@ pub fn remapped<M: Steady + Drop>(
     ensures tracks { IfOk result (λ after. (M.seen after).tracks ≡ (M.seen medium).tracks) }
     ensures mapped { IfOk result (λ after.
         IsMapAnew geometry (M.seen medium).content (M.seen after).content (is_marked held.now)) }
+    ensures fault { IfErr result IsTroubled }
 {
     let mut medium = medium;
     let map = read_map(&medium, geometry)?;
@@ -135,6 +139,7 @@ fn given_again<M: Steady + Drop>(
     ensures tracks { IfOk result (λ after. (M.seen after).tracks ≡ (M.seen volume).tracks) }
     ensures given { let old = M.seen volume in IfOk result (λ after.
         IsGivenAgain (geometry_of old.tracks old.content) old.content (M.seen after).content slot kind entry.now) }
+    ensures fault { IfErr result IsHalted }
 {
     let geometry = volume.geometry();
     let entries = entries_or_none(alloc, &volume)?;
@@ -150,8 +155,9 @@ fn given_again<M: Steady + Drop>(
 
 /// Whether nothing stands against giving back the file of an entry: each of its blocks is free, and none of the disk is lost.
 fn is_clear<M: Medium>(alloc: Global, volume: &Volume<M>, entry: &Entry) -> Result<bool, ShellFault>
-    ensures { let now = M.seen volume.now in let tracks = geometry_of now.tracks now.content in
+    ensures clear { let now = M.seen volume.now in let tracks = geometry_of now.tracks now.content in
         IfOk result (λ b. MatchBool b (IsClear tracks now.content entry.now) (IsInTheWay tracks now.content entry.now)) }
+    ensures fault { IfErr result IsHalted }
 {
     let geometry = volume.geometry();
     if !is_free_chain(volume.medium(), geometry, entry.first_block()) {
@@ -169,9 +175,10 @@ fn undeleted<M: Steady + Drop>(
     slot: u8,
     kind: FileType,
 ) -> Result<Option<M>, ShellFault>
-    ensures { let old = M.seen volume in let tracks = geometry_of old.tracks old.content in
+    ensures given { let old = M.seen volume in let tracks = geometry_of old.tracks old.content in
         IfOk result (λ o. MatchOption o (IsNotGiven tracks old.content slot) (λ after.
         ((M.seen after).tracks ≡ old.tracks) × IsUndeleted tracks old.content (M.seen after).content slot kind)) }
+    ensures fault { IfErr result IsHalted }
 {
     let Some(entry) = deleted_entry(&volume, slot)? else {
         return Ok(None);
@@ -188,6 +195,7 @@ pub fn sound_image<I: DiskImage + Drop>(alloc: Global, disk: I) -> Result<Vec<u8
     ensures saved { IfOk result (λ v. IsSaved I.kind v.items (I.seen disk)) }
     ensures sound { let now = I.seen disk in OnOk result (IsSoundDisk now.tracks now.content) }
     ensures image { IfOk result (λ v. IsSoundImage I.kind v.items) }
+    ensures fault { IfErr result (IsNotSaved (I.seen disk)) }
 {
     let volume = Volume::open(disk);
     require_sound(&volume)?;
@@ -207,6 +215,7 @@ fn undelete_in<I: DiskImage + Drop>(
         (λ v. IsUndeletedIn image.now v.items slot kind)) }
     ensures sound { IfOk result (λ o. IfSome o (λ v. IsSoundImage (kind_of image.now) v.items)) }
     ensures opens { IfOk result (λ o. IfSome o (λ v. image_fault (kind_of image.now) v.items ≡ None)) }
+    ensures fault { IfErr result (IsNotUndeleted image.now slot kind) }
 {
     let volume = Volume::open(opened::<I>(alloc, image)?);
     require_sound(&volume)?;
@@ -227,11 +236,11 @@ pub fn undelete(
     kind: FileType,
 ) -> Result<Option<Vec<u8>>, ShellFault>
     // The entry has its type, the BAM has its blocks as taken, and nothing else of the image is changed; None has its reason.
-    // The entry has its type, the BAM has its blocks as taken, and nothing else of the image is changed; None has its reason.
     ensures given { IfOk result (λ o. MatchOption o (IsNotGivenIn image.now slot)
         (λ v. IsUndeletedIn image.now v.items slot kind)) }
     ensures sound { IfOk result (λ o. IfSome o (λ v. IsSoundImage (kind_of image.now) v.items)) }
     ensures opens { IfOk result (λ o. IfSome o (λ v. image_fault (kind_of image.now) v.items ≡ None)) }
+    ensures fault { IfErr result (IsNotUndeleted image.now slot kind) }
 {
     match kind_of(image) {
         Kind::D64 => undelete_in::<D64Disk>(alloc, image, slot, kind),

@@ -1,9 +1,9 @@
 //! Several changes of one disk, one after another.
-ghost use Rattle.std.specs.Prelude.{◌≡◌, None, false, IfOk, MatchResult};
+ghost use Rattle.std.specs.Prelude.{◌≡◌, ◌<◌, None, false, length, IfOk, OnOk, MatchResult};
 ghost use Rattle.cbm_file.specs.Files.{Disk};
 ghost use Rattle.cbm_volume.specs.Holding.{HoldsDisk};
 ghost use Rattle.cbm_image.specs.Images.{kind_of, image_fault, tracks_of, ImageHolds};
-ghost use Rattle.cbm_shell.specs.Images.{OrOpenFault};
+ghost use Rattle.cbm_shell.specs.Images.{OrOpenFault, IsSoundDisk, IsSoundImage};
 ghost use Rattle.cbm_shell.specs.Several.{HoldsAfter, ImageAfter, AreUndone};
 
 use crate::changing::{DiskChange, changed};
@@ -17,9 +17,10 @@ use std::alloc::Global;
 
 /// Makes changes on a disk, one after another. Errors: as of the first change that isn't made.
 fn changed_by<M: Steady + Drop>(medium: M, changes: &[DiskChange<'_>]) -> Result<M, ShellFault>
-    ensures { let old = M.seen medium in (d : Disk) → HoldsDisk old.tracks old.content d → MatchResult result
+    ensures made { let old = M.seen medium in (d : Disk) → HoldsDisk old.tracks old.content d → MatchResult result
         (λ after. HoldsAfter changes.now old.protected old.tracks d (M.seen after))
         (AreUndone changes.now old.protected old.tracks d) }
+    ensures sound { 0 < length changes.now → OnOk result (IsSoundDisk (M.seen medium).tracks (M.seen medium).content) }
 {
     let mut disk = medium;
     for change in changes {
@@ -38,6 +39,7 @@ fn changes_in<I: DiskImage + Drop>(
     ensures made { let kind = kind_of image.now in (d : Disk) → ImageHolds kind image.now d → MatchResult result
         (λ v. ImageAfter changes.now kind (tracks_of kind image.now) d v.items)
         (OrOpenFault image.now (AreUndone changes.now false (tracks_of kind image.now) d)) }
+    ensures sound { 0 < length changes.now → OnOk result (IsSoundImage (kind_of image.now) image.now) }
     ensures opens { IfOk result (λ v. image_fault (kind_of image.now) v.items ≡ None) }
 {
     let disk = opened::<I>(alloc, image)?;
@@ -55,6 +57,8 @@ pub fn changes(
     ensures made { let kind = kind_of image.now in (d : Disk) → ImageHolds kind image.now d → MatchResult result
         (λ v. ImageAfter changes.now kind (tracks_of kind image.now) d v.items)
         (OrOpenFault image.now (AreUndone changes.now false (tracks_of kind image.now) d)) }
+    // A disk that isn't sound is never changed.
+    ensures sound { 0 < length changes.now → OnOk result (IsSoundImage (kind_of image.now) image.now) }
     // The new image opens again.
     ensures opens { IfOk result (λ v. image_fault (kind_of image.now) v.items ≡ None) }
 {

@@ -2,10 +2,12 @@
 ghost use Rattle.std.specs.Prelude.{◌≤◌, length};
 
 use super::bench::{Bench, any_name, read_beside};
+use super::laid::Lane;
 use super::ordered::ordered;
 use crate::putting::{Body, body_of};
 use crate::stored::{Stored, with_stored};
 use cbm_shell::{Looks, ShellFault};
+use cbm_volume::Entry;
 use disk_basics::calls::entries;
 use disk_basics::changing::{add_art, dress};
 use disk_basics::{Failure, WordFault, in_memory, kind_of_file, name_of_file, on_disk};
@@ -186,18 +188,52 @@ fn with_art<'r, R: Runtime + AllocGlobal>(
     }
 }
 
+/// Whether the file in a slot is relative.
+fn is_relative_at(alloc: Global, image: &[u8], slot: u8) -> Result<bool, ShellFault> {
+    let entries = entries(alloc, image)?;
+    Ok(
+        entries
+            .as_slice()
+            .get(usize::from(slot))
+            .is_some_and(Entry::is_relative),
+    )
+}
+
+/// The image with the file of a line in the next slot, laid as the recipe says.
+fn with_laid<'r, R: Runtime + AllocGlobal>(
+    rt: &R,
+    bench: Bench<'r>,
+    lane: &mut Lane,
+    old: &[u8],
+    slot: u8,
+    line: &'r RecipeLine,
+    file: &'r str,
+) -> Result<Vec<u8>, Failure<'r>> {
+    let put = with_file(rt, bench, old, slot, line, file)?;
+    let is_relative = on_disk(
+        bench.image,
+        is_relative_at(rt.alloc(), put.as_slice(), slot),
+    )?;
+    match lane.laid(rt.alloc(), file, put.as_slice(), slot, line, is_relative)? {
+        Some(laid) => Ok(laid),
+        None => Ok(put),
+    }
+}
+
 /// The image with all files.
 fn with_files<'r, R: Runtime + AllocGlobal>(
     rt: &R,
     bench: Bench<'r>,
+    lane: Lane,
     lines: &'r [RecipeLine],
     blank: Vec<u8>,
 ) -> Result<Vec<u8>, Failure<'r>> {
     let mut image = blank;
     let mut slot: u8 = 0;
+    let mut lane = lane;
     for (place, line) in lines.iter().enumerate() {
         if let Some(file) = option(&line.file) {
-            let made = with_file(rt, bench, image.as_slice(), slot, line, file);
+            let made = with_laid(rt, bench, &mut lane, image.as_slice(), slot, line, file);
             if made.is_err() {
                 tell_entry(rt, place);
             }
@@ -244,11 +280,12 @@ fn require_lines<'a>(lines: &[RecipeLine]) -> Result<(), Failure<'a>> {
 pub fn with_lines<'r, R: Runtime + AllocGlobal>(
     rt: &R,
     bench: Bench<'r>,
+    lane: Lane,
     lines: &'r [RecipeLine],
     blank: Vec<u8>,
 ) -> Result<Vec<u8>, Failure<'r>> {
     require_lines(lines)?;
-    let filled = with_files(rt, bench, lines, blank)?;
+    let filled = with_files(rt, bench, lane, lines, blank)?;
     let whole = with_arts(rt, bench, lines, filled)?;
     ordered(rt.alloc(), bench.image, lines, whole.as_slice())
 }

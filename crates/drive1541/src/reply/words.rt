@@ -24,6 +24,7 @@ Each line of the host is answered by the changes on the bus and `ready MOMENT`:
 pub struct Words<'a> {
     seats: Vec<Seat<'a>>,
     is_read_only: bool,
+    is_direct: bool,
 }
 
 /// What may stand on the command line.
@@ -43,13 +44,18 @@ fn command<'a>(alloc: Global) -> Result<Command<'a>, Error> {
         .long("read-only")
         .action(ArgAction::SetTrue)
         .help("write-protect the disks");
+    let direct = Arg::new(alloc, "direct")
+        .long("direct")
+        .action(ArgAction::SetTrue)
+        .help("let channels of all drives read single blocks");
     let command = Command::new(alloc, "drive1541 reply")
         .about("Drives with disks on a bus whose host talks over standard input and output")
         .after_help(EXAMPLES)
         .no_binary_name(true)
         .arg(image)?
         .arg(drive)?
-        .arg(read_only)?;
+        .arg(read_only)?
+        .arg(direct)?;
     Ok(command)
 }
 
@@ -79,6 +85,7 @@ impl<'a> Words<'a> {
         let mut words = Words {
             seats: Vec::new(alloc),
             is_read_only: matches.get_flag("read-only"),
+            is_direct: matches.get_flag("direct"),
         };
         for (place, image) in images.iter().enumerate() {
             let party = party_at(place, drives.get(place))?;
@@ -118,6 +125,11 @@ impl<'a> Words<'a> {
     /// The drives, in their order.
     pub fn seats(&self) -> &[Seat<'a>] {
         self.seats.as_slice()
+    }
+
+    /// Whether the drives have direct access.
+    pub fn is_direct(&self) -> bool {
+        self.is_direct
     }
 
     /// Whether the disks are protected.

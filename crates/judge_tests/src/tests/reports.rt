@@ -2,7 +2,7 @@
 
 use bus_judge::NotABus;
 use cbm_iec::Party;
-use judge_report::{Moments, ReportFault, Timing, Verdict, judge_trace, party_of};
+use judge_report::{Asked, Form, Range, ReportFault, Timing, Verdict, judge_trace, seat_of};
 use std::alloc::Global;
 use std::process::Abort;
 use std::str::from_utf8;
@@ -48,31 +48,35 @@ pub fn said(
     words: &[&str],
     expected: &str,
 ) -> Result<Verdict, ReportFault> {
-    said_with(rt, alloc, trace, words, Moments::Left, expected)
+    said_with(rt, alloc, trace, words, Form::Acts, expected)
 }
 
-/// The same, with the moments of acts or without.
+/// The same, printed so.
 fn said_with(
     rt: &impl Abort,
     alloc: Global,
     trace: &str,
     words: &[&str],
-    moments: Moments,
+    form: Form,
     expected: &str,
 ) -> Result<Verdict, ReportFault> {
     let mut parties: Vec<Party> = Vec::new(alloc);
+    let mut ranges: Vec<Range> = Vec::new(alloc);
     for word in words {
-        let party = party_of(word).expect(rt, "a drive");
-        parties.push(party).ok().expect(rt, "memory");
+        let seat = seat_of(word).expect(rt, "a drive");
+        parties.push(seat.party).ok().expect(rt, "memory");
+        if seat.range.more > 0 {
+            ranges.push(seat.range).ok().expect(rt, "memory");
+        }
     }
     let mut output: Vec<u8> = Vec::new(alloc);
-    let judged = judge_trace(
-        trace.as_bytes(),
-        &mut output,
-        &parties,
-        Timing::Kept,
-        moments,
-    );
+    let asked = Asked {
+        parties: &parties,
+        ranges: &ranges,
+        timing: Timing::Kept,
+        form,
+    };
+    let judged = judge_trace(alloc, trace.as_bytes(), &mut output, &asked);
     let text = from_utf8(output.as_slice()).ok().expect(rt, "text");
     assert!(rt; text == expected, "{text}");
     Ok(judged?.verdict)
@@ -89,7 +93,14 @@ fn tells_a_session(rt: HostRuntime) {
 #[test]
 fn tells_moments(rt: HostRuntime) {
     let expected = "0 us attention 28\na session to 1400 us\n";
-    let verdict = said_with(&rt, rt.alloc(), LISTEN, &["8:20"], Moments::Told, expected);
+    let verdict = said_with(
+        &rt,
+        rt.alloc(),
+        LISTEN,
+        &["8:20"],
+        Form::ActsWithMoments,
+        expected,
+    );
     assert!(rt; verdict == Ok(Verdict::Session));
 }
 
@@ -110,14 +121,14 @@ fn knows_a_trace_of_a_kernal(rt: HostRuntime) {
         ("0 host atn pull\n", false),
     ] {
         let mut output: Vec<u8> = Vec::new(rt.alloc());
-        let party = party_of("8:20").expect(&rt, "a drive");
-        let judged = judge_trace(
-            trace.as_bytes(),
-            &mut output,
-            &[party],
-            Timing::Kept,
-            Moments::Left,
-        );
+        let party = seat_of("8:20").expect(&rt, "a drive").party;
+        let asked = Asked {
+            parties: &[party],
+            ranges: &[],
+            timing: Timing::Kept,
+            form: Form::Acts,
+        };
+        let judged = judge_trace(rt.alloc(), trace.as_bytes(), &mut output, &asked);
         assert!(rt; judged.is_ok_and(|it| it.is_of_kernal == wanted));
     }
 }
@@ -213,9 +224,9 @@ fn keeps_the_bounds_of_the_pace(rt: HostRuntime) {
 
 #[test]
 fn reads_drives(rt: HostRuntime) {
-    assert!(rt; party_of("8").is_none() && party_of("8:").is_none());
-    assert!(rt; party_of("8:20:fast").is_none() && party_of("8:300").is_none());
-    assert!(rt; party_of("9:35:kernal").is_some());
+    assert!(rt; seat_of("8").is_none() && seat_of("8:").is_none());
+    assert!(rt; seat_of("8:20:fast").is_none() && seat_of("8:300").is_none());
+    assert!(rt; seat_of("9:35:kernal").is_some());
     let none = said(&rt, rt.alloc(), LISTEN, &["8:0"], "");
     assert!(rt; none == Err(ReportFault::Drives(NotABus::Reaction)));
 }

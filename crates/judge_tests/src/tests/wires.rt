@@ -48,7 +48,8 @@ fn tells_a_session(rt: HostRuntime) {
 // DATA that is pulled before the drive's moment is the host's; after it, it is the drive's that owes it.
 #[test]
 fn tells_who_broke_it(rt: HostRuntime) {
-    let expected = "attention\n19 us host data pull: no session has it there\n";
+    let expected =
+        "attention\n19 us host data pull: no session has it there (in attention; next: drive 8 data pull at 20)\n";
     let early =
         "$var wire 1 a atn $end $var wire 1 c clk $end $var wire 1 d data $end $enddefinitions $end
 #0 0a 0c

@@ -1,5 +1,5 @@
 //! The blocks that nothing uses, and that aren't free.
-ghost use Rattle.std.specs.Prelude.{◌≡◌, ◌≤◌, ◌++◌, IfOk, OnOk};
+ghost use Rattle.std.specs.Prelude.{◌≡◌, ◌≤◌, ◌++◌, IfOk, IfErr, OnOk};
 ghost use Rattle.cbm_medium.specs.Place.{directory_head, sectors_on};
 ghost use Rattle.cbm_bam.specs.Marks.{is_marked};
 ghost use Rattle.cbm_bam.specs.Map.{geometry_of};
@@ -104,8 +104,9 @@ fn lost_among<M: Medium>(
 /// The blocks that nothing uses and that aren't free, in order of track and sector; none where the directory can't be followed to
 /// its end, as then it isn't known what files use. The one error is `Memory`.
 pub fn lost_of<M: Medium>(alloc: Global, volume: &Volume<M>) -> Result<Vec<Address>, ShellFault>
-    ensures { let now = M.seen volume.now in
+    ensures ok { let now = M.seen volume.now in
         IfOk result (λ v. v.items ≡ lost_of now.content (geometry_of now.tracks now.content) (directory_of (geometry_of now.tracks now.content) now.content)) }
+    ensures err { IfErr result (λ fault. fault ≡ ShellFault.Memory) }
 {
     match entries_of(alloc, volume) {
         Ok(entries) => {

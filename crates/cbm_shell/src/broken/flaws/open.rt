@@ -1,5 +1,5 @@
 //! What is wrong with the disk of an image that was opened.
-ghost use Rattle.std.specs.Prelude.{◌≡◌, ◌≤◌, IfOk, IsOk, MatchOption, Err};
+ghost use Rattle.std.specs.Prelude.{◌≡◌, ◌≤◌, IfOk, IfErr, IsOk, MatchOption, Err};
 ghost use Rattle.cbm_bam.specs.Map.{geometry_of};
 ghost use Rattle.cbm_directory.specs.Slots.{directory_of};
 ghost use Rattle.cbm_shell.specs.OpenDisk.{open_disk_seen};
@@ -34,8 +34,9 @@ impl OpenDisk {
     /// The slots whose closed files use a sector, from 0; none where the directory can't be followed to its end. The one error
     /// is `Memory`.
     pub fn users(&self, alloc: Global, at: Address) -> Result<Vec<usize>, ShellFault>
-        ensures { let now = open_disk_seen self.now in
+        ensures ok { let now = open_disk_seen self.now in
             IfOk result (λ v. v.items ≡ users_of (geometry_of now.tracks now.content) now.content at) }
+        ensures err { IfErr result (λ fault. fault ≡ ShellFault.Memory) }
     {
         match self {
             OpenDisk::D64(volume) => users_of(alloc, volume, at),
@@ -46,8 +47,9 @@ impl OpenDisk {
     /// The blocks that neither the drive's files nor GEOS use, and that aren't free, in order of track and sector; none where the
     /// directory can't be followed to its end. The one error is `Memory`.
     pub fn lost(&self, alloc: Global) -> Result<Vec<Address>, ShellFault>
-        ensures { let now = open_disk_seen self.now in let tracks = geometry_of now.tracks now.content in
+        ensures ok { let now = open_disk_seen self.now in let tracks = geometry_of now.tracks now.content in
             IfOk result (λ v. v.items ≡ lost_of now.content tracks (directory_of tracks now.content)) }
+        ensures err { IfErr result (λ fault. fault ≡ ShellFault.Memory) }
     {
         match self {
             OpenDisk::D64(volume) => lost_of(alloc, volume),

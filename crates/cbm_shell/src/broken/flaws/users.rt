@@ -1,5 +1,5 @@
 //! The files that use a sector.
-ghost use Rattle.std.specs.Prelude.{◌≡◌, ◌≤◌, ◌++◌, IfOk, OnOk};
+ghost use Rattle.std.specs.Prelude.{◌≡◌, ◌≤◌, ◌++◌, IfOk, IfErr, OnOk};
 ghost use Rattle.cbm_bam.specs.Map.{geometry_of};
 ghost use Rattle.cbm_directory.specs.Slots.{directory_of};
 ghost use Rattle.cbm_shell.specs.Mapping.{entries_shown};
@@ -59,8 +59,9 @@ pub fn users_of<M: Medium>(
     volume: &Volume<M>,
     at: Address,
 ) -> Result<Vec<usize>, ShellFault>
-    ensures { let now = M.seen volume.now in
+    ensures ok { let now = M.seen volume.now in
         IfOk result (λ v. v.items ≡ users_of (geometry_of now.tracks now.content) now.content at) }
+    ensures err { IfErr result (λ fault. fault ≡ ShellFault.Memory) }
 {
     let entries = entries_or_none(alloc, volume)?;
     let users = users_among(

@@ -1,10 +1,11 @@
 //! Another id.
-ghost use Rattle.std.specs.Prelude.{◌≡◌, ◌≤◌, None, IfOk, OnOk};
+ghost use Rattle.std.specs.Prelude.{◌≡◌, ◌≤◌, None, IfOk, IfErr, OnOk};
 ghost use Rattle.cbm_medium.specs.Place.{directory_head};
 ghost use Rattle.cbm_medium.specs.Content.{written};
 ghost use Rattle.cbm_image.specs.Images.{kind_of, image_fault};
 ghost use Rattle.cbm_shell.specs.Images.{IsSoundImage};
-ghost use Rattle.cbm_shell.specs.Locking.{head_with_mark, marked_as, IsRemarked};
+ghost use Rattle.cbm_shell.specs.Locking.{head_with_mark, marked_as, IsRemarked, IsNotRemarked};
+ghost use Rattle.cbm_shell.specs.Remaking.{IsTroubled};
 
 use crate::broken::sound_image;
 use crate::changing::locking::write_head;
@@ -33,6 +34,7 @@ fn put_mark(head: &mut [u8; 256], mark: &[u8; 5])
 fn remarked<M: Steady + Drop>(volume: Volume<M>, mark: &[u8; 5]) -> Result<M, ShellFault>
     ensures content { IfOk result (λ after. (M.seen after).content ≡ marked_as mark.now (M.seen volume).content) }
     ensures tracks { IfOk result (λ after. (M.seen after).tracks ≡ (M.seen volume).tracks) }
+    ensures fault { IfErr result IsTroubled }
 {
     let geometry = volume.geometry();
     let mut medium = volume.into_medium();
@@ -53,6 +55,7 @@ fn remark_in<I: DiskImage + Drop>(
     ensures was_sound { OnOk result (IsSoundImage (kind_of image.now) image.now) }
     ensures sound { IfOk result (λ v. IsSoundImage (kind_of image.now) v.items) }
     ensures opens { IfOk result (λ v. image_fault (kind_of image.now) v.items ≡ None) }
+    ensures fault { IfErr result (IsNotRemarked image.now mark.now) }
 {
     let volume = Volume::open(opened::<I>(alloc, image)?);
     require_sound(&volume)?;
@@ -68,6 +71,7 @@ pub fn remark(alloc: Global, image: &[u8], mark: &[u8; 5]) -> Result<Vec<u8>, Sh
     ensures was_sound { OnOk result (IsSoundImage (kind_of image.now) image.now) }
     ensures sound { IfOk result (λ v. IsSoundImage (kind_of image.now) v.items) }
     ensures opens { IfOk result (λ v. image_fault (kind_of image.now) v.items ≡ None) }
+    ensures fault { IfErr result (IsNotRemarked image.now mark.now) }
 {
     match kind_of(image) {
         Kind::D64 => remark_in::<D64Disk>(alloc, image, mark),

@@ -6,6 +6,7 @@ ghost use Rattle.cbm_bam.specs.Map.{geometry_of};
 ghost use Rattle.cbm_image.specs.Images.{kind_of, image_fault, ImageHolds};
 ghost use Rattle.cbm_shell.specs.Images.{IsSoundImage, OfHeld};
 ghost use Rattle.cbm_shell.specs.Editing.{CanBeEdited, IsUneditedIn};
+ghost use Rattle.cbm_shell.specs.Remaking.{IsTroubled};
 ghost use Rattle.cbm_shell.specs.Locking.{with_title, titled, entitled, IsRetitled};
 
 use crate::changing::require_sound;
@@ -37,6 +38,7 @@ pub fn write_head<M: Steady>(medium: &mut M, head: &[u8; 256]) -> Result<(), She
     ensures tracks { (M.seen medium.new).tracks ≡ (M.seen medium.old).tracks }
     ensures never { let old = M.seen medium.old in
         IsOk (old.content directory_head) → old.protected ≡ false → IsOk result }
+    ensures fault { IfErr result IsTroubled }
 {
     let _tracks = medium.tracks();
     match medium.write(Address::of_map(), head) {

@@ -1,7 +1,8 @@
-use Rattle.std.proofs.Common.{◌+◌, drop, ap, ◌∙◌, Err}
+use Rattle.std.proofs.Common.{◌+◌, drop, ap, subst, ◌∙◌, Err, arith}
 use Rattle.std.proofs.lemmas.List.{drop_all}
 use Rattle.std.proofs.lemmas.Result.{err_from_is_err_and}
-use Rattle.cbm_shell.proofs.SeveralLemmas.{one_more, not_made, all_made, next_change}
+use Rattle.cbm_shell.specs.Images.{IsSoundDisk}
+use Rattle.cbm_shell.proofs.SeveralLemmas.{first_sound, one_more, not_made, all_made, next_change}
 use Rattle.cbm_shell.proofs.changing.several.changed_by.Goals as goal
 
 pub loop-change-preserved : goal.loop-change-preserved
@@ -14,10 +15,13 @@ loop-change-preserved g c =
       λ d h. let u = inv.2 d h in
           one_more (drop c.loop-change.change-index c.args.changes.now) (drop (c.loop-change.change-index + 1) c.args.changes.now) c.args.changes.now _ old.protected old.tracks d
           (seen c.loop-change.disk) (seen c.in_ok-disk.disk) (next_change c.args.changes.now _ c.loop-change.change-index c.loop-change-test.true) inv.0 inv.1 u (c.in_ok-disk.ensures.made u.disk u.holds),
+      λ e. absurd (omega (arith, e)),
+      λ h. first_sound (IsSoundDisk old.tracks old.content) c.loop-change.change-index
+          (λ e. subst (λ m. IsSoundDisk (seen m).tracks (seen m).content) (inv.3 e) c.in_ok-disk.ensures.sound) inv.4,
     )
 
-pub returns-in_err-disk : goal.returns-in_err-disk
-returns-in_err-disk g c = λ d h.
+pub returns-in_err-disk-clause-made : goal.returns-in_err-disk-clause-made
+returns-in_err-disk-clause-made g c = λ d h.
     let seen = g.M.Medium.seen in
     let old = seen c.args.medium in
     let inv = c.loop-change.invariant in
@@ -26,9 +30,12 @@ returns-in_err-disk g c = λ d h.
     rw (p.1 ∙ ap Err p.2) (not_made (drop c.loop-change.change-index c.args.changes.now) (drop (c.loop-change.change-index + 1) c.args.changes.now) c.args.changes.now _ old.protected old.tracks d
     (seen c.loop-change.disk) c.in_err-disk.field-0.0 (next_change c.args.changes.now _ c.loop-change.change-index c.loop-change-test.true) inv.0 inv.1 u (c.in_err-disk.ensures.made u.disk u.holds))
 
-pub returns : goal.returns
-returns g c = λ d h.
+pub returns-clause-made : goal.returns-clause-made
+returns-clause-made g c = λ d h.
     let seen = g.M.Medium.seen in
     let old = seen c.args.medium in
     all_made (drop c.loop-change.change-index c.args.changes.now) c.args.changes.now old.protected old.tracks d (seen c.loop-change.disk)
     (drop_all c.loop-change.change-index c.args.changes.now c.loop-change-test.false) (c.loop-change.invariant.2 d h)
+
+pub returns-clause-sound : goal.returns-clause-sound
+returns-clause-sound g c = λ some. c.loop-change.invariant.4 (omega (arith, some, c.loop-change-test.false))

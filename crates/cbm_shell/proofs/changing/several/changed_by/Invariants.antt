@@ -1,6 +1,7 @@
-use Rattle.std.proofs.Common.{◌≡◌, drop}
+use Rattle.std.proofs.Common.{◌≡◌, ◌<◌, drop}
 use Rattle.cbm_file.specs.Files.{Disk}
 use Rattle.cbm_volume.specs.Holding.{HoldsDisk}
+use Rattle.cbm_shell.specs.Images.{IsSoundDisk}
 use Rattle.cbm_shell.proofs.SeveralLemmas.{UnderWay}
 use Rattle.cbm_shell.proofs.changing.several.changed_by.Given as goal
 
@@ -11,3 +12,4 @@ invariant-loop-change g l =
     let now = g.M.Medium.seen l.disk in
     (now.protected ≡ old.protected) × (now.tracks ≡ old.tracks)
     × ((d : Disk) → HoldsDisk old.tracks old.content d → UnderWay (drop l.change-index l.changes) l.fn.changes old.protected old.tracks d now)
+    × (l.change-index ≡ 0 → l.disk ≡ l.fn.medium) × (0 < l.change-index → IsSoundDisk old.tracks old.content)

@@ -19,7 +19,7 @@ returns-in_err-disk-2-clause-made g c = λ d h.
     rw (p.1 ∙ ap Err p.2) (as_other_fault c.args.image.now (AreUndone c.args.changes.now false (tracks_of (kind_of c.args.image.now) c.args.image.now) d) _ (never_image c.args.changes.now false (tracks_of (kind_of c.args.image.now) c.args.image.now) d)
     (subst (λ t. AreUndone c.args.changes.now false t d c.in_err-disk-2.field-0.0) opened.same_tracks
     (subst (λ b. AreUndone c.args.changes.now b seen.tracks d c.in_err-disk-2.field-0.0) opened.free
-    (c.in_err-disk-2.ensures d (opened_holds c.args.image.now seen d opened h)))))
+    (c.in_err-disk-2.ensures.made d (opened_holds c.args.image.now seen d opened h)))))
 
 pub returns-clause-made : goal.returns-clause-made
 returns-clause-made g c = λ d h.
@@ -27,5 +27,5 @@ returns-clause-made g c = λ d h.
     let opened = c.in_ok-disk.ensures.ok in
     let after = g.I.Medium.seen c.in_ok-disk-2.disk in
     let made = subst (λ t. HoldsAfter c.args.changes.now false t d after) opened.same_tracks
-    (subst (λ b. HoldsAfter c.args.changes.now b seen.tracks d after) opened.free (c.in_ok-disk-2.ensures d (opened_holds c.args.image.now seen d opened h))) in
+    (subst (λ b. HoldsAfter c.args.changes.now b seen.tracks d after) opened.free (c.in_ok-disk-2.ensures.made d (opened_holds c.args.image.now seen d opened h))) in
     saved_after c.args.image.now (λ v. v.items) c.args.changes.now g.I.DiskImage.kind (kind_of c.args.image.now) (tracks_of (kind_of c.args.image.now) c.args.image.now) d after c.saved.result c.requires c.saved.ensures.ok c.saved.ensures.err made

@@ -1,0 +1,5 @@
+pub mod Buffered
+pub mod Asking
+pub mod Memories
+pub mod Vouching
+pub mod Directs

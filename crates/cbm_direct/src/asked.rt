@@ -1,0 +1,31 @@
+/// A sector that a command names, and the channel whose buffer it is for.
+#[derive(Clone, Copy, Debug, PartialEq, Eq, Drop)]
+pub struct Block {
+    /// The channel.
+    pub channel: u8,
+    /// The drive's number, which is 0.
+    pub drive: u8,
+    /// The track.
+    pub track: u8,
+    /// The sector.
+    pub sector: u8,
+}
+
+/// What a command of direct access asks for.
+#[derive(Clone, Copy, Debug, PartialEq, Eq, Drop)]
+pub enum Asked {
+    /// U1 or UA: a channel's buffer gets a sector.
+    Read(Block),
+    /// B-R: the same, and byte 0 says which byte is the last.
+    ReadCounted(Block),
+    /// B-P: the next byte of a channel's buffer is the one of this place.
+    Seek(u8, u8),
+    /// M-R: this many bytes of the drive's memory from an address on, 1 to 255.
+    Memory(u16, u8),
+    /// UI, UJ, U9 or `U:`: the drive starts again.
+    Restart,
+    /// UI+ or UI-: nothing.
+    Nothing,
+    /// The numbers of a command that can't be read.
+    Unread,
+}

@@ -1,0 +1,2 @@
+pub mod MoveParts
+pub mod PlaceParts

@@ -1,0 +1,16 @@
+use Rattle.std.proofs.Common.{◌≡◌, ◌∷◌, ap, ◌∙◌, rules}
+use Rattle.cbm_medium.specs.Content.{written}
+use Rattle.cbm_place.specs.Moves.{led}
+use Rattle.cbm_place.proofs.MoveParts.{laid-more}
+use Rattle.cbm_place.proofs.laying.lay.Goals as goal
+
+pub places-preserved : goal.places-preserved
+places-preserved g c =
+    let now = g.M.Medium.seen c.places.medium in
+    let begins : c.places.places_left.now ≡ c.in-Some.at.now ∷ c.in-Some.rest.now = search rules in
+    let first : c.places.blocks_left.now ≡ c.in-Some-split_first.block.now ∷ c.in-Some-split_first.more.now = search rules in (
+      laid-more c.places.places_left.now c.in-Some.rest.now c.places.blocks_left.now c.in-Some-split_first.more.now c.in-Some.at.now c.in-Some-split_first.block.now
+          now.content (g.M.Medium.seen c.write.new.medium).content _ c.places.invariant.0 begins first
+          (c.in_ok-write.ensures.written ∙ ap (written now.content c.in-Some.at.now) c.led.ensures),
+      c.write.ensures.tracks ∙ c.places.invariant.1,
+    )

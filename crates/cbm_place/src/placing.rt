@@ -1,0 +1,59 @@
+//! A file of an image, moved to blocks that are named.
+ghost use Rattle.std.specs.Prelude.{◌≡◌, None, IfOk, IfErr, OnOk};
+ghost use Rattle.cbm_image.specs.Images.{kind_of, image_fault};
+ghost use Rattle.cbm_shell.specs.Images.{IsSoundImage};
+ghost use Rattle.cbm_place.specs.Placed.{IsPlacedIn, IsUnplacedIn};
+
+use crate::moving::moved;
+use cbm_d64::D64Disk;
+use cbm_g64::G64Disk;
+use cbm_image::{DiskImage, Kind, kind_of};
+use cbm_medium::Address;
+use cbm_shell::ShellFault;
+use cbm_shell::parts::{opened, require_sound, saved};
+use cbm_volume::Volume;
+use std::alloc::Global;
+
+/// Moves the file in a slot of an image of one format.
+fn place_in<I: DiskImage + Drop>(
+    alloc: Global,
+    image: &[u8],
+    slot: u8,
+    places: &[Address],
+) -> Result<Vec<u8>, ShellFault>
+    requires { kind_of image.now ≡ I.kind }
+    ensures placed { IfOk result (λ v. IsPlacedIn image.now slot places.now v.items) }
+    ensures sound { OnOk result (IsSoundImage (kind_of image.now) image.now) }
+    ensures stays { IfOk result (λ v. IsSoundImage (kind_of image.now) v.items) }
+    ensures opens { IfOk result (λ v. image_fault (kind_of image.now) v.items ≡ None) }
+    ensures fault { IfErr result (IsUnplacedIn image.now slot places.now) }
+{
+    let volume = Volume::open(opened::<I>(alloc, image)?);
+    require_sound(&volume)?;
+    let new = Volume::open(moved(alloc, volume, slot, places)?);
+    require_sound(&new)?;
+    saved(alloc, &new.into_medium())
+}
+
+/// Moves the file in a slot of an image: its blocks, in order, lie at these places. Its bytes, its entry but for its first block, and
+/// all other files stay. Errors: `Image`; `Unsound`, with what is wrong first; `NotFound`, if the slot has no file; `NotClosed`;
+/// `Mistaken`, if the file is relative, the places aren't as many as its blocks, one is named twice, or one is neither free nor the
+/// file's own; `Trouble`; `Memory`.
+pub fn place(
+    alloc: Global,
+    image: &[u8],
+    slot: u8,
+    places: &[Address],
+) -> Result<Vec<u8>, ShellFault>
+    // The places are claimed, the blocks written, the entry leads to the first, and those that the file left are free. Nothing else is changed.
+    ensures placed { IfOk result (λ v. IsPlacedIn image.now slot places.now v.items) }
+    ensures sound { OnOk result (IsSoundImage (kind_of image.now) image.now) }
+    ensures stays { IfOk result (λ v. IsSoundImage (kind_of image.now) v.items) }
+    ensures opens { IfOk result (λ v. image_fault (kind_of image.now) v.items ≡ None) }
+    ensures fault { IfErr result (IsUnplacedIn image.now slot places.now) }
+{
+    match kind_of(image) {
+        Kind::D64 => place_in::<D64Disk>(alloc, image, slot, places),
+        Kind::G64 => place_in::<G64Disk>(alloc, image, slot, places),
+    }
+}

@@ -1,0 +1,115 @@
+//! Commands that change several images, each by itself.
+use crate::lock::lock_folder;
+use crate::tasks::change_with;
+use clap::ArgMatches;
+use disk_basics::host::{is_standard, print};
+use disk_basics::{Failure, WordFault, in_memory};
+use disk_commands::{Verb, flag};
+use std::alloc::{AllocError, Global};
+
+/// The images that a command changes one by one: those of VALIDATE, and those of DELETE, LOCK and UNLOCK with `--only`, whose other
+/// words are images, too. None of other commands.
+pub fn images_of<'a>(
+    alloc: Global,
+    verb: Verb,
+    words: &ArgMatches<'a>,
+) -> Result<Vec<&'a str>, AllocError> {
+    let mut images = Vec::new(alloc);
+    let (first, others) = match verb {
+        Verb::Validate => ("IMAGE", ""),
+        Verb::Delete | Verb::Lock | Verb::Unlock if words.get_strs("only").is_some() => (
+            "IMAGE", "PATTERN",
+        ),
+        _ => return Ok(images),
+    };
+    images.extend_from_slice(words.get_strs(first).unwrap_or(&[]))?;
+    images.extend_from_slice(words.get_strs(others).unwrap_or(&[]))?;
+    Ok(images)
+}
+
+/// How many images were changed, and how many weren't.
+#[derive(Clone, Copy)]
+struct Outcome {
+    done: u32,
+    refused: u32,
+}
+
+impl Outcome {
+    /// The line that says it.
+    fn line(self, alloc: Global, is_dry: bool) -> Result<String, AllocError> {
+        let Outcome { done, refused } = self;
+        let all = done.wrapping_add(refused);
+        let word = if is_dry { "would be done" } else { "done" };
+        format!(in alloc; "{all} images: {done} {word}, {refused} refused\n")
+    }
+}
+
+/// Changes one of several images, while its folder is locked.
+fn change_one<'a>(
+    rt: &HostRuntime,
+    verb: Verb,
+    words: &ArgMatches<'a>,
+    image: &'a str,
+) -> Result<(), Failure<'a>> {
+    let others_wait = lock_folder(rt, image);
+    let answer = change_with(rt, verb, words, image, None);
+    drop(others_wait);
+    answer
+}
+
+/// Prints the name of an image over what is said of it.
+fn print_name<'a>(rt: &HostRuntime, image: &str) -> Result<(), Failure<'a>> {
+    let line = in_memory(format!(in rt.alloc(); "{image}:\n"))?;
+    print(rt, line.as_bytes())
+}
+
+/// Changes one of several images; where that is refused, it is reported.
+fn change_among<'a>(
+    rt: &HostRuntime,
+    verb: Verb,
+    words: &ArgMatches<'a>,
+    image: &'a str,
+    outcome: &mut Outcome,
+) -> Result<(), Failure<'a>> {
+    if flag(words, "dry-run") || matches!(verb, Verb::Validate) {
+        print_name(rt, image)?;
+    }
+    match change_one(rt, verb, words, image) {
+        Ok(()) => outcome.done = outcome.done.wrapping_add(1),
+        Err(Failure::NoMemory) => return Err(Failure::NoMemory),
+        Err(Failure::Word(fault)) => return Err(Failure::Word(fault)),
+        Err(failure) => {
+            outcome.refused = outcome.refused.wrapping_add(1);
+            let _ = failure.tell(rt);
+            let _ = eprintln!(rt; "disk1541: {image} stays as it is");
+        }
+    }
+    Ok(())
+}
+
+/// Changes several images one after the other, each by itself, and says how many were. Errors: `Word`; `Several`, where some are refused,
+/// as is reported; `Write`; `NoMemory`.
+pub fn change_each<'a>(
+    rt: &HostRuntime,
+    verb: Verb,
+    words: &ArgMatches<'a>,
+    images: &[&'a str],
+) -> Result<(), Failure<'a>> {
+    if images.iter().any(|image| is_standard(*image)) {
+        return Err(Failure::Word(WordFault::Twice));
+    }
+    let mut outcome = Outcome {
+        done: 0,
+        refused: 0,
+    };
+    for image in images {
+        change_among(rt, verb, words, *image, &mut outcome)?;
+    }
+    let line = in_memory(outcome.line(rt.alloc(), flag(words, "dry-run")))?;
+    print(rt, line.as_bytes())?;
+    if outcome.refused == 0 {
+        Ok(())
+    } else {
+        Err(Failure::Several)
+    }
+}

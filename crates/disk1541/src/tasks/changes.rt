@@ -1,0 +1,271 @@
+//! What a command makes of the bytes of an image.
+use crate::reading::{choice, gone, head, host_files, pair, patterns_word, type_and_choice};
+use cbm_shell::texts::Charset;
+use clap::ArgMatches;
+use disk_basics::{Choice, Failure, WordFault, in_memory};
+use disk_changes::{require_files, with_files};
+use disk_commands::{Verb, flag, given, option};
+use disk_edits::{
+    Deed, Desk, Edit, Ordering, Placement, copied, done_with, edited, given_back, in_order,
+    key_of_word, placed, renamed, require_names, rest_of, retyped, sorted, without_fault,
+};
+use std::alloc::Global;
+use std::rt::Runtime;
+
+/// What a command made of an image.
+#[derive(Drop)]
+pub struct Made {
+    /// The new image.
+    pub image: Vec<u8>,
+    /// What VALIDATE does, in lines.
+    pub plan: Option<String>,
+    /// What stays on the disk though the words mean it, in lines.
+    pub rest: Option<String>,
+}
+
+/// How the words of a command are taken.
+#[derive(Clone, Copy)]
+pub struct Manner<'a> {
+    /// The character set of names.
+    pub charset: Charset,
+    /// What standard input gave, where it was read already.
+    pub input: Option<&'a [u8]>,
+    /// Nothing is saved.
+    pub is_dry: bool,
+}
+
+/// A new image of which there is nothing more to say.
+fn plain<'a>(image: Result<Vec<u8>, Failure<'a>>) -> Result<Made, Failure<'a>> {
+    Ok(Made {
+        image: image?,
+        plan: None,
+        rest: None,
+    })
+}
+
+/// What an edit makes of an image.
+fn edit_of<'a>(
+    alloc: Global,
+    desk: Desk<'a, '_>,
+    edit: &Edit<'a, '_>,
+) -> Result<Made, Failure<'a>> {
+    let image = edited(alloc, desk.image, desk.bytes, edit)?;
+    let rest = rest_of(alloc, desk.bytes, image.as_slice(), edit);
+    Ok(Made {
+        image,
+        plan: None,
+        rest: Some(rest),
+    })
+}
+
+/// The one file that is chosen by its slot or its exact name; None where patterns mean files. Errors: `Word`, where none or several
+/// are said.
+fn one_chosen<'a>(
+    words: &ArgMatches<'a>,
+    charset: Charset,
+) -> Result<Option<Choice<'a>>, Failure<'a>> {
+    let named = choice(words, "", charset);
+    match words.get_strs(patterns_word(words)).unwrap_or(&[]) {
+        [] if named.slot.is_some() => Ok(Some(named)),
+        [name] if named.is_exact && named.slot.is_none() => {
+            Ok(Some(choice(words, *name, charset)))
+        }
+        [_, ..] if named.is_pattern() => Ok(None),
+        _ => Err(Failure::Word(WordFault::NoFileName)),
+    }
+}
+
+/// The image with a copy of the file that is meant.
+fn copy_of<'a>(
+    alloc: Global,
+    words: &ArgMatches<'a>,
+    charset: Charset,
+    desk: Desk<'a, '_>,
+) -> Result<Vec<u8>, Failure<'a>> {
+    let (pair, choice) = pair(words, charset)?;
+    if choice.is_pattern() {
+        return copied(alloc, desk.image, desk.bytes, &pair);
+    }
+    done_with(alloc, desk, choice, Deed::Copy(pair.new))
+}
+
+/// The image whose file that is meant has another name.
+fn rename_of<'a>(
+    alloc: Global,
+    words: &ArgMatches<'a>,
+    charset: Charset,
+    desk: Desk<'a, '_>,
+) -> Result<Vec<u8>, Failure<'a>> {
+    let (pair, choice) = pair(words, charset)?;
+    if choice.is_pattern() {
+        return renamed(alloc, desk.image, desk.bytes, &pair);
+    }
+    done_with(alloc, desk, choice, Deed::Rename(pair.new))
+}
+
+/// The image whose files that are meant are locked, or free.
+fn lock_of<'a>(
+    alloc: Global,
+    words: &ArgMatches<'a>,
+    charset: Charset,
+    desk: Desk<'a, '_>,
+    is_locked: bool,
+) -> Result<Made, Failure<'a>> {
+    match one_chosen(words, charset)? {
+        Some(choice) => plain(done_with(alloc, desk, choice, Deed::Lock(is_locked))),
+        None => {
+            let patterns = words.get_strs(patterns_word(words)).unwrap_or(&[]);
+            edit_of(alloc, desk, &Edit::Lock(patterns, charset, is_locked))
+        }
+    }
+}
+
+/// The image without the files that are meant, or without those of them that are at fault.
+fn delete_of<'a, R: Runtime + AllocGlobal>(
+    rt: &R,
+    words: &ArgMatches<'a>,
+    charset: Charset,
+    desk: Desk<'a, '_>,
+) -> Result<Made, Failure<'a>> {
+    let patterns = words.get_strs(patterns_word(words)).unwrap_or(&[]);
+    if flag(words, "force") {
+        if patterns.is_empty() || !choice(words, "", charset).is_pattern() {
+            return Err(Failure::Word(WordFault::NoFileName));
+        }
+        return plain(without_fault(rt, desk.image, desk.bytes, patterns, charset));
+    }
+    match one_chosen(words, charset)? {
+        Some(choice) => plain(done_with(rt.alloc(), desk, choice, Deed::Delete)),
+        None => edit_of(rt.alloc(), desk, &Edit::Delete(patterns, charset)),
+    }
+}
+
+/// The image whose file that is meant has another type.
+fn retype_of<'a>(
+    alloc: Global,
+    words: &ArgMatches<'a>,
+    charset: Charset,
+    desk: Desk<'a, '_>,
+) -> Result<Vec<u8>, Failure<'a>> {
+    let (word, choice) = type_and_choice(words, charset)?;
+    retyped(alloc, desk, choice, word)
+}
+
+/// The image put in order, and what that does.
+fn order_of<'a>(
+    alloc: Global,
+    words: &ArgMatches<'a>,
+    desk: Desk<'a, '_>,
+    is_dry: bool,
+) -> Result<Made, Failure<'a>> {
+    let ordering = Ordering {
+        is_dry,
+        is_forced: flag(words, "force"),
+    };
+    let order = in_order(alloc, desk.image, desk.bytes, ordering)?;
+    Ok(Made {
+        image: order.image,
+        plan: Some(order.plan),
+        rest: None,
+    })
+}
+
+/// The image whose files that are meant lie elsewhere, and of a dry run where.
+fn place_of<'a>(
+    alloc: Global,
+    words: &ArgMatches<'a>,
+    charset: Charset,
+    desk: Desk<'a, '_>,
+    is_dry: bool,
+) -> Result<Made, Failure<'a>> {
+    let head = head(words)?;
+    let patterns = words.get_strs("PATTERN").unwrap_or(&[]);
+    let placement = Placement {
+        patterns,
+        charset,
+        head,
+    };
+    let laying = placed(alloc, desk.image, desk.bytes, &placement)?;
+    let told = std::str::from_utf8(laying.told.as_slice()).unwrap_or("");
+    let plan = if is_dry {
+        Some(in_memory(String::from_str(alloc, told))?)
+    } else {
+        None
+    };
+    Ok(Made {
+        image: laying.image,
+        plan,
+        rest: None,
+    })
+}
+
+/// Refuses words that can't be used, whatever the image is. Errors: `Word`.
+pub fn require_words<'a>(
+    alloc: Global,
+    verb: Verb,
+    words: &ArgMatches<'a>,
+    image: &'a str,
+    manner: Manner<'a>,
+) -> Result<(), Failure<'a>> {
+    match verb {
+        Verb::Put => {
+            let put = host_files(words, manner.charset, manner.input);
+            require_files(image, words.get_strs("FILE").unwrap_or(&[]), &put)
+        }
+        Verb::Copy | Verb::Rename => {
+            let (pair, choice) = pair(words, manner.charset)?;
+            if choice.is_pattern() {
+                require_names(alloc, &pair)?;
+            }
+            Ok(())
+        }
+        Verb::Sort => {
+            key_of_word(given(words, "by"))?;
+            Ok(())
+        }
+        Verb::Place => {
+            head(words)?;
+            Ok(())
+        }
+        _ => Ok(()),
+    }
+}
+
+/// What a command makes of an image. Errors: those of its call; `Told`, where it changes no image.
+pub fn made_by<'a, R: Runtime + AllocGlobal>(
+    rt: &R,
+    verb: Verb,
+    words: &ArgMatches<'a>,
+    desk: Desk<'a, '_>,
+    manner: Manner<'a>,
+) -> Result<Made, Failure<'a>> {
+    let alloc = rt.alloc();
+    let charset = manner.charset;
+    match verb {
+        Verb::Put => {
+            let put = host_files(words, charset, manner.input);
+            let files = words.get_strs("FILE").unwrap_or(&[]);
+            plain(with_files(rt, desk.image, desk.bytes, files, &put))
+        }
+        Verb::Copy => plain(copy_of(alloc, words, charset, desk)),
+        Verb::Rename => plain(rename_of(alloc, words, charset, desk)),
+        Verb::Delete => delete_of(rt, words, charset, desk),
+        Verb::Undelete => {
+            plain(given_back(alloc, desk.image, desk.bytes, &gone(words, charset)))
+        }
+        Verb::Lock => lock_of(alloc, words, charset, desk, true),
+        Verb::Unlock => lock_of(alloc, words, charset, desk, false),
+        Verb::Title => {
+            let edit = Edit::Title(given(words, "TITLE"), option(words, "id"), charset);
+            edit_of(alloc, desk, &edit)
+        }
+        Verb::Retype => plain(retype_of(alloc, words, charset, desk)),
+        Verb::Place => place_of(alloc, words, charset, desk, manner.is_dry),
+        Verb::Sort => {
+            let key = key_of_word(given(words, "by"))?;
+            plain(sorted(alloc, desk.image, desk.bytes, key))
+        }
+        Verb::Validate => order_of(alloc, words, desk, manner.is_dry),
+        _ => Err(Failure::Told),
+    }
+}

@@ -1,0 +1,110 @@
+//! PLACE: files laid on other blocks of their disk.
+use cbm_shell::texts::Charset;
+use cbm_volume::Entry;
+use disk_basics::calls::entries;
+use disk_basics::host::require_own_map;
+use disk_basics::placing::{Head, Laid, add_places, lay};
+use disk_basics::{Failure, in_memory, on_disk, petscii};
+use disk_facts::{is_meant, number_meant};
+use std::alloc::Global;
+
+/// Which files are laid elsewhere, and where.
+#[derive(Clone, Copy)]
+pub struct Placement<'a, 'c> {
+    /// Their patterns, in order.
+    pub patterns: &'c [&'a str],
+    /// The character set of these.
+    pub charset: Charset,
+    /// Where the first block is looked for.
+    pub head: Head,
+}
+
+/// An image whose files are laid one after another.
+#[derive(Drop)]
+pub struct Laying {
+    /// The image.
+    pub image: Vec<u8>,
+    /// Where the next block is looked for.
+    head: Head,
+    /// The character set of names.
+    charset: Charset,
+    /// A line for each file: where its blocks lie.
+    pub told: Vec<u8>,
+}
+
+/// Lays the file in a slot. Errors: `RecordsPlace`, `NoPlace`, `Disk`, `NoMemory`.
+fn lay_one<'a>(
+    alloc: Global,
+    image: &'a str,
+    laying: &mut Laying,
+    slot: usize,
+    entry: &Entry,
+    word: &'a str,
+) -> Result<(), Failure<'a>> {
+    if entry.is_relative() {
+        return Err(Failure::RecordsPlace(word));
+    }
+    let slot = disk_basics::slot_number(slot, word)?;
+    let laid = lay(alloc, laying.image.as_slice(), slot, laying.head);
+    let Some(
+        Laid {
+            image: new,
+            places,
+            head,
+        },
+    ) = on_disk(image, laid)?
+    else {
+        return Err(Failure::NoPlace(word));
+    };
+    in_memory(add_places(
+        &mut laying.told,
+        alloc,
+        laying.charset,
+        entry,
+        places.as_slice(),
+    ))?;
+    laying.image = new;
+    laying.head = head;
+    Ok(())
+}
+
+/// Lays the files that a pattern means, in the order of the directory. Errors: `NoFile`, and those of one.
+fn lay_meant<'a>(
+    alloc: Global,
+    image: &'a str,
+    laying: &mut Laying,
+    word: &'a str,
+) -> Result<(), Failure<'a>> {
+    let pattern = petscii(alloc, laying.charset, word)?;
+    let entries = on_disk(image, entries(alloc, laying.image.as_slice()))?;
+    if number_meant(entries.as_slice(), pattern.as_slice()).is_none() {
+        return Err(Failure::NoFile(word));
+    }
+    for (slot, entry) in entries.as_slice().iter().enumerate() {
+        if is_meant(entry, pattern.as_slice()) {
+            lay_one(alloc, image, laying, slot, entry, word)?;
+        }
+    }
+    Ok(())
+}
+
+/// The image with all files laid. Errors: `OtherMap`, where Dolphin DOS has its map on the disk; `Word`, if a pattern can't be typed;
+/// `NoFile`; `RecordsPlace`; `NoPlace`; `Disk`; `NoMemory`.
+pub fn placed<'a>(
+    alloc: Global,
+    image: &'a str,
+    old: &[u8],
+    placement: &Placement<'a, '_>,
+) -> Result<Laying, Failure<'a>> {
+    require_own_map(image, old)?;
+    let mut laying = Laying {
+        image: in_memory(Vec::from_slice(alloc, old))?,
+        head: placement.head,
+        charset: placement.charset,
+        told: Vec::new(alloc),
+    };
+    for word in placement.patterns {
+        lay_meant(alloc, image, &mut laying, *word)?;
+    }
+    Ok(laying)
+}
