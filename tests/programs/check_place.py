@@ -2,10 +2,10 @@
 """check_place.py DISK1541 [--moves N]: `disk1541 place`, and recipes that say where files lie. A plain model here lays blocks out, and says what the whole
 new image is: each move must give just that image, byte for byte. So a file has the same bytes, its entry differs in its first block alone, every other
 file stays, and what the file left is zeros and free. With N moves (400 by default) on generated disks of all fillings, with lost blocks, locked and
-relative files; every tenth of them on a G64, whose sectors are compared. Then what is refused, which leaves the image as it was; and, if cc1541 is
+relative files; every tenth of them on a G64, whose sectors are compared. Then what is refused, which leaves the image as it was; kills while a move is saved; and, if cc1541 is
 installed, disks that it and `build` make, which must be the same file. Prints a line for what holds, with the number of cases, and one for each that
 is WRONG; ends with 1 if one is."""
-import argparse, os, random, shutil, subprocess, sys, tempfile
+import argparse, os, random, shutil, subprocess, sys, tempfile, time
 
 words = argparse.ArgumentParser(description=__doc__, formatter_class=argparse.RawDescriptionHelpFormatter)
 words.add_argument("disk1541")
@@ -280,6 +280,32 @@ def try_refusals(room):
     is_so("an odd entry", "the moved file has its bytes", run("get", path, "B", "-o", f"{room}/b.out")[0] == 0 and read(f"{room}/b.out") == read(f"{room}/b.prg"))
 
 
+# ---- kills
+
+
+def try_kills(room):
+    """A kill at any moment of a move leaves the old image or the new one, and the next command works."""
+    rng = random.Random(9)
+    path, disk = new_disk(room, rng, "k.d64")
+    at, name = names_on(disk)[0]
+    head = next(it for it in ((1, 0), (20, 0), (30, 0)) if moved(disk, at, it, 4))
+    new = moved(disk, at, head, 4)[0]
+    call = [DISK1541, "place", path, name, "--track", str(head[0]), "--interleave", "4"]
+    begun = time.perf_counter()
+    subprocess.run(call, check=True)
+    whole = time.perf_counter() - begun
+    for _ in range(60):
+        write(path, disk)
+        child = subprocess.Popen(call, stderr=subprocess.DEVNULL)
+        time.sleep(rng.random() * 1.3 * whole)
+        child.kill()
+        child.wait()
+        found = read(path)
+        is_so(call, "a kill leaves the old image or the new one", found in (disk, new))
+    write(path, disk)
+    is_so(call, "after kills the move is made", run(*call[1:])[0] == 0 and read(path) == new)
+
+
 # ---- recipes
 
 
@@ -335,6 +361,8 @@ def try_recipes(room):
 with tempfile.TemporaryDirectory() as room:
     try_moves(room)
     try_refusals(room)
+with tempfile.TemporaryDirectory() as room:
+    try_kills(room)
 with tempfile.TemporaryDirectory() as room:
     try_recipes(room)
 for case, count in cases.items():
