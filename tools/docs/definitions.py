@@ -116,7 +116,8 @@ PARTS = {
     "The C library": [
         ("a drive on lines, with the disk of an image", "cbm_device", "open lines next_due due image insert eject reset status"),
         ("images by calls, and a bus played", "cbm_device", "check blank list file entry title sector play"),
-        ("what C may pass, and the numbers of refusals", "yellowadze1541", "y1541_open y1541_lines y1541_due y1541_image y1541_play y1541_image_list"),
+        ("a drive with direct access on lines", "cbm_direct_device", "open lines next_due due image insert eject reset status"),
+        ("what C may pass, and the numbers of refusals", "yellowadze1541", "y1541_open y1541_open_direct y1541_lines y1541_due y1541_image y1541_play y1541_image_list"),
         ("all entries and flaws of an image, and files by their slot", "yellowadze1541", "y1541_image_entries y1541_image_flaws y1541_image_rename y1541_image_delete y1541_image_copy y1541_image_read"),
         ("disks with odd entries: what is left without them, and the whole again", "yellowadze1541", "y1541_image_put_away y1541_image_put_back y1541_image_put"),
         ("several files in one call, and a command with the drive's status", "yellowadze1541", "y1541_image_put_all y1541_image_command_status"),
@@ -129,7 +130,7 @@ PAGES = dict(zip(PARTS, "images content dos bus requests scripts tool library".s
 # The crates in which each definition has a sentence of its own.
 COMPLETE = (
     "cbm_direct cbm_direct_desk cbm_iec cbm_session cbm_drive cbm_bus cbm_host cbm_command cbm_listing cbm_machine cbm_talk cbm_image cbm_program drive1541 cbm_shell disk_basics "
-    "cbm_basic cbm_device cbm_odd cbm_place cbm_slots yellowadze1541"
+    "cbm_basic cbm_device cbm_direct_device cbm_odd cbm_place cbm_slots yellowadze1541"
 ).split()
 
 

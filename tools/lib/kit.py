@@ -7,3 +7,8 @@ gate = importlib.util.module_from_spec(importlib.util.spec_from_loader("rtgate",
 sys.modules["rtgate"] = gate
 _loader.exec_module(gate)
 rtlib = gate.rtlib
+if not hasattr(gate, "Kept"):
+    # (rattle-kit-13b's rt keeps nothing between two runs)
+    import store
+
+    gate.own_sum, gate.copy_crates, gate.Kept = store.of_kit(gate)
