@@ -1,6 +1,6 @@
 /* yellowadze1541.h: a Commodore 1541 as the computer on its serial cable sees it, and its disk images. C99 and C++.
  *
- * What it can't do: no code runs in the drive, so fast loaders can't work; there is no LED, motor or head, and no snapshot of a drive.
+ * What it can't do: no code runs in the drive, so fast loaders can't work; there is no LED, motor or head.
  *
  * Results: 0 is success; numbers below 0 are the call's own refusals (y1541_result); 20 to 74 is the drive's status. Each call names what it may
  * answer beside 0. A call that fails has changed nothing, unless it says so.
@@ -79,6 +79,10 @@ uint32_t y1541_version(void);
  * NO_DRIVE: d holds a drive. INVALID: device, reaction or pace. NO_IMAGE. NO_MEMORY. */
 int32_t y1541_open(y1541 *d, const uint8_t *image, size_t len, uint8_t is_protected, uint8_t device, uint8_t reaction, uint8_t pace);
 
+/* [m] The same, but a drive with direct access (docs/direct.md): it reads single blocks by #, U1 and B-R, and answers UI and M-R, where a drive that
+ * y1541_open made answers 70 and 31. All other calls on a drive are the same on it. */
+int32_t y1541_open_direct(y1541 *d, const uint8_t *image, size_t len, uint8_t is_protected, uint8_t device, uint8_t reaction, uint8_t pace);
+
 /* Ends the drive and frees its memory; d is empty then. Closing an empty handle does nothing. */
 void y1541_close(y1541 *d);
 
@@ -120,6 +124,18 @@ int32_t y1541_insert(y1541 *d, const uint8_t *image, size_t len, uint8_t is_prot
 
 /* The number of the status, 0 to 74; this doesn't read channel 15. 20 or more is an error, except 73 (power up). NO_DRIVE. */
 int32_t y1541_status(y1541 *d);
+
+/* --- the whole state of a drive, its disk included, as bytes that a later run of the program may restore */
+
+/* [m] The state of the drive as it is now: its lines and what it waits for, who is addressed, its channels, its status, its disk with the count of its
+ * writes, and its latest moment. The drive goes on. Enough room is that of y1541_image (0 without a disk) and 16,384 bytes.
+ * Takes 10 kB of stack. INVALID of a drive with direct access. NO_ROOM. NO_MEMORY. NO_DRIVE. */
+int32_t y1541_save(y1541 *d, uint8_t *out, size_t room, size_t *needed);
+
+/* [m] d holds the drive of a state that y1541_save gave, and does what the saved one would have done; what d held is gone. Its moments go on from
+ * those of the saved one: tell it the lines from then on. Takes 1,010 kB of stack.
+ * NO_IMAGE: the bytes are no state of this version, or broken; d holds what it held. NO_MEMORY. */
+int32_t y1541_restore(y1541 *d, const uint8_t *bytes, size_t len);
 
 /* --- a whole list of changes in one call, with a drive of its own */
 
@@ -252,6 +268,7 @@ static inline const char *y1541_text(int32_t number) {
     case 62: return "FILE NOT FOUND";
     case 63: return "FILE EXISTS";
     case 64: return "FILE TYPE MISMATCH";
+    case 65: return "NO BLOCK";
     case 66: return "ILLEGAL TRACK OR SECTOR";
     case 70: return "NO CHANNEL";
     case 71: return "DIR ERROR";

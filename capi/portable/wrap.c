@@ -76,19 +76,30 @@ uint32_t y1541_version(void) { return Y1541_VERSION; }
 
 /* --- a drive */
 
-int32_t y1541_open(y1541 *d, const uint8_t *image, size_t len, uint8_t is_protected, uint8_t device, uint8_t reaction, uint8_t pace) {
+/* One of the two calls that switch a drive on. */
+typedef u32 opens(module *in, u64 handle, u64 image, u64 len, u32 is_protected, u32 device, u32 reaction, u32 pace);
+
+static int32_t opened(opens *call, y1541 *d, const uint8_t *image, size_t len, uint8_t is_protected, uint8_t device, uint8_t reaction, uint8_t pace) {
     if (d->at) return Y1541_NO_DRIVE;
     machine *m = machine_made();
     if (!m) return Y1541_NO_MEMORY;
     int32_t said = Y1541_NO_MEMORY;
     u64 copy = given(m, image, len);
     if (copy) {
-        said = signed32(IN(y1541_open)(&m->in, m->handle, copy, len, is_protected, device, reaction, pace));
+        said = signed32(call(&m->in, m->handle, copy, len, is_protected, device, reaction, pace));
         IN(room_back)(&m->in, copy);
     }
     if (said == Y1541_OK) d->at = m;
     else machine_gone(m);
     return said;
+}
+
+int32_t y1541_open(y1541 *d, const uint8_t *image, size_t len, uint8_t is_protected, uint8_t device, uint8_t reaction, uint8_t pace) {
+    return opened(IN(y1541_open), d, image, len, is_protected, device, reaction, pace);
+}
+
+int32_t y1541_open_direct(y1541 *d, const uint8_t *image, size_t len, uint8_t is_protected, uint8_t device, uint8_t reaction, uint8_t pace) {
+    return opened(IN(y1541_open_direct), d, image, len, is_protected, device, reaction, pace);
 }
 
 void y1541_close(y1541 *d) {
@@ -151,6 +162,31 @@ uint64_t y1541_writes(y1541 *d) {
 
 int32_t y1541_eject(y1541 *d, uint8_t *out, size_t room, size_t *needed) {
     return d->at ? gave(d->at, call_eject, NULL, out, room, needed) : Y1541_NO_DRIVE;
+}
+
+static u32 call_save(machine *m, const u64 *a, u64 out, u64 room) {
+    (void)a;
+    return IN(y1541_save)(&m->in, m->handle, out, room, m->small);
+}
+
+int32_t y1541_save(y1541 *d, uint8_t *out, size_t room, size_t *needed) {
+    return d->at ? gave(d->at, call_save, NULL, out, room, needed) : Y1541_NO_DRIVE;
+}
+
+/* A drive is restored in a module of its own; what the handle held goes only if that succeeds. */
+int32_t y1541_restore(y1541 *d, const uint8_t *bytes, size_t len) {
+    machine *m = machine_made();
+    if (!m) return Y1541_NO_MEMORY;
+    int32_t said = Y1541_NO_MEMORY;
+    u64 copy = given(m, bytes, len);
+    if (copy) {
+        said = signed32(IN(y1541_restore)(&m->in, m->handle, copy, len));
+        IN(room_back)(&m->in, copy);
+    }
+    if (said != Y1541_OK) { machine_gone(m); return said; }
+    y1541_close(d);
+    d->at = m;
+    return said;
 }
 
 int32_t y1541_insert(y1541 *d, const uint8_t *image, size_t len, uint8_t is_protected) {

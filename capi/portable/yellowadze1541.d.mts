@@ -52,6 +52,13 @@ export interface Settings {
   pace?: Pace;
 }
 
+export interface DriveSettings extends Settings {
+  /** Whether the disk's notch is covered. */
+  isProtected?: boolean;
+  /** Whether the drive has direct access (docs/direct.md): blocks by `#` and U1. */
+  direct?: boolean;
+}
+
 /** The moment of a reaction in microseconds, the lines that the drive holds low from then on, and which of them are new. */
 export interface Reaction {
   moment: number;
@@ -126,11 +133,15 @@ export interface Drive {
   image(): Uint8Array;
   eject(): Uint8Array;
   insert(image: Uint8Array, isProtected?: boolean): void;
+  /** The whole state of the drive, its disk included: `restore` makes a drive of it that does what this one would have done. */
+  save(): Uint8Array;
+  /** Makes this drive the one that was saved. Throws Refused when the bytes are no state, or broken; then the drive stays as it is. */
+  restore(state: Uint8Array): void;
 }
 
 export interface Library {
   version(): number;
-  open(image: Uint8Array, settings?: Settings & { isProtected?: boolean }): Drive;
+  open(image: Uint8Array, settings?: DriveSettings): Drive;
   /** Throws Refused, with what is wrong first as its place, when the disk isn't sound. */
   check(image: Uint8Array): void;
   title(image: Uint8Array): Title;

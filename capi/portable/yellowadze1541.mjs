@@ -201,10 +201,11 @@ class Drive {
   #place;
   #flags;
 
-  constructor(module, image, { device = 8, reaction = 20, pace = KERNAL, isProtected = false } = {}) {
+  constructor(module, image, { device = 8, reaction = 20, pace = KERNAL, isProtected = false, direct = false } = {}) {
     const it = new Inside(module), handle = it.put(new Uint8Array(8));
     const settings = [Number(isProtected), byte(device, "device"), byte(reaction, "reaction"), byte(pace, "pace")];
-    it.with([image], (at, size) => check(it.calls.y1541_open(handle, at, size, ...settings)));
+    const open = direct ? it.calls.y1541_open_direct : it.calls.y1541_open;
+    it.with([image], (at, size) => check(open(handle, at, size, ...settings)));
     this.#in = it;
     this.#handle = handle;
     this.#room = roomFor(image);
@@ -295,6 +296,17 @@ class Drive {
     const calls = this.#calls;
     this.#in.with([image], (at, size) => check(calls.y1541_insert(this.#handle, at, size, Number(isProtected))));
     this.#room = roomFor(image);
+  }
+
+  // The whole state, its disk included; a state has fewer than 16,384 bytes beside the image.
+  save() {
+    const calls = this.#calls;
+    return this.#in.given(this.#room + 16384, (...out) => calls.y1541_save(this.#handle, ...out));
+  }
+
+  restore(state) {
+    const calls = this.#calls;
+    this.#in.with([state], (at, size) => check(calls.y1541_restore(this.#handle, at, size)));
   }
 }
 

@@ -39,6 +39,14 @@ static uint8_t *some_text(size_t *n) {
 
 static int known(int32_t said) { return (said >= Y1541_NO_DRIVE && said <= 0) || (said >= 20 && said <= 77); }
 
+/* A drive switched on, its numbers mostly in range. (Two calls, as a pointer to a function is nothing that a module of 32 bits can be made of.) */
+static int32_t opened(y1541 *d, const uint8_t *image, size_t n) {
+    uint8_t is_protected = (uint8_t)by_chance(2), number = (uint8_t)(by_chance(20) ? 8 : by_chance(256)), pace = (uint8_t)by_chance(3);
+    uint8_t reaction = (uint8_t)(by_chance(20) ? 1 + by_chance(60) : by_chance(256));
+    if (by_chance(2)) return y1541_open(d, image, n, is_protected, number, reaction, pace);
+    return y1541_open_direct(d, image, n, is_protected, number, reaction, pace);
+}
+
 /* A call on a drive. */
 static int32_t on_drive(y1541 *d, uint64_t *now) {
     y1541_reacted r;
@@ -49,7 +57,7 @@ static int32_t on_drive(y1541 *d, uint64_t *now) {
     switch (by_chance(24)) {
     case 0:
         a = some_image(&n);
-        said = y1541_open(d, a, n, (uint8_t)by_chance(2), (uint8_t)(by_chance(20) ? 8 : by_chance(256)), (uint8_t)(by_chance(20) ? 1 + by_chance(60) : by_chance(256)), (uint8_t)by_chance(3));
+        said = opened(d, a, n);
         *now = said ? *now : 0;
         free(a);
         return said;
@@ -66,6 +74,17 @@ static int32_t on_drive(y1541 *d, uint64_t *now) {
         free(a);
         return said;
     case 5:
+        out = NULL, room = 400000, needed = 0;
+        if (by_chance(4) || !(out = malloc(room))) return 0;
+        said = y1541_save(d, out, room, &needed);
+        if (!said && by_chance(2)) {
+            if (by_chance(3)) out[by_chance(needed)] ^= (uint8_t)(1 + by_chance(255));
+            a = block(out, needed, 0);
+            said = y1541_restore(d, a, needed);
+            free(a);
+        }
+        free(out);
+        return said;
     case 6: said = y1541_status(d); return said > 0 && said <= 77 ? 0 : said;
     case 7: return y1541_writes(d) < Y1541_NEVER ? y1541_pulls_now(d, &p) : 1;
     case 8: case 9: case 10: case 11: case 12: case 13: case 14: return y1541_due(d, *now + by_chance(300), &r);

@@ -29,12 +29,15 @@ static uint8_t *image, out[ROOM];
 static size_t len, needed;
 static y1541 d;
 
-static int32_t opens(void) {
-    int32_t said = y1541_open(&d, image, len, 0, 8, 20, 0);
+/* What a call said that switches a drive on, which is closed again. */
+static int32_t after_open(int32_t said) {
     expect((said == Y1541_OK) == (d.at != NULL), "open says whether there is a drive");
     y1541_close(&d);
     return said;
 }
+
+static int32_t opens(void) { return after_open(y1541_open(&d, image, len, 0, 8, 20, 0)); }
+static int32_t opens_direct(void) { return after_open(y1541_open_direct(&d, image, len, 0, 8, 20, 0)); }
 
 /* Memory is given while the drive is looked at. */
 static int is_whole(void) {
@@ -121,7 +124,7 @@ static int32_t plays(void) {
 }
 
 static const struct { const char *name; int32_t (*call)(void); } calls[] = {
-    {"open", opens}, {"check", checks}, {"title", titles}, {"entry", enters}, {"list", lists}, {"file", files}, {"sector", reads},
+    {"open", opens}, {"open_direct", opens_direct}, {"check", checks}, {"title", titles}, {"entry", enters}, {"list", lists}, {"file", files}, {"sector", reads},
     {"entries", enters_all}, {"flaws", flaws_all}, {"read", reads_slot}, {"rename", renames}, {"copy", copies}, {"lock", locks}, {"delete", deletes}, {"swap", swaps},
     {"retitle", retitles}, {"remark", remarks}, {"put_away", puts_away}, {"put_back", puts_back}, {"put, art", puts_around}, {"command, art", commands_around}, {"put", puts_file}, {"put_all", puts_all}, {"command", commands}, {"command_status", commands_status},
     {"new", makes}, {"new g64", makes_g64}, {"convert", converts}, {"play", plays},
@@ -148,13 +151,15 @@ int main(int argc, char **argv) {
     image = read_file(argv[1], &len);
     size_t count = sizeof calls / sizeof calls[0];
     for (size_t i = 0; i < count - DRIVES; i++) tries(i, 0);
-    refuse = 0;
-    expect(y1541_open(&d, image, len, 0, 8, 20, 0) == Y1541_OK, "open");
-    long held = live;
-    for (size_t i = count - DRIVES; i < count; i++) tries(i, held);
-    refuse = 0;
-    expect(y1541_status(&d) == 73 && y1541_lines(&d, 10, 1, 0, 0) == Y1541_OK && y1541_next_due(&d) == 30, "the drive goes on");
-    y1541_close(&d);
+    for (int direct = 0; direct < 2; direct++) {
+        refuse = 0;
+        expect((direct ? y1541_open_direct : y1541_open)(&d, image, len, 0, 8, 20, 0) == Y1541_OK, "open");
+        long held = live;
+        for (size_t i = count - DRIVES; i < count; i++) tries(i, held);
+        refuse = 0;
+        expect(y1541_status(&d) == 73 && y1541_lines(&d, 10, 1, 0, 0) == Y1541_OK && y1541_next_due(&d) == 30, "the drive goes on");
+        y1541_close(&d);
+    }
     expect(live == 0, "nothing is left");
     free(image);
     printf("refusing: %d wrong\n", wrong);

@@ -21,10 +21,21 @@ static void next_due(void) { y1541_next_due(&d); }
 static void due(void) { y1541_reacted r; y1541_due(&d, 2000, &r), y1541_due(&g, 2000, &r); }
 static void pulls(void) { y1541_pulls p; y1541_pulls_now(&d, &p); }
 static void shows(void) { y1541_image(&d, out, ROOM, &needed), y1541_image(&g, out, ROOM, &needed), y1541_writes(&d), y1541_status(&d); }
+/* The state of a drive with a G64, and a drive of it. */
+static uint8_t *state;
+static size_t state_len;
+static void saves(void) { y1541_save(&d, state, ROOM, &state_len), y1541_save(&g, state, ROOM, &state_len); }
+static void restores(void) {
+    y1541 other = {0};
+    expect(y1541_restore(&other, state, state_len) == Y1541_OK, "restored");
+    y1541_close(&other);
+}
 static void ejects(void) { y1541_eject(&d, out, ROOM, &needed), y1541_eject(&g, out, ROOM, &needed); }
 static void inserts(void) { y1541_insert(&d, g64, g64_len, 0), y1541_insert(&g, image, len, 0); }
 static void resets(void) { y1541_reset(&d), y1541_reset(&g); }
 static void closes(void) { y1541_close(&d), y1541_close(&g); }
+static void opens_direct(void) { y1541_open_direct(&d, image, len, 0, 8, 20, 0); }
+static void opens_direct_g64(void) { y1541_open_direct(&g, g64, g64_len, 0, 8, 20, 0); }
 static void checks(void) { y1541_place p; y1541_image_check(image, len, &p), y1541_image_check(g64, g64_len, &p); }
 static void lists(void) { y1541_image_list(image, len, image, 0, out, ROOM, &needed); }
 static void files(void) { y1541_image_file(image, len, (const uint8_t *)"H*", 2, out, ROOM, &needed); }
@@ -82,10 +93,12 @@ static void converts(void) { y1541_lost l; y1541_image_convert(image, len, &l, o
 
 /* A computer at a drive with a D64, and one at a drive with a G64. */
 static struct host { bus at; kernal with; } hosts[2];
-static void host_begins(struct host *h, const uint8_t *bytes, size_t count) {
-    if (bus_open(&h->at, 0, bytes, count, 8, 20, Y1541_KERNAL, 0) != Y1541_OK) exit(2);
+static void host_begins(struct host *h, const uint8_t *bytes, size_t count, int direct) {
+    memset(h, 0, sizeof *h);
+    if ((direct ? bus_open_direct : bus_open)(&h->at, 0, bytes, count, 8, 20, Y1541_KERNAL, 0) != Y1541_OK) exit(2);
     kernal_init(&h->with, &h->at, PAL, 1);
 }
+static void hosts_begin(int direct) { host_begins(&hosts[0], image, len, direct), host_begins(&hosts[1], g64, g64_len, direct); }
 /* Each has its drive carry out a command on channel 15. */
 static void hosts_command(const char *text) {
     for (int i = 0; i < 2; i++) kernal_open(&hosts[i].with, 8, 15, text), kernal_close(&hosts[i].with, 8, 15);
@@ -103,6 +116,10 @@ static void host_copies(void) { hosts_command("C0:TWO=OLD,HELLO"), hosts_load("T
 static void host_scratches(void) { hosts_command("S0:TWO"); }
 static void host_validates(void) { hosts_command("V0"); }
 static void host_formats(void) { hosts_command("N0:NEW,ID"); }
+static void host_reads_blocks(void) {
+    for (int i = 0; i < 2; i++)
+        expect(kernal_open(&hosts[i].with, 8, 2, "#") && kernal_print(&hosts[i].with, 8, 15, (const uint8_t *)"U1:2,0,18,1", 11) && kernal_input(&hosts[i].with, 8, 2, out, ROOM) == 256, "U1");
+}
 static void hosts_end(void) {
     for (int i = 0; i < 2; i++) y1541_close(&hosts[i].at.drive[0]);
 }
@@ -110,7 +127,9 @@ static void hosts_end(void) {
 /* In bytes. */
 static const struct { const char *name; void (*call)(void); size_t most; } calls[] = {
     {"open", opens, 292000}, {"open a G64", opens_g64, 292000}, {"lines, ATN", lines, 1000}, {"next_due", next_due, 1000}, {"due, ATN", due, 1000},
-    {"pulls_now", pulls, 1000}, {"image", shows, 2000}, {"eject", ejects, 73000}, {"insert", inserts, 73000}, {"reset", resets, 73000}, {"close", closes, 1000},
+    {"pulls_now", pulls, 1000}, {"image", shows, 2000}, {"save", saves, 20000}, {"restore", restores, 1030000}, {"eject", ejects, 73000}, {"insert", inserts, 73000}, {"reset", resets, 73000}, {"close", closes, 1000},
+    {"open_direct", opens_direct, 292000}, {"open_direct a G64", opens_direct_g64, 292000}, {"lines, ATN, direct", lines, 1200}, {"due, ATN, direct", due, 1000},
+    {"image, direct", shows, 2000}, {"eject, direct", ejects, 77000}, {"insert, direct", inserts, 77000}, {"reset, direct", resets, 73000}, {"close, direct", closes, 1000},
     {"image_check", checks, 36000}, {"image_list", lists, 222000}, {"image_file", files, 4000}, {"image_put", puts_file, 222000},
     {"image_put_all", puts_all, 222000}, {"image_command_status", command_status, 222000}, {"image_copy", copies, 270000}, {"image_delete", deletes, 265000},
     {"image_command V", command_validates, 220000}, {"image_command C", command_copies, 220000}, {"image_command N", command_formats, 222000},
@@ -118,6 +137,7 @@ static const struct { const char *name; void (*call)(void); size_t most; } calls
     {"image_new", makes, 53000}, {"image_convert", converts, 37000}, {"play", plays, 222000},
     {"LOAD $", host_lists, 46000}, {"LOAD", host_loads, 46000}, {"SAVE", host_saves, 46000}, {"R", host_renames, 46000}, {"C", host_copies, 46000},
     {"S", host_scratches, 46000}, {"V", host_validates, 46000}, {"N", host_formats, 53000}, {"their close", hosts_end, 1000},
+    {"U1, direct", host_reads_blocks, 46000}, {"SAVE, direct", host_saves, 46000}, {"V, direct", host_validates, 46000}, {"their close, direct", hosts_end, 1000},
 };
 
 static void *runs(void *call) {
@@ -150,18 +170,20 @@ static size_t touched(void (*call)(void)) {
 int main(int argc, char **argv) {
     if (argc < 2) return fprintf(stderr, "stack IMAGE\n"), 2;
     y1541_lost lost;
-    image = read_file(argv[1], &len), out = malloc(ROOM), g64 = malloc(ROOM);
+    image = read_file(argv[1], &len), out = malloc(ROOM), g64 = malloc(ROOM), state = malloc(ROOM);
     y1541_image_convert(image, len, &lost, g64, ROOM, &g64_len);
     art_is_made();
-    host_begins(&hosts[0], image, len), host_begins(&hosts[1], g64, g64_len);
+    hosts_begin(0);
     size_t none = touched(nothing);
     printf("stack in bytes:\n");
     for (size_t i = 0; i < sizeof calls / sizeof calls[0]; i++) {
         size_t used = touched(calls[i].call) - none;
         printf("  %-18s %6zu, at most %6zu\n", calls[i].name, used, calls[i].most);
         expect(used <= calls[i].most, calls[i].name);
+        if (calls[i].call == hosts_end) hosts_begin(1);
     }
+    hosts_end();
     printf("stack: %d wrong\n", wrong);
-    free(image), free(out), free(g64), free(art), free(art_g64);
+    free(image), free(out), free(g64), free(art), free(art_g64), free(state);
     return wrong != 0;
 }

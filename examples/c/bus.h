@@ -70,14 +70,23 @@ static inline void bus_switched(bus *b, int i, uint64_t now) {
     bus_tell_all(b, -1, now);
 }
 
-/* A drive is switched on at the bus: all others' lines are told to it. */
-static inline int32_t bus_open(bus *b, int i, const uint8_t *image, size_t len, uint8_t device, uint8_t reaction, uint8_t pace, uint64_t now) {
-    int32_t said = y1541_open(&b->drive[i], image, len, 0, device, reaction, pace);
+/* A drive was switched on by y1541_open, if this is Y1541_OK: all others' lines are told to it. */
+static inline int32_t bus_opened(bus *b, int i, int32_t said, uint64_t now) {
     if (said == Y1541_OK) {
         b->pulls[i].clock_low = b->pulls[i].data_low = 0;
         bus_tell(b, i, now);
     }
     return said;
+}
+
+/* A drive is switched on at the bus. */
+static inline int32_t bus_open(bus *b, int i, const uint8_t *image, size_t len, uint8_t device, uint8_t reaction, uint8_t pace, uint64_t now) {
+    return bus_opened(b, i, y1541_open(&b->drive[i], image, len, 0, device, reaction, pace), now);
+}
+
+/* The same, with direct access. */
+static inline int32_t bus_open_direct(bus *b, int i, const uint8_t *image, size_t len, uint8_t device, uint8_t reaction, uint8_t pace, uint64_t now) {
+    return bus_opened(b, i, y1541_open_direct(&b->drive[i], image, len, 0, device, reaction, pace), now);
 }
 
 #endif

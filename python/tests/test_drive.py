@@ -165,6 +165,57 @@ class Computers(unittest.TestCase):
                 Host(drive, device=11).load("$")
 
 
+class DirectAccess(unittest.TestCase):
+    """Blocks by `#` and U1 (docs/direct.md), against the calls on images."""
+
+    def test_blocks_are_the_images(self):
+        disk = model_disk(4)
+        for image in (Image(disk.image), Image(disk.image).convert()):
+            for pace, computer in ((Pace.PROFILE, Computer.DARK_PAL), (Pace.KERNAL, Computer.PAL)):
+                with self.subTest(form=image.form, pace=pace), Drive(image, pace=pace, direct=True) as drive:
+                    host = Host(drive, computer=computer)
+                    self.assertEqual(host.status(), "73,CBM DOS V2.6 1541,00,00")
+                    host.open(2, "#")
+                    self.assertEqual(host.status(), "00, OK,00,00")
+                    for track, sector in ((18, 0), (18, 1), (1, 0), (35, 16)):
+                        self.assertEqual(host.command(f"U1:2,0,{track},{sector}"), "00, OK,00,00")
+                        self.assertEqual(host.receive(2), image.sector(track, sector))
+                    self.assertEqual(host.command("U1:2,0,36,0"), "66,ILLEGAL TRACK OR SECTOR,36,00")
+                    self.assertEqual((drive.writes, drive.image.bytes), (0, image.bytes))
+
+    def test_it_is_asked_for(self):
+        for settings in ({}, {"direct": False}):
+            with Drive(Image.open(HELLO), **settings) as drive:
+                host = Host(drive)
+                host.open(2, "#")
+                self.assertEqual(host.status(), "70,NO CHANNEL,00,00")
+                self.assertEqual(host.command("U1:2,0,18,0"), "31,SYNTAX ERROR,00,00")
+
+    def test_files_are_the_same(self):
+        with Drive(Image.open(HELLO)) as plain, Drive(Image.open(HELLO), direct=True) as direct:
+            for drive in (plain, direct):
+                host = Host(drive)
+                host.save("SAVED", host.load("HELLO") + SAVED)
+                host.command("R0:OTHER=HELLO")
+            self.assertEqual(plain.image.bytes, direct.image.bytes)
+            self.assertEqual(plain.writes, direct.writes)
+
+    def test_a_new_start_and_another_disk_leave_no_buffer(self):
+        for change in (Drive.reset, lambda drive: drive.insert(Image.open(HELLO)), Drive.eject):
+            with Drive(Image.open(HELLO), direct=True) as drive:
+                host = Host(drive)
+                host.open(2, "#")
+                self.assertEqual(host.command("U1:2,0,18,0"), "00, OK,00,00")
+                change(drive)
+                self.assertEqual(host.command("U1:2,0,18,0"), "70,NO CHANNEL,00,00")
+
+    def test_settings_out_of_their_range_are_refused(self):
+        for settings in ({"device": 7}, {"reaction": 61}, {"pace": 2}):
+            with self.assertRaises(Refused) as told:
+                Drive(Image.open(HELLO), direct=True, **settings)
+            self.assertEqual(told.exception.number, -2)
+
+
 class Lines(unittest.TestCase):
     def setUp(self):
         self.image = Image.open(HELLO)
@@ -205,6 +256,22 @@ class Lines(unittest.TestCase):
             other = Image.new(Form.G64, "OTHER", "64")
             drive.insert(other)
             self.assertEqual(drive.image.bytes, other.bytes)
+
+    def test_a_restored_drive_goes_on_as_the_saved_one(self):
+        with Drive(self.image) as drive, Drive(Image.new(Form.G64, "OTHER", "64")) as other:
+            drive.lines(1000, True, False, False)
+            state = drive.save()
+            other.restore(state)
+            self.assertEqual(other.save(), state)
+            self.assertEqual(other.next_due, drive.next_due)
+            self.assertEqual(other.due(5000), drive.due(5000))
+            self.assertEqual(other.pulls, drive.pulls)
+            self.assertEqual(other.image.bytes, self.image.bytes)
+            for broken in (b"", state[:-1], state + b"x", state[:20] + bytes([state[20] ^ 1]) + state[21:]):
+                with self.assertRaises(Refused) as told:
+                    other.restore(broken)
+                self.assertEqual(told.exception.number, -5)
+            self.assertEqual(other.save(), drive.save())
 
     def test_reset_is_power_up(self):
         with Drive(self.image) as drive:

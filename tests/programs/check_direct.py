@@ -1,14 +1,15 @@
 #!/usr/bin/env python3
 """check_direct.py DRIVE1541 [--scripts N]: random scripts of direct access, and what a plain model in Python says of them.
-1. Scripts of buffers and commands that read blocks, on a disk of random bytes: each answer is the model's, and the image stays as it is.
-2. Scripts of files alone: with --direct all is printed and saved as without it.
-3. Scripts of both: the image is sound after each, and each file that was closed reads as it was written.
+1. Scripts of buffers and commands on blocks, on a disk of random bytes, which isn't sound: each answer is the model's, and the image stays as it is.
+2. The same on an empty disk: each answer is the model's, and so is each byte of the image.
+3. Scripts of files alone: with --direct all is printed and saved as without it.
+4. Scripts of both, with files open: the image is sound after each, and each file that was closed reads as it was written.
 Prints one line a case. Last line: 'N passed, M failed'."""
 import argparse, os, random, subprocess, sys, tempfile
 
 SECTORS = [0] + [21] * 17 + [19] * 7 + [18] * 6 + [17] * 5
 ROM = {0xE5B6 + i: b for i, b in enumerate(b"\x73\xc3BM DOS V2.6 154\xb1")} | {0xFEA0: 0x0D, 0xFEA1: 0xED, 0xFF40: 0xAA, 0xFF41: 0xAA}
-TEXTS = {0: " OK", 30: "SYNTAX ERROR", 31: "SYNTAX ERROR", 66: "ILLEGAL TRACK OR SECTOR", 70: "NO CHANNEL", 73: "CBM DOS V2.6 1541", 74: "DRIVE NOT READY"}
+TEXTS = {0: " OK", 26: "WRITE PROTECT ON", 30: "SYNTAX ERROR", 31: "SYNTAX ERROR", 65: "NO BLOCK", 66: "ILLEGAL TRACK OR SECTOR", 70: "NO CHANNEL", 73: "CBM DOS V2.6 1541", 74: "DRIVE NOT READY"}
 
 
 def place(track, sector):
@@ -16,10 +17,10 @@ def place(track, sector):
 
 
 class Drive:
-    """Three buffers, and the commands that read, by the rules of docs/direct.md."""
+    """Three buffers, and the commands on blocks, by the rules of docs/direct.md. A disk that is sound has no file here."""
 
-    def __init__(self, image):
-        self.image = image
+    def __init__(self, image, sound=False, protected=False):
+        self.image, self.sound, self.protected, self.held = bytearray(image), sound, protected, {(18, 0), (18, 1)}
         self.start()
 
     def start(self):
@@ -45,18 +46,73 @@ class Drive:
         elif self.buffer(channel) is not None:
             self.owner[self.buffer(channel)] = None
 
-    def read(self, channel, drive, track, sector, counted):
-        i = self.buffer(channel)
-        if i is None:
-            self.status = (70, 0, 0)
-        elif drive:
+    def is_refused(self, drive, track, sector):
+        """Whether the command names another drive, or no sector."""
+        if drive:
             self.status = (74, 0, 0)
         elif not 1 <= track <= 35 or sector >= SECTORS[track]:
             self.status = (66, track, sector)
         else:
+            return False
+        return True
+
+    def read(self, channel, drive, track, sector, counted):
+        i = self.buffer(channel)
+        if i is None:
+            self.status = (70, 0, 0)
+        elif not self.is_refused(drive, track, sector):
             self.memory[i][:] = self.image[place(track, sector):][:256]
             self.at[i], self.last[i] = (1, self.memory[i][0]) if counted else (0, 255)
             self.status = (0, 0, 0)
+
+    def is_somebodys(self, track, sector):
+        """Whether the disk is protected, or the sector isn't to be written."""
+        if self.protected:
+            self.status = (26, 0, 0)
+        elif not self.sound or (track, sector) in self.held:
+            self.status = (26, track, sector)
+        else:
+            return False
+        return True
+
+    def write(self, channel, drive, track, sector, counted):
+        i = self.buffer(channel)
+        if i is None:
+            self.status = (70, 0, 0)
+        elif not self.is_refused(drive, track, sector) and not self.is_somebodys(track, sector):
+            front = bytes([(self.at[i] - 1) % 256]) if counted else self.memory[i][:1]
+            self.image[place(track, sector) : place(track, sector) + 256] = front + self.memory[i][1:]
+            self.status = (0, 0, 0)
+
+    def bit(self, track, sector):
+        """The byte of the BAM that has a sector, its bit, and whether the sector is free."""
+        at, bit = place(18, 0) + 4 * track + 1 + sector // 8, 1 << sector % 8
+        return at, bit, bool(self.image[at] & bit)
+
+    def allocate(self, drive, track, sector):
+        if self.is_refused(drive, track, sector):
+            return
+        at, bit, free = self.bit(track, sector)
+        if self.protected:
+            self.status = (26, 0, 0)
+        elif not free:
+            behind = ((t, s) for t in range(track, 36) for s in range(SECTORS[t]) if (t, s) > (track, sector) and self.bit(t, s)[2])
+            self.status = (65, *next(behind, (0, 0)))
+        elif not self.sound:
+            self.status = (26, track, sector)
+        else:
+            self.image[at] &= ~bit
+            self.image[place(18, 0) + 4 * track] -= 1
+            self.status = (0, 0, 0)
+
+    def free(self, drive, track, sector):
+        if self.is_refused(drive, track, sector) or self.is_somebodys(track, sector):
+            return
+        at, bit, free = self.bit(track, sector)
+        if not free:
+            self.image[at] |= bit
+            self.image[place(18, 0) + 4 * track] += 1
+        self.status = (0, 0, 0)
 
     def seek(self, channel, to):
         i = self.buffer(channel)
@@ -108,11 +164,26 @@ def direct_script(r, drive):
         wanted.append(drive.told())
 
     for _ in range(r.randint(5, 40)):
-        channel, kind = r.choice((2, 3, 4, 5, 14)), r.randint(0, 9)
+        channel, kind = r.choice((2, 3, 4, 5, 14)), r.randint(0, 12)
         if kind <= 1:
             text = r.choice(("#", "#", "#0", "#1", "#2", "#5"))
             lines.append(f"open {channel} {text}")
             drive.open(channel, text)
+            ask()
+        elif kind >= 10:
+            # (a few places, so that a block is claimed that is taken)
+            track, sector = r.choice(((17, r.randint(0, 20)), (18, r.randint(0, 3)), (r.choice((1, 19, 35)), r.randint(15, 17)), (r.randint(0, 40), r.randint(0, 30))))
+            other, gap = int(r.random() < 0.03), r.choice((" ", ",", "\\1d", "  ", ", "))
+            if kind == 10:
+                counted = r.random() < 0.4
+                word = r.choice(("B-W", "BLOCK-WRITE")) if counted else r.choice(("U2", "UB"))
+                numbers = (channel, other, track, sector)
+                drive.write(*numbers, counted)
+            else:
+                word = r.choice(("B-A", "BLOCK-ALLOCATE") if kind == 11 else ("B-F", "BLOCK-FREE"))
+                numbers = (other, track, sector)
+                (drive.allocate if kind == 11 else drive.free)(*numbers)
+            lines.append(f"put 15 {word}:" + gap.join(map(str, numbers)) + r.choice(("", "\\0d")))
             ask()
         elif kind <= 4:
             track, sector = r.choice(((r.randint(1, 35), r.randint(0, 16)), (18, r.randint(0, 20)), (r.randint(0, 40), r.randint(0, 255)))), None
@@ -175,6 +246,12 @@ def file_lines(r, files):
     return ["open 0 $", "get 0 9000", "close 0"]
 
 
+def with_blocks(r, lines):
+    """The same requests, and between them commands that write blocks while the files are open."""
+    writes = lambda: f"put 15 {r.choice(('U2 3 0', 'B-W 3 0', 'B-A 0', 'B-F 0'))} {r.choice((16, 17, 17, 17, 18, 19))} {r.randint(0, 18)}"
+    return ["open 3 #", "put 3 OVERWRITTEN", *(it for line in lines for it in (line, writes(), writes())), "close 3"]
+
+
 class Checker:
     def __init__(self, drive, room):
         self.drive, self.room, self.passed, self.failed = drive, room, 0, 0
@@ -194,10 +271,20 @@ class Checker:
 
 def against_the_model(check, r):
     image = bytes(r.randrange(256) for _ in range(683)) * 256
-    lines, wanted = direct_script(r, Drive(image))
-    said, after = check.run(image, lines, "--direct", *r.choice(((), ("--read-only",))))
-    if after != image:
-        return "the image has changed"
+    return answers(check, r, image, False, r.choice(((), ("--read-only",))))
+
+
+def on_an_empty_disk(check, r, empty):
+    return answers(check, r, empty, True, r.choice(((), (), (), ("--read-only",))))
+
+
+def answers(check, r, image, sound, words):
+    """What is wrong with the answers to a script, or with the image after it."""
+    drive = Drive(image, sound, bool(words))
+    lines, wanted = direct_script(r, drive)
+    said, after = check.run(image, lines, "--direct", *words)
+    if after != drive.image:
+        return f"another image after {lines}"
     return next((f"{one!r} where {other!r} is right, of {lines}" for one, other in zip([*said, None], [*wanted, None]) if one != other), len(said) != len(wanted) and "lines are missing")
 
 
@@ -209,7 +296,8 @@ def files_alone(check, r, empty):
 def files_and_blocks(check, r, empty):
     files, lines = {}, []
     for _ in range(r.randint(2, 10)):
-        lines += file_lines(r, files)
+        of_files = file_lines(r, files)
+        lines += of_files if r.random() < 0.4 else with_blocks(r, of_files)
         lines += [it.replace("put 15 UI", "put 15 I") for it in direct_script(r, Drive(empty))[0][: r.randint(1, 12)]]
         lines += ["close 2", "close 3", "close 4", "close 5", "close 14"]
     said, after = check.run(empty, lines, "--direct")
@@ -228,6 +316,7 @@ def main():
         _, empty = check.run(bytes(174848), ["put 15 N0:TEST,AB"])
         for name, one in (
             ("blocks, against the model", lambda r: against_the_model(check, r)),
+            ("blocks of an empty disk, against the model", lambda r: on_an_empty_disk(check, r, empty)),
             ("files alone, with direct access and without", lambda r: files_alone(check, r, empty)),
             ("files and blocks: sound, and each file whole", lambda r: files_and_blocks(check, r, empty)),
         ):
@@ -236,6 +325,9 @@ def main():
         # (a model that is wrong is told)
         ROM[0xE5B6] ^= 1
         check.say("a wrong byte of the ROM is found", not any(against_the_model(check, random.Random(f"planted {seed}")) for seed in range(300)) and "it isn't")
+        ROM[0xE5B6] ^= 1
+        Drive.is_somebodys = lambda self, track, sector: False
+        check.say("a model that writes over the directory is found", not any(on_an_empty_disk(check, random.Random(f"planted {seed}"), empty) for seed in range(300)) and "it isn't")
     print(f"{check.passed} passed, {check.failed} failed")
     sys.exit(bool(check.failed))
 

@@ -559,7 +559,7 @@ is "records, too" sh -c '"$0" get example.d64 HOST 2> err.txt | head -c "$(wc -c
 case_of "from standard input" 0 "" "" sh -c "$disk build - piped.g64 < again.toml"
 is "too" cmp piped.g64 game.g64
 printf 'title = "A"\nid = "AB"\n[[entry]]\nfil = "x"\n' > bad.toml
-case_of "a word that no recipe has" 64 "" 'disk1541: bad.toml: unknown field `fil`
+case_of "a word that no recipe has" 64 "" 'disk1541: bad.toml: line 4: unknown field `fil`
 in `entry`
 disk1541: bad.toml is no recipe of a disk: nothing is made' "$disk" build bad.toml none.d64
 printf 'title = "A"\nid = "AB"\n[[entry]]\nfile = "nothing"\n' > bad.toml
@@ -610,6 +610,20 @@ case_of "get as the chain has it" 0 any "disk1541: RECORDS has records of 10 byt
 case_of "put of that file" 0 "" "" "$disk" put records.d64 records.r00 --name AGAIN
 case_of "get-all of both" 0 "" "" "$disk" get-all records.d64 both
 is "gives the same records" sh -c 'tail -c +27 both/RECORDS.r00 > 1; tail -c +27 both/AGAIN.r00 | cmp - 1'
+# Two records of 100 bytes fill 200 of a block's 254. The drive leaves zeros behind them; another program may leave the beginning of a third.
+"$disk" new rest.d64 --title rest --id 64
+head -c 200 records.bin > two.bin
+case_of "put of two records" 0 "" "" "$disk" put rest.d64 two.bin --type rel --record 100 --name REST
+case_of "get of two records" 0 "" "" "$disk" get rest.d64 REST -o rest.r00
+is "gives these two" test "$(wc -c < rest.r00)" = 226
+python3 -c '
+image = bytearray(open("rest.d64", "rb").read())
+at = image.index(b"record   0")
+image[at + 200 : at + 205] = b"third"
+image[at - 1] = 206 # (the place of the last byte in its block)
+open("rest.d64", "wb").write(image)'
+case_of "get of two records and the beginning of a third" 0 "" "" "$disk" get rest.d64 REST -o rest.r00 --replace
+is "gives three, the last filled with zeros" test "$(tail -c 100 rest.r00 | tr -d '\\000')" = third
 case_of "put over it" 1 "" "disk1541: records.d64: a file of that name is there: take another name, or --replace (status 63)" "$disk" put records.d64 records.r00
 case_of "with --replace" 0 "" "" "$disk" put records.d64 records.r00 --replace
 case_of "copy of a relative file" 1 "" "disk1541: RECORDS is a relative file, which the drive doesn't copy: take it out by \`get -o FILE.r00\`, and put that by --name" "$disk" copy records.d64 RECORDS OTHER

@@ -35,7 +35,8 @@ expect(isSame(typed("Drive"), calls(y1541.open(image))), "the types of a drive")
 // Images.
 const header = fs.readFileSync(new URL("../../yellowadze1541.h", import.meta.url), "utf8");
 expect(y1541.version() === Number(header.match(/define Y1541_VERSION (0x\w+)u/)[1]), "the version");
-for (const it of [{ device: 7 }, { device: 12 }, { reaction: 0 }, { reaction: 61 }, { pace: 2 }]) refused(-2, () => y1541.open(image, it), "an argument of open");
+for (const it of [{ device: 7 }, { device: 12 }, { reaction: 0 }, { reaction: 61 }, { pace: 2 }])
+  for (const direct of [false, true]) refused(-2, () => y1541.open(image, { ...it, direct }), "an argument of open");
 refused(-5, () => y1541.open(image.subarray(1)), "no size of a D64");
 refused(-5, () => y1541.check(new Uint8Array(3)), "no image");
 refused(-4, () => y1541.file(image, "NONE"), "no file");

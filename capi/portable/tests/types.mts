@@ -4,7 +4,7 @@ import { load, Refused, Gone, G64, ATN, KERNAL, NEVER, type Drive, type Library 
 const y1541: Library = await load(fetch("yellowadze1541.wasm"));
 const disk: Uint8Array = y1541.create(G64, "MY DISK", "AB");
 const image = y1541.put(disk, "HELLO,P,W", Uint8Array.of(1, 8, 65));
-const drive: Drive = y1541.open(image, { device: 8, pace: KERNAL, isProtected: true });
+const drive: Drive = y1541.open(image, { device: 8, pace: KERNAL, isProtected: true, direct: true });
 drive.lines(1000, true, false, false);
 const reaction = drive.due(1020);
 if (reaction) console.log(reaction.moment, reaction.dataChanged);
@@ -22,6 +22,8 @@ console.log(played.events[0].who, y1541.entry(image, 0)?.name);
 
 // @ts-expect-error: no image
 y1541.open("x");
+// @ts-expect-error: a list of changes is played without direct access
+y1541.play(image, [], 100, { direct: true });
 // @ts-expect-error: no form
 y1541.create(3, "X", "AB");
 // @ts-expect-error: it may be null

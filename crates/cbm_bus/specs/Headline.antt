@@ -1,5 +1,5 @@
 -- What is promised of drives with disks under a host: the headline.
-use Rattle.std.specs.Prelude.{ℕ, None, Result, OnOk, ◌≡◌, ◌≤◌, ◌==◌, List, [], ◌∷◌, ◌++◌, map, if◌then◌else◌}
+use Rattle.std.specs.Prelude.{ℕ, ◌+◌, None, Result, OnOk, MatchResult, ◌≡◌, ◌≤◌, ◌==◌, List, [], ◌∷◌, ◌++◌, map, if◌then◌else◌}
 use Rattle.std.specs.List.{AllZip}
 use Rattle.cbm_iec.specs.declared.event.Event.{Event}
 use Rattle.cbm_iec.specs.declared.lines.Change.{Change}
@@ -10,13 +10,13 @@ use Rattle.cbm_machine.specs.Machines.{Machine}
 use Rattle.cbm_channel.specs.Standing.{Kept}
 use Rattle.cbm_volume.specs.Holding.{HoldsDisk}
 use Rattle.cbm_session.specs.Loosely.{HostKeepsLoosely, IsKeptLoosely}
-use Rattle.cbm_session.specs.Playing.{Station, IsKept}
+use Rattle.cbm_session.specs.Playing.{Station, IsKept, at_rest}
 use Rattle.cbm_session.specs.Timing.{HostKeeps}
 use Rattle.cbm_drive.specs.Cables.{Cabled}
 use Rattle.cbm_drive.specs.Desks.{Desk, DeskStands, desk_step, desk_says}
 use Rattle.cbm_bus.specs.Powered.{IsAtRest}
 use Rattle.cbm_drive.specs.Ordered.{fault_of, host_changes}
-use Rattle.cbm_drive.specs.Played.{HasHanded}
+use Rattle.cbm_drive.specs.Played.{HasHanded, HasPlayed, IsPlayCut}
 use Rattle.cbm_session.specs.Handed.{AllReact}
 use Rattle.cbm_session.specs.Sessions.{AllUnlike, IsBus}
 use Rattle.cbm_drive.specs.Seats.{Seated, failed, IsBusAt}
@@ -84,3 +84,10 @@ module _ {M : Type 0} (seen : M → Seen) where
   abbrev pub HandsToMachines : {E : Type 0} → Cabled (Desk (Kept M)) → Cabled (Desk (Kept M)) → ℕ → List Event → List Event → List Change → Result (Unit {0}) E → Type 0
   HandsToMachines b c end old new cs result = HaveNotFailed b c → (bs : List Party) (ms : ℕ → Desk Machine) → AllUnlike bs → AllReact bs → IsAtRest seen bs ms b →
       OnOk result (HasHanded (Desk (Kept M)) (Desk Machine) (DeskStands seen) desk_step desk_says c.host end c.drives old new cs bs ms)
+
+  -- WHETHER OR NOT THE HOST KEEPS ANY TIMING, from rest, of a list in order, if no medium failed by itself: the events are what the machines of the drives did up to the end;
+  -- at want of memory they are all that the machines did up to some step, and the machines are where it left them.
+  abbrev pub PlaysOrIsCut : {E : Type 0} → Cabled (Desk (Kept M)) → Cabled (Desk (Kept M)) → ℕ → List Event → List Event → List Change → Result (Unit {0}) E → Type 0
+  PlaysOrIsCut b c end old new cs result = HaveNotFailed b c → (bs : List Party) (ms : ℕ → Desk Machine) → IsAtRest seen bs ms b → fault_of 0 0 end cs ≡ None →
+      MatchResult result (λ _. HasPlayed (Desk (Kept M)) (Desk Machine) (DeskStands seen) desk_step desk_says c.host (end + 1) c.drives old new cs (at_rest (Desk Machine) desk_step desk_says ms bs))
+      (λ _. IsPlayCut (Desk (Kept M)) (Desk Machine) (DeskStands seen) desk_step desk_says c.host c.drives old new cs (at_rest (Desk Machine) desk_step desk_says ms bs))

@@ -24,7 +24,7 @@ impl<M: Medium, const N: usize> Model for DiskBus<M, N> {
 
 impl<M: Medium, const N: usize> DiskBus<M, N> {
     ghost use Rattle.std.specs.Prelude.{◌≡◌, ◌↔◌, ◌^◌, ◌<◌, ◌≤◌, ℕ, true, List, length, Some, None, Err, IfErr};
-    ghost use Rattle.cbm_bus.specs.Headline.{AreAt, HandsToMachines, KeepsDisks, PlaysFiles, PlaysFilesLoosely, failures_on, machines_now};
+    ghost use Rattle.cbm_bus.specs.Headline.{AreAt, HandsToMachines, KeepsDisks, PlaysFiles, PlaysFilesLoosely, PlaysOrIsCut, failures_on, machines_now};
     ghost use Rattle.cbm_bus.specs.Powered.{ArePowered, IsAtRest};
     ghost use Rattle.cbm_drive.specs.Cables.{all_free};
     ghost use Rattle.cbm_drive.specs.Desks as desks;
@@ -86,6 +86,7 @@ impl<M: Medium, const N: usize> DiskBus<M, N> {
         ensures disks { KeepsDisks M.seen self.old self.new }
         // Whether or not the host keeps any timing:
         ensures handed { HandsToMachines M.seen self.old self.new end events.old.items events.new.items changes.now result }
+        ensures cut { PlaysOrIsCut M.seen self.old self.new end events.old.items events.new.items changes.now result }
         ensures fault { (f : PlayFault) → fault_of 0 0 end changes.now ≡ Some f →
             (result ≡ Err f) × (self.new ≡ self.old) × (events.new ≡ events.old) }
         ensures memory { fault_of 0 0 end changes.now ≡ None → IfErr result (λ f. f ≡ Memory) }

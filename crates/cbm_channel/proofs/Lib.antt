@@ -44,3 +44,7 @@ pub mod DoneParts
 pub mod Steady
 pub mod Nexts
 pub mod HiddenRecords
+pub mod Loosely
+pub mod EachKept
+pub mod KeptParts
+pub mod SavedAgain

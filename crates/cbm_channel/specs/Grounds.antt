@@ -12,7 +12,7 @@ use Rattle.cbm_bam.specs.Map.{geometry_of}
 use Rattle.cbm_directory.specs.Entries.{first_block}
 use Rattle.cbm_directory.specs.Slots.{directory_of}
 use Rattle.cbm_machine.specs.declared.code.Code.{Code}
-use Rattle.cbm_machine.specs.declared.code.Code.TheVariants.{Fine, FilesScratched, NoHeader, NoSync, NoData, DataChecksum, DataCode, WriteFailed, WriteProtected, HeaderChecksum, LongData, WrongId, Syntax, UnknownCommand, LongText, WildName, NoName, NoRecord, RecordOverflow, FileTooLarge, WriteFileOpen, FileNotOpen, FileNotFound, FileExists, WrongType, WrongLink, NoChannel, EndlessChain, DiskFull, PowerUp, DriveNotReady}
+use Rattle.cbm_machine.specs.declared.code.Code.TheVariants.{Fine, FilesScratched, NoHeader, NoSync, NoData, DataChecksum, DataCode, WriteFailed, WriteProtected, HeaderChecksum, LongData, WrongId, Syntax, UnknownCommand, LongText, WildName, NoName, NoRecord, RecordOverflow, FileTooLarge, WriteFileOpen, FileNotOpen, FileNotFound, FileExists, WrongType, NoBlock, WrongLink, NoChannel, EndlessChain, DiskFull, PowerUp, DriveNotReady}
 use Rattle.cbm_machine.specs.declared.status.Status.{Status}
 use Rattle.cbm_machine.specs.Codes.{code_number}
 use Rattle.cbm_machine.specs.Statuses.{plain, trouble_status}
@@ -85,7 +85,7 @@ IsFromDirectory seen medium (planned.ReplaceFile slot) = Unit {0}
 IsFromDirectory seen medium (planned.OpenRecords found) = IsInDirectory seen medium found.entry
 IsFromDirectory seen medium (planned.MakeRecords name length) = Unit {0}
 
--- A request is refused with this code: for protection (26), its text (30 to 34), a record (50, 52), the files and the channels (60 to 64, 70),
+-- A request is refused with this code: for protection (26), its text (30 to 34), a record (50, 52), the files, the blocks and the channels (60 to 65, 70),
 -- for want of room (72) or of a disk (74). Where 51 is reported of a text for records, the bytes that fit were written.
 abbrev pub is_refusal : Code → Bool
 is_refusal Fine = false
@@ -113,6 +113,7 @@ is_refusal FileNotOpen = true
 is_refusal FileNotFound = true
 is_refusal FileExists = true
 is_refusal WrongType = true
+is_refusal NoBlock = true
 is_refusal WrongLink = false
 is_refusal NoChannel = true
 is_refusal EndlessChain = false

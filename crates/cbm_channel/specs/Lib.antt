@@ -19,3 +19,6 @@ pub mod Meant
 pub mod BytesMeant
 pub mod Exchanged
 pub mod Opening
+pub mod Loosely
+pub mod Saved
+pub mod Loaded

@@ -1,13 +1,20 @@
-ghost use Rattle.std.specs.Prelude.{◌≡◌, ◌≤◌, ◌*◌, length, sum_by};
-ghost use Rattle.std.specs.List.{list_any};
+ghost use Rattle.std.specs.Prelude.{◌≡◌, ◌≤◌, ◌*◌, ◌⊎◌, true, false, length, sum_by};
+ghost use Rattle.std.specs.List.{list_any, All};
 ghost use Rattle.cbm_channel.specs.Shown.{is_channel_open, cost_on, writes_on, uses_on};
+ghost use Rattle.cbm_channel.specs.Standing.{FitsTracks};
+ghost use Rattle.cbm_channel.specs.Loosely.{IsSparedOn, IsOnChannel, IsOnOne};
+ghost use Rattle.cbm_medium.specs.Place.{Place};
+ghost use Rattle.cbm_bam.specs.Marks.{is_marked};
 ghost use Rattle.cbm_file.specs.Waiting.{next_shown};
 ghost use Rattle.cbm_channel.specs.declared.channel.Channel.TheVariants.{Closed};
+
+pub(crate) mod loading;
+pub(crate) mod saving;
 
 use crate::on_record::OnRecord;
 use cbm_listing::Listing;
 use cbm_machine::Code;
-use cbm_volume::{ChainReader, FileWriter, Medium, Trouble, Volume};
+use cbm_volume::{ChainReader, FileWriter, Medium, SectorSet, Trouble, Volume};
 
 /// What a channel costs of the drive's buffers if a file or a listing is open.
 pub(crate) const FILE_COST: usize = 1;
@@ -79,6 +86,20 @@ pub(crate) fn any_open(channels: &[Channel]) -> bool
     ensures { result ≡ list_any is_channel_open channels.now }
 {
     channels.iter().any(|channel| !channel.is_closed())
+}
+
+/// Puts the sectors into a set that channels have to themselves.
+pub(crate) fn spare_all<M: Medium>(channels: &[Channel], volume: &Volume<M>, spared: &mut SectorSet)
+    requires { All (FitsTracks (M.seen volume.now).tracks) channels.now }
+    ensures spares { (p : Place) → is_marked spared.new p ≡ false → All (IsSparedOn (M.seen volume.now).content p) channels.now }
+    ensures keeps { (p : Place) → is_marked spared.new p ≡ false → is_marked spared.old p ≡ false }
+    ensures only { (p : Place) → is_marked spared.new p ≡ true → (is_marked spared.old p ≡ true) ⊎
+        IsOnOne (M.seen volume.now).content p channels.now }
+{
+    if let Some((first, rest)) = channels.split_first() {
+        first.spare(volume, spared);
+        spare_all(rest, volume, spared);
+    }
 }
 
 impl Channel {
@@ -181,6 +202,21 @@ impl Channel {
             Channel::Writing(writer, _) => writer.slot() == slot,
             Channel::File(at, _) | Channel::Stopped(at) => *at == slot,
             Channel::Records(on) => on.slot() == slot,
+        }
+    }
+
+    /// Puts the sectors into a set that it has to itself: those that it still has to read, or the blocks that it writes.
+    fn spare<M: Medium>(&self, volume: &Volume<M>, spared: &mut SectorSet)
+        requires { FitsTracks (M.seen volume.now).tracks self.now }
+        ensures spares { (p : Place) → is_marked spared.new p ≡ false → IsSparedOn (M.seen volume.now).content p self.now }
+        ensures keeps { (p : Place) → is_marked spared.new p ≡ false → is_marked spared.old p ≡ false }
+        ensures only { (p : Place) → is_marked spared.new p ≡ true → (is_marked spared.old p ≡ true) ⊎
+            IsOnChannel (M.seen volume.now).content p self.now }
+    {
+        match self {
+            Channel::File(_, reader) => volume.spare_read(reader, spared),
+            Channel::Writing(writer, _) => volume.spare_written(writer, spared),
+            _ => {}
         }
     }
 

@@ -1,6 +1,8 @@
 ghost use Rattle.std.specs.Prelude.{◌≡◌, ◌≤◌, ◌++◌, ◌∷◌, [], length, take, Some};
 ghost use Rattle.cbm_machine.specs.Calls.{text_for};
 
+pub mod saving;
+
 use arrayvec::ArrayVec;
 use std::marker::Model;
 

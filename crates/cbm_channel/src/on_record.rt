@@ -4,6 +4,8 @@ ghost use Rattle.cbm_volume.specs.RecordFaults.{HidesSlot};
 ghost use Rattle.cbm_channel.specs.Placed.{is_last_filled, is_broken, record_of};
 ghost use Rattle.cbm_channel.specs.PlaceCalls.{ReadsRecord};
 
+mod saving;
+
 use cbm_medium::codes::ENDLESS_CHAIN;
 use cbm_volume::{Medium, Record, Trouble, Volume, WrittenRecord};
 use std::marker::Model;

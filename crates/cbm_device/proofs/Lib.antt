@@ -2,3 +2,6 @@ pub mod Giving
 pub mod Opening
 pub mod Played
 pub mod Refusing
+pub mod Restored
+mod Keeping
+mod Loading

@@ -4,3 +4,4 @@ pub mod Looking
 pub mod Making
 pub mod Devices
 pub mod Plays
+pub mod Snapshots

@@ -6,6 +6,8 @@ ghost use Rattle.cbm_medium.specs.Seen.{with_content, formatted_as, write_refusa
 ghost use Rattle.cbm_image.specs.Images.{kind_of, image_fault, IsOf};
 ghost use Rattle.cbm_device.specs.ImageDisks.{no_disk, sectors_seen, IsDiskOf, IsOpenRefusal, IsImageIn};
 
+pub(crate) mod saving;
+
 use crate::refusal::DeviceRefusal;
 use cbm_d64::D64Disk;
 use cbm_g64::G64Disk;

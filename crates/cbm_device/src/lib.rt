@@ -4,6 +4,7 @@
 mod changing;
 mod device;
 mod image_disk;
+mod laws;
 mod looking;
 mod playing;
 mod refusal;
@@ -12,6 +13,7 @@ mod room;
 pub use changing::change;
 pub use device::{Device, DeviceReaction};
 pub use image_disk::{ImageDisk, Sectors};
+pub use laws::a_restored_drive_is_the_saved_one;
 pub use looking::{Heading, check, entry, file, list, sector, title};
 pub use playing::play;
 pub use refusal::{DeviceRefusal, number};

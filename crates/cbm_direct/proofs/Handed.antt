@@ -1,5 +1,5 @@
 -- A call that is handed to the DOS, and a command of direct access.
-use Rattle.std.proofs.Common.{◌≡◌, ℕ, List, Option, Some, None, refl, subst, inl, inr}
+use Rattle.std.proofs.Common.{◌≡◌, ℕ, Bool, List, Option, Some, None, Result, refl, subst, inl, inr}
 use Rattle.cbm_medium.specs.Seen.{Seen}
 use Rattle.cbm_channel.specs.Standing.{Kept}
 use Rattle.cbm_channel.specs.Parts.{OnlyText}
@@ -10,7 +10,9 @@ use Rattle.cbm_channel.specs.Opening.{OpensFrom}
 use Rattle.cbm_machine.specs.Statuses.{plain}
 use Rattle.cbm_machine.specs.declared.code.Code.TheVariants.{NoChannel}
 use Rattle.cbm_direct.specs.Vouching.{Vouching}
-use Rattle.cbm_direct.specs.Directs.{Direct, OfDos, IsDirectCommand, IsAskedDone, DirectAnswers, IsOpenedBeside}
+use Rattle.cbm_direct.specs.Directs.{Direct, OfDos, IsDirectCommand, IsAskedDone, DirectAnswers, IsOpenedBeside, Reports, result_status}
+use Rattle.cbm_medium.specs.Place.{Place}
+use Rattle.cbm_medium.specs.declared.fault.Trouble.{Trouble}
 
 -- of a drive that is known by its parts
 pub handed : {M : Type 0} (does : Kept M → Kept M → Type 0) (answer : Option Reply) (inside now new : Direct M) → inside ≡ now
@@ -42,3 +44,16 @@ module _ {M : Type 0} (seen : M → Seen) (ch : ℕ) (text : List ℕ) (inside n
     record { call = closes; buffers = refl; reply = refl },
     says,
   )))
+
+-- what came of a sector is reported
+pub reported : {M : Type 0} (p : Place) (Does : Result Bool Trouble → Kept M → Kept M → Type 0) (inside now new : Direct M) → inside ≡ now → (v : Vouching M) (r : Result Bool Trouble)
+    → Does r inside.vouched.dos v.dos → v.sound_since ≡ inside.vouched.sound_since → DirectAnswers (result_status p r) (record inside { vouched = v }) new → Reports p Does now new
+reported p Does inside now new e v r does since says = subst (λ x. Reports p Does x new) e (record {
+  result = r;
+  middle = record inside { vouched = v };
+  call = does;
+  since = since;
+  buffers = refl;
+  reply = refl;
+  answers = says;
+})

@@ -2,8 +2,9 @@
 use Rattle.cbm_machine.specs.Calls.{without_return}
 use Rattle.std.specs.Prelude.{ℕ, ◌+◌, ◌-◌, ◌*◌, ◌==◌, ◌&&◌, ◌||◌, nat_lt, nat_le, min, max, Bool, true, false, List, [], ◌∷◌, drop, length, slice_index_or, Option, Some, None, option_map, if◌then◌else◌}
 use Rattle.cbm_direct.specs.declared.asked.Block.{Block}
+use Rattle.cbm_direct.specs.declared.asked.Sector.{Sector}
 use Rattle.cbm_direct.specs.declared.asked.Asked.{Asked}
-use Rattle.cbm_direct.specs.declared.asked.Asked.TheVariants.{Read, ReadCounted, Seek, Memory, Restart, Nothing, Unread}
+use Rattle.cbm_direct.specs.declared.asked.Asked.TheVariants.{Read, ReadCounted, Write, WriteCounted, Allocate, Free, Seek, Memory, Restart, Nothing, Unread}
 use Rattle.cbm_direct.specs.declared.wanted.Wanted.{Wanted}
 use Rattle.cbm_direct.specs.declared.wanted.Wanted.TheVariants as wanted
 
@@ -74,6 +75,20 @@ abbrev pub on_block : (Block → Asked) → Option Block → Asked
 on_block f None = Unread
 on_block f (Some block) = f block
 
+-- the three numbers of a command on a sector without a channel: drive, track and sector
+abbrev pub sector_from : Option ℕ → Option ℕ → Option ℕ → Option Sector
+sector_from (Some drive) (Some track) (Some sector) = Some (record { drive = drive; track = track; sector = sector })
+sector_from _ _ _ = None
+
+-- the same in a text
+abbrev pub sector_in : List ℕ → Option Sector
+sector_in text = let second = behind_number text in sector_from (first_number text) (first_number second) (first_number (behind_number second))
+
+-- such a command, or that its numbers can't be read
+abbrev pub on_sector : (Sector → Asked) → Option Sector → Asked
+on_sector f None = Unread
+on_sector f (Some sector) = f sector
+
 -- B-P's two numbers: a channel and a place
 abbrev pub place_from : Option ℕ → Option ℕ → Asked
 place_from (Some channel) (Some place) = Seek channel place
@@ -83,10 +98,11 @@ place_from _ _ = Unread
 abbrev pub start_asked : List ℕ → Asked
 start_asked text = if (slice_index_or text 0 0 == 43) || (slice_index_or text 0 0 == 45) then Nothing else Restart
 
--- U and a letter, with what follows: U1 and UA read, UI, U9, UJ and U: start again, but UI+ and UI- do nothing
+-- U and a letter, with what follows: U1 and UA read, U2 and UB write, UI, U9, UJ and U: start again, but UI+ and UI- do nothing
 abbrev pub user_asked : ℕ → List ℕ → Option Asked
 user_asked c rest =
     if (c == 49) || (c == 65) then Some (on_block Read (block_in (numbers_of 1 rest)))
+    else if (c == 50) || (c == 66) then Some (on_block Write (block_in (numbers_of 1 rest)))
     else if (c == 74) || (c == 58) then Some Restart
     else if (c == 73) || (c == 57) then Some (start_asked rest)
     else None
@@ -101,6 +117,9 @@ abbrev pub block_asked : List ℕ → List ℕ → Option Asked
 block_asked text [] = None
 block_asked text (c ∷ rest) =
     if c == 82 then Some (on_block ReadCounted (block_in (numbers_of 2 text)))
+    else if c == 87 then Some (on_block WriteCounted (block_in (numbers_of 2 text)))
+    else if c == 65 then Some (on_sector Allocate (sector_in (numbers_of 2 text)))
+    else if c == 70 then Some (on_sector Free (sector_in (numbers_of 2 text)))
     else if c == 80 then Some (place_from (first_number (numbers_of 2 text)) (first_number (behind_number (numbers_of 2 text))))
     else None
 

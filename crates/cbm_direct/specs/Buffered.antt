@@ -58,6 +58,10 @@ with_byte_put byte b = record b { bytes = slice_set b.bytes b.pointer byte; poin
 abbrev pub next_in : Buffered → ℕ × Bool
 next_in b = (slice_index b.bytes b.pointer, b.pointer == b.last)
 
+-- its bytes, of which byte 0 says the place of the byte before the next one
+abbrev pub bytes_counted : Buffered → List ℕ
+bytes_counted b = slice_set b.bytes 0 ((b.pointer + 255) % 256)
+
 -- the three buffers
 pub record ThreeBuffers : Type 0 where
   pub first : Buffered
@@ -87,6 +91,18 @@ shown_in ch b =
     else if has_it ch b.second then Some (next_in b.second)
     else if has_it ch b.third then Some (next_in b.third)
     else None
+
+-- what the buffer of a channel has
+abbrev pub bytes_of_channel : (Buffered → List ℕ) → ℕ → ThreeBuffers → Option (List ℕ)
+bytes_of_channel f ch b =
+    if has_it ch b.first then Some (f b.first)
+    else if has_it ch b.second then Some (f b.second)
+    else if has_it ch b.third then Some (f b.third)
+    else None
+
+-- its bytes as they are
+abbrev pub bytes_as_they_are : Buffered → List ℕ
+bytes_as_they_are b = b.bytes
 
 -- one if a channel has it
 abbrev pub taken_one : Option ℕ → ℕ

@@ -1,14 +1,15 @@
 -- A drive with direct access: its DOS, its three buffers, and what is left of M-R's answer.
-use Rattle.std.specs.Prelude.{ℕ, ◌+◌, ◌≤◌, ◌≡◌, ◌≢◌, ◌⊎◌, ◌==◌, Bool, true, false, List, [], Option, Some, None, Ok, sum_by, if◌then◌else◌}
-use Rattle.cbm_medium.specs.Place.{Place}
+use Rattle.std.specs.Prelude.{ℕ, ◌+◌, ◌≤◌, ◌≡◌, ◌≢◌, ◌⊎◌, ◌==◌, Bool, true, false, List, [], Option, Some, None, Result, Ok, Err, IsOk, sum_by, if◌then◌else◌}
+use Rattle.cbm_medium.specs.Place.{Place, Has, directory_head}
 use Rattle.cbm_medium.specs.Seen.{Seen}
 use Rattle.cbm_medium.specs.declared.fault.Trouble.{Trouble}
 use Rattle.cbm_machine.specs.declared.code.Code.{Code}
-use Rattle.cbm_machine.specs.declared.code.Code.TheVariants.{Fine, NoChannel, Syntax, DriveNotReady}
+use Rattle.cbm_machine.specs.declared.code.Code.TheVariants.{Fine, WriteProtected, NoBlock, NoChannel, WrongLink, Syntax, DriveNotReady}
 use Rattle.cbm_machine.specs.declared.status.Status.{Status}
 use Rattle.cbm_machine.specs.Talking.{taken}
 use Rattle.cbm_machine.specs.Statuses.{plain, trouble_status}
 use Rattle.cbm_channel.specs.Standing.{Kept, Leads}
+use Rattle.cbm_channel.specs.Loosely.{WritesLoose, ClaimsAt, GivesAt}
 use Rattle.cbm_channel.specs.Parts.{OnlyText}
 use Rattle.cbm_channel.specs.Going.{Goes, closing}
 use Rattle.cbm_channel.specs.Opening.{OpensFrom}
@@ -17,13 +18,18 @@ use Rattle.cbm_direct.specs.declared.wanted.Wanted.TheVariants.{Any, Number}
 use Rattle.cbm_direct.specs.declared.wanted.Wanted.TheVariants as wanted
 use Rattle.cbm_channel.specs.Shown.{shown_by, cost_on}
 use Rattle.cbm_direct.specs.declared.asked.Block.{Block}
+use Rattle.cbm_direct.specs.declared.asked.Sector.{Sector}
 use Rattle.cbm_direct.specs.declared.asked.Asked.{Asked}
-use Rattle.cbm_direct.specs.declared.asked.Asked.TheVariants.{Read, ReadCounted, Seek, Memory, Restart, Nothing, Unread}
+use Rattle.cbm_direct.specs.declared.asked.Asked.TheVariants.{Read, ReadCounted, Write, WriteCounted, Allocate, Free, Seek, Memory, Restart, Nothing, Unread}
 use Rattle.cbm_direct.specs.declared.memory.Reply.{Reply}
-use Rattle.cbm_direct.specs.Buffered.{Buffered, ThreeBuffers, three_free, has_buffer, on_buffer, shown_in, with_sector_read, with_counted_block, at_place, given_back, taken_count, with_any_for, with_number_for}
+use Rattle.cbm_direct.specs.Buffered.{Buffered, ThreeBuffers, three_free, has_buffer, on_buffer, shown_in, with_sector_read, with_counted_block, bytes_of_channel, bytes_as_they_are, bytes_counted, at_place, given_back, taken_count, with_any_for, with_number_for}
 use Rattle.cbm_direct.specs.Asking.{buffer_wanted}
+use Rattle.cbm_direct.specs.NextFree.{next_behind}
+use Rattle.cbm_bam.specs.Map.{map_of, is_free_in}
+use Rattle.cbm_bam.specs.Causes.{IsHeadFault}
+use Rattle.cbm_volume.specs.SeenDisks.{seen_tracks}
 use Rattle.cbm_direct.specs.Memories.{reply_shown, reply_behind}
-use Rattle.cbm_direct.specs.Vouching.{Vouching, IsSectorUnread, OnlyStatus, StandsAtStart}
+use Rattle.cbm_direct.specs.Vouching.{Vouching, IsSectorUnread, OnlyStatus, ShowsDisk, StandsAtStart, StandsExchanged}
 
 -- the drive
 pub record Direct (M : Type 0) : Type 0 where
@@ -59,11 +65,102 @@ IsReadAsked seen fill block old new =
     ⊎ ((has_buffer block.channel old.buffers ≡ true) × (block.drive ≢ 0) × DirectAnswers (plain DriveNotReady) old new)
     ⊎ ((has_buffer block.channel old.buffers ≡ true) × (block.drive ≡ 0) × WasBlockRead seen fill block old new)
 
+-- ---- commands that write
+
+-- the sector of a command without a channel
+abbrev pub place_asked : Sector → Place
+place_asked sector = record { track = sector.track; sector = sector.sector }
+
+-- a code with a sector's two numbers
+abbrev pub at_sector : Code → Place → Status
+at_sector code p = record { code = code; first = p.track; second = p.sector }
+
+-- what is reported of such a command: 00 if it is done, 26 with the sector if the rule refuses it, or the medium's fault
+abbrev pub result_status : Place → Result Bool Trouble → Status
+result_status p (Ok true) = plain Fine
+result_status p (Ok false) = at_sector WriteProtected p
+result_status p (Err t) = trouble_status t
+
+-- The DOS carried it out, and its result is the status; the buffers and M-R's answer are as they were.
+pub record Reports {M : Type 0} (p : Place) (Does : Result Bool Trouble → Kept M → Kept M → Type 0) (old new : Direct M) : Type 0 where
+  pub result : Result Bool Trouble
+  pub middle : Direct M
+  pub call : Does result old.vouched.dos middle.vouched.dos
+  pub since : middle.vouched.sound_since ≡ old.vouched.sound_since
+  pub buffers : middle.buffers ≡ old.buffers
+  pub reply : middle.reply ≡ old.reply
+  pub answers : DirectAnswers (result_status p result) middle new
+
+-- On a disk that is protected 26 is reported; else this holds.
+abbrev pub UnlessProtected : {M : Type 0} → (M → Seen) → (Direct M → Direct M → Type 0) → Direct M → Direct M → Type 0
+UnlessProtected seen Does old new =
+    (((seen old.vouched.dos.medium).protected ≡ true) × DirectAnswers (plain WriteProtected) old new)
+    ⊎ (((seen old.vouched.dos.medium).protected ≡ false) × Does old new)
+
+-- On a disk of so many tracks without such a sector 66 is reported; else this holds.
+abbrev pub IfHas : {M : Type 0} → ℕ → Place → (Direct M → Direct M → Type 0) → Direct M → Direct M → Type 0
+IfHas tracks p Does old new = ((Has tracks p → ⊥) × DirectAnswers (at_sector WrongLink p) old new) ⊎ (Has tracks p × Does old new)
+
+-- If another drive is named 74 is reported; else this holds.
+abbrev pub IfDrive0 : {M : Type 0} → ℕ → (Direct M → Direct M → Type 0) → Direct M → Direct M → Type 0
+IfDrive0 drive Does old new = ((drive ≢ 0) × DirectAnswers (plain DriveNotReady) old new) ⊎ ((drive ≡ 0) × Does old new)
+
+-- U2 AND B-W: 70 if the channel has no buffer, 74 if another drive is named, 66 if the medium has no such sector, 26 if the disk is
+-- protected; else the sector gets these bytes, if it is nobody's.
+abbrev pub IsWriteAsked : {M : Type 0} → (M → Seen) → Option (List ℕ) → Block → Direct M → Direct M → Type 0
+IsWriteAsked seen None block old new = DirectAnswers (plain NoChannel) old new
+IsWriteAsked seen (Some bytes) block old new =
+    IfDrive0 block.drive (IfHas (seen old.vouched.dos.medium).tracks (sector_asked block)
+    (UnlessProtected seen (Reports (sector_asked block) (WritesLoose seen (sector_asked block) bytes)))) old new
+
+-- what is told of a sector that is taken: 65 with the next one that is free, or with zeros
+abbrev pub next_status : Option Place → Status
+next_status None = plain NoBlock
+next_status (Some p) = at_sector NoBlock p
+
+-- A SECTOR IS CLAIMED: if the map doesn't read its fault is reported, if the sector is taken 65, else it is claimed if the disk is sound.
+abbrev pub WasAllocated : {M : Type 0} → (M → Seen) → Place → Direct M → Direct M → Type 0
+WasAllocated seen p old new =
+    let now = seen old.vouched.dos.medium in
+    ((t : Trouble) × IsHeadFault now.content t × DirectAnswers (trouble_status t) old new)
+    ⊎ ((IsOk (now.content directory_head) × (is_free_in (map_of now.content) p ≡ false)
+    × DirectAnswers (next_status (next_behind (is_free_in (map_of now.content)) (seen_tracks now) p)) old new)
+    ⊎ ((is_free_in (map_of now.content) p ≡ true) × Reports p (ClaimsAt seen p) old new))
+
+-- B-A: 74 if another drive is named, 66 if the disk has no such sector, 26 if it is protected; else the sector is claimed.
+abbrev pub IsAllocateAsked : {M : Type 0} → (M → Seen) → Sector → Direct M → Direct M → Type 0
+IsAllocateAsked seen sector old new =
+    IfDrive0 sector.drive (IfHas (seen_tracks (seen old.vouched.dos.medium)) (place_asked sector)
+    (UnlessProtected seen (WasAllocated seen (place_asked sector)))) old new
+
+-- B-F: the same, and the sector is given back, if it is nobody's.
+abbrev pub IsFreeAsked : {M : Type 0} → (M → Seen) → Sector → Direct M → Direct M → Type 0
+IsFreeAsked seen sector old new =
+    IfDrive0 sector.drive (IfHas (seen_tracks (seen old.vouched.dos.medium)) (place_asked sector)
+    (UnlessProtected seen (Reports (place_asked sector) (GivesAt seen (place_asked sector))))) old new
+
 -- B-P: 70 if the channel has no buffer, else its next byte is the one of this place
 abbrev pub IsSought : {M : Type 0} → ℕ → ℕ → Direct M → Direct M → Type 0
 IsSought ch place old new =
     ((has_buffer ch old.buffers ≡ false) × DirectAnswers (plain NoChannel) old new)
     ⊎ ((has_buffer ch old.buffers ≡ true) × TellsOnly (plain Fine) (on_buffer (at_place place) ch old.buffers) old.reply old new)
+
+-- THE DRIVE IS SWITCHED ON with this medium: no channel is open, and none has a buffer; it is known whether the disk is sound.
+pub record IsPoweredWith {M : Type 0} (seen : M → Seen) (medium : M) (d : Direct M) : Type 0 where
+  pub stands : StandsAtStart seen medium d.vouched.dos
+  pub inside : d.vouched.dos.medium ≡ medium
+  pub since : ShowsDisk (seen medium) → d.vouched.sound_since ≡ Some (seen medium).failures
+  pub buffers : d.buffers ≡ three_free
+  pub reply : d.reply ≡ None
+
+-- ANOTHER DISK WAS PUT IN: no channel is open, and none has a buffer; the status stays, and it is known whether that disk is sound.
+pub record HasTakenDisk {M : Type 0} (seen : M → Seen) (medium : M) (old new : Direct M) : Type 0 where
+  pub stands : StandsExchanged seen medium old.vouched.dos.told new.vouched.dos
+  pub inside : new.vouched.dos.medium ≡ medium
+  pub told : new.vouched.dos.told ≡ old.vouched.dos.told
+  pub since : ShowsDisk (seen medium) → new.vouched.sound_since ≡ Some (seen medium).failures
+  pub buffers : new.buffers ≡ three_free
+  pub reply : new.reply ≡ None
 
 -- The drive has started again: its medium stays, no channel is open, and none has a buffer.
 pub record HasStarted {M : Type 0} (seen : M → Seen) (old new : Direct M) : Type 0 where
@@ -77,6 +174,10 @@ pub record HasStarted {M : Type 0} (seen : M → Seen) (old new : Direct M) : Ty
 abbrev pub IsAskedDone : {M : Type 0} → (M → Seen) → Asked → Direct M → Direct M → Type 0
 IsAskedDone seen (Read block) old new = IsReadAsked seen with_sector_read block old new
 IsAskedDone seen (ReadCounted block) old new = IsReadAsked seen with_counted_block block old new
+IsAskedDone seen (Write block) old new = IsWriteAsked seen (bytes_of_channel bytes_as_they_are block.channel old.buffers) block old new
+IsAskedDone seen (WriteCounted block) old new = IsWriteAsked seen (bytes_of_channel bytes_counted block.channel old.buffers) block old new
+IsAskedDone seen (Allocate sector) old new = IsAllocateAsked seen sector old new
+IsAskedDone seen (Free sector) old new = IsFreeAsked seen sector old new
 IsAskedDone seen (Seek ch place) old new = IsSought ch place old new
 IsAskedDone seen (Memory address count) old new = TellsOnly (plain Fine) old.buffers (Some (record { address = address; left = count })) old new
 IsAskedDone seen Restart old new = HasStarted seen old new

@@ -1,5 +1,6 @@
 pub mod Buffered
 pub mod Asking
 pub mod Memories
+pub mod NextFree
 pub mod Vouching
 pub mod Directs

@@ -6,7 +6,9 @@ use Rattle.cbm_medium.specs.declared.fault.Trouble.{Trouble}
 use Rattle.cbm_file.specs.Files.{Disk}
 use Rattle.cbm_volume.specs.Holding.{HoldsDisk}
 use Rattle.cbm_machine.specs.Machines.{Machine, start}
+use Rattle.cbm_machine.specs.Told.{ToldStatus}
 use Rattle.cbm_machine.specs.declared.status.Status.{Status}
+use Rattle.cbm_channel.specs.Exchanged.{still_telling}
 use Rattle.cbm_channel.specs.Standing.{Kept, Stands}
 
 -- What the DOS keeps; and how often the medium had failed when it was put in with a sound disk, none if its disk wasn't sound.
@@ -54,6 +56,11 @@ pub record OnlyStatus {M : Type 0} (status : Status) (old new : Kept M) : Type 0
   pub medium : new.medium ≡ old.medium
   pub channels : new.channels ≡ old.channels
   pub told : new.told ≡ (record { status = status; told = 0 })
+
+-- Given a sound disk, the drive represents the machine that is switched on with it, but that tells what was told before.
+abbrev pub StandsExchanged : {M : Type 0} → (M → Seen) → M → ToldStatus → Kept M → Type 0
+StandsExchanged seen medium told k =
+    (d : Disk) → HoldsDisk (seen medium).tracks (seen medium).content d → Stands seen k (still_telling told (start d (seen medium).protected (seen medium).tracks))
 
 -- With a sound disk the drive represents the machine that is switched on with it.
 abbrev pub StandsAtStart : {M : Type 0} → (M → Seen) → M → Kept M → Type 0

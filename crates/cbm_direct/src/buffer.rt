@@ -39,7 +39,7 @@ impl Model for Buffer {
 
 impl Buffer {
     ghost use Rattle.std.specs.Prelude.{◌≡◌, ◌<◌, ◌≤◌};
-    ghost use Rattle.cbm_direct.specs.Buffered.{free_buffer, has_it, with_channel_open, given_back, with_sector_read, with_counted_block, at_place, pointer_on, with_byte_put, next_in};
+    ghost use Rattle.cbm_direct.specs.Buffered.{free_buffer, has_it, with_channel_open, given_back, with_sector_read, with_counted_block, at_place, pointer_on, with_byte_put, next_in, bytes_as_they_are, bytes_counted};
 
     /// A buffer at power up: zeros that no channel has.
     pub fn free() -> Buffer
@@ -132,6 +132,22 @@ impl Buffer {
     {
         self.bytes[self.pointer as usize] = byte;
         self.pointer = self.pointer.wrapping_add(1);
+    }
+
+    /// Its bytes.
+    pub fn bytes(&self) -> [u8; 256]
+        ensures { result ≡ bytes_as_they_are self.now }
+    {
+        self.bytes
+    }
+
+    /// Its bytes, of which byte 0 says the place of the byte before the next one.
+    pub fn counted(&self) -> [u8; 256]
+        ensures { result ≡ bytes_counted self.now }
+    {
+        let mut bytes = self.bytes;
+        bytes[0] = self.pointer.wrapping_add(255);
+        bytes
     }
 
     /// The next byte, and whether EOI comes with it.

@@ -19,7 +19,7 @@ impl Model for Buffers {
 
 impl Buffers {
     ghost use Rattle.std.specs.Prelude.{◌≡◌, ◌<◌, ◌≤◌, true, false, IfSome, MatchOption, MatchBool, None, Some};
-    ghost use Rattle.cbm_direct.specs.Buffered.{three_free, has_buffer, on_buffer, shown_in, taken_count, with_any_for, with_number_for, given_back, with_sector_read, with_counted_block, at_place, pointer_on, with_byte_put};
+    ghost use Rattle.cbm_direct.specs.Buffered.{three_free, has_buffer, on_buffer, shown_in, bytes_of_channel, bytes_as_they_are, bytes_counted, taken_count, with_any_for, with_number_for, given_back, with_sector_read, with_counted_block, at_place, pointer_on, with_byte_put};
 
     /// Three buffers at power up.
     pub fn free() -> Buffers
@@ -166,6 +166,38 @@ impl Buffers {
         } else if self.third.is_on(channel) {
             self.third.put(byte);
         }
+    }
+
+    /// The bytes of the channel's buffer; None if it has none.
+    pub fn bytes(&self, channel: u8) -> Option<[u8; 256]>
+        ensures { result ≡ bytes_of_channel bytes_as_they_are channel self.now }
+    {
+        if self.first.is_on(channel) {
+            return Some(self.first.bytes());
+        }
+        if self.second.is_on(channel) {
+            return Some(self.second.bytes());
+        }
+        if self.third.is_on(channel) {
+            return Some(self.third.bytes());
+        }
+        None
+    }
+
+    /// The same, of which byte 0 says the place of the byte before the next one.
+    pub fn counted(&self, channel: u8) -> Option<[u8; 256]>
+        ensures { result ≡ bytes_of_channel bytes_counted channel self.now }
+    {
+        if self.first.is_on(channel) {
+            return Some(self.first.counted());
+        }
+        if self.second.is_on(channel) {
+            return Some(self.second.counted());
+        }
+        if self.third.is_on(channel) {
+            return Some(self.third.counted());
+        }
+        None
     }
 
     /// The next byte of the channel's buffer, and whether EOI comes with it; None if it has none.

@@ -8,8 +8,10 @@ use cbm_medium::Medium;
 use std::marker::Model;
 
 mod carrying;
+mod claiming;
 mod opening;
 mod sending;
+mod writing;
 
 /// A drive's DOS with direct access: channels may have one of three buffers, and its commands read sectors into them.
 ///
@@ -33,7 +35,7 @@ impl<M: Medium> DirectDos<M> {
     ghost use Rattle.std.specs.Prelude.{◌≡◌, None, Some};
     ghost use Rattle.cbm_machine.specs.Statuses.{plain};
     ghost use Rattle.cbm_direct.specs.Buffered.{three_free};
-    ghost use Rattle.cbm_direct.specs.Vouching.{ShowsDisk, IsSoundSince, KeepsVouch, StandsAtStart};
+    ghost use Rattle.cbm_direct.specs.Vouching.{ShowsDisk, IsSoundSince, KeepsVouch, StandsAtStart, StandsExchanged};
     ghost use Rattle.cbm_direct.specs.Directs.{DirectAnswers, HasStarted};
 
     /// The drive at power up with this medium: no channel is open. It looks whether the disk is sound.
@@ -68,6 +70,7 @@ impl<M: Medium> DirectDos<M> {
         M: Drop,
         ensures medium { self.new.vouched.dos.medium ≡ medium }
         ensures told { self.new.vouched.dos.told ≡ self.old.vouched.dos.told }
+        ensures stands { StandsExchanged M.seen medium self.old.vouched.dos.told self.new.vouched.dos }
         ensures sound { ShowsDisk (M.seen medium) → self.new.vouched.sound_since ≡ Some (M.seen medium).failures }
         ensures buffers { self.new.buffers ≡ three_free }
         ensures reply { self.new.reply ≡ None }
@@ -82,6 +85,14 @@ impl<M: Medium> DirectDos<M> {
         ensures { result.now ≡ self.now.vouched.dos.medium }
     {
         self.vouched.medium()
+    }
+
+    /// The same, of which it is known that it has a sound disk, if it did when it was put in, and didn't fail by itself since.
+    pub fn vouched_medium(&self) -> &M
+        ensures medium { result.now ≡ self.now.vouched.dos.medium }
+        ensures sound { IsSoundSince self.now.vouched.sound_since (M.seen result.now) }
+    {
+        self.vouched.vouched_medium()
     }
 
     /// The medium as it is now: it has a sound disk if it did when it was put in, and didn't fail by itself since.

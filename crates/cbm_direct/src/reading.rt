@@ -1,10 +1,10 @@
 //! Reading the text of a command of direct access.
 ghost use Rattle.std.specs.Prelude.{◌≡◌, option_map};
 ghost use Rattle.cbm_machine.specs.Calls.{without_return};
-ghost use Rattle.cbm_direct.specs.Asking.{behind_byte, behind_number, first_number, numbers_of, block_in, on_block, place_from, start_asked, user_asked, block_asked, memory_read, memory_asked, asked_in, command_asked};
-ghost use Rattle.cbm_direct.specs.declared.asked.Asked.TheVariants.{Read, ReadCounted};
+ghost use Rattle.cbm_direct.specs.Asking.{behind_byte, behind_number, first_number, numbers_of, block_in, on_block, sector_in, on_sector, place_from, start_asked, user_asked, block_asked, memory_read, memory_asked, asked_in, command_asked};
+ghost use Rattle.cbm_direct.specs.declared.asked.Asked.TheVariants.{Read, ReadCounted, Write, WriteCounted, Allocate, Free};
 
-use crate::asked::{Asked, Block};
+use crate::asked::{Asked, Block, Sector};
 use crate::numbers::{behind_number, first_number};
 
 /// The text behind the first such byte.
@@ -55,6 +55,25 @@ fn block_in(text: &[u8]) -> Option<Block>
     }
 }
 
+/// The three numbers of a command on a sector without a channel.
+fn sector_in(text: &[u8]) -> Option<Sector>
+    ensures { result ≡ sector_in text.now }
+{
+    let second = behind_number(text);
+    match (
+        first_number(text),
+        first_number(second),
+        first_number(behind_number(second)),
+    ) {
+        (Some(drive), Some(track), Some(sector)) => Some(Sector {
+            drive,
+            track,
+            sector,
+        }),
+        _ => None,
+    }
+}
+
 /// U1 or UA: the sector that is to be read.
 fn read_asked(text: &[u8]) -> Asked
     ensures { result ≡ on_block Read (block_in text.now) }
@@ -72,6 +91,46 @@ fn counted_asked(text: &[u8]) -> Asked
     match block_in(text) {
         None => Asked::Unread,
         Some(block) => Asked::ReadCounted(block),
+    }
+}
+
+/// U2 or UB: the sector that is to be written.
+fn write_asked(text: &[u8]) -> Asked
+    ensures { result ≡ on_block Write (block_in text.now) }
+{
+    match block_in(text) {
+        None => Asked::Unread,
+        Some(block) => Asked::Write(block),
+    }
+}
+
+/// B-W: the same.
+fn counted_write_asked(text: &[u8]) -> Asked
+    ensures { result ≡ on_block WriteCounted (block_in text.now) }
+{
+    match block_in(text) {
+        None => Asked::Unread,
+        Some(block) => Asked::WriteCounted(block),
+    }
+}
+
+/// B-A: the sector that is to be claimed.
+fn allocate_asked(text: &[u8]) -> Asked
+    ensures { result ≡ on_sector Allocate (sector_in text.now) }
+{
+    match sector_in(text) {
+        None => Asked::Unread,
+        Some(sector) => Asked::Allocate(sector),
+    }
+}
+
+/// B-F: the sector that is to be given back.
+fn free_asked(text: &[u8]) -> Asked
+    ensures { result ≡ on_sector Free (sector_in text.now) }
+{
+    match sector_in(text) {
+        None => Asked::Unread,
+        Some(sector) => Asked::Free(sector),
     }
 }
 
@@ -101,6 +160,7 @@ fn user_asked(letter: u8, text: &[u8]) -> Option<Asked>
 {
     match letter {
         b'1' | b'A' => Some(read_asked(numbers_of(1, text))),
+        b'2' | b'B' => Some(write_asked(numbers_of(1, text))),
         b'J' | b':' => Some(Asked::Restart),
         b'I' | b'9' => Some(start_asked(text)),
         _ => None,
@@ -113,6 +173,9 @@ fn block_asked(text: &[u8], behind_dash: &[u8]) -> Option<Asked>
 {
     match behind_dash.first() {
         Some(b'R') => Some(counted_asked(numbers_of(2, text))),
+        Some(b'W') => Some(counted_write_asked(numbers_of(2, text))),
+        Some(b'A') => Some(allocate_asked(numbers_of(2, text))),
+        Some(b'F') => Some(free_asked(numbers_of(2, text))),
         Some(b'P') => Some(seek_asked(numbers_of(2, text))),
         _ => None,
     }

@@ -8,6 +8,7 @@ use cbm_volume::Volume;
 use std::marker::Model;
 
 mod calls;
+mod sectors;
 
 /// How often the medium has failed by itself, if its disk is sound; None if it isn't.
 fn sound_since<M: Medium>(volume: &Volume<M>) -> Option<u64>
@@ -44,7 +45,7 @@ impl<M: Medium> Vouched<M> {
     ghost use Rattle.cbm_machine.specs.Calls.{text_for};
     ghost use Rattle.cbm_channel.specs.Shown.{cost_on};
     ghost use Rattle.cbm_channel.specs.Shown.{shown_by};
-    ghost use Rattle.cbm_direct.specs.Vouching.{ShowsDisk, IsSoundSince, KeepsVouch, StandsAtStart};
+    ghost use Rattle.cbm_direct.specs.Vouching.{ShowsDisk, IsSoundSince, KeepsVouch, StandsAtStart, StandsExchanged};
 
     /// The drive at power up with this medium. It looks whether the disk is sound.
     pub fn new(medium: M) -> Vouched<M>
@@ -76,6 +77,7 @@ impl<M: Medium> Vouched<M> {
         M: Drop,
         ensures medium { self.new.dos.medium ≡ medium }
         ensures told { self.new.dos.told ≡ self.old.dos.told }
+        ensures stands { StandsExchanged M.seen medium self.old.dos.told self.new.dos }
         ensures sound { ShowsDisk (M.seen medium) → self.new.sound_since ≡ Some (M.seen medium).failures }
     {
         let volume = Volume::open(medium);
@@ -87,6 +89,14 @@ impl<M: Medium> Vouched<M> {
     /// The medium, to look at.
     pub fn medium(&self) -> &M
         ensures { result.now ≡ self.now.dos.medium }
+    {
+        self.dos.medium()
+    }
+
+    /// The same, of which it is known that it has a sound disk, if it did when it was put in, and didn't fail by itself since.
+    pub fn vouched_medium(&self) -> &M
+        ensures medium { result.now ≡ self.now.dos.medium }
+        ensures sound { IsSoundSince self.now.sound_since (M.seen result.now) }
     {
         self.dos.medium()
     }

@@ -2,9 +2,8 @@
 use Rattle.std.specs.Prelude.{ℕ, ◌≡◌, ◌≤◌, Bool, false, Option, Some, None}
 use Rattle.std.proofs.Common.{subst}
 use Rattle.cbm_medium.specs.Seen.{Seen}
-use Rattle.cbm_direct.specs.Directs.{Direct, HasStarted, direct_shown}
+use Rattle.cbm_direct.specs.Directs.{Direct, HasStarted, HasTakenDisk, direct_shown}
 use Rattle.cbm_drive.specs.Addressing.{Addressed, channel_said, paced, unaddressed}
-use Rattle.cbm_direct.specs.Vouching.{ShowsDisk}
 
 -- the drive, and how it is addressed
 pub record DirectAddressed (M : Type 0) : Type 0 where
@@ -39,9 +38,7 @@ pub record IsStartedAgain {M : Type 0} (seen : M → Seen) (old new : DirectAddr
   pub dos : HasStarted seen old.dos new.dos
   pub addressed : new.addressed ≡ paced old.addressed.pace (unaddressed old.addressed.device)
 
--- It was given another disk: who is addressed and the status stay.
+-- It was given another disk: who is addressed stays.
 pub record IsGivenDisk {M : Type 0} (seen : M → Seen) (medium : M) (old new : DirectAddressed M) : Type 0 where
-  pub given : new.dos.vouched.dos.medium ≡ medium
-  pub sound : ShowsDisk (seen medium) → new.dos.vouched.sound_since ≡ Some (seen medium).failures
-  pub told : new.dos.vouched.dos.told ≡ old.dos.vouched.dos.told
+  pub taken : HasTakenDisk seen medium old.dos new.dos
   pub addressed : new.addressed ≡ old.addressed

@@ -25,12 +25,14 @@ impl<M: Medium> DirectDesk<M> {
     ghost use Rattle.std.specs.Prelude.{◌≡◌, ◌<◌, Some};
     ghost use Rattle.cbm_drive.specs.Addressing.{unaddressed, paced};
     ghost use Rattle.cbm_direct.specs.Vouching.{ShowsDisk, IsSoundSince};
+    ghost use Rattle.cbm_direct.specs.Directs.{IsPoweredWith};
 
     /// As the drive is switched on with this medium, and a device number below 31. It looks whether the disk is sound.
     pub fn at_power_up(medium: M, device: u8) -> DirectDesk<M>
         requires { device < 31 }
         ensures medium { result.dos.vouched.dos.medium ≡ medium }
         ensures sound { ShowsDisk (M.seen medium) → result.dos.vouched.sound_since ≡ Some (M.seen medium).failures }
+        ensures powered { IsPoweredWith M.seen medium result.dos }
         ensures addressed { result.addressed ≡ unaddressed device }
     {
         DirectDesk {

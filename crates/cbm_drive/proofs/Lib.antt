@@ -18,3 +18,4 @@ pub mod Desks
 pub mod Handed
 pub mod Alone
 pub mod Halves
+pub mod SavedAgain

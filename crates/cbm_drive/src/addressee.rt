@@ -3,6 +3,7 @@ ghost use Rattle.std.specs.Prelude.{◌≡◌, ◌≤◌, ◌<◌, ◌++◌, ◌
 ghost use Rattle.cbm_drive.specs.Addressing.{unaddressed, paced, called, role_turned, given, attended, waiting, atn_released, name_heard, channel_ended, ended_channel, channel_heard, channel_said};
 
 pub(crate) mod ended;
+mod saving;
 
 use self::ended::Ended;
 use crate::secondary::Secondary;

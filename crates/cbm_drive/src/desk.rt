@@ -1,5 +1,7 @@
 //! The drive's DOS on the bus.
 
+mod saving;
+
 use crate::addressee::Addressee;
 use crate::addressee::ended::Ended;
 use crate::calls::{close, end_put, open, put};

@@ -3,7 +3,7 @@ pub use Rattle.cbm_talk.proofs.Spoken.{says_from}
 use Rattle.std.proofs.Common.{◌≡◌, ℕ, zero, suc, ◌+◌, ◌-◌, ◌≤◌, List, [], ◌∷◌, ◌++◌, length, drop, ap, sym, ◌∙◌, arith, length-drop, drop-drop, true, if◌then◌else◌}
 use Rattle.std.specs.Prelude.{nat_lt}
 use Rattle.cbm_channel.specs.declared.Code.{Code}
-use Rattle.cbm_channel.specs.declared.Code.TheVariants.{Fine, FilesScratched, NoHeader, NoSync, NoData, DataChecksum, DataCode, WriteFailed, WriteProtected, HeaderChecksum, LongData, WrongId, Syntax, UnknownCommand, LongText, WildName, NoName, NoRecord, RecordOverflow, FileTooLarge, WriteFileOpen, FileNotOpen, FileNotFound, FileExists, WrongType, WrongLink, NoChannel, EndlessChain, DiskFull, PowerUp, DriveNotReady}
+use Rattle.cbm_channel.specs.declared.Code.TheVariants.{Fine, FilesScratched, NoHeader, NoSync, NoData, DataChecksum, DataCode, WriteFailed, WriteProtected, HeaderChecksum, LongData, WrongId, Syntax, UnknownCommand, LongText, WildName, NoName, NoRecord, RecordOverflow, FileTooLarge, WriteFileOpen, FileNotOpen, FileNotFound, FileExists, WrongType, NoBlock, WrongLink, NoChannel, EndlessChain, DiskFull, PowerUp, DriveNotReady}
 use Rattle.cbm_channel.specs.declared.Status.{Status}
 use Rattle.cbm_machine.specs.Codes.{code_text}
 use Rattle.cbm_machine.specs.Statuses.{status_line}
@@ -39,6 +39,7 @@ text_short FileNotOpen = omega arith
 text_short FileNotFound = omega arith
 text_short FileExists = omega arith
 text_short WrongType = omega arith
+text_short NoBlock = omega arith
 text_short WrongLink = omega arith
 text_short NoChannel = omega arith
 text_short EndlessChain = omega arith

@@ -2,6 +2,8 @@ ghost use Rattle.std.specs.Prelude.{◌≡◌, ◌+◌, ◌≤◌, ◌++◌, ◌
 ghost use Rattle.cbm_listing.specs.Lines.{title_line, entry_line, last_line};
 ghost use Rattle.cbm_listing.specs.Listed.{ListedBytes, with_listing_line, with_next_taken};
 
+mod resuming;
+
 use crate::entry::Entry;
 use crate::line::{self, Line};
 use arrayvec::ArrayVec;

@@ -3,7 +3,7 @@ use Rattle.std.specs.Prelude.{ℕ, ◌≡◌, ◌==◌, List, codes, if◌then�
 use Rattle.cbm_command.specs.declared.refusal.Refusal.{Refusal}
 use Rattle.cbm_command.specs.declared.refusal.Refusal.TheVariants as refusal
 use Rattle.cbm_machine.specs.declared.code.Code.{Code}
-use Rattle.cbm_machine.specs.declared.code.Code.TheVariants.{Fine, FilesScratched, NoHeader, NoSync, NoData, DataChecksum, DataCode, WriteFailed, WriteProtected, HeaderChecksum, LongData, WrongId, Syntax, UnknownCommand, LongText, WildName, NoName, NoRecord, RecordOverflow, FileTooLarge, WriteFileOpen, FileNotOpen, FileNotFound, FileExists, WrongType, WrongLink, NoChannel, EndlessChain, DiskFull, PowerUp, DriveNotReady}
+use Rattle.cbm_machine.specs.declared.code.Code.TheVariants.{Fine, FilesScratched, NoHeader, NoSync, NoData, DataChecksum, DataCode, WriteFailed, WriteProtected, HeaderChecksum, LongData, WrongId, Syntax, UnknownCommand, LongText, WildName, NoName, NoRecord, RecordOverflow, FileTooLarge, WriteFileOpen, FileNotOpen, FileNotFound, FileExists, WrongType, NoBlock, WrongLink, NoChannel, EndlessChain, DiskFull, PowerUp, DriveNotReady}
 
 -- the number of a code
 abbrev pub code_number : Code → ℕ
@@ -32,6 +32,7 @@ code_number FileNotOpen = 61
 code_number FileNotFound = 62
 code_number FileExists = 63
 code_number WrongType = 64
+code_number NoBlock = 65
 code_number WrongLink = 66
 code_number NoChannel = 70
 code_number EndlessChain = 71
@@ -66,6 +67,7 @@ code_text FileNotOpen = codes "FILE NOT OPEN"
 code_text FileNotFound = codes "FILE NOT FOUND"
 code_text FileExists = codes "FILE EXISTS"
 code_text WrongType = codes "FILE TYPE MISMATCH"
+code_text NoBlock = codes "NO BLOCK"
 code_text WrongLink = codes "ILLEGAL TRACK OR SECTOR"
 code_text NoChannel = codes "NO CHANNEL"
 code_text EndlessChain = codes "DIR ERROR"

@@ -11,3 +11,4 @@ pub mod Running
 pub mod Calls
 pub mod Told
 pub mod Orderly
+pub mod Numbered

@@ -1,5 +1,6 @@
 ghost use Rattle.std.specs.Prelude.{◌≡◌, ◌≤◌, length};
 ghost use Rattle.cbm_machine.specs.Codes.{code_number, code_text, code_of_refusal, code_of_fault, refusal_gives};
+ghost use Rattle.cbm_machine.specs.Numbered.{code_with};
 
 use cbm_command::Refusal;
 
@@ -56,6 +57,8 @@ pub enum Code {
     FileExists,
     /// 64: the file has another type.
     WrongType,
+    /// 65: the block is taken; the numbers are the next one that is free.
+    NoBlock,
     /// 66: a link to no sector of the disk.
     WrongLink,
     /// 70: no channel is free, or the one that is meant isn't open.
@@ -101,6 +104,7 @@ impl Code {
             Code::FileNotFound => 62,
             Code::FileExists => 63,
             Code::WrongType => 64,
+            Code::NoBlock => 65,
             Code::WrongLink => 66,
             Code::NoChannel => 70,
             Code::EndlessChain => 71,
@@ -132,6 +136,47 @@ impl Code {
         }
     }
 
+    /// The code that has this number; None if no code has it.
+    pub fn of_number(number: u8) -> Option<Code>
+        ensures { result ≡ code_with number }
+    {
+        match number {
+            0 => Some(Code::Fine),
+            1 => Some(Code::FilesScratched),
+            20 => Some(Code::NoHeader),
+            21 => Some(Code::NoSync),
+            22 => Some(Code::NoData),
+            23 => Some(Code::DataChecksum),
+            24 => Some(Code::DataCode),
+            25 => Some(Code::WriteFailed),
+            26 => Some(Code::WriteProtected),
+            27 => Some(Code::HeaderChecksum),
+            28 => Some(Code::LongData),
+            29 => Some(Code::WrongId),
+            30 => Some(Code::Syntax),
+            31 => Some(Code::UnknownCommand),
+            32 => Some(Code::LongText),
+            33 => Some(Code::WildName),
+            34 => Some(Code::NoName),
+            50 => Some(Code::NoRecord),
+            51 => Some(Code::RecordOverflow),
+            52 => Some(Code::FileTooLarge),
+            60 => Some(Code::WriteFileOpen),
+            61 => Some(Code::FileNotOpen),
+            62 => Some(Code::FileNotFound),
+            63 => Some(Code::FileExists),
+            64 => Some(Code::WrongType),
+            65 => Some(Code::NoBlock),
+            66 => Some(Code::WrongLink),
+            70 => Some(Code::NoChannel),
+            71 => Some(Code::EndlessChain),
+            72 => Some(Code::DiskFull),
+            73 => Some(Code::PowerUp),
+            74 => Some(Code::DriveNotReady),
+            _ => None,
+        }
+    }
+
     /// The text of the status line, at most 23 bytes.
     pub fn text(self) -> &'static [u8]
         ensures value { result.now ≡ code_text self }
@@ -159,6 +204,7 @@ impl Code {
             Code::FileNotFound => b"FILE NOT FOUND",
             Code::FileExists => b"FILE EXISTS",
             Code::WrongType => b"FILE TYPE MISMATCH",
+            Code::NoBlock => b"NO BLOCK",
             Code::WrongLink => b"ILLEGAL TRACK OR SECTOR",
             Code::NoChannel => b"NO CHANNEL",
             Code::EndlessChain => b"DIR ERROR",

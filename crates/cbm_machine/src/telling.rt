@@ -3,6 +3,8 @@ ghost use Rattle.cbm_machine.specs.Told.{next_told, after_the_next, told_by, is_
 ghost use Rattle.cbm_machine.specs.Machines.{Machine};
 ghost use Rattle.cbm_machine.specs.Talking.{peek, taken};
 
+mod resuming;
+
 use crate::code::Code;
 use crate::status::{Status, StatusLine};
 use std::marker::Model;

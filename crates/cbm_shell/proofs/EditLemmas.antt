@@ -1,6 +1,6 @@
 -- Why a disk isn't changed where no command of the drive changes it: of a sound disk that can be written, no trouble comes.
 use Rattle.std.proofs.Common.{◌≡◌, ℕ, ◌*◌, ◌<◌, List, length, false, Result, Some, Ok, Err, sym, ap, subst, ◌∙◌, arith, inl, inr}
-use Rattle.std.specs.Prelude.{IfErr, IfOk}
+use Rattle.std.specs.Prelude.{IfErr, IfOk, ◌⊎◌}
 use Rattle.cbm_medium.specs.Place.{Place}
 use Rattle.cbm_medium.specs.Content.{Content}
 use Rattle.cbm_medium.specs.Seen.{Seen}
@@ -14,6 +14,7 @@ use Rattle.cbm_directory.specs.Slots.{Listed, Answers, directory_of}
 use Rattle.cbm_volume.specs.Layouts.{Layout, slot_count, Sound}
 use Rattle.cbm_volume.specs.Holding.{HoldsDisk}
 use Rattle.cbm_volume.specs.Opens.{IsHindered}
+use Rattle.cbm_volume.specs.Unmendable.{IsUnmendable, IsUnmended}
 use Rattle.cbm_volume.proofs.layouts.Listing.{directory_listed, entry_found}
 use Rattle.cbm_volume.proofs.layouts.Refusals.{sector_hindered, sector_reads}
 use Rattle.cbm_volume.proofs.written.Storing.{geometry_elsewhere}
@@ -32,6 +33,11 @@ use Rattle.cbm_shell.proofs.EntryLemmas.{StaysSound}
 pub hindered_never : (old new : Seen) (t : Trouble) → old.protected ≡ false → old.failures ≡ 0 → new.failures ≡ 0 → IsHindered old new t → ⊥
 hindered_never old new t free a b (inl k) = let z = sym free ∙ k.0 in (cc)
 hindered_never old new t free a b (inr k) = omega arith
+
+-- so what VALIDATE refuses there can't be mended
+pub unmended : (old new : Seen) (t : Trouble) → old.protected ≡ false → old.failures ≡ 0 → new.failures ≡ 0 → IsUnmended old new t ⊎ IsHindered old new t → IsUnmendable (geometry_of old.tracks old.content) old.content t
+unmended old new t free a b (inl h) = h.0
+unmended old new t free a b (inr h) = absurd (hindered_never old new t free a b h)
 
 -- the directory doesn't break off
 pub whole_directory : (tracks : ℕ) (c : Content) (l : Layout) (t : Trouble) → Sound tracks c l → (directory_of tracks c).trouble ≡ Some t → ⊥

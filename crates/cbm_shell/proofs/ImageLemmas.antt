@@ -59,6 +59,11 @@ pub or_open_fault : {A : Type 0} (image : List ℕ) (r : Result A ShellFault) (P
 or_open_fault image (Ok v) P Q never h = h
 or_open_fault image (Err f) P Q never h = as_other_fault image Q f never h
 
+-- want of memory is a fault of opening
+pub memory_open : {A : Type 0} (image : List ℕ) (r : Result A ShellFault) → IfErr r (λ f. f ≡ fault.Memory) → IfErr r (IsOpenFault image)
+memory_open image (Ok v) h = tt
+memory_open image (Err f) h = subst (λ g. IsOpenFault image g) (sym h) tt
+
 -- the disk is saved, or memory for its image is refused
 pub saved_image : {A : Type 0} (image : List ℕ) (items : A → List ℕ) (kind other : Kind) (seen : Seen) (d : Disk) (Fine : Type 0) (P : ShellFault → Type 0) (r : Result A ShellFault) → other ≡ kind
     → IfOk r (λ v. IsSaved kind (items v) seen) → IfErr r (λ f. f ≡ fault.Memory) → Fine → HoldsDisk seen.tracks seen.content d

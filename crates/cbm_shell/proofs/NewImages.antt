@@ -1,5 +1,5 @@
 -- Images of new disks: they have no fault, and their first bytes tell their format.
-use Rattle.std.proofs.Common.{◌≡◌, ℕ, ◌≤◌, List, [], ◌∷◌, length, take, refl, sym, ap, subst, ◌∙◌, arith, Bool, true, false, Ok, Err, Option, Some, None, replicate}
+use Rattle.std.proofs.Common.{◌≡◌, ℕ, ◌≤◌, List, [], ◌∷◌, length, take, refl, sym, ap, subst, ◌∙◌, arith, Bool, true, false, Ok, Err, Option, Some, None, replicate, inl, inr}
 use Rattle.std.specs.Prelude.{◌==◌, codes, if◌then◌else◌}
 use Rattle.std.specs.Str.{bytes_eq}
 use Rattle.std.proofs.lemmas.Bool.{and_parts, eqb-true}
@@ -12,7 +12,9 @@ use Rattle.cbm_d64.specs.Image as sectors
 use Rattle.cbm_g64.specs.File.{has_signature, g64_fault, g64_circles as tracks_in_file}
 use Rattle.cbm_g64.specs.Numbers.{g64_fault_number}
 use Rattle.cbm_g64.specs.Tracks as circles
+use Rattle.cbm_medium.specs.Seen.{Seen}
 use Rattle.cbm_volume.specs.Holding.{HoldsDisk}
+use Rattle.cbm_volume.specs.NewDisks.{OnlyNew}
 use Rattle.cbm_g64.proofs.Sound.{passes}
 use Rattle.cbm_image.specs.declared.kind.Kind.{Kind}
 use Rattle.cbm_image.specs.declared.kind.Kind.TheVariants.{D64, G64}
@@ -91,6 +93,15 @@ blank_if (Err e) items form n kind size plain tracks h = tt
 
 -- ---- after NEW
 
+-- an id that the headers keep is the one given
+given_id : (o : Option (List ℕ)) (id x : List ℕ) → option_map (λ (_ : List ℕ). id) o ≡ Some x → x ≡ id
+given_id None id x e = absurd (cc)
+given_id (Some y) id x e = cc
+
+pub new_id : (id : List ℕ) (old new : Seen) (u : Unit {0}) → OnlyNew (Ok u) (Some id) old new → (x : List ℕ) → new.id ≡ Some x → x ≡ id
+new_id id old new u (inl h) x e = given_id old.id id x (sym h.id ∙ e)
+new_id id old new u (inr (err, h)) x e = absurd (cc)
+
 -- the image of a D64 that shows an empty disk
 pub new_sectors : (form : Form) (title id image : List ℕ) (disk : sectors.Image) → kind_in form ≡ D64 → IsImageSize (length disk.bytes) → image ≡ disk.bytes
     → IsEmpty (tracks_of_form form) title id (sectors.d64_seen disk) → IsNew form title id image
@@ -100,6 +111,7 @@ new_sectors form title id image disk kind size same e = record {
   holds = subst (λ (k : Kind). ImageHolds k image (empty_disk (tracks_of_form form) title id)) (sym kind)
       (subst (λ (xs : List ℕ). ImageHolds D64 xs (empty_disk (tracks_of_form form) title id)) (sym same)
       (subst (λ (n : ℕ). HoldsDisk n (d64_content disk.bytes) (empty_disk (tracks_of_form form) title id)) (sym e.same_tracks) e.holds));
+  headers = λ circles. (let never : D64 ≡ G64 = sym kind ∙ circles in absurd (cc));
 }
 
 -- the image of a G64 that shows one
@@ -111,4 +123,5 @@ new_circles form title id image disk kind again e = record {
   holds = subst (λ (k : Kind). ImageHolds k image (empty_disk (tracks_of_form form) title id)) (sym kind)
       (subst (λ (ts : List (List Bool)). HoldsDisk 35 (circles.g64_content ts) (empty_disk (tracks_of_form form) title id)) (sym again.1)
       (subst (λ (n : ℕ). HoldsDisk n (circles.g64_content disk.tracks) (empty_disk (tracks_of_form form) title id)) (sym e.same_tracks) e.holds));
+  headers = λ _. ap circles.id_for again.1 ∙ e.headers (circles.id_for disk.tracks) refl;
 }

@@ -1,5 +1,5 @@
 -- An image of the other format, and what it doesn't hold of the one that it was made from.
-use Rattle.std.specs.Prelude.{ℕ, ◌≡◌, ◌≢◌, ◌↔◌, ◌⊎◌, IsTrue, ◌+◌, ◌*◌, ◌%◌, ◌==◌, ◌&&◌, ◌||◌, nat_lt, not, Bool, false, List, [], ◌∷◌, length, take, codes, slice_index, slice_range, Ok, Err}
+use Rattle.std.specs.Prelude.{ℕ, ◌≡◌, ◌≢◌, ◌↔◌, ◌⊎◌, IsTrue, ◌+◌, ◌*◌, ◌%◌, ◌==◌, ◌&&◌, ◌||◌, nat_lt, not, Bool, false, List, [], ◌∷◌, length, take, codes, slice_index, slice_range, None, Ok, Err}
 use Rattle.cbm_medium.specs.Place.{Place, Has, directory_head}
 use Rattle.cbm_medium.specs.Content.{Cell, Content}
 use Rattle.cbm_medium.specs.declared.fault.Fault.{Fault}
@@ -8,7 +8,7 @@ use Rattle.cbm_g64.specs.File.{g64_circles}
 use Rattle.cbm_g64.specs.Tracks.{G64State, or_zeros, id_for}
 use Rattle.cbm_image.specs.declared.kind.Kind.{Kind}
 use Rattle.cbm_image.specs.declared.kind.Kind.TheVariants.{D64, G64}
-use Rattle.cbm_image.specs.Images.{kind_of, content_of}
+use Rattle.cbm_image.specs.Images.{kind_of, content_of, image_fault, tracks_of}
 use Rattle.cbm_shell.specs.declared.fault.ShellFault.{ShellFault}
 use Rattle.cbm_shell.specs.declared.fault.ShellFault.TheVariants as fault
 use Rattle.cbm_shell.specs.Images.{IsOpenFault}
@@ -32,9 +32,13 @@ told_id content = id_of_cell (content directory_head)
 abbrev pub content_held : List ℕ → Content
 content_held image = content_of (kind_of image) image
 
--- THE NEW IMAGE is of the other format. Each of the 683 sectors that reads in the old image is in the new one byte for byte, and those that don't are zeros.
+-- THE NEW IMAGE is one of the other format, of 35 tracks, without a fault; a G64 has the id of 18/0 in its headers. Each of the 683 sectors that reads in the old image
+-- is in the new one byte for byte, and those that don't are zeros.
 pub record IsConverted (old new : List ℕ) : Type 0 where
   pub opens : kind_of new ≡ other (kind_of old)
+  pub faultless : image_fault (kind_of new) new ≡ None
+  pub tracks : tracks_of (kind_of new) new ≡ 35
+  pub headers : kind_of new ≡ G64 → id_for (g64_circles new 35) ≡ told_id (content_held old)
   pub kept : (p : Place) → Has 35 p → content_held new p ≡ or_zeros (content_held old p)
 
 -- ---- what is lost

@@ -32,3 +32,4 @@ pub mod Undeleting
 pub mod AroundGeos
 pub mod Several
 pub mod Remaking
+pub mod Mending

@@ -18,6 +18,10 @@ list_text (c ∷ pattern) = codes "$0:" ++ (c ∷ pattern)
 abbrev pub opened : List ℕ → Machine → Machine
 opened pattern m = after_open 0 (list_text pattern) m
 
+-- the machine after it has sent the directory
+abbrev pub listed : List ℕ → Machine → Machine
+listed pattern m = (talked 0 5000 (opened pattern m)).machine
+
 -- what the machine then sends: a listing has at most 4,672 bytes
 unfoldable pub listing_sent : Machine → List ℕ
 listing_sent m = (talked 0 5000 m).bytes

@@ -1,10 +1,12 @@
 -- New images of empty disks.
-use Rattle.std.specs.Prelude.{ℕ, ◌≡◌, List, [], ◌∷◌, ◌++◌, replicate, None, Ok}
+use Rattle.std.specs.Prelude.{ℕ, ◌≡◌, List, [], ◌∷◌, ◌++◌, replicate, Some, None, Ok}
 use Rattle.cbm_medium.specs.Place.{Place, Has}
 use Rattle.cbm_medium.specs.Seen.{Seen}
 use Rattle.cbm_file.specs.Files.{Disk, blocks_on}
 use Rattle.cbm_file.specs.Padding.{padded}
 use Rattle.cbm_volume.specs.Holding.{HoldsDisk}
+use Rattle.cbm_g64.specs.File.{g64_circles}
+use Rattle.cbm_g64.specs.Tracks.{id_for}
 use Rattle.cbm_image.specs.declared.kind.Kind.{Kind}
 use Rattle.cbm_image.specs.declared.kind.Kind.TheVariants as kind
 use Rattle.cbm_image.specs.Images.{kind_of, image_fault, tracks_of, content_of, ImageHolds}
@@ -40,14 +42,16 @@ pub record IsBlankImage (form : Form) (image : List ℕ) : Type 0 where
   pub tracks : tracks_of (kind_in form) image ≡ tracks_of_form form
   pub zeros : (p : Place) → Has (tracks_of_form form) p → content_of (kind_in form) image p ≡ Ok (replicate 256 0)
 
--- The disk shows the empty disk; its first sector is zeros.
+-- The disk shows the empty disk; its first sector is zeros, and the id in its headers, if it keeps one, is the disk's.
 pub record IsEmpty (tracks : ℕ) (title id : List ℕ) (seen : Seen) : Type 0 where
   pub same_tracks : seen.tracks ≡ tracks
   pub holds : HoldsDisk tracks seen.content (empty_disk tracks title id)
   pub first : seen.content (record { track = 1; sector = 0 }) ≡ Ok (replicate 256 0)
+  pub headers : (x : List ℕ) → seen.id ≡ Some x → x ≡ id
 
--- THE NEW IMAGE is one of its format, has no fault that it would be refused for, is sound, and holds the empty disk.
+-- THE NEW IMAGE is one of its format, has no fault that it would be refused for, is sound, and holds the empty disk. The headers of a G64 have the disk's id.
 pub record IsNew (form : Form) (title id image : List ℕ) : Type 0 where
   pub opens : kind_of image ≡ kind_in form
   pub accepted : image_fault (kind_in form) image ≡ None
   pub holds : ImageHolds (kind_in form) image (empty_disk (tracks_of_form form) title id)
+  pub headers : kind_in form ≡ kind.G64 → id_for (g64_circles image 35) ≡ id

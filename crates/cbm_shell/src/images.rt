@@ -9,6 +9,7 @@ ghost use Rattle.cbm_shell.specs.Listing.{IsListing, IsSent};
 ghost use Rattle.cbm_shell.specs.Images.{IsImageOpened, IsSaved, IsOpenFault, IsFailed, IsLost, ShowsFileIn, IsSoundImage, IsHidden, IsChecked, IsOrderlyDisk, IsInOrder, IsImageInOrder, OfHeld, machine_on, HasChanged};
 ghost use Rattle.cbm_volume.specs.Sweeps.{IsPutInOrder};
 ghost use Rattle.cbm_shell.specs.Freeing.{AreFreed, AreGivenBack};
+ghost use Rattle.cbm_shell.specs.Mending.{IsNotMended};
 
 pub(crate) mod converting;
 pub(crate) mod formats;
@@ -220,6 +221,7 @@ fn validated<I: DiskImage + Drop>(alloc: Global, image: &[u8]) -> Result<I, Shel
     ensures order { IfOk result (λ disk. IsOrderlyDisk (I.seen disk).tracks (I.seen disk).content) }
     ensures changes { let kind = kind_of image.now in let content = content_of kind image.now in IfOk result (λ disk.
         IsPutInOrder (geometry_of (tracks_of kind image.now) content) content (I.seen disk).content) }
+    ensures cause { IfErr result (IsNotMended image.now) }
 {
     let mut volume = Volume::open(opened::<I>(alloc, image)?);
     volume.validate()?;
@@ -234,9 +236,10 @@ fn given_back<I: DiskImage + Drop>(
 ) -> Result<Freed, ShellFault>
     requires kind { kind_of image.now ≡ I.kind }
     requires tracks { (I.seen new.now).tracks ≡ tracks_of (kind_of image.now) image.now }
-    ensures { let kind = kind_of image.now in IfOk result (λ f.
+    ensures ok { let kind = kind_of image.now in IfOk result (λ f.
         AreFreed (geometry_of (tracks_of kind image.now) (content_of kind image.now)) (content_of kind image.now)
         (I.seen new.now).content f.blocks.items f.takes_geos) }
+    ensures err { IfErr result (IsOpenFault image.now) }
 {
     let old = opened::<I>(alloc, image)?;
     freed_by(alloc, old, new)
@@ -249,6 +252,7 @@ fn validate_in<I: DiskImage + Drop>(alloc: Global, image: &[u8]) -> Result<Order
     ensures changes { IfOk result (λ o. IsImageInOrder (kind_of image.now) image.now o.image.items) }
     ensures freed { IfOk result (λ o.
         AreGivenBack (kind_of image.now) image.now o.image.items o.freed.blocks.items o.freed.takes_geos) }
+    ensures cause { IfErr result (IsNotMended image.now) }
 {
     let new = validated::<I>(alloc, image)?;
     let freed = given_back(alloc, image, &new)?;
@@ -266,6 +270,8 @@ pub fn validate(alloc: Global, image: &[u8]) -> Result<Order, ShellFault>
     // The blocks that it gives back are all reported, and whether GEOS uses one of them.
     ensures freed { IfOk result (λ o.
         AreGivenBack (kind_of image.now) image.now o.image.items o.freed.blocks.items o.freed.takes_geos) }
+    // What can't be mended refuses it, and nothing else but the image's own fault and want of memory.
+    ensures cause { IfErr result (IsNotMended image.now) }
 {
     match kind_of(image) {
         Kind::D64 => validate_in::<D64Disk>(alloc, image),

@@ -32,3 +32,4 @@ pub mod Unmendable
 pub mod ViewLaws
 pub mod check
 pub mod Plain
+pub mod Loose

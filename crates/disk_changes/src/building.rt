@@ -12,7 +12,7 @@ use cbm_shell::texts::Charset;
 use disk_basics::host::{read_file, require_new, write};
 use disk_basics::{Failure, WordFault};
 use disk_facts::is_image_name;
-use disk_recipes::{Recipe, RecipeFault, read_recipe};
+use disk_recipes::{Recipe, RecipeFault, line_of_unknown, read_recipe};
 use host_files::Sync;
 use std::path::Path;
 use std::rt::Runtime;
@@ -30,6 +30,17 @@ pub struct Build<'a> {
     pub charset: Charset,
 }
 
+/// Reports what is wrong with the text of a recipe, and in which line if a word of it is unknown.
+fn report<R: Runtime + AllocGlobal>(rt: &R, name: &str, text: &str, fault: RecipeFault) {
+    let Ok(sentence) = format!(in rt.alloc(); "{fault}") else {
+        return;
+    };
+    let _ = match line_of_unknown(text, sentence.as_str()) {
+        Some(line) => eprint!(rt; "disk1541: {name}: line {line}: {sentence}"),
+        None => eprint!(rt; "disk1541: {name}: {sentence}"),
+    };
+}
+
 /// The recipe of a text; what is wrong with it is reported.
 fn recipe_in<'a, R: Runtime + AllocGlobal>(
     rt: &R,
@@ -40,7 +51,7 @@ fn recipe_in<'a, R: Runtime + AllocGlobal>(
         Ok(recipe) => Ok(recipe),
         Err(RecipeFault::Memory) => Err(Failure::NoMemory),
         Err(fault) => {
-            let _ = eprint!(rt; "disk1541: {name}: {fault}");
+            report(rt, name, text, fault);
             Err(Failure::Word(WordFault::Recipe(name)))
         }
     }

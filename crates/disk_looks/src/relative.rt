@@ -17,15 +17,24 @@ const NAME: usize = 16;
 /// The ending of such a file's name.
 pub const ENDING: &str = "r00";
 
-/// The first of the bytes that are whole records: what follows the last one in its block is none.
-fn whole_records(bytes: &[u8], length: u8) -> &[u8] {
+/// The bytes of whole records, and what follows the last one in its block.
+fn split_records(bytes: &[u8], length: u8) -> (&[u8], &[u8]) {
     match bytes.len().checked_rem(usize::from(length)) {
-        Some(rest) => {
-            let count = bytes.len().saturating_sub(rest);
-            bytes.get(..count).unwrap_or(bytes)
-        }
-        None => bytes,
+        Some(rest) => bytes.split_at(bytes.len().saturating_sub(rest)),
+        None => (bytes, &[]),
     }
+}
+
+/// Adds what follows the last whole record as a record more, filled with zeros; nothing where it is zeros, as the drive leaves it.
+fn add_rest(file: &mut Vec<u8>, rest: &[u8], length: u8) -> Result<(), AllocError> {
+    if rest.iter().all(|byte| *byte == 0) {
+        return Ok(());
+    }
+    file.extend_from_slice(rest)?;
+    for _ in rest.len()..usize::from(length) {
+        file.push(0)?;
+    }
+    Ok(())
 }
 
 /// The head: its beginning, the name in sixteen bytes, a 0, and the length of the records.
@@ -47,8 +56,11 @@ pub fn packed(alloc: Global, entry: &Entry, bytes: Vec<u8>) -> Result<Vec<u8>, A
     if !entry.is_relative() {
         return Ok(bytes);
     }
+    let length = entry.record_length();
+    let (records, rest) = split_records(bytes.as_slice(), length);
     let mut file = head_of(alloc, entry)?;
-    file.extend_from_slice(whole_records(bytes.as_slice(), entry.record_length()))?;
+    file.extend_from_slice(records)?;
+    add_rest(&mut file, rest, length)?;
     Ok(file)
 }
 

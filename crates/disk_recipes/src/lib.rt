@@ -2,7 +2,9 @@
 #![tactic(auto)]
 
 mod fault;
+mod misspelt;
 mod recipe;
 
 pub use fault::RecipeFault;
+pub use misspelt::line_of_unknown;
 pub use recipe::{Recipe, RecipeLine, read_recipe, recipe_text};

@@ -167,7 +167,7 @@ fn command<'a>(alloc: Global) -> Result<Command<'a>, Error> {
         .arg(pace)?
         .arg(switch(alloc, "read-only", "write-protect the disk"))?
         .arg(switch(alloc, "check", "first print whether the disk is sound"))?
-        .arg(switch(alloc, "direct", "let channels read single blocks"))?
+        .arg(switch(alloc, "direct", "let channels read and write single blocks"))?
         .arg(switch(alloc, "dry-run", "save nothing"))?
         .arg(trace)?
         .arg(switch(alloc, "draw", "print a picture of the bus's lines"))?;

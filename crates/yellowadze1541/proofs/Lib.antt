@@ -7,3 +7,4 @@ pub mod Slotting
 pub mod Types
 pub mod Values
 pub mod AroundLemmas
+pub mod Saving

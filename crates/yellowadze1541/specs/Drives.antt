@@ -12,19 +12,23 @@ use Rattle.cbm_device.specs.declared.refusal.DeviceRefusal.{DeviceRefusal}
 use Rattle.cbm_device.specs.declared.refusal.DeviceRefusal.TheVariants.{Memory, Invalid, Absent, NoDrive}
 use Rattle.cbm_device.specs.declared.device.DeviceReaction.{DeviceReaction}
 use Rattle.cbm_device.specs.Answers.{fine, answer_number}
-use Rattle.cbm_device.specs.Devices.{OnLines, StandsFor, react_at, tell_in_turn, IsUnfitParty, IsSwitchedOn, IsOnTime, IsOutOfTime, HasHeard, DeviceHasReacted, HasNothingDue, HasAnotherDisk, IsExchanged, GivesImage}
+use Rattle.cbm_device.specs.Devices.{OnLines, StandsFor, react_at, tell_in_turn, IsUnfitParty, IsOnTime, IsOutOfTime, HasHeard, DeviceHasReacted, HasNothingDue, HasAnotherDisk, IsExchanged, GivesImage}
 use Rattle.cbm_device.specs.ImageDisks.{no_disk, IsOpenRefusal}
+use Rattle.cbm_direct_device.specs.DirectDevices.{DirectOnLines}
+use Rattle.yellowadze1541.specs.AnyDevices.{ActsOn}
 use Rattle.yellowadze1541.specs.Looks.{flag}
+use Rattle.yellowadze1541.specs.declared.any_device.AnyDevice.{AnyDevice}
 use Rattle.yellowadze1541.specs.declared.inner.Inner.{Inner}
 use Rattle.yellowadze1541.specs.declared.shapes.Reacted.{Reacted}
 use Rattle.yellowadze1541.specs.declared.shapes.Pulls.{Pulls}
 
--- A CALL ON THE DRIVE OF A HANDLE: the handle held one and holds one, of which this is said; or it held none and holds none, and -7 says so.
-abbrev pub Acts : Option Inner → Option Inner → ℤ → (OnLines → OnLines → Type 0) → Type 0
-Acts None None n Does = n ≡ answer_number NoDrive
-Acts (Some old) (Some new) n Does = Does old.device new.device
-Acts None (Some new) n Does = ⊥
-Acts (Some old) None n Does = ⊥
+-- A CALL ON THE DRIVE OF A HANDLE: the handle held one and holds one, of which this is said without direct access, and that with it; or it held none and holds
+-- none, and -7 says so.
+abbrev pub Acts : Option Inner → Option Inner → ℤ → (OnLines → OnLines → Type 0) → (DirectOnLines → DirectOnLines → Type 0) → Type 0
+Acts None None n Does DoesDirect = n ≡ answer_number NoDrive
+Acts (Some old) (Some new) n Does DoesDirect = ActsOn Does DoesDirect old.device new.device
+Acts None (Some new) n Does DoesDirect = ⊥
+Acts (Some old) None n Does DoesDirect = ⊥
 
 -- a number that C passes for yes or no
 abbrev pub is_set : ℕ → Bool
@@ -43,10 +47,10 @@ abbrev pub IsNotOpened : Option Inner → List ℕ → Party → ℕ → DeviceR
 IsNotOpened old image b pace r =
     ((r ≡ NoDrive) × (old ≢ None)) ⊎ (((r ≡ Invalid) × (IsUnfitParty b ⊎ (1 < pace))) ⊎ ((r ≡ Memory) ⊎ IsOpenRefusal image r))
 
--- A HANDLE IS OPENED: it held none, and holds a drive that is switched on with the disk of the image; or a number says why not, and it holds what it held.
-abbrev pub Opens : Option Inner → Option Inner → ℤ → List ℕ → Bool → Party → ℕ → Type 0
-Opens old new n image protected b pace =
-    ((n ≡ fine) × (old ≡ None) × (pace ≤ 1) × ((inner : Inner) × (new ≡ Some inner) × IsSwitchedOn image protected b inner.device))
+-- A HANDLE IS OPENED: it held none, and holds such a drive, which is switched on with the disk of the image; or a number says why not, and it holds what it held.
+abbrev pub Opens : Option Inner → Option Inner → ℤ → List ℕ → Party → ℕ → (AnyDevice → Type 0) → Type 0
+Opens old new n image b pace IsOn =
+    ((n ≡ fine) × (old ≡ None) × (pace ≤ 1) × ((inner : Inner) × (new ≡ Some inner) × IsOn inner.device))
     ⊎ ((new ≡ old) × ((r : DeviceRefusal) × (n ≡ answer_number r) × IsNotOpened old image b pace r))
 
 -- the lines that C says are low
@@ -90,10 +94,6 @@ Reacts moment n before told old new =
     ⊎ ((n ≡ answer_number Absent) × HasNothingDue moment old × (new ≡ old) × (told ≡ before))
 
 -- ---- the disk
-
--- THE IMAGE IS GIVEN, or a number says why not; the drive goes on.
-abbrev pub ShowsImage : ℤ → List ℕ → List ℕ → ℕ → ℕ → OnLines → OnLines → Type 0
-ShowsImage n out out_new before needed old new = GivesImage n out out_new before needed old × (new ≡ old)
 
 -- THE DISK IS TAKEN OUT of a drive that goes on, and its image is given; or it isn't given, and nothing has changed.
 abbrev pub Ejects : ℤ → List ℕ → List ℕ → ℕ → ℕ → OnLines → OnLines → Type 0

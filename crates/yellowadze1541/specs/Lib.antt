@@ -1,5 +1,7 @@
+pub mod AnyDevices
 pub mod Changes
 pub mod Commands
+pub mod DirectDrives
 pub mod Drives
 pub mod Entries
 pub mod Handles
@@ -9,3 +11,4 @@ pub mod Putting
 pub mod Signals
 pub mod Slots
 pub mod Odd
+pub mod Snapshots

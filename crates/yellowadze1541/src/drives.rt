@@ -1,15 +1,20 @@
 //! A drive on lines, by its handle. Each call takes the drive from its handle, and gives it back there.
-ghost use Rattle.std.specs.Prelude.{◌≡◌, ◌≢◌, ◌⊎◌, ◌-◌, ◌^◌, None, IfErr, IfOk, MatchBool, MatchOption};
+ghost use Rattle.std.specs.Prelude.{◌≡◌, ◌≢◌, ◌⊎◌, ◌<◌, ◌≤◌, ◌-◌, ◌^◌, None, Some, IfErr, IfOk, MatchBool, MatchOption, MatchResult};
 ghost use Rattle.cbm_iec.specs.Ports.{port_due};
-ghost use Rattle.cbm_device.specs.Answers.{fine};
+ghost use Rattle.cbm_device.specs.Answers.{fine, answer_number};
 ghost use Rattle.cbm_device.specs.Devices.{IsUnfitParty, IsSwitchedOn};
 ghost use Rattle.cbm_device.specs.ImageDisks.{IsOpenRefusal};
-ghost use Rattle.yellowadze1541.specs.Drives.{is_set, lines_from_flags, moment_or_never, pace_of, party_from, Acts, Hears, IsHeldAs, IsTold, Opens, Reacts};
+ghost use Rattle.cbm_direct_device.specs.DirectDevices.{IsSwitchedOnDirect};
+ghost use Rattle.yellowadze1541.specs.AnyDevices.{port_of, IsPlainDrive, IsDirectDrive};
+ghost use Rattle.yellowadze1541.specs.Drives.{is_set, lines_from_flags, moment_or_never, pace_of, party_from, Acts, Hears, IsHeldAs, Opens, Reacts};
+ghost use Rattle.yellowadze1541.specs.DirectDrives.{HearsDirect, ReactsDirect};
 
+use crate::any_device::AnyDevice;
 use crate::handle::{Handle, back, empty, of};
 use crate::inner::Inner;
 use crate::shapes::{Pulls, Reacted, flag};
-use cbm_device::{Device, DeviceReaction, DeviceRefusal, number};
+use cbm_device::{Device, DeviceRefusal};
+use cbm_direct_device::DirectDevice;
 use cbm_drive::{Held, Lines, Pace, Party};
 use std::alloc::Global;
 use std::mem::replace;
@@ -17,19 +22,47 @@ use std::mem::replace;
 /// No reaction is due.
 const NEVER: u64 = u64::MAX;
 
-/// A drive for a handle. Errors: `Invalid`, `NoImage`, `Memory`.
+/// A drive for a handle. The one error is `Memory`.
+pub(crate) fn boxed(alloc: Global, device: AnyDevice) -> Result<Box<Inner>, DeviceRefusal>
+    ensures ok { IfOk result (λ b. b.value.device ≡ device) }
+    ensures err { IfErr result (λ r. r ≡ DeviceRefusal.Memory) }
+{
+    match Box::new(alloc, Inner { device }) {
+        Ok(inner) => Ok(inner),
+        Err(_) => Err(DeviceRefusal::Memory),
+    }
+}
+
+/// A drive without direct access for a handle. Errors: `Invalid`, `NoImage`, `Memory`.
 fn opened(
     alloc: Global,
     image: &[u8],
     protected: bool,
     party: Party,
 ) -> Result<Box<Inner>, DeviceRefusal>
-    ensures ok { IfOk result (λ b. IsSwitchedOn image.now protected party b.value.device) }
+    ensures ok { IfOk result (λ b. IsPlainDrive (IsSwitchedOn image.now protected party) b.value.device) }
     ensures err { IfErr result (λ r. ((r ≡ DeviceRefusal.Invalid) × IsUnfitParty party) ⊎ ((r ≡ DeviceRefusal.Memory) ⊎ IsOpenRefusal image.now r)) }
 {
     let device = Device::open(alloc, image, protected, party)?;
-    match Box::new(alloc, Inner { device }) {
-        Ok(inner) => Ok(inner),
+    match Box::new(alloc, device) {
+        Ok(device) => boxed(alloc, AnyDevice::Plain(device)),
+        Err(_) => Err(DeviceRefusal::Memory),
+    }
+}
+
+/// A drive with direct access for a handle. Errors: `Invalid`, `NoImage`, `Memory`.
+fn opened_direct(
+    alloc: Global,
+    image: &[u8],
+    protected: bool,
+    party: Party,
+) -> Result<Box<Inner>, DeviceRefusal>
+    ensures ok { IfOk result (λ b. IsDirectDrive (IsSwitchedOnDirect image.now protected party) b.value.device) }
+    ensures err { IfErr result (λ r. ((r ≡ DeviceRefusal.Invalid) × IsUnfitParty party) ⊎ ((r ≡ DeviceRefusal.Memory) ⊎ IsOpenRefusal image.now r)) }
+{
+    let device = DirectDevice::open(alloc, image, protected, party)?;
+    match Box::new(alloc, device) {
+        Ok(device) => boxed(alloc, AnyDevice::Direct(device)),
         Err(_) => Err(DeviceRefusal::Memory),
     }
 }
@@ -48,6 +81,46 @@ fn holds(alloc: Global, d: &mut Handle) -> bool
     }
 }
 
+/// The party that a drive is to be for an empty handle. Errors: `NoDrive` if the handle holds a drive, `Invalid` if the pace is
+/// none.
+fn party_for(
+    alloc: Global,
+    d: &mut Handle,
+    device: u8,
+    reaction: u8,
+    pace: u8,
+) -> Result<Party, DeviceRefusal>
+    ensures kept { d.new.value ≡ d.old.value }
+    ensures ok { IfOk result (λ b. (b ≡ party_from device reaction pace) × (pace ≤ 1) × (d.old.value ≡ None)) }
+    ensures err { IfErr result (λ r. ((r ≡ DeviceRefusal.NoDrive) × (d.old.value ≢ None)) ⊎ ((r ≡ DeviceRefusal.Invalid) × (1 < pace))) }
+{
+    if holds(alloc, d) {
+        return Err(DeviceRefusal::NoDrive);
+    }
+    if pace > 1 {
+        return Err(DeviceRefusal::Invalid);
+    }
+    Ok(Party {
+        device,
+        reaction,
+        pace: pace_with(pace),
+    })
+}
+
+/// A handle is given a drive, if there is one.
+fn hold(d: &mut Handle, made: Result<Box<Inner>, DeviceRefusal>) -> i32
+    ensures { MatchResult made (λ b. (result ≡ fine) × (d.new.value ≡ Some b.value))
+        (λ why. (result ≡ answer_number why) × (d.new.value ≡ d.old.value)) }
+{
+    match made {
+        Ok(inner) => {
+            *d = of(inner);
+            0
+        }
+        Err(refusal) => refusal.number(),
+    }
+}
+
 /// A drive is switched on with the disk of an image, of which it makes a copy: its number is 8 to 11, its reaction 1 to 60, its pace
 /// 0 for hosts that keep the bus profile, or 1 for the KERNAL of a C64 or VIC-20. The handle holds none before.
 #[unsafe(no_mangle)]
@@ -60,25 +133,31 @@ pub extern "C" fn y1541_open(
     reaction: u8,
     pace: u8,
 ) -> i32
-    ensures { Opens d.old.value d.new.value result image.now (is_set protected) (party_from device reaction pace) pace }
+    ensures { Opens d.old.value d.new.value result image.now (party_from device reaction pace) pace
+        (IsPlainDrive (IsSwitchedOn image.now (is_set protected) (party_from device reaction pace))) }
 {
-    if holds(alloc, d) {
-        return DeviceRefusal::NoDrive.number();
+    match party_for(alloc, d, device, reaction, pace) {
+        Ok(party) => hold(d, opened(alloc, image, protected != 0, party)),
+        Err(refusal) => refusal.number(),
     }
-    if pace > 1 {
-        return DeviceRefusal::Invalid.number();
-    }
-    let pace = pace_with(pace);
-    let party = Party {
-        device,
-        reaction,
-        pace,
-    };
-    match opened(alloc, image, protected != 0, party) {
-        Ok(inner) => {
-            *d = of(inner);
-            0
-        }
+}
+
+/// The same, but with direct access: the drive reads single blocks, where one that `y1541_open` made answers 31 and 70.
+#[unsafe(no_mangle)]
+pub extern "C" fn y1541_open_direct(
+    alloc: Global,
+    d: &mut Handle,
+    image: &[u8],
+    protected: u8,
+    device: u8,
+    reaction: u8,
+    pace: u8,
+) -> i32
+    ensures { Opens d.old.value d.new.value result image.now (party_from device reaction pace) pace
+        (IsDirectDrive (IsSwitchedOnDirect image.now (is_set protected) (party_from device reaction pace))) }
+{
+    match party_for(alloc, d, device, reaction, pace) {
+        Ok(party) => hold(d, opened_direct(alloc, image, protected != 0, party)),
         Err(refusal) => refusal.number(),
     }
 }
@@ -111,7 +190,8 @@ pub extern "C" fn y1541_lines(
     clock_low: u8,
     data_low: u8,
 ) -> i32
-    ensures { Acts d.old.value d.new.value result (Hears moment (lines_from_flags atn_low clock_low data_low) result) }
+    ensures { let lines = lines_from_flags atn_low clock_low data_low in
+        Acts d.old.value d.new.value result (Hears moment lines result) (HearsDirect moment lines result) }
 {
     let Some(mut inner) = back(alloc, replace(d, empty())) else {
         return DeviceRefusal::NoDrive.number();
@@ -121,9 +201,9 @@ pub extern "C" fn y1541_lines(
         clock_low: clock_low != 0,
         data_low: data_low != 0,
     };
-    let done = inner.device.lines(moment, lines);
+    let said = inner.device.lines(moment, lines);
     *d = of(inner);
-    number(done)
+    said
 }
 
 /// When the drive reacts next, in microseconds; the greatest number if it waits for a line, or there is none.
@@ -131,7 +211,7 @@ pub extern "C" fn y1541_lines(
 pub extern "C" fn y1541_next_due(alloc: Global, d: &mut Handle) -> u64
     ensures kept { d.new.value ≡ d.old.value }
     ensures due { MatchOption d.old.value (result ≡ 2 ^ 64 - 1)
-        (λ inner. result ≡ moment_or_never (port_due inner.device.seat.port)) }
+        (λ inner. result ≡ moment_or_never (port_due (port_of inner.device))) }
 {
     let Some(inner) = back(alloc, replace(d, empty())) else {
         return NEVER;
@@ -144,21 +224,6 @@ pub extern "C" fn y1541_next_due(alloc: Global, d: &mut Handle) -> u64
     }
 }
 
-/// What C is told of a reaction.
-fn told(reaction: DeviceReaction) -> Reacted
-    ensures { IsTold reaction result }
-{
-    let was = reaction.was;
-    let now = reaction.now;
-    Reacted {
-        moment: reaction.moment,
-        clock_low: flag(now.clock_low),
-        data_low: flag(now.data_low),
-        clock_changed: flag(was.clock_low != now.clock_low),
-        data_changed: flag(was.data_low != now.data_low),
-    }
-}
-
 /// The reaction that is due by a moment happens, when it is due.
 #[unsafe(no_mangle)]
 pub extern "C" fn y1541_due(
@@ -167,21 +232,16 @@ pub extern "C" fn y1541_due(
     moment: u64,
     reacted: &mut Reacted,
 ) -> i32
-    ensures reacts { Acts d.old.value d.new.value result (Reacts moment result reacted.old reacted.new) }
+    ensures reacts { Acts d.old.value d.new.value result (Reacts moment result reacted.old reacted.new)
+        (ReactsDirect moment result reacted.old reacted.new) }
     ensures none { d.old.value ≡ None → reacted.new ≡ reacted.old }
 {
     let Some(mut inner) = back(alloc, replace(d, empty())) else {
         return DeviceRefusal::NoDrive.number();
     };
-    let done = inner.device.due(moment);
+    let said = inner.device.due(moment, reacted);
     *d = of(inner);
-    match done {
-        Ok(reaction) => {
-            *reacted = told(reaction);
-            0
-        }
-        Err(refusal) => refusal.number(),
-    }
+    said
 }
 
 /// The lines that a drive holds, for C.
@@ -197,8 +257,9 @@ fn shown(held: Held) -> Pulls
 /// The lines that the drive holds low now.
 #[unsafe(no_mangle)]
 pub extern "C" fn y1541_pulls_now(alloc: Global, d: &mut Handle, pulls: &mut Pulls) -> i32
-    ensures held { Acts d.old.value d.new.value result (λ old new. (result ≡ fine) × (new ≡ old) × IsHeldAs old.seat.port.own pulls.new) }
-    ensures none { d.old.value ≡ None → pulls.new ≡ pulls.old }
+    ensures kept { d.new.value ≡ d.old.value }
+    ensures held { MatchOption d.old.value ((result ≡ answer_number DeviceRefusal.NoDrive) × (pulls.new ≡ pulls.old))
+        (λ inner. (result ≡ fine) × IsHeldAs (port_of inner.device).own pulls.new) }
 {
     let Some(inner) = back(alloc, replace(d, empty())) else {
         return DeviceRefusal::NoDrive.number();

@@ -1,9 +1,9 @@
 //! What stands at the pointer of a handle.
-use cbm_device::Device;
+use crate::any_device::AnyDevice;
 
 /// A drive.
 #[derive(Drop)]
 pub struct Inner {
     /// The drive.
-    pub device: Device,
+    pub device: AnyDevice,
 }

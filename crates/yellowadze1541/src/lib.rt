@@ -1,6 +1,7 @@
 //! A Commodore 1541 for programs in C. Each function takes what C may pass, tests what it asks for, and answers a number.
 #![tactic(auto)]
 
+mod any_device;
 mod changes;
 mod commands;
 mod disks;
@@ -14,8 +15,10 @@ mod plays;
 mod putting;
 mod shapes;
 mod slots;
+mod snapshots;
 mod sound;
 
+pub use any_device::AnyDevice;
 pub use handle::Handle;
 pub use inner::Inner;
 pub use shapes::{Entry, File, Flaw, Lost, Place, Pulls, Reacted, Said, Signal, Title};

@@ -79,6 +79,7 @@ _DRIVE = (POINTER(Handle),)
 # The arguments of each call; a test compares them with the header.
 CALLS = {
     "y1541_open": (*_DRIVE, *_BYTES, c_uint8, c_uint8, c_uint8, c_uint8),
+    "y1541_open_direct": (*_DRIVE, *_BYTES, c_uint8, c_uint8, c_uint8, c_uint8),
     "y1541_close": _DRIVE,
     "y1541_lines": (*_DRIVE, c_uint64, c_uint8, c_uint8, c_uint8),
     "y1541_next_due": _DRIVE,
@@ -90,6 +91,8 @@ CALLS = {
     "y1541_eject": (*_DRIVE, *_OUT),
     "y1541_insert": (*_DRIVE, *_BYTES, c_uint8),
     "y1541_status": _DRIVE,
+    "y1541_save": (*_DRIVE, *_OUT),
+    "y1541_restore": (*_DRIVE, *_BYTES),
     "y1541_image_check": (*_BYTES, POINTER(Place)),
     "y1541_image_title": (*_BYTES, POINTER(Title)),
     "y1541_image_entries": (*_BYTES, *_OUT),

@@ -11,6 +11,10 @@ from .refusals import ABSENT, INVALID, Refused
 __all__ = ["Drive", "Pace", "Pulls", "Reaction"]
 
 
+# How many bytes a state has beside the disk's image, at most.
+_STATE = 16384
+
+
 class Pace(enum.IntEnum):
     """A drive's pace."""
 
@@ -42,15 +46,25 @@ class Drive:
     all other parties what changed; tell the drive by `lines` what all others hold.
     """
 
-    def __init__(self, image: Union[Image, bytes], device: int = 8, reaction: int = 20, pace: Pace = Pace.KERNAL, protected: bool = False) -> None:
-        """Device 8 to 11, a reaction of 1 to 60 microseconds, and whether the disk's notch is covered."""
+    def __init__(
+        self,
+        image: Union[Image, bytes],
+        device: int = 8,
+        reaction: int = 20,
+        pace: Pace = Pace.KERNAL,
+        protected: bool = False,
+        *,
+        direct: bool = False,
+    ) -> None:
+        """Device 8 to 11, a reaction of 1 to 60 microseconds, whether the disk's notch is covered, and whether the drive has direct access (docs/direct.md)."""
         self._handle = _library.Handle()
         self._reacted = _library.Reacted()
         data = _data_of(image)
         settings = _library.byte(device, "a device"), _library.byte(reaction, "a reaction"), int(pace)
         self.device = device
         self._room = _room_for(data)
-        _library.check(library.y1541_open(self._handle, data, len(data), int(protected), *settings))
+        open_it = library.y1541_open_direct if direct else library.y1541_open
+        _library.check(open_it(self._handle, data, len(data), int(protected), *settings))
 
     # --- the bus
 
@@ -113,6 +127,17 @@ class Drive:
         data = _data_of(image)
         _library.check(library.y1541_insert(self._handle, data, len(data), int(protected)))
         self._room = _room_for(data)
+
+    # --- its whole state
+
+    def save(self) -> bytes:
+        """The whole state of the drive, its disk included: `restore` makes a drive of it that does what this one would have done."""
+        return _library.given(library.y1541_save, self._room + _STATE, self._handle)
+
+    def restore(self, state: bytes) -> None:
+        """Makes this drive the one that was saved. Refused: the bytes are no state, or broken; then the drive stays as it is."""
+        state = bytes(state)
+        _library.check(library.y1541_restore(self._handle, state, len(state)))
 
     # --- its end
 

@@ -22,6 +22,10 @@ impl<M: Medium> DirectDos<M> {
         match asked {
             Asked::Read(block) => self.read(block),
             Asked::ReadCounted(block) => self.read_counted(block),
+            Asked::Write(block) => self.write(block),
+            Asked::WriteCounted(block) => self.write_counted(block),
+            Asked::Allocate(sector) => self.allocate(sector),
+            Asked::Free(sector) => self.free(sector),
             Asked::Seek(channel, place) => self.seek(channel, place),
             Asked::Memory(address, count) => self.answer(Reply {
                 address,

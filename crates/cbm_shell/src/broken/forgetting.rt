@@ -1,10 +1,10 @@
 //! Taking the entry of a file out of the directory of a disk that isn't sound.
-ghost use Rattle.std.specs.Prelude.{◌≡◌, ◌≤◌, None, IfOk, IfSome, MatchOption};
+ghost use Rattle.std.specs.Prelude.{◌≡◌, ◌≤◌, None, IfOk, IfErr, IfSome, MatchOption, false};
 ghost use Rattle.cbm_bam.specs.Map.{geometry_of};
 ghost use Rattle.cbm_image.specs.Images.{kind_of, image_fault, tracks_of, content_of};
 ghost use Rattle.cbm_directory.specs.EntryChanges.{ClearsLed};
 ghost use Rattle.cbm_shell.specs.Images.{IsSoundImage};
-ghost use Rattle.cbm_shell.specs.Forgetting.{IsForgotten};
+ghost use Rattle.cbm_shell.specs.Forgetting.{IsForgotten, IsNotForgotten, IsUncleared};
 
 use crate::fault::ShellFault;
 use crate::images::{opened, saved};
@@ -12,16 +12,19 @@ use cbm_d64::D64Disk;
 use cbm_directory::clear_slot;
 use cbm_g64::G64Disk;
 use cbm_image::{DiskImage, Kind, kind_of};
-use cbm_medium::Medium;
+use cbm_medium::Steady;
 use cbm_volume::Volume;
 use std::alloc::Global;
 
 /// The disk with the entry in a slot cleared. Errors: `Trouble`, where the directory breaks off before, or the medium refuses
 /// to be written.
-fn cleared<M: Medium + Drop>(volume: Volume<M>, slot: u8) -> Result<M, ShellFault>
+fn cleared<M: Steady + Drop>(volume: Volume<M>, slot: u8) -> Result<M, ShellFault>
+    requires { (M.seen volume).protected ≡ false }
     ensures tracks { IfOk result (λ after. (M.seen after).tracks ≡ (M.seen volume).tracks) }
     ensures cleared { let old = M.seen volume in
         IfOk result (λ after. ClearsLed (geometry_of old.tracks old.content) old.content (M.seen after).content slot) }
+    ensures cause { let old = M.seen volume in
+        IfErr result (IsUncleared (geometry_of old.tracks old.content) old.content slot) }
 {
     let geometry = volume.geometry();
     let mut medium = volume.into_medium();
@@ -35,9 +38,12 @@ fn without_entry<I: DiskImage + Drop>(
     volume: Volume<I>,
     slot: u8,
 ) -> Result<Vec<u8>, ShellFault>
+    requires { (I.seen volume).protected ≡ false }
     ensures cleared { let old = I.seen volume in IfOk result (λ v.
         ClearsLed (geometry_of old.tracks old.content) old.content (content_of I.kind v.items) slot) }
     ensures opens { IfOk result (λ v. image_fault I.kind v.items ≡ None) }
+    ensures cause { let old = I.seen volume in
+        IfErr result (IsUncleared (geometry_of old.tracks old.content) old.content slot) }
 {
     let disk = cleared(volume, slot)?;
     saved(alloc, &disk)
@@ -55,6 +61,7 @@ fn forget_in<I: DiskImage + Drop>(
         IfOk result (λ o. MatchOption o (IsSoundImage kind image.now)
         (λ v. IsForgotten tracks (content_of kind image.now) (content_of kind v.items) slot)) }
     ensures opens { IfOk result (λ o. IfSome o (λ v. image_fault (kind_of image.now) v.items ≡ None)) }
+    ensures cause { IfErr result (IsNotForgotten image.now slot) }
 {
     let disk = opened::<I>(alloc, image)?;
     let volume = Volume::open(disk);
@@ -78,6 +85,8 @@ pub fn forget(alloc: Global, image: &[u8], slot: u8) -> Result<Option<Vec<u8>>, 
         (λ v. IsForgotten tracks (content_of kind image.now) (content_of kind v.items) slot)) }
     // The new image opens again.
     ensures opens { IfOk result (λ o. IfSome o (λ v. image_fault (kind_of image.now) v.items ≡ None)) }
+    // An entry that can't be reached or written refuses it, and nothing else but the image's own fault and want of memory.
+    ensures cause { IfErr result (IsNotForgotten image.now slot) }
 {
     match kind_of(image) {
         Kind::D64 => forget_in::<D64Disk>(alloc, image, slot),

@@ -233,6 +233,7 @@ fn copied<M: Medium>(alloc: Global, medium: &M) -> Result<D64Disk, ShellFault>
     requires { (M.seen medium.now).tracks ≡ 35 }
     ensures ok { IfOk result (λ disk. (p : Place) → Has 35 p →
         d64_content disk.bytes p ≡ or_zeros ((M.seen medium.now).content p)) }
+    ensures tracks { IfOk result (λ disk. d64_tracks (length disk.bytes) ≡ 35) }
     ensures err { IfErr result (λ fault. fault ≡ ShellFault.Memory) }
 {
     let blank = zeros(alloc, OF_35_TRACKS)?;

@@ -1,5 +1,5 @@
 //! The blocks that putting a disk in order gives back.
-ghost use Rattle.std.specs.Prelude.{◌≡◌, ◌≤◌, ◌++◌, IfOk, OnOk};
+ghost use Rattle.std.specs.Prelude.{◌≡◌, ◌≤◌, ◌++◌, IfOk, IfErr, OnOk};
 ghost use Rattle.cbm_medium.specs.Place.{sectors_on};
 ghost use Rattle.cbm_bam.specs.Marks.{is_marked};
 ghost use Rattle.cbm_bam.specs.Map.{geometry_of};
@@ -112,8 +112,9 @@ pub(crate) fn freed_by<M: Medium + Drop>(
     new: &M,
 ) -> Result<Freed, ShellFault>
     requires { (M.seen new.now).tracks ≡ (M.seen old).tracks }
-    ensures { let old = M.seen old in IfOk result (λ f.
+    ensures ok { let old = M.seen old in IfOk result (λ f.
         AreFreed (geometry_of old.tracks old.content) old.content (M.seen new.now).content f.blocks.items f.takes_geos) }
+    ensures err { IfErr result (λ fault. fault ≡ ShellFault.Memory) }
 {
     let volume = Volume::open(old);
     let geometry = volume.geometry();

@@ -2,7 +2,7 @@
 ghost use Rattle.std.specs.Prelude.{◌≡◌, ◌≤◌, ◌++◌, IfOk, OnOk, MatchResult};
 ghost use Rattle.cbm_machine.specs.Machines.{Machine};
 ghost use Rattle.cbm_channel.specs.Standing.{Stands};
-ghost use Rattle.cbm_shell.specs.Listing.{list_text, IsSent, IsListing, IsUnlisted};
+ghost use Rattle.cbm_shell.specs.Listing.{list_text, listed, IsSent, IsListing, IsUnlisted};
 
 use crate::fault::ShellFault;
 use crate::texts::petscii::Charset;
@@ -37,8 +37,11 @@ pub fn raw_list<M: Steady>(
     dos: &mut Dos<M>,
     pattern: &[u8],
 ) -> Result<Vec<u8>, ShellFault>
-    ensures { (m : Machine) → Stands M.seen dos.old m →
+    ensures sent { (m : Machine) → Stands M.seen dos.old m →
         MatchResult result (λ v. IsSent pattern.now m v.items) (IsUnlisted pattern.now m) }
+    // The drive has done nothing else.
+    ensures stands { (m : Machine) → Stands M.seen dos.old m →
+        OnOk result (Stands M.seen dos.new (listed pattern.now m)) }
 {
     let text = list_text(alloc, pattern)?;
     dos.open(LISTING, text.as_slice());
@@ -58,8 +61,11 @@ pub fn list<M: Steady>(
     charset: Charset,
     pattern: &[u8],
 ) -> Result<Vec<u8>, ShellFault>
-    ensures { (m : Machine) → Stands M.seen dos.old m →
+    ensures sent { (m : Machine) → Stands M.seen dos.old m →
         MatchResult result (λ v. IsListing charset pattern.now m v.items) (IsUnlisted pattern.now m) }
+    // The drive has done nothing else.
+    ensures stands { (m : Machine) → Stands M.seen dos.old m →
+        OnOk result (Stands M.seen dos.new (listed pattern.now m)) }
 {
     let bytes = raw_list(alloc, dos, pattern)?;
     let lines = readable_listing(alloc, charset, bytes.as_slice())?;

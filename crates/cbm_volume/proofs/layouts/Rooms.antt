@@ -10,7 +10,7 @@ use Rattle.cbm_bam.proofs.Counts.{tally_less, tally_other, tally_same, free_is_n
 use Rattle.cbm_volume.proofs.layouts.Remaps.{with_map, with_counts, sound_remap, describes_remap}
 use Rattle.cbm_volume.proofs.layouts.Steps.{bit_implies}
 
-summed_but_18 : (f g : ℕ → ℕ) (n : ℕ) → ((t : ℕ) → t ≢ 18 → f t ≡ g t) → summed f n ≡ summed g n
+pub summed_but_18 : (f g : ℕ → ℕ) (n : ℕ) → ((t : ℕ) → t ≢ 18 → f t ≡ g t) → summed f n ≡ summed g n
 summed_but_18 f g zero h = refl
 summed_but_18 f g (suc n) h = elim (cases_eq (suc n) 18) [
   | inl e ↦ (let a : unless_18 (suc n) (f (suc n)) ≡ 0 = rw (eq-eqb (suc n) 18 e) refl in

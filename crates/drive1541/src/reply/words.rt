@@ -47,7 +47,7 @@ fn command<'a>(alloc: Global) -> Result<Command<'a>, Error> {
     let direct = Arg::new(alloc, "direct")
         .long("direct")
         .action(ArgAction::SetTrue)
-        .help("let channels of all drives read single blocks");
+        .help("let channels of all drives read and write single blocks");
     let command = Command::new(alloc, "drive1541 reply")
         .about("Drives with disks on a bus whose host talks over standard input and output")
         .after_help(EXAMPLES)

@@ -3,7 +3,7 @@ use cbm_command::Refusal;
 use cbm_machine::{Code, Status, Telling};
 
 /// A status by its code and two numbers, and its line.
-const STATUSES: [(Code, u8, u8, &[u8]); 23] = [
+const STATUSES: [(Code, u8, u8, &[u8]); 24] = [
     (Code::PowerUp, 0, 0, b"73,CBM DOS V2.6 1541,00,00\r"),
     (Code::Fine, 0, 0, b"00, OK,00,00\r"),
     (Code::FilesScratched, 2, 0, b"01, FILES SCRATCHED,02,00\r"),
@@ -21,6 +21,7 @@ const STATUSES: [(Code, u8, u8, &[u8]); 23] = [
     (Code::FileNotFound, 0, 0, b"62,FILE NOT FOUND,00,00\r"),
     (Code::FileExists, 0, 0, b"63,FILE EXISTS,00,00\r"),
     (Code::WrongType, 0, 0, b"64,FILE TYPE MISMATCH,00,00\r"),
+    (Code::NoBlock, 17, 4, b"65,NO BLOCK,17,04\r"),
     (
         Code::WrongLink,
         36,

@@ -13,4 +13,4 @@ returns g c = λ d h.
     let m = start d seen.protected seen.tracks in
     let stands = c.new-dos.ensures.stands d (opened_holds c.args.image.now seen d opened h) in
     subst (λ m. MatchResult c.list.result (λ v. IsListing c.args.charset c.args.pattern.now m v.items) (IsHidden c.args.image.now c.args.pattern.now m)) (same_start c.args.image.now seen d opened)
-    (or_open_fault c.args.image.now c.list.result (λ v. IsListing c.args.charset c.args.pattern.now m v.items) (IsUnlisted c.args.pattern.now m) (λ n h. h) (c.list.ensures m stands))
+    (or_open_fault c.args.image.now c.list.result (λ v. IsListing c.args.charset c.args.pattern.now m v.items) (IsUnlisted c.args.pattern.now m) (λ n h. h) (c.list.ensures.sent m stands))

@@ -16,7 +16,7 @@ returns-clause-freed g c =
     let kind = kind_of c.args.image.now in
     let old = content_of kind c.args.image.now in
     subst (λ t. AreFreed (geometry_of (tracks_of kind c.args.image.now) old) old t c.in_ok-freed.freed.blocks.items c.in_ok-freed.freed.takes_geos)
-    (c.in_ok-image.ensures.ok.same_content ∙ ap (λ k. content_of k c.in_ok-image.image.items) (sym c.requires)) c.in_ok-freed.ensures
+    (c.in_ok-image.ensures.ok.same_content ∙ ap (λ k. content_of k c.in_ok-image.image.items) (sym c.requires)) c.in_ok-freed.ensures.ok
 
 pub returns-clause-changes : goal.returns-clause-changes
 returns-clause-changes g c =

@@ -1,9 +1,13 @@
-use Rattle.std.proofs.Common.{ℕ, subst, sym, ◌≡◌, ◌∙◌, ap}
+use Rattle.std.proofs.Common.{ℕ, subst, sym, ◌≡◌, ◌∙◌, ap, Err}
+use Rattle.std.proofs.lemmas.Result.{err_from_is_err_and}
 use Rattle.cbm_medium.specs.Content.{Content}
 use Rattle.cbm_bam.specs.Map.{geometry_of}
 use Rattle.cbm_volume.specs.Sweeps.{IsPutInOrder}
-use Rattle.cbm_shell.specs.Images.{IsOrderlyDisk}
+use Rattle.cbm_volume.specs.Unmendable.{IsUnmendable}
+use Rattle.cbm_shell.specs.Images.{IsOrderlyDisk, IsImageOpened}
+use Rattle.cbm_shell.proofs.EditLemmas.{unmended}
 use Rattle.cbm_shell.proofs.ImageLemmas.{of_image}
+use Rattle.cbm_shell.proofs.RemakeLemmas as remake
 use Rattle.cbm_shell.proofs.images.validated.Goals as goal
 
 pub returns-clause-tracks : goal.returns-clause-tracks
@@ -23,3 +27,13 @@ returns-clause-changes g c =
     let after = subst (λ k. IsPutInOrder (geometry_of (seen k).tracks (seen k).content) (seen k).content (seen c.validate.new.self).content) c.open-volume.ensures c.in_ok-validate.ensures.in_order in
     of_image (λ (n : ℕ) (t : Content). IsPutInOrder (geometry_of n t) t (seen c.into_medium.result).content) c.args.image.now (seen c.in_ok-opened.field-0) c.in_ok-opened.ensures.ok
     (subst (λ k. IsPutInOrder (geometry_of (seen c.in_ok-opened.field-0).tracks (seen c.in_ok-opened.field-0).content) (seen c.in_ok-opened.field-0).content (seen k).content) (sym c.into_medium.ensures) after)
+
+pub returns-in_err-validate-clause-cause : goal.returns-in_err-validate-clause-cause
+returns-in_err-validate-clause-cause g c =
+    let seen = g.I.Medium.seen in
+    let old = c.open-volume.result in
+    let t = c.in_err-validate.field-0.0 in
+    let opened = subst (λ k. IsImageOpened c.args.image.now (seen k)) (sym c.open-volume.ensures) c.in_ok-opened.ensures.ok in
+    let p = err_from_is_err_and c.from_residual-in_err-validate.result c.from_residual-in_err-validate.ensures.1 in
+    let found = unmended (seen old) (seen c.validate.new.self) t opened.free (g.met.I.Steady.steady old) (g.met.I.Steady.steady c.validate.new.self) c.in_err-validate.ensures.refused in
+    rw (p.1 ∙ ap Err p.2) (remake.of_image (λ k content. IsUnmendable k content t) c.args.image.now (seen old) opened found)

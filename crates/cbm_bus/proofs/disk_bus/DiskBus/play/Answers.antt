@@ -30,6 +30,11 @@ returns-clause-disks g c = λ u bs ms rest.
 pub returns-clause-handed : goal.returns-clause-handed
 returns-clause-handed g c = λ u bs ms unlike swift rest. c.play.ensures.handed (subst (λ b. HaveNotFailed g.M.Medium.seen b c.play.new.self) (sym c.self.view_is) u) bs ms unlike swift (subst (λ b. IsAtRest g.M.Medium.seen bs ms b) (sym c.self.view_is) rest)
 
+pub returns-clause-cut : goal.returns-clause-cut
+returns-clause-cut g c = λ u bs ms rest fault.
+    let seen = g.M.Medium.seen in
+    c.play.ensures.played (subst (λ b. HaveNotFailed seen b c.play.new.self) (sym c.self.view_is) u) (at_rest (Desk Machine) desk_step desk_says ms bs) fault (subst (λ b. IsAtRest seen bs ms b) (sym c.self.view_is) rest)
+
 pub returns-clause-fault : goal.returns-clause-fault
 returns-clause-fault g c = λ f e. (let k = c.play.ensures.fault f e in (k.0, k.1 ∙ c.self.view_is, k.2))
 

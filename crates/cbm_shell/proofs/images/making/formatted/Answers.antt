@@ -5,6 +5,7 @@ use Rattle.cbm_volume.specs.Writers.{Idle, HoldsNow}
 use Rattle.cbm_volume.proofs.formatted.NewDisks.{new_keeps}
 use Rattle.cbm_shell.specs.Making.{empty_disk}
 use Rattle.cbm_shell.proofs.BlankDisks.{blank_holds, never_hindered}
+use Rattle.cbm_shell.proofs.NewImages.{new_id}
 use Rattle.cbm_shell.proofs.images.making.formatted.Goals as goal
 
 -- zeros are a sound disk, so only protection or a failure would refuse NEW
@@ -28,4 +29,5 @@ returns g c =
           (subst (λ k. HoldsDisk (seen k).tracks (seen c.new_disk.new.self).content (empty_disk (seen k).tracks c.args.title.now c.args.id)) c.open-volume.ensures made);
       first = ap (λ k. (seen k).content (record { track = 1; sector = 0 })) c.into_medium.ensures
           ∙ ap (λ (x : Content). x (record { track = 1; sector = 0 })) c.in-Ok.ensures.emptied.written;
+      headers = λ x e. new_id c.args.id (seen c.open-volume.result) (seen c.new_disk.new.self) _ c.in-Ok.ensures.only x (sym (ap (λ k. (seen k).id) c.into_medium.ensures) ∙ e);
     }

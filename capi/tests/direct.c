@@ -1,0 +1,162 @@
+/* Drives with direct access, by a computer on their lines, with images of each form and at both paces: direct IMAGE. What a block holds is asked of the calls
+ * on images, and of the bytes that were put there. */
+#include "files.h"
+#include "kernal.h"
+
+enum { ROOM = 1 << 20, BLOCK = 256 };
+
+static const uint8_t program[] = {0x01, 0x08, 'A', 0, 0xff, 'Z'};
+
+/* A computer at one drive. */
+typedef struct host {
+    bus bus;
+    kernal kernal;
+} host;
+
+/* Whether a drive was switched on beside it. At the bus profile's pace the screen is dark. */
+static int begins(host *h, const uint8_t *image, size_t len, uint8_t pace, int direct) {
+    memset(h, 0, sizeof *h);
+    /* (two calls, as a pointer to a function is nothing that a module of 32 bits can be made of) */
+    int came = direct ? bus_open_direct(&h->bus, 0, image, len, 8, 20, pace, 0) : bus_open(&h->bus, 0, image, len, 8, 20, pace, 0);
+    if (came != Y1541_OK) return 0;
+    kernal_init(&h->kernal, &h->bus, pace == Y1541_PROFILE ? DARK_PAL : PAL, 1);
+    return 1;
+}
+
+static y1541 *drive(host *h) { return &h->bus.drive[0]; }
+
+/* A command for channel 15. */
+static int told(host *h, const char *command) { return kernal_print(&h->kernal, 8, 15, (const uint8_t *)command, strlen(command)); }
+
+/* Whether channel 15 says this, up to its return. */
+static int says(host *h, const char *line) {
+    uint8_t text[64];
+    long count = kernal_input(&h->kernal, 8, 15, text, sizeof text);
+    return count == (long)strlen(line) + 1 && !memcmp(text, line, (size_t)count - 1) && text[count - 1] == '\r';
+}
+
+static int is_fine(host *h) { return says(h, "00, OK,00,00"); }
+
+/* Whether just these bytes come from channel 2, up to EOI. */
+static int comes(host *h, const uint8_t *bytes, size_t count) {
+    uint8_t got[2 * BLOCK];
+    return kernal_input(&h->kernal, 8, 2, got, sizeof got) == (long)count && !memcmp(got, bytes, count);
+}
+
+/* U1 of a sector below track and sector 100, to the buffer of channel 2. */
+static int block_asked(host *h, uint8_t track, uint8_t sector) {
+    char text[] = "U1:2,0,00,00";
+    text[7] = (char)('0' + track / 10), text[8] = (char)('0' + track % 10), text[10] = (char)('0' + sector / 10), text[11] = (char)('0' + sector % 10);
+    return told(h, text);
+}
+
+/* Whether a block is read, and holds what the image has there. */
+static int block_is(host *h, const uint8_t *image, size_t len, uint8_t track, uint8_t sector) {
+    uint8_t bytes[BLOCK];
+    return y1541_image_sector(image, len, track, sector, bytes, BLOCK) == Y1541_OK && block_asked(h, track, sector) && is_fine(h) && comes(h, bytes, BLOCK);
+}
+
+/* An image with a file. Its length. */
+static size_t disk_of(uint8_t form, const char *title, uint8_t *image) {
+    static uint8_t empty[ROOM];
+    size_t len = 0, needed = 0;
+    expect(y1541_image_new(form, (const uint8_t *)title, strlen(title), 'I', 'D', empty, ROOM, &len) == Y1541_OK, "a disk");
+    expect(y1541_image_put(empty, len, (const uint8_t *)"PROG,P,W", 8, program, sizeof program, image, ROOM, &needed) == Y1541_OK, "with a file");
+    return needed;
+}
+
+/* Without the word for it a drive has no buffer, and knows none of the commands. */
+static void without(const uint8_t *image, size_t len, uint8_t pace) {
+    static const char *commands[] = {"U1:2,0,18,0", "B-R:2,0,18,0", "B-P:2,0", "UI", "M-R\x40\xff\x02"};
+    host h;
+    expect(begins(&h, image, len, pace, 0) && says(&h, "73,CBM DOS V2.6 1541,00,00"), "a drive without direct access");
+    expect(kernal_open(&h.kernal, 8, 2, "#") && says(&h, "70,NO CHANNEL,00,00"), "it has no buffer");
+    for (size_t i = 0; i < sizeof commands / sizeof commands[0]; i++) expect(told(&h, commands[i]) && says(&h, "31,SYNTAX ERROR,00,00"), commands[i]);
+    y1541_close(drive(&h));
+}
+
+/* Blocks that are read, and those that aren't. */
+static void reads(host *h, const uint8_t *image, size_t len) {
+    uint8_t bytes[BLOCK], file[BLOCK] = {0, sizeof program + 1};
+    y1541_entry entry;
+    memcpy(file + 2, program, sizeof program);
+    expect(kernal_open(&h->kernal, 8, 2, "#") && is_fine(h), "a buffer");
+    expect(block_is(h, image, len, 18, 0) && block_is(h, image, len, 18, 1) && block_is(h, image, len, 35, 16), "blocks as the image has them");
+    expect(y1541_image_entry(image, len, 0, &entry) == Y1541_OK && block_asked(h, entry.track, entry.sector) && is_fine(h) && kernal_input(&h->kernal, 8, 2, bytes, BLOCK) == BLOCK && !memcmp(bytes, file, sizeof program + 2), "a file's block has a link of two bytes before it");
+    expect(told(h, "B-P:2,2") && is_fine(h) && kernal_input(&h->kernal, 8, 2, bytes, BLOCK) == BLOCK - 2 && !memcmp(bytes, program, sizeof program), "from a place on");
+    expect(y1541_image_sector(image, len, 18, 0, bytes, BLOCK) == Y1541_OK && bytes[0] == 18 && told(h, "B-R:2,0,18,0") && is_fine(h) && comes(h, bytes + 1, 18), "up to the byte that byte 0 says");
+    expect(block_asked(h, 18, 19) && y1541_status(drive(h)) == 66 && says(h, "66,ILLEGAL TRACK OR SECTOR,18,19"), "no such sector");
+    expect(told(h, "U1:2,1,18,0") && y1541_status(drive(h)) == 74 && says(h, "74,DRIVE NOT READY,00,00"), "no such drive");
+    expect(told(h, "U1:3,0,18,0") && y1541_status(drive(h)) == 70 && says(h, "70,NO CHANNEL,00,00"), "no buffer");
+    expect(told(h, "U1:2,0,18") && says(h, "30,SYNTAX ERROR,00,00"), "a number too few");
+    expect(told(h, "M-R\x40\xff\x02") && kernal_input(&h->kernal, 8, 15, bytes, BLOCK) == 2 && bytes[0] == 0xaa && bytes[1] == 0xaa && is_fine(h), "M-R of two bytes, and then the status");
+    expect(told(h, "B-P:2,0") && is_fine(h) && y1541_image_sector(image, len, 18, 0, file, BLOCK) == Y1541_OK && kernal_input(&h->kernal, 8, 2, bytes, 3) == 3 && !memcmp(bytes, file, 3), "what wasn't read has changed nothing");
+}
+
+/* A file is written beside a buffer, and the disk stays sound. */
+static void writes_beside(host *h, const uint8_t *image, size_t len) {
+    static uint8_t now[ROOM], bytes[BLOCK];
+    size_t needed = 0;
+    y1541_place place;
+    expect(!y1541_writes(drive(h)) && y1541_image(drive(h), now, ROOM, &needed) == Y1541_OK && needed == len && !memcmp(now, image, len), "reading changes nothing");
+    expect(kernal_save(&h->kernal, 8, "MORE", program, sizeof program) && y1541_writes(drive(h)) > 0, "SAVE beside a buffer");
+    expect(y1541_image(drive(h), now, ROOM, &needed) == Y1541_OK && y1541_image_check(now, needed, &place) == Y1541_OK, "and the disk is sound");
+    expect(y1541_image_file(now, needed, (const uint8_t *)"MORE", 4, bytes, BLOCK, &needed) == Y1541_OK && needed == sizeof program && !memcmp(bytes, program, needed), "with the file");
+}
+
+/* Another disk, none, and a new start: no buffer is left, and the drive goes on. */
+static void goes_on(host *h, uint8_t form) {
+    static uint8_t other[ROOM], out[ROOM], zeros[BLOCK];
+    size_t len = disk_of(form, "OTHER", other), needed = 0;
+    expect(y1541_insert(drive(h), other, len, 0) == Y1541_OK && !y1541_writes(drive(h)), "another disk");
+    expect(block_asked(h, 18, 0) && says(h, "70,NO CHANNEL,00,00"), "the buffer is gone with the disk");
+    expect(kernal_open(&h->kernal, 8, 2, "#") && is_fine(h) && block_is(h, other, len, 18, 0), "a block of that disk");
+    expect(told(h, "UI") && y1541_status(drive(h)) == 73 && says(h, "73,CBM DOS V2.6 1541,00,00") && block_asked(h, 18, 0) && says(h, "70,NO CHANNEL,00,00"), "UI leaves no buffer");
+    expect(kernal_open(&h->kernal, 8, 2, "#") && is_fine(h) && y1541_reset(drive(h)) == Y1541_OK && y1541_status(drive(h)) == 73, "reset");
+    bus_switched(&h->bus, 0, moment(&h->kernal));
+    expect(says(h, "73,CBM DOS V2.6 1541,00,00") && block_asked(h, 18, 0) && says(h, "70,NO CHANNEL,00,00"), "reset leaves no buffer");
+    expect(y1541_eject(drive(h), out, ROOM, &needed) == Y1541_OK && needed == len && !memcmp(out, other, len), "the disk comes out as it was");
+    expect(y1541_eject(drive(h), out, ROOM, &needed) == Y1541_ABSENT && y1541_image(drive(h), out, ROOM, &needed) == Y1541_ABSENT, "there is no disk");
+    expect(kernal_open(&h->kernal, 8, 2, "#") && is_fine(h) && block_asked(h, 18, 0) && is_fine(h) && comes(h, zeros, BLOCK), "without a disk all bytes are zeros");
+    expect(y1541_insert(drive(h), other, 9, 0) == Y1541_NO_IMAGE && told(h, "B-P:2,250") && is_fine(h) && comes(h, zeros, 6), "what isn't put in changes nothing");
+}
+
+static void form_of(uint8_t form, uint8_t pace) {
+    static uint8_t image[ROOM];
+    size_t len = disk_of(form, "FORM", image);
+    host h;
+    without(image, len, pace);
+    expect(begins(&h, image, len, pace, 1) && says(&h, "73,CBM DOS V2.6 1541,00,00"), "a drive with direct access");
+    reads(&h, image, len), writes_beside(&h, image, len), goes_on(&h, form);
+    y1541_close(drive(&h));
+    expect(!drive(&h)->at, "closed");
+}
+
+/* A D64 of 35 tracks with error bytes, of which 18/2's is 5, so that it reads with 23; and a wrong BAM, which hinders nobody who reads. */
+static void damaged(uint8_t pace) {
+    enum { LEN = 174848, SECTORS = 683, HEAD = 357 };
+    static uint8_t image[ROOM];
+    host h;
+    y1541_place place;
+    expect(disk_of(Y1541_D64_35, "BAD", image) == LEN, "a disk to damage");
+    memset(image + LEN, 1, SECTORS), image[LEN + HEAD + 2] = 5;
+    image[HEAD * BLOCK + 4] = 0;
+    expect(y1541_image_check(image, LEN + SECTORS, &place) == Y1541_UNSOUND, "it isn't sound");
+    expect(begins(&h, image, LEN + SECTORS, pace, 1) && says(&h, "73,CBM DOS V2.6 1541,00,00") && kernal_open(&h.kernal, 8, 2, "#") && is_fine(&h), "a buffer on it");
+    expect(block_is(&h, image, LEN + SECTORS, 18, 1), "its blocks are read");
+    expect(block_asked(&h, 18, 2) && says(&h, "23,READ ERROR,18,02") && told(&h, "B-P:2,0") && is_fine(&h) && comes(&h, image + (HEAD + 1) * BLOCK, BLOCK), "but for one, which leaves the buffer");
+    y1541_close(drive(&h));
+}
+
+int main(int argc, char **argv) {
+    if (argc < 2) return fprintf(stderr, "direct IMAGE\n"), 2;
+    size_t len;
+    uint8_t *image = read_file(argv[1], &len);
+    for (uint8_t pace = Y1541_PROFILE; pace <= Y1541_KERNAL; pace++) {
+        without(image, len, pace), damaged(pace);
+        for (uint8_t form = Y1541_D64_35; form <= Y1541_G64; form++) form_of(form, pace);
+    }
+    free(image);
+    printf("direct: %d wrong\n", wrong);
+    return wrong != 0;
+}

@@ -1,0 +1,285 @@
+//! A drive with direct access on lines, with the disk of an image.
+ghost use Rattle.std.specs.Prelude.{◌≡◌, ◌<◌, ◌≤◌, ◌^◌, ◌⊎◌, None, Err, OnOk, OnErr, IfOk, IfErr, MatchBool};
+ghost use Rattle.cbm_machine.specs.Codes.{code_number};
+ghost use Rattle.cbm_iec.specs.Ports.{port_due, resting, told, told_act, reacted, reaction_act};
+ghost use Rattle.cbm_session.specs.Following.{IsInTime};
+ghost use Rattle.cbm_drive.specs.Addressing.{paced, unaddressed};
+ghost use Rattle.cbm_drive.specs.Playback.{IsActed};
+ghost use Rattle.cbm_direct.specs.Directs.{IsPoweredWith};
+ghost use Rattle.cbm_direct_desk.specs.DirectDesks.{direct_desk_shows};
+ghost use Rattle.cbm_device.specs.Answers.{answer};
+ghost use Rattle.cbm_device.specs.Devices.{IsUnfitParty, IsDueBefore};
+ghost use Rattle.cbm_device.specs.ImageDisks.{no_disk, counted_seen, IsOpenRefusal};
+ghost use Rattle.cbm_direct_device.specs.DirectDevices.{disk_in, since_in, status_in, IsSwitchedOnDirect, IsOnTimeDirect, IsOutOfTimeDirect, HasHeardDirect, HasReactedDirect, HasNothingDueDirect, IsRestartedDirect, IsExchangedDirect, HasAnotherDiskDirect, GivesImageDirect, ShowsSoundDisk};
+
+use cbm_device::{DeviceReaction, DeviceRefusal, ImageDisk, given};
+use cbm_direct_desk::DirectDesk;
+use cbm_drive::{Drive, Held, Lines, Party};
+use cbm_image::{Kind, kind_of};
+use std::alloc::Global;
+use std::marker::Model;
+
+/// Moments come before this one, in microseconds.
+const LAST: u64 = 1 << 60;
+
+/// The device numbers of a drive, first and last.
+const DEVICES: (u8, u8) = (8, 11);
+
+/// The longest reaction, in microseconds.
+const SLOWEST: u8 = 60;
+
+/// The lines where nobody pulls one.
+const FREE: Lines = Lines {
+    atn_low: false,
+    clock_low: false,
+    data_low: false,
+};
+
+/// A drive with direct access on lines, with the disk of an image. It keeps the format of that image, what all others hold, and
+/// when anything last happened.
+#[derive(Drop)]
+pub struct DirectDevice {
+    drive: Drive<DirectDesk<ImageDisk>>,
+    kind: Option<Kind>,
+    others: Lines,
+    latest: u64,
+}
+
+impl Model for DirectDevice {
+    ghost use Rattle.std.specs.Prelude.{◌≡◌};
+    ghost use Rattle.cbm_direct_device.specs.DirectDevices.{DirectOnLines};
+
+    ghost Value = { DirectOnLines };
+
+    ghost view = { λ d. record { seat = d.drive; kind = d.kind; latest = d.latest } };
+
+    ghost invariant = { λ d. d.others ≡ d.drive.port.others };
+}
+
+/// A drive that is switched on with this disk. It looks whether the disk is sound.
+fn powered(disk: ImageDisk, party: Party) -> Drive<DirectDesk<ImageDisk>>
+    requires device { party.device < 31 }
+    requires reaction { 1 ≤ party.reaction }
+    ensures port { result.port ≡ resting party }
+    ensures powered { IsPoweredWith counted_seen disk result.machine.dos }
+    ensures addressed { result.machine.addressed ≡ paced party.pace (unaddressed party.device) }
+{
+    let desk = DirectDesk::at_power_up(disk, party.device).with_pace(party.pace);
+    Drive::new(desk, party)
+}
+
+impl DirectDevice {
+    /// A drive that is switched on with the disk of an image, and looks whether it is sound. Errors: `Invalid` if the device number
+    /// isn't 8 to 11 or the reaction not 1 to 60, `NoImage`, `Memory`.
+    pub fn open(
+        alloc: Global,
+        image: &[u8],
+        protected: bool,
+        party: Party,
+    ) -> Result<DirectDevice, DeviceRefusal>
+        ensures ok { IfOk result (IsSwitchedOnDirect image.now protected party) }
+        ensures outside { IsUnfitParty party → result ≡ Err DeviceRefusal.Invalid }
+        ensures err { IfErr result (λ r. ((r ≡ DeviceRefusal.Invalid) × IsUnfitParty party) ⊎ IsOpenRefusal image.now r) }
+    {
+        if party.device < DEVICES.0
+            || party.device > DEVICES.1
+            || party.reaction < 1
+            || party.reaction > SLOWEST
+        {
+            return Err(DeviceRefusal::Invalid);
+        }
+        let disk = ImageDisk::open(alloc, image, protected)?;
+        Ok(DirectDevice {
+            drive: powered(disk, party),
+            kind: Some(kind_of(image)),
+            others: FREE,
+            latest: 0,
+        })
+    }
+
+    /// The others hold these lines from a moment on.
+    #[inline(always)]
+    fn hear(&mut self, moment: u64, others: Lines)
+        requires { moment < 2 ^ 60 }
+        ensures port { self.new.seat.port ≡ told moment others self.old.seat.port }
+        ensures acted { IsActed direct_desk_shows (told_act others self.old.seat.port) self.old.seat.machine self.new.seat.machine }
+        ensures since { since_in self.new ≡ since_in self.old }
+        ensures latest { self.new.latest ≡ self.old.latest }
+        ensures kind { self.new.kind ≡ self.old.kind }
+    {
+        self.drive.line(moment, others);
+        self.others = others;
+    }
+
+    /// Whether a reaction is due before a moment.
+    fn is_due_before(&self, moment: u64) -> bool
+        ensures { let due = port_due self.now.seat.port in MatchBool result (IsDueBefore moment due) (IsInTime moment due) }
+    {
+        match self.drive.next_due() {
+            Some(due) => due < moment,
+            None => false,
+        }
+    }
+
+    /// From this moment on all others together hold these lines. If several change, ATN does first, then CLOCK, then DATA. The
+    /// one error is `Invalid`: something happened later already, a reaction is due before, or the moment is none.
+    pub fn lines(&mut self, moment: u64, others: Lines) -> Result<(), DeviceRefusal>
+        ensures in_time { OnOk result (IsOnTimeDirect moment self.old) }
+        ensures told { OnOk result (HasHeardDirect moment others self.old self.new) }
+        ensures err { IfErr result (λ r. (r ≡ DeviceRefusal.Invalid) × IsOutOfTimeDirect moment self.old × (self.new ≡ self.old)) }
+    {
+        if moment >= LAST || moment < self.latest || self.is_due_before(moment) {
+            return Err(DeviceRefusal::Invalid);
+        }
+        let was = self.others;
+        let after_atn = Lines {
+            atn_low: others.atn_low,
+            clock_low: was.clock_low,
+            data_low: was.data_low,
+        };
+        let after_clock = Lines {
+            atn_low: others.atn_low,
+            clock_low: others.clock_low,
+            data_low: was.data_low,
+        };
+        self.hear(moment, after_atn);
+        self.hear(moment, after_clock);
+        self.hear(moment, others);
+        self.latest = moment;
+        Ok(())
+    }
+
+    /// When the next reaction is due, in microseconds; None if nothing is due.
+    #[inline(always)]
+    pub fn next_due(&self) -> Option<u64>
+        ensures { result ≡ port_due self.now.seat.port }
+    {
+        self.drive.next_due()
+    }
+
+    /// The reaction that is due happens.
+    #[inline(always)]
+    fn react(&mut self, moment: u64)
+        requires { moment < 2 ^ 60 }
+        ensures port { self.new.seat.port ≡ reacted moment (direct_desk_shows self.old.seat.machine) self.old.seat.port }
+        ensures acted { let shown = direct_desk_shows self.old.seat.machine in
+            IsActed direct_desk_shows (reaction_act shown self.old.seat.port) self.old.seat.machine self.new.seat.machine }
+        ensures since { since_in self.new ≡ since_in self.old }
+        ensures latest { self.new.latest ≡ self.old.latest }
+        ensures kind { self.new.kind ≡ self.old.kind }
+    {
+        let _changes = self.drive.due(moment);
+    }
+
+    /// The reaction that is due by a moment happens, when it is due. The one error is `Absent`: none is due by then.
+    pub fn due(&mut self, moment: u64) -> Result<DeviceReaction, DeviceRefusal>
+        ensures ok { IfOk result (λ r. (r.moment ≤ moment) × HasReactedDirect r self.old self.new) }
+        ensures err { IfErr result (λ r. (r ≡ DeviceRefusal.Absent) × HasNothingDueDirect moment self.old × (self.new ≡ self.old)) }
+    {
+        let Some(due) = self.drive.next_due() else {
+            return Err(DeviceRefusal::Absent);
+        };
+        if due > moment || due >= LAST {
+            return Err(DeviceRefusal::Absent);
+        }
+        let was = self.drive.own();
+        self.react(due);
+        self.latest = due;
+        Ok(DeviceReaction {
+            moment: due,
+            was,
+            now: self.drive.own(),
+        })
+    }
+
+    /// The lines that the drive holds.
+    pub fn pulls(&self) -> Held
+        ensures { result ≡ self.now.seat.port.own }
+    {
+        self.drive.own()
+    }
+
+    /// The number of the status, which channel 15 reports; nothing of it is taken.
+    pub fn status(&self) -> u8
+        ensures { result ≡ status_in self.now }
+    {
+        self.drive.machine().dos().status().code.number()
+    }
+
+    /// The drive is switched off and on with its disk: its lines are free, no channel is open, none has a buffer, and what was being
+    /// written isn't closed. It takes all lines for free until it is told of them.
+    pub fn reset(&mut self)
+        ensures { IsRestartedDirect self.old self.new }
+    {
+        self.drive.switch_on_again();
+        self.others = FREE;
+    }
+
+    /// The disk that is in the drive: sound, if it was put in so.
+    fn disk(&self) -> &ImageDisk
+        ensures disk { result.now ≡ disk_in self.now }
+        ensures sound { ShowsSoundDisk (since_in self.now) result.now }
+    {
+        self.drive.machine().dos().vouched_medium()
+    }
+
+    /// The image of the disk that is in the drive, in the format in which it was put in, goes to the caller's room, and how many
+    /// bytes it has is reported; a file that is being written stands in it as on the disk, not closed. It is sound, if it was put in
+    /// so. Errors: `Memory`, `NoRoom`, `Absent` if there is no disk.
+    pub fn image(
+        &self,
+        alloc: Global,
+        out: &mut [u8],
+        needed: &mut usize,
+    ) -> Result<(), DeviceRefusal>
+        ensures { GivesImageDirect (answer result) out.old out.new needed.old needed.new self.now }
+    {
+        match self.kind {
+            Some(kind) => given(self.disk().save(alloc, kind), out, needed),
+            None => Err(DeviceRefusal::Absent),
+        }
+    }
+
+    /// How often a sector of the disk in the drive was written, or all were at once, since it was put in; it stops at 2^64 - 1.
+    pub fn writes(&self) -> u64
+        ensures { result ≡ (disk_in self.now).writes }
+    {
+        self.disk().writes()
+    }
+
+    /// The disk of another image is put in, while the drive goes on, which looks whether it is sound: no channel is open, none has a
+    /// buffer, what was being written isn't closed, and its lines and the status stay. Errors: `NoImage`, `Memory`, and then nothing
+    /// has happened.
+    pub fn insert(
+        &mut self,
+        alloc: Global,
+        image: &[u8],
+        protected: bool,
+    ) -> Result<(), DeviceRefusal>
+        ensures ok { OnOk result (HasAnotherDiskDirect image.now protected self.old self.new) }
+        ensures err { IfErr result (λ r. IsOpenRefusal image.now r × (self.new ≡ self.old)) }
+    {
+        let disk = ImageDisk::open(alloc, image, protected)?;
+        self.drive.put_in(disk);
+        self.kind = Some(kind_of(image));
+        Ok(())
+    }
+
+    /// The disk is taken out, while the drive goes on, and its image goes to the caller's room. Errors: `Memory`, `NoRoom`, `Absent`
+    /// if there is none; then nothing has happened.
+    pub fn eject(
+        &mut self,
+        alloc: Global,
+        out: &mut [u8],
+        needed: &mut usize,
+    ) -> Result<(), DeviceRefusal>
+        ensures given { GivesImageDirect (answer result) out.old out.new needed.old needed.new self.old }
+        ensures ok { OnOk result (IsExchangedDirect no_disk None self.old self.new) }
+        ensures err { OnErr result (self.new ≡ self.old) }
+    {
+        self.image(alloc, out, needed)?;
+        self.drive.put_in(ImageDisk::blank());
+        self.kind = None;
+        Ok(())
+    }
+}
