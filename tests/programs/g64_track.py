@@ -3,7 +3,8 @@
 zero ends it and begins a block of group code, four bytes in five."""
 import struct, sys
 
-NIBBLES = [0x0A, 0x0B, 0x12, 0x13, 0x0E, 0x0F, 0x16, 0x17, 0x09, 0x19, 0x1A, 0x1B, 0x0D, 0x1D, 0x1E, 0x15]
+from g64_image import NIBBLES
+
 image = open(sys.argv[1], "rb").read()
 number, _, half = sys.argv[2].partition(".")
 place = struct.unpack_from("<I", image, 12 + 4 * (2 * int(number) - 2 + (half == "5")))[0]

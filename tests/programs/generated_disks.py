@@ -93,16 +93,18 @@ class File:
 class Disk:
     """A sound disk: files in blocks that lie anywhere, empty slots between them, some blocks that are lost."""
 
+    tracks = 35
+
     def __init__(self, seed):
         r = self.random = random.Random(seed)
-        self.image = bytearray(174_848)
+        self.image = bytearray(place(self.tracks + 1, 0))
         self.taken = {(18, 0)}
         names = {odd_name(r) if r.randrange(4) == 0 else plain_name(r) for _ in range(r.choice([0, 1, 3, 5, 8, 12]))}
         self.files = [File(r, name) for name in sorted(names)]
         r.shuffle(self.files)
         self.title = bytes(r.choice(range(65, 91)) for _ in range(r.randint(0, 16)))
         self.put_directory()
-        free = [(t, s) for t in range(1, 36) if t != 18 for s in range(sectors_of(t)) if (t, s) not in self.taken]
+        free = [(t, s) for t in range(1, self.tracks + 1) if t != 18 for s in range(sectors_of(t)) if (t, s) not in self.taken]
         self.taken |= set(r.sample(free, r.choice([0, 0, 5])))
         self.put_map()
 
@@ -114,7 +116,7 @@ class Disk:
         r = self.random
         blocks = []
         while len(blocks) < blocks_for(len(data)):
-            at = (r.choice([*range(1, 18), *range(19, 36)]), 0)
+            at = (r.choice([*range(1, 18), *range(19, self.tracks + 1)]), 0)
             at = (at[0], r.randrange(sectors_of(at[0])))
             if at not in self.taken:
                 self.taken.add(at)

@@ -22,6 +22,7 @@ class Shape:
         self.number = {place: n for n, place in enumerate(self.places)}
 
 
+D64_35 = Shape("D64", 35, zone, (18, 1), 18, (18, 0))
 D64_40 = Shape("D64", 40, zone, (18, 1), 18, (18, 0))
 D64_42 = Shape("D64", 42, zone, (18, 1), 18, (18, 0))
 D71 = Shape("D71", 70, lambda t: zone(t if t < 36 else t - 35), (18, 1), 18, (18, 0))
