@@ -69,6 +69,7 @@ class Disk(model.Disk):
         super().__init__(flat if wide or len(flat) != 196_608 else flat[:174_848], model.D64_40 if wide else model.D64_35)
         self.flat = flat
         entries = [it[32 * n + 2 : 32 * n + 32] for it in self.chain(self.shape.directory, self.shape.most)[0] for n in range(8)]
+        self.system = {(18, 0), *ways(self.shape.directory, self.chain(self.shape.directory, self.shape.most)[0])}
         self.slots = [slot for slot, it in enumerate(entries) if it[0]]
         self.entries = [it for it in entries if it[0]]
         for file, it in zip(self.files, self.entries):
@@ -88,7 +89,13 @@ class Disk(model.Disk):
             firsts.append((entry[19], entry[20]))
             index = self.chain(file.first)[0] if file.geos else []
             firsts += [(index[0][n], index[0][n + 1]) for n in range(2, 256, 2) if index[0][n]] if index else []
-        return [self.chain(it) for it in firsts]
+        return [self.own_chain(it) for it in firsts]
+
+    def own_chain(self, first):
+        """The blocks of a chain up to where it breaks off, or comes to 18/0 or into the directory."""
+        blocks, stop = self.chain(first)
+        count = next((n for n, at in enumerate(ways(first, blocks)) if at in self.system), None)
+        return (blocks, stop) if count is None else (blocks[:count], (0, "directory"))
 
     def held(self):
         """What each closed file holds, whichever blocks it has."""
@@ -99,11 +106,8 @@ class Disk(model.Disk):
         found = set()
         for file in self.files if not self.is_unread((18, 0)) else []:
             for blocks, _ in file.parts if file.closed and file.type != "del" else []:
-                first = file.first if blocks is file.parts[0][0] else None
-                at = first
-                for block in blocks if at else []:
-                    found |= {at} if self.is_free(at) else set()
-                    at = (block[0], block[1])
+                if blocks is file.parts[0][0]:
+                    found |= {at for at in ways(file.first, blocks) if self.is_free(at)}
         return found
 
     def is_unread(self, place):
@@ -117,6 +121,11 @@ class Disk(model.Disk):
         """The sum of the sectors; those of a G64 that can't be read are zeros."""
         blocks = [self.flat[256 * n : 256 * n + 256] for n in range(768 if len(self.flat) == 196_608 else 683)]
         return hashlib.sha256(b"".join(bytes(256) if self.is_g64 and self.errors[n] in model.ERRORS else it for n, it in enumerate(blocks))).hexdigest()
+
+
+def ways(first, blocks):
+    """The places of the blocks of a chain."""
+    return [first, *((it[0], it[1]) for it in blocks)][: len(blocks)]
 
 
 def held(parts):
@@ -253,7 +262,7 @@ def calls(disk, path):
         yield Call("copy", ("copy", path, "--slot", str(slot), "COPIED"), (), [(b"COPIED", file.type, file.data)])
         yield Call("rename", ("rename", path, "--slot", str(slot), "RENAMED"), (slot,), [(b"RENAMED", file.type, file.data)])
         yield Call("delete", ("delete", path, "--slot", str(slot)), (slot,))
-        yield Call("delete by name", ("delete", path, typed(file.name)), tuple(n for n, it in zip(disk.slots, disk.files) if it.name == file.name))
+        yield Call("delete by name", ("delete", path, "--exact", typed(file.name)), tuple(n for n, it in zip(disk.slots, disk.files) if it.name == file.name))
         yield Call("retype", ("retype", path, "--slot", str(slot), "usr"), (slot,), [(file.name, "usr", file.data)])
         yield Call("place", ("place", path, typed(file.name), "--track", "2", "--interleave", "3"))
         lines = f"put {path}.prg --name 'NEW FILE'\nrename --slot {slot} RENAMED\nlock RENAMED\nsort\n"
@@ -295,7 +304,7 @@ def is_converted(tally, image, path, disk, ending):
         out.write(image.data)
     made = f"{path}.made.{ending}"
     status, _, said = run("convert", path, made, "--replace")
-    if status == 0:
+    if status == 0 and os.path.exists(made):
         with open(made, "rb") as it:
             now = Disk(it.read())
         lost = disk.held() - now.held()
@@ -314,7 +323,8 @@ def is_transferred(tally, image, path, disk, other):
         out.write(other.data)
     ran = run("transfer", from_path, path)
     readable = [it for it in source.files if it.closed and it.type in LETTERS]
-    new = [(it.name, it.type, it.data) for it in readable if it.data is not None]
+    # (a drive closes an empty file with one byte, 13, as docs/disk1541.md says)
+    new = [(it.name, it.type, it.data or b"\r") for it in readable if it.data is not None]
     is_kept(tally, image, Call("transfer", (other.path,), (), new), ran, disk, path)
     if ran[0] == 0:
         left = [it.name for it in source.files if it.closed and (it.data is None or getattr(it, "geos", None) is not None)]
@@ -427,7 +437,7 @@ def kind_is_converted(tally, image, room):
     with open(path, "wb") as out:
         out.write(image.data)
     status, _, said = run("convert", path, made, "--replace")
-    if status == 0:
+    if status == 0 and os.path.exists(made):
         with open(made, "rb") as it:
             files = [(it.name, it.type, it.data) for it in Disk(it.read()).files if it.closed]
         tally.is_so(image.path, "convert of another kind loses no file", all((it.name, it.type, it.data) in files for it in there.files), [it[:2] for it in files])

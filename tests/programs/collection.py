@@ -86,7 +86,10 @@ class Writer:
 
     def closed(self):
         """The places of the entries of closed files that have blocks."""
-        return [at for at, there in self.slots() if there and self.image[at] & 0x80 and self.image[at] & 15 in (1, 2, 3) and self.image[at + 1]]
+        return [at for at, there in self.slots() if there and self.image[at] & 0x80 and self.image[at] & 15 in (1, 2, 3) and self.has(*self.image[at + 1 : at + 3])]
+
+    def has(self, track, sector):
+        return 1 <= track <= self.tracks and sector < disks.sectors_of(track)
 
     def add(self, kind, first, name, blocks, more=b""):
         entry = bytes([kind, *first]) + name.ljust(16, b"\xa0") + more.ljust(9, b"\0") + blocks.to_bytes(2, "little")
@@ -200,7 +203,8 @@ def wrong_link(writer, link_of):
     """The link of a block of a closed file becomes another."""
     for at in writer.rng.sample(there := writer.closed(), min(1, len(there))):
         first = tuple(writer.image[at + 1 : at + 3])
-        writer.put(writer.rng.choice((first, tuple(writer.block(first)[:2]))) if writer.block(first)[0] else first, link_of(first))
+        second = tuple(writer.block(first)[:2])
+        writer.put(writer.rng.choice((first, second)) if writer.has(*second) else first, link_of(first))
         writer.is_sound = False
 
 
