@@ -1,22 +1,11 @@
 #!/bin/sh
 # Talks with drive1541 reply from outside: line changes and traces played by hand, a computer in Python, and what is refused.
 # Usage: sh check_reply.sh DRIVE1541 [DISK1541] (the paths of the built programs). Prints one line a case; ends with 1 if one is wrong.
-set -u
 drive=$(realpath "$1")
 tool=${2:+$(realpath "$2")}
-here=$(dirname "$(realpath "$0")")
-examples=$(realpath "$here/../../examples")
-work=$(mktemp -d)
-trap 'rm -rf "$work"' EXIT
+. "$(dirname "$(realpath "$0")")/checks.sh"
 cd "$work" || exit 1
 cp "$examples/hello.d64" "$examples/hello.script" "$examples/listen.lines" "$examples/reply_host.py" .
-wrong=0
-
-is() {
-    name=$1
-    shift
-    if "$@"; then echo "ok    $name"; else echo "WRONG $name"; wrong=1; fi
-}
 
 # The changes among the answers; the marks; the host's changes of a trace as lines.
 changes() { grep -v '^ready\|^error' "$1"; }

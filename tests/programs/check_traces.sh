@@ -1,21 +1,10 @@
 #!/bin/sh
 # Looks at the traces of drive1541 from outside: its VCD, decoded by sigrok-cli (where that is installed) and turned into lines by awk, its pictures, and the judge of traces.
 # Usage: sh check_traces.sh DRIVE1541 (the path of the built program). Prints one line a case; ends with 1 if one is wrong.
-set -u
 drive=$(realpath "$1")
-here=$(dirname "$(realpath "$0")")
-examples=$(realpath "$here/../../examples")
-work=$(mktemp -d)
-trap 'rm -rf "$work"' EXIT
+. "$(dirname "$(realpath "$0")")/checks.sh"
 cd "$work" || exit 1
 cp "$examples/hello.d64" "$examples/hello.script" "$examples/listen.lines" .
-wrong=0
-
-is() {
-    name=$1
-    shift
-    if "$@"; then echo "ok    $name"; else echo "WRONG $name"; wrong=1; fi
-}
 
 # The parties' own lines of a VCD as lines: MOMENT WHO LINE WAY.
 lines_of() {
