@@ -339,4 +339,5 @@ def main():
     sys.exit(bool(check.failed))
 
 
-main()
+if __name__ == "__main__":
+    main()
