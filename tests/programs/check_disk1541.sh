@@ -657,6 +657,8 @@ assert len(titles) == 683 and titles.count("17/0 HELLO") == 1 and titles.count("
 for k in 1 18 25 35; do
     python3 "$here/g64_track.py" track.g64 $k > wanted.txt
     case_of "track $k" 0 "$(cat wanted.txt)" "" "$disk" track track.g64 $k
+    case_of "track $k as JSON" 0 any "" "$disk" track track.g64 $k --json
+    is "says the same" test "$(python3 "$here/json_model.py" track out.txt)" = "$(cat wanted.txt)"
 done
 python3 - <<'X'
 import struct
@@ -673,6 +675,9 @@ open("half.g64", "wb").write(image)
 X
 python3 "$here/g64_track.py" half.g64 17.5 > wanted.txt
 case_of "a half track, with a bit turned" 0 "$(cat wanted.txt)" "" "$disk" track half.g64 17.5
+case_of "as JSON" 0 any "" "$disk" track half.g64 17.5 --json
+is "says the same" test "$(python3 "$here/json_model.py" track out.txt)" = "$(cat wanted.txt)"
+case_of "a track without a mark as JSON" 0 '{"image":"half.g64","track":"36","bits":32,"marks":[],"headers":0,"data":0,"others":0}' "" "$disk" track half.g64 36 --json
 case_of "a track without a mark" 0 "track 36: 32 bits
    bit
 no sync mark" "" "$disk" track half.g64 36
@@ -768,6 +773,11 @@ would free 2/5: no file has them'
 cp geos.d64 before.d64
 case_of "what validate would do" 0 "$kept" "" "$disk" validate geos.d64 --dry-run
 is "and changes nothing" cmp -s geos.d64 before.d64
+of_geos='"deleted":[{"slot":2,"name":"DRAFT","petscii":"4452414654"}],"kept":KEPT,"geos":[{"slot":0,"name":"LETTER","petscii":"4c4554544552","sectors":[{"track":1,"sector":1},{"track":1,"sector":2},{"track":1,"sector":3},{"track":1,"sector":4}]},{"slot":1,"name":"TOOL","petscii":"544f4f4c","sectors":[{"track":1,"sector":7}]}],"border":{"track":1,"sector":9}}'
+blocks='{"track":1,"sector":1},{"track":1,"sector":2},{"track":1,"sector":3},{"track":1,"sector":4},{"track":1,"sector":7},{"track":1,"sector":9}'
+case_of "as JSON" 0 '{"image":"geos.d64","dry_run":true,"freed":[{"track":2,"sector":5}],'"$(echo "$of_geos" | sed "s|KEPT|[$blocks]|")" "" "$disk" validate geos.d64 --dry-run --json
+case_of "by force, as JSON" 0 '{"image":"geos.d64","dry_run":true,"freed":['"$blocks"',{"track":2,"sector":5}],'"$(echo "$of_geos" | sed "s|KEPT|[]|")" "" "$disk" validate geos.d64 --dry-run --force --json
+is "and changes nothing" cmp -s geos.d64 before.d64
 case_of "by force it would" 0 "$plan" "" "$disk" validate geos.d64 --dry-run --force
 is "and still changes nothing" cmp -s geos.d64 before.d64
 case_of "and does" 0 "$(echo "$plan" | sed 's/^would free/freed/; s/^would delete/deleted/')" "" "$disk" validate geos.d64 --force
@@ -841,20 +851,30 @@ END
 case_of "check --all of a sound disk" 0 "sound" "" "$disk" check --all salvage.d64
 case_of "check --all, a sector that doesn't read" 1 "$track/$sector  the block is in use, but can't be read: checksum (error 23), in \"BIG\", 1 of its 4 blocks come before it
 lost: $rest
+lost blocks may be the rest of \"BIG\", whose chain is broken: take out what can be read first, by \`get --salvage\`
 can be mended: 2 lost blocks. can't: 1 file
 sound but for 1 odd entry: all else can be changed" "" "$disk" check --all checksum.d64
 case_of "check --all, a chain that is cut off" 1 "99/$after  a file's chain leads here, where no block of a file can be, in \"BIG\", 2 of its 4 blocks come before it
 lost: $others
+lost blocks may be the rest of \"BIG\", whose chain is broken: take out what can be read first, by \`get --salvage\`
 can be mended: 3 lost blocks. can't: 1 file
 sound but for 1 odd entry: all else can be changed" "" "$disk" check --all cut.d64
 case_of "check --all, a block that is used twice" 1 "$twice  the block is used twice, in \"ONE\", \"BIG\", 0 of its 1 blocks come before it
 lost: $unused
+lost blocks may be the rest of \"ONE\", whose chain is broken: take out what can be read first, by \`get --salvage\`
 can be mended: 1 lost block. can't: 1 file" "" "$disk" check --all shared.d64
 case_of "check --all, a block that is free in the map" 1 "$uncounted/0  the count of the track's free blocks isn't the number of blocks marked free
 $unmarked  the block is in use, but marked free, in \"BIG\", 3 of its 4 blocks come before it
 can be mended: the map" "" "$disk" check --all free.d64
 case_of "which validate mends" 0 "" "" "$disk" validate free.d64
-case_of "check --all as JSON" 1 '{"image":"shared.d64","sound":false,"flaws":[{"track":'"${twice%/*}"',"sector":'"${twice#*/}"',"number":3,"text":"the block is used twice","error":null,"files":["ONE","BIG"],"before":0,"mendable":false}],"lost":[{"track":'"${unused%/*}"',"sector":'"${unused#*/}"'}],"odd":[]}' "" "$disk" check --all --json shared.d64
+case_of "check --all as JSON" 1 '{"image":"shared.d64","sound":false,"flaws":[{"track":'"${twice%/*}"',"sector":'"${twice#*/}"',"number":3,"text":"the block is used twice","error":null,"files":["ONE","BIG"],"before":0,"mendable":false}],"lost":[{"track":'"${unused%/*}"',"sector":'"${unused#*/}"'}],"rests":[{"slot":1,"name":"ONE","petscii":"4f4e45"}],"odd":[]}' "" "$disk" check --all --json shared.d64
+for image in salvage checksum cut shared free; do
+    case_of "map of $image.d64 as JSON" 0 "$(python3 "$here/json_model.py" map $image.d64)" "" "$disk" map $image.d64 --json
+done
+case_of "map of a disk whose lost blocks are the rest of a file" 0 any "" "$disk" map checksum.d64
+is "says of which" test "$(tail -n 1 out.txt)" = '? may be the rest of "BIG", whose chain is broken: take out what can be read first, by `get --salvage`'
+case_of "map of a sound disk" 0 any "" "$disk" map salvage.d64
+is "doesn't" test "$(tail -n 1 out.txt)" = '? lost: no file uses it, but it isn'"'"'t free   ! used, but marked free'
 "$disk" check checksum.d64 > first.txt
 is "check names the first of them" test "$(cat first.txt)" = "track $track, sector $sector: the block is in use, but can't be read; sound but for 1 odd entry"
 case_of "check --all of several" 4 any "" "$disk" check --all salvage.d64 cut.d64
@@ -862,7 +882,7 @@ is "with a line for all" test "$(tail -n 1 out.txt)" = "2 images: 1 sound, 1 not
 
 # what validate refuses: the file at fault goes out of the directory, and then it doesn't
 cp cut.d64 before.d64
-case_of "validate of a cut chain" 1 "" "disk1541: cut.d64 can't be put in order: a link leads to track 99, sector $after, which the disk doesn't have (error 66); \`disk1541 check --all\` names the files at fault, which \`delete --force\` takes out; where it names none, the directory is at fault: \`get-all --salvage\` takes the files out" "$disk" validate cut.d64
+case_of "validate of a cut chain" 1 "" "disk1541: cut.d64 can't be put in order: a link leads to track 99, sector $after, which the disk doesn't have (error 66); \`disk1541 check --all\` names the files at fault: \`get --salvage\` takes out what can be read of one, then \`delete --force\` removes it; where it names none, the directory is at fault: \`get-all --salvage\` takes the files out" "$disk" validate cut.d64
 cp cut.d64 put.d64
 case_of "put beside it" 0 "" "" "$disk" put put.d64 one.prg --name NEW
 is "leaves what is left of its chain" test "$("$disk" get --salvage put.d64 BIG -o - 2> told.txt | cksum; cat told.txt)" = "$("$disk" get --salvage cut.d64 BIG -o - 2> told.txt | cksum; cat told.txt)"
@@ -923,6 +943,11 @@ case_of "sector" 0 any "" "$disk" sector "$examples/hello.d64" 18 1
 is "shows sixteen lines" test "$(wc -l < out.txt)" = 16
 is "with places, bytes and characters" test "$(head -n 1 out.txt)" = "00  00 ff 82 11 00 48 45 4c 4c 4f a0 a0 a0 a0 a0 a0  .....HELLO......"
 case_of "a sector that can't be read" 1 "" "disk1541: checksum.d64: track $track, sector $sector can't be read (error 23)" "$disk" sector checksum.d64 "$track" "$sector"
+for at in "18 0" "18 1" "17 0" "1 0"; do
+    # shellcheck disable=SC2086
+    case_of "sector $at as JSON" 0 "$(python3 "$here/json_model.py" sector salvage.d64 $at)" "" "$disk" sector salvage.d64 $at --json
+done
+case_of "as JSON one that can't be read" 1 "$(python3 "$here/json_model.py" sector checksum.d64 "$track" "$sector")" "disk1541: checksum.d64: track $track, sector $sector can't be read (error 23)" "$disk" sector checksum.d64 "$track" "$sector" --json
 case_of "no such sector" 64 "" "disk1541: no disk has such a sector: 21 (tracks are 1 to 40, sectors 0 to 20)" "$disk" sector hello.d64 1 21
 case_of "no such track in the image" 1 "" "disk1541: hello.d64 has no such track" "$disk" sector hello.d64 36 0
 case_of "no number" 64 "" "disk1541: no disk has such a sector: x (tracks are 1 to 40, sectors 0 to 20)" "$disk" sector hello.d64 x 0

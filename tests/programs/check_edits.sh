@@ -196,6 +196,7 @@ refused "run x.txt" 64 "disk1541: run is no command of a line: take put, copy, r
 refused "put -" 64 "disk1541: - can't be said in a line of \`run\`"
 refused "lock OTHER --only X" 64 "disk1541: --only can't be said in a line of \`run\`"
 refused "delete OTHER --dry-run" 64 "disk1541: --dry-run can't be said in a line of \`run\`"
+refused "validate --json" 64 "disk1541: --json can't be said in a line of \`run\`"
 refused "validate other.d64" 64 "disk1541: other.d64 can't be said in a line of \`run\`"
 refused "retype OTHER rel" 64 "disk1541: rel is no type that a file gets: take prg, seq or usr"
 printf 'rename HELLO OTHER\nput --wrong\n' > lines.txt
@@ -332,6 +333,10 @@ would free 1/0: no file has them
 none.d64:
 3 images: 2 would be done, 1 refused' "disk1541: can't read none.d64: no such file or folder
 disk1541: none.d64 stays as it is" "$disk" validate s1.d64 lost.d64 none.d64 --dry-run
+case_of "the same for programs" 4 '{"image":"s1.d64","dry_run":true,"freed":[],"deleted":[],"kept":[],"geos":[],"border":null}
+{"image":"lost.d64","dry_run":true,"freed":[{"track":1,"sector":0}],"deleted":[],"kept":[],"geos":[],"border":null}
+{"image":"none.d64","status":3,"error":"no such file or folder"}' "disk1541: can't read none.d64: no such file or folder
+disk1541: none.d64 stays as it is" "$disk" validate s1.d64 lost.d64 none.d64 --dry-run --json
 case_of "validate of several images" 0 's1.d64:
 lost.d64:
 freed 1/0: no file has them

@@ -120,10 +120,16 @@ pub const JSON: Word = Word {
     ..FLAG
 };
 
-/// What differs between two images, for programs.
+/// What a command shows of one or two images, for programs.
 pub const JSON_OBJECT: Word = Word {
     help: "print JSON for programs",
     ..JSON
+};
+
+/// The sectors of MAP, for programs.
+pub const JSON_MAP: Word = Word {
+    excludes: &["svg"],
+    ..JSON_OBJECT
 };
 
 /// The image that DIFF compares with another one.
