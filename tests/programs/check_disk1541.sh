@@ -644,6 +644,8 @@ is "has a letter for the block" grep -q '^17     A\.\.\.' out.txt
 is "and which file it is" grep -qx 'A "HELLO" prg' out.txt
 case_of "map with a relative file" 0 any "" "$disk" map records.d64 --files
 is "has its side sector, too" test "$(head -n 37 out.txt | tail -n 35 | tr -cd A | wc -c)" = 3
+case_of "and as JSON" 0 any "" "$disk" map records.d64 --json
+is "too" test "$(grep -o '"state":"used","slots":\[0\]' out.txt | wc -l)" = 3
 case_of "map as a picture" 0 "" "" "$disk" map "$examples/hello.d64" --svg hello.svg
 is "has a square for each sector, with its title" python3 -c '
 import xml.etree.ElementTree as tree
@@ -758,6 +760,12 @@ GEOS "TOOL": application, one sequence' "" "$disk" list geos.d64
 case_of "info of it" 0 any "" "$disk" info geos.d64
 is "tells the files of GEOS, too" test "$(tail -n 2 out.txt)" = 'GEOS "LETTER": document, records (VLIR)
 GEOS "TOOL": application, one sequence'
+case_of "map of it as JSON" 0 any "" "$disk" map geos.d64 --json
+is "has what GEOS keeps, which the drive calls lost" test "$(grep -o '"state":"lost","slots":\[[01]*\]' out.txt | LC_ALL=C sort | uniq -c | tr -s ' \n' '  ')" = ' 4 "state":"lost","slots":[0] 1 "state":"lost","slots":[1] 2 "state":"lost","slots":[] '
+"$disk" convert geos.d64 geos.g64
+"$disk" map geos.g64 --json | sed 's/geos.g64/geos.d64/' > geos.json
+is "of a G64, too" cmp -s geos.json out.txt
+rm geos.g64
 case_of "JSON of it" 0 any "" "$disk" list geos.d64 --json
 is "too" grep -q '"name":"LETTER",.*"geos":{"kind":7,"text":"document","records":true}},{"slot":1,"name":"TOOL",.*"geos":{"kind":6,"text":"application","records":false}},{"slot":2,"name":"DRAFT",.*"geos":null}' out.txt
 plan='would free 1/1 1/2 1/3 1/4: blocks of the GEOS file "LETTER"
