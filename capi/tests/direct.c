@@ -89,6 +89,7 @@ static void reads(host *h, const uint8_t *image, size_t len) {
     expect(told(h, "U1:2,1,18,0") && y1541_status(drive(h)) == 74 && says(h, "74,DRIVE NOT READY,00,00"), "no such drive");
     expect(told(h, "U1:3,0,18,0") && y1541_status(drive(h)) == 70 && says(h, "70,NO CHANNEL,00,00"), "no buffer");
     expect(told(h, "U1:2,0,18") && says(h, "30,SYNTAX ERROR,00,00"), "a number too few");
+    expect(told(h, "V0") && says(h, "60,WRITE FILE OPEN,00,00") && told(h, "N0:OTHER,OT") && says(h, "60,WRITE FILE OPEN,00,00"), "N and V wait until no channel has a buffer");
     expect(told(h, "M-R\x40\xff\x02") && kernal_input(&h->kernal, 8, 15, bytes, BLOCK) == 2 && bytes[0] == 0xaa && bytes[1] == 0xaa && is_fine(h), "M-R of two bytes, and then the status");
     expect(told(h, "B-P:2,0") && is_fine(h) && y1541_image_sector(image, len, 18, 0, file, BLOCK) == Y1541_OK && kernal_input(&h->kernal, 8, 2, bytes, 3) == 3 && !memcmp(bytes, file, 3), "what wasn't read has changed nothing");
 }
@@ -148,13 +149,58 @@ static void damaged(uint8_t pace) {
     y1541_close(drive(&h));
 }
 
+/* A bus with a drive 8 that has direct access, with a drive 9 that hasn't, or with both. */
+static void switched_on(host *h, const uint8_t *disks[2], const size_t lens[2], uint8_t pace, int first, int second) {
+    memset(h, 0, sizeof *h);
+    expect(!first || bus_open_direct(&h->bus, 0, disks[0], lens[0], 8, 20, pace, 0) == Y1541_OK, "a drive with direct access");
+    expect(!second || bus_open(&h->bus, 1, disks[1], lens[1], 9, 35, pace, 0) == Y1541_OK, "a drive without");
+    kernal_init(&h->kernal, &h->bus, pace == Y1541_PROFILE ? DARK_PAL : PAL, 1);
+}
+
+static int commanded(host *h, uint8_t device, const char *command) { return kernal_print(&h->kernal, device, 15, (const uint8_t *)command, strlen(command)); }
+
+/* A block is claimed and written at drive 8. */
+static void writes_a_block(host *h) {
+    expect(kernal_open(&h->kernal, 8, 2, "#") && kernal_print(&h->kernal, 8, 2, (const uint8_t *)"BLOCK", 5), "bytes for a block");
+    expect(commanded(h, 8, "B-A:0,1,0") && is_fine(h) && commanded(h, 8, "U2:2,0,1,0") && is_fine(h), "it is claimed and written");
+}
+
+/* A file is written at drive 9, which has no buffers. */
+static void writes_a_file(host *h) {
+    expect(kernal_save(&h->kernal, 9, "FILE", program, sizeof program) && kernal_open(&h->kernal, 9, 3, "#") && y1541_status(&h->bus.drive[1]) == 70, "SAVE, and no buffer");
+}
+
+/* The image of a drive, which is switched off. Its length; its disk is sound. */
+static size_t image_of(host *h, int i, uint8_t *image) {
+    size_t needed = 0;
+    y1541_place place;
+    expect(y1541_image(&h->bus.drive[i], image, ROOM, &needed) == Y1541_OK && y1541_image_check(image, needed, &place) == Y1541_OK, "a sound disk");
+    y1541_close(&h->bus.drive[i]);
+    return needed;
+}
+
+/* Two drives on one bus, one with direct access and one without: each leaves the disk that it leaves alone. */
+static void beside_another(uint8_t form, uint8_t pace) {
+    static uint8_t disk[2][ROOM], alone[2][ROOM], both[2][ROOM];
+    const uint8_t *disks[2] = {disk[0], disk[1]};
+    const size_t lens[2] = {disk_of(form, "FIRST", disk[0]), disk_of(form, "SECOND", disk[1])};
+    size_t was[2];
+    host h;
+    switched_on(&h, disks, lens, pace, 1, 0), expect(says(&h, "73,CBM DOS V2.6 1541,00,00"), "alone"), writes_a_block(&h);
+    was[0] = image_of(&h, 0, alone[0]);
+    switched_on(&h, disks, lens, pace, 0, 1), writes_a_file(&h);
+    was[1] = image_of(&h, 1, alone[1]);
+    switched_on(&h, disks, lens, pace, 1, 1), expect(says(&h, "73,CBM DOS V2.6 1541,00,00"), "beside another"), writes_a_block(&h), writes_a_file(&h);
+    for (int i = 0; i < 2; i++) expect(image_of(&h, i, both[i]) == was[i] && !memcmp(both[i], alone[i], was[i]), "as alone");
+}
+
 int main(int argc, char **argv) {
     if (argc < 2) return fprintf(stderr, "direct IMAGE\n"), 2;
     size_t len;
     uint8_t *image = read_file(argv[1], &len);
     for (uint8_t pace = Y1541_PROFILE; pace <= Y1541_KERNAL; pace++) {
         without(image, len, pace), damaged(pace);
-        for (uint8_t form = Y1541_D64_35; form <= Y1541_G64; form++) form_of(form, pace);
+        for (uint8_t form = Y1541_D64_35; form <= Y1541_G64; form++) form_of(form, pace), beside_another(form, pace);
     }
     free(image);
     printf("direct: %d wrong\n", wrong);

@@ -56,15 +56,15 @@ static int32_t reacts(y1541 *d, uint64_t moment, y1541_reacted *reacted) {
     return said;
 }
 
-/* LOAD, SAVE, a directory, a file in parts, records. Gives the size of the image at the end. */
-static size_t session(const uint8_t *image, size_t len, uint8_t *after) {
+/* LOAD, SAVE, a directory, files in parts, an append, records, SCRATCH, and what is refused. Gives the size of the image at the end. */
+static size_t session(const uint8_t *image, size_t len, uint8_t pace, uint8_t *after) {
     static uint8_t bytes[70000];
     bus b = {0};
     kernal k;
     size_t needed = 0;
     for (size_t i = 0; i < 600; i++) bytes[i] = (uint8_t)(i * 7);
-    expect(bus_open(&b, 0, image, len, 8, 20, Y1541_KERNAL, 0) == Y1541_OK, "a drive");
-    kernal_init(&k, &b, PAL, 1);
+    expect(bus_open(&b, 0, image, len, 8, 20, pace, 0) == Y1541_OK, "a drive");
+    kernal_init(&k, &b, pace == Y1541_PROFILE ? DARK_PAL : PAL, 1);
     expect(kernal_save(&k, 8, "ONE", bytes, 600), "SAVE");
     expect(kernal_open(&k, 8, 2, "TWO,S,W") && kernal_print(&k, 8, 2, bytes, 100), "a file is being written");
     expect(kernal_load(&k, 8, "ONE", bytes, sizeof bytes) == 600, "LOAD");
@@ -72,20 +72,24 @@ static size_t session(const uint8_t *image, size_t len, uint8_t *after) {
     expect(kernal_print(&k, 8, 2, bytes, 300) && kernal_close(&k, 8, 2), "the file is finished");
     expect(kernal_open(&k, 8, 3, "REL,L,\x14") && kernal_print(&k, 8, 15, (const uint8_t *)"P\x63\x04\x00\x01", 5), "records");
     expect(kernal_print(&k, 8, 3, (const uint8_t *)"FOUR", 4) && kernal_close(&k, 8, 3), "a record");
-    expect(kernal_load(&k, 8, "NONE", bytes, sizeof bytes) < 0 && y1541_status(&b.drive[0]) == 62, "no such file");
+    expect(kernal_open(&k, 8, 4, "TWO,S,A") && kernal_print(&k, 8, 4, bytes, 300) && kernal_close(&k, 8, 4), "an append");
+    expect(kernal_open(&k, 8, 5, "TWO,S") && kernal_input(&k, 8, 5, bytes, sizeof bytes) == 700 && kernal_close(&k, 8, 5), "the whole file");
+    expect(kernal_print(&k, 8, 15, (const uint8_t *)"S0:ONE", 6), "SCRATCH");
+    kernal_load(&k, 8, "NONE", bytes, sizeof bytes);
+    expect(y1541_status(&b.drive[0]) == (pace == Y1541_KERNAL ? 62 : 61), "no such file");
     expect(y1541_image(&b.drive[0], after, ROOM, &needed) == Y1541_OK, "the image");
     y1541_close(&b.drive[0]);
     return needed;
 }
 
-/* Both runs over an image. */
-static void goes_on(const uint8_t *image, size_t len) {
+/* Both runs over an image, at a pace. */
+static void goes_on(const uint8_t *image, size_t len, uint8_t pace) {
     run plain = {malloc(EVENTS * sizeof(uint64_t)), 0, 0, 0}, other = {malloc(EVENTS * sizeof(uint64_t)), 0, 53, 0};
     if (!plain.events || !other.events) exit(2);
     current = &plain;
-    size_t n = session(image, len, image_after[0]);
+    size_t n = session(image, len, pace, image_after[0]);
     current = &other;
-    size_t m = session(image, len, image_after[1]);
+    size_t m = session(image, len, pace, image_after[1]);
     expect(plain.count == other.count && plain.count < EVENTS && !memcmp(plain.events, other.events, plain.count * sizeof(uint64_t)), "event by event");
     expect(other.restored > 300, "at hundreds of moments");
     expect(n == m && !memcmp(image_after[0], image_after[1], n), "the images are equal");
@@ -119,10 +123,10 @@ int main(int argc, char **argv) {
     size_t len, n = 0;
     static uint8_t g64[ROOM];
     uint8_t *image = read_file(argv[1], &len);
-    goes_on(image, len);
+    goes_on(image, len, Y1541_KERNAL), goes_on(image, len, Y1541_PROFILE);
     broken(image, len);
     expect(y1541_image_new(Y1541_G64, (const uint8_t *)"ROUND", 5, 'G', '6', g64, ROOM, &n) == Y1541_OK, "a G64");
-    goes_on(g64, n);
+    goes_on(g64, n, Y1541_KERNAL), goes_on(g64, n, Y1541_PROFILE);
     free(image);
     printf("snapshots: %d wrong\n", wrong);
     return wrong != 0;

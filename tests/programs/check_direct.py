@@ -1,15 +1,15 @@
 #!/usr/bin/env python3
-"""check_direct.py DRIVE1541 [--scripts N]: random scripts of direct access, and what a plain model in Python says of them.
+"""check_direct.py DRIVE1541 [--scripts N] [--only WORD]: random scripts of direct access, and what a plain model in Python says of them.
 1. Scripts of buffers and commands on blocks, on a disk of random bytes, which isn't sound: each answer is the model's, and the image stays as it is.
 2. The same on an empty disk: each answer is the model's, and so is each byte of the image.
 3. Scripts of files alone: with --direct all is printed and saved as without it.
 4. Scripts of both, with files open: the image is sound after each, and each file that was closed reads as it was written.
-Prints one line a case. Last line: 'N passed, M failed'."""
+With --only those alone whose names contain the word. Prints one line a case. Last line: 'N passed, M failed'."""
 import argparse, os, random, subprocess, sys, tempfile
 
 SECTORS = [0] + [21] * 17 + [19] * 7 + [18] * 6 + [17] * 5
 ROM = {0xE5B6 + i: b for i, b in enumerate(b"\x73\xc3BM DOS V2.6 154\xb1")} | {0xFEA0: 0x0D, 0xFEA1: 0xED, 0xFF40: 0xAA, 0xFF41: 0xAA}
-TEXTS = {0: " OK", 26: "WRITE PROTECT ON", 30: "SYNTAX ERROR", 31: "SYNTAX ERROR", 65: "NO BLOCK", 66: "ILLEGAL TRACK OR SECTOR", 70: "NO CHANNEL", 73: "CBM DOS V2.6 1541", 74: "DRIVE NOT READY"}
+TEXTS = {0: " OK", 26: "WRITE PROTECT ON", 30: "SYNTAX ERROR", 31: "SYNTAX ERROR", 60: "WRITE FILE OPEN", 65: "NO BLOCK", 66: "ILLEGAL TRACK OR SECTOR", 70: "NO CHANNEL", 73: "CBM DOS V2.6 1541", 74: "DRIVE NOT READY"}
 
 
 def place(track, sector):
@@ -218,6 +218,10 @@ def direct_script(r, drive):
         elif kind == 7:
             lines.append(f"close {channel}")
             drive.close(channel)
+        elif kind == 8 and any(it is not None for it in drive.owner) and r.random() < 0.3:
+            lines.append(f"put 15 {r.choice(('N0:OTHER', 'N:OTHER,OT', 'NEW0:OTHER,OT', 'V', 'V0', 'VALIDATE'))}")
+            drive.status = (60, 0, 0)
+            ask()
         elif kind == 8:
             text = bytes(r.randrange(256) for _ in range(r.randint(1, 40)))
             lines.append(f"put {channel} {escaped(text)}")
@@ -310,6 +314,7 @@ def main():
     parser = argparse.ArgumentParser()
     parser.add_argument("drive")
     parser.add_argument("--scripts", type=int, default=300)
+    parser.add_argument("--only", default="")
     words = parser.parse_args()
     with tempfile.TemporaryDirectory() as room:
         check = Checker(os.path.realpath(words.drive), room)
@@ -320,6 +325,8 @@ def main():
             ("files alone, with direct access and without", lambda r: files_alone(check, r, empty)),
             ("files and blocks: sound, and each file whole", lambda r: files_and_blocks(check, r, empty)),
         ):
+            if words.only not in name:
+                continue
             wrong = next((f"seed {seed}: {it}" for seed in range(words.scripts) if (it := one(random.Random(f"{name} {seed}")))), None)
             check.say(f"{words.scripts} scripts of {name}", wrong)
         # (a model that is wrong is told)
@@ -332,4 +339,5 @@ def main():
     sys.exit(bool(check.failed))
 
 
-main()
+if __name__ == "__main__":
+    main()

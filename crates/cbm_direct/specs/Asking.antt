@@ -1,10 +1,14 @@
 -- What the texts of direct access ask for (Commodore 1541 User's Guide; Immers and Neufeld, Inside Commodore DOS).
+use Rattle.cbm_command.specs.Commands.{command_of}
+use Rattle.cbm_command.specs.declared.command.Command.{Command}
+use Rattle.cbm_command.specs.declared.command.Command.TheVariants.{New, Validate}
+use Rattle.cbm_command.specs.declared.refusal.Refusal.{Refusal}
 use Rattle.cbm_machine.specs.Calls.{without_return}
-use Rattle.std.specs.Prelude.{ℕ, ◌+◌, ◌-◌, ◌*◌, ◌==◌, ◌&&◌, ◌||◌, nat_lt, nat_le, min, max, Bool, true, false, List, [], ◌∷◌, drop, length, slice_index_or, Option, Some, None, option_map, if◌then◌else◌}
+use Rattle.std.specs.Prelude.{ℕ, ◌+◌, ◌-◌, ◌*◌, ◌==◌, ◌&&◌, ◌||◌, nat_lt, nat_le, min, max, Bool, true, false, List, [], ◌∷◌, drop, length, slice_index_or, Option, Some, None, Result, Ok, option_map, if◌then◌else◌}
 use Rattle.cbm_direct.specs.declared.asked.Block.{Block}
 use Rattle.cbm_direct.specs.declared.asked.Sector.{Sector}
 use Rattle.cbm_direct.specs.declared.asked.Asked.{Asked}
-use Rattle.cbm_direct.specs.declared.asked.Asked.TheVariants.{Read, ReadCounted, Write, WriteCounted, Allocate, Free, Seek, Memory, Restart, Nothing, Unread}
+use Rattle.cbm_direct.specs.declared.asked.Asked.TheVariants.{Read, ReadCounted, Write, WriteCounted, Allocate, Free, Seek, Memory, Restart, Nothing, Held, Unread}
 use Rattle.cbm_direct.specs.declared.wanted.Wanted.{Wanted}
 use Rattle.cbm_direct.specs.declared.wanted.Wanted.TheVariants as wanted
 
@@ -154,6 +158,16 @@ buffer_wanted (c ∷ []) = if c == 35 then Some wanted.Any else None
 buffer_wanted (c ∷ d ∷ []) = if c == 35 then Some (if is_figure d then wanted.Number (d - 48) else wanted.Unread) else None
 buffer_wanted (c ∷ d ∷ e ∷ rest) = if c == 35 then Some wanted.Unread else None
 
--- what the text of a command asks of direct access, without one return at its end: nothing if it has more than 58 bytes
-abbrev pub command_asked : List ℕ → Option Asked
-command_asked text = if nat_lt 58 (length (without_return text)) then None else asked_in (without_return text)
+-- whether a command is about the whole disk: N and V
+abbrev pub is_of_whole_disk : Result Command Refusal → Bool
+is_of_whole_disk (Ok (New title id)) = true
+is_of_whole_disk (Ok Validate) = true
+is_of_whole_disk _ = false
+
+-- What the text of a command asks of direct access while so many channels have buffers, without one return at its end: nothing if it has
+-- more than 58 bytes; N and V are held back if a channel has a buffer.
+abbrev pub command_asked : ℕ → List ℕ → Option Asked
+command_asked buffers text =
+    if nat_lt 58 (length (without_return text)) then None
+    else if nat_lt 0 buffers && is_of_whole_disk (command_of (without_return text)) then Some Held
+    else asked_in (without_return text)

@@ -4,7 +4,7 @@ use Rattle.cbm_medium.specs.Place.{Place, Has, directory_head}
 use Rattle.cbm_medium.specs.Seen.{Seen}
 use Rattle.cbm_medium.specs.declared.fault.Trouble.{Trouble}
 use Rattle.cbm_machine.specs.declared.code.Code.{Code}
-use Rattle.cbm_machine.specs.declared.code.Code.TheVariants.{Fine, WriteProtected, NoBlock, NoChannel, WrongLink, Syntax, DriveNotReady}
+use Rattle.cbm_machine.specs.declared.code.Code.TheVariants.{Fine, WriteProtected, NoBlock, NoChannel, WriteFileOpen, WrongLink, Syntax, DriveNotReady}
 use Rattle.cbm_machine.specs.declared.status.Status.{Status}
 use Rattle.cbm_machine.specs.Talking.{taken}
 use Rattle.cbm_machine.specs.Statuses.{plain, trouble_status}
@@ -20,7 +20,7 @@ use Rattle.cbm_channel.specs.Shown.{shown_by, cost_on}
 use Rattle.cbm_direct.specs.declared.asked.Block.{Block}
 use Rattle.cbm_direct.specs.declared.asked.Sector.{Sector}
 use Rattle.cbm_direct.specs.declared.asked.Asked.{Asked}
-use Rattle.cbm_direct.specs.declared.asked.Asked.TheVariants.{Read, ReadCounted, Write, WriteCounted, Allocate, Free, Seek, Memory, Restart, Nothing, Unread}
+use Rattle.cbm_direct.specs.declared.asked.Asked.TheVariants.{Read, ReadCounted, Write, WriteCounted, Allocate, Free, Seek, Memory, Restart, Nothing, Held, Unread}
 use Rattle.cbm_direct.specs.declared.memory.Reply.{Reply}
 use Rattle.cbm_direct.specs.Buffered.{Buffered, ThreeBuffers, three_free, has_buffer, on_buffer, shown_in, with_sector_read, with_counted_block, bytes_of_channel, bytes_as_they_are, bytes_counted, at_place, given_back, taken_count, with_any_for, with_number_for}
 use Rattle.cbm_direct.specs.Asking.{buffer_wanted}
@@ -182,6 +182,7 @@ IsAskedDone seen (Seek ch place) old new = IsSought ch place old new
 IsAskedDone seen (Memory address count) old new = TellsOnly (plain Fine) old.buffers (Some (record { address = address; left = count })) old new
 IsAskedDone seen Restart old new = HasStarted seen old new
 IsAskedDone seen Nothing old new = DirectAnswers (plain Fine) old new
+IsAskedDone seen Held old new = DirectAnswers (plain WriteFileOpen) old new
 IsAskedDone seen Unread old new = DirectAnswers (plain Syntax) old new
 
 -- what channel 15 shows: what is left of M-R's answer, else the status

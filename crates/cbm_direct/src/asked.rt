@@ -45,6 +45,8 @@ pub enum Asked {
     Restart,
     /// UI+ or UI-: nothing.
     Nothing,
+    /// N or V while a channel has a buffer.
+    Held,
     /// The numbers of a command that can't be read.
     Unread,
 }

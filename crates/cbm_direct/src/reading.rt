@@ -1,11 +1,13 @@
 //! Reading the text of a command of direct access.
 ghost use Rattle.std.specs.Prelude.{◌≡◌, option_map};
+ghost use Rattle.cbm_command.specs.Commands.{command_of};
 ghost use Rattle.cbm_machine.specs.Calls.{without_return};
-ghost use Rattle.cbm_direct.specs.Asking.{behind_byte, behind_number, first_number, numbers_of, block_in, on_block, sector_in, on_sector, place_from, start_asked, user_asked, block_asked, memory_read, memory_asked, asked_in, command_asked};
+ghost use Rattle.cbm_direct.specs.Asking.{behind_byte, behind_number, first_number, numbers_of, block_in, on_block, sector_in, on_sector, place_from, start_asked, user_asked, block_asked, memory_read, memory_asked, asked_in, is_of_whole_disk, command_asked};
 ghost use Rattle.cbm_direct.specs.declared.asked.Asked.TheVariants.{Read, ReadCounted, Write, WriteCounted, Allocate, Free};
 
 use crate::asked::{Asked, Block, Sector};
 use crate::numbers::{behind_number, first_number};
+use cbm_command::{Command, parse_command};
 
 /// The text behind the first such byte.
 fn behind_byte(byte: u8, text: &[u8]) -> Option<&[u8]>
@@ -232,14 +234,27 @@ fn without_return(text: &[u8]) -> &[u8]
     }
 }
 
-/// What the text of a command asks of direct access, without one return at its end; None if it is for the DOS, as one of more than 58
-/// bytes is.
-pub(crate) fn command_asked(text: &[u8]) -> Option<Asked>
-    ensures { result ≡ command_asked text.now }
+/// Whether a command is about the whole disk, as N and V are.
+fn is_of_whole_disk(text: &[u8]) -> bool
+    ensures { result ≡ is_of_whole_disk (command_of text.now) }
+{
+    matches!(
+        parse_command(text),
+        Ok(Command::New(..) | Command::Validate)
+    )
+}
+
+/// What the text of a command asks of direct access while so many channels have buffers, without one return at its end; None if it is
+/// for the DOS, as one of more than 58 bytes is.
+pub(crate) fn command_asked(buffers: usize, text: &[u8]) -> Option<Asked>
+    ensures { result ≡ command_asked buffers text.now }
 {
     let text = without_return(text);
     if text.len() > 58 {
         return None;
+    }
+    if buffers > 0 && is_of_whole_disk(text) {
+        return Some(Asked::Held);
     }
     asked_by(text)
 }

@@ -276,5 +276,6 @@ pub fn mapping<'a>(words: &ArgMatches<'a>, charset: Charset, is_coloured: bool) 
         replaces: flag(words, "replace"),
         charset,
         is_coloured,
+        is_json: flag(words, "json"),
     }
 }

@@ -1,6 +1,6 @@
 //! Commands that change several images, each by itself.
 use crate::lock::lock_folder;
-use crate::tasks::change_with;
+use crate::tasks::{change_with, tell_other};
 use clap::ArgMatches;
 use disk_basics::host::{is_standard, print};
 use disk_basics::{Failure, WordFault, in_memory};
@@ -71,7 +71,8 @@ fn change_among<'a>(
     image: &'a str,
     outcome: &mut Outcome,
 ) -> Result<(), Failure<'a>> {
-    if flag(words, "dry-run") || matches!(verb, Verb::Validate) {
+    let is_json = flag(words, "json");
+    if !is_json && (flag(words, "dry-run") || matches!(verb, Verb::Validate)) {
         print_name(rt, image)?;
     }
     match change_one(rt, verb, words, image) {
@@ -80,7 +81,7 @@ fn change_among<'a>(
         Err(Failure::Word(fault)) => return Err(Failure::Word(fault)),
         Err(failure) => {
             outcome.refused = outcome.refused.wrapping_add(1);
-            let _ = failure.tell(rt);
+            tell_other(rt, image, failure, is_json)?;
             let _ = eprintln!(rt; "disk1541: {image} stays as it is");
         }
     }
@@ -105,8 +106,10 @@ pub fn change_each<'a>(
     for image in images {
         change_among(rt, verb, words, *image, &mut outcome)?;
     }
-    let line = in_memory(outcome.line(rt.alloc(), flag(words, "dry-run")))?;
-    print(rt, line.as_bytes())?;
+    if !flag(words, "json") {
+        let line = in_memory(outcome.line(rt.alloc(), flag(words, "dry-run")))?;
+        print(rt, line.as_bytes())?;
+    }
     if outcome.refused == 0 {
         Ok(())
     } else {

@@ -8,6 +8,7 @@ mod saving;
 mod words;
 
 use self::look::look_at_all;
+pub use self::look::tell_other;
 use self::running::run_lines;
 pub use self::saving::change_with;
 use crate::reading::{
@@ -93,8 +94,11 @@ fn perform<'a, R: Runtime + AllocGlobal>(
         Verb::Find => look_with(rt, words, charset, View::Matches),
         Verb::Info => look_with(rt, words, charset, View::Facts),
         Verb::Map => show_map(rt, image, mapping(words, charset, progress.is_coloured())),
-        Verb::Track => show_track(rt, image, given(words, "TRACK")),
-        Verb::Sector => show_sector(rt, image, given(words, "TRACK"), given(words, "SECTOR")),
+        Verb::Track => show_track(rt, image, given(words, "TRACK"), flag(words, "json")),
+        Verb::Sector => {
+            let (track, sector) = (given(words, "TRACK"), given(words, "SECTOR"));
+            show_sector(rt, image, track, sector, flag(words, "json"))
+        }
         Verb::Check => look_with(rt, words, charset, checking(words)),
         Verb::Hash => look_with(rt, words, charset, View::Sum),
         Verb::Get => get(rt, image, &one_file(words, charset)?),

@@ -15,6 +15,7 @@ mod names;
 pub mod odd;
 pub mod placing;
 mod refusal;
+pub mod rests;
 pub mod spare;
 pub mod swaps;
 mod word_fault;

@@ -51,9 +51,9 @@ fn tell_trouble(rt: &impl Eprint, name: &str, trouble: Trouble) -> io::Result<()
 fn way_out(trouble: Trouble) -> &'static str {
     match trouble.code {
         20..=29 =>
-            "`disk1541 check --all` names the files at fault, which `delete --force` takes out; where it names none, `errors --drop --lossy` drops the error bytes of a D64, and `convert --lossy` makes a D64 of a G64",
+            "`disk1541 check --all` names the files at fault: `get --salvage` takes out what can be read of one, then `delete --force` removes it; where it names none, `errors --drop --lossy` drops the error bytes of a D64, and `convert --lossy` makes a D64 of a G64",
         _ =>
-            "`disk1541 check --all` names the files at fault, which `delete --force` takes out; where it names none, the directory is at fault: `get-all --salvage` takes the files out",
+            "`disk1541 check --all` names the files at fault: `get --salvage` takes out what can be read of one, then `delete --force` removes it; where it names none, the directory is at fault: `get-all --salvage` takes the files out",
     }
 }
 

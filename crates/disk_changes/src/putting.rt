@@ -142,6 +142,15 @@ fn put_cvt<'a>(
     with_cvt(alloc, image, old, file, cvt, name.as_slice())
 }
 
+/// Reports a file without bytes that is no relative one: the drive's CLOSE gives it a byte.
+pub fn tell_empty(rt: &impl Eprint, file: &str, kind: FileKind, bytes: &[u8]) {
+    if let FileKind::Plain(_) = kind
+        && bytes.is_empty()
+    {
+        let _ = eprintln!(rt; "disk1541: {file} is empty: on the disk it has one byte, 13");
+    }
+}
+
 /// The image with a file on it.
 fn put_one<'a, R: Runtime + AllocGlobal>(
     rt: &R,
@@ -155,7 +164,9 @@ fn put_one<'a, R: Runtime + AllocGlobal>(
         return put_cvt(rt.alloc(), image, old, file, put, &cvt);
     }
     let body = body_of(file, bytes.as_slice());
-    put_body(rt.alloc(), image, old, file, put, body)
+    let new = put_body(rt.alloc(), image, old, file, put, body)?;
+    tell_empty(rt, file, kind_of_file(put.kind, file)?, body.bytes);
+    Ok(new)
 }
 
 /// The image with one of several files on it. The one that can't be put is reported, as none is put then.
@@ -217,12 +228,13 @@ fn load_one<'a, R: Runtime + AllocGlobal>(
     rt: &R,
     file: &'a str,
     put: &HostFiles<'a>,
-    end: &[u8],
+    end: &'static [u8],
 ) -> Result<Loaded<'a>, Failure<'a>> {
     let bytes = read_given(rt, file, put)?;
     let body = body_of(file, bytes.as_slice());
     let head = bytes.len().saturating_sub(body.bytes.len());
     let text = text_for(rt.alloc(), file, put, body.name, end)?;
+    tell_empty(rt, file, FileKind::Plain(end), body.bytes);
     Ok(Loaded {
         file,
         text,

@@ -1,6 +1,6 @@
 //! The command line, as clap reads it.
 use crate::commands::{Command, changing_commands, examples_of, looking_commands, making_commands};
-use crate::words::{Mark, Word};
+use crate::word::{Mark, Word};
 use clap::{Arg, ArgMatches, Error};
 use std::alloc::{AllocError, Global};
 

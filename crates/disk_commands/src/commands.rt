@@ -1,12 +1,16 @@
 //! The commands.
-use crate::words::{
-    ADD, ALL, BASIC, BLOCKS, BY, CHARSET, CIRCLE, CSV, CVT, CVT_ALL, DELETED, DROP, DRY_RUN, EXACT,
-    FILES, FILES_FOLDER, FIRST, FOLDER, FORCE, FORCE_FAULT, FORMAT, FROM, HEX, ID, IMAGE, IMAGES,
-    INTERLEAVE, JSON, JSON_OBJECT, LINES, LOSSY, LOSSY_DROP, MEANT, NAME, NAME_ON_DISK,
-    NAME_OR_SLOT, NEW, NEW_ID, NEW_TITLE, NEW_TRACKS, NEW_TYPE, OF_ALL, OLD, ONLY, ORDERED, OUT,
-    OUTPUT, PLACED, RAW, RECIPE, RECORD, RECURSIVE, REPLACE_FILE, REPLACE_FILES, REPLACE_IMAGE,
-    REPLACE_NAME, SALVAGE, SCREEN_CHARSET, SECOND, SECTOR, SECTOR_FROM, SLOT, SVG, TEXT, TITLE,
-    TRACK, TRACK_FROM, TRACKS, TRANSFERRED, TYPE, TYPE_AGAIN, WANTED, WITH_FILES, Word,
+use crate::word::Word;
+use crate::words::changing::{
+    ADD, BY, DROP, DRY_RUN, FILES, FORCE, FORCE_FAULT, FORMAT, FROM, ID, INTERLEAVE, LINES, LOSSY,
+    LOSSY_DROP, MEANT, NAME_ON_DISK, NEW, NEW_ID, NEW_TITLE, NEW_TRACKS, NEW_TYPE, OF_ALL, OLD,
+    ORDERED, OUT, PLACED, RECIPE, RECORD, REPLACE_IMAGE, REPLACE_NAME, SECTOR_FROM, TITLE,
+    TRACK_FROM, TRACKS, TRANSFERRED, TYPE, TYPE_AGAIN,
+};
+use crate::words::looking::{
+    ALL, BASIC, BLOCKS, CHARSET, CIRCLE, CSV, CVT, CVT_ALL, DELETED, EXACT, FILES_FOLDER, FIRST,
+    FOLDER, HEX, IMAGE, IMAGES, JSON, JSON_MAP, JSON_OBJECT, NAME, NAME_OR_SLOT, ONLY, OUTPUT, RAW,
+    RECURSIVE, REPLACE_FILE, REPLACE_FILES, SALVAGE, SCREEN_CHARSET, SECOND, SECTOR, SLOT, SVG,
+    TEXT, TRACK, WANTED, WITH_FILES,
 };
 
 /// What help says at the end: examples, and the exit statuses.
@@ -168,19 +172,19 @@ const LOOKING: &[Command] = &[
         verb: Verb::Map,
         name: "map",
         about: "Show which sectors are free, used or lost",
-        words: &[IMAGE, WITH_FILES, SVG, REPLACE_FILE, CHARSET],
+        words: &[IMAGE, WITH_FILES, SVG, REPLACE_FILE, JSON_MAP, CHARSET],
     },
     Command {
         verb: Verb::Sector,
         name: "sector",
         about: "Show the bytes of a sector",
-        words: &[IMAGE, TRACK, SECTOR],
+        words: &[IMAGE, TRACK, SECTOR, JSON_OBJECT],
     },
     Command {
         verb: Verb::Track,
         name: "track",
         about: "Show a G64's track: sync marks, headers, blocks, gaps",
-        words: &[IMAGE, CIRCLE],
+        words: &[IMAGE, CIRCLE, JSON_OBJECT],
     },
     Command {
         verb: Verb::Check,
@@ -333,7 +337,7 @@ const CHANGING: &[Command] = &[
         verb: Verb::Validate,
         name: "validate",
         about: "Validate: free unused blocks and remove unclosed files",
-        words: &[ORDERED, DRY_RUN, FORCE],
+        words: &[ORDERED, DRY_RUN, FORCE, JSON],
     },
     Command {
         verb: Verb::Errors,
@@ -403,7 +407,7 @@ pub fn examples_of(verb: Verb) -> &'static str {
         ),
         Verb::Info => examples!("  disk1541 info game.d64\n  disk1541 info -r disks/ --json\n"),
         Verb::Map => examples!(
-            "  disk1541 map game.d64\n  disk1541 map game.d64 --files\n  disk1541 map game.d64 --svg game.svg\n"
+            "  disk1541 map game.d64\n  disk1541 map game.d64 --files\n  disk1541 map game.d64 --svg game.svg\n  disk1541 map game.d64 --json\n"
         ),
         Verb::Track => examples!("  disk1541 track game.g64 18\n  disk1541 track game.g64 17.5\n"),
         Verb::Sector => examples!("  disk1541 sector game.d64 18 0\n"),
@@ -465,7 +469,7 @@ pub fn examples_of(verb: Verb) -> &'static str {
             "  disk1541 run work.d64 changes.txt    lines as: rename LOADER START\n  disk1541 run work.d64 changes.txt --dry-run    what would change\n"
         ),
         Verb::Validate => examples!(
-            "  disk1541 validate work.d64 --dry-run    what would go\n  disk1541 validate work.d64\n  disk1541 validate *.d64\n"
+            "  disk1541 validate work.d64 --dry-run    what would go\n  disk1541 validate work.d64\n  disk1541 validate *.d64 --json\n"
         ),
     }
 }

@@ -4,6 +4,7 @@
 mod arguments;
 mod commands;
 mod help;
+mod word;
 mod words;
 
 pub use arguments::{flag, given, option, parse};

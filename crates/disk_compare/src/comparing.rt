@@ -3,12 +3,13 @@ use crate::cuts::{Read, breaks};
 use crate::files::{Sides, files_of};
 use crate::labels::labels_of;
 use crate::lines::lines_of;
-use crate::report::{Numbers, Report, json_of};
+use crate::report::{Numbers, Report};
 use crate::sectors::sectors_in;
 use crate::side::Side;
 use cbm_shell::texts::Charset;
 use disk_basics::host::{is_standard, print, read_image};
 use disk_basics::{Failure, WordFault, in_memory, on_disk};
+use disk_json::line;
 use std::alloc::{AllocError, Global};
 use std::rt::Runtime;
 
@@ -85,7 +86,7 @@ fn report_of<'a>(
 /// What is printed.
 fn shown(alloc: Global, report: &Report<'_>, is_json: bool) -> Result<Vec<u8>, AllocError> {
     if is_json {
-        return json_of(alloc, report);
+        return line(alloc, report);
     }
     Ok(lines_of(alloc, report)?.into_bytes())
 }

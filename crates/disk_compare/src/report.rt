@@ -1,6 +1,5 @@
 //! What differs between two disks.
 use serde::Serialize;
-use std::alloc::{AllocError, Global};
 
 /// A text of each disk; None where there is none.
 #[derive(Drop, Serialize)]
@@ -220,16 +219,5 @@ impl Report<'_> {
     /// Whether something differs.
     pub fn differs(&self) -> bool {
         self.labels_differ() || self.files_differ() || self.sectors_differ()
-    }
-}
-
-/// It as a line of JSON. The one error is want of memory.
-pub fn json_of(alloc: Global, report: &Report<'_>) -> Result<Vec<u8>, AllocError> {
-    match serde_json::to_vec(alloc, report) {
-        Ok(mut text) => {
-            text.extend_from_slice(b"\n")?;
-            Ok(text)
-        }
-        Err(_) => Err(AllocError),
     }
 }

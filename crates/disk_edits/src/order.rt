@@ -1,9 +1,11 @@
 //! VALIDATE: the disk in order, around what GEOS keeps on it.
 mod border;
+mod facts;
 mod plan;
 
 use self::border::has_border_files;
-use self::plan::{Telling, plan_of};
+use self::facts::order_line;
+use self::plan::{Telling, lines_of, plan_of};
 use cbm_shell::{Order, ShellFault};
 use disk_basics::changing::{map_around_geos, validate};
 use disk_basics::host::require_own_map;
@@ -17,6 +19,8 @@ pub struct Ordering {
     pub is_dry: bool,
     /// Blocks that GEOS uses are given back, too.
     pub is_forced: bool,
+    /// What is done is told for programs.
+    pub is_json: bool,
 }
 
 /// A disk in order, and how that is told.
@@ -71,13 +75,30 @@ fn order_of<'a>(
     }
 }
 
-/// A disk in order, and what that does, in lines.
+/// A disk in order, and what that does.
 #[derive(Drop)]
 pub struct InOrder {
     /// The image.
     pub image: Vec<u8>,
-    /// What is given back, and what goes.
+    /// What is given back, and what goes: in lines, or as a line of JSON.
     pub plan: String,
+}
+
+/// What putting a disk in order does, as it is told.
+fn told(
+    alloc: Global,
+    image: &str,
+    old: &[u8],
+    telling: &Telling,
+    is_json: bool,
+) -> Result<String, ShellFault> {
+    let plan = plan_of(alloc, old, telling)?;
+    if !is_json {
+        return Ok(lines_of(alloc, &plan, telling)?);
+    }
+    let line = order_line(alloc, image, &plan, telling)?;
+    let text = std::str::from_utf8(line.as_slice()).unwrap_or("");
+    Ok(String::from_str(alloc, text)?)
 }
 
 /// The image put in order. Errors: `OtherMap`, where Dolphin DOS has its map on the disk; `Unmendable`, where it can't be put in
@@ -90,7 +111,10 @@ pub fn in_order<'a>(
 ) -> Result<InOrder, Failure<'a>> {
     require_own_map(image, old)?;
     let order = order_of(alloc, image, old, ordering)?;
-    let plan = on_disk(image, plan_of(alloc, old, &order.telling))?;
+    let plan = on_disk(
+        image,
+        told(alloc, image, old, &order.telling, ordering.is_json),
+    )?;
     Ok(InOrder {
         image: order.image,
         plan,

@@ -1,18 +1,26 @@
 //! MAP: a picture of the sectors, with the files that they are of.
+mod facts;
+
+use self::facts::map_line;
 use cbm_bam::SectorSet;
 use cbm_image::{Kind, kind_of};
 use cbm_medium::Address;
 use cbm_shell::ShellFault;
 use cbm_shell::texts::Charset;
 use cbm_volume::Entry;
-use disk_basics::calls::{convert, file_blocks, geos_blocks, listed, name_text, picture};
+use disk_basics::calls::{convert, file_blocks, geos_blocks, info, listed, name_text, picture};
 use disk_basics::host::{print, read_image, require_new, write};
-use disk_basics::{Failure, in_memory, on_disk};
+use disk_basics::rests::{add_rests, rests_on};
+use disk_basics::{Disk, Failure, in_memory, on_disk};
 use disk_facts::{type_of, without_errors};
-use disk_views::{Owner, lettered, svg_of};
+use disk_json::Named;
+use disk_views::{Owner, lettered, row_of, svg_of};
 use host_files::Sync;
 use std::alloc::{AllocError, Global};
 use std::rt::Runtime;
+
+/// The sign of a lost sector in the picture.
+const LOST: u8 = b'?';
 
 /// How the sectors of a disk are shown.
 #[derive(Clone, Copy)]
@@ -27,6 +35,8 @@ pub struct Mapping<'a> {
     pub charset: Charset,
     /// It is shown on a terminal.
     pub is_coloured: bool,
+    /// It is shown for programs.
+    pub is_json: bool,
 }
 
 /// Adds the sectors of a set to another one.
@@ -81,11 +91,13 @@ fn sectors_of(alloc: Global, image: &[u8], entry: &Entry) -> Result<SectorSet, S
 fn owner_of(
     alloc: Global,
     image: &[u8],
+    slot: usize,
     entry: &Entry,
     charset: Charset,
 ) -> Result<Owner, ShellFault> {
     let sectors = sectors_of(alloc, image, entry)?;
     Ok(Owner {
+        slot,
         name: name_text(alloc, charset, entry.name())?,
         kind: type_of(entry).unwrap_or("???"),
         sectors,
@@ -105,9 +117,9 @@ fn owners_among(
     charset: Charset,
 ) -> Result<Vec<Owner>, ShellFault> {
     let mut owners = Vec::new(alloc);
-    for entry in entries {
+    for (slot, entry) in entries.iter().enumerate() {
         if has_sectors(entry) {
-            let owner = owner_of(alloc, image, entry, charset)?;
+            let owner = owner_of(alloc, image, slot, entry, charset)?;
             owners.push(owner).map_err(AllocError::from)?;
         }
     }
@@ -138,26 +150,81 @@ fn shown_owners(
     image: &[u8],
     mapping: Mapping<'_>,
 ) -> Result<Vec<Owner>, ShellFault> {
-    if mapping.has_files || mapping.svg.is_some() {
+    if mapping.has_files || mapping.is_json || mapping.svg.is_some() {
         return owners_in(alloc, image, mapping.charset);
     }
     Ok(Vec::new(alloc))
 }
 
+/// What is shown of an image's sectors.
+#[derive(Clone, Copy)]
+struct Sketch<'s> {
+    // The picture of the sectors.
+    picture: &'s str,
+    // The files that they are of.
+    owners: &'s [Owner],
+    // The files whose rest the lost ones may be.
+    rests: &'s [Named],
+}
+
+/// Whether a sector of a picture is lost.
+fn has_lost(picture: &str) -> bool {
+    for line in picture.lines() {
+        if let Some(row) = row_of(line) {
+            if row.signs.iter().any(|sign| *sign == LOST) {
+                return true;
+            }
+        }
+    }
+    false
+}
+
+/// The files whose rest the lost sectors of a picture may be.
+fn shown_rests(
+    alloc: Global,
+    image: &[u8],
+    picture: &str,
+    charset: Charset,
+) -> Result<Vec<Named>, ShellFault> {
+    if !has_lost(picture) {
+        return Ok(Vec::new(alloc));
+    }
+    let disk = Disk::open(alloc, image)?;
+    rests_on(alloc, &disk, charset)
+}
+
+/// The picture as text, and what lost sectors may be.
+fn text_of(alloc: Global, sketch: Sketch<'_>, is_coloured: bool) -> Result<String, AllocError> {
+    let mut text = lettered(alloc, sketch.picture, sketch.owners, is_coloured)?;
+    add_rests(&mut text, "?", sketch.rests)?;
+    Ok(text)
+}
+
 /// Writes the picture as SVG, or prints it.
 fn show<'a, R: Runtime + AllocGlobal>(
     rt: &R,
-    picture: &str,
-    owners: &[Owner],
+    sketch: Sketch<'_>,
     mapping: Mapping<'a>,
 ) -> Result<(), Failure<'a>> {
     let Some(output) = mapping.svg else {
-        let text = in_memory(lettered(rt.alloc(), picture, owners, mapping.is_coloured))?;
+        let text = in_memory(text_of(rt.alloc(), sketch, mapping.is_coloured))?;
         return print(rt, text.as_bytes());
     };
     require_new(rt, output, mapping.replaces)?;
-    let text = in_memory(svg_of(rt.alloc(), picture, owners))?;
+    let text = in_memory(svg_of(rt.alloc(), sketch.picture, sketch.owners))?;
     write(rt, output, text.as_bytes(), Sync::Later)
+}
+
+/// Prints the sectors of an image for programs.
+fn print_facts<'a, R: Runtime + AllocGlobal>(
+    rt: &R,
+    image: &'a str,
+    bytes: &[u8],
+    sketch: Sketch<'_>,
+) -> Result<(), Failure<'a>> {
+    let free = on_disk(image, info(rt.alloc(), bytes))?.free;
+    let line = in_memory(map_line(rt.alloc(), image, free, sketch))?;
+    print(rt, line.as_slice())
 }
 
 /// Shows the sectors of an image of these bytes.
@@ -168,9 +235,21 @@ fn show_bytes<'a, R: Runtime + AllocGlobal>(
     mapping: Mapping<'a>,
 ) -> Result<(), Failure<'a>> {
     let picture = on_disk(image, picture(rt.alloc(), bytes))?;
+    let picture = std::str::from_utf8(picture.as_slice()).unwrap_or("");
     let owners = on_disk(image, shown_owners(rt.alloc(), bytes, mapping))?;
-    let text = std::str::from_utf8(picture.as_slice()).unwrap_or("");
-    show(rt, text, owners.as_slice(), mapping)
+    let rests = on_disk(
+        image,
+        shown_rests(rt.alloc(), bytes, picture, mapping.charset),
+    )?;
+    let sketch = Sketch {
+        picture,
+        owners: owners.as_slice(),
+        rests: rests.as_slice(),
+    };
+    if mapping.is_json {
+        return print_facts(rt, image, bytes, sketch);
+    }
+    show(rt, sketch, mapping)
 }
 
 /// Shows the sectors of an image. Errors: those of `read_image`; `Disk`; `Exists`; `Write`; `NoMemory`.

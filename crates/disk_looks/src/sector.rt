@@ -7,6 +7,8 @@ use disk_basics::calls::sector;
 use disk_basics::host::{print, read_image};
 use disk_basics::{Failure, WordFault, in_memory, on_disk};
 use disk_facts::hex;
+use disk_json::{Sector, line};
+use serde::Serialize;
 use std::alloc::{AllocError, Global};
 use std::rt::Runtime;
 
@@ -73,47 +75,95 @@ fn lines_of(alloc: Global, bytes: &[u8; 256]) -> Result<String, AllocError> {
     Ok(text)
 }
 
-/// The bytes of a sector, or why there are none.
-fn bytes_at<'a>(
+/// The bytes of a sector, or the code of what stands in their place.
+type Reading = Result<[u8; 256], u8>;
+
+/// A sector, for programs.
+#[derive(Drop, Serialize)]
+struct SectorReport<'a> {
+    image: &'a str,
+    track: u8,
+    sector: u8,
+    error: Option<u8>,
+    link: Option<Sector>,
+    bytes: Option<String>,
+}
+
+/// The sector that the first two bytes name; None in the last one of a chain.
+fn link_of(bytes: &[u8; 256]) -> Option<Sector> {
+    match *bytes {
+        [0, ..] => None,
+        [track, sector, ..] => Some(Sector { track, sector }),
+    }
+}
+
+/// A sector as a line of JSON.
+fn sector_line(
+    alloc: Global,
+    image: &str,
+    at: Address,
+    reading: &Reading,
+) -> Result<Vec<u8>, AllocError> {
+    let (error, link, bytes) = match reading {
+        Ok(bytes) => (None, link_of(bytes), Some(hex(alloc, bytes)?)),
+        Err(code) => (Some(*code), None, None),
+    };
+    let report = SectorReport {
+        image,
+        track: at.track(),
+        sector: at.sector(),
+        error,
+        link,
+        bytes,
+    };
+    line(alloc, &report)
+}
+
+/// The bytes of a sector, or what stands in their place. Errors: `NoTrack`, `Disk`.
+fn reading_at<'a>(
     alloc: Global,
     image: &'a str,
     bytes: &[u8],
     at: Address,
-) -> Result<[u8; 256], Failure<'a>> {
+) -> Result<Reading, Failure<'a>> {
     match on_disk(image, sector(alloc, bytes, at))? {
-        Some(Ok(bytes)) => Ok(bytes),
-        Some(Err(code)) => Err(Failure::Disk(
-            image,
-            ShellFault::Trouble(Trouble {
-                code,
-                track: at.track(),
-                sector: at.sector(),
-            }),
-        )),
+        Some(reading) => Ok(reading),
         None => Err(Failure::NoTrack(image)),
     }
 }
 
-/// The lines of a sector of an image of these bytes.
-fn lines_at<'a>(
-    alloc: Global,
-    image: &'a str,
-    bytes: &[u8],
-    at: Address,
-) -> Result<String, Failure<'a>> {
-    let sector = bytes_at(alloc, image, bytes, at)?;
-    in_memory(lines_of(alloc, &sector))
+/// The failure of a sector that doesn't read.
+fn unread<'a>(image: &'a str, at: Address, code: u8) -> Failure<'a> {
+    Failure::Disk(
+        image,
+        ShellFault::Trouble(Trouble {
+            code,
+            track: at.track(),
+            sector: at.sector(),
+        }),
+    )
 }
 
-/// Shows a sector of an image.
-fn show_at<'a, R: Runtime + AllocGlobal>(
+/// Prints a sector, for people or for programs.
+fn print_reading<'a, R: Runtime + AllocGlobal>(
     rt: &R,
     image: &'a str,
     at: Address,
+    reading: &Reading,
+    is_json: bool,
 ) -> Result<(), Failure<'a>> {
-    let bytes = read_image(rt, image)?;
-    let lines = lines_at(rt.alloc(), image, bytes.as_slice(), at)?;
-    print(rt, lines.as_bytes())
+    if is_json {
+        let line = in_memory(sector_line(rt.alloc(), image, at, reading))?;
+        print(rt, line.as_slice())?;
+    }
+    match reading {
+        Err(code) => Err(unread(image, at, *code)),
+        Ok(_) if is_json => Ok(()),
+        Ok(bytes) => {
+            let lines = in_memory(lines_of(rt.alloc(), bytes))?;
+            print(rt, lines.as_bytes())
+        }
+    }
 }
 
 /// Shows the bytes of a sector. Errors: `Word`, where no disk has such a sector; those of `read_image`; `NoTrack`, where
@@ -123,7 +173,10 @@ pub fn show_sector<'a, R: Runtime + AllocGlobal>(
     image: &'a str,
     track: &'a str,
     sector: &'a str,
+    is_json: bool,
 ) -> Result<(), Failure<'a>> {
     let at = address(track, sector)?;
-    show_at(rt, image, at)
+    let bytes = read_image(rt, image)?;
+    let reading = reading_at(rt.alloc(), image, bytes.as_slice(), at)?;
+    print_reading(rt, image, at, &reading, is_json)
 }

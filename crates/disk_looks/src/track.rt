@@ -1,9 +1,13 @@
 //! TRACK: what stands on a track of a G64.
+mod facts;
+
+use self::facts::circle_line;
 use cbm_image::{Kind, kind_of};
 use disk_basics::host::{print, read_image};
 use disk_basics::{Failure, WordFault, in_memory};
 use disk_facts::{track_at, track_name};
-use disk_views::track_lines;
+use disk_views::{circle_of, track_lines};
+use std::alloc::{AllocError, Global};
 use std::rt::Runtime;
 
 /// The most tracks of a G64.
@@ -28,16 +32,34 @@ fn index_of(word: &str) -> Result<usize, Failure<'_>> {
     }
 }
 
+/// What stands on a track, as it is printed; None where it can't be a track.
+fn shown(
+    alloc: Global,
+    image: &str,
+    index: usize,
+    bytes: &[u8],
+    is_json: bool,
+) -> Result<Option<Vec<u8>>, AllocError> {
+    let name = track_name(alloc, index)?;
+    let Some(circle) = circle_of(alloc, bytes)? else {
+        return Ok(None);
+    };
+    if is_json {
+        return Ok(Some(circle_line(alloc, image, name.as_str(), &circle)?));
+    }
+    Ok(Some(track_lines(alloc, name.as_str(), &circle)?.into_bytes()))
+}
+
 /// Prints what stands on a track.
 fn print_track<'a, R: Runtime + AllocGlobal>(
     rt: &R,
     image: &'a str,
     index: usize,
     bytes: &[u8],
+    is_json: bool,
 ) -> Result<(), Failure<'a>> {
-    let name = in_memory(track_name(rt.alloc(), index))?;
-    match in_memory(track_lines(rt.alloc(), name.as_str(), bytes))? {
-        Some(text) => print(rt, text.as_bytes()),
+    match in_memory(shown(rt.alloc(), image, index, bytes, is_json))? {
+        Some(text) => print(rt, text.as_slice()),
         None => Err(Failure::NoTrack(image)),
     }
 }
@@ -48,6 +70,7 @@ pub fn show_track<'a, R: Runtime + AllocGlobal>(
     rt: &R,
     image: &'a str,
     word: &'a str,
+    is_json: bool,
 ) -> Result<(), Failure<'a>> {
     let index = index_of(word)?;
     let bytes = read_image(rt, image)?;
@@ -55,7 +78,7 @@ pub fn show_track<'a, R: Runtime + AllocGlobal>(
         return Err(Failure::NoCircles(image));
     }
     match track_at(bytes.as_slice(), index) {
-        Some(track) => print_track(rt, image, index, track),
+        Some(track) => print_track(rt, image, index, track, is_json),
         None => Err(Failure::NoTrack(image)),
     }
 }

@@ -8,7 +8,9 @@ use cbm_shell::{DiskFlaw, ShellFault, Whose};
 use cbm_volume::Entry;
 use disk_basics::calls::name_text;
 use disk_basics::odd::odd_slots;
+use disk_basics::rests::{add_rests, rests_of};
 use disk_basics::{Disk, is_mendable, place_of, slots_of};
+use disk_json::Named;
 pub use facts::flaw_report;
 use std::alloc::{AllocError, Global};
 
@@ -21,20 +23,35 @@ struct Findings {
     flaws: Vec<DiskFlaw>,
     /// The blocks that nothing uses, and that aren't free.
     lost: Vec<Address>,
+    /// The files whose rest they may be.
+    rests: Vec<Named>,
     /// The slots of the odd entries, if those are all that is wrong.
     odd: Vec<usize>,
 }
 
 /// What is wrong with a disk.
-fn found_in(alloc: Global, image: &[u8], disk: &Disk) -> Result<Findings, ShellFault> {
+fn found_in(
+    alloc: Global,
+    image: &[u8],
+    disk: &Disk,
+    charset: Charset,
+) -> Result<Findings, ShellFault> {
     let entries = disk.listed(alloc)?.entries;
     let flaws = disk.flaws(alloc)?;
     let lost = disk.lost(alloc)?;
+    let rests = rests_of(
+        alloc,
+        charset,
+        entries.as_slice(),
+        flaws.as_slice(),
+        lost.as_slice(),
+    )?;
     let odd = odd_slots(alloc, image)?;
     Ok(Findings {
         entries,
         flaws,
         lost,
+        rests,
         odd,
     })
 }
@@ -380,6 +397,7 @@ fn add_findings(
     let mut lines = String::new(alloc);
     add_flaws(alloc, &mut lines, disk, charset, findings)?;
     add_lost(alloc, &mut lines, findings.lost.as_slice())?;
+    add_rests(&mut lines, "lost blocks", findings.rests.as_slice())?;
     add_sum(alloc, &mut lines, findings)?;
     add_odd(alloc, &mut lines, findings.odd.len())?;
     text.extend_from_slice(lines.as_bytes())?;
@@ -395,7 +413,7 @@ pub fn add_all_flaws(
     look: Look<'_>,
 ) -> Result<LookAnswer, ShellFault> {
     let disk = Disk::open(alloc, image)?;
-    let findings = found_in(alloc, image, &disk)?;
+    let findings = found_in(alloc, image, &disk, look.charset)?;
     add_findings(alloc, text, &disk, look.charset, &findings)?;
     Ok(outcome(findings.flaws.as_slice()))
 }

@@ -14,20 +14,12 @@ use cbm_volume::{Entry, Label, Unsound};
 use disk_basics::calls::{info, name_text};
 use disk_basics::{BreakOff, Disk};
 use disk_facts::{WideMap, hex, is_meant, kind_name, type_of, unfilled};
+use disk_json::{Sector, line};
 pub use facts::Facts;
 pub use files::Files;
 use serde::Serialize;
 use std::alloc::{AllocError, Global};
 pub use table::{facts_line, file_lines, heads, sum_row, table_lines};
-
-/// A sector.
-#[derive(Drop, Serialize)]
-pub struct Sector {
-    /// Its track.
-    pub track: u8,
-    /// Its number on the track.
-    pub sector: u8,
-}
 
 /// What is wrong with a disk first.
 #[derive(Drop, Serialize)]
@@ -118,17 +110,6 @@ struct Refused<'a> {
     image: &'a str,
     status: u8,
     error: &'a str,
-}
-
-/// A value as a line of JSON. The one error is want of memory.
-pub fn line<T: Serialize>(alloc: Global, value: &T) -> Result<Vec<u8>, AllocError> {
-    match serde_json::to_vec(alloc, value) {
-        Ok(mut text) => {
-            text.extend_from_slice(b"\n")?;
-            Ok(text)
-        }
-        Err(_) => Err(AllocError),
-    }
 }
 
 /// What GEOS says of a file of its own.

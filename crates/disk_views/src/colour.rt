@@ -27,6 +27,17 @@ pub fn escape_of(sign: u8) -> &'static str {
 /// What a terminal is sent after it.
 pub const PLAIN: &str = "\x1b[0m";
 
+/// The state of a sector of a sign, in one word for programs.
+pub fn state_of(sign: u8) -> &'static str {
+    match sign {
+        b'.' => "free",
+        b'x' => "unreadable",
+        b'?' => "lost",
+        b'!' => "unmarked",
+        _ => "used",
+    }
+}
+
 /// What a sign of a sector without a file means.
 pub fn meaning_of(sign: u8) -> &'static str {
     match sign {

@@ -4,23 +4,37 @@ use crate::owner::{Owner, letter_of, owner_at};
 use std::alloc::{AllocError, Global};
 
 /// How many characters of a track's line stand before its signs.
-pub const MARGIN: usize = 7;
+const MARGIN: usize = 7;
 
-/// Whether a line of the picture is a track's: these begin with its number, two places wide.
-pub fn is_row(line: &str) -> bool {
+/// A track in the picture.
+#[derive(Clone, Copy)]
+pub struct Row<'p> {
+    /// Its number.
+    pub track: u8,
+    /// What stands before its signs.
+    pub margin: &'p [u8],
+    /// The signs of its sectors, from sector 0 on.
+    pub signs: &'p [u8],
+}
+
+/// The number of a track's line, which stands at its beginning, two places wide; None for another line.
+fn track_of(line: &str) -> Option<u8> {
     match line.as_bytes() {
-        [b' ' | b'0'..=b'9', b'0'..=b'9', b' ', ..] => true,
-        _ => false,
+        [b' ', ones @ b'0'..=b'9', b' ', ..] => Some(*ones - b'0'),
+        [tens @ b'0'..=b'9', ones @ b'0'..=b'9', b' ', ..] => {
+            Some(10 * (*tens - b'0') + (*ones - b'0'))
+        }
+        _ => None,
     }
 }
 
-/// The number of a track's line.
-pub fn track_of(line: &str) -> u8 {
-    match line.as_bytes() {
-        [b' ', ones @ b'0'..=b'9', ..] => *ones - b'0',
-        [tens @ b'0'..=b'9', ones @ b'0'..=b'9', ..] => 10 * (*tens - b'0') + (*ones - b'0'),
-        _ => 0,
-    }
+/// The track of a line of the picture; None where the line isn't a track's.
+pub fn row_of(line: &str) -> Option<Row<'_>> {
+    Some(Row {
+        track: track_of(line)?,
+        margin: line.as_bytes().get(..MARGIN)?,
+        signs: line.as_bytes().get(MARGIN..)?,
+    })
 }
 
 /// The sign of a sector: a letter, where it is used or lost and a file has it.
@@ -47,19 +61,17 @@ fn add_sign(text: &mut String, sign: u8, is_coloured: bool) -> Result<(), AllocE
 /// Adds the line of a track.
 fn add_row(
     text: &mut String,
-    line: &str,
+    row: Row<'_>,
     owners: &[Owner],
     is_coloured: bool,
 ) -> Result<(), AllocError> {
-    let track = track_of(line);
+    for sign in row.margin {
+        text.push(char::from(*sign))?;
+    }
     let mut sector: u8 = 0;
-    for (place, sign) in line.as_bytes().iter().enumerate() {
-        if place < MARGIN {
-            text.push(char::from(*sign))?;
-        } else {
-            add_sign(text, sign_of(*sign, owners, track, sector), is_coloured)?;
-            sector = sector.saturating_add(1);
-        }
+    for sign in row.signs {
+        add_sign(text, sign_of(*sign, owners, row.track, sector), is_coloured)?;
+        sector = sector.saturating_add(1);
     }
     text.push('\n')
 }
@@ -71,8 +83,8 @@ fn add_line(
     owners: &[Owner],
     is_coloured: bool,
 ) -> Result<(), AllocError> {
-    if is_row(line) {
-        return add_row(text, line, owners, is_coloured);
+    if let Some(row) = row_of(line) {
+        return add_row(text, row, owners, is_coloured);
     }
     text.push_str(line)?;
     text.push('\n')

@@ -9,7 +9,9 @@ mod owner;
 mod svg;
 mod track;
 
-pub use grid::lettered;
-pub use owner::Owner;
+pub use block::{Block, Header};
+pub use colour::state_of;
+pub use grid::{Row, lettered, row_of};
+pub use owner::{Owner, slots_at};
 pub use svg::svg_of;
-pub use track::track_lines;
+pub use track::{Circle, Counts, Part, circle_of, track_lines};

@@ -1,6 +1,7 @@
 //! The files that sectors are of.
 use cbm_bam::SectorSet;
 use cbm_medium::Address;
+use std::alloc::{AllocError, Global};
 
 /// The letters of files, in their order.
 const LETTERS: &[u8; 62] = b"ABCDEFGHIJKLMNOPQRSTUVWXYZabcdefghijklmnopqrstuvwxyz0123456789";
@@ -11,6 +12,8 @@ const ONE_MORE: u8 = b'+';
 /// A file, and its sectors.
 #[derive(Drop)]
 pub struct Owner {
+    /// Its slot in the directory.
+    pub slot: usize,
     /// Its name, as it is shown.
     pub name: String,
     /// How its type is called.
@@ -36,4 +39,23 @@ pub fn owner_at(owners: &[Owner], track: u8, sector: u8) -> Option<usize> {
         }
     }
     None
+}
+
+/// The slots of all files that have a sector. The one error is want of memory.
+pub fn slots_at(
+    alloc: Global,
+    owners: &[Owner],
+    track: u8,
+    sector: u8,
+) -> Result<Vec<usize>, AllocError> {
+    let mut slots = Vec::new(alloc);
+    let Some(at) = Address::new(track, sector) else {
+        return Ok(slots);
+    };
+    for owner in owners {
+        if owner.sectors.has(at) {
+            slots.push(owner.slot).map_err(AllocError::from)?;
+        }
+    }
+    Ok(slots)
 }

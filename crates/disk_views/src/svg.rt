@@ -1,6 +1,6 @@
 //! The picture of a disk's sectors as SVG: a line for each track, a square for each sector.
 use crate::colour::{fill_of, meaning_of};
-use crate::grid::{MARGIN, is_row, track_of};
+use crate::grid::{Row, row_of};
 use crate::owner::{Owner, owner_at};
 use std::alloc::{AllocError, Global};
 
@@ -93,17 +93,14 @@ fn add_number(alloc: Global, text: &mut String, track: u8) -> Result<(), AllocEr
 fn add_track(
     alloc: Global,
     text: &mut String,
-    line: &str,
+    row: Row<'_>,
     owners: &[Owner],
 ) -> Result<(), AllocError> {
-    let track = track_of(line);
-    add_number(alloc, text, track)?;
+    add_number(alloc, text, row.track)?;
     let mut sector: u8 = 0;
-    for (place, sign) in line.as_bytes().iter().enumerate() {
-        if place >= MARGIN {
-            add_square(alloc, text, track, sector, *sign, owners)?;
-            sector = sector.saturating_add(1);
-        }
+    for sign in row.signs {
+        add_square(alloc, text, row.track, sector, *sign, owners)?;
+        sector = sector.saturating_add(1);
     }
     Ok(())
 }
@@ -113,8 +110,8 @@ fn add_track(
 pub fn svg_of(alloc: Global, picture: &str, owners: &[Owner]) -> Result<String, AllocError> {
     let mut text = String::from_str(alloc, HEAD)?;
     for line in picture.lines() {
-        if is_row(line) {
-            add_track(alloc, &mut text, line, owners)?;
+        if let Some(row) = row_of(line) {
+            add_track(alloc, &mut text, row, owners)?;
         }
     }
     text.push_str(FOOT)?;

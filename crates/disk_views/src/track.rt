@@ -4,12 +4,37 @@ use crate::circle::{afterwards, distance, ones_before};
 use cbm_track::Track;
 use std::alloc::{AllocError, Global};
 
+/// A sync mark and its block.
+#[derive(Clone, Copy)]
+pub struct Part {
+    /// Where the mark begins.
+    pub from: u32,
+    /// How many ones it has.
+    pub ones: u32,
+    /// The block after it.
+    pub block: Block,
+    /// How many bits stand after the block before the next mark.
+    pub gap: u32,
+}
+
+/// A track that goes round.
+#[derive(Drop)]
+pub struct Circle {
+    /// How many bits it has.
+    pub bits: u32,
+    /// Its marks and blocks.
+    pub parts: Vec<Part>,
+}
+
 /// How many blocks of each kind there are.
 #[derive(Clone, Copy)]
-struct Counts {
-    headers: u32,
-    data: u32,
-    others: u32,
+pub struct Counts {
+    /// Header blocks.
+    pub headers: u32,
+    /// Data blocks.
+    pub data: u32,
+    /// Other blocks.
+    pub others: u32,
 }
 
 impl Counts {
@@ -20,6 +45,21 @@ impl Counts {
             Block::Data(_) => self.data = self.data.wrapping_add(1),
             Block::Other(_) => self.others = self.others.wrapping_add(1),
         }
+    }
+}
+
+impl Circle {
+    /// How many blocks of each kind it has.
+    pub fn counts(&self) -> Counts {
+        let mut counts = Counts {
+            headers: 0,
+            data: 0,
+            others: 0,
+        };
+        for part in self.parts.as_slice() {
+            counts.add(part.block);
+        }
+        counts
     }
 }
 
@@ -71,17 +111,6 @@ fn add_block(alloc: Global, text: &mut String, block: Block) -> Result<(), Alloc
     }
 }
 
-/// A sync mark and its block.
-#[derive(Clone, Copy)]
-struct Part {
-    // Where the mark begins, and how many ones it has.
-    from: u32,
-    ones: u32,
-    block: Block,
-    // How many bits stand after the block before the next mark.
-    gap: u32,
-}
-
 /// Adds the line of a mark and its block.
 fn add_part(alloc: Global, text: &mut String, part: Part) -> Result<(), AllocError> {
     let Part {
@@ -122,31 +151,40 @@ fn next_place(track: &Track, place: u32) -> u32 {
         .unwrap_or(place)
 }
 
-/// Adds the lines of all marks, once round, and counts their blocks.
-fn add_parts(
+/// All marks and their blocks, once round from the block at a place.
+fn parts_from(
     alloc: Global,
-    text: &mut String,
     track: &Track,
     bytes: &[u8],
     first: u32,
-) -> Result<Counts, AllocError> {
-    let mut counts = Counts {
-        headers: 0,
-        data: 0,
-        others: 0,
-    };
+) -> Result<Vec<Part>, AllocError> {
+    let mut parts = Vec::new(alloc);
     let mut place = first;
     for _ in 0..track.bits() {
         let next = next_place(track, place);
-        let part = part_at(track, bytes, place, next);
-        counts.add(part.block);
-        add_part(alloc, text, part)?;
+        parts
+            .push(part_at(track, bytes, place, next))
+            .map_err(AllocError::from)?;
         if next <= place {
             break;
         }
         place = next;
     }
-    Ok(counts)
+    Ok(parts)
+}
+
+/// What stands on a track of a G64 of these bytes; None where a track has no byte or more than 7,928. The one error is want of
+/// memory.
+pub fn circle_of(alloc: Global, bytes: &[u8]) -> Result<Option<Circle>, AllocError> {
+    let Some(track) = Track::from_bytes(bytes) else {
+        return Ok(None);
+    };
+    let bits = track.bits();
+    let parts = match track.next_sync(0) {
+        Some(first) if first < bits => parts_from(alloc, &track, bytes, first)?,
+        _ => Vec::new(alloc),
+    };
+    Ok(Some(Circle { bits, parts }))
 }
 
 /// Adds the line of the counts.
@@ -161,32 +199,18 @@ fn add_counts(alloc: Global, text: &mut String, counts: Counts) -> Result<(), Al
     )?.as_str())
 }
 
-/// Adds the lines of a track.
-fn add_lines(
-    alloc: Global,
-    text: &mut String,
-    track: &Track,
-    bytes: &[u8],
-) -> Result<(), AllocError> {
-    let bits = track.bits();
-    match track.next_sync(0) {
-        Some(first) if first < bits => {
-            let counts = add_parts(alloc, text, track, bytes, first)?;
-            add_counts(alloc, text, counts)
-        }
-        _ => text.push_str("no sync mark\n"),
-    }
-}
-
-/// What stands on a track of a G64 of these bytes: a line for each sync mark, with the place of its first bit, how many ones it
-/// has, the block after it, and the bits of the gap up to the next mark; then how many blocks there are. None where a track has
-/// no byte or more than 7,928. The one error is `AllocError`.
-pub fn track_lines(alloc: Global, name: &str, bytes: &[u8]) -> Result<Option<String>, AllocError> {
-    let Some(track) = Track::from_bytes(bytes) else {
-        return Ok(None);
-    };
-    let bits = track.bits();
+/// A track of a name in lines: one for each sync mark, with the place of its first bit, how many ones it has, the block after it, and
+/// the bits of the gap up to the next mark; then how many blocks there are. The one error is want of memory.
+pub fn track_lines(alloc: Global, name: &str, circle: &Circle) -> Result<String, AllocError> {
+    let bits = circle.bits;
     let mut text = format!(in alloc; "track {name}: {bits} bits\n   bit\n")?;
-    add_lines(alloc, &mut text, &track, bytes)?;
-    Ok(Some(text))
+    if circle.parts.is_empty() {
+        text.push_str("no sync mark\n")?;
+        return Ok(text);
+    }
+    for part in circle.parts.as_slice() {
+        add_part(alloc, &mut text, *part)?;
+    }
+    add_counts(alloc, &mut text, circle.counts())?;
+    Ok(text)
 }

@@ -105,7 +105,7 @@ fn file<'a>(alloc: Global, name: &'a str, help: &'a str, is_needed: bool) -> Arg
 }
 
 /// A word that is there or isn't.
-fn switch<'a>(alloc: Global, name: &'a str, help: &'a str) -> Arg<'a> {
+pub fn switch<'a>(alloc: Global, name: &'a str, help: &'a str) -> Arg<'a> {
     Arg::new(alloc, name)
         .long(name)
         .action(ArgAction::SetTrue)

@@ -1,9 +1,10 @@
 //! `drive1541 judge TRACE`: whether a trace of the bus is a session, and else who broke it.
+use crate::arguments::switch;
 use crate::returns::Returns;
 use cbm_iec::{Pace, Party};
 use clap::{Arg, ArgAction, ArgMatches, Command, Error};
 use judge_report::{
-    Asked, Form, Judged, Range, ReportFault, Timing, Verdict, judge_trace, seat_of,
+    Asked, Extent, Form, Judged, Range, ReportFault, Timing, Verdict, judge_trace, seat_of,
 };
 use std::alloc::{AllocError, Global};
 use std::io::{BufReader, BufWriter, Read, Write};
@@ -16,9 +17,18 @@ const EXAMPLES: &str = "Examples:
   drive1541 judge bus.vcd --drive 8:20 --drive 9:35
   drive1541 judge board.trace --drive 8:10-40
   drive1541 judge c64.trace --drive 8:20:kernal --loosely
+  drive1541 judge long.trace --all    every breach, not the first alone
 
-Exit status: 0 a session, 1 the host broke it, 2 a drive did, 3 the trace can't be read or no
+Exit status: 0 a session, 1 the host broke it first, 2 a drive did, 3 the trace can't be read or no
 line changes in it, 64 the command line";
+
+/// What help says of `--loosely`.
+const LOOSELY: &str =
+    "ignore changes of CLOCK and DATA that no drive looks at, as a KERNAL makes them";
+
+/// What help says of `--all`.
+const ALL: &str =
+    "after a breach, judge anew from the next pull of ATN on at which all lines are free";
 
 /// The word that asks for the judge.
 const JUDGE: &str = "judge";
@@ -55,27 +65,24 @@ fn command<'a>(alloc: Global) -> Result<Command<'a>, Error> {
         .help(
             "a drive of the bus: its number, 8 to 11, its reaction, 1 to 60, or a range as 10-40, and `profile` or `kernal`",
         );
-    let loosely = Arg::new(alloc, "loosely")
-        .long("loosely")
-        .action(ArgAction::SetTrue)
-        .help("ignore changes of CLOCK and DATA that no drive looks at, as a KERNAL makes them");
-    let moments = Arg::new(alloc, "moments")
-        .long("moments")
-        .action(ArgAction::SetTrue)
-        .help("print the moment of each act, in microseconds");
-    let json = Arg::new(alloc, "json")
-        .long("json")
-        .action(ArgAction::SetTrue)
-        .help("print the verdict alone, as an object of JSON");
     let command = Command::new(alloc, "drive1541 judge")
         .about("Judge a trace of the bus: is it a session, and who broke it")
         .after_help(EXAMPLES)
         .no_binary_name(true)
         .arg(trace)?
         .arg(drive)?
-        .arg(loosely)?
-        .arg(moments)?
-        .arg(json)?;
+        .arg(switch(alloc, "loosely", LOOSELY))?
+        .arg(switch(alloc, "all", ALL))?
+        .arg(switch(
+            alloc,
+            "moments",
+            "print the moment of each act, in microseconds",
+        ))?
+        .arg(switch(
+            alloc,
+            "json",
+            "print the verdict alone, as an object of JSON",
+        ))?;
     Ok(command)
 }
 
@@ -128,6 +135,7 @@ pub fn run(rt: &HostRuntime, words: &[String]) -> ExitCode {
         parties: seats.parties.as_slice(),
         ranges: seats.ranges.as_slice(),
         timing: timing_of(&matches),
+        extent: extent_of(&matches),
         form: form_of(&matches),
     };
     ExitCode::from(judge_named(rt, name, asked))
@@ -140,6 +148,14 @@ fn form_of(matches: &ArgMatches<'_>) -> Form {
         Form::ActsWithMoments
     } else {
         Form::Acts
+    }
+}
+
+fn extent_of(matches: &ArgMatches<'_>) -> Extent {
+    if matches.get_flag("all") {
+        Extent::All
+    } else {
+        Extent::FirstBreach
     }
 }
 

@@ -2,8 +2,10 @@
 #![tactic(auto)]
 
 mod bench;
+mod course;
 mod fault;
 mod hearing;
+mod held;
 mod report;
 mod seats;
 mod teller;
@@ -12,6 +14,6 @@ mod told;
 pub use bus_judge::{Range, Verdict};
 pub use fault::ReportFault;
 pub use hearing::Timing;
-pub use report::{Asked, Judged, judge_trace};
+pub use report::{Asked, Extent, Judged, judge_trace};
 pub use seats::{Seat, seat_of};
 pub use teller::Form;

@@ -40,10 +40,18 @@ impl fmt::Display for Place {
     }
 }
 
-/// A session, as JSON.
+/// A session up to a moment, or where a trace is judged anew, as JSON.
 #[derive(Drop, Serialize)]
-struct SessionReport {
+struct MomentReport {
     verdict: &'static str,
+    moment: u64,
+}
+
+/// How many breaches a trace has up to a moment, as JSON.
+#[derive(Drop, Serialize)]
+struct CountReport {
+    verdict: &'static str,
+    count: u64,
     moment: u64,
 }
 
@@ -143,13 +151,50 @@ pub fn tell_session<W: Write>(
     moment: u64,
 ) -> Result<(), ReportFault> {
     if form == Form::Json {
-        let report = SessionReport {
+        let report = MomentReport {
             verdict: "session",
             moment,
         };
         return put_json(alloc, output, &report);
     }
     written(writeln!(output, "a session to {moment} us"))
+}
+
+/// Prints that the trace is judged anew from a moment on.
+pub fn tell_anew<W: Write>(
+    alloc: Global,
+    output: &mut W,
+    form: Form,
+    moment: u64,
+) -> Result<(), ReportFault> {
+    if form == Form::Json {
+        let report = MomentReport {
+            verdict: "anew",
+            moment,
+        };
+        return put_json(alloc, output, &report);
+    }
+    written(writeln!(output, "judged anew from {moment} us on"))
+}
+
+/// Prints how many breaches a trace has up to a moment.
+pub fn tell_breaches<W: Write>(
+    alloc: Global,
+    output: &mut W,
+    form: Form,
+    count: u64,
+    moment: u64,
+) -> Result<(), ReportFault> {
+    if form == Form::Json {
+        let report = CountReport {
+            verdict: "breaches",
+            count,
+            moment,
+        };
+        return put_json(alloc, output, &report);
+    }
+    let noun = if count == 1 { "breach" } else { "breaches" };
+    written(writeln!(output, "{count} {noun} to {moment} us"))
 }
 
 /// Prints what broke the session. A change for which no rule has a place is told with what was expected there.

@@ -67,10 +67,10 @@ pub struct Way {
 }
 
 impl Way {
-    /// Whether it can be played so: by the drive's calls there is no pace of a bus, and no direct access.
+    /// Whether it can be played so: by the drive's calls there is no pace of a bus.
     fn is_possible(&self) -> bool {
         let by_calls = self.calls || !matches!(self.refusals, Refusals::None);
-        self.pace == Pace::Profile && !self.direct || !by_calls
+        self.pace == Pace::Profile || !by_calls
     }
 
     /// A drive 8 of the profile's pace that may be written.

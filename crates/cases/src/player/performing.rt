@@ -2,14 +2,14 @@
 
 ghost use Rattle.std.specs.Prelude.{◌≤◌};
 
+use crate::player::called::Called;
 use crate::player::items::show;
-use cbm_channel::Dos;
 use cbm_medium::Medium;
 use cbm_program::{ScriptLine, ScriptRequest, parse};
 use std::alloc::{AllocError, Global};
 
 /// Sends bytes to a channel.
-fn put<M: Medium>(dos: &mut Dos<M>, channel: u8, bytes: &[u8])
+fn put<M: Medium>(dos: &mut Called<M>, channel: u8, bytes: &[u8])
     requires { channel ≤ 15 }
 {
     dos.listen(channel);
@@ -21,7 +21,7 @@ fn put<M: Medium>(dos: &mut Dos<M>, channel: u8, bytes: &[u8])
 
 /// Reads so many bytes of a channel, and whether the last one came with EOI.
 fn get<M: Medium>(
-    dos: &mut Dos<M>,
+    dos: &mut Called<M>,
     channel: u8,
     most: u32,
     bytes: &mut Vec<u8>,
@@ -45,7 +45,7 @@ fn get<M: Medium>(
 /// Prints what a channel says.
 fn print_get<M: Medium>(
     alloc: Global,
-    dos: &mut Dos<M>,
+    dos: &mut Called<M>,
     channel: u8,
     most: u32,
     out: &mut String,
@@ -65,7 +65,7 @@ fn print_get<M: Medium>(
 /// Prints the status.
 fn print_status<M: Medium>(
     alloc: Global,
-    dos: &mut Dos<M>,
+    dos: &mut Called<M>,
     out: &mut String,
 ) -> Result<(), AllocError> {
     let mut bytes: Vec<u8> = Vec::new(alloc);
@@ -82,7 +82,7 @@ fn print_status<M: Medium>(
 /// Carries out a request.
 fn perform<M: Medium>(
     alloc: Global,
-    dos: &mut Dos<M>,
+    dos: &mut Called<M>,
     request: &ScriptRequest,
     out: &mut String,
 ) -> Result<(), AllocError> {
@@ -103,7 +103,7 @@ fn perform<M: Medium>(
 /// Carries out the lines of a script; whether each of them could be read.
 pub fn perform_all<M: Medium>(
     alloc: Global,
-    dos: &mut Dos<M>,
+    dos: &mut Called<M>,
     script: &str,
     out: &mut String,
 ) -> Result<bool, AllocError> {

@@ -82,7 +82,9 @@ impl Step {
     /// Plays its script once.
     fn print(&self, image: &[u8]) -> Result<Played, AllocError> {
         match self.way.refusals {
-            Refusals::At(stop) => Ok(stops::play(self.alloc, image, self.script(), stop)?.played),
+            Refusals::At(stop) => Ok(
+                stops::play(self.alloc, image, self.script(), stop, self.way.direct)?.played,
+            ),
             Refusals::None | Refusals::Each => play(self.alloc, image, self.script(), &self.way),
         }
     }
@@ -123,7 +125,14 @@ impl Step {
         let Played {
             text: told,
             after: left,
-        } = stops::play(self.alloc, image, self.script(), Stop::NEVER)?.played;
+        } = stops::play(
+            self.alloc,
+            image,
+            self.script(),
+            Stop::NEVER,
+            self.way.direct,
+        )?
+        .played;
         report.compare(self.number, text, told.as_str())?;
         let Some(left) = left else {
             return Ok(());
@@ -141,7 +150,7 @@ impl Step {
                 self.writes = stops::at_each_write(
                     self.alloc,
                     image,
-                    self.way.circles,
+                    &self.way,
                     self.script(),
                     self.number,
                     report,

@@ -33,6 +33,7 @@ impl<M: Medium> DirectDos<M> {
             }),
             Asked::Restart => self.restart(),
             Asked::Nothing => self.say(Code::Fine),
+            Asked::Held => self.say(Code::WriteFileOpen),
             Asked::Unread => self.say(Code::Syntax),
         }
     }

@@ -161,6 +161,7 @@ fn order_of<'a>(
     let ordering = Ordering {
         is_dry,
         is_forced: flag(words, "force"),
+        is_json: flag(words, "json"),
     };
     let order = in_order(alloc, desk.image, desk.bytes, ordering)?;
     Ok(Made {

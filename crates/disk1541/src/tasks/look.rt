@@ -26,15 +26,15 @@ fn look_at_one<'a, R: Runtime + AllocGlobal>(
     }
 }
 
-/// Reports that an image can't be looked at, for people and for programs.
-fn tell_other<'a, R: Runtime + AllocGlobal>(
+/// Reports that an image can't be looked at or changed, for people and for programs.
+pub fn tell_other<'a, R: Runtime + AllocGlobal>(
     rt: &R,
     image: &str,
     failure: Failure<'_>,
-    look: Look<'_>,
+    is_json: bool,
 ) -> Result<(), Failure<'a>> {
     let _ = failure.tell(rt);
-    if !look.is_json {
+    if !is_json {
         return Ok(());
     }
     let line = in_memory(refusal_line(rt.alloc(), image, failure.status(), failure.reason()))?;
@@ -67,7 +67,7 @@ fn look_among<'a, R: Runtime + AllocGlobal>(
         Err(Failure::NoMemory) => Err(Failure::NoMemory),
         Err(failure) => {
             counts.pass_over();
-            tell_other(rt, image, failure, look)
+            tell_other(rt, image, failure, look.is_json)
         }
     }
 }

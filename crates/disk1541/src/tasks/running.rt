@@ -23,6 +23,9 @@ const NO_MEMORY: u8 = 3;
 /// The word of a line in place of the image.
 const IMAGE: &str = "IMAGE";
 
+/// The flags that a line can't have, and how they are said.
+const NO_WORDS: [(&str, &str); 2] = [("dry-run", "--dry-run"), ("json", "--json")];
+
 /// The lines that are carried out.
 #[derive(Clone, Copy)]
 struct Script<'a> {
@@ -96,7 +99,7 @@ fn is_for_lines(verb: Verb) -> bool {
     }
 }
 
-/// Refuses what is no word of a line: another image, files of several images, a dry run, and standard input.
+/// Refuses what is no word of a line: another image, files of several images, a dry run, JSON, and standard input.
 fn require_line<'a>(words: &ArgMatches<'a>) -> Result<(), Failure<'a>> {
     if let [_, other, ..] = words.get_strs("IMAGE").unwrap_or(&[]) {
         return Err(Failure::Word(WordFault::LineWord(*other)));
@@ -104,8 +107,10 @@ fn require_line<'a>(words: &ArgMatches<'a>) -> Result<(), Failure<'a>> {
     if words.get_strs("only").is_some() {
         return Err(Failure::Word(WordFault::LineWord("--only")));
     }
-    if flag(words, "dry-run") {
-        return Err(Failure::Word(WordFault::LineWord("--dry-run")));
+    for (name, word) in &NO_WORDS {
+        if flag(words, *name) {
+            return Err(Failure::Word(WordFault::LineWord(*word)));
+        }
     }
     for file in words.get_strs("FILE").unwrap_or(&[]) {
         if is_standard(*file) {

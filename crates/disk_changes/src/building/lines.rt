@@ -4,7 +4,7 @@ ghost use Rattle.std.specs.Prelude.{◌≤◌, length};
 use super::bench::{Bench, any_name, read_beside};
 use super::laid::Lane;
 use super::ordered::ordered;
-use crate::putting::{Body, body_of};
+use crate::putting::{Body, body_of, tell_empty};
 use crate::stored::{Stored, with_stored};
 use cbm_shell::{Looks, ShellFault};
 use cbm_volume::Entry;
@@ -135,9 +135,11 @@ fn with_body<'r, R: Runtime + AllocGlobal>(
     file: &'r str,
     body: Body<'_>,
 ) -> Result<Vec<u8>, Failure<'r>> {
+    let kind = kind_of_file(option(&line.kind), file)?;
+    tell_empty(rt, file, kind, body.bytes);
     let put = Stored {
         name: FOR_NOW,
-        kind: kind_of_file(option(&line.kind), file)?,
+        kind,
         record: record_of(line, body),
         replaces: false,
         bytes: body.bytes,

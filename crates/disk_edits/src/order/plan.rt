@@ -1,11 +1,13 @@
-//! What putting a disk in order does, in words.
+//! What putting a disk in order does, step by step, and that in words.
 use super::border::border_place;
 use cbm_bam::SectorSet;
 use cbm_medium::Address;
 use cbm_shell::texts::Charset;
 use cbm_shell::{ShellFault, geos_of};
 use cbm_volume::Entry;
-use disk_basics::calls::{entries, geos_blocks, name_text};
+use disk_basics::calls::{entries, geos_blocks};
+use disk_basics::rests::named;
+use disk_json::Named;
 use std::alloc::{AllocError, Global};
 
 /// What is told of a disk that was put in order.
@@ -44,172 +46,216 @@ impl Telling {
     }
 }
 
-/// Adds a sector.
-fn add_place(alloc: Global, text: &mut String, at: Address) -> Result<(), AllocError> {
-    let track = at.track();
-    let sector = at.sector();
-    text.push_str(format!(in alloc; " {track}/{sector}")?.as_str())
+/// A step of putting a disk in order.
+#[derive(Drop)]
+pub enum Step {
+    /// Blocks of a file of GEOS are given back, or stay taken.
+    Geos(Named, Vec<Address>),
+    /// A file that was never closed goes.
+    Unclosed(Named),
+    /// GEOS's border block is given back, or stays taken.
+    Border(Address),
+    /// Blocks that no file of the directory has are given back.
+    Others(Vec<Address>),
 }
 
-/// Adds those of the sectors that a set has, and puts them into the set of those that were told.
-fn add_held(
+/// What putting a disk in order does.
+#[derive(Drop)]
+pub struct Plan {
+    /// Its steps.
+    pub steps: Vec<Step>,
+    // The blocks of GEOS among those that the drive's VALIDATE gives back.
+    held: SectorSet,
+}
+
+impl Plan {
+    /// Adds a step.
+    fn add(&mut self, step: Step) -> Result<(), AllocError> {
+        self.steps.push(step).map_err(AllocError::from)
+    }
+
+    /// Those of the blocks that a set has, which are GEOS's.
+    fn hold(
+        &mut self,
+        alloc: Global,
+        places: &[Address],
+        held: &SectorSet,
+    ) -> Result<Vec<Address>, AllocError> {
+        let among = among(alloc, places, held, true)?;
+        for at in among.as_slice() {
+            self.held.insert(*at);
+        }
+        Ok(among)
+    }
+
+    /// Adds what becomes of the blocks of an entry's file, if GEOS made it.
+    fn add_geos(
+        &mut self,
+        alloc: Global,
+        image: &[u8],
+        slot: usize,
+        entry: &Entry,
+        telling: &Telling,
+    ) -> Result<(), ShellFault> {
+        if geos_of(entry).is_none() {
+            return Ok(());
+        }
+        let held = geos_blocks(alloc, image, entry)?;
+        let places = self.hold(alloc, telling.freed.as_slice(), &held)?;
+        if !places.is_empty() {
+            let file = named(alloc, Charset::Upper, slot, entry)?;
+            self.add(Step::Geos(file, places))?;
+        }
+        Ok(())
+    }
+
+    /// Adds what becomes of an entry's file.
+    fn add_entry(
+        &mut self,
+        alloc: Global,
+        image: &[u8],
+        slot: usize,
+        entry: &Entry,
+        telling: &Telling,
+    ) -> Result<(), ShellFault> {
+        self.add_geos(alloc, image, slot, entry, telling)?;
+        if !entry.is_empty() && !entry.is_closed() {
+            let file = named(alloc, Charset::Upper, slot, entry)?;
+            self.add(Step::Unclosed(file))?;
+        }
+        Ok(())
+    }
+
+    /// Adds what becomes of GEOS's border block.
+    fn add_border(
+        &mut self,
+        alloc: Global,
+        image: &[u8],
+        telling: &Telling,
+    ) -> Result<(), ShellFault> {
+        let Some(at) = border_place(alloc, image)? else {
+            return Ok(());
+        };
+        let mut border = SectorSet::new();
+        border.insert(at);
+        if !self
+            .hold(alloc, telling.freed.as_slice(), &border)?
+            .is_empty()
+        {
+            self.add(Step::Border(at))?;
+        }
+        Ok(())
+    }
+
+    /// Adds the blocks that no file of the directory has.
+    fn add_others(&mut self, alloc: Global, telling: &Telling) -> Result<(), AllocError> {
+        let others = among(alloc, telling.freed.as_slice(), &self.held, false)?;
+        if others.is_empty() {
+            return Ok(());
+        }
+        self.add(Step::Others(others))
+    }
+
+    /// The blocks that stay taken, if `is_kept`, else those that are given back. The one error is want of memory.
+    pub fn places(
+        &self,
+        alloc: Global,
+        telling: &Telling,
+        is_kept: bool,
+    ) -> Result<Vec<Address>, AllocError> {
+        if telling.keeps_geos {
+            return among(alloc, telling.freed.as_slice(), &self.held, is_kept);
+        }
+        if is_kept {
+            return Ok(Vec::new(alloc));
+        }
+        Vec::from_slice(alloc, telling.freed.as_slice())
+    }
+}
+
+/// Those of the places that a set has, or those that it hasn't.
+fn among(
     alloc: Global,
-    text: &mut String,
     places: &[Address],
-    held: &SectorSet,
-    told: &mut SectorSet,
-) -> Result<(), AllocError> {
+    set: &SectorSet,
+    has: bool,
+) -> Result<Vec<Address>, AllocError> {
+    let mut found = Vec::new(alloc);
     for at in places {
-        if held.has(*at) {
-            add_place(alloc, text, *at)?;
-            told.insert(*at);
+        if set.has(*at) == has {
+            found.push(*at).map_err(AllocError::from)?;
         }
     }
-    Ok(())
-}
-
-/// Adds those of the sectors that weren't told.
-fn add_untold(
-    alloc: Global,
-    text: &mut String,
-    places: &[Address],
-    told: &SectorSet,
-) -> Result<(), AllocError> {
-    for at in places {
-        if !told.has(*at) {
-            add_place(alloc, text, *at)?;
-        }
-    }
-    Ok(())
-}
-
-/// Adds the line of a file of GEOS that has some of the blocks.
-fn add_geos(
-    alloc: Global,
-    text: &mut String,
-    entry: &Entry,
-    places: &str,
-    telling: &Telling,
-) -> Result<(), AllocError> {
-    let shown = name_text(alloc, Charset::Upper, entry.name())?;
-    let name = shown.as_str();
-    let word = telling.keeps();
-    text.push_str(format!(in alloc;
-        "{word}{places}: blocks of the GEOS file \"{name}\"\n"
-    )?.as_str())
-}
-
-/// Adds the line of a file of GEOS, if it has some of the blocks.
-fn add_file(
-    alloc: Global,
-    text: &mut String,
-    image: &[u8],
-    entry: &Entry,
-    telling: &Telling,
-    told: &mut SectorSet,
-) -> Result<(), ShellFault> {
-    let held = geos_blocks(alloc, image, entry)?;
-    let mut places = String::new(alloc);
-    add_held(alloc, &mut places, telling.freed.as_slice(), &held, told)?;
-    if !places.is_empty() {
-        add_geos(alloc, text, entry, places.as_str(), telling)?;
-    }
-    Ok(())
-}
-
-/// Adds the line of GEOS's border block, if it is one of the blocks.
-fn add_border(
-    alloc: Global,
-    text: &mut String,
-    image: &[u8],
-    telling: &Telling,
-    told: &mut SectorSet,
-) -> Result<(), ShellFault> {
-    let Some(at) = border_place(alloc, image)? else {
-        return Ok(());
-    };
-    let mut held = SectorSet::new();
-    held.insert(at);
-    let mut places = String::new(alloc);
-    add_held(alloc, &mut places, telling.freed.as_slice(), &held, told)?;
-    if !places.is_empty() {
-        let word = telling.keeps();
-        let place = places.as_str();
-        text.push_str(format!(in alloc; "{word}{place}: GEOS's border block\n")?.as_str())?;
-    }
-    Ok(())
-}
-
-/// Adds the line of a file that goes.
-fn add_unclosed(
-    alloc: Global,
-    text: &mut String,
-    entry: &Entry,
-    telling: &Telling,
-) -> Result<(), AllocError> {
-    let shown = name_text(alloc, Charset::Upper, entry.name())?;
-    let name = shown.as_str();
-    let word = telling.deletes();
-    text.push_str(format!(in alloc; "{word} \"{name}\": it was never closed\n")?.as_str())
-}
-
-/// Adds what becomes of an entry's file.
-fn add_entry(
-    alloc: Global,
-    text: &mut String,
-    image: &[u8],
-    entry: &Entry,
-    telling: &Telling,
-    told: &mut SectorSet,
-) -> Result<(), ShellFault> {
-    if geos_of(entry).is_some() {
-        add_file(alloc, text, image, entry, telling, told)?;
-    }
-    if !entry.is_empty() && !entry.is_closed() {
-        add_unclosed(alloc, text, entry, telling)?;
-    }
-    Ok(())
-}
-
-/// Adds the line of the blocks that no file of the directory has.
-fn add_others(
-    alloc: Global,
-    text: &mut String,
-    telling: &Telling,
-    told: &SectorSet,
-) -> Result<(), AllocError> {
-    let mut places = String::new(alloc);
-    add_untold(alloc, &mut places, telling.freed.as_slice(), told)?;
-    if places.is_empty() {
-        return Ok(());
-    }
-    text.push_str(telling.frees())?;
-    text.push_str(places.as_str())?;
-    text.push_str(": no file has them\n")
-}
-
-/// Adds all lines.
-fn add_lines(
-    alloc: Global,
-    text: &mut String,
-    image: &[u8],
-    telling: &Telling,
-) -> Result<(), ShellFault> {
-    let mut told = SectorSet::new();
-    let entries = entries(alloc, image)?;
-    for entry in entries.as_slice() {
-        add_entry(alloc, text, image, entry, telling, &mut told)?;
-    }
-    add_border(alloc, text, image, telling, &mut told)?;
-    add_others(alloc, text, telling, &told)?;
-    Ok(())
+    Ok(found)
 }
 
 /// What putting a disk in order does: blocks that are given back, blocks of GEOS that stay taken, and files that were never closed,
 /// which go. Errors: `Image`, `Trouble`, `Memory`.
-pub fn plan_of(alloc: Global, image: &[u8], telling: &Telling) -> Result<String, ShellFault> {
+pub fn plan_of(alloc: Global, image: &[u8], telling: &Telling) -> Result<Plan, ShellFault> {
+    let mut plan = Plan {
+        steps: Vec::new(alloc),
+        held: SectorSet::new(),
+    };
+    let entries = entries(alloc, image)?;
+    for (slot, entry) in entries.iter().enumerate() {
+        plan.add_entry(alloc, image, slot, entry, telling)?;
+    }
+    plan.add_border(alloc, image, telling)?;
+    plan.add_others(alloc, telling)?;
+    Ok(plan)
+}
+
+/// Adds a word and sectors.
+fn add_places(
+    alloc: Global,
+    text: &mut String,
+    word: &str,
+    places: &[Address],
+) -> Result<(), AllocError> {
+    text.push_str(word)?;
+    for at in places {
+        let track = at.track();
+        let sector = at.sector();
+        text.push_str(format!(in alloc; " {track}/{sector}")?.as_str())?;
+    }
+    Ok(())
+}
+
+/// Adds the line of a step.
+fn add_line(
+    alloc: Global,
+    text: &mut String,
+    step: &Step,
+    telling: &Telling,
+) -> Result<(), AllocError> {
+    match step {
+        Step::Geos(file, places) => {
+            add_places(alloc, text, telling.keeps(), places.as_slice())?;
+            let name = file.name.as_str();
+            text.push_str(format!(in alloc; ": blocks of the GEOS file \"{name}\"\n")?.as_str())
+        }
+        Step::Unclosed(file) => {
+            let word = telling.deletes();
+            let name = file.name.as_str();
+            text.push_str(format!(in alloc; "{word} \"{name}\": it was never closed\n")?.as_str())
+        }
+        Step::Border(at) => {
+            add_places(alloc, text, telling.keeps(), &[*at])?;
+            text.push_str(": GEOS's border block\n")
+        }
+        Step::Others(places) => {
+            add_places(alloc, text, telling.frees(), places.as_slice())?;
+            text.push_str(": no file has them\n")
+        }
+    }
+}
+
+/// The steps in lines. The one error is want of memory.
+pub fn lines_of(alloc: Global, plan: &Plan, telling: &Telling) -> Result<String, AllocError> {
     let mut text = String::new(alloc);
-    add_lines(alloc, &mut text, image, telling)?;
+    for step in plan.steps.as_slice() {
+        add_line(alloc, &mut text, step, telling)?;
+    }
     if text.is_empty() && telling.is_dry {
         text.push_str("no block and no file would go\n")?;
     }

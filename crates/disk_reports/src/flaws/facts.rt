@@ -1,12 +1,11 @@
 //! CHECK --ALL as a line of JSON, for programs.
 use super::{Findings, error_of, found_in, names_of, outcome};
-use crate::report::{Sector, line};
 use crate::view::{Look, Shown};
-use cbm_medium::Address;
 use cbm_shell::texts::{Charset, words};
 use cbm_shell::{DiskFlaw, ShellFault};
 use cbm_volume::Entry;
 use disk_basics::{Disk, is_mendable};
+use disk_json::{Named, Sector, line, sectors_of};
 use serde::Serialize;
 use std::alloc::{AllocError, Global};
 
@@ -30,7 +29,8 @@ struct FlawReport<'a> {
     sound: bool,
     flaws: Vec<FlawFacts>,
     lost: Vec<Sector>,
-    odd: Vec<usize>,
+    rests: &'a [Named],
+    odd: &'a [usize],
 }
 
 /// A flaw, for programs.
@@ -69,19 +69,6 @@ fn all_facts(
     Ok(all)
 }
 
-/// Sectors, for programs.
-fn sectors_of(alloc: Global, places: &[Address]) -> Result<Vec<Sector>, AllocError> {
-    let mut all = Vec::new(alloc);
-    for at in places {
-        let sector = Sector {
-            track: at.track(),
-            sector: at.sector(),
-        };
-        all.push(sector).map_err(AllocError::from)?;
-    }
-    Ok(all)
-}
-
 /// The flaws of an image as a line of JSON.
 fn report_of(
     alloc: Global,
@@ -92,13 +79,13 @@ fn report_of(
 ) -> Result<Vec<u8>, ShellFault> {
     let flaws = all_facts(alloc, disk, charset, findings)?;
     let lost = sectors_of(alloc, findings.lost.as_slice())?;
-    let odd = Vec::from_slice(alloc, findings.odd.as_slice())?;
     let report = FlawReport {
         image: name,
         sound: findings.flaws.is_empty(),
         flaws,
         lost,
-        odd,
+        rests: findings.rests.as_slice(),
+        odd: findings.odd.as_slice(),
     };
     Ok(line(alloc, &report)?)
 }
@@ -124,6 +111,6 @@ pub fn flaw_report(
     look: Look<'_>,
 ) -> Result<Shown, ShellFault> {
     let disk = Disk::open(alloc, image)?;
-    let findings = found_in(alloc, image, &disk)?;
+    let findings = found_in(alloc, image, &disk, look.charset)?;
     shown_flaws(alloc, name, &disk, look.charset, &findings)
 }

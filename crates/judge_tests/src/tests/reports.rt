@@ -2,7 +2,9 @@
 
 use bus_judge::NotABus;
 use cbm_iec::Party;
-use judge_report::{Asked, Form, Range, ReportFault, Timing, Verdict, judge_trace, seat_of};
+use judge_report::{
+    Asked, Extent, Form, Range, ReportFault, Timing, Verdict, judge_trace, seat_of,
+};
 use std::alloc::Global;
 use std::process::Abort;
 use std::str::from_utf8;
@@ -74,6 +76,7 @@ fn said_with(
         parties: &parties,
         ranges: &ranges,
         timing: Timing::Kept,
+        extent: Extent::FirstBreach,
         form,
     };
     let judged = judge_trace(alloc, trace.as_bytes(), &mut output, &asked);
@@ -126,6 +129,7 @@ fn knows_a_trace_of_a_kernal(rt: HostRuntime) {
             parties: &[party],
             ranges: &[],
             timing: Timing::Kept,
+            extent: Extent::FirstBreach,
             form: Form::Acts,
         };
         let judged = judge_trace(rt.alloc(), trace.as_bytes(), &mut output, &asked);
