@@ -276,8 +276,9 @@ def nothing_is_lost(tally, image, path, disk, others):
         with open(path, "wb") as out:
             out.write(image.data)
         is_kept(tally, image, call, run(*call.words), disk, path)
-    for ending in ("d64", "g64"):
-        is_converted(tally, image, path, disk, ending)
+    for ending, more in (("d64", ()), ("g64", ()), ("d64", ("--tracks", "40")), ("d64", ("--tracks", "35"))):
+        is_converted(tally, image, path, disk, ending, more)
+    is_built_again(tally, image, path, disk)
     for other in others:
         is_transferred(tally, image, path, disk, other)
 
@@ -299,18 +300,44 @@ def is_kept(tally, image, call, ran, disk, path):
     tally.is_so(image.path, f"{call.name} frees no block of a file", not freed, freed)
 
 
-def is_converted(tally, image, path, disk, ending):
+def is_converted(tally, image, path, disk, ending, more):
     with open(path, "wb") as out:
         out.write(image.data)
-    made = f"{path}.made.{ending}"
-    status, _, said = run("convert", path, made, "--replace")
+    made, name = f"{path}.made.{ending}", " ".join(("convert to a", ending, *more[1:]))
+    if os.path.exists(made):
+        os.remove(made)
+    status, _, said = run("convert", path, made, *more)
     if status == 0 and os.path.exists(made):
         with open(made, "rb") as it:
             now = Disk(it.read())
         lost = disk.held() - now.held()
-        tally.is_so(image.path, f"convert to a {ending} loses no file", not lost, ([it[:2] for it in lost], said))
+        tally.is_so(image.path, f"{name} loses no file", not lost, ([it[:2] for it in lost], said))
     else:
-        tally.is_so(image.path, f"convert to a {ending} says why not", status in (1, 64) and said and not os.path.exists(made), (status, said))
+        tally.is_so(image.path, f"{name} says why not", status in (1, 64) and said and not os.path.exists(made), (status, said))
+
+
+def is_built_again(tally, image, path, disk):
+    """Taken apart into files and a recipe, and made again of these: each closed file is there, unless one of the commands says what is missing."""
+    parts, recipe, made = f"{path}.parts", f"{path}.toml", f"{path}.built.d64"
+    os.makedirs(parts, exist_ok=True)
+    taken, described = run("get-all", path, parts), run("describe", path, "--folder", parts)
+    with open(recipe, "wb") as out:
+        out.write(described[1])
+    status, _, said = run("build", recipe, made)
+    if (taken[0], described[0], status) == (0, 0, 0):
+        with open(made, "rb") as it:
+            files = collections.Counter(recorded(it) for it in Disk(it.read()).files if it.closed)
+        lost = collections.Counter(recorded(it) for it in disk.files if is_readable(it)) - files
+        tally.is_so(image.path, "build of what describe says loses no file", not lost, ([it[:2] for it in lost], said))
+    else:
+        tally.is_so(image.path, "get-all, describe or build says why not", taken[2] or described[2] or said, (taken, described, status))
+
+
+def recorded(file):
+    """A file as a recipe's names and files have it: an empty one gets one byte, and a relative one is filled up with empty records."""
+    if file.type != "rel":
+        return file.name, file.type, file.data or b"\r"
+    return file.name, file.record, file.data.rstrip(b"\0\xff")
 
 
 def is_transferred(tally, image, path, disk, other):
