@@ -128,9 +128,14 @@ def ways(first, blocks):
     return [first, *((it[0], it[1]) for it in blocks)][: len(blocks)]
 
 
+def data_of(block):
+    return block[2:] if block[0] else block[2 : max(block[1] + 1, 2)]
+
+
 def held(parts):
-    """The bytes of chains, and how they end, without the places of their blocks; for the index of a file of GEOS those of its records stand for it."""
-    return tuple((tuple(it[2:] if it[0] else it[2 : max(it[1] + 1, 2)] for it in blocks) if n or len(parts) < 3 else len(blocks), stop and stop[0]) for n, (blocks, stop) in enumerate(parts))
+    """The bytes of chains, and how they end, without the places of their blocks. For the index of a file of GEOS its records stand."""
+    is_index = [n == 0 and len(parts) > 2 for n in range(len(parts))]
+    return tuple((len(blocks) if index else tuple(map(data_of, blocks)), stop and stop[0]) for index, (blocks, stop) in zip(is_index, parts))
 
 
 def is_readable(file):
