@@ -394,6 +394,8 @@ def each_is_named(tally, images, room):
             wanted = [it for it in wanted if it in has | refused]
         tally.is_so("the tree", f"{command} --json names each image once", sorted(names) == wanted, differ(names, wanted))
         tally.is_so("the tree", f"{command} --json has the reason of what it can't look at", all(it["error"] and it["status"] in (2, 3) for it in lines if "status" in it), lines[-1:])
+        bare = [it["image"] for it in lines if it.get("error") == "it can't be read"]
+        tally.is_so("the tree", f"{command} --json says why an image can't be read", not bare, bare)
         tally.is_so("the tree", f"{command} ends", status == 4, status)
         if command in ("list", "hash"):
             facts_hold(tally, command, {it["image"].removeprefix("./"): it for it in lines}, images)
