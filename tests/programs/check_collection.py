@@ -128,9 +128,14 @@ def ways(first, blocks):
     return [first, *((it[0], it[1]) for it in blocks)][: len(blocks)]
 
 
+def data_of(block):
+    return block[2:] if block[0] else block[2 : max(block[1] + 1, 2)]
+
+
 def held(parts):
-    """The bytes of chains, and how they end, without the places of their blocks; for the index of a file of GEOS those of its records stand for it."""
-    return tuple((tuple(it[2:] if it[0] else it[2 : max(it[1] + 1, 2)] for it in blocks) if n or len(parts) < 3 else len(blocks), stop and stop[0]) for n, (blocks, stop) in enumerate(parts))
+    """The bytes of chains, and how they end, without the places of their blocks. For the index of a file of GEOS its records stand."""
+    is_index = [n == 0 and len(parts) > 2 for n in range(len(parts))]
+    return tuple((len(blocks) if index else tuple(map(data_of, blocks)), stop and stop[0]) for index, (blocks, stop) in zip(is_index, parts))
 
 
 def is_readable(file):
@@ -389,6 +394,8 @@ def each_is_named(tally, images, room):
             wanted = [it for it in wanted if it in has | refused]
         tally.is_so("the tree", f"{command} --json names each image once", sorted(names) == wanted, differ(names, wanted))
         tally.is_so("the tree", f"{command} --json has the reason of what it can't look at", all(it["error"] and it["status"] in (2, 3) for it in lines if "status" in it), lines[-1:])
+        bare = [it["image"] for it in lines if it.get("error") == "it can't be read"]
+        tally.is_so("the tree", f"{command} --json says why an image can't be read", not bare, bare)
         tally.is_so("the tree", f"{command} ends", status == 4, status)
         if command in ("list", "hash"):
             facts_hold(tally, command, {it["image"].removeprefix("./"): it for it in lines}, images)
@@ -441,12 +448,16 @@ def is_named_in_text(tally, command, pattern, wanted, room):
         tally.is_so("the tree", f"{command} counts them, and the pipe", count and int(count[1]) == parts == total and "1 pipes or devices" in count[2], (lines[-1], total))
 
 
-def folder_is_named(tally, room):
-    """An image in a folder whose name isn't UTF-8: it is named, or its folder is."""
-    collection.lay(collection.in_odd_folder(), room)
-    for command in ENDS:
-        ran = run(command, "-r", *(("*",) if command == "find" else ()), ".", room=room)
-        tally.is_so("the tree", f"{command} names what is in a folder whose name isn't UTF-8", "latin\\xE9 folder" in ran[1].decode() + ran[2], ran)
+def folders_are_named(tally, room):
+    """An image in a folder whose name isn't UTF-8, and one that no path leads to: they are named, or their folders are, and the status tells of it."""
+    collection.lay(collection.in_odd_folder(), f"{room}/odd")
+    os.mkdir(f"{room}/long")
+    collection.lay_deep(f"{room}/long")
+    for what, folder, name in (("in a folder whose name isn't UTF-8", "odd", "latin\\xE9 folder"), ("too deep for a path", "long", "deep/d")):
+        for command in ENDS:
+            status, out, said = run(command, "-r", *(("*",) if command == "find" else ()), folder, room=room)
+            tally.is_so("the tree", f"{command} names what is {what}", name in out.decode() + said, (status, out[-200:], said))
+            tally.is_so("the tree", f"{command} of what is {what} ends with 4, or has looked at it", status == 4 or "inside.d64" in out.decode(), status)
 
 
 def soundness_holds(tally, images, room):
@@ -488,21 +499,31 @@ def try_image(number):
     return tally
 
 
-def main():
-    tally = Tally()
-    room = given.keep or tempfile.mkdtemp(dir=disks.ROOM)
+def look_at_tree(tally, room):
     collection.lay(IMAGES, room)
+    collection.add_links(room)
     each_is_named(tally, IMAGES, room)
     soundness_holds(tally, IMAGES, room)
-    with tempfile.TemporaryDirectory(dir=disks.ROOM) as other:
-        folder_is_named(tally, other)
-        for image in KINDS:
-            kind_is_converted(tally, image, other)
-    if not given.keep:
-        shutil.rmtree(room)
+
+
+def look_beside(tally, room):
+    folders_are_named(tally, room)
+    for image in KINDS:
+        kind_is_converted(tally, image, room)
+
+
+def try_images(tally):
     with concurrent.futures.ProcessPoolExecutor(2) as pool:
         for part in pool.map(try_image, [n for n, it in enumerate(OURS) if given.only in it.path], chunksize=4):
             tally.add(part)
+
+
+def main():
+    tally = Tally()
+    for look in (look_at_tree, look_beside):
+        with tempfile.TemporaryDirectory(dir=disks.ROOM) as room:
+            look(tally, given.keep if given.keep and look is look_at_tree else room)
+    try_images(tally)
     for case, count in tally.holds.items():
         if count and not any(it.startswith(f"WRONG {case}: ") for it in tally.wrong):
             print(f"ok    {case}: {count}")
