@@ -23,9 +23,6 @@ const NO_MEMORY: u8 = 3;
 /// The word of a line in place of the image.
 const IMAGE: &str = "IMAGE";
 
-/// The flags that a line can't have, and how they are said.
-const NO_WORDS: [(&str, &str); 2] = [("dry-run", "--dry-run"), ("json", "--json")];
-
 /// The lines that are carried out.
 #[derive(Clone, Copy)]
 struct Script<'a> {
@@ -99,6 +96,17 @@ fn is_for_lines(verb: Verb) -> bool {
     }
 }
 
+/// A flag that a line can't have; none if there is none.
+fn wrong_flag(words: &ArgMatches<'_>) -> Option<&'static str> {
+    if flag(words, "dry-run") {
+        Some("--dry-run")
+    } else if flag(words, "json") {
+        Some("--json")
+    } else {
+        None
+    }
+}
+
 /// Refuses what is no word of a line: another image, files of several images, a dry run, JSON, and standard input.
 fn require_line<'a>(words: &ArgMatches<'a>) -> Result<(), Failure<'a>> {
     if let [_, other, ..] = words.get_strs("IMAGE").unwrap_or(&[]) {
@@ -107,10 +115,8 @@ fn require_line<'a>(words: &ArgMatches<'a>) -> Result<(), Failure<'a>> {
     if words.get_strs("only").is_some() {
         return Err(Failure::Word(WordFault::LineWord("--only")));
     }
-    for (name, word) in &NO_WORDS {
-        if flag(words, *name) {
-            return Err(Failure::Word(WordFault::LineWord(*word)));
-        }
+    if let Some(word) = wrong_flag(words) {
+        return Err(Failure::Word(WordFault::LineWord(word)));
     }
     for file in words.get_strs("FILE").unwrap_or(&[]) {
         if is_standard(*file) {
