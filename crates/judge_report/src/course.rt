@@ -90,12 +90,24 @@ impl<'a> Course<'a> {
             self.judge(alloc, told, line, output)?;
         }
         if begins && !self.is_judging && self.asked.extent == Extent::All {
-            let (_, change) = change_of(told);
-            tell_anew(alloc, output, self.asked.form, change.moment)?;
-            self.hearing = Hearing::new(self.asked)?;
-            self.is_judging = true;
+            self.begin_anew(alloc, told, output)?;
             self.judge(alloc, told, line, output)?;
         }
+        Ok(())
+    }
+
+    /// The trace is judged anew from a change on. (A function of its own: in `hear` the room for a `Hearing` would be cleared at each
+    /// change.)
+    fn begin_anew<W: Write>(
+        &mut self,
+        alloc: Global,
+        told: Told,
+        output: &mut W,
+    ) -> Result<(), ReportFault> {
+        let (_, change) = change_of(told);
+        tell_anew(alloc, output, self.asked.form, change.moment)?;
+        self.hearing = Hearing::new(self.asked)?;
+        self.is_judging = true;
         Ok(())
     }
 

@@ -42,14 +42,12 @@ impl<R: Read> Source<R> {
         }
     }
 
-    /// Reads on if no byte waits.
+    /// Reads on, as no byte waits.
     fn fill(&mut self) -> io::Result<()>
+        requires { self.old.end ≤ self.old.start }
         ensures ok { OnOk result (Keeps (source_bytes_left R.remaining self.old) (source_bytes_left R.remaining self.new)) }
         ensures end { OnOk result (self.new.start ≡ self.new.end → IsAtEnd (source_bytes_left R.remaining self.new)) }
     {
-        if self.start < self.end {
-            return Ok(());
-        }
         self.start = 0;
         self.end = 0;
         self.end = self.reader.read(&mut self.block)?;
@@ -58,7 +56,9 @@ impl<R: Read> Source<R> {
 
     /// The byte that comes next, which stays; None at the end. Error: `Reading`.
     pub(crate) fn peek(&mut self) -> Result<Option<u8>, TraceFault> {
-        self.fill().map_err(|_| TraceFault::Reading)?;
+        if self.start >= self.end {
+            self.fill().map_err(|_| TraceFault::Reading)?;
+        }
         if self.start < self.end {
             return Ok(Some(self.block[self.start]));
         }
@@ -88,11 +88,13 @@ impl<R: Read> Source<R> {
     pub(crate) fn next(&mut self) -> Result<Option<u8>, TraceFault>
         ensures { IfOk result (TakesByte (source_bytes_left R.remaining self.old) (source_bytes_left R.remaining self.new)) }
     {
-        if self.fill().is_err() {
-            return Err(TraceFault::Reading);
-        }
         if self.start >= self.end {
-            return Ok(None);
+            if self.fill().is_err() {
+                return Err(TraceFault::Reading);
+            }
+            if self.start >= self.end {
+                return Ok(None);
+            }
         }
         let byte = self.take_byte();
         self.count(byte);
