@@ -44,6 +44,7 @@ pub struct File {
     slot: usize,
     name: String,
     petscii: String,
+    behind: Option<String>,
     #[serde(rename = "type")]
     kind: &'static str,
     closed: bool,
@@ -137,6 +138,25 @@ fn record_of(entry: &Entry) -> Option<u8> {
     }
 }
 
+/// What stands behind the end of a name, as `,8,1`; none if nothing does.
+fn behind_name(entry: &Entry) -> Option<&[u8]> {
+    let from = entry.name().len().saturating_add(4);
+    let text = unfilled(entry.bytes().get(from..19)?);
+    if text.is_empty() { None } else { Some(text) }
+}
+
+/// The same in a character set. The one error is want of memory.
+fn behind_text(
+    alloc: Global,
+    charset: Charset,
+    entry: &Entry,
+) -> Result<Option<String>, AllocError> {
+    match behind_name(entry) {
+        Some(codes) => Ok(Some(name_text(alloc, charset, codes)?)),
+        None => Ok(None),
+    }
+}
+
 /// A file, with its name and its size.
 fn file_of(
     alloc: Global,
@@ -152,6 +172,7 @@ fn file_of(
         slot,
         name,
         petscii,
+        behind: behind_text(alloc, charset, entry)?,
         kind: type_of(entry).unwrap_or("unknown"),
         closed: entry.is_closed(),
         locked: entry.is_locked(),
