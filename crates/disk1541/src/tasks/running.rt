@@ -23,9 +23,6 @@ const NO_MEMORY: u8 = 3;
 /// The word of a line in place of the image.
 const IMAGE: &str = "IMAGE";
 
-/// The flags that a line can't have, and how they are said.
-const NO_WORDS: [(&str, &str); 2] = [("dry-run", "--dry-run"), ("json", "--json")];
-
 /// The lines that are carried out.
 #[derive(Clone, Copy)]
 struct Script<'a> {
@@ -107,10 +104,11 @@ fn require_line<'a>(words: &ArgMatches<'a>) -> Result<(), Failure<'a>> {
     if words.get_strs("only").is_some() {
         return Err(Failure::Word(WordFault::LineWord("--only")));
     }
-    for (name, word) in &NO_WORDS {
-        if flag(words, *name) {
-            return Err(Failure::Word(WordFault::LineWord(*word)));
-        }
+    if flag(words, "dry-run") {
+        return Err(Failure::Word(WordFault::LineWord("--dry-run")));
+    }
+    if flag(words, "json") {
+        return Err(Failure::Word(WordFault::LineWord("--json")));
     }
     for file in words.get_strs("FILE").unwrap_or(&[]) {
         if is_standard(*file) {
