@@ -142,7 +142,8 @@ def play(case):
             if wrong and not step.name:
                 break
         if given.keep:
-            shutil.copytree(folder, f"{given.keep}/{named.replace('/', '-')}", symlinks=True, dirs_exist_ok=True)
+            # (cp takes pipes, too)
+            subprocess.run(["cp", "-a", f"{folder}/.", f"{given.keep}/{named.replace('/', '-')}"], check=True)
     return said
 
 

@@ -128,9 +128,14 @@ def ways(first, blocks):
     return [first, *((it[0], it[1]) for it in blocks)][: len(blocks)]
 
 
+def data_of(block):
+    return block[2:] if block[0] else block[2 : max(block[1] + 1, 2)]
+
+
 def held(parts):
-    """The bytes of chains, and how they end, without the places of their blocks; for the index of a file of GEOS those of its records stand for it."""
-    return tuple((tuple(it[2:] if it[0] else it[2 : max(it[1] + 1, 2)] for it in blocks) if n or len(parts) < 3 else len(blocks), stop and stop[0]) for n, (blocks, stop) in enumerate(parts))
+    """The bytes of chains, and how they end, without the places of their blocks. For the index of a file of GEOS its records stand."""
+    is_index = [n == 0 and len(parts) > 2 for n in range(len(parts))]
+    return tuple((len(blocks) if index else tuple(map(data_of, blocks)), stop and stop[0]) for index, (blocks, stop) in zip(is_index, parts))
 
 
 def is_readable(file):
@@ -276,8 +281,9 @@ def nothing_is_lost(tally, image, path, disk, others):
         with open(path, "wb") as out:
             out.write(image.data)
         is_kept(tally, image, call, run(*call.words), disk, path)
-    for ending in ("d64", "g64"):
-        is_converted(tally, image, path, disk, ending)
+    for ending, more in (("d64", ()), ("g64", ()), ("d64", ("--tracks", "40")), ("d64", ("--tracks", "35"))):
+        is_converted(tally, image, path, disk, ending, more)
+    is_built_again(tally, image, path, disk)
     for other in others:
         is_transferred(tally, image, path, disk, other)
 
@@ -299,18 +305,44 @@ def is_kept(tally, image, call, ran, disk, path):
     tally.is_so(image.path, f"{call.name} frees no block of a file", not freed, freed)
 
 
-def is_converted(tally, image, path, disk, ending):
+def is_converted(tally, image, path, disk, ending, more):
     with open(path, "wb") as out:
         out.write(image.data)
-    made = f"{path}.made.{ending}"
-    status, _, said = run("convert", path, made, "--replace")
+    made, name = f"{path}.made.{ending}", " ".join(("convert to a", ending, *more[1:]))
+    if os.path.exists(made):
+        os.remove(made)
+    status, _, said = run("convert", path, made, *more)
     if status == 0 and os.path.exists(made):
         with open(made, "rb") as it:
             now = Disk(it.read())
         lost = disk.held() - now.held()
-        tally.is_so(image.path, f"convert to a {ending} loses no file", not lost, ([it[:2] for it in lost], said))
+        tally.is_so(image.path, f"{name} loses no file", not lost, ([it[:2] for it in lost], said))
     else:
-        tally.is_so(image.path, f"convert to a {ending} says why not", status in (1, 64) and said and not os.path.exists(made), (status, said))
+        tally.is_so(image.path, f"{name} says why not", status in (1, 64) and said and not os.path.exists(made), (status, said))
+
+
+def is_built_again(tally, image, path, disk):
+    """Taken apart into files and a recipe, and made again of these: each closed file is there, unless one of the commands says what is missing."""
+    parts, recipe, made = f"{path}.parts", f"{path}.toml", f"{path}.built.d64"
+    os.makedirs(parts, exist_ok=True)
+    taken, described = run("get-all", path, parts), run("describe", path, "--folder", parts)
+    with open(recipe, "wb") as out:
+        out.write(described[1])
+    status, _, said = run("build", recipe, made)
+    if (taken[0], described[0], status) == (0, 0, 0):
+        with open(made, "rb") as it:
+            files = collections.Counter(recorded(it) for it in Disk(it.read()).files if it.closed)
+        lost = collections.Counter(recorded(it) for it in disk.files if is_readable(it)) - files
+        tally.is_so(image.path, "build of what describe says loses no file", not lost, ([it[:2] for it in lost], said))
+    else:
+        tally.is_so(image.path, "get-all, describe or build says why not", taken[2] or described[2] or said, (taken, described, status))
+
+
+def recorded(file):
+    """A file as a recipe's names and files have it: an empty one gets one byte, and a relative one is filled up with empty records."""
+    if file.type != "rel":
+        return file.name, file.type, file.data or b"\r"
+    return file.name, file.record, file.data.rstrip(b"\0\xff")
 
 
 def is_transferred(tally, image, path, disk, other):
@@ -340,6 +372,15 @@ def shown(path):
     return "".join(f"\\x{ord(it) - 0xDC00:02X}" if 0xDC80 <= ord(it) <= 0xDCFF else f"\\x{ord(it):02X}" if it < " " else it for it in text)
 
 
+def is_text(path):
+    """Whether a path is UTF-8."""
+    try:
+        os.fsencode(path).decode()
+    except UnicodeDecodeError:
+        return False
+    return True
+
+
 ENDS = {"check": (".d64", ".g64"), **dict.fromkeys(("list", "hash", "find"), (".d64", ".g64", ".d71", ".d81", ".t64", ".lnx"))}
 LINKS = ("links/file.d64", "links/gone.d64", "links/round.d64")
 
@@ -362,6 +403,8 @@ def each_is_named(tally, images, room):
             wanted = [it for it in wanted if it in has | refused]
         tally.is_so("the tree", f"{command} --json names each image once", sorted(names) == wanted, differ(names, wanted))
         tally.is_so("the tree", f"{command} --json has the reason of what it can't look at", all(it["error"] and it["status"] in (2, 3) for it in lines if "status" in it), lines[-1:])
+        bare = [it["image"] for it in lines if it.get("error") == "it can't be read"]
+        tally.is_so("the tree", f"{command} --json says why an image can't be read", not bare, bare)
         tally.is_so("the tree", f"{command} ends", status == 4, status)
         if command in ("list", "hash"):
             facts_hold(tally, command, {it["image"].removeprefix("./"): it for it in lines}, images)
@@ -406,7 +449,9 @@ def is_named_in_text(tally, command, pattern, wanted, room):
     names = {it[1] for it in (re.match(heads[command], line) for line in lines) if it}
     refused = re.findall(r"^disk1541: (?:can't read )?\./(.*?)(?:: | is )", said, re.M)
     named = names | set(refused)
-    tally.is_so("the tree", f"{command} names each image", named == set(wanted), differ(named, wanted))
+    # (what has no name in UTF-8 may be a folder, and so is named, whatever its ending)
+    unreached = {shown(it.path) for it in IMAGES if not is_text(it.path)}
+    tally.is_so("the tree", f"{command} names each image", set(wanted) <= named <= {*wanted, *unreached}, differ(named, wanted))
     if command != "hash":
         count = re.match(r"(\d+) images: (.*)", lines[-1])
         parts = count and sum(int(it) for it in re.findall(r"(\d+) (?:sound|not\b|shown|with a match|without|no images)", count[2]))
@@ -414,12 +459,16 @@ def is_named_in_text(tally, command, pattern, wanted, room):
         tally.is_so("the tree", f"{command} counts them, and the pipe", count and int(count[1]) == parts == total and "1 pipes or devices" in count[2], (lines[-1], total))
 
 
-def folder_is_named(tally, room):
-    """An image in a folder whose name isn't UTF-8: it is named, or its folder is."""
-    collection.lay(collection.in_odd_folder(), room)
-    for command in ENDS:
-        ran = run(command, "-r", *(("*",) if command == "find" else ()), ".", room=room)
-        tally.is_so("the tree", f"{command} names what is in a folder whose name isn't UTF-8", "latin\\xE9 folder" in ran[1].decode() + ran[2], ran)
+def folders_are_named(tally, room):
+    """An image in a folder whose name isn't UTF-8, and one that no path leads to: they are named, or their folders are, and the status tells of it."""
+    collection.lay(collection.in_odd_folder(), f"{room}/odd")
+    os.mkdir(f"{room}/long")
+    collection.lay_deep(f"{room}/long")
+    for what, folder, name in (("in a folder whose name isn't UTF-8", "odd", "latin\\xE9 folder"), ("too deep for a path", "long", "deep/d")):
+        for command in ENDS:
+            status, out, said = run(command, "-r", *(("*",) if command == "find" else ()), folder, room=room)
+            tally.is_so("the tree", f"{command} names what is {what}", name in out.decode() + said, (status, out[-200:], said))
+            tally.is_so("the tree", f"{command} of what is {what} ends with 4, or has looked at it", status == 4 or "inside.d64" in out.decode(), status)
 
 
 def soundness_holds(tally, images, room):
@@ -461,21 +510,31 @@ def try_image(number):
     return tally
 
 
-def main():
-    tally = Tally()
-    room = given.keep or tempfile.mkdtemp(dir=disks.ROOM)
+def look_at_tree(tally, room):
     collection.lay(IMAGES, room)
+    collection.add_links(room)
     each_is_named(tally, IMAGES, room)
     soundness_holds(tally, IMAGES, room)
-    with tempfile.TemporaryDirectory(dir=disks.ROOM) as other:
-        folder_is_named(tally, other)
-        for image in KINDS:
-            kind_is_converted(tally, image, other)
-    if not given.keep:
-        shutil.rmtree(room)
+
+
+def look_beside(tally, room):
+    folders_are_named(tally, room)
+    for image in KINDS:
+        kind_is_converted(tally, image, room)
+
+
+def try_images(tally):
     with concurrent.futures.ProcessPoolExecutor(2) as pool:
         for part in pool.map(try_image, [n for n, it in enumerate(OURS) if given.only in it.path], chunksize=4):
             tally.add(part)
+
+
+def main():
+    tally = Tally()
+    for look in (look_at_tree, look_beside):
+        with tempfile.TemporaryDirectory(dir=disks.ROOM) as room:
+            look(tally, given.keep if given.keep and look is look_at_tree else room)
+    try_images(tally)
     for case, count in tally.holds.items():
         if count and not any(it.startswith(f"WRONG {case}: ") for it in tally.wrong):
             print(f"ok    {case}: {count}")

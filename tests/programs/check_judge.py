@@ -358,7 +358,7 @@ def main():
         tried += 1
         if not holds:
             faults.append(name)
-            print(f"not ok: {name}: {drives}, {ran.returncode}, {ran.stdout[-200:]!r} {ran.stderr!r}")
+            print(f"WRONG {name}: {drives}, {ran.returncode}, {ran.stdout[-200:]!r} {ran.stderr!r}")
 
     for seed in range(count):
         drives = buses(dice)
@@ -386,9 +386,9 @@ def main():
             tried += 1
             if (got := judged_loosely(program, trace, least, most)) != wanted:
                 faults.append(what)
-                print(f"not ok: a KERNAL's job {seed}, {what}, {least} to {most}: {got}")
+                print(f"WRONG a KERNAL's job {seed}, {what}, {least} to {most}: {got}")
     check_all(program, count, is_so)
-    print(f"check_judge: {tried} checks, {len(faults)} failed")
+    print(f"WRONG {len(faults)} of {tried} checks" if faults else f"ok    {tried} checks of the judge")
     return 1 if faults else 0
 
 

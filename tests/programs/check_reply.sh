@@ -1,5 +1,5 @@
 #!/bin/sh
-# Talks with drive1541 reply from outside: line changes and traces played by hand, a computer in Python, and what is refused.
+# Talks with drive1541 reply from outside: line changes and traces played by hand, a computer in Python; what is refused is data (check_cases.py).
 # Usage: sh check_reply.sh DRIVE1541 [DISK1541] (the paths of the built programs). Prints one line a case; ends with 1 if one is wrong.
 drive=$(realpath "$1")
 tool=${2:+$(realpath "$2")}
@@ -143,60 +143,10 @@ for new in a b c d; do
     is "four drives: the file of $new" test $? = 0
 done
 
-# ---- the end, and what is refused
+# ---- the end
 
 cp hello.d64 same.d64
 head -n -1 hello.host | "$drive" reply same.d64=same.d64 > ended.answers
 is "no end: ends well" test $? = 0
 is "no end: the image is saved" cmp -s hello.d64 same.d64
-
-# name, status, the last answer, the line on standard error, then the host's lines.
-refused() {
-    name=$1 status=$2 answer=$3 line=$4
-    shift 4
-    rm -f never.d64
-    printf '%s\n' "$@" | "$drive" reply hello.d64=never.d64 > refused.out 2> refused.err
-    is "$name: status $status" test $? = "$status"
-    is "$name: the answer" test "$(tail -n 1 refused.out)" = "$answer"
-    is "$name: the line" test "$(cat refused.err)" = "$line"
-    is "$name: nothing is saved" test ! -e never.d64
-}
-words="MOMENT LINE WAY is wanted, as 0 atn pull, or until MOMENT, or end MOMENT, with one space between two words"
-refused "no line" 1 "error 1: $words" "line 1 refused: $words" "0 reset pull"
-refused "two spaces" 1 "error 1: $words" "line 1 refused: $words" "0  atn pull"
-refused "a great moment" 1 "error 2: $words" "line 2 refused: $words" "until 1000000000000000" "until 1000000000000001"
-early="it comes too early, 21 is the first moment at which the host may change a line"
-refused "a change with a reaction" 1 "error 3: $early" "line 3 refused: $early" "0 atn pull" "until 20" "20 clock pull" "30 clock pull"
-early="it comes too early, 20 is the first moment at which the host may change a line"
-refused "a change before the last" 1 "error 2: $early" "line 2 refused: $early" "20 atn pull" "19 clock pull"
-over="its moment is over, the talk has come to 20"
-refused "a moment that is over" 1 "error 2: $over" "line 2 refused: $over" "20 atn pull" "until 19"
-refused "an end that is over" 1 "error 2: $over" "line 2 refused: $over" "until 20" "end 19"
-long=$(printf '%01001d' 0)
-refused "a long line" 1 "error 1: it has more than 1000 bytes" "line 1 refused: it has more than 1000 bytes" "$long"
-printf '; %0998d\nend 1\n' 0 | "$drive" reply hello.d64 > long.out
-is "a line of 1,000 bytes: ends well" test $? = 0
-is "a line of 1,000 bytes: two marks" test "$(marks long.out)" = 2
-
-# words of the command line that are refused, with their status
-not_asked() {
-    name=$1 status=$2
-    shift 2
-    echo "end 1" | "$drive" reply "$@" > asked.out 2> asked.err
-    is "$name: status $status" test $? = "$status"
-    is "$name: says why" test -s asked.err
-    is "$name: no answer" test ! -s asked.out
-}
-not_asked "no image" 1
-not_asked "five images" 1 hello.d64 hello.d64 hello.d64 hello.d64 hello.d64
-not_asked "two drives of one number" 1 hello.d64 hello.d64 --drive 9
-not_asked "more drives than images" 1 hello.d64 --drive 8 --drive 9
-not_asked "a number that is none" 1 hello.d64 --drive 12
-not_asked "no reaction" 1 hello.d64 --drive 8:0
-not_asked "a long reaction" 1 hello.d64 --drive 8:61
-not_asked "no pace" 1 hello.d64 --drive 8:20:c64
-not_asked "the same file twice" 1 hello.d64=x.d64 hello.d64=x.d64
-not_asked "standard output" 1 hello.d64=-
-not_asked "no such image" 3 missing.d64
-not_asked "no image of a disk" 2 hello.script
 exit $wrong

@@ -370,18 +370,34 @@ def in_odd_folder():
     return [Image(b"latin\xe9 folder/inside.d64", bytes(disks.Disk(2).image), True), Image(b"beside.d64", bytes(disks.Disk(3).image), True)]
 
 
+def lay_deep(room):
+    """An image in so many folders that no path of 4,096 bytes leads to it."""
+    at = os.open(room, os.O_RDONLY)
+    for name in ("deep", *("d" * 250,) * 17):
+        os.mkdir(name, dir_fd=at)
+        above, at = at, os.open(name, os.O_RDONLY, dir_fd=at)
+        os.close(above)
+    with open("inside.d64", "wb", opener=lambda name, flags: os.open(name, flags, 0o666, dir_fd=at)) as out:
+        out.write(bytes(disks.Disk(2).image))
+    os.close(at)
+
+
 def collection(count):
     rng = random.Random(1541)
     return [*(disk_image(n) for n in range(count)), *other_kinds(rng), *odd_paths()]
 
 
 def lay(images, room):
-    """Writes them into a folder, with pipes and links among them."""
+    """Writes them into a folder."""
     for it in images:
         path = os.path.join(os.fsencode(room), it.path if isinstance(it.path, bytes) else os.fsencode(it.path))
         os.makedirs(os.path.dirname(path), exist_ok=True)
         with open(path, "wb") as out:
             out.write(it.data)
+
+
+def add_links(room):
+    """A pipe, and links to files and folders, some of which lead nowhere."""
     os.makedirs(f"{room}/links")
     os.mkfifo(f"{room}/links/pipe.d64")
     for name, to in (("file.d64", "../none/byte.d64"), ("gone.d64", "nowhere"), ("round.d64", "round.d64"), ("up", ".."), ("up.d64", "..")):

@@ -118,19 +118,22 @@ pub fn in_memory<'a, T>(made: Result<T, AllocError>) -> Result<T, Failure<'a>> {
     }
 }
 
+/// Why a file of this computer failed, where this program has words of its own for it.
+fn host_text(kind: io::ErrorKind) -> Option<&'static str> {
+    match kind {
+        io::ErrorKind::NotFound => Some("no such file or folder"),
+        io::ErrorKind::InvalidFilename => Some("the name isn't UTF-8, or is too long"),
+        io::ErrorKind::FilesystemLoop => Some("links that lead in a circle"),
+        io::ErrorKind::Uncategorized => Some("the system refused it"),
+        _ => None,
+    }
+}
+
 /// Prints which file of this computer failed.
 fn tell_host(rt: &impl Eprint, call: &str, name: &str, kind: io::ErrorKind) -> io::Result<()> {
-    match kind {
-        io::ErrorKind::NotFound => {
-            eprintln!(rt; "disk1541: can't {call} {name}: no such file or folder")
-        }
-        io::ErrorKind::InvalidFilename => {
-            eprintln!(rt; "disk1541: can't {call} {name}: the name isn't UTF-8, or is too long")
-        }
-        io::ErrorKind::Uncategorized => {
-            eprintln!(rt; "disk1541: can't {call} {name}: the system refused it")
-        }
-        _ => eprintln!(rt; "disk1541: can't {call} {name}: {kind}"),
+    match host_text(kind) {
+        Some(why) => eprintln!(rt; "disk1541: can't {call} {name}: {why}"),
+        None => eprintln!(rt; "disk1541: can't {call} {name}: {kind}"),
     }
 }
 
@@ -158,10 +161,9 @@ impl<'a> Failure<'a> {
     /// Why an image can't be looked at, without its name.
     pub fn reason(self) -> &'static str {
         match self {
-            Failure::Read(_, io::ErrorKind::NotFound) => "no such file or folder",
             Failure::Read(_, io::ErrorKind::PermissionDenied) => "permission denied",
             Failure::Read(_, io::ErrorKind::IsADirectory) => "a folder",
-            Failure::Read(..) => "it can't be read",
+            Failure::Read(_, kind) => host_text(kind).unwrap_or("it can't be read"),
             Failure::TooLong(..) => "it has more bytes than any image",
             Failure::Foreign(_, foreign, _) => foreign_text(foreign),
             Failure::Disk(_, ShellFault::Image(number)) => image_fault_text(number),

@@ -112,7 +112,8 @@ impl Walk {
         is_image_name(path) || self.has_others && is_other_name(path)
     }
 
-    /// Adds a folder, or a file that is named as images are. A link to a folder isn't followed.
+    /// Adds a folder, or a file that is named as images are. A link to a folder isn't followed. What has no name in UTF-8 is reported,
+    /// as it may be a folder with images.
     fn add<R: Runtime + AllocGlobal>(&mut self, rt: &R, path: &str) -> Result<(), AllocError> {
         let alloc = rt.alloc();
         match (own_kind_of(rt, path), kind_of(rt, path)) {
@@ -123,6 +124,7 @@ impl Walk {
             (_, Ok(Kind::Other)) => self.passed.specials = self.passed.specials.wrapping_add(1),
             _ if self.is_image(path) => self.images.push(String::from_str(alloc, path)?)?,
             (Err(error), _) if error.kind() == io::ErrorKind::InvalidFilename => {
+                let _ = Failure::Read(path, error.kind()).tell(rt);
                 self.passed.unnamed = self.passed.unnamed.wrapping_add(1);
             }
             _ => self.passed.files = self.passed.files.wrapping_add(1),

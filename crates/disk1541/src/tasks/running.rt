@@ -96,6 +96,17 @@ fn is_for_lines(verb: Verb) -> bool {
     }
 }
 
+/// A flag that a line can't have; none if there is none.
+fn wrong_flag(words: &ArgMatches<'_>) -> Option<&'static str> {
+    if flag(words, "dry-run") {
+        Some("--dry-run")
+    } else if flag(words, "json") {
+        Some("--json")
+    } else {
+        None
+    }
+}
+
 /// Refuses what is no word of a line: another image, files of several images, a dry run, JSON, and standard input.
 fn require_line<'a>(words: &ArgMatches<'a>) -> Result<(), Failure<'a>> {
     if let [_, other, ..] = words.get_strs("IMAGE").unwrap_or(&[]) {
@@ -104,11 +115,8 @@ fn require_line<'a>(words: &ArgMatches<'a>) -> Result<(), Failure<'a>> {
     if words.get_strs("only").is_some() {
         return Err(Failure::Word(WordFault::LineWord("--only")));
     }
-    if flag(words, "dry-run") {
-        return Err(Failure::Word(WordFault::LineWord("--dry-run")));
-    }
-    if flag(words, "json") {
-        return Err(Failure::Word(WordFault::LineWord("--json")));
+    if let Some(word) = wrong_flag(words) {
+        return Err(Failure::Word(WordFault::LineWord(word)));
     }
     for file in words.get_strs("FILE").unwrap_or(&[]) {
         if is_standard(*file) {
