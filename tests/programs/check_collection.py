@@ -201,7 +201,7 @@ def is_got_exactly(tally, image, path, disk):
 
 def is_listed(tally, image, path, disk):
     status, out, said = run("list", path, "--json")
-    files = [{key: value for key, value in it.items() if key not in ("name", "geos")} for it in json.loads(out)["files"]]
+    files = model.compared(json.loads(out)["files"])
     wanted = [dict(it.as_json(slot)) for slot, it in zip(disk.slots, disk.files)]
     tally.is_so(image.path, "list --json has each file", files == wanted, [(a, b) for a, b in zip(files, wanted) if a != b][:1] or (len(files), len(wanted)))
     broken = json.loads(out)["broken"]

@@ -65,9 +65,8 @@ def is_transferred(what, file, files, room):
 
 def told(line):
     """A line of JSON without names in a character set, the label, and what GEOS says, which the model doesn't know."""
-    files = [{key: value for key, value in it.items() if key not in ("name", "geos")} for it in line["files"]]
     broken = line["broken"] and {key: value for key, value in line["broken"].items() if key != "text"}
-    return {"format": line["format"], "tracks": line["tracks"], "unreadable": line["unreadable"], "files": files, "broken": broken}
+    return {"format": line["format"], "tracks": line["tracks"], "unreadable": line["unreadable"], "files": model.compared(line["files"]), "broken": broken}
 
 
 def rows_of(file, word):

@@ -38,13 +38,14 @@ class File:
     def __init__(self, kind, name, blocks, first, record, data):
         self.type, self.closed, self.locked = TYPES.get(kind % 16, "unknown"), kind & 128 != 0, kind & 64 != 0
         self.name, self.blocks, self.first, self.record = name.split(b"\xa0")[0], blocks, first, record if kind % 16 == 4 else None
+        self.behind = name.partition(b"\xa0")[2].rstrip(b"\xa0")
         self.data = data if self.closed else None
 
     def as_json(self, slot):
-        """What JSON says of it, but for its name in a character set and what GEOS says."""
+        """What JSON says of it, but for its name in a character set and what GEOS says; of what stands behind the name, whether there is anything."""
         has_load = self.data is not None and self.type == "prg" and len(self.data) >= 2
         return {
-            "slot": slot, "petscii": self.name.hex(), "type": self.type, "closed": self.closed, "locked": self.locked, "blocks": self.blocks,
+            "slot": slot, "petscii": self.name.hex(), "behind": self.behind != b"", "type": self.type, "closed": self.closed, "locked": self.locked, "blocks": self.blocks,
             "bytes": None if self.data is None else len(self.data), "load": self.data[0] + 256 * self.data[1] if has_load else None,
             "first": {"track": self.first[0], "sector": self.first[1]}, "record": self.record,
         }
@@ -198,6 +199,11 @@ def read(image):
         return Lynx(image)
     except Unread:
         return None
+
+
+def compared(files):
+    """The files of a line of JSON, as `as_json` of a file has them."""
+    return [{key: value for key, value in it.items() if key not in ("name", "geos")} | {"behind": it["behind"] is not None} for it in files]
 
 
 def as_json(source):
