@@ -20,7 +20,7 @@ const NO_LINE: &str =
     " is no command of a line: take put, copy, rename, delete, undelete, lock, unlock, title, retype, place, sort, validate";
 
 /// How a format is said.
-const FORMATS: &str = " tells no format: say --format d64 or --format g64";
+const FORMATS: &str = " tells no format: say --format d64 or --format g64, in a recipe `format`";
 
 /// Which sectors disks have.
 const SECTORS: &str = " (tracks are 1 to 40, sectors 0 to 20)";
