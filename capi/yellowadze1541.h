@@ -11,7 +11,7 @@
  * Threads: the library has no state but its handles. Different handles may be used by different threads at once, one handle by one call at a
  * time. A handle may be passed to another thread; the caller must synchronise.
  * Memory comes from malloc, realloc and free, in the calls marked [m] alone. If there is none, the call answers Y1541_NO_MEMORY.
- * Stack: y1541_open takes up to 285 kB, copy, delete, and put and command around odd entries 262 kB, put, command, list and play 214 kB, y1541_lines and
+ * Stack: y1541_open takes up to 285 kB, with direct access 358 kB, copy, delete, and put and command around odd entries 262 kB, put, command, list and play 214 kB, y1541_lines and
  * y1541_due up to 80 kB, eject, insert and reset 71 kB, all others less. docs/emulators.md has what was measured, and answers to questions.
  */
 #ifndef YELLOWADZE1541_H
@@ -79,9 +79,12 @@ uint32_t y1541_version(void);
  * NO_DRIVE: d holds a drive. INVALID: device, reaction or pace. NO_IMAGE. NO_MEMORY. */
 int32_t y1541_open(y1541 *d, const uint8_t *image, size_t len, uint8_t is_protected, uint8_t device, uint8_t reaction, uint8_t pace);
 
-/* [m] The same, but a drive with direct access (docs/direct.md): it reads single blocks by #, U1 and B-R, and answers UI and M-R, where a drive that
- * y1541_open made answers 70 and 31. All other calls on a drive are the same on it. */
+/* [m] The same, but a drive with direct access (docs/direct.md): it reads single blocks by #, U1 and B-R, writes by U2 and B-W those that are nobody's, and
+ * answers UI and M-R, where a drive that y1541_open made answers 70 and 31. All other calls on a drive are the same on it. */
 int32_t y1541_open_direct(y1541 *d, const uint8_t *image, size_t len, uint8_t is_protected, uint8_t device, uint8_t reaction, uint8_t pace);
+
+/* [m] The same, but raw: U2 and B-W write any block, also of files and of the directory. Each changes that block and no other; the disk needn't stay sound. */
+int32_t y1541_open_raw(y1541 *d, const uint8_t *image, size_t len, uint8_t is_protected, uint8_t device, uint8_t reaction, uint8_t pace);
 
 /* Ends the drive and frees its memory; d is empty then. Closing an empty handle does nothing. */
 void y1541_close(y1541 *d);

@@ -102,6 +102,10 @@ int32_t y1541_open_direct(y1541 *d, const uint8_t *image, size_t len, uint8_t is
     return opened(IN(y1541_open_direct), d, image, len, is_protected, device, reaction, pace);
 }
 
+int32_t y1541_open_raw(y1541 *d, const uint8_t *image, size_t len, uint8_t is_protected, uint8_t device, uint8_t reaction, uint8_t pace) {
+    return opened(IN(y1541_open_raw), d, image, len, is_protected, device, reaction, pace);
+}
+
 void y1541_close(y1541 *d) {
     if (d->at) machine_gone(d->at);
     d->at = NULL;

@@ -55,8 +55,8 @@ export interface Settings {
 export interface DriveSettings extends Settings {
   /** Whether the disk's notch is covered. */
   isProtected?: boolean;
-  /** Whether the drive has direct access (docs/direct.md): blocks by `#` and U1. */
-  direct?: boolean;
+  /** Whether the drive has direct access (docs/direct.md): blocks by `#`, U1 and U2. `"raw"`: U2 writes any block, so the disk needn't stay sound. */
+  direct?: boolean | "raw";
 }
 
 /** The moment of a reaction in microseconds, the lines that the drive holds low from then on, and which of them are new. */

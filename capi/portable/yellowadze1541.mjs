@@ -204,7 +204,8 @@ class Drive {
   constructor(module, image, { device = 8, reaction = 20, pace = KERNAL, isProtected = false, direct = false } = {}) {
     const it = new Inside(module), handle = it.put(new Uint8Array(8));
     const settings = [Number(isProtected), byte(device, "device"), byte(reaction, "reaction"), byte(pace, "pace")];
-    const open = direct ? it.calls.y1541_open_direct : it.calls.y1541_open;
+    const { y1541_open, y1541_open_direct, y1541_open_raw } = it.calls;
+    const open = direct === "raw" ? y1541_open_raw : direct ? y1541_open_direct : y1541_open;
     it.with([image], (at, size) => check(open(handle, at, size, ...settings)));
     this.#in = it;
     this.#handle = handle;

@@ -29,7 +29,10 @@ static void refused(const uint8_t *image, size_t len) {
         expect(y1541_open(&d, image, len, 0, bad[i].device, bad[i].reaction, bad[i].pace) == Y1541_INVALID && !d.at, "an argument of open");
     for (size_t i = 0; i < sizeof bad / sizeof bad[0]; i++)
         expect(y1541_open_direct(&d, image, len, 0, bad[i].device, bad[i].reaction, bad[i].pace) == Y1541_INVALID && !d.at, "an argument of open_direct");
+    for (size_t i = 0; i < sizeof bad / sizeof bad[0]; i++)
+        expect(y1541_open_raw(&d, image, len, 0, bad[i].device, bad[i].reaction, bad[i].pace) == Y1541_INVALID && !d.at, "an argument of open_raw");
     expect(y1541_open_direct(&d, image, len - 1, 0, 8, 20, 0) == Y1541_NO_IMAGE && !d.at, "no size of a D64 for direct access");
+    expect(y1541_open_raw(&d, image, len - 1, 0, 8, 20, 0) == Y1541_NO_IMAGE && !d.at, "no size of a D64 for raw access");
     expect(y1541_open(&d, image, len - 1, 0, 8, 20, 0) == Y1541_NO_IMAGE && !d.at, "no size of a D64");
     expect(y1541_open(&d, image, 0, 0, 8, 20, 0) == Y1541_NO_IMAGE && !d.at, "no byte");
     expect(y1541_open(&d, (const uint8_t *)"GCR-1541", 8, 0, 8, 20, 0) == Y1541_NO_IMAGE && !d.at, "a G64's beginning");
@@ -37,6 +40,7 @@ static void refused(const uint8_t *image, size_t len) {
     before = d;
     expect(y1541_open(&d, image, len, 0, 9, 20, 0) == Y1541_NO_DRIVE && d.at == before.at, "open twice");
     expect(y1541_open_direct(&d, image, len, 0, 9, 20, 0) == Y1541_NO_DRIVE && d.at == before.at, "open twice, with direct access");
+    expect(y1541_open_raw(&d, image, len, 0, 9, 20, 0) == Y1541_NO_DRIVE && d.at == before.at, "open twice, with raw access");
     expect(y1541_lines(&d, 1000, 1, 0, 0) == Y1541_OK && y1541_next_due(&d) == 1020, "ATN");
     expect(y1541_lines(&d, 999, 0, 0, 0) == Y1541_INVALID && y1541_next_due(&d) == 1020, "back in time");
     expect(y1541_lines(&d, 1021, 0, 0, 0) == Y1541_INVALID && y1541_next_due(&d) == 1020, "past what is due");

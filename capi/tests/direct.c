@@ -1,4 +1,4 @@
-/* Drives with direct access, by a computer on their lines, with images of each form and at both paces: direct IMAGE. What a block holds is asked of the calls
+/* Drives with direct access, guarded and raw, by a computer on their lines, with images of each form and at both paces: direct IMAGE. What a block holds is asked of the calls
  * on images, and of the bytes that were put there. */
 #include "files.h"
 #include "kernal.h"
@@ -7,6 +7,9 @@ enum { ROOM = 1 << 20, BLOCK = 256 };
 
 static const uint8_t program[] = {0x01, 0x08, 'A', 0, 0xff, 'Z'};
 
+/* A drive's direct access. */
+typedef enum access { NONE, GUARDED, RAW } access;
+
 /* A computer at one drive. */
 typedef struct host {
     bus bus;
@@ -14,10 +17,12 @@ typedef struct host {
 } host;
 
 /* Whether a drive was switched on beside it. At the bus profile's pace the screen is dark. */
-static int begins(host *h, const uint8_t *image, size_t len, uint8_t pace, int direct) {
+static int begins(host *h, const uint8_t *image, size_t len, uint8_t pace, access access) {
     memset(h, 0, sizeof *h);
-    /* (two calls, as a pointer to a function is nothing that a module of 32 bits can be made of) */
-    int came = direct ? bus_open_direct(&h->bus, 0, image, len, 8, 20, pace, 0) : bus_open(&h->bus, 0, image, len, 8, 20, pace, 0);
+    /* (three calls, as a pointer to a function is nothing that a module of 32 bits can be made of) */
+    int came = access == RAW ? bus_open_raw(&h->bus, 0, image, len, 8, 20, pace, 0)
+        : access == GUARDED ? bus_open_direct(&h->bus, 0, image, len, 8, 20, pace, 0)
+        : bus_open(&h->bus, 0, image, len, 8, 20, pace, 0);
     if (came != Y1541_OK) return 0;
     kernal_init(&h->kernal, &h->bus, pace == Y1541_PROFILE ? DARK_PAL : PAL, 1);
     return 1;
@@ -69,7 +74,7 @@ static size_t disk_of(uint8_t form, const char *title, uint8_t *image) {
 static void without(const uint8_t *image, size_t len, uint8_t pace) {
     static const char *commands[] = {"U1:2,0,18,0", "B-R:2,0,18,0", "B-P:2,0", "UI", "M-R\x40\xff\x02"};
     host h;
-    expect(begins(&h, image, len, pace, 0) && says(&h, "73,CBM DOS V2.6 1541,00,00"), "a drive without direct access");
+    expect(begins(&h, image, len, pace, NONE) && says(&h, "73,CBM DOS V2.6 1541,00,00"), "a drive without direct access");
     expect(kernal_open(&h.kernal, 8, 2, "#") && says(&h, "70,NO CHANNEL,00,00"), "it has no buffer");
     for (size_t i = 0; i < sizeof commands / sizeof commands[0]; i++) expect(told(&h, commands[i]) && says(&h, "31,SYNTAX ERROR,00,00"), commands[i]);
     y1541_close(drive(&h));
@@ -127,7 +132,7 @@ static void form_of(uint8_t form, uint8_t pace) {
     size_t len = disk_of(form, "FORM", image);
     host h;
     without(image, len, pace);
-    expect(begins(&h, image, len, pace, 1) && says(&h, "73,CBM DOS V2.6 1541,00,00"), "a drive with direct access");
+    expect(begins(&h, image, len, pace, GUARDED) && says(&h, "73,CBM DOS V2.6 1541,00,00"), "a drive with direct access");
     reads(&h, image, len), writes_beside(&h, image, len), goes_on(&h, form);
     y1541_close(drive(&h));
     expect(!drive(&h)->at, "closed");
@@ -143,9 +148,43 @@ static void damaged(uint8_t pace) {
     memset(image + LEN, 1, SECTORS), image[LEN + HEAD + 2] = 5;
     image[HEAD * BLOCK + 4] = 0;
     expect(y1541_image_check(image, LEN + SECTORS, &place) == Y1541_UNSOUND, "it isn't sound");
-    expect(begins(&h, image, LEN + SECTORS, pace, 1) && says(&h, "73,CBM DOS V2.6 1541,00,00") && kernal_open(&h.kernal, 8, 2, "#") && is_fine(&h), "a buffer on it");
+    expect(begins(&h, image, LEN + SECTORS, pace, GUARDED) && says(&h, "73,CBM DOS V2.6 1541,00,00") && kernal_open(&h.kernal, 8, 2, "#") && is_fine(&h), "a buffer on it");
     expect(block_is(&h, image, LEN + SECTORS, 18, 1), "its blocks are read");
     expect(block_asked(&h, 18, 2) && says(&h, "23,READ ERROR,18,02") && told(&h, "B-P:2,0") && is_fine(&h) && comes(&h, image + (HEAD + 1) * BLOCK, BLOCK), "but for one, which leaves the buffer");
+    y1541_close(drive(&h));
+}
+
+/* A file's block is read, byte 2 of it is changed, and it is written: whether the drive says this. */
+static int byte_2_changed(host *h, const y1541_entry *entry, uint8_t byte, const char *line) {
+    char text[] = "U2:2,0,00,00";
+    text[7] = (char)('0' + entry->track / 10), text[8] = (char)('0' + entry->track % 10), text[10] = (char)('0' + entry->sector / 10), text[11] = (char)('0' + entry->sector % 10);
+    return kernal_open(&h->kernal, 8, 2, "#") && block_asked(h, entry->track, entry->sector) && told(h, "B-P:2,2") && kernal_print(&h->kernal, 8, 2, &byte, 1) && told(h, text) && says(h, line);
+}
+
+/* Guarded, a file's block is refused; raw, it is written, and no other block of the image is. The next disk is as open to it. */
+static void of_files(uint8_t form, uint8_t pace) {
+    static uint8_t image[ROOM], now[ROOM], bytes[BLOCK];
+    size_t len = disk_of(form, "RAW", image), needed = 0;
+    char refused[] = "26,WRITE PROTECT ON,00,00";
+    y1541_entry entry;
+    y1541_place place;
+    host h;
+    expect(y1541_image_entry(image, len, 0, &entry) == Y1541_OK, "a file");
+    refused[20] = (char)('0' + entry.track / 10), refused[21] = (char)('0' + entry.track % 10), refused[23] = (char)('0' + entry.sector / 10), refused[24] = (char)('0' + entry.sector % 10);
+    expect(begins(&h, image, len, pace, GUARDED) && byte_2_changed(&h, &entry, 'R', refused) && !y1541_writes(drive(&h)), "its block is the file's");
+    y1541_close(drive(&h));
+    expect(begins(&h, image, len, pace, RAW), "a raw drive");
+    for (int i = 0; i < 2; i++) {
+        expect(byte_2_changed(&h, &entry, 'R', "00, OK,00,00") && y1541_writes(drive(&h)) == 1, "one block is written");
+        expect(y1541_image(drive(&h), now, ROOM, &needed) == Y1541_OK && needed == len && y1541_image_check(now, needed, &place) == Y1541_OK, "the disk is sound, as the link stayed");
+        expect(y1541_image_sector(now, len, entry.track, entry.sector, bytes, BLOCK) == Y1541_OK && bytes[2] == 'R' && bytes[3] == program[1], "the block has the byte");
+        for (uint8_t sector = 0; sector < 19; sector++)
+            expect(y1541_image_sector(image, len, 18, sector, now + ROOM - BLOCK, BLOCK) == Y1541_OK && y1541_image_sector(now, len, 18, sector, bytes, BLOCK) == Y1541_OK && !memcmp(bytes, now + ROOM - BLOCK, BLOCK), "no other block is");
+        expect(y1541_insert(drive(&h), image, len, 0) == Y1541_OK, "the disk again");
+    }
+    /* (byte 4 of the BAM counts the free blocks of track 1, of which a buffer of zeros has none) */
+    expect(kernal_open(&h.kernal, 8, 2, "#") && told(&h, "B-P:2,4") && kernal_print(&h.kernal, 8, 2, (const uint8_t *)"M", 1) && told(&h, "U2:2,0,18,0") && says(&h, "00, OK,00,00"), "the BAM is written, too");
+    expect(y1541_image(drive(&h), now, ROOM, &needed) == Y1541_OK && y1541_image_check(now, needed, &place) == Y1541_UNSOUND && place.track == 1, "the disk isn't sound any more");
     y1541_close(drive(&h));
 }
 
@@ -200,7 +239,7 @@ int main(int argc, char **argv) {
     uint8_t *image = read_file(argv[1], &len);
     for (uint8_t pace = Y1541_PROFILE; pace <= Y1541_KERNAL; pace++) {
         without(image, len, pace), damaged(pace);
-        for (uint8_t form = Y1541_D64_35; form <= Y1541_G64; form++) form_of(form, pace), beside_another(form, pace);
+        for (uint8_t form = Y1541_D64_35; form <= Y1541_G64; form++) form_of(form, pace), of_files(form, pace), beside_another(form, pace);
     }
     free(image);
     printf("direct: %d wrong\n", wrong);

@@ -39,12 +39,15 @@ static uint8_t *some_text(size_t *n) {
 
 static int known(int32_t said) { return (said >= Y1541_NO_DRIVE && said <= 0) || (said >= 20 && said <= 77); }
 
-/* A drive switched on, its numbers mostly in range. (Two calls, as a pointer to a function is nothing that a module of 32 bits can be made of.) */
+/* A drive switched on, its numbers mostly in range. (Three calls, as a pointer to a function is nothing that a module of 32 bits can be made of.) */
 static int32_t opened(y1541 *d, const uint8_t *image, size_t n) {
     uint8_t is_protected = (uint8_t)by_chance(2), number = (uint8_t)(by_chance(20) ? 8 : by_chance(256)), pace = (uint8_t)by_chance(3);
     uint8_t reaction = (uint8_t)(by_chance(20) ? 1 + by_chance(60) : by_chance(256));
-    if (by_chance(2)) return y1541_open(d, image, n, is_protected, number, reaction, pace);
-    return y1541_open_direct(d, image, n, is_protected, number, reaction, pace);
+    switch (by_chance(3)) {
+    case 0: return y1541_open(d, image, n, is_protected, number, reaction, pace);
+    case 1: return y1541_open_direct(d, image, n, is_protected, number, reaction, pace);
+    default: return y1541_open_raw(d, image, n, is_protected, number, reaction, pace);
+    }
 }
 
 /* A call on a drive. */

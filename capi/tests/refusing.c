@@ -38,6 +38,7 @@ static int32_t after_open(int32_t said) {
 
 static int32_t opens(void) { return after_open(y1541_open(&d, image, len, 0, 8, 20, 0)); }
 static int32_t opens_direct(void) { return after_open(y1541_open_direct(&d, image, len, 0, 8, 20, 0)); }
+static int32_t opens_raw(void) { return after_open(y1541_open_raw(&d, image, len, 0, 8, 20, 0)); }
 
 /* Memory is given while the drive is looked at. */
 static int is_whole(void) {
@@ -124,7 +125,7 @@ static int32_t plays(void) {
 }
 
 static const struct { const char *name; int32_t (*call)(void); } calls[] = {
-    {"open", opens}, {"open_direct", opens_direct}, {"check", checks}, {"title", titles}, {"entry", enters}, {"list", lists}, {"file", files}, {"sector", reads},
+    {"open", opens}, {"open_direct", opens_direct}, {"open_raw", opens_raw}, {"check", checks}, {"title", titles}, {"entry", enters}, {"list", lists}, {"file", files}, {"sector", reads},
     {"entries", enters_all}, {"flaws", flaws_all}, {"read", reads_slot}, {"rename", renames}, {"copy", copies}, {"lock", locks}, {"delete", deletes}, {"swap", swaps},
     {"retitle", retitles}, {"remark", remarks}, {"put_away", puts_away}, {"put_back", puts_back}, {"put, art", puts_around}, {"command, art", commands_around}, {"put", puts_file}, {"put_all", puts_all}, {"command", commands}, {"command_status", commands_status},
     {"new", makes}, {"new g64", makes_g64}, {"convert", converts}, {"play", plays},

@@ -35,6 +35,7 @@ static void inserts(void) { y1541_insert(&d, g64, g64_len, 0), y1541_insert(&g, 
 static void resets(void) { y1541_reset(&d), y1541_reset(&g); }
 static void closes(void) { y1541_close(&d), y1541_close(&g); }
 static void opens_direct(void) { y1541_open_direct(&d, image, len, 0, 8, 20, 0); }
+static void opens_raw(void) { y1541_open_raw(&d, image, len, 0, 8, 20, 0); }
 static void opens_direct_g64(void) { y1541_open_direct(&g, g64, g64_len, 0, 8, 20, 0); }
 static void checks(void) { y1541_place p; y1541_image_check(image, len, &p), y1541_image_check(g64, g64_len, &p); }
 static void lists(void) { y1541_image_list(image, len, image, 0, out, ROOM, &needed); }
@@ -128,7 +129,7 @@ static void hosts_end(void) {
 static const struct { const char *name; void (*call)(void); size_t most; } calls[] = {
     {"open", opens, 292000}, {"open a G64", opens_g64, 292000}, {"lines, ATN", lines, 1000}, {"next_due", next_due, 1000}, {"due, ATN", due, 1000},
     {"pulls_now", pulls, 1000}, {"image", shows, 2000}, {"save", saves, 20000}, {"restore", restores, 1030000}, {"eject", ejects, 73000}, {"insert", inserts, 73000}, {"reset", resets, 73000}, {"close", closes, 1000},
-    {"open_direct", opens_direct, 292000}, {"open_direct a G64", opens_direct_g64, 292000}, {"lines, ATN, direct", lines, 1200}, {"due, ATN, direct", due, 1000},
+    {"open_raw", opens_raw, 365000}, {"close, raw", closes, 1000}, {"open_direct", opens_direct, 365000}, {"open_direct a G64", opens_direct_g64, 365000}, {"lines, ATN, direct", lines, 1200}, {"due, ATN, direct", due, 1000},
     {"image, direct", shows, 2000}, {"eject, direct", ejects, 77000}, {"insert, direct", inserts, 77000}, {"reset, direct", resets, 73000}, {"close, direct", closes, 1000},
     {"image_check", checks, 36000}, {"image_list", lists, 222000}, {"image_file", files, 4000}, {"image_put", puts_file, 222000},
     {"image_put_all", puts_all, 222000}, {"image_command_status", command_status, 222000}, {"image_copy", copies, 270000}, {"image_delete", deletes, 265000},

@@ -89,4 +89,9 @@ static inline int32_t bus_open_direct(bus *b, int i, const uint8_t *image, size_
     return bus_opened(b, i, y1541_open_direct(&b->drive[i], image, len, 0, device, reaction, pace), now);
 }
 
+/* The same, with raw direct access. */
+static inline int32_t bus_open_raw(bus *b, int i, const uint8_t *image, size_t len, uint8_t device, uint8_t reaction, uint8_t pace, uint64_t now) {
+    return bus_opened(b, i, y1541_open_raw(&b->drive[i], image, len, 0, device, reaction, pace), now);
+}
+
 #endif

@@ -200,6 +200,16 @@ class DirectAccess(unittest.TestCase):
             self.assertEqual(plain.image.bytes, direct.image.bytes)
             self.assertEqual(plain.writes, direct.writes)
 
+    def test_raw_writes_any_block(self):
+        image = Image.open(HELLO)
+        for direct, said, block in ((True, "26,WRITE PROTECT ON,18,00", image.sector(18, 0)), ("raw", "00, OK,00,00", bytes(256))):
+            with self.subTest(direct=direct), Drive(image, direct=direct) as drive:
+                host = Host(drive)
+                host.open(2, "#")
+                self.assertEqual(host.command("U2:2,0,18,0"), said)
+                self.assertEqual(drive.image.sector(18, 0), block)
+                self.assertEqual([drive.image.sector(18, it) for it in range(1, 19)], [image.sector(18, it) for it in range(1, 19)])
+
     def test_a_new_start_and_another_disk_leave_no_buffer(self):
         for change in (Drive.reset, lambda drive: drive.insert(Image.open(HELLO)), Drive.eject):
             with Drive(Image.open(HELLO), direct=True) as drive:

@@ -2,8 +2,9 @@
 """check_direct.py DRIVE1541 [--scripts N] [--only WORD]: random scripts of direct access, and what a plain model in Python says of them.
 1. Scripts of buffers and commands on blocks, on a disk of random bytes, which isn't sound: each answer is the model's, and the image stays as it is.
 2. The same on an empty disk: each answer is the model's, and so is each byte of the image.
-3. Scripts of files alone: with --direct all is printed and saved as without it.
-4. Scripts of both, with files open: the image is sound after each, and each file that was closed reads as it was written.
+3. The first with --direct=raw, which writes any block: each answer is the model's, and so is each byte of the image.
+4. Scripts of files alone: with --direct all is printed and saved as without it.
+5. Scripts of both, with files open: the image is sound after each, and each file that was closed reads as it was written.
 With --only those alone whose names contain the word. Prints one line a case. Last line: 'N passed, M failed'."""
 import argparse, os, random, subprocess, sys, tempfile
 
@@ -19,8 +20,8 @@ def place(track, sector):
 class Drive:
     """Three buffers, and the commands on blocks, by the rules of docs/direct.md. A disk that is sound has no file here."""
 
-    def __init__(self, image, sound=False, protected=False):
-        self.image, self.sound, self.protected, self.held = bytearray(image), sound, protected, {(18, 0), (18, 1)}
+    def __init__(self, image, sound=False, protected=False, raw=False):
+        self.image, self.sound, self.protected, self.raw, self.held = bytearray(image), sound, protected, raw, {(18, 0), (18, 1)}
         self.start()
 
     def start(self):
@@ -65,21 +66,25 @@ class Drive:
             self.at[i], self.last[i] = (1, self.memory[i][0]) if counted else (0, 255)
             self.status = (0, 0, 0)
 
-    def is_somebodys(self, track, sector):
-        """Whether the disk is protected, or the sector isn't to be written."""
+    def is_protected(self):
         if self.protected:
             self.status = (26, 0, 0)
-        elif not self.sound or (track, sector) in self.held:
+        return self.protected
+
+    def is_somebodys(self, track, sector):
+        """Whether the disk is protected, or the sector isn't to be written."""
+        if self.is_protected():
+            return True
+        if not self.sound or (track, sector) in self.held:
             self.status = (26, track, sector)
-        else:
-            return False
-        return True
+            return True
+        return False
 
     def write(self, channel, drive, track, sector, counted):
         i = self.buffer(channel)
         if i is None:
             self.status = (70, 0, 0)
-        elif not self.is_refused(drive, track, sector) and not self.is_somebodys(track, sector):
+        elif not self.is_refused(drive, track, sector) and not (self.is_protected() if self.raw else self.is_somebodys(track, sector)):
             front = bytes([(self.at[i] - 1) % 256]) if counted else self.memory[i][:1]
             self.image[place(track, sector) : place(track, sector) + 256] = front + self.memory[i][1:]
             self.status = (0, 0, 0)
@@ -93,9 +98,9 @@ class Drive:
         if self.is_refused(drive, track, sector):
             return
         at, bit, free = self.bit(track, sector)
-        if self.protected:
-            self.status = (26, 0, 0)
-        elif not free:
+        if self.is_protected():
+            return
+        if not free:
             behind = ((t, s) for t in range(track, 36) for s in range(SECTORS[t]) if (t, s) > (track, sector) and self.bit(t, s)[2])
             self.status = (65, *next(behind, (0, 0)))
         elif not self.sound:
@@ -278,15 +283,20 @@ def against_the_model(check, r):
     return answers(check, r, image, False, r.choice(((), ("--read-only",))))
 
 
+def raw_against_the_model(check, r, raw=True):
+    image = bytes(r.randrange(256) for _ in range(683)) * 256
+    return answers(check, r, image, False, r.choice(((), (), (), ("--read-only",))), "--direct=raw", raw)
+
+
 def on_an_empty_disk(check, r, empty):
     return answers(check, r, empty, True, r.choice(((), (), (), ("--read-only",))))
 
 
-def answers(check, r, image, sound, words):
+def answers(check, r, image, sound, words, access="--direct", raw=False):
     """What is wrong with the answers to a script, or with the image after it."""
-    drive = Drive(image, sound, bool(words))
+    drive = Drive(image, sound, bool(words), raw)
     lines, wanted = direct_script(r, drive)
-    said, after = check.run(image, lines, "--direct", *words)
+    said, after = check.run(image, lines, access, *words)
     if after != drive.image:
         return f"another image after {lines}"
     return next((f"{one!r} where {other!r} is right, of {lines}" for one, other in zip([*said, None], [*wanted, None]) if one != other), len(said) != len(wanted) and "lines are missing")
@@ -322,6 +332,7 @@ def main():
         for name, one in (
             ("blocks, against the model", lambda r: against_the_model(check, r)),
             ("blocks of an empty disk, against the model", lambda r: on_an_empty_disk(check, r, empty)),
+            ("blocks, raw, against the model", lambda r: raw_against_the_model(check, r)),
             ("files alone, with direct access and without", lambda r: files_alone(check, r, empty)),
             ("files and blocks: sound, and each file whole", lambda r: files_and_blocks(check, r, empty)),
         ):
@@ -333,6 +344,7 @@ def main():
         ROM[0xE5B6] ^= 1
         check.say("a wrong byte of the ROM is found", not any(against_the_model(check, random.Random(f"planted {seed}")) for seed in range(300)) and "it isn't")
         ROM[0xE5B6] ^= 1
+        check.say("a model that isn't raw is found", not any(raw_against_the_model(check, random.Random(f"planted {seed}"), False) for seed in range(300)) and "it isn't")
         Drive.is_somebodys = lambda self, track, sector: False
         check.say("a model that writes over the directory is found", not any(on_an_empty_disk(check, random.Random(f"planted {seed}"), empty) for seed in range(300)) and "it isn't")
     print(f"{check.passed} passed, {check.failed} failed")

@@ -360,12 +360,19 @@ def main():
             faults.append(name)
             print(f"WRONG {name}: {drives}, {ran.returncode}, {ran.stdout[-200:]!r} {ran.stderr!r}")
 
-    for seed in range(count):
-        drives = buses(dice)
+    def is_in_range(seed, drives):
         session = played(seed, drives)
         ran = judged(program, session)
         end = max(it[0] for it in session.events)
         is_so(f"{seed}: in range", (ran.returncode, ran.stdout) == (0, "".join(f"{a}\n" for a in session.acts) + f"a session to {end} us\n"), drives, ran)
+        return session
+
+    # (Where a talker begins to lead, another drive lets go of DATA at the same moment: three of 1,500 sessions.)
+    for seed in (367, 747, 1190):
+        is_in_range(seed, buses(random.Random(seed)))
+    for seed in range(count):
+        drives = buses(dice)
+        session = is_in_range(seed, drives)
         for _ in range(3):
             wrong = dice.randint(1, session.reactions)
             broken = played(seed, drives, wrong=wrong, below=dice.random() < 0.5)

@@ -49,6 +49,15 @@ is "direct access: a block is 256 bytes and more of ROM" test "$(grep -c '^get' 
 is "direct access: the disk stays" cmp -s hello.d64 direct.new
 "$drive" reply hello.d64 < direct.host > direct.plain
 is "direct access: none unasked" test "$(changes direct.plain | cksum)" != "$(cksum < direct.trace)"
+printf 'open 2 #\nput 15 U2 2 0 18 0\nstatus\n' > raw.script
+"$drive" --direct=raw hello.d64 raw.script raw.d64 --trace raw.trace > raw.said
+{ host_of raw.trace; echo "end 60000000"; } > raw.host
+"$drive" reply --direct=raw hello.d64=raw.new < raw.host > raw.answers
+is "raw access: ends well" test $? = 0
+changes raw.answers > raw.changes
+is "raw access: its trace" cmp -s raw.trace raw.changes
+is "raw access: the BAM is written" cmp -s raw.d64 raw.new
+is "raw access: it is another disk" test "$(cksum < raw.new)" != "$(cksum < hello.d64)"
 "$drive" reply --direct hello.d64 hello.d64 hello.d64 hello.d64=four.new < direct.host > direct.four
 is "direct access: four drives end well" test $? = 0
 is "direct access: with four drives the host's lines stay" test "$(grep -c ' host ' direct.four)" = "$(grep -c ' host ' direct.trace)"

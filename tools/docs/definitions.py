@@ -79,6 +79,7 @@ PARTS = {
         ("a list of changes played: all that is promised of it", "cbm_drive", "play"),
         ("the same event by event", "cbm_drive", "next half keeps"),
         ("a drive with direct access: its disk is sound after any list of changes", "cbm_direct_desk", "play_alone play_out play"),
+        ("several on one bus: so is each disk", "cbm_direct_bus", "play play_two"),
         ("the headline: drives with disks, the machine of named files and sound disks in it", "cbm_bus", "play:headline"),
         ("the same under a host that keeps the timing loosely", "cbm_bus", "play:loosely"),
         ("drives with disks: all that is promised of a list of changes", "cbm_bus", "play at_rest"),
@@ -117,7 +118,7 @@ PARTS = {
         ("a drive on lines, with the disk of an image", "cbm_device", "open lines next_due due image insert eject reset status"),
         ("images by calls, and a bus played", "cbm_device", "check blank list file entry title sector play"),
         ("a drive with direct access on lines", "cbm_direct_device", "open lines next_due due image insert eject reset status"),
-        ("what C may pass, and the numbers of refusals", "yellowadze1541", "y1541_open y1541_open_direct y1541_lines y1541_due y1541_image y1541_play y1541_image_list"),
+        ("what C may pass, and the numbers of refusals", "yellowadze1541", "y1541_open y1541_open_direct y1541_open_raw y1541_lines y1541_due y1541_image y1541_play y1541_image_list"),
         ("all entries and flaws of an image, and files by their slot", "yellowadze1541", "y1541_image_entries y1541_image_flaws y1541_image_rename y1541_image_delete y1541_image_copy y1541_image_read"),
         ("disks with odd entries: what is left without them, and the whole again", "yellowadze1541", "y1541_image_put_away y1541_image_put_back y1541_image_put"),
         ("several files in one call, and a command with the drive's status", "yellowadze1541", "y1541_image_put_all y1541_image_command_status"),
@@ -129,7 +130,7 @@ PAGES = dict(zip(PARTS, "images content dos bus requests scripts tool library".s
 
 # The crates in which each definition has a sentence of its own.
 COMPLETE = (
-    "cbm_direct cbm_direct_desk cbm_iec cbm_session cbm_drive cbm_bus cbm_host cbm_command cbm_listing cbm_machine cbm_talk cbm_image cbm_program drive1541 cbm_shell disk_basics "
+    "cbm_direct cbm_direct_desk cbm_direct_bus cbm_iec cbm_session cbm_drive cbm_bus cbm_host cbm_command cbm_listing cbm_machine cbm_talk cbm_image cbm_program drive1541 cbm_shell disk_basics "
     "cbm_basic cbm_device cbm_direct_device cbm_odd cbm_place cbm_slots yellowadze1541"
 ).split()
 

@@ -75,8 +75,12 @@ static int32_t on_drive(y1541 *d, uint64_t *now) {
     case 0:
         a = some_image(&n);
         b[0] = (uint8_t)by_chance(2), b[1] = (uint8_t)(by_chance(20) ? 8 : by_chance(256)), b[2] = (uint8_t)(by_chance(20) ? 1 + by_chance(60) : by_chance(256)), b[3] = (uint8_t)by_chance(3);
-        /* (two calls, as a pointer to a function is nothing that a module of 32 bits can be made of) */
-        said = by_chance(2) ? y1541_open(d, a, n, b[0], b[1], b[2], b[3]) : y1541_open_direct(d, a, n, b[0], b[1], b[2], b[3]);
+        /* (three calls, as a pointer to a function is nothing that a module of 32 bits can be made of) */
+        switch (by_chance(3)) {
+        case 0: said = y1541_open(d, a, n, b[0], b[1], b[2], b[3]); break;
+        case 1: said = y1541_open_direct(d, a, n, b[0], b[1], b[2], b[3]); break;
+        default: said = y1541_open_raw(d, a, n, b[0], b[1], b[2], b[3]);
+        }
         *now = said ? *now : 0;
         free(a);
         return said;

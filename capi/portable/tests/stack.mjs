@@ -47,6 +47,7 @@ const measured = {
   insert: () => calls.y1541_insert(drive, ...g64, 0),
   reset: () => calls.y1541_reset(drive),
   open_direct: () => (calls.y1541_close(drive), calls.y1541_open_direct(drive, ...d64, 0, 8, 20, 0)),
+  open_raw: () => (calls.y1541_close(drive), calls.y1541_open_raw(drive, ...d64, 0, 8, 20, 0)),
   "open_direct a G64": () => (calls.y1541_close(other), calls.y1541_open_direct(other, ...g64, 0, 8, 20, 0)),
   "insert, direct": () => calls.y1541_insert(drive, ...g64, 0),
   "reset, direct": () => calls.y1541_reset(drive),

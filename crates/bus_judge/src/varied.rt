@@ -63,6 +63,8 @@ pub struct VariedJudge {
     /// The changes of drives since then for which the next change waits.
     waited: Option<Waited>,
     waiting: Waiting,
+    /// Whose change was taken last, and when it was due.
+    taken: Option<(Who, u64)>,
     /// The last change that came, and when a drive's last came.
     last: u64,
     last_of_drive: Option<u64>,
@@ -100,6 +102,7 @@ impl VariedJudge {
             lag: 0,
             waited: None,
             waiting: Waiting::new(),
+            taken: None,
             last: 0,
             last_of_drive: None,
         })
@@ -141,6 +144,7 @@ impl VariedJudge {
         };
         self.lag = lag;
         self.waited = completed(waited, mark);
+        self.taken = Some((event.who, due));
         Ok(Taken { event, mark, due })
     }
 

@@ -1,5 +1,5 @@
 -- What bytes are as lines.
-use Rattle.std.specs.Prelude.{◌≡◌, ℕ, ◌<◌, List, [], ◌∷◌, length, ◌==◌, if◌then◌else◌, ⊤, Option, Some, None, slice_range}
+use Rattle.std.specs.Prelude.{◌≡◌, ℕ, ◌+◌, ◌<◌, List, [], ◌∷◌, ◌++◌, length, drop, ◌==◌, if◌then◌else◌, ⊤, Option, Some, None, slice_range}
 use Rattle.std.specs.Io.KnownBytes.{prepend_known, Keeps, IsAtEnd, Consumes}
 use Rattle.bus_traces.specs.declared.text.source.Source.{Source}
 
@@ -27,6 +27,10 @@ abbrev pub TakesLine : Option (List ℕ) → Option (List ℕ) → List ℕ → 
 TakesLine None new line = ⊤
 TakesLine (Some xs) None line = ⊥
 TakesLine (Some xs) (Some ys) line = lines_of xs ≡ line ∷ lines_of ys
+
+-- a line stands first, and its end after it, whatever follows the bytes
+abbrev pub BeginsWithLine : List ℕ → List ℕ → Type 0
+BeginsWithLine bytes line = (length line < length bytes) × ((more : List ℕ) → lines_of (bytes ++ more) ≡ line ∷ lines_of (drop (length line + 1) bytes ++ more))
 
 -- the first line has more than 1,000 bytes
 abbrev pub BeginsTooLong : Option (List ℕ) → Type 0

@@ -95,36 +95,33 @@ pub fn event_text(event: Event) -> ArrayVec<u8, 48>
 fn who_called(word: &[u8]) -> Option<Who>
     ensures { result ≡ who_called word.now }
 {
-    if word == b"host".as_slice() {
-        return Some(Who::Host);
+    match word {
+        b"host" => Some(Who::Host),
+        _ => {
+            let device = number_upto(GREATEST, word)?;
+            Some(Who::Drive(device as u8))
+        }
     }
-    let device = number_upto(GREATEST, word)?;
-    Some(Who::Drive(device as u8))
 }
 
 fn line_called(word: &[u8]) -> Option<Line>
     ensures { result ≡ line_called word.now }
 {
-    if word == b"atn".as_slice() {
-        Some(Line::Atn)
-    } else if word == b"clock".as_slice() {
-        Some(Line::Clock)
-    } else if word == b"data".as_slice() {
-        Some(Line::Data)
-    } else {
-        None
+    match word {
+        b"atn" => Some(Line::Atn),
+        b"clock" => Some(Line::Clock),
+        b"data" => Some(Line::Data),
+        _ => None,
     }
 }
 
 fn way_called(word: &[u8]) -> Option<Way>
     ensures { result ≡ way_called word.now }
 {
-    if word == b"pull".as_slice() {
-        Some(Way::Pull)
-    } else if word == b"free".as_slice() {
-        Some(Way::Free)
-    } else {
-        None
+    match word {
+        b"pull" => Some(Way::Pull),
+        b"free" => Some(Way::Free),
+        _ => None,
     }
 }
 

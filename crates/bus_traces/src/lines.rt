@@ -1,5 +1,5 @@
 //! Traces as lines.
-ghost use Rattle.std.specs.Prelude.{◌≡◌, IfOk, MatchBool};
+ghost use Rattle.std.specs.Prelude.{◌≡◌, Some, IfNone, IfOk, IfSome, MatchBool};
 ghost use Rattle.std.specs.Io.KnownBytes.{IsAtEnd};
 ghost use Rattle.std.specs.Result.{result_ok};
 ghost use Rattle.bus_traces.specs.Lines.{source_bytes_left, TakesLine};
@@ -43,12 +43,27 @@ fn line_says(line: &[u8], from: u64) -> Result<Option<Event>, Flaw>
     }
 }
 
-/// The next event, which doesn't come before a moment; None at the end. Errors: `Reading`, or the number of a line and `Long`,
-/// `Event` or `Early`.
-pub(crate) fn next_event<R: Read>(
-    source: &mut Source<R>,
-    from: u64,
-) -> Result<Option<Event>, TraceFault>
+/// The event of the next line, which doesn't come before a moment, if all of the line waits and says one; else nothing is taken.
+#[inline(always)]
+fn waiting_event<R: Read>(source: &mut Source<R>, from: u64) -> Option<Event>
+    ensures event { IfSome result (λ event.
+        EventRead (source_bytes_left R.remaining source.old) (source_bytes_left R.remaining source.new) from (Some event)) }
+    ensures none { IfNone result (source.new ≡ source.old) }
+{
+    let line = source.waiting_line()?;
+    let count = line.len();
+    match line_says(line, from) {
+        Ok(Some(event)) => {
+            source.pass_line(count);
+            Some(event)
+        }
+        _ => None,
+    }
+}
+
+/// The same, line by line. (A function of its own, never inlined: the room for a line is cleared whenever it begins.)
+#[inline(never)]
+fn event_by_lines<R: Read>(source: &mut Source<R>, from: u64) -> Result<Option<Event>, TraceFault>
     ensures { IfOk result (EventRead (source_bytes_left R.remaining source.old) (source_bytes_left R.remaining source.new) from) }
 {
     let mut line = ArrayVec::new();
@@ -64,6 +79,20 @@ pub(crate) fn next_event<R: Read>(
         }
     }
     Err(source.refused(Flaw::Long))
+}
+
+/// The next event, which doesn't come before a moment; None at the end. Errors: `Reading`, or the number of a line and `Long`,
+/// `Event` or `Early`.
+pub(crate) fn next_event<R: Read>(
+    source: &mut Source<R>,
+    from: u64,
+) -> Result<Option<Event>, TraceFault>
+    ensures { IfOk result (EventRead (source_bytes_left R.remaining source.old) (source_bytes_left R.remaining source.new) from) }
+{
+    match waiting_event(source, from) {
+        Some(event) => Ok(Some(event)),
+        None => event_by_lines(source, from),
+    }
 }
 
 /// Reads a trace of lines, event by event, and takes no memory.

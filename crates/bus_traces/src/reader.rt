@@ -43,14 +43,14 @@ impl<R: Read> Traces<R> {
         }
     }
 
-    /// Finds out how the trace is written: a VCD begins with `$`, after blanks.
+    /// Finds out how the trace is written: a VCD begins with `$`, after blanks. (Never inlined: the room for a `Dump` is cleared
+    /// whenever the function begins that has it.)
+    #[inline(never)]
     fn begin(&mut self) -> Result<(), TraceFault> {
-        if let Form::Unread = self.form {
-            self.form = match self.source.skip_blanks()? {
-                Some(b'$') => Form::Vcd(Dump::begin(&mut self.source)?),
-                _ => Form::Lines(0),
-            };
-        }
+        self.form = match self.source.skip_blanks()? {
+            Some(b'$') => Form::Vcd(Dump::begin(&mut self.source)?),
+            _ => Form::Lines(0),
+        };
         Ok(())
     }
 
@@ -59,7 +59,9 @@ impl<R: Read> Traces<R> {
     ///
     /// Errors: `Reading`; or the number of a line, and what is wrong with it. After an error nothing is promised.
     pub fn next(&mut self) -> Result<Option<Told>, TraceFault> {
-        self.begin()?;
+        if let Form::Unread = self.form {
+            self.begin()?;
+        }
         match &mut self.form {
             Form::Unread => Ok(None),
             Form::Lines(from) => {

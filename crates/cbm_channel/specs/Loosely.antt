@@ -1,5 +1,5 @@
--- Sectors that no part of the disk has, beside the channels of the DOS.
-use Rattle.std.specs.Prelude.{ℕ, ◌≡◌, ◌≢◌, ◌≤◌, ◌⊎◌, Bool, true, false, List, slice_index_or, Result, Ok, OnErr, IfErr}
+-- Single sectors, beside the channels of the DOS: those that no part of the disk has, and any.
+use Rattle.std.specs.Prelude.{ℕ, ◌≡◌, ◌≢◌, ◌≤◌, ◌⊎◌, Bool, true, false, List, slice_index_or, Result, Ok, OnOk, OnErr, IfErr}
 use Rattle.std.specs.List.{All}
 use Rattle.cbm_medium.specs.Place.{Place}
 use Rattle.cbm_medium.specs.Content.{Content, written}
@@ -88,6 +88,15 @@ pub record WritesLoose {M : Type 0} (seen : M → Seen) (p : Place) (bytes : Lis
   pub leads : Leads seen old new (λ m. m)
   pub done : result ≡ Ok true → WasWritten seen p bytes old new
   pub refused : result ≡ Ok false → IsSomebodys seen p old × (new ≡ old)
+  pub stopped : OnErr result ((seen new.medium).content ≡ (seen old.medium).content)
+  pub named : IfErr result (λ t. (t.track ≡ p.track) × (t.sector ≡ p.sector))
+  pub only : ChangesMediumAlone old new
+  pub counted : (seen old.medium).failures ≤ (seen new.medium).failures
+
+-- WHAT A RAW WRITE LEAVES: done, the sector has these bytes, whoever has it, and nothing else of the medium has changed; stopped by the medium,
+-- which names the sector, no sector has changed.
+pub record WritesRaw {A : Type 0} {M : Type 0} (seen : M → Seen) (p : Place) (bytes : List ℕ) (result : Result A Trouble) (old new : Kept M) : Type 0 where
+  pub done : OnOk result (seen new.medium ≡ with_content (written (seen old.medium).content p bytes) (seen old.medium))
   pub stopped : OnErr result ((seen new.medium).content ≡ (seen old.medium).content)
   pub named : IfErr result (λ t. (t.track ≡ p.track) × (t.sector ≡ p.sector))
   pub only : ChangesMediumAlone old new

@@ -1,5 +1,5 @@
 -- A call that is handed to the DOS, and a command of direct access.
-use Rattle.std.proofs.Common.{◌≡◌, ℕ, Bool, List, Option, Some, None, Result, refl, subst, inl, inr}
+use Rattle.std.proofs.Common.{◌≡◌, ℕ, Bool, List, Option, Some, None, Result, refl, subst, inr}
 use Rattle.cbm_medium.specs.Seen.{Seen}
 use Rattle.cbm_channel.specs.Standing.{Kept}
 use Rattle.cbm_channel.specs.Parts.{OnlyText}
@@ -47,12 +47,12 @@ module _ {M : Type 0} (seen : M → Seen) (ch : ℕ) (text : List ℕ) (inside n
 
 -- what came of a sector is reported
 pub reported : {M : Type 0} (p : Place) (Does : Result Bool Trouble → Kept M → Kept M → Type 0) (inside now new : Direct M) → inside ≡ now → (v : Vouching M) (r : Result Bool Trouble)
-    → Does r inside.vouched.dos v.dos → v.sound_since ≡ inside.vouched.sound_since → DirectAnswers (result_status p r) (record inside { vouched = v }) new → Reports p Does now new
-reported p Does inside now new e v r does since says = subst (λ x. Reports p Does x new) e (record {
+    → Does r inside.vouched.dos v.dos → v.vouch ≡ inside.vouched.vouch → DirectAnswers (result_status p r) (record inside { vouched = v }) new → Reports p Does now new
+reported p Does inside now new e v r does same says = subst (λ x. Reports p Does x new) e (record {
   result = r;
   middle = record inside { vouched = v };
   call = does;
-  since = since;
+  vouch = same;
   buffers = refl;
   reply = refl;
   answers = says;

@@ -1,6 +1,5 @@
 -- That a drive represents some machine, if its disk was sound when it was put in and its medium didn't fail since, is kept by each call.
-use Rattle.std.proofs.Common.{◌≡◌, ◌≤◌, ℕ, Bool, true, false, Option, Some, None, Result, Ok, Err, refl, sym, subst, arith}
-use Rattle.std.specs.Prelude.{IfSome}
+use Rattle.std.proofs.Common.{◌≡◌, ◌≤◌, Bool, true, false, Result, Ok, Err, refl, sym, subst, arith}
 use Rattle.cbm_medium.specs.Seen.{Seen, HasFailed}
 use Rattle.cbm_file.specs.Files.{Disk}
 use Rattle.cbm_medium.specs.Place.{Place}
@@ -12,36 +11,41 @@ use Rattle.cbm_machine.specs.Machines.{Machine}
 use Rattle.cbm_channel.specs.Standing.{Kept, Stands}
 use Rattle.cbm_channel.proofs.Stands.{means_of}
 use Rattle.cbm_channel.specs.Loosely.{ClaimsAt, GivesAt, with_one_fewer, with_one_more}
-use Rattle.cbm_direct.specs.Vouching.{ShowsDisk, IsSoundSince, StandsIfSound}
+use Rattle.cbm_direct.specs.declared.vouch.Vouch.{Vouch}
+use Rattle.cbm_direct.specs.declared.vouch.Vouch.TheVariants.{Sound, Unsound, Unknown}
+use Rattle.cbm_direct.specs.Vouching.{ShowsDisk, IsSoundSince, IsVouchOf, StandsIfSound}
 
 -- a sound layout means a disk
 pub shows_disk : (now : Seen) → HasSoundLayout now → ShowsDisk now
 shows_disk now l = sound_means (geometry_of now.tracks now.content) now.content l.0 l.1
 
 -- put in, with a machine for each disk that it may show
-pub begun : {M : Type 0} (seen : M → Seen) (s : Option ℕ) (now : Seen) (k : Kept M) (made : Disk → Machine) → seen k.medium ≡ now
-    → IfSome s (λ n. (n ≡ now.failures) × ShowsDisk now)
-    → ((d : Disk) → HoldsDisk now.tracks now.content d → Stands seen k (made d)) → StandsIfSound seen s k
-begun seen None now k made same h stands = tt
-begun seen (Some n) now k made same h stands = record {
+pub begun : {M : Type 0} (seen : M → Seen) (v : Vouch) (now : Seen) (k : Kept M) (made : Disk → Machine) → seen k.medium ≡ now
+    → IsVouchOf now v
+    → ((d : Disk) → HoldsDisk now.tracks now.content d → Stands seen k (made d)) → StandsIfSound seen v k
+begun seen Unsound now k made same h stands = tt
+begun seen Unknown now k made same h stands = tt
+begun seen (Sound n) now k made same h stands = record {
   counted = (let e : (seen k.medium).failures ≡ n = rw same (sym h.0) in omega (arith, e));
   stands = λ few. (made h.1.0, stands h.1.0 h.1.1);
 }
 
 -- what represents some machine has a sound disk
-pub sound_as_it_stands : {M : Type 0} (seen : M → Seen) (s : Option ℕ) (k : Kept M) (medium : M) → k.medium ≡ medium → StandsIfSound seen s k → IsSoundSince s (seen medium)
-sound_as_it_stands seen None k medium same h = tt
-sound_as_it_stands seen (Some n) k medium same h = λ few.
+pub sound_as_it_stands : {M : Type 0} (seen : M → Seen) (v : Vouch) (k : Kept M) (medium : M) → k.medium ≡ medium → StandsIfSound seen v k → IsSoundSince v (seen medium)
+sound_as_it_stands seen Unsound k medium same h = tt
+sound_as_it_stands seen Unknown k medium same h = tt
+sound_as_it_stands seen (Sound n) k medium same h = λ few.
     let m = h.stands (subst (λ x. (seen x).failures ≤ n) (sym same) few) in
     (m.0.disk, subst (λ x. HoldsDisk (seen x).tracks (seen x).content m.0.disk) same (means_of _ _ _ _ _ _ m.0 m.1))
 
 module _ {M : Type 0} (seen : M → Seen) (old new : Kept M) where
   -- a call in which the medium may have failed
-  pub kept : (s : Option ℕ) → (seen old.medium).failures ≤ (seen new.medium).failures
+  pub kept : (v : Vouch) → (seen old.medium).failures ≤ (seen new.medium).failures
       → ((HasFailed (seen old.medium) (seen new.medium) → ⊥) → (m : Machine) → Stands seen old m → (n : Machine) × Stands seen new n)
-      → StandsIfSound seen s old → StandsIfSound seen s new
-  kept None up goes h = tt
-  kept (Some n) up goes h = record {
+      → StandsIfSound seen v old → StandsIfSound seen v new
+  kept Unsound up goes h = tt
+  kept Unknown up goes h = tt
+  kept (Sound n) up goes h = record {
     counted = (let was = h.counted in omega (arith, up, was));
     stands = λ few. (let was = h.counted in let m = h.stands (omega (arith, few, up)) in goes (λ f. omega (arith, f, few, was)) m.0 m.1);
   }

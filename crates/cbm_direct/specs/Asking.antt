@@ -4,7 +4,7 @@ use Rattle.cbm_command.specs.declared.command.Command.{Command}
 use Rattle.cbm_command.specs.declared.command.Command.TheVariants.{New, Validate}
 use Rattle.cbm_command.specs.declared.refusal.Refusal.{Refusal}
 use Rattle.cbm_machine.specs.Calls.{without_return}
-use Rattle.std.specs.Prelude.{ℕ, ◌+◌, ◌-◌, ◌*◌, ◌==◌, ◌&&◌, ◌||◌, nat_lt, nat_le, min, max, Bool, true, false, List, [], ◌∷◌, drop, length, slice_index_or, Option, Some, None, Result, Ok, option_map, if◌then◌else◌}
+use Rattle.std.specs.Prelude.{ℕ, ◌+◌, ◌-◌, ◌*◌, ◌==◌, ◌&&◌, ◌||◌, nat_lt, nat_le, min, max, Bool, true, false, List, [], ◌∷◌, drop, length, slice_index_or, Option, Some, None, Result, Ok, if◌then◌else◌}
 use Rattle.cbm_direct.specs.declared.asked.Block.{Block}
 use Rattle.cbm_direct.specs.declared.asked.Sector.{Sector}
 use Rattle.cbm_direct.specs.declared.asked.Asked.{Asked}

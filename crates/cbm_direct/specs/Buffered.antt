@@ -1,5 +1,7 @@
 -- The drive's three buffers that a channel may have for itself.
 use Rattle.std.specs.Prelude.{ℕ, ◌+◌, ◌%◌, ◌==◌, ◌||◌, Bool, true, false, List, Option, Some, None, if◌then◌else◌, replicate, slice_index, slice_set}
+use Rattle.cbm_direct.specs.declared.form.Form.{Form}
+use Rattle.cbm_direct.specs.declared.form.Form.TheVariants.{Whole, Counted}
 
 -- a buffer: its channel, its 256 bytes, the place of the next one, and the place of the one that EOI comes with
 pub record Buffered : Type 0 where
@@ -42,6 +44,11 @@ with_sector_read bytes b = record b { bytes = bytes; pointer = 0; last = 255 }
 abbrev pub with_counted_block : List ℕ → Buffered → Buffered
 with_counted_block bytes b = record b { bytes = bytes; pointer = 1; last = slice_index bytes 0 }
 
+-- it has a sector's bytes, whole or counted
+abbrev pub loaded : Form → List ℕ → Buffered → Buffered
+loaded Whole bytes b = with_sector_read bytes b
+loaded Counted bytes b = with_counted_block bytes b
+
 -- the next byte is this one
 abbrev pub at_place : ℕ → Buffered → Buffered
 at_place pointer b = record b { pointer = pointer }
@@ -61,6 +68,11 @@ next_in b = (slice_index b.bytes b.pointer, b.pointer == b.last)
 -- its bytes, of which byte 0 says the place of the byte before the next one
 abbrev pub bytes_counted : Buffered → List ℕ
 bytes_counted b = slice_set b.bytes 0 ((b.pointer + 255) % 256)
+
+-- its bytes, whole or counted
+abbrev pub bytes_by_form : Form → Buffered → List ℕ
+bytes_by_form Whole b = b.bytes
+bytes_by_form Counted b = bytes_counted b
 
 -- the three buffers
 pub record ThreeBuffers : Type 0 where
@@ -93,16 +105,12 @@ shown_in ch b =
     else None
 
 -- what the buffer of a channel has
-abbrev pub bytes_of_channel : (Buffered → List ℕ) → ℕ → ThreeBuffers → Option (List ℕ)
-bytes_of_channel f ch b =
-    if has_it ch b.first then Some (f b.first)
-    else if has_it ch b.second then Some (f b.second)
-    else if has_it ch b.third then Some (f b.third)
+abbrev pub bytes_of_channel : Form → ℕ → ThreeBuffers → Option (List ℕ)
+bytes_of_channel form ch b =
+    if has_it ch b.first then Some (bytes_by_form form b.first)
+    else if has_it ch b.second then Some (bytes_by_form form b.second)
+    else if has_it ch b.third then Some (bytes_by_form form b.third)
     else None
-
--- its bytes as they are
-abbrev pub bytes_as_they_are : Buffered → List ℕ
-bytes_as_they_are b = b.bytes
 
 -- one if a channel has it
 abbrev pub taken_one : Option ℕ → ℕ

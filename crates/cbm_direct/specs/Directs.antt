@@ -1,5 +1,5 @@
 -- A drive with direct access: its DOS, its three buffers, and what is left of M-R's answer.
-use Rattle.std.specs.Prelude.{ℕ, ◌+◌, ◌≤◌, ◌≡◌, ◌≢◌, ◌⊎◌, ◌==◌, Bool, true, false, List, [], Option, Some, None, Result, Ok, Err, IsOk, sum_by, if◌then◌else◌}
+use Rattle.std.specs.Prelude.{ℕ, ◌+◌, ◌≤◌, ◌≡◌, ◌≢◌, ◌⊎◌, ◌==◌, Bool, true, false, List, Option, Some, None, Result, Ok, Err, IsOk, sum_by, if◌then◌else◌}
 use Rattle.cbm_medium.specs.Place.{Place, Has, directory_head}
 use Rattle.cbm_medium.specs.Seen.{Seen}
 use Rattle.cbm_medium.specs.declared.fault.Trouble.{Trouble}
@@ -9,7 +9,7 @@ use Rattle.cbm_machine.specs.declared.status.Status.{Status}
 use Rattle.cbm_machine.specs.Talking.{taken}
 use Rattle.cbm_machine.specs.Statuses.{plain, trouble_status}
 use Rattle.cbm_channel.specs.Standing.{Kept, Leads}
-use Rattle.cbm_channel.specs.Loosely.{WritesLoose, ClaimsAt, GivesAt}
+use Rattle.cbm_channel.specs.Loosely.{ClaimsAt, GivesAt}
 use Rattle.cbm_channel.specs.Parts.{OnlyText}
 use Rattle.cbm_channel.specs.Going.{Goes, closing}
 use Rattle.cbm_channel.specs.Opening.{OpensFrom}
@@ -17,19 +17,24 @@ use Rattle.cbm_direct.specs.declared.wanted.Wanted.{Wanted}
 use Rattle.cbm_direct.specs.declared.wanted.Wanted.TheVariants.{Any, Number}
 use Rattle.cbm_direct.specs.declared.wanted.Wanted.TheVariants as wanted
 use Rattle.cbm_channel.specs.Shown.{shown_by, cost_on}
+use Rattle.cbm_direct.specs.declared.access.Access.{Access}
+use Rattle.cbm_direct.specs.declared.access.Access.TheVariants.{Guarded}
+use Rattle.cbm_direct.specs.declared.vouch.Vouch.TheVariants.{Sound}
 use Rattle.cbm_direct.specs.declared.asked.Block.{Block}
 use Rattle.cbm_direct.specs.declared.asked.Sector.{Sector}
 use Rattle.cbm_direct.specs.declared.asked.Asked.{Asked}
 use Rattle.cbm_direct.specs.declared.asked.Asked.TheVariants.{Read, ReadCounted, Write, WriteCounted, Allocate, Free, Seek, Memory, Restart, Nothing, Held, Unread}
+use Rattle.cbm_direct.specs.declared.form.Form.{Form}
+use Rattle.cbm_direct.specs.declared.form.Form.TheVariants.{Whole, Counted}
 use Rattle.cbm_direct.specs.declared.memory.Reply.{Reply}
-use Rattle.cbm_direct.specs.Buffered.{Buffered, ThreeBuffers, three_free, has_buffer, on_buffer, shown_in, with_sector_read, with_counted_block, bytes_of_channel, bytes_as_they_are, bytes_counted, at_place, given_back, taken_count, with_any_for, with_number_for}
+use Rattle.cbm_direct.specs.Buffered.{ThreeBuffers, three_free, has_buffer, on_buffer, shown_in, loaded, bytes_of_channel, at_place, given_back, taken_count, with_any_for, with_number_for}
 use Rattle.cbm_direct.specs.Asking.{buffer_wanted}
 use Rattle.cbm_direct.specs.NextFree.{next_behind}
 use Rattle.cbm_bam.specs.Map.{map_of, is_free_in}
 use Rattle.cbm_bam.specs.Causes.{IsHeadFault}
 use Rattle.cbm_volume.specs.SeenDisks.{seen_tracks}
 use Rattle.cbm_direct.specs.Memories.{reply_shown, reply_behind}
-use Rattle.cbm_direct.specs.Vouching.{Vouching, IsSectorUnread, OnlyStatus, ShowsDisk, StandsAtStart, StandsExchanged}
+use Rattle.cbm_direct.specs.Vouching.{Vouching, IsSectorUnread, OnlyStatus, ShowsDisk, StandsAtStart, StandsExchanged, WritesBy, access_of}
 
 -- the drive
 pub record Direct (M : Type 0) : Type 0 where
@@ -40,7 +45,7 @@ pub record Direct (M : Type 0) : Type 0 where
 -- The status has become this one; the buffers are these, and the reply is this. All else is as it was.
 pub record TellsOnly {M : Type 0} (status : Status) (have : ThreeBuffers) (answer : Option Reply) (old new : Direct M) : Type 0 where
   pub only : OnlyStatus status old.vouched.dos new.vouched.dos
-  pub since : new.vouched.sound_since ≡ old.vouched.sound_since
+  pub vouch : new.vouched.vouch ≡ old.vouched.vouch
   pub buffers : new.buffers ≡ have
   pub reply : new.reply ≡ answer
 
@@ -53,17 +58,17 @@ abbrev pub sector_asked : Block → Place
 sector_asked block = record { track = block.track; sector = block.sector }
 
 -- A SECTOR WAS READ into the channel's buffer, and the status is 00; or the status is why it wasn't, and the buffers are as they were.
-abbrev pub WasBlockRead : {M : Type 0} → (M → Seen) → (List ℕ → Buffered → Buffered) → Block → Direct M → Direct M → Type 0
-WasBlockRead seen fill block old new =
-    ((bytes : List ℕ) × ((seen old.vouched.dos.medium).content (sector_asked block) ≡ Ok bytes) × TellsOnly (plain Fine) (on_buffer (fill bytes) block.channel old.buffers) old.reply old new)
+abbrev pub WasBlockRead : {M : Type 0} → (M → Seen) → Form → Block → Direct M → Direct M → Type 0
+WasBlockRead seen form block old new =
+    ((bytes : List ℕ) × ((seen old.vouched.dos.medium).content (sector_asked block) ≡ Ok bytes) × TellsOnly (plain Fine) (on_buffer (loaded form bytes) block.channel old.buffers) old.reply old new)
     ⊎ ((t : Trouble) × IsSectorUnread (seen old.vouched.dos.medium) (sector_asked block) t × DirectAnswers (trouble_status t) old new)
 
 -- A command on a sector: 70 if the channel has no buffer, 74 if it names another drive, else the sector is read.
-abbrev pub IsReadAsked : {M : Type 0} → (M → Seen) → (List ℕ → Buffered → Buffered) → Block → Direct M → Direct M → Type 0
-IsReadAsked seen fill block old new =
+abbrev pub IsReadAsked : {M : Type 0} → (M → Seen) → Form → Block → Direct M → Direct M → Type 0
+IsReadAsked seen form block old new =
     ((has_buffer block.channel old.buffers ≡ false) × DirectAnswers (plain NoChannel) old new)
     ⊎ ((has_buffer block.channel old.buffers ≡ true) × (block.drive ≢ 0) × DirectAnswers (plain DriveNotReady) old new)
-    ⊎ ((has_buffer block.channel old.buffers ≡ true) × (block.drive ≡ 0) × WasBlockRead seen fill block old new)
+    ⊎ ((has_buffer block.channel old.buffers ≡ true) × (block.drive ≡ 0) × WasBlockRead seen form block old new)
 
 -- ---- commands that write
 
@@ -86,7 +91,7 @@ pub record Reports {M : Type 0} (p : Place) (Does : Result Bool Trouble → Kept
   pub result : Result Bool Trouble
   pub middle : Direct M
   pub call : Does result old.vouched.dos middle.vouched.dos
-  pub since : middle.vouched.sound_since ≡ old.vouched.sound_since
+  pub vouch : middle.vouched.vouch ≡ old.vouched.vouch
   pub buffers : middle.buffers ≡ old.buffers
   pub reply : middle.reply ≡ old.reply
   pub answers : DirectAnswers (result_status p result) middle new
@@ -106,12 +111,12 @@ abbrev pub IfDrive0 : {M : Type 0} → ℕ → (Direct M → Direct M → Type 0
 IfDrive0 drive Does old new = ((drive ≢ 0) × DirectAnswers (plain DriveNotReady) old new) ⊎ ((drive ≡ 0) × Does old new)
 
 -- U2 AND B-W: 70 if the channel has no buffer, 74 if another drive is named, 66 if the medium has no such sector, 26 if the disk is
--- protected; else the sector gets these bytes, if it is nobody's.
+-- protected; else the sector gets these bytes, if it is nobody's or any may be written.
 abbrev pub IsWriteAsked : {M : Type 0} → (M → Seen) → Option (List ℕ) → Block → Direct M → Direct M → Type 0
 IsWriteAsked seen None block old new = DirectAnswers (plain NoChannel) old new
 IsWriteAsked seen (Some bytes) block old new =
     IfDrive0 block.drive (IfHas (seen old.vouched.dos.medium).tracks (sector_asked block)
-    (UnlessProtected seen (Reports (sector_asked block) (WritesLoose seen (sector_asked block) bytes)))) old new
+    (UnlessProtected seen (Reports (sector_asked block) (WritesBy (access_of old.vouched.vouch) seen (sector_asked block) bytes)))) old new
 
 -- what is told of a sector that is taken: 65 with the next one that is free, or with zeros
 abbrev pub next_status : Option Place → Status
@@ -145,20 +150,24 @@ IsSought ch place old new =
     ((has_buffer ch old.buffers ≡ false) × DirectAnswers (plain NoChannel) old new)
     ⊎ ((has_buffer ch old.buffers ≡ true) × TellsOnly (plain Fine) (on_buffer (at_place place) ch old.buffers) old.reply old new)
 
--- THE DRIVE IS SWITCHED ON with this medium: no channel is open, and none has a buffer; it is known whether the disk is sound.
-pub record IsPoweredWith {M : Type 0} (seen : M → Seen) (medium : M) (d : Direct M) : Type 0 where
+-- THE DRIVE IS SWITCHED ON with this medium: no channel is open, and none has a buffer; unless any sector may be written, it is known whether the
+-- disk is sound.
+pub record IsPoweredWith {M : Type 0} (seen : M → Seen) (medium : M) (access : Access) (d : Direct M) : Type 0 where
   pub stands : StandsAtStart seen medium d.vouched.dos
   pub inside : d.vouched.dos.medium ≡ medium
-  pub since : ShowsDisk (seen medium) → d.vouched.sound_since ≡ Some (seen medium).failures
+  pub allowed : access_of d.vouched.vouch ≡ access
+  pub sound : access ≡ Guarded → ShowsDisk (seen medium) → d.vouched.vouch ≡ Sound (seen medium).failures
   pub buffers : d.buffers ≡ three_free
   pub reply : d.reply ≡ None
 
--- ANOTHER DISK WAS PUT IN: no channel is open, and none has a buffer; the status stays, and it is known whether that disk is sound.
+-- ANOTHER DISK WAS PUT IN: no channel is open, and none has a buffer; the status stays, and unless any sector may be written, it is known whether that
+-- disk is sound.
 pub record HasTakenDisk {M : Type 0} (seen : M → Seen) (medium : M) (old new : Direct M) : Type 0 where
   pub stands : StandsExchanged seen medium old.vouched.dos.told new.vouched.dos
   pub inside : new.vouched.dos.medium ≡ medium
   pub told : new.vouched.dos.told ≡ old.vouched.dos.told
-  pub since : ShowsDisk (seen medium) → new.vouched.sound_since ≡ Some (seen medium).failures
+  pub access : access_of new.vouched.vouch ≡ access_of old.vouched.vouch
+  pub sound : access_of old.vouched.vouch ≡ Guarded → ShowsDisk (seen medium) → new.vouched.vouch ≡ Sound (seen medium).failures
   pub buffers : new.buffers ≡ three_free
   pub reply : new.reply ≡ None
 
@@ -166,16 +175,16 @@ pub record HasTakenDisk {M : Type 0} (seen : M → Seen) (medium : M) (old new :
 pub record HasStarted {M : Type 0} (seen : M → Seen) (old new : Direct M) : Type 0 where
   pub stands : StandsAtStart seen old.vouched.dos.medium new.vouched.dos
   pub medium : new.vouched.dos.medium ≡ old.vouched.dos.medium
-  pub since : new.vouched.sound_since ≡ old.vouched.sound_since
+  pub vouch : new.vouched.vouch ≡ old.vouched.vouch
   pub buffers : new.buffers ≡ three_free
   pub reply : new.reply ≡ None
 
 -- WHAT A COMMAND OF DIRECT ACCESS DOES
 abbrev pub IsAskedDone : {M : Type 0} → (M → Seen) → Asked → Direct M → Direct M → Type 0
-IsAskedDone seen (Read block) old new = IsReadAsked seen with_sector_read block old new
-IsAskedDone seen (ReadCounted block) old new = IsReadAsked seen with_counted_block block old new
-IsAskedDone seen (Write block) old new = IsWriteAsked seen (bytes_of_channel bytes_as_they_are block.channel old.buffers) block old new
-IsAskedDone seen (WriteCounted block) old new = IsWriteAsked seen (bytes_of_channel bytes_counted block.channel old.buffers) block old new
+IsAskedDone seen (Read block) old new = IsReadAsked seen Whole block old new
+IsAskedDone seen (ReadCounted block) old new = IsReadAsked seen Counted block old new
+IsAskedDone seen (Write block) old new = IsWriteAsked seen (bytes_of_channel Whole block.channel old.buffers) block old new
+IsAskedDone seen (WriteCounted block) old new = IsWriteAsked seen (bytes_of_channel Counted block.channel old.buffers) block old new
 IsAskedDone seen (Allocate sector) old new = IsAllocateAsked seen sector old new
 IsAskedDone seen (Free sector) old new = IsFreeAsked seen sector old new
 IsAskedDone seen (Seek ch place) old new = IsSought ch place old new

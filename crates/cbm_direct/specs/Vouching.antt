@@ -1,5 +1,5 @@
 -- A drive's DOS of which it is known whether its disk was sound.
-use Rattle.std.specs.Prelude.{ℕ, ◌+◌, ◌≤◌, ◌≡◌, ◌⊎◌, Option, Some, None, Err}
+use Rattle.std.specs.Prelude.{ℕ, ◌+◌, ◌≤◌, ◌≡◌, ◌≢◌, ◌⊎◌, Bool, false, List, Result, Ok, Err}
 use Rattle.cbm_medium.specs.Place.{Place, Has}
 use Rattle.cbm_medium.specs.Seen.{Seen}
 use Rattle.cbm_medium.specs.declared.fault.Trouble.{Trouble}
@@ -9,12 +9,23 @@ use Rattle.cbm_machine.specs.Machines.{Machine, start}
 use Rattle.cbm_machine.specs.Told.{ToldStatus}
 use Rattle.cbm_machine.specs.declared.status.Status.{Status}
 use Rattle.cbm_channel.specs.Exchanged.{still_telling}
+use Rattle.cbm_channel.specs.Loosely.{WritesLoose, WritesRaw}
 use Rattle.cbm_channel.specs.Standing.{Kept, Stands}
+use Rattle.cbm_direct.specs.declared.access.Access.{Access}
+use Rattle.cbm_direct.specs.declared.access.Access.TheVariants.{Guarded, Raw}
+use Rattle.cbm_direct.specs.declared.vouch.Vouch.{Vouch}
+use Rattle.cbm_direct.specs.declared.vouch.Vouch.TheVariants.{Sound, Unsound, Unknown}
 
--- What the DOS keeps; and how often the medium had failed when it was put in with a sound disk, none if its disk wasn't sound.
+-- What the DOS keeps, and what is known of the disk that was put in.
 pub record Vouching (M : Type 0) : Type 0 where
   pub dos : Kept M
-  pub sound_since : Option ℕ
+  pub vouch : Vouch
+
+-- which sectors may be written: any, if nothing is known
+abbrev pub access_of : Vouch → Access
+access_of (Sound since) = Guarded
+access_of Unsound = Guarded
+access_of Unknown = Raw
 
 -- a medium shows a disk: its content is sound, and means it
 abbrev pub ShowsDisk : Seen → Type 0
@@ -26,19 +37,28 @@ pub record StandsSince {M : Type 0} (seen : M → Seen) (k : Kept M) (since : �
   pub stands : (seen k.medium).failures ≤ since → (m : Machine) × Stands seen k m
 
 -- IF THE DISK WAS SOUND when it was put in and the medium didn't fail by itself since, the drive represents some machine.
-abbrev pub StandsIfSound : {M : Type 0} → (M → Seen) → Option ℕ → Kept M → Type 0
-StandsIfSound seen None k = Unit {0}
-StandsIfSound seen (Some since) k = StandsSince seen k since
+abbrev pub StandsIfSound : {M : Type 0} → (M → Seen) → Vouch → Kept M → Type 0
+StandsIfSound seen (Sound since) k = StandsSince seen k since
+StandsIfSound seen Unsound k = Unit {0}
+StandsIfSound seen Unknown k = Unit {0}
 
--- a number by which it is known whether the disk was sound, and how often the medium had failed then
-abbrev pub since_number : Option ℕ → ℕ
-since_number None = 0
-since_number (Some since) = 1 + since
+-- a number by which that is known
+abbrev pub vouch_number : Vouch → ℕ
+vouch_number Unsound = 0
+vouch_number Unknown = 1
+vouch_number (Sound since) = 2 + since
 
 -- WHAT A MEDIUM HAS THEN: a sound disk, if it was put in with one and didn't fail by itself since.
-abbrev pub IsSoundSince : Option ℕ → Seen → Type 0
-IsSoundSince None now = Unit {0}
-IsSoundSince (Some since) now = now.failures ≤ since → ShowsDisk now
+abbrev pub IsSoundSince : Vouch → Seen → Type 0
+IsSoundSince (Sound since) now = now.failures ≤ since → ShowsDisk now
+IsSoundSince Unsound now = Unit {0}
+IsSoundSince Unknown now = Unit {0}
+
+-- it is called sound only if it is, and the medium has failed so often
+abbrev pub IsVouchOf : Seen → Vouch → Type 0
+IsVouchOf now (Sound since) = (since ≡ now.failures) × ShowsDisk now
+IsVouchOf now Unsound = Unit {0}
+IsVouchOf now Unknown = Unit {0}
 
 -- a sector isn't read: 66 if the disk has none such, else the fault that stands there; with its address
 pub record IsSectorUnread (now : Seen) (p : Place) (t : Trouble) : Type 0 where
@@ -46,9 +66,9 @@ pub record IsSectorUnread (now : Seen) (p : Place) (t : Trouble) : Type 0 where
   pub sector : t.sector ≡ p.sector
   pub why : ((t.code ≡ 66) × (Has now.tracks p → ⊥)) ⊎ (now.content p ≡ Err t.code)
 
--- WHAT EACH CALL LEAVES: whether the disk was sound when it was put in, and how many tracks it has; failures only grow.
+-- WHAT EACH CALL LEAVES: what is known of the disk that was put in; failures only grow.
 pub record KeepsVouch {M : Type 0} (seen : M → Seen) (old new : Vouching M) : Type 0 where
-  pub since : new.sound_since ≡ old.sound_since
+  pub vouch : new.vouch ≡ old.vouch
   pub counted : (seen old.dos.medium).failures ≤ (seen new.dos.medium).failures
 
 -- only the status has changed, to this one
@@ -65,3 +85,8 @@ StandsExchanged seen medium told k =
 -- With a sound disk the drive represents the machine that is switched on with it.
 abbrev pub StandsAtStart : {M : Type 0} → (M → Seen) → M → Kept M → Type 0
 StandsAtStart seen medium k = (d : Disk) → HoldsDisk (seen medium).tracks (seen medium).content d → Stands seen k (start d (seen medium).protected (seen medium).tracks)
+
+-- WHAT A WRITE LEAVES, by the access: guarded, what a write of a sector leaves that is nobody's; raw, what a write of any sector leaves
+abbrev pub WritesBy : {M : Type 0} → Access → (M → Seen) → Place → List ℕ → Result Bool Trouble → Kept M → Kept M → Type 0
+WritesBy Guarded seen p bytes result old new = WritesLoose seen p bytes result old new
+WritesBy Raw seen p bytes result old new = (result ≢ Ok false) × WritesRaw seen p bytes result old new

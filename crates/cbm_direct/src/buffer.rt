@@ -1,6 +1,7 @@
 ghost use Rattle.std.specs.Prelude.{◌≡◌, replicate};
 ghost use Rattle.cbm_direct.specs.Buffered.{is_channel, is_free, taken_one};
 
+use crate::form::Form;
 use std::marker::Model;
 
 /// A block of zeros.
@@ -39,7 +40,7 @@ impl Model for Buffer {
 
 impl Buffer {
     ghost use Rattle.std.specs.Prelude.{◌≡◌, ◌<◌, ◌≤◌};
-    ghost use Rattle.cbm_direct.specs.Buffered.{free_buffer, has_it, with_channel_open, given_back, with_sector_read, with_counted_block, at_place, pointer_on, with_byte_put, next_in, bytes_as_they_are, bytes_counted};
+    ghost use Rattle.cbm_direct.specs.Buffered.{free_buffer, has_it, with_channel_open, given_back, loaded, at_place, pointer_on, with_byte_put, next_in, bytes_by_form, bytes_counted};
 
     /// A buffer at power up: zeros that no channel has.
     pub fn free() -> Buffer
@@ -94,22 +95,22 @@ impl Buffer {
         self.channel = None;
     }
 
-    /// It gets a sector's bytes. The next one is byte 0, and EOI comes with byte 255.
-    pub fn load(&mut self, bytes: &[u8; 256])
-        ensures { self.new ≡ with_sector_read bytes.now self.old }
+    /// It gets a sector's bytes. Whole, the next one is byte 0, and EOI comes with byte 255; counted, the next one is byte 1, and EOI comes with
+    /// the byte whose place byte 0 says.
+    pub fn load(&mut self, bytes: &[u8; 256], form: Form)
+        ensures { self.new ≡ loaded form bytes.now self.old }
     {
         self.bytes = *bytes;
-        self.pointer = 0;
-        self.last = 255;
-    }
-
-    /// It gets a sector's bytes. The next one is byte 1, and EOI comes with the byte whose place byte 0 says.
-    pub fn load_counted(&mut self, bytes: &[u8; 256])
-        ensures { self.new ≡ with_counted_block bytes.now self.old }
-    {
-        self.bytes = *bytes;
-        self.pointer = 1;
-        self.last = bytes[0];
+        match form {
+            Form::Whole => {
+                self.pointer = 0;
+                self.last = 255;
+            }
+            Form::Counted => {
+                self.pointer = 1;
+                self.last = bytes[0];
+            }
+        }
     }
 
     /// The next byte is the one of this place.
@@ -134,15 +135,18 @@ impl Buffer {
         self.pointer = self.pointer.wrapping_add(1);
     }
 
-    /// Its bytes.
-    pub fn bytes(&self) -> [u8; 256]
-        ensures { result ≡ bytes_as_they_are self.now }
+    /// Its bytes. Counted, byte 0 says the place of the byte before the next one.
+    pub fn bytes(&self, form: Form) -> [u8; 256]
+        ensures { result ≡ bytes_by_form form self.now }
     {
-        self.bytes
+        match form {
+            Form::Whole => self.bytes,
+            Form::Counted => self.counted(),
+        }
     }
 
     /// Its bytes, of which byte 0 says the place of the byte before the next one.
-    pub fn counted(&self) -> [u8; 256]
+    fn counted(&self) -> [u8; 256]
         ensures { result ≡ bytes_counted self.now }
     {
         let mut bytes = self.bytes;

@@ -1,4 +1,5 @@
 use crate::buffer::Buffer;
+use crate::form::Form;
 use std::marker::Model;
 
 /// The drive's three buffers.
@@ -19,7 +20,7 @@ impl Model for Buffers {
 
 impl Buffers {
     ghost use Rattle.std.specs.Prelude.{◌≡◌, ◌<◌, ◌≤◌, true, false, IfSome, MatchOption, MatchBool, None, Some};
-    ghost use Rattle.cbm_direct.specs.Buffered.{three_free, has_buffer, on_buffer, shown_in, bytes_of_channel, bytes_as_they_are, bytes_counted, taken_count, with_any_for, with_number_for, given_back, with_sector_read, with_counted_block, at_place, pointer_on, with_byte_put};
+    ghost use Rattle.cbm_direct.specs.Buffered.{three_free, has_buffer, on_buffer, shown_in, bytes_of_channel, taken_count, with_any_for, with_number_for, given_back, loaded, at_place, pointer_on, with_byte_put};
 
     /// Three buffers at power up.
     pub fn free() -> Buffers
@@ -103,29 +104,16 @@ impl Buffers {
         self.third.close();
     }
 
-    /// The channel's buffer gets a sector's bytes from byte 0 on.
-    pub fn load(&mut self, channel: u8, bytes: &[u8; 256])
-        ensures { self.new ≡ on_buffer (with_sector_read bytes.now) channel self.old }
+    /// The channel's buffer gets a sector's bytes.
+    pub fn load(&mut self, channel: u8, bytes: &[u8; 256], form: Form)
+        ensures { self.new ≡ on_buffer (loaded form bytes.now) channel self.old }
     {
         if self.first.is_on(channel) {
-            self.first.load(bytes);
+            self.first.load(bytes, form);
         } else if self.second.is_on(channel) {
-            self.second.load(bytes);
+            self.second.load(bytes, form);
         } else if self.third.is_on(channel) {
-            self.third.load(bytes);
-        }
-    }
-
-    /// The channel's buffer gets a sector's bytes, of which byte 0 says which is the last.
-    pub fn load_counted(&mut self, channel: u8, bytes: &[u8; 256])
-        ensures { self.new ≡ on_buffer (with_counted_block bytes.now) channel self.old }
-    {
-        if self.first.is_on(channel) {
-            self.first.load_counted(bytes);
-        } else if self.second.is_on(channel) {
-            self.second.load_counted(bytes);
-        } else if self.third.is_on(channel) {
-            self.third.load_counted(bytes);
+            self.third.load(bytes, form);
         }
     }
 
@@ -169,33 +157,17 @@ impl Buffers {
     }
 
     /// The bytes of the channel's buffer; None if it has none.
-    pub fn bytes(&self, channel: u8) -> Option<[u8; 256]>
-        ensures { result ≡ bytes_of_channel bytes_as_they_are channel self.now }
+    pub fn bytes(&self, channel: u8, form: Form) -> Option<[u8; 256]>
+        ensures { result ≡ bytes_of_channel form channel self.now }
     {
         if self.first.is_on(channel) {
-            return Some(self.first.bytes());
+            return Some(self.first.bytes(form));
         }
         if self.second.is_on(channel) {
-            return Some(self.second.bytes());
+            return Some(self.second.bytes(form));
         }
         if self.third.is_on(channel) {
-            return Some(self.third.bytes());
-        }
-        None
-    }
-
-    /// The same, of which byte 0 says the place of the byte before the next one.
-    pub fn counted(&self, channel: u8) -> Option<[u8; 256]>
-        ensures { result ≡ bytes_of_channel bytes_counted channel self.now }
-    {
-        if self.first.is_on(channel) {
-            return Some(self.first.counted());
-        }
-        if self.second.is_on(channel) {
-            return Some(self.second.counted());
-        }
-        if self.third.is_on(channel) {
-            return Some(self.third.counted());
+            return Some(self.third.bytes(form));
         }
         None
     }

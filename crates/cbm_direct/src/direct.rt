@@ -1,5 +1,6 @@
 //! A drive with direct access.
 
+use crate::access::Access;
 use crate::buffers::Buffers;
 use crate::memory::Reply;
 use crate::vouched::Vouched;
@@ -15,7 +16,8 @@ mod writing;
 
 /// A drive's DOS with direct access: channels may have one of three buffers, and its commands read sectors into them.
 ///
-/// If the disk was sound when it was put in, and the medium didn't fail by itself since, it is sound: each value of the type has that.
+/// If only sectors that are nobody's may be written, the disk was sound when it was put in, and the medium didn't fail by itself since, it is sound:
+/// each value of the type has that.
 #[derive(Drop)]
 pub struct DirectDos<M: Medium> {
     vouched: Vouched<M>,
@@ -33,21 +35,24 @@ impl<M: Medium> Model for DirectDos<M> {
 
 impl<M: Medium> DirectDos<M> {
     ghost use Rattle.std.specs.Prelude.{◌≡◌, None, Some};
+    ghost use Rattle.cbm_direct.specs.declared.access.Access.TheVariants.{Guarded};
+    ghost use Rattle.cbm_direct.specs.declared.vouch.Vouch.TheVariants.{Sound};
     ghost use Rattle.cbm_machine.specs.Statuses.{plain};
     ghost use Rattle.cbm_direct.specs.Buffered.{three_free};
-    ghost use Rattle.cbm_direct.specs.Vouching.{ShowsDisk, IsSoundSince, KeepsVouch, StandsAtStart, StandsExchanged};
+    ghost use Rattle.cbm_direct.specs.Vouching.{ShowsDisk, IsSoundSince, KeepsVouch, StandsAtStart, StandsExchanged, access_of};
     ghost use Rattle.cbm_direct.specs.Directs.{DirectAnswers, HasStarted};
 
-    /// The drive at power up with this medium: no channel is open. It looks whether the disk is sound.
-    pub fn new(medium: M) -> DirectDos<M>
+    /// The drive at power up with this medium: no channel is open. Unless any sector may be written, it looks whether the disk is sound.
+    pub fn new(medium: M, access: Access) -> DirectDos<M>
         ensures medium { result.vouched.dos.medium ≡ medium }
         ensures stands { StandsAtStart M.seen medium result.vouched.dos }
-        ensures sound { ShowsDisk (M.seen medium) → result.vouched.sound_since ≡ Some (M.seen medium).failures }
+        ensures access { access_of result.vouched.vouch ≡ access }
+        ensures sound { access ≡ Guarded → ShowsDisk (M.seen medium) → result.vouched.vouch ≡ Sound (M.seen medium).failures }
         ensures buffers { result.buffers ≡ three_free }
         ensures reply { result.reply ≡ None }
     {
         DirectDos {
-            vouched: Vouched::new(medium),
+            vouched: Vouched::new(medium, access),
             buffers: Buffers::free(),
             reply: None,
         }
@@ -63,15 +68,16 @@ impl<M: Medium> DirectDos<M> {
         self.reply = None;
     }
 
-    /// Another disk is put in: no channel is open, what was being written isn't closed, and the status stays. It looks whether the
-    /// disk is sound.
+    /// Another disk is put in: no channel is open, what was being written isn't closed, and the status stays. Unless any sector may be
+    /// written, it looks whether the disk is sound.
     pub fn insert(&mut self, medium: M)
     where
         M: Drop,
         ensures medium { self.new.vouched.dos.medium ≡ medium }
         ensures told { self.new.vouched.dos.told ≡ self.old.vouched.dos.told }
         ensures stands { StandsExchanged M.seen medium self.old.vouched.dos.told self.new.vouched.dos }
-        ensures sound { ShowsDisk (M.seen medium) → self.new.vouched.sound_since ≡ Some (M.seen medium).failures }
+        ensures access { access_of self.new.vouched.vouch ≡ access_of self.old.vouched.vouch }
+        ensures sound { access_of self.old.vouched.vouch ≡ Guarded → ShowsDisk (M.seen medium) → self.new.vouched.vouch ≡ Sound (M.seen medium).failures }
         ensures buffers { self.new.buffers ≡ three_free }
         ensures reply { self.new.reply ≡ None }
     {
@@ -90,7 +96,7 @@ impl<M: Medium> DirectDos<M> {
     /// The same, of which it is known that it has a sound disk, if it did when it was put in, and didn't fail by itself since.
     pub fn vouched_medium(&self) -> &M
         ensures medium { result.now ≡ self.now.vouched.dos.medium }
-        ensures sound { IsSoundSince self.now.vouched.sound_since (M.seen result.now) }
+        ensures sound { IsSoundSince self.now.vouched.vouch (M.seen result.now) }
     {
         self.vouched.vouched_medium()
     }
@@ -98,7 +104,7 @@ impl<M: Medium> DirectDos<M> {
     /// The medium as it is now: it has a sound disk if it did when it was put in, and didn't fail by itself since.
     pub fn into_medium(self) -> M
         ensures medium { result ≡ self.vouched.dos.medium }
-        ensures sound { IsSoundSince self.vouched.sound_since (M.seen result) }
+        ensures sound { IsSoundSince self.vouched.vouch (M.seen result) }
     {
         let DirectDos { vouched, .. } = self;
         vouched.into_medium()

@@ -1,7 +1,6 @@
 //! A drive's DOS of which it is known whether its disk is sound.
-ghost use Rattle.std.specs.Prelude.{◌≡◌, ◌≤◌, Some, IfSome};
-ghost use Rattle.cbm_direct.specs.Vouching.{ShowsDisk};
-
+use crate::access::Access;
+use crate::vouch::Vouch;
 use cbm_channel::{Dos, Status};
 use cbm_medium::Medium;
 use cbm_volume::Volume;
@@ -10,24 +9,14 @@ use std::marker::Model;
 mod calls;
 mod sectors;
 
-/// How often the medium has failed by itself, if its disk is sound; None if it isn't.
-fn sound_since<M: Medium>(volume: &Volume<M>) -> Option<u64>
-    ensures sound { ShowsDisk (M.seen volume.now) → result ≡ Some (M.seen volume.now).failures }
-    ensures shown { IfSome result (λ since. (since ≡ (M.seen volume.now).failures) × ShowsDisk (M.seen volume.now)) }
-{
-    match volume.check() {
-        Ok(()) => Some(volume.medium().failures()),
-        Err(_) => None,
-    }
-}
-
 /// A drive's DOS.
 ///
-/// If the disk was sound when it was put in, and the medium didn't fail by itself since, it is sound: each value of the type has that.
+/// If only sectors that are nobody's may be written, the disk was sound when it was put in, and the medium didn't fail by itself since, it is sound:
+/// each value of the type has that.
 #[derive(Drop)]
 pub struct Vouched<M: Medium> {
     dos: Dos<M>,
-    sound_since: Option<u64>,
+    vouch: Vouch,
 }
 
 impl<M: Medium> Model for Vouched<M> {
@@ -35,29 +24,32 @@ impl<M: Medium> Model for Vouched<M> {
 
     ghost Value = { Vouching M };
 
-    ghost view = { λ d. record { dos = d.dos; sound_since = d.sound_since } };
+    ghost view = { λ d. record { dos = d.dos; vouch = d.vouch } };
 
-    ghost invariant = { λ d. StandsIfSound M.seen d.sound_since d.dos };
+    ghost invariant = { λ d. StandsIfSound M.seen d.vouch d.dos };
 }
 
 impl<M: Medium> Vouched<M> {
     ghost use Rattle.std.specs.Prelude.{◌≡◌, ◌≤◌, ◌<◌, Some, IfSome, sum_by};
+    ghost use Rattle.cbm_direct.specs.declared.access.Access.TheVariants.{Guarded};
+    ghost use Rattle.cbm_direct.specs.declared.vouch.Vouch.TheVariants.{Sound};
     ghost use Rattle.cbm_machine.specs.Calls.{text_for};
     ghost use Rattle.cbm_channel.specs.Shown.{cost_on};
     ghost use Rattle.cbm_channel.specs.Shown.{shown_by};
-    ghost use Rattle.cbm_direct.specs.Vouching.{ShowsDisk, IsSoundSince, KeepsVouch, StandsAtStart, StandsExchanged};
+    ghost use Rattle.cbm_direct.specs.Vouching.{ShowsDisk, IsSoundSince, KeepsVouch, StandsAtStart, StandsExchanged, access_of};
 
-    /// The drive at power up with this medium. It looks whether the disk is sound.
-    pub fn new(medium: M) -> Vouched<M>
+    /// The drive at power up with this medium. Unless any sector may be written, it looks whether the disk is sound.
+    pub fn new(medium: M, access: Access) -> Vouched<M>
         ensures medium { result.dos.medium ≡ medium }
         ensures stands { StandsAtStart M.seen medium result.dos }
-        ensures sound { ShowsDisk (M.seen medium) → result.sound_since ≡ Some (M.seen medium).failures }
+        ensures access { access_of result.vouch ≡ access }
+        ensures sound { access ≡ Guarded → ShowsDisk (M.seen medium) → result.vouch ≡ Sound (M.seen medium).failures }
     {
         let volume = Volume::open(medium);
-        let sound_since = sound_since(&volume);
+        let vouch = Vouch::of(&volume, access);
         Vouched {
             dos: Dos::new(volume.into_medium()),
-            sound_since,
+            vouch,
         }
     }
 
@@ -70,20 +62,21 @@ impl<M: Medium> Vouched<M> {
         self.dos.restart();
     }
 
-    /// Another disk is put in: no channel is open, what was being written isn't closed, and the status stays. It looks whether the
-    /// disk is sound.
+    /// Another disk is put in: no channel is open, what was being written isn't closed, and the status stays. Unless any sector may be
+    /// written, it looks whether the disk is sound.
     pub fn insert(&mut self, medium: M)
     where
         M: Drop,
         ensures medium { self.new.dos.medium ≡ medium }
         ensures told { self.new.dos.told ≡ self.old.dos.told }
         ensures stands { StandsExchanged M.seen medium self.old.dos.told self.new.dos }
-        ensures sound { ShowsDisk (M.seen medium) → self.new.sound_since ≡ Some (M.seen medium).failures }
+        ensures access { access_of self.new.vouch ≡ access_of self.old.vouch }
+        ensures sound { access_of self.old.vouch ≡ Guarded → ShowsDisk (M.seen medium) → self.new.vouch ≡ Sound (M.seen medium).failures }
     {
         let volume = Volume::open(medium);
-        let sound_since = sound_since(&volume);
+        let vouch = Vouch::of(&volume, self.vouch.access());
         self.dos.insert(volume.into_medium());
-        self.sound_since = sound_since;
+        self.vouch = vouch;
     }
 
     /// The medium, to look at.
@@ -96,7 +89,7 @@ impl<M: Medium> Vouched<M> {
     /// The same, of which it is known that it has a sound disk, if it did when it was put in, and didn't fail by itself since.
     pub fn vouched_medium(&self) -> &M
         ensures medium { result.now ≡ self.now.dos.medium }
-        ensures sound { IsSoundSince self.now.sound_since (M.seen result.now) }
+        ensures sound { IsSoundSince self.now.vouch (M.seen result.now) }
     {
         self.dos.medium()
     }
@@ -104,7 +97,7 @@ impl<M: Medium> Vouched<M> {
     /// The medium as it is now: it has a sound disk if it did when it was put in, and didn't fail by itself since.
     pub fn into_medium(self) -> M
         ensures medium { result ≡ self.dos.medium }
-        ensures sound { IsSoundSince self.sound_since (M.seen result) }
+        ensures sound { IsSoundSince self.vouch (M.seen result) }
     {
         let Vouched { dos, .. } = self;
         dos.into_medium()

@@ -28,9 +28,9 @@ IsNothing (Some said) = ⊥
 abbrev pub never_more : (m : Unit {0}) (n : ℕ) → ◌≡◌ {A = Option (ℕ × Bool)} None (Some (n, false)) → (x : ℕ × Bool) × (◌≡◌ {A = Option (ℕ × Bool)} None (Some x))
 never_more m n e = absurd (subst IsNothing e tt)
 
--- Each act leaves: whether the disk was sound when it was put in; failures only grow.
+-- Each act leaves: what is known of the disk that was put in; failures only grow.
 pub record KeepsDesk {M : Type 0} (seen : M → Seen) (old new : DirectAddressed M) : Type 0 where
-  pub since : new.dos.vouched.sound_since ≡ old.dos.vouched.sound_since
+  pub vouch : new.dos.vouched.vouch ≡ old.dos.vouched.vouch
   pub counted : (seen old.dos.vouched.dos.medium).failures ≤ (seen new.dos.vouched.dos.medium).failures
 
 -- it was switched off and on with its disk

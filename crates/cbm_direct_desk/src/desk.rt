@@ -1,6 +1,6 @@
 //! A drive with direct access, addressed by LISTEN, TALK and secondary addresses.
 
-use cbm_direct::DirectDos;
+use cbm_direct::{Access, DirectDos};
 use cbm_drive::{Act, Addressee, Ended, Machine, Pace, Restarts, Secondary, Takes};
 use cbm_iec::Role;
 use cbm_medium::Medium;
@@ -22,21 +22,24 @@ impl<M: Medium> Model for DirectDesk<M> {
 }
 
 impl<M: Medium> DirectDesk<M> {
-    ghost use Rattle.std.specs.Prelude.{◌≡◌, ◌<◌, Some};
+    ghost use Rattle.std.specs.Prelude.{◌≡◌, ◌<◌};
     ghost use Rattle.cbm_drive.specs.Addressing.{unaddressed, paced};
+    ghost use Rattle.cbm_direct.specs.declared.access.Access.TheVariants.{Guarded};
+    ghost use Rattle.cbm_direct.specs.declared.vouch.Vouch.TheVariants.{Sound};
     ghost use Rattle.cbm_direct.specs.Vouching.{ShowsDisk, IsSoundSince};
     ghost use Rattle.cbm_direct.specs.Directs.{IsPoweredWith};
 
-    /// As the drive is switched on with this medium, and a device number below 31. It looks whether the disk is sound.
-    pub fn at_power_up(medium: M, device: u8) -> DirectDesk<M>
+    /// As the drive is switched on with this medium, and a device number below 31. Unless any sector may be written, it looks whether the disk is
+    /// sound.
+    pub fn at_power_up(medium: M, device: u8, access: Access) -> DirectDesk<M>
         requires { device < 31 }
         ensures medium { result.dos.vouched.dos.medium ≡ medium }
-        ensures sound { ShowsDisk (M.seen medium) → result.dos.vouched.sound_since ≡ Some (M.seen medium).failures }
-        ensures powered { IsPoweredWith M.seen medium result.dos }
+        ensures sound { access ≡ Guarded → ShowsDisk (M.seen medium) → result.dos.vouched.vouch ≡ Sound (M.seen medium).failures }
+        ensures powered { IsPoweredWith M.seen medium access result.dos }
         ensures addressed { result.addressed ≡ unaddressed device }
     {
         DirectDesk {
-            dos: DirectDos::new(medium),
+            dos: DirectDos::new(medium, access),
             addressee: Addressee::new(device),
         }
     }
@@ -59,7 +62,7 @@ impl<M: Medium> DirectDesk<M> {
     /// The medium as it is now: it has a sound disk if it did when it was put in, and didn't fail by itself since.
     pub fn into_medium(self) -> M
         ensures medium { result ≡ self.dos.vouched.dos.medium }
-        ensures sound { IsSoundSince self.dos.vouched.sound_since (M.seen result) }
+        ensures sound { IsSoundSince self.dos.vouched.vouch (M.seen result) }
     {
         let DirectDesk { dos, .. } = self;
         dos.into_medium()
@@ -193,7 +196,7 @@ impl<M: Medium> DirectDesk<M> {
 }
 
 impl<M: Medium> Machine for DirectDesk<M> {
-    ghost use Rattle.cbm_direct.specs.Vouching.{since_number};
+    ghost use Rattle.cbm_direct.specs.Vouching.{vouch_number};
     ghost use Rattle.std.specs.Prelude.{None};
     ghost use Rattle.cbm_direct_desk.specs.DirectDesks.{direct_desk_shows, never_more};
 
@@ -207,7 +210,7 @@ impl<M: Medium> Machine for DirectDesk<M> {
 
     ghost shows = { direct_desk_shows };
 
-    ghost lasting = { λ x. since_number x.dos.vouched.sound_since };
+    ghost lasting = { λ x. vouch_number x.dos.vouched.vouch };
 
     ghost failures = { λ x. (M.seen x.dos.vouched.dos.medium).failures };
 

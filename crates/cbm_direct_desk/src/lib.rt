@@ -4,6 +4,6 @@
 mod desk;
 mod played;
 
-pub use cbm_direct::DirectDos;
+pub use cbm_direct::{Access, DirectDos};
 pub use desk::DirectDesk;
 pub use played::{disk_of, drive_with, into_disk, play, play_alone, play_out};

@@ -1,30 +1,33 @@
 //! Drives with direct access on a bus: their disks stay sound.
-ghost use Rattle.std.specs.Prelude.{◌≡◌, ◌∷◌, [], ◌<◌, ◌≤◌, ◌^◌, Some, IfOk};
+ghost use Rattle.std.specs.Prelude.{◌≡◌, ◌∷◌, [], ◌<◌, ◌≤◌, ◌^◌};
 ghost use Rattle.cbm_d64.specs.Image.{d64_seen};
-ghost use Rattle.cbm_direct.specs.Vouching.{ShowsDisk, IsSoundSince, since_number};
+ghost use Rattle.cbm_direct.specs.Vouching.{ShowsDisk, IsSoundSince, vouch_number};
+ghost use Rattle.cbm_direct.specs.declared.access.Access.TheVariants.{Guarded};
+ghost use Rattle.cbm_direct.specs.declared.vouch.Vouch.TheVariants.{Sound};
 ghost use Rattle.cbm_direct_desk.specs.DirectDesks.{DirectAddressed};
 ghost use Rattle.cbm_drive.specs.Seats.{AreCarried, Seated};
 
 use crate::desk::DirectDesk;
 use cbm_d64::D64Disk;
+use cbm_direct::Access;
 use cbm_drive::{Bus, Change, Drive, Event, Party, PlayFault};
 use cbm_medium::Medium;
 
 /// The drive as it is switched on with this disk.
-pub fn drive_with<M: Medium>(disk: M, party: Party) -> Drive<DirectDesk<M>>
+pub fn drive_with<M: Medium>(disk: M, party: Party, access: Access) -> Drive<DirectDesk<M>>
     requires device { party.device < 31 }
     requires reaction { 1 ≤ party.reaction }
     ensures disk { result.machine.dos.vouched.dos.medium ≡ disk }
-    ensures sound { ShowsDisk (M.seen disk) → result.machine.dos.vouched.sound_since ≡ Some (M.seen disk).failures }
+    ensures sound { access ≡ Guarded → ShowsDisk (M.seen disk) → result.machine.dos.vouched.vouch ≡ Sound (M.seen disk).failures }
 {
-    let desk = DirectDesk::at_power_up(disk, party.device).with_pace(party.pace);
+    let desk = DirectDesk::at_power_up(disk, party.device, access).with_pace(party.pace);
     Drive::new(desk, party)
 }
 
 /// The disk of a drive as it is now: sound, if it was put in so, and didn't fail by itself since.
 pub fn into_disk<M: Medium>(drive: Drive<DirectDesk<M>>) -> M
     ensures same { result ≡ drive.machine.dos.vouched.dos.medium }
-    ensures sound { IsSoundSince drive.machine.dos.vouched.sound_since (M.seen result) }
+    ensures sound { IsSoundSince drive.machine.dos.vouched.vouch (M.seen result) }
 {
     drive.into_machine().into_medium()
 }
@@ -37,14 +40,14 @@ pub fn play<M: Medium, const N: usize>(
     events: &mut Vec<Event>,
 ) -> Result<(), PlayFault>
     requires { end < 2 ^ 59 }
-    ensures { AreCarried (λ x. since_number x.dos.vouched.sound_since) (λ x. (M.seen x.dos.vouched.dos.medium).failures) bus.old.drives bus.new.drives }
+    ensures { AreCarried (λ x. vouch_number x.dos.vouched.vouch) (λ x. (M.seen x.dos.vouched.dos.medium).failures) bus.old.drives bus.new.drives }
 {
     bus.play(changes, end, events)
 }
 
 /// The disk of the one drive of a bus.
 pub fn disk_of<M: Medium>(bus: Bus<DirectDesk<M>, 1>) -> M
-    ensures { (x : Seated (DirectAddressed M)) → bus.drives ≡ x ∷ [] → IsSoundSince x.machine.dos.vouched.sound_since (M.seen result) }
+    ensures { (x : Seated (DirectAddressed M)) → bus.drives ≡ x ∷ [] → IsSoundSince x.machine.dos.vouched.vouch (M.seen result) }
 {
     let [drive] = bus.into_drives();
     into_disk(drive)
@@ -59,7 +62,7 @@ pub fn play_out<M: Medium>(
     events: &mut Vec<Event>,
 ) -> M
     requires { end < 2 ^ 59 }
-    ensures { (x : Seated (DirectAddressed M)) → bus.drives ≡ x ∷ [] → IsSoundSince x.machine.dos.vouched.sound_since (M.seen result) }
+    ensures { (x : Seated (DirectAddressed M)) → bus.drives ≡ x ∷ [] → IsSoundSince x.machine.dos.vouched.vouch (M.seen result) }
 {
     let _played = play(&mut bus, changes, end, events);
     disk_of(bus)
@@ -78,5 +81,10 @@ pub fn play_alone(
     requires end { end < 2 ^ 59 }
     ensures { ShowsDisk (d64_seen disk) → ShowsDisk (d64_seen result) }
 {
-    play_out(Bus::new([drive_with(disk, party)]), changes, end, events)
+    play_out(
+        Bus::new([drive_with(disk, party, Access::Guarded)]),
+        changes,
+        end,
+        events,
+    )
 }

@@ -11,7 +11,11 @@ use Rattle.cbm_machine.specs.Codes.{code_number}
 use Rattle.cbm_machine.specs.Machines.{start}
 use Rattle.cbm_channel.specs.Standing.{Stands}
 use Rattle.cbm_direct.specs.Buffered.{three_free}
-use Rattle.cbm_direct.specs.Vouching.{IsSoundSince}
+use Rattle.cbm_direct.specs.declared.access.Access.{Access}
+use Rattle.cbm_direct.specs.declared.access.Access.TheVariants.{Guarded}
+use Rattle.cbm_direct.specs.declared.vouch.Vouch.{Vouch}
+use Rattle.cbm_direct.specs.declared.vouch.Vouch.TheVariants.{Sound, Unsound, Unknown}
+use Rattle.cbm_direct.specs.Vouching.{IsSoundSince, access_of}
 use Rattle.cbm_direct_desk.specs.DirectDesks.{DirectAddressed, direct_desk_shows, IsGivenDisk, IsStartedAgain}
 use Rattle.cbm_drive.specs.Addressing.{paced, unaddressed}
 use Rattle.cbm_drive.specs.Playback.{IsActed}
@@ -33,16 +37,17 @@ pub record DirectOnLines : Type 0 where
 abbrev pub disk_in : DirectOnLines → Counted
 disk_in d = d.seat.machine.dos.vouched.dos.medium
 
--- whether that was sound when it was put in: then how often it had failed by itself, which is never
-abbrev pub since_in : DirectOnLines → Option ℕ
-since_in d = d.seat.machine.dos.vouched.sound_since
+-- what is known of it
+abbrev pub vouch_in : DirectOnLines → Vouch
+vouch_in d = d.seat.machine.dos.vouched.vouch
 
 -- the number of its status
 abbrev pub status_in : DirectOnLines → ℕ
 status_in d = code_number d.seat.machine.dos.vouched.dos.told.status.code
 
--- A DRIVE WITH DIRECT ACCESS IS SWITCHED ON with the disk of an image: no channel has a buffer. Where the disk is sound, that is known, and its DOS represents the machine of the disk's files.
-pub record IsSwitchedOnDirect (image : List ℕ) (protected : Bool) (b : Party) (d : DirectOnLines) : Type 0 where
+-- A DRIVE WITH DIRECT ACCESS IS SWITCHED ON with the disk of an image: no channel has a buffer. Where the disk is sound, its DOS represents the machine of the
+-- disk's files, and unless any sector may be written, it is known that it is sound.
+pub record IsSwitchedOnDirect (image : List ℕ) (protected : Bool) (b : Party) (access : Access) (d : DirectOnLines) : Type 0 where
   pub disk : IsDiskOf image protected (disk_in d)
   pub kind : d.kind ≡ Some (kind_of image)
   pub port : d.seat.port ≡ resting b
@@ -50,7 +55,8 @@ pub record IsSwitchedOnDirect (image : List ℕ) (protected : Bool) (b : Party) 
   pub first : d.latest ≡ 0
   pub buffers : d.seat.machine.dos.buffers ≡ three_free
   pub reply : d.seat.machine.dos.reply ≡ None
-  pub since : (x : Disk) → ImageHolds (kind_of image) image x → since_in d ≡ Some 0
+  pub allowed : access_of (vouch_in d) ≡ access
+  pub sound : access ≡ Guarded → (x : Disk) → ImageHolds (kind_of image) image x → vouch_in d ≡ Sound 0
   pub stands : (x : Disk) → ImageHolds (kind_of image) image x → Stands counted_seen d.seat.machine.dos.vouched.dos (start x protected (tracks_of (kind_of image) image))
 
 -- ---- lines that change
@@ -77,7 +83,7 @@ pub record ActsInTurn (t : ℕ) (was now : Lines) (p : Port) (old new : DirectAd
 pub record HasHeardDirect (moment : ℕ) (others : Lines) (old new : DirectOnLines) : Type 0 where
   pub port : new.seat.port ≡ port_in_turn moment old.seat.port.others others old.seat.port
   pub machine : ActsInTurn moment old.seat.port.others others old.seat.port old.seat.machine new.seat.machine
-  pub since : since_in new ≡ since_in old
+  pub vouch : vouch_in new ≡ vouch_in old
   pub kind : new.kind ≡ old.kind
   pub latest : new.latest ≡ moment
 
@@ -94,7 +100,7 @@ pub record HasReactedDirect (r : DeviceReaction) (old new : DirectOnLines) : Typ
   pub machine : IsActed direct_desk_shows (reaction_act (direct_desk_shows old.seat.machine) old.seat.port) old.seat.machine new.seat.machine
   pub was : r.was ≡ old.seat.port.own
   pub now : r.now ≡ new.seat.port.own
-  pub since : since_in new ≡ since_in old
+  pub vouch : vouch_in new ≡ vouch_in old
   pub kind : new.kind ≡ old.kind
   pub latest : new.latest ≡ r.moment
 
@@ -107,8 +113,8 @@ pub record IsRestartedDirect (old new : DirectOnLines) : Type 0 where
   pub kind : new.kind ≡ old.kind
   pub latest : new.latest ≡ old.latest
 
--- IT WAS GIVEN THIS DISK, of an image of this format, and goes on: its lines, its status and who is addressed stay; no channel is open, none has a buffer, and it
--- is known whether this disk is sound.
+-- IT WAS GIVEN THIS DISK, of an image of this format, and goes on: its lines, its status and who is addressed stay; no channel is open, none has a buffer, and
+-- unless any sector may be written, it is known whether this disk is sound.
 pub record IsExchangedDirect (disk : Counted) (kind : Option Kind) (old new : DirectOnLines) : Type 0 where
   pub port : new.seat.port ≡ old.seat.port
   pub machine : IsGivenDisk counted_seen disk old.seat.machine new.seat.machine
@@ -121,18 +127,19 @@ HasAnotherDiskDirect image protected old new = (disk : Counted) × IsDiskOf imag
 
 -- ---- the image of the disk
 
--- a disk is sound, if it was put in so
-abbrev pub ShowsSoundDisk : Option ℕ → Counted → Type 0
-ShowsSoundDisk since disk = IsSoundSince since (counted_seen disk)
+-- a disk is sound, if it is known that it was put in so
+abbrev pub ShowsSoundDisk : Vouch → Counted → Type 0
+ShowsSoundDisk vouch disk = IsSoundSince vouch (counted_seen disk)
 
--- an image holds a disk, where that was put in sound
-abbrev pub HoldsIfSound : Option ℕ → Kind → List ℕ → Type 0
-HoldsIfSound None kind image = Unit {0}
-HoldsIfSound (Some since) kind image = (x : Disk) × ImageHolds kind image x
+-- an image holds a disk, where it is known that it was put in sound
+abbrev pub HoldsIfSound : Vouch → Kind → List ℕ → Type 0
+HoldsIfSound (Sound since) kind image = (x : Disk) × ImageHolds kind image x
+HoldsIfSound Unsound kind image = Unit {0}
+HoldsIfSound Unknown kind image = Unit {0}
 
--- an image of the disk in a drive, in its format; sound, if the disk was put in so
+-- an image of the disk in a drive, in its format; sound, if it is known that the disk was put in so
 abbrev pub IsImageFromDirect : DirectOnLines → List ℕ → Type 0
-IsImageFromDirect d image = (kind : Kind) × (d.kind ≡ Some kind) × IsImageIn kind (disk_in d) image × HoldsIfSound (since_in d) kind image
+IsImageFromDirect d image = (kind : Kind) × (d.kind ≡ Some kind) × IsImageIn kind (disk_in d) image × HoldsIfSound (vouch_in d) kind image
 
 -- THE IMAGE OF THE DISK IN A DRIVE WITH DIRECT ACCESS is given, or a number says why not.
 abbrev pub GivesImageDirect : ℤ → List ℕ → List ℕ → ℕ → ℕ → DirectOnLines → Type 0

@@ -10,9 +10,10 @@ ghost use Rattle.cbm_direct_desk.specs.DirectDesks.{direct_desk_shows};
 ghost use Rattle.cbm_device.specs.Answers.{answer};
 ghost use Rattle.cbm_device.specs.Devices.{IsUnfitParty, IsDueBefore};
 ghost use Rattle.cbm_device.specs.ImageDisks.{no_disk, counted_seen, IsOpenRefusal};
-ghost use Rattle.cbm_direct_device.specs.DirectDevices.{disk_in, since_in, status_in, IsSwitchedOnDirect, IsOnTimeDirect, IsOutOfTimeDirect, HasHeardDirect, HasReactedDirect, HasNothingDueDirect, IsRestartedDirect, IsExchangedDirect, HasAnotherDiskDirect, GivesImageDirect, ShowsSoundDisk};
+ghost use Rattle.cbm_direct_device.specs.DirectDevices.{disk_in, vouch_in, status_in, IsSwitchedOnDirect, IsOnTimeDirect, IsOutOfTimeDirect, HasHeardDirect, HasReactedDirect, HasNothingDueDirect, IsRestartedDirect, IsExchangedDirect, HasAnotherDiskDirect, GivesImageDirect, ShowsSoundDisk};
 
 use cbm_device::{DeviceReaction, DeviceRefusal, ImageDisk, given};
+use cbm_direct::Access;
 use cbm_direct_desk::DirectDesk;
 use cbm_drive::{Drive, Held, Lines, Party};
 use cbm_image::{Kind, kind_of};
@@ -56,28 +57,29 @@ impl Model for DirectDevice {
     ghost invariant = { λ d. d.others ≡ d.drive.port.others };
 }
 
-/// A drive that is switched on with this disk. It looks whether the disk is sound.
-fn powered(disk: ImageDisk, party: Party) -> Drive<DirectDesk<ImageDisk>>
+/// A drive that is switched on with this disk. Unless any sector may be written, it looks whether the disk is sound.
+fn powered(disk: ImageDisk, party: Party, access: Access) -> Drive<DirectDesk<ImageDisk>>
     requires device { party.device < 31 }
     requires reaction { 1 ≤ party.reaction }
     ensures port { result.port ≡ resting party }
-    ensures powered { IsPoweredWith counted_seen disk result.machine.dos }
+    ensures powered { IsPoweredWith counted_seen disk access result.machine.dos }
     ensures addressed { result.machine.addressed ≡ paced party.pace (unaddressed party.device) }
 {
-    let desk = DirectDesk::at_power_up(disk, party.device).with_pace(party.pace);
+    let desk = DirectDesk::at_power_up(disk, party.device, access).with_pace(party.pace);
     Drive::new(desk, party)
 }
 
 impl DirectDevice {
-    /// A drive that is switched on with the disk of an image, and looks whether it is sound. Errors: `Invalid` if the device number
-    /// isn't 8 to 11 or the reaction not 1 to 60, `NoImage`, `Memory`.
+    /// A drive that is switched on with the disk of an image. Unless any sector may be written, it looks whether the disk is sound. Errors:
+    /// `Invalid` if the device number isn't 8 to 11 or the reaction not 1 to 60, `NoImage`, `Memory`.
     pub fn open(
         alloc: Global,
         image: &[u8],
         protected: bool,
         party: Party,
+        access: Access,
     ) -> Result<DirectDevice, DeviceRefusal>
-        ensures ok { IfOk result (IsSwitchedOnDirect image.now protected party) }
+        ensures ok { IfOk result (IsSwitchedOnDirect image.now protected party access) }
         ensures outside { IsUnfitParty party → result ≡ Err DeviceRefusal.Invalid }
         ensures err { IfErr result (λ r. ((r ≡ DeviceRefusal.Invalid) × IsUnfitParty party) ⊎ IsOpenRefusal image.now r) }
     {
@@ -90,7 +92,7 @@ impl DirectDevice {
         }
         let disk = ImageDisk::open(alloc, image, protected)?;
         Ok(DirectDevice {
-            drive: powered(disk, party),
+            drive: powered(disk, party, access),
             kind: Some(kind_of(image)),
             others: FREE,
             latest: 0,
@@ -103,7 +105,7 @@ impl DirectDevice {
         requires { moment < 2 ^ 60 }
         ensures port { self.new.seat.port ≡ told moment others self.old.seat.port }
         ensures acted { IsActed direct_desk_shows (told_act others self.old.seat.port) self.old.seat.machine self.new.seat.machine }
-        ensures since { since_in self.new ≡ since_in self.old }
+        ensures vouch { vouch_in self.new ≡ vouch_in self.old }
         ensures latest { self.new.latest ≡ self.old.latest }
         ensures kind { self.new.kind ≡ self.old.kind }
     {
@@ -164,7 +166,7 @@ impl DirectDevice {
         ensures port { self.new.seat.port ≡ reacted moment (direct_desk_shows self.old.seat.machine) self.old.seat.port }
         ensures acted { let shown = direct_desk_shows self.old.seat.machine in
             IsActed direct_desk_shows (reaction_act shown self.old.seat.port) self.old.seat.machine self.new.seat.machine }
-        ensures since { since_in self.new ≡ since_in self.old }
+        ensures vouch { vouch_in self.new ≡ vouch_in self.old }
         ensures latest { self.new.latest ≡ self.old.latest }
         ensures kind { self.new.kind ≡ self.old.kind }
     {
@@ -215,17 +217,17 @@ impl DirectDevice {
         self.others = FREE;
     }
 
-    /// The disk that is in the drive: sound, if it was put in so.
+    /// The disk that is in the drive: sound, if it was put in so and not any sector may be written.
     fn disk(&self) -> &ImageDisk
         ensures disk { result.now ≡ disk_in self.now }
-        ensures sound { ShowsSoundDisk (since_in self.now) result.now }
+        ensures sound { ShowsSoundDisk (vouch_in self.now) result.now }
     {
         self.drive.machine().dos().vouched_medium()
     }
 
     /// The image of the disk that is in the drive, in the format in which it was put in, goes to the caller's room, and how many
-    /// bytes it has is reported; a file that is being written stands in it as on the disk, not closed. It is sound, if it was put in
-    /// so. Errors: `Memory`, `NoRoom`, `Absent` if there is no disk.
+    /// bytes it has is reported; a file that is being written stands in it as on the disk, not closed. It is sound, if the disk was
+    /// put in so and not any sector may be written. Errors: `Memory`, `NoRoom`, `Absent` if there is no disk.
     pub fn image(
         &self,
         alloc: Global,
@@ -247,9 +249,9 @@ impl DirectDevice {
         self.disk().writes()
     }
 
-    /// The disk of another image is put in, while the drive goes on, which looks whether it is sound: no channel is open, none has a
-    /// buffer, what was being written isn't closed, and its lines and the status stay. Errors: `NoImage`, `Memory`, and then nothing
-    /// has happened.
+    /// The disk of another image is put in, while the drive goes on: no channel is open, none has a buffer, what was being written isn't
+    /// closed, and its lines and the status stay. Unless any sector may be written, it looks whether the disk is sound. Errors: `NoImage`,
+    /// `Memory`, and then nothing has happened.
     pub fn insert(
         &mut self,
         alloc: Global,

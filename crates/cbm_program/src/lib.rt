@@ -4,6 +4,7 @@
 mod fault;
 mod images;
 mod line;
+mod manner;
 mod numbered;
 mod output;
 mod performing;
@@ -19,5 +20,6 @@ pub use cbm_drive::Pace;
 pub use fault::RunFault;
 pub use images::{Options, run, run_at, run_direct, run_traced};
 pub use line::{ScriptLine, parse};
+pub use manner::Manner;
 pub use request::{ScriptRequest, Text};
 pub use text::{decode, what_is_written_reads_back};

@@ -10,11 +10,14 @@ use disk_commands::verb_of;
 use disk_looks::Progress;
 use host_files::text_of;
 use std::alloc::AllocError;
-use std::env::Env;
+use std::env::{Env, FillError};
 use std::process::ExitCode;
 
 /// The exit status where the command line is at fault.
 const COMMAND_LINE: u8 = 64;
+
+/// The most bytes of most words.
+const SHORT_WORD: usize = 1024;
 
 /// The most bytes that the system passes in a word, with the 0 after it.
 const LONGEST_WORD: usize = 131_072;
@@ -26,7 +29,7 @@ pub fn run_program(rt: &HostRuntime) -> ExitCode {
         Ok(words) => words,
         Err(_) => return ended(rt, Failure::NoMemory),
     };
-    let Ok(help) = disk_commands::help_text(rt.alloc()) else {
+    let Ok(help) = disk_commands::help_for(rt.alloc(), words.as_slice()) else {
         return ended(rt, Failure::NoMemory);
     };
     let mut input = Vec::new(rt.alloc());
@@ -105,16 +108,39 @@ fn without_line(rt: &HostRuntime, error: &clap::Error) -> ExitCode {
     ExitCode::from(COMMAND_LINE)
 }
 
+/// A word of the command line that is longer than most are; None where there is none.
+fn long_word(rt: &HostRuntime, index: usize) -> Result<Option<String>, AllocError> {
+    let mut room = vec![in rt.alloc(); 0u8; LONGEST_WORD]?;
+    match rt.arg(index, room.as_mut_slice()) {
+        Ok(count) => {
+            let word = room.as_slice().get(..count).unwrap_or(&[]);
+            Ok(Some(text_of(rt.alloc(), word)?))
+        }
+        Err(_) => Ok(None),
+    }
+}
+
+/// A word of the command line; None where there is none.
+fn word_of(rt: &HostRuntime, index: usize) -> Result<Option<String>, AllocError> {
+    let mut room = [0; SHORT_WORD];
+    match rt.arg(index, &mut room) {
+        Ok(count) => {
+            let word = room.get(..count).unwrap_or(&[]);
+            Ok(Some(text_of(rt.alloc(), word)?))
+        }
+        Err(FillError::TooLong) => long_word(rt, index),
+        Err(FillError::NotPresent) => Ok(None),
+    }
+}
+
 /// The words of the command line, in which bytes that are no text are written as `\xHH`. The one error is want of memory.
 fn words_of(rt: &HostRuntime) -> Result<Vec<String>, AllocError> {
     let mut words = Vec::new(rt.alloc());
-    let mut room = vec![in rt.alloc(); 0u8; LONGEST_WORD]?;
     for index in 0..usize::MAX {
-        let Ok(count) = rt.arg(index, room.as_mut_slice()) else {
+        let Some(word) = word_of(rt, index)? else {
             break;
         };
-        let word = room.as_slice().get(..count).unwrap_or(&[]);
-        words.push(text_of(rt.alloc(), word)?)?;
+        words.push(word)?;
     }
     Ok(words)
 }

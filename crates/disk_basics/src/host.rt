@@ -2,9 +2,9 @@
 use crate::failure::{Failure, in_memory};
 use cbm_shell::foreign_of;
 use disk_facts::{WideMap, wide_map};
-use host_files::{GREATEST_IMAGE, Sync, read_whole};
+use host_files::{GREATEST_IMAGE, Leftovers, Sync, read_whole};
 use std::alloc::Global;
-use std::io::{self, Read, Write};
+use std::io::{self, Write};
 use std::rt::Runtime;
 
 /// The program's name, which its files beside have.
@@ -16,14 +16,13 @@ const STANDARD: &str = "-";
 /// The most bytes of a file that is put on a disk: 16 MB.
 const GREATEST_FILE: u64 = 16_777_216;
 
-/// Reads to the end, where that comes before more than this many bytes.
-fn read_to_end<'a, I: Read + Drop>(
-    alloc: Global,
+/// What reading to the end came to, where that comes before more than this many bytes.
+fn whole<'a>(
     name: &'a str,
-    input: I,
+    read: io::Result<Option<Vec<u8>>>,
     most: u64,
 ) -> Result<Vec<u8>, Failure<'a>> {
-    match read_whole(alloc, input, most) {
+    match read {
         Ok(Some(bytes)) => Ok(bytes),
         Ok(None) => Err(Failure::TooLong(name, most)),
         Err(error) => Err(Failure::Read(name, error.kind())),
@@ -37,10 +36,11 @@ fn read<'a, R: Runtime + AllocGlobal>(
     most: u64,
 ) -> Result<Vec<u8>, Failure<'a>> {
     if name == STANDARD {
-        return read_to_end(rt.alloc(), "standard input", rt.reader(), most);
+        let bytes = read_whole(rt.alloc(), rt.reader(), most);
+        return whole("standard input", bytes, most);
     }
     match host_files::open(rt, name) {
-        Ok(file) => read_to_end(rt.alloc(), name, file, most),
+        Ok(file) => whole(name, host_files::read_file(rt.alloc(), file, most), most),
         Err(error) => Err(Failure::Read(name, error.kind())),
     }
 }
@@ -138,6 +138,21 @@ pub fn write<'a, R: Runtime + AllocGlobal>(
     written(
         name,
         host_files::save_by(rt, PROGRAM, path.as_str(), bytes, sync),
+    )
+}
+
+/// Writes one of several files that are taken out whole or not at all, as `write` does: what a killed program left in their folder is
+/// looked for once. The one error is `Write`.
+pub fn write_among<'a, R: Runtime + AllocGlobal>(
+    rt: &R,
+    name: &'a str,
+    bytes: &[u8],
+    left: &mut Leftovers,
+) -> Result<(), Failure<'a>> {
+    let path = path_of(rt.alloc(), name)?;
+    written(
+        name,
+        host_files::save_among(rt, PROGRAM, path.as_str(), bytes, Sync::Later, left),
     )
 }
 

@@ -1,4 +1,5 @@
 //! The command line, as clap reads it.
+use crate::asked::{Asked, asked_by};
 use crate::commands::{Command, changing_commands, examples_of, looking_commands, making_commands};
 use crate::word::{Mark, Word};
 use clap::{Arg, ArgMatches, Error};
@@ -78,9 +79,26 @@ fn subcommands<'a>(alloc: Global) -> Result<Vec<clap::Command<'a>>, AllocError> 
     Ok(subcommands)
 }
 
+/// The commands that are asked for. To make the words of all of them takes longer than most of them do.
+fn subcommands_for<'a>(alloc: Global, asked: Asked) -> Result<Vec<clap::Command<'a>>, AllocError> {
+    match asked {
+        Asked::Version => Ok(Vec::new(alloc)),
+        Asked::One(command) => {
+            let mut subcommands = Vec::new(alloc);
+            add_subcommand(alloc, &mut subcommands, &command)?;
+            Ok(subcommands)
+        }
+        Asked::Any => subcommands(alloc),
+    }
+}
+
 /// What may stand on the command line; help prints this text.
-fn program<'a>(alloc: Global, help: &'a str) -> Result<clap::Command<'a>, AllocError> {
-    let subcommands = subcommands(alloc)?;
+fn program<'a>(
+    alloc: Global,
+    asked: Asked,
+    help: &'a str,
+) -> Result<clap::Command<'a>, AllocError> {
+    let subcommands = subcommands_for(alloc, asked)?;
     clap::Command::new(alloc, "disk1541")
         .override_help(help)
         .version(VERSION)
@@ -89,14 +107,14 @@ fn program<'a>(alloc: Global, help: &'a str) -> Result<clap::Command<'a>, AllocE
         .subcommands(subcommands)
 }
 
-/// Reads the command line; `help` is the text of `help_text`. Errors: clap's, for a word that can't
+/// Reads the command line; `help` is the text of `help_for` these words. Errors: clap's, for a word that can't
 /// stand there, and for help or the version, which are asked for so.
 pub fn parse<'a>(
     alloc: Global,
     words: &'a [String],
     help: &'a str,
 ) -> Result<ArgMatches<'a>, Error> {
-    program(alloc, help)?.try_get_matches_from(words)
+    program(alloc, asked_by(words), help)?.try_get_matches_from(words)
 }
 
 /// A word that the command line must have.

@@ -369,23 +369,31 @@ pub fn changing_commands() -> &'static [Command] {
 }
 
 /// The command of a name among these.
-fn verb_in(commands: &[Command], name: &str) -> Option<Verb> {
+fn command_in(commands: &[Command], name: &str) -> Option<Command> {
     for command in commands {
         if command.name == name {
-            return Some(command.verb);
+            return Some(*command);
         }
     }
     None
 }
 
+/// The command of a name, with its words; None where there is none.
+pub fn command_of(name: &str) -> Option<Command> {
+    if let Some(command) = command_in(looking_commands(), name) {
+        return Some(command);
+    }
+    match command_in(making_commands(), name) {
+        Some(command) => Some(command),
+        None => command_in(changing_commands(), name),
+    }
+}
+
 /// The command of a name; None where there is none.
 pub fn verb_of(name: &str) -> Option<Verb> {
-    if let Some(verb) = verb_in(looking_commands(), name) {
-        return Some(verb);
-    }
-    match verb_in(making_commands(), name) {
-        Some(verb) => Some(verb),
-        None => verb_in(changing_commands(), name),
+    match command_of(name) {
+        Some(command) => Some(command.verb),
+        None => None,
     }
 }
 

@@ -1,4 +1,5 @@
 //! The help of all commands: those that look, and those that change.
+use crate::asked::{Asked, asked_by};
 use crate::commands::{Command, EXAMPLES, changing_commands, looking_commands, making_commands};
 use std::alloc::{AllocError, Global};
 
@@ -32,8 +33,16 @@ fn push_group(text: &mut String, head: &str, commands: &[Command]) -> Result<(),
     Ok(())
 }
 
+/// The help of all commands, for a command line that may ask for it; else nothing.
+pub fn help_for(alloc: Global, words: &[String]) -> Result<String, AllocError> {
+    match asked_by(words) {
+        Asked::Any => help_text(alloc),
+        Asked::One(_) | Asked::Version => Ok(String::new(alloc)),
+    }
+}
+
 /// The help of all commands.
-pub fn help_text(alloc: Global) -> Result<String, AllocError> {
+fn help_text(alloc: Global) -> Result<String, AllocError> {
     let mut text = String::from_str(alloc, HEAD)?;
     push_group(
         &mut text,

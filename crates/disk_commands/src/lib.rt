@@ -2,6 +2,7 @@
 #![tactic(auto)]
 
 mod arguments;
+mod asked;
 mod commands;
 mod help;
 mod word;
@@ -9,4 +10,4 @@ mod words;
 
 pub use arguments::{flag, given, option, parse};
 pub use commands::{Verb, verb_of};
-pub use help::help_text;
+pub use help::help_for;

@@ -5,13 +5,13 @@ use crate::naming::host_name;
 use crate::relative::{ENDING, packed};
 use crate::salvage::salvaged;
 use cbm_shell::texts::Charset;
-use cbm_shell::{Geos, ShellFault, geos_of};
+use cbm_shell::{ShellFault, geos_of};
 use cbm_volume::Entry;
 use disk_basics::calls::name_text;
-use disk_basics::host::{exists, write};
+use disk_basics::host::{exists, write_among};
 use disk_basics::{Cause, Disk};
 use disk_facts::type_of;
-use host_files::Sync;
+use host_files::Leftovers;
 use std::alloc::{AllocError, Global};
 use std::io;
 use std::path::{Path, PathBuf};
@@ -87,6 +87,25 @@ impl Names {
             }
         }
         count
+    }
+}
+
+/// What was saved in a folder so far.
+#[derive(Drop)]
+pub struct Saves {
+    /// The names of the files.
+    pub names: Names,
+    /// What killed programs left beside them.
+    pub left: Leftovers,
+}
+
+impl Saves {
+    /// Nothing yet.
+    pub fn new(alloc: Global) -> Saves {
+        Saves {
+            names: Names::new(alloc),
+            left: Leftovers::new(alloc),
+        }
     }
 }
 
@@ -169,18 +188,37 @@ pub fn save_as<R: Runtime + AllocGlobal>(
     name: &str,
     bytes: &[u8],
     replaces: bool,
+    left: &mut Leftovers,
 ) -> bool {
     let place = path.as_str();
     if !replaces && exists(rt, place) {
         let _ = eprintln!(rt; "disk1541: {place} is there already: --replace replaces it");
         return false;
     }
-    if let Err(failure) = write(rt, place, bytes, Sync::Later) {
+    if let Err(failure) = write_among(rt, place, bytes, left) {
         let _ = failure.tell(rt);
         return false;
     }
     let _ = tell_name(rt, path, name);
     true
+}
+
+/// Saves a file, if it could be read, or else reports that it isn't taken out. Answers whether it was saved.
+fn save_or_tell<R: Runtime + AllocGlobal>(
+    rt: &R,
+    path: &PathBuf,
+    name: &str,
+    file: Result<Vec<u8>, ShellFault>,
+    replaces: bool,
+    left: &mut Leftovers,
+) -> bool {
+    match file {
+        Ok(bytes) => save_as(rt, path.as_path(), name, bytes.as_slice(), replaces, left),
+        Err(fault) => {
+            let _ = tell_left(rt, name, fault);
+            false
+        }
+    }
 }
 
 /// Takes the file of an entry out, to a path. Answers whether it was saved.
@@ -190,59 +228,24 @@ fn take_to<R: Runtime + AllocGlobal>(
     entry: &Entry,
     path: &PathBuf,
     place: Destination<'_>,
+    left: &mut Leftovers,
 ) -> Result<bool, AllocError> {
     let name = name_text(rt.alloc(), Charset::Upper, entry.name())?;
+    let shown = name.as_str();
     if !place.salvages && is_kept_in_records(entry) {
-        let shown = name.as_str();
         let _ = eprintln!(rt;
             "disk1541: \"{shown}\" isn't taken out: GEOS keeps it in records, and its index alone would be"
         );
         return Ok(false);
     }
-    match file_for(rt, source, entry, place.salvages) {
-        Ok(bytes) => {
-            let is_saved = save_as(
-                rt,
-                path.as_path(),
-                name.as_str(),
-                bytes.as_slice(),
-                place.replaces,
-            );
-            if let Some(geos) = geos_of(entry) {
-                let _ = tell_geos(rt, name.as_str(), geos);
-            }
-            Ok(is_saved && geos_of(entry).is_none())
-        }
-        Err(fault) => {
-            let _ = tell_left(rt, name.as_str(), fault);
-            Ok(false)
-        }
+    let file = file_for(rt, source, entry, place.salvages);
+    let geos = if file.is_ok() { geos_of(entry) } else { None };
+    let is_saved = save_or_tell(rt, path, shown, file, place.replaces, left);
+    if let Some(geos) = geos {
+        let _ = tell_geos(rt, shown, geos);
+        return Ok(false);
     }
-}
-
-/// Takes the file of an entry of GEOS out as CVT, to a path. Answers whether it was saved.
-fn take_cvt<R: Runtime + AllocGlobal>(
-    rt: &R,
-    source: Source<'_>,
-    entry: &Entry,
-    geos: Geos,
-    path: &PathBuf,
-    place: Destination<'_>,
-) -> Result<bool, AllocError> {
-    let name = name_text(rt.alloc(), Charset::Upper, entry.name())?;
-    match cvt_of(rt.alloc(), source.disk, entry, geos) {
-        Ok(bytes) => Ok(save_as(
-            rt,
-            path.as_path(),
-            name.as_str(),
-            bytes.as_slice(),
-            place.replaces,
-        )),
-        Err(fault) => {
-            let _ = tell_left(rt, name.as_str(), fault);
-            Ok(false)
-        }
-    }
+    Ok(is_saved)
 }
 
 /// Takes the file of the next entry out. Answers whether it was saved. The one error is want of memory.
@@ -250,18 +253,27 @@ pub fn take<R: Runtime + AllocGlobal>(
     rt: &R,
     source: Source<'_>,
     entry: &Entry,
-    names: &mut Names,
+    saves: &mut Saves,
     place: Destination<'_>,
 ) -> Result<bool, AllocError> {
     let alloc = rt.alloc();
     let geos = if place.is_cvt { geos_of(entry) } else { None };
     let name = match geos {
-        Some(_) => names.next_as(alloc, entry, CVT)?,
-        None => names.next(alloc, entry)?,
+        Some(_) => saves.names.next_as(alloc, entry, CVT)?,
+        None => saves.names.next(alloc, entry)?,
     };
     let path = Path::new(place.folder).join(alloc, name.as_str())?;
-    match geos {
-        Some(geos) => take_cvt(rt, source, entry, geos, &path, place),
-        None => take_to(rt, source, entry, &path, place),
-    }
+    let Some(geos) = geos else {
+        return take_to(rt, source, entry, &path, place, &mut saves.left);
+    };
+    let shown = name_text(alloc, Charset::Upper, entry.name())?;
+    let file = cvt_of(alloc, source.disk, entry, geos);
+    Ok(save_or_tell(
+        rt,
+        &path,
+        shown.as_str(),
+        file,
+        place.replaces,
+        &mut saves.left,
+    ))
 }

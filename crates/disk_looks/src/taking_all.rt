@@ -1,7 +1,7 @@
 //! GET-ALL: all files out of the image, to a folder of the host.
 use crate::progress::Progress;
 use crate::salvage::salvaged_entries;
-use crate::taking::{Destination, Names, Source, take};
+use crate::taking::{Destination, Saves, Source, take};
 use cbm_shell::Listed;
 use cbm_volume::Entry;
 use disk_basics::host::path_of;
@@ -33,7 +33,7 @@ fn take_all<R: Runtime + AllocGlobal>(
     place: Destination<'_>,
     progress: Progress,
 ) -> Result<bool, AllocError> {
-    let mut names = Names::new(rt.alloc());
+    let mut saves = Saves::new(rt.alloc());
     let mut are_saved = true;
     let mut done: usize = 0;
     let count = count_files(entries);
@@ -41,7 +41,7 @@ fn take_all<R: Runtime + AllocGlobal>(
         if entry.is_empty() {
             continue;
         }
-        let is_saved = take(rt, source, entry, &mut names, place)?;
+        let is_saved = take(rt, source, entry, &mut saves, place)?;
         are_saved = are_saved && is_saved;
         done = done.saturating_add(1);
         progress.tell(rt, done, count);

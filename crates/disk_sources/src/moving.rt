@@ -7,8 +7,8 @@ use disk_basics::calls::{entries, name_text};
 use disk_basics::changing::{add_art, delete_in_slot};
 use disk_basics::spare::{spare_name, taken, unspared, whole_name};
 use disk_basics::{Failure, FileKind, in_memory, kind_of_entry, on_disk, slot_named, slot_number};
-use disk_changes::{Stored, with_stored};
-use std::alloc::Global;
+use disk_changes::{Stored, tell_empty, with_stored};
+use std::alloc::{AllocError, Global};
 use std::rt::Runtime;
 
 /// A way from a disk or an archive to an image.
@@ -160,6 +160,22 @@ fn bytes_of<'a, R: Runtime + AllocGlobal>(
     }
 }
 
+/// Reports a file without bytes, to which the drive's CLOSE gives one.
+fn tell_empty_file<R: Eprint + AllocGlobal>(
+    rt: &R,
+    entry: &Entry,
+    kind: FileKind,
+    bytes: &[u8],
+) -> Result<(), AllocError> {
+    if bytes.is_empty() {
+        let name = name_text(rt.alloc(), Charset::Upper, entry.name())?;
+        let name = name.as_str();
+        let quoted = format!(in rt.alloc(); "\"{name}\"")?;
+        tell_empty(rt, quoted.as_str(), kind, bytes);
+    }
+    Ok(())
+}
+
 /// The image with the file of an entry, by its number, or with a line of art. Errors: `Told`, where the file isn't read, or is none that
 /// the drive writes, as is reported; `Disk`, where the name is there already or the disk refuses the file; `DirectoryFull`; `NoMemory`.
 pub fn with_one<'a, R: Runtime + AllocGlobal>(
@@ -181,5 +197,6 @@ pub fn with_one<'a, R: Runtime + AllocGlobal>(
     let kind = kind_of(rt, entry)?;
     let bytes = bytes_of(rt, way.origin, entry, number)?;
     let bytes = bytes.as_slice();
+    in_memory(tell_empty_file(rt, entry, kind, bytes))?;
     with_kind(rt.alloc(), old, kind, Moved { bytes, ..moved })
 }

@@ -8,7 +8,7 @@ use disk_basics::host::{read_any, require_ours};
 use disk_basics::{Failure, in_memory, petscii, slot_chosen};
 use disk_facts::number_meant;
 use disk_looks::{
-    Destination, Names, OneFile, Progress, get_all_from, get_from, make_folder, packed, save_as,
+    Destination, OneFile, Progress, Saves, get_all_from, get_from, make_folder, packed, save_as,
     write_taken,
 };
 use std::alloc::AllocError;
@@ -82,7 +82,7 @@ fn save_one<R: Runtime + AllocGlobal>(
     other: &Other<'_>,
     entry: &Entry,
     number: usize,
-    names: &mut Names,
+    saves: &mut Saves,
     place: Destination<'_>,
 ) -> Result<bool, AllocError> {
     let alloc = rt.alloc();
@@ -94,7 +94,7 @@ fn save_one<R: Runtime + AllocGlobal>(
         }
     };
     let file = packed(alloc, entry, file)?;
-    let name = names.next(alloc, entry)?;
+    let name = saves.names.next(alloc, entry)?;
     let path = Path::new(place.folder).join(alloc, name.as_str())?;
     let shown = name_text(alloc, Charset::Upper, entry.name())?;
     Ok(save_as(
@@ -103,6 +103,7 @@ fn save_one<R: Runtime + AllocGlobal>(
         shown.as_str(),
         file.as_slice(),
         place.replaces,
+        &mut saves.left,
     ))
 }
 
@@ -113,11 +114,11 @@ fn save_all<R: Runtime + AllocGlobal>(
     found: &Entries,
     place: Destination<'_>,
 ) -> Result<bool, AllocError> {
-    let mut names = Names::new(rt.alloc());
+    let mut saves = Saves::new(rt.alloc());
     let mut are_saved = true;
     for (number, entry) in found.entries.iter().enumerate() {
         if !entry.is_empty() {
-            let is_saved = save_one(rt, other, entry, number, &mut names, place)?;
+            let is_saved = save_one(rt, other, entry, number, &mut saves, place)?;
             are_saved = are_saved && is_saved;
         }
     }

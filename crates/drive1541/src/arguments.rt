@@ -1,5 +1,6 @@
 //! The words of the command line.
 use crate::failure::Stream;
+use cbm_direct_desk::Access;
 use cbm_program::Pace;
 use clap::{Arg, ArgAction, ArgMatches, Command, Error, value_parser};
 use std::alloc::Global;
@@ -28,8 +29,8 @@ pub struct Arguments<'a> {
     pub trace: Option<&'a str>,
     /// The bus is drawn.
     pub is_drawn: bool,
-    /// The drive has direct access.
-    pub is_direct: bool,
+    /// The drive's direct access, if it has it.
+    pub direct: Option<Access>,
 }
 
 /// The word that means standard input or standard output.
@@ -112,6 +113,27 @@ pub fn switch<'a>(alloc: Global, name: &'a str, help: &'a str) -> Arg<'a> {
         .help(help)
 }
 
+/// The word for direct access, `--direct` or `--direct=raw`.
+pub fn direct<'a>(alloc: Global, help: &'a str) -> Arg<'a> {
+    Arg::new(alloc, "direct")
+        .long("direct")
+        .value_name("ACCESS")
+        .num_args(0..=1)
+        .require_equals(true)
+        .default_missing_value("guarded")
+        .value_parser(["guarded", "raw"].as_slice())
+        .help(help)
+}
+
+/// The direct access that the command line asks for.
+pub fn direct_of(matches: &ArgMatches<'_>) -> Option<Access> {
+    match matches.get_str("direct") {
+        None => None,
+        Some("raw") => Some(Access::Raw),
+        Some(_) => Some(Access::Guarded),
+    }
+}
+
 /// The pace of a word.
 fn pace_called(word: Option<&str>) -> Pace {
     match word {
@@ -167,7 +189,10 @@ fn command<'a>(alloc: Global) -> Result<Command<'a>, Error> {
         .arg(pace)?
         .arg(switch(alloc, "read-only", "write-protect the disk"))?
         .arg(switch(alloc, "check", "first print whether the disk is sound"))?
-        .arg(switch(alloc, "direct", "let channels read and write single blocks"))?
+        .arg(direct(
+            alloc,
+            "let channels read and write single blocks; `raw`: write any, also of files",
+        ))?
         .arg(switch(alloc, "dry-run", "save nothing"))?
         .arg(trace)?
         .arg(switch(alloc, "draw", "print a picture of the bus's lines"))?;
@@ -200,6 +225,6 @@ fn arguments_of<'a>(matches: &ArgMatches<'a>) -> Arguments<'a> {
         is_checked: matches.get_flag("check"),
         trace: matches.get_str("trace"),
         is_drawn: matches.get_flag("draw"),
-        is_direct: matches.get_flag("direct"),
+        direct: direct_of(matches),
     }
 }

@@ -26,10 +26,9 @@ pub fn is_asked(words: &[String]) -> bool {
 /// Opens the images, talks, and saves them.
 fn carry_out(rt: &HostRuntime, words: &Words<'_>) -> Result<(), ReplyFailure> {
     let disks = open_disks(rt, words)?;
-    let disks = if words.is_direct() {
-        talk_directly_on(rt, disks, words.seats())?
-    } else {
-        talk_on(rt, disks, words.seats())?
+    let disks = match words.direct() {
+        Some(access) => talk_directly_on(rt, disks, words.seats(), access)?,
+        None => talk_on(rt, disks, words.seats())?,
     };
     save_disks(rt, &disks, words)
 }

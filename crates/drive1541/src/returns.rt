@@ -56,8 +56,23 @@ impl<R: Read> Returns<R> {
         None
     }
 
+    /// Puts what waits, as much as there is room for, if no carriage return is among it; how many bytes.
+    fn put_plain(&mut self, buf: &mut [u8]) -> Option<usize> {
+        let waiting = self.block.get(self.start..self.end)?;
+        if self.waits || waiting.contains(&b'\r') {
+            return None;
+        }
+        let count = waiting.len().min(buf.len());
+        buf[..count].copy_from_slice(&waiting[..count]);
+        self.start = self.start.saturating_add(count);
+        Some(count)
+    }
+
     /// Puts bytes that were read; how many.
     fn put(&mut self, buf: &mut [u8]) -> usize {
+        if let Some(count) = self.put_plain(buf) {
+            return count;
+        }
         let mut count: usize = 0;
         for place in buf.iter_mut() {
             match self.next_byte() {

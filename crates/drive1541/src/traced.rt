@@ -6,7 +6,7 @@ use crate::noted::Noted;
 use crate::program::options_of;
 use bus_traces::{Picture, Recorder, TraceForm};
 use cbm_iec::Event;
-use cbm_program::{RunFault, Watches, run_at, run_direct, run_traced};
+use cbm_program::{Manner, RunFault, Watches, run_at, run_direct, run_traced};
 use either::Either;
 use std::io::{BufWriter, Printer, Read, Write};
 use std::rt::{Files, Runtime};
@@ -159,10 +159,13 @@ fn run_watched<R: Runtime + AllocGlobal, S: Read, W: Write, T: Watches>(
 ) -> Result<Vec<u8>, RunFault> {
     let options = options_of(arguments);
     let pace = arguments.pace;
-    if arguments.is_direct {
-        return run_direct(rt.alloc(), pace, script, output, watcher, image, &options);
+    match arguments.direct {
+        Some(access) => {
+            let manner = Manner { pace, access };
+            run_direct(rt.alloc(), manner, script, output, watcher, image, &options)
+        }
+        None => run_traced(rt.alloc(), pace, script, output, watcher, image, &options),
     }
-    run_traced(rt.alloc(), pace, script, output, watcher, image, &options)
 }
 
 /// Runs a script, and writes its trace if one is asked for. What was traced before a fault is written too.
@@ -174,7 +177,7 @@ pub fn run<R: Runtime + AllocGlobal, S: Read, W: Write>(
     arguments: &Arguments<'_>,
 ) -> Result<Vec<u8>, RunFailure> {
     let options = options_of(arguments);
-    if !arguments.is_traced() && !arguments.is_direct {
+    if !arguments.is_traced() && arguments.direct.is_none() {
         return run_at(rt.alloc(), arguments.pace, script, output, image, &options).map_err(
             RunFailure::of_run,
         );

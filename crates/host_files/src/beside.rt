@@ -1,8 +1,7 @@
 //! Saving a file so that half a file is never left.
-use crate::folders::names_in;
-use crate::names::text_of;
+use crate::left::{Leftovers, beside};
 use std::alloc::{AllocError, Global};
-use std::fs::{OpenFile, OpenOptions, Permissions};
+use std::fs::{Metadata, OpenFile, OpenOptions, Permissions};
 use std::io::{ErrorKind, Read, Write};
 use std::path::{Path, PathBuf};
 use std::rt::Files;
@@ -10,6 +9,9 @@ use std::{fs, io};
 
 /// How many names are tried for the file beside.
 const TRIES: u32 = u32::MAX;
+
+/// How many bytes of a file are compared at a time.
+const ROOM: usize = 8192;
 
 /// How many links are followed, as many as the system does.
 const LINKS: u32 = 40;
@@ -56,13 +58,26 @@ pub fn save_by<R: Files + AllocGlobal>(
     bytes: &[u8],
     sync: Sync,
 ) -> io::Result<()> {
+    let mut left = Leftovers::new(rt.alloc());
+    save_among(rt, program, path, bytes, sync, &mut left)
+}
+
+/// As `save_by`, one of several files: the folder is looked through for what is left there when the first of them is saved.
+pub fn save_among<R: Files + AllocGlobal>(
+    rt: &R,
+    program: &str,
+    path: &str,
+    bytes: &[u8],
+    sync: Sync,
+    left: &mut Leftovers,
+) -> io::Result<()> {
     let save = Saving {
         program,
         bytes,
         old: None,
         sync,
     };
-    save_whole(rt, path, save)?;
+    save_whole(rt, path, save, left)?;
     Ok(())
 }
 
@@ -81,7 +96,15 @@ pub fn replace<R: Files + AllocGlobal>(
         old: Some(old),
         sync: Sync::Before,
     };
-    save_whole(rt, path, save)
+    save_whole(rt, path, save, &mut Leftovers::new(rt.alloc()))
+}
+
+/// What a path leads to, and whether it is a link.
+fn found_at<R: Files>(rt: &R, path: &str) -> (io::Result<Metadata>, bool) {
+    match fs::symlink_metadata(rt, path) {
+        Ok(own) if own.is_symlink() => (fs::metadata(rt, path), true),
+        found => (found, false),
+    }
 }
 
 /// Saves a file. False where it doesn't hold any more what it must.
@@ -89,41 +112,39 @@ fn save_whole<R: Files + AllocGlobal>(
     rt: &R,
     path: &str,
     save: Saving<'_, '_, '_>,
+    left: &mut Leftovers,
 ) -> io::Result<bool> {
-    match fs::metadata(rt, path) {
+    let (found, is_link) = found_at(rt, path);
+    match found {
         Ok(metadata) if metadata.is_file() => {
-            let place = end_of_links(rt, path)?;
+            let place = end_of_links(rt, path, is_link)?;
             require_writable(rt, place.as_path())?;
-            save_beside(rt, place.as_path(), save, Some(metadata.permissions()))
+            let permissions = Some(metadata.permissions());
+            save_beside(rt, place.as_path(), save, permissions, left)
         }
         Ok(_) => {
             fs::write(rt, path, save.bytes)?;
             Ok(true)
         }
         Err(error) if error.kind() == ErrorKind::NotFound => {
-            let place = end_of_links(rt, path)?;
-            save_beside(rt, place.as_path(), save, None)
+            let place = end_of_links(rt, path, is_link)?;
+            save_beside(rt, place.as_path(), save, None, left)
         }
         Err(error) => Err(error),
     }
 }
 
-/// Where a path leads, from link to link; the file itself needn't be there.
-fn end_of_links<R: Files + AllocGlobal>(rt: &R, path: &str) -> io::Result<PathBuf> {
+/// Where a path leads, from link to link, if it is one; the file itself needn't be there.
+fn end_of_links<R: Files + AllocGlobal>(rt: &R, path: &str, is_link: bool) -> io::Result<PathBuf> {
     let mut place = PathBuf::from_str(rt.alloc(), path)?;
-    for _ in 0..LINKS {
+    let links = if is_link { LINKS } else { 0 };
+    for _ in 0..links {
         let Ok(link) = fs::read_link(rt, place.as_path()) else {
             break;
         };
-        place = beside(rt, place.as_path(), link.as_str())?;
+        place = beside(rt.alloc(), place.as_path(), link.as_str())?;
     }
     Ok(place)
-}
-
-/// A name in the folder of a path, or a path of its own from the root on.
-fn beside<R: AllocGlobal>(rt: &R, path: Path<'_>, name: &str) -> io::Result<PathBuf> {
-    let folder = path.parent().unwrap_or(Path::new(""));
-    Ok(folder.join(rt.alloc(), name)?)
 }
 
 // A new name over a file asks the folder alone, and the file's own mode would not be heard.
@@ -142,69 +163,20 @@ fn beginning(alloc: Global, program: &str, path: Path<'_>) -> Result<String, All
     format!(in alloc; "{program}.{file}.")
 }
 
-/// The number of this process, as text; empty where the system doesn't tell it.
-fn own_number<R: Files + AllocGlobal>(rt: &R) -> io::Result<String> {
-    match fs::read_link(rt, "/proc/self") {
-        Ok(link) => Ok(String::from_str(rt.alloc(), link.as_str())?),
-        Err(_) => Ok(String::new(rt.alloc())),
-    }
-}
-
-/// The number of the process in the name of a file beside that begins so.
-fn number_in<'n>(name: &'n str, beginning: &str) -> Option<&'n str> {
-    let rest = name.strip_prefix(beginning)?.strip_suffix(".new")?;
-    let (process, number) = rest.split_once('.')?;
-    let is_number = |text: &str| !text.is_empty() && text.bytes().all(|b| b.is_ascii_digit());
-    if is_number(process) && is_number(number) {
-        Some(process)
-    } else {
-        None
-    }
-}
-
-/// Whether no process has this number, where the system tells of processes.
-fn is_ended<R: Files + AllocGlobal>(rt: &R, process: &str) -> io::Result<bool> {
-    let place = format!(in rt.alloc(); "/proc/{process}")?;
-    match fs::metadata(rt, place.as_str()) {
-        Err(error) => Ok(error.kind() == ErrorKind::NotFound),
-        Ok(_) => Ok(false),
-    }
-}
-
-/// Removes what processes that were ended left beside a file, where this process has a number, by which others have.
-fn remove_left<R: Files + AllocGlobal>(rt: &R, path: Path<'_>, beginning: &str) -> io::Result<()> {
-    let folder = path.parent().unwrap_or(Path::new(""));
-    let named = if folder.as_str().is_empty() {
-        "."
-    } else {
-        folder.as_str()
-    };
-    let text = text_of(rt.alloc(), named.as_bytes())?;
-    for name in names_in(rt, text.as_str())?.as_slice() {
-        if let Some(process) = number_in(name.as_str(), beginning) {
-            if is_ended(rt, process)? {
-                let left = beside(rt, path, name.as_str())?;
-                let _ = fs::remove_file(rt, left.as_path());
-            }
-        }
-    }
-    Ok(())
-}
-
 fn save_beside<R: Files + AllocGlobal>(
     rt: &R,
     path: Path<'_>,
     save: Saving<'_, '_, '_>,
     permissions: Option<Permissions>,
+    left: &mut Leftovers,
 ) -> io::Result<bool> {
     let beginning = beginning(rt.alloc(), save.program, path)?;
-    let process = own_number(rt)?;
-    if !process.is_empty() {
-        let _ = remove_left(rt, path, beginning.as_str());
-    }
+    left.look(rt, save.program, path)?;
+    let _ = left.remove(rt, path, beginning.as_str());
+    let process = left.own_number();
     for number in 0..TRIES {
         let name = format!(in rt.alloc(); "{beginning}{process}.{number}.new")?;
-        let new = beside(rt, path, name.as_str())?;
+        let new = beside(rt.alloc(), path, name.as_str())?;
         let file = OpenOptions::new()
             .write(true)
             .create_new(true)
@@ -273,15 +245,26 @@ fn is_as_before<R: Files + AllocGlobal>(
     let Some(old) = old else {
         return Ok(true);
     };
-    let file = fs::open(rt, path)?;
-    holds(rt, file, old)
+    holds(fs::open(rt, path)?, old)
 }
 
 // Whether what is read is these bytes and no more.
-fn holds<R: AllocGlobal, I: Read + Drop>(rt: &R, input: I, bytes: &[u8]) -> io::Result<bool> {
-    let mut read = Vec::new(rt.alloc());
-    let most = (bytes.len() as u64).saturating_add(1);
-    let mut input = input.take(most);
-    input.read_to_end(&mut read)?;
-    Ok(read.as_slice() == bytes)
+fn holds<I: Read + Drop>(mut input: I, bytes: &[u8]) -> io::Result<bool> {
+    let mut rest = bytes;
+    let mut room = [0; ROOM];
+    for _ in 0..u64::MAX {
+        let count = match input.read(&mut room) {
+            Ok(count) => count,
+            Err(error) if error.kind() == ErrorKind::Interrupted => continue,
+            Err(error) => return Err(error),
+        };
+        if count == 0 {
+            return Ok(rest.is_empty());
+        }
+        let Some(after) = rest.strip_prefix(room.get(..count).unwrap_or(&[])) else {
+            return Ok(false);
+        };
+        rest = after;
+    }
+    Ok(false)
 }

@@ -62,12 +62,18 @@ pub fn own_kind_of<R: Files + AllocGlobal>(rt: &R, text: &str) -> io::Result<Kin
     Ok(kind_by(fs::symlink_metadata(rt, path.as_str())?.file_type()))
 }
 
-/// Adds names that the system packed, each with a 0 after it, but for the two by which each folder begins.
-fn add_names(alloc: Global, names: &mut Vec<String>, packed: &[u8]) -> Result<(), AllocError> {
+/// Adds those names that begin so, of names that the system packed, each with a 0 after it, but for the two by which each folder begins.
+fn add_names(
+    alloc: Global,
+    names: &mut Vec<String>,
+    packed: &[u8],
+    beginning: &[u8],
+) -> Result<(), AllocError> {
     for name in packed.split(|byte| *byte == 0) {
         match name {
             b"" | b"." | b".." => {}
-            _ => names.push(text_of(alloc, name)?)?,
+            _ if name.starts_with(beginning) => names.push(text_of(alloc, name)?)?,
+            _ => {}
         }
     }
     Ok(())
@@ -75,6 +81,15 @@ fn add_names(alloc: Global, names: &mut Vec<String>, packed: &[u8]) -> Result<()
 
 /// The names in a folder, in the system's order. Errors: those of `path_of`, and the system's.
 pub fn names_in<R: Files + AllocGlobal>(rt: &R, folder: &str) -> io::Result<Vec<String>> {
+    names_beginning(rt, folder, b"")
+}
+
+/// Those that begin with these bytes. Errors: those of `names_in`.
+pub fn names_beginning<R: Files + AllocGlobal>(
+    rt: &R,
+    folder: &str,
+    beginning: &[u8],
+) -> io::Result<Vec<String>> {
     let mut path = path_of(rt.alloc(), folder)?;
     // A link to a folder that was named is followed.
     path.push('/')?;
@@ -86,7 +101,12 @@ pub fn names_in<R: Files + AllocGlobal>(rt: &R, folder: &str) -> io::Result<Vec<
         if count == 0 {
             break;
         }
-        add_names(rt.alloc(), &mut names, room.get(..count).unwrap_or(&[]))?;
+        add_names(
+            rt.alloc(),
+            &mut names,
+            room.get(..count).unwrap_or(&[]),
+            beginning,
+        )?;
     }
     Ok(names)
 }

@@ -4,6 +4,7 @@ ghost use Rattle.cbm_iec.specs.Ports.{port_due};
 ghost use Rattle.cbm_device.specs.Answers.{fine, answer_number};
 ghost use Rattle.cbm_device.specs.Devices.{IsUnfitParty, IsSwitchedOn};
 ghost use Rattle.cbm_device.specs.ImageDisks.{IsOpenRefusal};
+ghost use Rattle.cbm_direct.specs.declared.access.Access.TheVariants.{Guarded, Raw};
 ghost use Rattle.cbm_direct_device.specs.DirectDevices.{IsSwitchedOnDirect};
 ghost use Rattle.yellowadze1541.specs.AnyDevices.{port_of, IsPlainDrive, IsDirectDrive};
 ghost use Rattle.yellowadze1541.specs.Drives.{is_set, lines_from_flags, moment_or_never, pace_of, party_from, Acts, Hears, IsHeldAs, Opens, Reacts};
@@ -14,6 +15,7 @@ use crate::handle::{Handle, back, empty, of};
 use crate::inner::Inner;
 use crate::shapes::{Pulls, Reacted, flag};
 use cbm_device::{Device, DeviceRefusal};
+use cbm_direct::Access;
 use cbm_direct_device::DirectDevice;
 use cbm_drive::{Held, Lines, Pace, Party};
 use std::alloc::Global;
@@ -56,11 +58,12 @@ fn opened_direct(
     image: &[u8],
     protected: bool,
     party: Party,
+    access: Access,
 ) -> Result<Box<Inner>, DeviceRefusal>
-    ensures ok { IfOk result (λ b. IsDirectDrive (IsSwitchedOnDirect image.now protected party) b.value.device) }
+    ensures ok { IfOk result (λ b. IsDirectDrive (IsSwitchedOnDirect image.now protected party access) b.value.device) }
     ensures err { IfErr result (λ r. ((r ≡ DeviceRefusal.Invalid) × IsUnfitParty party) ⊎ ((r ≡ DeviceRefusal.Memory) ⊎ IsOpenRefusal image.now r)) }
 {
-    let device = DirectDevice::open(alloc, image, protected, party)?;
+    let device = DirectDevice::open(alloc, image, protected, party, access)?;
     match Box::new(alloc, device) {
         Ok(device) => boxed(alloc, AnyDevice::Direct(device)),
         Err(_) => Err(DeviceRefusal::Memory),
@@ -142,7 +145,8 @@ pub extern "C" fn y1541_open(
     }
 }
 
-/// The same, but with direct access: the drive reads single blocks, where one that `y1541_open` made answers 31 and 70.
+/// The same, but with direct access: the drive reads single blocks, and writes those that are nobody's, where one that `y1541_open` made
+/// answers 31 and 70.
 #[unsafe(no_mangle)]
 pub extern "C" fn y1541_open_direct(
     alloc: Global,
@@ -154,10 +158,36 @@ pub extern "C" fn y1541_open_direct(
     pace: u8,
 ) -> i32
     ensures { Opens d.old.value d.new.value result image.now (party_from device reaction pace) pace
-        (IsDirectDrive (IsSwitchedOnDirect image.now (is_set protected) (party_from device reaction pace))) }
+        (IsDirectDrive (IsSwitchedOnDirect image.now (is_set protected) (party_from device reaction pace) Guarded)) }
 {
     match party_for(alloc, d, device, reaction, pace) {
-        Ok(party) => hold(d, opened_direct(alloc, image, protected != 0, party)),
+        Ok(party) => hold(
+            d,
+            opened_direct(alloc, image, protected != 0, party, Access::Guarded),
+        ),
+        Err(refusal) => refusal.number(),
+    }
+}
+
+/// The same, but any block may be written: nothing is promised of the disk then but that no other block of it changes.
+#[unsafe(no_mangle)]
+pub extern "C" fn y1541_open_raw(
+    alloc: Global,
+    d: &mut Handle,
+    image: &[u8],
+    protected: u8,
+    device: u8,
+    reaction: u8,
+    pace: u8,
+) -> i32
+    ensures { Opens d.old.value d.new.value result image.now (party_from device reaction pace) pace
+        (IsDirectDrive (IsSwitchedOnDirect image.now (is_set protected) (party_from device reaction pace) Raw)) }
+{
+    match party_for(alloc, d, device, reaction, pace) {
+        Ok(party) => hold(
+            d,
+            opened_direct(alloc, image, protected != 0, party, Access::Raw),
+        ),
         Err(refusal) => refusal.number(),
     }
 }

@@ -80,6 +80,7 @@ _DRIVE = (POINTER(Handle),)
 CALLS = {
     "y1541_open": (*_DRIVE, *_BYTES, c_uint8, c_uint8, c_uint8, c_uint8),
     "y1541_open_direct": (*_DRIVE, *_BYTES, c_uint8, c_uint8, c_uint8, c_uint8),
+    "y1541_open_raw": (*_DRIVE, *_BYTES, c_uint8, c_uint8, c_uint8, c_uint8),
     "y1541_close": _DRIVE,
     "y1541_lines": (*_DRIVE, c_uint64, c_uint8, c_uint8, c_uint8),
     "y1541_next_due": _DRIVE,

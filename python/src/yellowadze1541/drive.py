@@ -1,7 +1,7 @@
 """A drive on the lines of a serial bus. Moments are microseconds on a clock of the caller's, which may begin anywhere, and never go back for one drive."""
 import enum
 from types import TracebackType
-from typing import NamedTuple, Optional, Type, Union
+from typing import Literal, NamedTuple, Optional, Type, Union
 
 from . import _library
 from ._library import library
@@ -54,16 +54,17 @@ class Drive:
         pace: Pace = Pace.KERNAL,
         protected: bool = False,
         *,
-        direct: bool = False,
+        direct: Union[bool, Literal["raw"]] = False,
     ) -> None:
-        """Device 8 to 11, a reaction of 1 to 60 microseconds, whether the disk's notch is covered, and whether the drive has direct access (docs/direct.md)."""
+        """Device 8 to 11, a reaction of 1 to 60 microseconds, whether the disk's notch is covered, and whether the drive has direct access (docs/direct.md). `raw`:
+        any block may be written, and the disk needn't stay sound."""
         self._handle = _library.Handle()
         self._reacted = _library.Reacted()
         data = _data_of(image)
         settings = _library.byte(device, "a device"), _library.byte(reaction, "a reaction"), int(pace)
         self.device = device
         self._room = _room_for(data)
-        open_it = library.y1541_open_direct if direct else library.y1541_open
+        open_it = library.y1541_open_raw if direct == "raw" else library.y1541_open_direct if direct else library.y1541_open
         _library.check(open_it(self._handle, data, len(data), int(protected), *settings))
 
     # --- the bus

@@ -63,6 +63,20 @@ impl VariedJudge {
         }
     }
 
+    /// Whether a change that is due at a moment may be the second of the reaction whose first was taken last.
+    fn is_second(&self, event: Event, due: u64) -> bool {
+        match self.taken {
+            None => false,
+            Some((who, moment)) => who == event.who && moment == due,
+        }
+    }
+
+    /// Whether a change that is due at a moment comes before one that is due at another. At one moment the second change of a reaction does:
+    /// another drive's may go on with another session alone.
+    fn is_before(&self, event: Event, due: u64, other: u64) -> bool {
+        due < other || due == other && self.is_second(event, due)
+    }
+
     /// The place of the change that came, goes on with the session and is due first, and when it is due.
     pub(crate) fn ready(&self) -> Option<(usize, u64)> {
         let mut found: Option<(usize, u64)> = None;
@@ -74,7 +88,7 @@ impl VariedJudge {
                 .any(|it| it.event.who == come.event.who);
             if is_next && let Some(due) = self.due_of(come.event) {
                 found = match found {
-                    Some((other, first)) if first <= due => Some((other, first)),
+                    Some((_, first)) if !self.is_before(come.event, due, first) => found,
                     _ => Some((place, due)),
                 };
             }

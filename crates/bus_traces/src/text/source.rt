@@ -1,9 +1,10 @@
 //! The bytes of a reader, its lines, and their numbers.
-ghost use Rattle.std.specs.Prelude.{◌≡◌, ◌<◌, ◌≤◌, [], ◌∷◌, IfOk, IsErrOf, MatchBool, OnOk};
+ghost use Rattle.std.specs.Prelude.{◌≡◌, ◌+◌, ◌<◌, ◌≤◌, ℕ, List, [], ◌∷◌, length, slice_range, IfOk, IfSome, IsErrOf, MatchBool, OnOk};
 ghost use Rattle.std.specs.Io.KnownBytes.{Keeps, Consumes, IsAtEnd};
 
 use crate::fault::{Flaw, LineFault, TraceFault};
 use arrayvec::ArrayVec;
+use memchr::memchr;
 use std::io;
 use std::io::Read;
 
@@ -27,7 +28,7 @@ pub(crate) fn is_blank(byte: u8) -> bool {
 }
 
 impl<R: Read> Source<R> {
-    ghost use Rattle.bus_traces.specs.Lines.{source_bytes_left, TakesByte, TakesLine, BeginsTooLong};
+    ghost use Rattle.bus_traces.specs.Lines.{source_bytes_left, TakesByte, TakesLine, BeginsWithLine, BeginsTooLong};
 
     /// The bytes of a reader, from which nothing was read yet.
     pub fn new(reader: R) -> Source<R>
@@ -125,6 +126,27 @@ impl<R: Read> Source<R> {
                 }
             }
         }
+    }
+
+    /// The next line, without its end, if all of it waits. It stays.
+    #[inline(always)]
+    pub(crate) fn waiting_line(&self) -> Option<&[u8]>
+        ensures { IfSome result (λ line. BeginsWithLine (slice_range self.now.block self.now.start self.now.end) line.now) }
+    {
+        let waiting = &self.block[self.start..self.end];
+        let count = memchr(b'\n', waiting)?;
+        Some(&waiting[..count])
+    }
+
+    /// Takes a line of so many bytes, and its end, which wait.
+    #[inline(always)]
+    pub(crate) fn pass_line(&mut self, count: usize)
+        requires { self.old.start + count < self.old.end }
+        ensures { (line : List ℕ) → length line ≡ count → BeginsWithLine (slice_range self.old.block self.old.start self.old.end) line →
+            TakesLine (source_bytes_left R.remaining self.old) (source_bytes_left R.remaining self.new) line }
+    {
+        self.start += count + 1;
+        self.line = self.line.saturating_add(1);
     }
 
     /// The byte that comes after blanks and ends of lines, which stays; None at the end. Error: `Reading`.

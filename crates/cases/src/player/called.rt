@@ -3,7 +3,7 @@
 ghost use Rattle.std.specs.Prelude.{◌≤◌};
 
 use cbm_channel::Dos;
-use cbm_direct::DirectDos;
+use cbm_direct::{Access, DirectDos};
 use cbm_medium::Medium;
 
 /// A drive's DOS.
@@ -15,11 +15,10 @@ pub enum Called<M: Medium> {
 
 impl<M: Medium> Called<M> {
     /// The drive at power up with this medium.
-    pub fn new(medium: M, is_direct: bool) -> Called<M> {
-        if is_direct {
-            Called::Direct(DirectDos::new(medium))
-        } else {
-            Called::Plain(Dos::new(medium))
+    pub fn new(medium: M, direct: Option<Access>) -> Called<M> {
+        match direct {
+            Some(access) => Called::Direct(DirectDos::new(medium, access)),
+            None => Called::Plain(Dos::new(medium)),
         }
     }
 

@@ -1,6 +1,7 @@
 // The head of a step: which disk is put in, and how.
 
 use crate::player::refusals::Refusals;
+use cbm_direct::Access;
 use cbm_program::Pace;
 
 /// Where the disk of a step comes from.
@@ -55,8 +56,8 @@ pub struct Way {
     /// Its pace on the bus.
     pub pace: Pace,
     pub protected: bool,
-    /// It has direct access.
-    pub direct: bool,
+    /// Its direct access, if it has it.
+    pub direct: Option<Access>,
     /// The same is asked of a G64.
     pub circles: bool,
     /// The same is asked by the drive's calls, without wires.
@@ -78,7 +79,7 @@ impl Way {
         device: 8,
         pace: Pace::Profile,
         protected: false,
-        direct: false,
+        direct: None,
         circles: false,
         calls: false,
         refusals: Refusals::None,
@@ -89,7 +90,8 @@ impl Way {
     fn add(&mut self, word: &str) -> Option<()> {
         match word {
             "protected" => self.protected = true,
-            "direct" => self.direct = true,
+            "direct" => self.direct = Some(Access::Guarded),
+            "direct raw" => self.direct = Some(Access::Raw),
             "g64 too" => self.circles = true,
             "by calls too" => self.calls = true,
             "no last line feed" => self.unended = true,

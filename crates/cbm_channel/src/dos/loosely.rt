@@ -1,4 +1,4 @@
-// Sectors that no part of the disk and no open channel has, for another layer that carries commands out beside the DOS.
+// Single sectors, for another layer that carries commands out beside the DOS: those that no part of the disk and no open channel has, and any.
 
 use crate::channel::spare_all;
 use crate::dos::Dos;
@@ -11,7 +11,7 @@ impl<M: Medium> Dos<M> {
     ghost use Rattle.cbm_medium.specs.Place.{Place};
     ghost use Rattle.cbm_bam.specs.Marks.{is_marked};
     ghost use Rattle.cbm_volume.specs.SeenDisks.{seen_tracks};
-    ghost use Rattle.cbm_channel.specs.Loosely.{IsSparedOn, IsOnOne, WritesLoose, ClaimsAt, GivesAt};
+    ghost use Rattle.cbm_channel.specs.Loosely.{IsSparedOn, IsOnOne, WritesLoose, WritesRaw, ClaimsAt, GivesAt};
 
     /// The sectors that open channels have to themselves.
     fn spared(&self) -> SectorSet
@@ -31,6 +31,15 @@ impl<M: Medium> Dos<M> {
     {
         let spared = self.spared();
         self.volume.write_loose(at, bytes, &spared)
+    }
+
+    /// Writes a sector, whoever has it: what files, the map and open channels say of it may be wrong from then on. An `Err` is why the medium
+    /// refused the write, and changes no sector.
+    pub fn write_raw(&mut self, at: Address, bytes: &[u8; 256]) -> Result<(), Trouble>
+        requires { at.track ≤ (M.seen self.old.medium).tracks }
+        ensures { WritesRaw M.seen at bytes.now result self.old self.new }
+    {
+        self.volume.write_raw(at, bytes)
     }
 
     /// Claims a sector that the map has as free, if the disk is sound; it is nobody's then. `Ok(false)`: it isn't so, and nothing has changed.

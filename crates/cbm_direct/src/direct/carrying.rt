@@ -2,6 +2,7 @@
 
 use crate::asked::{Asked, Block};
 use crate::direct::DirectDos;
+use crate::form::Form;
 use crate::memory::Reply;
 use cbm_channel::{Code, Status};
 use cbm_medium::codes::ILLEGAL_LINK;
@@ -10,7 +11,6 @@ use cbm_medium::{Address, Medium, Trouble};
 impl<M: Medium> DirectDos<M> {
     ghost use Rattle.std.specs.Prelude.{◌≡◌, Ok, IfOk, IfErr};
     ghost use Rattle.cbm_direct.specs.declared.asked.Asked.TheVariants.{Memory};
-    ghost use Rattle.cbm_direct.specs.Buffered.{with_sector_read, with_counted_block};
     ghost use Rattle.cbm_direct.specs.Vouching.{IsSectorUnread, KeepsVouch};
     ghost use Rattle.cbm_direct.specs.Directs.{WasBlockRead, IsReadAsked, IsSought, IsAskedDone};
 
@@ -20,10 +20,10 @@ impl<M: Medium> DirectDos<M> {
         ensures keeps { KeepsVouch M.seen self.old.vouched self.new.vouched }
     {
         match asked {
-            Asked::Read(block) => self.read(block),
-            Asked::ReadCounted(block) => self.read_counted(block),
-            Asked::Write(block) => self.write(block),
-            Asked::WriteCounted(block) => self.write_counted(block),
+            Asked::Read(block) => self.read(block, Form::Whole),
+            Asked::ReadCounted(block) => self.read(block, Form::Counted),
+            Asked::Write(block) => self.write(block, Form::Whole),
+            Asked::WriteCounted(block) => self.write(block, Form::Counted),
             Asked::Allocate(sector) => self.allocate(sector),
             Asked::Free(sector) => self.free(sector),
             Asked::Seek(channel, place) => self.seek(channel, place),
@@ -38,10 +38,10 @@ impl<M: Medium> DirectDos<M> {
         }
     }
 
-    /// U1: the channel's buffer gets a sector. The status is 70 if it has none, 74 if another drive is named, why the sector isn't
+    /// U1 and B-R: the channel's buffer gets a sector. The status is 70 if it has none, 74 if another drive is named, why the sector isn't
     /// read, or 00.
-    fn read(&mut self, block: Block)
-        ensures done { IsReadAsked M.seen with_sector_read block self.old self.new }
+    fn read(&mut self, block: Block, form: Form)
+        ensures done { IsReadAsked M.seen form block self.old self.new }
         ensures keeps { KeepsVouch M.seen self.old.vouched self.new.vouched }
     {
         if !self.buffers.has(block.channel) {
@@ -49,46 +49,18 @@ impl<M: Medium> DirectDos<M> {
         } else if block.drive != 0 {
             self.say(Code::DriveNotReady);
         } else {
-            self.load(block);
+            self.load(block, form);
         }
     }
 
     /// The channel's buffer gets a sector.
-    fn load(&mut self, block: Block)
-        ensures done { WasBlockRead M.seen with_sector_read block self.old self.new }
+    fn load(&mut self, block: Block, form: Form)
+        ensures done { WasBlockRead M.seen form block self.old self.new }
         ensures keeps { KeepsVouch M.seen self.old.vouched self.new.vouched }
     {
         match self.sector(block.track, block.sector) {
             Ok(bytes) => {
-                self.buffers.load(block.channel, &bytes);
-                self.say(Code::Fine);
-            }
-            Err(trouble) => self.tell(Status::from(trouble)),
-        }
-    }
-
-    /// B-R: the same, and byte 0 of the sector says which byte is the last.
-    fn read_counted(&mut self, block: Block)
-        ensures done { IsReadAsked M.seen with_counted_block block self.old self.new }
-        ensures keeps { KeepsVouch M.seen self.old.vouched self.new.vouched }
-    {
-        if !self.buffers.has(block.channel) {
-            self.say(Code::NoChannel);
-        } else if block.drive != 0 {
-            self.say(Code::DriveNotReady);
-        } else {
-            self.load_counted(block);
-        }
-    }
-
-    /// The channel's buffer gets a sector whose byte 0 says which byte is the last.
-    fn load_counted(&mut self, block: Block)
-        ensures done { WasBlockRead M.seen with_counted_block block self.old self.new }
-        ensures keeps { KeepsVouch M.seen self.old.vouched self.new.vouched }
-    {
-        match self.sector(block.track, block.sector) {
-            Ok(bytes) => {
-                self.buffers.load_counted(block.channel, &bytes);
+                self.buffers.load(block.channel, &bytes, form);
                 self.say(Code::Fine);
             }
             Err(trouble) => self.tell(Status::from(trouble)),

@@ -2,35 +2,24 @@
 
 use crate::asked::Block;
 use crate::direct::DirectDos;
+use crate::form::Form;
 use cbm_channel::{Code, Status};
 use cbm_medium::{Address, Medium, Trouble};
 
 impl<M: Medium> DirectDos<M> {
     ghost use Rattle.std.specs.Prelude.{◌≡◌, ◌≤◌, Some, SomeIff};
     ghost use Rattle.cbm_medium.specs.Place.{Place, Has};
-    ghost use Rattle.cbm_channel.specs.Loosely.{WritesLoose};
-    ghost use Rattle.cbm_direct.specs.Buffered.{bytes_of_channel, bytes_as_they_are, bytes_counted};
-    ghost use Rattle.cbm_direct.specs.Vouching.{KeepsVouch};
+    ghost use Rattle.cbm_direct.specs.Buffered.{bytes_of_channel};
+    ghost use Rattle.cbm_direct.specs.Vouching.{KeepsVouch, WritesBy, access_of};
     ghost use Rattle.cbm_direct.specs.Directs.{DirectAnswers, IfDrive0, IfHas, UnlessProtected, Reports, IsWriteAsked, sector_asked, result_status, at_sector};
 
-    /// U2: a sector gets the channel's buffer. The status is 70 if it has none, 74 if another drive is named, 66 if there is no such sector,
-    /// 26 if the disk is protected or the sector is somebody's, or 00.
-    pub(super) fn write(&mut self, block: Block)
-        ensures done { IsWriteAsked M.seen (bytes_of_channel bytes_as_they_are block.channel self.old.buffers) block self.old self.new }
+    /// U2 and B-W: a sector gets the channel's buffer, which itself stays as it is. The status is 70 if it has none, 74 if another drive is
+    /// named, 66 if there is no such sector, 26 if the disk is protected, or if the sector is somebody's and not any may be written, or 00.
+    pub(super) fn write(&mut self, block: Block, form: Form)
+        ensures done { IsWriteAsked M.seen (bytes_of_channel form block.channel self.old.buffers) block self.old self.new }
         ensures keeps { KeepsVouch M.seen self.old.vouched self.new.vouched }
     {
-        match self.buffers.bytes(block.channel) {
-            None => self.say(Code::NoChannel),
-            Some(bytes) => self.write_block(block, &bytes),
-        }
-    }
-
-    /// B-W: the same, and byte 0 says the place of the byte before the next one. The buffer itself stays as it is.
-    pub(super) fn write_counted(&mut self, block: Block)
-        ensures done { IsWriteAsked M.seen (bytes_of_channel bytes_counted block.channel self.old.buffers) block self.old self.new }
-        ensures keeps { KeepsVouch M.seen self.old.vouched self.new.vouched }
-    {
-        match self.buffers.counted(block.channel) {
+        match self.buffers.bytes(block.channel, form) {
             None => self.say(Code::NoChannel),
             Some(bytes) => self.write_block(block, &bytes),
         }
@@ -76,17 +65,17 @@ impl<M: Medium> DirectDos<M> {
         });
     }
 
-    /// The sector gets these bytes, if the disk isn't protected and the sector is nobody's.
+    /// The sector gets these bytes, if the disk isn't protected, and the sector is nobody's or any may be written.
     fn write_at(&mut self, at: Address, bytes: &[u8; 256])
         requires { at.track ≤ (M.seen self.old.vouched.dos.medium).tracks }
-        ensures done { UnlessProtected M.seen (Reports at (WritesLoose M.seen at bytes.now)) self.old self.new }
+        ensures done { UnlessProtected M.seen (Reports at (WritesBy (access_of self.old.vouched.vouch) M.seen at bytes.now)) self.old self.new }
         ensures keeps { KeepsVouch M.seen self.old.vouched self.new.vouched }
     {
         if self.vouched.medium().protected() {
             self.say(Code::WriteProtected);
             return;
         }
-        let written = self.vouched.write_loose(at, bytes);
+        let written = self.vouched.write_at(at, bytes);
         self.report(at, written);
     }
 

@@ -10,6 +10,7 @@ ghost use Rattle.cbm_program.specs.Traces.{WritesTrace};
 
 use crate::fault::RunFault;
 use crate::line::ScriptLine;
+use crate::manner::Manner;
 use crate::session::run_requests;
 use crate::watched::{Bench, DirectCable, PlainCable, change_watched, serve_watched};
 use crate::wires::{Stage, run_changes};
@@ -78,7 +79,7 @@ pub(crate) trait RunsScripts: DiskImage {
     fn watch_direct<R: Read, W: Write, T: Watches>(
         self,
         device: u8,
-        pace: Pace,
+        manner: Manner,
         lines: &mut Source<R>,
         first: Option<ScriptLine>,
         writer: &mut W,
@@ -91,7 +92,7 @@ pub(crate) trait RunsScripts: DiskImage {
     fn change_direct<R: Read, W: Write>(
         self,
         device: u8,
-        pace: Pace,
+        manner: Manner,
         lines: &mut Source<R>,
         writer: &mut W,
     ) -> Result<Self, RunFault>
@@ -136,24 +137,24 @@ impl RunsScripts for D64Disk {
     fn watch_direct<R: Read, W: Write, T: Watches>(
         self,
         device: u8,
-        pace: Pace,
+        manner: Manner,
         lines: &mut Source<R>,
         first: Option<ScriptLine>,
         writer: &mut W,
         watcher: &mut T,
     ) -> Result<D64Disk, RunFault> {
-        let bench = Bench::new(DirectCable::new(self, device, pace), device, pace);
+        let bench = Bench::new(DirectCable::new(self, device, manner), device, manner.pace);
         serve_watched(bench, lines, first, writer, watcher)
     }
 
     fn change_direct<R: Read, W: Write>(
         self,
         device: u8,
-        pace: Pace,
+        manner: Manner,
         lines: &mut Source<R>,
         writer: &mut W,
     ) -> Result<D64Disk, RunFault> {
-        change_watched(DirectCable::new(self, device, pace), lines, writer)
+        change_watched(DirectCable::new(self, device, manner), lines, writer)
     }
 }
 
@@ -195,23 +196,23 @@ impl RunsScripts for G64Disk {
     fn watch_direct<R: Read, W: Write, T: Watches>(
         self,
         device: u8,
-        pace: Pace,
+        manner: Manner,
         lines: &mut Source<R>,
         first: Option<ScriptLine>,
         writer: &mut W,
         watcher: &mut T,
     ) -> Result<G64Disk, RunFault> {
-        let bench = Bench::new(DirectCable::new(self, device, pace), device, pace);
+        let bench = Bench::new(DirectCable::new(self, device, manner), device, manner.pace);
         serve_watched(bench, lines, first, writer, watcher)
     }
 
     fn change_direct<R: Read, W: Write>(
         self,
         device: u8,
-        pace: Pace,
+        manner: Manner,
         lines: &mut Source<R>,
         writer: &mut W,
     ) -> Result<G64Disk, RunFault> {
-        change_watched(DirectCable::new(self, device, pace), lines, writer)
+        change_watched(DirectCable::new(self, device, manner), lines, writer)
     }
 }

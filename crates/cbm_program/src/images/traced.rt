@@ -5,6 +5,7 @@ ghost use Rattle.cbm_program.specs.Starts.{IsDevice};
 use super::scripted::RunsScripts;
 use super::{Options, image_after, opened, print_check};
 use crate::fault::RunFault;
+use crate::manner::Manner;
 use crate::numbered::{Beginning, read_first};
 use bus_traces::{Echo, Source, Watches};
 use cbm_d64::D64Disk;
@@ -91,11 +92,11 @@ fn traced_script<M: RunsScripts + Drop, R: Read + Drop, W: Write, T: Watches>(
     }
 }
 
-/// Runs a script as `run_traced` does, on a drive with direct access (`#`, U1, B-R, B-P, UI, UJ, M-R). What it prints and saves is
-/// tested; that the disk stays sound if it was is proved of the drive (`DirectDesk`).
+/// Runs a script as `run_traced` does, on a drive with direct access. What it prints and saves is tested; that the disk stays sound if it was, and
+/// not any sector may be written, is proved of the drive (`DirectDesk`).
 pub fn run_direct<R: Read + Drop, W: Write, T: Watches>(
     alloc: Global,
-    pace: Pace,
+    manner: Manner,
     reader: R,
     writer: &mut W,
     watcher: &mut T,
@@ -107,10 +108,10 @@ pub fn run_direct<R: Read + Drop, W: Write, T: Watches>(
 {
     match kind_of(image) {
         Kind::D64 => direct_image::<D64Disk, R, W, T>(
-            alloc, pace, reader, writer, watcher, image, options,
+            alloc, manner, reader, writer, watcher, image, options,
         ),
         Kind::G64 => direct_image::<G64Disk, R, W, T>(
-            alloc, pace, reader, writer, watcher, image, options,
+            alloc, manner, reader, writer, watcher, image, options,
         ),
     }
 }
@@ -118,7 +119,7 @@ pub fn run_direct<R: Read + Drop, W: Write, T: Watches>(
 /// The same on the disk of an image of one format.
 fn direct_image<I: RunsScripts + Drop, R: Read + Drop, W: Write, T: Watches>(
     alloc: Global,
-    pace: Pace,
+    manner: Manner,
     reader: R,
     writer: &mut W,
     watcher: &mut T,
@@ -134,7 +135,7 @@ fn direct_image<I: RunsScripts + Drop, R: Read + Drop, W: Write, T: Watches>(
     let disk = direct_script(
         volume.into_medium(),
         options.device,
-        pace,
+        manner,
         reader,
         writer,
         watcher,
@@ -146,7 +147,7 @@ fn direct_image<I: RunsScripts + Drop, R: Read + Drop, W: Write, T: Watches>(
 fn direct_script<M: RunsScripts + Drop, R: Read + Drop, W: Write, T: Watches>(
     medium: M,
     device: u8,
-    pace: Pace,
+    manner: Manner,
     reader: R,
     writer: &mut W,
     watcher: &mut T,
@@ -156,11 +157,11 @@ fn direct_script<M: RunsScripts + Drop, R: Read + Drop, W: Write, T: Watches>(
     let mut lines = Source::new(reader);
     match read_first(&mut lines)? {
         Beginning::Requests(first) => {
-            medium.watch_direct(device, pace, &mut lines, first, writer, watcher)
+            medium.watch_direct(device, manner, &mut lines, first, writer, watcher)
         }
         Beginning::Changes => {
             let mut echo = Echo::new(&mut *writer, &mut *watcher);
-            medium.change_direct(device, pace, &mut lines, &mut echo)
+            medium.change_direct(device, manner, &mut lines, &mut echo)
         }
     }
 }

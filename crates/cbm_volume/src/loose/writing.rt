@@ -1,6 +1,6 @@
-// A sector that is written.
+// A sector that is written: one that is nobody's, or any.
 
-ghost use Rattle.std.specs.Prelude.{◌≡◌, ◌≤◌, ◌⊎◌, true, false, Some, Ok, OnErr, IfErr};
+ghost use Rattle.std.specs.Prelude.{◌≡◌, ◌≤◌, ◌⊎◌, true, false, Some, Ok, OnOk, OnErr, IfErr};
 ghost use Rattle.cbm_medium.specs.Content.{written};
 ghost use Rattle.cbm_medium.specs.Seen.{with_content, write_refusal, HasFailed, OnlyContent};
 ghost use Rattle.cbm_bam.specs.Marks.{is_marked};
@@ -39,5 +39,18 @@ impl<M: Medium> Volume<M> {
         }
         self.medium.write(at, bytes)?;
         Ok(true)
+    }
+
+    /// Writes a sector, whoever has it: what files and the map say of it may be wrong from then on. An `Err` is why the medium refused the
+    /// write, and changes no sector.
+    pub fn write_raw(&mut self, at: Address, bytes: &[u8; 256]) -> Result<(), Trouble>
+        requires { at.track ≤ (M.seen self.old).tracks }
+        ensures done { let old = M.seen self.old in OnOk result (M.seen self.new ≡ with_content (written old.content at bytes.now) old) }
+        ensures err { OnErr result ((M.seen self.new).content ≡ (M.seen self.old).content) }
+        ensures cause { IfErr result (λ t. (write_refusal (M.seen self.old) at ≡ Some t.code) ⊎ HasFailed (M.seen self.old) (M.seen self.new)) }
+        ensures place { IfErr result (λ t. (t.track ≡ at.track) × (t.sector ≡ at.sector)) }
+        ensures only { OnlyContent (M.seen self.old).tracks result (M.seen self.old) (M.seen self.new) }
+    {
+        Ok(self.medium.write(at, bytes)?)
     }
 }

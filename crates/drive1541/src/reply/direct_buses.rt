@@ -5,7 +5,7 @@ use super::failure::ReplyFailure;
 use super::seat::Seat;
 use bus_replies::{LineReader, reply};
 use cbm_bus::{AnyDisk, Drive, Party};
-use cbm_direct_desk::{DirectDesk, drive_with, into_disk};
+use cbm_direct_desk::{Access, DirectDesk, drive_with, into_disk};
 use drive_replies::HostedBus;
 use std::io;
 use std::io::{BufWriter, Write};
@@ -18,18 +18,23 @@ type DiskDrive = Drive<DirectDesk<AnyDisk>>;
 struct Unit {
     disk: AnyDisk,
     party: Party,
+    access: Access,
 }
 
 impl Unit {
     /// The drive as it is switched on; its number is below 31, and its reaction above 0.
     fn switch_on(self) -> DiskDrive {
-        let Unit { disk, party } = self;
+        let Unit {
+            disk,
+            party,
+            access,
+        } = self;
         let party = Party {
             device: party.device.clamp(8, 11),
             reaction: party.reaction.clamp(1, 60),
             pace: party.pace,
         };
-        drive_with(disk, party)
+        drive_with(disk, party, access)
     }
 }
 
@@ -127,12 +132,14 @@ fn units_of(
     rt: &HostRuntime,
     disks: Vec<AnyDisk>,
     seats: &[Seat<'_>],
+    access: Access,
 ) -> Result<Vec<Unit>, ReplyFailure> {
     let mut units = Vec::new(rt.alloc());
     for (disk, seat) in disks.into_iter().zip(seats) {
         let unit = Unit {
             disk,
             party: seat.party,
+            access,
         };
         units.push(unit).map_err(|_| ReplyFailure::NoMemory)?;
     }
@@ -144,8 +151,9 @@ pub fn talk_directly_on(
     rt: &HostRuntime,
     disks: Vec<AnyDisk>,
     seats: &[Seat<'_>],
+    access: Access,
 ) -> Result<Vec<AnyDisk>, ReplyFailure> {
-    let mut units = units_of(rt, disks, seats)?.into_iter();
+    let mut units = units_of(rt, disks, seats, access)?.into_iter();
     match (units.next(), units.next(), units.next(), units.next()) {
         (Some(a), None, None, None) => one(rt, a),
         (Some(a), Some(b), None, None) => two(rt, a, b),

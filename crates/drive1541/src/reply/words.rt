@@ -1,8 +1,9 @@
 //! The words of the command line of a talk.
 
 use super::seat::{Seat, files_of, party_of, plain_party};
-use crate::arguments::is_standard;
+use crate::arguments::{direct, direct_of, is_standard};
 use cbm_bus::Party;
+use cbm_direct_desk::Access;
 use clap::{Arg, ArgAction, ArgMatches, Command, Error};
 use std::alloc::Global;
 
@@ -24,7 +25,7 @@ Each line of the host is answered by the changes on the bus and `ready MOMENT`:
 pub struct Words<'a> {
     seats: Vec<Seat<'a>>,
     is_read_only: bool,
-    is_direct: bool,
+    direct: Option<Access>,
 }
 
 /// What may stand on the command line.
@@ -44,10 +45,10 @@ fn command<'a>(alloc: Global) -> Result<Command<'a>, Error> {
         .long("read-only")
         .action(ArgAction::SetTrue)
         .help("write-protect the disks");
-    let direct = Arg::new(alloc, "direct")
-        .long("direct")
-        .action(ArgAction::SetTrue)
-        .help("let channels of all drives read and write single blocks");
+    let direct = direct(
+        alloc,
+        "let channels of all drives read and write single blocks; `raw`: write any, also of files",
+    );
     let command = Command::new(alloc, "drive1541 reply")
         .about("Drives with disks on a bus whose host talks over standard input and output")
         .after_help(EXAMPLES)
@@ -85,7 +86,7 @@ impl<'a> Words<'a> {
         let mut words = Words {
             seats: Vec::new(alloc),
             is_read_only: matches.get_flag("read-only"),
-            is_direct: matches.get_flag("direct"),
+            direct: direct_of(matches),
         };
         for (place, image) in images.iter().enumerate() {
             let party = party_at(place, drives.get(place))?;
@@ -127,9 +128,9 @@ impl<'a> Words<'a> {
         self.seats.as_slice()
     }
 
-    /// Whether the drives have direct access.
-    pub fn is_direct(&self) -> bool {
-        self.is_direct
+    /// The drives' direct access, if they have it.
+    pub fn direct(&self) -> Option<Access> {
+        self.direct
     }
 
     /// Whether the disks are protected.

@@ -7,4 +7,4 @@ use Rattle.cbm_direct.proofs.direct.DirectDos.free_at.Goals as goal
 pub returns-clause-done : goal.returns-clause-done
 returns-clause-done g c =
     let unprotected : (g.M.Medium.seen c.args.self.now.vouched.dos.medium).protected ≡ false = search rules in
-    inr (unprotected, reported c.args.at (GivesAt g.M.Medium.seen c.args.at) _ _ _ c.self.view_is c.give_at-given.new.self c.give_at-given.result c.give_at-given.ensures.gives c.give_at-given.ensures.keeps.since c.report.ensures.done)
+    inr (unprotected, reported c.args.at (GivesAt g.M.Medium.seen c.args.at) _ _ _ c.self.view_is c.give_at-given.new.self c.give_at-given.result c.give_at-given.ensures.gives c.give_at-given.ensures.keeps.vouch c.report.ensures.done)

@@ -1,4 +1,4 @@
-use Rattle.std.proofs.Common.{◌≡◌, ◌<◌, None, Some, refl, sym, inl, inr, rules}
+use Rattle.std.proofs.Common.{◌≡◌, None, refl, sym, inl, inr, rules}
 use Rattle.cbm_direct.specs.Asking.{buffer_wanted}
 use Rattle.cbm_direct.specs.Buffered.{taken_count}
 use Rattle.cbm_direct.proofs.Handed.{handed_beside}

@@ -7,7 +7,7 @@ pub returns-clause-started : goal.returns-clause-started
 returns-clause-started g c = taken_over (HasStarted g.M.Medium.seen) _ _ _ c.self.view_is (record {
   stands = c.restart.ensures.stands;
   medium = c.restart.ensures.medium;
-  since = c.restart.ensures.keeps.since;
+  vouch = c.restart.ensures.keeps.vouch;
   buffers = c.free-self-inside.ensures;
   reply = refl;
 })

@@ -6,7 +6,7 @@ use Rattle.cbm_direct.proofs.vouched.Vouched.give_at.Goals as goal
 
 pub invariant_of-self : goal.invariant_of-self
 invariant_of-self g c =
-    kept g.M.Medium.seen c.self.inside.dos c.give_at.new.self c.self.inside.sound_since c.give_at.ensures.counted (λ u m s. gives_stand g.M.Medium.seen c.args.at c.give_at.result c.self.inside.dos c.give_at.new.self c.give_at.ensures m s) c.self.invariant
+    kept g.M.Medium.seen c.self.inside.dos c.give_at.new.self c.self.inside.vouch c.give_at.ensures.counted (λ u m s. gives_stand g.M.Medium.seen c.args.at c.give_at.result c.self.inside.dos c.give_at.new.self c.give_at.ensures m s) c.self.invariant
 
 -- the value before the call is what was taken out of it
 pub returns-clause-gives : goal.returns-clause-gives

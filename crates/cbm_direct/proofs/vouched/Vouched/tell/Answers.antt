@@ -3,4 +3,4 @@ use Rattle.std.proofs.Common.{arith, ap}
 use Rattle.cbm_direct.proofs.vouched.Vouched.tell.Goals as goal
 
 pub invariant_of-self : goal.invariant_of-self
-invariant_of-self g c = kept g.M.Medium.seen c.self.inside.dos c.tell.new.self c.self.inside.sound_since (omega (arith, ap (λ x. (g.M.Medium.seen x).failures) c.tell.ensures.medium)) (λ u m s. (_, c.tell.ensures.leads m s)) c.self.invariant
+invariant_of-self g c = kept g.M.Medium.seen c.self.inside.dos c.tell.new.self c.self.inside.vouch (omega (arith, ap (λ x. (g.M.Medium.seen x).failures) c.tell.ensures.medium)) (λ u m s. (_, c.tell.ensures.leads m s)) c.self.invariant

@@ -9,6 +9,6 @@ returns g c =
     let now : DirectAddressed _ = record { dos = c.insert.new.self; addressed = c.self.inside.addressee } in
     subst (λ (o : DirectAddressed _). IsGivenDisk g.M.Medium.seen c.args.medium o now) c.self.view_is
     (record {
-      taken = record { stands = call.stands; inside = call.medium; told = call.told; since = call.sound; buffers = call.buffers; reply = call.reply };
+      taken = record { stands = call.stands; inside = call.medium; told = call.told; access = call.access; sound = call.sound; buffers = call.buffers; reply = call.reply };
       addressed = refl;
     })

@@ -1,6 +1,6 @@
 use Rattle.std.proofs.Common.{ap, ◌∙◌}
 use Rattle.cbm_direct.proofs.Sounds.{shows_disk}
-use Rattle.cbm_direct.proofs.vouched.sound_since.Goals as goal
+use Rattle.cbm_direct.proofs.vouch.looked_at.Goals as goal
 
 -- a sound layout means a disk
 pub returns-in-Ok-clause-shown : goal.returns-in-Ok-clause-shown
