@@ -471,6 +471,21 @@ def folders_are_named(tally, room):
             tally.is_so("the tree", f"{command} of what is {what} ends with 4, or has looked at it", status == 4 or "inside.d64" in out.decode(), status)
 
 
+def shut_folder_is_named(tally):
+    """A folder that may not be read has its sentence and its line in JSON, as an image has. The superuser may read any, so that it is tried as another user."""
+    with tempfile.TemporaryDirectory() as room:
+        os.chmod(room, 0o755)
+        os.makedirs(f"{room}/tree/shut", 0o755)
+        os.chmod(f"{room}/tree/shut", 0)
+        program = shutil.copy(DISK1541, f"{room}/disk1541")
+        other = {} if os.geteuid() else {"user": 65534, "group": 65534, "extra_groups": []}
+        ran = subprocess.run([program, "check", "-r", "--json", "tree"], cwd=room, capture_output=True, timeout=LIMIT, stdin=subprocess.DEVNULL, **other)
+        lines = [json.loads(it) for it in ran.stdout.splitlines()]
+        line = next((it for it in lines if it.get("image") == "tree/shut"), {})
+        told = ran.stderr.decode() == "disk1541: can't read tree/shut: permission denied\n"
+        tally.is_so("the tree", "a folder that may not be read is named, also in JSON", ran.returncode == 4 and line.get("error") == "permission denied" and told, (ran, lines))
+
+
 def soundness_holds(tally, images, room):
     """What the generator knows: sound disks are sound, those it damaged are not."""
     lines = dict(it.rsplit(": ", 1) for it in run("check", "-r", ".", room=room)[1].decode().splitlines() if it.startswith("./"))
@@ -519,6 +534,7 @@ def look_at_tree(tally, room):
 
 def look_beside(tally, room):
     folders_are_named(tally, room)
+    shut_folder_is_named(tally)
     for image in KINDS:
         kind_is_converted(tally, image, room)
 

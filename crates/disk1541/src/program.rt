@@ -5,7 +5,7 @@ use crate::tasks::{carry_out, reads_input};
 use clap::ArgMatches;
 use clap::error::ErrorKind;
 use disk_basics::host::read_file;
-use disk_basics::{Failure, in_memory};
+use disk_basics::{Failure, What, in_memory};
 use disk_commands::verb_of;
 use disk_looks::Progress;
 use host_files::text_of;
@@ -27,10 +27,10 @@ pub fn run_program(rt: &HostRuntime) -> ExitCode {
     let progress = Progress::begin(rt);
     let words = match words_of(rt) {
         Ok(words) => words,
-        Err(_) => return ended(rt, Failure::NoMemory),
+        Err(_) => return ended(rt, Failure::new(What::NoMemory)),
     };
     let Ok(help) = disk_commands::help_for(rt.alloc(), words.as_slice()) else {
-        return ended(rt, Failure::NoMemory);
+        return ended(rt, Failure::new(What::NoMemory));
     };
     let mut input = Vec::new(rt.alloc());
     let line = match disk_commands::parse(rt.alloc(), words.as_slice(), help.as_str()) {
@@ -70,12 +70,12 @@ fn given_of<'b>(line: &ArgMatches<'_>, input: &'b [u8]) -> Option<&'b [u8]> {
 }
 
 /// Carries out the command line, on one image or on several.
-fn carried_out<'a>(
+fn carried_out(
     rt: &HostRuntime,
-    line: &ArgMatches<'a>,
+    line: &ArgMatches<'_>,
     progress: Progress,
-    input: &'a [u8],
-) -> Result<(), Failure<'a>> {
+    input: &[u8],
+) -> Result<(), Failure> {
     if let Some((name, words)) = line.subcommand() {
         if let Some(verb) = verb_of(name) {
             let images = in_memory(images_of(rt.alloc(), verb, words))?;
@@ -91,7 +91,7 @@ fn carried_out<'a>(
 }
 
 // Reports what went wrong.
-fn ended(rt: &HostRuntime, failure: Failure<'_>) -> ExitCode {
+fn ended(rt: &HostRuntime, failure: Failure) -> ExitCode {
     let _ = failure.tell(rt);
     ExitCode::from(failure.status())
 }
@@ -99,7 +99,7 @@ fn ended(rt: &HostRuntime, failure: Failure<'_>) -> ExitCode {
 // What was asked for, as help is, is no fault.
 fn without_line(rt: &HostRuntime, error: &clap::Error) -> ExitCode {
     if error.kind() == ErrorKind::OutOfMemory {
-        return ended(rt, Failure::NoMemory);
+        return ended(rt, Failure::new(What::NoMemory));
     }
     let _ = error.print(rt);
     if error.exit_code() == 0 {

@@ -3,22 +3,23 @@ use cbm_medium::Address;
 use cbm_shell::texts::Charset;
 use clap::ArgMatches;
 use disk_basics::placing::Head;
-use disk_basics::{Choice, Failure, WordFault};
+use disk_basics::{Choice, Failure, What, WordFault};
 use disk_changes::{Blank, Build, Conversion, HostFiles};
 use disk_commands::{flag, given, option};
 use disk_compare::{Form, Wanted};
 use disk_edits::{ErrorDeed, Gone, Pair};
 use disk_looks::{Description, Destination, Mapping, OneFile};
 use disk_reports::View;
+use std::alloc::Global;
 
 /// The character set of a command's names. Errors: `Word`, where a C64 has no such set.
-pub fn charset<'a>(words: &ArgMatches<'a>) -> Result<Charset, Failure<'a>> {
+pub fn charset(alloc: Global, words: &ArgMatches<'_>) -> Result<Charset, Failure> {
     let word = option(words, "charset").unwrap_or("upper");
     if word == "lower" {
         return Ok(Charset::Lower);
     }
     if word != "upper" {
-        return Err(Failure::Word(WordFault::Charset(word)));
+        return Err(Failure::named(alloc, What::Word(WordFault::Charset), word));
     }
     Ok(Charset::Upper)
 }
@@ -65,12 +66,12 @@ pub fn choice<'a>(words: &ArgMatches<'a>, name: &'a str, charset: Charset) -> Ch
 }
 
 /// The old name and the new one of COPY and RENAME: with a slot there is one name. Errors: `Word`, where one is missing.
-fn two_names<'a>(words: &ArgMatches<'a>) -> Result<(&'a str, &'a str), Failure<'a>> {
+fn two_names<'a>(words: &ArgMatches<'a>) -> Result<(&'a str, &'a str), Failure> {
     let has_slot = option(words, "slot").is_some();
     match (option(words, "OLD"), option(words, "NEW")) {
         (Some(new), None) if has_slot => Ok(("", new)),
         (Some(old), Some(new)) if !has_slot => Ok((old, new)),
-        _ => Err(Failure::Word(WordFault::TwoNames)),
+        _ => Err(Failure::new(What::Word(WordFault::TwoNames))),
     }
 }
 
@@ -87,12 +88,12 @@ pub fn patterns_word(words: &ArgMatches<'_>) -> &'static str {
 pub fn type_and_choice<'a>(
     words: &ArgMatches<'a>,
     charset: Charset,
-) -> Result<(&'a str, Choice<'a>), Failure<'a>> {
+) -> Result<(&'a str, Choice<'a>), Failure> {
     let has_slot = option(words, "slot").is_some();
     match (option(words, "NAME"), option(words, "TYPE")) {
         (Some(kind), None) if has_slot => Ok((kind, choice(words, "", charset))),
         (Some(name), Some(kind)) if !has_slot => Ok((kind, choice(words, name, charset))),
-        _ => Err(Failure::Word(WordFault::NameAndType)),
+        _ => Err(Failure::new(What::Word(WordFault::NameAndType))),
     }
 }
 
@@ -108,9 +109,9 @@ pub fn error_deed(words: &ArgMatches<'_>) -> ErrorDeed {
 }
 
 /// One file, by its name or by its slot. Errors: `Word`, where it isn't said by one of them.
-fn one_choice<'a>(words: &ArgMatches<'a>, charset: Charset) -> Result<Choice<'a>, Failure<'a>> {
+fn one_choice<'a>(words: &ArgMatches<'a>, charset: Charset) -> Result<Choice<'a>, Failure> {
     if option(words, "NAME").is_some() == option(words, "slot").is_some() {
-        return Err(Failure::Word(WordFault::NoFileName));
+        return Err(Failure::new(What::Word(WordFault::NoFileName)));
     }
     Ok(choice(words, given(words, "NAME"), charset))
 }
@@ -131,7 +132,7 @@ fn form(words: &ArgMatches<'_>) -> Form {
 }
 
 /// The file that SHOW shows. Errors: those of `one_choice`.
-pub fn wanted<'a>(words: &ArgMatches<'a>, charset: Charset) -> Result<Wanted<'a>, Failure<'a>> {
+pub fn wanted<'a>(words: &ArgMatches<'a>, charset: Charset) -> Result<Wanted<'a>, Failure> {
     Ok(Wanted {
         choice: one_choice(words, charset)?,
         form: form(words),
@@ -139,7 +140,7 @@ pub fn wanted<'a>(words: &ArgMatches<'a>, charset: Charset) -> Result<Wanted<'a>
 }
 
 /// The file that GET takes out. Errors: those of `one_choice`.
-pub fn one_file<'a>(words: &ArgMatches<'a>, charset: Charset) -> Result<OneFile<'a>, Failure<'a>> {
+pub fn one_file<'a>(words: &ArgMatches<'a>, charset: Charset) -> Result<OneFile<'a>, Failure> {
     Ok(OneFile {
         choice: one_choice(words, charset)?,
         output: given(words, "output"),
@@ -160,35 +161,35 @@ pub fn place<'a>(words: &ArgMatches<'a>) -> Destination<'a> {
 }
 
 /// How far apart blocks are laid. Errors: `Word`, if it isn't 1 to 20.
-fn interleave<'a>(word: &'a str) -> Result<u8, Failure<'a>> {
+fn interleave(alloc: Global, word: &str) -> Result<u8, Failure> {
     match word.parse::<u8>() {
         Ok(interleave @ 1..=20) => Ok(interleave),
-        _ => Err(Failure::Word(WordFault::Interleave(word))),
+        _ => Err(Failure::named(alloc, What::Word(WordFault::Interleave), word)),
     }
 }
 
 /// The sector at which PLACE begins. Errors: `Word`, if no disk has it, or it is the directory's.
-fn first_sector<'a>(track: &'a str, sector: &'a str) -> Result<Address, Failure<'a>> {
+fn first_sector(alloc: Global, track: &str, sector: &str) -> Result<Address, Failure> {
     let Ok(track_number) = track.parse::<u8>() else {
-        return Err(Failure::Word(WordFault::Sector(track)));
+        return Err(Failure::named(alloc, What::Word(WordFault::Sector), track));
     };
     let Ok(sector_number) = sector.parse::<u8>() else {
-        return Err(Failure::Word(WordFault::Sector(sector)));
+        return Err(Failure::named(alloc, What::Word(WordFault::Sector), sector));
     };
     match Address::new(track_number, sector_number) {
-        Some(at) if at.track() == 18 => Err(Failure::Word(WordFault::DirectoryTrack)),
+        Some(at) if at.track() == 18 => Err(Failure::new(What::Word(WordFault::DirectoryTrack))),
         Some(at) => Ok(at),
-        None => Err(Failure::Word(WordFault::Sector(sector))),
+        None => Err(Failure::named(alloc, What::Word(WordFault::Sector), sector)),
     }
 }
 
 /// Where PLACE looks for the first block. Errors: `Word`, if a number can't be.
-pub fn head<'a>(words: &ArgMatches<'a>) -> Result<Head, Failure<'a>> {
-    let first = first_sector(given(words, "track"), given(words, "sector"))?;
+pub fn head(alloc: Global, words: &ArgMatches<'_>) -> Result<Head, Failure> {
+    let first = first_sector(alloc, given(words, "track"), given(words, "sector"))?;
     Ok(Head {
         track: first.track(),
         sector: first.sector(),
-        interleave: interleave(given(words, "interleave"))?,
+        interleave: interleave(alloc, given(words, "interleave"))?,
     })
 }
 
@@ -244,7 +245,7 @@ pub fn gone<'a>(words: &ArgMatches<'a>, charset: Charset) -> Gone<'a> {
 pub fn pair<'a>(
     words: &ArgMatches<'a>,
     charset: Charset,
-) -> Result<(Pair<'a>, Choice<'a>), Failure<'a>> {
+) -> Result<(Pair<'a>, Choice<'a>), Failure> {
     let (old, new) = two_names(words)?;
     let pair = Pair { old, new, charset };
     Ok((pair, choice(words, old, charset)))

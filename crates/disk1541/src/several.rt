@@ -3,7 +3,7 @@ use crate::lock::lock_folder;
 use crate::tasks::{change_with, tell_other};
 use clap::ArgMatches;
 use disk_basics::host::{is_standard, print};
-use disk_basics::{Failure, WordFault, in_memory};
+use disk_basics::{Failure, What, WordFault, in_memory};
 use disk_commands::{Verb, flag};
 use std::alloc::{AllocError, Global};
 
@@ -45,12 +45,12 @@ impl Outcome {
 }
 
 /// Changes one of several images, while its folder is locked.
-fn change_one<'a>(
+fn change_one(
     rt: &HostRuntime,
     verb: Verb,
-    words: &ArgMatches<'a>,
-    image: &'a str,
-) -> Result<(), Failure<'a>> {
+    words: &ArgMatches<'_>,
+    image: &str,
+) -> Result<(), Failure> {
     let others_wait = lock_folder(rt, image);
     let answer = change_with(rt, verb, words, image, None);
     drop(others_wait);
@@ -58,30 +58,31 @@ fn change_one<'a>(
 }
 
 /// Prints the name of an image over what is said of it.
-fn print_name<'a>(rt: &HostRuntime, image: &str) -> Result<(), Failure<'a>> {
+fn print_name(rt: &HostRuntime, image: &str) -> Result<(), Failure> {
     let line = in_memory(format!(in rt.alloc(); "{image}:\n"))?;
     print(rt, line.as_bytes())
 }
 
 /// Changes one of several images; where that is refused, it is reported.
-fn change_among<'a>(
+fn change_among(
     rt: &HostRuntime,
     verb: Verb,
-    words: &ArgMatches<'a>,
-    image: &'a str,
+    words: &ArgMatches<'_>,
+    image: &str,
     outcome: &mut Outcome,
-) -> Result<(), Failure<'a>> {
+) -> Result<(), Failure> {
     let is_json = flag(words, "json");
     if !is_json && (flag(words, "dry-run") || matches!(verb, Verb::Validate)) {
         print_name(rt, image)?;
     }
     match change_one(rt, verb, words, image) {
         Ok(()) => outcome.done = outcome.done.wrapping_add(1),
-        Err(Failure::NoMemory) => return Err(Failure::NoMemory),
-        Err(Failure::Word(fault)) => return Err(Failure::Word(fault)),
+        Err(failure) if matches!(failure.what, What::NoMemory | What::Word(_)) => {
+            return Err(failure);
+        }
         Err(failure) => {
             outcome.refused = outcome.refused.wrapping_add(1);
-            tell_other(rt, image, failure, is_json)?;
+            tell_other(rt, image, &failure, is_json)?;
             let _ = eprintln!(rt; "disk1541: {image} stays as it is");
         }
     }
@@ -90,14 +91,14 @@ fn change_among<'a>(
 
 /// Changes several images one after the other, each by itself, and says how many were. Errors: `Word`; `Several`, where some are refused,
 /// as is reported; `Write`; `NoMemory`.
-pub fn change_each<'a>(
+pub fn change_each(
     rt: &HostRuntime,
     verb: Verb,
-    words: &ArgMatches<'a>,
-    images: &[&'a str],
-) -> Result<(), Failure<'a>> {
+    words: &ArgMatches<'_>,
+    images: &[&str],
+) -> Result<(), Failure> {
     if images.iter().any(|image| is_standard(*image)) {
-        return Err(Failure::Word(WordFault::Twice));
+        return Err(Failure::new(What::Word(WordFault::Twice)));
     }
     let mut outcome = Outcome {
         done: 0,
@@ -113,6 +114,6 @@ pub fn change_each<'a>(
     if outcome.refused == 0 {
         Ok(())
     } else {
-        Err(Failure::Several)
+        Err(Failure::new(What::Several))
     }
 }

@@ -18,7 +18,7 @@ use crate::reading::{
 use cbm_shell::texts::Charset;
 use clap::ArgMatches;
 use disk_basics::host::is_standard;
-use disk_basics::{Failure, petscii};
+use disk_basics::{Failure, What, petscii};
 use disk_changes::{build_image, make};
 use disk_commands::{Verb, flag, given, verb_of};
 use disk_compare::{Comparison, diff, show};
@@ -29,12 +29,12 @@ use disk_sources::{Transfer, convert_image, get, get_all, transfer_files};
 use std::rt::Runtime;
 
 /// Carries out a command that looks at images.
-fn look_with<'a, R: Runtime + AllocGlobal>(
+fn look_with<R: Runtime + AllocGlobal>(
     rt: &R,
-    words: &ArgMatches<'a>,
+    words: &ArgMatches<'_>,
     charset: Charset,
     view: View,
-) -> Result<(), Failure<'a>> {
+) -> Result<(), Failure> {
     let pattern = petscii(rt.alloc(), charset, pattern(words))?;
     let look = Look {
         view,
@@ -49,11 +49,11 @@ fn look_with<'a, R: Runtime + AllocGlobal>(
 }
 
 /// Takes files of another disk or archive over.
-fn transfer_with<'a, R: Runtime + AllocGlobal>(
+fn transfer_with<R: Runtime + AllocGlobal>(
     rt: &R,
-    words: &ArgMatches<'a>,
+    words: &ArgMatches<'_>,
     charset: Charset,
-) -> Result<(), Failure<'a>> {
+) -> Result<(), Failure> {
     let wanted = Transfer {
         from: given(words, "FROM"),
         patterns: words.get_strs("PATTERN").unwrap_or(&[]),
@@ -65,11 +65,11 @@ fn transfer_with<'a, R: Runtime + AllocGlobal>(
 }
 
 /// Shows what differs between two images.
-fn diff_with<'a, R: Runtime + AllocGlobal>(
+fn diff_with<R: Runtime + AllocGlobal>(
     rt: &R,
-    words: &ArgMatches<'a>,
+    words: &ArgMatches<'_>,
     charset: Charset,
-) -> Result<(), Failure<'a>> {
+) -> Result<(), Failure> {
     let comparison = Comparison {
         first: given(words, "FIRST"),
         second: given(words, "SECOND"),
@@ -80,15 +80,15 @@ fn diff_with<'a, R: Runtime + AllocGlobal>(
 }
 
 /// Carries out a command with its words.
-fn perform<'a, R: Runtime + AllocGlobal>(
+fn perform<R: Runtime + AllocGlobal>(
     rt: &R,
     verb: Verb,
-    words: &ArgMatches<'a>,
+    words: &ArgMatches<'_>,
     progress: Progress,
-    input: Option<&'a [u8]>,
-) -> Result<(), Failure<'a>> {
+    input: Option<&[u8]>,
+) -> Result<(), Failure> {
     let image = given(words, "IMAGE");
-    let charset = charset(words)?;
+    let charset = charset(rt.alloc(), words)?;
     match verb {
         Verb::List => look_with(rt, words, charset, listing(words)),
         Verb::Find => look_with(rt, words, charset, View::Matches),
@@ -136,17 +136,17 @@ pub fn reads_input(line: &ArgMatches<'_>) -> bool {
 }
 
 /// Carries out the command line. It has a command of the table, since clap refuses any other.
-pub fn carry_out<'a, R: Runtime + AllocGlobal>(
+pub fn carry_out<R: Runtime + AllocGlobal>(
     rt: &R,
-    line: &ArgMatches<'a>,
+    line: &ArgMatches<'_>,
     progress: Progress,
-    input: Option<&'a [u8]>,
-) -> Result<(), Failure<'a>> {
+    input: Option<&[u8]>,
+) -> Result<(), Failure> {
     let Some((name, words)) = line.subcommand() else {
-        return Err(Failure::Told);
+        return Err(Failure::new(What::Told));
     };
     match verb_of(name) {
         Some(verb) => perform(rt, verb, words, progress, input),
-        None => Err(Failure::Told),
+        None => Err(Failure::new(What::Told)),
     }
 }

@@ -1,6 +1,7 @@
 //! One file of a disk: by its exact name, or by its slot.
 use crate::failure::Failure;
 use crate::names::petscii;
+use crate::what::What;
 use crate::word_fault::WordFault;
 use cbm_shell::texts::Charset;
 use cbm_volume::Entry;
@@ -42,14 +43,14 @@ pub fn slot_named(entries: &[Entry], codes: &[u8]) -> Option<usize> {
 }
 
 /// The number of a slot. The one error is `NoFile`, with the word for the file, where no slot has it.
-pub fn slot_number<'a>(slot: usize, word: &'a str) -> Result<u8, Failure<'a>> {
-    u8::try_from(slot).map_err(|_| Failure::NoFile(word))
+pub fn slot_number(alloc: Global, slot: usize, word: &str) -> Result<u8, Failure> {
+    u8::try_from(slot).map_err(|_| Failure::named(alloc, What::NoFile, word))
 }
 
 /// The slot of a number, if it has a file.
-fn slot_numbered<'a>(entries: &[Entry], word: &'a str) -> Result<Option<usize>, Failure<'a>> {
+fn slot_numbered(alloc: Global, entries: &[Entry], word: &str) -> Result<Option<usize>, Failure> {
     let Ok(slot) = word.parse::<u8>() else {
-        return Err(Failure::Word(WordFault::Slot(word)));
+        return Err(Failure::named(alloc, What::Word(WordFault::Slot), word));
     };
     match entries.get(usize::from(slot)) {
         Some(entry) if !entry.is_empty() => Ok(Some(usize::from(slot))),
@@ -59,13 +60,9 @@ fn slot_numbered<'a>(entries: &[Entry], word: &'a str) -> Result<Option<usize>, 
 
 /// The slot of the file that is chosen, among these entries. Errors: `Word`, where the name can't be typed or the slot is no
 /// number; `NoFile`, where there is none; `NoMemory`.
-pub fn slot_chosen<'a>(
-    alloc: Global,
-    entries: &[Entry],
-    choice: Choice<'a>,
-) -> Result<usize, Failure<'a>> {
+pub fn slot_chosen(alloc: Global, entries: &[Entry], choice: Choice<'_>) -> Result<usize, Failure> {
     let slot = match choice.slot {
-        Some(word) => slot_numbered(entries, word)?,
+        Some(word) => slot_numbered(alloc, entries, word)?,
         None => {
             let codes = petscii(alloc, choice.charset, choice.name)?;
             slot_named(entries, codes.as_slice())
@@ -73,6 +70,6 @@ pub fn slot_chosen<'a>(
     };
     match slot {
         Some(slot) => Ok(slot),
-        None => Err(Failure::NoFile(choice.word())),
+        None => Err(Failure::named(alloc, What::NoFile, choice.word())),
     }
 }

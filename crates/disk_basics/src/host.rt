@@ -1,5 +1,6 @@
 //! Files of the host, standard input and standard output.
 use crate::failure::{Failure, in_memory};
+use crate::what::What;
 use cbm_shell::foreign_of;
 use disk_facts::{WideMap, wide_map};
 use host_files::{GREATEST_IMAGE, Leftovers, Sync, read_whole};
@@ -17,125 +18,116 @@ const STANDARD: &str = "-";
 const GREATEST_FILE: u64 = 16_777_216;
 
 /// What reading to the end came to, where that comes before more than this many bytes.
-fn whole<'a>(
-    name: &'a str,
+fn whole(
+    alloc: Global,
+    name: &str,
     read: io::Result<Option<Vec<u8>>>,
     most: u64,
-) -> Result<Vec<u8>, Failure<'a>> {
+) -> Result<Vec<u8>, Failure> {
     match read {
         Ok(Some(bytes)) => Ok(bytes),
-        Ok(None) => Err(Failure::TooLong(name, most)),
-        Err(error) => Err(Failure::Read(name, error.kind())),
+        Ok(None) => Err(Failure::named(alloc, What::TooLong(most), name)),
+        Err(error) => Err(Failure::named(alloc, What::Read(error.kind()), name)),
     }
 }
 
 /// Reads a file of the host, or standard input, of at most this many bytes.
-fn read<'a, R: Runtime + AllocGlobal>(
-    rt: &R,
-    name: &'a str,
-    most: u64,
-) -> Result<Vec<u8>, Failure<'a>> {
+fn read<R: Runtime + AllocGlobal>(rt: &R, name: &str, most: u64) -> Result<Vec<u8>, Failure> {
     if name == STANDARD {
         let bytes = read_whole(rt.alloc(), rt.reader(), most);
-        return whole("standard input", bytes, most);
+        return whole(rt.alloc(), "standard input", bytes, most);
     }
     match host_files::open(rt, name) {
-        Ok(file) => whole(name, host_files::read_file(rt.alloc(), file, most), most),
-        Err(error) => Err(Failure::Read(name, error.kind())),
+        Ok(file) => whole(
+            rt.alloc(),
+            name,
+            host_files::read_file(rt.alloc(), file, most),
+            most,
+        ),
+        Err(error) => Err(Failure::named(rt.alloc(), What::Read(error.kind()), name)),
     }
 }
 
 /// Reads a file that may be an image or an archive of another kind. Errors: `Read`; `TooLong`, for more bytes than an image has.
-pub fn read_any<'a, R: Runtime + AllocGlobal>(
-    rt: &R,
-    name: &'a str,
-) -> Result<Vec<u8>, Failure<'a>> {
+pub fn read_any<R: Runtime + AllocGlobal>(rt: &R, name: &str) -> Result<Vec<u8>, Failure> {
     read(rt, name, GREATEST_IMAGE)
 }
 
 /// Reads an image. A file that by its first bytes or its size is none of a 1541's disk is refused. Errors: `Read`;
 /// `TooLong`, for more bytes than an image has; `Foreign`.
-pub fn read_image<'a, R: Runtime + AllocGlobal>(
-    rt: &R,
-    name: &'a str,
-) -> Result<Vec<u8>, Failure<'a>> {
+pub fn read_image<R: Runtime + AllocGlobal>(rt: &R, name: &str) -> Result<Vec<u8>, Failure> {
     let bytes = read_any(rt, name)?;
-    require_ours(name, bytes.as_slice())?;
+    require_ours(rt.alloc(), name, bytes.as_slice())?;
     Ok(bytes)
 }
 
 /// Refuses a file that by its first bytes or its size is no image of a 1541's disk. The one error is `Foreign`.
-pub fn require_ours<'a>(name: &'a str, bytes: &[u8]) -> Result<(), Failure<'a>> {
+pub fn require_ours(alloc: Global, name: &str, bytes: &[u8]) -> Result<(), Failure> {
     match foreign_of(bytes) {
-        Some(foreign) => Err(Failure::Foreign(name, foreign, bytes.len())),
+        Some(foreign) => Err(Failure::named(alloc, What::Foreign(foreign, bytes.len()), name)),
         None => Ok(()),
     }
 }
 
 /// Reads an image that is changed by writing its BAM. Errors: those of `read_image`; `OtherMap`, where Dolphin DOS has its map
 /// of tracks 36 to 40 on the disk.
-pub fn read_to_change<'a, R: Runtime + AllocGlobal>(
-    rt: &R,
-    name: &'a str,
-) -> Result<Vec<u8>, Failure<'a>> {
+pub fn read_to_change<R: Runtime + AllocGlobal>(rt: &R, name: &str) -> Result<Vec<u8>, Failure> {
     let bytes = read_image(rt, name)?;
-    require_own_map(name, bytes.as_slice())?;
+    require_own_map(rt.alloc(), name, bytes.as_slice())?;
     Ok(bytes)
 }
 
 /// Refuses an image on which Dolphin DOS has its map of tracks 36 to 40. The one error is `OtherMap`.
-pub fn require_own_map<'a>(name: &'a str, image: &[u8]) -> Result<(), Failure<'a>> {
+pub fn require_own_map(alloc: Global, name: &str, image: &[u8]) -> Result<(), Failure> {
     match wide_map(image) {
-        Some(WideMap::Dolphin | WideMap::Both) => Err(Failure::OtherMap(name)),
+        Some(WideMap::Dolphin | WideMap::Both) => Err(Failure::named(alloc, What::OtherMap, name)),
         Some(WideMap::Speed) | None => Ok(()),
     }
 }
 
 /// Reads a file that is put on a disk. Errors: `Read`; `TooLong`, for more than 16 MB.
-pub fn read_file<'a, R: Runtime + AllocGlobal>(
-    rt: &R,
-    name: &'a str,
-) -> Result<Vec<u8>, Failure<'a>> {
+pub fn read_file<R: Runtime + AllocGlobal>(rt: &R, name: &str) -> Result<Vec<u8>, Failure> {
     read(rt, name, GREATEST_FILE)
 }
 
 /// The path of a name that is written to. The one error is `Write`, where the name is no
 /// UTF-8 or memory runs out.
-pub fn path_of(alloc: Global, name: &str) -> Result<String, Failure<'_>> {
+pub fn path_of(alloc: Global, name: &str) -> Result<String, Failure> {
     match host_files::path_of(alloc, name) {
         Ok(path) => Ok(path),
-        Err(error) => Err(Failure::Write(name, error.kind())),
+        Err(error) => Err(Failure::named(alloc, What::Write(error.kind()), name)),
     }
 }
 
 /// What writing to a name came to.
-fn written(name: &str, answer: io::Result<()>) -> Result<(), Failure<'_>> {
+fn written(alloc: Global, name: &str, answer: io::Result<()>) -> Result<(), Failure> {
     match answer {
         Ok(()) => Ok(()),
-        Err(error) => Err(Failure::Write(name, error.kind())),
+        Err(error) => Err(Failure::named(alloc, What::Write(error.kind()), name)),
     }
 }
 
 /// Prints bytes on standard output. The one error is `Write`.
-pub fn print<'a, R: Runtime + AllocGlobal>(rt: &R, bytes: &[u8]) -> Result<(), Failure<'a>> {
+pub fn print<R: Runtime + AllocGlobal>(rt: &R, bytes: &[u8]) -> Result<(), Failure> {
     let mut output = io::writer(rt);
-    written("standard output", output.write_all(bytes))
+    written(rt.alloc(), "standard output", output.write_all(bytes))
 }
 
 /// Writes a file whole or not at all, or standard output. A new image is on the host's disk before it takes the place of
 /// the old one; of a file that was taken out the image still has the bytes, so nothing waits for the host's disk. The one
 /// error is `Write`.
-pub fn write<'a, R: Runtime + AllocGlobal>(
+pub fn write<R: Runtime + AllocGlobal>(
     rt: &R,
-    name: &'a str,
+    name: &str,
     bytes: &[u8],
     sync: Sync,
-) -> Result<(), Failure<'a>> {
+) -> Result<(), Failure> {
     if name == STANDARD {
         return print(rt, bytes);
     }
     let path = path_of(rt.alloc(), name)?;
     written(
+        rt.alloc(),
         name,
         host_files::save_by(rt, PROGRAM, path.as_str(), bytes, sync),
     )
@@ -143,14 +135,15 @@ pub fn write<'a, R: Runtime + AllocGlobal>(
 
 /// Writes one of several files that are taken out whole or not at all, as `write` does: what a killed program left in their folder is
 /// looked for once. The one error is `Write`.
-pub fn write_among<'a, R: Runtime + AllocGlobal>(
+pub fn write_among<R: Runtime + AllocGlobal>(
     rt: &R,
-    name: &'a str,
+    name: &str,
     bytes: &[u8],
     left: &mut Leftovers,
-) -> Result<(), Failure<'a>> {
+) -> Result<(), Failure> {
     let path = path_of(rt.alloc(), name)?;
     written(
+        rt.alloc(),
         name,
         host_files::save_among(rt, PROGRAM, path.as_str(), bytes, Sync::Later, left),
     )
@@ -158,20 +151,20 @@ pub fn write_among<'a, R: Runtime + AllocGlobal>(
 
 /// Saves an image in place of the one that was read, as `write` does, if that is still there; or writes it to standard
 /// output. Errors: `Changed`, where it isn't; `Write`.
-pub fn replace<'a, R: Runtime + AllocGlobal>(
+pub fn replace<R: Runtime + AllocGlobal>(
     rt: &R,
-    name: &'a str,
+    name: &str,
     old: &[u8],
     new: &[u8],
-) -> Result<(), Failure<'a>> {
+) -> Result<(), Failure> {
     if name == STANDARD {
         return print(rt, new);
     }
     let path = path_of(rt.alloc(), name)?;
     match host_files::replace(rt, PROGRAM, path.as_str(), old, new) {
         Ok(true) => Ok(()),
-        Ok(false) => Err(Failure::Changed(name)),
-        Err(error) => Err(Failure::Write(name, error.kind())),
+        Ok(false) => Err(Failure::named(rt.alloc(), What::Changed, name)),
+        Err(error) => Err(Failure::named(rt.alloc(), What::Write(error.kind()), name)),
     }
 }
 
@@ -181,13 +174,13 @@ pub fn is_standard(name: &str) -> bool {
 }
 
 /// Refuses to write where a file is already, unless it is to be replaced. The one error is `Exists`.
-pub fn require_new<'a, R: Runtime + AllocGlobal>(
+pub fn require_new<R: Runtime + AllocGlobal>(
     rt: &R,
-    name: &'a str,
+    name: &str,
     replaces: bool,
-) -> Result<(), Failure<'a>> {
+) -> Result<(), Failure> {
     if !replaces && !is_standard(name) && exists(rt, name) {
-        return Err(Failure::Exists(name));
+        return Err(Failure::named(rt.alloc(), What::Exists, name));
     }
     Ok(())
 }
@@ -198,7 +191,7 @@ pub fn exists<R: Runtime + AllocGlobal>(rt: &R, name: &str) -> bool {
 }
 
 /// A text of parts, each after the one before. The one error is `NoMemory`.
-pub fn joined<'a>(alloc: Global, parts: &[&[u8]]) -> Result<Vec<u8>, Failure<'a>> {
+pub fn joined(alloc: Global, parts: &[&[u8]]) -> Result<Vec<u8>, Failure> {
     let mut text = Vec::new(alloc);
     for part in parts {
         in_memory(text.extend_from_slice(part))?;

@@ -1,7 +1,9 @@
 //! The types of files by the endings of their names.
 use crate::failure::Failure;
+use crate::what::What;
 use crate::word_fault::WordFault;
 use cbm_volume::{Entry, FileType};
+use std::alloc::Global;
 use std::path::Path;
 
 /// How the text of an OPEN ends that writes a program.
@@ -51,7 +53,7 @@ pub enum FileKind {
 }
 
 /// The kind for a type that is said.
-fn said(kind: &str) -> Result<FileKind, Failure<'_>> {
+fn said(alloc: Global, kind: &str) -> Result<FileKind, Failure> {
     if kind == RELATIVE {
         return Ok(FileKind::Relative);
     }
@@ -60,7 +62,7 @@ fn said(kind: &str) -> Result<FileKind, Failure<'_>> {
             return Ok(FileKind::Plain(*end));
         }
     }
-    Err(Failure::Word(WordFault::Type(kind)))
+    Err(Failure::named(alloc, What::Word(WordFault::Type), kind))
 }
 
 /// The kind for an ending; that of a program where it says none.
@@ -79,9 +81,9 @@ fn told(ending: &str) -> FileKind {
 
 /// The kind of a file: by the type that is said, or by the ending of its name. Errors: `Word`, where the type that is
 /// said is none.
-pub fn kind_of_file<'a>(kind: Option<&'a str>, file: &str) -> Result<FileKind, Failure<'a>> {
+pub fn kind_of_file(alloc: Global, kind: Option<&str>, file: &str) -> Result<FileKind, Failure> {
     match kind {
-        Some(kind) => said(kind),
+        Some(kind) => said(alloc, kind),
         None => Ok(told(Path::new(file).extension().unwrap_or(""))),
     }
 }

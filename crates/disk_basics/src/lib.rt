@@ -18,6 +18,7 @@ mod refusal;
 pub mod rests;
 pub mod spare;
 pub mod swaps;
+mod what;
 mod word_fault;
 
 pub use break_off::{BreakOff, Cause};
@@ -28,4 +29,5 @@ pub use flaws::{is_mendable, place_of, slots_of};
 pub use formats::{form, format};
 pub use kinds::{FileKind, is_relative_name, is_wrapped_name, kind_of_entry, kind_of_file};
 pub use names::{file_name, id_codes, name_of_file, petscii, require_name, title_of};
+pub use what::What;
 pub use word_fault::WordFault;

@@ -4,6 +4,7 @@ ghost use Rattle.std.specs.Prelude.{◌≤◌, length, IfOk};
 use crate::calls::read_name;
 use crate::failure::Failure;
 use crate::host::is_standard;
+use crate::what::What;
 use crate::word_fault::WordFault;
 use cbm_shell::texts::Charset;
 use std::alloc::Global;
@@ -19,32 +20,32 @@ const LONG_ID: usize = 5;
 
 /// A name as PETSCII, as it is typed in a character set. Errors: `Word`, where a character of it is none that is typed;
 /// `NoMemory`.
-pub fn petscii<'a>(alloc: Global, charset: Charset, name: &'a str) -> Result<Vec<u8>, Failure<'a>> {
+pub fn petscii(alloc: Global, charset: Charset, name: &str) -> Result<Vec<u8>, Failure> {
     match read_name(alloc, charset, name) {
         Ok(Some(codes)) => Ok(codes),
-        Ok(None) => Err(Failure::Word(WordFault::Name(name))),
-        Err(_) => Err(Failure::NoMemory),
+        Ok(None) => Err(Failure::named(alloc, What::Word(WordFault::Name), name)),
+        Err(_) => Err(Failure::new(What::NoMemory)),
     }
 }
 
 /// The codes of a title. Errors: those of `petscii`; `Word`, for more than sixteen codes.
-pub fn title_of<'a>(alloc: Global, charset: Charset, title: &'a str) -> Result<Vec<u8>, Failure<'a>>
+pub fn title_of(alloc: Global, charset: Charset, title: &str) -> Result<Vec<u8>, Failure>
     ensures { IfOk result (λ v. length v.items ≤ 16) }
 {
     let codes = petscii(alloc, charset, title)?;
     if codes.len() > LONGEST {
-        return Err(Failure::Word(WordFault::Title(title)));
+        return Err(Failure::named(alloc, What::Word(WordFault::Title), title));
     }
     Ok(codes)
 }
 
 /// The codes of an id: two, or five with those of the DOS. Errors: those of `petscii`; `Word`, for any other count.
-pub fn id_codes<'a>(alloc: Global, charset: Charset, id: &'a str) -> Result<Vec<u8>, Failure<'a>> {
+pub fn id_codes(alloc: Global, charset: Charset, id: &str) -> Result<Vec<u8>, Failure> {
     let codes = petscii(alloc, charset, id)?;
     if codes.len() == SHORT_ID || codes.len() == LONG_ID {
         return Ok(codes);
     }
-    Err(Failure::Word(WordFault::Id(id)))
+    Err(Failure::named(alloc, What::Word(WordFault::Id), id))
 }
 
 /// Whether a code divides the words of the drive's commands.
@@ -64,36 +65,28 @@ fn is_divided(codes: &[u8]) -> bool {
 
 /// Refuses codes that can't be the name of a file. Errors: `Word`, for more than sixteen of them, or one that divides the
 /// words of a command.
-pub fn require_name<'a>(name: &'a str, codes: &[u8]) -> Result<(), Failure<'a>> {
+pub fn require_name(alloc: Global, name: &str, codes: &[u8]) -> Result<(), Failure> {
     if codes.len() > LONGEST {
-        return Err(Failure::Word(WordFault::LongName(name)));
+        return Err(Failure::named(alloc, What::Word(WordFault::LongName), name));
     }
     if is_divided(codes) {
-        return Err(Failure::Word(WordFault::Divided(name)));
+        return Err(Failure::named(alloc, What::Word(WordFault::Divided), name));
     }
     Ok(())
 }
 
 /// The name of one file as PETSCII. Errors: those of `petscii` and of `require_name`.
-pub fn file_name<'a>(
-    alloc: Global,
-    charset: Charset,
-    name: &'a str,
-) -> Result<Vec<u8>, Failure<'a>> {
+pub fn file_name(alloc: Global, charset: Charset, name: &str) -> Result<Vec<u8>, Failure> {
     let codes = petscii(alloc, charset, name)?;
-    require_name(name, codes.as_slice())?;
+    require_name(alloc, name, codes.as_slice())?;
     Ok(codes)
 }
 
 /// The name that a file of the host gets on a disk: without its folder and its ending. Errors: `Word` for standard input,
 /// which has no name; those of `file_name`.
-pub fn name_of_file<'a>(
-    alloc: Global,
-    charset: Charset,
-    file: &'a str,
-) -> Result<Vec<u8>, Failure<'a>> {
+pub fn name_of_file(alloc: Global, charset: Charset, file: &str) -> Result<Vec<u8>, Failure> {
     if is_standard(file) {
-        return Err(Failure::Word(WordFault::NoName));
+        return Err(Failure::new(What::Word(WordFault::NoName)));
     }
     let stem = Path::new(file).file_stem().unwrap_or(file);
     file_name(alloc, charset, stem)

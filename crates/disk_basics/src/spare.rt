@@ -5,6 +5,7 @@ use crate::calls::entries;
 use crate::changing::dress;
 use crate::choice::{slot_named, slot_number};
 use crate::failure::{Failure, on_disk};
+use crate::what::What;
 use cbm_channel::{Code, Status};
 use cbm_shell::{Looks, ShellFault};
 use cbm_volume::Entry;
@@ -54,50 +55,55 @@ pub fn whole_name(entry: &Entry) -> &[u8]
 
 /// The image whose file in a slot has a name of at most sixteen bytes, and a lock or none. Errors: `NoFile`, where the directory has
 /// no such slot; `Disk`.
-pub fn named<'a>(
+pub fn named(
     alloc: Global,
-    image: &'a str,
+    image: &str,
     bytes: &[u8],
     slot: usize,
     name: &[u8],
     is_locked: bool,
-) -> Result<Vec<u8>, Failure<'a>> {
-    let entries = on_disk(image, entries(alloc, bytes))?;
+) -> Result<Vec<u8>, Failure> {
+    let entries = on_disk(alloc, image, entries(alloc, bytes))?;
     let Some(entry) = entries.as_slice().get(slot) else {
-        return Err(Failure::NoFile(image));
+        return Err(Failure::named(alloc, What::NoFile, image));
     };
     let looks = Looks {
         name: sixteen(name),
         blocks: entry.blocks(),
         is_locked,
     };
-    on_disk(image, dress(alloc, bytes, slot_number(slot, image)?, looks))
+    on_disk(
+        alloc,
+        image,
+        dress(alloc, bytes, slot_number(alloc, slot, image)?, looks),
+    )
 }
 
 /// The image whose file of a spare name has its own, and a lock or none. Errors: `NoFile`, where no file has the spare name; `Disk`.
-pub fn unspared<'a>(
+pub fn unspared(
     alloc: Global,
-    image: &'a str,
+    image: &str,
     bytes: &[u8],
     spare: &[u8],
     name: &[u8],
     is_locked: bool,
-) -> Result<Vec<u8>, Failure<'a>> {
-    let all = on_disk(image, entries(alloc, bytes))?;
+) -> Result<Vec<u8>, Failure> {
+    let all = on_disk(alloc, image, entries(alloc, bytes))?;
     match slot_named(all.as_slice(), spare) {
         Some(slot) => named(alloc, image, bytes, slot, name, is_locked),
-        None => Err(Failure::NoFile(image)),
+        None => Err(Failure::named(alloc, What::NoFile, image)),
     }
 }
 
 /// The fault that a name is there already.
-pub fn taken<'a>(image: &'a str) -> Failure<'a> {
-    Failure::Disk(
-        image,
-        ShellFault::Refused(Status {
+pub fn taken(alloc: Global, image: &str) -> Failure {
+    Failure::named(
+        alloc,
+        What::Disk(ShellFault::Refused(Status {
             code: Code::FileExists,
             first: 0,
             second: 0,
-        }),
+        })),
+        image,
     )
 }

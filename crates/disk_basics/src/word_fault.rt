@@ -34,15 +34,15 @@ const TRACKS: &str = " is no track: take 1 to 42, and 17.5 for the half track af
 
 /// Why a word of the command line is refused.
 #[derive(Clone, Copy)]
-pub enum WordFault<'a> {
+pub enum WordFault {
     /// A name has a character that no key of a C64 types, or a number that isn't whole.
-    Name(&'a str),
+    Name,
     /// A file's name has more than sixteen characters.
-    LongName(&'a str),
+    LongName,
     /// A name has one of `,` `=` `:` `"`, which divide the words of the drive's commands.
-    Divided(&'a str),
+    Divided,
     /// No slot of a directory has such a number.
-    Slot(&'a str),
+    Slot,
     /// A command is about one file, and neither its name nor its slot is said.
     NoFileName,
     /// A file gets one new name, and is said by its old one or by its slot.
@@ -54,113 +54,107 @@ pub enum WordFault<'a> {
     /// Standard input is read once, so it isn't image and file, nor two files.
     Twice,
     /// No file has such a type.
-    Type(&'a str),
+    Type,
     /// No file's bytes can have such a type.
-    PlainType(&'a str),
+    PlainType,
     /// A file gets a type, and isn't said by its name or by its slot, or the type is missing.
     NameAndType,
     /// A line of commands changes no image, or another one.
-    LineCommand(&'a str),
+    LineCommand,
     /// A word can't be said in a line of commands.
-    LineWord(&'a str),
+    LineWord,
     /// A quotation mark of a line has no other.
     OpenQuote,
     /// A relative file has records of a length that isn't given.
     Record,
     /// No record has such a length.
-    RecordLength(&'a str),
+    RecordLength,
     /// A line of a recipe is no file and no art, or both.
     Line,
     /// A text is no recipe of a disk, as was reported.
-    Recipe(&'a str),
+    Recipe,
     /// No directory is sorted by that.
-    Order(&'a str),
+    Order,
     /// A disk's title has more than sixteen characters.
-    Title(&'a str),
+    Title,
     /// A disk's id hasn't two characters, nor five.
-    Id(&'a str),
+    Id,
     /// No disk has this many tracks.
-    Tracks(&'a str),
+    Tracks,
     /// No G64 has such a track.
-    Track(&'a str),
+    Track,
     /// No disk has a sector of this number or track.
-    Sector(&'a str),
+    Sector,
     /// A G64 has 35 tracks.
     LongG64,
     /// No interleave is that.
-    Interleave(&'a str),
+    Interleave,
     /// No file of a recipe is laid there.
     Laying,
     /// No file is laid on the directory's track.
     DirectoryTrack,
     /// A C64 has no such character set.
-    Charset(&'a str),
+    Charset,
     /// No image has such a format, or the name doesn't say it.
-    Format(&'a str),
+    Format,
     /// The image has that format already.
-    SameFormat(&'a str),
+    SameFormat,
     /// The tracks of a disk or an archive of another kind aren't chosen.
-    OtherTracks(&'a str),
+    OtherTracks,
     /// The image has that many tracks already.
-    SameTracks(&'a str),
+    SameTracks,
 }
 
-impl<'a> WordFault<'a> {
-    /// The sentence: its start, the word, its end.
-    fn sentence(self) -> (&'static str, &'a str, &'static str) {
+impl WordFault {
+    /// The sentence before the word and after it.
+    fn sentence(self) -> (&'static str, &'static str) {
         match self {
-            WordFault::Name(name) => (NO_KEY, name, ANY_BYTE),
-            WordFault::LongName(name) => ("a file's name has at most 16 characters: ", name, ""),
-            WordFault::Divided(name) => (DIVIDING, name, ""),
-            WordFault::Slot(word) => ("", word, " is no slot: take 0 to 143"),
-            WordFault::NoFileName => ("say which file: its name, or --slot", "", ""),
+            WordFault::Name => (NO_KEY, ANY_BYTE),
+            WordFault::LongName => ("a file's name has at most 16 characters: ", ""),
+            WordFault::Divided => (DIVIDING, ""),
+            WordFault::Slot => ("", " is no slot: take 0 to 143"),
+            WordFault::NoFileName => ("say which file: its name, or --slot", ""),
             WordFault::TwoNames => (
                 "say the old name and the new one, or --slot and the new one",
                 "",
-                "",
             ),
-            WordFault::NoName => ("name the file by --name", "", ""),
-            WordFault::OneName => ("--name is for one file", "", ""),
-            WordFault::Twice => ("`-` is the image or one file, and stands once", "", ""),
-            WordFault::Type(kind) => ("", kind, " is no type of a file: take prg, seq, usr or rel"),
-            WordFault::PlainType(kind) => ("", kind, PLAIN_TYPES),
+            WordFault::NoName => ("name the file by --name", ""),
+            WordFault::OneName => ("--name is for one file", ""),
+            WordFault::Twice => ("`-` is the image or one file, and stands once", ""),
+            WordFault::Type => ("", " is no type of a file: take prg, seq, usr or rel"),
+            WordFault::PlainType => ("", PLAIN_TYPES),
             WordFault::NameAndType => (
                 "say the file's name and its new type, or --slot and the type",
                 "",
-                "",
             ),
-            WordFault::LineCommand(word) => ("", word, NO_LINE),
-            WordFault::LineWord(word) => ("", word, " can't be said in a line of `run`"),
-            WordFault::OpenQuote => ("a quotation mark has no other one", "", ""),
-            WordFault::Record => (RECORDS, "", ""),
-            WordFault::RecordLength(word) => ("records have 1 to 254 bytes, not ", word, ""),
-            WordFault::Line => ("an entry of a recipe has either `file` or `art`", "", ""),
-            WordFault::Recipe(name) => ("", name, " is no recipe of a disk: nothing is made"),
-            WordFault::Order(word) => { ("", word, " is no order: take name, type or size") }
-            WordFault::Title(title) => ("a title has at most 16 characters: ", title, ""),
-            WordFault::Id(id) => ("an id has two characters, or five: ", id, ""),
-            WordFault::Tracks(tracks) => ("a disk has 35 or 40 tracks, not ", tracks, ""),
-            WordFault::Charset(word) => ("", word, " is no character set: take upper or lower"),
-            WordFault::Sector(word) => ("no disk has such a sector: ", word, SECTORS),
-            WordFault::Track(word) => ("", word, TRACKS),
-            WordFault::Interleave(word) => ("an interleave is 1 to 20, not ", word, ""),
-            WordFault::DirectoryTrack => ("track 18 is the directory's: take another one", "", ""),
-            WordFault::Laying => (LAYING, "", ""),
-            WordFault::LongG64 => ("a G64 has 35 tracks here, not 40", "", ""),
-            WordFault::OtherTracks(name) => (
-                "--tracks is for a D64 of 35 or 40 tracks, not for ",
-                name,
-                "",
-            ),
-            WordFault::SameTracks(name) => ("", name, " has that many tracks already"),
-            WordFault::SameFormat(name) => ("", name, " has that format already"),
-            WordFault::Format(word) => ("", word, FORMATS),
+            WordFault::LineCommand => ("", NO_LINE),
+            WordFault::LineWord => ("", " can't be said in a line of `run`"),
+            WordFault::OpenQuote => ("a quotation mark has no other one", ""),
+            WordFault::Record => (RECORDS, ""),
+            WordFault::RecordLength => ("records have 1 to 254 bytes, not ", ""),
+            WordFault::Line => ("an entry of a recipe has either `file` or `art`", ""),
+            WordFault::Recipe => ("", " is no recipe of a disk: nothing is made"),
+            WordFault::Order => { ("", " is no order: take name, type or size") }
+            WordFault::Title => ("a title has at most 16 characters: ", ""),
+            WordFault::Id => ("an id has two characters, or five: ", ""),
+            WordFault::Tracks => ("a disk has 35 or 40 tracks, not ", ""),
+            WordFault::Charset => ("", " is no character set: take upper or lower"),
+            WordFault::Sector => ("no disk has such a sector: ", SECTORS),
+            WordFault::Track => ("", TRACKS),
+            WordFault::Interleave => ("an interleave is 1 to 20, not ", ""),
+            WordFault::DirectoryTrack => ("track 18 is the directory's: take another one", ""),
+            WordFault::Laying => (LAYING, ""),
+            WordFault::LongG64 => ("a G64 has 35 tracks here, not 40", ""),
+            WordFault::OtherTracks => ("--tracks is for a D64 of 35 or 40 tracks, not for ", ""),
+            WordFault::SameTracks => ("", " has that many tracks already"),
+            WordFault::SameFormat => ("", " has that format already"),
+            WordFault::Format => ("", FORMATS),
         }
     }
 
-    /// Prints the sentence on standard error.
-    pub fn tell(self, rt: &impl Eprint) -> io::Result<()> {
-        let (start, word, end) = self.sentence();
+    /// Prints the sentence on standard error, with the word.
+    pub fn tell(self, rt: &impl Eprint, word: &str) -> io::Result<()> {
+        let (start, end) = self.sentence();
         eprintln!(rt; "disk1541: {start}{word}{end}")
     }
 }

@@ -5,7 +5,7 @@ use cbm_shell::Form;
 use cbm_shell::texts::Charset;
 use disk_basics::changing::{new_image, remark};
 use disk_basics::host::{require_new, write};
-use disk_basics::{Failure, WordFault, form, format, id_codes, in_memory, on_disk, title_of};
+use disk_basics::{Failure, What, WordFault, form, format, id_codes, in_memory, on_disk, title_of};
 use host_files::Sync;
 use std::alloc::Global;
 use std::rt::Runtime;
@@ -35,7 +35,7 @@ struct Id {
 }
 
 /// The codes of an id.
-fn id_of<'a>(alloc: Global, charset: Charset, id: &'a str) -> Result<Id, Failure<'a>> {
+fn id_of(alloc: Global, charset: Charset, id: &str) -> Result<Id, Failure> {
     match id_codes(alloc, charset, id)?.as_slice() {
         [first, second] => Ok(Id {
             id: [*first, *second],
@@ -45,47 +45,43 @@ fn id_of<'a>(alloc: Global, charset: Charset, id: &'a str) -> Result<Id, Failure
             id: [*first, *second],
             mark: Some([*first, *second, *third, *dos, *version]),
         }),
-        _ => Err(Failure::Word(WordFault::Id(id))),
+        _ => Err(Failure::named(alloc, What::Word(WordFault::Id), id)),
     }
 }
 
 /// The image of an empty disk with a title.
-fn titled<'a>(
+fn titled(
     alloc: Global,
-    image: &'a str,
-    blank: &Blank<'a>,
+    image: &str,
+    blank: &Blank<'_>,
     form: Form,
     title: &[u8],
-) -> Result<Vec<u8>, Failure<'a>>
+) -> Result<Vec<u8>, Failure>
     requires { length title.now ≤ 16 }
 {
     let Id { id, mark } = id_of(alloc, blank.charset, blank.id)?;
     let new = in_memory(new_image(alloc, form, title, id))?;
     match mark {
-        Some(mark) => on_disk(image, remark(alloc, new.as_slice(), &mark)),
+        Some(mark) => on_disk(alloc, image, remark(alloc, new.as_slice(), &mark)),
         None => Ok(new),
     }
 }
 
 /// The image of an empty disk, for a name that may say its format. Errors: `Word`, where the format, the tracks, the
 /// title or the id can't be; `NoMemory`.
-pub fn blank_image<'a>(
-    alloc: Global,
-    image: &'a str,
-    blank: &Blank<'a>,
-) -> Result<Vec<u8>, Failure<'a>> {
-    let kind = format(image, blank.format)?;
-    let form = form(kind, blank.tracks)?;
+pub fn blank_image(alloc: Global, image: &str, blank: &Blank<'_>) -> Result<Vec<u8>, Failure> {
+    let kind = format(alloc, image, blank.format)?;
+    let form = form(alloc, kind, blank.tracks)?;
     let title = title_of(alloc, blank.charset, blank.title)?;
     titled(alloc, image, blank, form, title.as_slice())
 }
 
 /// Makes an image of an empty disk, if nothing is there. Errors: those of `blank_image`; `Exists`; `Write`.
-pub fn make<'a, R: Runtime + AllocGlobal>(
+pub fn make<R: Runtime + AllocGlobal>(
     rt: &R,
-    image: &'a str,
-    blank: &Blank<'a>,
-) -> Result<(), Failure<'a>> {
+    image: &str,
+    blank: &Blank<'_>,
+) -> Result<(), Failure> {
     let bytes = blank_image(rt.alloc(), image, blank)?;
     require_new(rt, image, blank.replaces)?;
     write(rt, image, bytes.as_slice(), Sync::Before)

@@ -4,13 +4,13 @@ mod laid;
 mod lines;
 mod ordered;
 
-use self::bench::{Bench, told};
+use self::bench::Bench;
 use self::laid::Lane;
 use self::lines::with_lines;
 use crate::blanks::{Blank, blank_image};
 use cbm_shell::texts::Charset;
 use disk_basics::host::{read_file, require_new, write};
-use disk_basics::{Failure, WordFault};
+use disk_basics::{Failure, What, WordFault};
 use disk_facts::is_image_name;
 use disk_recipes::{Recipe, RecipeFault, line_of_unknown, read_recipe};
 use host_files::Sync;
@@ -42,27 +42,23 @@ fn report<R: Runtime + AllocGlobal>(rt: &R, name: &str, text: &str, fault: Recip
 }
 
 /// The recipe of a text; what is wrong with it is reported.
-fn recipe_in<'a, R: Runtime + AllocGlobal>(
-    rt: &R,
-    name: &'a str,
-    text: &str,
-) -> Result<Recipe, Failure<'a>> {
+fn recipe_in<R: Runtime + AllocGlobal>(rt: &R, name: &str, text: &str) -> Result<Recipe, Failure> {
     match read_recipe(rt.alloc(), text) {
         Ok(recipe) => Ok(recipe),
-        Err(RecipeFault::Memory) => Err(Failure::NoMemory),
+        Err(RecipeFault::Memory) => Err(Failure::new(What::NoMemory)),
         Err(fault) => {
             report(rt, name, text, fault);
-            Err(Failure::Word(WordFault::Recipe(name)))
+            Err(Failure::named(rt.alloc(), What::Word(WordFault::Recipe), name))
         }
     }
 }
 
 /// Reads a recipe.
-fn recipe_of<'a, R: Runtime + AllocGlobal>(rt: &R, name: &'a str) -> Result<Recipe, Failure<'a>> {
+fn recipe_of<R: Runtime + AllocGlobal>(rt: &R, name: &str) -> Result<Recipe, Failure> {
     let bytes = read_file(rt, name)?;
     match std::str::from_utf8(bytes.as_slice()) {
         Ok(text) => recipe_in(rt, name, text),
-        Err(_) => Err(Failure::Word(WordFault::Recipe(name))),
+        Err(_) => Err(Failure::named(rt.alloc(), What::Word(WordFault::Recipe), name)),
     }
 }
 
@@ -104,13 +100,13 @@ fn folder_of(recipe: &str) -> &str {
 }
 
 /// The image of the disk that a recipe describes, whose files are in a folder.
-fn built<'r, R: Runtime + AllocGlobal>(
+fn built<R: Runtime + AllocGlobal>(
     rt: &R,
-    recipe: &'r Recipe,
-    image: &'r str,
-    folder: &'r str,
+    recipe: &Recipe,
+    image: &str,
+    folder: &str,
     charset: Charset,
-) -> Result<Vec<u8>, Failure<'r>> {
+) -> Result<Vec<u8>, Failure> {
     let blank = blank_image(rt.alloc(), image, &blank_of(recipe, image, charset))?;
     let bench = Bench {
         image,
@@ -121,23 +117,16 @@ fn built<'r, R: Runtime + AllocGlobal>(
     with_lines(rt, bench, lane, recipe.lines.as_slice(), blank)
 }
 
-/// The image of the disk that a recipe describes; what is wrong with its lines is reported.
-fn built_of<'a, R: Runtime + AllocGlobal>(
-    rt: &R,
-    build: &Build<'a>,
-) -> Result<Vec<u8>, Failure<'a>> {
+/// The image of the disk that a recipe describes.
+fn built_of<R: Runtime + AllocGlobal>(rt: &R, build: &Build<'_>) -> Result<Vec<u8>, Failure> {
     let recipe = recipe_of(rt, build.recipe)?;
     let folder = folder_of(build.recipe);
-    let made = built(rt, &recipe, build.image, folder, build.charset);
-    told(rt, made)
+    built(rt, &recipe, build.image, folder, build.charset)
 }
 
 /// Builds an image, all of it or nothing. Errors: `Exists`; `Read`, `TooLong` or `Word`, where the recipe can't be read
-/// or is none; `Ended`, where its lines can't be built, as is reported; `NoMemory`; `Write`.
-pub fn build_image<'a, R: Runtime + AllocGlobal>(
-    rt: &R,
-    build: &Build<'a>,
-) -> Result<(), Failure<'a>> {
+/// or is none; those of its lines; `NoMemory`; `Write`.
+pub fn build_image<R: Runtime + AllocGlobal>(rt: &R, build: &Build<'_>) -> Result<(), Failure> {
     require_new(rt, build.image, build.replaces)?;
     let image = built_of(rt, build)?;
     write(rt, build.image, image.as_slice(), Sync::Before)

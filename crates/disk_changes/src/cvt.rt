@@ -8,7 +8,7 @@ use disk_basics::calls::entries;
 use disk_basics::changing::carve;
 use disk_basics::spare::has_name;
 use disk_basics::{
-    Disk, Failure, FileKind, in_memory, kind_of_entry, on_disk, slot_named, slot_number,
+    Disk, Failure, FileKind, What, in_memory, kind_of_entry, on_disk, slot_named, slot_number,
 };
 use std::alloc::{AllocError, Global};
 
@@ -246,13 +246,13 @@ fn entry_at(cvt: &Cvt<'_>, places: &[Address], name: &[u8]) -> Entry {
 }
 
 /// The image with as many blocks as a CVT's file has, in a file of a name for now.
-fn with_room<'a>(
+fn with_room(
     alloc: Global,
-    image: &'a str,
+    image: &str,
     old: &[u8],
     cvt: &Cvt<'_>,
     kind: FileKind,
-) -> Result<Vec<u8>, Failure<'a>> {
+) -> Result<Vec<u8>, Failure> {
     let count = count_of(cvt).saturating_mul(BLOCK);
     let zeros = in_memory(vec![in alloc; 0u8; count])?;
     let stored = Stored {
@@ -266,47 +266,51 @@ fn with_room<'a>(
 }
 
 /// The image whose file of a name for now is that of a CVT. Errors: `CutOff`, where the CVT is; `Disk`; `NoMemory`.
-fn carved<'a>(
+fn carved(
     alloc: Global,
-    image: &'a str,
+    image: &str,
     bytes: &[u8],
-    file: &'a str,
+    file: &str,
     cvt: &Cvt<'_>,
     name: &[u8],
-) -> Result<Vec<u8>, Failure<'a>> {
-    let disk = on_disk(image, Disk::open(alloc, bytes))?;
-    let entries = on_disk(image, disk.entries(alloc))?;
+) -> Result<Vec<u8>, Failure> {
+    let disk = on_disk(alloc, image, Disk::open(alloc, bytes))?;
+    let entries = on_disk(alloc, image, disk.entries(alloc))?;
     let Some(slot) = slot_named(entries.as_slice(), FOR_NOW) else {
-        return Err(Failure::NoFile(file));
+        return Err(Failure::named(alloc, What::NoFile, file));
     };
     let Some(entry) = entries.as_slice().get(slot) else {
-        return Err(Failure::NoFile(file));
+        return Err(Failure::named(alloc, What::NoFile, file));
     };
     let places = in_memory(disk.blocks(alloc, entry))?;
     let Some(blocks) = in_memory(blocks_at(alloc, cvt, places.as_slice()))? else {
-        return Err(Failure::CutOff(file));
+        return Err(Failure::named(alloc, What::CutOff, file));
     };
     let new = entry_at(cvt, places.as_slice(), name);
-    let slot = slot_number(slot, file)?;
-    on_disk(image, carve(alloc, bytes, slot, &new, blocks.as_slice()))
+    let slot = slot_number(alloc, slot, file)?;
+    on_disk(
+        alloc,
+        image,
+        carve(alloc, bytes, slot, &new, blocks.as_slice()),
+    )
 }
 
 /// The image with the file of GEOS that a CVT is, under this name. Errors: `GeosThere`, where a file has the name; `CutOff`; `Disk`, where
 /// the disk refuses it; `DirectoryFull`; `NoMemory`.
-pub fn with_cvt<'a>(
+pub fn with_cvt(
     alloc: Global,
-    image: &'a str,
+    image: &str,
     old: &[u8],
-    file: &'a str,
+    file: &str,
     cvt: &Cvt<'_>,
     name: &[u8],
-) -> Result<Vec<u8>, Failure<'a>> {
+) -> Result<Vec<u8>, Failure> {
     let Some(kind) = kind_of_entry(&cvt.entry) else {
-        return Err(Failure::CutOff(file));
+        return Err(Failure::named(alloc, What::CutOff, file));
     };
-    let entries = on_disk(image, entries(alloc, old))?;
+    let entries = on_disk(alloc, image, entries(alloc, old))?;
     if has_name(entries.as_slice(), name) {
-        return Err(Failure::GeosThere(file));
+        return Err(Failure::named(alloc, What::GeosThere, file));
     }
     let roomy = with_room(alloc, image, old, cvt, kind)?;
     carved(alloc, image, roomy.as_slice(), file, cvt, name)

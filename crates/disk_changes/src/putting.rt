@@ -6,7 +6,7 @@ use cbm_shell::{DiskChange, unwrapped};
 use disk_basics::changing::changes;
 use disk_basics::host::{is_standard, read_file, require_own_map};
 use disk_basics::{
-    Failure, FileKind, WordFault, file_name, in_memory, is_wrapped_name, kind_of_file,
+    Failure, FileKind, What, WordFault, file_name, in_memory, is_wrapped_name, kind_of_file,
     name_of_file, require_name,
 };
 use std::alloc::{AllocError, Global};
@@ -57,18 +57,18 @@ pub fn body_of<'b>(file: &str, bytes: &'b [u8]) -> Body<'b> {
 }
 
 /// The name that a file's own bytes give.
-fn told_name<'a>(alloc: Global, file: &'a str, codes: &[u8]) -> Result<Vec<u8>, Failure<'a>> {
-    require_name(file, codes)?;
+fn told_name(alloc: Global, file: &str, codes: &[u8]) -> Result<Vec<u8>, Failure> {
+    require_name(alloc, file, codes)?;
     in_memory(Vec::from_slice(alloc, codes))
 }
 
 /// A file's name on the disk.
-fn name_of<'a>(
+fn name_of(
     alloc: Global,
-    file: &'a str,
-    put: &HostFiles<'a>,
+    file: &str,
+    put: &HostFiles<'_>,
     told: Option<&[u8]>,
-) -> Result<Vec<u8>, Failure<'a>> {
+) -> Result<Vec<u8>, Failure> {
     match (put.name, told) {
         (Some(name), _) => file_name(alloc, put.charset, name),
         (None, Some(codes)) => told_name(alloc, file, codes),
@@ -77,32 +77,32 @@ fn name_of<'a>(
 }
 
 /// The length of records of a word.
-fn record_of(word: &str) -> Result<u8, Failure<'_>> {
+fn record_of(alloc: Global, word: &str) -> Result<u8, Failure> {
     match word.parse::<u8>() {
         Ok(length @ 1..=254) => Ok(length),
-        _ => Err(Failure::Word(WordFault::RecordLength(word))),
+        _ => Err(Failure::named(alloc, What::Word(WordFault::RecordLength), word)),
     }
 }
 
 /// The length of a file's records, if that is known.
-fn record<'a>(put: &HostFiles<'a>, body: Body<'_>) -> Result<Option<u8>, Failure<'a>> {
+fn record(alloc: Global, put: &HostFiles<'_>, body: Body<'_>) -> Result<Option<u8>, Failure> {
     match put.record {
-        Some(word) => Ok(Some(record_of(word)?)),
+        Some(word) => Ok(Some(record_of(alloc, word)?)),
         None => Ok(body.record),
     }
 }
 
 /// The image with the file of these bytes on it.
-fn put_body<'a>(
+fn put_body(
     alloc: Global,
-    image: &'a str,
+    image: &str,
     old: &[u8],
-    file: &'a str,
-    put: &HostFiles<'a>,
+    file: &str,
+    put: &HostFiles<'_>,
     body: Body<'_>,
-) -> Result<Vec<u8>, Failure<'a>> {
-    let kind = kind_of_file(put.kind, file)?;
-    let record = record(put, body)?;
+) -> Result<Vec<u8>, Failure> {
+    let kind = kind_of_file(alloc, put.kind, file)?;
+    let record = record(alloc, put, body)?;
     let name = name_of(alloc, file, put, body.name)?;
     let file = Stored {
         name: name.as_slice(),
@@ -115,11 +115,11 @@ fn put_body<'a>(
 }
 
 /// Reads a file, or takes what standard input gave.
-fn read_given<'a, R: Runtime + AllocGlobal>(
+fn read_given<R: Runtime + AllocGlobal>(
     rt: &R,
-    file: &'a str,
-    put: &HostFiles<'a>,
-) -> Result<Vec<u8>, Failure<'a>> {
+    file: &str,
+    put: &HostFiles<'_>,
+) -> Result<Vec<u8>, Failure> {
     match put.input {
         Some(input) if is_standard(file) => in_memory(Vec::from_slice(rt.alloc(), input)),
         _ => read_file(rt, file),
@@ -127,14 +127,14 @@ fn read_given<'a, R: Runtime + AllocGlobal>(
 }
 
 /// The image with the file of GEOS on it that a CVT is.
-fn put_cvt<'a>(
+fn put_cvt(
     alloc: Global,
-    image: &'a str,
+    image: &str,
     old: &[u8],
-    file: &'a str,
-    put: &HostFiles<'a>,
+    file: &str,
+    put: &HostFiles<'_>,
     cvt: &Cvt<'_>,
-) -> Result<Vec<u8>, Failure<'a>> {
+) -> Result<Vec<u8>, Failure> {
     let name = match put.name {
         Some(name) => file_name(alloc, put.charset, name)?,
         None => in_memory(Vec::from_slice(alloc, name_in(cvt)))?,
@@ -152,31 +152,36 @@ pub fn tell_empty(rt: &impl Eprint, file: &str, kind: FileKind, bytes: &[u8]) {
 }
 
 /// The image with a file on it.
-fn put_one<'a, R: Runtime + AllocGlobal>(
+fn put_one<R: Runtime + AllocGlobal>(
     rt: &R,
-    image: &'a str,
+    image: &str,
     old: &[u8],
-    file: &'a str,
-    put: &HostFiles<'a>,
-) -> Result<Vec<u8>, Failure<'a>> {
+    file: &str,
+    put: &HostFiles<'_>,
+) -> Result<Vec<u8>, Failure> {
     let bytes = read_given(rt, file, put)?;
     if let Some(cvt) = cvt_of(file, bytes.as_slice()) {
         return put_cvt(rt.alloc(), image, old, file, put, &cvt);
     }
     let body = body_of(file, bytes.as_slice());
     let new = put_body(rt.alloc(), image, old, file, put, body)?;
-    tell_empty(rt, file, kind_of_file(put.kind, file)?, body.bytes);
+    tell_empty(
+        rt,
+        file,
+        kind_of_file(rt.alloc(), put.kind, file)?,
+        body.bytes,
+    );
     Ok(new)
 }
 
 /// The image with one of several files on it. The one that can't be put is reported, as none is put then.
-fn put_among<'a, R: Runtime + AllocGlobal>(
+fn put_among<R: Runtime + AllocGlobal>(
     rt: &R,
-    image: &'a str,
+    image: &str,
     old: &[u8],
-    file: &'a str,
-    put: &HostFiles<'a>,
-) -> Result<Vec<u8>, Failure<'a>> {
+    file: &str,
+    put: &HostFiles<'_>,
+) -> Result<Vec<u8>, Failure> {
     let new = put_one(rt, image, old, file, put);
     if new.is_err() {
         tell_first(rt, file);
@@ -194,17 +199,17 @@ struct Loaded<'a> {
 }
 
 /// The end of the text of the OPEN that writes a file of bytes; none where the file isn't one.
-fn end_of(put: &HostFiles<'_>, file: &str) -> Option<&'static [u8]> {
-    match kind_of_file(put.kind, file) {
+fn end_of(alloc: Global, put: &HostFiles<'_>, file: &str) -> Option<&'static [u8]> {
+    match kind_of_file(alloc, put.kind, file) {
         Ok(FileKind::Plain(end)) => Some(end),
         _ => None,
     }
 }
 
 /// Whether all files are files of bytes.
-fn are_plain(files: &[&str], put: &HostFiles<'_>) -> bool {
+fn are_plain(alloc: Global, files: &[&str], put: &HostFiles<'_>) -> bool {
     for file in files {
-        if is_cvt_name(*file) || end_of(put, *file).is_none() {
+        if is_cvt_name(*file) || end_of(alloc, put, *file).is_none() {
             return false;
         }
     }
@@ -212,13 +217,13 @@ fn are_plain(files: &[&str], put: &HostFiles<'_>) -> bool {
 }
 
 /// The text of the OPEN that writes one of several files.
-fn text_for<'a>(
+fn text_for(
     alloc: Global,
-    file: &'a str,
-    put: &HostFiles<'a>,
+    file: &str,
+    put: &HostFiles<'_>,
     told: Option<&[u8]>,
     end: &[u8],
-) -> Result<Vec<u8>, Failure<'a>> {
+) -> Result<Vec<u8>, Failure> {
     let name = name_of(alloc, file, put, told)?;
     open_text(alloc, name.as_slice(), put.replaces, end)
 }
@@ -229,7 +234,7 @@ fn load_one<'a, R: Runtime + AllocGlobal>(
     file: &'a str,
     put: &HostFiles<'a>,
     end: &'static [u8],
-) -> Result<Loaded<'a>, Failure<'a>> {
+) -> Result<Loaded<'a>, Failure> {
     let bytes = read_given(rt, file, put)?;
     let body = body_of(file, bytes.as_slice());
     let head = bytes.len().saturating_sub(body.bytes.len());
@@ -253,10 +258,10 @@ fn load_all<'a, R: Runtime + AllocGlobal>(
     rt: &R,
     files: &[&'a str],
     put: &HostFiles<'a>,
-) -> Result<Vec<Loaded<'a>>, Failure<'a>> {
+) -> Result<Vec<Loaded<'a>>, Failure> {
     let mut all = Vec::new(rt.alloc());
     for file in files {
-        let end = end_of(put, *file).unwrap_or(&[]);
+        let end = end_of(rt.alloc(), put, *file).unwrap_or(&[]);
         let one = load_one(rt, *file, put, end);
         if one.is_err() {
             tell_first(rt, *file);
@@ -293,13 +298,13 @@ fn tell_refused<R: Runtime + AllocGlobal>(
 }
 
 /// The image with several files of bytes on it, which is opened once.
-fn put_plain<'a, R: Runtime + AllocGlobal>(
+fn put_plain<R: Runtime + AllocGlobal>(
     rt: &R,
-    image: &'a str,
+    image: &str,
     old: &[u8],
-    files: &[&'a str],
-    put: &HostFiles<'a>,
-) -> Result<Vec<u8>, Failure<'a>> {
+    files: &[&str],
+    put: &HostFiles<'_>,
+) -> Result<Vec<u8>, Failure> {
     let all = load_all(rt, files, put)?;
     let puts = in_memory(changes_of(rt.alloc(), all.as_slice()))?;
     let new = changes(rt.alloc(), old, puts.as_slice());
@@ -310,13 +315,13 @@ fn put_plain<'a, R: Runtime + AllocGlobal>(
 }
 
 /// The image with several files on it, one after another.
-fn put_each<'a, R: Runtime + AllocGlobal>(
+fn put_each<R: Runtime + AllocGlobal>(
     rt: &R,
-    image: &'a str,
+    image: &str,
     old: &[u8],
-    files: &[&'a str],
-    put: &HostFiles<'a>,
-) -> Result<Vec<u8>, Failure<'a>> {
+    files: &[&str],
+    put: &HostFiles<'_>,
+) -> Result<Vec<u8>, Failure> {
     let mut new = in_memory(Vec::from_slice(rt.alloc(), old))?;
     for file in files {
         new = put_among(rt, image, new.as_slice(), *file, put)?;
@@ -325,26 +330,26 @@ fn put_each<'a, R: Runtime + AllocGlobal>(
 }
 
 /// The image with the files on it.
-fn put_all<'a, R: Runtime + AllocGlobal>(
+fn put_all<R: Runtime + AllocGlobal>(
     rt: &R,
-    image: &'a str,
+    image: &str,
     old: &[u8],
-    files: &[&'a str],
-    put: &HostFiles<'a>,
-) -> Result<Vec<u8>, Failure<'a>> {
+    files: &[&str],
+    put: &HostFiles<'_>,
+) -> Result<Vec<u8>, Failure> {
     match files {
         [file] => put_one(rt, image, old, *file, put),
-        _ if are_plain(files, put) => put_plain(rt, image, old, files, put),
+        _ if are_plain(rt.alloc(), files, put) => put_plain(rt, image, old, files, put),
         _ => put_each(rt, image, old, files, put),
     }
 }
 
 /// Standard input is read once.
-fn require_once<'a>(image: &str, files: &[&str]) -> Result<(), Failure<'a>> {
+fn require_once(image: &str, files: &[&str]) -> Result<(), Failure> {
     let mut is_read = is_standard(image);
     for file in files {
         if is_read && is_standard(*file) {
-            return Err(Failure::Word(WordFault::Twice));
+            return Err(Failure::new(What::Word(WordFault::Twice)));
         }
         is_read = is_read || is_standard(*file);
     }
@@ -352,20 +357,16 @@ fn require_once<'a>(image: &str, files: &[&str]) -> Result<(), Failure<'a>> {
 }
 
 /// One name is that of one file.
-fn require_one<'a>(files: &[&str], put: &HostFiles<'a>) -> Result<(), Failure<'a>> {
+fn require_one(files: &[&str], put: &HostFiles<'_>) -> Result<(), Failure> {
     if put.name.is_some() && files.len() > 1 {
-        return Err(Failure::Word(WordFault::OneName));
+        return Err(Failure::new(What::Word(WordFault::OneName)));
     }
     Ok(())
 }
 
 /// Refuses words that don't fit together. The one error is `Word`, where standard input is wanted twice, or one name is given for
 /// several files.
-pub fn require_files<'a>(
-    image: &str,
-    files: &[&'a str],
-    put: &HostFiles<'a>,
-) -> Result<(), Failure<'a>> {
+pub fn require_files(image: &str, files: &[&str], put: &HostFiles<'_>) -> Result<(), Failure> {
     require_once(image, files)?;
     require_one(files, put)
 }
@@ -373,14 +374,14 @@ pub fn require_files<'a>(
 /// The image with files of the host on its disk, all of them or none. Errors: those of `require_files` and of `read_file`;
 /// `OtherMap`, where Dolphin DOS has its map on the disk; `Word`, where a name, a type or a length can't be; `Disk`, where the drive
 /// or the disk refuses it; `NoMemory`.
-pub fn with_files<'a, R: Runtime + AllocGlobal>(
+pub fn with_files<R: Runtime + AllocGlobal>(
     rt: &R,
-    image: &'a str,
+    image: &str,
     old: &[u8],
-    files: &[&'a str],
-    put: &HostFiles<'a>,
-) -> Result<Vec<u8>, Failure<'a>> {
+    files: &[&str],
+    put: &HostFiles<'_>,
+) -> Result<Vec<u8>, Failure> {
     require_files(image, files, put)?;
-    require_own_map(image, old)?;
+    require_own_map(rt.alloc(), image, old)?;
     put_all(rt, image, old, files, put)
 }

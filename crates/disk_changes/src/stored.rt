@@ -5,7 +5,7 @@ use disk_basics::calls::{entries, listed};
 use disk_basics::changing::{change, put_records};
 use disk_basics::host::joined;
 use disk_basics::spare::{has_name, taken};
-use disk_basics::{Failure, FileKind, WordFault, in_memory, on_disk};
+use disk_basics::{Failure, FileKind, What, WordFault, in_memory, on_disk};
 use disk_facts::count_files;
 use std::alloc::{AllocError, Global};
 
@@ -25,12 +25,12 @@ pub struct Stored<'b> {
 }
 
 /// The text of the OPEN that writes a file of bytes. The one error is `NoMemory`.
-pub fn open_text<'a>(
+pub fn open_text(
     alloc: Global,
     name: &[u8],
     replaces: bool,
     end: &[u8],
-) -> Result<Vec<u8>, Failure<'a>> {
+) -> Result<Vec<u8>, Failure> {
     let start: &[u8] = if replaces { b"@0:" } else { b"0:" };
     joined(alloc, &[start, name, end])
 }
@@ -51,34 +51,34 @@ fn is_directory_full(alloc: Global, image: &[u8], more: usize) -> bool {
 
 /// What a disk answered to so many files that are put, with the reason where the drive's status says less. Errors: `LockedThere`,
 /// where a file that is to be replaced is locked; `DirectoryFull`; `Disk`.
-pub fn put_answer<'a>(
+pub fn put_answer(
     alloc: Global,
-    image: &'a str,
+    image: &str,
     old: &[u8],
     files: usize,
     replaces: bool,
     answer: Result<Vec<u8>, ShellFault>,
-) -> Result<Vec<u8>, Failure<'a>> {
+) -> Result<Vec<u8>, Failure> {
     match answer {
         Err(ShellFault::Refused(status)) if replaces && status.code == Code::FileExists => {
-            Err(Failure::LockedThere(image))
+            Err(Failure::named(alloc, What::LockedThere, image))
         }
         Err(ShellFault::Refused(status))
             if status.code == Code::DiskFull && is_directory_full(alloc, old, files) => {
-            Err(Failure::DirectoryFull(image))
+            Err(Failure::named(alloc, What::DirectoryFull, image))
         }
-        _ => on_disk(image, answer),
+        _ => on_disk(alloc, image, answer),
     }
 }
 
 /// The image with a file of bytes one after another.
-fn plain<'a>(
+fn plain(
     alloc: Global,
-    image: &'a str,
+    image: &str,
     old: &[u8],
     file: &Stored<'_>,
     end: &[u8],
-) -> Result<Vec<u8>, Failure<'a>> {
+) -> Result<Vec<u8>, Failure> {
     let text = open_text(alloc, file.name, file.replaces, end)?;
     let put = DiskChange::File(text.as_slice(), file.bytes);
     let answer = change(alloc, old, &put);
@@ -101,39 +101,29 @@ fn records_of(alloc: Global, bytes: &[u8], length: u8) -> Result<Vec<&[u8]>, All
 }
 
 /// The image without the files of that name that aren't locked.
-fn without<'a>(
-    alloc: Global,
-    image: &'a str,
-    old: &[u8],
-    name: &[u8],
-) -> Result<Vec<u8>, Failure<'a>> {
+fn without(alloc: Global, image: &str, old: &[u8], name: &[u8]) -> Result<Vec<u8>, Failure> {
     let text = joined(alloc, &[b"S0:", name, b"\r"])?;
     let command = DiskChange::Command(text.as_slice());
-    on_disk(image, change(alloc, old, &command))
+    on_disk(alloc, image, change(alloc, old, &command))
 }
 
 /// Refuses a name that a file has: the drive's OPEN would take a relative file of it, and write over its records.
-fn require_free<'a>(
-    alloc: Global,
-    image: &'a str,
-    old: &[u8],
-    name: &[u8],
-) -> Result<(), Failure<'a>> {
-    let entries = on_disk(image, entries(alloc, old))?;
+fn require_free(alloc: Global, image: &str, old: &[u8], name: &[u8]) -> Result<(), Failure> {
+    let entries = on_disk(alloc, image, entries(alloc, old))?;
     if has_name(entries.as_slice(), name) {
-        return Err(taken(image));
+        return Err(taken(alloc, image));
     }
     Ok(())
 }
 
 /// The image with a relative file, where no other one has the name.
-fn with_records<'a>(
+fn with_records(
     alloc: Global,
-    image: &'a str,
+    image: &str,
     old: &[u8],
     file: &Stored<'_>,
     length: u8,
-) -> Result<Vec<u8>, Failure<'a>> {
+) -> Result<Vec<u8>, Failure> {
     require_free(alloc, image, old, file.name)?;
     let text = joined(alloc, &[b"0:", file.name, b",L,", &[length]])?;
     let records = in_memory(records_of(alloc, file.bytes, length))?;
@@ -141,18 +131,13 @@ fn with_records<'a>(
         text: text.as_slice(),
         records: records.as_slice(),
     };
-    on_disk(image, put_records(alloc, old, made))
+    on_disk(alloc, image, put_records(alloc, old, made))
 }
 
 /// The image with a relative file.
-fn relative<'a>(
-    alloc: Global,
-    image: &'a str,
-    old: &[u8],
-    file: &Stored<'_>,
-) -> Result<Vec<u8>, Failure<'a>> {
+fn relative(alloc: Global, image: &str, old: &[u8], file: &Stored<'_>) -> Result<Vec<u8>, Failure> {
     let Some(length @ 1..=254) = file.record else {
-        return Err(Failure::Word(WordFault::Record));
+        return Err(Failure::new(What::Word(WordFault::Record)));
     };
     if !file.replaces {
         return with_records(alloc, image, old, file, length);
@@ -163,12 +148,12 @@ fn relative<'a>(
 
 /// The image with the file on it. Errors: `Disk`, where the drive or the disk refuses it; `Word`, where the length of
 /// records isn't known; `NoMemory`.
-pub fn with_stored<'a>(
+pub fn with_stored(
     alloc: Global,
-    image: &'a str,
+    image: &str,
     old: &[u8],
     file: &Stored<'_>,
-) -> Result<Vec<u8>, Failure<'a>> {
+) -> Result<Vec<u8>, Failure> {
     match file.kind {
         FileKind::Plain(end) => plain(alloc, image, old, file, end),
         FileKind::Relative => relative(alloc, image, old, file),

@@ -8,7 +8,7 @@ use crate::sectors::sectors_in;
 use crate::side::Side;
 use cbm_shell::texts::Charset;
 use disk_basics::host::{is_standard, print, read_image};
-use disk_basics::{Failure, WordFault, in_memory, on_disk};
+use disk_basics::{Failure, What, WordFault, in_memory, on_disk};
 use disk_json::line;
 use std::alloc::{AllocError, Global};
 use std::rt::Runtime;
@@ -92,15 +92,15 @@ fn shown(alloc: Global, report: &Report<'_>, is_json: bool) -> Result<Vec<u8>, A
 }
 
 /// Prints what differs between the disks of two images. Answers whether nothing does.
-fn compare<'a, R: Runtime + AllocGlobal>(
+fn compare<R: Runtime + AllocGlobal>(
     rt: &R,
-    comparison: Comparison<'a>,
+    comparison: Comparison<'_>,
     first: &[u8],
     second: &[u8],
-) -> Result<bool, Failure<'a>> {
+) -> Result<bool, Failure> {
     let alloc = rt.alloc();
-    let first = on_disk(comparison.first, Side::open(alloc, first))?;
-    let second = on_disk(comparison.second, Side::open(alloc, second))?;
+    let first = on_disk(rt.alloc(), comparison.first, Side::open(alloc, first))?;
+    let second = on_disk(rt.alloc(), comparison.second, Side::open(alloc, second))?;
     let sides = Sides {
         first: &first,
         second: &second,
@@ -114,17 +114,14 @@ fn compare<'a, R: Runtime + AllocGlobal>(
 
 /// Prints what differs between two images. Errors: `Word`, where both are standard input; those of `read_image`; `Disk`; `Told`, where
 /// something differs; `Write`; `NoMemory`.
-pub fn diff<'a, R: Runtime + AllocGlobal>(
-    rt: &R,
-    comparison: Comparison<'a>,
-) -> Result<(), Failure<'a>> {
+pub fn diff<R: Runtime + AllocGlobal>(rt: &R, comparison: Comparison<'_>) -> Result<(), Failure> {
     if is_standard(comparison.first) && is_standard(comparison.second) {
-        return Err(Failure::Word(WordFault::Twice));
+        return Err(Failure::new(What::Word(WordFault::Twice)));
     }
     let first = read_image(rt, comparison.first)?;
     let second = read_image(rt, comparison.second)?;
     if compare(rt, comparison, first.as_slice(), second.as_slice())? {
         return Ok(());
     }
-    Err(Failure::Told)
+    Err(Failure::new(What::Told))
 }

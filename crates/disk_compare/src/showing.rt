@@ -4,7 +4,7 @@ use cbm_basic::after_program;
 use cbm_shell::ShellFault;
 use cbm_volume::Entry;
 use disk_basics::host::{print, read_image};
-use disk_basics::{Choice, Disk, Failure, in_memory, on_disk, petscii, slot_chosen};
+use disk_basics::{Choice, Disk, Failure, What, in_memory, on_disk, petscii, slot_chosen};
 use disk_facts::first_meant;
 use std::alloc::Global;
 use std::io;
@@ -20,11 +20,11 @@ pub struct Wanted<'a> {
 }
 
 /// The entry of the file that is said.
-fn entry_of<'a, 'e>(
+fn entry_of<'e>(
     alloc: Global,
     entries: &'e [Entry],
-    choice: Choice<'a>,
-) -> Result<&'e Entry, Failure<'a>> {
+    choice: Choice<'_>,
+) -> Result<&'e Entry, Failure> {
     let entry = if choice.is_pattern() {
         let pattern = petscii(alloc, choice.charset, choice.name)?;
         first_meant(entries, pattern.as_slice())
@@ -33,7 +33,7 @@ fn entry_of<'a, 'e>(
     };
     match entry {
         Some(entry) => Ok(entry),
-        None => Err(Failure::NoFile(choice.word())),
+        None => Err(Failure::named(alloc, What::NoFile, choice.word())),
     }
 }
 
@@ -46,16 +46,16 @@ fn closed_file(alloc: Global, disk: &Disk, entry: &Entry) -> Result<Vec<u8>, She
 }
 
 /// The bytes of the file that is said.
-fn file_of<'a>(
+fn file_of(
     alloc: Global,
-    image: &'a str,
+    image: &str,
     bytes: &[u8],
-    choice: Choice<'a>,
-) -> Result<Vec<u8>, Failure<'a>> {
-    let disk = on_disk(image, Disk::open(alloc, bytes))?;
+    choice: Choice<'_>,
+) -> Result<Vec<u8>, Failure> {
+    let disk = on_disk(alloc, image, Disk::open(alloc, bytes))?;
     let listed = in_memory(disk.listed(alloc))?;
     let entry = entry_of(alloc, listed.entries.as_slice(), choice)?;
-    on_disk(choice.word(), closed_file(alloc, &disk, entry))
+    on_disk(alloc, choice.word(), closed_file(alloc, &disk, entry))
 }
 
 /// Reports how many bytes follow a program that is listed.
@@ -72,11 +72,11 @@ fn tell_more(rt: &impl Eprint, form: Form, file: &[u8]) -> io::Result<()> {
 
 /// Shows a file of an image. Errors: those of `read_image`; `Word`, where the name can't be typed or the slot is no number; `NoFile`;
 /// `Disk`, where the file was never closed or can't be read; `Write`; `NoMemory`.
-pub fn show<'a, R: Runtime + AllocGlobal>(
+pub fn show<R: Runtime + AllocGlobal>(
     rt: &R,
-    image: &'a str,
-    wanted: Wanted<'a>,
-) -> Result<(), Failure<'a>> {
+    image: &str,
+    wanted: Wanted<'_>,
+) -> Result<(), Failure> {
     let bytes = read_image(rt, image)?;
     let file = file_of(rt.alloc(), image, bytes.as_slice(), wanted.choice)?;
     let text = screen_of(

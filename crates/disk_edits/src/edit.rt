@@ -9,7 +9,7 @@ use disk_basics::calls::{entries, name_text};
 use disk_basics::changing::{change, delete_in_slot};
 use disk_basics::host::{joined, require_own_map};
 use disk_basics::odd::{odd_slots, put_away};
-use disk_basics::{Failure, in_memory, on_disk, petscii};
+use disk_basics::{Failure, What, in_memory, on_disk, petscii};
 use disk_facts::is_meant;
 use std::alloc::Global;
 
@@ -27,7 +27,7 @@ pub enum Edit<'a, 'c> {
 }
 
 /// The drive's command that deletes the files of a pattern, with its return, as a name may end with one.
-fn text_of<'a>(alloc: Global, charset: Charset, pattern: &'a str) -> Result<Vec<u8>, Failure<'a>> {
+fn text_of(alloc: Global, charset: Charset, pattern: &str) -> Result<Vec<u8>, Failure> {
     let codes = petscii(alloc, charset, pattern)?;
     joined(alloc, &[b"S0:", codes.as_slice(), b"\r"])
 }
@@ -42,32 +42,32 @@ fn odd_slot(alloc: Global, bytes: &[u8], name: &[u8]) -> Result<Option<u8>, Shel
 }
 
 /// The image without the odd entry of exactly this name. The drive's SCRATCH passes odd entries over. Errors: `NoneDeleted`; `Disk`.
-fn deleted_odd<'a>(
+fn deleted_odd(
     alloc: Global,
-    image: &'a str,
+    image: &str,
     bytes: &[u8],
     charset: Charset,
-    word: &'a str,
-) -> Result<Vec<u8>, Failure<'a>> {
+    word: &str,
+) -> Result<Vec<u8>, Failure> {
     let name = petscii(alloc, charset, word)?;
-    match on_disk(image, odd_slot(alloc, bytes, name.as_slice()))? {
-        Some(slot) => on_disk(image, delete_in_slot(alloc, bytes, slot)),
-        None => Err(Failure::NoneDeleted(word)),
+    match on_disk(alloc, image, odd_slot(alloc, bytes, name.as_slice()))? {
+        Some(slot) => on_disk(alloc, image, delete_in_slot(alloc, bytes, slot)),
+        None => Err(Failure::named(alloc, What::NoneDeleted, word)),
     }
 }
 
 /// The image without the files that match. Where none does, or those are locked, the drive changes nothing; that is
 /// reported, and the image isn't saved anew.
-fn deleted<'a>(
+fn deleted(
     alloc: Global,
-    image: &'a str,
+    image: &str,
     bytes: &[u8],
     charset: Charset,
-    pattern: &'a str,
-) -> Result<Vec<u8>, Failure<'a>> {
+    pattern: &str,
+) -> Result<Vec<u8>, Failure> {
     let text = text_of(alloc, charset, pattern)?;
     let command = DiskChange::Command(text.as_slice());
-    let changed = on_disk(image, change(alloc, bytes, &command))?;
+    let changed = on_disk(alloc, image, change(alloc, bytes, &command))?;
     if changed.as_slice() == bytes {
         return deleted_odd(alloc, image, bytes, charset, pattern);
     }
@@ -75,13 +75,13 @@ fn deleted<'a>(
 }
 
 /// The image without the files that match one of the patterns.
-fn deleted_all<'a>(
+fn deleted_all(
     alloc: Global,
-    image: &'a str,
+    image: &str,
     bytes: &[u8],
     charset: Charset,
-    patterns: &[&'a str],
-) -> Result<Vec<u8>, Failure<'a>> {
+    patterns: &[&str],
+) -> Result<Vec<u8>, Failure> {
     let mut new = in_memory(Vec::from_slice(alloc, bytes))?;
     for pattern in patterns {
         new = deleted(alloc, image, new.as_slice(), charset, *pattern)?;
@@ -90,14 +90,14 @@ fn deleted_all<'a>(
 }
 
 /// The image with another title, and another id, where one is said.
-fn named<'a>(
+fn named(
     alloc: Global,
-    image: &'a str,
+    image: &str,
     bytes: &[u8],
     charset: Charset,
-    title: &'a str,
-    id: Option<&'a str>,
-) -> Result<Vec<u8>, Failure<'a>> {
+    title: &str,
+    id: Option<&str>,
+) -> Result<Vec<u8>, Failure> {
     let new = retitled(alloc, image, bytes, charset, title)?;
     match id {
         Some(id) => identified(alloc, image, new.as_slice(), charset, id),
@@ -108,16 +108,16 @@ fn named<'a>(
 /// The image after an edit. Errors: `OtherMap`, where files are deleted and Dolphin DOS has its map on the disk; `Word`, where a word
 /// can't be typed or is too long; `NoneDeleted` or `NoMatch`, where a pattern means no file; `Disk`, where the drive or the disk
 /// refuses it; `NoMemory`.
-pub fn edited<'a>(
+pub fn edited(
     alloc: Global,
-    image: &'a str,
+    image: &str,
     bytes: &[u8],
-    edit: &Edit<'a, '_>,
-) -> Result<Vec<u8>, Failure<'a>> {
+    edit: &Edit<'_, '_>,
+) -> Result<Vec<u8>, Failure> {
     match edit {
-        Edit::Change(made) => on_disk(image, change(alloc, bytes, made)),
+        Edit::Change(made) => on_disk(alloc, image, change(alloc, bytes, made)),
         Edit::Delete(patterns, charset) => {
-            require_own_map(image, bytes)?;
+            require_own_map(alloc, image, bytes)?;
             deleted_all(alloc, image, bytes, *charset, *patterns)
         }
         Edit::Lock(patterns, charset, is_locked) => {

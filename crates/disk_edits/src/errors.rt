@@ -3,7 +3,7 @@ use cbm_image::{Kind, kind_of};
 use cbm_medium::Fault;
 use disk_basics::calls::info;
 use disk_basics::host::{joined, print, read_image, replace};
-use disk_basics::{Failure, in_memory, on_disk};
+use disk_basics::{Failure, What, in_memory, on_disk};
 use disk_facts::without_errors;
 use std::alloc::{AllocError, Global};
 use std::rt::Runtime;
@@ -41,12 +41,8 @@ fn lines_of(alloc: Global, faults: &[Fault]) -> Result<String, AllocError> {
 }
 
 /// Shows the sectors of an image that don't read with its error bytes.
-fn show<'a, R: Runtime + AllocGlobal>(
-    rt: &R,
-    image: &'a str,
-    bytes: &[u8],
-) -> Result<(), Failure<'a>> {
-    let info = on_disk(image, info(rt.alloc(), bytes))?;
+fn show<R: Runtime + AllocGlobal>(rt: &R, image: &str, bytes: &[u8]) -> Result<(), Failure> {
+    let info = on_disk(rt.alloc(), image, info(rt.alloc(), bytes))?;
     let lines = in_memory(lines_of(rt.alloc(), info.unreadable.as_slice()))?;
     print(rt, lines.as_bytes())
 }
@@ -63,12 +59,13 @@ fn count_other(errors: &[u8]) -> usize {
 }
 
 /// Reports error bytes that would be lost, and refuses that, unless it is wanted.
-fn require_fine<'a>(
+fn require_fine(
+    alloc: Global,
     rt: &impl Eprint,
-    image: &'a str,
+    image: &str,
     errors: &[u8],
     is_lossy: bool,
-) -> Result<(), Failure<'a>> {
+) -> Result<(), Failure> {
     let count = count_other(errors);
     if count == 0 {
         return Ok(());
@@ -77,30 +74,32 @@ fn require_fine<'a>(
     if is_lossy {
         Ok(())
     } else {
-        Err(Failure::Lossy(image))
+        Err(Failure::named(alloc, What::Lossy, image))
     }
 }
 
 /// Saves an image without its error bytes.
-fn drop_all<'a, R: Runtime + AllocGlobal>(
+fn drop_all<R: Runtime + AllocGlobal>(
     rt: &R,
-    image: &'a str,
+    image: &str,
     bytes: &[u8],
     is_lossy: bool,
-) -> Result<(), Failure<'a>> {
+) -> Result<(), Failure> {
     let plain = without_errors(bytes);
-    require_fine(rt, image, bytes.get(plain.len()..).unwrap_or(&[]), is_lossy)?;
+    require_fine(
+        rt.alloc(),
+        rt,
+        image,
+        bytes.get(plain.len()..).unwrap_or(&[]),
+        is_lossy,
+    )?;
     replace(rt, image, bytes, plain)
 }
 
 /// Saves an image with error bytes, each of which says that all is well.
-fn add_all<'a, R: Runtime + AllocGlobal>(
-    rt: &R,
-    image: &'a str,
-    bytes: &[u8],
-) -> Result<(), Failure<'a>> {
+fn add_all<R: Runtime + AllocGlobal>(rt: &R, image: &str, bytes: &[u8]) -> Result<(), Failure> {
     if kind_of(bytes) != Kind::D64 || bytes.len() != OF_35_TRACKS {
-        return Err(Failure::NoErrorRoom(image));
+        return Err(Failure::named(rt.alloc(), What::NoErrorRoom, image));
     }
     let new = joined(rt.alloc(), &[bytes, &[FINE; SECTORS]])?;
     replace(rt, image, bytes, new.as_slice())
@@ -109,17 +108,17 @@ fn add_all<'a, R: Runtime + AllocGlobal>(
 /// Shows the sectors of a D64 that don't read with its error bytes, or saves it with such bytes or without them. Errors: those of
 /// `read_image`; `NoErrorBytes` and `HasErrorBytes`, where it has none or has some; `NoErrorRoom`, where it can't; `Lossy`, where bytes
 /// that say more would be lost; `Disk`; those of `replace`; `Write`; `NoMemory`.
-pub fn error_bytes<'a, R: Runtime + AllocGlobal>(
+pub fn error_bytes<R: Runtime + AllocGlobal>(
     rt: &R,
-    image: &'a str,
+    image: &str,
     deed: ErrorDeed,
-) -> Result<(), Failure<'a>> {
+) -> Result<(), Failure> {
     let bytes = read_image(rt, image)?;
     let has_some = without_errors(bytes.as_slice()).len() != bytes.len();
     match deed {
-        ErrorDeed::Add if has_some => Err(Failure::HasErrorBytes(image)),
+        ErrorDeed::Add if has_some => Err(Failure::named(rt.alloc(), What::HasErrorBytes, image)),
         ErrorDeed::Add => add_all(rt, image, bytes.as_slice()),
-        _ if !has_some => Err(Failure::NoErrorBytes(image)),
+        _ if !has_some => Err(Failure::named(rt.alloc(), What::NoErrorBytes, image)),
         ErrorDeed::Drop(is_lossy) => drop_all(rt, image, bytes.as_slice(), is_lossy),
         ErrorDeed::Show => show(rt, image, bytes.as_slice()),
     }

@@ -8,7 +8,7 @@ use disk_basics::calls::entries;
 use disk_basics::changing::{change, delete_in_slot, lock_in_slot, rename_in_slot};
 use disk_basics::host::{joined, require_own_map};
 use disk_basics::spare::{has_name, named, sixteen, spare_name, taken, unspared, whole_name};
-use disk_basics::{Choice, Failure, WordFault, on_disk, petscii, slot_chosen, slot_number};
+use disk_basics::{Choice, Failure, What, WordFault, on_disk, petscii, slot_chosen, slot_number};
 use std::alloc::Global;
 
 /// The most bytes of a name.
@@ -37,53 +37,50 @@ pub struct Desk<'a, 'b> {
 }
 
 /// The codes of a new name, whatever they are.
-fn new_name<'a>(alloc: Global, charset: Charset, name: &'a str) -> Result<Vec<u8>, Failure<'a>> {
+fn new_name(alloc: Global, charset: Charset, name: &str) -> Result<Vec<u8>, Failure> {
     let codes = petscii(alloc, charset, name)?;
     if codes.is_empty() {
-        return Err(Failure::Word(WordFault::NoFileName));
+        return Err(Failure::new(What::Word(WordFault::NoFileName)));
     }
     if codes.len() > LONGEST {
-        return Err(Failure::Word(WordFault::LongName(name)));
+        return Err(Failure::named(alloc, What::Word(WordFault::LongName), name));
     }
     Ok(codes)
 }
 
 /// The image after a command of the drive.
-fn commanded<'a>(
-    alloc: Global,
-    desk: Desk<'a, '_>,
-    parts: &[&[u8]],
-) -> Result<Vec<u8>, Failure<'a>> {
+fn commanded(alloc: Global, desk: Desk<'_, '_>, parts: &[&[u8]]) -> Result<Vec<u8>, Failure> {
     let text = joined(alloc, parts)?;
     let command = DiskChange::Command(text.as_slice());
-    on_disk(desk.image, change(alloc, desk.bytes, &command))
+    on_disk(alloc, desk.image, change(alloc, desk.bytes, &command))
 }
 
 /// The image without the file in a slot.
-fn deleted<'a>(
+fn deleted(
     alloc: Global,
-    desk: Desk<'a, '_>,
+    desk: Desk<'_, '_>,
     entries: &[Entry],
     slot: usize,
-    word: &'a str,
-) -> Result<Vec<u8>, Failure<'a>> {
+    word: &str,
+) -> Result<Vec<u8>, Failure> {
     if entries.get(slot).is_some_and(Entry::is_locked) {
-        return Err(Failure::Locked(word));
+        return Err(Failure::named(alloc, What::Locked, word));
     }
     on_disk(
+        alloc,
         desk.image,
-        delete_in_slot(alloc, desk.bytes, slot_number(slot, word)?),
+        delete_in_slot(alloc, desk.bytes, slot_number(alloc, slot, word)?),
     )
 }
 
 /// The image with a copy of the file of one spare name under another.
-fn copied_spare<'a>(
+fn copied_spare(
     alloc: Global,
-    desk: Desk<'a, '_>,
+    desk: Desk<'_, '_>,
     slot: usize,
     old: &[u8; 3],
     new: &[u8; 3],
-) -> Result<Vec<u8>, Failure<'a>> {
+) -> Result<Vec<u8>, Failure> {
     let image = named(alloc, desk.image, desk.bytes, slot, old, false)?;
     let there = Desk {
         image: desk.image,
@@ -93,22 +90,22 @@ fn copied_spare<'a>(
 }
 
 /// The image with a copy of the file in a slot.
-fn copied<'a>(
+fn copied(
     alloc: Global,
-    desk: Desk<'a, '_>,
+    desk: Desk<'_, '_>,
     entries: &[Entry],
     slot: usize,
     name: &[u8],
-) -> Result<Vec<u8>, Failure<'a>> {
+) -> Result<Vec<u8>, Failure> {
     let (Some(entry), Some(old), Some(new)) = (
         entries.get(slot),
         spare_name(entries, 1),
         spare_name(entries, 2),
     ) else {
-        return Err(taken(desk.image));
+        return Err(taken(alloc, desk.image));
     };
     if has_name(entries, name) {
-        return Err(taken(desk.image));
+        return Err(taken(alloc, desk.image));
     }
     let with_both = copied_spare(alloc, desk, slot, &old, &new)?;
     let both = with_both.as_slice();
@@ -118,13 +115,13 @@ fn copied<'a>(
 }
 
 /// The refusal of a change that leaves an odd entry as it was.
-pub(crate) fn protected(image: &str) -> Failure<'_> {
+pub(crate) fn protected(alloc: Global, image: &str) -> Failure {
     let status = Status {
         code: Code::WriteProtected,
         first: 0,
         second: 0,
     };
-    Failure::Disk(image, ShellFault::Refused(status))
+    Failure::named(alloc, What::Disk(ShellFault::Refused(status)), image)
 }
 
 /// Whether the file in a slot is locked.
@@ -134,37 +131,38 @@ fn is_locked_in(alloc: Global, image: &[u8], slot: usize) -> Result<bool, ShellF
 }
 
 /// The image with the file in a slot locked, or free. An odd entry stays as it is, which is refused.
-fn locked<'a>(
+fn locked(
     alloc: Global,
-    desk: Desk<'a, '_>,
+    desk: Desk<'_, '_>,
     slot: usize,
     is_locked: bool,
-    word: &'a str,
-) -> Result<Vec<u8>, Failure<'a>> {
-    let number = slot_number(slot, word)?;
+    word: &str,
+) -> Result<Vec<u8>, Failure> {
+    let number = slot_number(alloc, slot, word)?;
     let new = on_disk(
+        alloc,
         desk.image,
         lock_in_slot(alloc, desk.bytes, number, is_locked),
     )?;
-    if on_disk(desk.image, is_locked_in(alloc, new.as_slice(), slot))? == is_locked {
+    if on_disk(alloc, desk.image, is_locked_in(alloc, new.as_slice(), slot))? == is_locked {
         return Ok(new);
     }
-    Err(protected(desk.image))
+    Err(protected(alloc, desk.image))
 }
 
 /// Refuses to copy what the drive's COPY doesn't take whole: a relative file, and one of GEOS.
-fn require_plain<'a>(entries: &[Entry], slot: usize, word: &'a str) -> Result<(), Failure<'a>> {
+fn require_plain(alloc: Global, entries: &[Entry], slot: usize, word: &str) -> Result<(), Failure> {
     match entries.get(slot) {
-        Some(entry) if geos_of(entry).is_some() => Err(Failure::GeosCopy(word)),
-        Some(entry) if entry.is_relative() => Err(Failure::Records(word)),
+        Some(entry) if geos_of(entry).is_some() => Err(Failure::named(alloc, What::GeosCopy, word)),
+        Some(entry) if entry.is_relative() => Err(Failure::named(alloc, What::Records, word)),
         _ => Ok(()),
     }
 }
 
 /// Refuses to write the BAM of a disk on which another DOS has its map.
-fn require_map<'a>(desk: Desk<'a, '_>, deed: Deed<'_>) -> Result<(), Failure<'a>> {
+fn require_map(alloc: Global, desk: Desk<'_, '_>, deed: Deed<'_>) -> Result<(), Failure> {
     match deed {
-        Deed::Copy(_) | Deed::Delete => require_own_map(desk.image, desk.bytes),
+        Deed::Copy(_) | Deed::Delete => require_own_map(alloc, desk.image, desk.bytes),
         Deed::Rename(_) | Deed::Lock(_) => Ok(()),
     }
 }
@@ -172,27 +170,28 @@ fn require_map<'a>(desk: Desk<'a, '_>, deed: Deed<'_>) -> Result<(), Failure<'a>
 /// The image after something was done with the file that is chosen. Errors: `OtherMap`, where the BAM is written and Dolphin DOS has
 /// its map on the disk; those of `slot_chosen`; `Word`, where a new name can't be; `Disk`, where the name is there already or the disk
 /// refuses it; `Locked`; `Records` and `GeosCopy`; `NoMemory`.
-pub fn done_with<'a>(
+pub fn done_with(
     alloc: Global,
-    desk: Desk<'a, '_>,
-    choice: Choice<'a>,
-    deed: Deed<'a>,
-) -> Result<Vec<u8>, Failure<'a>> {
-    require_map(desk, deed)?;
-    let entries = on_disk(desk.image, entries(alloc, desk.bytes))?;
+    desk: Desk<'_, '_>,
+    choice: Choice<'_>,
+    deed: Deed<'_>,
+) -> Result<Vec<u8>, Failure> {
+    require_map(alloc, desk, deed)?;
+    let entries = on_disk(alloc, desk.image, entries(alloc, desk.bytes))?;
     let entries = entries.as_slice();
     let slot = slot_chosen(alloc, entries, choice)?;
     match deed {
         Deed::Rename(word) => {
             let name = new_name(alloc, choice.charset, word)?;
-            let slot = slot_number(slot, choice.word())?;
+            let slot = slot_number(alloc, slot, choice.word())?;
             on_disk(
+                alloc,
                 desk.image,
                 rename_in_slot(alloc, desk.bytes, slot, sixteen(name.as_slice())),
             )
         }
         Deed::Copy(word) => {
-            require_plain(entries, slot, choice.word())?;
+            require_plain(alloc, entries, slot, choice.word())?;
             let name = new_name(alloc, choice.charset, word)?;
             copied(alloc, desk, entries, slot, name.as_slice())
         }

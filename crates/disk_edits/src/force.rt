@@ -4,7 +4,7 @@ use cbm_shell::{DiskFlaw, ShellFault};
 use cbm_volume::Entry;
 use disk_basics::calls::check;
 use disk_basics::changing::forget;
-use disk_basics::{Disk, Failure, in_memory, is_mendable, on_disk, petscii, slots_of};
+use disk_basics::{Disk, Failure, What, in_memory, is_mendable, on_disk, petscii, slots_of};
 use disk_facts::is_meant;
 use std::alloc::Global;
 use std::rt::Runtime;
@@ -81,45 +81,55 @@ fn without_meant(
 }
 
 /// The image without the files at fault that a word means.
-fn without_word<'a>(
+fn without_word(
     alloc: Global,
-    image: &'a str,
+    image: &str,
     bytes: &[u8],
     charset: Charset,
-    word: &'a str,
-) -> Result<Vec<u8>, Failure<'a>> {
+    word: &str,
+) -> Result<Vec<u8>, Failure> {
     let pattern = petscii(alloc, charset, word)?;
-    match on_disk(image, without_meant(alloc, bytes, pattern.as_slice()))? {
+    match on_disk(
+        alloc,
+        image,
+        without_meant(alloc, bytes, pattern.as_slice()),
+    )? {
         Some(new) => Ok(new),
-        None => Err(Failure::NoneAtFault(word)),
+        None => Err(Failure::named(alloc, What::NoneAtFault, word)),
     }
 }
 
 /// Whether a word means a file that is at fault on a disk.
-fn is_at_fault<'a>(
+fn is_at_fault(
     alloc: Global,
-    image: &'a str,
+    image: &str,
     bytes: &[u8],
     charset: Charset,
-    word: &'a str,
-) -> Result<bool, Failure<'a>> {
+    word: &str,
+) -> Result<bool, Failure> {
     let pattern = petscii(alloc, charset, word)?;
-    let slot = on_disk(image, slot_at_fault(alloc, bytes, pattern.as_slice()))?;
+    let slot = on_disk(
+        alloc,
+        image,
+        slot_at_fault(alloc, bytes, pattern.as_slice()),
+    )?;
     Ok(slot.is_some())
 }
 
 /// The image without the files at fault that a word means; it is as it was where such a file was at fault at first and, as others
 /// are out, isn't any longer, which is reported.
-fn without_next<'a, R: Runtime + AllocGlobal>(
+fn without_next<R: Runtime + AllocGlobal>(
     rt: &R,
-    image: &'a str,
+    image: &str,
     old: &[u8],
     now: Vec<u8>,
     charset: Charset,
-    word: &'a str,
-) -> Result<Vec<u8>, Failure<'a>> {
+    word: &str,
+) -> Result<Vec<u8>, Failure> {
     match without_word(rt.alloc(), image, now.as_slice(), charset, word) {
-        Err(Failure::NoneAtFault(_)) if is_at_fault(rt.alloc(), image, old, charset, word)? => {
+        Err(failure)
+            if matches!(failure.what, What::NoneAtFault)
+                && is_at_fault(rt.alloc(), image, old, charset, word)? => {
             let _ = eprintln!(rt;
                 "disk1541: {word} stays: with the others out it has all its blocks to itself; after `validate` it can be deleted as any file"
             );
@@ -130,13 +140,13 @@ fn without_next<'a, R: Runtime + AllocGlobal>(
 }
 
 /// The image without the files at fault that the words mean.
-fn without_words<'a, R: Runtime + AllocGlobal>(
+fn without_words<R: Runtime + AllocGlobal>(
     rt: &R,
-    image: &'a str,
+    image: &str,
     bytes: &[u8],
     charset: Charset,
-    words: &[&'a str],
-) -> Result<Vec<u8>, Failure<'a>> {
+    words: &[&str],
+) -> Result<Vec<u8>, Failure> {
     let mut new = in_memory(Vec::from_slice(rt.alloc(), bytes))?;
     for word in words {
         new = without_next(rt, image, bytes, new, charset, *word)?;
@@ -145,22 +155,22 @@ fn without_words<'a, R: Runtime + AllocGlobal>(
 }
 
 /// Refuses a disk that is sound.
-fn require_unsound<'a>(alloc: Global, image: &'a str, bytes: &[u8]) -> Result<(), Failure<'a>> {
-    match on_disk(image, check(alloc, bytes))? {
-        Ok(()) => Err(Failure::IsSound(image)),
+fn require_unsound(alloc: Global, image: &str, bytes: &[u8]) -> Result<(), Failure> {
+    match on_disk(alloc, image, check(alloc, bytes))? {
+        Ok(()) => Err(Failure::named(alloc, What::IsSound, image)),
         Err(_) => Ok(()),
     }
 }
 
 /// The image without the files at fault that the words mean. Errors: `IsSound`, where no file is at fault; those of `petscii`;
 /// `NoneAtFault`, where a word means no such file; `Disk`; `NoMemory`.
-pub fn without_fault<'a, R: Runtime + AllocGlobal>(
+pub fn without_fault<R: Runtime + AllocGlobal>(
     rt: &R,
-    image: &'a str,
+    image: &str,
     bytes: &[u8],
-    words: &[&'a str],
+    words: &[&str],
     charset: Charset,
-) -> Result<Vec<u8>, Failure<'a>> {
+) -> Result<Vec<u8>, Failure> {
     require_unsound(rt.alloc(), image, bytes)?;
     without_words(rt, image, bytes, charset, words)
 }

@@ -9,7 +9,7 @@ use self::plan::{Telling, lines_of, plan_of};
 use cbm_shell::{Order, ShellFault};
 use disk_basics::changing::{map_around_geos, validate};
 use disk_basics::host::require_own_map;
-use disk_basics::{Failure, on_disk};
+use disk_basics::{Failure, What, on_disk};
 use std::alloc::Global;
 
 /// How a disk is put in order.
@@ -32,13 +32,13 @@ struct Ordered {
 
 /// The disk in order, in which GEOS keeps its blocks unless they are given back, too. Errors: `Geos`, where its border block has
 /// files, whose blocks nothing else names; `Disk`.
-fn around_geos<'a>(
+fn around_geos(
     alloc: Global,
-    image: &'a str,
+    image: &str,
     old: &[u8],
     order: Order,
     ordering: Ordering,
-) -> Result<Ordered, Failure<'a>> {
+) -> Result<Ordered, Failure> {
     let Order { image: new, freed } = order;
     let keeps_geos = freed.takes_geos && !ordering.is_forced;
     let telling = Telling {
@@ -52,26 +52,30 @@ fn around_geos<'a>(
             telling,
         });
     }
-    if on_disk(image, has_border_files(alloc, old))? {
-        return Err(Failure::Geos(image));
+    if on_disk(alloc, image, has_border_files(alloc, old))? {
+        return Err(Failure::named(alloc, What::Geos, image));
     }
     Ok(Ordered {
-        image: on_disk(image, map_around_geos(alloc, new.as_slice()))?,
+        image: on_disk(alloc, image, map_around_geos(alloc, new.as_slice()))?,
         telling,
     })
 }
 
 /// What putting a disk in order came to.
-fn order_of<'a>(
+fn order_of(
     alloc: Global,
-    image: &'a str,
+    image: &str,
     old: &[u8],
     ordering: Ordering,
-) -> Result<Ordered, Failure<'a>> {
+) -> Result<Ordered, Failure> {
     match validate(alloc, old) {
         Ok(order) => around_geos(alloc, image, old, order, ordering),
-        Err(ShellFault::Trouble(trouble)) => Err(Failure::Unmendable(image, trouble)),
-        Err(fault) => Err(Failure::Disk(image, fault)),
+        Err(ShellFault::Trouble(trouble)) => Err(Failure::named(
+            alloc,
+            What::Unmendable(trouble),
+            image,
+        )),
+        Err(fault) => Err(Failure::named(alloc, What::Disk(fault), image)),
     }
 }
 
@@ -103,15 +107,16 @@ fn told(
 
 /// The image put in order. Errors: `OtherMap`, where Dolphin DOS has its map on the disk; `Unmendable`, where it can't be put in
 /// order; `Geos`, where blocks of files in GEOS's border block would be given back; `Disk`.
-pub fn in_order<'a>(
+pub fn in_order(
     alloc: Global,
-    image: &'a str,
+    image: &str,
     old: &[u8],
     ordering: Ordering,
-) -> Result<InOrder, Failure<'a>> {
-    require_own_map(image, old)?;
+) -> Result<InOrder, Failure> {
+    require_own_map(alloc, image, old)?;
     let order = order_of(alloc, image, old, ordering)?;
     let plan = on_disk(
+        alloc,
         image,
         told(alloc, image, old, &order.telling, ordering.is_json),
     )?;

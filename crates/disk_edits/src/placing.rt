@@ -4,7 +4,7 @@ use cbm_volume::Entry;
 use disk_basics::calls::entries;
 use disk_basics::host::require_own_map;
 use disk_basics::placing::{Head, Laid, add_places, lay};
-use disk_basics::{Failure, in_memory, on_disk, petscii};
+use disk_basics::{Failure, What, in_memory, on_disk, petscii};
 use disk_facts::{is_meant, number_meant};
 use std::alloc::Global;
 
@@ -33,18 +33,18 @@ pub struct Laying {
 }
 
 /// Lays the file in a slot. Errors: `RecordsPlace`, `NoPlace`, `Disk`, `NoMemory`.
-fn lay_one<'a>(
+fn lay_one(
     alloc: Global,
-    image: &'a str,
+    image: &str,
     laying: &mut Laying,
     slot: usize,
     entry: &Entry,
-    word: &'a str,
-) -> Result<(), Failure<'a>> {
+    word: &str,
+) -> Result<(), Failure> {
     if entry.is_relative() {
-        return Err(Failure::RecordsPlace(word));
+        return Err(Failure::named(alloc, What::RecordsPlace, word));
     }
-    let slot = disk_basics::slot_number(slot, word)?;
+    let slot = disk_basics::slot_number(alloc, slot, word)?;
     let laid = lay(alloc, laying.image.as_slice(), slot, laying.head);
     let Some(
         Laid {
@@ -52,9 +52,9 @@ fn lay_one<'a>(
             places,
             head,
         },
-    ) = on_disk(image, laid)?
+    ) = on_disk(alloc, image, laid)?
     else {
-        return Err(Failure::NoPlace(word));
+        return Err(Failure::named(alloc, What::NoPlace, word));
     };
     in_memory(add_places(
         &mut laying.told,
@@ -69,16 +69,11 @@ fn lay_one<'a>(
 }
 
 /// Lays the files that a pattern means, in the order of the directory. Errors: `NoFile`, and those of one.
-fn lay_meant<'a>(
-    alloc: Global,
-    image: &'a str,
-    laying: &mut Laying,
-    word: &'a str,
-) -> Result<(), Failure<'a>> {
+fn lay_meant(alloc: Global, image: &str, laying: &mut Laying, word: &str) -> Result<(), Failure> {
     let pattern = petscii(alloc, laying.charset, word)?;
-    let entries = on_disk(image, entries(alloc, laying.image.as_slice()))?;
+    let entries = on_disk(alloc, image, entries(alloc, laying.image.as_slice()))?;
     if number_meant(entries.as_slice(), pattern.as_slice()).is_none() {
-        return Err(Failure::NoFile(word));
+        return Err(Failure::named(alloc, What::NoFile, word));
     }
     for (slot, entry) in entries.as_slice().iter().enumerate() {
         if is_meant(entry, pattern.as_slice()) {
@@ -90,13 +85,13 @@ fn lay_meant<'a>(
 
 /// The image with all files laid. Errors: `OtherMap`, where Dolphin DOS has its map on the disk; `Word`, if a pattern can't be typed;
 /// `NoFile`; `RecordsPlace`; `NoPlace`; `Disk`; `NoMemory`.
-pub fn placed<'a>(
+pub fn placed(
     alloc: Global,
-    image: &'a str,
+    image: &str,
     old: &[u8],
-    placement: &Placement<'a, '_>,
-) -> Result<Laying, Failure<'a>> {
-    require_own_map(image, old)?;
+    placement: &Placement<'_, '_>,
+) -> Result<Laying, Failure> {
+    require_own_map(alloc, image, old)?;
     let mut laying = Laying {
         image: in_memory(Vec::from_slice(alloc, old))?,
         head: placement.head,

@@ -4,7 +4,7 @@ use cbm_shell::{DiskChange, geos_of};
 use disk_basics::calls::entries;
 use disk_basics::changing::change;
 use disk_basics::host::{joined, require_own_map};
-use disk_basics::{Failure, file_name, on_disk};
+use disk_basics::{Failure, What, file_name, on_disk};
 use disk_facts::first_meant;
 use std::alloc::Global;
 
@@ -20,7 +20,7 @@ pub struct Pair<'a> {
 }
 
 /// The drive's command with a letter, a new name and an old one, with its return, as a name may end with one.
-fn text_of<'a>(alloc: Global, letter: &[u8], pair: &Pair<'a>) -> Result<Vec<u8>, Failure<'a>> {
+fn text_of(alloc: Global, letter: &[u8], pair: &Pair<'_>) -> Result<Vec<u8>, Failure> {
     let old = file_name(alloc, pair.charset, pair.old)?;
     let new = file_name(alloc, pair.charset, pair.new)?;
     joined(
@@ -30,54 +30,55 @@ fn text_of<'a>(alloc: Global, letter: &[u8], pair: &Pair<'a>) -> Result<Vec<u8>,
 }
 
 /// Refuses to copy a file of GEOS or a relative file: the drive's COPY takes bytes one after another.
-fn require_plain<'a>(
-    alloc: Global,
-    image: &'a str,
-    bytes: &[u8],
-    pair: &Pair<'a>,
-) -> Result<(), Failure<'a>> {
+fn require_plain(alloc: Global, image: &str, bytes: &[u8], pair: &Pair<'_>) -> Result<(), Failure> {
     let old = file_name(alloc, pair.charset, pair.old)?;
-    let entries = on_disk(image, entries(alloc, bytes))?;
+    let entries = on_disk(alloc, image, entries(alloc, bytes))?;
     match first_meant(entries.as_slice(), old.as_slice()) {
-        Some(entry) if geos_of(entry).is_some() => Err(Failure::GeosCopy(pair.old)),
-        Some(entry) if entry.is_relative() => Err(Failure::Records(pair.old)),
+        Some(entry) if geos_of(entry).is_some() => Err(Failure::named(
+            alloc,
+            What::GeosCopy,
+            pair.old,
+        )),
+        Some(entry) if entry.is_relative() => Err(Failure::named(alloc, What::Records, pair.old)),
         _ => Ok(()),
     }
 }
 
 /// The image with a copy of a file under another name. Errors: those of `file_name`; `OtherMap`, where Dolphin DOS has its map on the
 /// disk; `Records`, where it is a relative file, and `GeosCopy`; `Disk`, where the drive or the disk refuses it.
-pub fn copied<'a>(
+pub fn copied(
     alloc: Global,
-    image: &'a str,
+    image: &str,
     bytes: &[u8],
-    pair: &Pair<'a>,
-) -> Result<Vec<u8>, Failure<'a>> {
+    pair: &Pair<'_>,
+) -> Result<Vec<u8>, Failure> {
     let text = text_of(alloc, b"C0:", pair)?;
-    require_own_map(image, bytes)?;
+    require_own_map(alloc, image, bytes)?;
     require_plain(alloc, image, bytes, pair)?;
     on_disk(
+        alloc,
         image,
         change(alloc, bytes, &DiskChange::Command(text.as_slice())),
     )
 }
 
 /// The image whose file has another name. Errors: those of `file_name`; `Disk`, where the drive or the disk refuses it.
-pub fn renamed<'a>(
+pub fn renamed(
     alloc: Global,
-    image: &'a str,
+    image: &str,
     bytes: &[u8],
-    pair: &Pair<'a>,
-) -> Result<Vec<u8>, Failure<'a>> {
+    pair: &Pair<'_>,
+) -> Result<Vec<u8>, Failure> {
     let text = text_of(alloc, b"R0:", pair)?;
     on_disk(
+        alloc,
         image,
         change(alloc, bytes, &DiskChange::Command(text.as_slice())),
     )
 }
 
 /// Refuses two names of which one can't be said. Errors: those of `file_name`.
-pub fn require_names<'a>(alloc: Global, pair: &Pair<'a>) -> Result<(), Failure<'a>> {
+pub fn require_names(alloc: Global, pair: &Pair<'_>) -> Result<(), Failure> {
     text_of(alloc, b"R0:", pair)?;
     Ok(())
 }

@@ -5,7 +5,7 @@ use cbm_volume::{Entry, FileType};
 use disk_basics::calls::entries;
 use disk_basics::changing::undelete;
 use disk_basics::host::require_own_map;
-use disk_basics::{Failure, WordFault, on_disk, petscii};
+use disk_basics::{Failure, What, WordFault, on_disk, petscii};
 use disk_facts::is_deleted;
 use std::alloc::Global;
 
@@ -31,43 +31,38 @@ fn slot_of(entries: &[Entry], pattern: &[u8]) -> Option<u8> {
 }
 
 /// The type of a word.
-fn kind_of(word: &str) -> Result<FileType, Failure<'_>> {
+fn kind_of(alloc: Global, word: &str) -> Result<FileType, Failure> {
     match word {
         "prg" => Ok(FileType::Prg),
         "seq" => Ok(FileType::Seq),
         "usr" => Ok(FileType::Usr),
-        _ => Err(Failure::Word(WordFault::Type(word))),
+        _ => Err(Failure::named(alloc, What::Word(WordFault::Type), word)),
     }
 }
 
 /// The slot of the deleted file that is meant.
-fn slot_meant<'a>(
-    alloc: Global,
-    image: &'a str,
-    bytes: &[u8],
-    gone: &Gone<'a>,
-) -> Result<u8, Failure<'a>> {
+fn slot_meant(alloc: Global, image: &str, bytes: &[u8], gone: &Gone<'_>) -> Result<u8, Failure> {
     let pattern = petscii(alloc, gone.charset, gone.name)?;
-    let entries = on_disk(image, entries(alloc, bytes))?;
+    let entries = on_disk(alloc, image, entries(alloc, bytes))?;
     match slot_of(entries.as_slice(), pattern.as_slice()) {
         Some(slot) => Ok(slot),
-        None => Err(Failure::NotDeleted(gone.name)),
+        None => Err(Failure::named(alloc, What::NotDeleted, gone.name)),
     }
 }
 
 /// The image with a deleted file given back. Errors: `OtherMap`, where Dolphin DOS has its map on the disk; those of `petscii`; `Word`,
 /// where the type is none; `NotDeleted`, where no deleted file matches; `Overwritten`, where its blocks aren't free; `Disk`.
-pub fn given_back<'a>(
+pub fn given_back(
     alloc: Global,
-    image: &'a str,
+    image: &str,
     bytes: &[u8],
-    gone: &Gone<'a>,
-) -> Result<Vec<u8>, Failure<'a>> {
-    require_own_map(image, bytes)?;
-    let kind = kind_of(gone.kind)?;
+    gone: &Gone<'_>,
+) -> Result<Vec<u8>, Failure> {
+    require_own_map(alloc, image, bytes)?;
+    let kind = kind_of(alloc, gone.kind)?;
     let slot = slot_meant(alloc, image, bytes, gone)?;
-    match on_disk(image, undelete(alloc, bytes, slot, kind))? {
+    match on_disk(alloc, image, undelete(alloc, bytes, slot, kind))? {
         Some(new) => Ok(new),
-        None => Err(Failure::Overwritten(gone.name)),
+        None => Err(Failure::named(alloc, What::Overwritten, gone.name)),
     }
 }

@@ -8,7 +8,7 @@ use cbm_shell::{Info, Listed, ShellFault, geos_of};
 use cbm_volume::{Entry, Label, Trouble};
 use disk_basics::calls::{info, name_text, sector};
 use disk_basics::host::{print, read_image};
-use disk_basics::{BreakOff, Disk, Failure, on_disk};
+use disk_basics::{BreakOff, Disk, Failure, What, on_disk};
 use disk_facts::unfilled;
 use disk_recipes::{Recipe, RecipeLine, recipe_text};
 use std::alloc::{AllocError, Global};
@@ -323,22 +323,30 @@ fn described<R: Runtime + AllocGlobal>(
 }
 
 /// Prints a recipe.
-fn print_recipe<'a, R: Runtime + AllocGlobal>(rt: &R, recipe: &Recipe) -> Result<(), Failure<'a>> {
+fn print_recipe<R: Runtime + AllocGlobal>(rt: &R, recipe: &Recipe) -> Result<(), Failure> {
     match recipe_text(rt.alloc(), recipe) {
         Ok(text) => print(rt, text.as_bytes()),
-        Err(_) => Err(Failure::NoMemory),
+        Err(_) => Err(Failure::new(What::NoMemory)),
     }
 }
 
 /// Prints the recipe of an image's disk; what it doesn't say of it is reported. Errors: those of `read_image`; `Disk`;
 /// `Write`; `Told`, where something wasn't said; `NoMemory`.
-pub fn describe<'a, R: Runtime + AllocGlobal>(
+pub fn describe<R: Runtime + AllocGlobal>(
     rt: &R,
-    image: &'a str,
-    description: Description<'a>,
-) -> Result<(), Failure<'a>> {
+    image: &str,
+    description: Description<'_>,
+) -> Result<(), Failure> {
     let bytes = read_image(rt, image)?;
-    let (recipe, is_whole) = on_disk(image, described(rt, bytes.as_slice(), description))?;
+    let (recipe, is_whole) = on_disk(
+        rt.alloc(),
+        image,
+        described(rt, bytes.as_slice(), description),
+    )?;
     print_recipe(rt, &recipe)?;
-    if is_whole { Ok(()) } else { Err(Failure::Told) }
+    if is_whole {
+        Ok(())
+    } else {
+        Err(Failure::new(What::Told))
+    }
 }

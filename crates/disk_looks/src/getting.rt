@@ -8,7 +8,7 @@ use cbm_shell::{ShellFault, geos_of};
 use cbm_volume::Entry;
 use disk_basics::calls::{file, listed};
 use disk_basics::host::{require_new, write};
-use disk_basics::{Choice, Disk, Failure, in_memory, on_disk, petscii, slot_chosen};
+use disk_basics::{Choice, Disk, Failure, What, in_memory, on_disk, petscii, slot_chosen};
 use disk_facts::{first_meant, number_meant, without_errors};
 use host_files::Sync;
 use std::alloc::Global;
@@ -55,42 +55,51 @@ fn packed_of<R: Runtime + AllocGlobal>(
 }
 
 /// The file of this computer for the first file that a name means.
-fn meant<'a, R: Runtime + AllocGlobal>(
+fn meant<R: Runtime + AllocGlobal>(
     rt: &R,
     image: &[u8],
-    taken: &OneFile<'a>,
-) -> Result<Vec<u8>, Failure<'a>> {
+    taken: &OneFile<'_>,
+) -> Result<Vec<u8>, Failure> {
     let name = taken.choice.name;
     let pattern = petscii(rt.alloc(), taken.choice.charset, name)?;
     require_whole(rt, image, pattern.as_slice(), taken)?;
-    on_disk(name, packed_of(rt, image, pattern.as_slice(), taken))
+    on_disk(
+        rt.alloc(),
+        name,
+        packed_of(rt, image, pattern.as_slice(), taken),
+    )
 }
 
 /// Refuses the first file that a pattern means where GEOS keeps it in records, unless what can be read is taken; what isn't taken
 /// of another file of GEOS is reported.
-fn require_whole<'a, R: Runtime + AllocGlobal>(
+fn require_whole<R: Runtime + AllocGlobal>(
     rt: &R,
     image: &[u8],
     pattern: &[u8],
-    taken: &OneFile<'a>,
-) -> Result<(), Failure<'a>> {
+    taken: &OneFile<'_>,
+) -> Result<(), Failure> {
     let word = taken.choice.word();
-    let listed = on_disk(word, listed(rt.alloc(), without_errors(image)))?;
+    let listed = on_disk(rt.alloc(), word, listed(rt.alloc(), without_errors(image)))?;
     match first_meant(listed.entries.as_slice(), pattern) {
-        Some(entry) => require_all(rt, entry, taken),
+        Some(entry) => require_all(rt.alloc(), rt, entry, taken),
         None => Ok(()),
     }
 }
 
 /// The same of an entry's file.
-fn require_all<'a>(
+fn require_all(
+    alloc: Global,
     rt: &impl Eprint,
     entry: &Entry,
-    taken: &OneFile<'a>,
-) -> Result<(), Failure<'a>> {
+    taken: &OneFile<'_>,
+) -> Result<(), Failure> {
     let word = taken.choice.word();
     match geos_of(entry) {
-        Some(geos) if geos.has_records && !taken.salvages => Err(Failure::GeosRecords(word)),
+        Some(geos) if geos.has_records && !taken.salvages => Err(Failure::named(
+            alloc,
+            What::GeosRecords,
+            word,
+        )),
         Some(geos) => {
             let _ = tell_geos(rt, word, geos);
             Ok(())
@@ -100,66 +109,66 @@ fn require_all<'a>(
 }
 
 /// The file of this computer for the file that is chosen by its slot or its exact name.
-fn chosen<'a, R: Runtime + AllocGlobal>(
+fn chosen<R: Runtime + AllocGlobal>(
     rt: &R,
     image: &[u8],
-    taken: &OneFile<'a>,
-) -> Result<Vec<u8>, Failure<'a>> {
+    taken: &OneFile<'_>,
+) -> Result<Vec<u8>, Failure> {
     let word = taken.choice.word();
     let plain = if taken.salvages {
         without_errors(image)
     } else {
         image
     };
-    let disk = on_disk(word, Disk::open(rt.alloc(), plain))?;
+    let disk = on_disk(rt.alloc(), word, Disk::open(rt.alloc(), plain))?;
     let listed = in_memory(disk.listed(rt.alloc()))?;
     let slot = slot_chosen(rt.alloc(), listed.entries.as_slice(), taken.choice)?;
     let Some(entry) = listed.entries.as_slice().get(slot) else {
-        return Err(Failure::NoFile(word));
+        return Err(Failure::named(rt.alloc(), What::NoFile, word));
     };
-    require_all(rt, entry, taken)?;
+    require_all(rt.alloc(), rt, entry, taken)?;
     let source = Source { disk: &disk, image };
-    let bytes = on_disk(word, bytes_of_entry(rt, source, entry, taken.salvages))?;
+    let bytes = on_disk(
+        rt.alloc(),
+        word,
+        bytes_of_entry(rt, source, entry, taken.salvages),
+    )?;
     in_memory(packed_as(rt, entry, taken.output, bytes))
 }
 
 /// The slot of the file that is meant, by its slot, its exact name or a pattern.
-fn slot_meant<'a>(
-    alloc: Global,
-    entries: &[Entry],
-    choice: Choice<'a>,
-) -> Result<usize, Failure<'a>> {
+fn slot_meant(alloc: Global, entries: &[Entry], choice: Choice<'_>) -> Result<usize, Failure> {
     if !choice.is_pattern() {
         return slot_chosen(alloc, entries, choice);
     }
     let pattern = petscii(alloc, choice.charset, choice.name)?;
     match number_meant(entries, pattern.as_slice()) {
         Some(slot) => Ok(slot),
-        None => Err(Failure::NoFile(choice.name)),
+        None => Err(Failure::named(alloc, What::NoFile, choice.name)),
     }
 }
 
 /// The file of GEOS that is meant, as CVT.
-fn cvt_meant<'a>(alloc: Global, image: &[u8], taken: &OneFile<'a>) -> Result<Vec<u8>, Failure<'a>> {
+fn cvt_meant(alloc: Global, image: &[u8], taken: &OneFile<'_>) -> Result<Vec<u8>, Failure> {
     let word = taken.choice.word();
-    let disk = on_disk(word, Disk::open(alloc, image))?;
+    let disk = on_disk(alloc, word, Disk::open(alloc, image))?;
     let listed = in_memory(disk.listed(alloc))?;
     let slot = slot_meant(alloc, listed.entries.as_slice(), taken.choice)?;
     let Some(entry) = listed.entries.as_slice().get(slot) else {
-        return Err(Failure::NoFile(word));
+        return Err(Failure::named(alloc, What::NoFile, word));
     };
     match geos_of(entry) {
-        Some(geos) => on_disk(word, cvt_of(alloc, &disk, entry, geos)),
-        None => Err(Failure::NotGeos(word)),
+        Some(geos) => on_disk(alloc, word, cvt_of(alloc, &disk, entry, geos)),
+        None => Err(Failure::named(alloc, What::NotGeos, word)),
     }
 }
 
 /// The file of this computer for the file that is meant.
-fn file_of<'a, R: Runtime + AllocGlobal>(
+fn file_of<R: Runtime + AllocGlobal>(
     rt: &R,
     image: &[u8],
-    taken: &OneFile<'a>,
-) -> Result<Vec<u8>, Failure<'a>> {
+    taken: &OneFile<'_>,
+) -> Result<Vec<u8>, Failure> {
     if taken.is_cvt {
         return cvt_meant(rt.alloc(), image, taken);
     }
@@ -171,22 +180,22 @@ fn file_of<'a, R: Runtime + AllocGlobal>(
 }
 
 /// Writes a file that was taken out. One of the host that is there is kept, unless it is to be replaced. Errors: `Exists`, `Write`.
-pub fn write_taken<'a, R: Runtime + AllocGlobal>(
+pub fn write_taken<R: Runtime + AllocGlobal>(
     rt: &R,
-    taken: &OneFile<'a>,
+    taken: &OneFile<'_>,
     file: &[u8],
-) -> Result<(), Failure<'a>> {
+) -> Result<(), Failure> {
     require_new(rt, taken.output, taken.replaces)?;
     write(rt, taken.output, file, Sync::Later)
 }
 
 /// Takes a file out of the bytes of an image. Errors: those of `petscii`; `Disk`, where the disk has no such file or it can't be
 /// read; `Exists`; `Write`.
-pub fn get_from<'a, R: Runtime + AllocGlobal>(
+pub fn get_from<R: Runtime + AllocGlobal>(
     rt: &R,
     image: &[u8],
-    taken: &OneFile<'a>,
-) -> Result<(), Failure<'a>> {
+    taken: &OneFile<'_>,
+) -> Result<(), Failure> {
     let file = file_of(rt, image, taken)?;
     write_taken(rt, taken, file.as_slice())
 }

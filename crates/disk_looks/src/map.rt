@@ -201,11 +201,11 @@ fn text_of(alloc: Global, sketch: Sketch<'_>, is_coloured: bool) -> Result<Strin
 }
 
 /// Writes the picture as SVG, or prints it.
-fn show<'a, R: Runtime + AllocGlobal>(
+fn show<R: Runtime + AllocGlobal>(
     rt: &R,
     sketch: Sketch<'_>,
-    mapping: Mapping<'a>,
-) -> Result<(), Failure<'a>> {
+    mapping: Mapping<'_>,
+) -> Result<(), Failure> {
     let Some(output) = mapping.svg else {
         let text = in_memory(text_of(rt.alloc(), sketch, mapping.is_coloured))?;
         return print(rt, text.as_bytes());
@@ -216,28 +216,29 @@ fn show<'a, R: Runtime + AllocGlobal>(
 }
 
 /// Prints the sectors of an image for programs.
-fn print_facts<'a, R: Runtime + AllocGlobal>(
+fn print_facts<R: Runtime + AllocGlobal>(
     rt: &R,
-    image: &'a str,
+    image: &str,
     bytes: &[u8],
     sketch: Sketch<'_>,
-) -> Result<(), Failure<'a>> {
-    let free = on_disk(image, info(rt.alloc(), bytes))?.free;
+) -> Result<(), Failure> {
+    let free = on_disk(rt.alloc(), image, info(rt.alloc(), bytes))?.free;
     let line = in_memory(map_line(rt.alloc(), image, free, sketch))?;
     print(rt, line.as_slice())
 }
 
 /// Shows the sectors of an image of these bytes.
-fn show_bytes<'a, R: Runtime + AllocGlobal>(
+fn show_bytes<R: Runtime + AllocGlobal>(
     rt: &R,
-    image: &'a str,
+    image: &str,
     bytes: &[u8],
-    mapping: Mapping<'a>,
-) -> Result<(), Failure<'a>> {
-    let picture = on_disk(image, picture(rt.alloc(), bytes))?;
+    mapping: Mapping<'_>,
+) -> Result<(), Failure> {
+    let picture = on_disk(rt.alloc(), image, picture(rt.alloc(), bytes))?;
     let picture = std::str::from_utf8(picture.as_slice()).unwrap_or("");
-    let owners = on_disk(image, shown_owners(rt.alloc(), bytes, mapping))?;
+    let owners = on_disk(rt.alloc(), image, shown_owners(rt.alloc(), bytes, mapping))?;
     let rests = on_disk(
+        rt.alloc(),
         image,
         shown_rests(rt.alloc(), bytes, picture, mapping.charset),
     )?;
@@ -253,11 +254,11 @@ fn show_bytes<'a, R: Runtime + AllocGlobal>(
 }
 
 /// Shows the sectors of an image. Errors: those of `read_image`; `Disk`; `Exists`; `Write`; `NoMemory`.
-pub fn show_map<'a, R: Runtime + AllocGlobal>(
+pub fn show_map<R: Runtime + AllocGlobal>(
     rt: &R,
-    image: &'a str,
-    mapping: Mapping<'a>,
-) -> Result<(), Failure<'a>> {
+    image: &str,
+    mapping: Mapping<'_>,
+) -> Result<(), Failure> {
     let bytes = read_image(rt, image)?;
     show_bytes(rt, image, bytes.as_slice(), mapping)
 }

@@ -5,7 +5,7 @@ use cbm_shell::texts::{Charset, key_of};
 use cbm_volume::Trouble;
 use disk_basics::calls::sector;
 use disk_basics::host::{print, read_image};
-use disk_basics::{Failure, WordFault, in_memory, on_disk};
+use disk_basics::{Failure, What, WordFault, in_memory, on_disk};
 use disk_facts::hex;
 use disk_json::{Sector, line};
 use serde::Serialize;
@@ -16,18 +16,18 @@ use std::rt::Runtime;
 const WIDTH: usize = 16;
 
 /// A number of the command line.
-fn number<'a>(word: &'a str) -> Result<u8, Failure<'a>> {
+fn number(alloc: Global, word: &str) -> Result<u8, Failure> {
     match word.parse::<u8>() {
         Ok(number) => Ok(number),
-        Err(_) => Err(Failure::Word(WordFault::Sector(word))),
+        Err(_) => Err(Failure::named(alloc, What::Word(WordFault::Sector), word)),
     }
 }
 
 /// The sector that is meant.
-fn address<'a>(track: &'a str, sector: &'a str) -> Result<Address, Failure<'a>> {
-    match Address::new(number(track)?, number(sector)?) {
+fn address(alloc: Global, track: &str, sector: &str) -> Result<Address, Failure> {
+    match Address::new(number(alloc, track)?, number(alloc, sector)?) {
         Some(at) => Ok(at),
-        None => Err(Failure::Word(WordFault::Sector(sector))),
+        None => Err(Failure::named(alloc, What::Word(WordFault::Sector), sector)),
     }
 }
 
@@ -120,44 +120,40 @@ fn sector_line(
 }
 
 /// The bytes of a sector, or what stands in their place. Errors: `NoTrack`, `Disk`.
-fn reading_at<'a>(
-    alloc: Global,
-    image: &'a str,
-    bytes: &[u8],
-    at: Address,
-) -> Result<Reading, Failure<'a>> {
-    match on_disk(image, sector(alloc, bytes, at))? {
+fn reading_at(alloc: Global, image: &str, bytes: &[u8], at: Address) -> Result<Reading, Failure> {
+    match on_disk(alloc, image, sector(alloc, bytes, at))? {
         Some(reading) => Ok(reading),
-        None => Err(Failure::NoTrack(image)),
+        None => Err(Failure::named(alloc, What::NoTrack, image)),
     }
 }
 
 /// The failure of a sector that doesn't read.
-fn unread<'a>(image: &'a str, at: Address, code: u8) -> Failure<'a> {
-    Failure::Disk(
-        image,
-        ShellFault::Trouble(Trouble {
+fn unread(alloc: Global, image: &str, at: Address, code: u8) -> Failure {
+    Failure::named(
+        alloc,
+        What::Disk(ShellFault::Trouble(Trouble {
             code,
             track: at.track(),
             sector: at.sector(),
-        }),
+        })),
+        image,
     )
 }
 
 /// Prints a sector, for people or for programs.
-fn print_reading<'a, R: Runtime + AllocGlobal>(
+fn print_reading<R: Runtime + AllocGlobal>(
     rt: &R,
-    image: &'a str,
+    image: &str,
     at: Address,
     reading: &Reading,
     is_json: bool,
-) -> Result<(), Failure<'a>> {
+) -> Result<(), Failure> {
     if is_json {
         let line = in_memory(sector_line(rt.alloc(), image, at, reading))?;
         print(rt, line.as_slice())?;
     }
     match reading {
-        Err(code) => Err(unread(image, at, *code)),
+        Err(code) => Err(unread(rt.alloc(), image, at, *code)),
         Ok(_) if is_json => Ok(()),
         Ok(bytes) => {
             let lines = in_memory(lines_of(rt.alloc(), bytes))?;
@@ -168,14 +164,14 @@ fn print_reading<'a, R: Runtime + AllocGlobal>(
 
 /// Shows the bytes of a sector. Errors: `Word`, where no disk has such a sector; those of `read_image`; `NoTrack`, where
 /// this one hasn't; `Disk`, where it doesn't read; `Write`; `NoMemory`.
-pub fn show_sector<'a, R: Runtime + AllocGlobal>(
+pub fn show_sector<R: Runtime + AllocGlobal>(
     rt: &R,
-    image: &'a str,
-    track: &'a str,
-    sector: &'a str,
+    image: &str,
+    track: &str,
+    sector: &str,
     is_json: bool,
-) -> Result<(), Failure<'a>> {
-    let at = address(track, sector)?;
+) -> Result<(), Failure> {
+    let at = address(rt.alloc(), track, sector)?;
     let bytes = read_image(rt, image)?;
     let reading = reading_at(rt.alloc(), image, bytes.as_slice(), at)?;
     print_reading(rt, image, at, &reading, is_json)

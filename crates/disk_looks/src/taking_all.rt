@@ -5,7 +5,7 @@ use crate::taking::{Destination, Saves, Source, take};
 use cbm_shell::Listed;
 use cbm_volume::Entry;
 use disk_basics::host::path_of;
-use disk_basics::{BreakOff, Disk, Failure, in_memory, on_disk};
+use disk_basics::{BreakOff, Disk, Failure, What, in_memory, on_disk};
 use disk_facts::{count_files, without_errors};
 use std::alloc::AllocError;
 use std::fs;
@@ -13,15 +13,12 @@ use std::path::Path;
 use std::rt::Runtime;
 
 /// Makes the folder, if it isn't there. The one error is `Write`.
-pub fn make_folder<'a, R: Runtime + AllocGlobal>(
-    rt: &R,
-    folder: &'a str,
-) -> Result<(), Failure<'a>> {
+pub fn make_folder<R: Runtime + AllocGlobal>(rt: &R, folder: &str) -> Result<(), Failure> {
     let path = path_of(rt.alloc(), folder)?;
     match fs::create_dir(rt, path.as_str()) {
         Ok(()) => Ok(()),
         Err(_) if Path::new(path.as_str()).is_dir(rt) => Ok(()),
-        Err(error) => Err(Failure::Write(folder, error.kind())),
+        Err(error) => Err(Failure::named(rt.alloc(), What::Write(error.kind()), folder)),
     }
 }
 
@@ -51,18 +48,18 @@ fn take_all<R: Runtime + AllocGlobal>(
 }
 
 /// Takes the files of a disk out.
-fn take_disk<'a, R: Runtime + AllocGlobal>(
+fn take_disk<R: Runtime + AllocGlobal>(
     rt: &R,
     source: Source<'_>,
     entries: &[Entry],
-    place: Destination<'a>,
+    place: Destination<'_>,
     progress: Progress,
-) -> Result<(), Failure<'a>> {
+) -> Result<(), Failure> {
     make_folder(rt, place.folder)?;
     match take_all(rt, source, entries, place, progress) {
         Ok(true) => Ok(()),
-        Ok(false) => Err(Failure::Told),
-        Err(_) => Err(Failure::NoMemory),
+        Ok(false) => Err(Failure::new(What::Told)),
+        Err(_) => Err(Failure::new(What::NoMemory)),
     }
 }
 
@@ -76,12 +73,12 @@ fn opened_bytes<'b>(bytes: &'b [u8], place: Destination<'_>) -> &'b [u8] {
 }
 
 /// What taking a disk's files out came to, where the directory breaks off, which is reported.
-fn require_whole<'a, R: Runtime + AllocGlobal>(
+fn require_whole<R: Runtime + AllocGlobal>(
     rt: &R,
-    image: &'a str,
+    image: &str,
     listed: &Listed,
-    taken: Result<(), Failure<'a>>,
-) -> Result<(), Failure<'a>> {
+    taken: Result<(), Failure>,
+) -> Result<(), Failure> {
     let Some(trouble) = listed.trouble else {
         return taken;
     };
@@ -89,7 +86,7 @@ fn require_whole<'a, R: Runtime + AllocGlobal>(
         entries: listed.entries.len(),
         trouble,
     };
-    let broken = Failure::Broken(image, end);
+    let broken = Failure::named(rt.alloc(), What::Broken(end), image);
     if taken.is_ok() {
         return Err(broken);
     }
@@ -99,20 +96,24 @@ fn require_whole<'a, R: Runtime + AllocGlobal>(
 
 /// Takes all files of an image's bytes out, into a folder. Errors: `Disk`; `Write`, where the folder can't be made; `Told`, where a
 /// file wasn't saved, as is reported; `Broken`; `NoMemory`.
-pub fn get_all_from<'a, R: Runtime + AllocGlobal>(
+pub fn get_all_from<R: Runtime + AllocGlobal>(
     rt: &R,
-    image: &'a str,
+    image: &str,
     bytes: &[u8],
-    place: Destination<'a>,
+    place: Destination<'_>,
     progress: Progress,
-) -> Result<(), Failure<'a>> {
-    let disk = on_disk(image, Disk::open(rt.alloc(), opened_bytes(bytes, place)))?;
+) -> Result<(), Failure> {
+    let disk = on_disk(
+        rt.alloc(),
+        image,
+        Disk::open(rt.alloc(), opened_bytes(bytes, place)),
+    )?;
     let source = Source {
         disk: &disk,
         image: bytes,
     };
     if place.salvages {
-        let entries = on_disk(image, salvaged_entries(rt, bytes, &disk))?;
+        let entries = on_disk(rt.alloc(), image, salvaged_entries(rt, bytes, &disk))?;
         return take_disk(rt, source, entries.as_slice(), place, progress);
     }
     let listed = in_memory(disk.listed(rt.alloc()))?;

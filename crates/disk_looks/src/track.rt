@@ -4,7 +4,7 @@ mod facts;
 use self::facts::circle_line;
 use cbm_image::{Kind, kind_of};
 use disk_basics::host::{print, read_image};
-use disk_basics::{Failure, WordFault, in_memory};
+use disk_basics::{Failure, What, WordFault, in_memory};
 use disk_facts::{track_at, track_name};
 use disk_views::{circle_of, track_lines};
 use std::alloc::{AllocError, Global};
@@ -14,7 +14,7 @@ use std::rt::Runtime;
 const TRACKS: usize = 42;
 
 /// A track's number among half tracks, from 0 on, by the word for it: `17` or `17.5`.
-fn index_of(word: &str) -> Result<usize, Failure<'_>> {
+fn index_of(alloc: Global, word: &str) -> Result<usize, Failure> {
     let (digits, half) = match word.strip_suffix(".5") {
         Some(digits) => (digits, 1usize),
         None => (word, 0usize),
@@ -28,7 +28,7 @@ fn index_of(word: &str) -> Result<usize, Failure<'_>> {
                     .saturating_add(half),
             )
         }
-        _ => Err(Failure::Word(WordFault::Track(word))),
+        _ => Err(Failure::named(alloc, What::Word(WordFault::Track), word)),
     }
 }
 
@@ -51,34 +51,34 @@ fn shown(
 }
 
 /// Prints what stands on a track.
-fn print_track<'a, R: Runtime + AllocGlobal>(
+fn print_track<R: Runtime + AllocGlobal>(
     rt: &R,
-    image: &'a str,
+    image: &str,
     index: usize,
     bytes: &[u8],
     is_json: bool,
-) -> Result<(), Failure<'a>> {
+) -> Result<(), Failure> {
     match in_memory(shown(rt.alloc(), image, index, bytes, is_json))? {
         Some(text) => print(rt, text.as_slice()),
-        None => Err(Failure::NoTrack(image)),
+        None => Err(Failure::named(rt.alloc(), What::NoTrack, image)),
     }
 }
 
 /// Shows what stands on a track of an image. Errors: `Word`, where it is no track; those of `read_image`; `NoCircles` for
 /// a D64; `NoTrack`, where the image has none such; `Write`; `NoMemory`.
-pub fn show_track<'a, R: Runtime + AllocGlobal>(
+pub fn show_track<R: Runtime + AllocGlobal>(
     rt: &R,
-    image: &'a str,
-    word: &'a str,
+    image: &str,
+    word: &str,
     is_json: bool,
-) -> Result<(), Failure<'a>> {
-    let index = index_of(word)?;
+) -> Result<(), Failure> {
+    let index = index_of(rt.alloc(), word)?;
     let bytes = read_image(rt, image)?;
     if kind_of(bytes.as_slice()) == Kind::D64 {
-        return Err(Failure::NoCircles(image));
+        return Err(Failure::named(rt.alloc(), What::NoCircles, image));
     }
     match track_at(bytes.as_slice(), index) {
         Some(track) => print_track(rt, image, index, track, is_json),
-        None => Err(Failure::NoTrack(image)),
+        None => Err(Failure::named(rt.alloc(), What::NoTrack, image)),
     }
 }

@@ -1,4 +1,4 @@
-//! LIST of a disk that the drive doesn't list: its title can't be read, or its directory breaks off.
+//! LIST where the drive refuses it: the title can't be read, the directory breaks off, or the pattern is too long for a command.
 use crate::geos::add_geos;
 use crate::view::{Look, LookAnswer};
 use cbm_channel::FileType;
@@ -118,8 +118,8 @@ pub fn answer_by(listed: &Listed, answer: LookAnswer) -> LookAnswer {
     }
 }
 
-/// Adds the directory of a disk that the drive doesn't list: the title, where 18/0 can be read, and the files up to where the
-/// directory breaks off. Errors: `Image`, `Memory`.
+/// Adds the directory of a disk where the drive doesn't list it, or not by a pattern that is too long for a command: the title, if
+/// 18/0 can be read, and the files up to where the directory breaks off. Errors: `Image`, `Memory`.
 pub fn add_broken(
     alloc: Global,
     text: &mut Vec<u8>,
@@ -137,5 +137,9 @@ pub fn add_broken(
         add_free(alloc, text, free, look.charset)?;
     }
     add_geos(alloc, text, image, look)?;
-    Ok(answer_by(&listed, LookAnswer::Untitled))
+    let whole = match info.label {
+        Some(_) => LookAnswer::Fine,
+        None => LookAnswer::Untitled,
+    };
+    Ok(answer_by(&listed, whole))
 }

@@ -11,7 +11,7 @@ use cbm_shell::texts::Charset;
 use disk_basics::changing::new_image;
 use disk_basics::host::{read_any, require_new, require_ours, write};
 use disk_basics::spare::sixteen;
-use disk_basics::{Failure, WordFault, form, format, in_memory, name_of_file};
+use disk_basics::{Failure, What, WordFault, form, format, in_memory, name_of_file};
 use disk_changes::{Conversion, convert_from};
 use disk_facts::unfilled;
 use host_files::Sync;
@@ -25,13 +25,13 @@ const TRACKS: &str = "35";
 const ID: [u8; 2] = *b"64";
 
 /// The image of an empty disk with the title and the id of another one; for an archive the title is that of the image's name.
-fn blank_for<'a>(
+fn blank_for(
     alloc: Global,
     other: &Other<'_>,
-    output: &'a str,
+    output: &str,
     kind: Kind,
-) -> Result<Vec<u8>, Failure<'a>> {
-    let form = form(kind, TRACKS)?;
+) -> Result<Vec<u8>, Failure> {
+    let form = form(alloc, kind, TRACKS)?;
     if let Some(label) = other.label() {
         let [first, second, _, _, _] = label.mark;
         let title = sixteen(unfilled(label.title.as_slice()));
@@ -39,24 +39,24 @@ fn blank_for<'a>(
     }
     let title = match name_of_file(alloc, Charset::Upper, output) {
         Ok(title) => title,
-        Err(Failure::NoMemory) => return Err(Failure::NoMemory),
+        Err(failure) if matches!(failure.what, What::NoMemory) => return Err(failure),
         Err(_) => Vec::new(alloc),
     };
     in_memory(new_image(alloc, form, sixteen(title.as_slice()), ID))
 }
 
 /// A new image with all files of a disk or an archive. Errors: those of `with_all`; `Told`, where the directory breaks off.
-fn filled<'a, R: Runtime + AllocGlobal>(
+fn filled<R: Runtime + AllocGlobal>(
     rt: &R,
-    image: &'a str,
+    image: &str,
     other: Other<'_>,
-    output: &'a str,
+    output: &str,
     kind: Kind,
-) -> Result<Vec<u8>, Failure<'a>> {
+) -> Result<Vec<u8>, Failure> {
     let blank = blank_for(rt.alloc(), &other, output, kind)?;
     let found = other_entries(rt.alloc(), &other)?;
     if !found.end.tell(rt, image) {
-        return Err(Failure::Told);
+        return Err(Failure::new(What::Told));
     }
     let origin = Origin::Other(other);
     let way = Way {
@@ -68,18 +68,18 @@ fn filled<'a, R: Runtime + AllocGlobal>(
 }
 
 /// Makes an image of the sectors up to track 40 of a D64 of another size, if all its files lie there.
-fn convert_cut<'a, R: Runtime + AllocGlobal>(
+fn convert_cut<R: Runtime + AllocGlobal>(
     rt: &R,
-    image: &'a str,
+    image: &str,
     other: &Other<'_>,
     cut: &Other<'_>,
-    wanted: &Conversion<'a>,
+    wanted: &Conversion<'_>,
     kind: Kind,
-) -> Result<(), Failure<'a>> {
+) -> Result<(), Failure> {
     if tell_unheld(rt, image, other, cut)? {
-        return Err(Failure::Told);
+        return Err(Failure::new(What::Told));
     }
-    require_unlost(rt, other, wanted)?;
+    require_unlost(rt.alloc(), rt, other, wanted)?;
     if kind == Kind::G64 {
         return convert_from(rt, image, cut.bytes(), wanted, kind);
     }
@@ -87,39 +87,40 @@ fn convert_cut<'a, R: Runtime + AllocGlobal>(
 }
 
 /// Reports what the new image lacks, and refuses it then, unless that is wanted.
-fn require_unlost<'a>(
+fn require_unlost(
+    alloc: Global,
     rt: &impl Eprint,
     other: &Other<'_>,
-    wanted: &Conversion<'a>,
-) -> Result<(), Failure<'a>> {
+    wanted: &Conversion<'_>,
+) -> Result<(), Failure> {
     if tell_lost(rt, wanted.output, other) && !wanted.is_lossy {
-        return Err(Failure::Lossy(wanted.output));
+        return Err(Failure::named(alloc, What::Lossy, wanted.output));
     }
     Ok(())
 }
 
 /// Refuses a number of tracks for the image of another disk or archive: it has its own, or 35.
-fn require_no_tracks<'a>(image: &'a str, wanted: &Conversion<'a>) -> Result<(), Failure<'a>> {
+fn require_no_tracks(alloc: Global, image: &str, wanted: &Conversion<'_>) -> Result<(), Failure> {
     match wanted.tracks {
         None => Ok(()),
-        Some(_) => Err(Failure::Word(WordFault::OtherTracks(image))),
+        Some(_) => Err(Failure::named(alloc, What::Word(WordFault::OtherTracks), image)),
     }
 }
 
 /// Makes an image of another disk or archive, if nothing is there, and reports what it lacks.
-fn convert_other<'a, R: Runtime + AllocGlobal>(
+fn convert_other<R: Runtime + AllocGlobal>(
     rt: &R,
-    image: &'a str,
+    image: &str,
     other: Other<'_>,
-    wanted: &Conversion<'a>,
+    wanted: &Conversion<'_>,
     kind: Kind,
-) -> Result<(), Failure<'a>> {
-    require_no_tracks(image, wanted)?;
+) -> Result<(), Failure> {
+    require_no_tracks(rt.alloc(), image, wanted)?;
     require_new(rt, wanted.output, wanted.replaces)?;
     if let Some(cut) = in_memory(other.up_to_40(rt.alloc()))? {
         return convert_cut(rt, image, &other, &cut, wanted, kind);
     }
-    require_unlost(rt, &other, wanted)?;
+    require_unlost(rt.alloc(), rt, &other, wanted)?;
     let new = filled(rt, image, other, wanted.output, kind)?;
     write(rt, wanted.output, new.as_slice(), Sync::Before)
 }
@@ -128,16 +129,16 @@ fn convert_other<'a, R: Runtime + AllocGlobal>(
 /// other kinds a new disk with their files. Errors: `Word`, where no format is said or the image has it already; those of `read_image`;
 /// `Exists`; `Disk`; `Lossy`, where the new image would lack something; `Told`, where a file doesn't fit or can't be read, as is
 /// reported; `Write`.
-pub fn convert_image<'a, R: Runtime + AllocGlobal>(
+pub fn convert_image<R: Runtime + AllocGlobal>(
     rt: &R,
-    image: &'a str,
-    wanted: &Conversion<'a>,
-) -> Result<(), Failure<'a>> {
-    let kind = format(wanted.output, wanted.format)?;
+    image: &str,
+    wanted: &Conversion<'_>,
+) -> Result<(), Failure> {
+    let kind = format(rt.alloc(), wanted.output, wanted.format)?;
     let bytes = read_any(rt, image)?;
     if let Some(other) = in_memory(Other::of(rt.alloc(), bytes.as_slice()))? {
         return convert_other(rt, image, other, wanted, kind);
     }
-    require_ours(image, bytes.as_slice())?;
+    require_ours(rt.alloc(), image, bytes.as_slice())?;
     convert_from(rt, image, bytes.as_slice(), wanted, kind)
 }

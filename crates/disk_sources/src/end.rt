@@ -1,6 +1,6 @@
 //! Where a directory ends.
 use cbm_sources::Fault;
-use disk_basics::{BreakOff, Cause, Failure};
+use disk_basics::{BreakOff, Cause, Failure, What};
 use std::fmt::{self, Display, Formatter};
 
 /// A link leads to a sector that came already, or to one too many.
@@ -69,7 +69,7 @@ impl End {
         match self {
             End::Whole => return true,
             End::Disk(end) => {
-                let _ = Failure::Broken(name, end).tell(rt);
+                let _ = What::Broken(end).tell(rt, name);
             }
             End::Other(end) => {
                 let _ = eprintln!(rt; "disk1541: {name}: {end}");

@@ -6,7 +6,9 @@ use cbm_volume::Entry;
 use disk_basics::calls::{entries, name_text};
 use disk_basics::changing::{add_art, delete_in_slot};
 use disk_basics::spare::{spare_name, taken, unspared, whole_name};
-use disk_basics::{Failure, FileKind, in_memory, kind_of_entry, on_disk, slot_named, slot_number};
+use disk_basics::{
+    Failure, FileKind, What, in_memory, kind_of_entry, on_disk, slot_named, slot_number,
+};
 use disk_changes::{Stored, tell_empty, with_stored};
 use std::alloc::{AllocError, Global};
 use std::rt::Runtime;
@@ -32,29 +34,29 @@ struct Moved<'a, 'b> {
 }
 
 /// The image without the file of a slot that is in the way. Errors: where it isn't to be replaced, or is locked.
-fn without<'a>(
+fn without(
     alloc: Global,
     old: &[u8],
     slot: usize,
-    moved: Moved<'a, '_>,
-) -> Result<Vec<u8>, Failure<'a>> {
+    moved: Moved<'_, '_>,
+) -> Result<Vec<u8>, Failure> {
     if !moved.replaces {
-        return Err(taken(moved.to));
+        return Err(taken(alloc, moved.to));
     }
-    let slot = slot_number(slot, moved.to)?;
-    on_disk(moved.to, delete_in_slot(alloc, old, slot))
+    let slot = slot_number(alloc, slot, moved.to)?;
+    on_disk(alloc, moved.to, delete_in_slot(alloc, old, slot))
 }
 
 /// The image with a file of a kind: under a name that none of these entries has, and then under its own.
-fn with_file<'a>(
+fn with_file(
     alloc: Global,
     old: &[u8],
     there: &[Entry],
     kind: FileKind,
-    moved: Moved<'a, '_>,
-) -> Result<Vec<u8>, Failure<'a>> {
+    moved: Moved<'_, '_>,
+) -> Result<Vec<u8>, Failure> {
     let Some(spare) = spare_name(there, 3) else {
-        return Err(taken(moved.to));
+        return Err(taken(alloc, moved.to));
     };
     let file = Stored {
         name: &spare,
@@ -70,13 +72,13 @@ fn with_file<'a>(
 }
 
 /// The image with a file of a kind, in place of the one that has its name, if one does.
-fn with_kind<'a>(
+fn with_kind(
     alloc: Global,
     old: &[u8],
     kind: FileKind,
-    moved: Moved<'a, '_>,
-) -> Result<Vec<u8>, Failure<'a>> {
-    let all = on_disk(moved.to, entries(alloc, old))?;
+    moved: Moved<'_, '_>,
+) -> Result<Vec<u8>, Failure> {
+    let all = on_disk(alloc, moved.to, entries(alloc, old))?;
     let there = all.as_slice();
     match slot_named(there, moved.entry.name()) {
         Some(slot) => {
@@ -88,15 +90,15 @@ fn with_kind<'a>(
 }
 
 /// The image with a line of art.
-fn with_art<'a>(alloc: Global, old: &[u8], moved: Moved<'a, '_>) -> Result<Vec<u8>, Failure<'a>> {
+fn with_art(alloc: Global, old: &[u8], moved: Moved<'_, '_>) -> Result<Vec<u8>, Failure> {
     let looks = Looks {
         name: whole_name(moved.entry),
         blocks: moved.entry.blocks(),
         is_locked: moved.entry.is_locked(),
     };
-    match on_disk(moved.to, add_art(alloc, old, looks))? {
+    match on_disk(alloc, moved.to, add_art(alloc, old, looks))? {
         Some(image) => Ok(image),
-        None => Err(Failure::DirectoryFull(moved.to)),
+        None => Err(Failure::named(alloc, What::DirectoryFull, moved.to)),
     }
 }
 
@@ -107,19 +109,15 @@ fn is_art(origin: &Origin<'_>, entry: &Entry) -> bool {
 }
 
 /// Reports why a file isn't one that the drive writes.
-fn tell_other<'a, R: Runtime + AllocGlobal, T>(
-    rt: &R,
-    entry: &Entry,
-    why: &str,
-) -> Result<T, Failure<'a>> {
+fn tell_other<R: Runtime + AllocGlobal, T>(rt: &R, entry: &Entry, why: &str) -> Result<T, Failure> {
     let name = in_memory(name_text(rt.alloc(), Charset::Upper, entry.name()))?;
     let name = name.as_str();
     let _ = eprintln!(rt; "disk1541: \"{name}\" {why}");
-    Err(Failure::Told)
+    Err(Failure::new(What::Told))
 }
 
 /// The kind of an entry's file. What the drive doesn't write is reported.
-fn kind_of<'a, R: Runtime + AllocGlobal>(rt: &R, entry: &Entry) -> Result<FileKind, Failure<'a>> {
+fn kind_of<R: Runtime + AllocGlobal>(rt: &R, entry: &Entry) -> Result<FileKind, Failure> {
     if geos_of(entry).is_some() {
         return tell_other(
             rt,
@@ -145,17 +143,17 @@ fn kind_of<'a, R: Runtime + AllocGlobal>(rt: &R, entry: &Entry) -> Result<FileKi
 }
 
 /// The bytes of an entry's file. What isn't read is reported.
-fn bytes_of<'a, R: Runtime + AllocGlobal>(
+fn bytes_of<R: Runtime + AllocGlobal>(
     rt: &R,
     origin: &Origin<'_>,
     entry: &Entry,
     number: usize,
-) -> Result<Vec<u8>, Failure<'a>> {
+) -> Result<Vec<u8>, Failure> {
     match origin.file(rt.alloc(), entry, number) {
         Ok(bytes) => Ok(bytes),
         Err(fault) => {
             in_memory(tell_file(rt, entry, fault))?;
-            Err(Failure::Told)
+            Err(Failure::new(What::Told))
         }
     }
 }
@@ -178,13 +176,13 @@ fn tell_empty_file<R: Eprint + AllocGlobal>(
 
 /// The image with the file of an entry, by its number, or with a line of art. Errors: `Told`, where the file isn't read, or is none that
 /// the drive writes, as is reported; `Disk`, where the name is there already or the disk refuses the file; `DirectoryFull`; `NoMemory`.
-pub fn with_one<'a, R: Runtime + AllocGlobal>(
+pub fn with_one<R: Runtime + AllocGlobal>(
     rt: &R,
-    way: Way<'a, '_, '_>,
+    way: Way<'_, '_, '_>,
     old: &[u8],
     entry: &Entry,
     number: usize,
-) -> Result<Vec<u8>, Failure<'a>> {
+) -> Result<Vec<u8>, Failure> {
     let moved = Moved {
         to: way.to,
         entry,

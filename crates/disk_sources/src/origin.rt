@@ -7,7 +7,7 @@ use cbm_sources::Fault;
 use cbm_volume::Entry;
 use disk_basics::calls::name_text;
 use disk_basics::host::require_ours;
-use disk_basics::{BreakOff, Cause, Disk, Failure, in_memory, on_disk};
+use disk_basics::{BreakOff, Cause, Disk, Failure, What, in_memory, on_disk};
 use std::alloc::{AllocError, Global};
 use std::io;
 
@@ -40,16 +40,12 @@ pub enum FileFault {
 
 impl<'b> Origin<'b> {
     /// The disk or the archive of these bytes. Errors: `Foreign`, where they are none; `Disk`; `NoMemory`.
-    pub fn open<'a>(
-        alloc: Global,
-        name: &'a str,
-        bytes: &'b [u8],
-    ) -> Result<Origin<'b>, Failure<'a>> {
+    pub fn open(alloc: Global, name: &str, bytes: &'b [u8]) -> Result<Origin<'b>, Failure> {
         if let Some(other) = in_memory(Other::of(alloc, bytes))? {
             return Ok(Origin::Other(other));
         }
-        require_ours(name, bytes)?;
-        let disk = on_disk(name, Disk::open(alloc, bytes))?;
+        require_ours(alloc, name, bytes)?;
+        let disk = on_disk(alloc, name, Disk::open(alloc, bytes))?;
         Ok(Origin::Disk(disk))
     }
 
@@ -62,7 +58,7 @@ impl<'b> Origin<'b> {
     }
 
     /// Its entries, as far as its directory can be followed. The one error is `NoMemory`.
-    pub fn entries<'a>(&self, alloc: Global) -> Result<Entries, Failure<'a>> {
+    pub fn entries(&self, alloc: Global) -> Result<Entries, Failure> {
         match self {
             Origin::Disk(disk) => disk_entries(alloc, disk),
             Origin::Other(other) => other_entries(alloc, other),
@@ -93,7 +89,7 @@ pub fn other_file(
 }
 
 /// The entries of a 1541's disk.
-fn disk_entries<'a>(alloc: Global, disk: &Disk) -> Result<Entries, Failure<'a>> {
+fn disk_entries(alloc: Global, disk: &Disk) -> Result<Entries, Failure> {
     let listed = in_memory(disk.listed(alloc))?;
     let end = match listed.trouble {
         Some(trouble) => End::Disk(BreakOff {
@@ -109,7 +105,7 @@ fn disk_entries<'a>(alloc: Global, disk: &Disk) -> Result<Entries, Failure<'a>> 
 }
 
 /// The entries of another one. The one error is `NoMemory`.
-pub fn other_entries<'a>(alloc: Global, other: &Other<'_>) -> Result<Entries, Failure<'a>> {
+pub fn other_entries(alloc: Global, other: &Other<'_>) -> Result<Entries, Failure> {
     let contents = in_memory(other.contents(alloc))?;
     let end = End::of(other.end(&contents));
     Ok(Entries {
@@ -146,7 +142,7 @@ pub fn tell_file<R: Eprint + AllocGlobal>(
 ) -> Result<(), AllocError> {
     let name = name_text(rt.alloc(), Charset::Upper, entry.name())?;
     let _ = match fault {
-        FileFault::Disk(fault) => Failure::Disk(name.as_str(), fault).tell(rt),
+        FileFault::Disk(fault) => What::Disk(fault).tell(rt, name.as_str()),
         FileFault::Other(fault) => tell_fault(rt, name.as_str(), fault),
     };
     Ok(())

@@ -24,12 +24,12 @@ pub fn is_for_all(view: View) -> bool {
 }
 
 /// What a disk or an archive of another kind shows. Where its directory breaks off, that is reported.
-fn other_seen<'a, R: Runtime + AllocGlobal>(
+fn other_seen<R: Runtime + AllocGlobal>(
     rt: &R,
-    name: &'a str,
+    name: &str,
     other: &Other<'_>,
     look: Look<'_>,
-) -> Result<Shown, Failure<'a>> {
+) -> Result<Shown, Failure> {
     let contents = in_memory(other.contents(rt.alloc()))?;
     if look.view != View::Sum {
         let _ = End::of(other.end(&contents)).tell(rt, name);
@@ -40,11 +40,11 @@ fn other_seen<'a, R: Runtime + AllocGlobal>(
 
 /// What an image shows; one of another kind too, if its directory, its facts, its sum or files that match are looked at. Errors:
 /// those of `read_image`; `Disk`; `NoMemory`.
-pub fn seen<'a, R: Runtime + AllocGlobal>(
+pub fn seen<R: Runtime + AllocGlobal>(
     rt: &R,
-    name: &'a str,
+    name: &str,
     look: Look<'_>,
-) -> Result<Sight, Failure<'a>> {
+) -> Result<Sight, Failure> {
     let bytes = read_any(rt, name)?;
     if is_for_all(look.view) {
         if let Some(other) = in_memory(Other::of(rt.alloc(), bytes.as_slice()))? {
@@ -55,8 +55,12 @@ pub fn seen<'a, R: Runtime + AllocGlobal>(
             });
         }
     }
-    require_ours(name, bytes.as_slice())?;
-    let shown = on_disk(name, lines_of(rt.alloc(), name, bytes.as_slice(), look))?;
+    require_ours(rt.alloc(), name, bytes.as_slice())?;
+    let shown = on_disk(
+        rt.alloc(),
+        name,
+        lines_of(rt.alloc(), name, bytes.as_slice(), look),
+    )?;
     Ok(Sight {
         shown,
         is_other: false,

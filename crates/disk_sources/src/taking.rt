@@ -5,56 +5,56 @@ use cbm_shell::texts::Charset;
 use cbm_volume::Entry;
 use disk_basics::calls::name_text;
 use disk_basics::host::{read_any, require_ours};
-use disk_basics::{Failure, in_memory, petscii, slot_chosen};
+use disk_basics::{Failure, What, in_memory, petscii, slot_chosen};
 use disk_facts::number_meant;
 use disk_looks::{
     Destination, OneFile, Progress, Saves, get_all_from, get_from, make_folder, packed, save_as,
     write_taken,
 };
-use std::alloc::AllocError;
+use std::alloc::{AllocError, Global};
 use std::path::Path;
 use std::rt::Runtime;
 
 /// The number of the file that is chosen.
-fn number_of<'a, R: Runtime + AllocGlobal>(
+fn number_of<R: Runtime + AllocGlobal>(
     rt: &R,
     entries: &[Entry],
-    taken: &OneFile<'a>,
-) -> Result<usize, Failure<'a>> {
+    taken: &OneFile<'_>,
+) -> Result<usize, Failure> {
     if !taken.choice.is_pattern() {
         return slot_chosen(rt.alloc(), entries, taken.choice);
     }
     let pattern = petscii(rt.alloc(), taken.choice.charset, taken.choice.name)?;
     match number_meant(entries, pattern.as_slice()) {
         Some(number) => Ok(number),
-        None => Err(Failure::NoFile(taken.choice.name)),
+        None => Err(Failure::named(rt.alloc(), What::NoFile, taken.choice.name)),
     }
 }
 
 /// Takes a file out of a disk or an archive of another kind.
-fn get_other<'a, R: Runtime + AllocGlobal>(
+fn get_other<R: Runtime + AllocGlobal>(
     rt: &R,
     other: &Other<'_>,
-    taken: &OneFile<'a>,
-) -> Result<(), Failure<'a>> {
+    taken: &OneFile<'_>,
+) -> Result<(), Failure> {
     let found = other_entries(rt.alloc(), other)?;
     let number = number_of(rt, found.entries.as_slice(), taken)?;
     let Some(entry) = found.entries.as_slice().get(number) else {
-        return Err(Failure::NoFile(taken.choice.word()));
+        return Err(Failure::named(rt.alloc(), What::NoFile, taken.choice.word()));
     };
     match other_file(rt.alloc(), other, entry, number) {
         Ok(file) => write_taken(rt, taken, file.as_slice()),
         Err(fault) => {
             in_memory(tell_file(rt, entry, fault))?;
-            Err(Failure::Told)
+            Err(Failure::new(What::Told))
         }
     }
 }
 
 /// Refuses to make a CVT of a file of another kind of disk. The one error is `GeosElsewhere`.
-fn require_no_cvt<'a>(image: &'a str, is_cvt: bool) -> Result<(), Failure<'a>> {
+fn require_no_cvt(alloc: Global, image: &str, is_cvt: bool) -> Result<(), Failure> {
     if is_cvt {
-        Err(Failure::GeosElsewhere(image))
+        Err(Failure::named(alloc, What::GeosElsewhere, image))
     } else {
         Ok(())
     }
@@ -62,17 +62,17 @@ fn require_no_cvt<'a>(image: &'a str, is_cvt: bool) -> Result<(), Failure<'a>> {
 
 /// Takes a file out of an image, also one of another kind. Errors: those of `read_image` and of `petscii`; `Disk`, where the disk
 /// has no such file or it can't be read; `NoFile`; `Told`; `Exists`; `Write`.
-pub fn get<'a, R: Runtime + AllocGlobal>(
+pub fn get<R: Runtime + AllocGlobal>(
     rt: &R,
-    image: &'a str,
-    taken: &OneFile<'a>,
-) -> Result<(), Failure<'a>> {
+    image: &str,
+    taken: &OneFile<'_>,
+) -> Result<(), Failure> {
     let bytes = read_any(rt, image)?;
     if let Some(other) = in_memory(Other::of(rt.alloc(), bytes.as_slice()))? {
-        require_no_cvt(image, taken.is_cvt)?;
+        require_no_cvt(rt.alloc(), image, taken.is_cvt)?;
         return get_other(rt, &other, taken);
     }
-    require_ours(image, bytes.as_slice())?;
+    require_ours(rt.alloc(), image, bytes.as_slice())?;
     get_from(rt, bytes.as_slice(), taken)
 }
 
@@ -126,12 +126,12 @@ fn save_all<R: Runtime + AllocGlobal>(
 }
 
 /// Takes all files of a disk or an archive of another kind out.
-fn get_all_other<'a, R: Runtime + AllocGlobal>(
+fn get_all_other<R: Runtime + AllocGlobal>(
     rt: &R,
-    image: &'a str,
+    image: &str,
     other: &Other<'_>,
-    place: Destination<'a>,
-) -> Result<(), Failure<'a>> {
+    place: Destination<'_>,
+) -> Result<(), Failure> {
     let found = other_entries(rt.alloc(), other)?;
     make_folder(rt, place.folder)?;
     let are_saved = in_memory(save_all(rt, other, &found, place))?;
@@ -139,22 +139,22 @@ fn get_all_other<'a, R: Runtime + AllocGlobal>(
     if are_saved && is_whole {
         return Ok(());
     }
-    Err(Failure::Told)
+    Err(Failure::new(What::Told))
 }
 
 /// Takes all files out of an image, also one of another kind, into a folder. Errors: those of `read_image`; `Disk`; `Write`, where the
 /// folder can't be made; `Told`, where a file wasn't saved, as is reported; `NoMemory`.
-pub fn get_all<'a, R: Runtime + AllocGlobal>(
+pub fn get_all<R: Runtime + AllocGlobal>(
     rt: &R,
-    image: &'a str,
-    place: Destination<'a>,
+    image: &str,
+    place: Destination<'_>,
     progress: Progress,
-) -> Result<(), Failure<'a>> {
+) -> Result<(), Failure> {
     let bytes = read_any(rt, image)?;
     if let Some(other) = in_memory(Other::of(rt.alloc(), bytes.as_slice()))? {
-        require_no_cvt(image, place.is_cvt)?;
+        require_no_cvt(rt.alloc(), image, place.is_cvt)?;
         return get_all_other(rt, image, &other, place);
     }
-    require_ours(image, bytes.as_slice())?;
+    require_ours(rt.alloc(), image, bytes.as_slice())?;
     get_all_from(rt, image, bytes.as_slice(), place, progress)
 }

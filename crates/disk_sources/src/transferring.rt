@@ -5,7 +5,7 @@ use cbm_shell::texts::Charset;
 use cbm_volume::Entry;
 use disk_basics::calls::name_text;
 use disk_basics::host::{print, read_any, read_to_change, replace};
-use disk_basics::{Failure, in_memory, petscii};
+use disk_basics::{Failure, What, in_memory, petscii};
 use disk_facts::{first_meant, is_meant};
 use disk_reports::match_line;
 use std::alloc::{AllocError, Global};
@@ -40,16 +40,16 @@ fn is_wanted(entry: &Entry, patterns: &[Vec<u8>]) -> bool {
 }
 
 /// The patterns of words, of which each means a file. Errors: `NoFile`, where one means none.
-fn patterns_of<'a>(
+fn patterns_of(
     alloc: Global,
     entries: &[Entry],
-    wanted: &Transfer<'a, '_>,
-) -> Result<Vec<Vec<u8>>, Failure<'a>> {
+    wanted: &Transfer<'_, '_>,
+) -> Result<Vec<Vec<u8>>, Failure> {
     let mut patterns = Vec::new(alloc);
     for word in wanted.patterns {
         let pattern = petscii(alloc, wanted.charset, *word)?;
         if first_meant(entries, pattern.as_slice()).is_none() {
-            return Err(Failure::NoFile(*word));
+            return Err(Failure::named(alloc, What::NoFile, *word));
         }
         in_memory(patterns.push(pattern).map_err(AllocError::from))?;
     }
@@ -65,13 +65,13 @@ fn tell_left<R: Eprint + AllocGlobal>(rt: &R, entry: &Entry, end: &str) -> Resul
 }
 
 /// The image with all files that are wanted. The first that can't be transferred is reported. Errors: those of `with_one`.
-pub fn with_all<'a, R: Runtime + AllocGlobal>(
+pub fn with_all<R: Runtime + AllocGlobal>(
     rt: &R,
-    way: Way<'a, '_, '_>,
+    way: Way<'_, '_, '_>,
     old: &[u8],
     entries: &[Entry],
     patterns: &[Vec<u8>],
-) -> Result<Vec<u8>, Failure<'a>> {
+) -> Result<Vec<u8>, Failure> {
     let mut image = in_memory(Vec::from_slice(rt.alloc(), old))?;
     for (number, entry) in entries.iter().enumerate() {
         if is_wanted(entry, patterns) {
@@ -106,13 +106,13 @@ impl Plan {
 }
 
 /// Shows a file that could be transferred to an image, which it then has; one that couldn't is reported.
-fn show_one<'a, R: Runtime + AllocGlobal>(
+fn show_one<R: Runtime + AllocGlobal>(
     rt: &R,
-    wanted: &Transfer<'a, '_>,
+    wanted: &Transfer<'_, '_>,
     entry: &Entry,
-    next: Result<Vec<u8>, Failure<'a>>,
+    next: Result<Vec<u8>, Failure>,
     plan: &mut Plan,
-) -> Result<Option<Vec<u8>>, Failure<'a>> {
+) -> Result<Option<Vec<u8>>, Failure> {
     match next {
         Ok(image) => {
             plan.fine = plan.fine.saturating_add(1);
@@ -120,7 +120,7 @@ fn show_one<'a, R: Runtime + AllocGlobal>(
             print(rt, line.as_bytes())?;
             Ok(Some(image))
         }
-        Err(Failure::NoMemory) => Err(Failure::NoMemory),
+        Err(failure) if matches!(failure.what, What::NoMemory) => Err(failure),
         Err(failure) => {
             plan.left = plan.left.saturating_add(1);
             in_memory(tell_left(rt, entry, ""))?;
@@ -131,14 +131,14 @@ fn show_one<'a, R: Runtime + AllocGlobal>(
 }
 
 /// Shows which of the files that are wanted could be transferred, each after those before it. Errors: `Told`, where one couldn't.
-fn show_all<'a, R: Runtime + AllocGlobal>(
+fn show_all<R: Runtime + AllocGlobal>(
     rt: &R,
-    way: Way<'a, '_, '_>,
+    way: Way<'_, '_, '_>,
     old: Vec<u8>,
     entries: &[Entry],
     patterns: &[Vec<u8>],
-    wanted: &Transfer<'a, '_>,
-) -> Result<(), Failure<'a>> {
+    wanted: &Transfer<'_, '_>,
+) -> Result<(), Failure> {
     let mut plan = Plan { fine: 0, left: 0 };
     let mut image = old;
     for (number, entry) in entries.iter().enumerate() {
@@ -154,7 +154,7 @@ fn show_all<'a, R: Runtime + AllocGlobal>(
     if plan.left == 0 {
         Ok(())
     } else {
-        Err(Failure::Told)
+        Err(Failure::new(What::Told))
     }
 }
 
@@ -162,16 +162,16 @@ fn show_all<'a, R: Runtime + AllocGlobal>(
 /// `Read`, `TooLong`, `Foreign`; `Told`, where the directory or a file can't be read, or isn't one that the drive writes, as is reported;
 /// `NoFile`; those of `read_to_change`; `Disk`, where a name is there already or the disk refuses a file; `DirectoryFull`; `NoMemory`;
 /// those of `replace`.
-pub fn transfer_files<'a, R: Runtime + AllocGlobal>(
+pub fn transfer_files<R: Runtime + AllocGlobal>(
     rt: &R,
-    to: &'a str,
-    wanted: &Transfer<'a, '_>,
-) -> Result<(), Failure<'a>> {
+    to: &str,
+    wanted: &Transfer<'_, '_>,
+) -> Result<(), Failure> {
     let bytes = read_any(rt, wanted.from)?;
     let origin = Origin::open(rt.alloc(), wanted.from, bytes.as_slice())?;
     let found = origin.entries(rt.alloc())?;
     if !found.end.tell(rt, wanted.from) {
-        return Err(Failure::Told);
+        return Err(Failure::new(What::Told));
     }
     let entries = found.entries.as_slice();
     let old = read_to_change(rt, to)?;

@@ -2,7 +2,7 @@
 use crate::reading::{choice, gone, head, host_files, pair, patterns_word, type_and_choice};
 use cbm_shell::texts::Charset;
 use clap::ArgMatches;
-use disk_basics::{Choice, Failure, WordFault, in_memory};
+use disk_basics::{Choice, Failure, What, WordFault, in_memory};
 use disk_changes::{require_files, with_files};
 use disk_commands::{Verb, flag, given, option};
 use disk_edits::{
@@ -35,7 +35,7 @@ pub struct Manner<'a> {
 }
 
 /// A new image of which there is nothing more to say.
-fn plain<'a>(image: Result<Vec<u8>, Failure<'a>>) -> Result<Made, Failure<'a>> {
+fn plain(image: Result<Vec<u8>, Failure>) -> Result<Made, Failure> {
     Ok(Made {
         image: image?,
         plan: None,
@@ -44,11 +44,7 @@ fn plain<'a>(image: Result<Vec<u8>, Failure<'a>>) -> Result<Made, Failure<'a>> {
 }
 
 /// What an edit makes of an image.
-fn edit_of<'a>(
-    alloc: Global,
-    desk: Desk<'a, '_>,
-    edit: &Edit<'a, '_>,
-) -> Result<Made, Failure<'a>> {
+fn edit_of(alloc: Global, desk: Desk<'_, '_>, edit: &Edit<'_, '_>) -> Result<Made, Failure> {
     let image = edited(alloc, desk.image, desk.bytes, edit)?;
     let rest = rest_of(alloc, desk.bytes, image.as_slice(), edit);
     Ok(Made {
@@ -60,10 +56,7 @@ fn edit_of<'a>(
 
 /// The one file that is chosen by its slot or its exact name; None where patterns mean files. Errors: `Word`, where none or several
 /// are said.
-fn one_chosen<'a>(
-    words: &ArgMatches<'a>,
-    charset: Charset,
-) -> Result<Option<Choice<'a>>, Failure<'a>> {
+fn one_chosen<'a>(words: &ArgMatches<'a>, charset: Charset) -> Result<Option<Choice<'a>>, Failure> {
     let named = choice(words, "", charset);
     match words.get_strs(patterns_word(words)).unwrap_or(&[]) {
         [] if named.slot.is_some() => Ok(Some(named)),
@@ -71,17 +64,17 @@ fn one_chosen<'a>(
             Ok(Some(choice(words, *name, charset)))
         }
         [_, ..] if named.is_pattern() => Ok(None),
-        _ => Err(Failure::Word(WordFault::NoFileName)),
+        _ => Err(Failure::new(What::Word(WordFault::NoFileName))),
     }
 }
 
 /// The image with a copy of the file that is meant.
-fn copy_of<'a>(
+fn copy_of(
     alloc: Global,
-    words: &ArgMatches<'a>,
+    words: &ArgMatches<'_>,
     charset: Charset,
-    desk: Desk<'a, '_>,
-) -> Result<Vec<u8>, Failure<'a>> {
+    desk: Desk<'_, '_>,
+) -> Result<Vec<u8>, Failure> {
     let (pair, choice) = pair(words, charset)?;
     if choice.is_pattern() {
         return copied(alloc, desk.image, desk.bytes, &pair);
@@ -90,12 +83,12 @@ fn copy_of<'a>(
 }
 
 /// The image whose file that is meant has another name.
-fn rename_of<'a>(
+fn rename_of(
     alloc: Global,
-    words: &ArgMatches<'a>,
+    words: &ArgMatches<'_>,
     charset: Charset,
-    desk: Desk<'a, '_>,
-) -> Result<Vec<u8>, Failure<'a>> {
+    desk: Desk<'_, '_>,
+) -> Result<Vec<u8>, Failure> {
     let (pair, choice) = pair(words, charset)?;
     if choice.is_pattern() {
         return renamed(alloc, desk.image, desk.bytes, &pair);
@@ -104,13 +97,13 @@ fn rename_of<'a>(
 }
 
 /// The image whose files that are meant are locked, or free.
-fn lock_of<'a>(
+fn lock_of(
     alloc: Global,
-    words: &ArgMatches<'a>,
+    words: &ArgMatches<'_>,
     charset: Charset,
-    desk: Desk<'a, '_>,
+    desk: Desk<'_, '_>,
     is_locked: bool,
-) -> Result<Made, Failure<'a>> {
+) -> Result<Made, Failure> {
     match one_chosen(words, charset)? {
         Some(choice) => plain(done_with(alloc, desk, choice, Deed::Lock(is_locked))),
         None => {
@@ -121,16 +114,16 @@ fn lock_of<'a>(
 }
 
 /// The image without the files that are meant, or without those of them that are at fault.
-fn delete_of<'a, R: Runtime + AllocGlobal>(
+fn delete_of<R: Runtime + AllocGlobal>(
     rt: &R,
-    words: &ArgMatches<'a>,
+    words: &ArgMatches<'_>,
     charset: Charset,
-    desk: Desk<'a, '_>,
-) -> Result<Made, Failure<'a>> {
+    desk: Desk<'_, '_>,
+) -> Result<Made, Failure> {
     let patterns = words.get_strs(patterns_word(words)).unwrap_or(&[]);
     if flag(words, "force") {
         if patterns.is_empty() || !choice(words, "", charset).is_pattern() {
-            return Err(Failure::Word(WordFault::NoFileName));
+            return Err(Failure::new(What::Word(WordFault::NoFileName)));
         }
         return plain(without_fault(rt, desk.image, desk.bytes, patterns, charset));
     }
@@ -141,23 +134,23 @@ fn delete_of<'a, R: Runtime + AllocGlobal>(
 }
 
 /// The image whose file that is meant has another type.
-fn retype_of<'a>(
+fn retype_of(
     alloc: Global,
-    words: &ArgMatches<'a>,
+    words: &ArgMatches<'_>,
     charset: Charset,
-    desk: Desk<'a, '_>,
-) -> Result<Vec<u8>, Failure<'a>> {
+    desk: Desk<'_, '_>,
+) -> Result<Vec<u8>, Failure> {
     let (word, choice) = type_and_choice(words, charset)?;
     retyped(alloc, desk, choice, word)
 }
 
 /// The image put in order, and what that does.
-fn order_of<'a>(
+fn order_of(
     alloc: Global,
-    words: &ArgMatches<'a>,
-    desk: Desk<'a, '_>,
+    words: &ArgMatches<'_>,
+    desk: Desk<'_, '_>,
     is_dry: bool,
-) -> Result<Made, Failure<'a>> {
+) -> Result<Made, Failure> {
     let ordering = Ordering {
         is_dry,
         is_forced: flag(words, "force"),
@@ -172,14 +165,14 @@ fn order_of<'a>(
 }
 
 /// The image whose files that are meant lie elsewhere, and of a dry run where.
-fn place_of<'a>(
+fn place_of(
     alloc: Global,
-    words: &ArgMatches<'a>,
+    words: &ArgMatches<'_>,
     charset: Charset,
-    desk: Desk<'a, '_>,
+    desk: Desk<'_, '_>,
     is_dry: bool,
-) -> Result<Made, Failure<'a>> {
-    let head = head(words)?;
+) -> Result<Made, Failure> {
+    let head = head(alloc, words)?;
     let patterns = words.get_strs("PATTERN").unwrap_or(&[]);
     let placement = Placement {
         patterns,
@@ -201,13 +194,13 @@ fn place_of<'a>(
 }
 
 /// Refuses words that can't be used, whatever the image is. Errors: `Word`.
-pub fn require_words<'a>(
+pub fn require_words(
     alloc: Global,
     verb: Verb,
-    words: &ArgMatches<'a>,
-    image: &'a str,
-    manner: Manner<'a>,
-) -> Result<(), Failure<'a>> {
+    words: &ArgMatches<'_>,
+    image: &str,
+    manner: Manner<'_>,
+) -> Result<(), Failure> {
     match verb {
         Verb::Put => {
             let put = host_files(words, manner.charset, manner.input);
@@ -221,11 +214,11 @@ pub fn require_words<'a>(
             Ok(())
         }
         Verb::Sort => {
-            key_of_word(given(words, "by"))?;
+            key_of_word(alloc, given(words, "by"))?;
             Ok(())
         }
         Verb::Place => {
-            head(words)?;
+            head(alloc, words)?;
             Ok(())
         }
         _ => Ok(()),
@@ -233,13 +226,13 @@ pub fn require_words<'a>(
 }
 
 /// What a command makes of an image. Errors: those of its call; `Told`, where it changes no image.
-pub fn made_by<'a, R: Runtime + AllocGlobal>(
+pub fn made_by<R: Runtime + AllocGlobal>(
     rt: &R,
     verb: Verb,
-    words: &ArgMatches<'a>,
-    desk: Desk<'a, '_>,
-    manner: Manner<'a>,
-) -> Result<Made, Failure<'a>> {
+    words: &ArgMatches<'_>,
+    desk: Desk<'_, '_>,
+    manner: Manner<'_>,
+) -> Result<Made, Failure> {
     let alloc = rt.alloc();
     let charset = manner.charset;
     match verb {
@@ -263,10 +256,10 @@ pub fn made_by<'a, R: Runtime + AllocGlobal>(
         Verb::Retype => plain(retype_of(alloc, words, charset, desk)),
         Verb::Place => place_of(alloc, words, charset, desk, manner.is_dry),
         Verb::Sort => {
-            let key = key_of_word(given(words, "by"))?;
+            let key = key_of_word(rt.alloc(), given(words, "by"))?;
             plain(sorted(alloc, desk.image, desk.bytes, key))
         }
         Verb::Validate => order_of(alloc, words, desk, manner.is_dry),
-        _ => Err(Failure::Told),
+        _ => Err(Failure::new(What::Told)),
     }
 }

@@ -1,7 +1,7 @@
 //! What several images came to.
 use super::folders::Passed;
 use disk_basics::host::print;
-use disk_basics::{Failure, in_memory};
+use disk_basics::{Failure, What, in_memory};
 use disk_reports::{Look, LookAnswer, View};
 use std::alloc::{AllocError, Global};
 use std::rt::Runtime;
@@ -120,11 +120,7 @@ impl Counts {
     }
 
     /// Prints it, but for programs. Errors: `Write`, `NoMemory`.
-    pub fn print<'a, R: Runtime + AllocGlobal>(
-        self,
-        rt: &R,
-        look: Look<'_>,
-    ) -> Result<(), Failure<'a>> {
+    pub fn print<R: Runtime + AllocGlobal>(self, rt: &R, look: Look<'_>) -> Result<(), Failure> {
         if look.is_json || look.is_csv || matches!(look.view, View::Sum | View::Sent) {
             return Ok(());
         }
@@ -134,15 +130,15 @@ impl Counts {
 
     /// What the command comes to. Errors: `Several`, where some images can't be looked at, aren't sound, have no title or a directory that breaks off;
     /// `NoMatch`, where no image has such a file.
-    pub fn outcome<'a>(self, look: Look<'_>) -> Result<(), Failure<'a>> {
+    pub fn outcome(self, look: Look<'_>) -> Result<(), Failure> {
         if self.none != 0 || self.broken != 0 || self.passed.unnamed != 0 {
-            return Err(Failure::Several);
+            return Err(Failure::new(What::Several));
         }
         match look.view {
             View::Soundness | View::Flaws | View::Directory if self.others != 0 => {
-                Err(Failure::Several)
+                Err(Failure::new(What::Several))
             }
-            View::Matches if self.fine == 0 => Err(Failure::NoMatch),
+            View::Matches if self.fine == 0 => Err(Failure::new(What::NoMatch)),
             _ => Ok(()),
         }
     }

@@ -1,5 +1,5 @@
 //! The images in a folder and in its folders.
-use disk_basics::Failure;
+use disk_basics::{Failure, What};
 use disk_facts::{is_image_name, is_other_name};
 use host_files::{Kind, kind_of, names_in, own_kind_of};
 use std::alloc::AllocError;
@@ -28,15 +28,15 @@ pub struct Walk {
     folders: Vec<String>,
     images: Vec<String>,
     passed: Passed,
-    // Whether each folder could be read.
-    is_whole: bool,
+    // The folders that can't be read.
+    refused: Vec<Failure>,
     // Disks and archives of other kinds are images, too.
     has_others: bool,
 }
 
 impl Walk {
-    /// The walk through a folder to its end, to images, and to disks and archives of other kinds, if they count as such. A folder
-    /// that can't be read is reported. The one error is want of memory.
+    /// The walk through a folder to its end, to images, and to disks and archives of other kinds, if they count as such. The one error
+    /// is want of memory.
     pub fn through<R: Runtime + AllocGlobal>(
         rt: &R,
         folder: &str,
@@ -50,7 +50,7 @@ impl Walk {
                 specials: 0,
                 unnamed: 0,
             },
-            is_whole: true,
+            refused: Vec::new(rt.alloc()),
             has_others,
         };
         walk.enter(rt, folder)?;
@@ -68,9 +68,9 @@ impl Walk {
         self.passed
     }
 
-    /// Whether each folder could be read.
-    pub fn is_whole(&self) -> bool {
-        self.is_whole
+    /// The folders that can't be read.
+    pub fn refused(&self) -> &[Failure] {
+        self.refused.as_slice()
     }
 
     /// Goes through the folders that were met, and sorts what was met.
@@ -91,8 +91,8 @@ impl Walk {
             Ok(()) => Ok(()),
             Err(error) if error.kind() == io::ErrorKind::OutOfMemory => Err(AllocError),
             Err(error) => {
-                self.is_whole = false;
-                let _ = Failure::Read(folder, error.kind()).tell(rt);
+                let what = What::Read(error.kind());
+                self.refused.push(Failure::named(rt.alloc(), what, folder))?;
                 Ok(())
             }
         }
@@ -124,7 +124,7 @@ impl Walk {
             (_, Ok(Kind::Other)) => self.passed.specials = self.passed.specials.wrapping_add(1),
             _ if self.is_image(path) => self.images.push(String::from_str(alloc, path)?)?,
             (Err(error), _) if error.kind() == io::ErrorKind::InvalidFilename => {
-                let _ = Failure::Read(path, error.kind()).tell(rt);
+                let _ = What::Read(error.kind()).tell(rt, path);
                 self.passed.unnamed = self.passed.unnamed.wrapping_add(1);
             }
             _ => self.passed.files = self.passed.files.wrapping_add(1),

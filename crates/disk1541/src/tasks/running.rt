@@ -8,7 +8,7 @@ use cbm_shell::texts::Charset;
 use clap::ArgMatches;
 use clap::error::ErrorKind;
 use disk_basics::host::{is_standard, read_file, read_image, replace};
-use disk_basics::{Failure, WordFault, in_memory, on_disk};
+use disk_basics::{Failure, What, WordFault, in_memory, on_disk};
 use disk_commands::{Verb, flag, given, verb_of};
 use disk_edits::{Desk, shown_change};
 use std::alloc::{AllocError, Global};
@@ -108,35 +108,35 @@ fn wrong_flag(words: &ArgMatches<'_>) -> Option<&'static str> {
 }
 
 /// Refuses what is no word of a line: another image, files of several images, a dry run, JSON, and standard input.
-fn require_line<'a>(words: &ArgMatches<'a>) -> Result<(), Failure<'a>> {
+fn require_line(alloc: Global, words: &ArgMatches<'_>) -> Result<(), Failure> {
     if let [_, other, ..] = words.get_strs("IMAGE").unwrap_or(&[]) {
-        return Err(Failure::Word(WordFault::LineWord(*other)));
+        return Err(Failure::named(alloc, What::Word(WordFault::LineWord), *other));
     }
     if words.get_strs("only").is_some() {
-        return Err(Failure::Word(WordFault::LineWord("--only")));
+        return Err(Failure::named(alloc, What::Word(WordFault::LineWord), "--only"));
     }
     if let Some(word) = wrong_flag(words) {
-        return Err(Failure::Word(WordFault::LineWord(word)));
+        return Err(Failure::named(alloc, What::Word(WordFault::LineWord), word));
     }
     for file in words.get_strs("FILE").unwrap_or(&[]) {
         if is_standard(*file) {
-            return Err(Failure::Word(WordFault::LineWord(*file)));
+            return Err(Failure::named(alloc, What::Word(WordFault::LineWord), *file));
         }
     }
     Ok(())
 }
 
 /// What a command of a line makes of the image, and the character set of its names.
-fn made_of<'a, R: Runtime + AllocGlobal>(
+fn made_of<R: Runtime + AllocGlobal>(
     rt: &R,
     verb: Verb,
-    words: &ArgMatches<'a>,
-    desk: Desk<'a, '_>,
+    words: &ArgMatches<'_>,
+    desk: Desk<'_, '_>,
     is_dry: bool,
-) -> Result<(Made, Charset), Failure<'a>> {
-    require_line(words)?;
+) -> Result<(Made, Charset), Failure> {
+    require_line(rt.alloc(), words)?;
     let manner = Manner {
-        charset: charset(words)?,
+        charset: charset(rt.alloc(), words)?,
         input: None,
         is_dry,
     };
@@ -146,18 +146,18 @@ fn made_of<'a, R: Runtime + AllocGlobal>(
 }
 
 /// What a line's command makes of the image. Errors: `Word`, where lines have no such command.
-fn made_by_line<'a, R: Runtime + AllocGlobal>(
+fn made_by_line<R: Runtime + AllocGlobal>(
     rt: &R,
-    line: &ArgMatches<'a>,
-    desk: Desk<'a, '_>,
+    line: &ArgMatches<'_>,
+    desk: Desk<'_, '_>,
     is_dry: bool,
-) -> Result<(Made, Charset), Failure<'a>> {
+) -> Result<(Made, Charset), Failure> {
     let Some((name, words)) = line.subcommand() else {
-        return Err(Failure::Told);
+        return Err(Failure::new(What::Told));
     };
     match verb_of(name) {
         Some(verb) if is_for_lines(verb) => made_of(rt, verb, words, desk, is_dry),
-        _ => Err(Failure::Word(WordFault::LineCommand(name))),
+        _ => Err(Failure::named(rt.alloc(), What::Word(WordFault::LineCommand), name)),
     }
 }
 
@@ -171,13 +171,13 @@ fn refused_words<R: Runtime>(rt: &R, error: &clap::Error) -> u8 {
 }
 
 /// Reports what went wrong. Answers the exit status.
-fn told(rt: &impl Eprint, failure: Failure<'_>) -> u8 {
+fn told(rt: &impl Eprint, failure: Failure) -> u8 {
     let _ = failure.tell(rt);
     failure.status()
 }
 
 /// The words of a line as a command line, with a word for the image; none where the line is empty.
-fn full_words<'a>(alloc: Global, line: &[u8]) -> Result<Vec<String>, Failure<'a>> {
+fn full_words(alloc: Global, line: &[u8]) -> Result<Vec<String>, Failure> {
     let words = words_of(alloc, line)?;
     in_memory(with_image(alloc, words.as_slice()))
 }
@@ -219,16 +219,17 @@ fn carry_words<R: Runtime + AllocGlobal>(
 }
 
 /// Takes what a line made as the image, and what is said of it.
-fn take_made<'a>(
+fn take_made(
     alloc: Global,
-    script: Script<'a>,
+    script: Script<'_>,
     number: usize,
     course: &mut Course,
     made: Made,
     charset: Charset,
-) -> Result<(), Failure<'a>> {
+) -> Result<(), Failure> {
     if script.is_dry {
         on_disk(
+            alloc,
             script.image,
             course.add_shown(alloc, number, &made, charset),
         )?;
@@ -275,30 +276,30 @@ fn tell_line(rt: &impl Eprint, script: Script<'_>, number: usize) {
 }
 
 /// Carries out all lines. Errors: `Ended`, where one is refused, as is reported.
-fn carry_all<'a, R: Runtime + AllocGlobal>(
+fn carry_all<R: Runtime + AllocGlobal>(
     rt: &R,
-    script: Script<'a>,
+    script: Script<'_>,
     lines: &[u8],
     course: &mut Course,
-) -> Result<(), Failure<'a>> {
+) -> Result<(), Failure> {
     let mut number: usize = 0;
     for line in lines.split(|byte| *byte == b'\n') {
         number = number.saturating_add(1);
         if let Err(status) = carry_line(rt, script, number, line, course) {
             tell_line(rt, script, number);
-            return Err(Failure::Ended(status));
+            return Err(Failure::new(What::Ended(status)));
         }
     }
     Ok(())
 }
 
 /// Saves what the lines made, and says what is to be said; or shows what they would change.
-fn finish<'a, R: Runtime + AllocGlobal>(
+fn finish<R: Runtime + AllocGlobal>(
     rt: &R,
-    script: Script<'a>,
+    script: Script<'_>,
     old: &[u8],
     course: &Course,
-) -> Result<(), Failure<'a>> {
+) -> Result<(), Failure> {
     if !script.is_dry {
         replace(rt, script.image, old, course.image.as_slice())?;
         let rest = course.rest.as_str();
@@ -308,11 +309,11 @@ fn finish<'a, R: Runtime + AllocGlobal>(
 }
 
 /// The lines that are carried out: what standard input gave, where it was read already, or a file's.
-fn lines_of<'a, R: Runtime + AllocGlobal>(
+fn lines_of<R: Runtime + AllocGlobal>(
     rt: &R,
-    script: Script<'a>,
+    script: Script<'_>,
     input: Option<&[u8]>,
-) -> Result<Vec<u8>, Failure<'a>> {
+) -> Result<Vec<u8>, Failure> {
     match input {
         Some(input) if is_standard(script.file) => in_memory(Vec::from_slice(rt.alloc(), input)),
         _ => read_file(rt, script.file),
@@ -322,18 +323,18 @@ fn lines_of<'a, R: Runtime + AllocGlobal>(
 /// Carries out the commands of a file's lines on an image, and saves it once; where one is refused, nothing is saved. With `--dry-run`
 /// it shows what each would change, and saves nothing. Errors: `Word`, where standard input is both; those of `read_file` and of
 /// `read_image`; `Ended`, where a line is refused, as is reported; those of `replace`; `Write`; `NoMemory`.
-pub fn run_lines<'a, R: Runtime + AllocGlobal>(
+pub fn run_lines<R: Runtime + AllocGlobal>(
     rt: &R,
-    words: &ArgMatches<'a>,
-    input: Option<&'a [u8]>,
-) -> Result<(), Failure<'a>> {
+    words: &ArgMatches<'_>,
+    input: Option<&[u8]>,
+) -> Result<(), Failure> {
     let script = Script {
         file: given(words, "FILE"),
         image: given(words, "IMAGE"),
         is_dry: flag(words, "dry-run"),
     };
     if is_standard(script.file) && is_standard(script.image) {
-        return Err(Failure::Word(WordFault::Twice));
+        return Err(Failure::new(What::Word(WordFault::Twice)));
     }
     let lines = lines_of(rt, script, input)?;
     let old = read_image(rt, script.image)?;

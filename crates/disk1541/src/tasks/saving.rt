@@ -10,12 +10,12 @@ use disk_edits::{Desk, shown_change};
 use std::rt::Runtime;
 
 /// Prints what a command did: on standard error, if standard output has the image.
-pub fn print_plan<'a, R: Runtime + AllocGlobal>(
+pub fn print_plan<R: Runtime + AllocGlobal>(
     rt: &R,
     image: &str,
     plan: &str,
     is_dry: bool,
-) -> Result<(), Failure<'a>> {
+) -> Result<(), Failure> {
     if is_standard(image) && !is_dry {
         let _ = eprint!(rt; "{plan}");
         return Ok(());
@@ -24,26 +24,26 @@ pub fn print_plan<'a, R: Runtime + AllocGlobal>(
 }
 
 /// Shows what a command would change.
-fn show_made<'a, R: Runtime + AllocGlobal>(
+fn show_made<R: Runtime + AllocGlobal>(
     rt: &R,
-    desk: Desk<'a, '_>,
+    desk: Desk<'_, '_>,
     made: &Made,
     charset: Charset,
-) -> Result<(), Failure<'a>> {
+) -> Result<(), Failure> {
     if let Some(plan) = &made.plan {
         return print(rt, plan.as_bytes());
     }
     let shown = shown_change(rt.alloc(), desk.bytes, made.image.as_slice(), charset);
-    let shown = on_disk(desk.image, shown)?;
+    let shown = on_disk(rt.alloc(), desk.image, shown)?;
     print(rt, shown.as_bytes())
 }
 
 /// Saves what a command made, and says what is to be said.
-fn save_made<'a, R: Runtime + AllocGlobal>(
+fn save_made<R: Runtime + AllocGlobal>(
     rt: &R,
-    desk: Desk<'a, '_>,
+    desk: Desk<'_, '_>,
     made: &Made,
-) -> Result<(), Failure<'a>> {
+) -> Result<(), Failure> {
     replace(rt, desk.image, desk.bytes, made.image.as_slice())?;
     if let Some(rest) = &made.rest {
         let _ = eprint!(rt; "{rest}");
@@ -56,15 +56,15 @@ fn save_made<'a, R: Runtime + AllocGlobal>(
 
 /// Changes an image by a command, and saves it; or shows what would change, if the words say so. Errors: `Word`; those of
 /// `read_image` and of `made_by`; those of `replace`; `Write`.
-pub fn change_with<'a, R: Runtime + AllocGlobal>(
+pub fn change_with<R: Runtime + AllocGlobal>(
     rt: &R,
     verb: Verb,
-    words: &ArgMatches<'a>,
-    image: &'a str,
-    input: Option<&'a [u8]>,
-) -> Result<(), Failure<'a>> {
+    words: &ArgMatches<'_>,
+    image: &str,
+    input: Option<&[u8]>,
+) -> Result<(), Failure> {
     let manner = Manner {
-        charset: charset(words)?,
+        charset: charset(rt.alloc(), words)?,
         input,
         is_dry: flag(words, "dry-run"),
     };

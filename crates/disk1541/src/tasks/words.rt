@@ -1,5 +1,5 @@
 //! The words of a line: between spaces, or between quotation marks of either kind.
-use disk_basics::{Failure, WordFault, in_memory};
+use disk_basics::{Failure, What, WordFault, in_memory};
 use host_files::text_of;
 use std::alloc::{AllocError, Global};
 
@@ -75,10 +75,10 @@ fn read_line(alloc: Global, line: &[u8]) -> Result<Reader, AllocError> {
 
 /// The words of a line, up to a `#` that begins a word. A word may have parts between quotation marks, in which each byte is itself.
 /// Errors: `Word`, if a quotation mark has no other; `NoMemory`.
-pub fn words_of<'a>(alloc: Global, line: &[u8]) -> Result<Vec<String>, Failure<'a>> {
+pub fn words_of(alloc: Global, line: &[u8]) -> Result<Vec<String>, Failure> {
     let reader = in_memory(read_line(alloc, line))?;
     if reader.quote.is_some() {
-        return Err(Failure::Word(WordFault::OpenQuote));
+        return Err(Failure::new(What::Word(WordFault::OpenQuote)));
     }
     Ok(reader.words)
 }

@@ -1,7 +1,7 @@
 //! What the lines of a recipe are built with.
 use cbm_shell::texts::Charset;
 use disk_basics::host::read_file;
-use disk_basics::{Failure, WordFault, in_memory, petscii};
+use disk_basics::{Failure, What, WordFault, in_memory, petscii};
 use std::path::Path;
 use std::rt::Runtime;
 
@@ -19,41 +19,26 @@ pub struct Bench<'r> {
     pub charset: Charset,
 }
 
-/// What was made; a failure is reported, as what it names doesn't last. The one error is `Ended`, with the status of the
-/// failure.
-pub fn told<'a, 'b, R: Runtime + AllocGlobal, T>(
-    rt: &R,
-    made: Result<T, Failure<'b>>,
-) -> Result<T, Failure<'a>> {
-    match made {
-        Ok(value) => Ok(value),
-        Err(failure) => {
-            let _ = failure.tell(rt);
-            Err(Failure::Ended(failure.status()))
-        }
-    }
-}
-
-/// Reads a file that a recipe names. Errors: `Ended`, where it can't be read, as is reported; `NoMemory`.
-pub fn read_beside<'a, R: Runtime + AllocGlobal>(
+/// Reads a file that a recipe names. Errors: those of `read_file`; `NoMemory`.
+pub fn read_beside<R: Runtime + AllocGlobal>(
     rt: &R,
     folder: &str,
     file: &str,
-) -> Result<Vec<u8>, Failure<'a>> {
+) -> Result<Vec<u8>, Failure> {
     let name = in_memory(host_files::text_of(rt.alloc(), file.as_bytes()))?;
     let path = in_memory(Path::new(folder).join(rt.alloc(), name.as_str()))?;
-    told(rt, read_file(rt, path.as_path().as_str()))
+    read_file(rt, path.as_path().as_str())
 }
 
 /// A name of at most sixteen codes, whatever they are. Errors: those of `petscii`; `Word`, for more than sixteen.
-pub fn any_name<'r, R: Runtime + AllocGlobal>(
+pub fn any_name<R: Runtime + AllocGlobal>(
     rt: &R,
     charset: Charset,
-    name: &'r str,
-) -> Result<Vec<u8>, Failure<'r>> {
+    name: &str,
+) -> Result<Vec<u8>, Failure> {
     let codes = petscii(rt.alloc(), charset, name)?;
     if codes.len() > LONGEST {
-        return Err(Failure::Word(WordFault::LongName(name)));
+        return Err(Failure::named(rt.alloc(), What::Word(WordFault::LongName), name));
     }
     Ok(codes)
 }

@@ -1,7 +1,7 @@
 //! Where a recipe lays its files.
 use cbm_medium::Address;
 use disk_basics::placing::{Head, lay};
-use disk_basics::{Failure, WordFault, on_disk};
+use disk_basics::{Failure, What, WordFault, on_disk};
 use disk_recipes::{Recipe, RecipeLine};
 use std::alloc::Global;
 
@@ -69,17 +69,17 @@ pub struct Lane {
 }
 
 /// A head, if a disk has such a sector off the directory's track and the interleave is 1 to 20. The one error is `Word`.
-fn checked<'a>(head: Head) -> Result<Head, Failure<'a>> {
+fn checked(head: Head) -> Result<Head, Failure> {
     let is_sector = Address::new(head.track, head.sector).is_some();
     if is_sector && head.track != DIRECTORY && (1..=20).contains(&head.interleave) {
         return Ok(head);
     }
-    Err(Failure::Word(WordFault::Laying))
+    Err(Failure::new(What::Word(WordFault::Laying)))
 }
 
 impl Lane {
     /// Where a recipe's first file is laid. The one error is `Word`, if no file can be laid there.
-    pub fn of<'a>(recipe: &Recipe) -> Result<Lane, Failure<'a>> {
+    pub fn of(recipe: &Recipe) -> Result<Lane, Failure> {
         let wish = Wish::of_disk(recipe);
         let begin = Head {
             track: 1,
@@ -101,24 +101,24 @@ impl Lane {
 
     /// The image whose file in a slot is laid as its line says; None if the drive lays it. Errors: `Word`, if no file can be laid there;
     /// `RecordsPlace` for a relative file; `NoPlace`; `Disk`.
-    pub fn laid<'a>(
+    pub fn laid(
         &mut self,
         alloc: Global,
-        name: &'a str,
+        name: &str,
         image: &[u8],
         slot: u8,
         line: &RecipeLine,
         is_relative: bool,
-    ) -> Result<Option<Vec<u8>>, Failure<'a>> {
+    ) -> Result<Option<Vec<u8>>, Failure> {
         if !self.lays(line, is_relative) {
             return Ok(None);
         }
         if is_relative {
-            return Err(Failure::RecordsPlace(name));
+            return Err(Failure::named(alloc, What::RecordsPlace, name));
         }
         let head = checked(Wish::of_line(line).head(self.head, self.interleave))?;
-        let Some(laid) = on_disk(name, lay(alloc, image, slot, head))? else {
-            return Err(Failure::NoPlace(name));
+        let Some(laid) = on_disk(alloc, name, lay(alloc, image, slot, head))? else {
+            return Err(Failure::named(alloc, What::NoPlace, name));
         };
         self.head = laid.head;
         Ok(Some(laid.image))

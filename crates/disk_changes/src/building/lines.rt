@@ -10,7 +10,7 @@ use cbm_shell::{Looks, ShellFault};
 use cbm_volume::Entry;
 use disk_basics::calls::entries;
 use disk_basics::changing::{add_art, dress};
-use disk_basics::{Failure, WordFault, in_memory, kind_of_file, name_of_file, on_disk};
+use disk_basics::{Failure, What, WordFault, in_memory, kind_of_file, name_of_file, on_disk};
 use disk_recipes::RecipeLine;
 use std::alloc::Global;
 use std::rt::Runtime;
@@ -27,13 +27,13 @@ fn option(text: &Option<String>) -> Option<&str> {
 }
 
 /// The name of a file on the disk: what its line says, what its own bytes say, or one made of the host's file.
-fn name_of<'r, R: Runtime + AllocGlobal>(
+fn name_of<R: Runtime + AllocGlobal>(
     rt: &R,
-    bench: Bench<'r>,
-    line: &'r RecipeLine,
-    file: &'r str,
+    bench: Bench<'_>,
+    line: &RecipeLine,
+    file: &str,
     body: Body<'_>,
-) -> Result<Vec<u8>, Failure<'r>> {
+) -> Result<Vec<u8>, Failure> {
     match (option(&line.name), body.name) {
         (Some(name), _) => any_name(rt, bench.charset, name),
         (None, Some(codes)) => in_memory(Vec::from_slice(rt.alloc(), codes)),
@@ -61,24 +61,28 @@ fn blocks_at(alloc: std::alloc::Global, image: &[u8], slot: u8) -> Result<u16, S
 }
 
 /// The image whose file in a slot looks as its line says.
-fn dressed<'r, R: Runtime + AllocGlobal>(
+fn dressed<R: Runtime + AllocGlobal>(
     rt: &R,
-    bench: Bench<'r>,
+    bench: Bench<'_>,
     image: &[u8],
     slot: u8,
     line: &RecipeLine,
     name: &[u8],
-) -> Result<Vec<u8>, Failure<'r>> {
+) -> Result<Vec<u8>, Failure> {
     let blocks = match line.blocks {
         Some(blocks) => blocks,
-        None => on_disk(bench.image, blocks_at(rt.alloc(), image, slot))?,
+        None => on_disk(rt.alloc(), bench.image, blocks_at(rt.alloc(), image, slot))?,
     };
     let looks = Looks {
         name: sixteen(name),
         blocks,
         is_locked: line.locked == Some(true),
     };
-    on_disk(bench.image, dress(rt.alloc(), image, slot, looks))
+    on_disk(
+        rt.alloc(),
+        bench.image,
+        dress(rt.alloc(), image, slot, looks),
+    )
 }
 
 /// The length of the records of a line's file, if that is known.
@@ -90,30 +94,25 @@ fn record_of(line: &RecipeLine, body: Body<'_>) -> Option<u8> {
 }
 
 /// The image with a file in the next slot, under its own name, which looks as its line says.
-fn with_put<'r, R: Runtime + AllocGlobal>(
+fn with_put<R: Runtime + AllocGlobal>(
     rt: &R,
-    bench: Bench<'r>,
+    bench: Bench<'_>,
     old: &[u8],
     slot: u8,
     line: &RecipeLine,
     name: &[u8],
     put: &Stored<'_>,
-) -> Result<Vec<u8>, Failure<'r>> {
+) -> Result<Vec<u8>, Failure> {
     let new = with_stored(rt.alloc(), bench.image, old, put)?;
     dressed(rt, bench, new.as_slice(), slot, line, name)
 }
 
 /// Refuses a name that an earlier file of the recipe has.
-fn require_new_name<'r>(
-    alloc: Global,
-    image: &'r str,
-    old: &[u8],
-    name: &[u8],
-) -> Result<(), Failure<'r>> {
-    let entries = on_disk(image, entries(alloc, old))?;
+fn require_new_name(alloc: Global, image: &str, old: &[u8], name: &[u8]) -> Result<(), Failure> {
+    let entries = on_disk(alloc, image, entries(alloc, old))?;
     for entry in entries.as_slice() {
         if !entry.is_empty() && entry.name() == name {
-            return Err(Failure::SameName(image));
+            return Err(Failure::named(alloc, What::SameName, image));
         }
     }
     Ok(())
@@ -126,16 +125,16 @@ fn tell_entry(rt: &impl Eprint, place: usize) {
 }
 
 /// The image with the file of a line in the next slot.
-fn with_body<'r, R: Runtime + AllocGlobal>(
+fn with_body<R: Runtime + AllocGlobal>(
     rt: &R,
-    bench: Bench<'r>,
+    bench: Bench<'_>,
     old: &[u8],
     slot: u8,
-    line: &'r RecipeLine,
-    file: &'r str,
+    line: &RecipeLine,
+    file: &str,
     body: Body<'_>,
-) -> Result<Vec<u8>, Failure<'r>> {
-    let kind = kind_of_file(option(&line.kind), file)?;
+) -> Result<Vec<u8>, Failure> {
+    let kind = kind_of_file(rt.alloc(), option(&line.kind), file)?;
     tell_empty(rt, file, kind, body.bytes);
     let put = Stored {
         name: FOR_NOW,
@@ -150,14 +149,14 @@ fn with_body<'r, R: Runtime + AllocGlobal>(
 }
 
 /// The image with the file of a line in the next slot, read from this computer.
-fn with_file<'r, R: Runtime + AllocGlobal>(
+fn with_file<R: Runtime + AllocGlobal>(
     rt: &R,
-    bench: Bench<'r>,
+    bench: Bench<'_>,
     old: &[u8],
     slot: u8,
-    line: &'r RecipeLine,
-    file: &'r str,
-) -> Result<Vec<u8>, Failure<'r>> {
+    line: &RecipeLine,
+    file: &str,
+) -> Result<Vec<u8>, Failure> {
     let bytes = read_beside(rt, bench.folder, file)?;
     with_body(
         rt,
@@ -171,22 +170,22 @@ fn with_file<'r, R: Runtime + AllocGlobal>(
 }
 
 /// The image with a line of art in the next slot.
-fn with_art<'r, R: Runtime + AllocGlobal>(
+fn with_art<R: Runtime + AllocGlobal>(
     rt: &R,
-    bench: Bench<'r>,
+    bench: Bench<'_>,
     old: &[u8],
     line: &RecipeLine,
-    art: &'r str,
-) -> Result<Vec<u8>, Failure<'r>> {
+    art: &str,
+) -> Result<Vec<u8>, Failure> {
     let name = any_name(rt, bench.charset, art)?;
     let looks = Looks {
         name: sixteen(name.as_slice()),
         blocks: line.blocks.unwrap_or(0),
         is_locked: line.locked == Some(true),
     };
-    match on_disk(bench.image, add_art(rt.alloc(), old, looks))? {
+    match on_disk(rt.alloc(), bench.image, add_art(rt.alloc(), old, looks))? {
         Some(new) => Ok(new),
-        None => Err(Failure::DirectoryFull(bench.image)),
+        None => Err(Failure::named(rt.alloc(), What::DirectoryFull, bench.image)),
     }
 }
 
@@ -202,17 +201,18 @@ fn is_relative_at(alloc: Global, image: &[u8], slot: u8) -> Result<bool, ShellFa
 }
 
 /// The image with the file of a line in the next slot, laid as the recipe says.
-fn with_laid<'r, R: Runtime + AllocGlobal>(
+fn with_laid<R: Runtime + AllocGlobal>(
     rt: &R,
-    bench: Bench<'r>,
+    bench: Bench<'_>,
     lane: &mut Lane,
     old: &[u8],
     slot: u8,
-    line: &'r RecipeLine,
-    file: &'r str,
-) -> Result<Vec<u8>, Failure<'r>> {
+    line: &RecipeLine,
+    file: &str,
+) -> Result<Vec<u8>, Failure> {
     let put = with_file(rt, bench, old, slot, line, file)?;
     let is_relative = on_disk(
+        rt.alloc(),
         bench.image,
         is_relative_at(rt.alloc(), put.as_slice(), slot),
     )?;
@@ -223,13 +223,13 @@ fn with_laid<'r, R: Runtime + AllocGlobal>(
 }
 
 /// The image with all files.
-fn with_files<'r, R: Runtime + AllocGlobal>(
+fn with_files<R: Runtime + AllocGlobal>(
     rt: &R,
-    bench: Bench<'r>,
+    bench: Bench<'_>,
     lane: Lane,
-    lines: &'r [RecipeLine],
+    lines: &[RecipeLine],
     blank: Vec<u8>,
-) -> Result<Vec<u8>, Failure<'r>> {
+) -> Result<Vec<u8>, Failure> {
     let mut image = blank;
     let mut slot: u8 = 0;
     let mut lane = lane;
@@ -247,12 +247,12 @@ fn with_files<'r, R: Runtime + AllocGlobal>(
 }
 
 /// The image with all lines of art.
-fn with_arts<'r, R: Runtime + AllocGlobal>(
+fn with_arts<R: Runtime + AllocGlobal>(
     rt: &R,
-    bench: Bench<'r>,
-    lines: &'r [RecipeLine],
+    bench: Bench<'_>,
+    lines: &[RecipeLine],
     filled: Vec<u8>,
-) -> Result<Vec<u8>, Failure<'r>> {
+) -> Result<Vec<u8>, Failure> {
     let mut image = filled;
     for (place, line) in lines.iter().enumerate() {
         if let Some(art) = option(&line.art) {
@@ -267,25 +267,25 @@ fn with_arts<'r, R: Runtime + AllocGlobal>(
 }
 
 /// Refuses a line that is no file and no art, or both.
-fn require_lines<'a>(lines: &[RecipeLine]) -> Result<(), Failure<'a>> {
+fn require_lines(lines: &[RecipeLine]) -> Result<(), Failure> {
     for line in lines {
         if line.file.is_some() == line.art.is_some() {
-            return Err(Failure::Word(WordFault::Line));
+            return Err(Failure::new(What::Word(WordFault::Line)));
         }
     }
     Ok(())
 }
 
 /// The image with the lines of a recipe in their order. Errors: `Word`, where a line is no file and no art, or both, or
-/// has a word that can't be used; `Ended`, where a file can't be read; `Disk`, where the drive or the disk refuses it;
+/// has a word that can't be used; those of `read_file`; `Disk`, where the drive or the disk refuses it;
 /// `NoMemory`.
-pub fn with_lines<'r, R: Runtime + AllocGlobal>(
+pub fn with_lines<R: Runtime + AllocGlobal>(
     rt: &R,
-    bench: Bench<'r>,
+    bench: Bench<'_>,
     lane: Lane,
-    lines: &'r [RecipeLine],
+    lines: &[RecipeLine],
     blank: Vec<u8>,
-) -> Result<Vec<u8>, Failure<'r>> {
+) -> Result<Vec<u8>, Failure> {
     require_lines(lines)?;
     let filled = with_files(rt, bench, lane, lines, blank)?;
     let whole = with_arts(rt, bench, lines, filled)?;

@@ -49,12 +49,12 @@ fn ordering(alloc: Global, lines: &[RecipeLine]) -> Result<Vec<Swap>, AllocError
 }
 
 /// The image with the lines in their order. Errors: `Disk`, `NoMemory`.
-pub fn ordered<'a>(
+pub fn ordered(
     alloc: Global,
-    image: &'a str,
+    image: &str,
     lines: &[RecipeLine],
     bytes: &[u8],
-) -> Result<Vec<u8>, Failure<'a>> {
+) -> Result<Vec<u8>, Failure> {
     let swaps = in_memory(ordering(alloc, lines))?;
-    on_disk(image, swap_entries(alloc, bytes, swaps.as_slice()))
+    on_disk(alloc, image, swap_entries(alloc, bytes, swaps.as_slice()))
 }

@@ -5,7 +5,7 @@ use cbm_volume::Entry;
 use disk_basics::calls::{check, entries, geos_blocks};
 use disk_basics::host::joined;
 use disk_basics::odd::put_away;
-use disk_basics::{Failure, WordFault, in_memory, on_disk};
+use disk_basics::{Failure, What, WordFault, in_memory, on_disk};
 use disk_facts::{WideMap, wide_map, without_errors};
 use std::alloc::Global;
 use std::rt::Runtime;
@@ -40,18 +40,18 @@ const FREE: [u8; ROWS] = [
 const FINE: u8 = 1;
 
 /// Whether a word says 40 tracks. Errors: `Word`, where it says neither 35 nor 40.
-fn is_forty(word: &str) -> Result<bool, Failure<'_>> {
+fn is_forty(alloc: Global, word: &str) -> Result<bool, Failure> {
     match word {
         "35" => Ok(false),
         "40" => Ok(true),
-        _ => Err(Failure::Word(WordFault::Tracks(word))),
+        _ => Err(Failure::named(alloc, What::Word(WordFault::Tracks), word)),
     }
 }
 
 /// Refuses a disk that isn't sound, or sound but for its odd entries.
-fn require_sound<'a>(alloc: Global, image: &'a str, bytes: &[u8]) -> Result<(), Failure<'a>> {
-    if on_disk(image, check(alloc, bytes))?.is_err() {
-        on_disk(image, put_away(alloc, bytes))?;
+fn require_sound(alloc: Global, image: &str, bytes: &[u8]) -> Result<(), Failure> {
+    if on_disk(alloc, image, check(alloc, bytes))?.is_err() {
+        on_disk(alloc, image, put_away(alloc, bytes))?;
     }
     Ok(())
 }
@@ -80,13 +80,13 @@ fn are_free(bytes: &[u8]) -> bool {
 }
 
 /// Whether GEOS keeps blocks of a file beyond track 35.
-fn has_geos_beyond<'a>(
+fn has_geos_beyond(
     alloc: Global,
-    image: &'a str,
+    image: &str,
     bytes: &[u8],
     entry: &Entry,
-) -> Result<bool, Failure<'a>> {
-    let blocks = on_disk(image, geos_blocks(alloc, bytes, entry))?;
+) -> Result<bool, Failure> {
+    let blocks = on_disk(alloc, image, geos_blocks(alloc, bytes, entry))?;
     for track in 36..41u8 {
         for sector in 0..17u8 {
             match Address::new(track, sector) {
@@ -99,8 +99,8 @@ fn has_geos_beyond<'a>(
 }
 
 /// Whether GEOS keeps blocks of any file there.
-fn has_any_geos<'a>(alloc: Global, image: &'a str, bytes: &[u8]) -> Result<bool, Failure<'a>> {
-    for entry in on_disk(image, entries(alloc, bytes))?.as_slice() {
+fn has_any_geos(alloc: Global, image: &str, bytes: &[u8]) -> Result<bool, Failure> {
+    for entry in on_disk(alloc, image, entries(alloc, bytes))?.as_slice() {
         if geos_of(entry).is_some() && has_geos_beyond(alloc, image, bytes, entry)? {
             return Ok(true);
         }
@@ -130,7 +130,7 @@ fn clear_map(image: &mut Vec<u8>, place: usize) {
 }
 
 /// The sectors of tracks 1 to 35, with zeros where maps of the tracks 36 to 40 stood.
-fn cut<'a>(alloc: Global, bytes: &[u8]) -> Result<Vec<u8>, Failure<'a>> {
+fn cut(alloc: Global, bytes: &[u8]) -> Result<Vec<u8>, Failure> {
     let (has_speed, has_dolphin) = map_places(bytes);
     let sectors = bytes.get(..OF_35_TRACKS).unwrap_or(&[]);
     let mut new = in_memory(Vec::from_slice(alloc, sectors))?;
@@ -144,17 +144,17 @@ fn cut<'a>(alloc: Global, bytes: &[u8]) -> Result<Vec<u8>, Failure<'a>> {
 }
 
 /// The D64 of 35 tracks, if nothing on the tracks beyond is in use; data there are reported, and lost. Answers whether something is.
-fn shortened<'a, R: Runtime + AllocGlobal>(
+fn shortened<R: Runtime + AllocGlobal>(
     rt: &R,
-    image: &'a str,
+    image: &str,
     bytes: &[u8],
     output: &str,
-) -> Result<(Vec<u8>, bool), Failure<'a>> {
+) -> Result<(Vec<u8>, bool), Failure> {
     if !are_free(bytes) || has_any_geos(rt.alloc(), image, bytes)? {
         let _ = eprintln!(rt;
             "disk1541: {image} needs its 40 tracks: its BAM hasn't all blocks of the tracks 36 to 40 as free"
         );
-        return Err(Failure::Told);
+        return Err(Failure::new(What::Told));
     }
     let count = count_written(bytes.get(OF_35_TRACKS..).unwrap_or(&[]));
     if count != 0 {
@@ -192,7 +192,7 @@ fn tell_unheld(rt: &impl Eprint, bytes: &[u8], output: &str) -> bool {
 }
 
 /// The D64 of 40 tracks, those beyond 35 free and zeros.
-fn lengthened<'a>(alloc: Global, bytes: &[u8]) -> Result<Vec<u8>, Failure<'a>> {
+fn lengthened(alloc: Global, bytes: &[u8]) -> Result<Vec<u8>, Failure> {
     let plain = without_errors(bytes);
     let beyond = in_memory(vec![in alloc; 0u8; BEYOND])?;
     let start = plain.get(..SPEED).unwrap_or(&[]);
@@ -203,16 +203,16 @@ fn lengthened<'a>(alloc: Global, bytes: &[u8]) -> Result<Vec<u8>, Failure<'a>> {
 /// The D64 with 35 tracks or 40, and whether it lacks something, as is reported. Errors: `Word`, where no disk has that many tracks, or
 /// the image has them already; `Disk`, where the disk isn't sound, nor but for odd entries, before or after; `Told`, where something on
 /// the tracks 36 to 40 is in use, as is reported; `NoMemory`.
-pub fn with_tracks<'a, R: Runtime + AllocGlobal>(
+pub fn with_tracks<R: Runtime + AllocGlobal>(
     rt: &R,
-    image: &'a str,
+    image: &str,
     bytes: &[u8],
-    output: &'a str,
-    tracks: &'a str,
-) -> Result<(Vec<u8>, bool), Failure<'a>> {
+    output: &str,
+    tracks: &str,
+) -> Result<(Vec<u8>, bool), Failure> {
     let is_long = bytes.len() == OF_40_TRACKS;
-    if is_forty(tracks)? == is_long {
-        return Err(Failure::Word(WordFault::SameTracks(image)));
+    if is_forty(rt.alloc(), tracks)? == is_long {
+        return Err(Failure::named(rt.alloc(), What::Word(WordFault::SameTracks), image));
     }
     require_sound(rt.alloc(), image, bytes)?;
     let (new, is_lossy) = if is_long {

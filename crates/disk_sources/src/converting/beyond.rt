@@ -5,7 +5,7 @@ use cbm_shell::texts::Charset;
 use cbm_sources::Fault;
 use cbm_volume::Entry;
 use disk_basics::calls::name_text;
-use disk_basics::{Failure, in_memory};
+use disk_basics::{Failure, What, in_memory};
 use std::rt::Runtime;
 
 /// The bytes of a sector.
@@ -56,14 +56,14 @@ pub fn tell_lost(rt: &impl Eprint, output: &str, other: &Other<'_>) -> bool {
 }
 
 /// Whether a file reads as before on the disk that ends with track 40, or never did.
-fn is_held<'a, R: Runtime + AllocGlobal>(
+fn is_held<R: Runtime + AllocGlobal>(
     rt: &R,
     other: &Other<'_>,
     cut: &Other<'_>,
     number: usize,
-) -> Result<bool, Failure<'a>> {
+) -> Result<bool, Failure> {
     match (other.file(rt.alloc(), number), cut.file(rt.alloc(), number)) {
-        (Err(Fault::Memory), _) | (_, Err(Fault::Memory)) => Err(Failure::NoMemory),
+        (Err(Fault::Memory), _) | (_, Err(Fault::Memory)) => Err(Failure::new(What::NoMemory)),
         (Ok(before), Ok(after)) => Ok(before.as_slice() == after.as_slice()),
         (Ok(_), Err(_)) => Ok(false),
         (Err(_), _) => Ok(true),
@@ -71,7 +71,7 @@ fn is_held<'a, R: Runtime + AllocGlobal>(
 }
 
 /// Reports a file that has blocks beyond track 40.
-fn tell_file<'a, R: Runtime + AllocGlobal>(rt: &R, entry: &Entry) -> Result<(), Failure<'a>> {
+fn tell_file<R: Runtime + AllocGlobal>(rt: &R, entry: &Entry) -> Result<(), Failure> {
     let name = in_memory(name_text(rt.alloc(), Charset::Upper, entry.name()))?;
     let name = name.as_str();
     let _ = eprintln!(rt;
@@ -82,12 +82,12 @@ fn tell_file<'a, R: Runtime + AllocGlobal>(rt: &R, entry: &Entry) -> Result<(), 
 
 /// Reports the files of a disk that don't read as before where it ends with track 40, or that its directory doesn't. Answers whether it
 /// has such. The one error is `NoMemory`.
-pub fn tell_unheld<'a, R: Runtime + AllocGlobal>(
+pub fn tell_unheld<R: Runtime + AllocGlobal>(
     rt: &R,
     image: &str,
     other: &Other<'_>,
     cut: &Other<'_>,
-) -> Result<bool, Failure<'a>> {
+) -> Result<bool, Failure> {
     let before = in_memory(other.contents(rt.alloc()))?;
     let after = in_memory(cut.contents(rt.alloc()))?;
     if before.fault.is_none() && after.fault.is_some() {
