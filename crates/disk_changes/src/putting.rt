@@ -282,17 +282,20 @@ fn changes_of<'b>(alloc: Global, all: &'b [Loaded<'_>]) -> Result<Vec<DiskChange
     Ok(puts)
 }
 
-/// Reports which of these files can't be put first.
+/// Reports which of these files can't be put first: they are put one after another, as the disk refuses them all at once.
 fn tell_refused<R: Runtime + AllocGlobal>(
     rt: &R,
     old: &[u8],
     all: &[Loaded<'_>],
     puts: &[DiskChange<'_>],
 ) {
-    for (place, one) in all.iter().enumerate() {
-        let begun = puts.get(..place.saturating_add(1)).unwrap_or(puts);
-        if changes(rt.alloc(), old, begun).is_err() {
-            return tell_first(rt, one.file);
+    let Ok(mut image) = Vec::from_slice(rt.alloc(), old) else {
+        return;
+    };
+    for (one, put) in all.iter().zip(puts) {
+        match changes(rt.alloc(), image.as_slice(), &[*put]) {
+            Ok(new) => image = new,
+            Err(_) => return tell_first(rt, one.file),
         }
     }
 }

@@ -53,6 +53,8 @@ fn opened(
 }
 
 /// A drive with direct access for a handle. Errors: `Invalid`, `NoImage`, `Memory`.
+// (two calls share it: inlined, and with `?`, each would have one copy of the drive more on its stack)
+#[inline(never)]
 fn opened_direct(
     alloc: Global,
     image: &[u8],
@@ -63,10 +65,12 @@ fn opened_direct(
     ensures ok { IfOk result (λ b. IsDirectDrive (IsSwitchedOnDirect image.now protected party access) b.value.device) }
     ensures err { IfErr result (λ r. ((r ≡ DeviceRefusal.Invalid) × IsUnfitParty party) ⊎ ((r ≡ DeviceRefusal.Memory) ⊎ IsOpenRefusal image.now r)) }
 {
-    let device = DirectDevice::open(alloc, image, protected, party, access)?;
-    match Box::new(alloc, device) {
-        Ok(device) => boxed(alloc, AnyDevice::Direct(device)),
-        Err(_) => Err(DeviceRefusal::Memory),
+    match DirectDevice::open(alloc, image, protected, party, access) {
+        Ok(device) => match Box::new(alloc, device) {
+            Ok(device) => boxed(alloc, AnyDevice::Direct(device)),
+            Err(_) => Err(DeviceRefusal::Memory),
+        },
+        Err(refusal) => Err(refusal),
     }
 }
 
