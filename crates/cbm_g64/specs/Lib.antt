@@ -5,3 +5,4 @@ pub mod Tracks
 pub mod Image
 pub mod Outer
 pub mod Faults
+pub mod Head

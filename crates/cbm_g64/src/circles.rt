@@ -2,6 +2,7 @@ ghost use Rattle.std.specs.Prelude.{◌≡◌, ℕ, ◌<◌, ◌≤◌, ◌-◌,
 ghost use Rattle.cbm_medium.specs.Content.{blank, written, header_fault};
 ghost use Rattle.cbm_g64.specs.Tracks.{AreFilled, AreFresh, AreLaid, g64_content, id_for, IsCircleChanged, IsPut};
 ghost use Rattle.cbm_g64.specs.File.{is_track_inside, is_sized, track_in, g64_circles, greatest, IsGood};
+ghost use Rattle.cbm_g64.specs.Head.{IsHead};
 ghost use Rattle.cbm_track.specs.Circle.{circle_bits_of};
 
 use crate::numbers::{offset, two_at};
@@ -71,8 +72,8 @@ pub(crate) fn read_on(tracks: &[IndexedTrack], at: Address) -> Result<[u8; 256],
     tracks[at.track() as usize - 1].read_sector(at, id_on(tracks))
 }
 
-/// Writes a sector. An `Err` changes nothing.
-pub(crate) fn write_on(
+/// Writes a sector to its track. An `Err` changes nothing.
+fn put_on(
     tracks: &mut [IndexedTrack],
     at: Address,
     bytes: &[u8; 256],
@@ -91,6 +92,34 @@ pub(crate) fn write_on(
     let id = id_on(tracks);
     let track = &mut tracks[at.track() as usize - 1];
     track.write_sector(at, id, bytes)
+}
+
+/// Writes a sector, and keeps what 18/0 answers then. An `Err` changes nothing.
+pub(crate) fn write_on(
+    tracks: &mut [IndexedTrack],
+    head: &mut Result<[u8; 256], Fault>,
+    at: Address,
+    bytes: &[u8; 256],
+) -> Result<(), Fault>
+    requires count { length tracks.old ≡ 35 }
+    requires track { at.track ≤ 35 }
+    requires head { IsHead tracks.old head.old }
+    ensures ok { OnOk result (g64_content tracks.new ≡ written (g64_content tracks.old) at bytes.now) }
+    ensures err { OnErr result (tracks.new ≡ tracks.old) }
+    ensures refused { IfSome (header_fault (g64_content tracks.old at))
+        (λ code. result ≡ Err (record { code = code; at = at })) }
+    ensures cause { IfErr result (λ fault. (header_fault (g64_content tracks.old at) ≡ Some fault.code) ×
+        (fault.at ≡ at)) }
+    ensures changed { IsCircleChanged tracks.old tracks.new (at.track - 1) }
+    ensures block { OnOk result (IsPut tracks.old tracks.new at bytes.now) }
+    ensures head { IsHead tracks.new head.new }
+    ensures kept { OnErr result (head.new ≡ head.old) }
+{
+    put_on(tracks, at, bytes)?;
+    if at == Address::of_map() {
+        *head = Ok(*bytes);
+    }
+    Ok(())
 }
 
 /// Writes a sector of a disk whose blocks stand where formatting put them.

@@ -24,6 +24,8 @@ use std::marker::Model;
 #[derive(Drop)]
 pub struct G64Disk {
     tracks: Vec<IndexedTrack>,
+    // What 18/0 answers: the BAM is asked for with each block that is claimed or checked.
+    head: Result<[u8; 256], Fault>,
     file: Vec<u8>,
     formatted: bool,
     protected: bool,
@@ -32,6 +34,7 @@ pub struct G64Disk {
 impl Model for G64Disk {
     ghost use Rattle.cbm_g64.specs.Tracks.{G64State};
     ghost use Rattle.cbm_g64.specs.NewFile.{base_of};
+    ghost use Rattle.cbm_g64.specs.Head.{IsHead};
     ghost use Rattle.cbm_g64.specs.Image.{IsHeld};
 
     ghost Value = { G64State };
@@ -43,7 +46,7 @@ impl Model for G64Disk {
       protected = d.protected;
     } };
 
-    ghost invariant = { λ d. IsHeld (base_of d.formatted d.file.items) d.tracks.items };
+    ghost invariant = { λ d. (IsHeld (base_of d.formatted d.file.items) d.tracks.items) × (IsHead d.tracks.items d.head) };
 }
 
 impl G64Disk {
@@ -69,8 +72,10 @@ impl G64Disk {
         let Ok(file) = Vec::from_slice(alloc, bytes) else {
             return Err(G64Fault::Memory);
         };
+        let head = read_on(tracks.as_slice(), Address::of_map());
         Ok(G64Disk {
             tracks,
+            head,
             file,
             formatted: false,
             protected,
@@ -155,6 +160,9 @@ impl Medium for G64Disk {
 
     #[tactic(auto, using(crate::proofs::Contents::known_code))]
     fn read(&self, at: Address) -> Result<[u8; 256], Fault> {
+        if at == Address::of_map() {
+            return self.head;
+        }
         read_on(self.tracks.as_slice(), at)
     }
 
@@ -180,7 +188,7 @@ impl Medium for G64Disk {
                 at,
             });
         }
-        write_on(self.tracks.as_mut_slice(), at, bytes)
+        write_on(self.tracks.as_mut_slice(), &mut self.head, at, bytes)
     }
 
     fn format(&mut self, id: [u8; 2]) -> Result<(), Fault>
@@ -202,6 +210,7 @@ impl Medium for G64Disk {
             });
         }
         format_on(self.tracks.as_mut_slice(), &id);
+        self.head = Ok([0; 256]);
         self.formatted = true;
         Ok(())
     }

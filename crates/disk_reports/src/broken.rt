@@ -1,5 +1,5 @@
 //! LIST where the drive refuses it: the title can't be read, the directory breaks off, or the pattern is too long for a command.
-use crate::geos::add_geos;
+use crate::geos::add_geos_files;
 use crate::view::{Look, LookAnswer};
 use cbm_channel::FileType;
 use cbm_shell::texts::Charset;
@@ -136,7 +136,7 @@ pub fn add_broken(
     if let Some(free) = info.free {
         add_free(alloc, text, free, look.charset)?;
     }
-    add_geos(alloc, text, image, look)?;
+    add_geos_files(alloc, text, listed.entries.as_slice(), look)?;
     let whole = match info.label {
         Some(_) => LookAnswer::Fine,
         None => LookAnswer::Untitled,

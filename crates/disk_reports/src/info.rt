@@ -1,9 +1,9 @@
 //! INFO: what the disk is.
 use crate::report::Facts;
 use cbm_shell::texts::Charset;
-use cbm_shell::{Info, ShellFault};
+use cbm_shell::{Info, Listed, ShellFault};
 use cbm_volume::{Label, Unsound};
-use disk_basics::calls::{info, listed, name_text, unsound_text};
+use disk_basics::calls::{info, name_text, unsound_text};
 use disk_basics::odd::odd_slots;
 use disk_facts::{count_files, format_name, more_tracks, unfilled, wide_map};
 use std::alloc::{AllocError, Global};
@@ -104,11 +104,9 @@ fn add_count(
 }
 
 /// The line of how many files an image has.
-fn add_files(alloc: Global, text: &mut String, image: &[u8]) -> Result<(), ShellFault> {
-    let listed = listed(alloc, image)?;
+fn add_files(alloc: Global, text: &mut String, listed: &Listed) -> Result<(), AllocError> {
     let files = count_files(listed.entries.as_slice());
-    add_count(alloc, text, files, listed.trouble.is_none())?;
-    Ok(())
+    add_count(alloc, text, files, listed.trouble.is_none())
 }
 
 /// What is wrong first.
@@ -152,13 +150,14 @@ fn add_lines(
     text: &mut String,
     charset: Charset,
     info: &Info,
+    listed: &Listed,
     image: &[u8],
 ) -> Result<(), ShellFault> {
     add_format(alloc, text, image, info.tracks)?;
     add_more_tracks(alloc, text, image)?;
     add_wide_map(text, image)?;
     add_label(alloc, text, charset, info)?;
-    add_files(alloc, text, image)?;
+    add_files(alloc, text, listed)?;
     add_faults(alloc, text, info, image)?;
     Ok(())
 }
@@ -188,10 +187,15 @@ pub fn other_facts(
     Ok(text)
 }
 
-/// What the disk is, as lines. Errors: `Image`, `Memory`.
-pub fn lines_of(alloc: Global, charset: Charset, image: &[u8]) -> Result<Vec<u8>, ShellFault> {
+/// What a disk with this directory is, as lines. Errors: `Image`, `Memory`.
+pub fn lines_of(
+    alloc: Global,
+    charset: Charset,
+    listed: &Listed,
+    image: &[u8],
+) -> Result<Vec<u8>, ShellFault> {
     let info = info(alloc, image)?;
     let mut text = String::new(alloc);
-    add_lines(alloc, &mut text, charset, &info, image)?;
+    add_lines(alloc, &mut text, charset, &info, listed, image)?;
     Ok(text.into_bytes())
 }

@@ -4,7 +4,7 @@ use crate::broken::{add_broken, answer_by};
 use crate::deleted::add_deleted;
 use crate::find::add_matches;
 use crate::flaws::add_all_flaws;
-use crate::geos::add_geos;
+use crate::geos::{add_geos, add_geos_files};
 use crate::info::lines_of as info_lines;
 use crate::report::{report_line, table_lines};
 use crate::sum::add_sum;
@@ -151,10 +151,10 @@ fn add_facts(
     image: &[u8],
     look: Look<'_>,
 ) -> Result<LookAnswer, ShellFault> {
-    let lines = info_lines(alloc, look.charset, image)?;
-    text.extend_from_slice(lines.as_slice())?;
-    add_geos(alloc, text, image, look)?;
     let listed = listed(alloc, image)?;
+    let lines = info_lines(alloc, look.charset, &listed, image)?;
+    text.extend_from_slice(lines.as_slice())?;
+    add_geos_files(alloc, text, listed.entries.as_slice(), look)?;
     Ok(answer_by(&listed, LookAnswer::Fine))
 }
 

@@ -1,7 +1,7 @@
 use Rattle.std.proofs.Common.{◌≡◌, ℕ, get_or, ◌-◌, refl, arith, ap, subst}
 use Rattle.cbm_g64.specs.Tracks.{IsCircleChanged}
 use Rattle.cbm_g64.proofs.Contents.{has_of, answer_is, put_is, write_is, change_is, on_a_track}
-use Rattle.cbm_g64.proofs.circles.write_on.Goals as goal
+use Rattle.cbm_g64.proofs.circles.put_on.Goals as goal
 
 pub returns-clause-ok : goal.returns-clause-ok
 returns-clause-ok c = write_is c.write_sector.result c.args.tracks.now (get_or c.args.tracks.now (c.track.result - 1) c.index-tracks-track.result) c.index-tracks-track.result c.write_sector.new.self c.args.at c.args.bytes.now c.id_on-id.result c.track.result
