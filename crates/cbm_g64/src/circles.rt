@@ -73,11 +73,7 @@ pub(crate) fn read_on(tracks: &[IndexedTrack], at: Address) -> Result<[u8; 256],
 }
 
 /// Writes a sector to its track. An `Err` changes nothing.
-fn put_on(
-    tracks: &mut [IndexedTrack],
-    at: Address,
-    bytes: &[u8; 256],
-) -> Result<(), Fault>
+fn put_on(tracks: &mut [IndexedTrack], at: Address, bytes: &[u8; 256]) -> Result<(), Fault>
     requires count { length tracks.old ≡ 35 }
     requires track { at.track ≤ 35 }
     ensures ok { OnOk result (g64_content tracks.new ≡ written (g64_content tracks.old) at bytes.now) }
