@@ -9,9 +9,8 @@ use crate::returns::Returns;
 use crate::{judge, reply, traced};
 use cbm_program::Options;
 use clap::error::ErrorKind;
-use host_files::{GREATEST_IMAGE, read_whole, save};
-use std::alloc::Global;
-use std::io::{BufWriter, Read, Write};
+use host_files::{GREATEST_IMAGE, read_file, read_whole, save};
+use std::io::{BufWriter, Write};
 use std::process::ExitCode;
 use std::rt::Runtime;
 use std::{env, fs, io};
@@ -84,9 +83,9 @@ fn words_of(rt: &HostRuntime) -> io::Result<Vec<String>> {
     Ok(words)
 }
 
-/// Reads the image from what holds it.
-fn read_from<I: Read + Drop>(alloc: Global, input: I) -> Result<Vec<u8>, RunFailure> {
-    match read_whole(alloc, input, GREATEST_IMAGE) {
+/// The image that was read.
+fn whole(read: io::Result<Option<Vec<u8>>>) -> Result<Vec<u8>, RunFailure> {
+    match read {
         Ok(Some(image)) => Ok(image),
         Ok(None) => Err(RunFailure::TooLong(Stream::Image)),
         Err(error) => Err(RunFailure::of_file(error, Stream::Image)),
@@ -96,10 +95,10 @@ fn read_from<I: Read + Drop>(alloc: Global, input: I) -> Result<Vec<u8>, RunFail
 /// Reads the image, if it isn't longer than any is.
 fn read_image<R: Runtime + AllocGlobal>(rt: &R, name: &str) -> Result<Vec<u8>, RunFailure> {
     if is_standard(name) {
-        return read_from(rt.alloc(), rt.reader());
+        return whole(read_whole(rt.alloc(), rt.reader(), GREATEST_IMAGE));
     }
     match fs::open(rt, name) {
-        Ok(file) => read_from(rt.alloc(), file),
+        Ok(file) => whole(read_file(rt.alloc(), file, GREATEST_IMAGE)),
         Err(error) => Err(RunFailure::of_file(error, Stream::Image)),
     }
 }

@@ -18,8 +18,8 @@ const COLUMNS: usize = 80;
 /// What writes to standard output.
 type Standard<'a, R> = BufWriter<Printer<'a, R>>;
 
-/// What writes a trace: to a file, or to standard output.
-type Target<'a, R> = Either<BufWriter<<R as Files>::File>, Standard<'a, R>>;
+/// What writes a trace: to a file, or to standard output. The recorder gathers what it writes.
+type Target<'a, R> = Either<<R as Files>::File, Printer<'a, R>>;
 
 /// What the trace of a run is written to, and why that failed first, if it did.
 #[derive(Drop)]
@@ -107,9 +107,9 @@ fn recorder<'a, R: Runtime + AllocGlobal>(
     device: u8,
 ) -> io::Result<Recorder<Target<'a, R>>> {
     let target = if is_standard(name) {
-        Either::Right(standard(rt)?)
+        Either::Right(io::writer(rt))
     } else {
-        Either::Left(BufWriter::new(rt.alloc(), fs::create(rt, name)?)?)
+        Either::Left(fs::create(rt, name)?)
     };
     Recorder::begin(target, form_of(name), &[device])
 }

@@ -6,7 +6,7 @@ use cbm_bus::AnyDisk;
 use cbm_d64::D64Disk;
 use cbm_g64::G64Disk;
 use cbm_image::{DiskImage, ImageFault, Kind, kind_of};
-use host_files::{GREATEST_IMAGE, read_whole, save};
+use host_files::{GREATEST_IMAGE, read_file, save};
 use std::alloc::{AllocError, Global};
 use std::fs;
 
@@ -30,7 +30,7 @@ fn image_of(alloc: Global, disk: &AnyDisk) -> Result<Vec<u8>, AllocError> {
 fn read_image(rt: &HostRuntime, place: usize, name: &str) -> Result<Vec<u8>, ReplyFailure> {
     let of_file = |error| ReplyFailure::of_file(error, FailedAt::Image(place));
     let file = fs::open(rt, name).map_err(of_file)?;
-    match read_whole(rt.alloc(), file, GREATEST_IMAGE) {
+    match read_file(rt.alloc(), file, GREATEST_IMAGE) {
         Ok(Some(image)) => Ok(image),
         Ok(None) => Err(ReplyFailure::TooLong(place)),
         Err(error) => Err(of_file(error)),
