@@ -23,7 +23,7 @@ returns-in_err-image-clause-cause c =
 pub returns-clause-told : goal.returns-clause-told
 returns-clause-told c =
     let d = c.in_ok-disk.disk in
-    let held : IsHeld (base_of d.formatted d.file) d.tracks = subst (λ (x : G64State). IsHeld (base_of x.formatted x.file) x.tracks) c.disk.view_is c.disk.invariant in
+    let held : IsHeld (base_of d.formatted d.file) d.tracks = subst (λ (x : G64State). IsHeld (base_of x.formatted x.file) x.tracks) c.disk.view_is c.disk.invariant.0 in
     record {
       faults = (search rules);
       tracks = (search rules);
