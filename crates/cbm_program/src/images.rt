@@ -16,7 +16,6 @@ use cbm_d64::D64Disk;
 use cbm_drive::Pace;
 use cbm_g64::G64Disk;
 use cbm_image::{DiskImage, ImageFault, Kind, kind_of};
-use cbm_medium::Steady;
 use cbm_volume::Volume;
 use std::alloc::Global;
 use std::io::{Read, Write};
@@ -26,8 +25,8 @@ mod scripted;
 mod traced;
 
 use checking::print_check;
-use scripted::{play, serve};
-pub use traced::run_traced;
+use scripted::RunsScripts;
+pub use traced::{run_direct, run_traced};
 
 /// How a run is made.
 #[derive(Clone, Copy, Debug, PartialEq, Eq)]
@@ -42,7 +41,7 @@ pub struct Options {
 
 /// Runs a script on a drive of this pace at power up with this medium, and gives the medium back with what the script wrote.
 /// Its first line says whether it asks for files or changes lines.
-fn run_script<M: Steady + Drop, R: Read + Drop, W: Write>(
+fn run_script<M: RunsScripts + Drop, R: Read + Drop, W: Write>(
     medium: M,
     device: u8,
     pace: Pace,
@@ -57,14 +56,14 @@ fn run_script<M: Steady + Drop, R: Read + Drop, W: Write>(
 {
     let mut lines = Source::new(reader);
     match read_first(&mut lines)? {
-        Beginning::Requests(first) => serve(medium, device, pace, &mut lines, first, writer),
-        Beginning::Changes => play(medium, device, pace, &mut lines, writer),
+        Beginning::Requests(first) => medium.serve(device, pace, &mut lines, first, writer),
+        Beginning::Changes => medium.play(device, pace, &mut lines, writer),
     }
 }
 
 /// Runs a script on a drive at power up with this medium, after the line of its check if one is asked for, and gives the medium
 /// back with what the script wrote.
-fn run_with<M: Steady + Drop, R: Read + Drop, W: Write>(
+fn run_with<M: RunsScripts + Drop, R: Read + Drop, W: Write>(
     medium: M,
     checks: bool,
     device: u8,
@@ -120,7 +119,7 @@ fn image_after<I: DiskImage>(
 }
 
 /// Runs a script on the disk of an image of one format, with a drive of this pace.
-fn run_image<I: DiskImage + Drop, R: Read + Drop, W: Write>(
+fn run_image<I: RunsScripts + Drop, R: Read + Drop, W: Write>(
     alloc: Global,
     pace: Pace,
     reader: R,

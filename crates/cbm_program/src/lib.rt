@@ -18,7 +18,7 @@ mod word;
 pub use bus_traces::Watches;
 pub use cbm_drive::Pace;
 pub use fault::RunFault;
-pub use images::{Options, run, run_at, run_traced};
+pub use images::{Options, run, run_at, run_direct, run_traced};
 pub use line::{ScriptLine, parse};
 pub use manner::Manner;
 pub use request::{ScriptRequest, Text};

@@ -1,11 +1,11 @@
 use cbm_direct_desk::Access;
 use cbm_drive::Pace;
 
-/// How a drive behaves whose events are watched.
+/// How a drive with direct access behaves.
 #[derive(Clone, Copy, Debug, PartialEq, Eq)]
 pub struct Manner {
     /// The pace that it keeps on the bus.
     pub pace: Pace,
-    /// Which sectors U2 and B-W may write; None if it has no direct access.
-    pub direct: Option<Access>,
+    /// Which sectors U2 and B-W may write.
+    pub access: Access,
 }

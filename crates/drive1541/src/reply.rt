@@ -1,6 +1,7 @@
 //! `drive1541 reply`: a bus whose host talks over standard input and standard output.
 
 mod buses;
+mod direct_buses;
 mod disks;
 mod failure;
 mod seat;
@@ -8,6 +9,7 @@ mod words;
 
 use buses::talk_on;
 use clap::error::ErrorKind;
+use direct_buses::talk_directly_on;
 use disks::{open_disks, save_disks};
 use failure::ReplyFailure;
 use std::process::ExitCode;
@@ -24,7 +26,10 @@ pub fn is_asked(words: &[String]) -> bool {
 /// Opens the images, talks, and saves them.
 fn carry_out(rt: &HostRuntime, words: &Words<'_>) -> Result<(), ReplyFailure> {
     let disks = open_disks(rt, words)?;
-    let disks = talk_on(rt, disks, words.seats(), words.direct())?;
+    let disks = match words.direct() {
+        Some(access) => talk_directly_on(rt, disks, words.seats(), access)?,
+        None => talk_on(rt, disks, words.seats())?,
+    };
     save_disks(rt, &disks, words)
 }
 

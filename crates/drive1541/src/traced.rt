@@ -6,7 +6,7 @@ use crate::noted::Noted;
 use crate::program::options_of;
 use bus_traces::{Picture, Recorder, TraceForm};
 use cbm_iec::Event;
-use cbm_program::{Manner, RunFault, Watches, run_at, run_traced};
+use cbm_program::{Manner, RunFault, Watches, run_at, run_direct, run_traced};
 use either::Either;
 use std::io::{BufWriter, Printer, Read, Write};
 use std::rt::{Files, Runtime};
@@ -158,11 +158,14 @@ fn run_watched<R: Runtime + AllocGlobal, S: Read, W: Write, T: Watches>(
     arguments: &Arguments<'_>,
 ) -> Result<Vec<u8>, RunFault> {
     let options = options_of(arguments);
-    let manner = Manner {
-        pace: arguments.pace,
-        direct: arguments.direct,
-    };
-    run_traced(rt.alloc(), manner, script, output, watcher, image, &options)
+    let pace = arguments.pace;
+    match arguments.direct {
+        Some(access) => {
+            let manner = Manner { pace, access };
+            run_direct(rt.alloc(), manner, script, output, watcher, image, &options)
+        }
+        None => run_traced(rt.alloc(), pace, script, output, watcher, image, &options),
+    }
 }
 
 /// Runs a script, and writes its trace if one is asked for. What was traced before a fault is written too.

@@ -4,7 +4,7 @@ use super::{READING, WRITABLE};
 use crate::disks::{failed, report};
 use bus_traces::{Recorder, TraceForm};
 use cbm_iec::Event;
-use cbm_program::{Manner, Pace, Watches, run_traced};
+use cbm_program::{Pace, Watches, run_traced};
 use std::alloc::Global;
 use std::io;
 use std::io::Write;
@@ -54,10 +54,7 @@ fn timed(
     let start = Instant::now(rt)?;
     let ended = run_traced(
         alloc,
-        Manner {
-            pace: Pace::Profile,
-            direct: None,
-        },
+        Pace::Profile,
         READING.as_bytes(),
         &mut out,
         &mut tracer,

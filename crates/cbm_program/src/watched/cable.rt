@@ -1,7 +1,8 @@
 //! A drive alone on a cable with a host, whatever its machine is.
 ghost use Rattle.std.specs.Prelude.{◌≡◌, ◌≤◌, ◌<◌, ◌^◌};
 
-use cbm_direct_desk::{Access, DirectDesk, disk_of, drive_with};
+use crate::manner::Manner;
+use cbm_direct_desk::{DirectDesk, disk_of, drive_with};
 use cbm_drive::{Bus, Desk, Drive, Event, Pace, Party, Player};
 use cbm_host::Performer;
 use cbm_medium::Steady;
@@ -85,12 +86,12 @@ pub(crate) struct DirectCable<M: Steady> {
 }
 
 impl<M: Steady> DirectCable<M> {
-    /// A drive of this pace at power up with this medium.
-    pub(crate) fn new(medium: M, device: u8, pace: Pace, access: Access) -> DirectCable<M>
+    /// A drive at power up with this medium.
+    pub(crate) fn new(medium: M, device: u8, manner: Manner) -> DirectCable<M>
         requires { device ≤ 11 }
     {
         DirectCable {
-            bus: bus_of(drive_with(medium, party_of(device, pace), access)),
+            bus: bus_of(drive_with(medium, party_of(device, manner.pace), manner.access)),
         }
     }
 }

@@ -1,7 +1,0 @@
-use Rattle.cbm_program.proofs.images.scripted.play.Goals as goal
-
-pub returns-clause-played : goal.returns-clause-played
-returns-clause-played g c = λ input t. c.run_changes.ensures.played (g.M.Medium.seen c.args.medium) input c.new.ensures.at t
-
-pub returns-clause-wrote : goal.returns-clause-wrote
-returns-clause-wrote g c = λ input t. c.run_changes.ensures.wrote input c.new.ensures.fresh t

@@ -1,8 +1,0 @@
-use Rattle.std.proofs.Common.{false, subst}
-use Rattle.cbm_program.specs.Outcome.{ServesScript}
-use Rattle.cbm_program.specs.Starts.{StartsFrom, KeptBy}
-use Rattle.cbm_program.proofs.images.scripted.serve.Goals as goal
-
-pub returns-clause-served : goal.returns-clause-served
-returns-clause-served g c = λ input r. subst (λ e. ServesScript c.run_requests.result (StartsFrom (g.M.Medium.seen c.args.medium)) (λ disk. KeptBy (g.M.Medium.seen disk)) e false input (g.W.Write.contents c.args.writer.now) (g.W.Write.contents c.run_requests.new.writer))
-    c.with_pace.ensures.pace (c.run_requests.ensures.served (g.M.Medium.seen c.args.medium) input c.with_pace.ensures.rests r)
