@@ -40,7 +40,7 @@ fn blank_for(
     let title = match name_of_file(alloc, Charset::Upper, output) {
         Ok(title) => title,
         Err(failure) if matches!(failure.what, What::NoMemory) => return Err(failure),
-        Err(_) => Vec::new(alloc),
+        Err(_failure) => Vec::new(alloc),
     };
     in_memory(new_image(alloc, form, sixteen(title.as_slice()), ID))
 }
