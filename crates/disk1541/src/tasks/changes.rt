@@ -194,12 +194,12 @@ fn place_of(
 }
 
 /// Refuses words that can't be used, whatever the image is. Errors: `Word`.
-pub fn require_words(
+pub fn require_words<'a>(
     alloc: Global,
     verb: Verb,
-    words: &ArgMatches<'_>,
+    words: &ArgMatches<'a>,
     image: &str,
-    manner: Manner<'_>,
+    manner: Manner<'a>,
 ) -> Result<(), Failure> {
     match verb {
         Verb::Put => {
@@ -226,12 +226,12 @@ pub fn require_words(
 }
 
 /// What a command makes of an image. Errors: those of its call; `Told`, where it changes no image.
-pub fn made_by<R: Runtime + AllocGlobal>(
+pub fn made_by<'a, R: Runtime + AllocGlobal>(
     rt: &R,
     verb: Verb,
-    words: &ArgMatches<'_>,
+    words: &ArgMatches<'a>,
     desk: Desk<'_, '_>,
-    manner: Manner<'_>,
+    manner: Manner<'a>,
 ) -> Result<Made, Failure> {
     let alloc = rt.alloc();
     let charset = manner.charset;
