@@ -70,11 +70,11 @@ fn given_of<'b>(line: &ArgMatches<'_>, input: &'b [u8]) -> Option<&'b [u8]> {
 }
 
 /// Carries out the command line, on one image or on several.
-fn carried_out(
+fn carried_out<'a>(
     rt: &HostRuntime,
-    line: &ArgMatches<'_>,
+    line: &ArgMatches<'a>,
     progress: Progress,
-    input: &[u8],
+    input: &'a [u8],
 ) -> Result<(), Failure> {
     if let Some((name, words)) = line.subcommand() {
         if let Some(verb) = verb_of(name) {

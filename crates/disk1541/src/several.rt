@@ -45,11 +45,11 @@ impl Outcome {
 }
 
 /// Changes one of several images, while its folder is locked.
-fn change_one(
+fn change_one<'a>(
     rt: &HostRuntime,
     verb: Verb,
-    words: &ArgMatches<'_>,
-    image: &str,
+    words: &ArgMatches<'a>,
+    image: &'a str,
 ) -> Result<(), Failure> {
     let others_wait = lock_folder(rt, image);
     let answer = change_with(rt, verb, words, image, None);
@@ -64,11 +64,11 @@ fn print_name(rt: &HostRuntime, image: &str) -> Result<(), Failure> {
 }
 
 /// Changes one of several images; where that is refused, it is reported.
-fn change_among(
+fn change_among<'a>(
     rt: &HostRuntime,
     verb: Verb,
-    words: &ArgMatches<'_>,
-    image: &str,
+    words: &ArgMatches<'a>,
+    image: &'a str,
     outcome: &mut Outcome,
 ) -> Result<(), Failure> {
     let is_json = flag(words, "json");
@@ -91,11 +91,11 @@ fn change_among(
 
 /// Changes several images one after the other, each by itself, and says how many were. Errors: `Word`; `Several`, where some are refused,
 /// as is reported; `Write`; `NoMemory`.
-pub fn change_each(
+pub fn change_each<'a>(
     rt: &HostRuntime,
     verb: Verb,
-    words: &ArgMatches<'_>,
-    images: &[&str],
+    words: &ArgMatches<'a>,
+    images: &[&'a str],
 ) -> Result<(), Failure> {
     if images.iter().any(|image| is_standard(*image)) {
         return Err(Failure::new(What::Word(WordFault::Twice)));

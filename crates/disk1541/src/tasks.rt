@@ -80,12 +80,12 @@ fn diff_with<R: Runtime + AllocGlobal>(
 }
 
 /// Carries out a command with its words.
-fn perform<R: Runtime + AllocGlobal>(
+fn perform<'a, R: Runtime + AllocGlobal>(
     rt: &R,
     verb: Verb,
-    words: &ArgMatches<'_>,
+    words: &ArgMatches<'a>,
     progress: Progress,
-    input: Option<&[u8]>,
+    input: Option<&'a [u8]>,
 ) -> Result<(), Failure> {
     let image = given(words, "IMAGE");
     let charset = charset(rt.alloc(), words)?;
@@ -136,11 +136,11 @@ pub fn reads_input(line: &ArgMatches<'_>) -> bool {
 }
 
 /// Carries out the command line. It has a command of the table, since clap refuses any other.
-pub fn carry_out<R: Runtime + AllocGlobal>(
+pub fn carry_out<'a, R: Runtime + AllocGlobal>(
     rt: &R,
-    line: &ArgMatches<'_>,
+    line: &ArgMatches<'a>,
     progress: Progress,
-    input: Option<&[u8]>,
+    input: Option<&'a [u8]>,
 ) -> Result<(), Failure> {
     let Some((name, words)) = line.subcommand() else {
         return Err(Failure::new(What::Told));

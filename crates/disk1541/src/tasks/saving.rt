@@ -56,12 +56,12 @@ fn save_made<R: Runtime + AllocGlobal>(
 
 /// Changes an image by a command, and saves it; or shows what would change, if the words say so. Errors: `Word`; those of
 /// `read_image` and of `made_by`; those of `replace`; `Write`.
-pub fn change_with<R: Runtime + AllocGlobal>(
+pub fn change_with<'a, R: Runtime + AllocGlobal>(
     rt: &R,
     verb: Verb,
-    words: &ArgMatches<'_>,
-    image: &str,
-    input: Option<&[u8]>,
+    words: &ArgMatches<'a>,
+    image: &'a str,
+    input: Option<&'a [u8]>,
 ) -> Result<(), Failure> {
     let manner = Manner {
         charset: charset(rt.alloc(), words)?,
