@@ -134,11 +134,11 @@ static const struct { const char *name; void (*call)(void); size_t most; } calls
     {"image_check", checks, 36000}, {"image_list", lists, 222000}, {"image_file", files, 4000}, {"image_put", puts_file, 222000},
     {"image_put_all", puts_all, 222000}, {"image_command_status", command_status, 222000}, {"image_copy", copies, 270000}, {"image_delete", deletes, 265000},
     {"image_command V", command_validates, 220000}, {"image_command C", command_copies, 220000}, {"image_command N", command_formats, 222000},
-    {"image_put_away", puts_away, 36000}, {"image_put_back", puts_back, 37000}, {"image_put, art", puts_around, 260000}, {"image_command, art", command_around, 270000},
+    {"image_put_away", puts_away, 36000}, {"image_put_back", puts_back, 36700}, {"image_put, art", puts_around, 260000}, {"image_command, art", command_around, 270000},
     {"image_new", makes, 53000}, {"image_convert", converts, 37000}, {"play", plays, 222000},
     {"LOAD $", host_lists, 46000}, {"LOAD", host_loads, 46000}, {"SAVE", host_saves, 46000}, {"R", host_renames, 46000}, {"C", host_copies, 46000},
     {"S", host_scratches, 46000}, {"V", host_validates, 46000}, {"N", host_formats, 53000}, {"their close", hosts_end, 1000},
-    {"U1, direct", host_reads_blocks, 46000}, {"SAVE, direct", host_saves, 47000}, {"V, direct", host_validates, 46000}, {"their close, direct", hosts_end, 1000},
+    {"U1, direct", host_reads_blocks, 46000}, {"SAVE, direct", host_saves, 46700}, {"V, direct", host_validates, 46000}, {"their close, direct", hosts_end, 1000},
 };
 
 static void *runs(void *call) {
