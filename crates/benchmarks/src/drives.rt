@@ -2,7 +2,7 @@ ghost use Rattle.std.specs.Prelude.{◌≤◌};
 
 use crate::disks::{failed, report};
 use crate::images::{circles, d64, g64};
-use cbm_channel::Dos;
+use cbm_channel::{Channels, Dos};
 use cbm_medium::{Medium, sectors_of};
 use cbm_volume::Volume;
 use std::alloc::Global;
@@ -24,7 +24,7 @@ pub fn files(rt: &impl Runtime, alloc: Global) -> io::Result<()> {
     let mut image = vec![in alloc; 1; IMAGE]?;
     enter_big(&mut image);
     let disk = d64(alloc, image.as_slice())?;
-    let mut dos = Dos::new(disk);
+    let mut dos = Dos::new(disk, Channels::new(alloc)?);
     let start = Instant::now(rt)?;
     let mut count = 0u32;
     for _ in 0..10 {

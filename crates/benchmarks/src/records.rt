@@ -1,7 +1,7 @@
 use crate::disks::{failed, report};
 use crate::images::{circles, empty, g64};
 use crate::writes::{command, succeeded};
-use cbm_channel::Dos;
+use cbm_channel::{Channels, Dos};
 use cbm_medium::Medium;
 use std::alloc::Global;
 use std::io;
@@ -29,7 +29,7 @@ pub fn files(rt: &impl Runtime, alloc: Global) -> io::Result<()> {
 }
 
 fn records<M: Medium + Drop>(rt: &impl Runtime, medium: M) -> io::Result<()> {
-    let mut dos = Dos::new(medium);
+    let mut dos = Dos::new(medium, Channels::new(rt.alloc())?);
     dos.open(2, b"REL,L,\xfe");
     succeeded(&dos, 0)?;
     seek(&mut dos, RECORDS);

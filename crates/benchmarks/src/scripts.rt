@@ -3,7 +3,7 @@ mod traces;
 use crate::disks::{failed, report};
 use crate::images::d64;
 use crate::writes::{store, succeeded};
-use cbm_channel::Dos;
+use cbm_channel::{Channels, Dos};
 use cbm_medium::Medium;
 use cbm_program::{Options, Pace, run_at};
 use std::alloc::Global;
@@ -77,7 +77,7 @@ fn take<M: Medium>(dos: &mut Dos<M>, name: &[u8], bytes: u32) {
 
 /// The same file by the DOS's calls, on a disk of its own: written, and read.
 fn direct(rt: &impl Runtime, alloc: Global, image: &[u8]) -> io::Result<()> {
-    let mut dos = Dos::new(d64(alloc, image)?);
+    let mut dos = Dos::new(d64(alloc, image)?, Channels::new(alloc)?);
     let start = Instant::now(rt)?;
     store(&mut dos, b"BIG", 168_656);
     report(rt, "664 blocks written by calls", &start, 1)?;

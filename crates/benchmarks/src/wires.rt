@@ -2,7 +2,7 @@ mod replies;
 
 use crate::disks::failed;
 use crate::images::empty;
-use cbm_channel::Dos;
+use cbm_channel::{Channels, Dos};
 use cbm_d64::D64Disk;
 use cbm_drive::Line::*;
 use cbm_drive::Way::*;
@@ -119,7 +119,7 @@ pub fn drive(
     }
     let disk = empty(alloc)?;
     Ok(Drive::new(
-        Desk::new(Dos::new(disk), device).with_pace(pace),
+        Desk::new(Dos::new(disk, Channels::new(alloc)?), device).with_pace(pace),
         Party {
             device,
             reaction,

@@ -1,7 +1,7 @@
 use crate::circles::turn_tracks;
 use crate::disks::{failed, report};
 use crate::images::{circles, empty, g64};
-use cbm_channel::Dos;
+use cbm_channel::{Channels, Dos};
 use cbm_medium::Medium;
 use std::alloc::Global;
 use std::io;
@@ -30,7 +30,7 @@ pub fn files(rt: &impl Runtime, alloc: Global) -> io::Result<()> {
 
 /// The time of a byte, with OPEN and CLOSE in it; then of the command S.
 fn write<M: Medium + Drop>(rt: &impl Runtime, name: &str, medium: M) -> io::Result<()> {
-    let mut dos = Dos::new(medium);
+    let mut dos = Dos::new(medium, Channels::new(rt.alloc())?);
     let start = Instant::now(rt)?;
     store(&mut dos, b"BIG", LARGEST);
     report(rt, name, &start, LARGEST)?;
@@ -66,7 +66,7 @@ pub fn succeeded<M: Medium>(dos: &Dos<M>, code: u8) -> io::Result<()> {
 
 /// A disk with 144 files of one block is validated.
 pub fn validations(rt: &impl Runtime, alloc: Global) -> io::Result<()> {
-    let mut dos = Dos::new(empty(alloc)?);
+    let mut dos = Dos::new(empty(alloc)?, Channels::new(alloc)?);
     for number in 0..144u8 {
         store(&mut dos, &[b'F', 65 + number / 12, 65 + number % 12], 1);
         succeeded(&dos, 0)?;
@@ -81,7 +81,7 @@ pub fn validations(rt: &impl Runtime, alloc: Global) -> io::Result<()> {
 
 /// A file of 332 blocks is written, and then copied: the time of a byte of each.
 pub fn copies(rt: &impl Runtime, alloc: Global) -> io::Result<()> {
-    let mut dos = Dos::new(empty(alloc)?);
+    let mut dos = Dos::new(empty(alloc)?, Channels::new(alloc)?);
     let start = Instant::now(rt)?;
     store(&mut dos, b"HALF", HALF);
     report(

@@ -7,7 +7,7 @@ mod powered;
 
 pub use any_disk::AnyDisk;
 pub use cbm_drive::{
-    Bus, Change, Desk, Drive, Event, Line, Lines, Pace, Party, PlayFault, Way, Who,
+    Bus, Change, Channels, Desk, Drive, Event, Line, Lines, Pace, Party, PlayFault, Way, Who,
 };
 pub use disk_bus::DiskBus;
 pub use powered::{drive_with, into_disk};

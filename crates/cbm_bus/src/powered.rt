@@ -6,19 +6,19 @@ ghost use Rattle.cbm_bus.specs.Powered.{IsPowered, powered};
 ghost use Rattle.cbm_machine.specs.Machines.{Machine};
 ghost use Rattle.cbm_drive.specs.Desks as desks;
 
-use cbm_drive::{Desk, Drive, Party};
+use cbm_drive::{Channels, Desk, Drive, Party};
 use cbm_medium::Medium;
 
 /// The drive as it is switched on with this disk in it: its device number is below 31, and it takes 1 microsecond at least to
 /// react. It reads nothing.
-pub fn drive_with<M: Medium>(disk: M, party: Party) -> Drive<Desk<M>>
+pub fn drive_with<M: Medium>(disk: M, channels: Channels, party: Party) -> Drive<Desk<M>>
     requires device { party.device < 31 }
     requires reaction { 1 ≤ party.reaction }
     ensures disk { result.machine.dos.medium ≡ disk }
     ensures powered { (d : Disk) → HoldsDisk (M.seen disk).tracks (M.seen disk).content d →
         IsPowered M.seen party (powered party (M.seen disk) d) result }
 {
-    let desk = Desk::at_power_up(disk, party.device).with_pace(party.pace);
+    let desk = Desk::at_power_up(disk, channels, party.device).with_pace(party.pace);
     Drive::new(desk, party)
 }
 

@@ -281,6 +281,13 @@ module _ (c : Content) (t : ℕ) (p : Bool) (chs : List Channel) (told : ToldSta
   pub closed_past : (ch : ℕ) → 15 ≤ ch → AreFit t chs → StandsBy c t p chs told text m → machine.channel m ch ≡ machine.Closed
   closed_past ch far fit st = past_end chs m.channels ch (omega (arith, far, fit.count)) st.each
 
+  -- the channel of the code, which was looked up
+  pub stands_here : (ch : ℕ) (x : Channel) → x ≡ slice_index_or chs ch x → ch < 15 → AreFit t chs → StandsBy c t p chs told text m → ChannelStands x (machine.channel m ch)
+  stands_here ch x is lt fit st = subst (λ y. ChannelStands y (machine.channel m ch)) (sym is) (stands_at ch x lt fit st)
+
+  pub waits_here : (ch : ℕ) (x : Channel) → x ≡ slice_index_or chs ch x → ch < 15 → AreFit t chs → StandsBy c t p chs told text m → WaitsFor m.disk x
+  waits_here ch x is lt fit st = subst (WaitsFor m.disk) (sym is) (waits_at ch x lt fit st)
+
 -- the machine goes by another name
 pub moved : (c : Content) (t : ℕ) (p : Bool) (chs : List Channel) (told : ToldStatus) (text : Option (ℕ × List ℕ)) (m n : machine.Machine) → m ≡ n → StandsBy c t p chs told text n → StandsBy c t p chs told text m
 moved c t p chs told text m n e st = subst (λ x. StandsBy c t p chs told text x) (sym e) st

@@ -115,17 +115,6 @@ impl Channel {
     ghost use Rattle.cbm_channel.specs.BytesMeant.{PutMeant, FinishMeant, is_file_empty};
     ghost use Rattle.cbm_channel.specs.PlaceCalls.{StoresUnprotected, IsRecordsCall, PutsText, KeepsRestRecords};
 
-    /// Fifteen channels that are closed.
-    pub(crate) fn all_closed() -> [Channel; 15]
-        ensures { result ≡ replicate 15 Closed }
-    {
-        use Channel::Closed;
-        [
-            Closed, Closed, Closed, Closed, Closed, Closed, Closed, Closed, Closed, Closed, Closed,
-            Closed, Closed, Closed, Closed,
-        ]
-    }
-
     /// Whether nothing is open.
     pub(crate) fn is_closed(&self) -> bool
         ensures { result ≡ is_channel_closed self.now }

@@ -1,4 +1,5 @@
 use crate::channel::Channel;
+use crate::channels::Channels;
 use crate::gathered::Gathered;
 use cbm_machine::{Code, Status, Telling};
 use cbm_volume::{Medium, Volume};
@@ -23,7 +24,7 @@ mod validating;
 #[derive(Drop)]
 pub struct Dos<M: Medium> {
     volume: Volume<M>,
-    channels: [Channel; 15],
+    channels: Vec<Channel>,
     telling: Telling,
     text: Option<Gathered>,
 }
@@ -33,9 +34,9 @@ impl<M: Medium> Model for Dos<M> {
 
     ghost Value = { Kept M };
 
-    ghost view = { λ d. record { medium = d.volume; channels = d.channels; told = d.telling; text = d.text } };
+    ghost view = { λ d. record { medium = d.volume; channels = d.channels.items; told = d.telling; text = d.text } };
 
-    ghost invariant = { λ d. AreFit (M.seen d.volume).tracks d.channels };
+    ghost invariant = { λ d. AreFit (M.seen d.volume).tracks d.channels.items };
 }
 
 impl<M: Medium> Dos<M> {
@@ -48,14 +49,14 @@ impl<M: Medium> Dos<M> {
     ghost use Rattle.cbm_channel.specs.Standing.{Stands, Leads};
 
     /// The drive at power up, with no channel open. It reads nothing.
-    pub fn new(medium: M) -> Dos<M>
+    pub fn new(medium: M, channels: Channels) -> Dos<M>
         ensures medium { result.medium ≡ medium }
         ensures stands { (d : Disk) → HoldsDisk (M.seen medium).tracks (M.seen medium).content d
             → Stands M.seen result (start d (M.seen medium).protected (M.seen medium).tracks) }
     {
         Dos {
             volume: Volume::open(medium),
-            channels: Channel::all_closed(),
+            channels: channels.into_items(),
             telling: Telling::new(Status::plain(Code::PowerUp)),
             text: None,
         }

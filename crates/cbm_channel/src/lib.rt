@@ -2,6 +2,7 @@
 #![tactic(auto)]
 
 mod channel;
+mod channels;
 mod dos;
 mod finding;
 mod gathered;
@@ -14,5 +15,6 @@ mod sought;
 pub use cbm_command::{Command, Mode, Name, Names, Opening, Refusal, Wanted};
 pub use cbm_file::FileType;
 pub use cbm_machine::{Code, Status, StatusLine, Telling, tells_as_the_machine};
+pub use channels::Channels;
 pub use dos::Dos;
 pub use laws::what_is_kept_is_read_again;

@@ -19,7 +19,7 @@ mod saving;
 use crate::image_disk::ImageDisk;
 use crate::refusal::DeviceRefusal;
 use crate::room::given;
-use cbm_drive::{Desk, Drive, Held, Lines, Party};
+use cbm_drive::{Channels, Desk, Drive, Held, Lines, Party};
 use cbm_image::{Kind, kind_of};
 use std::alloc::Global;
 use std::marker::Model;
@@ -73,7 +73,7 @@ impl Model for Device {
 }
 
 /// A drive that is switched on with this disk.
-fn powered(disk: ImageDisk, party: Party) -> Drive<Desk<ImageDisk>>
+fn powered(disk: ImageDisk, channels: Channels, party: Party) -> Drive<Desk<ImageDisk>>
     requires device { party.device < 31 }
     requires reaction { 1 ≤ party.reaction }
     ensures port { result.port ≡ resting party }
@@ -81,7 +81,7 @@ fn powered(disk: ImageDisk, party: Party) -> Drive<Desk<ImageDisk>>
     ensures addressed { result.machine.addressed ≡ paced party.pace (unaddressed party.device) }
     ensures stands { StandsPowered disk party result.machine }
 {
-    let desk = Desk::at_power_up(disk, party.device).with_pace(party.pace);
+    let desk = Desk::at_power_up(disk, channels, party.device).with_pace(party.pace);
     Drive::new(desk, party)
 }
 
@@ -106,8 +106,9 @@ impl Device {
             return Err(DeviceRefusal::Invalid);
         }
         let disk = ImageDisk::open(alloc, image, protected)?;
+        let channels = Channels::new(alloc)?;
         Ok(Device {
-            drive: powered(disk, party),
+            drive: powered(disk, channels, party),
             kind: Some(kind_of(image)),
             others: FREE,
             latest: 0,

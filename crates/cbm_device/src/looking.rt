@@ -15,7 +15,7 @@ ghost use Rattle.cbm_device.specs.Looking.{IsTitleOf, IsUntitled, IsNoDeviceEntr
 
 use crate::image_disk::ImageDisk;
 use crate::refusal::DeviceRefusal;
-use cbm_channel::Dos;
+use cbm_channel::{Channels, Dos};
 use cbm_medium::{Address, Medium};
 use cbm_shell::{get, raw_list};
 use cbm_volume::{Entry, Label, Trouble, Unsound, Volume};
@@ -124,7 +124,9 @@ pub fn list(alloc: Global, image: &[u8], pattern: &[u8]) -> Result<Vec<u8>, Devi
     // Of any disk:
     ensures refused { MatchResult result (λ _. IsAccepted image.now) (IsLookRefused image.now) }
 {
-    let mut dos = Dos::new(ImageDisk::open(alloc, image, false)?);
+    let disk = ImageDisk::open(alloc, image, false)?;
+    let channels = Channels::new(alloc)?;
+    let mut dos = Dos::new(disk, channels);
     match raw_list(alloc, &mut dos, pattern) {
         Ok(bytes) => Ok(bytes),
         Err(fault) => Err(DeviceRefusal::from(fault)),

@@ -9,13 +9,14 @@ ghost use Rattle.cbm_device.specs.Plays.{HasPlayedAll, IsDiskIn};
 
 use crate::image_disk::ImageDisk;
 use crate::refusal::DeviceRefusal;
-use cbm_drive::{Bus, Change, Desk, Drive, Event, Party, PlayFault};
+use cbm_drive::{Bus, Change, Channels, Desk, Drive, Event, Party, PlayFault};
 
 /// A drive is switched on with this disk and played under these changes of the host, up to an end, in microseconds: all events, the
 /// host's and the drive's, come one after the other, and the disk as it is then. Errors: `Invalid`, if a change goes back in time
 /// or comes after the end, and then nothing was played; `Memory`.
 pub fn play(
     disk: ImageDisk,
+    channels: Channels,
     party: Party,
     changes: &[Change],
     end: u64,
@@ -28,7 +29,7 @@ pub fn play(
     ensures played { let now = counted_seen disk in (d : Disk) → HoldsDisk now.tracks now.content d → IfOk result (λ after.
         HasPlayedAll party (start d now.protected now.tracks) changes.now end events.old.items events.new.items after) }
 {
-    let desk = Desk::at_power_up(disk, party.device).with_pace(party.pace);
+    let desk = Desk::at_power_up(disk, channels, party.device).with_pace(party.pace);
     let mut bus = Bus::new([Drive::new(desk, party)]);
     match bus.play(changes, end, events) {
         Ok(()) => Ok(disk_of(bus)),

@@ -4,6 +4,7 @@ ghost use Rattle.cbm_device.specs.Answers.{answer_number, answer};
 
 use cbm_shell::ShellFault;
 use cbm_volume::Trouble;
+use std::alloc::AllocError;
 
 /// Why a call isn't carried out.
 #[derive(Clone, Copy, Debug, PartialEq, Eq)]
@@ -47,6 +48,17 @@ impl DeviceRefusal {
             DeviceRefusal::NoDrive => -7,
             DeviceRefusal::Status(code) => code.max(LEAST_STATUS) as i32,
         }
+    }
+}
+
+impl From<AllocError> for DeviceRefusal {
+    ghost use Rattle.std.specs.Prelude.{◌≡◌};
+    ghost use Rattle.cbm_device.specs.declared.refusal.DeviceRefusal.TheVariants.{Memory};
+
+    ghost from_gives = { λ _ refusal. refusal ≡ Memory };
+
+    fn from(_error: AllocError) -> DeviceRefusal {
+        DeviceRefusal::Memory
     }
 }
 

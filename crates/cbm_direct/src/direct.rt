@@ -4,7 +4,7 @@ use crate::access::Access;
 use crate::buffers::Buffers;
 use crate::memory::Reply;
 use crate::vouched::Vouched;
-use cbm_channel::{Code, Status};
+use cbm_channel::{Channels, Code, Status};
 use cbm_medium::Medium;
 use std::marker::Model;
 
@@ -43,7 +43,7 @@ impl<M: Medium> DirectDos<M> {
     ghost use Rattle.cbm_direct.specs.Directs.{DirectAnswers, HasStarted};
 
     /// The drive at power up with this medium: no channel is open. Unless any sector may be written, it looks whether the disk is sound.
-    pub fn new(medium: M, access: Access) -> DirectDos<M>
+    pub fn new(medium: M, channels: Channels, access: Access) -> DirectDos<M>
         ensures medium { result.vouched.dos.medium ≡ medium }
         ensures stands { StandsAtStart M.seen medium result.vouched.dos }
         ensures access { access_of result.vouched.vouch ≡ access }
@@ -52,7 +52,7 @@ impl<M: Medium> DirectDos<M> {
         ensures reply { result.reply ≡ None }
     {
         DirectDos {
-            vouched: Vouched::new(medium, access),
+            vouched: Vouched::new(medium, channels, access),
             buffers: Buffers::free(),
             reply: None,
         }

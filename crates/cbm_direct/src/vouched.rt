@@ -1,7 +1,7 @@
 //! A drive's DOS of which it is known whether its disk is sound.
 use crate::access::Access;
 use crate::vouch::Vouch;
-use cbm_channel::{Dos, Status};
+use cbm_channel::{Channels, Dos, Status};
 use cbm_medium::Medium;
 use cbm_volume::Volume;
 use std::marker::Model;
@@ -39,7 +39,7 @@ impl<M: Medium> Vouched<M> {
     ghost use Rattle.cbm_direct.specs.Vouching.{ShowsDisk, IsSoundSince, KeepsVouch, StandsAtStart, StandsExchanged, access_of};
 
     /// The drive at power up with this medium. Unless any sector may be written, it looks whether the disk is sound.
-    pub fn new(medium: M, access: Access) -> Vouched<M>
+    pub fn new(medium: M, channels: Channels, access: Access) -> Vouched<M>
         ensures medium { result.dos.medium ≡ medium }
         ensures stands { StandsAtStart M.seen medium result.dos }
         ensures access { access_of result.vouch ≡ access }
@@ -48,7 +48,7 @@ impl<M: Medium> Vouched<M> {
         let volume = Volume::open(medium);
         let vouch = Vouch::of(&volume, access);
         Vouched {
-            dos: Dos::new(volume.into_medium()),
+            dos: Dos::new(volume.into_medium(), channels),
             vouch,
         }
     }

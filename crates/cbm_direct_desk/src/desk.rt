@@ -1,7 +1,7 @@
 //! A drive with direct access, addressed by LISTEN, TALK and secondary addresses.
 
 use cbm_direct::{Access, DirectDos};
-use cbm_drive::{Act, Addressee, Ended, Machine, Pace, Restarts, Secondary, Takes};
+use cbm_drive::{Act, Addressee, Channels, Ended, Machine, Pace, Restarts, Secondary, Takes};
 use cbm_iec::Role;
 use cbm_medium::Medium;
 use std::marker::Model;
@@ -31,7 +31,7 @@ impl<M: Medium> DirectDesk<M> {
 
     /// As the drive is switched on with this medium, and a device number below 31. Unless any sector may be written, it looks whether the disk is
     /// sound.
-    pub fn at_power_up(medium: M, device: u8, access: Access) -> DirectDesk<M>
+    pub fn at_power_up(medium: M, channels: Channels, device: u8, access: Access) -> DirectDesk<M>
         requires { device < 31 }
         ensures medium { result.dos.vouched.dos.medium ≡ medium }
         ensures sound { access ≡ Guarded → ShowsDisk (M.seen medium) → result.dos.vouched.vouch ≡ Sound (M.seen medium).failures }
@@ -39,7 +39,7 @@ impl<M: Medium> DirectDesk<M> {
         ensures addressed { result.addressed ≡ unaddressed device }
     {
         DirectDesk {
-            dos: DirectDos::new(medium, access),
+            dos: DirectDos::new(medium, channels, access),
             addressee: Addressee::new(device),
         }
     }

@@ -10,17 +10,22 @@ ghost use Rattle.cbm_drive.specs.Seats.{AreCarried, Seated};
 use crate::desk::DirectDesk;
 use cbm_d64::D64Disk;
 use cbm_direct::Access;
-use cbm_drive::{Bus, Change, Drive, Event, Party, PlayFault};
+use cbm_drive::{Bus, Change, Channels, Drive, Event, Party, PlayFault};
 use cbm_medium::Medium;
 
 /// The drive as it is switched on with this disk.
-pub fn drive_with<M: Medium>(disk: M, party: Party, access: Access) -> Drive<DirectDesk<M>>
+pub fn drive_with<M: Medium>(
+    disk: M,
+    channels: Channels,
+    party: Party,
+    access: Access,
+) -> Drive<DirectDesk<M>>
     requires device { party.device < 31 }
     requires reaction { 1 ≤ party.reaction }
     ensures disk { result.machine.dos.vouched.dos.medium ≡ disk }
     ensures sound { access ≡ Guarded → ShowsDisk (M.seen disk) → result.machine.dos.vouched.vouch ≡ Sound (M.seen disk).failures }
 {
-    let desk = DirectDesk::at_power_up(disk, party.device, access).with_pace(party.pace);
+    let desk = DirectDesk::at_power_up(disk, channels, party.device, access).with_pace(party.pace);
     Drive::new(desk, party)
 }
 
@@ -71,6 +76,7 @@ pub fn play_out<M: Medium>(
 /// A D64 in a drive alone with a host: whatever the host does on the wires, it is sound after the play, if it was before.
 pub fn play_alone(
     disk: D64Disk,
+    channels: Channels,
     party: Party,
     changes: &[Change],
     end: u64,
@@ -82,7 +88,7 @@ pub fn play_alone(
     ensures { ShowsDisk (d64_seen disk) → ShowsDisk (d64_seen result) }
 {
     play_out(
-        Bus::new([drive_with(disk, party, Access::Guarded)]),
+        Bus::new([drive_with(disk, channels, party, Access::Guarded)]),
         changes,
         end,
         events,

@@ -15,7 +15,7 @@ ghost use Rattle.cbm_direct_device.specs.DirectDevices.{disk_in, vouch_in, statu
 use cbm_device::{DeviceReaction, DeviceRefusal, ImageDisk, given};
 use cbm_direct::Access;
 use cbm_direct_desk::DirectDesk;
-use cbm_drive::{Drive, Held, Lines, Party};
+use cbm_drive::{Channels, Drive, Held, Lines, Party};
 use cbm_image::{Kind, kind_of};
 use std::alloc::Global;
 use std::marker::Model;
@@ -58,14 +58,19 @@ impl Model for DirectDevice {
 }
 
 /// A drive that is switched on with this disk. Unless any sector may be written, it looks whether the disk is sound.
-fn powered(disk: ImageDisk, party: Party, access: Access) -> Drive<DirectDesk<ImageDisk>>
+fn powered(
+    disk: ImageDisk,
+    channels: Channels,
+    party: Party,
+    access: Access,
+) -> Drive<DirectDesk<ImageDisk>>
     requires device { party.device < 31 }
     requires reaction { 1 ≤ party.reaction }
     ensures port { result.port ≡ resting party }
     ensures powered { IsPoweredWith counted_seen disk access result.machine.dos }
     ensures addressed { result.machine.addressed ≡ paced party.pace (unaddressed party.device) }
 {
-    let desk = DirectDesk::at_power_up(disk, party.device, access).with_pace(party.pace);
+    let desk = DirectDesk::at_power_up(disk, channels, party.device, access).with_pace(party.pace);
     Drive::new(desk, party)
 }
 
@@ -91,8 +96,9 @@ impl DirectDevice {
             return Err(DeviceRefusal::Invalid);
         }
         let disk = ImageDisk::open(alloc, image, protected)?;
+        let channels = Channels::new(alloc)?;
         Ok(DirectDevice {
-            drive: powered(disk, party, access),
+            drive: powered(disk, channels, party, access),
             kind: Some(kind_of(image)),
             others: FREE,
             latest: 0,

@@ -6,7 +6,7 @@ use crate::addressee::Addressee;
 use crate::addressee::ended::Ended;
 use crate::calls::{close, end_put, open, put};
 use crate::secondary::Secondary;
-use cbm_channel::Dos;
+use cbm_channel::{Channels, Dos};
 use cbm_iec::{Act, Machine, Pace, Role};
 use cbm_medium::Medium;
 use std::marker::Model;
@@ -53,14 +53,14 @@ impl<M: Medium> Desk<M> {
     }
 
     /// As the drive is switched on with this medium, and a device number below 31. It reads nothing.
-    pub fn at_power_up(medium: M, device: u8) -> Desk<M>
+    pub fn at_power_up(medium: M, channels: Channels, device: u8) -> Desk<M>
         requires { device < 31 }
         ensures medium { result.dos.medium ≡ medium }
         ensures addressed { result.addressed ≡ unaddressed device }
         ensures stands { (d : Disk) → HoldsDisk (M.seen medium).tracks (M.seen medium).content d → DeskStands M.seen
             result (at_first device (files.start d (M.seen medium).protected (M.seen medium).tracks)) }
     {
-        Desk::new(Dos::new(medium), device)
+        Desk::new(Dos::new(medium, channels), device)
     }
 
     /// The same drive at this pace, which a drive on the bus has of its `Party`.

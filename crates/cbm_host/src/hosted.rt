@@ -6,7 +6,7 @@ ghost use Rattle.cbm_drive.specs.Seats.{Seated};
 
 use crate::performer::Performer;
 use crate::request::Request;
-use cbm_drive::{Bus, Desk, Drive, Pace, Party};
+use cbm_drive::{Bus, Channels, Desk, Drive, Pace, Party};
 use cbm_medium::Medium;
 use std::marker::Model;
 
@@ -55,21 +55,21 @@ impl<M: Medium> Hosted<M> {
     ghost use Rattle.cbm_host.specs.AnyDisk.{IsPoweredUp, RequestBegins, IsUnderWayAnyway, IsOverAnyway, RestsAnyway};
 
     /// A drive at power up with this medium and a device number from 8 to 11, at the profile's pace.
-    pub fn new(medium: M, device: u8) -> Hosted<M>
+    pub fn new(medium: M, channels: Channels, device: u8) -> Hosted<M>
         requires low { 8 ≤ device }
         requires high { device ≤ 11 }
         ensures { IsPoweredUp M.seen result medium Profile }
     {
-        Hosted::with_pace(medium, device, Pace::Profile)
+        Hosted::with_pace(medium, channels, device, Pace::Profile)
     }
 
     /// The same at this pace.
-    pub fn with_pace(medium: M, device: u8, pace: Pace) -> Hosted<M>
+    pub fn with_pace(medium: M, channels: Channels, device: u8, pace: Pace) -> Hosted<M>
         requires low { 8 ≤ device }
         requires high { device ≤ 11 }
         ensures { IsPoweredUp M.seen result medium pace }
     {
-        let desk = Desk::at_power_up(medium, device).with_pace(pace);
+        let desk = Desk::at_power_up(medium, channels, device).with_pace(pace);
         let party = Party {
             device,
             reaction: REACTION,

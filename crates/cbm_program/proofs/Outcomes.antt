@@ -148,6 +148,10 @@ refused-by why Writing P h = tt
 pub refused-ends : {A : Type 0} (r : Result A RunFault) (f : RunFault) (why : Option ℕ) (P : Option ℕ → Type 0) → r ≡ Err f → IsRunRefusal why f → EndsAs r P
 refused-ends r f why P e h = subst (λ v. EndsAs v P) (sym e) (refused-by why f P h)
 
+-- memory was lacking before anything was read, so nothing ended
+pub lacking-ends : {A : Type 0} (r : Result A RunFault) (f : RunFault) (P : Option ℕ → Type 0) → r ≡ Err f → f ≡ Memory → EndsAs r P
+lacking-ends r f P e h = refused-ends r f None P e (subst (IsRunRefusal None) (sym h) tt)
+
 not-image : (f : RunFault) (n : ℕ) → IsOfScript f → f ≡ Image n → ⊥
 not-image f n h e = subst IsOfScript e h
 
@@ -157,6 +161,10 @@ not-memory f h e = subst IsOfScript e h
 -- a run blames no image,
 pub refused-again : {A : Type 0} (r : Result A RunFault) (f : RunFault) (n : ℕ) (P : Type 0) → r ≡ Err f → IsOfScript f → r ≡ Err (Image n) → P
 refused-again r f n P e h i = absurd (not-image f n h (let same : Err f ≡ Err (Image n) = sym e ∙ i in cc))
+
+-- nor is it one for whose drive memory is lacking
+pub lacking-image : {A : Type 0} (r : Result A RunFault) (f : RunFault) (n : ℕ) (P : Type 0) → r ≡ Err f → f ≡ Memory → r ≡ Err (Image n) → P
+lacking-image r f n P e h i = absurd (let same : Err f ≡ Err (Image n) = sym e ∙ i in cc)
 
 -- and never lacks memory
 pub not-lacking : {A : Type 0} (r : Result A RunFault) (f : RunFault) (P : Type 0) → r ≡ Err f → IsOfScript f → r ≡ Err Memory → P

@@ -11,9 +11,10 @@ ghost use Rattle.cbm_program.specs.Traces.{KeepTraces, KeepTracesLoosely};
 
 use crate::fault::RunFault;
 use crate::numbered::{Beginning, read_first};
+use crate::station::Station;
 use bus_traces::Source;
 use cbm_d64::D64Disk;
-use cbm_drive::Pace;
+use cbm_drive::{Channels, Pace};
 use cbm_g64::G64Disk;
 use cbm_image::{DiskImage, ImageFault, Kind, kind_of};
 use cbm_volume::Volume;
@@ -43,21 +44,20 @@ pub struct Options {
 /// Its first line says whether it asks for files or changes lines.
 fn run_script<M: RunsScripts + Drop, R: Read + Drop, W: Write>(
     medium: M,
-    device: u8,
-    pace: Pace,
+    station: Station,
     reader: R,
     writer: &mut W,
 ) -> Result<M, RunFault>
-    requires { IsDevice device }
-    ensures run { IsRun result (StartsFrom (M.seen medium)) (λ after. KeptBy (M.seen after)) pace device false
+    requires { IsDevice station.device }
+    ensures run { IsRun result (StartsFrom (M.seen medium)) (λ after. KeptBy (M.seen after)) station.pace station.device false
         (R.remaining reader) (W.contents writer.old) (W.contents writer.new) }
     ensures same_tracks { IfOk result (λ after. (M.seen after).tracks ≡ (M.seen medium).tracks) }
     ensures cause { IfErr result IsOfScript }
 {
     let mut lines = Source::new(reader);
     match read_first(&mut lines)? {
-        Beginning::Requests(first) => medium.serve(device, pace, &mut lines, first, writer),
-        Beginning::Changes => medium.play(device, pace, &mut lines, writer),
+        Beginning::Requests(first) => medium.serve(station, &mut lines, first, writer),
+        Beginning::Changes => medium.play(station, &mut lines, writer),
     }
 }
 
@@ -65,14 +65,13 @@ fn run_script<M: RunsScripts + Drop, R: Read + Drop, W: Write>(
 /// back with what the script wrote.
 fn run_with<M: RunsScripts + Drop, R: Read + Drop, W: Write>(
     medium: M,
+    station: Station,
     checks: bool,
-    device: u8,
-    pace: Pace,
     reader: R,
     writer: &mut W,
 ) -> Result<M, RunFault>
-    requires { IsDevice device }
-    ensures run { IsRun result (StartsFrom (M.seen medium)) (λ after. KeptBy (M.seen after)) pace device checks
+    requires { IsDevice station.device }
+    ensures run { IsRun result (StartsFrom (M.seen medium)) (λ after. KeptBy (M.seen after)) station.pace station.device checks
         (R.remaining reader) (W.contents writer.old) (W.contents writer.new) }
     // Of any medium the line of the check is printed first, where one is asked for.
     ensures checked { checks ≡ true → EndsAs result (λ bad. IsCheckedFirst (M.seen medium).tracks (M.seen medium).content
@@ -82,7 +81,7 @@ fn run_with<M: RunsScripts + Drop, R: Read + Drop, W: Write>(
 {
     let volume = Volume::open(medium);
     print_check(&volume, checks, writer)?;
-    run_script(volume.into_medium(), device, pace, reader, writer)
+    run_script(volume.into_medium(), station, reader, writer)
 }
 
 /// The disk of an image of one format. Errors: `Image` with the number of the format's first fault, or `Memory`.
@@ -96,6 +95,21 @@ fn opened<I: DiskImage>(alloc: Global, image: &[u8], protected: bool) -> Result<
         Ok(disk) => Ok(disk),
         Err(ImageFault::Format(number)) => Err(RunFault::Image(number)),
         Err(ImageFault::Memory) => Err(RunFault::Memory),
+    }
+}
+
+/// A drive of this number and pace that is switched off. The one error is `Memory`.
+fn station_of(alloc: Global, device: u8, pace: Pace) -> Result<Station, RunFault>
+    ensures ok { IfOk result (λ s. (s.device ≡ device) × (s.pace ≡ pace)) }
+    ensures err { IfErr result (λ fault. fault ≡ RunFault.Memory) }
+{
+    match Channels::new(alloc) {
+        Ok(channels) => Ok(Station {
+            device,
+            pace,
+            channels,
+        }),
+        Err(_) => Err(RunFault::Memory),
     }
 }
 
@@ -137,7 +151,8 @@ fn run_image<I: RunsScripts + Drop, R: Read + Drop, W: Write>(
         (R.remaining reader) (W.contents writer.old) (W.contents writer.new) }
 {
     let disk = opened::<I>(alloc, image, options.protected)?;
-    let disk = run_with(disk, options.check, options.device, pace, reader, writer)?;
+    let station = station_of(alloc, options.device, pace)?;
+    let disk = run_with(disk, station, options.check, reader, writer)?;
     image_after(alloc, &disk, image, options.protected)
 }
 

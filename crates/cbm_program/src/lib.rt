@@ -10,6 +10,7 @@ mod output;
 mod performing;
 mod request;
 mod session;
+mod station;
 mod text;
 mod watched;
 mod wires;

@@ -18,7 +18,7 @@ pub(crate) mod swapping;
 
 use crate::fault::ShellFault;
 pub use art::{Looks, add_art, dress};
-use cbm_channel::{Dos, Status};
+use cbm_channel::{Channels, Dos, Status};
 use cbm_medium::{Medium, Steady};
 use cbm_talk::hear;
 use cbm_volume::Volume;
@@ -94,7 +94,11 @@ pub fn require_sound<M: Medium>(volume: &Volume<M>) -> Result<(), ShellFault>
 
 /// Makes a change on a disk, if it is sound. Errors: `Unsound`, and then nothing was changed; `Refused` with the drive's
 /// status.
-pub fn changed<M: Steady + Drop>(medium: M, change: &DiskChange<'_>) -> Result<M, ShellFault>
+pub fn changed<M: Steady + Drop>(
+    medium: M,
+    channels: Channels,
+    change: &DiskChange<'_>,
+) -> Result<M, ShellFault>
     ensures made { MakesChange M.seen medium change.now result }
     // Of any disk:
     ensures sound { OnOk result (IsSoundDisk (M.seen medium).tracks (M.seen medium).content) }
@@ -104,7 +108,7 @@ pub fn changed<M: Steady + Drop>(medium: M, change: &DiskChange<'_>) -> Result<M
 {
     let volume = Volume::open(medium);
     require_sound(&volume)?;
-    let mut dos = Dos::new(volume.into_medium());
+    let mut dos = Dos::new(volume.into_medium(), channels);
     apply(&mut dos, change)?;
     Ok(dos.into_medium())
 }

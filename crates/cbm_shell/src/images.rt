@@ -2,6 +2,8 @@
 ghost use Rattle.std.specs.Prelude.{◌≡◌, ℕ, List, None, false, IfErr, IfOk, OnOk, MatchResult};
 ghost use Rattle.cbm_file.specs.Files.{Disk};
 ghost use Rattle.cbm_machine.specs.Machines.{start};
+ghost use Rattle.cbm_channel.specs.Standing.{Stands};
+ghost use Rattle.cbm_volume.specs.Holding.{HoldsDisk};
 ghost use Rattle.cbm_bam.specs.Map.{geometry_of};
 ghost use Rattle.cbm_image.specs.Images.{kind_of, image_fault, tracks_of, content_of, ImageHolds};
 ghost use Rattle.cbm_shell.specs.Reading.{Gets};
@@ -22,7 +24,7 @@ use crate::looking::listing::{list, raw_list};
 use crate::looking::reading::get;
 use crate::looking::{Freed, freed_by};
 use crate::texts::petscii::Charset;
-use cbm_channel::Dos;
+use cbm_channel::{Channels, Dos};
 use cbm_d64::D64Disk;
 use cbm_g64::G64Disk;
 use cbm_image::{DiskImage, ImageFault, Kind, kind_of};
@@ -67,7 +69,8 @@ fn change_in<I: DiskImage + Drop>(
     ensures opens { IfOk result (λ v. image_fault (kind_of image.now) v.items ≡ None) }
 {
     let disk = opened::<I>(alloc, image)?;
-    let disk = changed(disk, change)?;
+    let channels = Channels::new(alloc)?;
+    let disk = changed(disk, channels, change)?;
     saved(alloc, &disk)
 }
 
@@ -117,6 +120,19 @@ pub fn file(alloc: Global, image: &[u8], pattern: &[u8]) -> Result<Vec<u8>, Shel
     }
 }
 
+/// A drive at power up with the disk of an image of one format. Errors: `Image`, `Memory`.
+fn drive_of<I: DiskImage + Drop>(alloc: Global, image: &[u8]) -> Result<Dos<I>, ShellFault>
+    requires { kind_of image.now ≡ I.kind }
+    ensures medium { IfOk result (λ dos. IsImageOpened image.now (I.seen dos.medium)) }
+    ensures stands { IfOk result (λ dos. let now = I.seen dos.medium in (d : Disk) → HoldsDisk now.tracks now.content d →
+        Stands I.seen dos (start d now.protected now.tracks)) }
+    ensures err { IfErr result (IsOpenFault image.now) }
+{
+    let disk = opened::<I>(alloc, image)?;
+    let channels = Channels::new(alloc)?;
+    Ok(Dos::new(disk, channels))
+}
+
 /// The directory of an image of one format.
 fn directory_in<I: DiskImage + Drop>(
     alloc: Global,
@@ -129,7 +145,7 @@ fn directory_in<I: DiskImage + Drop>(
         let m = start d false (tracks_of kind image.now) in
         MatchResult result (λ v. IsListing charset pattern.now m v.items) (IsHidden image.now pattern.now m) }
 {
-    let mut dos = Dos::new(opened::<I>(alloc, image)?);
+    let mut dos = drive_of::<I>(alloc, image)?;
     list(alloc, &mut dos, charset, pattern)
 }
 
@@ -162,7 +178,7 @@ fn raw_directory_in<I: DiskImage + Drop>(
         let m = start d false (tracks_of kind image.now) in
         MatchResult result (λ v. IsSent pattern.now m v.items) (IsHidden image.now pattern.now m) }
 {
-    let mut dos = Dos::new(opened::<I>(alloc, image)?);
+    let mut dos = drive_of::<I>(alloc, image)?;
     raw_list(alloc, &mut dos, pattern)
 }
 

@@ -7,7 +7,7 @@ use std::alloc::Global;
 use std::process::Abort;
 
 fn switched_on(rt: &impl Abort, alloc: Global) -> Desk<D64Disk> {
-    desk(rt, empty_disk(rt, alloc), 8)
+    desk(rt, alloc, empty_disk(rt, alloc), 8)
 }
 
 // Bytes in attention, and ATN free after them.

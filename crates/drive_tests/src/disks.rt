@@ -1,7 +1,7 @@
 // Disks, and drives over them: what their calls promise stays out of the tests.
 
 use crate::host::Host;
-use cbm_channel::Dos;
+use cbm_channel::{Channels, Dos};
 use cbm_d64::D64Disk;
 use cbm_drive::{Bus, Desk, Drive, Event, Pace, Party};
 use std::alloc::Global;
@@ -23,16 +23,21 @@ pub fn saved(rt: &impl Abort, alloc: Global, disk: &D64Disk) -> Vec<u8> {
     disk.to_bytes(alloc).ok().expect(rt, "an image")
 }
 
+/// A DOS with a disk, switched on.
+pub fn dos(rt: &impl Abort, alloc: Global, disk: D64Disk) -> Dos<D64Disk> {
+    Dos::new(disk, Channels::new(alloc).ok().expect(rt, "memory"))
+}
+
 /// A machine with a disk, switched on.
-pub fn desk(rt: &impl Abort, disk: D64Disk, device: u8) -> Desk<D64Disk> {
+pub fn desk(rt: &impl Abort, alloc: Global, disk: D64Disk, device: u8) -> Desk<D64Disk> {
     assert!(rt; device < 31);
-    Desk::new(Dos::new(disk), device)
+    Desk::new(dos(rt, alloc, disk), device)
 }
 
 /// The machine with an empty disk on the bus; it reacts in 20.
 pub fn switched_on(rt: &impl Abort, alloc: Global, device: u8) -> Bus<Desk<D64Disk>, 1> {
     assert!(rt; device < 31);
-    let machine = desk(rt, empty_disk(rt, alloc), device);
+    let machine = desk(rt, alloc, empty_disk(rt, alloc), device);
     let party = Party {
         device,
         reaction: 20,

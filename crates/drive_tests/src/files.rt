@@ -2,11 +2,11 @@
 // read again, and each disk is then as calls leave it.
 
 use crate::cables::BACK;
-use crate::disks::{empty_disk, saved};
+use crate::disks::{dos, empty_disk, saved};
 use crate::host::Host;
 use crate::wires::is_said_by;
 use cbm_bus::{AnyDisk, DiskBus, drive_with, into_disk};
-use cbm_channel::Dos;
+use cbm_channel::{Channels, Dos};
 use cbm_d64::D64Disk;
 use cbm_drive::{Desk, Drive, Event, Pace, Party, PlayFault};
 use cbm_g64::G64Disk;
@@ -18,14 +18,21 @@ use std::process::Abort;
 type Pair = DiskBus<AnyDisk, 2>;
 
 // A drive with a disk, which takes so many microseconds to react.
-fn drive(rt: &impl Abort, disk: AnyDisk, device: u8, reaction: u8) -> Drive<Desk<AnyDisk>> {
+fn drive(
+    rt: &impl Abort,
+    alloc: Global,
+    disk: AnyDisk,
+    device: u8,
+    reaction: u8,
+) -> Drive<Desk<AnyDisk>> {
     assert!(rt; device < 31 && reaction > 0);
     let party = Party {
         device,
         reaction,
         pace: Pace::Profile,
     };
-    drive_with(disk, party)
+    let channels = Channels::new(alloc).ok().expect(rt, "memory");
+    drive_with(disk, channels, party)
 }
 
 // The empty disk as circles of bits.
@@ -43,7 +50,10 @@ fn empty_circles(rt: &impl Abort, alloc: Global) -> G64Disk {
 fn pair(rt: &impl Abort, alloc: Global, first: u8, second: u8) -> Pair {
     let sectors = AnyDisk::D64(empty_disk(rt, alloc));
     let circles = AnyDisk::G64(empty_circles(rt, alloc));
-    DiskBus::new([drive(rt, sectors, 8, first), drive(rt, circles, 9, second)])
+    DiskBus::new([
+        drive(rt, alloc, sectors, 8, first),
+        drive(rt, alloc, circles, 9, second),
+    ])
 }
 
 // A file is written on a drive, and closed.
@@ -88,7 +98,7 @@ fn put_all(dos: &mut Dos<D64Disk>, bytes: &[u8]) {
 
 // The empty disk after the same file was written by calls.
 fn written(rt: &impl Abort, alloc: Global, name: &[u8], bytes: &[u8]) -> D64Disk {
-    let mut dos = Dos::new(empty_disk(rt, alloc));
+    let mut dos = dos(rt, alloc, empty_disk(rt, alloc));
     dos.open(2, name);
     put_all(&mut dos, bytes);
     dos.close(2);

@@ -1,7 +1,7 @@
 // Hosts that keep no timing, over a disk with a file: the disk stays sound, and it is the one that the bytes of the bus make without
 // any wires.
 
-use crate::disks::{desk, empty_disk, opened, saved};
+use crate::disks::{desk, dos, empty_disk, opened, saved};
 use crate::host::Host;
 use crate::recorder::{KEPT, Recorder};
 use arrayvec::ArrayVec;
@@ -15,8 +15,8 @@ use std::alloc::Global;
 use std::process::Abort;
 
 // A disk with a closed file HELLO of three bytes.
-fn with_hello(disk: D64Disk) -> D64Disk {
-    let mut dos = Dos::new(disk);
+fn with_hello(rt: &impl Abort, alloc: Global, disk: D64Disk) -> D64Disk {
+    let mut dos = dos(rt, alloc, disk);
     dos.open(1, b"HELLO");
     dos.put(1, 1);
     dos.put(1, 2);
@@ -26,11 +26,11 @@ fn with_hello(disk: D64Disk) -> D64Disk {
 }
 
 fn hello(rt: &impl Abort, alloc: Global) -> Vec<u8> {
-    saved(rt, alloc, &with_hello(empty_disk(rt, alloc)))
+    saved(rt, alloc, &with_hello(rt, alloc, empty_disk(rt, alloc)))
 }
 
 fn desk_with(rt: &impl Abort, alloc: Global, image: &[u8]) -> Desk<D64Disk> {
-    desk(rt, opened(rt, alloc, image), 8)
+    desk(rt, alloc, opened(rt, alloc, image), 8)
 }
 
 // By chance, waits that matter to a drive of 20 and others.
@@ -135,8 +135,8 @@ fn says_byte(dos: &mut Dos<D64Disk>, byte: u8, last: bool) -> bool {
 }
 
 // Whether the file is there with its bytes.
-fn is_there(disk: D64Disk) -> bool {
-    let mut dos = Dos::new(disk);
+fn is_there(rt: &impl Abort, alloc: Global, disk: D64Disk) -> bool {
+    let mut dos = dos(rt, alloc, disk);
     dos.open(0, b"HELLO");
     let is_begun = says_byte(&mut dos, 1, false) && says_byte(&mut dos, 2, false);
     is_begun && says_byte(&mut dos, 3, true)
@@ -193,7 +193,7 @@ fn make(rt: &impl Abort, alloc: Global, image: &[u8], acts: &[Option<Act>]) -> V
 fn count(rt: &impl Abort, alloc: Global, image: &[u8], left: &[u8], ends: &mut Ends) {
     if left != image {
         ends.changed = ends.changed.wrapping_add(1);
-        if !is_there(opened(rt, alloc, left)) {
+        if !is_there(rt, alloc, opened(rt, alloc, left)) {
             ends.gone = ends.gone.wrapping_add(1);
         }
     }

@@ -1,6 +1,6 @@
 // The status line over the wires: a host that keeps the timing, and a drive with a disk.
 
-use crate::disks::{into_disk, open_code, played, says, switched_on};
+use crate::disks::{dos, into_disk, open_code, played, says, switched_on};
 use crate::host::Host;
 use cbm_channel::Dos;
 use cbm_d64::D64Disk;
@@ -113,7 +113,7 @@ fn is_done(dos: &mut Dos<D64Disk>) -> bool {
 #[test]
 fn files_are_written_and_scratched(rt: HostRuntime) {
     let host = worked(rt.alloc());
-    let mut dos = Dos::new(disk_after(&rt, rt.alloc(), &host));
+    let mut dos = dos(&rt, rt.alloc(), disk_after(&rt, rt.alloc(), &host));
     assert!(rt; is_done(&mut dos));
 }
 

@@ -2,7 +2,7 @@
 
 use crate::wired::empty_disk;
 use cbm_d64::D64Disk;
-use cbm_drive::{Bus, Desk, Drive, Pace, Party};
+use cbm_drive::{Bus, Channels, Desk, Drive, Pace, Party};
 use cbm_host::{Done, Request, perform};
 use cbm_medium::Failing;
 use std::alloc::Global;
@@ -37,7 +37,7 @@ impl Frail {
             reaction: 20,
             pace: Pace::Profile,
         };
-        let bus = Bus::new([Drive::new(Desk::at_power_up(disk, 8), party)]);
+        let bus = Bus::new([Drive::new(Desk::at_power_up(disk, Channels::new(alloc)?, 8), party)]);
         Ok(Frail { bus, now: 1000 })
     }
 

@@ -4,7 +4,7 @@ ghost use Rattle.std.specs.Prelude.{◌≤◌};
 ghost use Rattle.cbm_host.specs.Engines.{channel_of};
 
 use crate::wired::{Wired, empty_disk};
-use cbm_drive::Pace;
+use cbm_drive::{Channels, Pace};
 use cbm_host::{Hosted, Request};
 use std::alloc::Global;
 use std::process::Abort;
@@ -119,7 +119,7 @@ fn bytes_are_taken_one_by_one(rt: HostRuntime) -> Result<(), Fail> {
     wired.asks(&rt, rt.alloc(), Request::Close(2))?;
     wired.asks(&rt, rt.alloc(), Request::Open(2, b"DATA,S,R"))?;
     let done = wired.asks(&rt, rt.alloc(), Request::Get(2, 1000))?;
-    let mut hosted = Hosted::new(empty_disk(rt.alloc())?, 8);
+    let mut hosted = Hosted::new(empty_disk(rt.alloc())?, Channels::new(rt.alloc())?, 8);
     hosted.carry_out(Request::Open(2, b"DATA,S,W"));
     hosted.carry_out(Request::Put(2, bytes.as_slice()));
     hosted.carry_out(Request::Close(2));

@@ -1,6 +1,6 @@
 // Drive 8 with an empty disk, and a host that asks it one request after another.
 
-use cbm_channel::Dos;
+use cbm_channel::{Channels, Dos};
 use cbm_d64::D64Disk;
 use cbm_drive::{Bus, Desk, Drive, Event, Pace, Party};
 use cbm_host::{Done, Request, perform, perform_at};
@@ -37,7 +37,7 @@ impl Wired {
     /// The same at this pace.
     pub fn at(rt: &impl Abort, alloc: Global, pace: Pace, reaction: u8) -> Result<Wired, Fail> {
         assert!(rt; reaction > 0);
-        let dos = Dos::new(empty_disk(alloc)?);
+        let dos = Dos::new(empty_disk(alloc)?, Channels::new(alloc)?);
         let device = 8;
         let party = Party {
             device,

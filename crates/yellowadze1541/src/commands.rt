@@ -13,7 +13,7 @@ ghost use Rattle.yellowadze1541.specs.Putting.{IsStatus};
 
 use crate::shapes::Said;
 use crate::sound::{image_of, sound_disk, told};
-use cbm_channel::{Dos, Status};
+use cbm_channel::{Channels, Dos, Status};
 use cbm_device::{DeviceRefusal, given, number};
 use cbm_image::kind_of;
 use cbm_medium::Steady;
@@ -51,6 +51,7 @@ pub(crate) fn unsaid() -> Said {
 /// The disk after a command was carried out by a drive at power up, and what the drive says then. The error is the drive's status.
 fn commanded<M: Steady + Drop>(
     medium: M,
+    channels: Channels,
     text: &[u8],
     status: &mut Said,
 ) -> Result<M, DeviceRefusal>
@@ -61,7 +62,7 @@ fn commanded<M: Steady + Drop>(
         (IsCommandRefusal after status.new) }
     ensures status { IfErr result IsStatus }
 {
-    let mut dos = Dos::new(medium);
+    let mut dos = Dos::new(medium, channels);
     dos.open(COMMANDS, text);
     *status = said(dos.status());
     told(dos.status())?;
@@ -82,7 +83,8 @@ pub(crate) fn with_command(
     ensures sound { MatchResult result (λ _. IsAccepted image.now × IsSound image.now) (IsUnchanged image.now) }
 {
     let disk = sound_disk(alloc, image)?;
-    let disk = commanded(disk, text, status)?;
+    let channels = Channels::new(alloc)?;
+    let disk = commanded(disk, channels, text, status)?;
     image_of(alloc, &disk, kind_of(image))
 }
 

@@ -9,7 +9,7 @@ ghost use Rattle.yellowadze1541.specs.Plays.{rooms, HandsOut, IsSignalPlay, IsUn
 use crate::drives::pace_with;
 use crate::shapes::Signal;
 use cbm_device::{DeviceRefusal, ImageDisk, number, play};
-use cbm_drive::{Change, Event, Line, Party, Way, Who};
+use cbm_drive::{Change, Channels, Event, Line, Party, Way, Who};
 use cbm_image::{Kind, kind_of};
 use std::alloc::Global;
 
@@ -168,7 +168,8 @@ fn played(
 {
     let changes = changes_of(alloc, signals)?;
     let disk = ImageDisk::open(alloc, image, false)?;
-    play(disk, party, changes.as_slice(), end, events)
+    let channels = Channels::new(alloc)?;
+    play(disk, channels, party, changes.as_slice(), end, events)
 }
 
 /// What was played is reported: how many events and bytes there are, and all of them, if the caller's rooms are large enough. Errors:

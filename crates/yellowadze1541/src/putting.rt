@@ -13,7 +13,7 @@ ghost use Rattle.yellowadze1541.specs.Putting.{after_file, after_files, ArePut, 
 
 use crate::shapes::File;
 use crate::sound::{image_of, sound_disk, told};
-use cbm_channel::Dos;
+use cbm_channel::{Channels, Dos};
 use cbm_device::{DeviceRefusal, given, number};
 use cbm_image::kind_of;
 use cbm_medium::Steady;
@@ -60,6 +60,7 @@ fn put_each<M: Steady>(
 /// The disk after these files were put, by a drive at power up. The error is the drive's status of the first one that isn't.
 fn put_on<M: Steady + Drop>(
     medium: M,
+    channels: Channels,
     files: &[File<'_>],
     put: &mut usize,
 ) -> Result<M, DeviceRefusal>
@@ -70,7 +71,7 @@ fn put_on<M: Steady + Drop>(
         (IsFileRefusal files.now m put.new) }
     ensures status { IfErr result IsStatus }
 {
-    let mut dos = Dos::new(medium);
+    let mut dos = Dos::new(medium, channels);
     put_each(&mut dos, files, put)?;
     Ok(dos.into_medium())
 }
@@ -90,7 +91,8 @@ pub(crate) fn with_files(
     ensures sound { MatchResult result (λ _. IsAccepted image.now × IsSound image.now) (IsUnchanged image.now) }
 {
     let disk = sound_disk(alloc, image)?;
-    let disk = put_on(disk, files, put)?;
+    let channels = Channels::new(alloc)?;
+    let disk = put_on(disk, channels, files, put)?;
     image_of(alloc, &disk, kind_of(image))
 }
 

@@ -2,7 +2,7 @@
 
 ghost use Rattle.std.specs.Prelude.{◌≤◌};
 
-use cbm_channel::Dos;
+use cbm_channel::{Channels, Dos};
 use cbm_direct::{Access, DirectDos};
 use cbm_medium::Medium;
 
@@ -15,10 +15,10 @@ pub enum Called<M: Medium> {
 
 impl<M: Medium> Called<M> {
     /// The drive at power up with this medium.
-    pub fn new(medium: M, direct: Option<Access>) -> Called<M> {
+    pub fn new(medium: M, channels: Channels, direct: Option<Access>) -> Called<M> {
         match direct {
-            Some(access) => Called::Direct(DirectDos::new(medium, access)),
-            None => Called::Plain(Dos::new(medium)),
+            Some(access) => Called::Direct(DirectDos::new(medium, channels, access)),
+            None => Called::Plain(Dos::new(medium, channels)),
         }
     }
 

@@ -1,6 +1,6 @@
 // The disk in the drive: looked at, kept over a new start, and exchanged.
 
-use crate::channel::Channel;
+use crate::channels::close_all;
 use crate::dos::Dos;
 use cbm_machine::{Code, Status, Telling};
 use cbm_volume::{Medium, Volume};
@@ -26,7 +26,7 @@ impl<M: Medium> Dos<M> {
         ensures stands { let now = M.seen self.old.medium in (d : Disk) → HoldsDisk now.tracks now.content d →
             Stands M.seen self.new (start d now.protected now.tracks) }
     {
-        self.channels = Channel::all_closed();
+        close_all(&mut self.channels);
         self.telling = Telling::new(Status::plain(Code::PowerUp));
         self.text = None;
     }
@@ -40,7 +40,7 @@ impl<M: Medium> Dos<M> {
         ensures stands { let now = M.seen medium in (d : Disk) → HoldsDisk now.tracks now.content d →
             Stands M.seen self.new (still_telling self.old.told (start d now.protected now.tracks)) }
     {
-        self.channels = Channel::all_closed();
+        close_all(&mut self.channels);
         self.text = None;
         self.volume = Volume::open(medium);
     }

@@ -5,9 +5,8 @@ ghost use Rattle.cbm_channel.specs.Loaded.{told_at as told_in, told_with};
 ghost use Rattle.cbm_channel.specs.Saved.{saved_told};
 ghost use Rattle.cbm_machine.specs.Statuses.{status_line};
 
-use crate::channel::Channel;
-use crate::channel::loading::load_all;
 use crate::channel::saving::save_all;
+use crate::channels::Channels;
 use crate::dos::Dos;
 use crate::gathered::saving::{gathered_at, save_gathered};
 use cbm_machine::{Code, Status, Telling};
@@ -66,19 +65,18 @@ impl<M: Medium> Dos<M> {
     {
         save_told(out, &self.telling)?;
         save_gathered(out, &self.text)?;
-        save_all(out, &self.channels)
+        save_all(out, self.channels.as_slice())
     }
 
     /// The drive with this medium that keeps what begins some bytes, and what follows that; None if it keeps nothing such.
-    pub fn load(medium: M, bytes: &[u8]) -> Option<(Dos<M>, &[u8])>
+    pub fn load(medium: M, channels: Channels, bytes: &[u8]) -> Option<(Dos<M>, &[u8])>
     where
         M: Drop,
         ensures { option_map (λ x. (x.0, x.1.now)) result ≡ dos_at medium (M.seen medium).tracks bytes.now }
     {
         let (telling, rest) = told_at(bytes)?;
         let (text, rest) = gathered_at(rest)?;
-        let mut channels = Channel::all_closed();
-        let rest = load_all(&mut channels, medium.tracks(), rest)?;
+        let (channels, rest) = channels.loaded(medium.tracks(), rest)?;
         let dos = Dos {
             volume: Volume::open(medium),
             channels,

@@ -7,7 +7,7 @@ use crate::image_disk::ImageDisk;
 use crate::image_disk::saving::parts_at;
 use crate::refusal::DeviceRefusal;
 use crate::room::given;
-use cbm_drive::Drive;
+use cbm_drive::{Channels, Drive};
 use cbm_image::Kind;
 use cbm_saved::{eight_at, opened, put_eight, sealed};
 use std::alloc::{AllocError, Global};
@@ -113,7 +113,8 @@ impl Device {
             return Err(DeviceRefusal::NoImage);
         };
         let disk = ImageDisk::with_parts(alloc, &parts)?;
-        let Some((drive, left)) = Drive::load(disk, rest) else {
+        let channels = Channels::new(alloc)?;
+        let Some((drive, left)) = Drive::load(disk, channels, rest) else {
             return Err(DeviceRefusal::NoImage);
         };
         if !left.is_empty() {

@@ -2,7 +2,7 @@
 
 use crate::addressee::Addressee;
 use crate::desk::Desk;
-use cbm_channel::Dos;
+use cbm_channel::{Channels, Dos};
 use cbm_medium::Medium;
 use std::alloc::AllocError;
 
@@ -23,13 +23,13 @@ impl<M: Medium> Desk<M> {
     }
 
     /// The same of bytes, over this medium, and what follows them; None if they are none of it.
-    pub fn load(medium: M, bytes: &[u8]) -> Option<(Desk<M>, &[u8])>
+    pub fn load(medium: M, channels: Channels, bytes: &[u8]) -> Option<(Desk<M>, &[u8])>
     where
         M: Drop,
         ensures { option_map (λ x. (x.0, x.1.now)) result ≡ desk_at medium (M.seen medium).tracks bytes.now }
     {
         let (addressee, rest) = Addressee::load(bytes)?;
-        let (dos, rest) = Dos::load(medium, rest)?;
+        let (dos, rest) = Dos::load(medium, channels, rest)?;
         Some((Desk { dos, addressee }, rest))
     }
 }

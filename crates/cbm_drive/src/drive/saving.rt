@@ -3,6 +3,7 @@
 use crate::desk::Desk;
 use crate::drive::Drive;
 use crate::seated::{port_at, save_port};
+use cbm_channel::Channels;
 use cbm_iec::{Lines, Machine};
 use cbm_medium::Medium;
 use std::alloc::AllocError;
@@ -23,13 +24,13 @@ impl<M: Medium> Drive<Desk<M>> {
     }
 
     /// The drive of bytes, with this medium, and what follows them; None if they are no drive.
-    pub fn load(medium: M, bytes: &[u8]) -> Option<(Drive<Desk<M>>, &[u8])>
+    pub fn load(medium: M, channels: Channels, bytes: &[u8]) -> Option<(Drive<Desk<M>>, &[u8])>
     where
         M: Drop,
         ensures { option_map (λ x. (x.0, x.1.now)) result ≡ seat_at medium (M.seen medium).tracks bytes.now }
     {
         let (port, rest) = port_at(bytes)?;
-        let (machine, rest) = Desk::load(medium, rest)?;
+        let (machine, rest) = Desk::load(medium, channels, rest)?;
         if port.party.device > 30 || port.party.reaction < 1 {
             return None;
         }

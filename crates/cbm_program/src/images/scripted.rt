@@ -10,13 +10,13 @@ ghost use Rattle.cbm_program.specs.Traces.{WritesTrace};
 
 use crate::fault::RunFault;
 use crate::line::ScriptLine;
-use crate::manner::Manner;
 use crate::session::run_requests;
+use crate::station::Station;
 use crate::watched::{Bench, DirectCable, PlainCable, change_watched, serve_watched};
 use crate::wires::{Stage, run_changes};
 use bus_traces::{Source, Watches};
 use cbm_d64::D64Disk;
-use cbm_drive::Pace;
+use cbm_direct_desk::Access;
 use cbm_g64::G64Disk;
 use cbm_host::Hosted;
 use cbm_image::DiskImage;
@@ -28,18 +28,17 @@ pub(crate) trait RunsScripts: DiskImage {
     /// Plays a script of line changes, after its first line.
     fn play<R: Read, W: Write>(
         self,
-        device: u8,
-        pace: Pace,
+        station: Station,
         lines: &mut Source<R>,
         writer: &mut W,
     ) -> Result<Self, RunFault>
-        requires { IsDevice device }
+        requires { IsDevice station.device }
         ensures played { (input : Option (List ℕ)) → TakesLine input (source_bytes_left R.remaining lines.old) (codes "lines") →
-            PlaysScript result (StartsFrom (Self.seen self)) (λ after. KeptBy (Self.seen after)) (party_of pace device) false
+            PlaysScript result (StartsFrom (Self.seen self)) (λ after. KeptBy (Self.seen after)) (party_of station.pace station.device) false
             input (W.contents writer.old) (W.contents writer.new) }
         // Whatever the drive represents:
         ensures wrote { (input : Option (List ℕ)) → TakesLine input (source_bytes_left R.remaining lines.old) (codes "lines") →
-            EndsAs result (WritesTrace (party_of pace device) input (W.contents writer.old) (W.contents writer.new)) }
+            EndsAs result (WritesTrace (party_of station.pace station.device) input (W.contents writer.old) (W.contents writer.new)) }
         ensures grows { AppendsMore (W.contents writer.old) (W.contents writer.new) }
         ensures same_tracks { IfOk result (λ after. (Self.seen after).tracks ≡ (Self.seen self).tracks) }
         ensures cause { IfErr result IsOfScript };
@@ -47,16 +46,15 @@ pub(crate) trait RunsScripts: DiskImage {
     /// Carries out a script of requests, after its first line.
     fn serve<R: Read, W: Write>(
         self,
-        device: u8,
-        pace: Pace,
+        station: Station,
         lines: &mut Source<R>,
         first: Option<ScriptLine>,
         writer: &mut W,
     ) -> Result<Self, RunFault>
         requires first { IfSome first LineIsInRange }
-        requires device { IsDevice device }
+        requires device { IsDevice station.device }
         ensures served { (input : Option (List ℕ)) → LineRead input (source_bytes_left R.remaining lines.old) 1 (Ok first) →
-            ServesScript result (StartsFrom (Self.seen self)) (λ after. KeptBy (Self.seen after)) pace false input
+            ServesScript result (StartsFrom (Self.seen self)) (λ after. KeptBy (Self.seen after)) station.pace false input
             (W.contents writer.old) (W.contents writer.new) }
         ensures grows { AppendsMore (W.contents writer.old) (W.contents writer.new) }
         ensures same_tracks { IfOk result (λ after. (Self.seen after).tracks ≡ (Self.seen self).tracks) }
@@ -65,154 +63,175 @@ pub(crate) trait RunsScripts: DiskImage {
     /// Carries out a script of requests as `serve` does, and hands on each event on the bus as it comes.
     fn watch<R: Read, W: Write, T: Watches>(
         self,
-        device: u8,
-        pace: Pace,
+        station: Station,
         lines: &mut Source<R>,
         first: Option<ScriptLine>,
         writer: &mut W,
         watcher: &mut T,
     ) -> Result<Self, RunFault>
         requires first { IfSome first LineIsInRange }
-        requires last { device ≤ 11 };
+        requires last { station.device ≤ 11 };
 
     /// Carries out a script of requests, after its first line, on a drive with direct access, and hands on each event on the bus.
     fn watch_direct<R: Read, W: Write, T: Watches>(
         self,
-        device: u8,
-        manner: Manner,
+        station: Station,
+        access: Access,
         lines: &mut Source<R>,
         first: Option<ScriptLine>,
         writer: &mut W,
         watcher: &mut T,
     ) -> Result<Self, RunFault>
         requires first { IfSome first LineIsInRange }
-        requires last { device ≤ 11 };
+        requires last { station.device ≤ 11 };
 
     /// Plays a script of line changes, after its first line, on a drive with direct access.
     fn change_direct<R: Read, W: Write>(
         self,
-        device: u8,
-        manner: Manner,
+        station: Station,
+        access: Access,
         lines: &mut Source<R>,
         writer: &mut W,
     ) -> Result<Self, RunFault>
-        requires { device ≤ 11 };
+        requires { station.device ≤ 11 };
 }
 
 impl RunsScripts for D64Disk {
     fn play<R: Read, W: Write>(
         self,
-        device: u8,
-        pace: Pace,
+        station: Station,
         lines: &mut Source<R>,
         writer: &mut W,
     ) -> Result<D64Disk, RunFault> {
-        run_changes(Stage::new(self, device, pace), device, pace, lines, writer)
+        let Station {
+            device,
+            pace,
+            channels,
+        } = station;
+        let stage = Stage::new(self, channels, device, pace);
+        run_changes(stage, device, pace, lines, writer)
     }
 
     fn serve<R: Read, W: Write>(
         self,
-        device: u8,
-        pace: Pace,
+        station: Station,
         lines: &mut Source<R>,
         first: Option<ScriptLine>,
         writer: &mut W,
     ) -> Result<D64Disk, RunFault> {
-        run_requests(Hosted::with_pace(self, device, pace), lines, first, writer)
+        let Station {
+            device,
+            pace,
+            channels,
+        } = station;
+        let hosted = Hosted::with_pace(self, channels, device, pace);
+        run_requests(hosted, lines, first, writer)
     }
 
     fn watch<R: Read, W: Write, T: Watches>(
         self,
-        device: u8,
-        pace: Pace,
+        station: Station,
         lines: &mut Source<R>,
         first: Option<ScriptLine>,
         writer: &mut W,
         watcher: &mut T,
     ) -> Result<D64Disk, RunFault> {
-        let bench = Bench::new(PlainCable::new(self, device, pace), device, pace);
+        let (device, pace) = (station.device, station.pace);
+        let bench = Bench::new(PlainCable::new(self, station), device, pace);
         serve_watched(bench, lines, first, writer, watcher)
     }
 
     fn watch_direct<R: Read, W: Write, T: Watches>(
         self,
-        device: u8,
-        manner: Manner,
+        station: Station,
+        access: Access,
         lines: &mut Source<R>,
         first: Option<ScriptLine>,
         writer: &mut W,
         watcher: &mut T,
     ) -> Result<D64Disk, RunFault> {
-        let bench = Bench::new(DirectCable::new(self, device, manner), device, manner.pace);
+        let (device, pace) = (station.device, station.pace);
+        let bench = Bench::new(DirectCable::new(self, station, access), device, pace);
         serve_watched(bench, lines, first, writer, watcher)
     }
 
     fn change_direct<R: Read, W: Write>(
         self,
-        device: u8,
-        manner: Manner,
+        station: Station,
+        access: Access,
         lines: &mut Source<R>,
         writer: &mut W,
     ) -> Result<D64Disk, RunFault> {
-        change_watched(DirectCable::new(self, device, manner), lines, writer)
+        change_watched(DirectCable::new(self, station, access), lines, writer)
     }
 }
 
 impl RunsScripts for G64Disk {
     fn play<R: Read, W: Write>(
         self,
-        device: u8,
-        pace: Pace,
+        station: Station,
         lines: &mut Source<R>,
         writer: &mut W,
     ) -> Result<G64Disk, RunFault> {
-        run_changes(Stage::new(self, device, pace), device, pace, lines, writer)
+        let Station {
+            device,
+            pace,
+            channels,
+        } = station;
+        let stage = Stage::new(self, channels, device, pace);
+        run_changes(stage, device, pace, lines, writer)
     }
 
     fn serve<R: Read, W: Write>(
         self,
-        device: u8,
-        pace: Pace,
+        station: Station,
         lines: &mut Source<R>,
         first: Option<ScriptLine>,
         writer: &mut W,
     ) -> Result<G64Disk, RunFault> {
-        run_requests(Hosted::with_pace(self, device, pace), lines, first, writer)
+        let Station {
+            device,
+            pace,
+            channels,
+        } = station;
+        let hosted = Hosted::with_pace(self, channels, device, pace);
+        run_requests(hosted, lines, first, writer)
     }
 
     fn watch<R: Read, W: Write, T: Watches>(
         self,
-        device: u8,
-        pace: Pace,
+        station: Station,
         lines: &mut Source<R>,
         first: Option<ScriptLine>,
         writer: &mut W,
         watcher: &mut T,
     ) -> Result<G64Disk, RunFault> {
-        let bench = Bench::new(PlainCable::new(self, device, pace), device, pace);
+        let (device, pace) = (station.device, station.pace);
+        let bench = Bench::new(PlainCable::new(self, station), device, pace);
         serve_watched(bench, lines, first, writer, watcher)
     }
 
     fn watch_direct<R: Read, W: Write, T: Watches>(
         self,
-        device: u8,
-        manner: Manner,
+        station: Station,
+        access: Access,
         lines: &mut Source<R>,
         first: Option<ScriptLine>,
         writer: &mut W,
         watcher: &mut T,
     ) -> Result<G64Disk, RunFault> {
-        let bench = Bench::new(DirectCable::new(self, device, manner), device, manner.pace);
+        let (device, pace) = (station.device, station.pace);
+        let bench = Bench::new(DirectCable::new(self, station, access), device, pace);
         serve_watched(bench, lines, first, writer, watcher)
     }
 
     fn change_direct<R: Read, W: Write>(
         self,
-        device: u8,
-        manner: Manner,
+        station: Station,
+        access: Access,
         lines: &mut Source<R>,
         writer: &mut W,
     ) -> Result<G64Disk, RunFault> {
-        change_watched(DirectCable::new(self, device, manner), lines, writer)
+        change_watched(DirectCable::new(self, station, access), lines, writer)
     }
 }

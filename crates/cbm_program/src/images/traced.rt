@@ -3,12 +3,14 @@ ghost use Rattle.std.specs.Prelude.{◌≡◌, true, IfOk};
 ghost use Rattle.cbm_program.specs.Starts.{IsDevice};
 
 use super::scripted::RunsScripts;
-use super::{Options, image_after, opened, print_check};
+use super::{Options, image_after, opened, print_check, station_of};
 use crate::fault::RunFault;
 use crate::manner::Manner;
 use crate::numbered::{Beginning, read_first};
+use crate::station::Station;
 use bus_traces::{Echo, Source, Watches};
 use cbm_d64::D64Disk;
+use cbm_direct_desk::Access;
 use cbm_drive::Pace;
 use cbm_g64::G64Disk;
 use cbm_image::{Kind, kind_of};
@@ -55,16 +57,10 @@ fn traced_image<I: RunsScripts + Drop, R: Read + Drop, W: Write, T: Watches>(
     ensures given { options.now.protected ≡ true → IfOk result (λ v. v.items ≡ image.now) }
 {
     let disk = opened::<I>(alloc, image, options.protected)?;
+    let station = station_of(alloc, options.device, pace)?;
     let volume = Volume::open(disk);
     print_check(&volume, options.check, writer)?;
-    let disk = traced_script(
-        volume.into_medium(),
-        options.device,
-        pace,
-        reader,
-        writer,
-        watcher,
-    )?;
+    let disk = traced_script(volume.into_medium(), station, reader, writer, watcher)?;
     image_after(alloc, &disk, image, options.protected)
 }
 
@@ -72,22 +68,19 @@ fn traced_image<I: RunsScripts + Drop, R: Read + Drop, W: Write, T: Watches>(
 /// script wrote.
 fn traced_script<M: RunsScripts + Drop, R: Read + Drop, W: Write, T: Watches>(
     medium: M,
-    device: u8,
-    pace: Pace,
+    station: Station,
     reader: R,
     writer: &mut W,
     watcher: &mut T,
 ) -> Result<M, RunFault>
-    requires { IsDevice device }
+    requires { IsDevice station.device }
 {
     let mut lines = Source::new(reader);
     match read_first(&mut lines)? {
-        Beginning::Requests(first) => {
-            medium.watch(device, pace, &mut lines, first, writer, watcher)
-        }
+        Beginning::Requests(first) => { medium.watch(station, &mut lines, first, writer, watcher) }
         Beginning::Changes => {
             let mut echo = Echo::new(&mut *writer, &mut *watcher);
-            medium.play(device, pace, &mut lines, &mut echo)
+            medium.play(station, &mut lines, &mut echo)
         }
     }
 }
@@ -130,12 +123,13 @@ fn direct_image<I: RunsScripts + Drop, R: Read + Drop, W: Write, T: Watches>(
     ensures given { options.now.protected ≡ true → IfOk result (λ v. v.items ≡ image.now) }
 {
     let disk = opened::<I>(alloc, image, options.protected)?;
+    let station = station_of(alloc, options.device, manner.pace)?;
     let volume = Volume::open(disk);
     print_check(&volume, options.check, writer)?;
     let disk = direct_script(
         volume.into_medium(),
-        options.device,
-        manner,
+        station,
+        manner.access,
         reader,
         writer,
         watcher,
@@ -146,22 +140,22 @@ fn direct_image<I: RunsScripts + Drop, R: Read + Drop, W: Write, T: Watches>(
 /// Runs a script on a drive with direct access.
 fn direct_script<M: RunsScripts + Drop, R: Read + Drop, W: Write, T: Watches>(
     medium: M,
-    device: u8,
-    manner: Manner,
+    station: Station,
+    access: Access,
     reader: R,
     writer: &mut W,
     watcher: &mut T,
 ) -> Result<M, RunFault>
-    requires { IsDevice device }
+    requires { IsDevice station.device }
 {
     let mut lines = Source::new(reader);
     match read_first(&mut lines)? {
         Beginning::Requests(first) => {
-            medium.watch_direct(device, manner, &mut lines, first, writer, watcher)
+            medium.watch_direct(station, access, &mut lines, first, writer, watcher)
         }
         Beginning::Changes => {
             let mut echo = Echo::new(&mut *writer, &mut *watcher);
-            medium.change_direct(device, manner, &mut lines, &mut echo)
+            medium.change_direct(station, access, &mut lines, &mut echo)
         }
     }
 }

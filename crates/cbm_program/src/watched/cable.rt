@@ -1,8 +1,8 @@
 //! A drive alone on a cable with a host, whatever its machine is.
 ghost use Rattle.std.specs.Prelude.{◌≡◌, ◌≤◌, ◌<◌, ◌^◌};
 
-use crate::manner::Manner;
-use cbm_direct_desk::{DirectDesk, disk_of, drive_with};
+use crate::station::Station;
+use cbm_direct_desk::{Access, DirectDesk, disk_of, drive_with};
 use cbm_drive::{Bus, Desk, Drive, Event, Pace, Party, Player};
 use cbm_host::Performer;
 use cbm_medium::Steady;
@@ -45,11 +45,16 @@ pub(crate) struct PlainCable<M: Steady> {
 }
 
 impl<M: Steady> PlainCable<M> {
-    /// A drive of this pace at power up with this medium.
-    pub(crate) fn new(medium: M, device: u8, pace: Pace) -> PlainCable<M>
-        requires { device ≤ 11 }
+    /// The drive at power up with this medium.
+    pub(crate) fn new(medium: M, station: Station) -> PlainCable<M>
+        requires { station.device ≤ 11 }
     {
-        let desk = Desk::at_power_up(medium, device).with_pace(pace);
+        let Station {
+            device,
+            pace,
+            channels,
+        } = station;
+        let desk = Desk::at_power_up(medium, channels, device).with_pace(pace);
         PlainCable {
             bus: Bus::new([Drive::new(desk, party_of(device, pace))]),
         }
@@ -87,11 +92,16 @@ pub(crate) struct DirectCable<M: Steady> {
 
 impl<M: Steady> DirectCable<M> {
     /// A drive at power up with this medium.
-    pub(crate) fn new(medium: M, device: u8, manner: Manner) -> DirectCable<M>
-        requires { device ≤ 11 }
+    pub(crate) fn new(medium: M, station: Station, access: Access) -> DirectCable<M>
+        requires { station.device ≤ 11 }
     {
+        let Station {
+            device,
+            pace,
+            channels,
+        } = station;
         DirectCable {
-            bus: bus_of(drive_with(medium, party_of(device, manner.pace), manner.access)),
+            bus: bus_of(drive_with(medium, channels, party_of(device, pace), access)),
         }
     }
 }

@@ -14,7 +14,7 @@ ghost use Rattle.cbm_drive.specs.KeptDesks.{KeptDesk};
 use crate::fault::RunFault;
 use crate::output::print;
 use bus_traces::event_text;
-use cbm_drive::{Bus, Change, Desk, Drive, Event, Pace, Party, Player, Who};
+use cbm_drive::{Bus, Change, Channels, Desk, Drive, Event, Pace, Party, Player, Who};
 use cbm_medium::Steady;
 use std::io::Write;
 
@@ -37,7 +37,7 @@ pub(crate) struct Stage<M: Steady> {
 
 impl<M: Steady> Stage<M> {
     /// A drive with this medium at power up, of this pace and with a device number below 31.
-    pub(crate) fn new(medium: M, device: u8, pace: Pace) -> Stage<M>
+    pub(crate) fn new(medium: M, channels: Channels, device: u8, pace: Pace) -> Stage<M>
         requires { device < 31 }
         ensures open { IsOpen result.player 0 }
         ensures at { StandsOn M.seen (M.seen medium) (party_of pace device) result.player result.bus }
@@ -45,7 +45,7 @@ impl<M: Steady> Stage<M> {
         ensures fresh { IsFresh desks.desk_shows (party_of pace device) result.player result.bus }
         ensures tracks { tracks_of_drives M.seen result.bus ≡ (M.seen medium).tracks ∷ [] }
     {
-        let desk = Desk::at_power_up(medium, device).with_pace(pace);
+        let desk = Desk::at_power_up(medium, channels, device).with_pace(pace);
         let party = Party {
             device,
             reaction: REACTION,

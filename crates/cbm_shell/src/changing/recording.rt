@@ -11,7 +11,7 @@ ghost use Rattle.cbm_shell.specs.Recording.{hear_records, after_records, AreReco
 use crate::changing::{require_sound, told};
 use crate::fault::ShellFault;
 use crate::images::{opened, saved};
-use cbm_channel::Dos;
+use cbm_channel::{Channels, Dos};
 use cbm_d64::D64Disk;
 use cbm_g64::G64Disk;
 use cbm_image::{DiskImage, Kind, kind_of};
@@ -65,14 +65,18 @@ fn record_on<M: Steady>(dos: &mut Dos<M>, file: Records<'_>) -> Result<(), Shell
 }
 
 /// A disk with a relative file more, if it is sound. Errors: `Unsound`; `Refused`.
-fn recorded<M: Steady + Drop>(medium: M, file: Records<'_>) -> Result<M, ShellFault>
+fn recorded<M: Steady + Drop>(
+    medium: M,
+    channels: Channels,
+    file: Records<'_>,
+) -> Result<M, ShellFault>
     ensures made { MakesRecords M.seen medium file.entry.text.now (map (λ r. r.now) file.entry.records.now) result }
     ensures sound { OnOk result (IsSoundDisk (M.seen medium).tracks (M.seen medium).content) }
     ensures same_tracks { IfOk result (λ after. (M.seen after).tracks ≡ (M.seen medium).tracks) }
 {
     let volume = Volume::open(medium);
     require_sound(&volume)?;
-    let mut dos = Dos::new(volume.into_medium());
+    let mut dos = Dos::new(volume.into_medium(), channels);
     record_on(&mut dos, file)?;
     Ok(dos.into_medium())
 }
@@ -91,7 +95,8 @@ fn put_records_in<I: DiskImage + Drop>(
     ensures opens { IfOk result (λ v. image_fault (kind_of image.now) v.items ≡ None) }
 {
     let disk = opened::<I>(alloc, image)?;
-    let disk = recorded(disk, file)?;
+    let channels = Channels::new(alloc)?;
+    let disk = recorded(disk, channels, file)?;
     saved(alloc, &disk)
 }
 

@@ -9,6 +9,7 @@ ghost use Rattle.cbm_shell.specs.Several.{HoldsAfter, ImageAfter, AreUndone};
 use crate::changing::{DiskChange, changed};
 use crate::fault::ShellFault;
 use crate::images::{opened, saved};
+use cbm_channel::Channels;
 use cbm_d64::D64Disk;
 use cbm_g64::G64Disk;
 use cbm_image::{DiskImage, Kind, kind_of};
@@ -16,7 +17,11 @@ use cbm_medium::Steady;
 use std::alloc::Global;
 
 /// Makes changes on a disk, one after another. Errors: as of the first change that isn't made.
-fn changed_by<M: Steady + Drop>(medium: M, changes: &[DiskChange<'_>]) -> Result<M, ShellFault>
+fn changed_by<M: Steady + Drop>(
+    alloc: Global,
+    medium: M,
+    changes: &[DiskChange<'_>],
+) -> Result<M, ShellFault>
     ensures made { let old = M.seen medium in (d : Disk) → HoldsDisk old.tracks old.content d → MatchResult result
         (λ after. HoldsAfter changes.now old.protected old.tracks d (M.seen after))
         (AreUndone changes.now old.protected old.tracks d) }
@@ -24,7 +29,8 @@ fn changed_by<M: Steady + Drop>(medium: M, changes: &[DiskChange<'_>]) -> Result
 {
     let mut disk = medium;
     for change in changes {
-        disk = changed(disk, change)?;
+        let channels = Channels::new(alloc)?;
+        disk = changed(disk, channels, change)?;
     }
     Ok(disk)
 }
@@ -43,7 +49,7 @@ fn changes_in<I: DiskImage + Drop>(
     ensures opens { IfOk result (λ v. image_fault (kind_of image.now) v.items ≡ None) }
 {
     let disk = opened::<I>(alloc, image)?;
-    let disk = changed_by(disk, changes)?;
+    let disk = changed_by(alloc, disk, changes)?;
     saved(alloc, &disk)
 }
 

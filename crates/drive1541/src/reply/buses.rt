@@ -4,7 +4,7 @@ ghost use Rattle.std.specs.Prelude.{◌≡◌, None};
 use super::failure::ReplyFailure;
 use super::seat::Seat;
 use bus_replies::{LineReader, reply};
-use cbm_bus::{AnyDisk, Desk, Drive, Party, drive_with, into_disk};
+use cbm_bus::{AnyDisk, Channels, Desk, Drive, Party, drive_with, into_disk};
 use drive_replies::HostedBus;
 use std::io;
 use std::io::{BufWriter, Write};
@@ -16,19 +16,24 @@ type DiskDrive = Drive<Desk<AnyDisk>>;
 #[derive(Drop)]
 struct Unit {
     disk: AnyDisk,
+    channels: Channels,
     party: Party,
 }
 
 impl Unit {
     /// The drive as it is switched on; its number is below 31, and its reaction above 0.
     fn switch_on(self) -> DiskDrive {
-        let Unit { disk, party } = self;
+        let Unit {
+            disk,
+            channels,
+            party,
+        } = self;
         let party = Party {
             device: party.device.clamp(8, 11),
             reaction: party.reaction.clamp(1, 60),
             pace: party.pace,
         };
-        drive_with(disk, party)
+        drive_with(disk, channels, party)
     }
 }
 
@@ -131,6 +136,7 @@ fn units_of(
     for (disk, seat) in disks.into_iter().zip(seats) {
         let unit = Unit {
             disk,
+            channels: Channels::new(rt.alloc()).map_err(|_| ReplyFailure::NoMemory)?,
             party: seat.party,
         };
         units.push(unit).map_err(|_| ReplyFailure::NoMemory)?;

@@ -4,7 +4,7 @@ ghost use Rattle.std.specs.Prelude.{◌≡◌, None};
 use super::failure::ReplyFailure;
 use super::seat::Seat;
 use bus_replies::{LineReader, reply};
-use cbm_bus::{AnyDisk, Drive, Party};
+use cbm_bus::{AnyDisk, Channels, Drive, Party};
 use cbm_direct_desk::{Access, DirectDesk, drive_with, into_disk};
 use drive_replies::HostedBus;
 use std::io;
@@ -17,6 +17,7 @@ type DiskDrive = Drive<DirectDesk<AnyDisk>>;
 #[derive(Drop)]
 struct Unit {
     disk: AnyDisk,
+    channels: Channels,
     party: Party,
     access: Access,
 }
@@ -26,6 +27,7 @@ impl Unit {
     fn switch_on(self) -> DiskDrive {
         let Unit {
             disk,
+            channels,
             party,
             access,
         } = self;
@@ -34,7 +36,7 @@ impl Unit {
             reaction: party.reaction.clamp(1, 60),
             pace: party.pace,
         };
-        drive_with(disk, party, access)
+        drive_with(disk, channels, party, access)
     }
 }
 
@@ -138,6 +140,7 @@ fn units_of(
     for (disk, seat) in disks.into_iter().zip(seats) {
         let unit = Unit {
             disk,
+            channels: Channels::new(rt.alloc()).map_err(|_| ReplyFailure::NoMemory)?,
             party: seat.party,
             access,
         };

@@ -2,7 +2,7 @@
 
 use crate::tests::cable::{Drives, FIRST};
 use bus_beside::{Loosely, Seat};
-use cbm_channel::Dos;
+use cbm_channel::{Channels, Dos};
 use cbm_d64::D64Disk;
 use cbm_drive::{Bus, Desk, Drive, Pace, Party};
 use std::alloc::Global;
@@ -47,8 +47,9 @@ fn desk(rt: &impl Abort, alloc: Global, image: &[u8], party: Party) -> Desk<D64D
     let disk = D64Disk::from_bytes(alloc, image, false)
         .ok()
         .expect(rt, "a disk");
+    let channels = Channels::new(alloc).ok().expect(rt, "memory");
     assert!(rt; party.device < 31);
-    Desk::new(Dos::new(disk), party.device).with_pace(party.pace)
+    Desk::new(Dos::new(disk, channels), party.device).with_pace(party.pace)
 }
 
 /// A drive with that disk, switched on.

@@ -9,7 +9,7 @@ use Rattle.cbm_program.specs.Timetables.{of_requests, of_changes}
 use Rattle.cbm_program.proofs.LinePrints.{if_err}
 use Rattle.cbm_program.proofs.OutputLemmas.{grows_none}
 use Rattle.cbm_program.proofs.GuardedRuns.{by_protection, kept-afterwards, kept-trace}
-use Rattle.cbm_program.proofs.Outcomes.{run-again, run-refused, refused-ends, refused-again, not-lacking}
+use Rattle.cbm_program.proofs.Outcomes.{run-again, run-refused, refused-ends, lacking-ends, lacking-image, refused-again, not-lacking}
 use Rattle.cbm_program.proofs.TraceLemmas.{traced-among, left-among, cut-among, cut-left, ends-saved}
 use Rattle.cbm_program.proofs.StartLemmas.{keeps-same, ended-among, ends-again, ends-any, checked-as, served-among, part-among, served-part, starts-as, holds-as, tracks-as}
 use Rattle.cbm_program.proofs.images.run_image.Goals as goal
@@ -40,6 +40,34 @@ returns-in_err-disk-clause-outcome g c =
       opens = (search rules);
       refused = (search rules);
       cause = (search rules);
+    }
+
+-- memory is lacking for the drive, and nothing is written
+pub returns-in_err-station-clause-requests : goal.returns-in_err-station-clause-requests
+returns-in_err-station-clause-requests g c =
+    let p = err_from_is_err_and c.from_residual-in_err-station.result c.from_residual-in_err-station.ensures.1 in
+    let run = run-refused c.from_residual-in_err-station.result _ _ (g.R.Read.remaining c.args.reader) (BeginsOn c.args.image.now c.args.options.now.protected) (λ saved m. ImageHolds (kind_of c.args.image.now) saved.items m.disk) c.args.pace c.args.options.now.device c.args.options.now.check (p.1 ∙ ap Err p.2)
+    (λ P. lacking-ends c.from_residual-in_err-station.result _ P (p.1 ∙ ap Err p.2) c.in_err-station.ensures.err) in
+    record { script = run.served; memory = λ e. inl (keeps-same _) }
+
+pub returns-in_err-station-clause-changes : goal.returns-in_err-station-clause-changes
+returns-in_err-station-clause-changes g c =
+    let p = err_from_is_err_and c.from_residual-in_err-station.result c.from_residual-in_err-station.ensures.1 in
+    let run = run-refused c.from_residual-in_err-station.result _ _ (g.R.Read.remaining c.args.reader) (BeginsOn c.args.image.now c.args.options.now.protected) (λ saved m. ImageHolds (kind_of c.args.image.now) saved.items m.disk) c.args.pace c.args.options.now.device c.args.options.now.check (p.1 ∙ ap Err p.2)
+    (λ P. lacking-ends c.from_residual-in_err-station.result _ P (p.1 ∙ ap Err p.2) c.in_err-station.ensures.err) in
+    record { script = run.played; wrote = run.wrote; memory = λ e. inl (keeps-same _) }
+
+pub returns-in_err-station-clause-outcome : goal.returns-in_err-station-clause-outcome
+returns-in_err-station-clause-outcome g c =
+    let p = err_from_is_err_and c.from_residual-in_err-station.result c.from_residual-in_err-station.ensures.1 in
+    record {
+      grows = grows_none _;
+      checked = λ e. lacking-ends c.from_residual-in_err-station.result _ _ (p.1 ∙ ap Err p.2) c.in_err-station.ensures.err;
+      guarded = (search rules);
+      same_tracks = (search rules);
+      opens = (search rules);
+      refused = (search rules);
+      cause = λ n e. lacking-image c.from_residual-in_err-station.result _ n _ (p.1 ∙ ap Err p.2) c.in_err-station.ensures.err e;
     }
 
 -- the run breaks off

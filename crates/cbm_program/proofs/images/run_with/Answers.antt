@@ -18,7 +18,7 @@ returns-in_err-print_check-clause-run g c =
     let p = err_from_is_err_and c.from_residual.result c.from_residual.ensures.1 in
     let check = c.in_err-print_check.ensures.check in
     let broken = subst (λ k. (d : Disk) → HoldsDisk (seen k).tracks (seen k).content d → AppendsPart (g.W.Write.contents c.args.writer.now) (g.W.Write.contents c.print_check.new.writer) (checked_text c.args.checks)) c.open-volume.ensures check.err in
-    run-cut c.from_residual.result _ _ _ (g.R.Read.remaining c.args.reader) (StartsFrom (seen c.args.medium)) (λ after. KeptBy (seen after)) c.args.pace c.args.device c.args.checks (p.1 ∙ ap Err p.2) check.fault (λ m s. broken s.0 s.1) check.grows
+    run-cut c.from_residual.result _ _ _ (g.R.Read.remaining c.args.reader) (StartsFrom (seen c.args.medium)) (λ after. KeptBy (seen after)) c.args.station.pace c.args.station.device c.args.checks (p.1 ∙ ap Err p.2) check.fault (λ m s. broken s.0 s.1) check.grows
 
 -- the script was run after it
 pub returns-clause-run : goal.returns-clause-run
@@ -28,8 +28,8 @@ returns-clause-run g c =
     let between = g.W.Write.contents c.print_check.new.writer in
     let check = c.in_ok-print_check.ensures.check in
     let said = said-start (seen c.args.medium) c.args.checks before between (subst (λ k. (d : Disk) → HoldsDisk (seen k).tracks (seen k).content d → Appends before between (checked_text c.args.checks)) c.open-volume.ensures check.ok) in
-    let run = subst (λ k. IsRun c.run_script.result (StartsFrom (seen k)) (λ after. KeptBy (seen after)) c.args.pace c.args.device false (g.R.Read.remaining c.args.reader) between (g.W.Write.contents c.run_script.new.writer)) (c.into_medium.ensures ∙ c.open-volume.ensures) c.run_script.ensures.run in
-    run-afterwards c.run_script.result before between _ (g.R.Read.remaining c.args.reader) (StartsFrom (seen c.args.medium)) (λ after. KeptBy (seen after)) c.args.pace c.args.device c.args.checks said (λ off. ap g.W.Write.contents (c.in_ok-print_check.ensures.none off)) check.grows run
+    let run = subst (λ k. IsRun c.run_script.result (StartsFrom (seen k)) (λ after. KeptBy (seen after)) c.args.station.pace c.args.station.device false (g.R.Read.remaining c.args.reader) between (g.W.Write.contents c.run_script.new.writer)) (c.into_medium.ensures ∙ c.open-volume.ensures) c.run_script.ensures.run in
+    run-afterwards c.run_script.result before between _ (g.R.Read.remaining c.args.reader) (StartsFrom (seen c.args.medium)) (λ after. KeptBy (seen after)) c.args.station.pace c.args.station.device c.args.checks said (λ off. ap g.W.Write.contents (c.in_ok-print_check.ensures.none off)) check.grows run
 
 -- the check's line comes first
 pub returns-clause-checked : goal.returns-clause-checked

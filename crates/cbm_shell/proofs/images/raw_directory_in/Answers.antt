@@ -8,9 +8,9 @@ use Rattle.cbm_shell.proofs.images.raw_directory_in.Goals as goal
 
 pub returns : goal.returns
 returns g c = λ d h.
-    let seen = g.I.Medium.seen c.in_ok-opened.field-0 in
-    let opened = c.in_ok-opened.ensures.ok in
+    let seen = g.I.Medium.seen c.in_ok-dos.dos.medium in
+    let opened = c.in_ok-dos.ensures.medium in
     let m = start d seen.protected seen.tracks in
-    let stands = c.new-dos.ensures.stands d (opened_holds c.args.image.now seen d opened h) in
+    let stands = c.in_ok-dos.ensures.stands d (opened_holds c.args.image.now seen d opened h) in
     subst (λ m. MatchResult c.raw_list.result (λ v. IsSent c.args.pattern.now m v.items) (IsHidden c.args.image.now c.args.pattern.now m)) (same_start c.args.image.now seen d opened)
     (or_open_fault c.args.image.now c.raw_list.result (λ v. IsSent c.args.pattern.now m v.items) (IsUnlisted c.args.pattern.now m) (λ n h. h) (c.raw_list.ensures.sent m stands))

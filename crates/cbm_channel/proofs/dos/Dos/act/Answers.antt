@@ -73,8 +73,8 @@ returns-in-Err-clause-leaves g c = record {
 
 pub returns-in-Ok-Some-clause-rest : goal.returns-in-Ok-Some-clause-rest
 returns-in-Ok-Some-clause-rest g c = λ m p h s.
-    let more : c.args.channel < length c.self.inside.channels = omega (arith, c.requires.channel, c.opened.ensures.only.count, ap (λ k. length k.channels) c.self.view_is) in
-    let now = set_now c.self.inside.channels c.say.new.self.channels c.args.channel c.in-Ok-Some.opened c.say.ensures.channels more in
+    let more : c.args.channel < length c.self.inside.channels.items = omega (arith, c.requires.channel, c.opened.ensures.only.count, ap (λ k. length k.channels) c.self.view_is) in
+    let now = set_now c.self.inside.channels.items c.say.new.self.channels c.args.channel c.in-Ok-Some.opened c.say.ensures.channels more in
     rest_seen g.M.Medium.seen c.args.self.now.medium c.say.new.self.medium c.args.self.now.medium c.opened.new.self.medium refl (c.say.ensures.medium ∙ ap (λ k. k.medium) c.self.view_is)
     (rest_more (opened_in (Ok c.in-Ok-Some.field-0)) _ _ (λ n free. ap (λ (o : Option Channel). opened_in (Ok o) n) c.in-Ok-Some.field-0-is ∙ sym (ap (λ (y : Channel). appends_on n y) now) ∙ free) (c.in-Ok-Some.ensures.opens.rest m p h s))
 
@@ -89,8 +89,8 @@ returns-in-Err-clause-rest g c = λ m p h s. rest_seen g.M.Medium.seen c.args.se
 
 pub returns-in-Ok-Some-clause-done : goal.returns-in-Ok-Some-clause-done
 returns-in-Ok-Some-clause-done g c = λ fine.
-    let more : c.args.channel < length c.self.inside.channels = omega (arith, c.requires.channel, c.opened.ensures.only.count, ap (λ k. length k.channels) c.self.view_is) in
-    let now = set_now c.self.inside.channels c.say.new.self.channels c.args.channel c.in-Ok-Some.opened c.say.ensures.channels more in
+    let more : c.args.channel < length c.self.inside.channels.items = omega (arith, c.requires.channel, c.opened.ensures.only.count, ap (λ k. length k.channels) c.self.view_is) in
+    let now = set_now c.self.inside.channels.items c.say.new.self.channels c.args.channel c.in-Ok-Some.opened c.say.ensures.channels more in
     let done = subst (λ (o : Option Channel). IfSome o (PlanWasDone c.args.plan (g.M.Medium.seen c.args.self.now.medium) (g.M.Medium.seen c.opened.new.self.medium))) c.in-Ok-Some.field-0-is c.in-Ok-Some.ensures.done in
     subst (λ v. PlanWasDone c.args.plan (g.M.Medium.seen c.args.self.now.medium) (g.M.Medium.seen v) (slice_index_or c.say.new.self.channels c.args.channel Closed)) (sym (c.say.ensures.medium ∙ ap (λ k. k.medium) c.self.view_is))
     (subst (PlanWasDone c.args.plan (g.M.Medium.seen c.args.self.now.medium) (g.M.Medium.seen c.opened.new.self.medium)) (sym now) done)

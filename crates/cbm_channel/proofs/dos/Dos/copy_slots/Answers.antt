@@ -34,9 +34,9 @@ returns-in-Ok-true-clause-goes g c = λ cut m olds is s.
     let here = c.self.inside in
     let old = g.M.Medium.seen here.volume in
     let new = g.M.Medium.seen c.copy.new.self in
-    let st : StandsBy (g.M.Medium.seen here.volume).content (g.M.Medium.seen here.volume).tracks (g.M.Medium.seen here.volume).protected here.channels here.telling here.text m = stood g.M.Medium.seen c.args.self.now _ m c.self.view_is s in
-    let uses = uses_of here.channels m.channels in
-    let idle = idle_15 here.channels m.channels c.self.invariant.count in
+    let st : StandsBy (g.M.Medium.seen here.volume).content (g.M.Medium.seen here.volume).tracks (g.M.Medium.seen here.volume).protected here.channels.items here.telling here.text m = stood g.M.Medium.seen c.args.self.now _ m c.self.view_is s in
+    let uses = uses_of here.channels.items m.channels in
+    let idle = idle_15 here.channels.items m.channels c.self.invariant.count in
     let kept = kind_kept m c.args.name.now olds c.args.kind c.args.slots.now is in
     let plain = kind_plain m c.args.name.now olds c.args.kind c.args.slots.now is in
     let can = all_copied m c.args.name.now olds c.args.kind c.args.slots.now is in
@@ -48,7 +48,7 @@ returns-in-Ok-true-clause-goes g c = λ cut m olds is s.
     let holds = subst (λ (x : List ℕ). HoldsNow old.tracks new.content (with_copy m.disk c.args.kind x c.args.slots.now) uses) name made in
     let unprotected : m.protected ≡ false =
     not_so m.protected (λ e. copy_shows m c.args.name.now olds c.args.kind c.args.slots.now is room old.tracks old.content new.content uses (c.in-Ok-true.ensures.guarded (sym st.same_protection ∙ e)) st.holds holds) in
-    let next = copy_stands m c.args.name.now olds c.args.kind c.args.slots.now is _ _ new.content _ here.channels here.telling here.text st holds in (
+    let next = copy_stands m c.args.name.now olds c.args.kind c.args.slots.now is _ _ new.content _ here.channels.items here.telling here.text st holds in (
       say Fine (with_disk (with_copy m.disk c.args.kind c.args.name.now c.args.slots.now) m),
       inl (sym (copy_done m c.args.name.now olds c.args.kind c.args.slots.now is room unprotected)),
       c.say.ensures.leads _ (renamed _ _ _ _ _ _ _ _ _ c.copy.ensures.only.tracks c.copy.ensures.only.protected next),
@@ -60,15 +60,15 @@ returns-in-Ok-false-clause-goes g c = λ cut m olds is s.
     let here = c.self.inside in
     let old = g.M.Medium.seen here.volume in
     let new = g.M.Medium.seen c.copy.new.self in
-    let st : StandsBy (g.M.Medium.seen here.volume).content (g.M.Medium.seen here.volume).tracks (g.M.Medium.seen here.volume).protected here.channels here.telling here.text m = stood g.M.Medium.seen c.args.self.now _ m c.self.view_is s in
-    let uses = uses_of here.channels m.channels in
-    let idle = idle_15 here.channels m.channels c.self.invariant.count in
+    let st : StandsBy (g.M.Medium.seen here.volume).content (g.M.Medium.seen here.volume).tracks (g.M.Medium.seen here.volume).protected here.channels.items here.telling here.text m = stood g.M.Medium.seen c.args.self.now _ m c.self.view_is s in
+    let uses = uses_of here.channels.items m.channels in
+    let idle = idle_15 here.channels.items m.channels c.self.invariant.count in
     let kept = kind_kept m c.args.name.now olds c.args.kind c.args.slots.now is in
     let plain = kind_plain m c.args.name.now olds c.args.kind c.args.slots.now is in
     let can = all_copied m c.args.name.now olds c.args.kind c.args.slots.now is in
     let none = subst (λ (b : Bool). MatchBool b (HoldsNow old.tracks new.content (with_copy m.disk c.args.kind (before_filler c.bytes.result.now) c.args.slots.now) uses) (HasNoRoomFor m.disk c.args.slots.now × (new.content ≡ old.content)))
     c.in-Ok-false.field-0-test (c.in-Ok-false.ensures.call m.disk uses 15 st.holds idle kept plain can).done in
-    let same = subst (λ x. StandsBy x (g.M.Medium.seen here.volume).tracks (g.M.Medium.seen here.volume).protected here.channels here.telling here.text m) (sym none.1) st in (
+    let same = subst (λ x. StandsBy x (g.M.Medium.seen here.volume).tracks (g.M.Medium.seen here.volume).protected here.channels.items here.telling here.text m) (sym none.1) st in (
       say DiskFull m,
       inl (sym (copy_full m c.args.name.now olds c.args.kind c.args.slots.now is none.0)),
       c.say-in-Ok-false.ensures.leads m (renamed _ _ _ _ _ _ _ _ _ c.copy.ensures.only.tracks c.copy.ensures.only.protected same),
@@ -80,9 +80,9 @@ returns-in-Err-clause-goes g c = λ cut m olds is s.
     let here = c.self.inside in
     let old = g.M.Medium.seen here.volume in
     let new = g.M.Medium.seen c.copy.new.self in
-    let st : StandsBy (g.M.Medium.seen here.volume).content (g.M.Medium.seen here.volume).tracks (g.M.Medium.seen here.volume).protected here.channels here.telling here.text m = stood g.M.Medium.seen c.args.self.now _ m c.self.view_is s in
-    let uses = uses_of here.channels m.channels in
-    let idle = idle_15 here.channels m.channels c.self.invariant.count in
+    let st : StandsBy (g.M.Medium.seen here.volume).content (g.M.Medium.seen here.volume).tracks (g.M.Medium.seen here.volume).protected here.channels.items here.telling here.text m = stood g.M.Medium.seen c.args.self.now _ m c.self.view_is s in
+    let uses = uses_of here.channels.items m.channels in
+    let idle = idle_15 here.channels.items m.channels c.self.invariant.count in
     let kept = kind_kept m c.args.name.now olds c.args.kind c.args.slots.now is in
     let plain = kind_plain m c.args.name.now olds c.args.kind c.args.slots.now is in
     let can = all_copied m c.args.name.now olds c.args.kind c.args.slots.now is in
@@ -93,18 +93,18 @@ returns-in-Err-clause-goes g c = λ cut m olds is s.
     let moved = λ (f : HasFailed old new). subst (λ v. HasFailed (g.M.Medium.seen v) (g.M.Medium.seen c.set.new.self.medium)) (ap (λ k. k.medium) c.self.view_is) (subst (λ v. HasFailed (g.M.Medium.seen here.volume) (g.M.Medium.seen v)) (sym c.set.ensures.medium) f) in
     elim (true_or_false m.protected) [
       | inl guarded ↦ (
-          let same = subst (λ x. StandsBy x (g.M.Medium.seen here.volume).tracks (g.M.Medium.seen here.volume).protected here.channels here.telling here.text m) (sym (c.in-Err.ensures.guarded (sym st.same_protection ∙ guarded))) st in (
+          let same = subst (λ x. StandsBy x (g.M.Medium.seen here.volume).tracks (g.M.Medium.seen here.volume).protected here.channels.items here.telling here.text m) (sym (c.in-Err.ensures.guarded (sym st.same_protection ∙ guarded))) st in (
             with_status c.from.result m,
             elim cause [
               | inl x ↦ inl (ap (λ y. with_status y m) (protected_status c.in-Err.trouble c.from.result c.from.ensures x.1) ∙ sym (copy_guarded m c.args.name.now olds c.args.kind c.args.slots.now is room guarded))
-              | inr f ↦ inr (moved f, stopped_at_once _ _ new.content _ here.channels here.telling here.text m st (answered m (copy c.args.name.now olds m)) c.in-Err.trouble c.from.result c.self.invariant.count c.from.ensures)
+              | inr f ↦ inr (moved f, stopped_at_once _ _ new.content _ here.channels.items here.telling here.text m st (answered m (copy c.args.name.now olds m)) c.in-Err.trouble c.from.result c.self.invariant.count c.from.ensures)
             ],
             c.set.ensures.leads m (renamed _ _ _ _ _ _ _ _ _ c.copy.ensures.only.tracks c.copy.ensures.only.protected same),
           ))
       | inr unprotected ↦ (
           let failed = failed_by old new c.in-Err.trouble m.protected st.same_protection unprotected cause in
           let stop = subst (λ (x : List ℕ). Stopped old.tracks new.content m.disk (with_copy m.disk c.args.kind x c.args.slots.now) uses) name (c.in-Err.ensures.call m.disk uses 15 st.holds idle kept plain can).stopped in
-          let next = copy_cut m c.args.name.now olds c.args.kind c.args.slots.now is _ _ new.content _ here.channels here.telling here.text st room unprotected stop in (
+          let next = copy_cut m c.args.name.now olds c.args.kind c.args.slots.now is _ _ new.content _ here.channels.items here.telling here.text st room unprotected stop in (
             with_status c.from.result next.0,
             inr (moved failed, next.1 c.in-Err.trouble c.from.result c.self.invariant.count c.from.ensures),
             c.set.ensures.leads next.0 (renamed _ _ _ _ _ _ _ _ _ c.copy.ensures.only.tracks c.copy.ensures.only.protected next.2),
@@ -144,9 +144,9 @@ returns-in-Err-clause-leaves g c = record {
 pub returns-in-Ok-true-clause-rest : goal.returns-in-Ok-true-clause-rest
 returns-in-Ok-true-clause-rest g c = λ m olds is s.
     let here = c.self.inside in
-    let st : StandsBy (g.M.Medium.seen here.volume).content (g.M.Medium.seen here.volume).tracks (g.M.Medium.seen here.volume).protected here.channels here.telling here.text m = stood g.M.Medium.seen c.args.self.now _ m c.self.view_is s in
-    let uses = uses_of here.channels m.channels in
-    let idle = idle_15 here.channels m.channels c.self.invariant.count in
+    let st : StandsBy (g.M.Medium.seen here.volume).content (g.M.Medium.seen here.volume).tracks (g.M.Medium.seen here.volume).protected here.channels.items here.telling here.text m = stood g.M.Medium.seen c.args.self.now _ m c.self.view_is s in
+    let uses = uses_of here.channels.items m.channels in
+    let idle = idle_15 here.channels.items m.channels c.self.invariant.count in
     let kept = kind_kept m c.args.name.now olds c.args.kind c.args.slots.now is in
     let plain = kind_plain m c.args.name.now olds c.args.kind c.args.slots.now is in
     let can = all_copied m c.args.name.now olds c.args.kind c.args.slots.now is in
@@ -156,9 +156,9 @@ returns-in-Ok-true-clause-rest g c = λ m olds is s.
 pub returns-in-Ok-false-clause-rest : goal.returns-in-Ok-false-clause-rest
 returns-in-Ok-false-clause-rest g c = λ m olds is s.
     let here = c.self.inside in
-    let st : StandsBy (g.M.Medium.seen here.volume).content (g.M.Medium.seen here.volume).tracks (g.M.Medium.seen here.volume).protected here.channels here.telling here.text m = stood g.M.Medium.seen c.args.self.now _ m c.self.view_is s in
-    let uses = uses_of here.channels m.channels in
-    let idle = idle_15 here.channels m.channels c.self.invariant.count in
+    let st : StandsBy (g.M.Medium.seen here.volume).content (g.M.Medium.seen here.volume).tracks (g.M.Medium.seen here.volume).protected here.channels.items here.telling here.text m = stood g.M.Medium.seen c.args.self.now _ m c.self.view_is s in
+    let uses = uses_of here.channels.items m.channels in
+    let idle = idle_15 here.channels.items m.channels c.self.invariant.count in
     let kept = kind_kept m c.args.name.now olds c.args.kind c.args.slots.now is in
     let plain = kind_plain m c.args.name.now olds c.args.kind c.args.slots.now is in
     let can = all_copied m c.args.name.now olds c.args.kind c.args.slots.now is in
@@ -168,9 +168,9 @@ returns-in-Ok-false-clause-rest g c = λ m olds is s.
 pub returns-in-Err-clause-rest : goal.returns-in-Err-clause-rest
 returns-in-Err-clause-rest g c = λ m olds is s.
     let here = c.self.inside in
-    let st : StandsBy (g.M.Medium.seen here.volume).content (g.M.Medium.seen here.volume).tracks (g.M.Medium.seen here.volume).protected here.channels here.telling here.text m = stood g.M.Medium.seen c.args.self.now _ m c.self.view_is s in
-    let uses = uses_of here.channels m.channels in
-    let idle = idle_15 here.channels m.channels c.self.invariant.count in
+    let st : StandsBy (g.M.Medium.seen here.volume).content (g.M.Medium.seen here.volume).tracks (g.M.Medium.seen here.volume).protected here.channels.items here.telling here.text m = stood g.M.Medium.seen c.args.self.now _ m c.self.view_is s in
+    let uses = uses_of here.channels.items m.channels in
+    let idle = idle_15 here.channels.items m.channels c.self.invariant.count in
     let kept = kind_kept m c.args.name.now olds c.args.kind c.args.slots.now is in
     let plain = kind_plain m c.args.name.now olds c.args.kind c.args.slots.now is in
     let can = all_copied m c.args.name.now olds c.args.kind c.args.slots.now is in

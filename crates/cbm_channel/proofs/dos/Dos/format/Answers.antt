@@ -39,17 +39,17 @@ pub returns-in-Ok-clause-goes : goal.returns-in-Ok-clause-goes
 returns-in-Ok-clause-goes g c = λ whole m s.
     let here = c.self.inside in
     let new = g.M.Medium.seen c.new_disk.new.self in
-    let st : StandsBy (g.M.Medium.seen here.volume).content (g.M.Medium.seen here.volume).tracks (g.M.Medium.seen here.volume).protected here.channels here.telling here.text m = stood g.M.Medium.seen c.args.self.now _ m c.self.view_is s in
+    let st : StandsBy (g.M.Medium.seen here.volume).content (g.M.Medium.seen here.volume).tracks (g.M.Medium.seen here.volume).protected here.channels.items here.telling here.text m = stood g.M.Medium.seen c.args.self.now _ m c.self.view_is s in
     let shut : any_open m ≡ false = sym (c.is_any_open.ensures m s) ∙ c.if-is_any_open.false in
-    let idle : (k : ℕ) → uses_of here.channels m.channels k ≡ Idle = all_idle here.channels m.channels st.each shut in
+    let idle : (k : ℕ) → uses_of here.channels.items m.channels k ≡ Idle = all_idle here.channels.items m.channels st.each shut in
     let unprotected : m.protected ≡ false = s.same_protection ∙ ap (λ v. (g.M.Medium.seen v).protected) (sym c.volume.ensures) ∙ sym c.is_protected.ensures ∙ c.if-is_protected.false in
     let tracks = sym st.same_tracks in
-    let holds = subst (λ x. HoldsNow (g.M.Medium.seen here.volume).tracks new.content x (uses_of here.channels m.channels))
-    (λ i. new_disk (tracks i) (c.bytes.ensures.value i) c.args.id m.disk) (c.in-Ok.ensures.made m.disk (uses_of here.channels m.channels) st.holds idle) in
-    let next = new_stands _ _ new.content _ here.channels here.telling here.text m st shut c.args.title.now c.args.id holds in
+    let holds = subst (λ x. HoldsNow (g.M.Medium.seen here.volume).tracks new.content x (uses_of here.channels.items m.channels))
+    (λ i. new_disk (tracks i) (c.bytes.ensures.value i) c.args.id m.disk) (c.in-Ok.ensures.made m.disk (uses_of here.channels.items m.channels) st.holds idle) in
+    let next = new_stands _ _ new.content _ here.channels.items here.telling here.text m st shut c.args.title.now c.args.id holds in
     let kept = new_keeps c.new_disk.result c.args.id (g.M.Medium.seen here.volume) new c.new_disk.ensures.only in (
       say Fine (with_disk (new_disk m.tracks c.args.title.now c.args.id m.disk) m),
-      inl (sym (new_done _ _ new.content _ here.channels here.telling here.text m st shut c.args.title.now c.args.id unprotected)),
+      inl (sym (new_done _ _ new.content _ here.channels.items here.telling here.text m st shut c.args.title.now c.args.id unprotected)),
       c.say-in-Ok.ensures.leads _ (renamed _ _ _ _ _ _ _ _ _ kept.0 kept.1 next),
     )
 
@@ -58,9 +58,9 @@ pub returns-in-Err-clause-goes : goal.returns-in-Err-clause-goes
 returns-in-Err-clause-goes g c = λ whole m s.
     let here = c.self.inside in
     let new = g.M.Medium.seen c.new_disk.new.self in
-    let st : StandsBy (g.M.Medium.seen here.volume).content (g.M.Medium.seen here.volume).tracks (g.M.Medium.seen here.volume).protected here.channels here.telling here.text m = stood g.M.Medium.seen c.args.self.now _ m c.self.view_is s in
+    let st : StandsBy (g.M.Medium.seen here.volume).content (g.M.Medium.seen here.volume).tracks (g.M.Medium.seen here.volume).protected here.channels.items here.telling here.text m = stood g.M.Medium.seen c.args.self.now _ m c.self.view_is s in
     let unprotected : m.protected ≡ false = s.same_protection ∙ ap (λ v. (g.M.Medium.seen v).protected) (sym c.volume.ensures) ∙ sym c.is_protected.ensures ∙ c.if-is_protected.false in
-    let failed = failed_by (g.M.Medium.seen here.volume) new c.in-Err.trouble m.protected st.same_protection unprotected (c.in-Err.ensures.cause m.disk (uses_of here.channels m.channels) st.holds) in
+    let failed = failed_by (g.M.Medium.seen here.volume) new c.in-Err.trouble m.protected st.same_protection unprotected (c.in-Err.ensures.cause m.disk (uses_of here.channels.items m.channels) st.holds) in
     absurd (whole (subst (λ v. HasFailed (g.M.Medium.seen v) (g.M.Medium.seen c.set.new.self.medium)) (ap (λ k. k.medium) c.self.view_is) (subst (λ v. HasFailed (g.M.Medium.seen here.volume) (g.M.Medium.seen v)) (sym c.set.ensures.medium) failed)))
 
 -- ---- what is refused

@@ -8,4 +8,4 @@ use Rattle.cbm_channel.proofs.dos.Dos.in_use.Goals as goal
 pub returns : goal.returns
 returns g c = λ m s.
     let st = stood g.M.Medium.seen _ _ m c.self.view_is s in
-    c.any_uses.ensures ∙ ap (list_any (uses_on c.args.slot)) c.as_slice.ensures ∙ sym (any_uses_same c.args.slot _ m.channels st.each)
+    c.any_uses.ensures ∙ ap (list_any (uses_on c.args.slot)) c.as_slice.ensures.value ∙ sym (any_uses_same c.args.slot _ m.channels st.each)

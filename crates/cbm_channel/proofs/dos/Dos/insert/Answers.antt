@@ -1,5 +1,6 @@
-use Rattle.std.proofs.Common.{sym, ap, subst}
-use Rattle.std.specs.Prelude.{None}
+use Rattle.std.proofs.Common.{sym, ap, subst, ◌∙◌}
+use Rattle.std.specs.Prelude.{None, replicate}
+use Rattle.cbm_channel.specs.declared.channel.Channel.TheVariants.{Closed}
 use Rattle.cbm_machine.specs.Machines.{start}
 use Rattle.cbm_machine.specs.Told.{ToldStatus}
 use Rattle.cbm_channel.specs.Standing.{StandsBy}
@@ -13,6 +14,6 @@ returns-clause-stands g c = λ d h.
     let seen = g.M.Medium.seen in
     let new = seen c.args.medium in
     let told : ToldStatus = c.self.inside.telling in
-    let stands = stands_telling new.content new.tracks new.protected d c.all_closed-self-inside.result told c.all_closed-self-inside.ensures h in
-    subst (λ (t : ToldStatus). StandsBy (seen c.open.result).content (seen c.open.result).tracks (seen c.open.result).protected c.all_closed-self-inside.result told None (still_telling t (start d new.protected new.tracks))) (ap (λ k. k.told) c.self.view_is)
-    (subst (λ x. StandsBy (seen x).content (seen x).tracks (seen x).protected c.all_closed-self-inside.result told None (still_telling told (start d new.protected new.tracks))) (sym c.open.ensures) stands)
+    let stands = stands_telling new.content new.tracks new.protected d c.close_all.new.channels.items told (c.close_all.ensures ∙ ap (λ n. replicate n Closed) c.self.invariant.count) h in
+    subst (λ (t : ToldStatus). StandsBy (seen c.open.result).content (seen c.open.result).tracks (seen c.open.result).protected c.close_all.new.channels.items told None (still_telling t (start d new.protected new.tracks))) (ap (λ k. k.told) c.self.view_is)
+    (subst (λ x. StandsBy (seen x).content (seen x).tracks (seen x).protected c.close_all.new.channels.items told None (still_telling told (start d new.protected new.tracks))) (sym c.open.ensures) stands)

@@ -8,4 +8,4 @@ use Rattle.cbm_channel.proofs.dos.Dos.is_any_open.Goals as goal
 pub returns : goal.returns
 returns g c = λ m s.
     let st = stood g.M.Medium.seen _ _ m c.self.view_is s in
-    c.any_open.ensures ∙ ap (list_any is_channel_open) c.as_slice.ensures ∙ sym (any_open_same _ m.channels st.each)
+    c.any_open.ensures ∙ ap (list_any is_channel_open) c.as_slice.ensures.value ∙ sym (any_open_same _ m.channels st.each)

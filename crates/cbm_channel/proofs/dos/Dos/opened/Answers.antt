@@ -113,9 +113,9 @@ returns-in_ok-reader-in-ReadFile-clause-opens g c = record {
         tt,
         subst (λ d. HoldsNow (g.M.Medium.seen c.args.self.now.medium).tracks (g.M.Medium.seen c.args.self.now.medium).content d (with_use (uses_of c.args.self.now.channels m.channels) ch (use_of (File c.in-ReadFile.found.slot c.in_ok-reader-in-ReadFile.reader) (opened_by m.disk p)))) (sym disk)
             (subst (λ k. HoldsNow (g.M.Medium.seen k.medium).tracks (g.M.Medium.seen k.medium).content m.disk (with_use (uses_of k.channels m.channels) ch (use_of (File c.in-ReadFile.found.slot c.in_ok-reader-in-ReadFile.reader) (opened_by m.disk p)))) c.self.view_is
-            (reads_as (g.M.Medium.seen c.self.inside.volume).tracks (g.M.Medium.seen c.self.inside.volume).content m.disk p x.0 c.in-ReadFile.found.slot c.in_ok-reader-in-ReadFile.reader (uses_of c.self.inside.channels m.channels) ch x.1 x.2.number
-            (c.in_ok-reader-in-ReadFile.ensures.reads m.disk (uses_of c.self.inside.channels m.channels) ch x.0 (bytes_in (body_at m.disk x.0)) st.holds x.2.stands x.2.has
-            (λ k. unwritten_at x.0 c.self.inside.channels m.channels k st.each (λ j. none_passes (machine.writes x.0) refl m.channels j x.2.unwritten))))),
+            (reads_as (g.M.Medium.seen c.self.inside.volume).tracks (g.M.Medium.seen c.self.inside.volume).content m.disk p x.0 c.in-ReadFile.found.slot c.in_ok-reader-in-ReadFile.reader (uses_of c.self.inside.channels.items m.channels) ch x.1 x.2.number
+            (c.in_ok-reader-in-ReadFile.ensures.reads m.disk (uses_of c.self.inside.channels.items m.channels) ch x.0 (bytes_in (body_at m.disk x.0)) st.holds x.2.stands x.2.has
+            (λ k. unwritten_at x.0 c.self.inside.channels.items m.channels k st.each (λ j. none_passes (machine.writes x.0) refl m.channels j x.2.unwritten))))),
       );
   stopped = (search rules);
   rest = λ m p h s. rest_itself _ _ refl;
@@ -127,14 +127,14 @@ returns-in_default-clause-opens g c = record {
   opened = λ m p ch h s idle.
       let st = stood g.M.Medium.seen _ _ m c.self.view_is s in
       let x = writable _ _ m p c.args.plan c.in-WriteFile.kind c.in-WriteFile.name h c.in-WriteFile.is in
-      let none = match_none _ _ _ c.in_default.not-Some ((c.in_ok-writer-in-WriteFile.ensures.call m.disk (uses_of c.self.inside.channels m.channels) st.holds).done ch
+      let none = match_none _ _ _ c.in_default.not-Some ((c.in_ok-writer-in-WriteFile.ensures.call m.disk (uses_of c.self.inside.channels.items m.channels) st.holds).done ch
       (subst (λ k. uses_of k.channels m.channels ch ≡ Idle) (sym c.self.view_is) idle) (not_del _ x.1.kept) x.1.plain) in
       absurd (has_place m.disk x.1.block x.1.place none.0);
   stopped = (search rules);
   rest = λ m p h s.
       let st = stood g.M.Medium.seen _ _ m c.self.view_is s in
-      let uses = uses_of c.self.inside.channels m.channels in
-      let idle : uses 15 ≡ Idle = idle_past c.self.inside.channels m.channels c.self.invariant.count in
+      let uses = uses_of c.self.inside.channels.items m.channels in
+      let idle : uses 15 ≡ Idle = idle_past c.self.inside.channels.items m.channels c.self.invariant.count in
       let x = writable _ _ m p c.args.plan c.in-WriteFile.kind c.in-WriteFile.name h c.in-WriteFile.is in
       let call = c.begin_write.ensures.call m.disk uses st.holds in
       rest_seen g.M.Medium.seen c.args.self.now.medium c.begin_write.new.self c.self.inside.volume c.begin_write.new.self (ap (λ k. k.medium) c.self.view_is) refl
@@ -147,16 +147,16 @@ returns-in-Some-clause-opens g c = record {
   opened = λ m p ch h s idle.
       let st = stood g.M.Medium.seen _ _ m c.self.view_is s in
       let x = writable _ _ m p c.args.plan c.in-WriteFile.kind c.in-WriteFile.name h c.in-WriteFile.is in
-      let begun = match_some _ _ _ _ c.in-Some.is ((c.in_ok-writer-in-WriteFile.ensures.call m.disk (uses_of c.self.inside.channels m.channels) st.holds).done ch
+      let begun = match_some _ _ _ _ c.in-Some.is ((c.in_ok-writer-in-WriteFile.ensures.call m.disk (uses_of c.self.inside.channels.items m.channels) st.holds).done ch
       (subst (λ k. uses_of k.channels m.channels ch ≡ Idle) (sym c.self.view_is) idle) (not_del _ x.1.kept) x.1.plain) in
       let disk = ap (disk_opened m.disk) x.0 ∙ ap (λ n. with_file m.disk (unclosed c.in-WriteFile.kind n) 1) (sym x.1.cut ∙ ap before_filler (sym c.bytes.ensures.value)) in
       subst (λ k. IsOpened (g.M.Medium.seen k.medium).tracks (g.M.Medium.seen c.begin_write.new.self).content m ch p (uses_of k.channels m.channels) (Some (code.Writing c.in-Some.writer false))) c.self.view_is
-      (begins_as _ _ m p _ (uses_of c.self.inside.channels m.channels) ch (new_slot m.disk) false [] 1 c.in-Some.writer (ap (opened_by m.disk) x.0) disk begun);
+      (begins_as _ _ m p _ (uses_of c.self.inside.channels.items m.channels) ch (new_slot m.disk) false [] 1 c.in-Some.writer (ap (opened_by m.disk) x.0) disk begun);
   stopped = (search rules);
   rest = λ m p h s.
       let st = stood g.M.Medium.seen _ _ m c.self.view_is s in
-      let uses = uses_of c.self.inside.channels m.channels in
-      let idle : uses 15 ≡ Idle = idle_past c.self.inside.channels m.channels c.self.invariant.count in
+      let uses = uses_of c.self.inside.channels.items m.channels in
+      let idle : uses 15 ≡ Idle = idle_past c.self.inside.channels.items m.channels c.self.invariant.count in
       let x = writable _ _ m p c.args.plan c.in-WriteFile.kind c.in-WriteFile.name h c.in-WriteFile.is in
       let call = c.begin_write.ensures.call m.disk uses st.holds in
       rest_seen g.M.Medium.seen c.args.self.now.medium c.begin_write.new.self c.self.inside.volume c.begin_write.new.self (ap (λ k. k.medium) c.self.view_is) refl
@@ -171,17 +171,17 @@ returns-in_err-writer-in-AppendFile-clause-opens g c = record {
   stopped = λ m p h s.
       let st = stood g.M.Medium.seen _ _ m c.self.view_is s in
       let x = appendable _ _ m p c.args.plan c.in-AppendFile.found (subst (λ k. PlannedAs (g.M.Medium.seen k.medium).tracks (g.M.Medium.seen k.medium).content m (Ok p) (Ok c.args.plan)) (sym c.self.view_is) h) c.in-AppendFile.is in
-      let can = can_be c.in-AppendFile.found.slot c.self.inside.channels m x.1.file st.each x.1.in_slot x.1.closed x.1.plain x.1.unused in
+      let can = can_be c.in-AppendFile.found.slot c.self.inside.channels.items m x.1.file st.each x.1.in_slot x.1.closed x.1.plain x.1.unused in
       let failed = failed_by (g.M.Medium.seen c.self.inside.volume) (g.M.Medium.seen c.begin_append.new.self) c.in_err-writer-in-AppendFile.field-0.0 m.protected st.same_protection x.1.unprotected
-      (c.in_err-writer-in-AppendFile.ensures.begun m.disk (uses_of c.self.inside.channels m.channels) st.holds x.1.file can x.1.stands) in
+      (c.in_err-writer-in-AppendFile.ensures.begun m.disk (uses_of c.self.inside.channels.items m.channels) st.holds x.1.file can x.1.stands) in
       on_err _ _ (subst (λ k. Stopped (g.M.Medium.seen k.medium).tracks (g.M.Medium.seen c.begin_append.new.self).content m.disk (disk_opened m.disk p) (uses_of k.channels m.channels) × HasFailed (g.M.Medium.seen k.medium) (g.M.Medium.seen c.begin_append.new.self)) c.self.view_is
       (nothing_begun _ _ _ _ _ _ c.in_err-writer-in-AppendFile.ensures.err st.holds, failed));
   rest = λ m p h s.
       let st = stood g.M.Medium.seen _ _ m c.self.view_is s in
-      let uses = uses_of c.self.inside.channels m.channels in
-      let idle : uses 15 ≡ Idle = idle_past c.self.inside.channels m.channels c.self.invariant.count in
+      let uses = uses_of c.self.inside.channels.items m.channels in
+      let idle : uses 15 ≡ Idle = idle_past c.self.inside.channels.items m.channels c.self.invariant.count in
       let x = appendable _ _ m p c.args.plan c.in-AppendFile.found (subst (λ k. PlannedAs (g.M.Medium.seen k.medium).tracks (g.M.Medium.seen k.medium).content m (Ok p) (Ok c.args.plan)) (sym c.self.view_is) h) c.in-AppendFile.is in
-      let can = can_be c.in-AppendFile.found.slot c.self.inside.channels m x.1.file st.each x.1.in_slot x.1.closed x.1.plain x.1.unused in
+      let can = can_be c.in-AppendFile.found.slot c.self.inside.channels.items m x.1.file st.each x.1.in_slot x.1.closed x.1.plain x.1.unused in
       rest_seen g.M.Medium.seen c.args.self.now.medium c.begin_append.new.self c.self.inside.volume c.begin_append.new.self (ap (λ k. k.medium) c.self.view_is) refl (rest_same _ _ c.begin_append.ensures.only.tracks c.in_err-writer-in-AppendFile.ensures.err);
 }
 
@@ -190,18 +190,18 @@ returns-in_ok-writer-in-AppendFile-clause-opens g c = record {
   opened = λ m p ch h s idle.
       let st = stood g.M.Medium.seen _ _ m c.self.view_is s in
       let x = appendable _ _ m p c.args.plan c.in-AppendFile.found (subst (λ k. PlannedAs (g.M.Medium.seen k.medium).tracks (g.M.Medium.seen k.medium).content m (Ok p) (Ok c.args.plan)) (sym c.self.view_is) h) c.in-AppendFile.is in
-      let can = can_be c.in-AppendFile.found.slot c.self.inside.channels m x.1.file st.each x.1.in_slot x.1.closed x.1.plain x.1.unused in
-      let begun = c.in_ok-writer-in-AppendFile.ensures.begun m.disk (uses_of c.self.inside.channels m.channels) st.holds x.1.file can x.1.stands ch (subst (λ k. uses_of k.channels m.channels ch ≡ Idle) (sym c.self.view_is) idle) x.1.kept in
+      let can = can_be c.in-AppendFile.found.slot c.self.inside.channels.items m x.1.file st.each x.1.in_slot x.1.closed x.1.plain x.1.unused in
+      let begun = c.in_ok-writer-in-AppendFile.ensures.begun m.disk (uses_of c.self.inside.channels.items m.channels) st.holds x.1.file can x.1.stands ch (subst (λ k. uses_of k.channels m.channels ch ≡ Idle) (sym c.self.view_is) idle) x.1.kept in
       subst (λ k. IsOpened (g.M.Medium.seen k.medium).tracks (g.M.Medium.seen c.begin_append.new.self).content m ch p (uses_of k.channels m.channels) (Some (code.Writing c.in_ok-writer-in-AppendFile.writer false))) c.self.view_is
-      (begins_as _ _ m p _ (uses_of c.self.inside.channels m.channels) ch c.in-AppendFile.found.slot false (bytes_in x.1.file.body) x.1.file.held c.in_ok-writer-in-AppendFile.writer
+      (begins_as _ _ m p _ (uses_of c.self.inside.channels.items m.channels) ch c.in-AppendFile.found.slot false (bytes_in x.1.file.body) x.1.file.held c.in_ok-writer-in-AppendFile.writer
       (ap (opened_by m.disk) x.0 ∙ ap (λ o. appended_to o c.in-AppendFile.found.slot) x.1.in_slot) (ap (disk_opened m.disk) x.0 ∙ ap (λ o. reopened_at o m.disk c.in-AppendFile.found.slot) x.1.in_slot) begun);
   stopped = (search rules);
   rest = λ m p h s.
       let st = stood g.M.Medium.seen _ _ m c.self.view_is s in
-      let uses = uses_of c.self.inside.channels m.channels in
-      let idle : uses 15 ≡ Idle = idle_past c.self.inside.channels m.channels c.self.invariant.count in
+      let uses = uses_of c.self.inside.channels.items m.channels in
+      let idle : uses 15 ≡ Idle = idle_past c.self.inside.channels.items m.channels c.self.invariant.count in
       let x = appendable _ _ m p c.args.plan c.in-AppendFile.found (subst (λ k. PlannedAs (g.M.Medium.seen k.medium).tracks (g.M.Medium.seen k.medium).content m (Ok p) (Ok c.args.plan)) (sym c.self.view_is) h) c.in-AppendFile.is in
-      let can = can_be c.in-AppendFile.found.slot c.self.inside.channels m x.1.file st.each x.1.in_slot x.1.closed x.1.plain x.1.unused in
+      let can = can_be c.in-AppendFile.found.slot c.self.inside.channels.items m x.1.file st.each x.1.in_slot x.1.closed x.1.plain x.1.unused in
       let begun = c.in_ok-writer-in-AppendFile.ensures.begun m.disk uses st.holds x.1.file can x.1.stands 15 idle x.1.kept in
       rest_seen g.M.Medium.seen c.args.self.now.medium c.begin_append.new.self c.self.inside.volume c.begin_append.new.self (ap (λ k. k.medium) c.self.view_is) refl
       (record { in_place = append_stays _ _ _ c.in-AppendFile.found.slot c.in_ok-writer-in-AppendFile.writer begun.same_slot begun.same_way (c.begin_append.ensures.untouched m.disk uses st.holds).stays; outside = outside_held c.begin_append.result (g.M.Medium.seen c.self.inside.volume) (g.M.Medium.seen c.begin_append.new.self) m.disk uses c.begin_append.ensures.only refl st.holds (record { disk = _; uses = _; holds = begun.holds; total = refl }) });
@@ -215,15 +215,15 @@ returns-in_err-writer-in-ReplaceFile-clause-opens g c = record {
       let st = stood g.M.Medium.seen _ _ m c.self.view_is s in
       let x = replaceable _ _ m p c.args.plan c.in-ReplaceFile.slot h c.in-ReplaceFile.is in
       let failed = failed_by (g.M.Medium.seen c.self.inside.volume) (g.M.Medium.seen c.begin_replace.new.self) c.in_err-writer-in-ReplaceFile.field-0.0 m.protected st.same_protection x.1.unprotected
-      (c.in_err-writer-in-ReplaceFile.ensures.call m.disk (uses_of c.self.inside.channels m.channels) st.holds).cause in
+      (c.in_err-writer-in-ReplaceFile.ensures.call m.disk (uses_of c.self.inside.channels.items m.channels) st.holds).cause in
       on_err _ _ (subst (λ k. Stopped (g.M.Medium.seen k.medium).tracks (g.M.Medium.seen c.begin_replace.new.self).content m.disk (disk_opened m.disk p) (uses_of k.channels m.channels) × HasFailed (g.M.Medium.seen k.medium) (g.M.Medium.seen c.begin_replace.new.self)) c.self.view_is
       (nothing_begun _ _ _ _ _ _ c.in_err-writer-in-ReplaceFile.ensures.err st.holds, failed));
   rest = λ m p h s.
       let st = stood g.M.Medium.seen _ _ m c.self.view_is s in
-      let uses = uses_of c.self.inside.channels m.channels in
-      let idle : uses 15 ≡ Idle = idle_past c.self.inside.channels m.channels c.self.invariant.count in
+      let uses = uses_of c.self.inside.channels.items m.channels in
+      let idle : uses 15 ≡ Idle = idle_past c.self.inside.channels.items m.channels c.self.invariant.count in
       let x = replaceable _ _ m p c.args.plan c.in-ReplaceFile.slot h c.in-ReplaceFile.is in
-      let can = can_be c.in-ReplaceFile.slot c.self.inside.channels m x.1.file st.each x.1.in_slot x.1.closed x.1.plain x.1.unused in
+      let can = can_be c.in-ReplaceFile.slot c.self.inside.channels.items m x.1.file st.each x.1.in_slot x.1.closed x.1.plain x.1.unused in
       let call = c.begin_replace.ensures.call m.disk uses st.holds in
       rest_seen g.M.Medium.seen c.args.self.now.medium c.begin_replace.new.self c.self.inside.volume c.begin_replace.new.self (ap (λ k. k.medium) c.self.view_is) refl
       (rest_none _ _ (begun_rest c.begin_replace.result (g.M.Medium.seen c.self.inside.volume) (g.M.Medium.seen c.begin_replace.new.self) m.disk _ uses 15 _ _ _ _ _ c.begin_replace.ensures.only refl st.holds (begun_replace c.begin_replace.result m.disk uses c.in-ReplaceFile.slot x.1.file _ 15 idle can call.done)
@@ -235,16 +235,16 @@ returns-in_default-2-clause-opens g c = record {
   opened = λ m p ch h s idle.
       let st = stood g.M.Medium.seen _ _ m c.self.view_is s in
       let x = replaceable _ _ m p c.args.plan c.in-ReplaceFile.slot h c.in-ReplaceFile.is in
-      let can = can_be c.in-ReplaceFile.slot c.self.inside.channels m x.1.file st.each x.1.in_slot x.1.closed x.1.plain x.1.unused in
-      let none = match_none _ _ _ c.in_default-2.not-Some ((c.in_ok-writer-in-ReplaceFile.ensures.call m.disk (uses_of c.self.inside.channels m.channels) st.holds).done ch x.1.file (subst (λ k. uses_of k.channels m.channels ch ≡ Idle) (sym c.self.view_is) idle) can) in
+      let can = can_be c.in-ReplaceFile.slot c.self.inside.channels.items m x.1.file st.each x.1.in_slot x.1.closed x.1.plain x.1.unused in
+      let none = match_none _ _ _ c.in_default-2.not-Some ((c.in_ok-writer-in-ReplaceFile.ensures.call m.disk (uses_of c.self.inside.channels.items m.channels) st.holds).done ch x.1.file (subst (λ k. uses_of k.channels m.channels ch ≡ Idle) (sym c.self.view_is) idle) can) in
       absurd (no_block m.disk x.1.block none.0);
   stopped = (search rules);
   rest = λ m p h s.
       let st = stood g.M.Medium.seen _ _ m c.self.view_is s in
-      let uses = uses_of c.self.inside.channels m.channels in
-      let idle : uses 15 ≡ Idle = idle_past c.self.inside.channels m.channels c.self.invariant.count in
+      let uses = uses_of c.self.inside.channels.items m.channels in
+      let idle : uses 15 ≡ Idle = idle_past c.self.inside.channels.items m.channels c.self.invariant.count in
       let x = replaceable _ _ m p c.args.plan c.in-ReplaceFile.slot h c.in-ReplaceFile.is in
-      let can = can_be c.in-ReplaceFile.slot c.self.inside.channels m x.1.file st.each x.1.in_slot x.1.closed x.1.plain x.1.unused in
+      let can = can_be c.in-ReplaceFile.slot c.self.inside.channels.items m x.1.file st.each x.1.in_slot x.1.closed x.1.plain x.1.unused in
       let call = c.begin_replace.ensures.call m.disk uses st.holds in
       rest_seen g.M.Medium.seen c.args.self.now.medium c.begin_replace.new.self c.self.inside.volume c.begin_replace.new.self (ap (λ k. k.medium) c.self.view_is) refl
       (rest_none _ _ (begun_rest c.begin_replace.result (g.M.Medium.seen c.self.inside.volume) (g.M.Medium.seen c.begin_replace.new.self) m.disk _ uses 15 _ _ _ _ _ c.begin_replace.ensures.only refl st.holds (begun_replace c.begin_replace.result m.disk uses c.in-ReplaceFile.slot x.1.file _ 15 idle can call.done)
@@ -256,17 +256,17 @@ returns-in-Some-2-clause-opens g c = record {
   opened = λ m p ch h s idle.
       let st = stood g.M.Medium.seen _ _ m c.self.view_is s in
       let x = replaceable _ _ m p c.args.plan c.in-ReplaceFile.slot h c.in-ReplaceFile.is in
-      let can = can_be c.in-ReplaceFile.slot c.self.inside.channels m x.1.file st.each x.1.in_slot x.1.closed x.1.plain x.1.unused in
-      let begun = match_some _ _ _ _ c.in-Some-2.is ((c.in_ok-writer-in-ReplaceFile.ensures.call m.disk (uses_of c.self.inside.channels m.channels) st.holds).done ch x.1.file (subst (λ k. uses_of k.channels m.channels ch ≡ Idle) (sym c.self.view_is) idle) can) in
+      let can = can_be c.in-ReplaceFile.slot c.self.inside.channels.items m x.1.file st.each x.1.in_slot x.1.closed x.1.plain x.1.unused in
+      let begun = match_some _ _ _ _ c.in-Some-2.is ((c.in_ok-writer-in-ReplaceFile.ensures.call m.disk (uses_of c.self.inside.channels.items m.channels) st.holds).done ch x.1.file (subst (λ k. uses_of k.channels m.channels ch ≡ Idle) (sym c.self.view_is) idle) can) in
       subst (λ k. IsOpened (g.M.Medium.seen k.medium).tracks (g.M.Medium.seen c.begin_replace.new.self).content m ch p (uses_of k.channels m.channels) (Some (code.Writing c.in-Some-2.writer false))) c.self.view_is
-      (begins_as _ _ m p _ (uses_of c.self.inside.channels m.channels) ch c.in-ReplaceFile.slot true [] 1 c.in-Some-2.writer (ap (opened_by m.disk) x.0) (ap (disk_opened m.disk) x.0) begun);
+      (begins_as _ _ m p _ (uses_of c.self.inside.channels.items m.channels) ch c.in-ReplaceFile.slot true [] 1 c.in-Some-2.writer (ap (opened_by m.disk) x.0) (ap (disk_opened m.disk) x.0) begun);
   stopped = (search rules);
   rest = λ m p h s.
       let st = stood g.M.Medium.seen _ _ m c.self.view_is s in
-      let uses = uses_of c.self.inside.channels m.channels in
-      let idle : uses 15 ≡ Idle = idle_past c.self.inside.channels m.channels c.self.invariant.count in
+      let uses = uses_of c.self.inside.channels.items m.channels in
+      let idle : uses 15 ≡ Idle = idle_past c.self.inside.channels.items m.channels c.self.invariant.count in
       let x = replaceable _ _ m p c.args.plan c.in-ReplaceFile.slot h c.in-ReplaceFile.is in
-      let can = can_be c.in-ReplaceFile.slot c.self.inside.channels m x.1.file st.each x.1.in_slot x.1.closed x.1.plain x.1.unused in
+      let can = can_be c.in-ReplaceFile.slot c.self.inside.channels.items m x.1.file st.each x.1.in_slot x.1.closed x.1.plain x.1.unused in
       let call = c.begin_replace.ensures.call m.disk uses st.holds in
       rest_seen g.M.Medium.seen c.args.self.now.medium c.begin_replace.new.self c.self.inside.volume c.begin_replace.new.self (ap (λ k. k.medium) c.self.view_is) refl
       (rest_none _ _ (begun_rest c.begin_replace.result (g.M.Medium.seen c.self.inside.volume) (g.M.Medium.seen c.begin_replace.new.self) m.disk _ uses 15 _ _ _ _ _ c.begin_replace.ensures.only refl st.holds (begun_replace c.begin_replace.result m.disk uses c.in-ReplaceFile.slot x.1.file _ 15 idle can call.done)
@@ -352,10 +352,10 @@ returns-in_err-slot-in-MakeRecords-clause-opens g c = record {
   opened = (search rules);
   stopped = λ m p h s.
       let st = stood g.M.Medium.seen _ _ m c.self.view_is s in
-      let uses = uses_of c.self.inside.channels m.channels in
+      let uses = uses_of c.self.inside.channels.items m.channels in
       let x = makeable _ _ m p c.args.plan c.in-MakeRecords.name c.in-MakeRecords.length h c.in-MakeRecords.is in
       let name : before_filler c.bytes-in-MakeRecords.result.now ≡ c.in-MakeRecords.name = ap before_filler c.bytes-in-MakeRecords.ensures.value ∙ x.1.cut in
-      let idle : uses 15 ≡ Idle = idle_past c.self.inside.channels m.channels c.self.invariant.count in
+      let idle : uses 15 ≡ Idle = idle_past c.self.inside.channels.items m.channels c.self.invariant.count in
       let disk = ap (λ n. with_new_records m.disk n c.in-MakeRecords.length) name ∙ sym (ap (disk_opened m.disk) x.0) in
       let failed = failed_by (g.M.Medium.seen c.self.inside.volume) (g.M.Medium.seen c.make_records.new.self) c.in_err-slot-in-MakeRecords.field-0.0 m.protected st.same_protection x.1.unprotected
       (c.in_err-slot-in-MakeRecords.ensures.call m.disk uses 15 st.holds idle).cause in
@@ -365,8 +365,8 @@ returns-in_err-slot-in-MakeRecords-clause-opens g c = record {
       ));
   rest = λ m p h s.
       let st = stood g.M.Medium.seen _ _ m c.self.view_is s in
-      let uses = uses_of c.self.inside.channels m.channels in
-      let idle : uses 15 ≡ Idle = idle_past c.self.inside.channels m.channels c.self.invariant.count in
+      let uses = uses_of c.self.inside.channels.items m.channels in
+      let idle : uses 15 ≡ Idle = idle_past c.self.inside.channels.items m.channels c.self.invariant.count in
       let call = c.make_records.ensures.call m.disk uses 15 st.holds idle in
       rest_seen g.M.Medium.seen c.args.self.now.medium c.make_records.new.self c.self.inside.volume c.make_records.new.self (ap (λ k. k.medium) c.self.view_is) refl
       (rest_none _ _ (made_rest c.make_records.result (g.M.Medium.seen c.self.inside.volume) (g.M.Medium.seen c.make_records.new.self) m.disk _ uses _ _ _ c.make_records.ensures.only refl st.holds call (grown_total m.disk)));
@@ -377,13 +377,13 @@ returns-in_default-3-clause-opens g c = record {
   opened = λ m p ch h s idle.
       let st = stood g.M.Medium.seen _ _ m c.self.view_is s in
       let x = makeable _ _ m p c.args.plan c.in-MakeRecords.name c.in-MakeRecords.length h c.in-MakeRecords.is in
-      let none = match_none _ _ _ c.in_default-3.not-Some (c.in_ok-slot-in-MakeRecords.ensures.call m.disk (uses_of c.self.inside.channels m.channels) ch st.holds (subst (λ k. uses_of k.channels m.channels ch ≡ Idle) (sym c.self.view_is) idle)).done in
+      let none = match_none _ _ _ c.in_default-3.not-Some (c.in_ok-slot-in-MakeRecords.ensures.call m.disk (uses_of c.self.inside.channels.items m.channels) ch st.holds (subst (λ k. uses_of k.channels m.channels ch ≡ Idle) (sym c.self.view_is) idle)).done in
       absurd (has_room_of m c.in-MakeRecords.name c.in-MakeRecords.length x.1 none.0);
   stopped = (search rules);
   rest = λ m p h s.
       let st = stood g.M.Medium.seen _ _ m c.self.view_is s in
-      let uses = uses_of c.self.inside.channels m.channels in
-      let idle : uses 15 ≡ Idle = idle_past c.self.inside.channels m.channels c.self.invariant.count in
+      let uses = uses_of c.self.inside.channels.items m.channels in
+      let idle : uses 15 ≡ Idle = idle_past c.self.inside.channels.items m.channels c.self.invariant.count in
       let call = c.make_records.ensures.call m.disk uses 15 st.holds idle in
       rest_seen g.M.Medium.seen c.args.self.now.medium c.make_records.new.self c.self.inside.volume c.make_records.new.self (ap (λ k. k.medium) c.self.view_is) refl
       (rest_none _ _ (made_rest c.make_records.result (g.M.Medium.seen c.self.inside.volume) (g.M.Medium.seen c.make_records.new.self) m.disk _ uses _ _ _ c.make_records.ensures.only refl st.holds call (grown_total m.disk)));
@@ -395,10 +395,10 @@ returns-in_err-on-in-MakeRecords-clause-opens g c = record {
   opened = (search rules);
   stopped = λ m p h s.
       let st = stood g.M.Medium.seen _ _ m c.self.view_is s in
-      let uses = uses_of c.self.inside.channels m.channels in
+      let uses = uses_of c.self.inside.channels.items m.channels in
       let x = makeable _ _ m p c.args.plan c.in-MakeRecords.name c.in-MakeRecords.length h c.in-MakeRecords.is in
       let name : before_filler c.bytes-in-MakeRecords.result.now ≡ c.in-MakeRecords.name = ap before_filler c.bytes-in-MakeRecords.ensures.value ∙ x.1.cut in
-      let made = match_some _ _ _ _ c.in-Some-3.is (c.in_ok-slot-in-MakeRecords.ensures.call m.disk uses 15 st.holds (idle_past c.self.inside.channels m.channels c.self.invariant.count)).done in
+      let made = match_some _ _ _ _ c.in-Some-3.is (c.in_ok-slot-in-MakeRecords.ensures.call m.disk uses 15 st.holds (idle_past c.self.inside.channels.items m.channels c.self.invariant.count)).done in
       let holds = subst (λ n. HoldsNow (g.M.Medium.seen c.self.inside.volume).tracks (g.M.Medium.seen c.make_records.new.self).content (with_new_records m.disk n c.in-MakeRecords.length) uses) name made.1 in
       let new : HoldsDisk (g.M.Medium.seen c.self.inside.volume).tracks (g.M.Medium.seen c.make_records.new.self).content (with_new_records m.disk c.in-MakeRecords.name c.in-MakeRecords.length) = record { layout = holds.layout; stands = holds.so.stands } in
       let means = subst (λ t. HoldsDisk t (g.M.Medium.seen c.make_records.new.self).content (with_new_records m.disk c.in-MakeRecords.name c.in-MakeRecords.length)) (sym c.make_records.ensures.only.tracks) new in
@@ -407,8 +407,8 @@ returns-in_err-on-in-MakeRecords-clause-opens g c = record {
       absurd (c.in_err-on-in-MakeRecords.ensures.means (with_new_records m.disk c.in-MakeRecords.name c.in-MakeRecords.length) (made_file c.in-MakeRecords.name c.in-MakeRecords.length) 1 1 rs means there refl refl);
   rest = λ m p h s.
       let st = stood g.M.Medium.seen _ _ m c.self.view_is s in
-      let uses = uses_of c.self.inside.channels m.channels in
-      let idle : uses 15 ≡ Idle = idle_past c.self.inside.channels m.channels c.self.invariant.count in
+      let uses = uses_of c.self.inside.channels.items m.channels in
+      let idle : uses 15 ≡ Idle = idle_past c.self.inside.channels.items m.channels c.self.invariant.count in
       let call = c.make_records.ensures.call m.disk uses 15 st.holds idle in
       rest_seen g.M.Medium.seen c.args.self.now.medium c.make_records.new.self c.self.inside.volume c.make_records.new.self (ap (λ k. k.medium) c.self.view_is) refl
       (rest_none _ _ (made_rest c.make_records.result (g.M.Medium.seen c.self.inside.volume) (g.M.Medium.seen c.make_records.new.self) m.disk _ uses _ _ _ c.make_records.ensures.only refl st.holds call (grown_total m.disk)));
@@ -418,7 +418,7 @@ pub returns-in_ok-on-in-MakeRecords-clause-opens : goal.returns-in_ok-on-in-Make
 returns-in_ok-on-in-MakeRecords-clause-opens g c = record {
   opened = λ m p ch h s idle.
       let st = stood g.M.Medium.seen _ _ m c.self.view_is s in
-      let uses = uses_of c.self.inside.channels m.channels in
+      let uses = uses_of c.self.inside.channels.items m.channels in
       let x = makeable _ _ m p c.args.plan c.in-MakeRecords.name c.in-MakeRecords.length h c.in-MakeRecords.is in
       let name : before_filler c.bytes-in-MakeRecords.result.now ≡ c.in-MakeRecords.name = ap before_filler c.bytes-in-MakeRecords.ensures.value ∙ x.1.cut in
       let made = match_some _ _ _ _ c.in-Some-3.is (c.in_ok-slot-in-MakeRecords.ensures.call m.disk uses ch st.holds (subst (λ k. uses_of k.channels m.channels ch ≡ Idle) (sym c.self.view_is) idle)).done in
@@ -434,8 +434,8 @@ returns-in_ok-on-in-MakeRecords-clause-opens g c = record {
   stopped = (search rules);
   rest = λ m p h s.
       let st = stood g.M.Medium.seen _ _ m c.self.view_is s in
-      let uses = uses_of c.self.inside.channels m.channels in
-      let idle : uses 15 ≡ Idle = idle_past c.self.inside.channels m.channels c.self.invariant.count in
+      let uses = uses_of c.self.inside.channels.items m.channels in
+      let idle : uses 15 ≡ Idle = idle_past c.self.inside.channels.items m.channels c.self.invariant.count in
       let call = c.make_records.ensures.call m.disk uses 15 st.holds idle in
       rest_seen g.M.Medium.seen c.args.self.now.medium c.make_records.new.self c.self.inside.volume c.make_records.new.self (ap (λ k. k.medium) c.self.view_is) refl
       (rest_none _ _ (made_rest c.make_records.result (g.M.Medium.seen c.self.inside.volume) (g.M.Medium.seen c.make_records.new.self) m.disk _ uses _ _ _ c.make_records.ensures.only refl st.holds call (grown_total m.disk)));
@@ -488,8 +488,8 @@ returns-in_err-writer-in-WriteFile-clause-opens g c = record {
   stopped = (search rules);
   rest = λ m p h s.
       let st = stood g.M.Medium.seen _ _ m c.self.view_is s in
-      let uses = uses_of c.self.inside.channels m.channels in
-      let idle : uses 15 ≡ Idle = idle_past c.self.inside.channels m.channels c.self.invariant.count in
+      let uses = uses_of c.self.inside.channels.items m.channels in
+      let idle : uses 15 ≡ Idle = idle_past c.self.inside.channels.items m.channels c.self.invariant.count in
       let x = writable _ _ m p c.args.plan c.in-WriteFile.kind c.in-WriteFile.name h c.in-WriteFile.is in
       let call = c.begin_write.ensures.call m.disk uses st.holds in
       rest_seen g.M.Medium.seen c.args.self.now.medium c.begin_write.new.self c.self.inside.volume c.begin_write.new.self (ap (λ k. k.medium) c.self.view_is) refl

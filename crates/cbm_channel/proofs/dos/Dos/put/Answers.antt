@@ -3,7 +3,7 @@ use Rattle.cbm_machine.specs.Calls.{put}
 use Rattle.cbm_channel.specs.Going.{put_written}
 use Rattle.cbm_channel.proofs.Asked.{below_15, put_15, put_records, put_other}
 use Rattle.cbm_channel.specs.Shown.{has_records}
-use Rattle.cbm_channel.proofs.Stands.{borrowed_at, stood, stands_at}
+use Rattle.cbm_channel.proofs.Stands.{borrowed_at, stood, stands_here}
 use Rattle.cbm_channel.proofs.Goings.{part_same, one_part, keeps_same}
 use Rattle.cbm_channel.proofs.Rest.{rest_itself}
 use Rattle.cbm_channel.proofs.dos.Dos.put.Goals as goal
@@ -18,7 +18,7 @@ pub returns-then-has_records-clause-goes : goal.returns-then-has_records-clause-
 returns-then-has_records-clause-goes g c = λ m s.
     let st = stood g.M.Medium.seen _ _ m c.self.view_is s in
     let lt : c.args.channel < 15 = omega (arith, c.requires, c.if-channel-eq15.false) in
-    let at = stands_at _ _ _ _ _ _ m c.args.channel c.index-self-channel.result lt c.self.invariant st in
+    let at = stands_here _ _ _ _ _ _ m c.args.channel c.index.result.now c.index.ensures lt c.self.invariant st in
     let law = put_records c.args.channel m _ (below_15 c.args.channel lt) at c.args.byte (sym c.has_records.ensures ∙ c.if-has_records.true) in
     (_, one_part (g.M.Medium.seen c.args.self.now.medium) (g.M.Medium.seen c.gather-then-has_records.new.self.medium) c.args.channel (put c.args.channel c.args.byte) m _ (keeps_same _ _ (ap g.M.Medium.seen c.gather-then-has_records.ensures.only.medium)).counted (inl (sym law)), c.gather-then-has_records.ensures.leads m s)
 
@@ -27,7 +27,7 @@ pub returns-else-has_records-clause-goes : goal.returns-else-has_records-clause-
 returns-else-has_records-clause-goes g c = λ m s.
     let st = stood g.M.Medium.seen _ _ m c.self.view_is s in
     let lt : c.args.channel < 15 = omega (arith, c.requires, c.if-channel-eq15.false) in
-    let at = stands_at _ _ _ _ _ _ m c.args.channel c.index-self-channel.result lt c.self.invariant st in
+    let at = stands_here _ _ _ _ _ _ m c.args.channel c.index.result.now c.index.ensures lt c.self.invariant st in
     let next = c.store.ensures.goes m s in
     let law = put_other c.args.channel m _ (below_15 c.args.channel lt) at c.args.byte (sym c.has_records.ensures ∙ c.if-has_records.false) in
     (next.0, one_part (g.M.Medium.seen c.args.self.now.medium) (g.M.Medium.seen c.store.new.self.medium) c.args.channel (put c.args.channel c.args.byte) m next.0 c.store.ensures.leaves.medium.counted (part_same _ c.args.channel (put_written c.args.channel c.args.byte) (put c.args.channel c.args.byte) m next.0 law next.1), next.2)
@@ -65,7 +65,7 @@ returns-then-channel-eq15-clause-done g c = λ lt none. absurd (omega (arith, lt
 
 pub returns-then-has_records-clause-done : goal.returns-then-has_records-clause-done
 returns-then-has_records-clause-done g c = λ lt none.
-    let same = borrowed_at c.args.channel c.index-self-channel.result (ap (λ k. k.channels) c.self.view_is) (omega (arith, lt, c.self.invariant.count)) in
+    let same = c.index.ensures ∙ borrowed_at c.args.channel c.index.result.now (ap (λ k. k.channels) c.self.view_is) (omega (arith, lt, c.self.invariant.count)) in
     let z = sym c.if-has_records.true ∙ c.has_records.ensures ∙ ap has_records same ∙ none in absurd (cc)
 
 pub returns-else-has_records-clause-done : goal.returns-else-has_records-clause-done

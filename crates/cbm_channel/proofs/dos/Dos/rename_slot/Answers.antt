@@ -26,14 +26,14 @@ use Rattle.cbm_channel.proofs.GroundedReports.{answer_grounded}
 pub returns-in-Ok-clause-goes : goal.returns-in-Ok-clause-goes
 returns-in-Ok-clause-goes g c = λ cut m old is s.
     let here = c.self.inside in
-    let st : StandsBy (g.M.Medium.seen here.volume).content (g.M.Medium.seen here.volume).tracks (g.M.Medium.seen here.volume).protected here.channels here.telling here.text m = stood g.M.Medium.seen c.args.self.now _ m c.self.view_is s in
-    let unwritten : IsUnwritten (uses_of here.channels m.channels) c.args.slot = λ k. unwritten_at c.args.slot here.channels m.channels k st.each (λ j. none_passes (writes c.args.slot) refl m.channels j is.unwritten) in
+    let st : StandsBy (g.M.Medium.seen here.volume).content (g.M.Medium.seen here.volume).tracks (g.M.Medium.seen here.volume).protected here.channels.items here.telling here.text m = stood g.M.Medium.seen c.args.self.now _ m c.self.view_is s in
+    let unwritten : IsUnwritten (uses_of here.channels.items m.channels) c.args.slot = λ k. unwritten_at c.args.slot here.channels.items m.channels k st.each (λ j. none_passes (writes c.args.slot) refl m.channels j is.unwritten) in
     let name : before_filler c.bytes.result.now ≡ c.args.name.now = ap before_filler c.bytes.ensures.value ∙ cut in
-    let holds = subst (λ (x : List ℕ). HoldsNow (g.M.Medium.seen here.volume).tracks (g.M.Medium.seen c.rename.new.self).content (with_slot m.disk c.args.slot (Some (record (is.file) { name = x }))) (uses_of here.channels m.channels)) name
-    ((c.in-Ok.ensures.call m.disk (uses_of here.channels m.channels) st.holds).done is.file is.in_slot unwritten) in
-    let next = rename_stands _ _ (g.M.Medium.seen c.rename.new.self).content _ here.channels here.telling here.text m st c.args.name.now old c.args.slot is holds in (
+    let holds = subst (λ (x : List ℕ). HoldsNow (g.M.Medium.seen here.volume).tracks (g.M.Medium.seen c.rename.new.self).content (with_slot m.disk c.args.slot (Some (record (is.file) { name = x }))) (uses_of here.channels.items m.channels)) name
+    ((c.in-Ok.ensures.call m.disk (uses_of here.channels.items m.channels) st.holds).done is.file is.in_slot unwritten) in
+    let next = rename_stands _ _ (g.M.Medium.seen c.rename.new.self).content _ here.channels.items here.telling here.text m st c.args.name.now old c.args.slot is holds in (
       say Fine (with_disk (with_slot m.disk c.args.slot (Some (record (is.file) { name = c.args.name.now }))) m),
-      inl (sym (rename_done _ _ (g.M.Medium.seen c.rename.new.self).content _ here.channels here.telling here.text m st c.args.name.now old c.args.slot is)),
+      inl (sym (rename_done _ _ (g.M.Medium.seen c.rename.new.self).content _ here.channels.items here.telling here.text m st c.args.name.now old c.args.slot is)),
       c.say.ensures.leads _ (renamed _ _ _ _ _ _ _ _ _ c.rename.ensures.only.tracks c.rename.ensures.only.protected next),
     )
 
@@ -42,11 +42,11 @@ pub returns-in-Err-clause-goes : goal.returns-in-Err-clause-goes
 returns-in-Err-clause-goes g c = λ cut m old is s.
     let here = c.self.inside in
     let new = g.M.Medium.seen c.rename.new.self in
-    let st : StandsBy (g.M.Medium.seen here.volume).content (g.M.Medium.seen here.volume).tracks (g.M.Medium.seen here.volume).protected here.channels here.telling here.text m = stood g.M.Medium.seen c.args.self.now _ m c.self.view_is s in
-    let failed = failed_by (g.M.Medium.seen here.volume) new c.in-Err.trouble m.protected st.same_protection is.unprotected (c.in-Err.ensures.call m.disk (uses_of here.channels m.channels) st.holds).cause in
-    let same = subst (λ x. StandsBy x (g.M.Medium.seen here.volume).tracks (g.M.Medium.seen here.volume).protected here.channels here.telling here.text m) (sym c.in-Err.ensures.err) st in (
+    let st : StandsBy (g.M.Medium.seen here.volume).content (g.M.Medium.seen here.volume).tracks (g.M.Medium.seen here.volume).protected here.channels.items here.telling here.text m = stood g.M.Medium.seen c.args.self.now _ m c.self.view_is s in
+    let failed = failed_by (g.M.Medium.seen here.volume) new c.in-Err.trouble m.protected st.same_protection is.unprotected (c.in-Err.ensures.call m.disk (uses_of here.channels.items m.channels) st.holds).cause in
+    let same = subst (λ x. StandsBy x (g.M.Medium.seen here.volume).tracks (g.M.Medium.seen here.volume).protected here.channels.items here.telling here.text m) (sym c.in-Err.ensures.err) st in (
       with_status c.from.result m,
-      inr (subst (λ v. HasFailed (g.M.Medium.seen v) (g.M.Medium.seen c.set.new.self.medium)) (ap (λ k. k.medium) c.self.view_is) (subst (λ v. HasFailed (g.M.Medium.seen here.volume) (g.M.Medium.seen v)) (sym c.set.ensures.medium) failed), stopped_at_once _ _ new.content _ here.channels here.telling here.text m st (answered m (rename c.args.name.now old m)) c.in-Err.trouble c.from.result c.self.invariant.count c.from.ensures),
+      inr (subst (λ v. HasFailed (g.M.Medium.seen v) (g.M.Medium.seen c.set.new.self.medium)) (ap (λ k. k.medium) c.self.view_is) (subst (λ v. HasFailed (g.M.Medium.seen here.volume) (g.M.Medium.seen v)) (sym c.set.ensures.medium) failed), stopped_at_once _ _ new.content _ here.channels.items here.telling here.text m st (answered m (rename c.args.name.now old m)) c.in-Err.trouble c.from.result c.self.invariant.count c.from.ensures),
       c.set.ensures.leads m (renamed _ _ _ _ _ _ _ _ _ c.rename.ensures.only.tracks c.rename.ensures.only.protected same),
     )
 
@@ -75,13 +75,13 @@ returns-in-Err-clause-leaves g c = record {
 pub returns-in-Ok-clause-rest : goal.returns-in-Ok-clause-rest
 returns-in-Ok-clause-rest g c = λ m old is s.
     let here = c.self.inside in
-    let st : StandsBy (g.M.Medium.seen here.volume).content (g.M.Medium.seen here.volume).tracks (g.M.Medium.seen here.volume).protected here.channels here.telling here.text m = stood g.M.Medium.seen c.args.self.now _ m c.self.view_is s in
-    let unwritten : IsUnwritten (uses_of here.channels m.channels) c.args.slot = λ k. unwritten_at c.args.slot here.channels m.channels k st.each (λ j. none_passes (writes c.args.slot) refl m.channels j is.unwritten) in
+    let st : StandsBy (g.M.Medium.seen here.volume).content (g.M.Medium.seen here.volume).tracks (g.M.Medium.seen here.volume).protected here.channels.items here.telling here.text m = stood g.M.Medium.seen c.args.self.now _ m c.self.view_is s in
+    let unwritten : IsUnwritten (uses_of here.channels.items m.channels) c.args.slot = λ k. unwritten_at c.args.slot here.channels.items m.channels k st.each (λ j. none_passes (writes c.args.slot) refl m.channels j is.unwritten) in
     rest_seen g.M.Medium.seen c.args.self.now.medium c.say.new.self.medium c.self.inside.volume c.rename.new.self (ap (λ k. k.medium) c.self.view_is) c.say.ensures.medium
     (record {
-      in_place = (c.in-Ok.ensures.call m.disk (uses_of here.channels m.channels) st.holds).untouched.stays;
-      outside = outside_held c.rename.result (g.M.Medium.seen here.volume) (g.M.Medium.seen c.rename.new.self) m.disk (uses_of here.channels m.channels) c.rename.ensures.only refl st.holds
-          (record { disk = _; uses = _; holds = (c.in-Ok.ensures.call m.disk (uses_of here.channels m.channels) st.holds).done is.file is.in_slot unwritten; total = refl });
+      in_place = (c.in-Ok.ensures.call m.disk (uses_of here.channels.items m.channels) st.holds).untouched.stays;
+      outside = outside_held c.rename.result (g.M.Medium.seen here.volume) (g.M.Medium.seen c.rename.new.self) m.disk (uses_of here.channels.items m.channels) c.rename.ensures.only refl st.holds
+          (record { disk = _; uses = _; holds = (c.in-Ok.ensures.call m.disk (uses_of here.channels.items m.channels) st.holds).done is.file is.in_slot unwritten; total = refl });
     })
 
 pub returns-in-Err-clause-rest : goal.returns-in-Err-clause-rest

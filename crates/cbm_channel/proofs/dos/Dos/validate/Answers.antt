@@ -28,13 +28,13 @@ returns-then-is_any_open-clause-goes g c = λ m s.
 pub returns-in-Ok-clause-goes : goal.returns-in-Ok-clause-goes
 returns-in-Ok-clause-goes g c = λ m s.
     let here = c.self.inside in
-    let st : StandsBy (g.M.Medium.seen here.volume).content (g.M.Medium.seen here.volume).tracks (g.M.Medium.seen here.volume).protected here.channels here.telling here.text m = stood g.M.Medium.seen c.args.self.now _ m c.self.view_is s in
+    let st : StandsBy (g.M.Medium.seen here.volume).content (g.M.Medium.seen here.volume).tracks (g.M.Medium.seen here.volume).protected here.channels.items here.telling here.text m = stood g.M.Medium.seen c.args.self.now _ m c.self.view_is s in
     let shut : any_open m ≡ false = sym (c.is_any_open.ensures m s) ∙ c.if-is_any_open.false in
-    let idle : (k : ℕ) → uses_of here.channels m.channels k ≡ Idle = all_idle here.channels m.channels st.each shut in
-    let unprotected : m.protected ≡ false = not_so m.protected (λ e. c.in-Ok.ensures.guarded m.disk (uses_of here.channels m.channels) st.holds (sym st.same_protection ∙ e)) in
-    let next = validate_stands _ _ (g.M.Medium.seen c.validate.new.self).content _ here.channels here.telling here.text m st shut (c.in-Ok.ensures.call m.disk (uses_of here.channels m.channels) st.holds idle).done in (
+    let idle : (k : ℕ) → uses_of here.channels.items m.channels k ≡ Idle = all_idle here.channels.items m.channels st.each shut in
+    let unprotected : m.protected ≡ false = not_so m.protected (λ e. c.in-Ok.ensures.guarded m.disk (uses_of here.channels.items m.channels) st.holds (sym st.same_protection ∙ e)) in
+    let next = validate_stands _ _ (g.M.Medium.seen c.validate.new.self).content _ here.channels.items here.telling here.text m st shut (c.in-Ok.ensures.call m.disk (uses_of here.channels.items m.channels) st.holds idle).done in (
       say Fine (with_disk (validated m.disk) m),
-      inl (sym (validate_done _ _ (g.M.Medium.seen c.validate.new.self).content _ here.channels here.telling here.text m st shut unprotected)),
+      inl (sym (validate_done _ _ (g.M.Medium.seen c.validate.new.self).content _ here.channels.items here.telling here.text m st shut unprotected)),
       c.say-in-Ok.ensures.leads _ (renamed _ _ _ _ _ _ _ _ _ c.validate.ensures.only.tracks c.validate.ensures.only.protected next),
     )
 
@@ -43,20 +43,20 @@ pub returns-in-Err-clause-goes : goal.returns-in-Err-clause-goes
 returns-in-Err-clause-goes g c = λ m s.
     let here = c.self.inside in
     let new = g.M.Medium.seen c.validate.new.self in
-    let st : StandsBy (g.M.Medium.seen here.volume).content (g.M.Medium.seen here.volume).tracks (g.M.Medium.seen here.volume).protected here.channels here.telling here.text m = stood g.M.Medium.seen c.args.self.now _ m c.self.view_is s in
+    let st : StandsBy (g.M.Medium.seen here.volume).content (g.M.Medium.seen here.volume).tracks (g.M.Medium.seen here.volume).protected here.channels.items here.telling here.text m = stood g.M.Medium.seen c.args.self.now _ m c.self.view_is s in
     let shut : any_open m ≡ false = sym (c.is_any_open.ensures m s) ∙ c.if-is_any_open.false in
-    let idle : (k : ℕ) → uses_of here.channels m.channels k ≡ Idle = all_idle here.channels m.channels st.each shut in
+    let idle : (k : ℕ) → uses_of here.channels.items m.channels k ≡ Idle = all_idle here.channels.items m.channels st.each shut in
     elim (true_or_false m.protected) [
       | inl guarded ↦ (
-          let kept = subst (λ x. StandsBy x (g.M.Medium.seen here.volume).tracks (g.M.Medium.seen here.volume).protected here.channels here.telling here.text m) (sym (c.in-Err.ensures.kept (sym st.same_protection ∙ guarded))) st in
-          let told = protected_status c.in-Err.trouble c.from.result c.from.ensures (c.in-Err.ensures.guarded m.disk (uses_of here.channels m.channels) st.holds (sym st.same_protection ∙ guarded)) in (
+          let kept = subst (λ x. StandsBy x (g.M.Medium.seen here.volume).tracks (g.M.Medium.seen here.volume).protected here.channels.items here.telling here.text m) (sym (c.in-Err.ensures.kept (sym st.same_protection ∙ guarded))) st in
+          let told = protected_status c.in-Err.trouble c.from.result c.from.ensures (c.in-Err.ensures.guarded m.disk (uses_of here.channels.items m.channels) st.holds (sym st.same_protection ∙ guarded)) in (
             with_status c.from.result m,
-            inl (ap (λ x. with_status x m) told ∙ sym (validate_guarded _ _ new.content _ here.channels here.telling here.text m st shut guarded)),
+            inl (ap (λ x. with_status x m) told ∙ sym (validate_guarded _ _ new.content _ here.channels.items here.telling here.text m st shut guarded)),
             c.set.ensures.leads m (renamed _ _ _ _ _ _ _ _ _ c.validate.ensures.only.tracks c.validate.ensures.only.protected kept),
           ))
       | inr unprotected ↦ (
-          let failed = failed_by (g.M.Medium.seen here.volume) new c.in-Err.trouble m.protected st.same_protection unprotected (c.in-Err.ensures.call m.disk (uses_of here.channels m.channels) st.holds idle).cause in
-          let next = validate_cut _ _ new.content _ here.channels here.telling here.text m st shut unprotected (c.in-Err.ensures.call m.disk (uses_of here.channels m.channels) st.holds idle).stopped in (
+          let failed = failed_by (g.M.Medium.seen here.volume) new c.in-Err.trouble m.protected st.same_protection unprotected (c.in-Err.ensures.call m.disk (uses_of here.channels.items m.channels) st.holds idle).cause in
+          let next = validate_cut _ _ new.content _ here.channels.items here.telling here.text m st shut unprotected (c.in-Err.ensures.call m.disk (uses_of here.channels.items m.channels) st.holds idle).stopped in (
             with_status c.from.result next.0,
             inr (
               subst (λ v. HasFailed (g.M.Medium.seen v) (g.M.Medium.seen c.set.new.self.medium)) (ap (λ k. k.medium) c.self.view_is) (subst (λ v. HasFailed (g.M.Medium.seen here.volume) (g.M.Medium.seen v)) (sym c.set.ensures.medium) failed),
@@ -115,17 +115,17 @@ returns-then-is_any_open-clause-rest g c = λ m s. rest_itself _ _ (ap g.M.Mediu
 pub returns-in-Ok-clause-rest : goal.returns-in-Ok-clause-rest
 returns-in-Ok-clause-rest g c = λ m s.
     let here = c.self.inside in
-    let st : StandsBy (g.M.Medium.seen here.volume).content (g.M.Medium.seen here.volume).tracks (g.M.Medium.seen here.volume).protected here.channels here.telling here.text m = stood g.M.Medium.seen c.args.self.now _ m c.self.view_is s in
+    let st : StandsBy (g.M.Medium.seen here.volume).content (g.M.Medium.seen here.volume).tracks (g.M.Medium.seen here.volume).protected here.channels.items here.telling here.text m = stood g.M.Medium.seen c.args.self.now _ m c.self.view_is s in
     let shut : any_open m ≡ false = sym (c.is_any_open.ensures m s) ∙ c.if-is_any_open.false in
-    let idle : (k : ℕ) → uses_of here.channels m.channels k ≡ Idle = all_idle here.channels m.channels st.each shut in
+    let idle : (k : ℕ) → uses_of here.channels.items m.channels k ≡ Idle = all_idle here.channels.items m.channels st.each shut in
     rest_seen g.M.Medium.seen c.args.self.now.medium c.say-in-Ok.new.self.medium c.self.inside.volume c.validate.new.self (ap (λ k. k.medium) c.self.view_is) c.say-in-Ok.ensures.medium
-    (change_rest c.validate.result (g.M.Medium.seen here.volume) (g.M.Medium.seen c.validate.new.self) m.disk (validated m.disk) (uses_of here.channels m.channels) _ _ c.validate.ensures.only refl st.holds (c.validate.ensures.call m.disk (uses_of here.channels m.channels) st.holds idle) refl)
+    (change_rest c.validate.result (g.M.Medium.seen here.volume) (g.M.Medium.seen c.validate.new.self) m.disk (validated m.disk) (uses_of here.channels.items m.channels) _ _ c.validate.ensures.only refl st.holds (c.validate.ensures.call m.disk (uses_of here.channels.items m.channels) st.holds idle) refl)
 
 pub returns-in-Err-clause-rest : goal.returns-in-Err-clause-rest
 returns-in-Err-clause-rest g c = λ m s.
     let here = c.self.inside in
-    let st : StandsBy (g.M.Medium.seen here.volume).content (g.M.Medium.seen here.volume).tracks (g.M.Medium.seen here.volume).protected here.channels here.telling here.text m = stood g.M.Medium.seen c.args.self.now _ m c.self.view_is s in
+    let st : StandsBy (g.M.Medium.seen here.volume).content (g.M.Medium.seen here.volume).tracks (g.M.Medium.seen here.volume).protected here.channels.items here.telling here.text m = stood g.M.Medium.seen c.args.self.now _ m c.self.view_is s in
     let shut : any_open m ≡ false = sym (c.is_any_open.ensures m s) ∙ c.if-is_any_open.false in
-    let idle : (k : ℕ) → uses_of here.channels m.channels k ≡ Idle = all_idle here.channels m.channels st.each shut in
+    let idle : (k : ℕ) → uses_of here.channels.items m.channels k ≡ Idle = all_idle here.channels.items m.channels st.each shut in
     rest_seen g.M.Medium.seen c.args.self.now.medium c.set.new.self.medium c.self.inside.volume c.validate.new.self (ap (λ k. k.medium) c.self.view_is) c.set.ensures.medium
-    (change_rest c.validate.result (g.M.Medium.seen here.volume) (g.M.Medium.seen c.validate.new.self) m.disk (validated m.disk) (uses_of here.channels m.channels) _ _ c.validate.ensures.only refl st.holds (c.validate.ensures.call m.disk (uses_of here.channels m.channels) st.holds idle) refl)
+    (change_rest c.validate.result (g.M.Medium.seen here.volume) (g.M.Medium.seen c.validate.new.self) m.disk (validated m.disk) (uses_of here.channels.items m.channels) _ _ c.validate.ensures.only refl st.holds (c.validate.ensures.call m.disk (uses_of here.channels.items m.channels) st.holds idle) refl)
