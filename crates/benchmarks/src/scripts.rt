@@ -1,3 +1,5 @@
+ghost use Rattle.std.specs.Prelude.{◌≡◌};
+
 mod traces;
 
 use crate::disks::{failed, report};
@@ -5,7 +7,7 @@ use crate::images::d64;
 use crate::writes::{store, succeeded};
 use cbm_channel::{Channels, Dos};
 use cbm_medium::Medium;
-use cbm_program::{Options, Pace, run_at};
+use cbm_program::{Options, Pace, run};
 use std::alloc::Global;
 use std::io;
 use std::rt::Runtime;
@@ -27,12 +29,17 @@ const WRITING: &str = "open 1 BIG\nfill 1 168656 41\nclose 1\n";
 
 const READING: &str = "open 0 BIG\nget 0 200000\n";
 
-/// A drive whose disk may be written.
-const WRITABLE: Options = Options {
-    device: 8,
-    protected: false,
-    check: false,
-};
+/// A drive of this pace, whose disk may be written.
+fn writable(pace: Pace) -> Options
+    ensures { result.device ≡ 8 }
+{
+    Options {
+        device: 8,
+        pace,
+        protected: false,
+        check: false,
+    }
+}
 
 /// The disk that a script leaves of an image, if it prints so many bytes.
 fn played(
@@ -43,7 +50,7 @@ fn played(
     printed: usize,
 ) -> io::Result<Vec<u8>> {
     let mut out: Vec<u8> = Vec::new(alloc);
-    let ended = run_at(alloc, pace, script.as_bytes(), &mut out, image, &WRITABLE);
+    let ended = run(alloc, script.as_bytes(), &mut out, image, &writable(pace));
     if out.len() != printed {
         return Err(failed());
     }

@@ -3,7 +3,6 @@
 
 mod bytes;
 mod cable;
-mod echo;
 mod event;
 mod fault;
 mod lines;
@@ -14,7 +13,6 @@ mod text;
 mod vcd;
 
 pub use bytes::{Decoder, Sent};
-pub use echo::{Echo, Watches};
 pub use event::{event_of, event_text, host_event_of, moment_of, what_is_written_reads_back};
 pub use fault::{Flaw, LineFault, TraceFault};
 pub use lines::EventLines;

@@ -6,7 +6,7 @@ ghost use Rattle.cbm_drive.specs.Seats.{Seated};
 
 use crate::performer::Performer;
 use crate::request::Request;
-use cbm_drive::{Bus, Channels, Desk, Drive, Pace, Party};
+use cbm_drive::{Bus, Channels, Desk, Drive, Pace, Party, Watches};
 use cbm_medium::Medium;
 use std::marker::Model;
 
@@ -94,8 +94,12 @@ impl<M: Medium> Hosted<M> {
 
     /// Goes on with a request to the next byte that the host takes, and answers it and whether it carries EOI. None if the
     /// request is over, and then the drive rests again; so it is on any disk (`anyway`). Whatever the drive represents, less is
-    /// left to come after a byte.
-    pub fn take(&mut self, performer: &mut Performer) -> Option<(u8, bool)>
+    /// left to come after a byte. Each event on the bus is told as it comes.
+    pub fn take<T: Watches>(
+        &mut self,
+        performer: &mut Performer,
+        watcher: &mut T,
+    ) -> Option<(u8, bool)>
         ensures taken { TakesNext M.seen self.old self.new performer.old performer.new result }
         ensures anyway { (request : Request) (start : ℕ) → channel_of request ≤ 15 →
             IsUnderWayAnyway desk_shows self.old.pace self.old.device start self.old.bus performer.old request →
@@ -111,7 +115,7 @@ impl<M: Medium> Hosted<M> {
         ensures tracks { tracks_on M.seen self.new ≡ tracks_on M.seen self.old }
         ensures counted { hosted_failures M.seen self.old ≤ hosted_failures M.seen self.new }
     {
-        match performer.next_byte(&mut self.bus) {
+        match performer.next_byte(&mut self.bus, watcher) {
             Some(said) => {
                 performer.begins(&self.bus);
                 Some(said)
@@ -127,7 +131,7 @@ impl<M: Medium> Hosted<M> {
     /// Carries out a request: an OPEN or a command, bytes put, a CLOSE, or a get or a status, of which it lets go what the drive
     /// says. If at most 200,000 bytes are moved, the drive then rests for the machine that the request leads to; on any disk it
     /// rests again, and the next request doesn't begin before this one.
-    pub fn carry_out(&mut self, request: Request)
+    pub fn carry_out<T: Watches>(&mut self, request: Request, watcher: &mut T)
         requires moment { self.old.moment < 2 ^ 58 }
         requires channel { channel_of request ≤ 15 }
         ensures rests { HasNotFailed M.seen self.old self.new →
@@ -142,7 +146,7 @@ impl<M: Medium> Hosted<M> {
     {
         request.sends_bytes();
         let mut performer = self.ask(request);
-        'bytes: while let Some(_said) = self.take(&mut performer) {}
+        'bytes: while let Some(_said) = self.take(&mut performer, watcher) {}
     }
 
     /// The medium, with all that was written to it.

@@ -6,7 +6,7 @@ ghost use Rattle.cbm_host.specs.Requests.{longest};
 use crate::due::Due;
 use crate::engine::Engine;
 use crate::request::Request;
-use cbm_drive::{Bus, Change, Event, Machine, Pace, Player, Who};
+use cbm_drive::{Bus, Change, Event, Half, Machine, Pace, Player, Watches, Who};
 use std::marker::Model;
 
 /// How long a request to a drive of this pace takes at most, in microseconds.
@@ -42,7 +42,7 @@ impl<'a> Model for Performer<'a> {
 }
 
 impl<'a> Performer<'a> {
-    ghost use Rattle.std.specs.Prelude.{◌≡◌, ◌+◌, ◌^◌, ◌<◌, ◌≤◌, ℕ, Bool, List, ◌∷◌, [], true, false, IfSome};
+    ghost use Rattle.std.specs.Prelude.{◌≡◌, ◌+◌, ◌^◌, ◌<◌, ◌≤◌, ◌⊎◌, ℕ, Bool, List, ◌∷◌, [], None, IfSome};
     ghost use Rattle.cbm_session.specs.Playing.{at_rest};
     ghost use Rattle.cbm_session.specs.Sessions.{IsDrive};
     ghost use Rattle.cbm_iec.specs.declared.party.Party.{Party};
@@ -51,6 +51,7 @@ impl<'a> Performer<'a> {
     ghost use Rattle.cbm_host.specs.CarriedOut.{IsShort};
     ghost use Rattle.cbm_host.specs.Performed.{IsPerforming};
     ghost use Rattle.cbm_host.specs.declared.request.Request.{Request};
+    ghost use Rattle.cbm_drive.specs.Halves.{IsHalfEvent};
     ghost use Rattle.cbm_drive.specs.Seats.{AreCarried};
     ghost use Rattle.cbm_host.specs.Progress.{left_of, FallsBy, HasAsked, HasHeeded};
     ghost use Rattle.cbm_host.specs.Hosted.{TakesOn, TakesNextByte};
@@ -109,11 +110,12 @@ impl<'a> Performer<'a> {
     }
 
     /// Goes on to the next byte that the host takes, and answers it and whether it carries EOI. None if the request is
-    /// over. On any disk the same holds for a machine that plays back what the drive showed.
+    /// over. On any disk the same holds for a machine that plays back what the drive showed. Each event is told as it comes.
     #[inline(always)]
-    pub fn next_byte<D: Machine, const N: usize>(
+    pub fn next_byte<D: Machine, T: Watches, const N: usize>(
         &mut self,
         bus: &mut Bus<D, N>,
+        watcher: &mut T,
     ) -> Option<(u8, bool)>
         requires one { N ≡ 1 }
         ensures taken { TakesNextByte _ D.State D.stands D.step D.says D.failures self.old self.new bus.old bus.new result }
@@ -122,11 +124,12 @@ impl<'a> Performer<'a> {
         ensures limit { self.new.limit ≡ self.old.limit }
         ensures carried { AreCarried D.lasting D.failures bus.old.drives bus.new.drives }
     {
-        'events: while let Some(_event) = self.next(bus) {
+        'events: while let Some(event) = self.next(bus) {
+            watcher.event(event);
             if let Some(said) = self.byte() {
                 return Some(said);
             }
-            self.gather(bus);
+            self.gather(bus, watcher);
         }
         None
     }
@@ -200,35 +203,42 @@ impl<'a> Performer<'a> {
     /// The halves of bits that the drive says next, one after the other, while the host waits for them. So a byte is taken much
     /// sooner than event by event. On any disk the same holds for a machine that plays back what the drive shows later.
     #[inline(always)]
-    fn gather<D: Machine, const N: usize>(&mut self, bus: &mut Bus<D, N>)
+    fn gather<D: Machine, T: Watches, const N: usize>(
+        &mut self,
+        bus: &mut Bus<D, N>,
+        watcher: &mut T,
+    )
         ensures taken { TakesOn _ D.State D.stands D.step D.says self.old self.new bus.old bus.new }
         ensures recorded { TakesOnRecorded D.shows self.old self.new bus.old bus.new }
         ensures fewer { left_of self.new bus.new ≤ left_of self.old bus.old }
         ensures limit { self.new.limit ≡ self.old.limit }
         ensures carried { AreCarried D.lasting D.failures bus.old.drives bus.new.drives }
     {
-        'halves: while self.half(bus) {}
+        'halves: while let Some(half) = self.next_half(bus) {
+            watcher.half(half);
+        }
     }
 
-    /// The next half of a bit, if the host waits for it. False if something else comes, or nothing, and then nothing has
-    /// changed. On any disk the same holds for a machine that plays back what the drive shows later.
+    /// The next half of a bit that the drive says, if the host waits for it: two events at once. None if something else comes, or
+    /// nothing, and then nothing has changed. On any disk the same holds for a machine that plays back what the drive shows later.
     #[inline(always)]
-    fn half<D: Machine, const N: usize>(&mut self, bus: &mut Bus<D, N>) -> bool
+    pub fn next_half<D: Machine, const N: usize>(&mut self, bus: &mut Bus<D, N>) -> Option<Half>
         ensures taken { TakesOn _ D.State D.stands D.step D.says self.old self.new bus.old bus.new }
         ensures recorded { TakesOnRecorded D.shows self.old self.new bus.old bus.new }
-        ensures fewer { result ≡ true → left_of self.new bus.new < left_of self.old bus.old }
-        ensures same { result ≡ false → (self.new ≡ self.old) × (bus.new ≡ bus.old) }
+        ensures half { IsHalfEvent self.old.player self.new.player bus.old bus.new self.old.limit result ⊎ (result ≡ None) }
+        ensures fewer { IfSome result (λ h. left_of self.new bus.new < left_of self.old bus.old) }
+        ensures same { result ≡ None → (self.new ≡ self.old) × (bus.new ≡ bus.old) }
         ensures limit { self.new.limit ≡ self.old.limit }
         ensures carried { AreCarried D.lasting D.failures bus.old.drives bus.new.drives }
     {
         if !self.engine.gathers() {
-            return false;
+            return None;
         }
         let Some(half) = self.player.half(bus, self.limit) else {
-            return false;
+            return None;
         };
         self.engine.heard(half);
-        true
+        Some(half)
     }
 
     /// The event that comes next.

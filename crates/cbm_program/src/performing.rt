@@ -8,6 +8,7 @@ use crate::fault::RunFault;
 use crate::line::ScriptLine;
 use crate::output::flush;
 use crate::request::ScriptRequest;
+use cbm_drive::Watches;
 use cbm_host::{Hosted, Request};
 use cbm_medium::Steady;
 use std::io::Write;
@@ -18,10 +19,11 @@ pub(crate) mod status;
 use getting::print_get;
 use status::print_status;
 
-/// Carries out a request, and prints what it prints.
-fn perform<M: Steady, W: Write>(
+/// Carries out a request, prints what it prints, and tells each event on the bus.
+fn perform<M: Steady, W: Write, T: Watches>(
     drive: &mut Hosted<M>,
     writer: &mut W,
+    watcher: &mut T,
     request: &ScriptRequest,
 ) -> Result<(), RunFault>
     requires request { IsInRange request.now }
@@ -32,30 +34,31 @@ fn perform<M: Steady, W: Write>(
 {
     match request {
         ScriptRequest::Open(channel, text) => {
-            drive.carry_out(Request::Open(*channel, text.as_slice()));
+            drive.carry_out(Request::Open(*channel, text.as_slice()), watcher);
             Ok(())
         }
         ScriptRequest::Put(channel, bytes) => {
-            drive.carry_out(Request::Put(*channel, bytes.as_slice()));
+            drive.carry_out(Request::Put(*channel, bytes.as_slice()), watcher);
             Ok(())
         }
         ScriptRequest::Fill(channel, count, byte) => {
-            drive.carry_out(Request::Fill(*channel, *count, *byte));
+            drive.carry_out(Request::Fill(*channel, *count, *byte), watcher);
             Ok(())
         }
-        ScriptRequest::Get(channel, most) => print_get(drive, writer, *channel, *most),
+        ScriptRequest::Get(channel, most) => print_get(drive, writer, watcher, *channel, *most),
         ScriptRequest::Close(channel) => {
-            drive.carry_out(Request::Close(*channel));
+            drive.carry_out(Request::Close(*channel), watcher);
             Ok(())
         }
-        ScriptRequest::Status => print_status(drive, writer),
+        ScriptRequest::Status => print_status(drive, writer, watcher),
     }
 }
 
 /// Carries out a line, and sends on what it prints.
-pub(crate) fn perform_line<M: Steady, W: Write>(
+pub(crate) fn perform_line<M: Steady, W: Write, T: Watches>(
     drive: &mut Hosted<M>,
     writer: &mut W,
+    watcher: &mut T,
     line: &ScriptLine,
 ) -> Result<(), RunFault>
     requires line { LineIsInRange line.now }
@@ -67,7 +70,7 @@ pub(crate) fn perform_line<M: Steady, W: Write>(
     match line {
         ScriptLine::Skipped => Ok(()),
         ScriptLine::Asks(request) => {
-            perform(drive, writer, request)?;
+            perform(drive, writer, watcher, request)?;
             flush(writer)
         }
     }

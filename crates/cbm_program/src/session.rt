@@ -15,6 +15,7 @@ use crate::numbered::next_line;
 use crate::performing::perform_line;
 use arrayvec::ArrayVec;
 use bus_traces::Source;
+use cbm_drive::Watches;
 use cbm_host::Hosted;
 use cbm_medium::Steady;
 use std::io::{Read, Write};
@@ -38,11 +39,12 @@ fn read_line<R: Read>(
 
 /// Runs a script on a drive, after its first line: carries a line out, and prints what comes of it before the next line
 /// is read.
-fn run_on<M: Steady, R: Read, W: Write>(
+fn run_on<M: Steady, R: Read, W: Write, T: Watches>(
     drive: &mut Hosted<M>,
     lines: &mut Source<R>,
     first: Option<ScriptLine>,
     writer: &mut W,
+    watcher: &mut T,
 ) -> Result<(), RunFault>
     requires first { IfSome first LineIsInRange }
     requires moment { drive.old.moment ≡ 1000 }
@@ -62,7 +64,7 @@ fn run_on<M: Steady, R: Read, W: Write>(
     let mut number = 1;
     let mut next = first;
     'lines: while let Some(line) = next {
-        perform_line(drive, writer, &line)?;
+        perform_line(drive, writer, watcher, &line)?;
         number += 1;
         next = read_line(lines, &mut bytes, number)?;
     }
@@ -70,12 +72,13 @@ fn run_on<M: Steady, R: Read, W: Write>(
 }
 
 /// Runs a script of requests, after its first line, on a drive that rests at power up, and gives its medium back with what
-/// the script wrote.
-pub(crate) fn run_requests<M: Steady + Drop, R: Read, W: Write>(
+/// the script wrote. Each event on the bus is told as it comes.
+pub(crate) fn run_requests<M: Steady + Drop, R: Read, W: Write, T: Watches>(
     drive: Hosted<M>,
     lines: &mut Source<R>,
     first: Option<ScriptLine>,
     writer: &mut W,
+    watcher: &mut T,
 ) -> Result<M, RunFault>
     requires first { IfSome first LineIsInRange }
     requires moment { drive.moment ≡ 1000 }
@@ -87,6 +90,6 @@ pub(crate) fn run_requests<M: Steady + Drop, R: Read, W: Write>(
     ensures cause { IfErr result IsOfScript }
 {
     let mut drive = drive;
-    run_on(&mut drive, lines, first, writer)?;
+    run_on(&mut drive, lines, first, writer, watcher)?;
     Ok(drive.into_medium())
 }

@@ -1,6 +1,6 @@
 -- Several changes: those that are left, after those that were made, are the whole.
 use Rattle.std.proofs.Common.{◌≡◌, ℕ, zero, suc, ◌+◌, ◌<◌, List, [], ◌∷◌, length, drop, drop-cons, get_or, arith, Bool, false, Result, Ok, Err, refl, sym, ap, subst, ◌∙◌, inl, inr}
-use Rattle.std.specs.Prelude.{MatchResult, IfOk, IfErr}
+use Rattle.std.specs.Prelude.{◌⊎◌, MatchResult, IfOk, IfErr}
 use Rattle.cbm_medium.specs.Seen.{Seen}
 use Rattle.cbm_file.specs.Files.{Disk}
 use Rattle.cbm_machine.specs.Machines.{start}
@@ -12,7 +12,7 @@ use Rattle.cbm_shell.specs.declared.fault.ShellFault.TheVariants as fault
 use Rattle.cbm_shell.specs.Images.{IsSaved, OrOpenFault}
 use Rattle.cbm_shell.specs.Changing.{disk_after_change, IsFine, IsUndone}
 use Rattle.cbm_shell.specs.Several.{AreMade, AreUndone, HoldsAfter, ImageAfter}
-use Rattle.cbm_shell.proofs.ImageLemmas.{saved_holds}
+use Rattle.cbm_shell.proofs.ImageLemmas.{as_other_fault, saved_holds}
 
 pub record UnderWay (left whole : List DiskChange) (protected : Bool) (tracks : ℕ) (d : Disk) (seen : Seen) : Type 0 where
   pub disk : Disk
@@ -67,6 +67,11 @@ unfolding AreUndone
 never_image [] protected tracks d n h = h
 never_image (change ∷ rest) protected tracks d n (inl h) = h
 never_image (change ∷ rest) protected tracks d n (inr h) = never_image rest protected tracks (disk_after_change change (start d protected tracks)).disk n h.1
+
+-- memory ran out for the drive of one of them, or one wasn't made
+pub or_memory : (image : List ℕ) (P : ShellFault → Type 0) (f : ShellFault) → ((n : ℕ) → P (fault.Image n) → ⊥) → (f ≡ fault.Memory) ⊎ P f → OrOpenFault image P f
+or_memory image P f never (inl e) = subst (OrOpenFault image P) (sym e) tt
+or_memory image P f never (inr h) = as_other_fault image P f never h
 
 -- the disk is saved, or memory for its image is refused
 pub saved_after : {A : Type 0} (image : List ℕ) (items : A → List ℕ) (changes : List DiskChange) (kind other : Kind) (tracks : ℕ) (d : Disk) (seen : Seen) (r : Result A ShellFault) → other ≡ kind

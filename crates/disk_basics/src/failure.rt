@@ -15,16 +15,21 @@ pub struct Failure {
 }
 
 impl Failure {
-    ghost use Rattle.std.specs.Prelude.{◌≡◌};
+    ghost use Rattle.std.specs.Prelude.{◌≡◌, ◌⊎◌};
     ghost use Rattle.disk_basics.specs.Exits.{exit_status};
+    ghost use Rattle.disk_basics.specs.declared.what.What.TheVariants.{NoMemory};
 
     /// A failure that is about no name.
-    pub fn new(what: What) -> Failure {
+    pub fn new(what: What) -> Failure
+        ensures { result.what ≡ what }
+    {
         Failure { what, name: None }
     }
 
-    /// A failure that is about a name. Where memory runs out for the name, that is what went wrong.
-    pub fn named(alloc: Global, what: What, name: &str) -> Failure {
+    /// A failure that is about a name. If memory runs out for the name, that is what went wrong.
+    pub fn named(alloc: Global, what: What, name: &str) -> Failure
+        ensures { (result.what ≡ what) ⊎ (result.what ≡ NoMemory) }
+    {
         match String::from_str(alloc, name) {
             Ok(name) => Failure {
                 what,

@@ -181,6 +181,7 @@ pub fn options_of(arguments: &Arguments<'_>) -> Options
 {
     Options {
         device: arguments.device.clamp(8, 11),
+        pace: arguments.pace,
         protected: arguments.is_read_only,
         check: arguments.is_checked,
     }

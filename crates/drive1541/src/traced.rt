@@ -5,8 +5,8 @@ use crate::failure::{RunFailure, Stream};
 use crate::noted::Noted;
 use crate::program::options_of;
 use bus_traces::{Picture, Recorder, TraceForm};
-use cbm_iec::Event;
-use cbm_program::{Manner, RunFault, Watches, run_at, run_direct, run_traced};
+use cbm_iec::{Event, Who};
+use cbm_program::{self, Half, RunFault, Watches, run_direct, run_watched};
 use either::Either;
 use std::io::{BufWriter, Printer, Read, Write};
 use std::rt::{Files, Runtime};
@@ -73,7 +73,7 @@ impl<F: Write, S: Write> Tracer<F, S> {
 }
 
 impl<F: Write, S: Write> Watches for Tracer<F, S> {
-    // Once it failed nothing more is written.
+    // After a failure nothing more is written.
     fn event(&mut self, event: Event) {
         if self.failed.is_some() {
             return;
@@ -83,6 +83,15 @@ impl<F: Write, S: Write> Watches for Tracer<F, S> {
         self.note(recorded, Stream::Trace);
         let drawn = self.draw(event);
         self.note(drawn, Stream::Output);
+    }
+
+    fn half(&mut self, half: Half) {
+        for change in half.changes().as_slice() {
+            self.event(Event {
+                who: Who::Drive(half.device),
+                change: *change,
+            });
+        }
     }
 }
 
@@ -149,7 +158,7 @@ fn begin<'a, R: Runtime + AllocGlobal>(
 }
 
 /// Runs a script whose events are watched, on a drive with direct access if that is asked for.
-fn run_watched<R: Runtime + AllocGlobal, S: Read, W: Write, T: Watches>(
+fn run_traced<R: Runtime + AllocGlobal, S: Read, W: Write, T: Watches>(
     rt: &R,
     script: &mut Noted<S>,
     output: &mut W,
@@ -158,13 +167,9 @@ fn run_watched<R: Runtime + AllocGlobal, S: Read, W: Write, T: Watches>(
     arguments: &Arguments<'_>,
 ) -> Result<Vec<u8>, RunFault> {
     let options = options_of(arguments);
-    let pace = arguments.pace;
     match arguments.direct {
-        Some(access) => {
-            let manner = Manner { pace, access };
-            run_direct(rt.alloc(), manner, script, output, watcher, image, &options)
-        }
-        None => run_traced(rt.alloc(), pace, script, output, watcher, image, &options),
+        Some(access) => run_direct(rt.alloc(), access, script, output, watcher, image, &options),
+        None => run_watched(rt.alloc(), script, output, watcher, image, &options),
     }
 }
 
@@ -178,12 +183,12 @@ pub fn run<R: Runtime + AllocGlobal, S: Read, W: Write>(
 ) -> Result<Vec<u8>, RunFailure> {
     let options = options_of(arguments);
     if !arguments.is_traced() && arguments.direct.is_none() {
-        return run_at(rt.alloc(), arguments.pace, script, output, image, &options).map_err(
+        return cbm_program::run(rt.alloc(), script, output, image, &options).map_err(
             RunFailure::of_run,
         );
     }
     let mut tracer = begin(rt, arguments)?;
-    let ended = run_watched(rt, script, output, &mut tracer, image, arguments);
+    let ended = run_traced(rt, script, output, &mut tracer, image, arguments);
     let traced = tracer.end();
     let saved = ended.map_err(RunFailure::of_run)?;
     traced?;

@@ -4,7 +4,7 @@ ghost use Rattle.std.specs.Prelude.{◌≤◌};
 ghost use Rattle.cbm_host.specs.Engines.{channel_of};
 
 use crate::wired::{Wired, empty_disk};
-use cbm_drive::{Channels, Pace};
+use cbm_drive::{Channels, Pace, Unwatched};
 use cbm_host::{Hosted, Request};
 use std::alloc::Global;
 use std::process::Abort;
@@ -120,15 +120,15 @@ fn bytes_are_taken_one_by_one(rt: HostRuntime) -> Result<(), Fail> {
     wired.asks(&rt, rt.alloc(), Request::Open(2, b"DATA,S,R"))?;
     let done = wired.asks(&rt, rt.alloc(), Request::Get(2, 1000))?;
     let mut hosted = Hosted::new(empty_disk(rt.alloc())?, Channels::new(rt.alloc())?, 8);
-    hosted.carry_out(Request::Open(2, b"DATA,S,W"));
-    hosted.carry_out(Request::Put(2, bytes.as_slice()));
-    hosted.carry_out(Request::Close(2));
-    hosted.carry_out(Request::Open(2, b"DATA,S,R"));
+    hosted.carry_out(Request::Open(2, b"DATA,S,W"), &mut Unwatched);
+    hosted.carry_out(Request::Put(2, bytes.as_slice()), &mut Unwatched);
+    hosted.carry_out(Request::Close(2), &mut Unwatched);
+    hosted.carry_out(Request::Open(2, b"DATA,S,R"), &mut Unwatched);
     let mut performer = hosted.ask(Request::Get(2, 1000));
     let mut taken = Vec::new(rt.alloc());
     let mut marked = false;
     for _ in 0..1000u16 {
-        if let Some((byte, last)) = hosted.take(&mut performer) {
+        if let Some((byte, last)) = hosted.take(&mut performer, &mut Unwatched) {
             taken.push(byte)?;
             marked = last;
         }

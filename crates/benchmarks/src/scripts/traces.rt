@@ -1,10 +1,10 @@
 //! A script whose events are handed on, and written.
 
-use super::{READING, WRITABLE};
+use super::{READING, writable};
 use crate::disks::{failed, report};
 use bus_traces::{Recorder, TraceForm};
-use cbm_iec::Event;
-use cbm_program::{Pace, Watches, run_traced};
+use cbm_iec::{Event, Who};
+use cbm_program::{Half, Pace, Watches, run_watched};
 use std::alloc::Global;
 use std::io;
 use std::io::Write;
@@ -39,6 +39,15 @@ impl Watches for Tracer {
             let _ = recorder.event(event);
         }
     }
+
+    fn half(&mut self, half: Half) {
+        for change in half.changes().as_slice() {
+            self.event(Event {
+                who: Who::Drive(half.device),
+                change: *change,
+            });
+        }
+    }
 }
 
 /// Prints the time of an event of a script that reads a file of 664 blocks.
@@ -52,14 +61,13 @@ fn timed(
     let mut tracer = tracer;
     let mut out: Vec<u8> = Vec::new(alloc);
     let start = Instant::now(rt)?;
-    let ended = run_traced(
+    let ended = run_watched(
         alloc,
-        Pace::Profile,
         READING.as_bytes(),
         &mut out,
         &mut tracer,
         image,
-        &WRITABLE,
+        &writable(Pace::Profile),
     );
     report(rt, name, &start, tracer.events)?;
     match ended {

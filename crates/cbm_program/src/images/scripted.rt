@@ -8,29 +8,31 @@ ghost use Rattle.cbm_program.specs.Running.{LineRead, LineIsInRange, EndsAs, IsO
 ghost use Rattle.cbm_program.specs.Starts.{IsDevice, StartsFrom, KeptBy};
 ghost use Rattle.cbm_program.specs.Traces.{WritesTrace};
 
+use crate::direct::{Bench, DirectCable, change_direct, serve_direct};
 use crate::fault::RunFault;
 use crate::line::ScriptLine;
 use crate::session::run_requests;
 use crate::station::Station;
-use crate::watched::{Bench, DirectCable, PlainCable, change_watched, serve_watched};
 use crate::wires::{Stage, run_changes};
-use bus_traces::{Source, Watches};
+use bus_traces::Source;
 use cbm_d64::D64Disk;
 use cbm_direct_desk::Access;
+use cbm_drive::Watches;
 use cbm_g64::G64Disk;
 use cbm_host::Hosted;
 use cbm_image::DiskImage;
 use std::io::{Read, Write};
 
 /// The disk of an image, on which a drive of this pace and with this device number runs scripts from power up. Each call gives the
-/// disk back with what came of the script. Errors: `Script`, `Reading` or `Writing`.
+/// disk back with what came of the script, and tells each event on the bus as it comes. Errors: `Script`, `Reading` or `Writing`.
 pub(crate) trait RunsScripts: DiskImage {
     /// Plays a script of line changes, after its first line.
-    fn play<R: Read, W: Write>(
+    fn play<R: Read, W: Write, T: Watches>(
         self,
         station: Station,
         lines: &mut Source<R>,
         writer: &mut W,
+        watcher: &mut T,
     ) -> Result<Self, RunFault>
         requires { IsDevice station.device }
         ensures played { (input : Option (List ℕ)) → TakesLine input (source_bytes_left R.remaining lines.old) (codes "lines") →
@@ -44,12 +46,13 @@ pub(crate) trait RunsScripts: DiskImage {
         ensures cause { IfErr result IsOfScript };
 
     /// Carries out a script of requests, after its first line.
-    fn serve<R: Read, W: Write>(
+    fn serve<R: Read, W: Write, T: Watches>(
         self,
         station: Station,
         lines: &mut Source<R>,
         first: Option<ScriptLine>,
         writer: &mut W,
+        watcher: &mut T,
     ) -> Result<Self, RunFault>
         requires first { IfSome first LineIsInRange }
         requires device { IsDevice station.device }
@@ -59,18 +62,6 @@ pub(crate) trait RunsScripts: DiskImage {
         ensures grows { AppendsMore (W.contents writer.old) (W.contents writer.new) }
         ensures same_tracks { IfOk result (λ after. (Self.seen after).tracks ≡ (Self.seen self).tracks) }
         ensures cause { IfErr result IsOfScript };
-
-    /// Carries out a script of requests as `serve` does, and hands on each event on the bus as it comes.
-    fn watch<R: Read, W: Write, T: Watches>(
-        self,
-        station: Station,
-        lines: &mut Source<R>,
-        first: Option<ScriptLine>,
-        writer: &mut W,
-        watcher: &mut T,
-    ) -> Result<Self, RunFault>
-        requires first { IfSome first LineIsInRange }
-        requires last { station.device ≤ 11 };
 
     /// Carries out a script of requests, after its first line, on a drive with direct access, and hands on each event on the bus.
     fn watch_direct<R: Read, W: Write, T: Watches>(
@@ -86,22 +77,24 @@ pub(crate) trait RunsScripts: DiskImage {
         requires last { station.device ≤ 11 };
 
     /// Plays a script of line changes, after its first line, on a drive with direct access.
-    fn change_direct<R: Read, W: Write>(
+    fn change_direct<R: Read, W: Write, T: Watches>(
         self,
         station: Station,
         access: Access,
         lines: &mut Source<R>,
         writer: &mut W,
+        watcher: &mut T,
     ) -> Result<Self, RunFault>
         requires { station.device ≤ 11 };
 }
 
 impl RunsScripts for D64Disk {
-    fn play<R: Read, W: Write>(
+    fn play<R: Read, W: Write, T: Watches>(
         self,
         station: Station,
         lines: &mut Source<R>,
         writer: &mut W,
+        watcher: &mut T,
     ) -> Result<D64Disk, RunFault> {
         let Station {
             device,
@@ -109,26 +102,10 @@ impl RunsScripts for D64Disk {
             channels,
         } = station;
         let stage = Stage::new(self, channels, device, pace);
-        run_changes(stage, device, pace, lines, writer)
+        run_changes(stage, device, pace, lines, writer, watcher)
     }
 
-    fn serve<R: Read, W: Write>(
-        self,
-        station: Station,
-        lines: &mut Source<R>,
-        first: Option<ScriptLine>,
-        writer: &mut W,
-    ) -> Result<D64Disk, RunFault> {
-        let Station {
-            device,
-            pace,
-            channels,
-        } = station;
-        let hosted = Hosted::with_pace(self, channels, device, pace);
-        run_requests(hosted, lines, first, writer)
-    }
-
-    fn watch<R: Read, W: Write, T: Watches>(
+    fn serve<R: Read, W: Write, T: Watches>(
         self,
         station: Station,
         lines: &mut Source<R>,
@@ -136,9 +113,13 @@ impl RunsScripts for D64Disk {
         writer: &mut W,
         watcher: &mut T,
     ) -> Result<D64Disk, RunFault> {
-        let (device, pace) = (station.device, station.pace);
-        let bench = Bench::new(PlainCable::new(self, station), device, pace);
-        serve_watched(bench, lines, first, writer, watcher)
+        let Station {
+            device,
+            pace,
+            channels,
+        } = station;
+        let hosted = Hosted::with_pace(self, channels, device, pace);
+        run_requests(hosted, lines, first, writer, watcher)
     }
 
     fn watch_direct<R: Read, W: Write, T: Watches>(
@@ -152,26 +133,33 @@ impl RunsScripts for D64Disk {
     ) -> Result<D64Disk, RunFault> {
         let (device, pace) = (station.device, station.pace);
         let bench = Bench::new(DirectCable::new(self, station, access), device, pace);
-        serve_watched(bench, lines, first, writer, watcher)
+        serve_direct(bench, lines, first, writer, watcher)
     }
 
-    fn change_direct<R: Read, W: Write>(
+    fn change_direct<R: Read, W: Write, T: Watches>(
         self,
         station: Station,
         access: Access,
         lines: &mut Source<R>,
         writer: &mut W,
+        watcher: &mut T,
     ) -> Result<D64Disk, RunFault> {
-        change_watched(DirectCable::new(self, station, access), lines, writer)
+        change_direct(
+            DirectCable::new(self, station, access),
+            lines,
+            writer,
+            watcher,
+        )
     }
 }
 
 impl RunsScripts for G64Disk {
-    fn play<R: Read, W: Write>(
+    fn play<R: Read, W: Write, T: Watches>(
         self,
         station: Station,
         lines: &mut Source<R>,
         writer: &mut W,
+        watcher: &mut T,
     ) -> Result<G64Disk, RunFault> {
         let Station {
             device,
@@ -179,26 +167,10 @@ impl RunsScripts for G64Disk {
             channels,
         } = station;
         let stage = Stage::new(self, channels, device, pace);
-        run_changes(stage, device, pace, lines, writer)
+        run_changes(stage, device, pace, lines, writer, watcher)
     }
 
-    fn serve<R: Read, W: Write>(
-        self,
-        station: Station,
-        lines: &mut Source<R>,
-        first: Option<ScriptLine>,
-        writer: &mut W,
-    ) -> Result<G64Disk, RunFault> {
-        let Station {
-            device,
-            pace,
-            channels,
-        } = station;
-        let hosted = Hosted::with_pace(self, channels, device, pace);
-        run_requests(hosted, lines, first, writer)
-    }
-
-    fn watch<R: Read, W: Write, T: Watches>(
+    fn serve<R: Read, W: Write, T: Watches>(
         self,
         station: Station,
         lines: &mut Source<R>,
@@ -206,9 +178,13 @@ impl RunsScripts for G64Disk {
         writer: &mut W,
         watcher: &mut T,
     ) -> Result<G64Disk, RunFault> {
-        let (device, pace) = (station.device, station.pace);
-        let bench = Bench::new(PlainCable::new(self, station), device, pace);
-        serve_watched(bench, lines, first, writer, watcher)
+        let Station {
+            device,
+            pace,
+            channels,
+        } = station;
+        let hosted = Hosted::with_pace(self, channels, device, pace);
+        run_requests(hosted, lines, first, writer, watcher)
     }
 
     fn watch_direct<R: Read, W: Write, T: Watches>(
@@ -222,16 +198,22 @@ impl RunsScripts for G64Disk {
     ) -> Result<G64Disk, RunFault> {
         let (device, pace) = (station.device, station.pace);
         let bench = Bench::new(DirectCable::new(self, station, access), device, pace);
-        serve_watched(bench, lines, first, writer, watcher)
+        serve_direct(bench, lines, first, writer, watcher)
     }
 
-    fn change_direct<R: Read, W: Write>(
+    fn change_direct<R: Read, W: Write, T: Watches>(
         self,
         station: Station,
         access: Access,
         lines: &mut Source<R>,
         writer: &mut W,
+        watcher: &mut T,
     ) -> Result<G64Disk, RunFault> {
-        change_watched(DirectCable::new(self, station, access), lines, writer)
+        change_direct(
+            DirectCable::new(self, station, access),
+            lines,
+            writer,
+            watcher,
+        )
     }
 }

@@ -11,6 +11,7 @@ ghost use Rattle.cbm_program.specs.Units.{unit_text, get_head};
 use crate::fault::RunFault;
 use crate::output::print;
 use arrayvec::ArrayVec;
+use cbm_drive::Watches;
 use cbm_host::{Hosted, Performer, Request};
 use cbm_medium::Steady;
 use itoa::Buffer;
@@ -37,17 +38,18 @@ pub(crate) fn print_byte<W: Write>(writer: &mut W, byte: u8, is_last: bool) -> R
 }
 
 /// Prints the bytes that a channel sends on, each as it comes.
-pub(crate) fn print_bytes<M: Steady, W: Write>(
+pub(crate) fn print_bytes<M: Steady, W: Write, T: Watches>(
     drive: &mut Hosted<M>,
     performer: &mut Performer,
     writer: &mut W,
+    watcher: &mut T,
 ) -> Result<(), RunFault>
     ensures said { SaysRest M.seen result (W.contents writer.old) (W.contents writer.new) drive.old drive.new performer.old }
     ensures soon { drive.old.moment ≤ performer.old.limit → drive.new.moment ≤ performer.old.limit }
     ensures pace { drive.new.pace ≡ drive.old.pace }
     ensures tracks { tracks_on M.seen drive.new ≡ tracks_on M.seen drive.old }
 {
-    'bytes: while let Some((byte, is_last)) = drive.take(performer) {
+    'bytes: while let Some((byte, is_last)) = drive.take(performer, watcher) {
         print_byte(writer, byte, is_last)?;
     }
     Ok(())
@@ -68,9 +70,10 @@ pub(crate) fn print_head<W: Write>(writer: &mut W, channel: u8, tail: &[u8]) -> 
 }
 
 /// Carries out a get: what a channel sends is printed as it comes, in one line.
-pub(crate) fn print_get<M: Steady, W: Write>(
+pub(crate) fn print_get<M: Steady, W: Write, T: Watches>(
     drive: &mut Hosted<M>,
     writer: &mut W,
+    watcher: &mut T,
     channel: u8,
     most: u32,
 ) -> Result<(), RunFault>
@@ -81,11 +84,11 @@ pub(crate) fn print_get<M: Steady, W: Write>(
     ensures drive { GoesOnHosting M.seen drive.old drive.new }
 {
     let mut performer = drive.ask(Request::Get(channel, most));
-    let Some((byte, is_last)) = drive.take(&mut performer) else {
+    let Some((byte, is_last)) = drive.take(&mut performer, watcher) else {
         return print_head(writer, channel, b" none\n");
     };
     print_head(writer, channel, b" ")?;
     print_byte(writer, byte, is_last)?;
-    print_bytes(drive, &mut performer, writer)?;
+    print_bytes(drive, &mut performer, writer, watcher)?;
     print(writer, b"\n")
 }

@@ -11,6 +11,7 @@ ghost use Rattle.cbm_program.specs.Scripts.{printed_by};
 use crate::fault::RunFault;
 use crate::output::print;
 use arrayvec::ArrayVec;
+use cbm_drive::Watches;
 use cbm_host::{Hosted, Request};
 use cbm_medium::Steady;
 use std::io::Write;
@@ -36,7 +37,7 @@ pub(crate) fn keep(line: &mut ArrayVec<u8, 33>, byte: u8)
 }
 
 /// The status line as channel 15 sends it, to its end.
-fn status_line<M: Steady>(drive: &mut Hosted<M>) -> ArrayVec<u8, 33>
+fn status_line<M: Steady, T: Watches>(drive: &mut Hosted<M>, watcher: &mut T) -> ArrayVec<u8, 33>
     requires { drive.old.moment < 2 ^ 58 }
     ensures told { (m : Machine) → Rests M.seen drive.old m
         → ((status_said m).bytes ≡ result.items) × Rests M.seen drive.new (status_said m).machine }
@@ -44,23 +45,24 @@ fn status_line<M: Steady>(drive: &mut Hosted<M>) -> ArrayVec<u8, 33>
 {
     let mut line = ArrayVec::new();
     let mut performer = drive.ask(Request::Status);
-    'bytes: while let Some((byte, _last)) = drive.take(&mut performer) {
+    'bytes: while let Some((byte, _last)) = drive.take(&mut performer, watcher) {
         keep(&mut line, byte);
     }
     line
 }
 
 /// Carries out a status: the line is read to its end, and printed.
-pub(crate) fn print_status<M: Steady, W: Write>(
+pub(crate) fn print_status<M: Steady, W: Write, T: Watches>(
     drive: &mut Hosted<M>,
     writer: &mut W,
+    watcher: &mut T,
 ) -> Result<(), RunFault>
     requires { drive.old.moment < 2 ^ 58 }
     ensures printed { HasPrinted M.seen result (W.contents writer.old) (W.contents writer.new) drive.old drive.new
         (printed_by drive.old.pace Status) }
     ensures drive { GoesOnHosting M.seen drive.old drive.new }
 {
-    let told = status_line(drive);
+    let told = status_line(drive, watcher);
     let mut line = ArrayVec::<u8, 64>::new();
     line.try_extend_from_slice(b"status ").unwrap();
     line.try_extend_from_slice(without_return(told.as_slice()))

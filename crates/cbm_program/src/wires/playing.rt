@@ -20,7 +20,7 @@ use crate::numbered::next_line;
 use crate::output::flush;
 use arrayvec::ArrayVec;
 use bus_traces::Source;
-use cbm_drive::Pace;
+use cbm_drive::{Pace, Watches};
 use cbm_medium::Steady;
 use std::io::{Read, Write};
 
@@ -62,12 +62,13 @@ fn read_after_end<R: Read>(
 /// before the next line is read; what comes of the last one is printed when the end and the lines after it were read. Up to
 /// the script's end or its first bad line its trace was written, and the drive is in the state after it, whatever it
 /// represents; at a fault a beginning of that was written.
-fn play_on<M: Steady, R: Read, W: Write>(
+fn play_on<M: Steady, R: Read, W: Write, T: Watches>(
     stage: &mut Stage<M>,
     device: u8,
     pace: Pace,
     lines: &mut Source<R>,
     writer: &mut W,
+    watcher: &mut T,
 ) -> Result<(), RunFault>
     requires open { IsOpen stage.old.player 0 }
     requires one { length (tracks_of_drives M.seen stage.old.bus) ≡ 1 }
@@ -92,13 +93,13 @@ fn play_on<M: Steady, R: Read, W: Write>(
         match read_timed(lines, &mut bytes, number, from)? {
             Timed::Skipped => {}
             Timed::Changes(change) => {
-                stage.change(change, writer)?;
+                stage.change(change, writer, watcher)?;
                 flush(writer)?;
                 from = change.moment;
             }
             Timed::Ends(end) => {
                 read_after_end(lines, &mut bytes, number + 1)?;
-                stage.end(end, writer)?;
+                stage.end(end, writer, watcher)?;
                 flush(writer)?;
                 return Ok(());
             }
@@ -108,13 +109,14 @@ fn play_on<M: Steady, R: Read, W: Write>(
 }
 
 /// Plays a script of line changes, after its first line, on a drive of this pace that stands at power up, with a device number
-/// from 8 to 11, and gives its medium back with what came of it.
-pub(crate) fn run_changes<M: Steady + Drop, R: Read, W: Write>(
+/// from 8 to 11, and gives its medium back with what came of it. Each event on the bus is told as it is printed.
+pub(crate) fn run_changes<M: Steady + Drop, R: Read, W: Write, T: Watches>(
     stage: Stage<M>,
     device: u8,
     pace: Pace,
     lines: &mut Source<R>,
     writer: &mut W,
+    watcher: &mut T,
 ) -> Result<M, RunFault>
     requires open { IsOpen stage.player 0 }
     requires one { length (tracks_of_drives M.seen stage.bus) ≡ 1 }
@@ -132,6 +134,6 @@ pub(crate) fn run_changes<M: Steady + Drop, R: Read, W: Write>(
     ensures cause { IfErr result IsOfScript }
 {
     let mut stage = stage;
-    play_on(&mut stage, device, pace, lines, writer)?;
+    play_on(&mut stage, device, pace, lines, writer, watcher)?;
     Ok(stage.into_medium())
 }

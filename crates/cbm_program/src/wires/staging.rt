@@ -14,7 +14,7 @@ ghost use Rattle.cbm_drive.specs.KeptDesks.{KeptDesk};
 use crate::fault::RunFault;
 use crate::output::print;
 use bus_traces::event_text;
-use cbm_drive::{Bus, Change, Channels, Desk, Drive, Event, Pace, Party, Player, Who};
+use cbm_drive::{Bus, Change, Channels, Desk, Drive, Event, Pace, Party, Player, Watches, Who};
 use cbm_medium::Steady;
 use std::io::Write;
 
@@ -57,11 +57,12 @@ impl<M: Steady> Stage<M> {
         }
     }
 
-    /// The host changes a line: the reactions that are due before come first, and all is printed.
-    pub(crate) fn change<W: Write>(
+    /// The host changes a line: the reactions that are due before come first, and all is printed, and told.
+    pub(crate) fn change<W: Write, T: Watches>(
         &mut self,
         change: Change,
         writer: &mut W,
+        watcher: &mut T,
     ) -> Result<(), RunFault>
         requires open { IsOpen self.old.player change.moment }
         requires moment { change.moment < 2 ^ 59 - 1 }
@@ -77,6 +78,7 @@ impl<M: Steady> Stage<M> {
         self.player.offer(change).unwrap();
         'events: while let Some(event) = self.player.next(&mut self.bus, change.moment) {
             print_event(writer, event)?;
+            watcher.event(event);
             if let Who::Host = event.who {
                 return Ok(());
             }
@@ -84,8 +86,13 @@ impl<M: Steady> Stage<M> {
         Ok(())
     }
 
-    /// The reactions that are due up to an end, in microseconds, happen and are printed.
-    pub(crate) fn end<W: Write>(&mut self, end: u64, writer: &mut W) -> Result<(), RunFault>
+    /// The reactions that are due up to an end, in microseconds, happen and are printed, and told.
+    pub(crate) fn end<W: Write, T: Watches>(
+        &mut self,
+        end: u64,
+        writer: &mut W,
+        watcher: &mut T,
+    ) -> Result<(), RunFault>
         requires open { IsOpen self.old.player end }
         requires moment { end < 2 ^ 59 - 1 }
         ensures ok { OnOk result (Ends M.seen (W.contents writer.old) (W.contents writer.new) end
@@ -98,6 +105,7 @@ impl<M: Steady> Stage<M> {
     {
         'events: while let Some(event) = self.player.finish(&mut self.bus, end) {
             print_event(writer, event)?;
+            watcher.event(event);
         }
         Ok(())
     }

@@ -1,5 +1,5 @@
 //! Several changes of one disk, one after another.
-ghost use Rattle.std.specs.Prelude.{◌≡◌, ◌<◌, None, false, length, IfOk, OnOk, MatchResult};
+ghost use Rattle.std.specs.Prelude.{◌≡◌, ◌<◌, ◌⊎◌, None, false, length, IfOk, OnOk, MatchResult};
 ghost use Rattle.cbm_file.specs.Files.{Disk};
 ghost use Rattle.cbm_volume.specs.Holding.{HoldsDisk};
 ghost use Rattle.cbm_image.specs.Images.{kind_of, image_fault, tracks_of, ImageHolds};
@@ -16,7 +16,7 @@ use cbm_image::{DiskImage, Kind, kind_of};
 use cbm_medium::Steady;
 use std::alloc::Global;
 
-/// Makes changes on a disk, one after another. Errors: as of the first change that isn't made.
+/// Makes changes on a disk, one after another. Errors: as of the first change that isn't made; `Memory`.
 fn changed_by<M: Steady + Drop>(
     alloc: Global,
     medium: M,
@@ -24,7 +24,7 @@ fn changed_by<M: Steady + Drop>(
 ) -> Result<M, ShellFault>
     ensures made { let old = M.seen medium in (d : Disk) → HoldsDisk old.tracks old.content d → MatchResult result
         (λ after. HoldsAfter changes.now old.protected old.tracks d (M.seen after))
-        (AreUndone changes.now old.protected old.tracks d) }
+        (λ fault. (fault ≡ ShellFault.Memory) ⊎ AreUndone changes.now old.protected old.tracks d fault) }
     ensures sound { 0 < length changes.now → OnOk result (IsSoundDisk (M.seen medium).tracks (M.seen medium).content) }
 {
     let mut disk = medium;

@@ -1,9 +1,11 @@
-use Rattle.std.proofs.Common.{ap, subst, ◌∙◌, Err, false}
+use Rattle.std.proofs.Common.{◌≡◌, ap, subst, ◌∙◌, Err, false}
+use Rattle.std.specs.Prelude.{◌⊎◌}
+use Rattle.cbm_shell.specs.declared.fault.ShellFault.TheVariants as fault
 use Rattle.std.proofs.lemmas.Result.{err_from_is_err_and}
 use Rattle.cbm_image.specs.Images.{kind_of, tracks_of}
 use Rattle.cbm_shell.specs.Several.{AreUndone, HoldsAfter}
-use Rattle.cbm_shell.proofs.ImageLemmas.{opened_holds, as_open_fault, as_other_fault}
-use Rattle.cbm_shell.proofs.SeveralLemmas.{saved_after, never_image}
+use Rattle.cbm_shell.proofs.ImageLemmas.{opened_holds, as_open_fault}
+use Rattle.cbm_shell.proofs.SeveralLemmas.{saved_after, never_image, or_memory}
 use Rattle.cbm_shell.proofs.changing.several.changes_in.Goals as goal
 
 pub returns-in_err-disk-clause-made : goal.returns-in_err-disk-clause-made
@@ -16,9 +18,9 @@ returns-in_err-disk-2-clause-made g c = λ d h.
     let seen = g.I.Medium.seen c.in_ok-disk.disk in
     let opened = c.in_ok-disk.ensures.ok in
     let p = err_from_is_err_and c.from_residual-in_err-disk-2.result c.from_residual-in_err-disk-2.ensures.1 in
-    rw (p.1 ∙ ap Err p.2) (as_other_fault c.args.image.now (AreUndone c.args.changes.now false (tracks_of (kind_of c.args.image.now) c.args.image.now) d) _ (never_image c.args.changes.now false (tracks_of (kind_of c.args.image.now) c.args.image.now) d)
-    (subst (λ t. AreUndone c.args.changes.now false t d c.in_err-disk-2.field-0.0) opened.same_tracks
-    (subst (λ b. AreUndone c.args.changes.now b seen.tracks d c.in_err-disk-2.field-0.0) opened.free
+    rw (p.1 ∙ ap Err p.2) (or_memory c.args.image.now (AreUndone c.args.changes.now false (tracks_of (kind_of c.args.image.now) c.args.image.now) d) _ (never_image c.args.changes.now false (tracks_of (kind_of c.args.image.now) c.args.image.now) d)
+    (subst (λ t. (c.in_err-disk-2.field-0.0 ≡ fault.Memory) ⊎ AreUndone c.args.changes.now false t d c.in_err-disk-2.field-0.0) opened.same_tracks
+    (subst (λ b. (c.in_err-disk-2.field-0.0 ≡ fault.Memory) ⊎ AreUndone c.args.changes.now b seen.tracks d c.in_err-disk-2.field-0.0) opened.free
     (c.in_err-disk-2.ensures.made d (opened_holds c.args.image.now seen d opened h)))))
 
 pub returns-clause-made : goal.returns-clause-made

@@ -1,9 +1,9 @@
-//! A drive alone on a cable with a host, whatever its machine is.
+//! A drive with direct access alone on a cable with a host.
 ghost use Rattle.std.specs.Prelude.{◌≡◌, ◌≤◌, ◌<◌, ◌^◌};
 
 use crate::station::Station;
 use cbm_direct_desk::{Access, DirectDesk, disk_of, drive_with};
-use cbm_drive::{Bus, Desk, Drive, Event, Pace, Party, Player};
+use cbm_drive::{Bus, Drive, Event, Half, Pace, Party, Player};
 use cbm_host::Performer;
 use cbm_medium::Steady;
 
@@ -30,53 +30,15 @@ pub(crate) trait Cable {
     /// The next event of a request; None if the request is over.
     fn next(&mut self, performer: &mut Performer) -> Option<Event>;
 
+    /// The next half of a bit that the drive says, if the host waits for it.
+    fn half(&mut self, performer: &mut Performer) -> Option<Half>;
+
     /// The next event of line changes up to a moment, in microseconds; None if none comes by then.
     fn change(&mut self, player: &mut Player, upto: u64) -> Option<Event>
         requires { upto < 2 ^ 59 };
 
     /// The medium, with all that was written to it.
     fn into_medium(self) -> Self::Medium;
-}
-
-/// The cable of a drive as it is by default.
-#[derive(Drop)]
-pub(crate) struct PlainCable<M: Steady> {
-    bus: Bus<Desk<M>, 1>,
-}
-
-impl<M: Steady> PlainCable<M> {
-    /// The drive at power up with this medium.
-    pub(crate) fn new(medium: M, station: Station) -> PlainCable<M>
-        requires { station.device ≤ 11 }
-    {
-        let Station {
-            device,
-            pace,
-            channels,
-        } = station;
-        let desk = Desk::at_power_up(medium, channels, device).with_pace(pace);
-        PlainCable {
-            bus: Bus::new([Drive::new(desk, party_of(device, pace))]),
-        }
-    }
-}
-
-impl<M: Steady> Cable for PlainCable<M> {
-    type Medium = M;
-
-    fn next(&mut self, performer: &mut Performer) -> Option<Event> {
-        performer.next(&mut self.bus)
-    }
-
-    fn change(&mut self, player: &mut Player, upto: u64) -> Option<Event> {
-        player.next(&mut self.bus, upto)
-    }
-
-    fn into_medium(self) -> M {
-        let PlainCable { bus, .. } = self;
-        let [drive] = bus.into_drives();
-        drive.into_machine().into_medium()
-    }
 }
 
 /// A drive alone on a cable.
@@ -111,6 +73,10 @@ impl<M: Steady> Cable for DirectCable<M> {
 
     fn next(&mut self, performer: &mut Performer) -> Option<Event> {
         performer.next(&mut self.bus)
+    }
+
+    fn half(&mut self, performer: &mut Performer) -> Option<Half> {
+        performer.next_half(&mut self.bus)
     }
 
     fn change(&mut self, player: &mut Player, upto: u64) -> Option<Event> {

@@ -8,15 +8,16 @@ use crate::output::{flush, print};
 use crate::wires::{Timed, is_skipped, timed_from};
 use arrayvec::ArrayVec;
 use bus_traces::{Source, event_text};
-use cbm_drive::{Change, Player, Who};
+use cbm_drive::{Change, Player, Watches, Who};
 use std::io::{Read, Write};
 
-/// The host changes a line: the reactions that are due before come first, and all is printed.
-fn change<C: Cable, W: Write>(
+/// The host changes a line: the reactions that are due before come first, and all is printed, and told.
+fn change<C: Cable, W: Write, T: Watches>(
     cable: &mut C,
     player: &mut Player,
     change: Change,
     writer: &mut W,
+    watcher: &mut T,
 ) -> Result<(), RunFault>
     requires { change.moment < 2 ^ 59 }
 {
@@ -28,6 +29,7 @@ fn change<C: Cable, W: Write>(
             break;
         };
         print(writer, event_text(event).as_slice())?;
+        watcher.event(event);
         if let Who::Host = event.who {
             return Ok(());
         }
@@ -35,12 +37,13 @@ fn change<C: Cable, W: Write>(
     Ok(())
 }
 
-/// The reactions that are due up to an end, in microseconds, happen and are printed.
-fn end<C: Cable, W: Write>(
+/// The reactions that are due up to an end, in microseconds, happen and are printed, and told.
+fn end<C: Cable, W: Write, T: Watches>(
     cable: &mut C,
     player: &mut Player,
     end: u64,
     writer: &mut W,
+    watcher: &mut T,
 ) -> Result<(), RunFault>
     requires { end < 2 ^ 59 }
 {
@@ -49,6 +52,7 @@ fn end<C: Cable, W: Write>(
             break;
         };
         print(writer, event_text(event).as_slice())?;
+        watcher.event(event);
     }
     Ok(())
 }
@@ -76,10 +80,11 @@ fn read_after_end<R: Read>(
 const LINES: u32 = 1_000_001;
 
 /// Plays a script of line changes, after its first line, and gives the drive's medium back with what came of it. It prints each change.
-pub(crate) fn change_watched<C: Cable + Drop, R: Read, W: Write>(
+pub(crate) fn change_direct<C: Cable + Drop, R: Read, W: Write, T: Watches>(
     cable: C,
     lines: &mut Source<R>,
     writer: &mut W,
+    watcher: &mut T,
 ) -> Result<C::Medium, RunFault> {
     let mut cable = cable;
     let mut player = Player::new();
@@ -93,13 +98,13 @@ pub(crate) fn change_watched<C: Cable + Drop, R: Read, W: Write>(
             None => return Err(RunFault::Script(number)),
             Some(Timed::Skipped) => {}
             Some(Timed::Changes(at)) => {
-                change(&mut cable, &mut player, at, writer)?;
+                change(&mut cable, &mut player, at, writer, watcher)?;
                 flush(writer)?;
                 from = at.moment;
             }
             Some(Timed::Ends(moment)) => {
                 read_after_end(lines, &mut bytes, number + 1)?;
-                end(&mut cable, &mut player, moment, writer)?;
+                end(&mut cable, &mut player, moment, writer, watcher)?;
                 flush(writer)?;
                 return Ok(cable.into_medium());
             }

@@ -11,8 +11,8 @@ use crate::numbered::next_line;
 use crate::output::flush;
 use crate::request::ScriptRequest;
 use arrayvec::ArrayVec;
-use bus_traces::{Source, Watches};
-use cbm_drive::Pace;
+use bus_traces::Source;
+use cbm_drive::{Pace, Watches};
 use cbm_host::{self, Performer};
 use std::io::{Read, Write};
 
@@ -65,7 +65,7 @@ impl<C: Cable> Bench<C> {
         }
     }
 
-    /// Carries out a request, event by event, and prints what it prints. Error: `Writing`.
+    /// Carries out a request, tells its events, and prints what it prints. Error: `Writing`.
     fn perform<W: Write, T: Watches>(
         &mut self,
         request: &ScriptRequest,
@@ -82,12 +82,23 @@ impl<C: Cable> Bench<C> {
                 break;
             };
             watcher.event(event);
-            if let Some((byte, is_last)) = performer.byte() {
-                printing.byte(writer, byte, is_last)?;
+            match performer.byte() {
+                Some((byte, is_last)) => printing.byte(writer, byte, is_last)?,
+                None => self.gather(&mut performer, watcher),
             }
         }
         self.moment = performer.over();
         printing.end(writer)
+    }
+
+    /// The halves of bits that the drive says next, as long as the host waits for them.
+    fn gather<T: Watches>(&mut self, performer: &mut Performer, watcher: &mut T) {
+        for _ in 0..u64::MAX {
+            let Some(half) = self.cable.half(performer) else {
+                return;
+            };
+            watcher.half(half);
+        }
     }
 
     /// Carries out a line, and sends on what it prints. Error: `Writing`.
@@ -117,7 +128,7 @@ impl<C: Cable> Bench<C> {
 
 /// Carries out a script of requests, after its first line, on a drive at power up, hands on each event as it comes, and gives the
 /// drive's medium back with what came of it. It prints what a run prints that isn't watched. Errors: `Script`, `Reading` or `Writing`.
-pub(crate) fn serve_watched<C: Cable + Drop, R: Read, W: Write, T: Watches>(
+pub(crate) fn serve_direct<C: Cable + Drop, R: Read, W: Write, T: Watches>(
     bench: Bench<C>,
     lines: &mut Source<R>,
     first: Option<ScriptLine>,
