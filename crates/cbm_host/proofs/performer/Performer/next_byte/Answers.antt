@@ -18,7 +18,7 @@ events-preserved g c =
     record {
       taking = λ u e limit bytes last ss t.
           c.gather.ensures.taken e limit bytes last ss
-          (taking_none _ g.D.Machine.State g.D.Machine.stands g.D.Machine.stands g.D.Machine.step g.D.Machine.says e limit c.events.self c.next.new.self c.events.bus c.next.new.bus bytes last ss c.in-Some._event (c.events.invariant.taking (omega (arith, u, c.next.ensures.carried.counted, c.gather.ensures.carried.counted)) e limit bytes last ss t) (c.in-Some.ensures.next (omega (arith, u, c.events.invariant.carried.counted, c.gather.ensures.carried.counted)))
+          (taking_none _ g.D.Machine.State g.D.Machine.stands g.D.Machine.stands g.D.Machine.step g.D.Machine.says e limit c.events.self c.next.new.self c.events.bus c.next.new.bus bytes last ss c.in-Some.event (c.events.invariant.taking (omega (arith, u, c.next.ensures.carried.counted, c.gather.ensures.carried.counted)) e limit bytes last ss t) (c.in-Some.ensures.next (omega (arith, u, c.events.invariant.carried.counted, c.gather.ensures.carried.counted)))
           (sym c.byte.ensures ∙ c.in_default-byte.is));
       carried = carried_on (carried_on c.events.invariant.carried c.next.ensures.carried) c.gather.ensures.carried;
       fewer = omega (arith, less, more, least);
@@ -30,7 +30,7 @@ events-preserved g c =
             before.0 ++ next.0,
             λ later e limit bytes last ss t.
                 c.gather.ensures.recorded later e limit bytes last ss
-                (taking_none _ Playback (IsPlayedBack shows (next.0 ++ later)) (IsPlayedBack shows later) played_step played_says e limit c.events.self c.next.new.self c.events.bus c.next.new.bus bytes last ss c.in-Some._event
+                (taking_none _ Playback (IsPlayedBack shows (next.0 ++ later)) (IsPlayedBack shows later) played_step played_says e limit c.events.self c.next.new.self c.events.bus c.next.new.bus bytes last ss c.in-Some.event
                 (before.1 (next.0 ++ later) e limit bytes last ss (regrouped shows before.0 next.0 later e limit c.args.self.now c.args.bus.now bytes last ss t)) (next.1 later) (sym c.byte.ensures ∙ c.in_default-byte.is)),
           ));
     }
@@ -43,7 +43,7 @@ events-smaller g c =
 
 pub returns-in-Some-byte-clause-taken : goal.returns-in-Some-byte-clause-taken
 returns-in-Some-byte-clause-taken g c = λ u e limit bytes last ss t.
-    taking_some _ g.D.Machine.State g.D.Machine.stands g.D.Machine.stands g.D.Machine.step g.D.Machine.says e limit c.events.self c.next.new.self c.events.bus c.next.new.bus bytes last ss c.in-Some._event c.in-Some-byte.said (c.events.invariant.taking (omega (arith, u, c.next.ensures.carried.counted)) e limit bytes last ss t) (c.in-Some.ensures.next (omega (arith, u, c.events.invariant.carried.counted)))
+    taking_some _ g.D.Machine.State g.D.Machine.stands g.D.Machine.stands g.D.Machine.step g.D.Machine.says e limit c.events.self c.next.new.self c.events.bus c.next.new.bus bytes last ss c.in-Some.event c.in-Some-byte.said (c.events.invariant.taking (omega (arith, u, c.next.ensures.carried.counted)) e limit bytes last ss t) (c.in-Some.ensures.next (omega (arith, u, c.events.invariant.carried.counted)))
     (sym c.byte.ensures ∙ c.in-Some-byte.is)
 
 pub returns-in-Some-byte-clause-fewer : goal.returns-in-Some-byte-clause-fewer
@@ -71,7 +71,7 @@ returns-in-Some-byte-clause-recorded g c =
     let next = c.in-Some.ensures.recorded in (
       before.0 ++ next.0,
       λ later e limit bytes last ss t.
-          taking_some _ Playback (IsPlayedBack shows (next.0 ++ later)) (IsPlayedBack shows later) played_step played_says e limit c.events.self c.next.new.self c.events.bus c.next.new.bus bytes last ss c.in-Some._event c.in-Some-byte.said
+          taking_some _ Playback (IsPlayedBack shows (next.0 ++ later)) (IsPlayedBack shows later) played_step played_says e limit c.events.self c.next.new.self c.events.bus c.next.new.bus bytes last ss c.in-Some.event c.in-Some-byte.said
           (before.1 (next.0 ++ later) e limit bytes last ss (regrouped shows before.0 next.0 later e limit c.args.self.now c.args.bus.now bytes last ss t)) (next.1 later) (sym c.byte.ensures ∙ c.in-Some-byte.is),
     )
 
