@@ -101,17 +101,12 @@ fn opened<I: DiskImage>(alloc: Global, image: &[u8], protected: bool) -> Result<
     }
 }
 
-/// A drive of this number and pace that is switched off. The one error is `Memory`.
-fn station_of(alloc: Global, device: u8, pace: Pace) -> Result<Station, RunFault>
-    ensures ok { IfOk result (λ s. (s.device ≡ device) × (s.pace ≡ pace)) }
-    ensures err { IfErr result (λ fault. fault ≡ RunFault.Memory) }
+/// Memory for the channels of a drive. The one error is `Memory`.
+fn channels_of(alloc: Global) -> Result<Channels, RunFault>
+    ensures { IfErr result (λ fault. fault ≡ RunFault.Memory) }
 {
     match Channels::new(alloc) {
-        Ok(channels) => Ok(Station {
-            device,
-            pace,
-            channels,
-        }),
+        Ok(channels) => Ok(channels),
         Err(_) => Err(RunFault::Memory),
     }
 }
@@ -154,7 +149,12 @@ fn run_image<I: RunsScripts + Drop, R: Read + Drop, W: Write, T: Watches>(
         (R.remaining reader) (W.contents writer.old) (W.contents writer.new) }
 {
     let disk = opened::<I>(alloc, image, options.protected)?;
-    let station = station_of(alloc, options.device, options.pace)?;
+    let channels = channels_of(alloc)?;
+    let station = Station {
+        device: options.device,
+        pace: options.pace,
+        channels,
+    };
     let disk = run_with(disk, station, options.check, reader, writer, watcher)?;
     image_after(alloc, &disk, image, options.protected)
 }

@@ -3,7 +3,7 @@ ghost use Rattle.std.specs.Prelude.{◌≡◌, true, IfOk};
 ghost use Rattle.cbm_program.specs.Starts.{IsDevice};
 
 use super::scripted::RunsScripts;
-use super::{Options, image_after, opened, print_check, station_of};
+use super::{Options, channels_of, image_after, opened, print_check};
 use crate::fault::RunFault;
 use crate::numbered::{Beginning, read_first};
 use crate::station::Station;
@@ -55,7 +55,12 @@ fn direct_image<I: RunsScripts + Drop, R: Read + Drop, W: Write, T: Watches>(
     ensures given { options.now.protected ≡ true → IfOk result (λ v. v.items ≡ image.now) }
 {
     let disk = opened::<I>(alloc, image, options.protected)?;
-    let station = station_of(alloc, options.device, options.pace)?;
+    let channels = channels_of(alloc)?;
+    let station = Station {
+        device: options.device,
+        pace: options.pace,
+        channels,
+    };
     let volume = Volume::open(disk);
     print_check(&volume, options.check, writer)?;
     let disk = direct_script(

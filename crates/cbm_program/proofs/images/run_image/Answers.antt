@@ -18,14 +18,14 @@ use Rattle.cbm_program.proofs.images.run_image.Goals as goal
 pub returns-in_err-disk-clause-requests : goal.returns-in_err-disk-clause-requests
 returns-in_err-disk-clause-requests g c =
     let p = err_from_is_err_and c.from_residual.result c.from_residual.ensures.1 in
-    let run = run-refused c.from_residual.result _ _ (g.R.Read.remaining c.args.reader) (BeginsOn c.args.image.now c.args.options.now.protected) (λ saved m. ImageHolds (kind_of c.args.image.now) saved.items m.disk) c.args.pace c.args.options.now.device c.args.options.now.check (p.1 ∙ ap Err p.2)
+    let run = run-refused c.from_residual.result _ _ (g.R.Read.remaining c.args.reader) (BeginsOn c.args.image.now c.args.options.now.protected) (λ saved m. ImageHolds (kind_of c.args.image.now) saved.items m.disk) c.args.options.now.pace c.args.options.now.device c.args.options.now.check (p.1 ∙ ap Err p.2)
     (λ P. refused-ends c.from_residual.result _ _ P (p.1 ∙ ap Err p.2) c.in_err-disk.ensures.cause) in
     record { script = run.served; memory = λ e. inl (keeps-same _) }
 
 pub returns-in_err-disk-clause-changes : goal.returns-in_err-disk-clause-changes
 returns-in_err-disk-clause-changes g c =
     let p = err_from_is_err_and c.from_residual.result c.from_residual.ensures.1 in
-    let run = run-refused c.from_residual.result _ _ (g.R.Read.remaining c.args.reader) (BeginsOn c.args.image.now c.args.options.now.protected) (λ saved m. ImageHolds (kind_of c.args.image.now) saved.items m.disk) c.args.pace c.args.options.now.device c.args.options.now.check (p.1 ∙ ap Err p.2)
+    let run = run-refused c.from_residual.result _ _ (g.R.Read.remaining c.args.reader) (BeginsOn c.args.image.now c.args.options.now.protected) (λ saved m. ImageHolds (kind_of c.args.image.now) saved.items m.disk) c.args.options.now.pace c.args.options.now.device c.args.options.now.check (p.1 ∙ ap Err p.2)
     (λ P. refused-ends c.from_residual.result _ _ P (p.1 ∙ ap Err p.2) c.in_err-disk.ensures.cause) in
     record { script = run.played; wrote = run.wrote; memory = λ e. inl (keeps-same _) }
 
@@ -43,31 +43,31 @@ returns-in_err-disk-clause-outcome g c =
     }
 
 -- memory is lacking for the drive, and nothing is written
-pub returns-in_err-station-clause-requests : goal.returns-in_err-station-clause-requests
-returns-in_err-station-clause-requests g c =
-    let p = err_from_is_err_and c.from_residual-in_err-station.result c.from_residual-in_err-station.ensures.1 in
-    let run = run-refused c.from_residual-in_err-station.result _ _ (g.R.Read.remaining c.args.reader) (BeginsOn c.args.image.now c.args.options.now.protected) (λ saved m. ImageHolds (kind_of c.args.image.now) saved.items m.disk) c.args.pace c.args.options.now.device c.args.options.now.check (p.1 ∙ ap Err p.2)
-    (λ P. lacking-ends c.from_residual-in_err-station.result _ P (p.1 ∙ ap Err p.2) c.in_err-station.ensures.err) in
+pub returns-in_err-channels-clause-requests : goal.returns-in_err-channels-clause-requests
+returns-in_err-channels-clause-requests g c =
+    let p = err_from_is_err_and c.from_residual-in_err-channels.result c.from_residual-in_err-channels.ensures.1 in
+    let run = run-refused c.from_residual-in_err-channels.result _ _ (g.R.Read.remaining c.args.reader) (BeginsOn c.args.image.now c.args.options.now.protected) (λ saved m. ImageHolds (kind_of c.args.image.now) saved.items m.disk) c.args.options.now.pace c.args.options.now.device c.args.options.now.check (p.1 ∙ ap Err p.2)
+    (λ P. lacking-ends c.from_residual-in_err-channels.result _ P (p.1 ∙ ap Err p.2) c.in_err-channels.ensures) in
     record { script = run.served; memory = λ e. inl (keeps-same _) }
 
-pub returns-in_err-station-clause-changes : goal.returns-in_err-station-clause-changes
-returns-in_err-station-clause-changes g c =
-    let p = err_from_is_err_and c.from_residual-in_err-station.result c.from_residual-in_err-station.ensures.1 in
-    let run = run-refused c.from_residual-in_err-station.result _ _ (g.R.Read.remaining c.args.reader) (BeginsOn c.args.image.now c.args.options.now.protected) (λ saved m. ImageHolds (kind_of c.args.image.now) saved.items m.disk) c.args.pace c.args.options.now.device c.args.options.now.check (p.1 ∙ ap Err p.2)
-    (λ P. lacking-ends c.from_residual-in_err-station.result _ P (p.1 ∙ ap Err p.2) c.in_err-station.ensures.err) in
+pub returns-in_err-channels-clause-changes : goal.returns-in_err-channels-clause-changes
+returns-in_err-channels-clause-changes g c =
+    let p = err_from_is_err_and c.from_residual-in_err-channels.result c.from_residual-in_err-channels.ensures.1 in
+    let run = run-refused c.from_residual-in_err-channels.result _ _ (g.R.Read.remaining c.args.reader) (BeginsOn c.args.image.now c.args.options.now.protected) (λ saved m. ImageHolds (kind_of c.args.image.now) saved.items m.disk) c.args.options.now.pace c.args.options.now.device c.args.options.now.check (p.1 ∙ ap Err p.2)
+    (λ P. lacking-ends c.from_residual-in_err-channels.result _ P (p.1 ∙ ap Err p.2) c.in_err-channels.ensures) in
     record { script = run.played; wrote = run.wrote; memory = λ e. inl (keeps-same _) }
 
-pub returns-in_err-station-clause-outcome : goal.returns-in_err-station-clause-outcome
-returns-in_err-station-clause-outcome g c =
-    let p = err_from_is_err_and c.from_residual-in_err-station.result c.from_residual-in_err-station.ensures.1 in
+pub returns-in_err-channels-clause-outcome : goal.returns-in_err-channels-clause-outcome
+returns-in_err-channels-clause-outcome g c =
+    let p = err_from_is_err_and c.from_residual-in_err-channels.result c.from_residual-in_err-channels.ensures.1 in
     record {
       grows = grows_none _;
-      checked = λ e. lacking-ends c.from_residual-in_err-station.result _ _ (p.1 ∙ ap Err p.2) c.in_err-station.ensures.err;
+      checked = λ e. lacking-ends c.from_residual-in_err-channels.result _ _ (p.1 ∙ ap Err p.2) c.in_err-channels.ensures;
       guarded = (search rules);
       same_tracks = (search rules);
       opens = (search rules);
       refused = (search rules);
-      cause = λ n e. lacking-image c.from_residual-in_err-station.result _ n _ (p.1 ∙ ap Err p.2) c.in_err-station.ensures.err e;
+      cause = λ n e. lacking-image c.from_residual-in_err-channels.result _ n _ (p.1 ∙ ap Err p.2) c.in_err-channels.ensures e;
     }
 
 -- the run breaks off
@@ -79,7 +79,7 @@ returns-in_err-disk-2-clause-requests g c =
     let seen = g.I.Medium.seen in
     let among = starts-as g.I.DiskImage.kind (kind_of image) image (seen disk).tracks (seen disk).content c.args.options.now.protected (seen disk).protected c.requires.kind first.0 first.1 in
     let p = err_from_is_err_and c.from_residual-in_err-disk-2.result c.from_residual-in_err-disk-2.ensures.1 in
-    let run = run-again c.from_residual-in_err-disk-2.result _ _ _ (g.R.Read.remaining c.args.reader) (BeginsOn image c.args.options.now.protected) (StartsFrom (seen disk)) (λ saved m. ImageHolds (kind_of image) saved.items m.disk) (λ after. KeptBy (seen after)) c.args.pace c.args.options.now.device
+    let run = run-again c.from_residual-in_err-disk-2.result _ _ _ (g.R.Read.remaining c.args.reader) (BeginsOn image c.args.options.now.protected) (StartsFrom (seen disk)) (λ saved m. ImageHolds (kind_of image) saved.items m.disk) (λ after. KeptBy (seen after)) c.args.options.now.pace c.args.options.now.device
     c.args.options.now.check among (p.1 ∙ ap Err p.2) c.in_err-disk-2.ensures.run in
     record { script = run.served; memory = not-lacking c.from_residual-in_err-disk-2.result _ _ (p.1 ∙ ap Err p.2) c.in_err-disk-2.ensures.cause }
 
@@ -91,7 +91,7 @@ returns-in_err-disk-2-clause-changes g c =
     let seen = g.I.Medium.seen in
     let among = starts-as g.I.DiskImage.kind (kind_of image) image (seen disk).tracks (seen disk).content c.args.options.now.protected (seen disk).protected c.requires.kind first.0 first.1 in
     let p = err_from_is_err_and c.from_residual-in_err-disk-2.result c.from_residual-in_err-disk-2.ensures.1 in
-    let run = run-again c.from_residual-in_err-disk-2.result _ _ _ (g.R.Read.remaining c.args.reader) (BeginsOn image c.args.options.now.protected) (StartsFrom (seen disk)) (λ saved m. ImageHolds (kind_of image) saved.items m.disk) (λ after. KeptBy (seen after)) c.args.pace c.args.options.now.device
+    let run = run-again c.from_residual-in_err-disk-2.result _ _ _ (g.R.Read.remaining c.args.reader) (BeginsOn image c.args.options.now.protected) (StartsFrom (seen disk)) (λ saved m. ImageHolds (kind_of image) saved.items m.disk) (λ after. KeptBy (seen after)) c.args.options.now.pace c.args.options.now.device
     c.args.options.now.check among (p.1 ∙ ap Err p.2) c.in_err-disk-2.ensures.run in
     record { script = run.played; wrote = run.wrote; memory = not-lacking c.from_residual-in_err-disk-2.result _ _ (p.1 ∙ ap Err p.2) c.in_err-disk-2.ensures.cause }
 
@@ -119,7 +119,7 @@ returns-clause-requests g c =
     let after = c.in_ok-disk-2.disk in
     let image = c.args.image.now in
     let seen = g.I.Medium.seen in
-    let pace = c.args.pace in
+    let pace = c.args.options.now.pace in
     let checks = c.args.options.now.check in
     let guarded = c.args.options.now.protected in
     let before = g.W.Write.contents c.args.writer.now in
@@ -151,7 +151,7 @@ returns-clause-changes g c =
     let after = c.in_ok-disk-2.disk in
     let image = c.args.image.now in
     let seen = g.I.Medium.seen in
-    let pace = c.args.pace in
+    let pace = c.args.options.now.pace in
     let checks = c.args.options.now.check in
     let guarded = c.args.options.now.protected in
     let drive = party_of pace c.args.options.now.device in
