@@ -9,6 +9,7 @@ ghost use Rattle.cbm_device.specs.Making.{IsUnmade, IsUnchanged};
 
 use crate::image_disk::ImageDisk;
 use crate::refusal::DeviceRefusal;
+use cbm_channel::Channels;
 use cbm_image::kind_of;
 use cbm_shell::{DiskChange, changed};
 use std::alloc::Global;
@@ -28,7 +29,8 @@ pub fn change(
     ensures sound { MatchResult result (λ _. IsAccepted image.now × IsSound image.now) (IsUnchanged image.now) }
 {
     let disk = ImageDisk::open(alloc, image, false)?;
-    match changed(disk, change) {
+    let channels = Channels::new(alloc)?;
+    match changed(disk, channels, change) {
         Ok(disk) => disk.save(alloc, kind_of(image)),
         Err(fault) => Err(DeviceRefusal::from(fault)),
     }
