@@ -40,7 +40,9 @@ impl<M: Medium> Model for Dos<M> {
 }
 
 impl<M: Medium> Dos<M> {
-    ghost use Rattle.std.specs.Prelude.{◌≡◌, ◌≤◌};
+    ghost use Rattle.std.specs.Prelude.{◌≡◌, ◌≤◌, None, replicate};
+    ghost use Rattle.cbm_channel.specs.declared.channel.Channel.TheVariants.{Closed};
+    ghost use Rattle.cbm_machine.specs.declared.code.Code.TheVariants.{PowerUp};
     ghost use Rattle.cbm_file.specs.Files.{Disk};
     ghost use Rattle.cbm_volume.specs.Holding.{HoldsDisk};
     ghost use Rattle.cbm_machine.specs.Machines.{Machine, start, with_status, say};
@@ -51,6 +53,9 @@ impl<M: Medium> Dos<M> {
     /// The drive at power up, with no channel open. It reads nothing.
     pub fn new(medium: M, channels: Channels) -> Dos<M>
         ensures medium { result.medium ≡ medium }
+        ensures channels { result.channels ≡ replicate 15 Closed }
+        ensures told { result.told ≡ (record { status = plain PowerUp; told = 0 }) }
+        ensures text { result.text ≡ None }
         ensures stands { (d : Disk) → HoldsDisk (M.seen medium).tracks (M.seen medium).content d
             → Stands M.seen result (start d (M.seen medium).protected (M.seen medium).tracks) }
     {

@@ -162,6 +162,18 @@ fn channel_at(most: u8, bytes: &[u8]) -> Option<(Channel, &[u8])>
     channel_by(most, *kind, rest)
 }
 
+/// This channel becomes the one that begins some bytes; what follows it, or None if it is none.
+// (In its caller's frame the channel would take stack once for each channel that is still to be read.)
+#[inline(never)]
+fn load_one<'a>(channel: &mut Channel, most: u8, bytes: &'a [u8]) -> Option<&'a [u8]>
+    ensures value { option_map (λ rest. (channel.new, rest.now)) result ≡ channel_in most bytes.now }
+    ensures fits { IsSome result → FitsTracks most channel.new }
+{
+    let (loaded, rest) = channel_at(most, bytes)?;
+    *channel = loaded;
+    Some(rest)
+}
+
 /// These channels become those that begin some bytes; what follows them, or None if they are none.
 pub(crate) fn load_all<'a>(channels: &mut [Channel], most: u8, bytes: &'a [u8]) -> Option<&'a [u8]>
     ensures value { MatchOption result (channels_at most (length channels.old) bytes.now ≡ None)
@@ -172,7 +184,6 @@ pub(crate) fn load_all<'a>(channels: &mut [Channel], most: u8, bytes: &'a [u8]) 
     let Some((first, others)) = channels.split_first_mut() else {
         return Some(bytes);
     };
-    let (channel, rest) = channel_at(most, bytes)?;
-    *first = channel;
+    let rest = load_one(first, most, bytes)?;
     load_all(others, most, rest)
 }
