@@ -3,7 +3,7 @@
 use cbm_d64::D64Disk;
 use cbm_g64::G64Disk;
 use cbm_medium::Medium;
-use cbm_program::{Options, run};
+use cbm_program::{Options, Pace, run};
 use cbm_volume::Volume;
 use std::alloc::Global;
 use std::test::Fail;
@@ -72,6 +72,7 @@ fn turned_disk(alloc: Global) -> Result<Vec<u8>, Fail> {
 fn prints(alloc: Global, image: &[u8], script: &str, text: &str) -> bool {
     let options = Options {
         device: 8,
+        pace: Pace::Profile,
         protected: false,
         check: true,
     };
@@ -86,6 +87,7 @@ fn prints(alloc: Global, image: &[u8], script: &str, text: &str) -> bool {
 fn with_hello(alloc: Global, image: &[u8]) -> Option<Vec<u8>> {
     let options = Options {
         device: 8,
+        pace: Pace::Profile,
         protected: false,
         check: false,
     };

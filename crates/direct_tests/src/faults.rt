@@ -3,7 +3,7 @@
 ghost use Rattle.std.specs.Prelude.{◌≤◌};
 
 use crate::faulty::{FaultyReader, FaultyWriter, Sink};
-use cbm_program::{Options, RunFault, run};
+use cbm_program::{Options, Pace, RunFault, run};
 use std::alloc::Global;
 use std::io::{ErrorKind, Read, Write};
 use std::test::Fail;
@@ -12,6 +12,7 @@ use test_images::{empty_image, place, put};
 /// A drive whose disk may be written.
 const OPEN: Options = Options {
     device: 8,
+    pace: Pace::Profile,
     protected: false,
     check: false,
 };
