@@ -11,8 +11,8 @@
  * Threads: the library has no state but its handles. Different handles may be used by different threads at once, one handle by one call at a
  * time. A handle may be passed to another thread; the caller must synchronise.
  * Memory comes from malloc, realloc and free, in the calls marked [m] alone. If there is none, the call answers Y1541_NO_MEMORY.
- * Stack: y1541_open takes up to 286 kB, also with direct access, copy, delete, and put and command around odd entries 263 kB, put, command, list and play 216 kB, y1541_lines and
- * y1541_due up to 80 kB, eject, insert and reset 71 kB, all others less. docs/emulators.md has what was measured, and answers to questions.
+ * Stack: no call was measured to take more than 64 kB. y1541_open takes 14 kB with a D64 and 46 with a G64, y1541_lines and y1541_due up to 46, the
+ * calls that change an image 50 to 63. docs/emulators.md has the table, and answers to questions.
  */
 #ifndef YELLOWADZE1541_H
 #define YELLOWADZE1541_H
@@ -132,11 +132,11 @@ int32_t y1541_status(y1541 *d);
 
 /* [m] The state of the drive as it is now: its lines and what it waits for, who is addressed, its channels, its status, its disk with the count of its
  * writes, and its latest moment. The drive goes on. Enough room is that of y1541_image (0 without a disk) and 16,384 bytes.
- * Takes 10 kB of stack. INVALID of a drive with direct access. NO_ROOM. NO_MEMORY. NO_DRIVE. */
+ * INVALID of a drive with direct access. NO_ROOM. NO_MEMORY. NO_DRIVE. */
 int32_t y1541_save(y1541 *d, uint8_t *out, size_t room, size_t *needed);
 
 /* [m] d holds the drive of a state that y1541_save gave, and does what the saved one would have done; what d held is gone. Its moments go on from
- * those of the saved one: tell it the lines from then on. Takes 1,012 kB of stack.
+ * those of the saved one: tell it the lines from then on.
  * NO_IMAGE: the bytes are no state of this version, or broken; d holds what it held. NO_MEMORY. */
 int32_t y1541_restore(y1541 *d, const uint8_t *bytes, size_t len);
 

@@ -1,13 +1,13 @@
 #define _XOPEN_SOURCE 700
 /* How much stack each call needs, by a stack that is painted before it: stack IMAGE. Fails if one needs more than its row says, which is just above what was
- * measured (docs/emulators.md). What y1541_lines and y1541_due need depends on what the drive does then, so a computer with a KERNAL has it do its work; the
+ * measured (docs/emulators.md), and never above 64 kB. What y1541_lines and y1541_due need depends on what the drive does then, so a computer with a KERNAL has it do its work; the
  * computer's own frames take less than 1 kB. */
 #include "files.h"
 #include "kernal.h"
 #include <pthread.h>
 #include <yellowadze1541.h>
 
-enum { STACK = 4 << 20, ROOM = 1 << 20, PAINT = 0xa5 };
+enum { STACK = 4 << 20, ROOM = 1 << 20, PAINT = 0xa5, MOST = 64000 };
 
 static uint8_t *image, *out, *g64;
 static size_t len, g64_len, needed;
@@ -127,18 +127,18 @@ static void hosts_end(void) {
 
 /* In bytes. */
 static const struct { const char *name; void (*call)(void); size_t most; } calls[] = {
-    {"open", opens, 292000}, {"open a G64", opens_g64, 292000}, {"lines, ATN", lines, 1000}, {"next_due", next_due, 1000}, {"due, ATN", due, 1000},
-    {"pulls_now", pulls, 1000}, {"image", shows, 2000}, {"save", saves, 20000}, {"restore", restores, 1030000}, {"eject", ejects, 73000}, {"insert", inserts, 73000}, {"reset", resets, 73000}, {"close", closes, 1000},
-    {"open_raw", opens_raw, 292000}, {"close, raw", closes, 1000}, {"open_direct", opens_direct, 292000}, {"open_direct a G64", opens_direct_g64, 292000}, {"lines, ATN, direct", lines, 1200}, {"due, ATN, direct", due, 1000},
-    {"image, direct", shows, 2000}, {"eject, direct", ejects, 77000}, {"insert, direct", inserts, 77000}, {"reset, direct", resets, 73000}, {"close, direct", closes, 1000},
-    {"image_check", checks, 36000}, {"image_list", lists, 222000}, {"image_file", files, 4000}, {"image_put", puts_file, 222000},
-    {"image_put_all", puts_all, 222000}, {"image_command_status", command_status, 222000}, {"image_copy", copies, 270000}, {"image_delete", deletes, 265000},
-    {"image_command V", command_validates, 220000}, {"image_command C", command_copies, 220000}, {"image_command N", command_formats, 222000},
-    {"image_put_away", puts_away, 36000}, {"image_put_back", puts_back, 36700}, {"image_put, art", puts_around, 260000}, {"image_command, art", command_around, 270000},
-    {"image_new", makes, 53000}, {"image_convert", converts, 37000}, {"play", plays, 222000},
+    {"open", opens, 14000}, {"open a G64", opens_g64, 47000}, {"lines, ATN", lines, 1000}, {"next_due", next_due, 1000}, {"due, ATN", due, 1000},
+    {"pulls_now", pulls, 1000}, {"image", shows, 2000}, {"save", saves, 10200}, {"restore", restores, 64000}, {"eject", ejects, 5800}, {"insert", inserts, 36000}, {"reset", resets, 5200}, {"close", closes, 1000},
+    {"open_raw", opens_raw, 12600}, {"close, raw", closes, 1000}, {"open_direct", opens_direct, 14400}, {"open_direct a G64", opens_direct_g64, 46000}, {"lines, ATN, direct", lines, 1200}, {"due, ATN, direct", due, 1000},
+    {"image, direct", shows, 2000}, {"eject, direct", ejects, 9300}, {"insert, direct", inserts, 36000}, {"reset, direct", resets, 5200}, {"close, direct", closes, 1000},
+    {"image_check", checks, 36000}, {"image_list", lists, 57000}, {"image_file", files, 4000}, {"image_put", puts_file, 58000},
+    {"image_put_all", puts_all, 58000}, {"image_command_status", command_status, 51500}, {"image_copy", copies, 64000}, {"image_delete", deletes, 60000},
+    {"image_command V", command_validates, 51000}, {"image_command C", command_copies, 51000}, {"image_command N", command_formats, 51500},
+    {"image_put_away", puts_away, 36000}, {"image_put_back", puts_back, 36700}, {"image_put, art", puts_around, 55500}, {"image_command, art", command_around, 64000},
+    {"image_new", makes, 52000}, {"image_convert", converts, 36000}, {"play", plays, 15200},
     {"LOAD $", host_lists, 46000}, {"LOAD", host_loads, 46000}, {"SAVE", host_saves, 46000}, {"R", host_renames, 46000}, {"C", host_copies, 46000},
-    {"S", host_scratches, 46000}, {"V", host_validates, 46000}, {"N", host_formats, 53000}, {"their close", hosts_end, 1000},
-    {"U1, direct", host_reads_blocks, 46000}, {"SAVE, direct", host_saves, 46700}, {"V, direct", host_validates, 46000}, {"their close, direct", hosts_end, 1000},
+    {"S", host_scratches, 39800}, {"V", host_validates, 39800}, {"N", host_formats, 40500}, {"their close", hosts_end, 1000},
+    {"U1, direct", host_reads_blocks, 13200}, {"SAVE, direct", host_saves, 46700}, {"V, direct", host_validates, 13200}, {"their close, direct", hosts_end, 1000},
 };
 
 static void *runs(void *call) {
@@ -180,7 +180,7 @@ int main(int argc, char **argv) {
     for (size_t i = 0; i < sizeof calls / sizeof calls[0]; i++) {
         size_t used = touched(calls[i].call) - none;
         printf("  %-18s %6zu, at most %6zu\n", calls[i].name, used, calls[i].most);
-        expect(used <= calls[i].most, calls[i].name);
+        expect(used <= calls[i].most && calls[i].most <= MOST, calls[i].name);
         if (calls[i].call == hosts_end) hosts_begin(1);
     }
     hosts_end();

@@ -36,6 +36,11 @@ const art64 = taken();
 calls.y1541_image_put_away(...art64, ...result);
 const left = taken();
 
+// The state of a drive with a G64.
+const [again, saved] = [8, 8].map((it) => put(new Uint8Array(it)));
+calls.y1541_open(saved, ...g64, 0, 8, 20, 0), calls.y1541_save(saved, ...result);
+const state = taken();
+
 const measured = {
   open: () => calls.y1541_open(drive, ...d64, 0, 8, 20, 0),
   "open a G64": () => calls.y1541_open(other, ...g64, 0, 8, 20, 0),
@@ -43,6 +48,8 @@ const measured = {
   next_due: () => calls.y1541_next_due(drive) && 0,
   due: () => calls.y1541_due(drive, 2000n, small),
   image: () => calls.y1541_image(other, ...result),
+  save: () => calls.y1541_save(other, ...result),
+  restore: () => calls.y1541_restore(again, ...state),
   eject: () => calls.y1541_eject(drive, ...result),
   insert: () => calls.y1541_insert(drive, ...g64, 0),
   reset: () => calls.y1541_reset(drive),
