@@ -128,7 +128,7 @@ static void hosts_end(void) {
 /* In bytes. */
 static const struct { const char *name; void (*call)(void); size_t most; } calls[] = {
     {"open", opens, 14000}, {"open a G64", opens_g64, 47000}, {"lines, ATN", lines, 1000}, {"next_due", next_due, 1000}, {"due, ATN", due, 1000},
-    {"pulls_now", pulls, 1000}, {"image", shows, 2000}, {"save", saves, 10200}, {"restore", restores, 64000}, {"eject", ejects, 5800}, {"insert", inserts, 36000}, {"reset", resets, 5200}, {"close", closes, 1000},
+    {"pulls_now", pulls, 1000}, {"image", shows, 2000}, {"save", saves, 10200}, {"restore", restores, 50800}, {"eject", ejects, 5800}, {"insert", inserts, 36000}, {"reset", resets, 5200}, {"close", closes, 1000},
     {"open_raw", opens_raw, 12600}, {"close, raw", closes, 1000}, {"open_direct", opens_direct, 14400}, {"open_direct a G64", opens_direct_g64, 46000}, {"lines, ATN, direct", lines, 1200}, {"due, ATN, direct", due, 1000},
     {"image, direct", shows, 2000}, {"eject, direct", ejects, 9300}, {"insert, direct", inserts, 36000}, {"reset, direct", resets, 5200}, {"close, direct", closes, 1000},
     {"image_check", checks, 36000}, {"image_list", lists, 57000}, {"image_file", files, 4000}, {"image_put", puts_file, 58000},
