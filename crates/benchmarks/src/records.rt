@@ -23,13 +23,13 @@ pub fn files(rt: &impl Runtime, alloc: Global) -> io::Result<()> {
     let disk = empty(alloc)?;
     let file = circles(alloc, &disk)?;
     eprintln!(rt; "Records on a D64:")?;
-    records(rt, disk)?;
+    records(rt, alloc, disk)?;
     eprintln!(rt; "Records on a G64:")?;
-    records(rt, g64(alloc, file.as_slice())?)
+    records(rt, alloc, g64(alloc, file.as_slice())?)
 }
 
-fn records<M: Medium + Drop>(rt: &impl Runtime, medium: M) -> io::Result<()> {
-    let mut dos = Dos::new(medium, Channels::new(rt.alloc())?);
+fn records<M: Medium + Drop>(rt: &impl Runtime, alloc: Global, medium: M) -> io::Result<()> {
+    let mut dos = Dos::new(medium, Channels::new(alloc)?);
     dos.open(2, b"REL,L,\xfe");
     succeeded(&dos, 0)?;
     seek(&mut dos, RECORDS);

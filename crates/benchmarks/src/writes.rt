@@ -21,16 +21,26 @@ const VALIDATIONS: u32 = 100;
 pub fn files(rt: &impl Runtime, alloc: Global) -> io::Result<()> {
     let disk = empty(alloc)?;
     let mut file = circles(alloc, &disk)?;
-    write(rt, "Dos, a byte of a file of 664 blocks written", disk)?;
-    write(rt, "the same on a G64", g64(alloc, file.as_slice())?)?;
+    write(
+        rt,
+        alloc,
+        "Dos, a byte of a file of 664 blocks written",
+        disk,
+    )?;
+    write(rt, alloc, "the same on a G64", g64(alloc, file.as_slice())?)?;
     turn_tracks(file.as_mut_slice());
     let turned = g64(alloc, file.as_slice())?;
-    write(rt, "the same, each track turned by 3 bits", turned)
+    write(rt, alloc, "the same, each track turned by 3 bits", turned)
 }
 
 /// The time of a byte, with OPEN and CLOSE in it; then of the command S.
-fn write<M: Medium + Drop>(rt: &impl Runtime, name: &str, medium: M) -> io::Result<()> {
-    let mut dos = Dos::new(medium, Channels::new(rt.alloc())?);
+fn write<M: Medium + Drop>(
+    rt: &impl Runtime,
+    alloc: Global,
+    name: &str,
+    medium: M,
+) -> io::Result<()> {
+    let mut dos = Dos::new(medium, Channels::new(alloc)?);
     let start = Instant::now(rt)?;
     store(&mut dos, b"BIG", LARGEST);
     report(rt, name, &start, LARGEST)?;
