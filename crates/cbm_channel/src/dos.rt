@@ -5,6 +5,8 @@ use cbm_machine::{Code, Status, Telling};
 use cbm_volume::{Medium, Volume};
 use std::marker::Model;
 
+// (OPEN and each command are never inlined: in one frame all of them would take stack at once.)
+
 mod beside;
 mod closing;
 mod copying;

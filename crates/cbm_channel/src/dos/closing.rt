@@ -36,6 +36,7 @@ impl<M: Medium> Dos<M> {
     }
 
     /// Closes a channel from 0 to 14.
+    #[inline(never)]
     pub(super) fn close_one(&mut self, channel: u8)
         requires { channel < 15 }
         ensures goes { Went M.seen self.old self.new channel (close_one channel) }

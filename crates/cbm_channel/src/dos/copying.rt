@@ -47,6 +47,7 @@ impl<M: Medium> Dos<M> {
     ghost use Rattle.cbm_channel.specs.Parts.{OfMachine, WentWhere, KeepsRestWhere, LeavesChannels, IsFineOrSameUnlessFault};
 
     /// C: the bytes of the old names' files, one after another, are a new closed file of the first one's type.
+    #[inline(never)]
     pub(super) fn copy(&mut self, new: &Name, olds: &Names)
         ensures goes { before_filler new.now ≡ new.now →
             Went M.seen self.old self.new 15 (λ m. answered m (copy new.now olds.now m)) }

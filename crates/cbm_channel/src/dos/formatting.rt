@@ -18,6 +18,7 @@ impl<M: Medium> Dos<M> {
 
     /// N: an empty disk of this title; with an id it is formatted, else it keeps its own. 60 if a channel is open,
     /// 26 if the disk is protected. If the medium fails in it, no disk is promised.
+    #[inline(never)]
     pub(super) fn format(&mut self, title: &Name, id: Option<[u8; 2]>)
         ensures goes { (HasFailed (M.seen self.old.medium) (M.seen self.new.medium) → ⊥) →
             Went M.seen self.old self.new 15 (λ m. answered m (run (New title.now id) m)) }

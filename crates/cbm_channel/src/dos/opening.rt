@@ -44,6 +44,7 @@ impl<M: Medium> Dos<M> {
     }
 
     /// Carries out what an OPEN asks for on a closed channel, or sets the status of its refusal.
+    #[inline(never)]
     fn begin(&mut self, channel: u8, opening: Opening)
         requires { channel < 15 }
         ensures goes { BeginsOpening M.seen channel opening self.old self.new }

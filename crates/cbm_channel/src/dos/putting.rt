@@ -139,6 +139,7 @@ impl<M: Medium> Dos<M> {
     }
 
     /// Carries a text for channel 15 out; an empty one does nothing.
+    #[inline(never)]
     pub(super) fn command(&mut self, text: &[u8])
         ensures goes { WentUnlessNew M.seen (text_formats text.now) self.old self.new (command text.now) }
         ensures leaves { LeavesByCommand M.seen (text_moves text.now) (text_validates text.now) (text_formats text.now)
@@ -184,6 +185,7 @@ impl<M: Medium> Dos<M> {
     /// P: a channel that has records open goes to a place. What becomes of it is the status: 70 nothing is open, 64 it
     /// has no records, 51 the place lies after the record's end, 50 the record isn't there, a fault of the medium, or
     /// 00.
+    #[inline(never)]
     fn place(&mut self, channel: u8, number: u16, position: u8)
         ensures leads { 1 ≤ number → 1 ≤ position →
             Leads M.seen self.old self.new (λ m. answered m (run (Position channel number position) m)) }

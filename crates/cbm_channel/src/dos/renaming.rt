@@ -22,6 +22,7 @@ impl<M: Medium> Dos<M> {
     ghost use Rattle.cbm_channel.specs.Parts.{WentWhere, KeepsRestWhere, LeavesChannels, IsFineOrSame};
 
     /// R: the first file of the old name gets the new one, which ends before its first $A0.
+    #[inline(never)]
     pub(super) fn rename(&mut self, new: &Name, old: &Name)
         ensures goes { before_filler new.now ≡ new.now →
             Went M.seen self.old self.new 15 (λ m. answered m (rename new.now old.now m)) }

@@ -56,6 +56,7 @@ impl<M: Medium> Dos<M> {
     ghost use Rattle.cbm_channel.specs.Parts.{OfMachine, WentWhere, KeepsRestWhere, LeavesMedium, LeavesChannels, OnlyMedium, SameChannels, ClearsSlots, StopsClearing, KeepsRestGoing};
 
     /// S: each file that matches a pattern, isn't locked and isn't open goes; 01 reports how many.
+    #[inline(never)]
     pub(super) fn scratch(&mut self, patterns: &Names)
         ensures goes { Went M.seen self.old self.new 15 (λ n. answered n (scratch patterns.now n)) }
         ensures not_ok { IsNotOk self.new.told.status }

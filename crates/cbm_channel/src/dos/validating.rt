@@ -18,6 +18,7 @@ impl<M: Medium> Dos<M> {
 
     /// V: files that were never closed go, and each block is free or a file's. 60 if a channel is open; if the
     /// disk can't be mended, its flaw is reported and nothing is changed.
+    #[inline(never)]
     pub(super) fn validate(&mut self)
         ensures goes { Went M.seen self.old self.new 15 (λ m. answered m (run Validate m)) }
         ensures count { length self.new.channels ≡ 15 }
