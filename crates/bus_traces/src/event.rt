@@ -57,6 +57,20 @@ pub(crate) fn put_device<const N: usize>(text: &mut ArrayVec<u8, N>, device: u8)
         .unwrap();
 }
 
+/// ` WHO` of a drive with one of the numbers that a 1541 can be set to; None of any other drive.
+fn drive_text(device: u8) -> Option<&'static [u8]>
+    ensures text { IfSome result (λ text. text.now ≡ codes " " ++ decimal device) }
+    ensures short { IfSome result (λ text. length text.now ≤ 3) }
+{
+    match device {
+        8 => Some(b" 8"),
+        9 => Some(b" 9"),
+        10 => Some(b" 10"),
+        11 => Some(b" 11"),
+        _ => None,
+    }
+}
+
 /// Puts ` WHO` after a text that has room for it: at most 5 bytes.
 fn put_party<const N: usize>(text: &mut ArrayVec<u8, N>, who: Who)
     requires { array_vec_len text.old + 5 ≤ N }
@@ -65,10 +79,13 @@ fn put_party<const N: usize>(text: &mut ArrayVec<u8, N>, who: Who)
 {
     match who {
         Who::Host => text.try_extend_from_slice(b" host").unwrap(),
-        Who::Drive(device) => {
-            text.push(b' ');
-            put_device(text, device);
-        }
+        Who::Drive(device) => match drive_text(device) {
+            Some(party) => text.try_extend_from_slice(party).unwrap(),
+            None => {
+                text.push(b' ');
+                put_device(text, device);
+            }
+        },
     }
 }
 
