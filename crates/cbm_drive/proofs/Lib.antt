@@ -19,3 +19,4 @@ pub mod Handed
 pub mod Alone
 pub mod Halves
 pub mod SavedAgain
+pub mod Afresh

@@ -36,7 +36,8 @@ impl<M: Medium> Desk<M> {
     ghost use Rattle.cbm_machine.specs.Machines as files;
     ghost use Rattle.cbm_channel.specs.Standing.{Stands};
     ghost use Rattle.cbm_volume.specs.Holding.{HoldsDisk};
-    ghost use Rattle.cbm_drive.specs.Addressing.{unaddressed};
+    ghost use Rattle.cbm_drive.specs.Afresh.{switched_on};
+    ghost use Rattle.cbm_iec.specs.declared.pace.Pace.TheVariants.{Profile};
     ghost use Rattle.cbm_drive.specs.Desks as desks;
     ghost use Rattle.cbm_drive.specs.Desks.{at_first, with_pace, DeskStands};
 
@@ -55,8 +56,7 @@ impl<M: Medium> Desk<M> {
     /// As the drive is switched on with this medium, and a device number below 31. It reads nothing.
     pub fn at_power_up(medium: M, channels: Channels, device: u8) -> Desk<M>
         requires { device < 31 }
-        ensures medium { result.dos.medium ≡ medium }
-        ensures addressed { result.addressed ≡ unaddressed device }
+        ensures value { result ≡ switched_on device Profile medium }
         ensures stands { (d : Disk) → HoldsDisk (M.seen medium).tracks (M.seen medium).content d → DeskStands M.seen
             result (at_first device (files.start d (M.seen medium).protected (M.seen medium).tracks)) }
     {
@@ -105,6 +105,7 @@ impl<M: Medium> Desk<M> {
     ghost use Rattle.cbm_file.specs.Files.{Disk};
     ghost use Rattle.cbm_machine.specs.Machines as files;
     ghost use Rattle.cbm_volume.specs.Holding.{HoldsDisk};
+    ghost use Rattle.cbm_drive.specs.Afresh.{restarted, with_another};
     ghost use Rattle.cbm_drive.specs.Addressing.{unaddressed, paced, attended, waiting, name_heard, atn_released, secondary_of, channel_named, channel_heard, channel_said, channel_ended, addressed_after};
     ghost use Rattle.cbm_drive.specs.Desks as desks;
     ghost use Rattle.cbm_drive.specs.Desks.{talked_to, listened_to, seconded, ending, put_to, taken_from, desk_asked, desk_says, desk_shows, DeskStands, LeadsUnfailed, IsAlike};
@@ -241,7 +242,7 @@ impl<M: Medium> Desk<M> {
 
     /// The drive is switched off and on with its disk.
     pub(crate) fn restart(&mut self)
-        ensures medium { self.new.dos.medium ≡ self.old.dos.medium }
+        ensures value { self.new ≡ restarted self.old }
         ensures stands { let now = M.seen self.old.dos.medium in let was = self.old.addressed in (d : Disk) →
             HoldsDisk now.tracks now.content d → DeskStands M.seen self.new (record {
               dos = files.start d now.protected now.tracks;
@@ -256,7 +257,7 @@ impl<M: Medium> Desk<M> {
     pub(crate) fn insert(&mut self, medium: M)
     where
         M: Drop,
-        ensures medium { self.new.dos.medium ≡ medium }
+        ensures value { self.new ≡ with_another medium self.old }
         ensures stands { let now = M.seen medium in let was = self.old in (d : Disk) →
             HoldsDisk now.tracks now.content d → DeskStands M.seen self.new (record {
               dos = still_telling was.dos.told (files.start d now.protected now.tracks);

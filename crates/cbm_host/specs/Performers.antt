@@ -1,10 +1,11 @@
 -- A request played on a bus, event by event.
-use Rattle.std.specs.Prelude.{◌≡◌, ◌≤◌, ◌<◌, ◌⊎◌, ◌+◌, ℕ, min, Bool, true, false, List, [], ◌∷◌, ◌++◌, Option, Some, None, IfSome, MatchOption}
+use Rattle.std.specs.Prelude.{◌≡◌, ◌≤◌, ◌<◌, ◌⊎◌, ◌+◌, ◌&&◌, ℕ, min, Bool, true, false, List, [], ◌∷◌, ◌++◌, Option, Some, None, IfSome, MatchOption}
 use Rattle.cbm_drive.specs.Cables.{Cabled}
+use Rattle.cbm_drive.specs.Halves.{half_alone, has_nothing}
 use Rattle.cbm_drive.specs.Seats.{Unfailed}
 use Rattle.cbm_drive.specs.Players.{Turns, at_start, from_after, pending, IsAfter, IsStill}
 use Rattle.cbm_drive.specs.Silence.{AreSilent}
-use Rattle.cbm_host.specs.Engines.{Engined, stage_taken, engine_due, engine_made, engine_seen, engine_passed}
+use Rattle.cbm_host.specs.Engines.{Engined, stage_gathers, stage_taken, engine_due, engine_made, engine_seen, engine_passed}
 use Rattle.cbm_host.specs.declared.due.Due.{Due}
 use Rattle.cbm_host.specs.declared.due.Due.TheVariants.{Makes, Waits, Hears, Over}
 use Rattle.cbm_host.specs.Performing.{IsBefore}
@@ -21,6 +22,10 @@ pub record Performing : Type 0 where
   pub engine : Engined
   pub byte : Option (ℕ × Bool)
   pub limit : ℕ
+
+-- whether half of a bit comes next, for which the host waits
+abbrev pub half_comes : {D : Type 0} → Performing → Cabled D → Bool
+half_comes p bus = stage_gathers p.engine.stage && (has_nothing p.player && half_alone (p.limit + 1) bus.drives)
 
 -- A REQUEST BEFORE ITS FIRST EVENT: nothing was played, and the host gives up at this limit.
 pub record IsBeforeEvents (p : Performing) (e : Engined) (until : ℕ) : Type 0 where

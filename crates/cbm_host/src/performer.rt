@@ -42,7 +42,7 @@ impl<'a> Model for Performer<'a> {
 }
 
 impl<'a> Performer<'a> {
-    ghost use Rattle.std.specs.Prelude.{◌≡◌, ◌+◌, ◌^◌, ◌<◌, ◌≤◌, ◌⊎◌, ℕ, Bool, List, ◌∷◌, [], None, IfSome};
+    ghost use Rattle.std.specs.Prelude.{◌≡◌, ◌+◌, ◌^◌, ◌<◌, ◌≤◌, ◌⊎◌, ℕ, Bool, List, ◌∷◌, [], None, IfSome, is_some};
     ghost use Rattle.cbm_session.specs.Playing.{at_rest};
     ghost use Rattle.cbm_session.specs.Sessions.{IsDrive};
     ghost use Rattle.cbm_iec.specs.declared.party.Party.{Party};
@@ -56,7 +56,7 @@ impl<'a> Performer<'a> {
     ghost use Rattle.cbm_host.specs.Progress.{left_of, FallsBy, HasAsked, HasHeeded};
     ghost use Rattle.cbm_host.specs.Hosted.{TakesOn, TakesNextByte};
     ghost use Rattle.cbm_host.specs.Engines.{channel_of, engine_at, engine_due, stage_end};
-    ghost use Rattle.cbm_host.specs.Performers.{IsBeforeEvents, KeepsEngine, HandsOn, GoesOnPerforming, GoesUpTo, GoesToNext, PlaysChange, ComesBefore, engine_after, byte_with};
+    ghost use Rattle.cbm_host.specs.Performers.{half_comes, IsBeforeEvents, KeepsEngine, HandsOn, GoesOnPerforming, GoesUpTo, GoesToNext, PlaysChange, ComesBefore, engine_after, byte_with};
     ghost use Rattle.cbm_iec.specs.declared.event.Event.{Event};
     ghost use Rattle.cbm_iec.specs.declared.lines.Change.{Change};
     ghost use Rattle.cbm_host.specs.declared.due.Due.TheVariants.{Makes, Waits, Hears};
@@ -223,6 +223,7 @@ impl<'a> Performer<'a> {
     /// nothing, and then nothing has changed. On any disk the same holds for a machine that plays back what the drive shows later.
     #[inline(always)]
     pub fn next_half<D: Machine, const N: usize>(&mut self, bus: &mut Bus<D, N>) -> Option<Half>
+        ensures comes { is_some result ≡ half_comes self.old bus.old }
         ensures taken { TakesOn _ D.State D.stands D.step D.says self.old self.new bus.old bus.new }
         ensures recorded { TakesOnRecorded D.shows self.old self.new bus.old bus.new }
         ensures half { IsHalfEvent self.old.player self.new.player bus.old bus.new self.old.limit result ⊎ (result ≡ None) }

@@ -14,12 +14,13 @@ impl<M: Medium> Drive<Desk<M>> {
     ghost use Rattle.cbm_iec.specs.Ports.{resting};
     ghost use Rattle.cbm_volume.specs.Holding.{HoldsDisk};
     ghost use Rattle.cbm_drive.specs.Addressing.{paced, unaddressed};
+    ghost use Rattle.cbm_drive.specs.Afresh.{restarted, with_another};
     ghost use Rattle.cbm_drive.specs.Desks.{DeskStands};
 
     /// It is switched off and on with its disk: its lines are free, no channel is open, and what was being written isn't closed.
     pub fn restart(&mut self)
         ensures port { self.new.port ≡ resting self.old.port.party }
-        ensures medium { self.new.machine.dos.medium ≡ self.old.machine.dos.medium }
+        ensures machine { self.new.machine ≡ restarted self.old.machine }
         ensures stands { let now = M.seen self.old.machine.dos.medium in let was = self.old.machine.addressed in (d : Disk) →
             HoldsDisk now.tracks now.content d → DeskStands M.seen self.new.machine (record {
               dos = start d now.protected now.tracks;
@@ -35,7 +36,7 @@ impl<M: Medium> Drive<Desk<M>> {
     where
         M: Drop,
         ensures port { self.new.port ≡ self.old.port }
-        ensures medium { self.new.machine.dos.medium ≡ medium }
+        ensures machine { self.new.machine ≡ with_another medium self.old.machine }
         ensures stands { let now = M.seen medium in let was = self.old.machine in (d : Disk) →
             HoldsDisk now.tracks now.content d → DeskStands M.seen self.new.machine (record {
               dos = still_telling was.dos.told (start d now.protected now.tracks);

@@ -1,5 +1,6 @@
-use Rattle.std.proofs.Common.{rules, ◌<◌, refl, sym, subst}
+use Rattle.std.proofs.Common.{rules, ◌<◌, refl, sym, ap, subst}
 use Rattle.std.specs.Prelude.{IfSome}
+use Rattle.cbm_channel.specs.Standing.{Kept}
 use Rattle.cbm_machine.specs.Machines.{start}
 use Rattle.cbm_drive.specs.Addressing.{Addressed, channel_said}
 use Rattle.cbm_drive.specs.Desks.{Desk, DeskStands, at_first, desk_shows, shown_from}
@@ -20,7 +21,7 @@ returns g c = record {
   -- a drive that isn't addressed has nothing to say
   anyway =
       let first = c.at_power_up.result in
-      let silent : IfSome (desk_shows first) (λ s. s.0 < 256) = subst (λ (a : Addressed). IfSome (shown_from (channel_said a.role a.channel) first.dos) (λ s. s.0 < 256)) (sym c.at_power_up.ensures.addressed) tt in
+      let silent : IfSome (desk_shows first) (λ s. s.0 < 256) = subst (λ (a : Addressed). IfSome (shown_from (channel_said a.role a.channel) first.dos) (λ s. s.0 < 256)) (sym (ap (λ (d : Desk (Kept _)). d.addressed) c.at_power_up.ensures.value)) tt in
       let paced : IfSome (desk_shows c.with_pace-desk.result) (λ s. s.0 < 256) = subst (λ (x : Desk _). IfSome (desk_shows x) (λ s. s.0 < 256)) (sym c.with_pace-desk.ensures.value) silent in
       rests_first_anyway desk_shows c.args.pace c.args.device c.new-2.result c.new.result c.new-2.ensures.host c.new-2.ensures.drives c.new.ensures.port (subst (λ x. IfSome (desk_shows x) (λ s. s.0 < 256)) (sym c.new.ensures.machine) paced);
   tracks = (search rules);
