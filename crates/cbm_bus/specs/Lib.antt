@@ -1,3 +1,2 @@
-pub mod AnyDisks
 pub mod Powered
 pub mod Headline

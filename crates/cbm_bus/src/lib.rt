@@ -1,11 +1,9 @@
 //! One to four drives with their disks on one bus, and what is promised of them as a whole.
 #![tactic(auto)]
 
-mod any_disk;
 mod disk_bus;
 mod powered;
 
-pub use any_disk::AnyDisk;
 pub use cbm_drive::{
     Bus, Change, Channels, Desk, Drive, Event, Line, Lines, Pace, Party, PlayFault, Way, Who,
 };

@@ -4,6 +4,7 @@ ghost use Rattle.cbm_file.specs.Files.{Disk};
 ghost use Rattle.cbm_volume.specs.Holding.{HoldsDisk};
 ghost use Rattle.cbm_bus.specs.Powered.{IsPowered, powered};
 ghost use Rattle.cbm_machine.specs.Machines.{Machine};
+ghost use Rattle.cbm_drive.specs.Afresh.{switched_on};
 ghost use Rattle.cbm_drive.specs.Desks as desks;
 
 use cbm_drive::{Channels, Desk, Drive, Party};
@@ -14,7 +15,7 @@ use cbm_medium::Medium;
 pub fn drive_with<M: Medium>(disk: M, channels: Channels, party: Party) -> Drive<Desk<M>>
     requires device { party.device < 31 }
     requires reaction { 1 ≤ party.reaction }
-    ensures disk { result.machine.dos.medium ≡ disk }
+    ensures machine { result.machine ≡ switched_on party.device party.pace disk }
     ensures powered { (d : Disk) → HoldsDisk (M.seen disk).tracks (M.seen disk).content d →
         IsPowered M.seen party (powered party (M.seen disk) d) result }
 {

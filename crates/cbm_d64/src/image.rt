@@ -7,11 +7,11 @@ ghost use Rattle.cbm_medium.specs.Place.{IsOnDisk};
 use cbm_medium::Address;
 use cbm_medium::codes::{DISK_ID_MISMATCH, HEADER_CHECKSUM};
 
-/// The bytes of 683 sectors.
+/// The bytes of a D64 of 35 tracks, 683 sectors.
 pub const OF_35_TRACKS: usize = 174_848;
-/// The same with an error byte for each sector.
+/// The bytes of a D64 of 35 tracks with an error byte for each sector.
 pub const WITH_ERRORS: usize = 175_531;
-/// The bytes of 768 sectors.
+/// The bytes of a D64 of 40 tracks, 768 sectors.
 pub const OF_40_TRACKS: usize = 196_608;
 
 /// The error byte of a good sector.

@@ -7,3 +7,4 @@ mod image;
 
 pub use disk::D64Disk;
 pub use fault::D64Fault;
+pub use image::{OF_35_TRACKS, OF_40_TRACKS, WITH_ERRORS};

@@ -1,12 +1,11 @@
 -- What a drive's state is added as, part after part.
-use Rattle.std.proofs.Common.{◌≡◌, ℕ, List, [], ◌∷◌, ◌++◌, ap, subst, sym, ◌∙◌, append_assoc}
+use Rattle.std.proofs.Common.{◌≡◌, ℕ, List, [], ◌∷◌, ◌++◌, ap, ◌∙◌, append_assoc}
 use Rattle.std.specs.Prelude.{Result, Ok, Err, OnOk, IfOk, IfErr, MatchResult, is_ok, if◌then◌else◌}
 use Rattle.cbm_device.specs.declared.image_disk.Sectors.{Sectors}
-use Rattle.cbm_device.specs.ImageDisks.{Counted}
 use Rattle.cbm_saved.specs.Numbers.{eight_bytes}
 use Rattle.cbm_drive.specs.Saved.{saved_seat}
 use Rattle.cbm_device.specs.Devices.{OnLines}
-use Rattle.cbm_device.specs.Snapshots.{DiskParts, AreSectorsOf, AreSectorsKept, IsDiskWith, IsKeptDisk, IsKeptState, kind_number, saved_parts, state_bytes}
+use Rattle.cbm_device.specs.Snapshots.{DiskParts, AreSectorsOf, AreSectorsKept, IsKeptDisk, IsKeptState, kind_number, saved_parts, state_bytes}
 
 -- four parts, one after another
 pub four_joined : {A E : Type 0} (r : Result A E) (out a b c d one two three new : List ℕ) → one ≡ out ++ a → two ≡ one ++ b → three ≡ two ++ c → OnOk r (new ≡ three ++ d)
@@ -21,12 +20,6 @@ pub kept_so : {A E : Type 0} (r : Result A E) (s : Sectors) (writes : ℕ) (p : 
     → OnOk r (AreSectorsKept s writes before after)
 kept_so (Ok x) s writes p before after is same h = (p, is, same, h)
 kept_so (Err x) s writes p before after is same h = tt
-
--- those of a disk
-pub kept_disk : {A E : Type 0} (r : Result A E) (d : Counted) (s : Sectors) (writes : ℕ) (before after : List ℕ) → d.sectors ≡ s → d.writes ≡ writes → OnOk r (AreSectorsKept s writes before after)
-    → OnOk r (IsKeptDisk d before after)
-kept_disk (Ok x) d s writes before after e f (p, is, same, h) = (p, record { sectors = subst (λ (k : Sectors). AreSectorsOf p k) (sym e) is; writes = same ∙ sym f }, h)
-kept_disk (Err x) d s writes before after e f h = tt
 
 -- a list was lengthened, if there was memory
 pub lengthened : {A E : Type 0} (r : Result A E) (new longer old : List ℕ) → new ≡ (if is_ok r then longer else old) → OnOk r (new ≡ longer)

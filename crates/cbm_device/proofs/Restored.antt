@@ -21,7 +21,8 @@ use Rattle.cbm_g64.specs.Tracks.{g64_seen, g64_content, id_for}
 use Rattle.cbm_image.specs.declared.kind.Kind.{Kind}
 use Rattle.cbm_image.specs.declared.kind.Kind.TheVariants as kind
 use Rattle.cbm_device.specs.declared.image_disk.Sectors.{Sectors}
-use Rattle.cbm_device.specs.declared.image_disk.Sectors.TheVariants.{D64, G64, Blank}
+use Rattle.cbm_image.specs.declared.any_disk.AnyDisk.TheVariants.{D64, G64}
+use Rattle.cbm_device.specs.declared.image_disk.Sectors.TheVariants.{Held, Blank}
 use Rattle.cbm_device.specs.ImageDisks.{Counted, counted_seen, sectors_seen}
 use Rattle.cbm_device.specs.Devices.{OnLines}
 use Rattle.cbm_device.specs.Snapshots.{DiskParts, AreSectorsOf, IsDiskWith, saved_parts, disk_parts_at, kind_number, kind_by, state_bytes, snapshot_version, IsSnapshot, IsStateOf, IsRestoredFrom, IsSameDrive}
@@ -73,18 +74,18 @@ d64_same : (a b : Image) → a.bytes ≡ b.bytes → a.protected ≡ b.protected
 d64_same a b e f = λ i. d64_seen (record { bytes = e i; protected = f i })
 
 seen_same : (p : DiskParts) (a b : Sectors) → AreSectorsOf p a → AreSectorsOf p b → sectors_seen a ≡ sectors_seen b
-seen_same p (D64 x) (D64 y) h k = d64_same x y (sym h.2 ∙ k.2) (sym h.1 ∙ k.1)
-seen_same p (G64 x) (G64 y) h k =
+seen_same p (Held (D64 x)) (Held (D64 y)) h k = d64_same x y (sym h.2 ∙ k.2) (sym h.1 ∙ k.1)
+seen_same p (Held (G64 x)) (Held (G64 y)) h k =
     let t : x.tracks ≡ y.tracks = sym h.3 ∙ k.3 in
     let q : x.protected ≡ y.protected = sym h.1 ∙ k.1 in
     λ i. record { content = g64_content (t i); tracks = 35; protected = q i; failures = 0; refused = None; id = Some (id_for (t i)) }
 seen_same p Blank Blank h k = refl
-seen_same p (D64 x) (G64 y) h k = absurd (omega (arith, h.0, k.0))
-seen_same p (D64 x) Blank h k = absurd (omega (arith, h.0, k))
-seen_same p (G64 x) (D64 y) h k = absurd (omega (arith, h.0, k.0))
-seen_same p (G64 x) Blank h k = absurd (omega (arith, h.0, k))
-seen_same p Blank (D64 y) h k = absurd (omega (arith, h, k.0))
-seen_same p Blank (G64 y) h k = absurd (omega (arith, h, k.0))
+seen_same p (Held (D64 x)) (Held (G64 y)) h k = absurd (omega (arith, h.0, k.0))
+seen_same p (Held (D64 x)) Blank h k = absurd (omega (arith, h.0, k))
+seen_same p (Held (G64 x)) (Held (D64 y)) h k = absurd (omega (arith, h.0, k.0))
+seen_same p (Held (G64 x)) Blank h k = absurd (omega (arith, h.0, k))
+seen_same p Blank (Held (D64 y)) h k = absurd (omega (arith, h, k.0))
+seen_same p Blank (Held (G64 y)) h k = absurd (omega (arith, h, k.0))
 
 disk_same : (p : DiskParts) (a b : Counted) → IsDiskWith p a → IsDiskWith p b → counted_seen a ≡ counted_seen b
 disk_same p a b h k = seen_same p a.sectors b.sectors h.sectors k.sectors

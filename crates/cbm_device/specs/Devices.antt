@@ -12,7 +12,7 @@ use Rattle.cbm_file.specs.Files.{Disk}
 use Rattle.cbm_machine.specs.Machines.{Machine, start}
 use Rattle.cbm_channel.specs.Standing.{Kept}
 use Rattle.cbm_channel.specs.Exchanged.{still_telling}
-use Rattle.cbm_drive.specs.Addressing.{paced, unaddressed}
+use Rattle.cbm_drive.specs.Afresh.{switched_on, restarted, with_another}
 use Rattle.cbm_drive.specs.Desks.{Desk, DeskStands, at_first, with_pace, desk_step, desk_says, desk_shows}
 use Rattle.cbm_drive.specs.Playback.{IsActed}
 use Rattle.cbm_drive.specs.Seats.{Seated}
@@ -49,7 +49,7 @@ pub record IsSwitchedOn (image : List ℕ) (protected : Bool) (b : Party) (d : O
   pub disk : IsDiskOf image protected d.seat.machine.dos.medium
   pub kind : d.kind ≡ Some (kind_of image)
   pub port : d.seat.port ≡ resting b
-  pub addressed : d.seat.machine.addressed ≡ paced b.pace (unaddressed b.device)
+  pub machine : d.seat.machine ≡ switched_on b.device b.pace d.seat.machine.dos.medium
   pub first : d.latest ≡ 0
   pub stands : (x : Disk) → ImageHolds (kind_of image) image x
       → DeskStands counted_seen d.seat.machine (with_pace b.pace (at_first b.device (start x protected (tracks_of (kind_of image) image))))
@@ -126,22 +126,22 @@ react_at t s = record {
 
 -- ---- a new start, and another disk
 
--- A DRIVE WAS SWITCHED OFF AND ON with its disk: it has the same number and pace; where the disk holds one of files, it represents the machine of these, with
--- no channel open.
+-- A DRIVE WAS SWITCHED OFF AND ON with its disk: it has the same number and pace, no channel is open, and it reports what a drive does at power up, whatever the
+-- disk holds; where that is one of files, it represents the machine of these.
 pub record IsRestarted (old new : OnLines) : Type 0 where
   pub port : new.seat.port ≡ resting old.seat.port.party
-  pub same_disk : new.seat.machine.dos.medium ≡ old.seat.machine.dos.medium
+  pub machine : new.seat.machine ≡ restarted old.seat.machine
   pub kind : new.kind ≡ old.kind
   pub latest : new.latest ≡ old.latest
   pub stands : (d : Disk) → HoldsDisk (counted_seen old.seat.machine.dos.medium).tracks (counted_seen old.seat.machine.dos.medium).content d
       → DeskStands counted_seen new.seat.machine (with_pace old.seat.machine.addressed.pace
       (at_first old.seat.machine.addressed.device (start d (counted_seen old.seat.machine.dos.medium).protected (counted_seen old.seat.machine.dos.medium).tracks)))
 
--- A DRIVE THAT GOES ON WAS GIVEN THIS DISK, of an image of this format: what it does on its lines stays; where the disk holds one of files, it represents the machine of these, with no
--- channel open, which reports what it reported before, and who is addressed stays.
+-- A DRIVE THAT GOES ON WAS GIVEN THIS DISK, of an image of this format: what it does on its lines, what it reports and who is addressed stay, and no channel is open, whatever the
+-- disk holds; where that is one of files, it represents the machine of these.
 pub record IsExchanged (disk : Counted) (kind : Option Kind) (old new : OnLines) : Type 0 where
   pub port : new.seat.port ≡ old.seat.port
-  pub inside : new.seat.machine.dos.medium ≡ disk
+  pub machine : new.seat.machine ≡ with_another disk old.seat.machine
   pub same_kind : new.kind ≡ kind
   pub latest : new.latest ≡ old.latest
   pub stands : (d : Disk) → HoldsDisk (counted_seen disk).tracks (counted_seen disk).content d → DeskStands counted_seen new.seat.machine

@@ -1,32 +1,26 @@
--- The disk of an image in either format, with a count of its writes.
+-- The disk of an image, with a count of its writes.
 use Rattle.std.specs.Prelude.{ℕ, ◌<◌, ◌≡◌, Bool, true, List, None, Some, refl}
 use Rattle.cbm_medium.specs.Place.{Place}
 use Rattle.cbm_medium.specs.Content.{HasFaultCode, blank, header_fault}
 use Rattle.cbm_medium.specs.Seen.{Seen}
-use Rattle.cbm_d64.specs.Image as d64
-use Rattle.cbm_d64.specs.Outer.{d64_outer_good}
-use Rattle.cbm_d64.specs.Faults as d64_faults
-use Rattle.cbm_g64.specs.Tracks as g64
 use Rattle.cbm_g64.specs.Outer.{no_outer}
-use Rattle.cbm_g64.specs.Faults as g64_faults
+use Rattle.cbm_image.specs.AnyDisks.{any_kind, any_seen, any_has_codes, outer_good, is_steady}
 use Rattle.cbm_image.specs.Images.{kind_of, image_fault, tracks_of, content_of, IsOf}
 use Rattle.cbm_image.specs.declared.kind.Kind.{Kind}
 use Rattle.cbm_image.specs.declared.kind.Kind.TheVariants as kind
 use Rattle.cbm_device.specs.declared.image_disk.Sectors.{Sectors}
-use Rattle.cbm_device.specs.declared.image_disk.Sectors.TheVariants.{D64, G64, Blank}
+use Rattle.cbm_device.specs.declared.image_disk.Sectors.TheVariants.{Held, Blank}
 use Rattle.cbm_device.specs.declared.refusal.DeviceRefusal.{DeviceRefusal}
 use Rattle.cbm_device.specs.declared.refusal.DeviceRefusal.TheVariants.{Memory, Invalid, NoRoom, Absent, NoImage, Unsound, NoDrive, Status}
 
--- what the sectors of a format show
+-- what sectors show
 abbrev pub sectors_seen : Sectors → Seen
-sectors_seen (D64 disk) = d64.d64_seen disk
-sectors_seen (G64 disk) = g64.g64_seen disk
+sectors_seen (Held disk) = any_seen disk
 sectors_seen Blank = record { content = blank; tracks = 35; protected = true; failures = 0; refused = None; id = None }
 
--- which format that is; of a blank it doesn't count
+-- their format; of a blank it doesn't count
 abbrev pub format_of : Sectors → Kind
-format_of (D64 disk) = kind.D64
-format_of (G64 disk) = kind.G64
+format_of (Held disk) = any_kind disk
 format_of Blank = kind.D64
 
 -- a disk, and how often it was written
@@ -69,8 +63,7 @@ IsImageIn kind d image = IsOf kind image (counted_seen d).tracks (counted_seen d
 -- ---- the laws of a medium
 
 codes_on : (s : Sectors) (p : Place) → HasFaultCode ((sectors_seen s).content p)
-codes_on (D64 disk) p = d64_faults.d64_has_codes disk.bytes p
-codes_on (G64 disk) p = g64_faults.g64_has_codes disk.tracks p
+codes_on (Held disk) p = any_has_codes disk p
 codes_on Blank p = tt
 
 -- in place of a sector's bytes stands the code of a fault that reading meets
@@ -78,8 +71,7 @@ pub counted_has_codes : (d : Counted) (p : Place) → HasFaultCode ((counted_see
 counted_has_codes d p = codes_on d.sectors p
 
 outer_on : (s : Sectors) (p : Place) → (sectors_seen s).tracks ≡ 40 → 35 < p.track → header_fault ((sectors_seen s).content p) ≡ None
-outer_on (D64 disk) p = d64_outer_good disk.bytes p
-outer_on (G64 disk) p = no_outer 35 refl (g64.g64_content disk.tracks) p
+outer_on (Held disk) p = outer_good disk p
 outer_on Blank p = no_outer 35 refl blank p
 
 -- no sector of the outer tracks has a fault of its header
@@ -87,8 +79,7 @@ pub outer_free : (d : Counted) (p : Place) → (counted_seen d).tracks ≡ 40 �
 outer_free d p = outer_on d.sectors p
 
 steady_on : (s : Sectors) → (sectors_seen s).failures ≡ 0
-steady_on (D64 disk) = refl
-steady_on (G64 disk) = refl
+steady_on (Held disk) = is_steady disk
 steady_on Blank = refl
 
 -- it never fails by itself

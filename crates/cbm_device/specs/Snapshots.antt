@@ -10,10 +10,11 @@ use Rattle.cbm_drive.specs.Saved.{saved_seat, MaySit}
 use Rattle.cbm_drive.specs.Loaded.{seat_at}
 use Rattle.cbm_image.specs.declared.kind.Kind.{Kind}
 use Rattle.cbm_image.specs.declared.kind.Kind.TheVariants as kind
+use Rattle.cbm_image.specs.declared.any_disk.AnyDisk.TheVariants.{D64, G64}
 use Rattle.cbm_g64.specs.File.{g64_fault, g64_circles}
 use Rattle.cbm_device.specs.declared.image_disk.saving.Parts.{Parts}
 use Rattle.cbm_device.specs.declared.image_disk.Sectors.{Sectors}
-use Rattle.cbm_device.specs.declared.image_disk.Sectors.TheVariants.{D64, G64, Blank}
+use Rattle.cbm_device.specs.declared.image_disk.Sectors.TheVariants.{Held, Blank}
 use Rattle.cbm_device.specs.declared.refusal.DeviceRefusal.{DeviceRefusal}
 use Rattle.cbm_device.specs.declared.refusal.DeviceRefusal.TheVariants.{Memory, NoImage}
 use Rattle.cbm_device.specs.ImageDisks.{Counted, counted_seen}
@@ -36,8 +37,8 @@ parts_of p = record { format = p.format; protected = p.protected; writes = p.wri
 
 -- these are the sectors of these parts: of a D64 its bytes; of a G64 an image with its 35 circles; of no disk nothing
 abbrev pub AreSectorsOf : DiskParts → Sectors → Type 0
-AreSectorsOf p (D64 disk) = (p.format ≡ 1) × (p.protected ≡ disk.protected) × (p.image ≡ disk.bytes)
-AreSectorsOf p (G64 disk) = (p.format ≡ 2) × (p.protected ≡ disk.protected) × (g64_fault p.image ≡ None) × (g64_circles p.image 35 ≡ disk.tracks)
+AreSectorsOf p (Held (D64 disk)) = (p.format ≡ 1) × (p.protected ≡ disk.protected) × (p.image ≡ disk.bytes)
+AreSectorsOf p (Held (G64 disk)) = (p.format ≡ 2) × (p.protected ≡ disk.protected) × (g64_fault p.image ≡ None) × (g64_circles p.image 35 ≡ disk.tracks)
 AreSectorsOf p Blank = p.format ≡ 0
 
 -- the parts of a disk, as bytes

@@ -5,7 +5,7 @@ ghost use Rattle.cbm_machine.specs.Machines.{Machine};
 ghost use Rattle.cbm_iec.specs.Machines.{acted};
 ghost use Rattle.cbm_iec.specs.Ports.{port_due, resting, told, told_act, reacted, reaction_act};
 ghost use Rattle.cbm_session.specs.Following.{IsInTime};
-ghost use Rattle.cbm_drive.specs.Addressing.{paced, unaddressed};
+ghost use Rattle.cbm_drive.specs.Afresh.{switched_on};
 ghost use Rattle.cbm_drive.specs.Desks as desks;
 ghost use Rattle.cbm_drive.specs.Desks.{desk_says, desk_shows, desk_step, DeskStands};
 ghost use Rattle.cbm_drive.specs.Playback.{IsActed};
@@ -77,8 +77,7 @@ fn powered(disk: ImageDisk, channels: Channels, party: Party) -> Drive<Desk<Imag
     requires device { party.device < 31 }
     requires reaction { 1 ≤ party.reaction }
     ensures port { result.port ≡ resting party }
-    ensures disk { result.machine.dos.medium ≡ disk }
-    ensures addressed { result.machine.addressed ≡ paced party.pace (unaddressed party.device) }
+    ensures machine { result.machine ≡ switched_on party.device party.pace disk }
     ensures stands { StandsPowered disk party result.machine }
 {
     let desk = Desk::at_power_up(disk, channels, party.device).with_pace(party.pace);

@@ -1,29 +1,24 @@
-//! The disk of an image in either format, with a count of its writes.
-ghost use Rattle.std.specs.Prelude.{◌≡◌, ◌≤◌, None, IfOk, IfErr, IfSome, OnOk};
+//! The disk of an image, with a count of its writes.
+ghost use Rattle.std.specs.Prelude.{◌≡◌, ◌≤◌, IfOk, IfErr, IfSome, OnOk};
 ghost use Rattle.cbm_medium.specs.Place.{directory_head};
 ghost use Rattle.cbm_medium.specs.Content.{written, blank, format_refusal};
 ghost use Rattle.cbm_medium.specs.Seen.{with_content, formatted_as, write_refusal, IsRefused};
-ghost use Rattle.cbm_image.specs.Images.{kind_of, image_fault, IsOf};
 ghost use Rattle.cbm_device.specs.ImageDisks.{no_disk, sectors_seen, IsDiskOf, IsOpenRefusal, IsImageIn};
 
 pub(crate) mod saving;
 
 use crate::refusal::DeviceRefusal;
-use cbm_d64::D64Disk;
-use cbm_g64::G64Disk;
-use cbm_image::{DiskImage, ImageFault, Kind, kind_of};
+use cbm_image::{AnyDisk, ImageFault, Kind};
 use cbm_medium::codes::WRITE_PROTECT_ON;
 use cbm_medium::{Address, Fault, Medium, Steady};
 use std::alloc::Global;
 use std::marker::Model;
 
-/// The sectors of a disk, as its image's format keeps them.
+/// The sectors of a disk.
 #[derive(Drop)]
 pub enum Sectors {
-    /// Bytes in the order of track and sector.
-    D64(D64Disk),
-    /// Circles of bits.
-    G64(G64Disk),
+    /// Of an image.
+    Held(AnyDisk),
     /// Of no image: zeros that can't be written, which take no memory. It stands in a drive without a disk.
     Blank,
 }
@@ -43,31 +38,6 @@ impl Model for ImageDisk {
     ghost view = { λ d. record { sectors = d.sectors; writes = d.writes } };
 }
 
-/// The disk of an image of one format.
-fn opened<I: DiskImage>(alloc: Global, image: &[u8], protected: bool) -> Result<I, DeviceRefusal>
-    requires { kind_of image.now ≡ I.kind }
-    ensures ok { IfOk result (λ d. IsOf I.kind image.now (I.seen d).tracks (I.seen d).content
-        × ((I.seen d).protected ≡ protected)) }
-    ensures err { IfErr result (IsOpenRefusal image.now) }
-{
-    match I::open(alloc, image, protected) {
-        Ok(disk) => Ok(disk),
-        Err(ImageFault::Format(_)) => Err(DeviceRefusal::NoImage),
-        Err(ImageFault::Memory) => Err(DeviceRefusal::Memory),
-    }
-}
-
-/// The image of a disk of one format.
-fn saved<I: DiskImage>(alloc: Global, disk: &I) -> Result<Vec<u8>, DeviceRefusal>
-    ensures ok { IfOk result (λ v. IsOf I.kind v.items (I.seen disk.now).tracks (I.seen disk.now).content) }
-    ensures err { IfErr result (λ r. r ≡ DeviceRefusal.Memory) }
-{
-    match disk.save(alloc) {
-        Ok(image) => Ok(image),
-        Err(_) => Err(DeviceRefusal::Memory),
-    }
-}
-
 /// Writes a sector.
 fn write_on(sectors: &mut Sectors, at: Address, bytes: &[u8; 256]) -> Result<(), Fault>
     requires { at.track ≤ (sectors_seen sectors.old).tracks }
@@ -79,8 +49,7 @@ fn write_on(sectors: &mut Sectors, at: Address, bytes: &[u8; 256]) -> Result<(),
         × IsRefused (write_refusal (sectors_seen sectors.old) at) fault (sectors_seen sectors.old) (sectors_seen sectors.new)) }
 {
     match sectors {
-        Sectors::D64(disk) => disk.write(at, bytes),
-        Sectors::G64(disk) => disk.write(at, bytes),
+        Sectors::Held(disk) => disk.write(at, bytes),
         Sectors::Blank => Err(Fault {
             code: WRITE_PROTECT_ON,
             at,
@@ -98,8 +67,7 @@ fn format_on(sectors: &mut Sectors, id: [u8; 2]) -> Result<(), Fault>
         (sectors_seen sectors.new)) }
 {
     match sectors {
-        Sectors::D64(disk) => disk.format(id),
-        Sectors::G64(disk) => disk.format(id),
+        Sectors::Held(disk) => disk.format(id),
         Sectors::Blank => Err(Fault {
             code: WRITE_PROTECT_ON,
             at: Address::of_map(),
@@ -109,21 +77,17 @@ fn format_on(sectors: &mut Sectors, id: [u8; 2]) -> Result<(), Fault>
 
 impl ImageDisk {
     /// The disk of an image. Errors: `NoImage`, `Memory`.
-    // (In its caller's frame its tracks would take stack as long as a drive does.)
-    #[inline(never)]
     pub fn open(alloc: Global, image: &[u8], protected: bool) -> Result<ImageDisk, DeviceRefusal>
         ensures ok { IfOk result (IsDiskOf image.now protected) }
         ensures err { IfErr result (IsOpenRefusal image.now) }
     {
-        match kind_of(image) {
-            Kind::D64 => Ok(ImageDisk {
-                sectors: Sectors::D64(opened::<D64Disk>(alloc, image, protected)?),
+        match AnyDisk::open(alloc, image, protected) {
+            Ok(disk) => Ok(ImageDisk {
+                sectors: Sectors::Held(disk),
                 writes: 0,
             }),
-            Kind::G64 => Ok(ImageDisk {
-                sectors: Sectors::G64(opened::<G64Disk>(alloc, image, protected)?),
-                writes: 0,
-            }),
+            Err(ImageFault::Format(_)) => Err(DeviceRefusal::NoImage),
+            Err(ImageFault::Memory) => Err(DeviceRefusal::Memory),
         }
     }
 
@@ -143,10 +107,9 @@ impl ImageDisk {
         ensures ok { IfOk result (λ v. IsImageIn kind self.now v.items) }
         ensures err { IfErr result (λ r. r ≡ DeviceRefusal.Memory) }
     {
-        match (&self.sectors, kind) {
-            (Sectors::D64(disk), Kind::D64) => saved(alloc, disk),
-            (Sectors::G64(disk), Kind::G64) => saved(alloc, disk),
-            _ => Err(DeviceRefusal::Memory),
+        match &self.sectors {
+            Sectors::Held(disk) => disk.save(alloc, kind).map_err(|_| DeviceRefusal::Memory),
+            Sectors::Blank => Err(DeviceRefusal::Memory),
         }
     }
 
@@ -173,8 +136,7 @@ impl Medium for ImageDisk {
 
     fn read(&self, at: Address) -> Result<[u8; 256], Fault> {
         match &self.sectors {
-            Sectors::D64(disk) => disk.read(at),
-            Sectors::G64(disk) => disk.read(at),
+            Sectors::Held(disk) => disk.read(at),
             Sectors::Blank => Ok([0; 256]),
         }
     }
@@ -211,16 +173,14 @@ impl Medium for ImageDisk {
 
     fn tracks(&self) -> u8 {
         match &self.sectors {
-            Sectors::D64(disk) => disk.tracks(),
-            Sectors::G64(disk) => disk.tracks(),
+            Sectors::Held(disk) => disk.tracks(),
             Sectors::Blank => 35,
         }
     }
 
     fn protected(&self) -> bool {
         match &self.sectors {
-            Sectors::D64(disk) => disk.protected(),
-            Sectors::G64(disk) => disk.protected(),
+            Sectors::Held(disk) => disk.protected(),
             Sectors::Blank => true,
         }
     }

@@ -6,6 +6,7 @@ use Rattle.cbm_g64.specs.declared.fault.G64Fault.{G64Fault}
 use Rattle.cbm_g64.specs.declared.fault.G64Fault.TheVariants.{Signature, Version, Entries, GreatestSize, OffsetOutside, TrackLength, Memory, Overlap}
 use Rattle.cbm_g64.specs.File.{g64_fault, has_signature, has_version, has_entries, has_greatest, are_inside, are_sized, are_apart}
 use Rattle.cbm_g64.specs.Numbers.{g64_fault_number}
+use Rattle.cbm_image.specs.declared.any_disk.AnyDisk.{AnyDisk}
 use Rattle.cbm_image.specs.declared.fault.ImageFault.{ImageFault}
 use Rattle.cbm_image.specs.declared.fault.ImageFault.TheVariants as image
 
@@ -28,7 +29,7 @@ of_bytes : (file : List ℕ) → IsOfBytes (g64_fault file)
 of_bytes file = of_tests (has_signature file) (has_version file) (has_entries file) (has_greatest file) (are_inside file) (are_sized file) (are_apart file)
 
 refused : (o : Option G64Fault) → IsOfBytes o → IfSome o (λ fault. ◌≡◌ {A = Result G64Disk G64Fault} (Err Memory) (Err fault))
-    → IfSome (option_map g64_fault_number o) (λ n. ◌≡◌ {A = Result G64Disk ImageFault} (Err image.Memory) (Err (image.Format n)))
+    → IfSome (option_map g64_fault_number o) (λ n. ◌≡◌ {A = Result AnyDisk ImageFault} (Err image.Memory) (Err (image.Format n)))
 refused None h e = tt
 refused (Some Memory) h e = absurd h
 refused (Some Signature) h e = absurd (cc)
@@ -40,5 +41,5 @@ refused (Some TrackLength) h e = absurd (cc)
 refused (Some Overlap) h e = absurd (cc)
 
 pub refused_memory : (file : List ℕ) → IfSome (g64_fault file) (λ fault. ◌≡◌ {A = Result G64Disk G64Fault} (Err Memory) (Err fault))
-    → IfSome (option_map g64_fault_number (g64_fault file)) (λ n. ◌≡◌ {A = Result G64Disk ImageFault} (Err image.Memory) (Err (image.Format n)))
+    → IfSome (option_map g64_fault_number (g64_fault file)) (λ n. ◌≡◌ {A = Result AnyDisk ImageFault} (Err image.Memory) (Err (image.Format n)))
 refused_memory file e = refused (g64_fault file) (of_bytes file) e

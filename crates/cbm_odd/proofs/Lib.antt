@@ -4,3 +4,4 @@ pub mod AwayLemmas
 pub mod HeldLemmas
 pub mod ChangeLemmas
 pub mod FaultLemmas
+pub mod BackLemmas

@@ -2,6 +2,7 @@
 ghost use Rattle.std.specs.Prelude.{◌≡◌, ◌≤◌, None, IfOk, IfErr, OnOk};
 ghost use Rattle.cbm_bam.specs.Map.{geometry_of};
 ghost use Rattle.cbm_directory.specs.Entries.{EntersLed};
+ghost use Rattle.cbm_image.specs.AnyDisks.{any_seen};
 ghost use Rattle.cbm_image.specs.Images.{kind_of, image_fault, content_of};
 ghost use Rattle.cbm_shell.specs.Images.{IsSoundImage, IsSoundDisk};
 ghost use Rattle.cbm_odd.specs.Away.{away_entry, ArePutAway, IsClearOf, IsUnclear, IsAway, IsNotLeft, IsAwayIn, IsNotAwayIn};
@@ -9,10 +10,8 @@ ghost use Rattle.cbm_odd.specs.Odd.{IsUnreadable};
 
 use crate::held::{held_places, require_kept};
 use crate::odd::{Odd, odds_of};
-use cbm_d64::D64Disk;
 use cbm_directory::put_slot;
-use cbm_g64::G64Disk;
-use cbm_image::{DiskImage, Kind, kind_of};
+use cbm_image::{AnyDisk, Kind, kind_of};
 use cbm_medium::{Address, Geometry, Medium, Steady};
 use cbm_shell::ShellFault;
 use cbm_shell::parts::{entries_or_none, entry_of, opened, require_sound, saved, used_sectors};
@@ -105,58 +104,50 @@ pub(crate) fn require_clear<M: Medium>(
 }
 
 /// The image of a disk, if it is sound and these sectors are neither free nor a file's. Errors: `Unsound`; `Trouble`; `Memory`.
-pub(crate) fn clear_image<I: DiskImage + Drop>(
+pub(crate) fn clear_image(
     alloc: Global,
-    disk: I,
+    disk: AnyDisk,
+    kind: Kind,
     held: &[Address],
 ) -> Result<Vec<u8>, ShellFault>
-    ensures clear { let now = I.seen disk in OnOk result (IsClearOf now.tracks now.content held.now) }
-    ensures sound { IfOk result (λ v. IsSoundImage I.kind v.items) }
-    ensures content { IfOk result (λ v. content_of I.kind v.items ≡ (I.seen disk).content) }
-    ensures opens { IfOk result (λ v. image_fault I.kind v.items ≡ None) }
-    ensures fault { let now = I.seen disk in IfErr result (IsUnclear now.tracks now.content held.now) }
+    ensures clear { let now = any_seen disk in OnOk result (IsClearOf now.tracks now.content held.now) }
+    ensures sound { IfOk result (λ v. IsSoundImage kind v.items) }
+    ensures content { IfOk result (λ v. content_of kind v.items ≡ (any_seen disk).content) }
+    ensures opens { IfOk result (λ v. image_fault kind v.items ≡ None) }
+    ensures fault { let now = any_seen disk in IfErr result (IsUnclear now.tracks now.content held.now) }
 {
     let volume = Volume::open(disk);
     require_clear(alloc, &volume, held)?;
-    saved(alloc, &volume.into_medium())
+    saved(alloc, &volume.into_medium(), kind)
 }
 
 /// The image of a disk without its odd entries. Errors: those of its parts.
-fn image_without<I: DiskImage + Drop>(
+fn image_without(
     alloc: Global,
-    volume: Volume<I>,
+    volume: Volume<AnyDisk>,
+    kind: Kind,
     odds: &[Odd],
 ) -> Result<Vec<u8>, ShellFault>
-    ensures away { let old = I.seen volume in IfOk result (λ v. IsAway I.kind old.tracks old.content odds.now v.items) }
-    ensures fault { let old = I.seen volume in IfErr result (IsNotLeft old.tracks old.content odds.now) }
+    ensures away { let old = any_seen volume in IfOk result (λ v. IsAway kind old.tracks old.content odds.now v.items) }
+    ensures fault { let old = any_seen volume in IfErr result (IsNotLeft old.tracks old.content odds.now) }
 {
     let held = held_places(alloc, volume.medium(), volume.geometry(), odds)?;
     let disk = without(volume, odds)?;
-    clear_image(alloc, disk, held.as_slice())
-}
-
-/// Puts the odd entries of an image of one format away.
-fn put_away_in<I: DiskImage + Drop>(alloc: Global, image: &[u8]) -> Result<Away, ShellFault>
-    requires { kind_of image.now ≡ I.kind }
-    ensures away { IfOk result (IsAwayIn image.now) }
-    ensures fault { IfErr result (IsNotAwayIn image.now) }
-{
-    let volume = Volume::open(opened::<I>(alloc, image)?);
-    let odds = odds_of(alloc, &volume)?;
-    let image = image_without(alloc, volume, odds.as_slice())?;
-    Ok(Away { image, odds })
+    clear_image(alloc, disk, kind, held.as_slice())
 }
 
 /// Puts the odd entries of an image away: in each one's slot a locked DEL of its name stands, without a block, and nothing else is
 /// changed. Errors: `Image`; `Unsound`, with what is wrong first, if more is wrong than entries; with a sector that an odd entry
 /// leads to, if that is free or another file's; `Trouble`; `Memory`.
+// (In its caller's frame it would take stack for the calls beside it.)
+#[inline(never)]
 pub fn put_away(alloc: Global, image: &[u8]) -> Result<Away, ShellFault>
     // What is left is sound; each sector that the odd entries lead to is taken, and no file's.
     ensures away { IfOk result (IsAwayIn image.now) }
     ensures fault { IfErr result (IsNotAwayIn image.now) }
 {
-    match kind_of(image) {
-        Kind::D64 => put_away_in::<D64Disk>(alloc, image),
-        Kind::G64 => put_away_in::<G64Disk>(alloc, image),
-    }
+    let volume = Volume::open(opened(alloc, image)?);
+    let odds = odds_of(alloc, &volume)?;
+    let image = image_without(alloc, volume, kind_of(image), odds.as_slice())?;
+    Ok(Away { image, odds })
 }

@@ -3,6 +3,7 @@ ghost use Rattle.std.specs.Prelude.{◌≡◌, ◌≤◌, None, IfOk, IfErr, OnO
 ghost use Rattle.std.specs.Str.{bytes_eq};
 ghost use Rattle.cbm_bam.specs.Map.{geometry_of};
 ghost use Rattle.cbm_directory.specs.Slots.{directory_of};
+ghost use Rattle.cbm_image.specs.AnyDisks.{any_seen};
 ghost use Rattle.cbm_image.specs.Images.{kind_of, image_fault, content_of};
 ghost use Rattle.cbm_odd.specs.Back.{stands_for, protected, StandsIn, IsMissing, IsPutBack, ArePutBack, IsNotBackFrom, LeavesHeld, ChangesHeld, IsBackIn, IsNotBackIn};
 
@@ -10,10 +11,8 @@ use crate::away::{put_entry, require_clear};
 use crate::held::{held_places, require_same};
 use crate::odd::Odd;
 use cbm_channel::{Code, Status};
-use cbm_d64::D64Disk;
 use cbm_directory::slot;
-use cbm_g64::G64Disk;
-use cbm_image::{DiskImage, Kind, kind_of};
+use cbm_image::{AnyDisk, Kind, kind_of};
 use cbm_medium::{Geometry, Medium, Steady};
 use cbm_shell::ShellFault;
 use cbm_shell::parts::{opened, saved};
@@ -118,42 +117,46 @@ fn require_left_alone<M: Medium>(
 }
 
 /// The image of a changed disk with its odd entries. Errors: those of its parts.
-fn image_with<I: DiskImage + Drop>(
+fn image_with(
     alloc: Global,
-    volume: Volume<I>,
+    volume: Volume<AnyDisk>,
+    kind: Kind,
     odds: &[Odd],
 ) -> Result<Vec<u8>, ShellFault>
-    ensures back { let old = I.seen volume in IfOk result (λ v.
-        ArePutBack (geometry_of old.tracks old.content) odds.now old.content (content_of I.kind v.items)) }
-    ensures opens { IfOk result (λ v. image_fault I.kind v.items ≡ None) }
-    ensures fault { let old = I.seen volume in
+    ensures back { let old = any_seen volume in IfOk result (λ v.
+        ArePutBack (geometry_of old.tracks old.content) odds.now old.content (content_of kind v.items)) }
+    ensures opens { IfOk result (λ v. image_fault kind v.items ≡ None) }
+    ensures fault { let old = any_seen volume in
         IfErr result (IsNotBackFrom (geometry_of old.tracks old.content) odds.now old.content) }
 {
     let disk = with_odds(volume, odds)?;
-    saved(alloc, &disk)
+    saved(alloc, &disk, kind)
 }
 
-/// Puts the odd entries of an image of one format back into the changed one.
-fn put_back_in<I: DiskImage + Drop>(
+/// Puts the odd entries of an image of this format back into the changed one.
+fn put_back_in(
     alloc: Global,
+    kind: Kind,
     image: &[u8],
     odds: &[Odd],
     changed: &[u8],
 ) -> Result<Vec<u8>, ShellFault>
-    requires old { kind_of image.now ≡ I.kind }
-    requires new { kind_of changed.now ≡ I.kind }
-    ensures back { IfOk result (λ v. IsBackIn I.kind image.now odds.now changed.now v.items) }
+    requires old { kind_of image.now ≡ kind }
+    requires new { kind_of changed.now ≡ kind }
+    ensures back { IfOk result (λ v. IsBackIn (kind_of image.now) image.now odds.now changed.now v.items) }
     ensures fault { IfErr result (IsNotBackIn image.now odds.now changed.now) }
 {
-    let old = Volume::open(opened::<I>(alloc, image)?);
-    let new = Volume::open(opened::<I>(alloc, changed)?);
+    let old = Volume::open(opened(alloc, image)?);
+    let new = Volume::open(opened(alloc, changed)?);
     require_left_alone(alloc, &old, &new, odds)?;
-    image_with(alloc, new, odds)
+    image_with(alloc, new, kind, odds)
 }
 
 /// Puts the odd entries of an image back into the image that was made of it without them. Errors: `Image`; `Refused`, with WRITE PROTECT ON, if the
 /// change touched one of them; `Unsound`, if what is left isn't sound, or the change touched a sector that one leads to; `Mistaken`, if
 /// the two images aren't of one format; `Trouble`; `Memory`.
+// (In its caller's frame it would take stack for the calls beside it.)
+#[inline(never)]
 pub fn put_back(
     alloc: Global,
     image: &[u8],
@@ -164,9 +167,10 @@ pub fn put_back(
     ensures back { IfOk result (λ v. IsBackIn (kind_of image.now) image.now odds.now changed.now v.items) }
     ensures fault { IfErr result (IsNotBackIn image.now odds.now changed.now) }
 {
-    match (kind_of(image), kind_of(changed)) {
-        (Kind::D64, Kind::D64) => put_back_in::<D64Disk>(alloc, image, odds, changed),
-        (Kind::G64, Kind::G64) => put_back_in::<G64Disk>(alloc, image, odds, changed),
-        (Kind::D64, Kind::G64) | (Kind::G64, Kind::D64) => Err(ShellFault::Mistaken),
+    let kind = kind_of(image);
+    if kind_of(changed) == kind {
+        put_back_in(alloc, kind, image, odds, changed)
+    } else {
+        Err(ShellFault::Mistaken)
     }
 }

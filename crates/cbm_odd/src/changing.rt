@@ -16,9 +16,7 @@ use crate::back::put_back;
 use crate::held::reach_each;
 use crate::odd::Odd;
 use cbm_bam::SectorSet;
-use cbm_d64::D64Disk;
-use cbm_g64::G64Disk;
-use cbm_image::{DiskImage, Kind, kind_of};
+use cbm_image::kind_of;
 use cbm_medium::{Geometry, Medium, Steady};
 use cbm_shell::parts::{entries_or_none, held_around, opened, remapped, sound_image};
 use cbm_shell::{DiskChange, ShellFault};
@@ -27,6 +25,8 @@ use std::alloc::Global;
 
 /// Makes a change on the disk of an image, around its odd entries. Errors: those of `put_away`; `Refused`, with the drive's status;
 /// those of `put_back`.
+// (In its caller's frame it would take stack for the calls beside it.)
+#[inline(never)]
 pub fn change(alloc: Global, image: &[u8], change: &DiskChange<'_>) -> Result<Vec<u8>, ShellFault>
     // The machine makes the change on what is left without the odd entries. Each of them stays, and so does each sector that it leads to.
     ensures made { IfOk result (λ v. IsChangedAround image.now change.now v.items) }
@@ -70,22 +70,6 @@ fn mapped_around<M: Steady + Drop>(
     remapped(volume.into_medium(), geometry, &held)
 }
 
-/// The image of one format with its BAM written anew around what is held.
-fn map_around_in<I: DiskImage + Drop>(
-    alloc: Global,
-    image: &[u8],
-    odds: &[Odd],
-) -> Result<Vec<u8>, ShellFault>
-    requires { kind_of image.now ≡ I.kind }
-    ensures mapped { IfOk result (λ v. IsMappedAroundOdd image.now odds.now v.items) }
-    ensures sound { IfOk result (λ v. IsSoundImage (kind_of image.now) v.items) }
-    ensures opens { IfOk result (λ v. image_fault (kind_of image.now) v.items ≡ None) }
-{
-    let volume = Volume::open(opened::<I>(alloc, image)?);
-    let disk = mapped_around(alloc, volume, odds)?;
-    sound_image(alloc, disk)
-}
-
 /// The image, whose odd entries are put away, with its BAM written anew: each block is free but those of the directory, of the closed
 /// files and of GEOS, and those that the odd entries lead to. Errors: `Image`; `Unsound`, if the disk wouldn't be sound; `Trouble`,
 /// if 18/0 can't be read; `Memory`.
@@ -94,8 +78,7 @@ pub fn map_around(alloc: Global, image: &[u8], odds: &[Odd]) -> Result<Vec<u8>, 
     ensures sound { IfOk result (λ v. IsSoundImage (kind_of image.now) v.items) }
     ensures opens { IfOk result (λ v. image_fault (kind_of image.now) v.items ≡ None) }
 {
-    match kind_of(image) {
-        Kind::D64 => map_around_in::<D64Disk>(alloc, image, odds),
-        Kind::G64 => map_around_in::<G64Disk>(alloc, image, odds),
-    }
+    let volume = Volume::open(opened(alloc, image)?);
+    let disk = mapped_around(alloc, volume, odds)?;
+    sound_image(alloc, disk, kind_of(image))
 }

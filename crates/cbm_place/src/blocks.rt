@@ -3,16 +3,15 @@ ghost use Rattle.std.specs.Prelude.{◌≡◌, IfOk};
 ghost use Rattle.cbm_bam.specs.Map.{geometry_of};
 ghost use Rattle.cbm_directory.specs.Entries.{first_block};
 ghost use Rattle.cbm_shell.specs.Mapping.{chain_of};
-ghost use Rattle.cbm_shell.specs.OpenDisk.{open_disk_seen};
 
 use crate::chain::chain_of;
 use cbm_medium::{Address, Medium};
-use cbm_shell::OpenDisk;
 use cbm_volume::{Entry, Volume};
 use std::alloc::{AllocError, Global};
 
-/// Where the blocks of an entry's file lie on a disk.
-fn blocks_on<M: Medium>(
+/// Where the blocks of an entry's file lie, in order, up to where its chain ends or is cut off; a relative file's side sectors aren't
+/// among them. The one error is want of memory.
+pub fn blocks_of<M: Medium>(
     alloc: Global,
     volume: &Volume<M>,
     entry: &Entry,
@@ -27,16 +26,4 @@ fn blocks_on<M: Medium>(
         entry.first_block(),
     )?;
     Ok(chain.places)
-}
-
-/// Where the blocks of an entry's file lie, in order, up to where its chain ends or is cut off; a relative file's side sectors aren't
-/// among them. The one error is want of memory.
-pub fn blocks_of(alloc: Global, disk: &OpenDisk, entry: &Entry) -> Result<Vec<Address>, AllocError>
-    ensures { let now = open_disk_seen disk.now in
-        IfOk result (λ v. v.items ≡ chain_of (geometry_of now.tracks now.content) now.content (first_block entry.now)) }
-{
-    match disk {
-        OpenDisk::D64(volume) => blocks_on(alloc, volume, entry),
-        OpenDisk::G64(volume) => blocks_on(alloc, volume, entry),
-    }
 }

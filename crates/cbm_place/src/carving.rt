@@ -9,10 +9,8 @@ ghost use Rattle.cbm_place.specs.Carving.{written_each, IsCarved, IsNotCarved, I
 use crate::chain::chain_of;
 use crate::laying::write;
 use crate::moving::movable;
-use cbm_d64::D64Disk;
 use cbm_directory::put_slot;
-use cbm_g64::G64Disk;
-use cbm_image::{DiskImage, Kind, kind_of};
+use cbm_image::kind_of;
 use cbm_medium::{Address, Steady};
 use cbm_shell::ShellFault;
 use cbm_shell::parts::{opened, require_sound, saved};
@@ -67,28 +65,6 @@ fn carved<M: Steady + Drop>(
     Ok(medium)
 }
 
-/// Writes a file of an image of one format anew.
-fn carve_in<I: DiskImage + Drop>(
-    alloc: Global,
-    image: &[u8],
-    slot: u8,
-    entry: &Entry,
-    blocks: &[[u8; 256]],
-) -> Result<Vec<u8>, ShellFault>
-    requires { kind_of image.now ≡ I.kind }
-    ensures carved { IfOk result (λ v. IsCarvedIn image.now slot entry.now blocks.now v.items) }
-    ensures sound { OnOk result (IsSoundImage (kind_of image.now) image.now) }
-    ensures stays { IfOk result (λ v. IsSoundImage (kind_of image.now) v.items) }
-    ensures opens { IfOk result (λ v. image_fault (kind_of image.now) v.items ≡ None) }
-    ensures fault { IfErr result (IsUncarvedIn image.now slot entry.now blocks.now) }
-{
-    let volume = Volume::open(opened::<I>(alloc, image)?);
-    require_sound(&volume)?;
-    let new = Volume::open(carved(alloc, volume, slot, entry, blocks)?);
-    require_sound(&new)?;
-    saved(alloc, &new.into_medium())
-}
-
 /// Writes the blocks of the file in a slot of an image, and its entry, as they are given: each block is all 256 bytes of a sector, its
 /// link too. Every other sector stays, and so does the BAM, so blocks that the file no longer leads to stay taken. Errors: `Image`;
 /// `Unsound`, with what is wrong first, before or after; `NotFound`, if the slot has no file; `NotClosed`; `Mistaken`, if the file is
@@ -106,8 +82,9 @@ pub fn carve(
     ensures opens { IfOk result (λ v. image_fault (kind_of image.now) v.items ≡ None) }
     ensures fault { IfErr result (IsUncarvedIn image.now slot entry.now blocks.now) }
 {
-    match kind_of(image) {
-        Kind::D64 => carve_in::<D64Disk>(alloc, image, slot, entry, blocks),
-        Kind::G64 => carve_in::<G64Disk>(alloc, image, slot, entry, blocks),
-    }
+    let volume = Volume::open(opened(alloc, image)?);
+    require_sound(&volume)?;
+    let new = Volume::open(carved(alloc, volume, slot, entry, blocks)?);
+    require_sound(&new)?;
+    saved(alloc, &new.into_medium(), kind_of(image))
 }

@@ -5,35 +5,12 @@ ghost use Rattle.cbm_shell.specs.Images.{IsSoundImage};
 ghost use Rattle.cbm_place.specs.Placed.{IsPlacedIn, IsUnplacedIn};
 
 use crate::moving::moved;
-use cbm_d64::D64Disk;
-use cbm_g64::G64Disk;
-use cbm_image::{DiskImage, Kind, kind_of};
+use cbm_image::kind_of;
 use cbm_medium::Address;
 use cbm_shell::ShellFault;
 use cbm_shell::parts::{opened, require_sound, saved};
 use cbm_volume::Volume;
 use std::alloc::Global;
-
-/// Moves the file in a slot of an image of one format.
-fn place_in<I: DiskImage + Drop>(
-    alloc: Global,
-    image: &[u8],
-    slot: u8,
-    places: &[Address],
-) -> Result<Vec<u8>, ShellFault>
-    requires { kind_of image.now ≡ I.kind }
-    ensures placed { IfOk result (λ v. IsPlacedIn image.now slot places.now v.items) }
-    ensures sound { OnOk result (IsSoundImage (kind_of image.now) image.now) }
-    ensures stays { IfOk result (λ v. IsSoundImage (kind_of image.now) v.items) }
-    ensures opens { IfOk result (λ v. image_fault (kind_of image.now) v.items ≡ None) }
-    ensures fault { IfErr result (IsUnplacedIn image.now slot places.now) }
-{
-    let volume = Volume::open(opened::<I>(alloc, image)?);
-    require_sound(&volume)?;
-    let new = Volume::open(moved(alloc, volume, slot, places)?);
-    require_sound(&new)?;
-    saved(alloc, &new.into_medium())
-}
 
 /// Moves the file in a slot of an image: its blocks, in order, lie at these places. Its bytes, its entry but for its first block, and
 /// all other files stay. Errors: `Image`; `Unsound`, with what is wrong first; `NotFound`, if the slot has no file; `NotClosed`;
@@ -52,8 +29,9 @@ pub fn place(
     ensures opens { IfOk result (λ v. image_fault (kind_of image.now) v.items ≡ None) }
     ensures fault { IfErr result (IsUnplacedIn image.now slot places.now) }
 {
-    match kind_of(image) {
-        Kind::D64 => place_in::<D64Disk>(alloc, image, slot, places),
-        Kind::G64 => place_in::<G64Disk>(alloc, image, slot, places),
-    }
+    let volume = Volume::open(opened(alloc, image)?);
+    require_sound(&volume)?;
+    let new = Volume::open(moved(alloc, volume, slot, places)?);
+    require_sound(&new)?;
+    saved(alloc, &new.into_medium(), kind_of(image))
 }

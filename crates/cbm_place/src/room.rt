@@ -9,9 +9,6 @@ use crate::bam::{Change, taken_sectors};
 use crate::chain::{chain_of, set_of};
 use crate::moving::movable;
 use cbm_bam::SectorSet;
-use cbm_d64::D64Disk;
-use cbm_g64::G64Disk;
-use cbm_image::{DiskImage, Kind, kind_of};
 use cbm_medium::{Address, Medium};
 use cbm_shell::ShellFault;
 use cbm_shell::parts::opened;
@@ -49,24 +46,12 @@ fn room_on<M: Medium>(alloc: Global, volume: &Volume<M>, slot: u8) -> Result<Roo
     })
 }
 
-/// The room of the file in a slot of an image of one format.
-fn room_in<I: DiskImage + Drop>(alloc: Global, image: &[u8], slot: u8) -> Result<Room, ShellFault>
-    requires { kind_of image.now ≡ I.kind }
-    ensures room { IfOk result (IsRoomOfImage image.now slot) }
-    ensures fault { IfErr result (IsNoRoomIn image.now slot) }
-{
-    let volume = Volume::open(opened::<I>(alloc, image)?);
-    room_on(alloc, &volume, slot)
-}
-
 /// Where the file in a slot of an image lies, and where it may go. Errors: `Image`; `NotFound`, if the slot has no file; `NotClosed`;
 /// `Mistaken`, if the file is relative; `Trouble`, if the directory breaks off before the slot; `Memory`.
 pub fn room_of(alloc: Global, image: &[u8], slot: u8) -> Result<Room, ShellFault>
     ensures room { IfOk result (IsRoomOfImage image.now slot) }
     ensures fault { IfErr result (IsNoRoomIn image.now slot) }
 {
-    match kind_of(image) {
-        Kind::D64 => room_in::<D64Disk>(alloc, image, slot),
-        Kind::G64 => room_in::<G64Disk>(alloc, image, slot),
-    }
+    let volume = Volume::open(opened(alloc, image)?);
+    room_on(alloc, &volume, slot)
 }

@@ -1,6 +1,7 @@
 //! Running a script on the disk of an image.
 ghost use Rattle.std.specs.Prelude.{◌≡◌, true, false, Err, IfSome, IfOk, IfErr};
 ghost use Rattle.cbm_host.specs.Hosted.{party_of};
+ghost use Rattle.cbm_image.specs.AnyDisks.{any_seen, IsDiskOfImage};
 ghost use Rattle.cbm_image.specs.Images.{kind_of, image_fault, IsOf};
 ghost use Rattle.cbm_program.specs.Checking.{IsCheckedFirst};
 ghost use Rattle.cbm_program.specs.Outcome.{IsRun, RunsRequests, RunsChanges, IsOutcome};
@@ -12,10 +13,8 @@ use crate::fault::RunFault;
 use crate::numbered::{Beginning, read_first};
 use crate::station::Station;
 use bus_traces::Source;
-use cbm_d64::D64Disk;
 use cbm_drive::{Channels, Pace, Unwatched, Watches};
-use cbm_g64::G64Disk;
-use cbm_image::{DiskImage, ImageFault, Kind, kind_of};
+use cbm_image::{AnyDisk, ImageFault, kind_of};
 use cbm_volume::Volume;
 use std::alloc::Global;
 use std::io::{Read, Write};
@@ -26,7 +25,7 @@ mod scripted;
 
 use checking::print_check;
 pub use directly::run_direct;
-use scripted::RunsScripts;
+use scripted::{play, serve};
 
 /// How a run is made.
 #[derive(Clone, Copy, Debug, PartialEq, Eq)]
@@ -41,60 +40,59 @@ pub struct Options {
     pub check: bool,
 }
 
-/// Runs a script on a drive of this pace at power up with this medium, and gives the medium back with what the script wrote.
+/// Runs a script on a drive of this pace at power up with this disk, and gives the disk back with what the script wrote.
 /// Its first line says whether it asks for files or changes lines.
-fn run_script<M: RunsScripts + Drop, R: Read + Drop, W: Write, T: Watches>(
-    medium: M,
+fn run_script<R: Read + Drop, W: Write, T: Watches>(
+    disk: AnyDisk,
     station: Station,
     reader: R,
     writer: &mut W,
     watcher: &mut T,
-) -> Result<M, RunFault>
+) -> Result<AnyDisk, RunFault>
     requires { IsDevice station.device }
-    ensures run { IsRun result (StartsFrom (M.seen medium)) (λ after. KeptBy (M.seen after)) station.pace station.device false
+    ensures run { IsRun result (StartsFrom (any_seen disk)) (λ after. KeptBy (any_seen after)) station.pace station.device false
         (R.remaining reader) (W.contents writer.old) (W.contents writer.new) }
-    ensures same_tracks { IfOk result (λ after. (M.seen after).tracks ≡ (M.seen medium).tracks) }
+    ensures same_tracks { IfOk result (λ after. (any_seen after).tracks ≡ (any_seen disk).tracks) }
     ensures cause { IfErr result IsOfScript }
 {
     let mut lines = Source::new(reader);
     match read_first(&mut lines)? {
-        Beginning::Requests(first) => medium.serve(station, &mut lines, first, writer, watcher),
-        Beginning::Changes => medium.play(station, &mut lines, writer, watcher),
+        Beginning::Requests(first) => serve(disk, station, &mut lines, first, writer, watcher),
+        Beginning::Changes => play(disk, station, &mut lines, writer, watcher),
     }
 }
 
-/// Runs a script on a drive at power up with this medium, after the line of its check if one is asked for, and gives the medium
+/// Runs a script on a drive at power up with this disk, after the line of its check if one is asked for, and gives the disk
 /// back with what the script wrote.
-fn run_with<M: RunsScripts + Drop, R: Read + Drop, W: Write, T: Watches>(
-    medium: M,
+fn run_with<R: Read + Drop, W: Write, T: Watches>(
+    disk: AnyDisk,
     station: Station,
     checks: bool,
     reader: R,
     writer: &mut W,
     watcher: &mut T,
-) -> Result<M, RunFault>
+) -> Result<AnyDisk, RunFault>
     requires { IsDevice station.device }
-    ensures run { IsRun result (StartsFrom (M.seen medium)) (λ after. KeptBy (M.seen after)) station.pace station.device checks
+    ensures run { IsRun result (StartsFrom (any_seen disk)) (λ after. KeptBy (any_seen after)) station.pace station.device checks
         (R.remaining reader) (W.contents writer.old) (W.contents writer.new) }
-    // Of any medium the line of the check is printed first, where one is asked for.
-    ensures checked { checks ≡ true → EndsAs result (λ bad. IsCheckedFirst (M.seen medium).tracks (M.seen medium).content
+    // Of any disk the line of the check is printed first, where one is asked for.
+    ensures checked { checks ≡ true → EndsAs result (λ bad. IsCheckedFirst (any_seen disk).tracks (any_seen disk).content
         (W.contents writer.old) (W.contents writer.new)) }
-    ensures same_tracks { IfOk result (λ after. (M.seen after).tracks ≡ (M.seen medium).tracks) }
+    ensures same_tracks { IfOk result (λ after. (any_seen after).tracks ≡ (any_seen disk).tracks) }
     ensures cause { IfErr result IsOfScript }
 {
-    let volume = Volume::open(medium);
+    let volume = Volume::open(disk);
     print_check(&volume, checks, writer)?;
     run_script(volume.into_medium(), station, reader, writer, watcher)
 }
 
-/// The disk of an image of one format. Errors: `Image` with the number of the format's first fault, or `Memory`.
-fn opened<I: DiskImage>(alloc: Global, image: &[u8], protected: bool) -> Result<I, RunFault>
-    ensures ok { IfOk result (λ d. IsOf I.kind image.now (I.seen d).tracks (I.seen d).content
-        × ((I.seen d).protected ≡ protected)) }
-    ensures refused { IfSome (image_fault I.kind image.now) (λ n. result ≡ Err (RunFault.Image n)) }
-    ensures cause { IfErr result (IsRunRefusal (image_fault I.kind image.now)) }
+/// The disk of an image. Errors: `Image` with the number of the format's first fault, or `Memory`.
+fn opened(alloc: Global, image: &[u8], protected: bool) -> Result<AnyDisk, RunFault>
+    ensures ok { IfOk result (IsDiskOfImage (kind_of image.now) image.now protected) }
+    ensures refused { IfSome (image_fault (kind_of image.now) image.now) (λ n. result ≡ Err (RunFault.Image n)) }
+    ensures cause { IfErr result (IsRunRefusal (image_fault (kind_of image.now) image.now)) }
 {
-    match I::open(alloc, image, protected) {
+    match AnyDisk::open(alloc, image, protected) {
         Ok(disk) => Ok(disk),
         Err(ImageFault::Format(number)) => Err(RunFault::Image(number)),
         Err(ImageFault::Memory) => Err(RunFault::Memory),
@@ -113,25 +111,26 @@ fn channels_of(alloc: Global) -> Result<Channels, RunFault>
 
 /// The image after a run: of a protected disk, to which nothing was written, the one that was given; else the disk's as it is
 /// now. The one error is `Memory`.
-fn image_after<I: DiskImage>(
+fn image_after(
     alloc: Global,
-    disk: &I,
+    disk: &AnyDisk,
     image: &[u8],
     protected: bool,
 ) -> Result<Vec<u8>, RunFault>
     ensures given { protected ≡ true → IfOk result (λ v. v.items ≡ image.now) }
-    ensures written { protected ≡ false → IfOk result (λ v. IsOf I.kind v.items (I.seen disk.now).tracks
-        (I.seen disk.now).content) }
+    ensures written { protected ≡ false → IfOk result (λ v. IsOf (kind_of image.now) v.items (any_seen disk.now).tracks
+        (any_seen disk.now).content) }
     ensures err { IfErr result (λ fault. fault ≡ RunFault.Memory) }
 {
     if protected {
         return Vec::from_slice(alloc, image).map_err(|_| RunFault::Memory);
     }
-    disk.save(alloc).map_err(|_| RunFault::Memory)
+    disk.save(alloc, kind_of(image))
+        .map_err(|_| RunFault::Memory)
 }
 
-/// Runs a script on the disk of an image of one format.
-fn run_image<I: RunsScripts + Drop, R: Read + Drop, W: Write, T: Watches>(
+/// Runs a script on the disk of an image, as `run_watched` does.
+fn run_image<R: Read + Drop, W: Write, T: Watches>(
     alloc: Global,
     reader: R,
     writer: &mut W,
@@ -139,8 +138,7 @@ fn run_image<I: RunsScripts + Drop, R: Read + Drop, W: Write, T: Watches>(
     image: &[u8],
     options: &Options,
 ) -> Result<Vec<u8>, RunFault>
-    requires kind { kind_of image.now ≡ I.kind }
-    requires device { IsDevice options.now.device }
+    requires { IsDevice options.now.device }
     ensures requests { RunsRequests result (λ v. v.items) image.now options.now.protected options.now.check
         (R.remaining reader) (W.contents writer.old) (W.contents writer.new) options.now.pace }
     ensures changes { RunsChanges result (λ v. v.items) image.now options.now.protected options.now.check
@@ -148,7 +146,7 @@ fn run_image<I: RunsScripts + Drop, R: Read + Drop, W: Write, T: Watches>(
     ensures outcome { IsOutcome result (λ v. v.items) image.now options.now.protected options.now.check
         (R.remaining reader) (W.contents writer.old) (W.contents writer.new) }
 {
-    let disk = opened::<I>(alloc, image, options.protected)?;
+    let disk = opened(alloc, image, options.protected)?;
     let channels = channels_of(alloc)?;
     let station = Station {
         device: options.device,
@@ -175,7 +173,7 @@ pub fn run<R: Read + Drop, W: Write>(
     image: &[u8],
     options: &Options,
 ) -> Result<Vec<u8>, RunFault>
-    requires device { IsDevice options.now.device }
+    requires { IsDevice options.now.device }
     ensures requests { RunsRequests result (λ v. v.items) image.now options.now.protected options.now.check
         (R.remaining reader) (W.contents writer.old) (W.contents writer.new) options.now.pace }
     ensures changes { RunsChanges result (λ v. v.items) image.now options.now.protected options.now.check
@@ -199,7 +197,7 @@ pub fn run_watched<R: Read + Drop, W: Write, T: Watches>(
     image: &[u8],
     options: &Options,
 ) -> Result<Vec<u8>, RunFault>
-    requires device { IsDevice options.now.device }
+    requires { IsDevice options.now.device }
     ensures requests { RunsRequests result (λ v. v.items) image.now options.now.protected options.now.check
         (R.remaining reader) (W.contents writer.old) (W.contents writer.new) options.now.pace }
     ensures changes { RunsChanges result (λ v. v.items) image.now options.now.protected options.now.check
@@ -211,8 +209,5 @@ pub fn run_watched<R: Read + Drop, W: Write, T: Watches>(
     // And under one that keeps it loosely, as a computer's KERNAL does:
     ensures loosely { KeepTracesLoosely (party_of options.now.pace options.now.device) }
 {
-    match kind_of(image) {
-        Kind::D64 => run_image::<D64Disk, R, W, T>(alloc, reader, writer, watcher, image, options),
-        Kind::G64 => run_image::<G64Disk, R, W, T>(alloc, reader, writer, watcher, image, options),
-    }
+    run_image(alloc, reader, writer, watcher, image, options)
 }

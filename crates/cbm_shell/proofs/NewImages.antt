@@ -1,5 +1,5 @@
 -- Images of new disks: they have no fault, and their first bytes tell their format.
-use Rattle.std.proofs.Common.{◌≡◌, ℕ, ◌≤◌, List, [], ◌∷◌, length, take, refl, sym, ap, subst, ◌∙◌, arith, Bool, true, false, Ok, Err, Option, Some, None, replicate, inl, inr}
+use Rattle.std.proofs.Common.{◌≡◌, ℕ, ◌≤◌, List, [], ◌∷◌, length, take, refl, sym, ap, subst, ◌∙◌, arith, rules, Bool, true, false, Ok, Err, Option, Some, None, replicate, inl, inr}
 use Rattle.std.specs.Prelude.{◌==◌, codes, if◌then◌else◌}
 use Rattle.std.specs.Str.{bytes_eq}
 use Rattle.std.proofs.lemmas.Bool.{and_parts, eqb-true}
@@ -11,18 +11,23 @@ use Rattle.cbm_d64.proofs.Sectors.{content_on_disk}
 use Rattle.cbm_d64.specs.Image as sectors
 use Rattle.cbm_g64.specs.File.{has_signature, g64_fault, g64_circles as tracks_in_file}
 use Rattle.cbm_g64.specs.Numbers.{g64_fault_number}
+use Rattle.cbm_g64.specs.declared.fault.G64Fault.{G64Fault}
 use Rattle.cbm_g64.specs.Tracks as circles
+use Rattle.cbm_medium.specs.Content.{Content}
 use Rattle.cbm_medium.specs.Seen.{Seen}
 use Rattle.cbm_volume.specs.Holding.{HoldsDisk}
 use Rattle.cbm_volume.specs.NewDisks.{OnlyNew}
 use Rattle.cbm_g64.proofs.Sound.{passes}
 use Rattle.cbm_image.specs.declared.kind.Kind.{Kind}
 use Rattle.cbm_image.specs.declared.kind.Kind.TheVariants.{D64, G64}
+use Rattle.cbm_image.specs.AnyDisks.{any_kind, any_seen, IsDiskOfImage}
+use Rattle.cbm_image.specs.declared.any_disk.AnyDisk.{AnyDisk}
 use Rattle.cbm_image.specs.Images.{kind_of, size_fault, image_fault, tracks_of, ImageHolds}
 use Rattle.cbm_image.specs.Images as images
 use Rattle.cbm_image.proofs.ImageSizes.{right_size}
 use Rattle.cbm_shell.specs.declared.images.making.Form.{Form}
-use Rattle.cbm_shell.specs.Making.{kind_in, tracks_of_form, empty_disk, IsBlankImage, IsEmpty, IsNew}
+use Rattle.cbm_shell.specs.declared.images.making.Form.TheVariants as form
+use Rattle.cbm_shell.specs.Making.{kind_in, tracks_of_form, empty_disk, IsBlankDisk, IsBlankImage, IsEmpty, IsNew}
 use Rattle.cbm_shell.proofs.ZeroImages.{content_zeros}
 
 -- ---- a D64
@@ -76,6 +81,10 @@ has_kind file h = ap (λ (xs : List ℕ). if bytes_eq xs (codes "GCR-1541") then
 
 -- ---- before NEW
 
+no_fault : (o : Option G64Fault) → option_map g64_fault_number o ≡ None → o ≡ None
+no_fault None h = refl
+no_fault (Some fault) h = absurd (cc)
+
 -- a D64 of zeros
 pub blank_sectors : (form : Form) (n : ℕ) (image : List ℕ) → kind_in form ≡ D64 → IsImageSize n → (n == 175531) ≡ false → d64_tracks n ≡ tracks_of_form form → image ≡ replicate n 0 → IsBlankImage form image
 blank_sectors form n image kind size plain tracks is =
@@ -84,6 +93,25 @@ blank_sectors form n image kind size plain tracks is =
       accepted = subst (λ (k : Kind). image_fault k image ≡ None) (sym kind) (ap size_fault wide ∙ right_size n size);
       tracks = subst (λ (k : Kind). tracks_of k image ≡ tracks_of_form form) (sym kind) (ap d64_tracks wide ∙ tracks);
       zeros = λ p h. subst (λ (k : Kind). images.content_of k image p ≡ Ok (replicate 256 0)) (sym kind) (content_zeros n image p size plain is);
+    }
+
+-- a blank image is of its form's format
+pub blank_kind : (form : Form) (image : List ℕ) → IsBlankImage form image → kind_of image ≡ kind_in form
+blank_kind form.D64 image blank = first_zeros image (blank.zeros (record { track = 1; sector = 0 }) (search rules))
+blank_kind form.LongD64 image blank = first_zeros image (blank.zeros (record { track = 1; sector = 0 }) (search rules))
+blank_kind form.G64 image blank = has_kind image (no_fault (g64_fault image) blank.accepted)
+
+-- the disk of one has its form's format, and zeros in all sectors
+pub its_kind : (form : Form) (image : List ℕ) (d : AnyDisk) → IsBlankImage form image → IsDiskOfImage (kind_of image) image false d → kind_in form ≡ any_kind d
+its_kind form image d blank is = sym (blank_kind form image blank) ∙ sym is.same_format
+
+pub blank_disk : (form : Form) (image : List ℕ) (d : AnyDisk) → IsBlankImage form image → IsDiskOfImage (kind_of image) image false d → IsBlankDisk (tracks_of_form form) (any_seen d)
+blank_disk form image d blank is =
+    let same = blank_kind form image blank in
+    record {
+      same_tracks = sym is.shown.same_tracks ∙ ap (λ (k : Kind). tracks_of k image) same ∙ blank.tracks;
+      zeros = λ p h. ap (λ (x : Content). x p) (sym is.shown.same_content) ∙ ap (λ (k : Kind). images.content_of k image p) same ∙ blank.zeros p h;
+      free = is.same_protection;
     }
 
 pub blank_if : {A : Type 0} (r : Result A AllocError) (items : A → List ℕ) (form : Form) (n : ℕ) → kind_in form ≡ D64 → IsImageSize n → (n == 175531) ≡ false → d64_tracks n ≡ tracks_of_form form
@@ -101,6 +129,10 @@ given_id (Some y) id x e = cc
 pub new_id : (id : List ℕ) (old new : Seen) (u : Unit {0}) → OnlyNew (Ok u) (Some id) old new → (x : List ℕ) → new.id ≡ Some x → x ≡ id
 new_id id old new u (inl h) x e = given_id old.id id x (sym h.id ∙ e)
 new_id id old new u (inr (err, h)) x e = absurd (cc)
+
+-- the empty disk has the tracks of the form
+pub of_form : {n m : ℕ} {title id : List ℕ} {seen : Seen} → n ≡ m → IsEmpty n title id seen → IsEmpty m title id seen
+of_form {n = n} {m = m} {title = title} {id = id} {seen = seen} same e = subst (λ (k : ℕ). IsEmpty k title id seen) same e
 
 -- the image of a D64 that shows an empty disk
 pub new_sectors : (form : Form) (title id image : List ℕ) (disk : sectors.Image) → kind_in form ≡ D64 → IsImageSize (length disk.bytes) → image ≡ disk.bytes

@@ -11,7 +11,6 @@ pub mod Sectors
 pub mod Converting
 pub mod Mapping
 pub mod Marking
-pub mod OpenDisk
 pub mod Foreign
 pub mod Geos
 pub mod Passing

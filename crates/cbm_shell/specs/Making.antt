@@ -1,5 +1,5 @@
 -- New images of empty disks.
-use Rattle.std.specs.Prelude.{ℕ, ◌≡◌, List, [], ◌∷◌, ◌++◌, replicate, Some, None, Ok}
+use Rattle.std.specs.Prelude.{ℕ, ◌≡◌, false, List, [], ◌∷◌, ◌++◌, replicate, Some, None, Ok}
 use Rattle.cbm_medium.specs.Place.{Place, Has}
 use Rattle.cbm_medium.specs.Seen.{Seen}
 use Rattle.cbm_file.specs.Files.{Disk, blocks_on}
@@ -41,6 +41,12 @@ pub record IsBlankImage (form : Form) (image : List ℕ) : Type 0 where
   pub accepted : image_fault (kind_in form) image ≡ None
   pub tracks : tracks_of (kind_in form) image ≡ tracks_of_form form
   pub zeros : (p : Place) → Has (tracks_of_form form) p → content_of (kind_in form) image p ≡ Ok (replicate 256 0)
+
+-- A disk of this many tracks that can be written, whose sectors are all zeros.
+pub record IsBlankDisk (tracks : ℕ) (seen : Seen) : Type 0 where
+  pub same_tracks : seen.tracks ≡ tracks
+  pub zeros : (p : Place) → Has tracks p → seen.content p ≡ Ok (replicate 256 0)
+  pub free : seen.protected ≡ false
 
 -- The disk shows the empty disk; its first sector is zeros, and the id in its headers, if it keeps one, is the disk's.
 pub record IsEmpty (tracks : ℕ) (title id : List ℕ) (seen : Seen) : Type 0 where

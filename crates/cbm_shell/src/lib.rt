@@ -23,7 +23,7 @@ pub use images::{
     foreign_of, new_image, raw_directory, unwrapped, validate,
 };
 pub use looking::{
-    Freed, Geos, Info, Mark, Named, OpenDisk, entries, entries_of, file_blocks, file_of,
-    geos_blocks, geos_of, get, info, info_of, list, listed_of, picture, picture_of, raw_list,
+    Freed, Geos, Info, Mark, Named, entries, entries_of, file_blocks, file_of, geos_blocks,
+    geos_of, get, info, info_of, list, listed_of, open_disk, picture, picture_of, raw_list,
     read_file, salvage, sector,
 };

@@ -19,7 +19,7 @@ mod freeing;
 mod geos;
 pub(crate) mod listing;
 mod mapping;
-pub(crate) mod open_disk;
+mod opening;
 pub(crate) mod reading;
 pub(crate) mod salvaging;
 pub(crate) mod sectors;
@@ -28,10 +28,7 @@ mod slots;
 use crate::fault::ShellFault;
 use crate::images::opened;
 use cbm_bam::SectorSet;
-use cbm_d64::D64Disk;
-use cbm_g64::G64Disk;
-use cbm_image::{DiskImage, Kind, kind_of};
-use cbm_medium::Address;
+use cbm_medium::{Address, Medium};
 use cbm_volume::Entry;
 pub use facts::{Info, info_of};
 pub use freeing::Freed;
@@ -41,7 +38,7 @@ pub use geos::{Geos, geos_of};
 pub use listing::{list, raw_list};
 pub(crate) use mapping::use_file;
 pub use mapping::{Mark, entries_or_none, is_free_at, picture_of, use_chain, used_sectors};
-pub use open_disk::OpenDisk;
+pub use opening::open_disk;
 pub use reading::{Named, get, read_file};
 pub use salvaging::{listed_of, salvage};
 pub use slots::entries_of;
@@ -56,8 +53,8 @@ pub fn entries(alloc: Global, image: &[u8]) -> Result<Vec<Entry>, ShellFault>
     ensures err { let content = content_held image.now in IfErr result (λ fault. IsOpenFault image.now fault ⊎
         IsReadFault (directory_of (geometry_of (tracks_of (kind_of image.now) image.now) content) content).trouble fault) }
 {
-    let disk = OpenDisk::open(alloc, image)?;
-    disk.entries(alloc)
+    let disk = open_disk(alloc, image)?;
+    entries_of(alloc, &disk)
 }
 
 /// The bytes of the file of an entry that stands in an image's directory; of a relative file all records. Errors: `Image`;
@@ -68,23 +65,8 @@ pub fn file_of(alloc: Global, image: &[u8], entry: &Entry) -> Result<Vec<u8>, Sh
         EntryStandsAt (tracks_of kind image.now) (content_held image.now) n entry.now → HasBytes d n bytes →
         MatchResult result (λ v. v.items ≡ bytes) (OrOpenFault image.now (λ fault. fault ≡ ShellFault.Memory)) }
 {
-    let disk = OpenDisk::open(alloc, image)?;
-    disk.file_of(alloc, entry)
-}
-
-/// What the disk of an image of one format is.
-fn info_in<I: DiskImage + Drop>(alloc: Global, image: &[u8]) -> Result<Info, ShellFault>
-    requires { kind_of image.now ≡ I.kind }
-    ensures faults { IfOk result (λ info. info.unreadable.items ≡ faults_shown image.now) }
-    ensures tracks { IfOk result (λ info. info.tracks ≡ tracks_of (kind_of image.now) image.now) }
-    ensures check { IfOk result (λ info. IsCheckedImage image.now info.check) }
-    ensures means { OfHeld image.now (λ d. IfOk result (λ info.
-        (info.label ≡ Some (record { title = d.title; mark = d.mark })) × (info.free ≡ Some d.free))) }
-    ensures err { IfErr result (IsOpenFault image.now) }
-{
-    let disk = opened::<I>(alloc, image)?;
-    let info = info_of(alloc, disk)?;
-    Ok(info)
+    let disk = open_disk(alloc, image)?;
+    read_file(alloc, &disk, entry)
 }
 
 /// What the disk of an image is. Errors: `Image`, `Memory`.
@@ -97,21 +79,9 @@ pub fn info(alloc: Global, image: &[u8]) -> Result<Info, ShellFault>
         (info.label ≡ Some (record { title = d.title; mark = d.mark })) × (info.free ≡ Some d.free))) }
     ensures err { IfErr result (IsOpenFault image.now) }
 {
-    match kind_of(image) {
-        Kind::D64 => info_in::<D64Disk>(alloc, image),
-        Kind::G64 => info_in::<G64Disk>(alloc, image),
-    }
-}
-
-/// A picture of the sectors in an image of one format.
-fn picture_in<I: DiskImage + Drop>(alloc: Global, image: &[u8]) -> Result<Vec<u8>, ShellFault>
-    requires { kind_of image.now ≡ I.kind }
-    ensures ok { let content = content_held image.now in
-        IfOk result (λ v. v.items ≡ picture_of (geometry_of (tracks_of (kind_of image.now) image.now) content) content) }
-    ensures err { IfErr result (IsOpenFault image.now) }
-{
-    let disk = opened::<I>(alloc, image)?;
-    picture_of(alloc, disk)
+    let disk = opened(alloc, image)?;
+    let info = info_of(alloc, disk)?;
+    Ok(info)
 }
 
 /// A picture of an image's sectors, as lines: a sign for each sector, and what the signs mean. Errors: `Image`, `Memory`.
@@ -121,26 +91,8 @@ pub fn picture(alloc: Global, image: &[u8]) -> Result<Vec<u8>, ShellFault>
         IfOk result (λ v. v.items ≡ picture_of (geometry_of (tracks_of (kind_of image.now) image.now) content) content) }
     ensures err { IfErr result (IsOpenFault image.now) }
 {
-    match kind_of(image) {
-        Kind::D64 => picture_in::<D64Disk>(alloc, image),
-        Kind::G64 => picture_in::<G64Disk>(alloc, image),
-    }
-}
-
-/// The blocks that a file of GEOS in an image of one format has beside its chain.
-fn geos_blocks_in<I: DiskImage + Drop>(
-    alloc: Global,
-    image: &[u8],
-    entry: &Entry,
-) -> Result<SectorSet, ShellFault>
-    requires { kind_of image.now ≡ I.kind }
-    ensures ok { let content = content_held image.now in IfOk result (λ set. is_marked set
-        ≡ is_among (geos_blocks (geometry_of (tracks_of (kind_of image.now) image.now) content) content entry.now)) }
-    ensures err { IfErr result (IsOpenFault image.now) }
-{
-    let disk = opened::<I>(alloc, image)?;
-    let geometry = cbm_bam::geometry(&disk);
-    Ok(geos::geos_blocks(&disk, geometry, entry))
+    let disk = opened(alloc, image)?;
+    picture_of(alloc, disk)
 }
 
 /// The blocks that a file of GEOS has beside its chain: that of its info, and those of its records. None of another file.
@@ -150,26 +102,9 @@ pub fn geos_blocks(alloc: Global, image: &[u8], entry: &Entry) -> Result<SectorS
         ≡ is_among (geos_blocks (geometry_of (tracks_of (kind_of image.now) image.now) content) content entry.now)) }
     ensures err { IfErr result (IsOpenFault image.now) }
 {
-    match kind_of(image) {
-        Kind::D64 => geos_blocks_in::<D64Disk>(alloc, image, entry),
-        Kind::G64 => geos_blocks_in::<G64Disk>(alloc, image, entry),
-    }
-}
-
-/// The blocks of the chain of a file in an image of one format.
-fn file_blocks_in<I: DiskImage + Drop>(
-    alloc: Global,
-    image: &[u8],
-    entry: &Entry,
-) -> Result<SectorSet, ShellFault>
-    requires { kind_of image.now ≡ I.kind }
-    ensures ok { let content = content_held image.now in IfOk result (λ set. is_marked set
-        ≡ is_among (chain_of (geometry_of (tracks_of (kind_of image.now) image.now) content) content (first_block entry.now))) }
-    ensures err { IfErr result (IsOpenFault image.now) }
-{
-    let disk = opened::<I>(alloc, image)?;
+    let disk = opened(alloc, image)?;
     let geometry = cbm_bam::geometry(&disk);
-    Ok(geos::chain_blocks(&disk, geometry, entry))
+    Ok(geos::geos_blocks(&disk, geometry, entry))
 }
 
 /// The blocks of the chain of an entry's file, up to where it ends or breaks off. Errors: `Image`, `Memory`.
@@ -178,31 +113,9 @@ pub fn file_blocks(alloc: Global, image: &[u8], entry: &Entry) -> Result<SectorS
         ≡ is_among (chain_of (geometry_of (tracks_of (kind_of image.now) image.now) content) content (first_block entry.now))) }
     ensures err { IfErr result (IsOpenFault image.now) }
 {
-    match kind_of(image) {
-        Kind::D64 => file_blocks_in::<D64Disk>(alloc, image, entry),
-        Kind::G64 => file_blocks_in::<G64Disk>(alloc, image, entry),
-    }
-}
-
-/// A sector of an image of one format.
-fn sector_in<I: DiskImage + Drop>(
-    alloc: Global,
-    image: &[u8],
-    at: Address,
-) -> Result<Option<Result<[u8; 256], u8>>, ShellFault>
-    requires { kind_of image.now ≡ I.kind }
-    ensures ok { IfOk result (λ o. MatchOption o (tracks_of (kind_of image.now) image.now < at.track)
-        (λ cell. content_held image.now at ≡ cell)) }
-    ensures err { IfErr result (IsOpenFault image.now) }
-{
-    let disk = opened::<I>(alloc, image)?;
-    if at.track() > disk.tracks() {
-        return Ok(None);
-    }
-    match disk.read(at) {
-        Ok(bytes) => Ok(Some(Ok(bytes))),
-        Err(fault) => Ok(Some(Err(fault.code))),
-    }
+    let disk = opened(alloc, image)?;
+    let geometry = cbm_bam::geometry(&disk);
+    Ok(geos::chain_blocks(&disk, geometry, entry))
 }
 
 /// The 256 bytes of a sector, or the code of the fault that stands in their place; None where the image has no such track.
@@ -216,8 +129,12 @@ pub fn sector(
         (λ cell. content_held image.now at ≡ cell)) }
     ensures err { IfErr result (IsOpenFault image.now) }
 {
-    match kind_of(image) {
-        Kind::D64 => sector_in::<D64Disk>(alloc, image, at),
-        Kind::G64 => sector_in::<G64Disk>(alloc, image, at),
+    let disk = opened(alloc, image)?;
+    if at.track() > disk.tracks() {
+        return Ok(None);
+    }
+    match disk.read(at) {
+        Ok(bytes) => Ok(Some(Ok(bytes))),
+        Err(fault) => Ok(Some(Err(fault.code))),
     }
 }

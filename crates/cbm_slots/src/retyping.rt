@@ -1,16 +1,15 @@
 //! Another type: a change of an entry alone.
 ghost use Rattle.std.specs.Prelude.{◌≡◌, None, IfOk, IfErr, OnOk};
 ghost use Rattle.cbm_bam.specs.Map.{geometry_of};
+ghost use Rattle.cbm_image.specs.AnyDisks.{any_seen};
 ghost use Rattle.cbm_image.specs.Images.{kind_of, image_fault, content_of};
 ghost use Rattle.cbm_shell.specs.Images.{IsSoundImage};
 ghost use Rattle.cbm_slots.specs.Retyping.{retyped_entry, IsPlainFile, IsNoPlainFile, IsRetyped, IsUnretyped, IsUnfit, IsRetypedInSlot, IsNotRetypedInSlot};
 
 use crate::meant::refused;
 use cbm_channel::Code;
-use cbm_d64::D64Disk;
 use cbm_directory::put_slot;
-use cbm_g64::G64Disk;
-use cbm_image::{DiskImage, Kind, kind_of};
+use cbm_image::{AnyDisk, Kind, kind_of};
 use cbm_medium::{Medium, Steady};
 use cbm_shell::ShellFault;
 use cbm_shell::parts::{entry_of, opened, require_sound, saved};
@@ -58,51 +57,33 @@ fn retyped<M: Steady + Drop>(volume: Volume<M>, slot: u8, kind: FileType) -> Res
 }
 
 /// The image of a disk, if it is sound. Errors: `Unsound`, with what is wrong first; `Memory`.
-fn fit_image<I: DiskImage + Drop>(alloc: Global, disk: I) -> Result<Vec<u8>, ShellFault>
-    ensures sound { IfOk result (λ v. IsSoundImage I.kind v.items) }
-    ensures content { IfOk result (λ v. content_of I.kind v.items ≡ (I.seen disk).content) }
-    ensures opens { IfOk result (λ v. image_fault I.kind v.items ≡ None) }
-    ensures fault { let now = I.seen disk in IfErr result (IsUnfit now.tracks now.content) }
+fn fit_image(alloc: Global, disk: AnyDisk, format: Kind) -> Result<Vec<u8>, ShellFault>
+    ensures sound { IfOk result (λ v. IsSoundImage format v.items) }
+    ensures content { IfOk result (λ v. content_of format v.items ≡ (any_seen disk).content) }
+    ensures opens { IfOk result (λ v. image_fault format v.items ≡ None) }
+    ensures fault { let now = any_seen disk in IfErr result (IsUnfit now.tracks now.content) }
 {
     let volume = Volume::open(disk);
     require_sound(&volume)?;
-    saved(alloc, &volume.into_medium())
+    saved(alloc, &volume.into_medium(), format)
 }
 
-/// The image of one format on which the file in a slot has another type. Errors: those of `retyped` and of `fit_image`.
-fn retyped_image<I: DiskImage + Drop>(
+/// The image on which the file in a slot has another type. Errors: those of `retyped` and of `fit_image`.
+fn retyped_image(
     alloc: Global,
-    volume: Volume<I>,
+    volume: Volume<AnyDisk>,
+    format: Kind,
     slot: u8,
     kind: FileType,
 ) -> Result<Vec<u8>, ShellFault>
-    ensures retyped { let old = I.seen volume in IfOk result (λ v.
-        IsRetyped (geometry_of old.tracks old.content) slot kind old.content (content_of I.kind v.items)) }
-    ensures sound { IfOk result (λ v. IsSoundImage I.kind v.items) }
-    ensures opens { IfOk result (λ v. image_fault I.kind v.items ≡ None) }
-    ensures fault { let old = I.seen volume in IfErr result (IsUnretyped old.tracks old.content slot kind) }
+    ensures retyped { let old = any_seen volume in IfOk result (λ v.
+        IsRetyped (geometry_of old.tracks old.content) slot kind old.content (content_of format v.items)) }
+    ensures sound { IfOk result (λ v. IsSoundImage format v.items) }
+    ensures opens { IfOk result (λ v. image_fault format v.items ≡ None) }
+    ensures fault { let old = any_seen volume in IfErr result (IsUnretyped old.tracks old.content slot kind) }
 {
     let disk = retyped(volume, slot, kind)?;
-    fit_image(alloc, disk)
-}
-
-/// Gives the file in a slot of an image of one format another type.
-fn retype_in<I: DiskImage + Drop>(
-    alloc: Global,
-    image: &[u8],
-    slot: u8,
-    kind: FileType,
-) -> Result<Vec<u8>, ShellFault>
-    requires { kind_of image.now ≡ I.kind }
-    ensures retyped { IfOk result (λ v. IsRetypedInSlot image.now slot kind v.items) }
-    ensures sound { OnOk result (IsSoundImage (kind_of image.now) image.now) }
-    ensures stays { IfOk result (λ v. IsSoundImage (kind_of image.now) v.items) }
-    ensures opens { IfOk result (λ v. image_fault (kind_of image.now) v.items ≡ None) }
-    ensures fault { IfErr result (IsNotRetypedInSlot image.now slot kind) }
-{
-    let volume = Volume::open(opened::<I>(alloc, image)?);
-    require_sound(&volume)?;
-    retyped_image(alloc, volume, slot, kind)
+    fit_image(alloc, disk, format)
 }
 
 /// Gives the file in a slot of an image another type; whether it is closed and locked, its name, its blocks and all else stay. Errors:
@@ -116,8 +97,7 @@ pub fn retype(alloc: Global, image: &[u8], slot: u8, kind: FileType) -> Result<V
     ensures opens { IfOk result (λ v. image_fault (kind_of image.now) v.items ≡ None) }
     ensures fault { IfErr result (IsNotRetypedInSlot image.now slot kind) }
 {
-    match kind_of(image) {
-        Kind::D64 => retype_in::<D64Disk>(alloc, image, slot, kind),
-        Kind::G64 => retype_in::<G64Disk>(alloc, image, slot, kind),
-    }
+    let volume = Volume::open(opened(alloc, image)?);
+    require_sound(&volume)?;
+    retyped_image(alloc, volume, kind_of(image), slot, kind)
 }

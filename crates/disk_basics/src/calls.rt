@@ -3,7 +3,7 @@
 use cbm_bam::SectorSet;
 use cbm_medium::Address;
 use cbm_shell::texts::Charset;
-use cbm_shell::{Converted, Info, Listed, OpenDisk, ShellFault};
+use cbm_shell::{Converted, Info, Listed, ShellFault, listed_of, open_disk};
 use cbm_volume::{Entry, Unsound};
 use std::alloc::{AllocError, Global};
 
@@ -50,8 +50,8 @@ pub fn entries(alloc: Global, image: &[u8]) -> Result<Vec<Entry>, ShellFault> {
 /// The entries of an image's directory up to where it breaks off or comes back to a sector of its own, and why it does.
 /// Errors: `Image`, `Memory`.
 pub fn listed(alloc: Global, image: &[u8]) -> Result<Listed, ShellFault> {
-    let disk = OpenDisk::open(alloc, image)?;
-    Ok(disk.listed(alloc)?)
+    let disk = open_disk(alloc, image)?;
+    Ok(listed_of(alloc, &disk)?)
 }
 
 /// The bytes of the first file that a pattern means. Errors: `Image`, `NotFound`, `NotClosed`, `Trouble`, `Memory`.

@@ -2,7 +2,7 @@
 use cbm_bam::SectorSet;
 use cbm_medium::Address;
 use cbm_odd::Odd;
-use cbm_shell::{Freed, OpenDisk, Order, ShellFault, file_blocks};
+use cbm_shell::{Freed, Order, ShellFault, file_blocks, open_disk, salvage};
 use cbm_volume::Unsound;
 use std::alloc::{AllocError, Global};
 
@@ -92,9 +92,9 @@ fn freed_beside(
 
 /// Whether the chain of an odd entry breaks off or comes back to itself, so that blocks which nothing else uses may be its rest.
 fn is_any_cut(alloc: Global, image: &[u8], away: &Away) -> Result<bool, ShellFault> {
-    let disk = OpenDisk::open(alloc, image)?;
+    let disk = open_disk(alloc, image)?;
     for odd in away.odds.as_slice() {
-        if disk.salvage(alloc, &odd.entry)?.trouble.is_some() {
+        if salvage(alloc, &disk, &odd.entry)?.trouble.is_some() {
             return Ok(true);
         }
     }

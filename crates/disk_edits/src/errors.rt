@@ -1,5 +1,5 @@
 //! ERRORS: the error bytes of a D64, shown, added or dropped.
-use cbm_image::{Kind, kind_of};
+use cbm_image::{Kind, OF_35_TRACKS, kind_of};
 use cbm_medium::Fault;
 use disk_basics::calls::info;
 use disk_basics::host::{joined, print, read_image, replace};
@@ -13,9 +13,6 @@ const FINE: u8 = 1;
 
 /// How many sectors a D64 of 35 tracks has, and how many error bytes.
 const SECTORS: usize = 683;
-
-/// The bytes of those sectors.
-const OF_35_TRACKS: usize = 174_848;
 
 /// What is done with error bytes.
 #[derive(Clone, Copy)]

@@ -1,5 +1,5 @@
 //! Formats of images.
-use cbm_image::{Kind, kind_of};
+use cbm_image::{Kind, OF_35_TRACKS, WITH_ERRORS, kind_of};
 use std::path::Path;
 
 /// The words that say a format.
@@ -46,12 +46,6 @@ pub fn is_other_name(path: &str) -> bool {
     }
     false
 }
-
-/// How many bytes the sectors of a D64 with error bytes have.
-const OF_35_TRACKS: usize = 174_848;
-
-/// The size of a D64 of 35 tracks with error bytes.
-const WITH_ERRORS: usize = 175_531;
 
 /// An image; a D64 with error bytes without them.
 pub fn without_errors(image: &[u8]) -> &[u8] {

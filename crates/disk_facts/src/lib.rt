@@ -17,4 +17,4 @@ pub use formats::{
     format_name, is_image_name, is_other_name, kind_of_name, kind_of_word, without_errors,
 };
 pub use geos::kind_name;
-pub use maps::{WideMap, wide_map};
+pub use maps::{DOLPHIN, SPEED, WideMap, wide_map};

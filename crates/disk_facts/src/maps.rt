@@ -1,18 +1,15 @@
 //! The maps of tracks 36 to 40 that other DOSes keep in 18/0.
 use crate::formats::without_errors;
-use cbm_image::{Kind, kind_of};
-
-/// The size of a D64 of 40 tracks.
-const OF_40_TRACKS: usize = 196_608;
+use cbm_image::{Kind, OF_40_TRACKS, kind_of};
 
 /// Where the bytes of 18/0 begin in a D64.
 const HEAD: usize = 91_392;
 
-/// Where Dolphin DOS keeps its map of tracks 36 to 40 in 18/0.
-const DOLPHIN: usize = HEAD + 0xac;
+/// Where Dolphin DOS keeps its map of tracks 36 to 40 in a D64: in 18/0.
+pub const DOLPHIN: usize = HEAD + 0xac;
 
 /// Where Speed DOS keeps it, and the drive here.
-const SPEED: usize = HEAD + 0xc0;
+pub const SPEED: usize = HEAD + 0xc0;
 
 /// How many bytes it has: four for each track.
 const BYTES: usize = 20;

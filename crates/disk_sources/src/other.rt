@@ -1,5 +1,6 @@
 //! A disk or an archive of another kind.
 use crate::end::OtherEnd;
+use cbm_image::OF_40_TRACKS;
 use cbm_medium::{Link, Trouble};
 use cbm_shell::foreign_of;
 use cbm_sources::{Contents, Fault, Form, Source, SourceKind};
@@ -9,9 +10,6 @@ use std::alloc::{AllocError, Global};
 
 /// The bytes of a sector.
 const SECTOR: usize = 256;
-
-/// The bytes of the sectors of a 1541's tracks 1 to 40.
-const UP_TO_40: usize = 196_608;
 
 /// A disk or an archive of another kind, and its bytes.
 #[derive(Drop)]
@@ -131,7 +129,7 @@ impl<'b> Other<'b> {
     /// The disk of its sectors up to track 40 without error bytes, if its tracks are those of a 1541's disk. The one error is want of
     /// memory.
     pub fn up_to_40(&self, alloc: Global) -> Result<Option<Other<'b>>, AllocError> {
-        match (self.form(), self.bytes.get(..UP_TO_40)) {
+        match (self.form(), self.bytes.get(..OF_40_TRACKS)) {
             (None | Some(Form::D71 | Form::D81), _) | (_, None) => Ok(None),
             (Some(_), Some(bytes)) => Other::read(alloc, bytes),
         }
@@ -140,7 +138,7 @@ impl<'b> Other<'b> {
     /// Its sectors beyond track 40, if its tracks up to there are those of a 1541's disk.
     pub fn beyond_40(&self) -> &'b [u8] {
         match self.form() {
-            Some(Form::D64Of42) => self.sectors().get(UP_TO_40..).unwrap_or(&[]),
+            Some(Form::D64Of42) => self.sectors().get(OF_40_TRACKS..).unwrap_or(&[]),
             _ => &[],
         }
     }

@@ -3,12 +3,14 @@ ghost use Rattle.std.specs.Prelude.{◌≡◌, ◌++◌, OnOk, IfOk, IfErr, opti
 ghost use Rattle.cbm_saved.specs.Texts.{front_of};
 ghost use Rattle.cbm_device.specs.Snapshots.{DiskParts, IsLoadRefusal, parts_of, saved_parts, disk_parts_at as parts_in, IsDiskWith, IsKeptDisk, AreSectorsKept, AreSectorsOf};
 ghost use Rattle.cbm_channel.specs.Saved.{flag_byte};
-ghost use Rattle.cbm_device.specs.declared.image_disk.Sectors.TheVariants.{D64, G64, Blank};
+ghost use Rattle.cbm_image.specs.declared.any_disk.AnyDisk.TheVariants.{D64, G64};
+ghost use Rattle.cbm_device.specs.declared.image_disk.Sectors.TheVariants.{Held, Blank};
 
 use crate::image_disk::{ImageDisk, Sectors};
 use crate::refusal::DeviceRefusal;
 use cbm_d64::{D64Disk, D64Fault};
 use cbm_g64::{G64Disk, G64Fault};
+use cbm_image::AnyDisk;
 use cbm_medium::Medium;
 use cbm_saved::{eight_at, put_eight};
 use std::alloc::{AllocError, Global};
@@ -70,7 +72,7 @@ fn save_parts(out: &mut Vec<u8>, parts: &Parts<'_>) -> Result<(), AllocError>
 
 /// Adds a D64, and how often it was written.
 fn keep_d64(alloc: Global, out: &mut Vec<u8>, disk: &D64Disk, writes: u64) -> Result<(), AllocError>
-    ensures { OnOk result (AreSectorsKept (D64 disk.now) writes out.old.items out.new.items) }
+    ensures { OnOk result (AreSectorsKept (Held (D64 disk.now)) writes out.old.items out.new.items) }
 {
     let Ok(image) = disk.to_bytes(alloc) else {
         return Err(AllocError);
@@ -86,7 +88,7 @@ fn keep_d64(alloc: Global, out: &mut Vec<u8>, disk: &D64Disk, writes: u64) -> Re
 
 /// Adds a G64, and how often it was written.
 fn keep_g64(alloc: Global, out: &mut Vec<u8>, disk: &G64Disk, writes: u64) -> Result<(), AllocError>
-    ensures { OnOk result (AreSectorsKept (G64 disk.now) writes out.old.items out.new.items) }
+    ensures { OnOk result (AreSectorsKept (Held (G64 disk.now)) writes out.old.items out.new.items) }
 {
     let Ok(image) = disk.to_bytes(alloc) else {
         return Err(AllocError);
@@ -119,7 +121,7 @@ fn d64_of(alloc: Global, image: &[u8], protected: bool) -> Result<Sectors, Devic
     ensures err { IfErr result IsLoadRefusal }
 {
     match D64Disk::from_bytes(alloc, image, protected) {
-        Ok(disk) => Ok(Sectors::D64(disk)),
+        Ok(disk) => Ok(Sectors::Held(AnyDisk::D64(disk))),
         Err(D64Fault::Size) => Err(DeviceRefusal::NoImage),
         Err(D64Fault::Memory) => Err(DeviceRefusal::Memory),
     }
@@ -131,7 +133,7 @@ fn g64_of(alloc: Global, image: &[u8], protected: bool) -> Result<Sectors, Devic
     ensures err { IfErr result IsLoadRefusal }
 {
     match G64Disk::from_bytes(alloc, image, protected) {
-        Ok(disk) => Ok(Sectors::G64(disk)),
+        Ok(disk) => Ok(Sectors::Held(AnyDisk::G64(disk))),
         Err(G64Fault::Memory) => Err(DeviceRefusal::Memory),
         Err(_) => Err(DeviceRefusal::NoImage),
     }
@@ -156,8 +158,8 @@ impl ImageDisk {
         ensures { OnOk result (IsKeptDisk self.now out.old.items out.new.items) }
     {
         match &self.sectors {
-            Sectors::D64(disk) => keep_d64(alloc, out, disk, self.writes),
-            Sectors::G64(disk) => keep_g64(alloc, out, disk, self.writes),
+            Sectors::Held(AnyDisk::D64(disk)) => keep_d64(alloc, out, disk, self.writes),
+            Sectors::Held(AnyDisk::G64(disk)) => keep_g64(alloc, out, disk, self.writes),
             Sectors::Blank => keep_blank(out, self.writes),
         }
     }

@@ -2,17 +2,15 @@
 ghost use Rattle.std.specs.Prelude.{◌≡◌, true, IfOk};
 ghost use Rattle.cbm_program.specs.Starts.{IsDevice};
 
-use super::scripted::RunsScripts;
 use super::{Options, channels_of, image_after, opened, print_check};
+use crate::direct::{Bench, DirectCable, change_direct, serve_direct};
 use crate::fault::RunFault;
 use crate::numbered::{Beginning, read_first};
 use crate::station::Station;
 use bus_traces::Source;
-use cbm_d64::D64Disk;
 use cbm_direct_desk::Access;
 use cbm_drive::Watches;
-use cbm_g64::G64Disk;
-use cbm_image::{Kind, kind_of};
+use cbm_image::AnyDisk;
 use cbm_volume::Volume;
 use std::alloc::Global;
 use std::io::{Read, Write};
@@ -28,33 +26,10 @@ pub fn run_direct<R: Read + Drop, W: Write, T: Watches>(
     image: &[u8],
     options: &Options,
 ) -> Result<Vec<u8>, RunFault>
-    requires device { IsDevice options.now.device }
+    requires { IsDevice options.now.device }
     ensures given { options.now.protected ≡ true → IfOk result (λ v. v.items ≡ image.now) }
 {
-    match kind_of(image) {
-        Kind::D64 => direct_image::<D64Disk, R, W, T>(
-            alloc, access, reader, writer, watcher, image, options,
-        ),
-        Kind::G64 => direct_image::<G64Disk, R, W, T>(
-            alloc, access, reader, writer, watcher, image, options,
-        ),
-    }
-}
-
-/// The same on the disk of an image of one format.
-fn direct_image<I: RunsScripts + Drop, R: Read + Drop, W: Write, T: Watches>(
-    alloc: Global,
-    access: Access,
-    reader: R,
-    writer: &mut W,
-    watcher: &mut T,
-    image: &[u8],
-    options: &Options,
-) -> Result<Vec<u8>, RunFault>
-    requires device { IsDevice options.now.device }
-    ensures given { options.now.protected ≡ true → IfOk result (λ v. v.items ≡ image.now) }
-{
-    let disk = opened::<I>(alloc, image, options.protected)?;
+    let disk = opened(alloc, image, options.protected)?;
     let channels = channels_of(alloc)?;
     let station = Station {
         device: options.device,
@@ -75,21 +50,24 @@ fn direct_image<I: RunsScripts + Drop, R: Read + Drop, W: Write, T: Watches>(
 }
 
 /// Runs a script on a drive with direct access.
-fn direct_script<M: RunsScripts + Drop, R: Read + Drop, W: Write, T: Watches>(
-    medium: M,
+fn direct_script<R: Read + Drop, W: Write, T: Watches>(
+    disk: AnyDisk,
     station: Station,
     access: Access,
     reader: R,
     writer: &mut W,
     watcher: &mut T,
-) -> Result<M, RunFault>
+) -> Result<AnyDisk, RunFault>
     requires { IsDevice station.device }
 {
+    let (device, pace) = (station.device, station.pace);
+    let cable = DirectCable::new(disk, station, access);
     let mut lines = Source::new(reader);
     match read_first(&mut lines)? {
         Beginning::Requests(first) => {
-            medium.watch_direct(station, access, &mut lines, first, writer, watcher)
+            let bench = Bench::new(cable, device, pace);
+            serve_direct(bench, &mut lines, first, writer, watcher)
         }
-        Beginning::Changes => { medium.change_direct(station, access, &mut lines, writer, watcher) }
+        Beginning::Changes => change_direct(cable, &mut lines, writer, watcher),
     }
 }

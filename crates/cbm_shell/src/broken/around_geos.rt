@@ -13,9 +13,7 @@ use crate::fault::ShellFault;
 use crate::images::opened;
 use crate::looking::{entries_or_none, use_all_geos, use_border, used_sectors};
 use cbm_bam::SectorSet;
-use cbm_d64::D64Disk;
-use cbm_g64::G64Disk;
-use cbm_image::{DiskImage, Kind, kind_of};
+use cbm_image::kind_of;
 use cbm_medium::{Geometry, Medium, Steady};
 use cbm_volume::{Entry, Volume};
 use std::alloc::Global;
@@ -44,22 +42,6 @@ fn mapped_around<M: Steady + Drop>(alloc: Global, volume: Volume<M>) -> Result<M
     remapped(volume.into_medium(), geometry, &held)
 }
 
-/// The image of one format with its BAM written anew around GEOS.
-fn map_around_geos_in<I: DiskImage + Drop>(
-    alloc: Global,
-    image: &[u8],
-) -> Result<Vec<u8>, ShellFault>
-    requires { kind_of image.now ≡ I.kind }
-    ensures mapped { IfOk result (λ v. IsMappedAroundIn image.now v.items) }
-    ensures sound { IfOk result (λ v. IsSoundImage (kind_of image.now) v.items) }
-    ensures opens { IfOk result (λ v. image_fault (kind_of image.now) v.items ≡ None) }
-    ensures fault { IfErr result (IsNotMappedAround image.now) }
-{
-    let volume = Volume::open(opened::<I>(alloc, image)?);
-    let disk = mapped_around(alloc, volume)?;
-    sound_image(alloc, disk)
-}
-
 /// The image with its BAM written anew, in which each block is free but those of the directory, of the closed files and of GEOS:
 /// its border block, the info blocks and the records of its files. Errors: `Image`; `Unsound`, where the disk wouldn't be sound;
 /// `Trouble`, where 18/0 can't be read; `Memory`.
@@ -69,8 +51,7 @@ pub fn map_around_geos(alloc: Global, image: &[u8]) -> Result<Vec<u8>, ShellFaul
     ensures opens { IfOk result (λ v. image_fault (kind_of image.now) v.items ≡ None) }
     ensures fault { IfErr result (IsNotMappedAround image.now) }
 {
-    match kind_of(image) {
-        Kind::D64 => map_around_geos_in::<D64Disk>(alloc, image),
-        Kind::G64 => map_around_geos_in::<G64Disk>(alloc, image),
-    }
+    let volume = Volume::open(opened(alloc, image)?);
+    let disk = mapped_around(alloc, volume)?;
+    sound_image(alloc, disk, kind_of(image))
 }

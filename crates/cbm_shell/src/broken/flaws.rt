@@ -7,7 +7,6 @@ mod found;
 mod headers;
 mod lost;
 mod map;
-mod open;
 mod sides;
 mod steps;
 mod users;

@@ -1,6 +1,7 @@
 //! Taking the entry of a file out of the directory of a disk that isn't sound.
 ghost use Rattle.std.specs.Prelude.{◌≡◌, ◌≤◌, None, IfOk, IfErr, IfSome, MatchOption, false};
 ghost use Rattle.cbm_bam.specs.Map.{geometry_of};
+ghost use Rattle.cbm_image.specs.AnyDisks.{any_seen};
 ghost use Rattle.cbm_image.specs.Images.{kind_of, image_fault, tracks_of, content_of};
 ghost use Rattle.cbm_directory.specs.EntryChanges.{ClearsLed};
 ghost use Rattle.cbm_shell.specs.Images.{IsSoundImage};
@@ -8,10 +9,8 @@ ghost use Rattle.cbm_shell.specs.Forgetting.{IsForgotten, IsNotForgotten, IsUncl
 
 use crate::fault::ShellFault;
 use crate::images::{opened, saved};
-use cbm_d64::D64Disk;
 use cbm_directory::clear_slot;
-use cbm_g64::G64Disk;
-use cbm_image::{DiskImage, Kind, kind_of};
+use cbm_image::{AnyDisk, Kind, kind_of};
 use cbm_medium::Steady;
 use cbm_volume::Volume;
 use std::alloc::Global;
@@ -33,45 +32,21 @@ fn cleared<M: Steady + Drop>(volume: Volume<M>, slot: u8) -> Result<M, ShellFaul
 }
 
 /// The image of a disk with the entry in a slot cleared.
-fn without_entry<I: DiskImage + Drop>(
+fn without_entry(
     alloc: Global,
-    volume: Volume<I>,
+    volume: Volume<AnyDisk>,
+    kind: Kind,
     slot: u8,
 ) -> Result<Vec<u8>, ShellFault>
-    requires { (I.seen volume).protected ≡ false }
-    ensures cleared { let old = I.seen volume in IfOk result (λ v.
-        ClearsLed (geometry_of old.tracks old.content) old.content (content_of I.kind v.items) slot) }
-    ensures opens { IfOk result (λ v. image_fault I.kind v.items ≡ None) }
-    ensures cause { let old = I.seen volume in
+    requires { (any_seen volume).protected ≡ false }
+    ensures cleared { let old = any_seen volume in IfOk result (λ v.
+        ClearsLed (geometry_of old.tracks old.content) old.content (content_of kind v.items) slot) }
+    ensures opens { IfOk result (λ v. image_fault kind v.items ≡ None) }
+    ensures cause { let old = any_seen volume in
         IfErr result (IsUncleared (geometry_of old.tracks old.content) old.content slot) }
 {
     let disk = cleared(volume, slot)?;
-    saved(alloc, &disk)
-}
-
-/// Clears an entry of the disk of an image of one format.
-fn forget_in<I: DiskImage + Drop>(
-    alloc: Global,
-    image: &[u8],
-    slot: u8,
-) -> Result<Option<Vec<u8>>, ShellFault>
-    requires { kind_of image.now ≡ I.kind }
-    ensures forgotten { let kind = kind_of image.now in
-        let tracks = geometry_of (tracks_of kind image.now) (content_of kind image.now) in
-        IfOk result (λ o. MatchOption o (IsSoundImage kind image.now)
-        (λ v. IsForgotten tracks (content_of kind image.now) (content_of kind v.items) slot)) }
-    ensures opens { IfOk result (λ o. IfSome o (λ v. image_fault (kind_of image.now) v.items ≡ None)) }
-    ensures cause { IfErr result (IsNotForgotten image.now slot) }
-{
-    let disk = opened::<I>(alloc, image)?;
-    let volume = Volume::open(disk);
-    match volume.check() {
-        Ok(()) => Ok(None),
-        Err(_) => {
-            let new = without_entry(alloc, volume, slot)?;
-            Ok(Some(new))
-        }
-    }
+    saved(alloc, &disk, kind)
 }
 
 /// Takes the entry in a slot out of the directory of a disk that isn't sound, locked or not: its type byte is 0 then. Its blocks
@@ -88,8 +63,13 @@ pub fn forget(alloc: Global, image: &[u8], slot: u8) -> Result<Option<Vec<u8>>, 
     // An entry that can't be reached or written refuses it, and nothing else but the image's own fault and want of memory.
     ensures cause { IfErr result (IsNotForgotten image.now slot) }
 {
-    match kind_of(image) {
-        Kind::D64 => forget_in::<D64Disk>(alloc, image, slot),
-        Kind::G64 => forget_in::<G64Disk>(alloc, image, slot),
+    let disk = opened(alloc, image)?;
+    let volume = Volume::open(disk);
+    match volume.check() {
+        Ok(()) => Ok(None),
+        Err(_) => {
+            let new = without_entry(alloc, volume, kind_of(image), slot)?;
+            Ok(Some(new))
+        }
     }
 }

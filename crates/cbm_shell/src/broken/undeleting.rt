@@ -3,6 +3,7 @@ ghost use Rattle.std.specs.Prelude.{◌≡◌, ◌≤◌, None, IfOk, IfErr, IfS
 ghost use Rattle.cbm_bam.specs.Marks.{is_marked};
 ghost use Rattle.cbm_bam.specs.Map.{geometry_of};
 ghost use Rattle.cbm_directory.specs.Entries.{EntersLed};
+ghost use Rattle.cbm_image.specs.AnyDisks.{any_seen};
 ghost use Rattle.cbm_image.specs.Images.{kind_of, image_fault};
 ghost use Rattle.cbm_shell.specs.Mapping.{chain_of, is_among};
 ghost use Rattle.cbm_shell.specs.Undeleting.{restored_entry, all_blocks_free, held_with, HasNoDeleted, IsDeleted, IsMapAnew, IsClear, IsInTheWay, IsNotGiven, IsGivenAgain, IsUndeleted, IsNotGivenIn, IsUndeletedIn, IsNotUndeleted};
@@ -18,10 +19,8 @@ use crate::looking::{
     entries_or_none, is_free_at, use_all_geos, use_border, use_chain, used_sectors,
 };
 use cbm_bam::{SectorSet, anew, read_map};
-use cbm_d64::D64Disk;
 use cbm_directory::put_slot;
-use cbm_g64::G64Disk;
-use cbm_image::{DiskImage, Kind, kind_of};
+use cbm_image::{AnyDisk, Kind, kind_of};
 use cbm_medium::{Geometry, Link, Medium, Steady};
 use cbm_volume::{Entry, FileType, Volume};
 use std::alloc::Global;
@@ -190,39 +189,17 @@ fn undeleted<M: Steady + Drop>(
     Ok(Some(disk))
 }
 
-/// The image of a disk, if that is sound.
-pub fn sound_image<I: DiskImage + Drop>(alloc: Global, disk: I) -> Result<Vec<u8>, ShellFault>
-    ensures saved { IfOk result (λ v. IsSaved I.kind v.items (I.seen disk)) }
-    ensures sound { let now = I.seen disk in OnOk result (IsSoundDisk now.tracks now.content) }
-    ensures image { IfOk result (λ v. IsSoundImage I.kind v.items) }
-    ensures fault { IfErr result (IsNotSaved (I.seen disk)) }
+/// The image of a disk in the format that it was opened from, if that is sound.
+pub fn sound_image(alloc: Global, disk: AnyDisk, kind: Kind) -> Result<Vec<u8>, ShellFault>
+    ensures saved { IfOk result (λ v. IsSaved kind v.items (any_seen disk)) }
+    ensures sound { let now = any_seen disk in OnOk result (IsSoundDisk now.tracks now.content) }
+    ensures image { IfOk result (λ v. IsSoundImage kind v.items) }
+    ensures fault { IfErr result (IsNotSaved (any_seen disk)) }
 {
     let volume = Volume::open(disk);
     require_sound(&volume)?;
     let disk = volume.into_medium();
-    saved(alloc, &disk)
-}
-
-/// Gives back a deleted file of an image of one format.
-fn undelete_in<I: DiskImage + Drop>(
-    alloc: Global,
-    image: &[u8],
-    slot: u8,
-    kind: FileType,
-) -> Result<Option<Vec<u8>>, ShellFault>
-    requires { kind_of image.now ≡ I.kind }
-    ensures given { IfOk result (λ o. MatchOption o (IsNotGivenIn image.now slot)
-        (λ v. IsUndeletedIn image.now v.items slot kind)) }
-    ensures sound { IfOk result (λ o. IfSome o (λ v. IsSoundImage (kind_of image.now) v.items)) }
-    ensures opens { IfOk result (λ o. IfSome o (λ v. image_fault (kind_of image.now) v.items ≡ None)) }
-    ensures fault { IfErr result (IsNotUndeleted image.now slot kind) }
-{
-    let volume = Volume::open(opened::<I>(alloc, image)?);
-    require_sound(&volume)?;
-    let Some(disk) = undeleted(alloc, volume, slot, kind)? else {
-        return Ok(None);
-    };
-    Ok(Some(sound_image(alloc, disk)?))
+    saved(alloc, &disk, kind)
 }
 
 /// Gives back the deleted file in a slot of an image, with a type: its entry is closed, and its blocks are taken. None where the
@@ -242,8 +219,10 @@ pub fn undelete(
     ensures opens { IfOk result (λ o. IfSome o (λ v. image_fault (kind_of image.now) v.items ≡ None)) }
     ensures fault { IfErr result (IsNotUndeleted image.now slot kind) }
 {
-    match kind_of(image) {
-        Kind::D64 => undelete_in::<D64Disk>(alloc, image, slot, kind),
-        Kind::G64 => undelete_in::<G64Disk>(alloc, image, slot, kind),
-    }
+    let volume = Volume::open(opened(alloc, image)?);
+    require_sound(&volume)?;
+    let Some(disk) = undeleted(alloc, volume, slot, kind)? else {
+        return Ok(None);
+    };
+    Ok(Some(sound_image(alloc, disk, kind_of(image))?))
 }

@@ -14,10 +14,8 @@ use crate::changing::require_sound;
 use crate::changing::swapping::entry_at;
 use crate::fault::ShellFault;
 use crate::images::{opened, saved};
-use cbm_d64::D64Disk;
 use cbm_directory::{empty_slot, put_slot};
-use cbm_g64::G64Disk;
-use cbm_image::{DiskImage, Kind, kind_of};
+use cbm_image::kind_of;
 use cbm_medium::{Link, Steady};
 use cbm_volume::{Entry, FileType, Volume};
 use std::alloc::Global;
@@ -62,29 +60,6 @@ fn entered<M: Steady + Drop>(volume: Volume<M>, entry: &Entry) -> Result<Option<
     Ok(Some(medium))
 }
 
-/// Adds a line of art to the directory of an image of one format.
-fn add_art_in<I: DiskImage + Drop>(
-    alloc: Global,
-    image: &[u8],
-    looks: Looks<'_>,
-) -> Result<Option<Vec<u8>>, ShellFault>
-    requires kind { kind_of image.now ≡ I.kind }
-    requires short { length looks.name.now ≤ 16 }
-    ensures enters { IfOk result (λ o. MatchOption o (IsImageFull image.now) (λ v. HasEnteredIn image.now
-        (art_entry looks.entry.name.now looks.entry.blocks looks.entry.is_locked) v.items)) }
-    ensures sound { OnOk result (IsSoundImage (kind_of image.now) image.now) }
-    ensures stays { IfOk result (λ o. IfSome o (λ v. IsSoundImage (kind_of image.now) v.items)) }
-    ensures opens { IfOk result (λ o. IfSome o (λ v. image_fault (kind_of image.now) v.items ≡ None)) }
-    ensures fault { IfErr result (IsUneditedIn image.now ⊥) }
-{
-    let volume = Volume::open(opened::<I>(alloc, image)?);
-    require_sound(&volume)?;
-    let Some(disk) = entered(volume, &art_entry(looks))? else {
-        return Ok(None);
-    };
-    Ok(Some(saved(alloc, &disk)?))
-}
-
 /// Adds a line of art to the directory of an image; None where no slot is empty and the directory can't grow. Errors:
 /// `Image`; `Unsound`, with what is wrong first; `Memory`.
 pub fn add_art(alloc: Global, image: &[u8], looks: Looks<'_>) -> Result<Option<Vec<u8>>, ShellFault>
@@ -99,10 +74,12 @@ pub fn add_art(alloc: Global, image: &[u8], looks: Looks<'_>) -> Result<Option<V
     ensures opens { IfOk result (λ o. IfSome o (λ v. image_fault (kind_of image.now) v.items ≡ None)) }
     ensures fault { IfErr result (IsUneditedIn image.now ⊥) }
 {
-    match kind_of(image) {
-        Kind::D64 => add_art_in::<D64Disk>(alloc, image, looks),
-        Kind::G64 => add_art_in::<G64Disk>(alloc, image, looks),
-    }
+    let volume = Volume::open(opened(alloc, image)?);
+    require_sound(&volume)?;
+    let Some(disk) = entered(volume, &art_entry(looks))? else {
+        return Ok(None);
+    };
+    Ok(Some(saved(alloc, &disk, kind_of(image))?))
 }
 
 /// An entry that looks so.
@@ -134,28 +111,6 @@ fn dressed<M: Steady + Drop>(volume: Volume<M>, slot: u8, looks: Looks<'_>) -> R
     Ok(medium)
 }
 
-/// Lets the entry of a slot look so in an image of one format.
-fn dress_in<I: DiskImage + Drop>(
-    alloc: Global,
-    image: &[u8],
-    slot: u8,
-    looks: Looks<'_>,
-) -> Result<Vec<u8>, ShellFault>
-    requires kind { kind_of image.now ≡ I.kind }
-    requires short { length looks.name.now ≤ 16 }
-    ensures dressed { IfOk result (λ v.
-        IsDressedIn image.now slot looks.entry.name.now looks.entry.blocks looks.entry.is_locked v.items) }
-    ensures sound { OnOk result (IsSoundImage (kind_of image.now) image.now) }
-    ensures stays { IfOk result (λ v. IsSoundImage (kind_of image.now) v.items) }
-    ensures opens { IfOk result (λ v. image_fault (kind_of image.now) v.items ≡ None) }
-    ensures fault { IfErr result (IsUneditedIn image.now (HasNoSlotIn image.now slot)) }
-{
-    let volume = Volume::open(opened::<I>(alloc, image)?);
-    require_sound(&volume)?;
-    let disk = dressed(volume, slot, looks)?;
-    saved(alloc, &disk)
-}
-
 /// Lets the entry of a slot look so, by its number from 0 on: name, blocks and lock. Errors: `Image`; `Unsound`, with what is wrong
 /// first; `NotFound`, where the directory has no such slot; `Memory`.
 pub fn dress(alloc: Global, image: &[u8], slot: u8, looks: Looks<'_>) -> Result<Vec<u8>, ShellFault>
@@ -169,8 +124,8 @@ pub fn dress(alloc: Global, image: &[u8], slot: u8, looks: Looks<'_>) -> Result<
     ensures opens { IfOk result (λ v. image_fault (kind_of image.now) v.items ≡ None) }
     ensures fault { IfErr result (IsUneditedIn image.now (HasNoSlotIn image.now slot)) }
 {
-    match kind_of(image) {
-        Kind::D64 => dress_in::<D64Disk>(alloc, image, slot, looks),
-        Kind::G64 => dress_in::<G64Disk>(alloc, image, slot, looks),
-    }
+    let volume = Volume::open(opened(alloc, image)?);
+    require_sound(&volume)?;
+    let disk = dressed(volume, slot, looks)?;
+    saved(alloc, &disk, kind_of(image))
 }

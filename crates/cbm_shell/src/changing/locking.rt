@@ -10,10 +10,8 @@ use crate::changing::require_sound;
 use crate::fault::ShellFault;
 use crate::images::{opened, saved};
 use cbm_command::matches;
-use cbm_d64::D64Disk;
 use cbm_directory::{put_slot, slot};
-use cbm_g64::G64Disk;
-use cbm_image::{DiskImage, Kind, kind_of};
+use cbm_image::kind_of;
 use cbm_medium::{Geometry, Steady};
 use cbm_volume::{Entry, Volume};
 use std::alloc::Global;
@@ -155,26 +153,6 @@ fn all_locked<M: Steady + Drop>(
     Ok(medium)
 }
 
-/// Locks or frees the files of an image of one format that patterns mean.
-fn lock_in<I: DiskImage + Drop>(
-    alloc: Global,
-    image: &[u8],
-    patterns: &[&[u8]],
-    is_locked: bool,
-) -> Result<Vec<u8>, ShellFault>
-    requires { kind_of image.now ≡ I.kind }
-    ensures locks { IfOk result (λ v. LocksAllIn image.now (map (λ r. r.now) patterns.now) is_locked v.items) }
-    ensures sound { OnOk result (IsSoundImage (kind_of image.now) image.now) }
-    ensures stays { IfOk result (λ v. IsSoundImage (kind_of image.now) v.items) }
-    ensures opens { IfOk result (λ v. image_fault (kind_of image.now) v.items ≡ None) }
-    ensures fault { IfErr result (IsUneditedIn image.now ⊥) }
-{
-    let volume = Volume::open(opened::<I>(alloc, image)?);
-    require_sound(&volume)?;
-    let disk = all_locked(volume, patterns, is_locked)?;
-    saved(alloc, &disk)
-}
-
 /// Locks the files of an image against SCRATCH that one of the patterns means, or frees them. The image is opened and made anew
 /// once. Errors: `Image`; `Unsound`, with what is wrong first; `Memory`.
 pub fn lock(
@@ -191,8 +169,8 @@ pub fn lock(
     ensures opens { IfOk result (λ v. image_fault (kind_of image.now) v.items ≡ None) }
     ensures fault { IfErr result (IsUneditedIn image.now ⊥) }
 {
-    match kind_of(image) {
-        Kind::D64 => lock_in::<D64Disk>(alloc, image, patterns, is_locked),
-        Kind::G64 => lock_in::<G64Disk>(alloc, image, patterns, is_locked),
-    }
+    let volume = Volume::open(opened(alloc, image)?);
+    require_sound(&volume)?;
+    let disk = all_locked(volume, patterns, is_locked)?;
+    saved(alloc, &disk, kind_of(image))
 }

@@ -12,9 +12,7 @@ use crate::changing::{require_sound, told};
 use crate::fault::ShellFault;
 use crate::images::{opened, saved};
 use cbm_channel::{Channels, Dos};
-use cbm_d64::D64Disk;
-use cbm_g64::G64Disk;
-use cbm_image::{DiskImage, Kind, kind_of};
+use cbm_image::kind_of;
 use cbm_medium::{Medium, Steady};
 use cbm_talk::hear;
 use cbm_volume::Volume;
@@ -81,25 +79,6 @@ fn recorded<M: Steady + Drop>(
     Ok(dos.into_medium())
 }
 
-/// Makes a relative file on the disk of an image of one format.
-fn put_records_in<I: DiskImage + Drop>(
-    alloc: Global,
-    image: &[u8],
-    file: Records<'_>,
-) -> Result<Vec<u8>, ShellFault>
-    requires { kind_of image.now ≡ I.kind }
-    ensures made { OfHeld image.now (λ d. MatchResult result
-        (λ v. HasRecorded image.now file.entry.text.now (map (λ r. r.now) file.entry.records.now) d v.items)
-        (IsUnmadeIn image.now file.entry.text.now (map (λ r. r.now) file.entry.records.now) (machine_on image.now d))) }
-    ensures sound { OnOk result (IsSoundImage (kind_of image.now) image.now) }
-    ensures opens { IfOk result (λ v. image_fault (kind_of image.now) v.items ≡ None) }
-{
-    let disk = opened::<I>(alloc, image)?;
-    let channels = Channels::new(alloc)?;
-    let disk = recorded(disk, channels, file)?;
-    saved(alloc, &disk)
-}
-
 /// Makes a relative file on the disk of an image, and gives the image as it is then. Errors: `Image`; `Unsound`, with what is
 /// wrong first; `Refused`, with the drive's status; `Memory`.
 pub fn put_records(alloc: Global, image: &[u8], file: Records<'_>) -> Result<Vec<u8>, ShellFault>
@@ -110,8 +89,8 @@ pub fn put_records(alloc: Global, image: &[u8], file: Records<'_>) -> Result<Vec
     ensures sound { OnOk result (IsSoundImage (kind_of image.now) image.now) }
     ensures opens { IfOk result (λ v. image_fault (kind_of image.now) v.items ≡ None) }
 {
-    match kind_of(image) {
-        Kind::D64 => put_records_in::<D64Disk>(alloc, image, file),
-        Kind::G64 => put_records_in::<G64Disk>(alloc, image, file),
-    }
+    let disk = opened(alloc, image)?;
+    let channels = Channels::new(alloc)?;
+    let disk = recorded(disk, channels, file)?;
+    saved(alloc, &disk, kind_of(image))
 }

@@ -10,9 +10,7 @@ use crate::changing::{DiskChange, changed};
 use crate::fault::ShellFault;
 use crate::images::{opened, saved};
 use cbm_channel::Channels;
-use cbm_d64::D64Disk;
-use cbm_g64::G64Disk;
-use cbm_image::{DiskImage, Kind, kind_of};
+use cbm_image::kind_of;
 use cbm_medium::Steady;
 use std::alloc::Global;
 
@@ -35,24 +33,6 @@ fn changed_by<M: Steady + Drop>(
     Ok(disk)
 }
 
-/// Makes changes on the disk of an image of one format.
-fn changes_in<I: DiskImage + Drop>(
-    alloc: Global,
-    image: &[u8],
-    changes: &[DiskChange<'_>],
-) -> Result<Vec<u8>, ShellFault>
-    requires { kind_of image.now ≡ I.kind }
-    ensures made { let kind = kind_of image.now in (d : Disk) → ImageHolds kind image.now d → MatchResult result
-        (λ v. ImageAfter changes.now kind (tracks_of kind image.now) d v.items)
-        (OrOpenFault image.now (AreUndone changes.now false (tracks_of kind image.now) d)) }
-    ensures sound { 0 < length changes.now → OnOk result (IsSoundImage (kind_of image.now) image.now) }
-    ensures opens { IfOk result (λ v. image_fault (kind_of image.now) v.items ≡ None) }
-{
-    let disk = opened::<I>(alloc, image)?;
-    let disk = changed_by(alloc, disk, changes)?;
-    saved(alloc, &disk)
-}
-
 /// Makes changes on the disk of an image, one after another, and gives the image as it is then: all of them are made, or none.
 /// The image is opened and made anew once. Errors: those of `change`, of the first change that isn't made.
 pub fn changes(
@@ -68,8 +48,7 @@ pub fn changes(
     // The new image opens again.
     ensures opens { IfOk result (λ v. image_fault (kind_of image.now) v.items ≡ None) }
 {
-    match kind_of(image) {
-        Kind::D64 => changes_in::<D64Disk>(alloc, image, changes),
-        Kind::G64 => changes_in::<G64Disk>(alloc, image, changes),
-    }
+    let disk = opened(alloc, image)?;
+    let disk = changed_by(alloc, disk, changes)?;
+    saved(alloc, &disk, kind_of(image))
 }

@@ -11,10 +11,8 @@ ghost use Rattle.cbm_shell.specs.Swapping.{Swaps, AreSwapped, MissesSlot, Misses
 use crate::changing::require_sound;
 use crate::fault::ShellFault;
 use crate::images::{opened, saved};
-use cbm_d64::D64Disk;
 use cbm_directory::{put_slot, slot};
-use cbm_g64::G64Disk;
-use cbm_image::{DiskImage, Kind, kind_of};
+use cbm_image::kind_of;
 use cbm_medium::{Geometry, Medium, Steady};
 use cbm_volume::{Entry, Volume};
 use std::alloc::Global;
@@ -93,25 +91,6 @@ fn swapped<M: Steady + Drop>(volume: Volume<M>, swaps: &[Swap]) -> Result<M, She
     Ok(medium)
 }
 
-/// Lets entries of an image of one format change places.
-fn swap_in<I: DiskImage + Drop>(
-    alloc: Global,
-    image: &[u8],
-    swaps: &[Swap],
-) -> Result<Vec<u8>, ShellFault>
-    requires { kind_of image.now ≡ I.kind }
-    ensures swapped { IfOk result (λ v. AreSwappedIn image.now swaps.now v.items) }
-    ensures sound { OnOk result (IsSoundImage (kind_of image.now) image.now) }
-    ensures stays { IfOk result (λ v. IsSoundImage (kind_of image.now) v.items) }
-    ensures opens { IfOk result (λ v. image_fault (kind_of image.now) v.items ≡ None) }
-    ensures fault { IfErr result (IsUneditedIn image.now (MissesSlotIn image.now swaps.now)) }
-{
-    let volume = Volume::open(opened::<I>(alloc, image)?);
-    require_sound(&volume)?;
-    let disk = swapped(volume, swaps)?;
-    saved(alloc, &disk)
-}
-
 /// Lets entries of an image's directory change places, one pair after the other. Errors: `Image`; `Unsound`, with what is wrong
 /// first; `NotFound`, where the directory doesn't have one of the slots; `Memory`.
 pub fn swap_entries(alloc: Global, image: &[u8], swaps: &[Swap]) -> Result<Vec<u8>, ShellFault>
@@ -123,8 +102,8 @@ pub fn swap_entries(alloc: Global, image: &[u8], swaps: &[Swap]) -> Result<Vec<u
     ensures opens { IfOk result (λ v. image_fault (kind_of image.now) v.items ≡ None) }
     ensures fault { IfErr result (IsUneditedIn image.now (MissesSlotIn image.now swaps.now)) }
 {
-    match kind_of(image) {
-        Kind::D64 => swap_in::<D64Disk>(alloc, image, swaps),
-        Kind::G64 => swap_in::<G64Disk>(alloc, image, swaps),
-    }
+    let volume = Volume::open(opened(alloc, image)?);
+    require_sound(&volume)?;
+    let disk = swapped(volume, swaps)?;
+    saved(alloc, &disk, kind_of(image))
 }

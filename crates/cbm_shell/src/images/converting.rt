@@ -10,18 +10,15 @@ ghost use Rattle.cbm_shell.specs.Converting.{told_id, content_held, is_plain_tab
 ghost use Rattle.cbm_shell.specs.Images.{IsOpenFault};
 
 use crate::fault::ShellFault;
-use crate::images::making::{OF_35_TRACKS, OF_40_TRACKS, zeros};
+use crate::images::making::zeros;
 use crate::images::{opened, saved};
 use crate::looking::sectors::faults_in;
 use cbm_d64::D64Disk;
 use cbm_g64::{G64Disk, G64Fault};
-use cbm_image::{Kind, kind_of};
+use cbm_image::{AnyDisk, Kind, OF_35_TRACKS, OF_40_TRACKS, WITH_ERRORS, kind_of};
 use cbm_medium::{Address, Fault, Medium, sectors_of};
 use cbm_sector::id_of;
 use std::alloc::Global;
-
-/// The bytes of a D64 of 35 tracks with an error byte for each sector.
-const WITH_ERRORS: usize = 175_531;
 
 /// The track of the directory.
 const DIRECTORY: u8 = 18;
@@ -264,7 +261,7 @@ fn to_g64(alloc: Global, image: &[u8]) -> Result<Converted, ShellFault>
         c.lost.error_bytes c.lost.header_id) }
     ensures cause { IfErr result (IsConvertFault image.now) }
 {
-    let whole = opened::<D64Disk>(alloc, image)?;
+    let whole = opened(alloc, image)?;
     let unreadable = faults_in(alloc, &whole, TRACKS)?;
     let Ok(disk) = D64Disk::from_bytes(alloc, inner_tracks(image), false) else {
         return Err(ShellFault::Memory);
@@ -298,7 +295,7 @@ fn to_d64(alloc: Global, image: &[u8]) -> Result<Converted, ShellFault>
         header_id: header_id(&disk) != told_id(&disk),
     };
     let new = copied(alloc, &disk)?;
-    let image = settled(saved(alloc, &new)?, Kind::D64)?;
+    let image = settled(saved(alloc, &AnyDisk::D64(new), Kind::D64)?, Kind::D64)?;
     Ok(Converted { image, lost })
 }
 

@@ -3,7 +3,7 @@ ghost use Rattle.std.specs.Prelude.{◌≡◌, Some, IfSome};
 ghost use Rattle.cbm_image.specs.Images.{kind_of, image_fault};
 ghost use Rattle.cbm_shell.specs.Foreign.{is_ours, begun_as, sized_as, or_else, foreign_of};
 
-use cbm_image::{Kind, kind_of};
+use cbm_image::{Kind, OF_35_TRACKS, OF_40_TRACKS, WITH_ERRORS, kind_of};
 
 /// What a file is that is no image of a 1541's disk.
 #[derive(Clone, Copy, Debug, PartialEq, Eq)]
@@ -38,7 +38,7 @@ fn is_ours(kind: Kind, size: usize) -> bool
 {
     match kind {
         Kind::G64 => true,
-        Kind::D64 => size == 174_848 || size == 175_531 || size == 196_608,
+        Kind::D64 => size == OF_35_TRACKS || size == WITH_ERRORS || size == OF_40_TRACKS,
     }
 }
 
@@ -73,7 +73,7 @@ fn sized_as(size: usize) -> Foreign
         Foreign::Longest
     } else if size == 197_376 {
         Foreign::LongWithErrors
-    } else if size < 174_848 {
+    } else if size < OF_35_TRACKS {
         Foreign::Short
     } else {
         Foreign::Unknown

@@ -1,22 +1,19 @@
 //! New images of empty disks.
 ghost use Rattle.std.specs.Prelude.{◌≡◌, ◌≤◌, false, length, replicate, None, Ok, IfOk};
 ghost use Rattle.cbm_medium.specs.Place.{Place, Has};
-ghost use Rattle.cbm_image.specs.Images.{image_fault, IsOf};
+ghost use Rattle.cbm_d64.specs.Image.{d64_seen};
+ghost use Rattle.cbm_g64.specs.Tracks.{g64_seen};
+ghost use Rattle.cbm_image.specs.AnyDisks.{IsDiskOfImage};
+ghost use Rattle.cbm_image.specs.Images.{kind_of, image_fault};
 ghost use Rattle.cbm_image.specs.declared.kind.Kind.TheVariants.{D64, G64};
-ghost use Rattle.cbm_shell.specs.Making.{kind_in, tracks_of_form, IsBlankImage, IsEmpty, IsNew};
+ghost use Rattle.cbm_shell.specs.Making.{kind_in, tracks_of_form, IsBlankDisk, IsBlankImage, IsEmpty, IsNew};
 
 use cbm_d64::D64Disk;
 use cbm_g64::G64Disk;
-use cbm_image::{DiskImage, ImageFault};
+use cbm_image::{AnyDisk, ImageFault, OF_35_TRACKS, OF_40_TRACKS};
 use cbm_medium::Steady;
 use cbm_volume::Volume;
 use std::alloc::{AllocError, Global};
-
-/// The bytes of a D64 of 35 tracks.
-pub(crate) const OF_35_TRACKS: usize = 174_848;
-
-/// The bytes of a D64 of 40 tracks.
-pub(crate) const OF_40_TRACKS: usize = 196_608;
 
 /// What a new image is.
 #[derive(Clone, Copy, Debug, PartialEq, Eq)]
@@ -62,12 +59,11 @@ fn blank(alloc: Global, form: Form, id: [u8; 2]) -> Result<Vec<u8>, AllocError>
 }
 
 /// The disk of an image that has no fault.
-fn opened<I: DiskImage>(alloc: Global, image: &[u8]) -> Result<I, AllocError>
-    requires { image_fault I.kind image.now ≡ None }
-    ensures { IfOk result (λ disk. IsOf I.kind image.now (I.seen disk).tracks (I.seen disk).content
-        × ((I.seen disk).protected ≡ false)) }
+fn opened(alloc: Global, image: &[u8]) -> Result<AnyDisk, AllocError>
+    requires { image_fault (kind_of image.now) image.now ≡ None }
+    ensures { IfOk result (IsDiskOfImage (kind_of image.now) image.now false) }
 {
-    match I::open(alloc, image, false) {
+    match AnyDisk::open(alloc, image, false) {
         Ok(disk) => Ok(disk),
         Err(ImageFault::Memory) => Err(AllocError),
         Err(_) => unreachable!(),
@@ -90,42 +86,40 @@ fn formatted<M: Steady + Drop>(medium: M, title: &[u8], id: [u8; 2]) -> M
     }
 }
 
-/// The disk of a new image.
-fn made<I: DiskImage + Drop>(
+/// A new D64, of its disk of zeros.
+fn new_d64(
     alloc: Global,
     form: Form,
+    disk: D64Disk,
     title: &[u8],
     id: [u8; 2],
-) -> Result<I, AllocError>
-    requires short { length title.now ≤ 16 }
-    requires form { kind_in form ≡ I.kind }
-    ensures { IfOk result (λ disk. IsEmpty (tracks_of_form form) title.now id (I.seen disk)) }
-{
-    let image = blank(alloc, form, id)?;
-    let disk = opened(alloc, image.as_slice())?;
-    Ok(formatted(disk, title, id))
-}
-
-/// A new D64.
-fn new_d64(alloc: Global, form: Form, title: &[u8], id: [u8; 2]) -> Result<Vec<u8>, AllocError>
+) -> Result<Vec<u8>, AllocError>
     requires short { length title.now ≤ 16 }
     requires form { kind_in form ≡ D64 }
+    requires blank { IsBlankDisk (tracks_of_form form) (d64_seen disk) }
     ensures { IfOk result (λ v. IsNew form title.now id v.items) }
 {
-    let disk: D64Disk = made(alloc, form, title, id)?;
+    let disk = formatted(disk, title, id);
     match disk.to_bytes(alloc) {
         Ok(image) => Ok(image),
         Err(_) => Err(AllocError),
     }
 }
 
-/// A new G64.
-fn new_g64(alloc: Global, form: Form, title: &[u8], id: [u8; 2]) -> Result<Vec<u8>, AllocError>
+/// A new G64, of its disk of zeros.
+fn new_g64(
+    alloc: Global,
+    form: Form,
+    disk: G64Disk,
+    title: &[u8],
+    id: [u8; 2],
+) -> Result<Vec<u8>, AllocError>
     requires short { length title.now ≤ 16 }
     requires form { kind_in form ≡ G64 }
+    requires blank { IsBlankDisk (tracks_of_form form) (g64_seen disk) }
     ensures { IfOk result (λ v. IsNew form title.now id v.items) }
 {
-    let disk: G64Disk = made(alloc, form, title, id)?;
+    let disk = formatted(disk, title, id);
     match disk.to_bytes(alloc) {
         Ok(image) => Ok(image),
         Err(_) => Err(AllocError),
@@ -143,9 +137,9 @@ pub fn new_image(
     requires { length title.now ≤ 16 }
     ensures { IfOk result (λ v. IsNew form title.now id v.items) }
 {
-    match form {
-        Form::D64 => new_d64(alloc, form, title, id),
-        Form::LongD64 => new_d64(alloc, form, title, id),
-        Form::G64 => new_g64(alloc, form, title, id),
+    let image = blank(alloc, form, id)?;
+    match opened(alloc, image.as_slice())? {
+        AnyDisk::D64(disk) => new_d64(alloc, form, disk, title, id),
+        AnyDisk::G64(disk) => new_g64(alloc, form, disk, title, id),
     }
 }

@@ -1,4 +1,5 @@
 //! CONVERT of a D64 to 40 tracks, or back to 35.
+use cbm_image::{OF_35_TRACKS, OF_40_TRACKS};
 use cbm_medium::Address;
 use cbm_shell::geos_of;
 use cbm_volume::Entry;
@@ -6,27 +7,15 @@ use disk_basics::calls::{check, entries, geos_blocks};
 use disk_basics::host::joined;
 use disk_basics::odd::put_away;
 use disk_basics::{Failure, What, WordFault, in_memory, on_disk};
-use disk_facts::{WideMap, wide_map, without_errors};
+use disk_facts::{DOLPHIN, SPEED, WideMap, wide_map, without_errors};
 use std::alloc::Global;
 use std::rt::Runtime;
-
-/// The bytes of a D64 of 35 tracks.
-const OF_35_TRACKS: usize = 174_848;
-
-/// The bytes of a D64 of 40 tracks.
-const OF_40_TRACKS: usize = 196_608;
 
 /// The bytes of the tracks 36 to 40.
 const BEYOND: usize = OF_40_TRACKS - OF_35_TRACKS;
 
 /// The bytes of a sector.
 const SECTOR: usize = 256;
-
-/// Where the drive keeps the map of tracks 36 to 40, in a D64.
-const SPEED: usize = 91_392 + 0xc0;
-
-/// Where Dolphin DOS keeps it.
-const DOLPHIN: usize = 91_392 + 0xac;
 
 /// How many bytes it has.
 const ROWS: usize = 20;

@@ -2,29 +2,9 @@
 
 use super::failure::{FailedAt, ReplyFailure};
 use super::words::Words;
-use cbm_bus::AnyDisk;
-use cbm_d64::D64Disk;
-use cbm_g64::G64Disk;
-use cbm_image::{DiskImage, ImageFault, Kind, kind_of};
+use cbm_image::{AnyDisk, ImageFault};
 use host_files::{GREATEST_IMAGE, read_file, save};
-use std::alloc::{AllocError, Global};
 use std::fs;
-
-/// The disk of an image.
-fn disk_of(alloc: Global, image: &[u8], is_protected: bool) -> Result<AnyDisk, ImageFault> {
-    match kind_of(image) {
-        Kind::D64 => D64Disk::open(alloc, image, is_protected).map(AnyDisk::D64),
-        Kind::G64 => G64Disk::open(alloc, image, is_protected).map(AnyDisk::G64),
-    }
-}
-
-/// The image of a disk.
-fn image_of(alloc: Global, disk: &AnyDisk) -> Result<Vec<u8>, AllocError> {
-    match disk {
-        AnyDisk::D64(disk) => disk.save(alloc),
-        AnyDisk::G64(disk) => disk.save(alloc),
-    }
-}
 
 /// Reads the image of the drive at a place, if it isn't longer than any is.
 fn read_image(rt: &HostRuntime, place: usize, name: &str) -> Result<Vec<u8>, ReplyFailure> {
@@ -45,7 +25,7 @@ fn open_disk(
     is_protected: bool,
 ) -> Result<AnyDisk, ReplyFailure> {
     let image = read_image(rt, place, name)?;
-    match disk_of(rt.alloc(), image.as_slice(), is_protected) {
+    match AnyDisk::open(rt.alloc(), image.as_slice(), is_protected) {
         Ok(disk) => Ok(disk),
         Err(ImageFault::Format(number)) => Err(ReplyFailure::Image(place, number)),
         Err(ImageFault::Memory) => Err(ReplyFailure::NoMemory),
@@ -69,7 +49,9 @@ fn save_disk(
     disk: &AnyDisk,
     out: &str,
 ) -> Result<(), ReplyFailure> {
-    let image = image_of(rt.alloc(), disk).map_err(|_| ReplyFailure::NoMemory)?;
+    let image = disk
+        .save(rt.alloc(), disk.kind())
+        .map_err(|_| ReplyFailure::NoMemory)?;
     save(rt, "drive1541", out, image.as_slice()).map_err(|e| ReplyFailure::of_file(
         e,
         FailedAt::Out(place),

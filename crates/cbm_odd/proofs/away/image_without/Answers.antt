@@ -1,12 +1,13 @@
 use Rattle.std.proofs.Common.{◌≡◌, rules}
+use Rattle.cbm_image.specs.AnyDisks.{any_seen}
 use Rattle.cbm_bam.specs.Map.{geometry_of}
 use Rattle.cbm_odd.specs.Held.{held_places}
 use Rattle.cbm_odd.proofs.FaultLemmas.{not_left}
 use Rattle.cbm_odd.proofs.away.image_without.Goals as goal
 
 pub returns-clause-fault : goal.returns-clause-fault
-returns-clause-fault g c =
-    let old = g.I.Medium.seen c.args.volume in
-    let new = g.I.Medium.seen c.in_ok-disk.disk in
+returns-clause-fault c =
+    let old = any_seen c.args.volume in
+    let new = any_seen c.in_ok-disk.disk in
     let held : c.as_slice.result.now ≡ held_places (geometry_of old.tracks old.content) old.content c.args.odds.now = search rules in
     not_left old.tracks new.tracks old.content new.content c.args.odds.now c.as_slice.result.now c.clear_image.result c.in_ok-disk.ensures.tracks held c.in_ok-disk.ensures.away c.clear_image.ensures.fault

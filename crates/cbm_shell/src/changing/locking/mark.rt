@@ -12,9 +12,7 @@ use crate::changing::locking::write_head;
 use crate::changing::require_sound;
 use crate::fault::ShellFault;
 use crate::images::opened;
-use cbm_d64::D64Disk;
-use cbm_g64::G64Disk;
-use cbm_image::{DiskImage, Kind, kind_of};
+use cbm_image::kind_of;
 use cbm_medium::Steady;
 use cbm_volume::Volume;
 use std::alloc::Global;
@@ -44,25 +42,6 @@ fn remarked<M: Steady + Drop>(volume: Volume<M>, mark: &[u8; 5]) -> Result<M, Sh
     Ok(medium)
 }
 
-/// Gives the disk of an image of one format these five bytes.
-fn remark_in<I: DiskImage + Drop>(
-    alloc: Global,
-    image: &[u8],
-    mark: &[u8; 5],
-) -> Result<Vec<u8>, ShellFault>
-    requires { kind_of image.now ≡ I.kind }
-    ensures mark { IfOk result (λ v. IsRemarked image.now mark.now v.items) }
-    ensures was_sound { OnOk result (IsSoundImage (kind_of image.now) image.now) }
-    ensures sound { IfOk result (λ v. IsSoundImage (kind_of image.now) v.items) }
-    ensures opens { IfOk result (λ v. image_fault (kind_of image.now) v.items ≡ None) }
-    ensures fault { IfErr result (IsNotRemarked image.now mark.now) }
-{
-    let volume = Volume::open(opened::<I>(alloc, image)?);
-    require_sound(&volume)?;
-    let disk = remarked(volume, mark)?;
-    sound_image(alloc, disk)
-}
-
 /// Gives the disk of an image other five bytes after its title: the id, a byte, and the two of the DOS. The headers of its
 /// sectors keep their id. Errors: `Image`; `Unsound`, with what is wrong first; `Memory`.
 pub fn remark(alloc: Global, image: &[u8], mark: &[u8; 5]) -> Result<Vec<u8>, ShellFault>
@@ -73,8 +52,8 @@ pub fn remark(alloc: Global, image: &[u8], mark: &[u8; 5]) -> Result<Vec<u8>, Sh
     ensures opens { IfOk result (λ v. image_fault (kind_of image.now) v.items ≡ None) }
     ensures fault { IfErr result (IsNotRemarked image.now mark.now) }
 {
-    match kind_of(image) {
-        Kind::D64 => remark_in::<D64Disk>(alloc, image, mark),
-        Kind::G64 => remark_in::<G64Disk>(alloc, image, mark),
-    }
+    let volume = Volume::open(opened(alloc, image)?);
+    require_sound(&volume)?;
+    let disk = remarked(volume, mark)?;
+    sound_image(alloc, disk, kind_of(image))
 }

@@ -12,10 +12,8 @@ ghost use Rattle.cbm_shell.specs.Locking.{with_title, titled, entitled, IsRetitl
 use crate::changing::require_sound;
 use crate::fault::ShellFault;
 use crate::images::{opened, saved};
-use cbm_d64::D64Disk;
 use cbm_file::padded;
-use cbm_g64::G64Disk;
-use cbm_image::{DiskImage, Kind, kind_of};
+use cbm_image::kind_of;
 use cbm_medium::{Address, Steady, Trouble};
 use cbm_volume::Volume;
 use std::alloc::Global;
@@ -63,26 +61,6 @@ fn retitled<M: Steady + Drop>(volume: Volume<M>, title: &[u8]) -> Result<M, Shel
     Ok(medium)
 }
 
-/// Gives the disk of an image of one format another title.
-fn retitle_in<I: DiskImage + Drop>(
-    alloc: Global,
-    image: &[u8],
-    title: &[u8],
-) -> Result<Vec<u8>, ShellFault>
-    requires kind { kind_of image.now ≡ I.kind }
-    requires short { length title.now ≤ 16 }
-    ensures title { IfOk result (λ v. IsRetitled image.now title.now v.items) }
-    ensures sound { OnOk result (IsSoundImage (kind_of image.now) image.now) }
-    ensures made { OfHeld image.now (λ d. IfOk result (λ v. ImageHolds (kind_of image.now) v.items (entitled title.now d))) }
-    ensures opens { IfOk result (λ v. image_fault (kind_of image.now) v.items ≡ None) }
-    ensures fault { IfErr result (IsUneditedIn image.now ⊥) }
-{
-    let volume = Volume::open(opened::<I>(alloc, image)?);
-    require_sound(&volume)?;
-    let disk = retitled(volume, title)?;
-    saved(alloc, &disk)
-}
-
 /// Gives the disk of an image another title, of at most sixteen bytes. Errors: `Image`; `Unsound`, with what is wrong first;
 /// `Memory`.
 pub fn retitle(alloc: Global, image: &[u8], title: &[u8]) -> Result<Vec<u8>, ShellFault>
@@ -93,8 +71,8 @@ pub fn retitle(alloc: Global, image: &[u8], title: &[u8]) -> Result<Vec<u8>, She
     ensures opens { IfOk result (λ v. image_fault (kind_of image.now) v.items ≡ None) }
     ensures fault { IfErr result (IsUneditedIn image.now ⊥) }
 {
-    match kind_of(image) {
-        Kind::D64 => retitle_in::<D64Disk>(alloc, image, title),
-        Kind::G64 => retitle_in::<G64Disk>(alloc, image, title),
-    }
+    let volume = Volume::open(opened(alloc, image)?);
+    require_sound(&volume)?;
+    let disk = retitled(volume, title)?;
+    saved(alloc, &disk, kind_of(image))
 }

@@ -8,4 +8,4 @@ returns-clause-ok c =
     let now : OnLines = record { seat = c.insert.new.self; kind = None; latest = c.self.inside.latest } in
     subst (λ (o : OnLines). IsExchanged no_disk None o now) c.self.view_is
     (subst (λ (k : Counted). IsExchanged k None (record { seat = c.self.inside.drive; kind = c.self.inside.kind; latest = c.self.inside.latest }) now) c.blank.ensures
-    (record { port = c.insert.ensures.port; inside = c.insert.ensures.medium; same_kind = refl; latest = refl; stands = c.insert.ensures.stands }))
+    (record { port = c.insert.ensures.port; machine = c.insert.ensures.machine; same_kind = refl; latest = refl; stands = c.insert.ensures.stands }))

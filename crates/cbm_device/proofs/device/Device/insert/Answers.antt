@@ -10,5 +10,5 @@ returns-clause-ok c =
       disk,
       c.in_ok-disk.ensures.ok,
       subst (λ (o : OnLines). IsExchanged disk (Some (kind_of c.args.image.now)) o now) c.self.view_is
-          (record { port = c.insert.ensures.port; inside = c.insert.ensures.medium; same_kind = ap Some c.kind_of.ensures; latest = refl; stands = c.insert.ensures.stands }),
+          (record { port = c.insert.ensures.port; machine = c.insert.ensures.machine; same_kind = ap Some c.kind_of.ensures; latest = refl; stands = c.insert.ensures.stands }),
     )

@@ -6,4 +6,4 @@ pub returns : goal.returns
 returns c =
     let now : OnLines = record { seat = c.restart.new.self; kind = c.self.inside.kind; latest = c.self.inside.latest } in
     subst (λ (o : OnLines). IsRestarted o now) c.self.view_is
-    (record { port = c.restart.ensures.port; same_disk = c.restart.ensures.medium; kind = refl; latest = refl; stands = λ d h. c.restart.ensures.stands d h })
+    (record { port = c.restart.ensures.port; machine = c.restart.ensures.machine; kind = refl; latest = refl; stands = λ d h. c.restart.ensures.stands d h })

@@ -1,0 +1,11 @@
+use Rattle.std.proofs.Common.{ap, ◌∙◌, Err}
+use Rattle.std.proofs.lemmas.Result.{err_from_is_err_and}
+use Rattle.cbm_image.specs.AnyDisks.{any_seen}
+use Rattle.cbm_odd.proofs.FaultLemmas.{not_away}
+use Rattle.cbm_odd.proofs.away.put_away.Goals as goal
+
+pub returns-in_err-image-clause-fault : goal.returns-in_err-image-clause-fault
+returns-in_err-image-clause-fault c =
+    let p = err_from_is_err_and c.from_residual-in_err-image.result c.from_residual-in_err-image.ensures.1 in
+    rw (p.1 ∙ ap Err p.2) (not_away any_seen c.args.image.now c.open-volume.result c.in_ok-opened.field-0 c.in_ok-odds.odds.items c.as_slice.result.now c.in_err-image.field-0.0
+    c.open-volume.ensures c.in_ok-opened.ensures.ok c.as_slice.ensures.value c.in_ok-odds.ensures.odd c.in_err-image.ensures.fault)

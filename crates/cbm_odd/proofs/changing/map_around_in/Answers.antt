@@ -1,7 +1,0 @@
-use Rattle.std.proofs.Common.{subst, sym}
-use Rattle.std.specs.Prelude.{IfOk}
-use Rattle.cbm_shell.specs.Images.{IsSoundImage}
-use Rattle.cbm_odd.proofs.changing.map_around_in.Goals as goal
-
-pub returns-clause-sound : goal.returns-clause-sound
-returns-clause-sound g c = subst (λ k. IfOk c.sound_image.result (λ v. IsSoundImage k v.items)) (sym c.requires) c.sound_image.ensures.image

@@ -1,0 +1,1 @@
+use Rattle.cbm_shell.proofs.looking.file_blocks.Goals as goal

@@ -1,1 +1,0 @@
-use Rattle.cbm_shell.proofs.looking.file_blocks_in.Goals as goal

@@ -1,0 +1,1 @@
+use Rattle.cbm_shell.proofs.looking.sector.Goals as goal

@@ -1,1 +1,0 @@
-use Rattle.cbm_shell.proofs.looking.sector_in.Goals as goal
