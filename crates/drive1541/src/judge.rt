@@ -12,11 +12,16 @@ use std::process::ExitCode;
 use std::rt::Runtime;
 use std::{fs, io};
 
+mod with_disks;
+
+use with_disks::judge_with;
+
 /// What help ends with.
 const EXAMPLES: &str = "Examples:
   drive1541 judge bus.vcd --drive 8:20 --drive 9:35
   drive1541 judge board.trace --drive 8:10-40
   drive1541 judge c64.trace --drive 8:20:kernal --loosely
+  drive1541 judge c64.trace --drive 8:20:kernal --disk game.d64
   drive1541 judge long.trace --all    every breach, not the first alone
 
 Exit status: 0 a session, 1 the host broke it first, 2 a drive did, 3 the trace can't be read or no
@@ -25,6 +30,10 @@ line changes in it, 64 the command line";
 /// What help says of `--loosely`.
 const LOOSELY: &str =
     "ignore changes of CLOCK and DATA that no drive looks at, as a KERNAL makes them";
+
+/// What help says of `--disk`.
+const DISK: &str =
+    "the image in a drive as it was switched on, one for each --drive in order: what the drives say is judged, too, loosely";
 
 /// What help says of `--all`.
 const ALL: &str =
@@ -65,12 +74,18 @@ fn command<'a>(alloc: Global) -> Result<Command<'a>, Error> {
         .help(
             "a drive of the bus: its number, 8 to 11, its reaction, 1 to 60, or a range as 10-40, and `profile` or `kernal`",
         );
+    let disk = Arg::new(alloc, "disk")
+        .long("disk")
+        .value_name("IMAGE")
+        .action(ArgAction::Append)
+        .help(DISK);
     let command = Command::new(alloc, "drive1541 judge")
         .about("Judge a trace of the bus: is it a session, and who broke it")
         .after_help(EXAMPLES)
         .no_binary_name(true)
         .arg(trace)?
         .arg(drive)?
+        .arg(disk)?
         .arg(switch(alloc, "loosely", LOOSELY))?
         .arg(switch(alloc, "all", ALL))?
         .arg(switch(
@@ -131,6 +146,10 @@ pub fn run(rt: &HostRuntime, words: &[String]) -> ExitCode {
         return ExitCode::from(UNASKED);
     };
     let name = matches.get_str("TRACE").unwrap_or("");
+    let images = matches.get_strs("disk").unwrap_or(&[]);
+    if !images.is_empty() {
+        return ExitCode::from(judge_disks(rt, name, &matches, &seats, images));
+    }
     let asked = Asked {
         parties: seats.parties.as_slice(),
         ranges: seats.ranges.as_slice(),
@@ -139,6 +158,24 @@ pub fn run(rt: &HostRuntime, words: &[String]) -> ExitCode {
         form: form_of(&matches),
     };
     ExitCode::from(judge_named(rt, name, asked))
+}
+
+/// Judges the trace with disks in the drives, if the command line asks for nothing else.
+fn judge_disks(
+    rt: &HostRuntime,
+    name: &str,
+    matches: &ArgMatches<'_>,
+    seats: &Seats,
+    images: &[&str],
+) -> u8 {
+    let is_more = form_of(matches) != Form::Acts || extent_of(matches) != Extent::FirstBreach;
+    if is_more || !seats.ranges.is_empty() || images.len() != seats.parties.len() {
+        let _ = eprintln!(rt;
+            "error: --disk is given once for each --drive, without ranges, --all, --moments and --json"
+        );
+        return UNASKED;
+    }
+    judge_with(rt, name, seats.parties.as_slice(), images)
 }
 
 fn form_of(matches: &ArgMatches<'_>) -> Form {
