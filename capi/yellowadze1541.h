@@ -11,8 +11,8 @@
  * Threads: the library has no state but its handles. Different handles may be used by different threads at once, one handle by one call at a
  * time. A handle may be passed to another thread; the caller must synchronise.
  * Memory comes from malloc, realloc and free, in the calls marked [m] alone. If there is none, the call answers Y1541_NO_MEMORY.
- * Stack: on x86-64 no call was measured to take more than 64 kB. y1541_open takes 14 kB with a D64 and 46 with a G64, y1541_lines and y1541_due up to 46, the
- * calls that change an image 50 to 63. docs/emulators.md has the table, and answers to questions.
+ * Stack: on x86-64 no call was measured to take more than 64 kB. y1541_open takes 14 kB with a D64 and 46 with a G64, y1541_lines and y1541_due up to 45, the
+ * calls that change an image 47 to 59. docs/emulators.md has the table, and answers to questions.
  */
 #ifndef YELLOWADZE1541_H
 #define YELLOWADZE1541_H

@@ -131,13 +131,13 @@ static const struct { const char *name; void (*call)(void); size_t most; } calls
     {"pulls_now", pulls, 1000}, {"image", shows, 2000}, {"save", saves, 10200}, {"restore", restores, 50800}, {"eject", ejects, 5800}, {"insert", inserts, 36000}, {"reset", resets, 5200}, {"close", closes, 1000},
     {"open_raw", opens_raw, 12600}, {"close, raw", closes, 1000}, {"open_direct", opens_direct, 14400}, {"open_direct a G64", opens_direct_g64, 46000}, {"lines, ATN, direct", lines, 1200}, {"due, ATN, direct", due, 1000},
     {"image, direct", shows, 2000}, {"eject, direct", ejects, 9300}, {"insert, direct", inserts, 36000}, {"reset, direct", resets, 5200}, {"close, direct", closes, 1000},
-    {"image_check", checks, 36000}, {"image_list", lists, 57000}, {"image_file", files, 4000}, {"image_put", puts_file, 58000},
-    {"image_put_all", puts_all, 58000}, {"image_command_status", command_status, 51500}, {"image_copy", copies, 64000}, {"image_delete", deletes, 60000},
-    {"image_command V", command_validates, 51000}, {"image_command C", command_copies, 51000}, {"image_command N", command_formats, 51500},
-    {"image_put_away", puts_away, 36000}, {"image_put_back", puts_back, 36700}, {"image_put, art", puts_around, 55500}, {"image_command, art", command_around, 64000},
+    {"image_check", checks, 36000}, {"image_list", lists, 56200}, {"image_file", files, 4000}, {"image_put", puts_file, 56500},
+    {"image_put_all", puts_all, 56500}, {"image_command_status", command_status, 48800}, {"image_copy", copies, 51000}, {"image_delete", deletes, 51000},
+    {"image_command V", command_validates, 48200}, {"image_command C", command_copies, 48200}, {"image_command N", command_formats, 48900},
+    {"image_put_away", puts_away, 37200}, {"image_put_back", puts_back, 37300}, {"image_put, art", puts_around, 59800}, {"image_command, art", command_around, 51200},
     {"image_new", makes, 52000}, {"image_convert", converts, 36000}, {"play", plays, 15200},
     {"LOAD $", host_lists, 46000}, {"LOAD", host_loads, 46000}, {"SAVE", host_saves, 46000}, {"R", host_renames, 46000}, {"C", host_copies, 46000},
-    {"S", host_scratches, 39800}, {"V", host_validates, 39800}, {"N", host_formats, 40500}, {"their close", hosts_end, 1000},
+    {"S", host_scratches, 14500}, {"V", host_validates, 14500}, {"N", host_formats, 37800}, {"their close", hosts_end, 1000},
     {"U1, direct", host_reads_blocks, 13200}, {"SAVE, direct", host_saves, 46700}, {"V, direct", host_validates, 13200}, {"their close, direct", hosts_end, 1000},
 };
 

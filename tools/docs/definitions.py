@@ -100,7 +100,7 @@ PARTS = {
         ("the program's exit status", "drive1541", "exit_status of_run"),
     ],
     "The tool": [
-        ("an image is opened, its directory listed, files taken out", "cbm_shell", "open list directory get file read_file raw_directory"),
+        ("an image is opened, its directory listed, files taken out", "cbm_shell", "open_disk list directory get file read_file raw_directory"),
         ("names as text, and files that are no image", "cbm_shell", "name_text foreign_of unwrapped"),
         ("the sentences of `check`", "cbm_shell", "check_text unsound_text words"),
         ("an image is changed by the drive's commands", "cbm_shell", "change changed changes put_records"),
@@ -112,7 +112,7 @@ PARTS = {
         ("a disk with odd entries: they are put away, a change is made, they are put back", "cbm_odd", "put_away put_back change map_around"),
         ("disks and archives of other kinds", "cbm_sources", "of entries file"),
         ("a BASIC program on the screen", "cbm_basic", "listing is_program after_program programs_are_listed"),
-        ("damaged disks: all flaws, what is salvaged, forgotten and given back", "cbm_shell", "flaws users lost salvage forget undelete"),
+        ("damaged disks: all flaws, what is salvaged, forgotten and given back", "cbm_shell", "flaws_of users_of lost_of salvage forget undelete"),
     ],
     "The C library": [
         ("a drive on lines, with the disk of an image", "cbm_device", "open lines next_due due image insert eject reset status"),
