@@ -1,8 +1,8 @@
 // How much of its own stack the module takes in each call, by a painted one: stack.mjs MODULE STACK IMAGE. The module has STACK bytes of it, at the bottom of
-// its memory. Fails where less than SPARE bytes stay untouched.
+// its memory. Fails if a call takes more than MOST bytes, or less than SPARE stay untouched.
 import fs from "node:fs";
 
-const SPARE = 16384, PAINT = 0xa5, ROOM = 1 << 20;
+const MOST = 64000, SPARE = 16384, PAINT = 0xa5, ROOM = 1 << 20;
 const [file, size, name] = process.argv.slice(2);
 const { instance } = await WebAssembly.instantiate(fs.readFileSync(file));
 const calls = instance.exports, stack = Number(size), room = BigInt(ROOM);
@@ -85,4 +85,4 @@ const used = Object.entries(measured).map(([what, call]) => {
 });
 const most = Math.max(...used.map(([, it]) => it));
 console.log(`stack of the module in bytes: ${used.map(([what, it]) => `${what} ${it}`).join(", ")}; of ${stack} at most ${most}`);
-process.exitCode = Number(stack - most < SPARE);
+process.exitCode = Number(most > MOST || stack - most < SPARE);
