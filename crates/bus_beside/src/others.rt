@@ -31,11 +31,7 @@ impl Others {
         ensures { rest_by result ≡ nobody }
     {
         Others {
-            host: Lines {
-                atn_low: false,
-                clock_low: false,
-                data_low: false,
-            },
+            host: Lines::FREE,
             clocks: 0,
             datas: 0,
         }

@@ -2,7 +2,7 @@
 
 ghost use Rattle.std.specs.Prelude.{◌≤◌, length, OnOk};
 
-use cbm_iec::Party;
+use cbm_iec::{DEVICES, Party, SLOWEST_REACTION};
 use thiserror::Error;
 
 /// Why there is no judge for some drives.
@@ -30,10 +30,10 @@ pub fn check_drives(parties: &[Party]) -> Result<(), NotABus>
         return Err(NotABus::Count);
     }
     for (place, party) in parties.iter().enumerate() {
-        if party.device < 8 || party.device > 11 {
+        if party.device < DEVICES.0 || party.device > DEVICES.1 {
             return Err(NotABus::Device);
         }
-        if party.reaction < 1 || party.reaction > 60 {
+        if party.reaction < 1 || party.reaction > SLOWEST_REACTION {
             return Err(NotABus::Reaction);
         }
         for other in parties.iter().take(place) {

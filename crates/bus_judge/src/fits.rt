@@ -10,12 +10,12 @@ ghost use Rattle.bus_judge.specs.Views.{bit_cell_of, sent_of, told_of, seats_of,
 
 use crate::bound::{Bound, Broken, Limit, Since};
 use crate::breach::Cause;
-use crate::frame::{Cell, EOI_WAIT, LATEST_ACCEPT, LATEST_START, Sent, Told};
+use crate::frame::{Cell, LATEST_ACCEPT, LATEST_START, Sent, Told};
 use crate::parts::silent_end;
 use crate::seat::{Seat, bus_pace, has_listener, has_talker, listeners, spread, talker_of};
 use crate::step::Step;
 use crate::whole::{Place, Point, Whole};
-use cbm_iec::{Pace, Party};
+use cbm_iec::{EOI_WAIT, Pace, Party};
 
 /// Pauses of the host, in microseconds: before a byte, before an attention, and within a bit.
 const PAUSE: u64 = 100;
@@ -31,7 +31,7 @@ const SETTLE_ALL: u64 = 60;
 const KERNAL_TURN: u64 = 15;
 
 /// The pulse of the host that asks for the last byte.
-const HOST_PULSE: u64 = 60;
+pub const HOST_PULSE: u64 = 60;
 
 /// A change comes so much after another, or later.
 fn least(bound: Bound, since: Since, reference: u64, wait: u64, moment: u64) -> Result<(), Cause>

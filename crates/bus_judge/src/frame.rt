@@ -8,7 +8,7 @@ ghost use Rattle.bus_judge.specs.Views.{IsSum, bit_cell_of, seats_of, sent_of, t
 
 use crate::seat::{Seat, after, fastest, longest, slowest};
 use crate::step::{Unmade, later};
-use cbm_iec::Party;
+use cbm_iec::{EOI_WAIT, Party};
 
 /// One bit of a frame of the host: when DATA is set, where it changes, and else the pull before; then CLOCK is freed
 /// and pulled.
@@ -36,9 +36,6 @@ pub struct Told {
     pub signal: Option<(u64, u64)>,
     pub accept: u64,
 }
-
-/// EOI: a listener's pulse begins so long, and its reaction, after DATA was first free on the wire.
-pub const EOI_WAIT: u64 = 200;
 
 /// The host: without EOI its first bit begins at most so long after DATA was first free on the wire.
 pub const LATEST_START: u64 = 199;

@@ -1,15 +1,19 @@
 //! The pieces that an event may belong to. What didn't come yet is put off as far as it may be: a guess is checked
 //! before it is taken, so a wrong one loses a session, and never makes one.
 
+use crate::fits::HOST_PULSE;
 use crate::frame::{Cell, LATEST_ACCEPT, LATEST_START, Sent, Told};
 use crate::seat::{after, has_listener, has_talker, talker_of};
 use crate::whole::{Place, Point, Whole};
 use Line::*;
 use Way::*;
-use cbm_iec::{Change, Event, Line, Party, Way, Who};
+use cbm_iec::{Change, EOI_WAIT, Event, Line, Party, Way, Who};
 
 /// Moments from here on did not come: 2^55 microseconds.
 pub const FAR: u64 = 1 << 55;
+
+/// The host has asked for the last byte this long after it freed DATA, at the earliest.
+const EOI_END: u64 = EOI_WAIT + HOST_PULSE;
 
 /// How many changes of the piece under way have come: of CLOCK and DATA by the host, of CLOCK by the talker.
 #[derive(Clone, Copy, Debug, Default, PartialEq, Eq, Drop)]
@@ -79,7 +83,7 @@ fn untold(talker: Party) -> Told {
     Told {
         bits: [true; 8],
         free: FAR,
-        signal: Some((after(FAR, 200), after(FAR, 260))),
+        signal: Some((after(FAR, EOI_WAIT), after(FAR, EOI_END))),
         accept: 0,
     }
     .put_off(talker)
@@ -132,7 +136,7 @@ fn flip(frame: &mut Sent, place: usize, moment: u64) -> Option<()> {
 /// The frame with a change of the host.
 fn taken_with(talker: Party, counts: Counts, frame: &Told, change: Change) -> Option<Told> {
     let moment = change.moment;
-    let far = after(FAR, 260);
+    let far = after(FAR, EOI_END);
     let told = match (change.way, counts.host_datas, frame.signal) {
         (Free, 0, _) => Told {
             free: moment,

@@ -8,16 +8,13 @@ ghost use Rattle.cbm_session.specs.Seats.{at_pace};
 ghost use Rattle.cbm_session.specs.Steps as steps;
 ghost use Rattle.bus_judge.specs.Views.{IsSum, bit_cell_of, sent_of, told_of, seat_of, seats_of, point_of, whole_of, step_of, steps_shown};
 
-use crate::frame::{Cell, EOI_WAIT, Sent, Told, held_after};
+use crate::frame::{Cell, Sent, Told, held_after};
 use crate::seat::{Seat, after, listeners, talker_of};
 use crate::step::{Step, Steps, Unmade, join, later, put, put_all};
 use crate::whole::{Point, Whole};
 use Line::*;
 use Way::*;
-use cbm_iec::{Act, Line, Pace, Party, Role, Way};
-
-/// How long a talker that has nothing to say holds CLOCK, at a KERNAL's pace.
-const MUTE: u64 = 80;
+use cbm_iec::{Act, EOI_WAIT, Line, MUTE, Pace, Party, Role, Way};
 
 /// A sum of moments that isn't the greatest number is what it is meant to be.
 pub fn exact(sum: u64) -> Result<u64, Unmade>

@@ -11,12 +11,7 @@ use crate::parts::{exact, host_steps, own_steps, silent_end};
 use crate::seat::{Seat, Seats, held_after, lines, listeners, talker_of};
 use crate::step::{Step, Unmade, later};
 use crate::whole::{Place, Point, Whole};
-use cbm_iec::{Held, Party, Role};
-
-/// How long a talker holds CLOCK after the turnaround, and after an accept, before it offers a byte.
-const LEAD: u64 = 80;
-
-const NEXT_BYTE: u64 = 100;
+use cbm_iec::{Held, LEAD, NEXT_BYTE, Party, Role};
 
 /// The lines that a party holds after those of these steps that come before a moment.
 fn held_before(held: Held, steps: &[Step], at: u64) -> Held

@@ -1,20 +1,7 @@
 //! Which lines each party pulls, and the drives' roles.
 
 use arrayvec::ArrayVec;
-use cbm_iec::{Change, Held, Line, Lines, Pace, Party, Role};
-
-/// No line is pulled.
-pub const FREE: Lines = Lines {
-    atn_low: false,
-    clock_low: false,
-    data_low: false,
-};
-
-/// What a drive pulls as it is switched on.
-const NOTHING: Held = Held {
-    clock_low: false,
-    data_low: false,
-};
+use cbm_iec::{Change, Held, Line, Pace, Party, Role};
 
 /// A drive: its role by the bytes in attention so far, and the lines that it pulls.
 #[derive(Clone, Copy, Debug, PartialEq, Eq, Drop)]
@@ -31,7 +18,7 @@ impl Default for Seat {
             device: 0,
             pace: Pace::Profile,
             role: Role::Absent,
-            held: NOTHING,
+            held: Held::FREE,
         }
     }
 }
@@ -51,7 +38,7 @@ impl Cable {
                 device: party.device,
                 pace: party.pace,
                 role: Role::Absent,
-                held: NOTHING,
+                held: Held::FREE,
             };
             seats.try_push(seat).ok();
         }

@@ -5,7 +5,7 @@ ghost use Rattle.cbm_iec.specs.declared.lines.Lines.{Lines as TheseLines};
 ghost use Rattle.cbm_iec.specs.Changes.{lines_changed};
 ghost use Rattle.bus_tidy.specs.Tidied.{after_all};
 
-use crate::cable::{Cable, FREE};
+use crate::cable::Cable;
 use crate::phase::Phase;
 use arrayvec::ArrayVec;
 use cbm_iec::{Change, Line, Lines, Party, Role, Way};
@@ -31,8 +31,8 @@ impl Tidy {
         Tidy {
             cable: Cable::new(parties),
             phase: Phase::Rest,
-            host: FREE,
-            tidy: FREE,
+            host: Lines::FREE,
+            tidy: Lines::FREE,
             data_since: 0,
         }
     }

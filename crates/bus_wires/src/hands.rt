@@ -6,13 +6,6 @@ ghost use Rattle.bus_wires.specs.Cable.{low, holds, with_held, any_pulls, wire_l
 use arrayvec::ArrayVec;
 use cbm_iec::{Change, Event, Held, Line, Lines, Party, Who};
 
-/// No line is pulled.
-pub const FREE: Lines = Lines {
-    atn_low: false,
-    clock_low: false,
-    data_low: false,
-};
-
 /// A drive, and the lines that it pulls.
 #[derive(Clone, Copy, Debug, PartialEq, Eq, Drop)]
 pub struct Seat {
@@ -65,10 +58,7 @@ impl Seat {
     {
         Seat {
             device,
-            held: Held {
-                clock_low: false,
-                data_low: false,
-            },
+            held: Held::FREE,
         }
     }
 
@@ -136,7 +126,7 @@ impl Hands {
         ensures { parties_of result ≡ parties_at_rest parties.now }
     {
         Hands {
-            host: FREE,
+            host: Lines::FREE,
             seats: all_free(parties),
         }
     }
@@ -155,13 +145,7 @@ impl Hands {
 
     /// What a drive holds, by its place.
     pub fn held(&self, place: usize) -> Held {
-        self.seats.get(place).map_or(
-            Held {
-                clock_low: false,
-                data_low: false,
-            },
-            |seat| seat.held,
-        )
+        self.seats.get(place).map_or(Held::FREE, |seat| seat.held)
     }
 
     /// Which lines all parties but a drive pull.

@@ -1,6 +1,5 @@
 //! The wires as they were read, moment by moment.
 
-use crate::hands::FREE;
 use arrayvec::ArrayVec;
 use cbm_iec::Lines;
 
@@ -21,7 +20,7 @@ impl Default for Look {
     fn default() -> Look {
         Look {
             moment: 0,
-            wires: FREE,
+            wires: Lines::FREE,
         }
     }
 }

@@ -6,7 +6,7 @@ ghost use Rattle.bus_wires.specs.Cable.{parties_of, parties_after, wire_low, low
 ghost use Rattle.bus_wires.specs.Looks.{WiresStand, HaveWires, AreWiresSettled, IsLookWhole, IsSameLook, NoneBefore, IsUnread, and_read, and_given, last_look, last_known, look_at, present, OfWires};
 
 use crate::drive::{LIMIT, Now};
-use crate::hands::{FREE, Hands, low};
+use crate::hands::{Hands, low};
 use crate::looks::{Look, Looks, says_a_byte};
 use crate::playing::{Move, Playing};
 use cbm_iec::{Change, Event, Line, Lines, Party, Way, Who};
@@ -63,7 +63,7 @@ impl Wires {
             hands: Hands::free(parties),
             playing: Playing::new(parties),
             moment: 0,
-            wires: FREE,
+            wires: Lines::FREE,
             says: false,
             ahead: Looks::new(),
             end: None,

@@ -20,18 +20,13 @@ use crate::image_disk::ImageDisk;
 use crate::refusal::DeviceRefusal;
 use crate::room::given;
 use cbm_drive::{Channels, Desk, Drive, Held, Lines, Party};
+use cbm_iec::{DEVICES, SLOWEST_REACTION};
 use cbm_image::{Kind, kind_of};
 use std::alloc::Global;
 use std::marker::Model;
 
 /// Moments come before this one, in microseconds.
 const LAST: u64 = 1 << 60;
-
-/// The device numbers of a drive, first and last.
-const DEVICES: (u8, u8) = (8, 11);
-
-/// The longest reaction, in microseconds.
-const SLOWEST: u8 = 60;
 
 /// What a reaction did.
 #[derive(Clone, Copy, Debug, PartialEq, Eq)]
@@ -43,13 +38,6 @@ pub struct DeviceReaction {
     /// Those that it holds since.
     pub now: Held,
 }
-
-/// The lines where nobody pulls one.
-const FREE: Lines = Lines {
-    atn_low: false,
-    clock_low: false,
-    data_low: false,
-};
 
 /// A drive on lines with the disk of an image. It keeps the format of that image, what all others hold, and when anything last
 /// happened.
@@ -100,7 +88,7 @@ impl Device {
         if party.device < DEVICES.0
             || party.device > DEVICES.1
             || party.reaction < 1
-            || party.reaction > SLOWEST
+            || party.reaction > SLOWEST_REACTION
         {
             return Err(DeviceRefusal::Invalid);
         }
@@ -109,7 +97,7 @@ impl Device {
         Ok(Device {
             drive: powered(disk, channels, party),
             kind: Some(kind_of(image)),
-            others: FREE,
+            others: Lines::FREE,
             latest: 0,
         })
     }
@@ -239,7 +227,7 @@ impl Device {
         ensures { IsRestarted self.old self.new }
     {
         self.drive.restart();
-        self.others = FREE;
+        self.others = Lines::FREE;
     }
 
     /// The disk that is in the drive.

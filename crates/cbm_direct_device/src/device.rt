@@ -16,25 +16,13 @@ use cbm_device::{DeviceReaction, DeviceRefusal, ImageDisk, given};
 use cbm_direct::Access;
 use cbm_direct_desk::DirectDesk;
 use cbm_drive::{Channels, Drive, Held, Lines, Party};
+use cbm_iec::{DEVICES, SLOWEST_REACTION};
 use cbm_image::{Kind, kind_of};
 use std::alloc::Global;
 use std::marker::Model;
 
 /// Moments come before this one, in microseconds.
 const LAST: u64 = 1 << 60;
-
-/// The device numbers of a drive, first and last.
-const DEVICES: (u8, u8) = (8, 11);
-
-/// The longest reaction, in microseconds.
-const SLOWEST: u8 = 60;
-
-/// The lines where nobody pulls one.
-const FREE: Lines = Lines {
-    atn_low: false,
-    clock_low: false,
-    data_low: false,
-};
 
 /// A drive with direct access on lines, with the disk of an image. It keeps the format of that image, what all others hold, and
 /// when anything last happened.
@@ -91,7 +79,7 @@ impl DirectDevice {
         if party.device < DEVICES.0
             || party.device > DEVICES.1
             || party.reaction < 1
-            || party.reaction > SLOWEST
+            || party.reaction > SLOWEST_REACTION
         {
             return Err(DeviceRefusal::Invalid);
         }
@@ -100,7 +88,7 @@ impl DirectDevice {
         Ok(DirectDevice {
             drive: powered(disk, channels, party, access),
             kind: Some(kind_of(image)),
-            others: FREE,
+            others: Lines::FREE,
             latest: 0,
         })
     }
@@ -220,7 +208,7 @@ impl DirectDevice {
         ensures { IsRestartedDirect self.old self.new }
     {
         self.drive.switch_on_again();
-        self.others = FREE;
+        self.others = Lines::FREE;
     }
 
     /// The disk that is in the drive: sound, if it was put in so and not any sector may be written.

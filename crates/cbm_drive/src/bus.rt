@@ -50,11 +50,7 @@ impl<D: Machine, const N: usize> Bus<D, N> {
     {
         Bus {
             drives,
-            host: Lines {
-                atn_low: false,
-                clock_low: false,
-                data_low: false,
-            },
+            host: Lines::FREE,
         }
     }
 

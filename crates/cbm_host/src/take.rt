@@ -5,7 +5,7 @@ ghost use Rattle.cbm_drive.specs.Halves.{half_lines};
 ghost use Rattle.cbm_host.specs.Taking.{nothing_came, came_bit, take_change, take_made, take_seen, take_heard};
 ghost use Rattle.cbm_host.specs.declared.take.Take.TheVariants.{Gathering};
 
-use crate::waits::{ANSWER, EOI_PULSE, EOI_WAIT};
+use crate::waits::{ANSWER, LAST_PULSE, LAST_WAIT};
 use cbm_drive::Half;
 use cbm_iec::{Change, Line, Way};
 
@@ -106,8 +106,8 @@ impl Take {
         ensures { result ≡ take_made moment self }
     {
         match self {
-            Take::Freeing(_) => Take::Listening(moment + EOI_WAIT),
-            Take::Marking(_) => Take::Unmarking(moment + EOI_PULSE),
+            Take::Freeing(_) => Take::Listening(moment + LAST_WAIT),
+            Take::Marking(_) => Take::Unmarking(moment + LAST_PULSE),
             Take::Unmarking(_) => Take::Gathering(Came::nothing(true)),
             other => other,
         }

@@ -14,10 +14,10 @@ pub(crate) const PHASE: u64 = 20;
 pub(crate) const TURN: u64 = 60;
 
 /// A talker that hasn't begun its byte this long after DATA's release has EOI to say: this is its last one.
-pub(crate) const EOI_WAIT: u64 = 200;
+pub(crate) const LAST_WAIT: u64 = 200;
 
 /// How long DATA is pulled for the answer to EOI.
-pub(crate) const EOI_PULSE: u64 = 60;
+pub(crate) const LAST_PULSE: u64 = 60;
 
 /// A talker that hasn't pulled CLOCK this long after its release has nothing to say; one at a KERNAL's pace pulls it, and lets go
 /// of both lines.

@@ -1,11 +1,18 @@
-//! The times of the bus that a drive keeps to, in microseconds.
+//! What a drive keeps to on the bus: its times, in microseconds, and its device number.
+
+/// The device numbers of a drive, first and last.
+pub const DEVICES: (u8, u8) = (8, 11);
+
+/// A drive reacts in 1 to this many.
+pub const SLOWEST_REACTION: u8 = 60;
 
 /// EOI: a listener's pulse begins this long, and its reaction, after DATA was first free on the wire.
 pub const EOI_WAIT: u64 = 200;
 
-/// EOI: how long a listener's pulse pulls DATA; and at a KERNAL's pace.
+/// EOI: how long a listener's pulse pulls DATA.
 pub const EOI_PULSE: u8 = 60;
 
+/// The same at a KERNAL's pace.
 pub const KERNAL_EOI_PULSE: u8 = 80;
 
 /// How long a talker holds CLOCK after the turnaround, before it offers its first byte.
@@ -14,9 +21,10 @@ pub const LEAD: u64 = 80;
 /// How long a talker holds CLOCK after the accept of a byte, before it offers the next one.
 pub const NEXT_BYTE: u64 = 100;
 
-/// How long each half of a talker's bit lasts: CLOCK pulled, then CLOCK free; and at a KERNAL's pace.
+/// How long each half of a talker's bit lasts: CLOCK pulled, then CLOCK free.
 pub const HALF_BIT: u8 = 60;
 
+/// The same at a KERNAL's pace.
 pub const KERNAL_HALF_BIT: u8 = 80;
 
 /// How long a talker that has nothing to say holds CLOCK, at a KERNAL's pace, before it lets go of both lines.

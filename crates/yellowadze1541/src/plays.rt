@@ -10,6 +10,7 @@ use crate::drives::pace_with;
 use crate::shapes::Signal;
 use cbm_device::{DeviceRefusal, ImageDisk, number, play};
 use cbm_drive::{Change, Channels, Event, Line, Party, Way, Who};
+use cbm_iec::{DEVICES, SLOWEST_REACTION};
 use cbm_image::{Kind, kind_of};
 use std::alloc::Global;
 
@@ -214,7 +215,13 @@ pub extern "C" fn y1541_play(
     ensures { PlaysAll result image.now (party_from device reaction pace) pace changes.now end
         (rooms out.old count.old after.old needed.old) (rooms out.new count.new after.new needed.new) }
 {
-    if device < 8 || device > 11 || reaction < 1 || reaction > 60 || pace > 1 || end >= LAST_END {
+    if device < DEVICES.0
+        || device > DEVICES.1
+        || reaction < 1
+        || reaction > SLOWEST_REACTION
+        || pace > 1
+        || end >= LAST_END
+    {
         return DeviceRefusal::Invalid.number();
     }
     let pace = pace_with(pace);

@@ -5,10 +5,7 @@ ghost use Rattle.bus_judge.specs.Varied as spec;
 
 use crate::drives::NotABus;
 use arrayvec::ArrayVec;
-use cbm_iec::Party;
-
-/// The greatest reaction that a drive may have, in microseconds.
-const SLOWEST: u8 = 60;
+use cbm_iec::{Party, SLOWEST_REACTION};
 
 /// How much longer than its least time a drive may take to react.
 #[derive(Clone, Copy, Debug, Default, PartialEq, Eq, Drop)]
@@ -47,7 +44,7 @@ pub fn widest(ranges: &[Range]) -> u64
 pub fn check_ranges(parties: &[Party], ranges: &[Range]) -> Result<(), NotABus> {
     for party in parties {
         let most = range_at(party.device, ranges).saturating_add(party.reaction as u64);
-        if most > SLOWEST as u64 {
+        if most > SLOWEST_REACTION as u64 {
             return Err(NotABus::Reaction);
         }
     }
