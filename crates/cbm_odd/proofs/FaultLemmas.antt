@@ -1,5 +1,5 @@
 -- Why odd entries aren't put away or back.
-use Rattle.std.proofs.Common.{◌≡◌, ℕ, List, [], ◌∷◌, Bool, sym, subst, ap, inl, inr}
+use Rattle.std.proofs.Common.{◌≡◌, ℕ, List, [], ◌∷◌, Bool, sym, subst, inl, inr}
 use Rattle.std.specs.Prelude.{Result, Ok, Err, IfErr}
 use Rattle.cbm_medium.specs.Place.{Place, directory_head}
 use Rattle.cbm_medium.specs.Content.{Cell, Content}
@@ -72,15 +72,13 @@ not_away_by image odds fault.NotFound are h = h
 not_away_by image odds fault.NotClosed are h = h
 not_away_by image odds fault.Mistaken are h = h
 
-pub not_away : {M : Type 0} (see : M → Seen) (image : List ℕ) (volume opened : M) (odds given : List Odd) (f : ShellFault) → volume ≡ opened → IsImageOpened image (see opened) → given ≡ odds
-    → AreOddOf (geometry_of (see volume).tracks (see volume).content) (see volume).content odds → IsNotLeft (see volume).tracks (see volume).content given f → IsNotAwayIn image f
-not_away see image volume opened odds given f same is e are h =
-    let seen = see opened in
-    let are2 = subst (λ v. AreOddOf (geometry_of (see v).tracks (see v).content) (see v).content odds) same are in
-    let h2 = subst (λ v. IsNotLeft (see v).tracks (see v).content odds f) same (subst (λ o. IsNotLeft (see volume).tracks (see volume).content o f) e h) in
+pub not_away : (image : List ℕ) (seen : Seen) (odds given : List Odd) (f : ShellFault) → IsImageOpened image seen → given ≡ odds
+    → AreOddOf (geometry_of seen.tracks seen.content) seen.content odds → IsNotLeft seen.tracks seen.content given f → IsNotAwayIn image f
+not_away image seen odds given f is e are h =
+    let left = subst (λ o. IsNotLeft seen.tracks seen.content o f) e h in
     not_away_by image odds f
-    (subst (λ c. AreOddOf (geometry_of (tracks_of (kind_of image) image) c) c odds) is.same_content (subst (λ n. AreOddOf (geometry_of n seen.content) seen.content odds) is.same_tracks are2))
-    (subst (λ c. IsNotLeft (tracks_of (kind_of image) image) c odds f) is.same_content (subst (λ n. IsNotLeft n seen.content odds f) is.same_tracks h2))
+    (subst (λ c. AreOddOf (geometry_of (tracks_of (kind_of image) image) c) c odds) is.same_content (subst (λ n. AreOddOf (geometry_of n seen.content) seen.content odds) is.same_tracks are))
+    (subst (λ c. IsNotLeft (tracks_of (kind_of image) image) c odds f) is.same_content (subst (λ n. IsNotLeft n seen.content odds f) is.same_tracks left))
 
 -- memory runs out on the way back
 memory_back : (tracks : ℕ) (odds : List Odd) (now : Content) → IsNotBackFrom tracks odds now fault.Memory

@@ -13,8 +13,8 @@ use crate::odd::{Odd, odds_of};
 use cbm_directory::put_slot;
 use cbm_image::{AnyDisk, Kind, kind_of};
 use cbm_medium::{Address, Geometry, Medium, Steady};
-use cbm_shell::ShellFault;
-use cbm_shell::parts::{entries_or_none, entry_of, opened, require_sound, saved, used_sectors};
+use cbm_shell::parts::{entries_or_none, entry_of, require_sound, saved, used_sectors};
+use cbm_shell::{ShellFault, open_disk};
 use cbm_volume::{Entry, Volume};
 use std::alloc::Global;
 
@@ -139,14 +139,13 @@ fn image_without(
 /// Puts the odd entries of an image away: in each one's slot a locked DEL of its name stands, without a block, and nothing else is
 /// changed. Errors: `Image`; `Unsound`, with what is wrong first, if more is wrong than entries; with a sector that an odd entry
 /// leads to, if that is free or another file's; `Trouble`; `Memory`.
-// (In its caller's frame it would take stack for the calls beside it.)
 #[inline(never)]
 pub fn put_away(alloc: Global, image: &[u8]) -> Result<Away, ShellFault>
     // What is left is sound; each sector that the odd entries lead to is taken, and no file's.
     ensures away { IfOk result (IsAwayIn image.now) }
     ensures fault { IfErr result (IsNotAwayIn image.now) }
 {
-    let volume = Volume::open(opened(alloc, image)?);
+    let volume = open_disk(alloc, image)?;
     let odds = odds_of(alloc, &volume)?;
     let image = image_without(alloc, volume, kind_of(image), odds.as_slice())?;
     Ok(Away { image, odds })

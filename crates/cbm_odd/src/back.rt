@@ -14,8 +14,8 @@ use cbm_channel::{Code, Status};
 use cbm_directory::slot;
 use cbm_image::{AnyDisk, Kind, kind_of};
 use cbm_medium::{Geometry, Medium, Steady};
-use cbm_shell::ShellFault;
-use cbm_shell::parts::{opened, saved};
+use cbm_shell::parts::saved;
+use cbm_shell::{ShellFault, open_disk};
 use cbm_volume::{Entry, Volume};
 use std::alloc::Global;
 
@@ -146,8 +146,8 @@ fn put_back_in(
     ensures back { IfOk result (λ v. IsBackIn (kind_of image.now) image.now odds.now changed.now v.items) }
     ensures fault { IfErr result (IsNotBackIn image.now odds.now changed.now) }
 {
-    let old = Volume::open(opened(alloc, image)?);
-    let new = Volume::open(opened(alloc, changed)?);
+    let old = open_disk(alloc, image)?;
+    let new = open_disk(alloc, changed)?;
     require_left_alone(alloc, &old, &new, odds)?;
     image_with(alloc, new, kind, odds)
 }
@@ -155,7 +155,6 @@ fn put_back_in(
 /// Puts the odd entries of an image back into the image that was made of it without them. Errors: `Image`; `Refused`, with WRITE PROTECT ON, if the
 /// change touched one of them; `Unsound`, if what is left isn't sound, or the change touched a sector that one leads to; `Mistaken`, if
 /// the two images aren't of one format; `Trouble`; `Memory`.
-// (In its caller's frame it would take stack for the calls beside it.)
 #[inline(never)]
 pub fn put_back(
     alloc: Global,

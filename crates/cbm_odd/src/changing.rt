@@ -18,14 +18,13 @@ use crate::odd::Odd;
 use cbm_bam::SectorSet;
 use cbm_image::kind_of;
 use cbm_medium::{Geometry, Medium, Steady};
-use cbm_shell::parts::{entries_or_none, held_around, opened, remapped, sound_image};
-use cbm_shell::{DiskChange, ShellFault};
+use cbm_shell::parts::{entries_or_none, held_around, remapped, sound_image};
+use cbm_shell::{DiskChange, ShellFault, open_disk};
 use cbm_volume::{Entry, Volume};
 use std::alloc::Global;
 
 /// Makes a change on the disk of an image, around its odd entries. Errors: those of `put_away`; `Refused`, with the drive's status;
 /// those of `put_back`.
-// (In its caller's frame it would take stack for the calls beside it.)
 #[inline(never)]
 pub fn change(alloc: Global, image: &[u8], change: &DiskChange<'_>) -> Result<Vec<u8>, ShellFault>
     // The machine makes the change on what is left without the odd entries. Each of them stays, and so does each sector that it leads to.
@@ -78,7 +77,7 @@ pub fn map_around(alloc: Global, image: &[u8], odds: &[Odd]) -> Result<Vec<u8>, 
     ensures sound { IfOk result (λ v. IsSoundImage (kind_of image.now) v.items) }
     ensures opens { IfOk result (λ v. image_fault (kind_of image.now) v.items ≡ None) }
 {
-    let volume = Volume::open(opened(alloc, image)?);
+    let volume = open_disk(alloc, image)?;
     let disk = mapped_around(alloc, volume, odds)?;
     sound_image(alloc, disk, kind_of(image))
 }

@@ -12,8 +12,8 @@ use crate::moving::movable;
 use cbm_directory::put_slot;
 use cbm_image::kind_of;
 use cbm_medium::{Address, Steady};
-use cbm_shell::ShellFault;
-use cbm_shell::parts::{opened, require_sound, saved};
+use cbm_shell::parts::{require_sound, saved};
+use cbm_shell::{ShellFault, open_disk};
 use cbm_volume::{Entry, Volume};
 use std::alloc::Global;
 
@@ -82,7 +82,7 @@ pub fn carve(
     ensures opens { IfOk result (λ v. image_fault (kind_of image.now) v.items ≡ None) }
     ensures fault { IfErr result (IsUncarvedIn image.now slot entry.now blocks.now) }
 {
-    let volume = Volume::open(opened(alloc, image)?);
+    let volume = open_disk(alloc, image)?;
     require_sound(&volume)?;
     let new = Volume::open(carved(alloc, volume, slot, entry, blocks)?);
     require_sound(&new)?;

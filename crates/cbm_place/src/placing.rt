@@ -7,8 +7,8 @@ ghost use Rattle.cbm_place.specs.Placed.{IsPlacedIn, IsUnplacedIn};
 use crate::moving::moved;
 use cbm_image::kind_of;
 use cbm_medium::Address;
-use cbm_shell::ShellFault;
-use cbm_shell::parts::{opened, require_sound, saved};
+use cbm_shell::parts::{require_sound, saved};
+use cbm_shell::{ShellFault, open_disk};
 use cbm_volume::Volume;
 use std::alloc::Global;
 
@@ -29,7 +29,7 @@ pub fn place(
     ensures opens { IfOk result (λ v. image_fault (kind_of image.now) v.items ≡ None) }
     ensures fault { IfErr result (IsUnplacedIn image.now slot places.now) }
 {
-    let volume = Volume::open(opened(alloc, image)?);
+    let volume = open_disk(alloc, image)?;
     require_sound(&volume)?;
     let new = Volume::open(moved(alloc, volume, slot, places)?);
     require_sound(&new)?;

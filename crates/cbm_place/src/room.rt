@@ -10,8 +10,7 @@ use crate::chain::{chain_of, set_of};
 use crate::moving::movable;
 use cbm_bam::SectorSet;
 use cbm_medium::{Address, Medium};
-use cbm_shell::ShellFault;
-use cbm_shell::parts::opened;
+use cbm_shell::{ShellFault, open_disk};
 use cbm_volume::Volume;
 use std::alloc::Global;
 
@@ -52,6 +51,6 @@ pub fn room_of(alloc: Global, image: &[u8], slot: u8) -> Result<Room, ShellFault
     ensures room { IfOk result (IsRoomOfImage image.now slot) }
     ensures fault { IfErr result (IsNoRoomIn image.now slot) }
 {
-    let volume = Volume::open(opened(alloc, image)?);
+    let volume = open_disk(alloc, image)?;
     room_on(alloc, &volume, slot)
 }

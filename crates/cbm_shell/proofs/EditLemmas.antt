@@ -88,12 +88,10 @@ edit_unsound image seen absent f opened h = edit_fault image seen (λ n c. absen
     more fault.Mistaken k = absurd k
 
 -- a fault of the change itself, on the sound disk of an image
-pub edit_volume : {M : Type 0} (seen : M → Seen) (image : List ℕ) (volume opened : M) (absent : ℕ → Content → Type 0) (f : ShellFault) → IsImageOpened image (seen opened) → volume ≡ opened → IsSoundDisk (seen volume).tracks (seen volume).content
-    → (CanBeEdited (geometry_of (seen volume).tracks (seen volume).content) (seen volume) → IsUnedited (seen volume).tracks (seen volume).content (absent (seen volume).tracks (seen volume).content) f)
+pub edit_sound : (image : List ℕ) (seen : Seen) (absent : ℕ → Content → Type 0) (f : ShellFault) → IsImageOpened image seen → IsSoundDisk seen.tracks seen.content
+    → (CanBeEdited (geometry_of seen.tracks seen.content) seen → IsUnedited seen.tracks seen.content (absent seen.tracks seen.content) f)
     → IsUneditedIn image (absent (tracks_of (kind_of image) image) (content_of (kind_of image) image)) f
-edit_volume seen image volume opened absent f is same sound h =
-    edit_fault image (seen opened) absent f is (subst (λ m. IsUnedited (seen m).tracks (seen m).content (absent (seen m).tracks (seen m).content) f) same
-    (h (record { layout = sound.0; sound = sound.1; free = ap (λ m. (seen m).protected) same ∙ is.free })))
+edit_sound image seen absent f is sound h = edit_fault image seen absent f is (h (record { layout = sound.0; sound = sound.1; free = is.free }))
 
 -- there is no memory for the new image
 pub edit_saved : {A : Type 0} (image : List ℕ) (absent : Type 0) (r : Result A ShellFault) → IfErr r (λ f. f ≡ fault.Memory) → IfErr r (IsUneditedIn image absent)

@@ -23,11 +23,11 @@ use crate::changing::{DiskChange, changed};
 use crate::fault::ShellFault;
 use crate::looking::listing::{list, raw_list};
 use crate::looking::reading::get;
-use crate::looking::{Freed, freed_by};
+use crate::looking::{Freed, freed_by, open_disk};
 use crate::texts::petscii::Charset;
 use cbm_channel::{Channels, Dos};
 use cbm_image::{AnyDisk, ImageFault, Kind, kind_of};
-use cbm_volume::{Unsound, Volume};
+use cbm_volume::Unsound;
 pub use converting::{Converted, Losses, convert};
 pub use formats::{Foreign, foreign_of};
 pub use making::{Form, new_image};
@@ -78,7 +78,7 @@ pub fn file(alloc: Global, image: &[u8], pattern: &[u8]) -> Result<Vec<u8>, Shel
     ensures shown { (bytes : List ℕ) → ShowsFileIn image.now pattern.now bytes →
         MatchResult result (λ v. v.items ≡ bytes) (IsOpenFault image.now) }
 {
-    let volume = Volume::open(opened(alloc, image)?);
+    let volume = open_disk(alloc, image)?;
     get(alloc, &volume, pattern)
 }
 
@@ -127,7 +127,7 @@ pub fn check(alloc: Global, image: &[u8]) -> Result<Result<(), Unsound>, ShellFa
         IfOk result (IsChecked (tracks_of kind image.now) (content_of kind image.now)) }
     ensures err { IfErr result (IsOpenFault image.now) }
 {
-    let volume = Volume::open(opened(alloc, image)?);
+    let volume = open_disk(alloc, image)?;
     Ok(volume.check())
 }
 
@@ -148,7 +148,7 @@ fn validated(alloc: Global, image: &[u8]) -> Result<AnyDisk, ShellFault>
         IsPutInOrder (geometry_of (tracks_of kind image.now) content) content (any_seen disk).content) }
     ensures cause { IfErr result (IsNotMended image.now) }
 {
-    let mut volume = Volume::open(opened(alloc, image)?);
+    let mut volume = open_disk(alloc, image)?;
     volume.validate()?;
     Ok(volume.into_medium())
 }

@@ -11,8 +11,8 @@ use cbm_channel::Code;
 use cbm_directory::put_slot;
 use cbm_image::{AnyDisk, Kind, kind_of};
 use cbm_medium::{Medium, Steady};
-use cbm_shell::ShellFault;
-use cbm_shell::parts::{entry_of, opened, require_sound, saved};
+use cbm_shell::parts::{entry_of, require_sound, saved};
+use cbm_shell::{ShellFault, open_disk};
 use cbm_volume::{Entry, FileType, Volume};
 use std::alloc::Global;
 
@@ -97,7 +97,7 @@ pub fn retype(alloc: Global, image: &[u8], slot: u8, kind: FileType) -> Result<V
     ensures opens { IfOk result (λ v. image_fault (kind_of image.now) v.items ≡ None) }
     ensures fault { IfErr result (IsNotRetypedInSlot image.now slot kind) }
 {
-    let volume = Volume::open(opened(alloc, image)?);
+    let volume = open_disk(alloc, image)?;
     require_sound(&volume)?;
     retyped_image(alloc, volume, kind_of(image), slot, kind)
 }

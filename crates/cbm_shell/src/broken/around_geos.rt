@@ -10,8 +10,7 @@ ghost use Rattle.cbm_shell.specs.Images.{IsSoundImage};
 
 use super::undeleting::{remapped, sound_image};
 use crate::fault::ShellFault;
-use crate::images::opened;
-use crate::looking::{entries_or_none, use_all_geos, use_border, used_sectors};
+use crate::looking::{entries_or_none, open_disk, use_all_geos, use_border, used_sectors};
 use cbm_bam::SectorSet;
 use cbm_image::kind_of;
 use cbm_medium::{Geometry, Medium, Steady};
@@ -51,7 +50,7 @@ pub fn map_around_geos(alloc: Global, image: &[u8]) -> Result<Vec<u8>, ShellFaul
     ensures opens { IfOk result (λ v. image_fault (kind_of image.now) v.items ≡ None) }
     ensures fault { IfErr result (IsNotMappedAround image.now) }
 {
-    let volume = Volume::open(opened(alloc, image)?);
+    let volume = open_disk(alloc, image)?;
     let disk = mapped_around(alloc, volume)?;
     sound_image(alloc, disk, kind_of(image))
 }

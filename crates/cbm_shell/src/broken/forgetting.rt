@@ -8,7 +8,8 @@ ghost use Rattle.cbm_shell.specs.Images.{IsSoundImage};
 ghost use Rattle.cbm_shell.specs.Forgetting.{IsForgotten, IsNotForgotten, IsUncleared};
 
 use crate::fault::ShellFault;
-use crate::images::{opened, saved};
+use crate::images::saved;
+use crate::looking::open_disk;
 use cbm_directory::clear_slot;
 use cbm_image::{AnyDisk, Kind, kind_of};
 use cbm_medium::Steady;
@@ -63,8 +64,7 @@ pub fn forget(alloc: Global, image: &[u8], slot: u8) -> Result<Option<Vec<u8>>, 
     // An entry that can't be reached or written refuses it, and nothing else but the image's own fault and want of memory.
     ensures cause { IfErr result (IsNotForgotten image.now slot) }
 {
-    let disk = opened(alloc, image)?;
-    let volume = Volume::open(disk);
+    let volume = open_disk(alloc, image)?;
     match volume.check() {
         Ok(()) => Ok(None),
         Err(_) => {

@@ -14,9 +14,9 @@ use crate::broken::flaws::lost_of;
 use crate::changing::locking::{entry_of, write_head};
 use crate::changing::require_sound;
 use crate::fault::ShellFault;
-use crate::images::{opened, saved};
+use crate::images::saved;
 use crate::looking::{
-    entries_or_none, is_free_at, use_all_geos, use_border, use_chain, used_sectors,
+    entries_or_none, is_free_at, open_disk, use_all_geos, use_border, use_chain, used_sectors,
 };
 use cbm_bam::{SectorSet, anew, read_map};
 use cbm_directory::put_slot;
@@ -219,7 +219,7 @@ pub fn undelete(
     ensures opens { IfOk result (λ o. IfSome o (λ v. image_fault (kind_of image.now) v.items ≡ None)) }
     ensures fault { IfErr result (IsNotUndeleted image.now slot kind) }
 {
-    let volume = Volume::open(opened(alloc, image)?);
+    let volume = open_disk(alloc, image)?;
     require_sound(&volume)?;
     let Some(disk) = undeleted(alloc, volume, slot, kind)? else {
         return Ok(None);

@@ -13,7 +13,8 @@ use crate::changing::locking::{entry_of, locked_entry};
 use crate::changing::require_sound;
 use crate::changing::swapping::entry_at;
 use crate::fault::ShellFault;
-use crate::images::{opened, saved};
+use crate::images::saved;
+use crate::looking::open_disk;
 use cbm_directory::{empty_slot, put_slot};
 use cbm_image::kind_of;
 use cbm_medium::{Link, Steady};
@@ -74,7 +75,7 @@ pub fn add_art(alloc: Global, image: &[u8], looks: Looks<'_>) -> Result<Option<V
     ensures opens { IfOk result (λ o. IfSome o (λ v. image_fault (kind_of image.now) v.items ≡ None)) }
     ensures fault { IfErr result (IsUneditedIn image.now ⊥) }
 {
-    let volume = Volume::open(opened(alloc, image)?);
+    let volume = open_disk(alloc, image)?;
     require_sound(&volume)?;
     let Some(disk) = entered(volume, &art_entry(looks))? else {
         return Ok(None);
@@ -124,7 +125,7 @@ pub fn dress(alloc: Global, image: &[u8], slot: u8, looks: Looks<'_>) -> Result<
     ensures opens { IfOk result (λ v. image_fault (kind_of image.now) v.items ≡ None) }
     ensures fault { IfErr result (IsUneditedIn image.now (HasNoSlotIn image.now slot)) }
 {
-    let volume = Volume::open(opened(alloc, image)?);
+    let volume = open_disk(alloc, image)?;
     require_sound(&volume)?;
     let disk = dressed(volume, slot, looks)?;
     saved(alloc, &disk, kind_of(image))

@@ -8,7 +8,8 @@ ghost use Rattle.cbm_shell.specs.Locking.{is_other, is_unlike, lock_bit, locked_
 
 use crate::changing::require_sound;
 use crate::fault::ShellFault;
-use crate::images::{opened, saved};
+use crate::images::saved;
+use crate::looking::open_disk;
 use cbm_command::matches;
 use cbm_directory::{put_slot, slot};
 use cbm_image::kind_of;
@@ -162,14 +163,13 @@ pub fn lock(
     is_locked: bool,
 ) -> Result<Vec<u8>, ShellFault>
     // Of each file that matches one bit of its entry is so, and nothing else of the image is changed.
-    // Of each file that matches one bit of its entry is so, and nothing else of the image is changed.
     ensures locks { IfOk result (λ v. LocksAllIn image.now (map (λ r. r.now) patterns.now) is_locked v.items) }
     ensures sound { OnOk result (IsSoundImage (kind_of image.now) image.now) }
     ensures stays { IfOk result (λ v. IsSoundImage (kind_of image.now) v.items) }
     ensures opens { IfOk result (λ v. image_fault (kind_of image.now) v.items ≡ None) }
     ensures fault { IfErr result (IsUneditedIn image.now ⊥) }
 {
-    let volume = Volume::open(opened(alloc, image)?);
+    let volume = open_disk(alloc, image)?;
     require_sound(&volume)?;
     let disk = all_locked(volume, patterns, is_locked)?;
     saved(alloc, &disk, kind_of(image))

@@ -10,7 +10,8 @@ ghost use Rattle.cbm_shell.specs.Swapping.{Swaps, AreSwapped, MissesSlot, Misses
 
 use crate::changing::require_sound;
 use crate::fault::ShellFault;
-use crate::images::{opened, saved};
+use crate::images::saved;
+use crate::looking::open_disk;
 use cbm_directory::{put_slot, slot};
 use cbm_image::kind_of;
 use cbm_medium::{Geometry, Medium, Steady};
@@ -95,14 +96,13 @@ fn swapped<M: Steady + Drop>(volume: Volume<M>, swaps: &[Swap]) -> Result<M, She
 /// first; `NotFound`, where the directory doesn't have one of the slots; `Memory`.
 pub fn swap_entries(alloc: Global, image: &[u8], swaps: &[Swap]) -> Result<Vec<u8>, ShellFault>
     // The entries are those that were there, with all their bytes, and nothing else of the image is changed.
-    // The entries are those that were there, with all their bytes, and nothing else of the image is changed.
     ensures swapped { IfOk result (λ v. AreSwappedIn image.now swaps.now v.items) }
     ensures sound { OnOk result (IsSoundImage (kind_of image.now) image.now) }
     ensures stays { IfOk result (λ v. IsSoundImage (kind_of image.now) v.items) }
     ensures opens { IfOk result (λ v. image_fault (kind_of image.now) v.items ≡ None) }
     ensures fault { IfErr result (IsUneditedIn image.now (MissesSlotIn image.now swaps.now)) }
 {
-    let volume = Volume::open(opened(alloc, image)?);
+    let volume = open_disk(alloc, image)?;
     require_sound(&volume)?;
     let disk = swapped(volume, swaps)?;
     saved(alloc, &disk, kind_of(image))

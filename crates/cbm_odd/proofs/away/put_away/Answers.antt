@@ -7,5 +7,5 @@ use Rattle.cbm_odd.proofs.away.put_away.Goals as goal
 pub returns-in_err-image-clause-fault : goal.returns-in_err-image-clause-fault
 returns-in_err-image-clause-fault c =
     let p = err_from_is_err_and c.from_residual-in_err-image.result c.from_residual-in_err-image.ensures.1 in
-    rw (p.1 ∙ ap Err p.2) (not_away any_seen c.args.image.now c.open-volume.result c.in_ok-opened.field-0 c.in_ok-odds.odds.items c.as_slice.result.now c.in_err-image.field-0.0
-    c.open-volume.ensures c.in_ok-opened.ensures.ok c.as_slice.ensures.value c.in_ok-odds.ensures.odd c.in_err-image.ensures.fault)
+    rw (p.1 ∙ ap Err p.2) (not_away c.args.image.now (any_seen c.in_ok-volume.volume) c.in_ok-odds.odds.items c.as_slice.result.now c.in_err-image.field-0.0
+    c.in_ok-volume.ensures.ok c.as_slice.ensures.value c.in_ok-odds.ensures.odd c.in_err-image.ensures.fault)

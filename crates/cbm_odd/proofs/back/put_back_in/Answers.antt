@@ -1,14 +1,11 @@
-use Rattle.std.proofs.Common.{sym, subst, ◌∙◌}
+use Rattle.std.proofs.Common.{sym, ◌∙◌}
 use Rattle.cbm_image.specs.AnyDisks.{any_seen}
-use Rattle.cbm_shell.specs.Images.{IsImageOpened}
 use Rattle.cbm_odd.proofs.BackLemmas.{back_in}
 use Rattle.cbm_odd.proofs.back.put_back_in.Goals as goal
 
 pub returns-clause-back : goal.returns-clause-back
 returns-clause-back c =
     let seen = any_seen in
-    back_in (λ v. v.items) c.image_with.result c.args.kind c.args.image.now c.args.changed.now c.args.odds.now (seen c.open-old.result) (seen c.open-new.result)
+    back_in (λ v. v.items) c.image_with.result c.args.kind c.args.image.now c.args.changed.now c.args.odds.now (seen c.in_ok-old.old) (seen c.in_ok-new.new)
     (sym c.requires.old) (c.requires.new ∙ sym c.requires.old)
-    (subst (λ k. IsImageOpened c.args.image.now (seen k)) (sym c.open-old.ensures) c.in_ok-opened.ensures.ok)
-    (subst (λ k. IsImageOpened c.args.changed.now (seen k)) (sym c.open-new.ensures) c.in_ok-opened-2.ensures.ok)
-    c.in_ok-require_left_alone.ensures.alone c.image_with.ensures.back c.image_with.ensures.opens
+    c.in_ok-old.ensures.ok c.in_ok-new.ensures.ok c.in_ok-require_left_alone.ensures.alone c.image_with.ensures.back c.image_with.ensures.opens

@@ -1,7 +1,7 @@
-use Rattle.std.proofs.Common.{subst, sym}
+use Rattle.std.proofs.Common.{subst}
 use Rattle.std.specs.Prelude.{IfOk}
 use Rattle.cbm_shell.specs.Images.{IsSoundImage}
 use Rattle.cbm_odd.proofs.changing.map_around.Goals as goal
 
 pub returns-clause-sound : goal.returns-clause-sound
-returns-clause-sound c = subst (λ k. IfOk c.sound_image.result (λ v. IsSoundImage k v.items)) (sym (sym c.kind_of.ensures)) c.sound_image.ensures.image
+returns-clause-sound c = subst (λ k. IfOk c.sound_image.result (λ v. IsSoundImage k v.items)) c.kind_of.ensures c.sound_image.ensures.image

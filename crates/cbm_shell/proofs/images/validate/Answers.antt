@@ -1,4 +1,4 @@
-use Rattle.std.proofs.Common.{◌≡◌, List, ℕ, subst, sym, ap, ◌∙◌, Ok}
+use Rattle.std.proofs.Common.{List, ℕ, subst, sym, ap, ◌∙◌, Ok}
 use Rattle.cbm_bam.specs.Map.{geometry_of}
 use Rattle.cbm_image.specs.AnyDisks.{any_seen}
 use Rattle.cbm_image.specs.Images.{kind_of, tracks_of, content_of}
@@ -17,11 +17,11 @@ returns-clause-freed c =
     let kind = kind_of c.args.image.now in
     let old = content_of kind c.args.image.now in
     subst (λ t. AreFreed (geometry_of (tracks_of kind c.args.image.now) old) old t c.in_ok-freed.freed.blocks.items c.in_ok-freed.freed.takes_geos)
-    (c.in_ok-image.ensures.ok.same_content ∙ ap (λ k. content_of k c.in_ok-image.image.items) (sym (sym c.kind_of.ensures))) c.in_ok-freed.ensures.ok
+    (c.in_ok-image.ensures.ok.same_content ∙ ap (λ k. content_of k c.in_ok-image.image.items) c.kind_of.ensures) c.in_ok-freed.ensures.ok
 
 pub returns-clause-changes : goal.returns-clause-changes
 returns-clause-changes c =
     let kind = kind_of c.args.image.now in
     let old = content_of kind c.args.image.now in
     subst (λ t. IsPutInOrder (geometry_of (tracks_of kind c.args.image.now) old) old t)
-    (c.in_ok-image.ensures.ok.same_content ∙ ap (λ k. content_of k c.in_ok-image.image.items) (sym (sym c.kind_of.ensures))) c.in_ok-new.ensures.changes
+    (c.in_ok-image.ensures.ok.same_content ∙ ap (λ k. content_of k c.in_ok-image.image.items) c.kind_of.ensures) c.in_ok-new.ensures.changes

@@ -11,7 +11,7 @@ use crate::broken::sound_image;
 use crate::changing::locking::write_head;
 use crate::changing::require_sound;
 use crate::fault::ShellFault;
-use crate::images::opened;
+use crate::looking::open_disk;
 use cbm_image::kind_of;
 use cbm_medium::Steady;
 use cbm_volume::Volume;
@@ -52,7 +52,7 @@ pub fn remark(alloc: Global, image: &[u8], mark: &[u8; 5]) -> Result<Vec<u8>, Sh
     ensures opens { IfOk result (λ v. image_fault (kind_of image.now) v.items ≡ None) }
     ensures fault { IfErr result (IsNotRemarked image.now mark.now) }
 {
-    let volume = Volume::open(opened(alloc, image)?);
+    let volume = open_disk(alloc, image)?;
     require_sound(&volume)?;
     let disk = remarked(volume, mark)?;
     sound_image(alloc, disk, kind_of(image))

@@ -11,7 +11,8 @@ ghost use Rattle.cbm_shell.specs.Locking.{with_title, titled, entitled, IsRetitl
 
 use crate::changing::require_sound;
 use crate::fault::ShellFault;
-use crate::images::{opened, saved};
+use crate::images::saved;
+use crate::looking::open_disk;
 use cbm_file::padded;
 use cbm_image::kind_of;
 use cbm_medium::{Address, Steady, Trouble};
@@ -71,7 +72,7 @@ pub fn retitle(alloc: Global, image: &[u8], title: &[u8]) -> Result<Vec<u8>, She
     ensures opens { IfOk result (λ v. image_fault (kind_of image.now) v.items ≡ None) }
     ensures fault { IfErr result (IsUneditedIn image.now ⊥) }
 {
-    let volume = Volume::open(opened(alloc, image)?);
+    let volume = open_disk(alloc, image)?;
     require_sound(&volume)?;
     let disk = retitled(volume, title)?;
     saved(alloc, &disk, kind_of(image))

@@ -5,7 +5,6 @@ use Rattle.cbm_bam.specs.Map.{geometry_of}
 use Rattle.cbm_image.specs.AnyDisks.{any_seen}
 use Rattle.cbm_image.specs.Images.{kind_of}
 use Rattle.cbm_shell.specs.Art.{art_entry, HasEntered, IsDirectoryFull}
-use Rattle.cbm_shell.specs.Editing.{IsUnedited}
 use Rattle.cbm_shell.specs.Images.{IsSoundDisk}
 use Rattle.cbm_shell.proofs.ArtLemmas.{art_sound}
 use Rattle.cbm_shell.proofs.EditLemmas.{edit_unsound, saved_sound}
@@ -15,13 +14,13 @@ pub returns-in_err-require_sound-clause-fault : goal.returns-in_err-require_soun
 returns-in_err-require_sound-clause-fault c =
     let seen = any_seen in
     let p = err_from_is_err_and c.from_residual-in_err-require_sound.result c.from_residual-in_err-require_sound.ensures.1 in
-    rw (p.1 ∙ ap Err p.2) (edit_unsound c.args.image.now (seen c.in_ok-opened.field-0) ⊥ c.in_err-require_sound.field-0.0 c.in_ok-opened.ensures.ok
-    (subst (λ k. IsUnedited (seen k).tracks (seen k).content ⊥ c.in_err-require_sound.field-0.0) c.open-volume.ensures c.in_err-require_sound.ensures.fault))
+    rw (p.1 ∙ ap Err p.2) (edit_unsound c.args.image.now (seen c.in_ok-volume.volume) ⊥ c.in_err-require_sound.field-0.0 c.in_ok-volume.ensures.ok
+    c.in_err-require_sound.ensures.fault)
 
 pub returns-clause-stays : goal.returns-clause-stays
 returns-clause-stays c =
     let seen = any_seen in
-    let old = seen c.open-volume.result in
+    let old = seen c.in_ok-volume.volume in
     let new = seen c.in-Some.disk in
     let looks = c.args.looks in
     let entry = art_entry looks.name.now looks.blocks looks.is_locked in

@@ -1,11 +1,10 @@
-use Rattle.std.proofs.Common.{sym, ap, subst, ◌∙◌, Err}
+use Rattle.std.proofs.Common.{sym, ap, ◌∙◌, Err}
 use Rattle.std.proofs.lemmas.Result.{err_from_is_err_and}
 use Rattle.cbm_bam.specs.Map.{geometry_of}
 use Rattle.cbm_image.specs.AnyDisks.{any_seen}
 use Rattle.cbm_image.specs.Images.{kind_of}
-use Rattle.cbm_shell.specs.Editing.{IsUnedited}
 use Rattle.cbm_shell.specs.Swapping.{MissesSlot, MissesSlotIn}
-use Rattle.cbm_shell.proofs.EditLemmas.{edit_unsound, edit_volume, sound_anew, image_sound}
+use Rattle.cbm_shell.proofs.EditLemmas.{edit_unsound, edit_sound, sound_anew, image_sound}
 use Rattle.cbm_shell.proofs.MoveLemmas.{swaps_sound}
 use Rattle.cbm_shell.proofs.changing.swapping.swap_entries.Goals as goal
 
@@ -13,19 +12,19 @@ pub returns-in_err-require_sound-clause-fault : goal.returns-in_err-require_soun
 returns-in_err-require_sound-clause-fault c =
     let seen = any_seen in
     let p = err_from_is_err_and c.from_residual-in_err-require_sound.result c.from_residual-in_err-require_sound.ensures.1 in
-    rw (p.1 ∙ ap Err p.2) (edit_unsound c.args.image.now (seen c.in_ok-opened.field-0) (MissesSlotIn c.args.image.now c.args.swaps.now) c.in_err-require_sound.field-0.0 c.in_ok-opened.ensures.ok
-    (subst (λ k. IsUnedited (seen k).tracks (seen k).content ⊥ c.in_err-require_sound.field-0.0) c.open-volume.ensures c.in_err-require_sound.ensures.fault))
+    rw (p.1 ∙ ap Err p.2) (edit_unsound c.args.image.now (seen c.in_ok-volume.volume) (MissesSlotIn c.args.image.now c.args.swaps.now) c.in_err-require_sound.field-0.0 c.in_ok-volume.ensures.ok
+    c.in_err-require_sound.ensures.fault)
 
 pub returns-in_err-disk-clause-fault : goal.returns-in_err-disk-clause-fault
 returns-in_err-disk-clause-fault c =
     let seen = any_seen in
     let p = err_from_is_err_and c.from_residual-in_err-disk.result c.from_residual-in_err-disk.ensures.1 in
-    rw (p.1 ∙ ap Err p.2) (edit_volume seen c.args.image.now c.open-volume.result c.in_ok-opened.field-0 (λ n t. MissesSlot (geometry_of n t) t c.args.swaps.now) c.in_err-disk.field-0.0
-    c.in_ok-opened.ensures.ok c.open-volume.ensures c.in_ok-require_sound.ensures.sound c.in_err-disk.ensures.fault)
+    rw (p.1 ∙ ap Err p.2) (edit_sound c.args.image.now (seen c.in_ok-volume.volume) (λ n t. MissesSlot (geometry_of n t) t c.args.swaps.now) c.in_err-disk.field-0.0
+    c.in_ok-volume.ensures.ok c.in_ok-require_sound.ensures.sound c.in_err-disk.ensures.fault)
 
 pub returns-clause-stays : goal.returns-clause-stays
 returns-clause-stays c =
-    let old = any_seen c.open-volume.result in
+    let old = any_seen c.in_ok-volume.volume in
     let new = any_seen c.in_ok-disk.disk in
     let sound = c.in_ok-require_sound.ensures.sound in
     image_sound (λ v. v.items) c.kind_of.result (kind_of c.args.image.now) new c.saved.result (sym c.kind_of.ensures) c.saved.ensures.ok
