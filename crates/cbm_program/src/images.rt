@@ -130,6 +130,7 @@ fn image_after(
 }
 
 /// Runs a script on the disk of an image, as `run_watched` does.
+// (A call of its own, so that what `run_watched` promises of each trace is proved at its one exit, not at each of these.)
 fn run_image<R: Read + Drop, W: Write, T: Watches>(
     alloc: Global,
     reader: R,
