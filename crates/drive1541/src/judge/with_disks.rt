@@ -1,7 +1,9 @@
 //! `judge --disk`: whether a host keeps the timing loosely, and its drives do what drives with these disks do. That is decided by
 //! bus_beside, whose yes is proved.
 
-use super::{BY_DRIVE, BY_HOST, SESSION, UNASKED, UNREAD, status_of_fault, tell_fault};
+use super::{
+    BY_DRIVE, BY_HOST, SESSION, UNASKED, UNREAD, status_of_fault, tell_fault, tell_stream,
+};
 use crate::failure::tell_too_long;
 use crate::reason::image_words;
 use crate::returns::Returns;
@@ -53,7 +55,8 @@ fn read_disk(rt: &HostRuntime, name: &str) -> Option<AnyDisk> {
     None
 }
 
-/// A drive with a disk, as it is switched on; its number is below 31.
+/// A drive with a disk, as it is switched on.
+// (A number that isn't 8 to 11 is clamped here for `at_power_up` alone: `Loosely::new` refuses it.)
 fn seat(alloc: Global, disk: AnyDisk, party: Party) -> Result<DiskSeat, AllocError> {
     let channels = Channels::new(alloc)?;
     let desk = Desk::at_power_up(disk, channels, party.device.clamp(8, 11));
@@ -163,7 +166,10 @@ fn tell(rt: &(impl Print + Eprint), found: Found) -> u8 {
     };
     match told {
         Ok(()) => status,
-        Err(_) => UNREAD,
+        Err(error) => {
+            let _ = tell_stream(rt, &error);
+            UNREAD
+        }
     }
 }
 
