@@ -24,7 +24,7 @@ mod directly;
 mod scripted;
 
 use checking::print_check;
-pub use directly::run_direct;
+pub use directly::{DirectOptions, run_direct};
 use scripted::{play, serve};
 
 /// How a run is made.

@@ -17,7 +17,7 @@ mod word;
 
 pub use cbm_drive::{Half, Pace, Unwatched, Watches};
 pub use fault::RunFault;
-pub use images::{Options, run, run_direct, run_watched};
+pub use images::{DirectOptions, Options, run, run_direct, run_watched};
 pub use line::{ScriptLine, parse};
 pub use request::{ScriptRequest, Text};
 pub use text::{decode, what_is_written_reads_back};

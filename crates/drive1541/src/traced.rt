@@ -6,7 +6,7 @@ use crate::noted::Noted;
 use crate::program::options_of;
 use bus_traces::{Picture, Recorder, TraceForm};
 use cbm_iec::{Event, Who};
-use cbm_program::{self, Half, RunFault, Watches, run_direct, run_watched};
+use cbm_program::{self, DirectOptions, Half, RunFault, Watches, run_direct, run_watched};
 use either::Either;
 use std::io::{BufWriter, Printer, Read, Write};
 use std::rt::{Files, Runtime};
@@ -168,7 +168,10 @@ fn run_traced<R: Runtime + AllocGlobal, S: Read, W: Write, T: Watches>(
 ) -> Result<Vec<u8>, RunFault> {
     let options = options_of(arguments);
     match arguments.direct {
-        Some(access) => run_direct(rt.alloc(), access, script, output, watcher, image, &options),
+        Some(access) => {
+            let direct = DirectOptions { access, options };
+            run_direct(rt.alloc(), script, output, watcher, image, &direct)
+        }
         None => run_watched(rt.alloc(), script, output, watcher, image, &options),
     }
 }

@@ -15,20 +15,28 @@ use cbm_volume::Volume;
 use std::alloc::Global;
 use std::io::{Read, Write};
 
+/// How a run on a drive with direct access is made.
+#[derive(Clone, Copy, Debug, PartialEq, Eq)]
+pub struct DirectOptions {
+    /// Which sectors the drive may write.
+    pub access: Access,
+    pub options: Options,
+}
+
 /// Runs a script as `run_watched` does, on a drive with direct access. What it prints and saves is tested; that the disk stays sound if it was, and
 /// not any sector may be written, is proved of the drive (`DirectDesk`).
 pub fn run_direct<R: Read + Drop, W: Write, T: Watches>(
     alloc: Global,
-    access: Access,
     reader: R,
     writer: &mut W,
     watcher: &mut T,
     image: &[u8],
-    options: &Options,
+    direct: &DirectOptions,
 ) -> Result<Vec<u8>, RunFault>
-    requires { IsDevice options.now.device }
-    ensures given { options.now.protected ≡ true → IfOk result (λ v. v.items ≡ image.now) }
+    requires { IsDevice direct.now.options.device }
+    ensures given { direct.now.options.protected ≡ true → IfOk result (λ v. v.items ≡ image.now) }
 {
+    let options = direct.options;
     let disk = opened(alloc, image, options.protected)?;
     let channels = channels_of(alloc)?;
     let station = Station {
@@ -41,7 +49,7 @@ pub fn run_direct<R: Read + Drop, W: Write, T: Watches>(
     let disk = direct_script(
         volume.into_medium(),
         station,
-        access,
+        direct.access,
         reader,
         writer,
         watcher,
