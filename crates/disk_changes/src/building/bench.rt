@@ -2,6 +2,7 @@
 use cbm_shell::texts::Charset;
 use disk_basics::host::read_file;
 use disk_basics::{Failure, What, WordFault, in_memory, petscii};
+use disk_recipes::RecipeLine;
 use std::path::Path;
 use std::rt::Runtime;
 
@@ -17,6 +18,15 @@ pub struct Bench<'r> {
     pub folder: &'r str,
     /// The character set of its names.
     pub charset: Charset,
+}
+
+/// The slot that is filled next, and the line of the recipe that fills it.
+#[derive(Clone, Copy)]
+pub struct Next<'r> {
+    /// The slot, from 0.
+    pub slot: u8,
+    /// Its line.
+    pub line: &'r RecipeLine,
 }
 
 /// Reads a file that a recipe names. Errors: those of `read_file`; `NoMemory`.

@@ -1,4 +1,5 @@
 //! Where a recipe lays its files.
+use super::bench::Next;
 use cbm_medium::Address;
 use disk_basics::placing::{Head, lay};
 use disk_basics::{Failure, What, WordFault, on_disk};
@@ -99,25 +100,24 @@ impl Lane {
         Wish::of_line(line).is_any() || (self.lays_all && !is_relative)
     }
 
-    /// The image whose file in a slot is laid as its line says; None if the drive lays it. Errors: `Word`, if no file can be laid there;
+    /// The image whose file in the next slot is laid as its line says; None if the drive lays it. Errors: `Word`, if no file can be laid there;
     /// `RecordsPlace` for a relative file; `NoPlace`; `Disk`.
     pub fn laid(
         &mut self,
         alloc: Global,
         name: &str,
         image: &[u8],
-        slot: u8,
-        line: &RecipeLine,
+        next: Next<'_>,
         is_relative: bool,
     ) -> Result<Option<Vec<u8>>, Failure> {
-        if !self.lays(line, is_relative) {
+        if !self.lays(next.line, is_relative) {
             return Ok(None);
         }
         if is_relative {
             return Err(Failure::named(alloc, What::RecordsPlace, name));
         }
-        let head = checked(Wish::of_line(line).head(self.head, self.interleave))?;
-        let Some(laid) = on_disk(alloc, name, lay(alloc, image, slot, head))? else {
+        let head = checked(Wish::of_line(next.line).head(self.head, self.interleave))?;
+        let Some(laid) = on_disk(alloc, name, lay(alloc, image, next.slot, head))? else {
             return Err(Failure::named(alloc, What::NoPlace, name));
         };
         self.head = laid.head;

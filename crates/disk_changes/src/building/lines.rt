@@ -1,7 +1,7 @@
 //! The lines of a recipe: files first, each by the drive's own calls, then lines of art, then their order.
 ghost use Rattle.std.specs.Prelude.{◌≤◌, length};
 
-use super::bench::{Bench, any_name, read_beside};
+use super::bench::{Bench, Next, any_name, read_beside};
 use super::laid::Lane;
 use super::ordered::ordered;
 use crate::putting::{Body, body_of, tell_empty};
@@ -60,28 +60,31 @@ fn blocks_at(alloc: std::alloc::Global, image: &[u8], slot: u8) -> Result<u16, S
     }
 }
 
-/// The image whose file in a slot looks as its line says.
+/// The image whose file in the next slot looks as its line says.
 fn dressed<R: Runtime + AllocGlobal>(
     rt: &R,
     bench: Bench<'_>,
     image: &[u8],
-    slot: u8,
-    line: &RecipeLine,
+    next: Next<'_>,
     name: &[u8],
 ) -> Result<Vec<u8>, Failure> {
-    let blocks = match line.blocks {
+    let blocks = match next.line.blocks {
         Some(blocks) => blocks,
-        None => on_disk(rt.alloc(), bench.image, blocks_at(rt.alloc(), image, slot))?,
+        None => on_disk(
+            rt.alloc(),
+            bench.image,
+            blocks_at(rt.alloc(), image, next.slot),
+        )?,
     };
     let looks = Looks {
         name: sixteen(name),
         blocks,
-        is_locked: line.locked == Some(true),
+        is_locked: next.line.locked == Some(true),
     };
     on_disk(
         rt.alloc(),
         bench.image,
-        dress(rt.alloc(), image, slot, looks),
+        dress(rt.alloc(), image, next.slot, looks),
     )
 }
 
@@ -98,13 +101,12 @@ fn with_put<R: Runtime + AllocGlobal>(
     rt: &R,
     bench: Bench<'_>,
     old: &[u8],
-    slot: u8,
-    line: &RecipeLine,
+    next: Next<'_>,
     name: &[u8],
     put: &Stored<'_>,
 ) -> Result<Vec<u8>, Failure> {
     let new = with_stored(rt.alloc(), bench.image, old, put)?;
-    dressed(rt, bench, new.as_slice(), slot, line, name)
+    dressed(rt, bench, new.as_slice(), next, name)
 }
 
 /// Refuses a name that an earlier file of the recipe has.
@@ -129,23 +131,22 @@ fn with_body<R: Runtime + AllocGlobal>(
     rt: &R,
     bench: Bench<'_>,
     old: &[u8],
-    slot: u8,
-    line: &RecipeLine,
+    next: Next<'_>,
     file: &str,
     body: Body<'_>,
 ) -> Result<Vec<u8>, Failure> {
-    let kind = kind_of_file(rt.alloc(), option(&line.kind), file)?;
+    let kind = kind_of_file(rt.alloc(), option(&next.line.kind), file)?;
     tell_empty(rt, file, kind, body.bytes);
     let put = Stored {
         name: FOR_NOW,
         kind,
-        record: record_of(line, body),
+        record: record_of(next.line, body),
         replaces: false,
         bytes: body.bytes,
     };
-    let name = name_of(rt, bench, line, file, body)?;
+    let name = name_of(rt, bench, next.line, file, body)?;
     require_new_name(rt.alloc(), bench.image, old, name.as_slice())?;
-    with_put(rt, bench, old, slot, line, name.as_slice(), &put)
+    with_put(rt, bench, old, next, name.as_slice(), &put)
 }
 
 /// The image with the file of a line in the next slot, read from this computer.
@@ -153,20 +154,12 @@ fn with_file<R: Runtime + AllocGlobal>(
     rt: &R,
     bench: Bench<'_>,
     old: &[u8],
-    slot: u8,
-    line: &RecipeLine,
+    next: Next<'_>,
     file: &str,
 ) -> Result<Vec<u8>, Failure> {
     let bytes = read_beside(rt, bench.folder, file)?;
-    with_body(
-        rt,
-        bench,
-        old,
-        slot,
-        line,
-        file,
-        body_of(file, bytes.as_slice()),
-    )
+    let body = body_of(file, bytes.as_slice());
+    with_body(rt, bench, old, next, file, body)
 }
 
 /// The image with a line of art in the next slot.
@@ -206,17 +199,16 @@ fn with_laid<R: Runtime + AllocGlobal>(
     bench: Bench<'_>,
     lane: &mut Lane,
     old: &[u8],
-    slot: u8,
-    line: &RecipeLine,
+    next: Next<'_>,
     file: &str,
 ) -> Result<Vec<u8>, Failure> {
-    let put = with_file(rt, bench, old, slot, line, file)?;
+    let put = with_file(rt, bench, old, next, file)?;
     let is_relative = on_disk(
         rt.alloc(),
         bench.image,
-        is_relative_at(rt.alloc(), put.as_slice(), slot),
+        is_relative_at(rt.alloc(), put.as_slice(), next.slot),
     )?;
-    match lane.laid(rt.alloc(), file, put.as_slice(), slot, line, is_relative)? {
+    match lane.laid(rt.alloc(), file, put.as_slice(), next, is_relative)? {
         Some(laid) => Ok(laid),
         None => Ok(put),
     }
@@ -235,7 +227,8 @@ fn with_files<R: Runtime + AllocGlobal>(
     let mut lane = lane;
     for (place, line) in lines.iter().enumerate() {
         if let Some(file) = option(&line.file) {
-            let made = with_laid(rt, bench, &mut lane, image.as_slice(), slot, line, file);
+            let next = Next { slot, line };
+            let made = with_laid(rt, bench, &mut lane, image.as_slice(), next, file);
             if made.is_err() {
                 tell_entry(rt, place);
             }
