@@ -3,6 +3,7 @@ mod all;
 mod chains;
 mod errors;
 mod files;
+mod findings;
 mod found;
 mod headers;
 mod lost;

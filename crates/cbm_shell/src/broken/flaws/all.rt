@@ -1,11 +1,12 @@
 //! All that is wrong with a disk.
-ghost use Rattle.std.specs.Prelude.{◌≡◌, ◌≤◌, ◌++◌, IfOk, OnOk};
+ghost use Rattle.std.specs.Prelude.{◌≡◌, ◌≤◌, ◌++◌, IfOk};
 ghost use Rattle.cbm_bam.specs.Map.{geometry_of};
 ghost use Rattle.cbm_shell.specs.Images.{IsChecked};
 ghost use Rattle.cbm_shell.specs.Flaws.{chain_flaws, first_flaw, flaws_of};
 
 use super::chains::walk;
 use super::files::walk_slots;
+use super::findings::Findings;
 use super::found::{DiskFlaw, Whose};
 use super::headers::add_headers;
 use super::map::add_map;
@@ -15,38 +16,33 @@ use cbm_medium::{Address, Geometry, Link, Medium};
 use cbm_volume::Volume;
 use std::alloc::Global;
 
-/// Adds what is wrong with the chains of the directory and of its files.
-fn add_chains<M: Medium>(
+/// What is wrong so far, and after it what is wrong with the chains of the directory and of its files.
+fn with_chains<M: Medium>(
     alloc: Global,
     volume: &Volume<M>,
     geometry: Geometry,
-    out: &mut Vec<DiskFlaw>,
-) -> Result<(), ShellFault>
+    flaws: Vec<DiskFlaw>,
+) -> Result<Vec<DiskFlaw>, ShellFault>
     requires same { geometry ≡ geometry_of (M.seen volume.now).tracks (M.seen volume.now).content }
     requires room { geometry ≤ (M.seen volume.now).tracks }
-    ensures { OnOk result (out.new.items ≡ out.old.items ++ chain_flaws geometry (M.seen volume.now).content) }
+    ensures { IfOk result (λ v. v.items ≡ flaws.items ++ chain_flaws geometry (M.seen volume.now).content) }
 {
-    let mut claimed = SectorSet::new();
-    claimed.insert(Address::of_map());
-    let first = Link::new(18, 1);
-    let medium = volume.medium();
-    let way = walk(
+    let mut found = Findings {
         alloc,
-        medium,
+        claimed: SectorSet::new(),
+        flaws,
+    };
+    found.claimed.insert(Address::of_map());
+    let first = Link::new(18, 1);
+    let way = walk(
+        volume.medium(),
         geometry,
         Whose::Directory,
         first,
-        &mut claimed,
-        out,
+        &mut found,
     )?;
-    walk_slots(
-        alloc,
-        volume,
-        geometry,
-        way.blocks.as_slice(),
-        &mut claimed,
-        out,
-    )
+    walk_slots(volume, geometry, way.blocks.as_slice(), &mut found)?;
+    Ok(found.flaws)
 }
 
 /// All that is wrong with a disk, gone through from the headers on.
@@ -55,11 +51,10 @@ fn walk_disk<M: Medium>(alloc: Global, volume: &Volume<M>) -> Result<Vec<DiskFla
         IfOk result (λ v. v.items ≡ flaws_of (geometry_of now.tracks now.content) now.content) }
 {
     let geometry = volume.geometry();
-    let mut out = Vec::new(alloc);
-    add_headers(volume.medium(), geometry, &mut out)?;
-    add_map(volume.medium(), geometry, &mut out)?;
-    add_chains(alloc, volume, geometry, &mut out)?;
-    Ok(out)
+    let mut flaws = Vec::new(alloc);
+    add_headers(volume.medium(), geometry, &mut flaws)?;
+    add_map(volume.medium(), geometry, &mut flaws)?;
+    with_chains(alloc, volume, geometry, flaws)
 }
 
 /// All that is wrong with a disk, in the order in which `check` looks: headers, BAM, directory, files. The errors are `Memory`,

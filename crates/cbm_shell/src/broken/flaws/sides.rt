@@ -7,10 +7,10 @@ ghost use Rattle.cbm_bam.specs.Marks.{is_marked};
 ghost use Rattle.cbm_shell.specs.Flaws.{among, flawed, flaw_if, sides_walk};
 ghost use Rattle.cbm_shell.specs.FlawSteps.{HasWalked, IsWalked};
 
+use super::findings::Findings;
 use super::found::{DiskFlaw, Whose, flawed};
 use super::steps::step;
 use crate::fault::ShellFault;
-use cbm_bam::SectorSet;
 use cbm_medium::{Geometry, Link, Medium};
 use cbm_relfile::side::SIDES;
 use cbm_volume::{Entry, Volume};
@@ -25,12 +25,11 @@ fn walk_listed<M: Medium>(
     geometry: Geometry,
     whose: Whose,
     first: &[u8; 256],
-    claimed: &mut SectorSet,
-    out: &mut Vec<DiskFlaw>,
+    found: &mut Findings,
 ) -> Result<bool, AllocError>
     requires { geometry ≤ (M.seen medium.now).tracks }
-    ensures { let w = among whose geometry (M.seen medium.now).content (is_marked claimed.old) (after_the_first first.now) in
-        IfOk result (IsWalked w (is_marked claimed.new) out.old.items out.new.items) }
+    ensures { let w = among whose geometry (M.seen medium.now).content (is_marked found.old.claimed) (after_the_first first.now) in
+        IfOk result (IsWalked w (is_marked found.new.claimed) found.old.flaws.items found.new.flaws.items) }
 {
     if first[SIDES] == 0 {
         return Ok(true);
@@ -40,7 +39,7 @@ fn walk_listed<M: Medium>(
         if at.is_end() {
             return Ok(true);
         }
-        if step(medium, geometry, whose, 0, at, claimed, out)?.is_none() {
+        if step(medium, geometry, whose, 0, at, found)?.is_none() {
             return Ok(false);
         }
     }
@@ -53,18 +52,17 @@ fn walk_all<M: Medium>(
     geometry: Geometry,
     whose: Whose,
     first: Link,
-    claimed: &mut SectorSet,
-    out: &mut Vec<DiskFlaw>,
+    found: &mut Findings,
 ) -> Result<bool, AllocError>
     requires { geometry ≤ (M.seen medium.now).tracks }
     ensures { let content = (M.seen medium.now).content in
-        let w = among whose geometry content (is_marked claimed.old) (sides_from content first) in
-        IfOk result (IsWalked w (is_marked claimed.new) out.old.items out.new.items) }
+        let w = among whose geometry content (is_marked found.old.claimed) (sides_from content first) in
+        IfOk result (IsWalked w (is_marked found.new.claimed) found.old.flaws.items found.new.flaws.items) }
 {
-    let Some(bytes) = step(medium, geometry, whose, 0, first, claimed, out)? else {
+    let Some(bytes) = step(medium, geometry, whose, 0, first, found)? else {
         return Ok(false);
     };
-    walk_listed(medium, geometry, whose, &bytes, claimed, out)
+    walk_listed(medium, geometry, whose, &bytes, found)
 }
 
 /// Whether the side sectors of a relative file list its blocks. The error is that the first of them doesn't read.
@@ -104,21 +102,13 @@ pub(super) fn walk_sides<M: Medium>(
     geometry: Geometry,
     whose: Whose,
     entry: &Entry,
-    claimed: &mut SectorSet,
-    out: &mut Vec<DiskFlaw>,
+    found: &mut Findings,
 ) -> Result<(), ShellFault>
     requires same { geometry ≡ geometry_of (M.seen volume.now).tracks (M.seen volume.now).content }
     requires room { geometry ≤ (M.seen volume.now).tracks }
-    ensures { let w = sides_walk whose geometry (M.seen volume.now).content (is_marked claimed.old) entry.now in
-        OnOk result (HasWalked w (is_marked claimed.new) out.old.items out.new.items) }
+    ensures { let w = sides_walk whose geometry (M.seen volume.now).content (is_marked found.old.claimed) entry.now in
+        OnOk result (HasWalked w (is_marked found.new.claimed) found.old.flaws.items found.new.flaws.items) }
 {
-    let is_whole = walk_all(
-        volume.medium(),
-        geometry,
-        whose,
-        entry.first_side(),
-        claimed,
-        out,
-    )?;
-    add_mislisted(volume, whose, entry, is_whole, out)
+    let is_whole = walk_all(volume.medium(), geometry, whose, entry.first_side(), found)?;
+    add_mislisted(volume, whose, entry, is_whole, &mut found.flaws)
 }

@@ -5,9 +5,9 @@ ghost use Rattle.cbm_volume.specs.check.Claims.{is_inside, wrong_at};
 ghost use Rattle.cbm_shell.specs.Flaws.{part_of, flawed, flaw_if};
 ghost use Rattle.cbm_shell.specs.FlawSteps.{IsStep};
 
+use super::findings::Findings;
 use super::found::{DiskFlaw, Whose, flawed};
 use crate::looking::is_free_at;
-use cbm_bam::SectorSet;
 use cbm_medium::{Address, Geometry, Link, Medium};
 use std::alloc::AllocError;
 
@@ -51,25 +51,24 @@ pub(super) fn step<M: Medium>(
     whose: Whose,
     before: u16,
     at: Link,
-    claimed: &mut SectorSet,
-    out: &mut Vec<DiskFlaw>,
+    found: &mut Findings,
 ) -> Result<Option<[u8; 256]>, AllocError>
     requires { geometry ≤ (M.seen medium.now).tracks }
     ensures { let content = (M.seen medium.now).content in
-        IfOk result (IsStep (wrong_at (part_of whose) geometry content (is_marked claimed.old) at) (flawed whose before at)
-        content at (is_marked claimed.old) (is_marked claimed.new) out.old.items out.new.items) }
+        IfOk result (IsStep (wrong_at (part_of whose) geometry content (is_marked found.old.claimed) at) (flawed whose before at)
+        content at (is_marked found.old.claimed) (is_marked found.new.claimed) found.old.flaws.items found.new.flaws.items) }
 {
     let Some(address) = inside(geometry, whose, at) else {
-        return stop(out, flawed(whose, before, at, whose.outside()));
+        return stop(&mut found.flaws, flawed(whose, before, at, whose.outside()));
     };
-    if claimed.has(address) {
-        return stop(out, flawed(whose, before, at, 3));
+    if found.claimed.has(address) {
+        return stop(&mut found.flaws, flawed(whose, before, at, 3));
     }
     let Ok(bytes) = medium.read(address) else {
-        return stop(out, flawed(whose, before, at, 9));
+        return stop(&mut found.flaws, flawed(whose, before, at, 9));
     };
     let is_free = is_free_at(medium, geometry, address);
-    add_free(out, is_free, flawed(whose, before, at, 2))?;
-    claimed.insert(address);
+    add_free(&mut found.flaws, is_free, flawed(whose, before, at, 2))?;
+    found.claimed.insert(address);
     Ok(Some(bytes))
 }

@@ -1,4 +1,4 @@
-use Rattle.std.proofs.Common.{◌≡◌, ◌+◌, ◌-◌, sym, ap, subst, ◌∙◌, arith, true, Ok, Err}
+use Rattle.std.proofs.Common.{◌≡◌, ◌+◌, ◌-◌, sym, ap, subst, ◌∙◌, arith, Ok, Err}
 use Rattle.cbm_medium.specs.Place.{directory_head}
 use Rattle.cbm_medium.specs.Links.{follow}
 use Rattle.cbm_shell.specs.Mapping.{chain_of, free_by}

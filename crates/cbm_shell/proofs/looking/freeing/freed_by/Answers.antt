@@ -1,4 +1,4 @@
-use Rattle.std.proofs.Common.{◌≡◌, sym, ap, ◌∙◌, rules}
+use Rattle.std.proofs.Common.{ap, ◌∙◌, rules}
 use Rattle.cbm_bam.specs.Marks.{is_marked}
 use Rattle.cbm_shell.specs.Freeing.{is_any}
 use Rattle.cbm_shell.proofs.looking.freeing.freed_by.Goals as goal

@@ -1,4 +1,4 @@
-use Rattle.std.proofs.Common.{◌∙◌, sym, true, false}
+use Rattle.std.proofs.Common.{◌∙◌, sym}
 use Rattle.cbm_bam.specs.Marks.{is_marked}
 use Rattle.cbm_shell.proofs.GeosLemmas.{any_here, any_later, any_none}
 use Rattle.cbm_shell.proofs.looking.freeing.is_any.Goals as goal

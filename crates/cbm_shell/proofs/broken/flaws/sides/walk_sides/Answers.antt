@@ -10,10 +10,10 @@ use Rattle.cbm_shell.proofs.broken.flaws.sides.walk_sides.Goals as goal
 pub returns : goal.returns
 returns g c =
     let now = g.M.Medium.seen c.args.volume.now in
-    sides_done c.add_mislisted.result c.args.whose c.args.geometry now.content (is_marked c.args.claimed.now) (is_marked c.walk_all.new.claimed) c.args.entry.now c.args.out.now.items c.walk_all.new.out.items
+    sides_done c.add_mislisted.result c.args.whose c.args.geometry now.content (is_marked c.args.found.now.claimed) (is_marked c.walk_all.new.found.claimed) c.args.entry.now c.args.found.now.flaws.items c.walk_all.new.found.flaws.items
     c.add_mislisted.new.out.items c.in_ok-is_whole.is_whole (are_records (geometry_of now.tracks now.content) now.content c.args.entry.now)
-    (subst (λ p. IsWalked (among c.args.whose c.args.geometry now.content (is_marked c.args.claimed.now) (sides_from now.content p)) (is_marked c.walk_all.new.claimed) c.args.out.now.items c.walk_all.new.out.items c.in_ok-is_whole.is_whole)
+    (subst (λ p. IsWalked (among c.args.whose c.args.geometry now.content (is_marked c.args.found.now.claimed) (sides_from now.content p)) (is_marked c.walk_all.new.found.claimed) c.args.found.now.flaws.items c.walk_all.new.found.flaws.items c.in_ok-is_whole.is_whole)
     c.first_side.ensures
-    (subst (λ m. IsWalked (among c.args.whose c.args.geometry (g.M.Medium.seen m).content (is_marked c.args.claimed.now) (sides_from (g.M.Medium.seen m).content c.first_side.result)) (is_marked c.walk_all.new.claimed) c.args.out.now.items c.walk_all.new.out.items c.in_ok-is_whole.is_whole)
+    (subst (λ m. IsWalked (among c.args.whose c.args.geometry (g.M.Medium.seen m).content (is_marked c.args.found.now.claimed) (sides_from (g.M.Medium.seen m).content c.first_side.result)) (is_marked c.walk_all.new.found.claimed) c.args.found.now.flaws.items c.walk_all.new.found.flaws.items c.in_ok-is_whole.is_whole)
     c.medium.ensures c.in_ok-is_whole.ensures))
     (ap (λ t. are_records t now.content c.args.entry.now) (sym c.requires.same)) c.add_mislisted.ensures
