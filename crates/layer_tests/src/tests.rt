@@ -1,4 +1,4 @@
-//! The rows, a file for each crate, and what they share.
+//! The rows, a file for each crate or what it does, and what they share.
 
 mod command;
 mod d64;
@@ -8,7 +8,9 @@ mod g64;
 mod gcr;
 mod listing;
 mod machine;
+mod maps;
 mod medium;
+mod names;
 mod sector;
 mod track;
 
