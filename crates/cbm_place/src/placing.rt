@@ -33,5 +33,6 @@ pub fn place(
     require_sound(&volume)?;
     let new = Volume::open(moved(alloc, volume, slot, places)?);
     require_sound(&new)?;
-    saved(alloc, &new.into_medium(), kind_of(image))
+    let disk = new.into_medium();
+    saved(alloc, &disk, kind_of(image))
 }

@@ -33,7 +33,7 @@ returns-clause-placed c =
     let seen = any_seen in
     made_in (λ v. v.items) c.saved.result (λ tracks old new. IsRelaid tracks old new c.args.slot c.args.places.now) c.kind_of.result c.args.image.now (seen c.in_ok-volume.volume) (seen c.in_ok-moved.field-0)
     (sym c.kind_of.ensures) c.in_ok-volume.ensures.ok c.in_ok-moved.ensures.moved
-    (subst (λ k. IfOk c.saved.result (λ v. IsSaved c.kind_of.result v.items (seen k))) (c.into_medium.ensures ∙ c.open-new.ensures) c.saved.ensures.ok)
+    (subst (λ k. IfOk c.saved.result (λ v. IsSaved c.kind_of.result v.items (seen k))) (c.into_medium-disk.ensures ∙ c.open-new.ensures) c.saved.ensures.ok)
 
 pub returns-clause-sound : goal.returns-clause-sound
 returns-clause-sound c =
@@ -44,8 +44,8 @@ pub returns-clause-stays : goal.returns-clause-stays
 returns-clause-stays c =
     let seen = any_seen in
     image_sound (λ v. v.items) c.kind_of.result (kind_of c.args.image.now) (seen c.open-new.result) c.saved.result (sym c.kind_of.ensures)
-    (subst (λ k. IfOk c.saved.result (λ v. IsSaved c.kind_of.result v.items (seen k))) c.into_medium.ensures c.saved.ensures.ok)
+    (subst (λ k. IfOk c.saved.result (λ v. IsSaved c.kind_of.result v.items (seen k))) c.into_medium-disk.ensures c.saved.ensures.ok)
     c.in_ok-require_sound-2.ensures.sound
 
 pub returns-clause-opens : goal.returns-clause-opens
-returns-clause-opens c = opens_again (λ v. v.items) c.saved.result c.kind_of.result (kind_of c.args.image.now) (any_seen c.into_medium.result) (sym c.kind_of.ensures) c.saved.ensures.ok
+returns-clause-opens c = opens_again (λ v. v.items) c.saved.result c.kind_of.result (kind_of c.args.image.now) (any_seen c.into_medium-disk.result) (sym c.kind_of.ensures) c.saved.ensures.ok
