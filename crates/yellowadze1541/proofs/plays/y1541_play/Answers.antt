@@ -11,8 +11,8 @@ use Rattle.yellowadze1541.proofs.Handing.{reported}
 use Rattle.yellowadze1541.proofs.plays.y1541_play.Goals as goal
 
 -- an argument is out of its range
-pub returns-then-device-lt8 : goal.returns-then-device-lt8
-returns-then-device-lt8 c =
+pub returns-then-device : goal.returns-then-device
+returns-then-device c =
     let same : to_z w32 (of_z w32 c.number.result) ≡ answer_number Invalid = search rules in
     let outside : IsOutOfRange (party_from c.args.device c.args.reaction c.args.pace) c.args.pace c.args.end = search rules in
     inr (Invalid, inl (refl, outside), same, refl)
