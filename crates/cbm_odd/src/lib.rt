@@ -1,7 +1,7 @@
 //! Disks with odd entries, as lines of art that lead into the directory: all else is changed as on any disk, and they are left alone.
 #![tactic(auto)]
 
-// (Calls that open an image are never inlined: in their caller's frame each would take stack for the calls beside it.)
+// (`put_away`, `put_back` and `change` are never inlined: in one caller's frame all of them would take stack at once.)
 
 mod away;
 mod back;

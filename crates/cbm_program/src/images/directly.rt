@@ -20,6 +20,7 @@ use std::io::{Read, Write};
 pub struct DirectOptions {
     /// Which sectors the drive may write.
     pub access: Access,
+    /// The drive's number and pace, and what is done with the disk.
     pub options: Options,
 }
 
