@@ -1,7 +1,7 @@
 """What a program's --help says, as a page for man, and as completions for bash, zsh and fish."""
 import re, subprocess
 
-OPTION = re.compile(r" +(?:(-\w), )?(--[\w-]+)(?: <([^>]+)>)? {2,}(.*)")
+OPTION = re.compile(r" +(?:(-\w), )?(--[\w-]+)(?:(?: |\[=)<([^>]+)>\]?)?\s{2,}(.*)")
 ARGUMENT = re.compile(r" +([<\[][\w-]+[>\]](?:\.\.\.)?) {2,}(.*)")
 COMMAND = re.compile(r"  ([\w-]+) {2,}(.*)")
 
@@ -22,6 +22,7 @@ class Help:
     def __init__(self, text):
         self.about, self.usage, self.arguments, self.options, self.commands, self.end = "", "", [], [], [], []
         part = "about"
+        text = re.sub(r"(?m)^( +(?:-\w, +)?--\S.*>|  -\w, --\S+|      --[\w-]+)\n {10,}(?=\S)", r"\1  ", text)
         for line in text.splitlines():
             if line.startswith("Usage: "):
                 self.usage = line.removeprefix("Usage: ")
