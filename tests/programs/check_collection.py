@@ -78,7 +78,7 @@ class Disk(model.Disk):
 
     @staticmethod
     def geos_of(file, entry):
-        """The structure of a file of GEOS, by the rule of docs/disk1541.md; else none."""
+        """The structure of a file of GEOS, by the rule of docs/disk1541/formats.md; else none."""
         is_one = file.closed and file.type in LETTERS and entry[19] and entry[21] < 2 and entry[22]
         return entry[21] if is_one else None
 
@@ -355,7 +355,7 @@ def is_transferred(tally, image, path, disk, other):
         out.write(other.data)
     ran = run("transfer", from_path, path)
     readable = [it for it in source.files if it.closed and it.type in LETTERS]
-    # (a drive closes an empty file with one byte, 13, as docs/disk1541.md says)
+    # (a drive closes an empty file with one byte, 13, as docs/disk1541/files.md says)
     new = [(it.name, it.type, it.data or b"\r") for it in readable if it.data is not None]
     is_kept(tally, image, Call("transfer", (other.path,), (), new), ran, disk, path)
     if ran[0] == 0:

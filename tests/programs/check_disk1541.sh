@@ -15,7 +15,8 @@ printf '\001\010game' > how_to/game.prg
 printf 'level' > how_to/levels.seq
 printf "put game.prg\ntitle 'OUR DISK'\n" > how_to/changes.txt
 ln -s "$disk" how_to/disk1541
-sed -n '/^## How to/,/^## Exit/p' "$here/../../docs/disk1541.md" | grep -o '`disk1541 [^`]*`' | tr -d '`' > commands.txt
+# (its blocks of sh, without the comments at the ends of their lines)
+sed -n '/^## How to/,/^## Exit/p' "$here/../../docs/disk1541.md" | sed -n '/^```sh$/,/^```$/{s/ \{4,\}#.*//;/^disk1541 /p}' > commands.txt
 while read -r line; do
     echo "\$ $line"
     (cd how_to && PATH=.:$PATH && eval "$line" 2>&1) || echo "status $?"
