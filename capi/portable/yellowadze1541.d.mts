@@ -1,4 +1,4 @@
-// The types of yellowadze1541.mjs. docs/emulators.md says what each call does, under its name in C.
+// The types of yellowadze1541.mjs. docs/emulators.md describes each call, under its name in C.
 
 /** How the drive answers: hosts that keep the project's bus profile, or the KERNAL of a C64 or VIC-20. */
 export type Pace = 0 | 1;
@@ -22,7 +22,7 @@ export const NEVER: number;
 /** Bytes, or a text whose characters are bytes: names and patterns are PETSCII. */
 export type Bytes = Uint8Array | string;
 
-/** What is wrong first with a disk that isn't sound: a number from 1 to 9 of docs/scripts.md, and where. */
+/** The first fault of a disk that isn't sound: a number from 1 to 9 of docs/numbers.md, and its place. */
 export interface Place {
   what: number;
   track: number;
@@ -68,7 +68,7 @@ export interface Reaction {
   dataChanged: boolean;
 }
 
-/** A change of a line; who: 0 for the host, else the device. */
+/** A change of a line; who: 0 for the host, or the device. */
 export interface Signal {
   moment: number;
   who: number;
@@ -94,9 +94,9 @@ export interface Entry {
   sector: number;
 }
 
-/** What is wrong: `what`, `track` and `sector` as in Place. */
+/** A fault: `what`, `track` and `sector` as in Place. */
 export interface Flaw extends Place {
-  /** Whose sectors led to it: 0 nobody's, 1 the directory's, 2 those of the file in `slot`. */
+  /** The owner of the sectors that led to it: 0 none, 1 the directory, 2 the file in `slot`. */
   whose: number;
   slot: number;
   /** How many sectors of the chain come before it. */
@@ -110,7 +110,7 @@ export interface Lost {
   id: boolean;
 }
 
-/** What the drive says on channel 15: its line is such as 01, FILES SCRATCHED,05,00. */
+/** The drive's answer on channel 15, with a line such as 01, FILES SCRATCHED,05,00. */
 export interface Said {
   number: number;
   first: number;
@@ -142,12 +142,12 @@ export interface Drive {
 export interface Library {
   version(): number;
   open(image: Uint8Array, settings?: DriveSettings): Drive;
-  /** Throws Refused, with what is wrong first as its place, when the disk isn't sound. */
+  /** Throws Refused, with the first fault as its place, if the disk isn't sound. */
   check(image: Uint8Array): void;
   title(image: Uint8Array): Title;
   /** The entry of a slot of the directory, or null past the last one. */
   entry(image: Uint8Array, slot: number): Entry | null;
-  /** All entries, those of empty slots too: the place in the list is the slot. The status is 0, or says why the directory breaks off after them. */
+  /** All entries, those of empty slots too: the index is the slot. The status is 0, or the reason why the directory breaks off after them. */
   entries(image: Uint8Array): { entries: Entry[]; status: number };
   flaws(image: Uint8Array): Flaw[];
   /** The slots of the odd entries, if nothing else is wrong with the disk; null if more is. */
@@ -159,7 +159,7 @@ export interface Library {
   /** All of the files, or none. */
   putAll(image: Uint8Array, files: { text: Bytes; data: Bytes }[]): Uint8Array;
   command(image: Uint8Array, text: Bytes): Uint8Array;
-  /** What the drive says after a command, and the image; null if the drive refused it. */
+  /** The drive's answer to a command, and the image; null if the drive refused it. */
   commandStatus(image: Uint8Array, text: Bytes): { image: Uint8Array | null; status: Said };
   /** The file in a slot, whatever its name is; the others give the image after the change. */
   read(image: Uint8Array, slot: number): Uint8Array;
@@ -173,9 +173,9 @@ export interface Library {
   retitle(image: Uint8Array, title: Bytes): Uint8Array;
   /** Other five bytes after the title: the id, a byte, and the two of the DOS. */
   remark(image: Uint8Array, mark: Bytes): Uint8Array;
-  /** What is left of a disk without its odd entries: a sound disk, with a locked DEL in the slot of each. */
+  /** The disk without its odd entries: a sound disk, with a locked DEL in the slot of each. */
   putAway(image: Uint8Array): Uint8Array;
-  /** An image that was made of what was left, with the odd entries of `image` again. Throws Refused, 26, if the change touched one of them. */
+  /** A changed image from putAway, with the odd entries of `image` again. Throws Refused, 26, if the change touched one of them. */
   putBack(image: Uint8Array, changed: Uint8Array): Uint8Array;
   create(form: Form, title: Bytes, id: Bytes): Uint8Array;
   convert(image: Uint8Array): { image: Uint8Array; lost: Lost };

@@ -11,7 +11,7 @@ from .refusals import ABSENT, INVALID, Refused
 __all__ = ["Drive", "Pace", "Pulls", "Reaction"]
 
 
-# How many bytes a state has beside the disk's image, at most.
+# The most bytes of a state in addition to the disk's image.
 _STATE = 16384
 
 
@@ -42,8 +42,8 @@ class Reaction(NamedTuple):
 class Drive:
     """A drive, switched on with the disk of an image. It may be used in a `with` block, which closes it.
 
-    The caller joins the lines: one is low if anyone pulls it. The loop, at each access of the port at `now`: while `next_due` is before `now`, call `due`; tell
-    all other parties what changed; tell the drive by `lines` what all others hold.
+    The caller joins the lines: one is low if anyone pulls it. The loop, at each access of the port at `now`: while `next_due` is before `now`, call `due`, and pass
+    the changes to all other parties. Pass the lines that all others pull to the drive with `lines`.
     """
 
     def __init__(
@@ -70,7 +70,7 @@ class Drive:
     # --- the bus
 
     def lines(self, moment: int, atn: bool, clock: bool, data: bool) -> None:
-        """Tells the drive that from this moment on all others together hold these lines low. Refused: a reaction is due before, or time goes back."""
+        """From this time on, all others together pull these lines low. Refused: a reaction is due before, or time goes back."""
         _library.check(library.y1541_lines(self._handle, _moment(moment), bool(atn), bool(clock), bool(data)))
 
     @property
@@ -96,7 +96,7 @@ class Drive:
         return Pulls(bool(pulls.clock_low), bool(pulls.data_low))
 
     def reset(self) -> None:
-        """Switches the drive off and on with its disk. It takes all lines for free until it is told by `lines`."""
+        """Switches the drive off and on with its disk. It assumes that all lines are free until `lines` is called."""
         _library.check(library.y1541_reset(self._handle))
 
     # --- the disk

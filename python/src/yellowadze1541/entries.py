@@ -32,7 +32,7 @@ class Entry(NamedTuple):
     record_length: int  # of a relative file
     track: int  # of the first block
     sector: int
-    field: bytes  # the name's sixteen bytes, with what stands after its end
+    field: bytes  # the name's sixteen bytes, with the bytes after its end
 
     @property
     def is_empty(self) -> bool:

@@ -26,10 +26,10 @@ class BusError(Exception):
 
 
 class Host:
-    """A computer with a KERNAL, by the model of kernal.py. `device` is the drive that it speaks to, the first one if none is said."""
+    """A computer with a KERNAL, by the model of kernal.py. `device` is the drive that it addresses; the default is the first one."""
 
     def __init__(self, *drives: Drive, device: Optional[int] = None, computer: Computer = Computer.PAL, seed: int = 0) -> None:
-        """The computer is switched on beside these drives. The seed decides what its program does between two calls."""
+        """Switches the computer on, connected to these drives. The seed decides the time between two calls of its program."""
         if not drives:
             raise ValueError("a host needs a drive")
         self.device = drives[0].device if device is None else device

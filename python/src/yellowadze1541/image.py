@@ -66,7 +66,7 @@ class Image:
         self._data = bytes(data)
         self._path: Optional[str] = None
         self._saved: Optional[Bytes] = None
-        # (of these bytes: what was answered, and the entries)
+        # (of these bytes: the answer of the library, and the entries)
         self._listed: Optional[Tuple[Bytes, int, List[Entry]]] = None
         said = library.y1541_image_title(*self._given, _library.Title())
         if said == NO_IMAGE:
@@ -105,7 +105,7 @@ class Image:
     def save(self, path: Union[str, "os.PathLike[str]", None] = None, replace: bool = False) -> None:
         """Saves the image in its file, or in another one, to which it belongs from then on. At any exception the file is as it was.
 
-        Changed: another program changed the file since it was opened. FileExistsError: another file is there, and isn't to be replaced.
+        Changed: another program changed the file since it was opened. FileExistsError: another file exists, and isn't to be replaced.
         """
         if path is None and self._path is None:
             raise ValueError("the image has no file yet: say a path")
@@ -197,7 +197,7 @@ class Image:
         return _readable(_library.given(library.y1541_image_list, _LISTING, *self._given, pattern, len(pattern)), charset)
 
     def check(self) -> Optional[Flaw]:
-        """What is wrong with the disk first; None: it is sound."""
+        """The first fault of the disk, or None if it is sound."""
         first = _library.Place()
         said = library.y1541_image_check(*self._given, first)
         if said == UNSOUND:
@@ -212,7 +212,7 @@ class Image:
         return [_flaw(*it) for it in found]
 
     def odd(self) -> List[Entry]:
-        """The odd entries of a disk that is sound but for these, as lines of art or loops: none if it is sound. Unsound: something else is wrong.
+        """The odd entries of a disk that is sound but for these, such as directory art or loops; none if it is sound. Unsound: more is wrong.
 
         A change leaves them alone. Refused: a change of one of them (26).
         """
@@ -222,7 +222,7 @@ class Image:
         return [it for it in self.slots() if it.slot in odd]
 
     def convert(self, lossy: bool = False) -> "Image":
-        """The image in the other format, D64 or G64. Lossy: it would lose something, and that isn't wanted."""
+        """The image in the other format, D64 or G64. Lossy: it would lose something, and lossy isn't set."""
         lost = _library.LostStruct()
         data = _library.given(library.y1541_image_convert, _library.FORMATTED_G64, *self._given, lost)
         gone = Lost(lost.unreadable, bool(lost.tracks), bool(lost.errors), bool(lost.id))
@@ -260,7 +260,7 @@ class Image:
         self._data = after._data
 
     def rewrite(self, which: Which, data: Bytes, type: Optional[FileType] = None) -> None:
-        """Gives a file other bytes, and another type if one is said, in its place in the directory. The old blocks are free for them. Refused: it is locked (26) .."""
+        """Gives a file other bytes, and another type if one is given, in its place in the directory. The old blocks are free for them. Refused: it is locked (26) .."""
         old = self._entry_of(which)
         letter = self._letter_to_write(old.type if type is None else type)
         after = Image(self._data)
@@ -327,7 +327,7 @@ class Image:
         self._data = after._data
 
     def validate(self) -> None:
-        """Removes files that were never closed and frees lost blocks, as the drive's VALIDATE, also on a disk whose BAM is wrong.
+        """Removes files that were never closed and frees lost blocks, like the drive's VALIDATE, even on a disk with a wrong BAM.
 
         Foreign: the disk has files of GEOS, whose blocks it would free. Refused: the disk has another flaw. Unsound: lost blocks may be the rest of an odd entry.
         """
@@ -372,7 +372,7 @@ class Image:
         return max(len(self._data), _library.FORMATTED_G64) if self.form == Form.G64 else len(self._data)
 
     def _head(self) -> _library.Title:
-        """What 18/0 says."""
+        """The fields of 18/0."""
         title = _library.Title()
         _library.check(library.y1541_image_title(*self._given, title), "18/0")
         return title
@@ -422,7 +422,7 @@ class Image:
         _library.check(said)
 
     def _left(self) -> Bytes:
-        """What is left of the image without its odd entries. Unsound: more is wrong."""
+        """The image without its odd entries. Unsound: more is wrong."""
         said, data = _library.filled(library.y1541_image_put_away, self._room, *self._given)
         self._check(UNSOUND if said > 0 else said)
         return data
@@ -438,7 +438,7 @@ class Image:
         return _library.filled(library.y1541_image_put_away, self._room, *self._given)[0] == 0
 
     def _mended(self) -> Bytes:
-        """The image after VALIDATE by a drive: the library's command takes a sound disk alone."""
+        """The image after VALIDATE by a drive: the library's command accepts only a sound disk."""
         # (both import this file)
         from .drive import Drive
         from .host import Host, refusal_of
@@ -450,7 +450,7 @@ class Image:
             return drive.image.bytes
 
     def _put(self, files: List[Tuple[Bytes, Bytes, Bytes]]) -> None:
-        """Writes files of names that aren't there, of bytes and of a letter: where the text of an OPEN can't say a name, under another one first."""
+        """Writes files under new names, each with its bytes and a letter. If the text of an OPEN can't express a name, the file gets another one first."""
         unused = self._unused_names({codes for codes, _, _ in files})
         first = [codes if _PLAIN.issuperset(codes) else next(unused) for codes, _, _ in files]
         texts = [b"0:" + name + b"," + letter + b",W" for name, (_, _, letter) in zip(first, files)]
@@ -488,7 +488,7 @@ def _line(status: _library.SaidStruct) -> str:
 
 
 def _place(entry: Entry) -> Tuple[bytes, int, int]:
-    """What tells a file from others: its name and its first block."""
+    """The name and first block of a file, which identify it."""
     return entry.name, entry.track, entry.sector
 
 
@@ -506,7 +506,7 @@ def _meant(which: Which, among: List[Entry]) -> Entry:
 
 
 def _said(which: Which) -> str:
-    """A file as it was said."""
+    """A file in the words of the caller."""
     if isinstance(which, Entry):
         return f"{which.text()} in slot {which.slot}"
     return f"slot {which}" if isinstance(which, int) else petscii.text(name_codes(which))

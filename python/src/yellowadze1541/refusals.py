@@ -45,7 +45,7 @@ WORDS = {
     **_READ_ERRORS,
     **_SYNTAX_ERRORS,
 }
-# What the numbers of a check mean; a test compares them with what disk1541 says.
+# The meaning of the numbers of a check; a test compares them with disk1541's messages.
 FLAWS = {
     1: "the count of the track's free blocks isn't the number of blocks marked free",
     2: "the block is in use, but marked free",
@@ -85,7 +85,7 @@ class Lost(NamedTuple):
 
 
 class Refused(Exception):
-    """The library, or the drive, refuses a call: `number` is below 0, or a status of the drive; `text` has its words, `line` what channel 15 said to a command."""
+    """The library, or the drive, refuses a call: `number` is below 0, or a status of the drive; `text` has its words, `line` the answer of channel 15 to a command."""
 
     def __init__(self, number: int, about: str = "", line: str = "") -> None:
         self.number, self.line = number, line
@@ -95,7 +95,7 @@ class Refused(Exception):
 
 
 class Unsound(Refused):
-    """The disk isn't sound, and so isn't changed: `flaw` has what is wrong first."""
+    """The disk isn't sound, so it isn't changed: `flaw` is its first fault."""
 
     def __init__(self, flaw: Flaw) -> None:
         super().__init__(UNSOUND, flaw.text)
@@ -111,7 +111,7 @@ class BrokenDirectory(Refused):
 
 
 class Lossy(Exception):
-    """An image of the other format would lose something: `lost` says what."""
+    """An image of the other format would lose something: `lost` has the losses."""
 
     def __init__(self, lost: Lost) -> None:
         super().__init__(f"the other format can't hold everything: {lost}")
@@ -119,7 +119,7 @@ class Lossy(Exception):
 
 
 class Foreign(Exception):
-    """The disk has what the drive doesn't know (files of GEOS, Dolphin DOS's map of tracks 36 to 40), and what was asked would damage it."""
+    """The disk has structures that the drive doesn't know (GEOS files, Dolphin DOS's map of tracks 36 to 40), and the change would damage them."""
 
 
 class Changed(Exception):
