@@ -3,18 +3,18 @@
 Its lines, one after another:
 
     == TITLE             a case begins
-    with CC1541          it is passed over, and that is said, if no such program is installed
+    with CC1541          it is skipped, with a line, if no such program is installed
     do COMMAND           what makes the files to begin with; it must end with 0
     - NAME               a step: it has one of the next two
     $ COMMAND            runs the program: status, output and errors are compared, and kept in out.txt and err.txt
-    ? COMMAND            looks at what is there: it must end with 0, and print nothing
-    status N             of `$`: 0 if it isn't said
+    ? COMMAND            tests the result: it must end with 0, and print nothing
+    status N             of `$`; default 0
     > TEXT               a line of what it prints; nothing if there is no such line
     out any              it may print anything
     out of COMMAND       it prints what this command prints
     ! TEXT, err any      the same of standard error
 
-A line that is indented by four spaces goes on with the command above it. Commands are a shell's; the programs, `poke`, $examples and $here are there.
+A line that is indented by four spaces goes on with the command above it. Commands are a shell's, with the programs, `poke`, $examples and $here.
 Prints a line for each step, which begins with ok or WRONG; ends with 1 if one is WRONG. With --only it plays the cases whose title has TEXT, and --keep
 leaves their folders in FOLDER."""
 import argparse, concurrent.futures, glob, os, shutil, subprocess, sys, tempfile
@@ -27,7 +27,7 @@ ROOM = "/dev/shm" if os.access("/dev/shm", os.W_OK) else None
 
 
 class Step:
-    """A command, and what is wanted of it."""
+    """A command, and its expected results."""
 
     def __init__(self, name):
         self.name, self.command, self.is_run, self.status = name, None, False, 0
@@ -107,7 +107,7 @@ def keep(folder, out, err):
 
 
 def wrong_with(step, folder):
-    """What differs from what is wanted, nothing if all is right."""
+    """The difference from the expected results, or nothing."""
     makers = {word: run(maker, folder)[1] for word, maker in step.maker.items() if maker}
     status, out, err = run(step.command, folder)
     if step.is_run:

@@ -1,7 +1,7 @@
 #!/bin/sh
-# Runs disk1541 as docs/disk1541.md says, and over many generated disks; its plain cases are data (check_cases.py).
-# Usage: sh check_disk1541.sh DISK1541 [DISKS] (the path of the built program, and how many disks are generated, 1000 if none is
-# said). Prints one line a case; ends with 1 if one is wrong.
+# Runs the commands of docs/disk1541.md, and disk1541 over many generated disks; its plain cases are data (check_cases.py).
+# Usage: sh check_disk1541.sh DISK1541 [DISKS] (the path of the built program, and how many disks are generated, 1000 by
+# default). Prints one line a case; ends with 1 if one is wrong.
 disk=$(realpath "$1")
 disks=${2:-1000}
 . "$(dirname "$(realpath "$0")")/checks.sh"

@@ -1,5 +1,5 @@
 # Read by the scripts of this folder: a folder to work in, and how a line is printed for each case.
-# A script says: . "$(dirname "$(realpath "$0")")/checks.sh"
+# A script has: . "$(dirname "$(realpath "$0")")/checks.sh"
 set -u
 here=$(dirname "$(realpath "$0")")
 examples=$(realpath "$here/../../examples")
@@ -7,7 +7,7 @@ work=$(mktemp -d)
 trap 'rm -rf "$work"' EXIT
 wrong=0
 
-# name, wanted status, wanted standard output, wanted standard error, then the command; any stands for whatever is printed
+# name, expected status, standard output and standard error, then the command; `any` accepts any output
 case_of() {
     name=$1 want=$2 out=$3 text=$4
     shift 4

@@ -1,7 +1,7 @@
 #!/usr/bin/env python3
-"""definitions.py [--check]: makes docs/proved/definitions/ from the comments in specs/: README.md below its mark (what is above it is written by hand), and a
+"""definitions.py [--check]: makes docs/proved/definitions/ from the comments in specs/: README.md below its mark (the part above is written by hand), and a
 page for each part of PARTS. A page lists, promise by promise, the definitions that the contracts reach (tools/lib/reached.py), each once, under the first
-promise that reaches it. A definition has the comment above it as its sentence, or none; a sentence that stood before is given by the name that has it.
+promise that reaches it. A definition has the comment above it as its sentence, or none; an earlier sentence is cited by the name that has it.
 --check changes nothing, and ends with 1 if a page isn't what this makes. In the crates of COMPLETE each definition must have a sentence of its own."""
 import dataclasses, pathlib, re, sys
 
@@ -15,7 +15,7 @@ MARK = "<!-- What follows is made by tools/docs/definitions.py, and isn't change
 
 @dataclasses.dataclass(frozen=True)
 class Promise:
-    """What is promised, and the functions whose contracts say it: NAME, or NAME:LABEL for one clause of it."""
+    """A promise, and the functions with its contracts: NAME, or NAME:LABEL for one clause of it."""
 
     text: str
     crate: str
@@ -186,7 +186,7 @@ class Book:
         return sum(len(self.specs.files[module][0][name]) for module, name in found)
 
     def said(self, module, name):
-        """What a list says of a definition: its sentence, the name that had the same one before, or that it has none."""
+        """The entry of a definition in a list: its sentence, the name that had the same one before, or that it has none."""
         sentence = self.sentences[module].get(name, "").rstrip(".")
         before = self.first.setdefault(sentence, (module, name))
         if not sentence:
@@ -222,7 +222,7 @@ def spelled(name):
 
 
 def made(book):
-    """The pages, by name: of README.md what stands below the mark."""
+    """The pages, by name; of README.md the part below the mark."""
     every = {part: [Promise(text, crate, tuple(names.split())) for text, crate, names in rows] for part, rows in PARTS.items()}
     reached = {(it, name): book.reached(it.crate, name) for rows in every.values() for it in rows for name in it.names}
     return {"README.md": MARK + index(book, every, reached), **{f"{PAGES[it]}.md": part_page(book, it, every[it], reached) for it in every}}

@@ -1,4 +1,4 @@
-"""What a program's --help says, as a page for man, and as completions for bash, zsh and fish."""
+"""A program's --help as a page for man, and as completions for bash, zsh and fish."""
 import re, subprocess
 
 OPTION = re.compile(r" +(?:(-\w), )?(--[\w-]+)(?:(?: |\[=)<([^>]+)>\]?)?\s{2,}(.*)")
@@ -17,7 +17,7 @@ class Option:
 
 
 class Help:
-    """What one --help says: the sentence, how it is used, the words, the options, the commands, and what stands after them."""
+    """One --help: its sentence, the usage, the arguments, the options, the commands, and the text after them."""
 
     def __init__(self, text):
         self.about, self.usage, self.arguments, self.options, self.commands, self.end = "", "", [], [], [], []
@@ -27,7 +27,7 @@ class Help:
             if line.startswith("Usage: "):
                 self.usage = line.removeprefix("Usage: ")
             elif line.endswith(":") and line.startswith(("Commands", "Arguments", "Options")):
-                # (the commands may stand in several groups)
+                # (the commands can be in several groups)
                 part = line.split()[0].strip(",:")
             elif line == "Examples:":
                 part = "end"
