@@ -5,8 +5,8 @@ there from top to bottom:
 - in a block of sh, each line; it must end with 0, or with N if its comment begins with `# status N`;
 - in any other block, each line after `$ `; it must print exactly the lines that follow (spaces at their ends don't count), standard error among them.
 
-OTHERS has the commands that aren't run here, by their first word, and who runs them; any command that is in neither list is wrong. A command of a program that
-isn't installed is passed over, and that is said. Prints a line for each command, which begins with ok or WRONG; ends with 1 if one is WRONG."""
+A command of any other program than those of RUN is wrong: build steps, which need the kit or the C library, are in blocks without a prompt, and run by tools/gate.d/library,
+tools/forms, tools/release and check_python.sh. A command of a program that isn't installed is skipped, with a line. Prints a line for each command, which begins with ok or WRONG; ends with 1 if one is WRONG."""
 import os, pathlib, re, shutil, subprocess, sys, tempfile
 
 ROOT = pathlib.Path(__file__).resolve().parents[2]
@@ -14,8 +14,6 @@ PAGES = ("README.md", "docs/disk1541.md", "docs/disk1541/damaged.md", "docs/emul
 # The programs that are run, and those of them that may be missing.
 RUN = ("disk1541", "drive1541", "printf", "cp", "cc1541", "sigrok-cli", "python3")
 OPTIONAL = ("cc1541", "sigrok-cli")
-# What needs the kit, the C library or a right to install, and is run by tools/test, tools/gate, tools/forms or tools/release.
-OTHERS = ("(cd", "cd", "make", "cc", "tar", "sudo", "pip", "mkdir", "fusermount3", "tools/forms", "tools/release", "yellowadze1541-VERSION-x86_64-linux/bin/disk1541", "sh", "rt", "cargo")
 # Seconds that a command may take.
 LIMIT = 60
 
@@ -42,7 +40,7 @@ def commands(text):
 
 
 def prompted(lines):
-    """The commands after `$ ` in a block, with what follows each. Lines without a prompt before the first one are commands if they begin as one of ours."""
+    """The commands after `$ ` in a block, each with the lines that follow it."""
     shown = None
     for line in [*lines, "$ "]:
         if line.startswith("$ "):
@@ -84,8 +82,6 @@ def play(page, folder):
     wrong = 0
     for command, status, lines in commands((ROOT / page).read_text("utf-8")):
         first = command.split()[0]
-        if first in OTHERS:
-            continue
         name = f"{page}: {command}"
         if first in OPTIONAL and not shutil.which(first):
             print(f"{first} isn't installed, so this isn't tried: {name}")
