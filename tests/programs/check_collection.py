@@ -1,10 +1,10 @@
 #!/usr/bin/env python3
 """check_collection.py DISK1541 DRIVE1541 [--disks N] [--only TEXT] [--keep FOLDER]: a collector's job over a tree of generated images (collection.py), N of
-which are of a 1541's disk. What is wanted comes from a plain model (source_model.py, g64_image.py), or from what drive1541 gives of the same image.
-Each image of the tree is named once by check, list, hash and find, also in JSON. No file that the drive gives is withheld. No command that ends with 0
-loses a byte of a closed file that it doesn't name, and one that is refused leaves the image as it was.
-Prints a line for what holds, with the number of images, and one for each that is WRONG; ends with 1 if one is. With 72 images it takes half a minute.
-With --only the images of the 1541's disk are those whose path has TEXT, and --keep leaves the tree in FOLDER."""
+which are of a 1541 disk. Expected values come from a plain model (source_model.py, g64_image.py), or from drive1541 on the same image.
+Each image of the tree is named once by check, list, hash and find, and in JSON. No file that the drive gives is withheld. No command that ends with 0
+loses a byte of a closed file that it doesn't name, and a refused one leaves the image unchanged.
+Prints a line for each property, with the number of images, and one for each that is WRONG; ends with 1 if one is. With 72 images it takes half a minute.
+With --only, only images of a 1541 disk whose path has TEXT are used; --keep leaves the tree in FOLDER."""
 import argparse, collections, concurrent.futures, hashlib, json, os, re, shutil, subprocess, sys, tempfile
 
 import collection

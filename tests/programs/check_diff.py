@@ -1,6 +1,6 @@
 #!/usr/bin/env python3
-"""check_diff.py DISK1541 [PAIRS]: what `disk1541 diff` prints of two images, and `disk1541 show` of a file, compared with a model in Python that goes by
-the rules of docs/disk1541/ (json.md, files.md) and of the D64 format. The images are those of generated_disks.py and what is made of them: other bytes, titles, entries,
+"""check_diff.py DISK1541 [PAIRS]: the output of `disk1541 diff` for two images, and of `disk1541 show` for a file, compared with a model in Python that follows
+the rules of docs/disk1541/ (json.md, files.md) and of the D64 format. The images are those of generated_disks.py and variants of them: other bytes, titles, entries,
 links, error bytes, blank tracks, as a D64 or a G64. A BASIC program is also compared with petcat, if that is installed. Prints one line a case, which
 begins with ok or WRONG; ends with 1 if one is wrong."""
 import json, os, random, shutil, subprocess, sys, tempfile

@@ -1,11 +1,11 @@
 #!/usr/bin/env python3
-"""check_direct.py DRIVE1541 [--scripts N] [--only WORD]: random scripts of direct access, and what a plain model in Python says of them.
+"""check_direct.py DRIVE1541 [--scripts N] [--only WORD]: random scripts of direct access, compared with a plain model in Python.
 1. Scripts of buffers and commands on blocks, on a disk of random bytes, which isn't sound: each answer is the model's, and the image stays as it is.
 2. The same on an empty disk: each answer is the model's, and so is each byte of the image.
 3. The first with --direct=raw, which writes any block: each answer is the model's, and so is each byte of the image.
-4. Scripts of files alone: with --direct all is printed and saved as without it.
+4. Scripts of files only: with --direct everything is printed and saved as without it.
 5. Scripts of both, with files open: the image is sound after each, and each file that was closed reads as it was written.
-With --only those alone whose names contain the word. Prints one line a case. Last line: 'N passed, M failed'."""
+With --only, only those whose names contain the word. Prints one line a case. Last line: 'N passed, M failed'."""
 import argparse, os, random, subprocess, sys, tempfile
 
 SECTORS = [0] + [21] * 17 + [19] * 7 + [18] * 6 + [17] * 5

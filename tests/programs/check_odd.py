@@ -1,10 +1,9 @@
 #!/usr/bin/env python3
-"""check_odd.py DISK1541 [--disks N]: disks with odd entries, as lines of art that lead into the directory, loops, unknown types. A plain model here knows the
-entries, the sectors that they lead to, and the files. Each command that changes a disk must change what is left as it changes a disk without such entries,
-and leave them alone: each in its slot byte for byte, each sector that it leads to as it was, taken in the BAM, and given to no file. Where that can't be,
-nothing is changed, and the sentence names the sector. With N disks (60 by default), every fifth also as a G64; beyond
-60 one command is tried on each, and 10,000 take some minutes. Prints a line for what holds, with the number of disks, and one for each that is WRONG;
-ends with 1 if one is."""
+"""check_odd.py DISK1541 [--disks N]: disks with odd entries, such as directory art that leads into the directory, loops, unknown types. A plain model here knows the
+entries, the sectors that they lead to, and the files. Each command must change the rest of the disk like a disk without such entries, and leave the odd entries
+untouched: each in its slot byte for byte, each sector that it leads to unchanged, in use in the BAM, and in no file. If that is impossible, nothing is changed,
+and the message names the sector. With N disks (default 60), every fifth also as a G64; beyond 60 one command is tried on each, and 10,000 take some minutes.
+Prints a line for each property, with the number of disks, and one for each that is WRONG; ends with 1 if one is."""
 import argparse, collections, os, random, shutil, subprocess, sys, tempfile
 
 words = argparse.ArgumentParser(description=__doc__, formatter_class=argparse.RawDescriptionHelpFormatter)

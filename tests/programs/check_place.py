@@ -1,9 +1,9 @@
 #!/usr/bin/env python3
-"""check_place.py DISK1541 [--moves N]: `disk1541 place`, and recipes that say where files lie. A plain model here lays blocks out, and says what the whole
-new image is: each move must give just that image, byte for byte. So a file has the same bytes, its entry differs in its first block alone, every other
-file stays, and what the file left is zeros and free. With N moves (400 by default) on generated disks of all fillings, with lost blocks, locked and
-relative files; every tenth of them on a G64, whose sectors are compared. Then what is refused, which leaves the image as it was; kills while a move is saved; and, if cc1541 is
-installed, disks that it and `build` make, which must be the same file. Prints a line for what holds, with the number of cases, and one for each that
+"""check_place.py DISK1541 [--moves N]: `disk1541 place`, and recipes with places for their files. A plain model here places the blocks and computes the whole new
+image; each move must give exactly that image, byte for byte. So a file has the same bytes, only the first block in its entry differs, every other file is
+unchanged, and the file's old sectors are zeros and free. N moves (default 400) are made on generated disks of all fillings, with lost blocks, locked and
+relative files; every tenth of them on a G64, whose sectors are compared. Then come refused moves, which leave the image unchanged; kills during a save; and, if
+cc1541 is installed, disks that it and `build` make, which must be the same file. Prints a line for each property, with the number of cases, and one for each that
 is WRONG; ends with 1 if one is."""
 import argparse, os, random, shutil, subprocess, sys, tempfile, time
 

@@ -1,5 +1,5 @@
 #!/bin/sh
-# Runs drive1541 without leave to write, in want of memory, and line by line from a pipe; its plain cases are data (check_cases.py).
+# Runs drive1541 without permission to write, without memory, and line by line from a pipe; its plain cases are data (check_cases.py).
 # Usage: sh check_program.sh DRIVE1541 (the path of the built program). Prints one line a case; ends with 1 if one is wrong.
 drive=$(realpath "$1")
 . "$(dirname "$(realpath "$0")")/checks.sh"

@@ -1,6 +1,6 @@
 #!/bin/sh
 # Builds the wheel of python/, installs it in a new environment that has nothing else, and runs python/tests there.
-# Usage: sh check_python.sh LIBRARY DISK1541 (the shared library of capi/, and the built program). PYTHON names the Python to take, python3 if none is said.
+# Usage: sh check_python.sh LIBRARY DISK1541 (the shared library of capi/, and the built program). PYTHON names the Python to use, by default python3.
 # Prints a line a test; the last one is 'N passed, N failed'. Ends with 1 if one failed.
 set -eu
 library=$(realpath "$1")

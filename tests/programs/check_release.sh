@@ -1,7 +1,7 @@
 #!/usr/bin/env bash
-# check_release.sh OUT: tries what tools/release made in OUT, with nothing of the kit. From the archive, in a fresh folder and with an empty environment, a
+# check_release.sh OUT: tries the results of tools/release in OUT, without the kit. From the archive, in a fresh folder and with an empty environment, a
 # disk is listed, read, written and checked, a script is run, and an example is linked by pkg-config. The module, the C file and the library for aarch64 do
-# what the library does, where there are node, cc and qemu. The packages are installed into an empty root, replace older ones, and go without a trace.
+# the same as the library, if node, cc and qemu are installed. The packages are installed into an empty root, replace older ones, and are removed without a trace.
 set -eu
 out=$(cd "$1" && pwd)
 top=$(cd "$(dirname "$0")/../.." && pwd)

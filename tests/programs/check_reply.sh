@@ -1,5 +1,5 @@
 #!/bin/sh
-# Talks with drive1541 reply from outside: line changes and traces played by hand, a computer in Python; what is refused is data (check_cases.py).
+# Talks with drive1541 reply from outside: line changes and traces played by hand, a computer in Python; refused lines are data (check_cases.py).
 # Usage: sh check_reply.sh DRIVE1541 [DISK1541] (the paths of the built programs). Prints one line a case; ends with 1 if one is wrong.
 drive=$(realpath "$1")
 tool=${2:+$(realpath "$2")}

@@ -1,7 +1,7 @@
 #!/bin/sh
-# How disk1541 saves: several programs at once, kills at any moment, want of memory, and faults of this computer that need leave or a full disk.
+# How disk1541 saves: several programs at once, kills at any time, lack of memory, and host faults that need permissions or a full disk.
 # Usage: sh check_saving.sh DISK1541 (the path of the built program). Prints one line a case; ends with 1 if one is wrong. As root it also
-# tries a full disk and a folder without leave.
+# tries a full disk and a folder without permission.
 disk=$(realpath "$1")
 . "$(dirname "$(realpath "$0")")/checks.sh"
 cd "$work" || exit 1

@@ -1,7 +1,7 @@
 #!/usr/bin/env python3
-"""check_sources.py DISK1541 [--damaged N]: disks and archives of other kinds, from which disk1541 only reads: D64 of other sizes, D71, D81, T64, Lynx. They
-are made here by a plain writer, and by cc1541 and cbmconvert if they are installed. Each file's bytes are compared, also after `transfer` and `convert` to a
-D64 and a G64. Of N damaged ones (1,000; 20,000 take a minute) JSON must say what source_model.py reads, and a sentence must name each that is broken.
+"""check_sources.py DISK1541 [--damaged N]: disks and archives of other kinds, which disk1541 only reads: D64 of other sizes, D71, D81, T64, Lynx. They
+are made here by a plain writer, and by cc1541 and cbmconvert if they are installed. Each file's bytes are compared, and again after `transfer` and `convert` to a
+D64 and a G64. Of N damaged ones (default 1,000; 20,000 take a minute) JSON must agree with source_model.py, and a message must name each broken one.
 Prints one line a case, which begins with ok or WRONG; ends with 1 if one is wrong."""
 import argparse, csv, io, json, os, random, shutil, subprocess, sys, tempfile
 import source_model as model

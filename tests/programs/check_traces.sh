@@ -1,5 +1,5 @@
 #!/bin/sh
-# Looks at the traces of drive1541 from outside: its VCD, decoded by sigrok-cli (where that is installed) and turned into lines by awk, and its pictures; the judge's cases are data (check_cases.py).
+# Checks the traces of drive1541 from outside: its VCD, decoded by sigrok-cli (if that is installed) and turned into lines by awk, and its pictures; the judge's cases are data (check_cases.py).
 # Usage: sh check_traces.sh DRIVE1541 (the path of the built program). Prints one line a case; ends with 1 if one is wrong.
 drive=$(realpath "$1")
 . "$(dirname "$(realpath "$0")")/checks.sh"

@@ -1,4 +1,4 @@
-"""A collection of images, made here byte by byte: sound ones, damaged ones, and whatever else lies in a collector's folders."""
+"""A collection of images, made here byte by byte: sound ones, damaged ones, and everything else in a collector's folders."""
 import gzip, io, os, random, zipfile
 
 import g64_image as g64

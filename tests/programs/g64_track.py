@@ -1,5 +1,5 @@
 #!/usr/bin/env python3
-"""g64_track.py G64 TRACK: what `disk1541 track` must print of a track, read bit by bit from the format's rules: a sync mark is ten ones or more, a
+"""g64_track.py G64 TRACK: the expected output of `disk1541 track` for a track, read bit by bit from the format's rules: a sync mark is ten ones or more, a
 zero ends it and begins a block of group code, four bytes in five."""
 import struct, sys
 

@@ -1,9 +1,9 @@
 #!/usr/bin/env python3
-"""generated_disks.py DISK1541 [DISKS]: sound disks made here, byte by byte, and what disk1541 says of each.
+"""generated_disks.py DISK1541 [DISKS]: sound disks made here, byte by byte, and the answers of disk1541 for each.
 
-A plain writing of the D64 format (Inside Commodore DOS), apart from the program's own code. Of each disk, as a D64 or turned
-into a G64, the directory must be what was put on it, line for line; `get-all` must give each file byte for byte, under the name
-that docs/disk1541.md promises; each file is put on a new disk of the other format, which then must have it byte for byte; and
+A plain writer of the D64 format (Inside Commodore DOS), independent of the program's code. For each disk, as a D64 or converted
+to a G64: the directory must be the written one, line for line; `get-all` must give each file byte for byte, under the name that
+docs/disk1541/files.md promises. Each file is added to a new disk of the other format, which then must have it byte for byte; and
 both must be sound. Prints one line; ends with 1 if a disk is wrong, which it names.
 """
 

@@ -1,8 +1,8 @@
 #!/usr/bin/env python3
-"""generated_names.py DISK1541: names of any bytes on disks made here, in the folder where it is called.
+"""generated_names.py DISK1541: names of any bytes on disks made here, in the current folder.
 
-As the rule of docs/disk1541.md says them, in both character sets: each is shown so, by `list` and in JSON, and what is shown is
-taken back by `get`, `rename`, `copy`, `delete` and `put --name`. Ends with 1 where one isn't.
+By the rule of docs/disk1541/names.md, in both character sets: each is printed by `list` and in JSON as the rule has it, and the
+printed name is accepted by `get`, `rename`, `copy`, `delete` and `put --name`. Ends with 1 if one isn't.
 """
 
 import json

@@ -1,10 +1,10 @@
 #!/usr/bin/env python3
-"""geos_disk.py OUT: a disk as GEOS leaves it, made byte by byte (the GEOS Programmer's Reference Guide; its disk format as others describe it).
+"""geos_disk.py OUT: a disk of GEOS, made byte by byte (from the GEOS Programmer's Reference Guide, and descriptions of its disk format).
 
 LETTER, a document of records (VLIR): its entry leads to 1/0, which lists two records of two blocks and one, 1/2 to 1/4; its info
 block is 1/1. TOOL, an application in one sequence, 1/5 and 1/6, with its info in 1/7. DRAFT, which was never closed, had 1/8.
-18/0 says "GEOS format V1.0", and that the border block is 1/9. 2/5 is a block that nothing uses. To the drive the chain of LETTER
-is 1/0 alone.
+18/0 has "GEOS format V1.0" and the border block, 1/9. 2/5 is an unused block. For the drive the chain of LETTER
+is only 1/0.
 """
 
 import sys

@@ -1,6 +1,6 @@
 #!/usr/bin/env python3
-"""json_model.py map D64, json_model.py sector D64 TRACK SECTOR: what `disk1541 map` and `sector` must print with --json of a D64 of 35 tracks, with error
-bytes or without, read from its bytes. json_model.py track JSON: what `disk1541 track` must print without --json, from what it printed with it. Names are
+"""json_model.py map D64, json_model.py sector D64 TRACK SECTOR: the expected output of `disk1541 map` and `sector` with --json for a D64 of 35 tracks, with error
+bytes or without, read from its bytes. json_model.py track JSON: the expected output of `disk1541 track` without --json, from that with it. Names are
 capital letters and digits here, and no file is relative or GEOS's."""
 import json, sys
 

@@ -1,9 +1,9 @@
 #!/usr/bin/env python3
-"""on_terminal.py DISK1541 IMAGE: what `get-all` tells people at a terminal of how far it has come.
+"""on_terminal.py DISK1541 IMAGE: the progress that `get-all` shows on a terminal.
 
-Where it takes longer than half a second it tells so file by file, and takes the line away at the end; else it tells nothing, and
-never where standard error is no terminal. The image comes by standard input, which waits here as long as a slow disk would. Ends
-with 1 if it is otherwise.
+If it takes longer than half a second, it shows progress file by file, and clears the line at the end. Otherwise it shows nothing, and
+it never does if standard error is not a terminal. The image comes by standard input, which waits here as long as a slow disk would.
+Ends with 1 otherwise.
 """
 
 import os

@@ -1,4 +1,4 @@
-"""What a plain reader finds in disks and archives of other kinds, by the rules of their formats: D64 of each size, D71, D81, T64, Lynx. It has nothing in
+"""A plain reader of disks and archives of other kinds, by the rules of their formats: D64 of each size, D71, D81, T64, Lynx. It has nothing in
 common with the program's code, and check_sources.py compares the two."""
 import bisect, hashlib
 
