@@ -2,15 +2,15 @@
  *
  * What it can't do: no code runs in the drive, so fast loaders can't work; there is no LED, motor or head.
  *
- * Results: 0 is success; numbers below 0 are the call's own refusals (y1541_result); 20 to 74 is the drive's status. Each call names what it may
- * answer beside 0. A call that fails has changed nothing, unless it says so.
- * Moments are microseconds on a clock of the caller's, which may begin anywhere; they are below 2^60, and for one drive never go back.
- * Output: `needed` gets the count of the bytes. Y1541_NO_ROOM: they didn't fit, and none was written. A call that gives no bytes leaves `needed`.
+ * Results: 0 is success; numbers below 0 are the call's own refusals (y1541_result); 20 to 74 is the drive's status. Each call lists its
+ * other results. A call that fails has changed nothing, with the exceptions that it names.
+ * Moments are microseconds on a clock of the caller's, which can begin anywhere; they are below 2^60, and for one drive never go back.
+ * Output: `needed` gets the count of the bytes. Y1541_NO_ROOM: they didn't fit, and none was written. A call without output leaves `needed` unchanged.
  * Pointers must not be NULL, even with a length of 0. Output buffers must not overlap any other argument.
  * No call blocks, starts a thread, reads a file or a clock, prints, or keeps a pointer of the caller's.
  * Threads: the library has no state but its handles. Different handles may be used by different threads at once, one handle by one call at a
  * time. A handle may be passed to another thread; the caller must synchronise.
- * Memory comes from malloc, realloc and free, in the calls marked [m] alone. If there is none, the call answers Y1541_NO_MEMORY.
+ * Memory comes from malloc, realloc and free, only in the calls marked [m]. If there is none, the call answers Y1541_NO_MEMORY.
  * Stack: on x86-64 no call was measured to take more than 64 kB. y1541_open takes 14 kB with a D64 and 46 with a G64, y1541_lines and y1541_due up to 45, the
  * calls that change an image 47 to 59. docs/emulators.md has the table, and answers to questions.
  */
@@ -32,15 +32,15 @@ extern "C" {
 enum y1541_result {
     Y1541_OK = 0,
     Y1541_NO_MEMORY = -1,
-    Y1541_INVALID = -2,  /* an argument is out of its range, or a moment comes too late or too soon */
-    Y1541_NO_ROOM = -3,  /* the output doesn't fit: `needed` says how much room is wanted */
+    Y1541_INVALID = -2,  /* an argument is out of its range, or a moment is too late or too soon */
+    Y1541_NO_ROOM = -3,  /* the output doesn't fit: `needed` has the required room */
     Y1541_ABSENT = -4,   /* no such file, slot, sector or disk; or nothing is due */
-    Y1541_NO_IMAGE = -5, /* not a D64 or G64; or the new image would be taken for one of another format */
+    Y1541_NO_IMAGE = -5, /* not a D64 or G64; or the new image would be recognised as another format */
     Y1541_UNSOUND = -6,  /* the disk isn't sound */
     Y1541_NO_DRIVE = -7  /* the handle is empty; at y1541_open: it holds a drive already */
 };
 
-/* The moment of what never comes. */
+/* The moment of an event that never comes. */
 #define Y1541_NEVER UINT64_MAX
 
 /* A drive's pace: for hosts that keep the bus profile (docs/bus.md), or for the KERNAL of a C64 or a VIC-20. */
@@ -58,14 +58,14 @@ enum y1541_line { Y1541_ATN = 0, Y1541_CLOCK = 1, Y1541_DATA = 2 };
 
 typedef struct y1541_pulls { uint8_t clock_low, data_low; } y1541_pulls;
 typedef struct y1541_reacted { uint64_t moment; uint8_t clock_low, data_low, clock_changed, data_changed; } y1541_reacted;
-typedef struct y1541_signal { uint64_t moment; uint8_t who, line, low; } y1541_signal; /* who: 0 the host, else the device */
-typedef struct y1541_place { uint8_t what, track, sector; } y1541_place; /* what: 1 to 9, docs/scripts.md */
+typedef struct y1541_signal { uint64_t moment; uint8_t who, line, low; } y1541_signal; /* who: 0 the host, or the device */
+typedef struct y1541_place { uint8_t what, track, sector; } y1541_place; /* what: 1 to 9, docs/numbers.md */
 typedef struct y1541_title { uint16_t free; uint8_t title[16], mark[5]; } y1541_title;
 typedef struct y1541_entry { uint16_t blocks; uint8_t kind, closed, locked, record_length, name[16], track, sector; } y1541_entry; /* track, sector: of the file's first block */
-typedef struct y1541_flaw { uint8_t what, track, sector, whose; uint16_t slot, before; } y1541_flaw; /* whose sectors led to it: 0 nobody's, 1 the directory's, 2 those of the file in `slot`; before: how many of them */
+typedef struct y1541_flaw { uint8_t what, track, sector, whose; uint16_t slot, before; } y1541_flaw; /* whose: the owner of the sectors that led to it: 0 none, 1 the directory, 2 the file in `slot`; before: their number */
 typedef struct y1541_lost { size_t unreadable; uint8_t tracks, errors, id; } y1541_lost;
-typedef struct y1541_file { const uint8_t *text; size_t n; const uint8_t *bytes; size_t count; } y1541_file; /* as y1541_image_put takes it */
-typedef struct y1541_said { uint8_t number, first, second, line[33]; } y1541_said; /* line: as text in C, such as 01, FILES SCRATCHED,05,00 */
+typedef struct y1541_file { const uint8_t *text; size_t n; const uint8_t *bytes; size_t count; } y1541_file; /* for y1541_image_put_all, as the arguments of y1541_image_put */
+typedef struct y1541_said { uint8_t number, first, second, line[33]; } y1541_said; /* line: a string in C, such as 01, FILES SCRATCHED,05,00 */
 
 /* --- the library */
 
@@ -74,98 +74,98 @@ uint32_t y1541_version(void);
 
 /* --- a drive on the bus: a wire is low if the drive or any other party pulls it, which the caller joins */
 
-/* [m] Switches a drive on with a copy of the image: device 8 to 11, reaction 1 to 60 microseconds (20 is a good one), a y1541_pace. d must be empty.
+/* [m] Switches a drive on with a copy of the image: device 8 to 11, reaction 1 to 60 microseconds (20 is a good choice), a y1541_pace. d must be empty.
  * The sticker over the notch is is_protected; it can only change by y1541_insert.
  * NO_DRIVE: d holds a drive. INVALID: device, reaction or pace. NO_IMAGE. NO_MEMORY. */
 int32_t y1541_open(y1541 *d, const uint8_t *image, size_t len, uint8_t is_protected, uint8_t device, uint8_t reaction, uint8_t pace);
 
-/* [m] The same, but a drive with direct access (docs/direct.md): it reads single blocks by #, U1 and B-R, writes by U2 and B-W those that are nobody's, and
- * answers UI and M-R, where a drive that y1541_open made answers 70 and 31. All other calls on a drive are the same on it. */
+/* [m] The same, but a drive with direct access (docs/direct.md): it reads single blocks by #, U1 and B-R, writes unused ones by U2 and B-W, and
+ * carries out UI and M-R; a drive of y1541_open answers these with 70 and 31. All other calls work the same on it. */
 int32_t y1541_open_direct(y1541 *d, const uint8_t *image, size_t len, uint8_t is_protected, uint8_t device, uint8_t reaction, uint8_t pace);
 
-/* [m] The same, but raw: U2 and B-W write any block, also of files and of the directory. Each changes that block and no other; the disk needn't stay sound. */
+/* [m] The same, but raw: U2 and B-W write any block, even of files and of the directory. Each changes only that block; the disk can become unsound. */
 int32_t y1541_open_raw(y1541 *d, const uint8_t *image, size_t len, uint8_t is_protected, uint8_t device, uint8_t reaction, uint8_t pace);
 
-/* Ends the drive and frees its memory; d is empty then. Closing an empty handle does nothing. */
+/* Closes the drive and frees its memory; d is then empty. Closing an empty handle does nothing. */
 void y1541_close(y1541 *d);
 
-/* Tells the drive that from this moment on all others together hold these lines low (0: free). If several change, ATN changes first, then CLOCK, then
- * DATA. INVALID: something happened later already, a reaction is due before (make it first: y1541_due), or the moment is too great. NO_DRIVE. */
+/* From this moment on, all others together pull these lines low (0: free). If several change, ATN changes first, then CLOCK, then DATA.
+ * INVALID: the moment is before that of an earlier call; a reaction is due before it (call y1541_due first); or it is 2^60 or more. NO_DRIVE. */
 int32_t y1541_lines(y1541 *d, uint64_t moment, uint8_t atn_low, uint8_t clock_low, uint8_t data_low);
 
 /* The moment of the drive's next reaction; Y1541_NEVER if it waits for a line, or d is empty. */
 uint64_t y1541_next_due(y1541 *d);
 
-/* Performs the reaction due at or before `moment`. `reacted` gets its time, the lines the drive now holds, and which of them changed.
+/* Performs the reaction due at or before `moment`. `reacted` gets its moment, the lines that the drive now pulls, and which of them changed.
  * ABSENT: nothing is due by then. NO_DRIVE. */
 int32_t y1541_due(y1541 *d, uint64_t moment, y1541_reacted *reacted);
 
-/* The lines that the drive holds low now. NO_DRIVE. */
+/* The lines that the drive now pulls. NO_DRIVE. */
 int32_t y1541_pulls_now(y1541 *d, y1541_pulls *pulls);
 
 /* Switches the drive off and on with its disk, as the IEC RESET line does: no channel stays open, a file being written stays unclosed, the drive's
- * lines are free. It takes all lines for free until y1541_lines tells it. Moments and the count of writes go on. NO_DRIVE. */
+ * lines are free. It assumes that all lines are free until y1541_lines is called. Moments and the count of writes go on. NO_DRIVE. */
 int32_t y1541_reset(y1541 *d);
 
 /* --- the disk in a drive, while the drive goes on */
 
-/* [m] The image of the disk as it is now, in the format in which it was put in; a file being written is in it as on the disk, not closed.
- * Enough room is that of the image that was put in, or 278,234 bytes for a G64 if that is more.
+/* [m] The image of the disk as it is now, in the format in which it was inserted; a file being written is in it as on the disk, not closed.
+ * Enough room is that of the inserted image, or 278,234 bytes for a G64 if that is more.
  * ABSENT: there is no disk. NO_ROOM. NO_MEMORY. NO_DRIVE. */
 int32_t y1541_image(y1541 *d, uint8_t *out, size_t room, size_t *needed);
 
-/* How many sectors were written since the disk was put in (formatting all counts as one): if this has grown, the image is worth saving. It stops at
+/* The number of sectors written since the disk was inserted (formatting all counts as one): save the image when it has grown. It stops at
  * UINT64_MAX. 0 if d is empty. */
 uint64_t y1541_writes(y1541 *d);
 
-/* [m] Takes the disk out and gives its image, as y1541_image does; if that fails, the disk stays in the drive. Without a disk the drive reads zeros
+/* [m] Ejects the disk and returns its image, like y1541_image; if that fails, the disk stays in the drive. Without a disk the drive reads zeros
  * that can't be written. No channel stays open, a file being written stays unclosed; the drive's lines and the status stay. */
 int32_t y1541_eject(y1541 *d, uint8_t *out, size_t room, size_t *needed);
 
-/* [m] Puts in a copy of another image; the disk that was in is gone. Channels, lines and status as at y1541_eject. NO_IMAGE. NO_MEMORY. NO_DRIVE. */
+/* [m] Inserts a copy of another image; the old disk is discarded. Channels, lines and status as at y1541_eject. NO_IMAGE. NO_MEMORY. NO_DRIVE. */
 int32_t y1541_insert(y1541 *d, const uint8_t *image, size_t len, uint8_t is_protected);
 
 /* The number of the status, 0 to 74; this doesn't read channel 15. 20 or more is an error, except 73 (power up). NO_DRIVE. */
 int32_t y1541_status(y1541 *d);
 
-/* --- the whole state of a drive, its disk included, as bytes that a later run of the program may restore */
+/* --- the whole state of a drive, its disk included, as bytes that a later run of the program can restore */
 
-/* [m] The state of the drive as it is now: its lines and what it waits for, who is addressed, its channels, its status, its disk with the count of its
+/* [m] The state of the drive as it is now: its lines and pending reaction, who is addressed, its channels, its status, its disk with the count of its
  * writes, and its latest moment. The drive goes on. Enough room is that of y1541_image (0 without a disk) and 16,384 bytes.
- * INVALID of a drive with direct access. NO_ROOM. NO_MEMORY. NO_DRIVE. */
+ * INVALID for a drive with direct access. NO_ROOM. NO_MEMORY. NO_DRIVE. */
 int32_t y1541_save(y1541 *d, uint8_t *out, size_t room, size_t *needed);
 
-/* [m] d holds the drive of a state that y1541_save gave, and does what the saved one would have done; what d held is gone. Its moments go on from
- * those of the saved one: tell it the lines from then on.
- * NO_IMAGE: the bytes are no state of this version, or broken; d holds what it held. NO_MEMORY. */
+/* [m] d becomes the drive of a state from y1541_save, and behaves like the saved one; a drive in d is closed. Its moments go on from those of the
+ * saved one: pass it the lines from then on.
+ * NO_IMAGE: the bytes are not a state of this version, or damaged; d is unchanged. NO_MEMORY. */
 int32_t y1541_restore(y1541 *d, const uint8_t *bytes, size_t len);
 
 /* --- a whole list of changes in one call, with a drive of its own */
 
-/* [m] Switches a drive on with the disk of an image and plays these changes of the host (their `who` doesn't count) up to and including `end`: all
- * events in order, the host's and the drive's, and the image as it is then. `count` and `needed` get how many there are; with NO_ROOM, too, if either
- * room is too small and neither was written. INVALID: device, reaction, pace, a line, an end of 2^59 or more, a change that goes back in time or comes
+/* [m] Switches a drive on with the disk of an image and plays these changes of the host (their `who` is ignored) up to and including `end`: all
+ * events in order, the host's and the drive's, and the final image. `count` and `needed` get their lengths, even with NO_ROOM: either
+ * room is too small, and neither was written. INVALID: device, reaction, pace, a line, an end of 2^59 or more, a change that goes back in time or comes
  * after the end. NO_IMAGE. NO_MEMORY. */
 int32_t y1541_play(const uint8_t *image, size_t len, uint8_t device, uint8_t reaction, uint8_t pace, const y1541_signal *changes, size_t n, uint64_t end,
                    y1541_signal *events, size_t events_room, size_t *count, uint8_t *after, size_t after_room, size_t *needed);
 
-/* --- images, without a drive: each call opens the image, and may answer NO_IMAGE and NO_MEMORY; it changes only its out parameters */
+/* --- images, without a drive: each call opens the image, and can answer NO_IMAGE and NO_MEMORY; it changes only its out parameters */
 
-/* [m] 0 exactly if the disk is sound. UNSOUND: `first` has what is wrong first, and where. */
+/* [m] 0 exactly if the disk is sound. UNSOUND: `first` has the first fault and its place. */
 int32_t y1541_image_check(const uint8_t *image, size_t len, y1541_place *first);
 
 /* [m] Title, id with the kind of DOS, and the count of free blocks. 20 to 29: 18/0 can't be read. */
 int32_t y1541_image_title(const uint8_t *image, size_t len, y1541_title *title);
 
 /* [m] The entry in a slot of the directory, counted from 0; an empty slot has kind 0 and isn't closed. ABSENT: past the last slot. A status: the
- * directory can't be followed so far. */
+ * directory breaks off before. */
 int32_t y1541_image_entry(const uint8_t *image, size_t len, uint8_t slot, y1541_entry *entry);
 
-/* [m] All entries of the directory, those of empty slots too: slot n is entries[n]. `count` gets how many there are, with NO_ROOM, too; 144 are
- * always enough. A status: the directory breaks off after these, which are given all the same (71: it comes back to a sector of its own). */
+/* [m] All entries of the directory, those of empty slots too: slot n is entries[n]. `count` gets their number, even with NO_ROOM; 144 are
+ * always enough. A status: the directory breaks off after these, which are returned (71: it is circular). */
 int32_t y1541_image_entries(const uint8_t *image, size_t len, y1541_entry *entries, size_t room, size_t *count);
 
-/* [m] Everything that is wrong with the disk, in the order in which a check looks: none if it is sound. `count` as above. */
+/* [m] All faults of the disk, in the order of a check: none if it is sound. `count` as above. */
 int32_t y1541_image_flaws(const uint8_t *image, size_t len, y1541_flaw *flaws, size_t room, size_t *count);
 
 /* [m] The directory as LOAD"$",8 gets it, with the files that match a pattern; all files if n is 0. NO_ROOM. A status. */
@@ -178,30 +178,30 @@ int32_t y1541_image_file(const uint8_t *image, size_t len, const uint8_t *patter
 int32_t y1541_image_sector(const uint8_t *image, size_t len, uint8_t track, uint8_t sector, uint8_t *out, size_t room);
 
 /* [m] The image after a file was opened with a text such as NAME,P,W (without ,P,W it is opened for reading, so 62), given these bytes, and closed.
- * UNSOUND: the disk isn't sound, unless odd entries alone are wrong (y1541_image_put_away), which are left alone. A status: the drive refused it. NO_ROOM. */
+ * UNSOUND: the disk isn't sound, unless only odd entries are wrong (y1541_image_put_away), which are left untouched. A status: the drive refused it. NO_ROOM. */
 int32_t y1541_image_put(const uint8_t *image, size_t len, const uint8_t *text, size_t n, const uint8_t *bytes, size_t count, uint8_t *out, size_t room, size_t *needed);
 
-/* [m] The image after these files were put, one after another, or none where one is refused. `put` gets how many were put: with a status just those before
- * the one that is refused. As y1541_image_put, but UNSOUND also if odd entries alone are wrong. */
+/* [m] The image after these files were added, one after another, or none if one is refused. `put` gets the number added: with a status, those before the
+ * refused one. As y1541_image_put, but UNSOUND even if only odd entries are wrong. */
 int32_t y1541_image_put_all(const uint8_t *image, size_t len, const y1541_file *files, size_t n, size_t *put, uint8_t *out, size_t room, size_t *needed);
 
 /* [m] The image after a command for channel 15, such as S0:NAME, R0:NEW=OLD, C0:NEW=OLD, N0:TITLE,ID or V0. As y1541_image_put, but V0 is
- * UNSOUND also if odd entries alone are wrong: blocks that no file uses may be the rest of what one of them led to. */
+ * UNSOUND even if only odd entries are wrong: unused blocks could be the rest of an odd entry's chain. */
 int32_t y1541_image_command(const uint8_t *image, size_t len, const uint8_t *text, size_t n, uint8_t *out, size_t room, size_t *needed);
 
-/* [m] As y1541_image_command; `status` gets what channel 15 says after the command, also if the drive refused it. UNSOUND also if odd entries alone are
+/* [m] As y1541_image_command; `status` gets the answer of channel 15 after the command, even a refused one. UNSOUND even if only odd entries are
  * wrong. */
 int32_t y1541_image_command_status(const uint8_t *image, size_t len, const uint8_t *text, size_t n, y1541_said *status, uint8_t *out, size_t room, size_t *needed);
 
-/* The next calls take a file by the slot of its entry, whatever its name is. Each may answer ABSENT (no such slot, or it is empty), UNSOUND, and NO_ROOM. */
+/* The next calls take a file by the slot of its entry, whatever its name is. Each can answer ABSENT (no such slot, or it is empty), UNSOUND, and NO_ROOM. */
 
 /* [m] The bytes of the file in a slot; of a relative file all records. A status: its chain can't be followed. */
 int32_t y1541_image_read(const uint8_t *image, size_t len, uint8_t slot, uint8_t *out, size_t room, size_t *needed);
 
-/* [m] The image in which the file has another name, of 1 to 16 bytes. 63: a file has it already. INVALID: its length. */
+/* [m] The image in which the file has another name, of 1 to 16 bytes. 63: another file has it. INVALID: its length. */
 int32_t y1541_image_rename(const uint8_t *image, size_t len, uint8_t slot, const uint8_t *name, size_t n, uint8_t *out, size_t room, size_t *needed);
 
-/* [m] The image with a copy of the file at its end, under a name of 1 to 16 bytes, unlocked. 63: a file has the name already. 64: a relative file. 60: it was
+/* [m] The image with a copy of the file at its end, under a name of 1 to 16 bytes, unlocked. 63: another file has the name. 64: a relative file. 60: it was
  * never closed. 72: the disk is full. INVALID: the length of the name. */
 int32_t y1541_image_copy(const uint8_t *image, size_t len, uint8_t slot, const uint8_t *name, size_t n, uint8_t *out, size_t room, size_t *needed);
 
@@ -211,7 +211,7 @@ int32_t y1541_image_lock(const uint8_t *image, size_t len, uint8_t slot, uint8_t
 /* [m] The image without the file, as SCRATCH leaves it. 26: it is locked. */
 int32_t y1541_image_delete(const uint8_t *image, size_t len, uint8_t slot, uint8_t *out, size_t room, size_t *needed);
 
-/* [m] The image with the deleted file of a slot again, as a file of this type (0 to 4). ABSENT: the slot has none, a block of it isn't free any more, or
+/* [m] The image with the deleted file of a slot again, as a file of this type (0 to 4). ABSENT: the slot has none, one of its blocks is in use again, or
  * the disk has lost blocks (V0 first). INVALID: the type. */
 int32_t y1541_image_undelete(const uint8_t *image, size_t len, uint8_t slot, uint8_t kind, uint8_t *out, size_t room, size_t *needed);
 
@@ -225,28 +225,28 @@ int32_t y1541_image_retitle(const uint8_t *image, size_t len, const uint8_t *tit
  * sectors' headers stay. */
 int32_t y1541_image_remark(const uint8_t *image, size_t len, const uint8_t *mark, size_t n, uint8_t *out, size_t room, size_t *needed);
 
-/* An entry is odd if the drive's rules don't allow it: a line of art that leads to 18/0, a chain that comes back to itself, an unknown type. If nothing
- * else is wrong, any call changes the disk in three steps: y1541_image_put_away, the call on what is left, y1541_image_put_back. */
+/* An entry is odd if the drive's rules don't allow it: directory art that leads to 18/0, a circular chain, an unknown type. If nothing else is wrong, any
+ * call can change the disk in three steps: y1541_image_put_away, the call on its result, y1541_image_put_back. */
 
-/* [m] What is left of an image without its odd entries: a sound disk, on which in each one's slot a locked DEL of its name stands, without a block. The image
- * itself if its disk is sound. UNSOUND: more is wrong than entries, or an odd entry leads to a block that is free or a file's. A status: a sector can't be
- * read, or the directory not be followed (66, 71). NO_ROOM. */
+/* [m] The image without its odd entries: a sound disk, with a locked DEL of its name and without a block in each one's slot. The image itself if its disk is
+ * sound. UNSOUND: more is wrong than entries, or an odd entry leads to a block that is free or belongs to a file. A status: a sector can't be read, or the
+ * directory can't be followed (66, 71). NO_ROOM. */
 int32_t y1541_image_put_away(const uint8_t *image, size_t len, uint8_t *out, size_t room, size_t *needed);
 
-/* [m] The image `changed`, which was made of what was left of `image`, with the odd entries of `image` again: each in its slot, byte for byte, and what it
- * leads to as it was. 26: the change touched one of them. UNSOUND: `changed` isn't sound, or the change touched a sector that an odd entry leads to. NO_IMAGE:
- * one of the two is none, or they aren't of one format. Otherwise as y1541_image_put_away of `image`. */
+/* [m] The image `changed`, a changed result of y1541_image_put_away for `image`, with the odd entries of `image` again: each in its slot, byte for byte, and
+ * with its sectors unchanged. 26: the change touched one of them. UNSOUND: `changed` isn't sound, or the change touched a sector that an odd entry leads to.
+ * NO_IMAGE: one of the two isn't an image, or their formats differ. Otherwise as y1541_image_put_away of `image`. */
 int32_t y1541_image_put_back(const uint8_t *image, size_t len, const uint8_t *changed, size_t count, uint8_t *out, size_t room, size_t *needed);
 
 /* [m] A new image of an empty disk: a y1541_form, a title of at most 16 bytes, and the two bytes of its id. INVALID: form or title. NO_ROOM. */
 int32_t y1541_image_new(uint8_t form, const uint8_t *title, size_t n, uint8_t id0, uint8_t id1, uint8_t *out, size_t room, size_t *needed);
 
-/* [m] The image in the other format, D64 or G64; `lost` gets what that can't hold, with NO_ROOM, too. */
+/* [m] The image in the other format, D64 or G64; `lost` gets the losses, even with NO_ROOM. */
 int32_t y1541_image_convert(const uint8_t *image, size_t len, y1541_lost *lost, uint8_t *out, size_t room, size_t *needed);
 
 /* --- words */
 
-/* Words for what a call answered: 0, a number below 0, or a status, which has the words that the drive sends on channel 15. */
+/* A text for the result of a call: 0, a number below 0, or a status, with the drive's text on channel 15. */
 static inline const char *y1541_text(int32_t number) {
     switch (number) {
     case Y1541_OK: return "all went well";
