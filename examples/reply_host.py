@@ -21,7 +21,7 @@ class Bus:
         self.due = None
 
     def say(self, line):
-        """Says a line, and takes what comes of it."""
+        """Sends a line, and reads its answer."""
         self.program.stdin.write(line + "\n")
         self.program.stdin.flush()
         for answer in self.program.stdout:
@@ -49,7 +49,7 @@ class Bus:
         return bool(self.pulls[line])
 
     def wait(self, line, low, limit=1000):
-        """Lets time go by until a line is pulled, or free; answers whether it became so within a limit."""
+        """Waits until a line is pulled, or free; returns whether it was within a limit."""
         limit += self.now
         while self.is_low(line) != low:
             if self.due is None or self.due > limit:
@@ -98,7 +98,7 @@ class Computer:
             self.send(byte)
 
     def release(self, *last):
-        """The end of attention, and what nobody is to listen to any more."""
+        """Ends attention, and any listening."""
         moment = self.bus.now + 60
         self.bus.change(moment, "atn free", *last)
         self.bus.say(f"until {moment + 100}")

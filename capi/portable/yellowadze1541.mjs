@@ -23,7 +23,7 @@ const TEXTS = {
   [UNSOUND]: "the disk isn't sound",
   [NO_DRIVE]: "no drive, or one already",
 };
-// What is wrong, in disk1541's words.
+// Faults, in disk1541's words.
 const FLAW_TEXTS = [
   "it isn't sound",
   "the count of the track's free blocks isn't the number of blocks marked free",

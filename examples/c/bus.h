@@ -1,4 +1,4 @@
-/* How an emulator's IEC bus keeps drives: three lines, each low where anyone pulls it. Up to four drives beside a host. */
+/* An emulator's IEC bus with drives: three lines, each low if anyone pulls it. Up to four drives and a host. */
 #ifndef BUS_H
 #define BUS_H
 
@@ -9,10 +9,10 @@ enum { DRIVES = 4 };
 typedef struct bus {
     y1541 drive[DRIVES]; /* all zero: none */
     y1541_pulls pulls[DRIVES];
-    uint8_t atn, clock, data; /* what the host holds */
+    uint8_t atn, clock, data; /* the lines that the host pulls */
 } bus;
 
-/* Tells a drive what all others hold. */
+/* Passes a drive the lines that all others pull. */
 static inline void bus_tell(bus *b, int to, uint64_t now) {
     uint8_t clock = b->clock, data = b->data;
     for (int i = 0; i < DRIVES; i++)
@@ -20,13 +20,13 @@ static inline void bus_tell(bus *b, int to, uint64_t now) {
     y1541_lines(&b->drive[to], now, b->atn, clock, data);
 }
 
-/* Tells all drives but one. */
+/* The same for all drives but one. */
 static inline void bus_tell_all(bus *b, int but, uint64_t now) {
     for (int i = 0; i < DRIVES; i++)
         if (i != but && b->drive[i].at) bus_tell(b, i, now);
 }
 
-/* The drive that reacts first before a moment; of several at once the one in front. -1: none does. */
+/* The drive that reacts first before a moment; of several at once the first one. -1: none does. */
 static inline int bus_first(bus *b, uint64_t before, uint64_t *due) {
     int first = -1;
     for (int i = 0; i < DRIVES; i++) {
@@ -55,7 +55,7 @@ static inline void bus_write(bus *b, uint64_t now, uint8_t atn, uint8_t clock, u
     bus_tell_all(b, -1, now);
 }
 
-/* The host's port is read: what was on the wires just before. */
+/* The host's port is read: the wires just before. */
 static inline void bus_read(bus *b, uint64_t now, uint8_t *clock, uint8_t *data) {
     bus_run_to(b, now);
     *clock = b->clock, *data = b->data;
@@ -63,14 +63,14 @@ static inline void bus_read(bus *b, uint64_t now, uint8_t *clock, uint8_t *data)
         if (b->drive[i].at) *clock |= b->pulls[i].clock_low, *data |= b->pulls[i].data_low;
 }
 
-/* A drive was switched off and on by y1541_reset: its lines are free, and it is told of all others'. */
+/* A drive was switched off and on by y1541_reset: its lines are free, and it gets those of all others. */
 static inline void bus_switched(bus *b, int i, uint64_t now) {
     bus_run_to(b, now);
     b->pulls[i].clock_low = b->pulls[i].data_low = 0;
     bus_tell_all(b, -1, now);
 }
 
-/* A drive was switched on by y1541_open, if this is Y1541_OK: all others' lines are told to it. */
+/* A drive was switched on by y1541_open, if this is Y1541_OK: it gets the lines of all others. */
 static inline int32_t bus_opened(bus *b, int i, int32_t said, uint64_t now) {
     if (said == Y1541_OK) {
         b->pulls[i].clock_low = b->pulls[i].data_low = 0;

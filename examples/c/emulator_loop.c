@@ -1,4 +1,4 @@
-/* Two drives on one bus beside a computer, as an emulator keeps them (bus.h): emulator_loop IMAGE. HELLO is LOADed from drive 8, SAVEd to drive 9, whose
+/* Two drives and a computer on one bus, as in an emulator (bus.h): emulator_loop IMAGE. HELLO is LOADed from drive 8, SAVEd to drive 9, whose
  * disk is new, and LOADed from there; the image of drive 9 is saved, as it was written; then it gets another disk, and is switched off and on. */
 #include "files.h"
 #include "kernal.h"

@@ -37,7 +37,7 @@ static void jobs(kernal *k, const uint8_t *image, size_t len, int asks_missing) 
     count = kernal_load(k, 8, "NEW", bytes, sizeof bytes);
     show("LOAD\"NEW\",8", bytes, count);
     expect(count == (long)sizeof saved && !memcmp(bytes, saved, sizeof saved), "LOAD of what was saved");
-    /* The bus takes a SAVE that the drive refused at its OPEN: only the status tells, and only a drive at the KERNAL's pace keeps it. */
+    /* The bus accepts a SAVE that the drive refused at its OPEN: only the status shows it, and only a drive at the KERNAL's pace keeps it. */
     expect(kernal_save(k, 8, "HELLO", saved, sizeof saved), "SAVE of a name that is there");
     expect(status_is(k, 8, asks_missing ? "63," : "61,"), "the status of a name that is there");
     if (!asks_missing) return;

@@ -1,6 +1,6 @@
 #!/usr/bin/env python3
 """list_image.py IMAGE [FILE]: the directory of a D64 or G64 by the library, or the bytes of a file, by ctypes. The library is found as
-libyellowadze1541.so, or where the environment's YELLOWADZE1541 says."""
+libyellowadze1541.so, or the path in the environment's YELLOWADZE1541."""
 import ctypes, os, sys
 
 LIBRARY = ctypes.CDLL(os.environ.get("YELLOWADZE1541", "libyellowadze1541.so"))
