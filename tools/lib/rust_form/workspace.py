@@ -1,0 +1,122 @@
+"""A cargo workspace of the crates, in a folder of its own that needs nothing of the repository."""
+import glob
+import os
+import re
+import shutil
+
+from rust_form.crates import crates_of, manifest, package_of, rust_files, with_those_below
+
+# Where Debian's packages put the crates of others.
+DEBIAN = "/usr/share/cargo/registry"
+# Those that the workspace stands on, as cargo's registry names them. (csv and sha2 are in disk1541 alone)
+OTHERS = ("arrayvec", "byteorder", "clap", "csv", "either", "itoa", "memchr", "serde", "serde_json", "sha2", "toml")
+OFFLINE = f"""# The crates of others are those of Debian's packages librust-*-dev.
+[source.crates-io]
+replace-with = "debian"
+
+[source.debian]
+directory = "{DEBIAN}"
+
+[net]
+offline = true
+"""
+SETTINGS = """
+# Names that only clauses and proofs use.
+[workspace.lints.rust]
+unused_imports = "allow"
+unused_labels = "allow"
+unused_variables = "allow"
+
+# `cargo build`, `cargo test`: each sum, index and proved assertion is looked at.
+[profile.dev]
+opt-level = 1
+debug = false
+incremental = false
+
+[profile.dev.package."*"]
+opt-level = 1
+
+# What is used: a proof says that no sum overflows.
+[profile.release]
+panic = "abort"
+lto = "fat"
+codegen-units = 1
+
+# As small as it gets: WebAssembly, microcontrollers.
+[profile.small]
+inherits = "release"
+opt-level = "z"
+"""
+
+
+def version_of(root):
+    """The version of all parts, as README names it."""
+    with open(f"{root}/README.md", encoding="utf-8") as text:
+        return re.search(r"^Version (\d+\.\d+\.\d+)", text.read(), re.M)[1]
+
+
+def write(path, text):
+    """Writes a file, unless it is so already: cargo compiles again what is newer."""
+    if os.path.exists(path):
+        with open(path, encoding="utf-8") as there:
+            if there.read() == text:
+                return
+    os.makedirs(os.path.dirname(path), exist_ok=True)
+    with open(path, "w", encoding="utf-8") as out:
+        out.write(text)
+
+
+def write_crate(root, out, crate, version, known):
+    """Writes a crate, and removes files that it no longer has."""
+    folder = f"{out}/crates/{crate.name}"
+    files = dict(rust_files(root, crate))
+    for path, text in files.items():
+        write(f"{folder}/src/{path}", text)
+    write(f"{folder}/Cargo.toml", manifest(crate, files, version, known))
+    for path in glob.glob(f"{folder}/src/**/*.rs", recursive=True):
+        if os.path.relpath(path, f"{folder}/src") not in files:
+            os.remove(path)
+
+
+def write_own(root, out):
+    """The crates that are written in Rust. Their names."""
+    names = sorted(it for it in os.listdir(f"{root}/rust") if os.path.exists(f"{root}/rust/{it}/Cargo.toml"))
+    for name in names:
+        for folder, _, files in os.walk(f"{root}/rust/{name}"):
+            for file in files:
+                path = os.path.relpath(os.path.join(folder, file), f"{root}/rust")
+                if not path.split(os.sep)[1] == "target":
+                    with open(f"{root}/rust/{path}", encoding="utf-8") as text:
+                        write(f"{out}/rust/{path}", text.read())
+    return names
+
+
+def has_debians():
+    """Whether Debian's packages have all crates of others."""
+    return all(glob.glob(f"{DEBIAN}/{name}-[0-9]*") for name in OTHERS)
+
+
+def write_source(out, is_debian):
+    """Where cargo gets the crates of others."""
+    path = f"{out}/.cargo/config.toml"
+    if is_debian:
+        write(path, OFFLINE)
+    elif os.path.exists(path):
+        os.remove(path)
+
+
+def make(root, out, only, is_debian):
+    """Makes the workspace, of all crates or of these and those below. Returns how many crates it has."""
+    known, version = crates_of(root), version_of(root)
+    crates = with_those_below(known, only or known)
+    for crate in crates:
+        write_crate(root, out, crate, version, known)
+    own = write_own(root, out)
+    members = [*(f"crates/{it.name}" for it in crates), *(f"rust/{it}" for it in own)]
+    listed = "\n".join(f'    "{it}",' for it in members)
+    write(f"{out}/Cargo.toml", f'[workspace]\nresolver = "2"\nmembers = [\n{listed}\n]\n{SETTINGS}')
+    write_source(out, is_debian)
+    for folder in glob.glob(f"{out}/crates/*"):
+        if os.path.basename(folder) not in {it.name for it in crates}:
+            shutil.rmtree(folder)
+    return len(members)
