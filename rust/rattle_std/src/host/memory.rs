@@ -5,6 +5,8 @@ use core::sync::atomic::{AtomicUsize, Ordering};
 use real::alloc::System;
 use real::io::Write;
 
+use super::standard::{self, Standard};
+
 /// The exit status where memory runs out, of all programs here.
 const STATUS: i32 = 3;
 
@@ -29,10 +31,9 @@ impl Memory {
     fn end(&self) -> ! {
         // (whatever wants memory from here on gets no more than an error)
         UNDER_WAY.store(0, Ordering::Relaxed);
-        let mut errors = real::io::stderr();
-        let _ = errors.write_all(self.sentence.as_bytes());
-        let _ = errors.write_all(b"\n");
-        real::process::exit(STATUS)
+        let _ = Standard::Errors.write_all(self.sentence.as_bytes());
+        let _ = Standard::Errors.write_all(b"\n");
+        standard::exit(STATUS)
     }
 }
 

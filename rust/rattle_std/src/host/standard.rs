@@ -16,6 +16,9 @@ impl Write for Standard {
     fn flush(&mut self) -> Result<()> { Ok(()) }
 }
 
+/// Ends the process at once: nothing that Rust has to do at its end may wait for what is under way.
+pub use system::exit;
+
 #[cfg(unix)]
 mod system {
     use super::Standard;
@@ -32,6 +35,7 @@ mod system {
 
     unsafe extern "C" {
         fn fcntl(descriptor: i32, command: i32, ...) -> i32;
+        fn _exit(status: i32) -> !;
     }
 
     /// A bit for each that was closed when the program began.
@@ -53,6 +57,10 @@ mod system {
     #[cfg_attr(not(target_vendor = "apple"), unsafe(link_section = ".init_array"))]
     static LOOK: extern "C" fn() = look;
 
+    pub fn exit(status: i32) -> ! {
+        // SAFETY: the call takes a number, and doesn't return.
+        unsafe { _exit(status) }
+    }
     fn opened(which: Standard) -> Result<ManuallyDrop<File>> {
         if CLOSED.load(Ordering::Relaxed) & 1 << which as u8 != 0 {
             return Err(Error::from_raw_os_error(EBADF));
@@ -68,6 +76,8 @@ mod system {
 mod system {
     use super::Standard;
     use real::io::{Read, Result, Write};
+
+    pub use real::process::exit;
 
     /// A handle that isn't there is no place for bytes.
     #[cfg(windows)]
