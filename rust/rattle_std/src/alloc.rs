@@ -17,13 +17,9 @@ pub struct AllocFailed<T> {
 pub struct Global;
 
 impl fmt::Display for AllocError { fn fmt(&self, f: &mut fmt::Formatter<'_>) -> fmt::Result { f.write_str("memory allocation failed") } }
-
 impl core::error::Error for AllocError {}
-
 impl<T> fmt::Debug for AllocFailed<T> { fn fmt(&self, f: &mut fmt::Formatter<'_>) -> fmt::Result { f.write_str("AllocFailed") } }
-
 impl<T> From<AllocFailed<T>> for AllocError { fn from(_: AllocFailed<T>) -> AllocError { AllocError } }
-
 impl From<AllocError> for fmt::Error { fn from(_: AllocError) -> fmt::Error { fmt::Error } }
 
 /// What `format!(in alloc; ..)` answers.

@@ -3,7 +3,6 @@ use crate::{String, Vec, heap};
 use serde::{Deserialize, Deserializer, Serialize, Serializer};
 
 impl Serialize for String { fn serialize<S: Serializer>(&self, to: S) -> Result<S::Ok, S::Error> { to.serialize_str(&self.0) } }
-
 impl<T: Serialize> Serialize for Vec<T> { fn serialize<S: Serializer>(&self, to: S) -> Result<S::Ok, S::Error> { to.collect_seq(&self.0) } }
 
 impl<'de> Deserialize<'de> for String {

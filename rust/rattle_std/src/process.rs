@@ -4,5 +4,4 @@ pub use real::process::*;
 
 /// The leave to end the process, which only tests have.
 pub trait Abort {}
-
 impl Abort for crate::HostRuntime {}

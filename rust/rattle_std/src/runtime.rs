@@ -11,5 +11,4 @@ pub trait AllocGlobal {
 }
 
 impl AllocGlobal for HostRuntime {}
-
 impl<R: AllocGlobal> AllocGlobal for &R {}

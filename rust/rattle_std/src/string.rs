@@ -34,7 +34,5 @@ impl ops::Deref for String {
 }
 
 impl ops::DerefMut for String { fn deref_mut(&mut self) -> &mut heap::string::String { &mut self.0 } }
-
 impl fmt::Write for String { fn write_str(&mut self, text: &str) -> fmt::Result { Ok(self.push_str(text)?) } }
-
 impl fmt::Display for String { fn fmt(&self, f: &mut fmt::Formatter<'_>) -> fmt::Result { fmt::Display::fmt(&self.0, f) } }

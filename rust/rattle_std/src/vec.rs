@@ -36,7 +36,6 @@ impl<T> Vec<T> {
         self.0.insert(at, value);
         Ok(())
     }
-    pub fn allocator(&self) -> &Global { &Global }
 }
 
 impl<T: Copy> Vec<T> {
@@ -78,7 +77,6 @@ impl<T> ops::Deref for Vec<T> {
 }
 
 impl<T> ops::DerefMut for Vec<T> { fn deref_mut(&mut self) -> &mut heap::vec::Vec<T> { &mut self.0 } }
-
 impl<T> From<Vec<T>> for heap::vec::Vec<T> { fn from(items: Vec<T>) -> heap::vec::Vec<T> { items.0 } }
 
 impl<T> IntoIterator for Vec<T> {

@@ -29,6 +29,7 @@ def call_for_c(name, parameters, answer):
 /// # Safety
 ///
 /// Each pointer is as the header says.
+#[allow(unused_unsafe)]
 #[unsafe(export_name = "{name}")]
 pub unsafe extern "C" fn {name}_for_c({taken}){answer} {{
     unsafe {{ {name}({given}) }}

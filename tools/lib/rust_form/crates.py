@@ -69,14 +69,27 @@ def sources_of(root, crate):
                     yield os.path.relpath(path, source), text.read()
 
 
+# What the C library's root has, too: its memory and its panic are Rust's, or those of rust/bare.rs.
+BARE = """
+#[cfg(not(feature = "host"))]
+mod bare;
+#[cfg(feature = "host")]
+extern crate std as _;
+"""
+
+
 def rust_files(root, crate):
     """The files of a crate as Rust: the path of each in src/, and its text."""
+    if crate.is_for_c:
+        with open(f"{root}/rust/bare.rs", encoding="utf-8") as text:
+            yield "bare.rs", text.read()
     for path, text in sources_of(root, crate):
         text = without_ghosts(text)
         if "no_mangle" in text:
             text = with_c_calls(text)
         file = File(is_root=path in ("lib.rt", "main.rt"), sentence=NO_MEMORY.get(crate.name, "no memory") if path == "main.rt" else None)
-        yield f"{path[:-3]}.rs", as_rust(text, file)
+        text = as_rust(text, file)
+        yield f"{path[:-3]}.rs", text + (BARE if crate.is_for_c and path == "lib.rt" else "")
 
 
 def description_of(files):

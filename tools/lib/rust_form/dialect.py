@@ -84,11 +84,16 @@ def with_main(text, sentence):
     return MAIN.sub(f'std::program!("{sentence}");\n\nfn started(\\1: HostRuntime)', text)
 
 
+def joined(found):
+    """A body's brace on the line of its head, if that ends with no comment."""
+    return found[0] if "//" in found[1] else f"{found[1]} {{\n"
+
+
 def without_gaps(text):
     """Without the empty lines and the spaces that clauses leave."""
     text = re.sub(r"[ \t]+\n", "\n", text)
+    text = re.sub(r"^([^\n]*[^\s,;{}])\n+[ \t]*\{\n", joined, text, flags=re.M)
     text = re.sub(r"\n\n+([ \t]*)\{\n", r"\n\1{\n", text)
-    text = re.sub(r"\n([ \t]*)\{\n", r"\n\1{\n", text)
     text = re.sub(r"((?:^|\n)[ \t]*//[^\n]*\n|\{\n)\n+", r"\1", text)
     return re.sub(r"\n{3,}", "\n\n", text)
 

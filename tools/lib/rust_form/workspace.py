@@ -78,17 +78,23 @@ def write_crate(root, out, crate, version, known):
             os.remove(path)
 
 
-def write_own(root, out):
-    """The crates that are written in Rust. Their names."""
-    names = sorted(it for it in os.listdir(f"{root}/rust") if os.path.exists(f"{root}/rust/{it}/Cargo.toml"))
-    for name in names:
-        for folder, _, files in os.walk(f"{root}/rust/{name}"):
-            for file in files:
-                path = os.path.relpath(os.path.join(folder, file), f"{root}/rust")
-                if not path.split(os.sep)[1] == "target":
-                    with open(f"{root}/rust/{path}", encoding="utf-8") as text:
-                        write(f"{out}/rust/{path}", text.read())
-    return names
+def stands_on(folder):
+    """The crates of the repository that a crate in Rust names."""
+    with open(f"{folder}/Cargo.toml", encoding="utf-8") as text:
+        return re.findall(r'path = "\.\./\.\./crates/(\w+)"', text.read())
+
+
+def write_own(root, out, crates):
+    """The crates that are written in Rust, if what they stand on is there. Their names."""
+    folders = sorted(it for it in glob.glob(f"{root}/rust/*") if os.path.exists(f"{it}/Cargo.toml"))
+    taken = [it for it in folders if set(stands_on(it)) <= crates]
+    for folder in taken:
+        for path in glob.glob(f"{folder}/**/*.*", recursive=True):
+            name = os.path.relpath(path, f"{root}/rust")
+            if os.path.isfile(path) and name.split(os.sep)[1] != "target":
+                with open(path, encoding="utf-8") as text:
+                    write(f"{out}/rust/{name}", text.read())
+    return [os.path.basename(it) for it in taken]
 
 
 def has_debians():
@@ -111,7 +117,7 @@ def make(root, out, only, is_debian):
     crates = with_those_below(known, only or known)
     for crate in crates:
         write_crate(root, out, crate, version, known)
-    own = write_own(root, out)
+    own = write_own(root, out, {it.name for it in crates})
     members = [*(f"crates/{it.name}" for it in crates), *(f"rust/{it}" for it in own)]
     listed = "\n".join(f'    "{it}",' for it in members)
     write(f"{out}/Cargo.toml", f'[workspace]\nresolver = "2"\nmembers = [\n{listed}\n]\n{SETTINGS}')

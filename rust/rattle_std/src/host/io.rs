@@ -43,7 +43,6 @@ pub trait Input {
 }
 
 impl Print for HostRuntime { fn write_all(&self, bytes: &[u8]) -> Result<()> { Standard::Output.write_all(bytes) } }
-
 impl<R: Print> Print for &R { fn write_all(&self, bytes: &[u8]) -> Result<()> { (**self).write_all(bytes) } }
 
 impl Eprint for HostRuntime {
@@ -51,7 +50,6 @@ impl Eprint for HostRuntime {
 }
 
 impl<R: Eprint> Eprint for &R { fn eprint(&self, text: impl fmt::Display) -> Result<()> { (**self).eprint(text) } }
-
 impl Input for HostRuntime { fn reader(&self) -> Standard { Standard::Input } }
 
 impl HostRuntime {

@@ -17,7 +17,6 @@ impl<'a> Path<'a> {
     pub fn file_stem(self) -> Option<&'a str> { Real::new(self.0).file_stem()?.to_str() }
     pub fn parent(self) -> Option<Path<'a>> { Some(Path(Real::new(self.0).parent()?.to_str()?)) }
     pub fn is_dir(self, _: &impl Files) -> bool { unanswered(|| Real::new(self.0).is_dir()) }
-    pub fn exists(self, _: &impl Files) -> bool { unanswered(|| Real::new(self.0).exists()) }
     pub fn join(self, alloc: Global, more: &str) -> Result<PathBuf, AllocError> {
         let whole = unanswered(|| Real::new(self.0).join(more).into_os_string());
         match whole.into_string() {
@@ -43,5 +42,4 @@ pub trait AsPath {
 }
 
 impl AsPath for &str { fn path_text(&self) -> &str { self } }
-
 impl AsPath for Path<'_> { fn path_text(&self) -> &str { self.0 } }

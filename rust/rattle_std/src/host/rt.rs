@@ -6,5 +6,4 @@ use super::time::Clock;
 
 /// Files, streams, the command line and the clock.
 pub trait Runtime: Clone + Files + Env + Clock + Print + Eprint + Input {}
-
 impl Runtime for crate::HostRuntime {}

@@ -4,7 +4,6 @@ pub use real::time::Duration;
 
 /// What has a clock.
 pub trait Clock {}
-
 impl Clock for crate::HostRuntime {}
 
 /// A moment.
