@@ -1,6 +1,7 @@
 //! Streams through a runtime.
 pub use super::buffers::{BufReader, BufWriter};
 use super::buffers::Printed;
+pub use super::standard::IsTerminal;
 use super::standard::Standard;
 use crate::HostRuntime;
 use core::fmt;
@@ -53,8 +54,8 @@ impl<R: Eprint> Eprint for &R { fn eprint(&self, text: impl fmt::Display) -> Res
 impl Input for HostRuntime { fn reader(&self) -> Standard { Standard::Input } }
 
 impl HostRuntime {
-    pub fn stdout(&self) -> Stdout { stdout() }
-    pub fn stderr(&self) -> Stderr { stderr() }
+    pub fn stdout(&self) -> Standard { Standard::Output }
+    pub fn stderr(&self) -> Standard { Standard::Errors }
 }
 
 /// Standard output as a writer.

@@ -19,6 +19,13 @@ impl Write for Standard {
 /// Ends the process at once: nothing that Rust has to do at its end may wait for what is under way.
 pub use system::exit;
 
+/// Whether somebody watches. (Rust's own trait is closed)
+pub trait IsTerminal {
+    fn is_terminal(&self) -> bool;
+}
+
+impl IsTerminal for Standard { fn is_terminal(&self) -> bool { system::is_terminal(*self) } }
+
 #[cfg(unix)]
 mod system {
     use super::Standard;
@@ -68,6 +75,7 @@ mod system {
         // SAFETY: the descriptor is open, and isn't closed by the file, which is never dropped.
         Ok(ManuallyDrop::new(unsafe { File::from_raw_fd(which as i32) }))
     }
+    pub fn is_terminal(which: Standard) -> bool { opened(which).is_ok_and(|file| real::io::IsTerminal::is_terminal(&*file)) }
     pub fn read(which: Standard, room: &mut [u8]) -> Result<usize> { opened(which)?.read(room) }
     pub fn write(which: Standard, bytes: &[u8]) -> Result<usize> { opened(which)?.write(bytes) }
 }
@@ -87,6 +95,10 @@ mod system {
     #[cfg(not(windows))]
     fn is_there<T>(_: &T) -> Result<()> { Ok(()) }
 
+    pub fn is_terminal(which: Standard) -> bool {
+        use real::io::IsTerminal;
+        if which == Standard::Errors { real::io::stderr().is_terminal() } else { real::io::stdout().is_terminal() }
+    }
     pub fn read(_: Standard, room: &mut [u8]) -> Result<usize> {
         is_there(&real::io::stdin())?;
         real::io::stdin().read(room)
