@@ -50,9 +50,10 @@ opt-level = "z"
 
 
 def version_of(root):
-    """The version of all parts, as README names it."""
-    with open(f"{root}/README.md", encoding="utf-8") as text:
-        return re.search(r"^Version (\d+\.\d+\.\d+)", text.read(), re.M)[1]
+    """The version of all parts, as the C header has it: two hexadecimal digits for each of its numbers."""
+    with open(f"{root}/capi/yellowadze1541.h", encoding="utf-8") as text:
+        digits = re.search(r"^#define Y1541_VERSION 0x([0-9a-f]{6})", text.read(), re.M)[1]
+    return ".".join(str(int(digits[at : at + 2], 16)) for at in (0, 2, 4))
 
 
 def write(path, text):
