@@ -4,7 +4,6 @@ use cbm_volume::Entry as Inner;
 use core::fmt;
 
 /// An entry of a directory.
-#[derive(Clone, Copy)]
 pub struct Entry(Inner);
 
 impl Entry {

@@ -19,3 +19,8 @@ pub use drive::{Drive, Reaction, Reactions, Settings};
 pub use entry::{Entries, Entry};
 pub use error::{Error, Result};
 pub use image::{Converted, Format, Image};
+
+/// The examples of README.md, which are tests.
+#[cfg(doctest)]
+#[doc = include_str!("../README.md")]
+struct ReadMe;
