@@ -3,8 +3,8 @@ import json
 import subprocess
 
 LINT = "clippy::cast_possible_truncation"
-# Casts that were looked at: a piece of the line, and why nothing is cut.
-KNOWN = {}
+# Casts that were looked at: the file, the line's text, and why nothing is cut.
+KNOWN = {("cbm_device/src/image_disk/saving.rs", "Some(bytes.split_at(count as usize))"): "the count is at most the length of the bytes"}
 
 
 def casts_of(out, cargo, packages):
