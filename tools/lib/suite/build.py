@@ -1,0 +1,104 @@
+"""Makes the suite's files: the data, the players, and the image with all of them."""
+import collections
+import hashlib
+import os
+import shutil
+import subprocess
+import tempfile
+
+from . import code, packing, plan, transcripts
+
+# How many bytes a data file has at most: what fits into a VIC-20 with 24 kB beside the player.
+SIZE = 12_000
+# A player: its name on the disk, and how it is compiled.
+PLAYERS = {"SUITE64": ["-t", "c64"], "SUITE20": ["-t", "vic20", "-C", "vic20-32k.cfg"]}
+SOURCES = ("main.c", "player.c", "drive.c", "text.c", "console.c", "report.c")
+BYTES_OF_IMAGE = 174_848
+# How many characters of TEXT a line of a script has at most here.
+PART = 250
+
+
+class Failed(Exception):
+    """A program that makes a part of the suite failed."""
+
+
+def planned(root):
+    """All transcripts, as the player plays them."""
+    return plan.all_of(transcripts.read_all(f"{root}/crates/cases/data"))
+
+
+def suite_header(files, count):
+    """What the player knows of the data."""
+    sum_of_data = hashlib.sha256(b"".join(it.data() for it in files)).hexdigest()[:8]
+    rows = {"SUITE_SUM": f'"{sum_of_data}"', "SUITE_COUNT": f'"{sum(len(it.cases) for it in files)}"', "DATA_SIZE": SIZE, "FILES": len(files), "CASES": count}
+    firsts, lasts = (", ".join(str(pick(case.number for case in it.cases)) for it in files) for pick in (min, max))
+    numbers = f"static const unsigned int first_of_file[] = {{{firsts}}};\nstatic const unsigned int last_of_file[] = {{{lasts}}};\n"
+    return "".join(f"#define {name} {value}\n" for name, value in rows.items()), numbers
+
+
+def run(command, folder, **words):
+    """Runs a program, which must end with 0. Returns its output."""
+    ran = subprocess.run(command, cwd=folder, capture_output=True, text=True, **words)
+    if ran.returncode != 0:
+        raise Failed(f"{' '.join(command)}: {ran.stdout}{ran.stderr}")
+    return ran.stdout
+
+
+def compile_players(root, folder, header, numbers):
+    """Compiles the players. Returns their bytes by name."""
+    shutil.copytree(f"{root}/tools/suite.d", folder, dirs_exist_ok=True)
+    for name, text in (("operations.h", code.header()), ("suite.h", header), ("numbers.h", numbers)):
+        with open(f"{folder}/{name}", "w", encoding="utf-8") as out:
+            out.write(text)
+    found = {}
+    for name, words in PLAYERS.items():
+        run(["cl65", *words, "-O", "-o", f"{name}.prg", *SOURCES], folder)
+        with open(f"{folder}/{name}.prg", "rb") as it:
+            found[name] = it.read()
+    return found
+
+
+def escaped(data):
+    """Bytes as a script's TEXT."""
+    return "".join(chr(it) if 32 <= it < 127 and it != 92 else f"\\{it:02x}" for it in data)
+
+
+def file_lines(name, data):
+    """The lines of a script that write a program file."""
+    parts = [data[n : n + PART] for n in range(0, len(data), PART)]
+    return [f"open 1 {name}", *(f"put 1 {escaped(it)}" for it in parts), "close 1", "status"]
+
+
+def write_image(files, path, drive1541):
+    """Writes a new image with these files."""
+    lines = ["put 15 N0:SUITE,YS", *(line for name, data in files.items() for line in file_lines(name, data))]
+    with tempfile.TemporaryDirectory() as room:
+        with open(f"{room}/blank.d64", "wb") as out:
+            out.write(bytes(BYTES_OF_IMAGE))
+        said = run([os.path.realpath(drive1541), "blank.d64", "-", os.path.realpath(path)], room, input="\n".join([*lines, ""]))
+    if said.splitlines() != ["status 00, OK,00,00"] * len(files):
+        raise Failed(f"the image can't be written: {said}")
+
+
+def counts(plans):
+    """Lines that tell how many transcripts are in, and why others aren't."""
+    whole = [it for it in plans if it.requests and not it.left_out]
+    partly = [it for it in plans if it.requests and it.left_out]
+    reasons = collections.Counter(it.left_out[0] if it.left_out else "nothing that a computer can see" for it in plans if not it.requests)
+    yield f"{len(whole)} of {len(plans)} transcripts are in, {len(partly)} more in part: {sum(it.requests for it in plans)} requests"
+    for reason, count in reasons.most_common():
+        yield f"{count:4} left out: {reason}"
+
+
+def make(root, out, drive1541):
+    """Makes the suite. Returns lines about it."""
+    plans = planned(root)
+    files = packing.files([it for it in plans if it.requests], SIZE)
+    data = {f"CASES{number:02}": b"\0\x40" + it.data() for number, it in enumerate(files, 1)}
+    with tempfile.TemporaryDirectory() as room:
+        players = compile_players(root, room, *suite_header(files, len(plans)))
+    write_image({**players, **data}, f"{out}/suite.d64", drive1541)
+    for name, program in players.items():
+        with open(f"{out}/{name.lower()}.prg", "wb") as it:
+            it.write(program)
+    return [*counts(plans), f"{len(files)} data files with {sum(map(len, data.values()))} bytes; players with {', '.join(str(len(it)) for it in players.values())} bytes"]
