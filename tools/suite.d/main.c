@@ -39,7 +39,8 @@ static unsigned char may_write(void) {
     swap("put the test's disk in");
     restart();
     take_line(COMMANDS);
-    say((const char *)line);
+    memcpy(identity, line, sizeof identity);
+    say((const char *)identity);
     return ask_yes("everything on this disk will be lost. go on");
 }
 
@@ -62,9 +63,7 @@ static void show_sums(void) {
 }
 
 static void keep_report(void) {
-    static unsigned char first_line[sizeof line];
     unsigned int to = ask_number("device for the report, 0 for none", suite_device);
-    memcpy(first_line, line, sizeof line);
     if (!to) return;
     if (to == device) wait_for_return("put a disk for the report in");
     write_report(to, CASES + 1);

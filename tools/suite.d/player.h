@@ -56,7 +56,8 @@ void wait_for_return(const char *question);
 unsigned char is_stopped(void);
 char *write_number(char *end, unsigned int number);
 
-/* report.c */
+/* report.c: identity is the drive's status when it was switched on */
+extern unsigned char identity[64];
 void write_report(unsigned char to, unsigned int count);
 
 #endif

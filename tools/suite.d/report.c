@@ -7,6 +7,7 @@
 #define CHANNEL 2
 #define WRITE_TO (0xf0 | CHANNEL)
 
+unsigned char identity[sizeof line];
 static const char letters[] = "-stx";
 
 static void put(const char *text) {
@@ -44,7 +45,7 @@ static void put_case(unsigned int number) {
     put("\n");
 }
 
-/* Writes the results of the cases below `count`. `line` has the drive's status at the beginning. */
+/* Writes the results of the cases below `count`. */
 void write_report(unsigned char to, unsigned int count) {
     unsigned char tested = device;
     unsigned int number;
@@ -53,7 +54,7 @@ void write_report(unsigned char to, unsigned int count) {
     cbm_k_listen(to);
     cbm_k_second(0x60 | CHANNEL);
     put("yellowadze suite " SUITE_SUM "\n");
-    put((const char *)line);
+    put((const char *)identity);
     for (number = 1; number < count; ++number) {
         if (results[number]) put_case(number);
     }

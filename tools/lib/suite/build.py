@@ -6,7 +6,7 @@ import shutil
 import subprocess
 import tempfile
 
-from . import code, packing, plan, transcripts
+from . import classes, code, packing, plan, times, transcripts
 
 # How many bytes a data file has at most: what fits into a VIC-20 with 24 kB beside the player.
 SIZE = 12_000
@@ -23,14 +23,27 @@ class Failed(Exception):
 
 
 def planned(root):
-    """All transcripts, as the player plays them."""
-    return plan.all_of(transcripts.read_all(f"{root}/crates/cases/data"))
+    """All transcripts as the player plays them, the shortest first. Those that it plays have numbers from 1 on, all have classes."""
+    folder = f"{root}/tools/suite.d"
+    cases = transcripts.read_all(f"{root}/crates/cases/data")
+    by_name = classes.read(folder)
+    wrong = classes.faults(root, by_name, cases)
+    if wrong:
+        raise Failed("\n".join(wrong))
+    classes.set_kernal_answers(folder, cases)
+    found = plan.all_of(cases)
+    found.sort(key=lambda it: (not it.requests, times.of_case(it)))
+    for number, it in enumerate(found, 1):
+        it.number, it.class_of_case = number, classes.class_of(by_name, it.case)
+        it.class_letter = classes.LETTERS[it.class_of_case.name]
+    return found
 
 
-def suite_header(files, count):
+def suite_header(files):
     """What the player knows of the data."""
+    count = sum(len(it.cases) for it in files)
     sum_of_data = hashlib.sha256(b"".join(it.data() for it in files)).hexdigest()[:8]
-    rows = {"SUITE_SUM": f'"{sum_of_data}"', "SUITE_COUNT": f'"{sum(len(it.cases) for it in files)}"', "DATA_SIZE": SIZE, "FILES": len(files), "CASES": count}
+    rows = {"SUITE_SUM": f'"{sum_of_data}"', "SUITE_COUNT": f'"{count}"', "DATA_SIZE": SIZE, "FILES": len(files), "CASES": count}
     firsts, lasts = (", ".join(str(pick(case.number for case in it.cases)) for it in files) for pick in (min, max))
     numbers = f"static const unsigned int first_of_file[] = {{{firsts}}};\nstatic const unsigned int last_of_file[] = {{{lasts}}};\n"
     return "".join(f"#define {name} {value}\n" for name, value in rows.items()), numbers
@@ -90,14 +103,25 @@ def counts(plans):
         yield f"{count:4} left out: {reason}"
 
 
+def list_of_cases(plans):
+    """The list of all transcripts: number, class, requests, seconds, name, and why steps are left out."""
+    yield "number\tclass\treference\trequests\tseconds\tcase\tleft out"
+    for it in plans:
+        number = str(it.number) if it.requests else "-"
+        left_out = "; ".join(dict.fromkeys(it.left_out)) or ("" if it.requests else "nothing that a computer can see")
+        yield "\t".join([number, it.class_of_case.name, it.class_of_case.reference, str(it.requests), f"{times.of_case(it):.0f}", it.case.name(), left_out])
+
+
 def make(root, out, drive1541):
     """Makes the suite. Returns lines about it."""
     plans = planned(root)
     files = packing.files([it for it in plans if it.requests], SIZE)
     data = {f"CASES{number:02}": b"\0\x40" + it.data() for number, it in enumerate(files, 1)}
     with tempfile.TemporaryDirectory() as room:
-        players = compile_players(root, room, *suite_header(files, len(plans)))
+        players = compile_players(root, room, *suite_header(files))
     write_image({**players, **data}, f"{out}/suite.d64", drive1541)
+    with open(f"{out}/cases.txt", "w", encoding="utf-8") as it:
+        it.write("\n".join([*list_of_cases(plans), ""]))
     for name, program in players.items():
         with open(f"{out}/{name.lower()}.prg", "wb") as it:
             it.write(program)

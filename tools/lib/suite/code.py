@@ -84,6 +84,16 @@ def text(data):
     return found + literal(plain) + b"\0"
 
 
+def length(data):
+    """How many bytes a text has that these bytes begin with."""
+    count, at = 0, 0
+    while data[at]:
+        part = data[at]
+        count += int.from_bytes(data[at + 1 : at + 3], "little") if part == 255 else part
+        at += 4 if part == 255 else part + 1
+    return count
+
+
 def answer(request, channel, count):
     """The operation of a request that prints an answer."""
     found = request.answer

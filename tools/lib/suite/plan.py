@@ -2,7 +2,7 @@
 import dataclasses
 import re
 
-from . import code, playable, transcripts
+from . import classes, code, playable, transcripts
 
 # A channel that is written, which a restart leaves unclosed.
 WRITES = re.compile(r"open 1( |$)|open \d+ (@|.*,[WA]|.*,L)")
@@ -94,8 +94,9 @@ class Played:
     """A transcript as the player plays it: its operations, its class, and the reasons of steps that aren't played."""
 
     case: transcripts.Case
-    number: int
+    number: int = 0
     ops: list = dataclasses.field(default_factory=list)
+    class_of_case: classes.Class | None = None
     class_letter: str = "M"
     requests: int = 0
     left_out: list = dataclasses.field(default_factory=list)
@@ -238,9 +239,9 @@ class Planner:
         self.disk.add([it for it in ops if not is_status(it)])
         self.was_open = is_open
 
-    def case(self, case, number):
+    def case(self, case):
         """Plans a transcript."""
-        played = Played(case, number)
+        played = Played(case)
         self.zeros = checked_zeros(case)
         for step in case.steps:
             why = self.begin(step)
@@ -261,7 +262,7 @@ def is_status(op):
 def all_of(cases):
     """Plans all transcripts, in their order."""
     planners, found = {}, []
-    for number, case in enumerate(cases, 1):
+    for case in cases:
         planner = planners.setdefault(case.file, Planner())
-        found.append(planner.case(case, number))
+        found.append(planner.case(case))
     return found

@@ -1,0 +1,202 @@
+#!/usr/bin/env python3
+"""check_suite.py DRIVE1541: makes the conformance suite (tools/suite), and plays it in a simulated C64 and VIC-20 (suite_sim.c) over drive1541. Every case must
+come out as its transcript. Drives that are wrong in one point (wrong_drives.py) must each be told by a case; drives that differ only where the manuals are
+silent must be different, and not wrong. It needs cl65 (Debian: cc65) and a C compiler.
+Prints a line for each case, which begins with ok or WRONG. Last line: 'N passed, M failed'. Exit 0: nothing failed."""
+import concurrent.futures
+import os
+import re
+import shlex
+import shutil
+import subprocess
+import sys
+import tempfile
+
+HERE = os.path.dirname(os.path.realpath(__file__))
+ROOT = os.path.realpath(f"{HERE}/../..")
+sys.path.insert(0, f"{ROOT}/tools/lib")
+sys.path.insert(0, HERE)
+import wrong_drives
+from suite import build, classes
+
+# How many parts the cases are played in, of which two at a time.
+PARTS, JOBS = 6, 2
+# How many cases the VIC-20, a single drive and the drives that only differ play.
+SOME = 60
+LIMIT = 900
+BLANK = bytes(174_848)
+
+
+class Tally:
+    """Counts what passed and failed."""
+
+    def __init__(self):
+        self.passed, self.failed = 0, 0
+
+    def add(self, is_right, name, why=""):
+        self.passed, self.failed = self.passed + is_right, self.failed + (not is_right)
+        print(f"ok    {name}" if is_right else f"WRONG {name}: {why}", flush=True)
+
+
+class Run:
+    """What a run of the suite showed: the screen, and the report by the numbers of cases."""
+
+    def __init__(self, screen, report):
+        self.screen = screen
+        self.lines = report.split("\r")[:-1]
+        rows = [line.split() for line in self.lines[2:]]
+        self.results = {int(row[0]): row[1] for row in rows}
+        self.places = {int(row[0]): row[2:] for row in rows}
+
+    def of_letter(self, letter):
+        return {number for number, it in self.results.items() if it == letter}
+
+    def told(self, number):
+        """A difference, in words."""
+        words = self.places.get(number)
+        return "request {}, byte {}: wanted {}, came {}".format(*words) if words else "no difference"
+
+
+class Suite:
+    """The suite, made in a folder, and a simulator that plays it."""
+
+    def __init__(self, room, drive1541):
+        self.room, self.drive1541 = room, os.path.realpath(drive1541)
+        self.plans = [it for it in build.planned(ROOT) if it.requests]
+        self.names = {it.number: it.case.name() for it in self.plans}
+        self.numbers = {name: number for number, name in self.names.items()}
+        subprocess.run([f"{ROOT}/tools/suite", room, self.drive1541], check=True, stdout=subprocess.DEVNULL)
+        subprocess.run(["cc", "-O2", "-o", f"{room}/sim", f"{HERE}/suite_sim.c"], check=True)
+
+    def drive(self, folder, image, *words):
+        """A drive with an image in its folder, which is saved there."""
+        return [self.drive1541, f"{folder}/{image}", "-", f"{folder}/{image}.new", *words]
+
+    def run(self, folder, keys, drives, player):
+        """Runs the player with these keys and drives. Returns the screen."""
+        texts = [f"{number}:{shlex.join(command)}" for number, command in drives]
+        ran = subprocess.run([f"{self.room}/sim", f"{self.room}/{player}.prg", keys, *texts], cwd=folder, capture_output=True, text=True, errors="replace", timeout=LIMIT)
+        if ran.returncode != 0:
+            raise RuntimeError(ran.stdout[-2000:] + ran.stderr[-2000:])
+        return ran.stdout
+
+    def report(self, folder):
+        """The report on the suite's disk."""
+        lines = "open 2 REPORT,S\nget 2 200000\n"
+        ran = subprocess.run([self.drive1541, f"{folder}/suite.d64.new", "-"], input=lines, capture_output=True, text=True, check=True)
+        values = ran.stdout.split()[2]
+        return bytes.fromhex(values).decode("ascii") if values != "none" else ""
+
+    def play(self, first, last, wrong=None, pace="kernal", player="suite64"):
+        """Plays these cases on drive 9, with the suite's disk in drive 8."""
+        with tempfile.TemporaryDirectory(dir=self.room) as folder:
+            self.copy_disks(folder)
+            tested = self.drive(folder, "test.d64", "--pace", pace, "--direct=raw")
+            if wrong:
+                tested = [sys.executable, f"{HERE}/wrong_drives.py", wrong, *tested]
+            drives = [(8, self.drive(folder, "suite.d64", "--pace", "kernal")), (9, tested)]
+            return Run(self.run(folder, f"8|9|{first}|{last}|Y|8|", drives, player), self.report(folder))
+
+    def play_alone(self, first, last):
+        """Plays these cases of one data file on a single drive, whose disks are changed."""
+        with tempfile.TemporaryDirectory(dir=self.room) as folder:
+            self.copy_disks(folder)
+            drives = [(8, self.drive(folder, "suite.d64", "--pace", "kernal")), (8, self.drive(folder, "test.d64", "--pace", "kernal", "--direct=raw"))]
+            screen = self.run(folder, f"8|8|{first}|{last}|~|Y|~|~|8|~|", drives, "suite64")
+            return Run(screen, self.report(folder))
+
+    def refuse(self):
+        """Answers no to the question whether the disk can be lost. Returns the screen, and the disk."""
+        with tempfile.TemporaryDirectory(dir=self.room) as folder:
+            self.copy_disks(folder)
+            drives = [(8, self.drive(folder, "suite.d64", "--pace", "kernal")), (9, self.drive(folder, "test.d64", "--pace", "kernal", "--direct=raw"))]
+            screen = self.run(folder, "8|9|||N|", drives, "suite64")
+            with open(f"{folder}/test.d64.new", "rb") as it:
+                return screen, it.read()
+
+    def copy_disks(self, folder):
+        shutil.copy(f"{self.room}/suite.d64", f"{folder}/suite.d64")
+        with open(f"{folder}/test.d64", "wb") as out:
+            out.write(BLANK)
+
+    def play_parts(self, pool, pace):
+        """All cases, in parts. Returns the runs."""
+        count = len(self.plans)
+        ends = [count * n // PARTS for n in range(PARTS + 1)]
+        futures = [pool.submit(self.play, first + 1, last, None, pace) for first, last in zip(ends, ends[1:])]
+        return [it.result() for it in futures]
+
+
+def check_all(tally, suite, pool):
+    """Every case is as its transcript."""
+    runs = suite.play_parts(pool, "kernal")
+    results = {number: (letter, run.told(number)) for run in runs for number, letter in run.results.items()}
+    for number, name in suite.names.items():
+        letter, told = results.get(number, ("-", "it wasn't played"))
+        tally.add(letter == "S", f"case {number}, {name}", told)
+    heads = {run.lines[1] for run in runs}
+    tally.add(heads == {"73,CBM DOS V2.6 1541,00,00"}, "a report has the drive's first status", heads)
+    said = sum(int(re.search(r"(\d+) SAME", run.screen)[1]) for run in runs)
+    tally.add(said == sum(it[0] == "S" for it in results.values()), "the screen shows as many as the reports", said)
+
+
+def check_paces(tally, suite, pool):
+    """At the pace `profile` only those cases differ that have an answer of their own at the pace `kernal`, or are written for it."""
+    named = {row[0] for row in classes.rows(f"{ROOT}/tools/suite.d/kernal_answers.txt", 4)}
+    written = {it.case.name() for it in suite.plans if any("pace kernal" in step.words for step in it.case.steps)}
+    differ = {suite.names[number] for run in suite.play_parts(pool, "profile") for number in run.results if run.results[number] != "S"}
+    tally.add(named <= differ <= named | written, f"at the pace profile {len(differ)} cases differ, whose answers are a computer's", differ)
+
+
+def check_ways(tally, suite):
+    """Other computers and ways to play."""
+    run = suite.play(1, SOME, player="suite20")
+    tally.add(run.of_letter("S") == set(range(1, SOME + 1)), f"a VIC-20 plays {SOME} cases", run.screen[-500:])
+    run = suite.play(5, 9)
+    tally.add(set(run.results) == set(range(5, 10)), "the first and the last case can be chosen", set(run.results))
+    run = suite.play_alone(3, 20)
+    tally.add(run.of_letter("S") == set(range(3, 21)), "a single drive whose disks are changed", run.screen[-500:])
+    screen, disk = suite.refuse()
+    tally.add(disk == BLANK and "FORMATS" not in screen, "nothing is written after a no", screen)
+
+
+def check_wrong(tally, suite, name):
+    """A wrong drive is told by its case."""
+    case = wrong_drives.WRONG[name][2]
+    number = suite.numbers.get(case)
+    run = suite.play(number, number, name) if number else None
+    is_told = bool(run) and run.results.get(number) == "X"
+    tally.add(is_told, f"{name}: told by case {number}, {case}" + (f", {run.told(number)}" if is_told else ""), "it isn't told")
+
+
+def check_other(tally, suite, name):
+    """A drive that differs where the manuals are silent is different, and nowhere wrong."""
+    case = wrong_drives.OTHER[name][2]
+    number = suite.numbers[case]
+    runs = [suite.play(1, 2 * SOME, name), suite.play(number, number, name)]
+    screen = "".join(it.screen for it in runs)
+    found = {suite.names[n] for run in runs for n, it in run.results.items() if it != "S"}
+    tally.add(case in found and "  WRONG" not in screen, f"{name}: different, not wrong, by {len(found)} cases", screen[-1500:])
+
+
+def main():
+    if len(sys.argv) != 2:
+        sys.exit(__doc__)
+    missing = [it for it in ("cl65", "cc") if not shutil.which(it)]
+    if missing:
+        print(f"skip  the conformance suite: {missing[0]} isn't installed\n0 passed, 0 failed")
+        return 0
+    tally = Tally()
+    with tempfile.TemporaryDirectory() as room, concurrent.futures.ThreadPoolExecutor(JOBS) as pool:
+        suite = Suite(room, sys.argv[1])
+        check_all(tally, suite, pool)
+        check_paces(tally, suite, pool)
+        check_ways(tally, suite)
+        list(pool.map(lambda name: check_wrong(tally, suite, name), wrong_drives.WRONG))
+        list(pool.map(lambda name: check_other(tally, suite, name), wrong_drives.OTHER))
+    print(f"{tally.passed} passed, {tally.failed} failed")
+    return int(tally.failed > 0)
+
+
+if __name__ == "__main__":
+    sys.exit(main())
