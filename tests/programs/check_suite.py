@@ -1,8 +1,10 @@
 #!/usr/bin/env python3
-"""check_suite.py DRIVE1541: makes the conformance suite (tools/suite), and plays it in a simulated C64 and VIC-20 (suite_sim.c) over drive1541. Every case must
+"""check_suite.py DRIVE1541 [--reports FOLDER]: makes the conformance suite (tools/suite), and plays it in a simulated C64 and VIC-20 (suite_sim.c) over drive1541. Every case must
 come out as its transcript. Drives that are wrong in one point (wrong_drives.py) must each be told by a case; drives that differ only where the manuals are
-silent must be different, and not wrong. It needs cl65 (Debian: cc65) and a C compiler.
+silent must be different, and not wrong. It needs cl65 (Debian: cc65) and a C compiler. With --reports the reports of this drive at both paces are kept in a
+folder, as kernal.N and profile.N.
 Prints a line for each case, which begins with ok or WRONG. Last line: 'N passed, M failed'. Exit 0: nothing failed."""
+import argparse
 import concurrent.futures
 import os
 import re
@@ -17,7 +19,7 @@ ROOT = os.path.realpath(f"{HERE}/../..")
 sys.path.insert(0, f"{ROOT}/tools/lib")
 sys.path.insert(0, HERE)
 import wrong_drives
-from suite import build, classes
+from suite import build, classes, reports
 
 # How many parts the cases are played in, of which two at a time.
 PARTS, JOBS = 6, 2
@@ -39,21 +41,19 @@ class Tally:
 
 
 class Run:
-    """What a run of the suite showed: the screen, and the report by the numbers of cases."""
+    """What a run of the suite showed: the screen, and the report."""
 
-    def __init__(self, screen, report):
-        self.screen = screen
-        self.lines = report.split("\r")[:-1]
-        rows = [line.split() for line in self.lines[2:]]
-        self.results = {int(row[0]): row[1] for row in rows}
-        self.places = {int(row[0]): row[2:] for row in rows}
+    def __init__(self, screen, data):
+        self.screen, self.data = screen, data
+        self.report = reports.read(data)
+        self.results = self.report.results
 
     def of_letter(self, letter):
         return {number for number, it in self.results.items() if it == letter}
 
     def told(self, number):
         """A difference, in words."""
-        words = self.places.get(number)
+        words = self.report.places.get(number)
         return "request {}, byte {}: wanted {}, came {}".format(*words) if words else "no difference"
 
 
@@ -85,7 +85,7 @@ class Suite:
         lines = "open 2 REPORT,S\nget 2 200000\n"
         ran = subprocess.run([self.drive1541, f"{folder}/suite.d64.new", "-"], input=lines, capture_output=True, text=True, check=True)
         values = ran.stdout.split()[2]
-        return bytes.fromhex(values).decode("ascii") if values != "none" else ""
+        return bytes.fromhex(values) if values != "none" else b""
 
     def play(self, first, last, wrong=None, pace="kernal", player="suite64"):
         """Plays these cases on drive 9, with the suite's disk in drive 8."""
@@ -127,35 +127,34 @@ class Suite:
         return [it.result() for it in futures]
 
 
-def check_all(tally, suite, pool):
+def check_all(tally, suite, runs):
     """Every case is as its transcript."""
-    runs = suite.play_parts(pool, "kernal")
     results = {number: (letter, run.told(number)) for run in runs for number, letter in run.results.items()}
     for number, name in suite.names.items():
         letter, told = results.get(number, ("-", "it wasn't played"))
-        tally.add(letter == "S", f"case {number}, {name}", told)
-    heads = {run.lines[1] for run in runs}
+        tally.add(letter == reports.SAME, f"case {number}, {name}", told)
+    heads = {run.report.drive for run in runs}
     tally.add(heads == {"73,CBM DOS V2.6 1541,00,00"}, "a report has the drive's first status", heads)
     said = sum(int(re.search(r"(\d+) SAME", run.screen)[1]) for run in runs)
-    tally.add(said == sum(it[0] == "S" for it in results.values()), "the screen shows as many as the reports", said)
+    tally.add(said == sum(it[0] == reports.SAME for it in results.values()), "the screen shows as many as the reports", said)
 
 
-def check_paces(tally, suite, pool):
+def check_paces(tally, suite, runs):
     """At the pace `profile` only those cases differ that have an answer of their own at the pace `kernal`, or are written for it."""
     named = {row[0] for row in classes.rows(f"{ROOT}/tools/suite.d/kernal_answers.txt", 4)}
     written = {it.case.name() for it in suite.plans if any("pace kernal" in step.words for step in it.case.steps)}
-    differ = {suite.names[number] for run in suite.play_parts(pool, "profile") for number in run.results if run.results[number] != "S"}
+    differ = {suite.names[number] for run in runs for number in run.results if run.results[number] != reports.SAME}
     tally.add(named <= differ <= named | written, f"at the pace profile {len(differ)} cases differ, whose answers are a computer's", differ)
 
 
 def check_ways(tally, suite):
     """Other computers and ways to play."""
     run = suite.play(1, SOME, player="suite20")
-    tally.add(run.of_letter("S") == set(range(1, SOME + 1)), f"a VIC-20 plays {SOME} cases", run.screen[-500:])
+    tally.add(run.of_letter(reports.SAME) == set(range(1, SOME + 1)), f"a VIC-20 plays {SOME} cases", run.screen[-500:])
     run = suite.play(5, 9)
     tally.add(set(run.results) == set(range(5, 10)), "the first and the last case can be chosen", set(run.results))
     run = suite.play_alone(3, 20)
-    tally.add(run.of_letter("S") == set(range(3, 21)), "a single drive whose disks are changed", run.screen[-500:])
+    tally.add(run.of_letter(reports.SAME) == set(range(3, 21)), "a single drive whose disks are changed", run.screen[-500:])
     screen, disk = suite.refuse()
     tally.add(disk == BLANK and "FORMATS" not in screen, "nothing is written after a no", screen)
 
@@ -165,7 +164,7 @@ def check_wrong(tally, suite, name):
     case = wrong_drives.WRONG[name][2]
     number = suite.numbers.get(case)
     run = suite.play(number, number, name) if number else None
-    is_told = bool(run) and run.results.get(number) == "X"
+    is_told = bool(run) and run.results.get(number) == reports.DIFFERENT
     tally.add(is_told, f"{name}: told by case {number}, {case}" + (f", {run.told(number)}" if is_told else ""), "it isn't told")
 
 
@@ -175,22 +174,47 @@ def check_other(tally, suite, name):
     number = suite.numbers[case]
     runs = [suite.play(1, 2 * SOME, name), suite.play(number, number, name)]
     screen = "".join(it.screen for it in runs)
-    found = {suite.names[n] for run in runs for n, it in run.results.items() if it != "S"}
+    found = {suite.names[n] for run in runs for n, it in run.results.items() if it != reports.SAME}
     tally.add(case in found and "  WRONG" not in screen, f"{name}: different, not wrong, by {len(found)} cases", screen[-1500:])
 
 
+def check_table(tally, suite, runs):
+    """The table of drives has a row with all cases, and each case that differs."""
+    by_pace = {pace: reports.merged([run.report for run in of_pace]) for pace, of_pace in runs.items()}
+    lines = list(reports.table(suite.plans, by_pace))
+    count, differing = len(suite.plans), [it for it in by_pace["profile"].results.values() if it != reports.SAME]
+    row = f"| all | {count} | {count} of {count} | {count - len(differing)} of {count} |"
+    told = [line for line in lines if line.startswith("- ")]
+    tally.add(row in lines and len(told) == len(differing), "the table of both paces", "\n".join(lines[-8:]))
+
+
+def keep_reports(folder, runs):
+    """Writes the reports of this drive."""
+    os.makedirs(folder, exist_ok=True)
+    for pace, of_pace in runs.items():
+        for number, run in enumerate(of_pace):
+            with open(f"{folder}/{pace}.{number}", "wb") as out:
+                out.write(run.data)
+
+
 def main():
-    if len(sys.argv) != 2:
-        sys.exit(__doc__)
+    words = argparse.ArgumentParser(description=__doc__, formatter_class=argparse.RawDescriptionHelpFormatter)
+    words.add_argument("drive1541")
+    words.add_argument("--reports", metavar="FOLDER")
+    words = words.parse_args()
     missing = [it for it in ("cl65", "cc") if not shutil.which(it)]
     if missing:
         print(f"skip  the conformance suite: {missing[0]} isn't installed\n0 passed, 0 failed")
         return 0
     tally = Tally()
     with tempfile.TemporaryDirectory() as room, concurrent.futures.ThreadPoolExecutor(JOBS) as pool:
-        suite = Suite(room, sys.argv[1])
-        check_all(tally, suite, pool)
-        check_paces(tally, suite, pool)
+        suite = Suite(room, words.drive1541)
+        runs = {pace: suite.play_parts(pool, pace) for pace in ("kernal", "profile")}
+        if words.reports:
+            keep_reports(words.reports, runs)
+        check_all(tally, suite, runs["kernal"])
+        check_paces(tally, suite, runs["profile"])
+        check_table(tally, suite, runs)
         check_ways(tally, suite)
         list(pool.map(lambda name: check_wrong(tally, suite, name), wrong_drives.WRONG))
         list(pool.map(lambda name: check_other(tally, suite, name), wrong_drives.OTHER))

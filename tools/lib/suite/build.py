@@ -39,11 +39,24 @@ def planned(root):
     return found
 
 
+def files_of(plans):
+    """The data files."""
+    return packing.files([it for it in plans if it.requests], SIZE)
+
+
+def sum_of_files(files):
+    """What names this suite in a report."""
+    return hashlib.sha256(b"".join(it.data() for it in files)).hexdigest()[:8]
+
+
+def sum_of(plans):
+    return sum_of_files(files_of(plans))
+
+
 def suite_header(files):
     """What the player knows of the data."""
     count = sum(len(it.cases) for it in files)
-    sum_of_data = hashlib.sha256(b"".join(it.data() for it in files)).hexdigest()[:8]
-    rows = {"SUITE_SUM": f'"{sum_of_data}"', "SUITE_COUNT": f'"{count}"', "DATA_SIZE": SIZE, "FILES": len(files), "CASES": count}
+    rows = {"SUITE_SUM": f'"{sum_of_files(files)}"', "SUITE_COUNT": f'"{count}"', "DATA_SIZE": SIZE, "FILES": len(files), "CASES": count}
     firsts, lasts = (", ".join(str(pick(case.number for case in it.cases)) for it in files) for pick in (min, max))
     numbers = f"static const unsigned int first_of_file[] = {{{firsts}}};\nstatic const unsigned int last_of_file[] = {{{lasts}}};\n"
     return "".join(f"#define {name} {value}\n" for name, value in rows.items()), numbers
@@ -115,7 +128,7 @@ def list_of_cases(plans):
 def make(root, out, drive1541):
     """Makes the suite. Returns lines about it."""
     plans = planned(root)
-    files = packing.files([it for it in plans if it.requests], SIZE)
+    files = files_of(plans)
     data = {f"CASES{number:02}": b"\0\x40" + it.data() for number, it in enumerate(files, 1)}
     with tempfile.TemporaryDirectory() as room:
         players = compile_players(root, room, *suite_header(files))
