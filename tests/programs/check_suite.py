@@ -178,14 +178,14 @@ def check_other(tally, suite, name):
     tally.add(case in found and "  WRONG" not in screen, f"{name}: different, not wrong, by {len(found)} cases", screen[-1500:])
 
 
-def check_table(tally, suite, runs):
-    """The table of drives has a row with all cases, and each case that differs."""
-    by_pace = {pace: reports.merged([run.report for run in of_pace]) for pace, of_pace in runs.items()}
-    lines = list(reports.table(suite.plans, by_pace))
-    count, differing = len(suite.plans), [it for it in by_pace["profile"].results.values() if it != reports.SAME]
-    row = f"| all | {count} | {count} of {count} | {count - len(differing)} of {count} |"
-    told = [line for line in lines if line.startswith("- ")]
-    tally.add(row in lines and len(told) == len(differing), "the table of both paces", "\n".join(lines[-8:]))
+def check_page(tally, suite, runs):
+    """docs/conformance.md has the table of both paces, and the counts of transcripts."""
+    by_pace = {f"this drive, `{pace}`": reports.merged([run.report for run in of_pace]) for pace, of_pace in runs.items()}
+    with open(f"{ROOT}/docs/conformance.md", encoding="utf-8") as it:
+        page = it.read().split("\n")
+    lines = [*reports.table(suite.plans, by_pace), *build.rows_of_counts(build.planned(ROOT))]
+    missing = [it for it in lines if it not in page]
+    tally.add(not missing, "the page has the table of both paces and the counts", "docs/conformance.md lacks\n" + "\n".join(missing))
 
 
 def keep_reports(folder, runs):
@@ -214,7 +214,7 @@ def main():
             keep_reports(words.reports, runs)
         check_all(tally, suite, runs["kernal"])
         check_paces(tally, suite, runs["profile"])
-        check_table(tally, suite, runs)
+        check_page(tally, suite, runs)
         check_ways(tally, suite)
         list(pool.map(lambda name: check_wrong(tally, suite, name), wrong_drives.WRONG))
         list(pool.map(lambda name: check_other(tally, suite, name), wrong_drives.OTHER))

@@ -106,14 +106,21 @@ def write_image(files, path, drive1541):
         raise Failed(f"the image can't be written: {said}")
 
 
-def counts(plans):
-    """Lines that tell how many transcripts are in, and why others aren't."""
+def why_left_out(it):
+    """Why a transcript without a request isn't played."""
+    return it.left_out[0] if it.left_out else "nothing that a computer can see"
+
+
+def rows_of_counts(plans):
+    """The rows of a table: how many transcripts are included, and why others aren't."""
     whole = [it for it in plans if it.requests and not it.left_out]
     partly = [it for it in plans if it.requests and it.left_out]
-    reasons = collections.Counter(it.left_out[0] if it.left_out else "nothing that a computer can see" for it in plans if not it.requests)
-    yield f"{len(whole)} of {len(plans)} transcripts are in, {len(partly)} more in part: {sum(it.requests for it in plans)} requests"
+    reasons = collections.Counter(why_left_out(it) for it in plans if not it.requests)
+    yield f"| {len(whole)} | included |"
+    yield f"| {len(partly)} | included in part |"
     for reason, count in reasons.most_common():
-        yield f"{count:4} left out: {reason}"
+        yield f"| {count} | left out: {reason} |"
+    yield f"| {len(plans)} | all |"
 
 
 def list_of_cases(plans):
@@ -121,7 +128,7 @@ def list_of_cases(plans):
     yield "number\tclass\treference\trequests\tseconds\tcase\tleft out"
     for it in plans:
         number = str(it.number) if it.requests else "-"
-        left_out = "; ".join(dict.fromkeys(it.left_out)) or ("" if it.requests else "nothing that a computer can see")
+        left_out = "; ".join(dict.fromkeys(it.left_out)) or ("" if it.requests else why_left_out(it))
         yield "\t".join([number, it.class_of_case.name, it.class_of_case.reference, str(it.requests), f"{times.of_case(it):.0f}", it.case.name(), left_out])
 
 
@@ -138,4 +145,5 @@ def make(root, out, drive1541):
     for name, program in players.items():
         with open(f"{out}/{name.lower()}.prg", "wb") as it:
             it.write(program)
-    return [*counts(plans), f"{len(files)} data files with {sum(map(len, data.values()))} bytes; players with {', '.join(str(len(it)) for it in players.values())} bytes"]
+    requests = sum(it.requests for it in plans)
+    return [*rows_of_counts(plans), f"{requests} requests; {len(files)} data files with {sum(map(len, data.values()))} bytes; players with {', '.join(str(len(it)) for it in players.values())} bytes"]
