@@ -1,8 +1,8 @@
 #!/usr/bin/env python3
-"""check_suite.py DRIVE1541 [--reports FOLDER]: makes the conformance suite (tools/suite), and plays it in a simulated C64 and VIC-20 (suite_sim.c) over drive1541. Every case must
+"""check_suite.py DRIVE1541 [--reports FOLDER] [--mend]: makes the conformance suite (tools/suite), and plays it in a simulated C64 and VIC-20 (suite_sim.c) over drive1541. Every case must
 come out as its transcript. Drives that are wrong in one point (wrong_drives.py) must each be told by a case; drives that differ only where the manuals are
 silent must be different, and not wrong. It needs cl65 (Debian: cc65) and a C compiler. With --reports the reports of this drive at both paces are kept in a
-folder, as kernal.N and profile.N.
+folder, as kernal.N and profile.N; with --mend docs/conformance.md gets the right tables.
 Prints a line for each case, which begins with ok or WRONG. Last line: 'N passed, M failed'. Exit 0: nothing failed."""
 import argparse
 import concurrent.futures
@@ -97,6 +97,19 @@ class Suite:
             drives = [(8, self.drive(folder, "suite.d64", "--pace", "kernal")), (9, tested)]
             return Run(self.run(folder, f"8|9|{first}|{last}|Y|8|", drives, player), self.report(folder))
 
+    def play_images(self, cases, pace):
+        """Plays these cases with images, which are put into drive 9 one after another."""
+        with tempfile.TemporaryDirectory(dir=self.room) as folder:
+            self.copy_disks(folder)
+            words = ("--pace", pace, "--direct=raw")
+            drives = [(8, self.drive(folder, "suite.d64", "--pace", "kernal")), (9, self.drive(folder, "test.d64", *words))]
+            inserts = [it for played in cases for it in build.images_of(played)]
+            for it in inserts:
+                shutil.copy(f"{self.room}/images/{it.name}.d64", folder)
+                drives.append((9, self.drive(folder, f"{it.name}.d64", *words, *["--read-only"] * it.is_protected())))
+            keys = f"8|9|{cases[0].number}|{cases[-1].number}|Y|" + "~|" * len(inserts) + "8|"
+            return Run(self.run(folder, keys, drives, "suite64"), self.report(folder))
+
     def play_alone(self, first, last):
         """Plays these cases of one data file on a single drive, whose disks are changed."""
         with tempfile.TemporaryDirectory(dir=self.room) as folder:
@@ -121,9 +134,11 @@ class Suite:
 
     def play_parts(self, pool, pace):
         """All cases, in parts. Returns the runs."""
-        count = len(self.plans)
+        count = sum(not it.is_image for it in self.plans)
         ends = [count * n // PARTS for n in range(PARTS + 1)]
+        cases = [it for it in self.plans if it.is_image]
         futures = [pool.submit(self.play, first + 1, last, None, pace) for first, last in zip(ends, ends[1:])]
+        futures += [pool.submit(self.play_images, cases[n : n + SOME], pace) for n in range(0, len(cases), SOME)]
         return [it.result() for it in futures]
 
 
@@ -178,14 +193,34 @@ def check_other(tally, suite, name):
     tally.add(case in found and "  WRONG" not in screen, f"{name}: different, not wrong, by {len(found)} cases", screen[-1500:])
 
 
-def check_page(tally, suite, runs):
-    """docs/conformance.md has the table of both paces, and the counts of transcripts."""
+def blocks_of_page(suite, runs):
+    """What docs/conformance.md has of the suite: the table of both paces with the differences, and the counts of transcripts."""
     by_pace = {f"this drive, `{pace}`": reports.merged([run.report for run in of_pace]) for pace, of_pace in runs.items()}
-    with open(f"{ROOT}/docs/conformance.md", encoding="utf-8") as it:
+    return [list(reports.table(suite.plans, by_pace)), ["| transcripts | |", "|---|---|", *build.rows_of_counts(build.planned(ROOT))]]
+
+
+def mended(page, block):
+    """The lines of a page, with the lines of a table in place of those that have the same beginning."""
+    begin = next(n for n, line in enumerate(page) if line.startswith(block[0][:14]))
+    end = begin
+    while page[end].startswith(("|", "- ", "this drive")) or not page[end] and page[end + 1].startswith(("- ", "this drive")):
+        end += 1
+    return [*page[:begin], *block, *page[end:]]
+
+
+def check_page(tally, suite, runs, mends):
+    """The page has the right tables, or gets them."""
+    path = f"{ROOT}/docs/conformance.md"
+    with open(path, encoding="utf-8") as it:
         page = it.read().split("\n")
-    lines = [*reports.table(suite.plans, by_pace), *build.rows_of_counts(build.planned(ROOT))]
-    missing = [it for it in lines if it not in page]
-    tally.add(not missing, "the page has the table of both paces and the counts", "docs/conformance.md lacks\n" + "\n".join(missing))
+    right = page
+    for block in blocks_of_page(suite, runs):
+        right = mended(right, block)
+    if mends:
+        with open(path, "w", encoding="utf-8") as out:
+            out.write("\n".join(right))
+    missing = [it for it in right if it not in page]
+    tally.add(mends or right == page, "the page has the table of both paces and the counts", "run check_suite.py --mend: it lacks\n" + "\n".join(missing))
 
 
 def keep_reports(folder, runs):
@@ -201,6 +236,7 @@ def main():
     words = argparse.ArgumentParser(description=__doc__, formatter_class=argparse.RawDescriptionHelpFormatter)
     words.add_argument("drive1541")
     words.add_argument("--reports", metavar="FOLDER")
+    words.add_argument("--mend", action="store_true")
     words = words.parse_args()
     missing = [it for it in ("cl65", "cc") if not shutil.which(it)]
     if missing:
@@ -214,7 +250,7 @@ def main():
             keep_reports(words.reports, runs)
         check_all(tally, suite, runs["kernal"])
         check_paces(tally, suite, runs["profile"])
-        check_page(tally, suite, runs)
+        check_page(tally, suite, runs, words.mend)
         check_ways(tally, suite)
         list(pool.map(lambda name: check_wrong(tally, suite, name), wrong_drives.WRONG))
         list(pool.map(lambda name: check_other(tally, suite, name), wrong_drives.OTHER))

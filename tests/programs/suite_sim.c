@@ -16,7 +16,7 @@
 typedef unsigned char byte;
 typedef unsigned short word;
 
-#define MOST_DRIVES 8
+#define MOST_DRIVES 400
 #define LONGEST_LINE 1000
 #define LIMIT 40000000000ULL
 /* Where the program returns to. */
@@ -45,39 +45,49 @@ static void fail(const char *why) {
 
 struct drive {
     int number, is_in;
+    const char *command;
     FILE *to, *from;
     pid_t process;
 };
 static struct drive drives[MOST_DRIVES];
 static int drive_count;
 
-static void start_drive(char *text) {
+static void add_drive(char *text) {
     struct drive *it = drives + drive_count;
-    int to[2], from[2], n;
     char *command = strchr(text, ':');
-    if (!command || drive_count == MOST_DRIVES || pipe(to) || pipe(from)) fail("NUMBER:COMMAND is a drive");
+    int n;
+    if (!command || drive_count == MOST_DRIVES) fail("NUMBER:COMMAND is a drive");
     it->number = atoi(text);
+    it->command = command + 1;
     it->is_in = 1;
     for (n = 0; n < drive_count; ++n) it->is_in &= drives[n].number != it->number;
+    ++drive_count;
+}
+
+/* Starts a drive when it is used first. */
+static void start_drive(struct drive *it) {
+    int to[2], from[2], n;
+    if (pipe(to) || pipe(from)) fail("no pipe");
     it->process = fork();
     if (it->process == 0) {
         dup2(to[0], 0);
         dup2(from[1], 1);
-        for (n = 3; n < 64; ++n) close(n);
-        execl("/bin/sh", "sh", "-c", command + 1, (char *)0);
+        for (n = 3; n < 1024; ++n) close(n);
+        execl("/bin/sh", "sh", "-c", it->command, (char *)0);
         _exit(127);
     }
     close(to[0]);
     close(from[1]);
     it->to = fdopen(to[1], "w");
     it->from = fdopen(from[0], "r");
-    ++drive_count;
 }
 
 static struct drive *drive_of(int number) {
-    int n;
-    for (n = 0; n < drive_count; ++n) if (drives[n].number == number && drives[n].is_in) return drives + n;
-    return 0;
+    int n = 0;
+    while (n < drive_count && (drives[n].number != number || !drives[n].is_in)) ++n;
+    if (n == drive_count) return 0;
+    if (!drives[n].to) start_drive(drives + n);
+    return drives + n;
 }
 
 /* The next drive of the same number, around. */
@@ -97,6 +107,7 @@ static void change_disks(void) {
 static void end_drives(void) {
     int n;
     for (n = 0; n < drive_count; ++n) {
+        if (!drives[n].to) continue;
         fclose(drives[n].to);
         fclose(drives[n].from);
         waitpid(drives[n].process, 0, 0);
@@ -482,7 +493,7 @@ int main(int count, char **words) {
     signal(SIGPIPE, SIG_IGN);
     load_program(words[1]);
     keys = words[2];
-    for (n = 3; n < count; ++n) start_drive(words[n]);
+    for (n = 3; n < count; ++n) add_drive(words[n]);
     push((RETURNED - 1) >> 8);
     push((RETURNED - 1) & 255);
     while (pc != RETURNED) {

@@ -75,7 +75,7 @@ int main(void) {
     say("\ntests a drive by " SUITE_COUNT " cases\n");
     if (!ask_drive()) return 1;
     first = ask_number("first case", 1);
-    last = ask_number("last case", CASES);
+    last = ask_number("last case; those above need images", PLAIN_CASES);
     if (!may_write()) return 1;
     format();
     for (number = 1; number <= FILES; ++number) {

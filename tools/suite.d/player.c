@@ -283,6 +283,16 @@ static void prepare(void) {
     place = after;
 }
 
+/* Asks for an image, which has a disk that no drive can make. */
+static void insert(void) {
+    close_buffer();
+    disk = NO_DISK;
+    say("\n  image ");
+    say_text();
+    wait_for_return(": put it in");
+    calm();
+}
+
 static void begin_case(void) {
     class_of_case = *place++;
     result = SAME;
@@ -323,6 +333,7 @@ static unsigned char play_step(unsigned char op) {
     case FORMAT: close_buffer(); format(); break;
     case CALM: close_buffer(); calm(); break;
     case RESTART: close_buffer(); restart(); break;
+    case IMAGE: insert(); break;
     case ZEROS: zeros(); break;
     case PATCH: patch(); break;
     default: return 0;

@@ -3,16 +3,19 @@ import collections
 import hashlib
 import os
 import shutil
+import string
 import subprocess
 import tempfile
 
-from . import classes, code, packing, plan, times, transcripts
+from . import classes, code, images, packing, plan, times, transcripts
 
 # How many bytes a data file has at most: what fits into a VIC-20 with 24 kB beside the player.
 SIZE = 12_000
 # A player: its name on the disk, and how it is compiled.
 PLAYERS = {"SUITE64": ["-t", "c64"], "SUITE20": ["-t", "vic20", "-C", "vic20-32k.cfg"]}
 SOURCES = ("main.c", "player.c", "drive.c", "text.c", "console.c", "report.c")
+# Letters of the images of a case.
+LETTERS = string.ascii_uppercase + string.digits
 BYTES_OF_IMAGE = 174_848
 # How many characters of TEXT a line of a script has at most here.
 PART = 250
@@ -32,11 +35,34 @@ def planned(root):
         raise Failed("\n".join(wrong))
     classes.set_kernal_answers(folder, cases)
     found = plan.all_of(cases)
-    found.sort(key=lambda it: (not it.requests, times.of_case(it)))
+    images.plan_all(found)
+    found.sort(key=lambda it: (not it.requests, it.is_image, times.of_case(it)))
     for number, it in enumerate(found, 1):
         it.number, it.class_of_case = number, classes.class_of(by_name, it.case)
         it.class_letter = classes.LETTERS[it.class_of_case.name]
+        name_images(it)
     return found
+
+
+def images_of(played):
+    """The images of a case, in their order."""
+    return [it for it in played.ops if isinstance(it, images.Insert)]
+
+
+def name_images(played):
+    """Names the images of a case by its number."""
+    for letter, it in enumerate(images_of(played)):
+        it.name = f"I{played.number:03}{LETTERS[letter]}"
+
+
+def write_images(plans, folder, drive1541):
+    """Writes the images of all cases. Returns their number."""
+    os.makedirs(folder, exist_ok=True)
+    maker, inserts = images.Maker(drive1541), [it for played in plans for it in images_of(played)]
+    for it in inserts:
+        with open(f"{folder}/{it.name}.d64", "wb") as out:
+            out.write(maker.made(it.start, it.history))
+    return len(inserts)
 
 
 def files_of(plans):
@@ -56,7 +82,8 @@ def sum_of(plans):
 def suite_header(files):
     """What the player knows of the data."""
     count = sum(len(it.cases) for it in files)
-    rows = {"SUITE_SUM": f'"{sum_of_files(files)}"', "SUITE_COUNT": f'"{count}"', "DATA_SIZE": SIZE, "FILES": len(files), "CASES": count}
+    plain = sum(not it.is_image for file in files for it in file.cases)
+    rows = {"SUITE_SUM": f'"{sum_of_files(files)}"', "SUITE_COUNT": f'"{count}"', "DATA_SIZE": SIZE, "FILES": len(files), "CASES": count, "PLAIN_CASES": plain}
     firsts, lasts = (", ".join(str(pick(case.number for case in it.cases)) for it in files) for pick in (min, max))
     numbers = f"static const unsigned int first_of_file[] = {{{firsts}}};\nstatic const unsigned int last_of_file[] = {{{lasts}}};\n"
     return "".join(f"#define {name} {value}\n" for name, value in rows.items()), numbers
@@ -113,11 +140,11 @@ def why_left_out(it):
 
 def rows_of_counts(plans):
     """The rows of a table: how many transcripts are included, and why others aren't."""
-    whole = [it for it in plans if it.requests and not it.left_out]
-    partly = [it for it in plans if it.requests and it.left_out]
+    plain, with_images = ([it for it in plans if it.requests and it.is_image == wanted] for wanted in (False, True))
     reasons = collections.Counter(why_left_out(it) for it in plans if not it.requests)
-    yield f"| {len(whole)} | included |"
-    yield f"| {len(partly)} | included in part |"
+    for group, how in ((plain, "included"), (with_images, "included, with images")):
+        yield f"| {sum(not it.left_out for it in group)} | {how} |"
+        yield f"| {sum(bool(it.left_out) for it in group)} | {how}, in part |"
     for reason, count in reasons.most_common():
         yield f"| {count} | left out: {reason} |"
     yield f"| {len(plans)} | all |"
@@ -145,5 +172,6 @@ def make(root, out, drive1541):
     for name, program in players.items():
         with open(f"{out}/{name.lower()}.prg", "wb") as it:
             it.write(program)
+    count = write_images(plans, f"{out}/images", drive1541)
     requests = sum(it.requests for it in plans)
-    return [*rows_of_counts(plans), f"{requests} requests; {len(files)} data files with {sum(map(len, data.values()))} bytes; players with {', '.join(str(len(it)) for it in players.values())} bytes"]
+    return [*rows_of_counts(plans), f"{requests} requests; {count} images; {len(files)} data files with {sum(map(len, data.values()))} bytes; players with {', '.join(str(len(it)) for it in players.values())} bytes"]

@@ -23,6 +23,7 @@ NAMES = (
     "FORMAT",  # the same by a long NEW, which writes the disk's id
     "CALM",  # all channels are closed, the status is read
     "RESTART",  # the drive restarts
+    "IMAGE",  # name as a text: the user puts this image in
     "ZEROS",  # track, sector, then parts: a sector of zeros but for these parts
     "PATCH",  # track, sector, then parts: a sector with these parts changed
     "SECTOR",  # track, sector, position, text: bytes of a sector

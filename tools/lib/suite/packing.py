@@ -5,7 +5,7 @@ each), these operations and disks, and the cases. Each case has its operation, t
 """
 import collections
 
-from . import code
+from . import code, images
 
 # A shared operation is one byte, from 128 on.
 MOST_SHARED = 128
@@ -29,6 +29,9 @@ class File:
             if isinstance(it, bytes):
                 found.append(it)
                 continue
+            if isinstance(it, images.Insert):
+                found.append(it.op())
+                continue
             if it.ops not in self.disks:
                 self.disks.append(it.ops)
             found.append(code.op("PREPARE", self.disks.index(it.ops)))
@@ -49,7 +52,8 @@ class File:
         """A case, at its place."""
         title = played.case.title.upper().encode("ascii", "replace")[:TITLE]
         rest = code.word(played.number) + played.class_letter.encode() + code.text(title) + self.packed(ops) + code.op("END_OF_CASE")
-        return code.op("CASE") + code.word(at + 3 + len(rest)) + rest
+        # (a file that is too large is cut in two, whatever stands here)
+        return code.op("CASE") + code.word(min(at + 3 + len(rest), 65535)) + rest
 
     def data(self):
         """The bytes of the file."""

@@ -98,6 +98,7 @@ class Played:
     ops: list = dataclasses.field(default_factory=list)
     class_of_case: classes.Class | None = None
     class_letter: str = "M"
+    is_image: bool = False
     requests: int = 0
     left_out: list = dataclasses.field(default_factory=list)
 

@@ -4,7 +4,7 @@ from . import code, plan
 # Seconds a byte on the serial bus, by a KERNAL; seconds a block that is written.
 BYTE, BLOCK = 0.0025, 0.35
 # Seconds that operations take, apart from their bytes.
-OPERATIONS = {"NEW": 4, "FORMAT": 80, "CALM": 1.5, "RESTART": 4, "ZEROS": 1.5, "PATCH": 1.5, "SECTOR": 1, "DIRECTORY": 2, "FREE": 2, "OPEN": 0.7, "CLOSE": 1}
+OPERATIONS = {"IMAGE": 20, "NEW": 4, "FORMAT": 80, "CALM": 1.5, "RESTART": 4, "ZEROS": 1.5, "PATCH": 1.5, "SECTOR": 1, "DIRECTORY": 2, "FREE": 2, "OPEN": 0.7, "CLOSE": 1}
 # Seconds that commands take, by their first letter.
 COMMANDS = {"N": 10, "V": 15, "S": 3, "C": 5, "R": 2, "U": 0.5, "B": 1, "I": 0.5}
 # How many bytes stand between an operation's code and its text.
@@ -33,6 +33,6 @@ def of_case(played):
     """Seconds of a transcript, with its disks."""
     seconds = 0
     for it in played.ops:
-        ops = [code.op("NEW"), *it.ops] if isinstance(it, plan.Prepared) else [it]
+        ops = [code.op("NEW"), *it.ops] if isinstance(it, plan.Prepared) else [it] if isinstance(it, bytes) else [it.op()]
         seconds += sum(map(of_operation, ops))
     return seconds
