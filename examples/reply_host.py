@@ -121,7 +121,7 @@ class Computer:
         self.stop(UNLISTEN)
 
     def take(self):
-        """A byte of the talker, and whether it is the last."""
+        """A byte of the talker, and whether it is the last; None if a drive of the pace `kernal` has nothing to send."""
         bus = self.bus
         bus.wait("clock", False)
         moment = bus.now + 10
@@ -130,7 +130,8 @@ class Computer:
         if is_last:
             bus.change(bus.now + 1, "data pull")
             bus.change(bus.now + 60, "data free")
-            bus.wait("clock", True)
+            if not bus.wait("clock", True):
+                return None, False
         byte = 0
         for bit in range(8):
             bus.wait("clock", False)
@@ -139,20 +140,22 @@ class Computer:
         bus.change(bus.now + 50, "data pull")
         return byte, is_last
 
-    def read(self, device, channel):
-        """TALK, bytes up to EOI, UNTALK."""
+    def read(self, device, channel, most=200_000):
+        """TALK, bytes up to EOI or a number of them, UNTALK. Returns the bytes, and whether the last one came with EOI."""
         bus = self.bus
         self.attention(TALK + device, DATA + channel)
         moment = bus.now + 60
         bus.change(moment, "data pull", "atn free")
         bus.change(moment + 20, "clock free")
-        text = bytearray()
-        is_last = not bus.wait("clock", True, 200)
-        while not is_last:
-            byte, is_last = self.take()
-            text.append(byte)
+        text, is_last = bytearray(), False
+        if bus.wait("clock", True, 200):
+            while not is_last and len(text) < most:
+                byte, is_last = self.take()
+                if byte is None:
+                    break
+                text.append(byte)
         self.stop(UNTALK)
-        return bytes(text)
+        return bytes(text), is_last
 
 
 def listing(program):
@@ -183,10 +186,11 @@ def main():
         computer.write(device, DATA + 2, b"HELLO %d\r" % device)
         computer.close(device, 2)
         computer.write(device, OPEN, b"$")
-        print(*listing(computer.read(device, 0)), sep="\n")
+        print(*listing(computer.read(device, 0)[0]), sep="\n")
         computer.close(device, 0)
-        print(computer.read(device, 15).decode("latin-1").rstrip("\r"))
+        print(computer.read(device, 15)[0].decode("latin-1").rstrip("\r"))
     return bus.end()
 
 
-sys.exit(main())
+if __name__ == "__main__":
+    sys.exit(main())

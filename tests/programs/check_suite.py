@@ -127,6 +127,29 @@ class Suite:
             with open(f"{folder}/test.d64.new", "rb") as it:
                 return screen, it.read()
 
+    def play_from_pc(self, folder, host, first, last, *command):
+        """Plays these cases by the PC's player. Returns the results."""
+        environment = {**os.environ, "SUITE_RESTART": "0", "FALSE_OPENCBM": shlex.join(self.drive(folder, "test.d64", "--pace", "kernal", "--direct=raw"))}
+        words = [f"{ROOT}/tools/suite", "play", host, f"{folder}/report", str(first), str(last), *command]
+        subprocess.run(words, input="y\n", env=environment, capture_output=True, text=True, check=True, timeout=LIMIT)
+        with open(f"{folder}/report", "rb") as it:
+            return reports.read(it.read()).results
+
+    def play_opencbm(self, first, last):
+        """Plays these cases over a stand-in for libopencbm."""
+        with tempfile.TemporaryDirectory(dir=self.room) as folder:
+            self.copy_disks(folder)
+            library = f"{folder}/false_opencbm.so"
+            subprocess.run(["cc", "-O2", "-shared", "-fPIC", "-o", library, f"{HERE}/false_opencbm.c"], check=True)
+            return self.play_from_pc(folder, f"opencbm:8:{library}", first, last)
+
+    def play_reply(self, first, last):
+        """Plays these cases over the lines of the bus."""
+        with tempfile.TemporaryDirectory(dir=self.room) as folder:
+            self.copy_disks(folder)
+            command = [self.drive1541, "reply", f"{folder}/test.d64", "--drive", "8:20:kernal", "--direct=raw"]
+            return self.play_from_pc(folder, "reply:8", first, last, "--", *command)
+
     def copy_disks(self, folder):
         shutil.copy(f"{self.room}/suite.d64", f"{folder}/suite.d64")
         with open(f"{folder}/test.d64", "wb") as out:
@@ -172,6 +195,30 @@ def check_ways(tally, suite):
     tally.add(run.of_letter(reports.SAME) == set(range(3, 21)), "a single drive whose disks are changed", run.screen[-500:])
     screen, disk = suite.refuse()
     tally.add(disk == BLANK and "FORMATS" not in screen, "nothing is written after a no", screen)
+
+
+def check_pc(tally, suite, pool):
+    """The PC's player has the same results."""
+    count = sum(not it.is_image for it in suite.plans)
+    opencbm, reply = pool.submit(suite.play_opencbm, 1, count), pool.submit(suite.play_reply, 1, SOME)
+    for name, found, last in (("a stand-in for libopencbm", opencbm.result(), count), ("the lines of reply", reply.result(), SOME)):
+        right = {number: reports.SAME for number in range(1, last + 1)}
+        tally.add(found == right, f"from a PC over {name}: {last} cases", {n: it for n, it in found.items() if it != reports.SAME})
+
+
+def check_corpus(tally, suite):
+    """The 500 damaged disks: drive1541 finds the fault that their list has."""
+    with tempfile.TemporaryDirectory(dir=suite.room) as folder:
+        subprocess.run([sys.executable, f"{ROOT}/tools/make/damaged_disks.py", folder], check=True)
+        with open(f"{folder}/damaged.txt", encoding="utf-8") as it:
+            rows = [line.split(" ", 2) for line in it.read().splitlines()]
+        wrong = [name for _, name, fault in rows if check_of(suite, f"{folder}/{name}") != f"check {fault}\n"]
+    tally.add(len(rows) == 500 and not wrong, f"the list of {len(rows)} damaged disks", wrong)
+
+
+def check_of(suite, image):
+    """What drive1541 prints of a disk's fault."""
+    return subprocess.run([suite.drive1541, "--check", image, "-"], stdin=subprocess.DEVNULL, capture_output=True, text=True, check=False).stdout
 
 
 def check_wrong(tally, suite, name):
@@ -252,6 +299,8 @@ def main():
         check_paces(tally, suite, runs["profile"])
         check_page(tally, suite, runs, words.mend)
         check_ways(tally, suite)
+        check_pc(tally, suite, pool)
+        check_corpus(tally, suite)
         list(pool.map(lambda name: check_wrong(tally, suite, name), wrong_drives.WRONG))
         list(pool.map(lambda name: check_other(tally, suite, name), wrong_drives.OTHER))
     print(f"{tally.passed} passed, {tally.failed} failed")

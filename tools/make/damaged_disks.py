@@ -1,10 +1,15 @@
 #!/usr/bin/env python3
-"""damaged_disks.py: 500 damaged disks, and what `check` and VALIDATE say of each, as a transcript (docs/dev/transcripts.md).
+"""damaged_disks.py [FOLDER]: 500 damaged disks, and what `check` and VALIDATE say of each, as a transcript (docs/dev/transcripts.md).
+With FOLDER: the disks as images in it, and damaged.txt with the SHA-256 of each and the result of a check.
 
 A plain reading of the D64 format and of the drive's rules (docs/quirks.md), apart from the drive's own code: what it prints
 is crates/cases/data/damaged.cases.
 """
+import hashlib
+import os
+import sys
 
+DISKS = 500
 CODES = {2: 20, 3: 21, 4: 22, 5: 23, 6: 24, 9: 27, 11: 29}  # a D64's error bytes
 HEADER_FAULTS = (20, 21, 27, 29)
 TEXTS = {29: "DISK ID MISMATCH", 66: "ILLEGAL TRACK OR SECTOR", 71: "DIR ERROR"}
@@ -241,12 +246,29 @@ def pokes(before, after):
 VALIDATE = ["> put 15 V0", "> status"]
 
 
-def case(seed):
-    """The lines of the disk of this number."""
+def damaged(seed):
+    """The disk of this number."""
     image = base()
     r = Random(seed)
     for _ in range(1 + r.below(3)):
         damage(image, r)
+    return image
+
+
+def write_images(folder):
+    """Writes the disks and the list of them."""
+    os.makedirs(folder, exist_ok=True)
+    with open(f"{folder}/damaged.txt", "w", encoding="utf-8") as rows:
+        for seed in range(DISKS):
+            image, name = bytes(damaged(seed)), f"damaged-{seed:03}.d64"
+            with open(f"{folder}/{name}", "wb") as out:
+                out.write(image)
+            print(hashlib.sha256(image).hexdigest(), name, verdict(image), file=rows)
+
+
+def case(seed):
+    """The lines of the disk of this number."""
+    image = damaged(seed)
     lines = ["", "== damaged disk %d" % seed, "disk files", *pokes(base(), image)]
     found = verdict(image)
     unsound = ["check " + found] if found != "sound" else []
@@ -257,7 +279,7 @@ def case(seed):
     return [*lines, *unsound, "then", *fine, "free %d" % free, "stays", *fine]
 
 
-if __name__ == "__main__":
+def print_transcript():
     print("; 500 damaged disks, written by tools/make/damaged_disks.py: what a check says of each, and what VALIDATE answers. Where it")
     print("; refuses, the disk stays; else the disk is sound afterwards, and a second VALIDATE changes nothing.")
     print()
@@ -266,5 +288,12 @@ if __name__ == "__main__":
     print("disk empty, error bytes")
     empty = formatted({(18, 0), (18, 1)})
     print("\n".join([*pokes(empty, base()), "keep files"]))
-    for seed in range(500):
+    for seed in range(DISKS):
         print("\n".join(case(seed)))
+
+
+if __name__ == "__main__":
+    if sys.argv[1:]:
+        write_images(sys.argv[1])
+    else:
+        print_transcript()
