@@ -1,7 +1,8 @@
 #!/usr/bin/env bash
 # check_release.sh OUT: tries the results of tools/release in OUT, without the kit. From the archive, in a fresh folder and with an empty environment, a
 # disk is listed, read, written and checked, a script is run, and an example is linked by pkg-config. The module, the C file and the library for aarch64 do
-# the same as the library, if node, cc and qemu are installed. The packages are installed into an empty root, replace older ones, and are removed without a trace.
+# the same as the library, if node, cc and qemu are installed. The conformance suite's disk is listed and checked. The packages are installed into an empty
+# root, replace older ones, and are removed without a trace.
 set -eu
 out=$(cd "$1" && pwd)
 top=$(cd "$(dirname "$0")/../.." && pwd)
@@ -78,6 +79,15 @@ what="the page"
 if ls "$out"/yellowadze1541-*-page.tar.xz > /dev/null 2>&1; then
     unpacked page
     [ -s "$room/page/disks.html" ] && [ -s "$room/page/site/index.html" ] && [ -s "$room/page/site/yellowadze1541.wasm" ]
+fi
+what="the conformance suite"
+if ls "$out"/yellowadze1541-*-suite.tar.xz > /dev/null 2>&1; then
+    unpacked suite
+    bare "$here/bin/disk1541" list "$room/suite/suite.d64" > "$room/suite.txt"
+    grep -q '"SUITE64" *PRG' "$room/suite.txt" && grep -q '"SUITE20" *PRG' "$room/suite.txt"
+    bare "$here/bin/disk1541" check "$room/suite/suite.d64" > "$room/suite.txt"
+    grep -qx sound "$room/suite.txt"
+    [ -s "$room/suite/cases.txt" ] && [ -s "$room/suite/conformance.md" ] && [ -s "$room/suite/sources/main.c" ]
 fi
 what="the wheel"
 if ls "$out"/yellowadze1541-*.whl > /dev/null 2>&1 && there python3; then
