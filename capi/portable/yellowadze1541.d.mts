@@ -19,8 +19,11 @@ export const DATA: 2;
 /** What nextDue() gives when the drive waits for a line. */
 export const NEVER: number;
 
-/** Bytes, or a text whose characters are bytes: names and patterns are PETSCII. */
-export type Bytes = Uint8Array | string;
+/** Bytes, or a text whose characters are bytes. */
+export type Bytes = Uint8Array | ArrayBuffer | ArrayBufferView | string;
+
+/** A name, a pattern or a command: its codes as bytes, or a text, whose letters are those of a C64 after power-up ("hello" is HELLO). */
+export type Text = Bytes;
 
 /** The first fault of a disk that isn't sound: a number from 1 to 9 of docs/numbers.md, and its place. */
 export interface Place {
@@ -28,6 +31,9 @@ export interface Place {
   track: number;
   sector: number;
 }
+
+/** The words for a result or a status: "no memory" for -1, "63, FILE EXISTS" for 63. */
+export function text(number: number): string;
 
 /** A call that the library refuses: a number below 0, or a status of the drive from 20 on. */
 export class Refused extends Error {
@@ -152,37 +158,37 @@ export interface Library {
   flaws(image: Uint8Array): Flaw[];
   /** The slots of the odd entries, if nothing else is wrong with the disk; null if more is. */
   odd(image: Uint8Array): number[] | null;
-  list(image: Uint8Array, pattern?: Bytes): Uint8Array;
-  file(image: Uint8Array, pattern: Bytes): Uint8Array;
+  list(image: Uint8Array, pattern?: Text): Uint8Array;
+  file(image: Uint8Array, pattern: Text): Uint8Array;
   sector(image: Uint8Array, track: number, sector: number): Uint8Array;
-  put(image: Uint8Array, text: Bytes, data: Bytes): Uint8Array;
+  put(image: Uint8Array, text: Text, data: Bytes): Uint8Array;
   /** All of the files, or none. */
-  putAll(image: Uint8Array, files: { text: Bytes; data: Bytes }[]): Uint8Array;
-  command(image: Uint8Array, text: Bytes): Uint8Array;
+  putAll(image: Uint8Array, files: { text: Text; data: Bytes }[]): Uint8Array;
+  command(image: Uint8Array, text: Text): Uint8Array;
   /** The drive's answer to a command, and the image; null if the drive refused it. */
-  commandStatus(image: Uint8Array, text: Bytes): { image: Uint8Array | null; status: Said };
+  commandStatus(image: Uint8Array, text: Text): { image: Uint8Array | null; status: Said };
   /** The file in a slot, whatever its name is; the others give the image after the change. */
   read(image: Uint8Array, slot: number): Uint8Array;
-  rename(image: Uint8Array, slot: number, name: Bytes): Uint8Array;
-  copy(image: Uint8Array, slot: number, name: Bytes): Uint8Array;
+  rename(image: Uint8Array, slot: number, name: Text): Uint8Array;
+  copy(image: Uint8Array, slot: number, name: Text): Uint8Array;
   lock(image: Uint8Array, slot: number, isLocked: boolean): Uint8Array;
   remove(image: Uint8Array, slot: number): Uint8Array;
   undelete(image: Uint8Array, slot: number, kind: number): Uint8Array;
   /** The entries of two slots change places. */
   swap(image: Uint8Array, first: number, second: number): Uint8Array;
-  retitle(image: Uint8Array, title: Bytes): Uint8Array;
+  retitle(image: Uint8Array, title: Text): Uint8Array;
   /** Other five bytes after the title: the id, a byte, and the two of the DOS. */
   remark(image: Uint8Array, mark: Bytes): Uint8Array;
   /** The disk without its odd entries: a sound disk, with a locked DEL in the slot of each. */
   putAway(image: Uint8Array): Uint8Array;
   /** A changed image from putAway, with the odd entries of `image` again. Throws Refused, 26, if the change touched one of them. */
   putBack(image: Uint8Array, changed: Uint8Array): Uint8Array;
-  create(form: Form, title: Bytes, id: Bytes): Uint8Array;
+  create(form: Form, title: Text, id: Text): Uint8Array;
   convert(image: Uint8Array): { image: Uint8Array; lost: Lost };
   play(image: Uint8Array, changes: Omit<Signal, "who">[], end: number, settings?: Settings): { image: Uint8Array; events: Signal[] };
 }
 
 type Source = WebAssembly.Module | BufferSource | Response;
 
-/** The library, of a compiled module, its bytes, or a response that has them (or a promise of one of these). */
-export function load(source: Source | Promise<Source>): Promise<Library>;
+/** The library, of a compiled module, its bytes, or a response that has them (or a promise of one of these); by default of the module next to the file. */
+export function load(source?: Source | Promise<Source>): Promise<Library>;

@@ -1,7 +1,7 @@
 // The drive and its images in JavaScript, over yellowadze1541.wasm: the calls, numbers and texts of yellowadze1541.h.
 //
-//   import { load } from "./yellowadze1541.mjs";
-//   const y1541 = await load(fetch("yellowadze1541.wasm"));      // in Node: load(await readFile("yellowadze1541.wasm"))
+//   import { load } from "yellowadze1541";
+//   const y1541 = await load();                                  // the module next to this file; or load(bytes), load(fetch(url))
 //   y1541.list(image);                                           // the bytes that LOAD"$" gets
 //   const drive = y1541.open(image, { device: 8 });              // a drive on lines
 //
@@ -21,8 +21,33 @@ const TEXTS = {
   [ABSENT]: "no such thing",
   "-5": "no image of a 1541's disk",
   [UNSOUND]: "the disk isn't sound",
-  [NO_DRIVE]: "no drive, or one already",
+  [NO_DRIVE]: "the drive is closed",
 };
+// The drive's texts on channel 15, by status.
+const STATUS_TEXTS = [
+  [[1], "FILES SCRATCHED"],
+  [[20, 21, 22, 23, 24, 27], "READ ERROR"],
+  [[25, 28], "WRITE ERROR"],
+  [[26], "WRITE PROTECT ON"],
+  [[29], "DISK ID MISMATCH"],
+  [[30, 31, 32, 33, 34], "SYNTAX ERROR"],
+  [[50], "RECORD NOT PRESENT"],
+  [[51], "OVERFLOW IN RECORD"],
+  [[52], "FILE TOO LARGE"],
+  [[60], "WRITE FILE OPEN"],
+  [[61], "FILE NOT OPEN"],
+  [[62], "FILE NOT FOUND"],
+  [[63], "FILE EXISTS"],
+  [[64], "FILE TYPE MISMATCH"],
+  [[65], "NO BLOCK"],
+  [[66], "ILLEGAL TRACK OR SECTOR"],
+  [[70], "NO CHANNEL"],
+  [[71], "DIR ERROR"],
+  [[72], "DISK FULL"],
+  [[73], "CBM DOS V2.6 1541"],
+  [[74], "DRIVE NOT READY"],
+];
+const STATUS_TEXT = new Map(STATUS_TEXTS.flatMap(([numbers, words]) => numbers.map((it) => [it, words])));
 // Faults, in disk1541's words.
 const FLAW_TEXTS = [
   "it isn't sound",
@@ -40,10 +65,13 @@ const FLAW_TEXTS = [
 const SIGNAL = 16, SECTOR = 256, ENTRY = 24, FLAW = 8, FILE = 32, SAID = 36;
 const SLOTS = 144, FLAWS = 4096;
 
+/** The words for a result or a status: "no memory" for -1, "63, FILE EXISTS" for 63. */
+export const text = (number) => TEXTS[number] ?? (STATUS_TEXT.has(number) ? `${number}, ${STATUS_TEXT.get(number)}` : `status ${number} of the drive`);
+
 /** A call that the library refuses: a number below 0, or a status of the drive from 20 on. */
 export class Refused extends Error {
   constructor(number, place) {
-    super(TEXTS[number] ?? `status ${number} of the drive`);
+    super(text(number));
     this.name = "Refused";
     this.number = number;
     if (place) this.place = place;
@@ -75,7 +103,16 @@ const moment = (value) => {
   return value;
 };
 
-const bytesOf = (value) => (typeof value === "string" ? Uint8Array.from(value, (it) => byte(it.charCodeAt(0), "a character")) : value);
+// Bytes, of a buffer, a view of one, or a text whose characters are bytes.
+const bytesOf = (value) => {
+  if (typeof value === "string") return Uint8Array.from(value, (it) => byte(it.charCodeAt(0), "a character"));
+  if (value instanceof ArrayBuffer) return new Uint8Array(value);
+  if (ArrayBuffer.isView(value)) return new Uint8Array(value.buffer, value.byteOffset, value.byteLength);
+  throw new TypeError("bytes are needed: a Uint8Array, an ArrayBuffer or a string");
+};
+
+// A name, a pattern or a command, as a C64 has it after power-up: the keys of its letters send capitals. Codes stay as they are.
+const typed = (value) => (typeof value === "string" ? value.replace(/[a-z]/g, (it) => it.toUpperCase()) : value);
 
 // An instance of the module: its memory, and its functions, which throw Gone from the first trap on.
 class Inside {
@@ -191,7 +228,10 @@ class Inside {
 }
 
 // How many bytes the image of a disk may have that was put in as this one: a G64 whose tracks the drive formats grows to 278,234.
-const roomFor = (image) => (image[0] === 0x47 && image[1] === 0x43 ? Math.max(image.length, 278234) : image.length);
+const roomFor = (image) => {
+  const bytes = bytesOf(image);
+  return bytes[0] === 0x47 && bytes[1] === 0x43 ? Math.max(bytes.length, 278234) : bytes.length;
+};
 
 class Drive {
   #in;
@@ -224,6 +264,11 @@ class Drive {
 
   close() {
     this.#in = null;
+  }
+
+  // (`using drive = y1541.open(..)`, where the language has it)
+  [Symbol.dispose ?? Symbol("dispose")]() {
+    this.close();
   }
 
   get #open() {
@@ -401,11 +446,11 @@ class Library {
   }
 
   list(image, pattern = "") {
-    return this.#made("y1541_image_list", [image, pattern], 0);
+    return this.#made("y1541_image_list", [image, typed(pattern)], 0);
   }
 
   file(image, pattern) {
-    return this.#made("y1541_image_file", [image, pattern], 0);
+    return this.#made("y1541_image_file", [image, typed(pattern)], 0);
   }
 
   sector(image, track, sector) {
@@ -415,14 +460,14 @@ class Library {
   }
 
   put(image, text, data) {
-    return this.#made("y1541_image_put", [image, text, data], roomFor(image));
+    return this.#made("y1541_image_put", [image, typed(text), data], roomFor(image));
   }
 
   putAll(image, files) {
     const it = this.#fresh(), list = it.room(FILE * files.length), put = it.put(new Uint8Array(8));
     try {
       // (a file is the places and lengths of its text and its bytes, as `with` has them)
-      return it.with([image, ...files.flatMap(({ text, data }) => [text, data])], (at, size, ...fields) => {
+      return it.with([image, ...files.flatMap(({ text, data }) => [typed(text), data])], (at, size, ...fields) => {
         fields.forEach((field, i) => it.view().setBigUint64(Number(list) + 8 * i, field, true));
         return it.given(roomFor(image), (...out) => it.calls.y1541_image_put_all(at, size, list, BigInt(files.length), put, ...out));
       });
@@ -433,14 +478,14 @@ class Library {
   }
 
   command(image, text) {
-    return this.#made("y1541_image_command", [image, text], roomFor(image));
+    return this.#made("y1541_image_command", [image, typed(text)], roomFor(image));
   }
 
   commandStatus(image, text) {
     const it = this.#fresh(), said = it.put(new Uint8Array(SAID));
     let after = null;
     try {
-      after = it.with([image, text], (...args) => it.given(roomFor(image), (...out) => it.calls.y1541_image_command_status(...args, said, ...out)));
+      after = it.with([image, typed(text)], (...args) => it.given(roomFor(image), (...out) => it.calls.y1541_image_command_status(...args, said, ...out)));
     } catch (e) {
       if (!(e.number >= STATUS)) throw e;
     }
@@ -460,11 +505,11 @@ class Library {
   }
 
   rename(image, slot, name) {
-    return this.#inSlot("y1541_image_rename", image, slot, [name]);
+    return this.#inSlot("y1541_image_rename", image, slot, [typed(name)]);
   }
 
   copy(image, slot, name) {
-    return this.#inSlot("y1541_image_copy", image, slot, [name]);
+    return this.#inSlot("y1541_image_copy", image, slot, [typed(name)]);
   }
 
   lock(image, slot, isLocked) {
@@ -484,7 +529,7 @@ class Library {
   }
 
   retitle(image, title) {
-    return this.#made("y1541_image_retitle", [image, title], roomFor(image));
+    return this.#made("y1541_image_retitle", [image, typed(title)], roomFor(image));
   }
 
   remark(image, mark) {
@@ -500,9 +545,9 @@ class Library {
   }
 
   create(form, title, id) {
-    const [first, second] = bytesOf(id);
+    const [first, second] = bytesOf(typed(id));
     const it = this.#fresh();
-    return it.with([title], (...name) => it.given(0, (...out) => it.calls.y1541_image_new(byte(form, "form"), ...name, first, second, ...out)));
+    return it.with([typed(title)], (...name) => it.given(0, (...out) => it.calls.y1541_image_new(byte(form, "form"), ...name, first, second, ...out)));
   }
 
   convert(image) {
@@ -557,8 +602,16 @@ const signalsOf = (bytes) => {
   });
 };
 
-/** The library, of a compiled module, its bytes, or a response that has them (or a promise of one of these). */
-export async function load(source) {
+// The module next to this file.
+async function nextToThis() {
+  const url = new URL("yellowadze1541.wasm", import.meta.url);
+  if (url.protocol !== "file:") return fetch(url);
+  const { readFile } = await import("node:fs/promises");
+  return readFile(url);
+}
+
+/** The library, of a compiled module, its bytes, or a response that has them (or a promise of one of these); by default of the module next to this file. */
+export async function load(source = nextToThis()) {
   const from = await source;
   if (from instanceof WebAssembly.Module) return new Library(from);
   const isBytes = from instanceof ArrayBuffer || ArrayBuffer.isView(from);

@@ -51,7 +51,7 @@ fi
 what="the C file"
 if [ -e "$out"/yellowadze1541-*-c.tar.xz ] && there cc; then
     unpacked c
-    cc -O0 -w -I"$top/examples/c" -I"$room/c" -o "$room/loop" "$source" "$room/c/yellowadze1541.c"
+    cc -O0 -w -I"$room/c" -I"$room/c/examples" -o "$room/loop" "$room/c/examples/emulator_loop.c" "$room/c/yellowadze1541.c"
     bare "$room/loop" "$image" | cmp - "$room/native.txt"
 fi
 what="the library for aarch64"
@@ -64,15 +64,20 @@ fi
 what="the module"
 if [ -e "$out"/yellowadze1541-*-wasm.tar.xz ] && there node; then
     unpacked wasm
+    # (as npm installs a folder)
+    mkdir "$room/node_modules"
+    ln -s "$room/wasm" "$room/node_modules/yellowadze1541"
     cat > "$room/list.mjs" <<'MJS'
 import { readFile } from "node:fs/promises";
-import { load } from "./wasm/yellowadze1541.mjs";
-const y1541 = await load(readFile(new URL("./wasm/yellowadze1541.wasm", import.meta.url)));
-const image = y1541.put(new Uint8Array(await readFile(process.argv[2])), "NEW,P,W", Uint8Array.of(1, 8, 7));
+import { load } from "yellowadze1541";
+import { text, unpadded } from "yellowadze1541/petscii";
+const y1541 = await load();
+const image = y1541.put(new Uint8Array(await readFile(process.argv[2])), "new,p,w", Uint8Array.of(1, 8, 7));
 y1541.check(image);
-console.log(y1541.entry(image, 1).blocks, [...y1541.file(image, "NEW")].join(" "));
+const { blocks, name } = y1541.entry(image, 1);
+console.log(text(unpadded(name), "upper"), blocks, [...y1541.file(image, "NEW")].join(" "));
 MJS
-    [ "$(bare "$(command -v node)" "$room/list.mjs" "$image")" = '1 1 8 7' ]
+    [ "$(bare "$(command -v node)" "$room/list.mjs" "$image")" = 'NEW 1 1 8 7' ]
 fi
 
 what="the page"

@@ -2,7 +2,7 @@
 import fs from "node:fs";
 import * as library from "../yellowadze1541.mjs";
 
-const { load, flawText, Refused, Gone, NEVER, PROFILE, ATN, CLOCK, DATA } = library;
+const { load, flawText, text, Refused, Gone, NEVER, PROFILE, ATN, CLOCK, DATA } = library;
 const [file, smallStack, traps, name] = process.argv.slice(2);
 const y1541 = await load(fs.readFileSync(file)), image = new Uint8Array(fs.readFileSync(name));
 const program = Uint8Array.of(1, 8, 65, 0, 255, 90);
@@ -45,6 +45,28 @@ refused(31, () => y1541.command(image, "X"), "no command");
 refused(63, () => y1541.put(image, "HELLO,P,W", program), "a name that is there");
 expect(thrown(() => y1541.sector(image, 256, 0)) instanceof RangeError, "no byte");
 expect(y1541.entry(image, 255) === null, "past the last slot");
+// package.json has the header's version, and its paths are those of the archive.
+const { version, exports } = JSON.parse(fs.readFileSync(new URL("../package.json", import.meta.url), "utf8"));
+expect(version === [16, 8, 0].map((bits) => (y1541.version() >> bits) & 255).join("."), "the version of the package");
+expect(isSame(Object.keys(exports), [".", "./petscii", "./yellowadze1541.wasm"]), "the modules of the package");
+// The words are the header's.
+const words = header.split("y1541_text(int32_t number) {")[1].split("default:")[0], results = new Map([...header.matchAll(/(Y1541_\w+) = (-?\d+)/g)].map((it) => [it[1], it[2]]));
+for (const [, cases, said] of words.matchAll(/((?:case \w+: )+)return "([^"]*)";/g))
+  for (const [, name] of cases.matchAll(/case (\w+):/g)) {
+    const number = Number(results.get(name) ?? name);
+    // (a drive that is closed can't be opened again in JavaScript, and 0 is no refusal)
+    if (number > 0 || (number < 0 && number !== -7)) expect(text(number) === (number > 0 ? `${number}, ${said}` : said), `the words of ${number}`);
+  }
+expect(thrown(() => y1541.put(image, "HELLO,P,W", program)).message === "63, FILE EXISTS", "the words of a refusal");
+// Letters are those of the keys after power-up; other bytes, and codes, stay as they are.
+expect(same(y1541.file(image, "hello"), y1541.file(image, "HELLO")), "a name in small letters");
+expect(same(y1541.put(image, "new,s,w", "ab"), y1541.put(image, "NEW,S,W", "ab")), "the text of a file in small letters, and its data as it is");
+expect(same(y1541.create(0, "my disk", "ab"), y1541.create(0, "MY DISK", "AB")), "a title in small letters");
+refused(-4, () => y1541.file(image, Uint8Array.of(0x68, 0x65, 0x6c, 0x6c, 0x6f)), "codes that no key sends");
+// Bytes come in a buffer or a view of one, and nothing is taken for bytes that isn't.
+expect(same(y1541.put(image, "NEW,P,W", program.buffer), y1541.put(image, "NEW,P,W", program)), "bytes in a buffer");
+expect(same(y1541.put(image, "NEW,P,W", new DataView(program.buffer, 1, 3)), y1541.put(image, "NEW,P,W", program.subarray(1, 4))), "bytes in a view");
+for (const it of [5, [1, 2], null, undefined, {}]) expect(thrown(() => y1541.put(image, "NEW,P,W", it)) instanceof TypeError, `no bytes: ${it}`);
 for (const form of [0, 1, 2]) {
   const disk = y1541.create(form, "FORM", "ID"), title = y1541.title(disk);
   y1541.check(disk);
