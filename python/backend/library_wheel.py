@@ -62,6 +62,13 @@ def metadata():
     return f"{head}Description-Content-Type: text/markdown\n\n{(HERE / 'README.md').read_text(encoding='utf-8')}".encode()
 
 
+def scripts():
+    """entry_points.txt: the commands that pip installs."""
+    table = re.search(r"^\[project\.scripts\]\n((?:.+\n)+)", (HERE / "pyproject.toml").read_text(encoding="utf-8"), re.MULTILINE)[1]
+    lines = [f"{name} = {call}" for name, call in re.findall(r'^([\w-]+) = "(.*)"$', table, re.MULTILINE)]
+    return "".join(f"{it}\n" for it in ["[console_scripts]", *lines]).encode()
+
+
 def files_of(library, tag):
     """The files of the wheel without its RECORD: names and bytes."""
     source = HERE / "src"
@@ -70,7 +77,7 @@ def files_of(library, tag):
     wheel = f"Wheel-Version: 1.0\nGenerator: library_wheel\nRoot-Is-Purelib: false\nTag: {tag}\n"
     files = {str(it.relative_to(source)): it.read_bytes() for it in paths}
     files[f"{PACKAGE}/libyellowadze1541.so"] = library
-    return {**files, f"{info}/METADATA": metadata(), f"{info}/WHEEL": wheel.encode()}
+    return {**files, f"{info}/METADATA": metadata(), f"{info}/WHEEL": wheel.encode(), f"{info}/entry_points.txt": scripts()}
 
 
 def record_of(files):

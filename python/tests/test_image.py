@@ -141,10 +141,9 @@ class New(DiskCase):
                     self.assertEqual(Image.new(form, "new disk", id).bytes, path.read_bytes())
 
     def test_what_no_disk_can_be_called_is_refused(self):
-        self.assertTrue(refused(-2, Image.new, title="A" * 17))
-        for id in ("", "1", "123", "123456"):
+        for words in ({"title": "A" * 17}, *({"id": it} for it in ("", "1", "123", "123456"))):
             with self.assertRaises(ValueError):
-                Image.new(id=id)
+                Image.new(**words)
 
 
 class Changes(DiskCase):
@@ -554,6 +553,44 @@ class Refusals(DiskCase):
         with self.assertRaises(Refused) as told:
             self.image.write("HELLO", b"")
         self.assertEqual((told.exception.number, told.exception.text), (63, "FILE EXISTS"))
+
+
+    def test_only_bytes_are_taken_for_bytes(self):
+        before = self.image.bytes
+        for wrong in (5, [1, 2, 3], None, "text"):
+            calls = (lambda: self.image.write("N", wrong), lambda: self.image.rewrite("HELLO", wrong), lambda: self.image.write_all([("N", wrong)]), lambda: Image(wrong))
+            for call in (*calls, lambda: Drive(wrong)):
+                with self.subTest(wrong=wrong), self.assertRaises(TypeError):
+                    call()
+        for wrong in (5, [1], None):
+            with self.subTest(wrong=wrong), self.assertRaises(TypeError):
+                self.image.write(wrong, b"1")
+        self.assertEqual(self.image.bytes, before)
+        self.image.write("VIEW", memoryview(b"abc")[1:])
+        self.assertEqual(self.image.read("VIEW"), b"bc")
+
+    def test_a_refusal_names_its_object(self):
+        self.image.write("OTHER", b"1")
+        for words, call in (
+            ("track 36, sector 0: no such thing", lambda: self.image.sector(36, 0)),
+            ("OTHER: 63, FILE EXISTS", lambda: self.image.rename("HELLO", "OTHER")),
+            ("OTHER: 63, FILE EXISTS", lambda: self.image.copy("HELLO", "OTHER")),
+            ("NONE: 62, FILE NOT FOUND", lambda: self.image.read("NONE")),
+        ):
+            with self.subTest(words=words), self.assertRaises(Refused) as told:
+                call()
+            self.assertEqual(str(told.exception), words)
+        for call in (lambda: Image.new(Form.D64, "X" * 17), lambda: Image.new("x"), lambda: self.image.retitle("X" * 17)):
+            with self.assertRaises(ValueError):
+                call()
+
+    def test_the_files_as_a_collection(self):
+        self.assertEqual(self.image["HELLO"], self.image.read("HELLO"))
+        self.assertEqual([it.name for it in self.image], [it.name for it in self.image.files()])
+        self.assertTrue("hello" in self.image and b"HELLO" in self.image)
+        self.assertFalse("HELL*" in self.image or 5 in self.image)
+        with self.assertRaises(KeyError):
+            self.image["NONE"]
 
 
 class OthersFiles(DiskCase):

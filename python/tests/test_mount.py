@@ -35,7 +35,7 @@ def host_name(file):
     """The name that a file of the model has in the folder, by the rule of README.md."""
     out = ""
     for place, code in enumerate(file.name):
-        key = "_" if code == 164 else model.LOWER.get(code, "/")
+        key = "_" if code == 164 else model.UPPER[code] if code in range(32, 96) or code in range(161, 192) else "/"
         out += f"%{code:02X}" if key in "/%" or (key == "." and not place) else key
     return f"{out}.{model.LETTERS[file.kind].lower()}"
 
@@ -98,6 +98,19 @@ class Looks(MountCase):
         for file in disk.files:
             self.assertEqual((folder / host_name(file)).read_bytes(), file.bytes)
 
+    def test_letters_of_either_case_are_those_without_shift(self):
+        path, folder = self.new()
+        for name in ("GAME2.PRG", "My Game.prg"):
+            (folder / name).write_bytes(name.encode())
+            self.assertEqual((folder / name).read_bytes(), name.encode())
+        self.assertEqual(sorted(os.listdir(folder)), [".listing", ".status", "GAME2.prg", "MY GAME.prg"])
+        put = self.file("put.d64", Image.new(Form.D64, "PUT", "64").bytes)
+        disk1541("put", put, self.file("GAME2.PRG", b"GAME2.PRG"), self.file("My Game.prg", b"My Game.prg"))
+        self.assertEqual(self.files(path), self.files(put))
+        (folder / "%C7ame.prg").write_bytes(b"shifted")
+        self.assertEqual(self.files(path)[b"\xc7AME", 2], b"shifted")
+        self.assertIn("%C7AME.prg", os.listdir(folder))
+
     def test_several_files_of_one_name(self):
         data = bytearray(Image.open(self.several()).bytes)
         data[model.place(18, 1) + 32 + 5] = data[model.place(18, 1) + 5]
@@ -119,7 +132,7 @@ class Looks(MountCase):
         path = self.file("hello.d64", HELLO.read_bytes())
         folder = self.mount(path)
         disk1541("rename", path, "HELLO", "OTHER")
-        self.assertIn("other.prg", os.listdir(folder))
+        self.assertIn("OTHER.prg", os.listdir(folder))
         (folder / "mine.prg").write_bytes(b"1")
         self.assertEqual(self.files(path), {(b"OTHER", 2): b"\x01\x02\x03", (b"MINE", 2): b"1"})
 
@@ -130,7 +143,7 @@ class Looks(MountCase):
         folder = self.mount(path)
         self.assertEqual((folder / "records.rel").read_bytes(), disk1541("get", path, "RECORDS"))
         self.refused(errno.EPERM, (folder / "records.rel").write_bytes, b"1")
-        self.refused(errno.EINVAL, os.rename, folder / "records.rel", folder / "records.prg")
+        self.refused(errno.EPERM, os.rename, folder / "records.rel", folder / "records.prg")
         os.rename(folder / "records.rel", folder / "other.rel")
         self.assertEqual(disk1541("list", path, "--only", "OTHER").count(b"REL"), 2)
         os.unlink(folder / "other.rel")
@@ -259,13 +272,13 @@ class Changes(MountCase):
         path, folder = self.new()
         for name in ("a", "b", "c"):
             (folder / f"{name}.prg").write_bytes(name.encode())
-        os.rename(folder / "a.prg", folder / "A*.prg")
+        os.rename(folder / "a.prg", folder / "%C1*.prg")
         os.rename(folder / "b.prg", folder / "c.prg")
         self.assertEqual(self.files(path), {(b"\xc1*", 2): b"a", (b"C", 2): b"b"})
         subprocess.run(["mv", folder / "c.prg", folder / "c.seq"], check=True)
         self.assertEqual(self.files(path), {(b"\xc1*", 2): b"a", (b"C", 1): b"b"})
-        subprocess.run(["mv", "-n", folder / "c.seq", folder / "A*.prg"], check=False)
-        os.unlink(folder / "A*.prg")
+        subprocess.run(["mv", "-n", folder / "c.seq", folder / "%C1*.prg"], check=False)
+        os.unlink(folder / "%C1*.prg")
         self.assertEqual(self.files(path), {(b"C", 1): b"b"})
 
     def test_a_file_is_locked_by_its_mode(self):
@@ -302,10 +315,13 @@ class Changes(MountCase):
     def test_what_a_disk_cannot_have_is_refused(self):
         path, folder = self.new()
         before = path.read_bytes()
-        for name in ("a.txt", "a", "A.rel", "é.prg", "a" * 17 + ".prg", "~.prg", "%A0.prg"):
-            self.refused(errno.EINVAL, (folder / name).write_bytes, b"1")
+        for name, number in (("a.txt", errno.EPERM), ("a", errno.EPERM), ("A.rel", errno.EPERM), ("%A0.prg", errno.EPERM)):
+            self.refused(number, (folder / name).write_bytes, b"1")
+        for name in ("é.prg", "~.prg"):
+            self.refused(errno.EILSEQ, (folder / name).write_bytes, b"1")
+        self.refused(errno.ENAMETOOLONG, (folder / ("a" * 17 + ".prg")).write_bytes, b"1")
+        self.assertIn("at most 16 characters", (folder / ".status").read_text())
         self.refused(errno.EPERM, os.mkdir, folder / "folder")
-        self.assertIn("%A0.prg", (folder / ".status").read_text())
         self.assertEqual(path.read_bytes(), before)
 
     def test_one_name_of_two_types_is_refused(self):

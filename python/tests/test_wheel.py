@@ -32,6 +32,11 @@ class Wheel(unittest.TestCase):
             self.assertIn(name, names)
         self.assertEqual(zipfile.ZipFile(self.path).read("yellowadze1541/libyellowadze1541.so"), Path(LIBRARY).read_bytes())
 
+    def test_it_has_the_command_that_mounts(self):
+        names = zipfile.ZipFile(self.path)
+        (path,) = [it for it in names.namelist() if it.endswith(".dist-info/entry_points.txt")]
+        self.assertEqual(names.read(path), b"[console_scripts]\nyellowadze1541-mount = yellowadze1541.mount.__main__:main\n")
+
     def test_built_twice_it_has_the_same_bytes(self):
         first = self.path.read_bytes()
         again = self.folder / "again"

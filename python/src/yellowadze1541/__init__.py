@@ -7,6 +7,7 @@
 
 `Image` is a D64 or a G64, `Drive` a drive on the lines of a serial bus, `Host` a computer at it. The C library is proved; these Python files are not.
 """
+from ._library import version_text
 from .drive import Drive, Pace, Pulls, Reaction
 from .entries import Entry, FileType
 from .host import BusError, Host
@@ -38,3 +39,5 @@ __all__ = [
     "codes",
     "text",
 ]
+
+__version__ = version_text()

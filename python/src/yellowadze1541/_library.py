@@ -136,10 +136,24 @@ def _loaded() -> ctypes.CDLL:
 library = _loaded()
 
 
+def version_text() -> str:
+    """The version of the library, as 0.3.0."""
+    number: int = library.y1541_version()
+    return ".".join(str(it) for it in number.to_bytes(3, "big"))
+
+
 def check(said: int, about: str = "") -> None:
     """Raises what the library refused."""
     if said != 0:
         raise Refused(said, about)
+
+
+def data_of(value: Any) -> bytes:
+    """The bytes of any buffer. TypeError: it is something else, such as a number or a list."""
+    try:
+        return value if isinstance(value, bytes) else memoryview(value).tobytes()
+    except TypeError:
+        raise TypeError(f"bytes are needed, not {type(value).__name__}") from None
 
 
 def byte(value: int, what: str) -> int:

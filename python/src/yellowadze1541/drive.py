@@ -137,7 +137,7 @@ class Drive:
 
     def restore(self, state: bytes) -> None:
         """Makes this drive the one that was saved. Refused: the bytes are no state, or broken; then the drive stays as it is."""
-        state = bytes(state)
+        state = _library.data_of(state)
         _library.check(library.y1541_restore(self._handle, state, len(state)))
 
     # --- its end
@@ -158,7 +158,7 @@ class Drive:
 
 def _data_of(image: Union[Image, bytes]) -> bytes:
     """The bytes of an image."""
-    return image.bytes if isinstance(image, Image) else bytes(image)
+    return image.bytes if isinstance(image, Image) else _library.data_of(image)
 
 
 def _room_for(data: bytes) -> int:

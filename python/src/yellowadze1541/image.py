@@ -63,7 +63,7 @@ class Image:
 
     def __init__(self, data: Bytes) -> None:
         """The image of these bytes. Refused: they are none."""
-        self._data = bytes(data)
+        self._data = _library.data_of(data)
         self._path: Optional[str] = None
         self._saved: Optional[Bytes] = None
         # (of these bytes: the answer of the library, and the entries)
@@ -82,9 +82,9 @@ class Image:
 
     @classmethod
     def new(cls, form: Form = Form.D64, title: Name = "", id: Name = "00") -> "Image":
-        """An empty disk: a title of at most 16 codes, and an id of two, or of five with the kind of DOS."""
-        codes, mark = name_codes(title), _mark(id)
-        data = _library.given(library.y1541_image_new, _library.FORMATTED_G64, form, codes, len(codes), mark[0], mark[1])
+        """An empty disk: a title of at most 16 codes, and an id of two, or of five with the kind of DOS. ValueError: something else."""
+        codes, mark = _title(title), _mark(id)
+        data = _library.given(library.y1541_image_new, _library.FORMATTED_G64, Form(form), codes, len(codes), mark[0], mark[1])
         image = cls(data)
         if len(mark) == 5:
             image.retitle(codes, mark)
@@ -188,7 +188,7 @@ class Image:
         """The 256 bytes of a sector. Refused: the disk has none there, or it can't be read."""
         out = ctypes.create_string_buffer(256)
         numbers = _library.byte(track, "a track"), _library.byte(sector, "a sector")
-        _library.check(library.y1541_image_sector(*self._given, *numbers, out, 256))
+        _library.check(library.y1541_image_sector(*self._given, *numbers, out, 256), f"track {track}, sector {sector}")
         return out.raw
 
     def listing(self, charset: Charset = Charset.UPPER, only: Name = b"") -> str:
@@ -246,12 +246,12 @@ class Image:
         if old is not None:
             raise Refused(EXISTS, petscii.text(codes))
         after = Image(self._data)
-        after._put([(codes, bytes(data), letter)])
+        after._put([(codes, _library.data_of(data), letter)])
         self._data = after._data
 
     def write_all(self, files: Iterable[NewFile]) -> None:
         """Writes several files, all or none, in one call: of each its name, its bytes, and its type if it is no program. Refused: as `write`."""
-        new = [(_file_name(name), bytes(data), self._letter_to_write(type[0] if type else FileType.PRG)) for name, data, *type in files]
+        new = [(_file_name(name), _library.data_of(data), self._letter_to_write(type[0] if type else FileType.PRG)) for name, data, *type in files]
         for codes, _, _ in new:
             if self.find(codes) is not None:
                 raise Refused(EXISTS, petscii.text(codes))
@@ -265,7 +265,7 @@ class Image:
         letter = self._letter_to_write(old.type if type is None else type)
         after = Image(self._data)
         after.delete(old)
-        after._put([(old.name, bytes(data), letter)])
+        after._put([(old.name, _library.data_of(data), letter)])
         new = after._entry_of(old.name)
         if new.slot != old.slot:
             after._change(library.y1541_image_swap, new.slot, old.slot)
@@ -276,14 +276,14 @@ class Image:
     def rename(self, which: Which, name: Name) -> None:
         """Gives a file another name. Refused: a file has it already (63)."""
         codes = _file_name(name)
-        self._change(library.y1541_image_rename, self._entry_of(which).slot, codes, len(codes))
+        self._change_to(library.y1541_image_rename, codes, self._entry_of(which).slot)
 
     def copy(self, which: Which, name: Name) -> None:
         """Copies a file on the disk. Refused: it is a relative file (64), was never closed (60) .. Foreign: it is GEOS's."""
         foreign.require_no_dolphin(self._data)
         codes, slot = _file_name(name), self._entry_of(which).slot
         foreign.require_no_geos_file(self, slot)
-        self._change(library.y1541_image_copy, slot, codes, len(codes))
+        self._change_to(library.y1541_image_copy, codes, slot)
 
     def delete(self, which: Which) -> None:
         """Deletes a file. Refused: it is locked (26)."""
@@ -305,7 +305,7 @@ class Image:
 
     def retitle(self, title: Name, id: Optional[Name] = None) -> None:
         """Gives the disk another title, and another id of two codes, or of five with the kind of DOS; without one it keeps its own."""
-        codes, mark = name_codes(title), b"" if id is None else _mark(id)
+        codes, mark = _title(title), b"" if id is None else _mark(id)
         after = Image(self._data)
         after._change(library.y1541_image_retitle, codes, len(codes))
         if mark:
@@ -355,6 +355,23 @@ class Image:
                 raise
             raise Refused(error.number, line=_line(status)) from None
         return _line(status)
+
+    # --- as a collection of files
+
+    def __iter__(self) -> Iterator[Entry]:
+        """The files, as `files` has them."""
+        return iter(self.files())
+
+    def __contains__(self, name: object) -> bool:
+        """Whether a file has just this name."""
+        return isinstance(name, (str, Bytes)) and self.find(name) is not None
+
+    def __getitem__(self, name: Name) -> Bytes:
+        """The bytes of the first file of just this name. KeyError: there is none. Refused: it can't be read."""
+        entry = self.find(name)
+        if entry is None:
+            raise KeyError(name)
+        return self.read(entry)
 
     def __repr__(self) -> str:
         return f"<Image, {self.form.name}, {len(self._data)} bytes{f', of {self._path}' if self._path else ''}>"
@@ -413,6 +430,15 @@ class Image:
                 said, data = _library.filled(library.y1541_image_put_back, self._room, *self._given, data, len(data))
         self._check(said)
         self._data = data
+
+    def _change_to(self, call: Callable[..., int], codes: Bytes, slot: int) -> None:
+        """Takes the image after a file got a name. Refused: with that name, if another file has it."""
+        try:
+            self._change(call, slot, codes, len(codes))
+        except Refused as error:
+            if error.number != EXISTS:
+                raise
+            raise Refused(EXISTS, petscii.text(codes)) from None
 
     def _check(self, said: int) -> None:
         """Raises what a change was refused for."""
@@ -517,6 +543,14 @@ def _file_name(name: Name) -> bytes:
     codes = name_codes(name)
     if not 1 <= len(codes) <= 16 or FILLER in codes:
         raise ValueError(f"a file's name has 1 to 16 codes, none of them $A0: {petscii.text(codes)}")
+    return codes
+
+
+def _title(title: Name) -> bytes:
+    """The codes of a title. ValueError: there are more than sixteen."""
+    codes = name_codes(title)
+    if len(codes) > 16:
+        raise ValueError(f"a title has at most 16 codes: {petscii.text(codes)}")
     return codes
 
 

@@ -82,5 +82,10 @@ def codes(text: str, charset: Charset = Charset.UPPER) -> bytes:
 
 
 def name_codes(name: Name) -> bytes:
-    """The codes of a name that is bytes already, or text in the set of power up."""
-    return codes(name) if isinstance(name, str) else bytes(name)
+    """The codes of a name that is bytes already, or text in the set of power up. TypeError: it is neither."""
+    if isinstance(name, str):
+        return codes(name)
+    try:
+        return name if isinstance(name, bytes) else memoryview(name).tobytes()
+    except TypeError:
+        raise TypeError(f"a name is bytes or text, not {type(name).__name__}") from None

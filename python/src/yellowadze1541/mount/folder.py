@@ -12,7 +12,7 @@ from ..entries import Entry
 from ..image import Image
 from ..refusals import DISK_FULL, Refused
 from .disk import SLOTS, WRITABLE, Disk, blocks_for
-from .names import HostName, parsed, shown
+from .names import HostName, NoName, meant, parsed, shown
 
 __all__ = ["Attributes", "Folder"]
 
@@ -100,7 +100,7 @@ class Folder:
         self.disk.require_writable(name)
         host_name = self._meant(name)
         if host_name.type not in WRITABLE:
-            raise self.disk.refused(errno.EINVAL, name, "only files of type prg, seq and usr can be written")
+            raise self.disk.refused(errno.EPERM, name, "only files of type prg, seq and usr can be written")
         self.disk.try_out(name, lambda image: image.write(host_name.name, b"", host_name.type))
         opened = self._written[host_name] = Opened(b"", host_name)
         opened.is_changed = True
@@ -167,7 +167,7 @@ class Folder:
         self.disk.require_writable(old)
         before, after = self._known(old), self._meant(new)
         if before.type != after.type and not {before.type, after.type}.issubset(WRITABLE):
-            raise self.disk.refused(errno.EINVAL, new, "a file can't get this type")
+            raise self.disk.refused(errno.EPERM, new, "a file can't get this type")
         entry, replaced = self._entry(before), self.disk.files.get(after)
         if replaced is not None and not may_replace:
             raise OSError(errno.EEXIST, os.strerror(errno.EEXIST), new)
@@ -197,10 +197,13 @@ class Folder:
         return "".join(f"{it}\n" for it in lines).encode()
 
     def _meant(self, name: str) -> HostName:
-        """What the name of a file means that is to be made. EINVAL: no file can be called so."""
-        host_name = parsed(name)
-        if host_name is None or host_name.number or not host_name.name:
-            raise self.disk.refused(errno.EINVAL, name, "no file of a disk can be called so")
+        """What the name of a new file means. EPERM, ENAMETOOLONG, EILSEQ: no file can have it."""
+        try:
+            host_name = meant(name)
+        except NoName as why:
+            raise self.disk.refused(why.number, name, str(why)) from None
+        if host_name.number or not host_name.name:
+            raise self.disk.refused(errno.EPERM, name, "a new file has a name of its own, without ~ and a number")
         return host_name
 
     def _known(self, name: str) -> HostName:
