@@ -5,7 +5,7 @@ drive=$(realpath "$1")
 tool=${2:+$(realpath "$2")}
 . "$(dirname "$(realpath "$0")")/checks.sh"
 cd "$work" || exit 1
-cp "$examples/hello.d64" "$examples/hello.script" "$examples/listen.lines" "$examples/reply_host.py" .
+cp "$examples/hello.d64" "$examples/hello.script" "$examples/listen.lines" "$examples/reply_host.py" "$examples/reply_socket.py" .
 
 # The changes among the answers; the marks; the host's changes of a trace as lines.
 changes() { grep -v '^ready\|^error' "$1"; }
@@ -151,6 +151,29 @@ for new in a b c d; do
     grep -q '^get 2 48454c4c4f20[0-9]*0d eoi$' note.out
     is "four drives: the file of $new" test $? = 0
 done
+
+# ---- a socket
+
+python3 reply_socket.py 0 "$drive" hello.d64=socket.new > port.txt &
+server=$!
+for _ in $(seq 100); do [ -s port.txt ] && break; sleep 0.1; done
+cat > client.py <<'END'
+import socket, sys
+with socket.create_connection(("127.0.0.1", int(sys.argv[1]))) as it:
+    it.sendall(sys.stdin.buffer.read())
+    it.shutdown(socket.SHUT_WR)
+    while answer := it.recv(65536):
+        sys.stdout.buffer.write(answer)
+END
+"$drive" reply hello.d64=pipe.new < hello.host > pipe.answers
+for round in one two; do
+    rm -f socket.new
+    python3 client.py "$(cat port.txt)" < hello.host > socket.answers
+    for _ in $(seq 100); do [ -s socket.new ] && break; sleep 0.1; done
+    is "a socket, connection $round: the answers of a pipe" cmp -s pipe.answers socket.answers
+    is "a socket, connection $round: the image is saved" cmp -s pipe.new socket.new
+done
+kill $server
 
 # ---- the end
 
