@@ -1,12 +1,21 @@
-// The page: two disks side by side, the character set, and what is said.
-import { Panel } from "./panel.mjs";
+// The page: two disks side by side, the character set, and the message line.
+import { Panel, droppedOn } from "./panel.mjs";
 import { Sentence, refuse, sentence } from "./words.mjs";
 import { load } from "./yellowadze1541.mjs";
 
 const said = document.getElementById("said");
 
+const byId = (id) => document.getElementById(id);
+byId("stuck").remove();
+
 const page = {
   set: "upper",
+  panels: [],
+
+  // A disk is shown, or another one: the introduction is for a page without one.
+  shown() {
+    byId("intro").hidden = page.panels.some((it) => it.disk);
+  },
 
   say(text, isFault = false) {
     said.textContent = text;
@@ -23,12 +32,12 @@ const page = {
   },
 };
 
-// The module's bytes: a file beside the page, or a part of it if all is in one file.
+// The module's bytes: a file in the page's folder, or a part of the page if all is in one file.
 async function moduleBytes() {
   const inside = document.getElementById("module");
   if (inside) return Uint8Array.from(atob(inside.textContent), (it) => it.charCodeAt(0));
   const answer = await fetch("yellowadze1541.wasm");
-  if (!answer.ok) refuse("yellowadze1541.wasm isn't beside this page.");
+  if (!answer.ok) refuse("yellowadze1541.wasm isn't in the folder of this page.");
   return answer.arrayBuffer();
 }
 
@@ -36,14 +45,19 @@ page.try(async () => {
   page.library = await load(moduleBytes());
   const panels = ["Left disk", "Right disk"].map((label) => new Panel(page, label));
   panels.forEach((it, i) => (it.other = panels[1 - i]));
+  page.panels = panels;
   const show = () => panels.forEach((it) => it.show());
   document.getElementById("small").addEventListener("change", (e) => {
     page.set = e.target.checked ? "lower" : "upper";
     show();
   });
+  byId("example").addEventListener("click", () => page.try(() => panels[0].example()));
   addEventListener("beforeunload", (e) => panels.some((it) => it.disk?.isChanged) && e.preventDefault());
-  // A file that is dropped beside a disk isn't opened in the page's place.
-  for (const it of ["dragover", "drop"]) addEventListener(it, (e) => e.preventDefault());
+  addEventListener("dragover", (e) => e.preventDefault());
+  addEventListener("drop", (e) => {
+    e.preventDefault();
+    if (!e.target.closest?.(".disk")) page.try(() => droppedOn(panels, e.dataTransfer));
+  });
   show();
   page.say("Ready.");
 });

@@ -4,6 +4,8 @@ import { PAD, join } from "./petscii.mjs";
 import { refuse } from "./words.mjs";
 
 const DEEP = 50; // images that are kept
+const DIRECTORY = 18; // its track
+export const UNLINKED = "Sectors of track 18 are in use, but no link of the directory leads to them, and files may be listed there.";
 const DIVIDES = join(',=:"?*'); // what the drive's OPEN can't say in a name
 const LETTERS = { 1: "S", 2: "P", 3: "U" }; // of the types that OPEN can write
 // What a directory is sorted by; among the same the names count.
@@ -31,6 +33,7 @@ function labelOf(library, bytes) {
 
 export class Disk {
   #past = [];
+  #future = [];
   #saved;
 
   constructor(library, name, bytes, isSaved = true) {
@@ -40,7 +43,7 @@ export class Disk {
   }
 
   #take(image) {
-    Object.assign(this, image, { geos: null });
+    Object.assign(this, image, { geos: null, map: null });
     const { library, bytes } = this;
     const { entries, status } = library.entries(bytes);
     this.slots = entries.map((it, slot) => ({ ...it, slot, name: nameOf(it.name) }));
@@ -61,7 +64,17 @@ export class Disk {
   }
 
   get blocks() {
-    return mapOf(this.library, this.bytes, this.flaws);
+    return (this.map ??= mapOf(this.library, this.bytes, this.flaws));
+  }
+
+  // The blocks that are in use in the BAM, and that no file has; GEOS has files that this page doesn't see.
+  get lost() {
+    return this.#geos.length ? [] : this.blocks.filter((it) => it.state === "lost");
+  }
+
+  // Whether one of them lies on the directory's track, so that files may be listed there.
+  get isUnlinked() {
+    return this.lost.some((it) => it.track === DIRECTORY);
   }
 
   file(slot) {
@@ -78,12 +91,43 @@ export class Disk {
     return this.#past.length > 0;
   }
 
+  get canRedo() {
+    return this.#future.length > 0;
+  }
+
+  // What undo and redo would take back or make again, in words.
+  get undoes() {
+    return this.#past.at(-1)?.what ?? "";
+  }
+
+  get redoes() {
+    return this.#future.at(-1)?.what ?? "";
+  }
+
+  // Names the change that was made last, unless it has a name.
+  note(what) {
+    const last = this.#past.at(-1);
+    if (last) last.what ??= what;
+  }
+
   saved(bytes) {
     this.#saved = bytes;
   }
 
+  // Both answer what was undone or made again.
   undo() {
-    this.#take(this.#past.pop());
+    return this.#step(this.#past, this.#future);
+  }
+
+  redo() {
+    return this.#step(this.#future, this.#past);
+  }
+
+  #step(from, to) {
+    const { what, ...image } = from.pop();
+    to.push({ bytes: this.bytes, name: this.name, what });
+    this.#take(image);
+    return what;
   }
 
   // Takes a new image. Answers whether that changes anything.
@@ -91,6 +135,7 @@ export class Disk {
     if (name === this.name && same(bytes, this.bytes)) return false;
     this.#past.push({ bytes: this.bytes, name: this.name });
     if (this.#past.length > DEEP) this.#past.shift();
+    this.#future = [];
     this.#take({ bytes, name });
     return true;
   }
@@ -163,6 +208,7 @@ export class Disk {
   validated() {
     if (this.#geos.length) refuse("The drive's VALIDATE would free blocks that files of GEOS use. `disk1541 validate` keeps them.");
     if (this.odd.length) refuse("It may free an odd entry's blocks: `disk1541 validate` doesn't.");
+    if (this.isUnlinked) refuse(`${UNLINKED} Validate would free the blocks of their files. \`disk1541 get-all --salvage\` extracts them.`);
     const after = new Disk(this.library, this.name, this.library.command(this.bytes, "V0"));
     return { bytes: after.bytes, gone: this.entries.filter((it) => !after.entry(it.slot)) };
   }

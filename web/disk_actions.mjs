@@ -1,6 +1,7 @@
 // What is done to a whole disk. Each action is a method of a panel.
 import { ask } from "./ask.mjs";
 import { Disk, ORDERS } from "./disk.mjs";
+import { exampleDisk } from "./example.mjs";
 import { stem } from "./names.mjs";
 import { codes, unpadded } from "./petscii.mjs";
 import { Place, download } from "./saving.mjs";
@@ -22,7 +23,7 @@ const losses = ({ unreadable, tracks, errors, id }) => [
 export const diskActions = {
   // Whether the disk may leave its place.
   async mayGo() {
-    return !this.disk?.isChanged || ask(`${this.disk.name} was changed and not saved.`, "Lose the changes");
+    return !this.disk?.isChanged || ask(`${this.disk.name} was changed and not saved.`, "Discard the changes");
   },
 
   async open(files, handle = null) {
@@ -52,13 +53,18 @@ export const diskActions = {
   take(disk) {
     Object.assign(this, { disk, place: null, terminal: new Terminal(disk) });
     this.listing.selected.clear();
-    this.find(".terminal pre").textContent = Terminal.HELP;
+    this.find(".terminal pre").textContent = `${Terminal.HELP}\n`;
+  },
+
+  example() {
+    this.take(new Disk(this.page.library, "example.d64", exampleDisk(this.page.library)));
+    this.done("An example. Changes stay in this page until you save them.");
   },
 
   // The codes of a text that was typed.
   typed(words, least, most = least) {
     const its = codes(words, this.page.set);
-    return its?.length >= least && its.length <= most ? its : refuse(`${words} can't stand there: ${most} characters can, all on keys of a C64.`);
+    return its?.length >= least && its.length <= most ? its : refuse(`"${words}" can't be used: ${least === most ? "it needs" : "at most"} ${most} characters, each on a key of a C64.`);
   },
 
   async fresh() {
@@ -68,7 +74,7 @@ export const diskActions = {
     const [title, id, form] = got;
     const bytes = this.page.library.create(+form, this.typed(title, 0, TITLE), this.typed(id, ID));
     this.take(new Disk(this.page.library, form === "2" ? "new.g64" : "new.d64", bytes, false));
-    this.done("An empty disk.");
+    this.done("A new disk.");
   },
 
   async save() {
@@ -81,8 +87,15 @@ export const diskActions = {
   },
 
   undo() {
-    this.disk.undo();
-    this.done("Undone.");
+    const what = this.disk.undo();
+    this.show();
+    this.page.say(`Undone: ${what}`);
+  },
+
+  redo() {
+    const what = this.disk.redo();
+    this.show();
+    this.page.say(`Redone: ${what}`);
   },
 
   async retitle() {
@@ -96,19 +109,19 @@ export const diskActions = {
 
   async sort() {
     const got = await ask("Sort the directory", "Sort", [["By", ORDERS.map((it) => [it, it])]]);
-    if (got) this.done(this.disk.sort(got[0]) ? "Sorted." : "It is in this order already.");
+    if (got) this.done(this.disk.sort(got[0]) ? "Sorted." : "Already in this order.");
   },
 
   async validate() {
     const { bytes, gone } = this.disk.validated();
-    const why = `These files were never closed, and would go: ${gone.map((it) => this.name(it.name)).join(", ")}.`;
+    const why = `These files were never closed and would be removed: ${gone.map((it) => this.name(it.name)).join(", ")}.`;
     if (gone.length && !(await ask("Validate the disk", "Validate", [], why))) return;
-    this.done(this.disk.become(bytes) ? `Validated: ${count(this.disk.title.free, "block")} free.` : "Validated; nothing had to change.");
+    this.done(this.disk.become(bytes) ? `Validated: ${count(this.disk.title.free, "block")} free.` : "Validated: nothing to repair.");
   },
 
   async convert() {
     const { image, lost } = this.disk.converted(), less = losses(lost);
-    const why = `The other format doesn't hold: ${less.join("; ")}.`;
+    const why = `The other format can't hold: ${less.join("; ")}.`;
     if (less.length && !(await ask("Something will be lost.", "Convert", [], why))) return;
     this.disk.become(image, `${stem(this.disk.name)}.${this.disk.isG64 ? "d64" : "g64"}`);
     this.done(`It is a ${this.disk.isG64 ? "G64" : "D64"} now${less.length ? "" : "; nothing was lost"}.`);

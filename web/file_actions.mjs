@@ -13,10 +13,10 @@ const GIVEN_BACK = ["prg", "seq", "usr"].map((it) => [KINDS.indexOf(it), it]);
 export const fileActions = {
   // Why a name can't be a new file's, or an empty text. `more` are files that come with it.
   whyNot(name, more) {
-    if (!name) return "This has a character that is on no key of a C64.";
+    if (!name) return "It has a character that no key of a C64 types.";
     if (!name.length) return "A file needs a name.";
     if (name.length > NAME) return "A name has at most 16 characters.";
-    return [...this.disk.entries, ...more].some((it) => same(it.name, name)) ? "There is a file of this name already." : "";
+    return [...this.disk.entries, ...more].some((it) => same(it.name, name)) ? "A file of this name exists." : "";
   },
 
   // A name for a file of this disk, or null: it is asked for until it can be one.
@@ -34,19 +34,19 @@ export const fileActions = {
   async put(files) {
     const out = [];
     for (const it of files) out.push(...(await this.asFile(it, out)));
-    this.putIn(out, "put in");
+    this.putIn(out, "added");
   },
 
   async asFile(file, others) {
     const { name: its, ...it } = unwrapped(file.name, await this.bytesOf(file));
     const wanted = its ? this.name(its) : stem(file.name), name = its ?? codes(wanted, this.page.set);
     const why = this.whyNot(name, others);
-    const given = why ? await this.askName(`${file.name} needs another name`, wanted.slice(0, NAME), "Put in", others, why) : name;
+    const given = why ? await this.askName(`${file.name} needs another name`, wanted.slice(0, NAME), "Add", others, why) : name;
     return given ? [{ ...it, name: given }] : [];
   },
 
   putIn(files, what) {
-    if (!files.length) return this.page.say("Nothing was put in.");
+    if (!files.length) return this.page.say("Nothing was added.");
     this.disk.put(files);
     this.done(`${count(files.length, "file")} ${what}.`);
   },
@@ -77,7 +77,7 @@ export const fileActions = {
     const [first, ...more] = hostFiles(files);
     if (more.length) download(`${stem(this.disk.name)}.zip`, zip([first, ...more]));
     else if (first) download(first.name, first.data);
-    this.page.say([`${count(files.length, "file")} taken out, to your downloads.`, ...left].join(" "), left.length > 0);
+    this.page.say([`${count(files.length, "file")} extracted to your downloads.`, ...left].join(" "), left.length > 0);
   },
 
   across() {
@@ -136,6 +136,7 @@ export const fileActions = {
     }
     log.append(`> ${line}\n${answer}\n`);
     log.scrollTop = log.scrollHeight;
+    this.disk.note(`${line} in the terminal.`);
     this.show();
   },
 };

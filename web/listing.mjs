@@ -1,4 +1,4 @@
-// The directory as a C64 shows it, as a listbox: arrows move, Shift extends, Ctrl and Space add, Ctrl+A takes all.
+// The directory as a C64 shows it, as a listbox: arrows and letters move, Shift extends, Ctrl and Space add, Ctrl+A takes all.
 import { draw } from "./drawn.mjs";
 import { KINDS } from "./names.mjs";
 import { glyph, join, text } from "./petscii.mjs";
@@ -34,6 +34,7 @@ function label({ name, kind, blocks, locked, closed }, set) {
 export class Listing {
   selected = new Set();
   #slots = [];
+  #names = []; // as text in small letters
   #at = 0;
   #anchor = 0;
 
@@ -48,6 +49,7 @@ export class Listing {
 
   show({ entries, title }, set) {
     this.#slots = entries.map((it) => it.slot);
+    this.#names = entries.map((it) => text(it.name, set).toLowerCase());
     const header = title.title ? join('"', title.title, '" ', title.mark) : join("UNREADABLE");
     this.head.replaceChildren("0 ", looks(header, set, true));
     this.foot.replaceChildren(looks(join(`${title.free ?? "?"} BLOCKS FREE.`), set));
@@ -97,6 +99,14 @@ export class Listing {
     this.#select(this.#slots.slice(Math.min(this.#anchor, this.#at), Math.max(this.#anchor, this.#at) + 1));
   }
 
+  // Goes to the next file whose name begins with a letter.
+  #seek(letter) {
+    const count = this.#names.length, first = this.selected.size ? 1 : 0;
+    const places = Array.from({ length: count }, (_, i) => (this.#at + first + i) % count);
+    const found = places.find((it) => this.#names[it].startsWith(letter));
+    if (found !== undefined) this.#move(found);
+  }
+
   #toggle(place) {
     this.#at = this.#anchor = place;
     const slot = this.#slots[place], { selected } = this;
@@ -111,13 +121,14 @@ export class Listing {
   }
 
   #key(e) {
-    const { key } = e, step = this.selected.size ? 1 : 0; // with nothing selected an arrow selects where it stands
+    const { key } = e, step = this.selected.size ? 1 : 0; // with nothing selected an arrow selects the file at the mark
     const moves = { ArrowDown: this.#at + step, ArrowUp: this.#at - step, PageDown: this.#at + PAGE, PageUp: this.#at - PAGE, Home: 0, End: Infinity };
     if (!this.#slots.length) return;
     if (key in moves) this.#move(moves[key], e);
     else if (key in ACTIONS) this.act(ACTIONS[key]);
     else if (key === " ") this.#toggle(this.#at);
     else if (key === "a" && (e.ctrlKey || e.metaKey)) this.#select(this.#slots);
+    else if (key.length === 1 && !e.ctrlKey && !e.metaKey && !e.altKey) this.#seek(key.toLowerCase());
     else return;
     e.preventDefault();
   }

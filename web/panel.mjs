@@ -4,7 +4,8 @@ import { fileActions } from "./file_actions.mjs";
 import { Listing } from "./listing.mjs";
 import { picture } from "./map.mjs";
 import { text } from "./petscii.mjs";
-import { sentence } from "./words.mjs";
+import { UNLINKED } from "./disk.mjs";
+import { count, refuse, sentence } from "./words.mjs";
 import { flawText } from "./yellowadze1541.mjs";
 
 const OURS = "application/x-1541-files"; // what a drag from one disk to the other has
@@ -12,12 +13,14 @@ const OURS = "application/x-1541-files"; // what a drag from one disk to the oth
 const REASONS = {
   disk: "Open a disk first.",
   past: "There is nothing to undo.",
+  future: "There is nothing to redo.",
   one: "Select one file first.",
   some: "Select a file first.",
   deleted: "The directory has no deleted file.",
   across: "Select a file, and open a disk on the other side.",
 };
-const KEYS = { z: "undo", s: "save" };
+const KEYS = { z: "undo", y: "redo", Z: "redo", s: "save" };
+const IMAGE = /\.[dg]64$/i;
 
 export class Panel {
   disk = null;
@@ -87,7 +90,7 @@ export class Panel {
       });
     on("dragover", true);
     on("dragleave", false);
-    on("drop", false, (data) => this.page.try(() => this.#dropped(data)));
+    on("drop", false, (data) => this.page.try(() => this.dropped(data)));
     this.listing.list.addEventListener("dragstart", (e) => {
       this.listing.drag(e.target);
       e.dataTransfer.setData(OURS, this.label);
@@ -95,12 +98,13 @@ export class Panel {
   }
 
   // What a drop has can only be asked for before anything is waited for.
-  #dropped(data) {
+  dropped(data) {
     const from = data.getData(OURS);
     if (from) return from === this.other.label && this.other.across();
-    const files = [...data.files];
-    if (this.disk && !files.some((it) => /\.[dg]64$/i.test(it.name))) return this.put(files);
-    return this.open(files, data.items[0]?.getAsFileSystemHandle?.().catch(() => null));
+    const files = [...data.files], images = imagesOf(data);
+    if (this.disk && !images.length) return this.put(files);
+    if (images.length === files.length && images.length === 2) return openBoth([this, this.other], images);
+    return this.open(files, images[0]?.handle);
   }
 
   show() {
@@ -108,10 +112,13 @@ export class Panel {
     this.find("h2 span").textContent = disk?.name ?? this.label;
     this.root.classList.toggle("changed", !!disk?.isChanged);
     this.root.classList.toggle("empty", !disk);
+    this.page.shown();
     if (disk) {
       this.listing.show(disk, this.page.set);
       this.#showVerdict();
       this.find("[data-do=convert]").textContent = `Make it a ${disk.isG64 ? "D64" : "G64"}`;
+      this.find("[data-do=undo]").title = `${disk.undoes} Ctrl+Z`.trim();
+      this.find("[data-do=redo]").title = `${disk.redoes} Ctrl+Y`.trim();
     }
     this.#showSelected();
     this.other.#showNeeds();
@@ -121,15 +128,25 @@ export class Panel {
     const { flaws, broken, odd: { length } } = this.disk;
     const verdict = this.find(".verdict");
     verdict.textContent = length ? `Sound but for ${length} odd ${length === 1 ? "entry" : "entries"}:` : flaws.length ? "The disk isn't sound:" : "The disk is sound.";
-    verdict.classList.toggle("fault", flaws.length > 0);
+    verdict.classList.toggle("fault", flaws.length > 0 && !length);
+    this.root.classList.toggle("odd", length > 0);
+    this.#showLost(verdict);
     if (broken) verdict.prepend(`The directory breaks off: ${sentence({ number: broken })} `);
     const fileOf = ({ whose, slot }) => (whose === 2 && this.disk.entry(slot) ? ` (${this.name(this.disk.entry(slot).name)})` : "");
     this.find(".flaws").replaceChildren(...flaws.map((it) => Object.assign(document.createElement("li"), { textContent: flawText(it) + fileOf(it) })));
   }
 
+  #showLost(verdict) {
+    const { lost: { length }, isUnlinked, flaws, odd } = this.disk;
+    if (!length || (flaws.length && !odd.length)) return;
+    const [are, them] = length === 1 ? ["is", "it"] : ["are", "them"], way = odd.length ? "" : `: Validate frees ${them}`;
+    verdict.append(" ", Object.assign(document.createElement("span"), { textContent: isUnlinked ? UNLINKED : `${count(length, "block")} ${are} lost${way}.` }));
+    verdict.classList.toggle("fault", isUnlinked);
+  }
+
   #has(need) {
     const { disk } = this, { size } = this.listing.selected;
-    return { disk, past: disk?.canUndo, one: size === 1, some: size, deleted: disk?.deleted.length, across: size && this.other.disk }[need];
+    return { disk, past: disk?.canUndo, future: disk?.canRedo, one: size === 1, some: size, deleted: disk?.deleted.length, across: size && this.other.disk }[need];
   }
 
   // A button that can't do anything stays where the keyboard finds it, and says why.
@@ -139,7 +156,7 @@ export class Panel {
 
   #showSelected() {
     const { size } = this.listing.selected;
-    this.find("[data-do=takeOut]").textContent = size === 1 ? "Take out" : size ? `Take ${size} out` : "Take all out";
+    this.find("[data-do=takeOut]").textContent = size === 1 ? "Extract" : size ? `Extract ${size}` : "Extract all";
     this.find("[data-do=lock]").textContent = this.areLocked ? "Unlock" : "Lock";
     this.#showNeeds();
     this.#showMap();
@@ -156,9 +173,30 @@ export class Panel {
   }
 
   done(what) {
+    this.disk.note(what);
     this.show();
     this.page.say(what);
   }
+}
+
+// The images among what is dropped, each with the handle of its file where a browser gives one. (It gives them only while the drop is handled.)
+function imagesOf(data) {
+  return [...data.items]
+    .filter((it) => it.kind === "file")
+    .map((it) => ({ file: it.getAsFile(), handle: it.getAsFileSystemHandle?.().catch(() => null) }))
+    .filter(({ file }) => file && IMAGE.test(file.name));
+}
+
+async function openBoth(panels, images) {
+  for (const [i, { file, handle }] of images.entries()) await panels[i].open([file], handle);
+}
+
+// What is dropped beside both disks: an image goes where no disk is, and two images to both.
+export function droppedOn(panels, data) {
+  const images = imagesOf(data), empty = panels.filter((it) => !it.disk);
+  if (!images.length || images.length < data.files.length) refuse("Drop files on the disk that gets them.");
+  if (images.length > empty.length) refuse(images.length > 2 ? "Two disks can be open at a time." : "Drop an image on the disk that it replaces.");
+  return openBoth(empty, images);
 }
 
 Object.assign(Panel.prototype, diskActions, fileActions);

@@ -21,7 +21,7 @@ export class Place {
   async save(bytes) {
     try {
       const { lastModified } = await this.handle.getFile();
-      if (lastModified !== this.lastModified && !(await ask(`Another program changed ${this.name}.`, "Write over it"))) return null;
+      if (lastModified !== this.lastModified && !(await ask(`Another program changed ${this.name}.`, "Overwrite it"))) return null;
       const out = await this.handle.createWritable(); // takes the file's place when it is closed
       await out.write(bytes);
       await out.close();

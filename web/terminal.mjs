@@ -7,12 +7,16 @@ import { PROFILE } from "./yellowadze1541.mjs";
 
 const SECONDARY = { open: 0xf0, "print#": 0x60, close: 0xe0 };
 const STATUS = 15;
+const REVERSE = 0x12; // begins the line with the title
+const MEMORY = 65536; // bytes of a computer, into which a program is loaded
+const HELP = /^\s*help\s*$/i;
+const LOAD = /^\s*load\s*"([^"]*)"\s*(?:,\s*8\s*(?:,\s*[01]\s*)?)?$/i;
 const LINE = /^\s*(open|print#|get#|close)\s*(\d|1[0-5])\s*(?:,\s*"(.*)")?\s*$/i;
 
 export class Terminal {
-  static HELP = `I0 or S0:NAME: a command, then the drive's status. An empty line: the status.
-OPEN 2,"NAME,S,W"   PRINT# 2,"TEXT{0d}"   GET# 2   CLOSE 2
-`;
+  static HELP = `LOAD"$",8: the directory. LOAD"NAME",8: a program's size and address.
+I0 or S0:NAME: a command, then the drive's status. An empty line: the status.
+OPEN 2,"NAME,S,W"   PRINT# 2,"TEXT{0d}"   GET# 2   CLOSE 2`;
   #host = null;
   #bytes = null;
 
@@ -32,23 +36,51 @@ OPEN 2,"NAME,S,W"   PRINT# 2,"TEXT{0d}"   GET# 2   CLOSE 2
 
   // What the drive says to a line. If that changed the disk, `disk` has become the new one.
   say(line, set) {
+    if (HELP.test(line)) return Terminal.HELP;
     const host = this.#atDrive(), before = host.drive.writes();
     const heard = [...carryOut(host, line.trim(), set), host.hear(STATUS)];
     if (host.isStuck) {
       this.#bytes = null;
-      refuse("The drive doesn't answer any more; with the next line it is switched on anew.");
+      refuse("The drive doesn't answer. The next line switches it on again.");
     }
     if (host.drive.writes() > before) this.disk.become(host.drive.image());
     this.#bytes = this.disk.bytes;
-    return heard.map((it) => (it ? text(it, set) : "nothing")).join("\n").replace(/\{0d\}$/, "");
+    return heard.map((it) => (typeof it === "string" ? it : it ? text(it, set) : "nothing")).join("\n").replace(/\{0d\}$/, "");
   }
 }
 
-// Carries a line out. Answers what GET# heard, if it is one.
+const typedCodes = (words, set) => [...(codes(words ?? "", set) ?? refuse("It has a character that no key of a C64 types."))];
+
+// The lines of a directory, which comes as a BASIC program: a link, a number and a text up to a 0 for each.
+function listed(bytes, set) {
+  const out = [];
+  for (let at = 2; at + 4 < bytes.length && bytes[at + 1]; ) {
+    const end = bytes.indexOf(0, at + 4);
+    if (end < 0) break;
+    out.push(`${bytes[at + 2] | (bytes[at + 3] << 8)} ${text(bytes.slice(at + 4, end).filter((it) => it !== REVERSE), set)}`.trimEnd());
+    at = end + 1;
+  }
+  return out;
+}
+
+// LOAD: what a computer would have then, in words.
+function loaded(host, name, set) {
+  host.tell(SECONDARY.open, typedCodes(name, set));
+  const bytes = host.hear(0, MEMORY);
+  host.tell(SECONDARY.close, []);
+  if (!bytes || bytes.length < 2) return [];
+  if (name.startsWith("$")) return listed(bytes, set);
+  const address = (bytes[0] | (bytes[1] << 8)).toString(16).padStart(4, "0");
+  return [`${bytes.length - 2} bytes at $${address}`];
+}
+
+// Carries a line out. Answers what was heard for GET# and LOAD.
 function carryOut(host, line, set) {
+  const load = LOAD.exec(line);
+  if (load) return loaded(host, load[1], set);
   const [, verb = "print#", channel = STATUS, words] = LINE.exec(line) ?? ["", undefined, undefined, line];
   if (/^get#$/i.test(verb)) return [host.hear(channel)];
-  const typed = codes(words ?? "", set) ?? refuse("This has a character that is on no key of a C64.");
-  if (line) host.tell(SECONDARY[verb.toLowerCase()] | channel, [...typed]);
+  const typed = typedCodes(words, set);
+  if (line) host.tell(SECONDARY[verb.toLowerCase()] | channel, typed);
   return [];
 }

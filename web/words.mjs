@@ -1,19 +1,19 @@
-// What the library's numbers say, as sentences for people.
+// Sentences for the library's numbers.
 
 const WORDS = {
   "-1": "The browser gave no memory for it.",
-  "-4": "It can't be given back: another file has got a block of it, or the disk has lost blocks. Validate frees those.",
-  "-5": "This is no image of a 1541's disk: no G64, and no D64 of 35 or 40 tracks. Perhaps it was cut off, or has to be unpacked first.",
-  "-6": "The disk isn't sound, so nothing was changed. Its flaws are listed under its files: Validate mends those of the BAM.",
+  "-4": "It can't be restored: another file uses one of its blocks, or the disk has lost blocks. Validate frees those.",
+  "-5": "This is not an image of a 1541's disk: neither a G64, nor a D64 of 35 or 40 tracks. It may be truncated or compressed. `disk1541` reads D71, D81, T64 and Lynx.",
+  "-6": "The disk isn't sound, so nothing was changed. Its flaws are listed under its files: Validate repairs those of the BAM.",
   26: "The disk or the file is protected, or its entry is odd.",
   62: "There is no such file on the disk.",
-  63: "There is a file of this name already: take another name.",
+  63: "A file of this name exists: use another name.",
   66: "A chain of blocks leads to a place that the disk doesn't have.",
   71: "The directory, or a chain of blocks, has no end.",
-  72: "The disk is full: take files out, or use another disk.",
+  72: "The disk is full: delete files, or use another disk.",
 };
 
-// Throws a sentence of the page's own, to be said.
+// Throws a sentence of the page's own, to be shown.
 export class Sentence extends Error {}
 export function refuse(why) {
   throw new Sentence(why);

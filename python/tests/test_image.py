@@ -601,6 +601,23 @@ class OthersFiles(DiskCase):
         subprocess.run([sys.executable, ROOT / "tests" / "programs" / "geos_disk.py", path], check=True, cwd=ROOT / "tests" / "programs")
         return Image.open(path)
 
+    def test_a_directory_that_ends_too_early(self):
+        image = self.geos_free_disk(40)
+        data = bytearray(image.bytes)
+        data[model.place(18, 1) : model.place(18, 1) + 2] = b"\0\xff"
+        cut = Image(data)
+        self.assertIsNone(cut.check())
+        self.assertEqual(len(cut.files()), 8)
+        with self.assertRaises(Foreign):
+            cut.validate()
+        self.assertEqual(cut.bytes, bytes(data))
+        image.validate()
+
+    def geos_free_disk(self, count):
+        image = Image.new()
+        image.write_all([(f"FILE {n}", bytes([n])) for n in range(count)])
+        return image
+
     def test_geos(self):
         image = self.geos()
         before = image.bytes

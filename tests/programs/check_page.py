@@ -40,6 +40,7 @@ def play(browser, folder):
     """All subjects, one after another; what stops one is said, and the next one begins with the page loaded anew."""
     import limits
     import looks
+    import manners
     import measures
     import odd_disks
     import one_disk
@@ -55,6 +56,7 @@ def play(browser, folder):
         lambda left, right: limits.play(browser, left, right, d64, g64),
         lambda left, right: measures.play(browser, left, d64, folder),
         lambda left, right: looks.play(browser, left, right, g64),
+        lambda left, right: manners.play(browser, folder, d64),
         lambda left, right: looks.one_file(browser, ROOT, folder, d64),
     ):
         browser.play(lambda: subject(*browser.load()))

@@ -12,6 +12,8 @@ _GEOS_MARK = slice(0xAD, 0xB1)
 # Of an entry of 32 bytes: the type, GEOS's info block, structure and type.
 _TYPE, _INFO_TRACK, _STRUCTURE, _GEOS_TYPE = 2, 21, 23, 24
 _CLOSED = 0x80
+# The sectors of track 18, and where their bits begin in 18/0.
+_SECTORS_OF_18, _BITS_OF_18 = 19, 4 * 18 + 1
 # A D64 of 40 tracks, and where 18/0 begins in one. Dolphin DOS's map of tracks 36 to 40 stands there.
 _OF_40_TRACKS, _HEAD = 196_608, 91_392
 _DOLPHIN, _MAP_SIZE = _HEAD + 0xAC, 20
@@ -42,6 +44,15 @@ def require_no_geos_file(image: "Image", slot: int) -> None:
         raise Foreign("a file of GEOS has more blocks than the drive knows, and can't be copied")
 
 
+def require_linked_directory(image: "Image") -> None:
+    """Refuses a disk on whose directory track a sector is in use to which no link leads: files may be listed there, whose blocks VALIDATE would free."""
+    head = image.sector(18, 0)
+    used = {sector for sector in range(_SECTORS_OF_18) if not head[_BITS_OF_18 + sector // 8] >> sector % 8 & 1}
+    linked = {0} | {sector for _, sector in _linked(image)}
+    if used - linked:
+        raise Foreign("sectors of track 18 are in use, but no link of the directory leads to them, and VALIDATE would free the blocks of their files: `disk1541 get-all --salvage` extracts these")
+
+
 def _is_geos(raw: bytes) -> bool:
     """Whether an entry is that of a file of GEOS."""
     is_file = raw[_TYPE] & _CLOSED and raw[_TYPE] % 16 in (FileType.SEQ, FileType.PRG, FileType.USR)
@@ -50,13 +61,16 @@ def _is_geos(raw: bytes) -> bool:
 
 def _raw_entries(image: "Image") -> Iterator[Tuple[int, bytes]]:
     """The slots of a sound disk's directory, with their 32 bytes."""
+    places = [(data, at) for data, _ in _linked(image) for at in range(0, 256, 32)]
+    return ((slot, data[at : at + 32]) for slot, (data, at) in enumerate(places))
+
+
+def _linked(image: "Image") -> Iterator[Tuple[bytes, int]]:
+    """The sectors of a directory in the order of its links: their bytes, and their numbers on track 18. It ends at a link to another track, or to one before."""
     track, sector = 18, 1
-    slot = 0
     seen = set()
-    while track and (track, sector) not in seen:
-        seen.add((track, sector))
+    while track == 18 and sector not in seen:
+        seen.add(sector)
         data = image.sector(track, sector)
-        for at in range(0, 256, 32):
-            yield slot, data[at : at + 32]
-            slot += 1
+        yield data, sector
         track, sector = data[0], data[1]

@@ -329,10 +329,11 @@ class Image:
     def validate(self) -> None:
         """Removes files that were never closed and frees lost blocks, like the drive's VALIDATE, even on a disk with a wrong BAM.
 
-        Foreign: the disk has files of GEOS, whose blocks it would free. Refused: the disk has another flaw. Unsound: lost blocks may be the rest of an odd entry.
+        Foreign: it would free the blocks of GEOS files, or of files in a part of the directory that isn't linked. Refused: the disk has another flaw. Unsound: lost blocks may be the rest of an odd entry.
         """
         foreign.require_no_dolphin(self._data)
         foreign.require_no_geos(self)
+        foreign.require_linked_directory(self)
         if not self._is_sound_but_for_odd():
             self._data = self._mended()
             return

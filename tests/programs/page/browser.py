@@ -23,6 +23,9 @@ for (const [name, data] of files) to.items.add(new File([Uint8Array.from(atob(da
 for (const it of ["dragover", "drop"]) target.dispatchEvent(new DragEvent(it, { dataTransfer: to, bubbles: true, cancelable: true }));"""
 
 
+WIDER = "const it = document.getElementById('rest'); return document.documentElement.scrollWidth > innerWidth || it.scrollWidth > it.clientWidth"
+
+
 class Quiet(http.server.SimpleHTTPRequestHandler):
     extensions_map = {**http.server.SimpleHTTPRequestHandler.extensions_map, **TYPES}
 
@@ -74,6 +77,10 @@ class Browser:
             part()
         except Exception:
             self.expect(False, traceback.format_exc())
+
+    def drop_beside(self, *files):
+        """Drops files, each (name, bytes), on the page's own ground."""
+        self.run(DROP, self.driver.find_element(By.ID, "rest"), encoded(files))
 
     def by_keyboard(self, part):
         self.is_keyboard = True
@@ -179,11 +186,11 @@ class Browser:
         colours = [{"name": "prefers-color-scheme", "value": "dark" if is_dark else "light"}]
         self.driver.execute_cdp_cmd("Emulation.setEmulatedMedia", {"features": colours})
         self.driver.execute_cdp_cmd("Emulation.setDeviceMetricsOverride", {"width": width, "height": height, "deviceScaleFactor": 1, "mobile": False})
-        self.run("arguments[0] ? arguments[0].scrollIntoView() : scrollTo(0, 0)", at)
+        self.run("arguments[0] ? arguments[0].scrollIntoView() : document.getElementById('rest').scrollTo(0, 0)", at)
         time.sleep(0.2)
         if self.pictures:
             self.driver.save_screenshot(str(self.pictures / f"{name}.png"))
-        self.expect(not self.run("return document.documentElement.scrollWidth > innerWidth"), f"{name}: nothing is wider than the window")
+        self.expect(not self.run(WIDER), f"{name}: nothing is wider than the window")
         self.driver.execute_cdp_cmd("Emulation.clearDeviceMetricsOverride", {})
 
 
@@ -222,7 +229,7 @@ class Side:
 
     def drop(self, *files):
         """Drops files, each (name, bytes)."""
-        self.browser.run(DROP, self.root, [[name, base64.b64encode(bytes(data)).decode()] for name, data in files])
+        self.browser.run(DROP, self.root, encoded(files))
 
     def select(self, *names):
         places = [self.names().index(it) for it in names]
@@ -257,6 +264,11 @@ class Side:
         self.find(".terminal input").send_keys(line, Keys.ENTER)
         self.browser.until(lambda: self.text("pre") != before, "an answer in the terminal")
         return self.text("pre")[len(before) :].split("\n", 1)[1].strip()
+
+
+def encoded(files):
+    """Files as the script that drops them takes them."""
+    return [[name, base64.b64encode(bytes(data)).decode()] for name, data in files]
 
 
 def options(downloads):

@@ -85,10 +85,10 @@ def keyboard(browser, left):
     """Tab goes through all of a disk; what can't be done now says why, and keeps the focus."""
     browser.run("document.getElementById('small').focus()")
     stops = []
-    for _ in range(21):
+    for _ in range(22):
         ActionChains(browser.driver).send_keys(Keys.TAB).perform()
         stops.append(browser.run("const e = document.activeElement; return e.dataset.do ?? e.dataset.take ?? e.role ?? e.tagName"))
-    wanted = ["open", "fresh", "save", "undo", "retitle", "sort", "validate", "convert", "listbox"]
+    wanted = ["open", "fresh", "save", "undo", "redo", "retitle", "sort", "validate", "convert", "listbox"]
     wanted += ["put", "takeOut", "rename", "duplicate", "lock", "remove", "undelete", "across", "SUMMARY", "SUMMARY"]
     stops = [it for it in stops if it != "P"]  # (the words of the map, if they are longer than their place)
     browser.expect(stops[: len(wanted)] == wanted, f"Tab goes by {stops}")
@@ -118,7 +118,7 @@ def one_file(browser, root, folder, d64):
     like.write_bytes(d64.read_bytes())
     left.open(like)
     left.give("put", browser.room / "loader.prg")
-    browser.says("1 file put in.")
+    browser.says("1 file added.")
     browser.kit("put", like, browser.room / "loader.prg")
     browser.expect(left.saved() == like.read_bytes(), f"the page in one file of {out.stat().st_size} bytes puts a file in")
     left.show("terminal")

@@ -43,7 +43,7 @@ def make_new(browser, side, form, name, *more):
     browser.forget()
     side.do("fresh")
     browser.answer("my disk", "a1", form)
-    browser.says("An empty disk.")
+    browser.says("A new disk.")
     file = browser.fresh_folder() / name
     browser.kit("new", file, "--title", "MY DISK", "--id", "A1", *more)
     return file
@@ -66,7 +66,7 @@ def full_disks(browser, side):
         file = make_new(browser, side, form, f"full.{ending}", *more)
         begun = time.monotonic()
         side.give("put", *files)
-        browser.says("144 files put in.")
+        browser.says("144 files added.")
         seconds = time.monotonic() - begun
         in_time(browser, seconds, MOST_PUT, f"{ending}: 144 files put in within {seconds:.2f} s, with the driver's time")
         browser.kit("put", file, *files)

@@ -29,7 +29,7 @@ def foreign(browser, side, d64, g64):
         status = subprocess.run([browser.disk1541, "check", name], cwd=browser.room, capture_output=True).returncode
         side.drop((name, data)) if name[-2:] == "64" and name[-3] != "t" else side.give("open", browser.room / name)
         browser.until(lambda: browser.said().startswith(f"{name}: "), f"a sentence on {name}")
-        browser.expect(status == 2 and "no image of a 1541's disk" in browser.said() and side.names() == ["HELLO"], browser.said())
+        browser.expect(status == 2 and "not an image of a 1541's disk" in browser.said() and side.names() == ["HELLO"], browser.said())
     side.drop(("large.d64", bytes(900000)))
     browser.says("large.d64 is larger than any disk.")
 
@@ -104,7 +104,7 @@ def art(browser, side, d64):
         browser.expect(side.saved() == it.read_bytes(), f"{it.name}: renamed, and the art is left alone")
         browser.forget()
         side.give("put", browser.room / "world.prg")
-        browser.says("1 file put in.")
+        browser.says("1 file added.")
         browser.kit("put", it, browser.room / "world.prg")
         browser.expect(side.saved() == it.read_bytes(), f"{it.name}: a file put in beside art")
         side.do("sort")

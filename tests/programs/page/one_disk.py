@@ -57,7 +57,7 @@ def renamed_and_put(disk, files):
     disk.same("renamed by F2")
     its = [browser.room / it for it in files if not it.startswith(("a name", "large", "huge"))]
     side.give("put", *its)
-    browser.says(f"{len(its)} files put in.")
+    browser.says(f"{len(its)} files added.")
     disk.kit("put", *its)
     disk.same("files put in, with the types that their endings mean")
 
@@ -67,15 +67,15 @@ def asked_for_names(disk):
     side, browser, full = disk.side, disk.browser, disk.like.read_bytes()
     side.give("put", browser.room / "a name that is much too long.prg", browser.room / "levels.seq")
     said = [browser.answer(it) for it in ("loader", "long", "more")]
-    browser.says("2 files put in.")
-    browser.expect(all(it in said[n] for n, it in enumerate(["at most 16", "already", "already"])), f"{disk.ending}: the reasons why a name is asked for")
+    browser.says("2 files added.")
+    browser.expect(all(it in said[n] for n, it in enumerate(["at most 16", "exists", "exists"])), f"{disk.ending}: the reasons why a name is asked for")
     for file, name in ("a name that is much too long.prg", "LONG"), ("levels.seq", "MORE"):
         disk.kit("put", browser.room / file, "--name", name)
     disk.same("names that are too long or taken are asked for")
     disk.undo_to(full)
     side.give("put", browser.room / "loader.prg")
     browser.cancel()
-    browser.says("Nothing was put in.")
+    browser.says("Nothing was added.")
     side.give("put", browser.room / "large.prg")
     browser.until(lambda: browser.said().startswith("The disk is full"), "a full disk")
     side.give("put", browser.room / "huge.prg")
@@ -161,7 +161,7 @@ def titled_and_sorted(disk):
     for by in "size", "type", "name":
         side.do("sort")
         browser.answer(by)
-        browser.until(lambda: browser.said() in ("Sorted.", "It is in this order already."), "sorted")
+        browser.until(lambda: browser.said() in ("Sorted.", "Already in this order."), "sorted")
         disk.kit("sort", "--by", by)
         disk.same(f"sorted by {by}")
         browser.forget()

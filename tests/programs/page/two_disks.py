@@ -25,7 +25,7 @@ def across(browser, left, right, d64, g64):
     left.until_names("HELLO", "WORLD")
     browser.expect(left.saved() == copied.read_bytes(), "a file dragged to the other disk")
     right.do("across")
-    browser.until(lambda: "There is a file of this name already" in browser.said(), "a name that is taken")
+    browser.until(lambda: "A file of this name exists" in browser.said(), "a name that is taken")
     browser.expect(left.saved() == copied.read_bytes(), "a name that the other disk has changes nothing")
     return copied
 
@@ -50,11 +50,30 @@ def changed_disk_is_kept(browser, right, d64):
     right.drop(("other.d64", d64.read_bytes()))
     browser.answer()
     browser.says("other.d64 is open.")
-    right.drop(("a.d64", d64.read_bytes()), ("b.d64", d64.read_bytes()))
-    browser.says("Open one disk at a time.")
+
+
+def two_at_once(browser, left, right, d64, g64):
+    """Two images dropped on a disk go to both; beside the disks, they go where none is open."""
+    right.drop(("a.d64", d64.read_bytes()), ("b.g64", g64.read_bytes()))
+    browser.says("b.g64 is open.")
+    browser.expect((right.text("h2 span"), left.text("h2 span")) == ("a.d64", "b.g64"), "two images dropped on a disk open both")
+    left, right = browser.load()
+    browser.drop_beside(("c.d64", d64.read_bytes()), ("d.g64", g64.read_bytes()))
+    browser.says("d.g64 is open.")
+    browser.expect((left.text("h2 span"), right.text("h2 span")) == ("c.d64", "d.g64"), "two images dropped beside the disks open both")
+    browser.drop_beside(("e.d64", d64.read_bytes()))
+    browser.says("Drop an image on the disk that it replaces.")
+    browser.drop_beside(("e.prg", b"1"))
+    browser.says("Drop files on the disk that gets them.")
+    left, right = browser.load()
+    left.open(d64)
+    browser.drop_beside(("f.g64", g64.read_bytes()))
+    browser.says("f.g64 is open.")
+    browser.expect(right.text("h2 span") == "f.g64", "an image dropped beside the disks opens where none is")
 
 
 def play(browser, left, right, d64, g64):
     copied = across(browser, left, right, d64, g64)
     dropped(browser, left, copied)
     changed_disk_is_kept(browser, right, d64)
+    two_at_once(browser, left, right, d64, g64)
