@@ -17,7 +17,7 @@ NOBODY = 65534
 sys.path.insert(0, str(ROOT / "tests" / "programs"))
 import generated_disks as model  # noqa: E402 (it is found by the line above)
 
-__all__ = ["HELLO", "ROOT", "DiskCase", "as_nobody", "disk1541", "json_of", "model", "model_disk"]
+__all__ = ["DISK1541", "HELLO", "ROOT", "DiskCase", "as_nobody", "disk1541", "json_of", "model", "model_disk"]
 
 
 def disk1541(*words, status=0, **more):

@@ -5,7 +5,7 @@ import shutil
 import subprocess
 import unittest
 
-from support import HELLO, ROOT, DiskCase, model_disk
+from support import DISK1541, HELLO, ROOT, DiskCase, model_disk
 from yellowadze1541 import BusError, Drive, Form, Host, Image, Pace, Pulls, Refused
 from yellowadze1541.bus import Bus
 from yellowadze1541.kernal import Computer
@@ -57,6 +57,28 @@ def save(host, name):
     host.open(1, name)
     host.send(1, SAVED)
     host.close(1)
+
+
+def judge():
+    """The path of drive1541: DRIVE1541, or the program next to disk1541; None if it isn't there."""
+    path = os.environ.get("DRIVE1541") or os.path.join(os.path.dirname(DISK1541), "drive1541")
+    return shutil.which(path)
+
+
+class Traced(DiskCase):
+    def test_the_judge_finds_a_session(self):
+        if judge() is None:
+            self.skipTest("drive1541 isn't next to disk1541")
+        path = self.folder / "host.trace"
+        with open(path, "w", encoding="ascii") as trace, Drive(HELLO.read_bytes()) as first, Drive(Image.new().bytes, device=9, reaction=35) as second:
+            host = Host(first, second, trace=trace)
+            data = host.load("HELLO")
+            host.device = 9
+            host.save("AGAIN", data)
+        ran = subprocess.run([judge(), "judge", path, "--drive", "8:20:kernal", "--drive", "9:35:kernal", "--loosely"], capture_output=True, text=True, check=False)
+        self.assertEqual(ran.returncode, 0, ran.stdout + ran.stderr)
+        self.assertIn("a session to", ran.stdout)
+        self.assertIn("attention 29 f1", ran.stdout)
 
 
 @unittest.skipUnless(shutil.which("cc") and os.environ.get("LIBRARY"), "no C compiler, or LIBRARY doesn't name the library")

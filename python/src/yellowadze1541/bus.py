@@ -1,5 +1,5 @@
 """The serial bus between a host and drives, as an emulator keeps it: examples/c/bus.h in Python."""
-from typing import List, Optional, Tuple
+from typing import List, Optional, TextIO, Tuple, Union
 
 from .drive import Drive, Pulls
 
@@ -7,9 +7,10 @@ __all__ = ["Bus"]
 
 
 class Bus:
-    """Three lines, each low if anyone pulls it."""
+    """Three lines, each low if anyone pulls it. A trace gets a line for each change, as `drive1541 judge` reads it."""
 
-    def __init__(self, *drives: Drive) -> None:
+    def __init__(self, *drives: Drive, trace: Optional[TextIO] = None) -> None:
+        self.trace = trace
         self.drives: List[Drive] = []
         self._pulls: List[Pulls] = []
         self.atn = self.clock = self.data = False  # what the host holds
@@ -26,6 +27,8 @@ class Bus:
         """The host's port is written; the host comes before what drives do at the same moment."""
         self.run_to(now)
         if (atn, clock, data) != (self.atn, self.clock, self.data):
+            for line, before, low in (("atn", self.atn, atn), ("clock", self.clock, clock), ("data", self.data, data)):
+                self._note(now, "host", line, before, low)
             self.atn, self.clock, self.data = atn, clock, data
             self._tell_all(None, now)
 
@@ -43,9 +46,16 @@ class Bus:
             due, number = min(dues)
             reaction = self.drives[number].due(due)
             assert reaction is not None
-            self._pulls[number] = Pulls(reaction.clock, reaction.data)
+            before, self._pulls[number] = self._pulls[number], Pulls(reaction.clock, reaction.data)
+            self._note(due, self.drives[number].device, "clock", before.clock, reaction.clock)
+            self._note(due, self.drives[number].device, "data", before.data, reaction.data)
             if reaction.clock_changed or reaction.data_changed:
                 self._tell_all(number, due)
+
+    def _note(self, now: int, who: Union[int, str], line: str, before: bool, low: bool) -> None:
+        """A line of the trace, if a party's line has changed."""
+        if self.trace is not None and bool(before) != bool(low):
+            self.trace.write(f"{now} {who} {line} {'pull' if low else 'free'}\n")
 
     def _joined(self, but: Optional[int]) -> Tuple[bool, bool]:
         """Whether CLOCK and DATA are low by the host and all drives but one."""

@@ -1,6 +1,6 @@
 """A computer at the drives of a bus, with the calls that BASIC has for them."""
 import contextlib
-from typing import Optional
+from typing import Optional, TextIO
 
 from .bus import Bus
 from .drive import Drive
@@ -28,12 +28,12 @@ class BusError(Exception):
 class Host:
     """A computer with a KERNAL, by the model of kernal.py. `device` is the drive that it addresses; the default is the first one."""
 
-    def __init__(self, *drives: Drive, device: Optional[int] = None, computer: Computer = Computer.PAL, seed: int = 0) -> None:
-        """Switches the computer on, connected to these drives. The seed decides the time between two calls of its program."""
+    def __init__(self, *drives: Drive, device: Optional[int] = None, computer: Computer = Computer.PAL, seed: int = 0, trace: Optional[TextIO] = None) -> None:
+        """Switches the computer on, connected to these drives. The seed decides the time between two calls of its program. A trace gets each change of a line."""
         if not drives:
             raise ValueError("a host needs a drive")
         self.device = drives[0].device if device is None else device
-        self.kernal = Kernal(Bus(*drives), computer, seed)
+        self.kernal = Kernal(Bus(*drives, trace=trace), computer, seed)
 
     def load(self, name: Name) -> bytes:
         """LOAD: the bytes of a program or of the directory (`$`), with its load address. Refused: the drive's status."""
