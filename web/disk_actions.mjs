@@ -3,13 +3,13 @@ import { ask } from "./ask.mjs";
 import { Disk, ORDERS } from "./disk.mjs";
 import { exampleDisk } from "./example.mjs";
 import { stem } from "./names.mjs";
+import { LARGEST, unpacked } from "./packed.mjs";
 import { codes, unpadded } from "./petscii.mjs";
 import { Place, download } from "./saving.mjs";
 import { Terminal } from "./terminal.mjs";
 import { count, refuse, sentence } from "./words.mjs";
 
 const FORMS = [[0, "D64, 35 tracks"], [1, "D64, 40 tracks"], [2, "G64"]];
-const LARGEST = 833292; // bytes of an image, a G64 of 84 tracks
 const TITLE = 16, ID = 2, MARK = 5; // lengths
 
 // What a conversion would lose, in words.
@@ -42,9 +42,9 @@ export const diskActions = {
   },
 
   async diskOf(file) {
-    const bytes = await this.bytesOf(file);
+    const { name, bytes } = await unpacked(file.name, await this.bytesOf(file));
     try {
-      return new Disk(this.page.library, file.name, bytes);
+      return new Disk(this.page.library, name, bytes);
     } catch (e) {
       return refuse(`${file.name}: ${sentence(e)}`);
     }

@@ -20,7 +20,7 @@ const REASONS = {
   across: "Select a file, and open a disk on the other side.",
 };
 const KEYS = { z: "undo", y: "redo", Z: "redo", s: "save" };
-const IMAGE = /\.[dg]64$/i;
+const IMAGE = /\.([dg]64(\.gz)?|zip)$/i;
 
 export class Panel {
   disk = null;

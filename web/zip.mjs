@@ -7,7 +7,7 @@ const TABLE = Array.from({ length: 256 }, (_, n) => {
 });
 const VERSION = 20, UTF8 = 0x800, DAY = 0x21; // 1980-01-01, as the disk tells no day
 
-const checksum = (data) => ~data.reduce((sum, it) => TABLE[(sum ^ it) & 255] ^ (sum >>> 8), -1);
+export const checksum = (data) => ~data.reduce((sum, it) => TABLE[(sum ^ it) & 255] ^ (sum >>> 8), -1);
 const short = (value) => [value & 255, (value >> 8) & 255];
 const long = (value) => [...short(value), ...short(value >>> 16)];
 

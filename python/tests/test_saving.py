@@ -1,5 +1,6 @@
 """How images are saved: whole or not at all, one after the other, as disk1541 does."""
 import fcntl
+import gzip
 import os
 import signal
 import stat
@@ -7,9 +8,11 @@ import subprocess
 import sys
 import time
 import unittest
+import zipfile
 
 from support import DISK1541, HELLO, DiskCase, as_nobody, disk1541
 from yellowadze1541 import Changed, Form, Image, Refused
+from yellowadze1541.mount.disk import Disk
 
 # A program that saves an image for ever, each time with another title.
 SAVES = """
@@ -174,6 +177,59 @@ class Saving(DiskCase):
         saving.wait()
         subprocess.run([DISK1541, "title", self.path, "BY DISK1541"], check=True)
         self.assertFalse(left.exists())
+
+
+class Packed(DiskCase):
+    def archive(self, name, files):
+        path = self.folder / name
+        with zipfile.ZipFile(path, "w", zipfile.ZIP_DEFLATED) as out:
+            for each, data in files.items():
+                out.writestr(each, data)
+        return path
+
+    def test_packed_images_are_read(self):
+        data = HELLO.read_bytes()
+        paths = [self.file("hello.d64.gz", gzip.compress(data)), self.archive("one.zip", {"a/": b"", "a/hello.D64": data, "a/read.me": b"x"}), self.archive("only.zip", {"disk": data})]
+        for path in paths:
+            with self.subTest(path=path.name):
+                image = Image.open(path)
+                self.assertEqual((image.bytes, image.path, image.read("HELLO")), (data, None, Image.open(HELLO).read("HELLO")))
+                self.assertEqual(image.listing(), disk1541("list", path).decode())
+
+    def test_packed_images_are_not_written(self):
+        path = self.file("hello.d64.gz", gzip.compress(HELLO.read_bytes()))
+        before = path.read_bytes()
+        image = Image.open(path)
+        image.rename("HELLO", "OTHER")
+        for call in (image.save, Image.change(path).__enter__):
+            with self.assertRaises(ValueError):
+                call()
+        image.save(self.folder / "new.d64")
+        self.assertEqual(path.read_bytes(), before)
+        self.assertIsNotNone(Image.open(self.folder / "new.d64").find("OTHER"))
+        self.assertEqual(Disk(str(path)).why_read_only, "the image is packed")
+
+    def test_what_is_packed_otherwise_is_refused(self):
+        data = HELLO.read_bytes()
+        packed = gzip.compress(data)
+        wrong = {
+            "cut.gz": packed[:-9],
+            "sum.gz": packed[:-8] + bytes([packed[-8] ^ 1]) + packed[-7:],
+            "no.gz": gzip.compress(b"no image"),
+            "large.gz": gzip.compress(bytes(900_000)),
+            "cut.zip": self.archive("whole.zip", {"a.d64": data}).read_bytes()[:-30],
+            "two.zip": self.archive("x.zip", {"a.d64": data, "b.d64": data}).read_bytes(),
+            "none.zip": self.archive("y.zip", {"a.txt": b"a", "b.txt": b"b"}).read_bytes(),
+            "empty.zip": self.archive("z.zip", {}).read_bytes(),
+        }
+        for name, content in wrong.items():
+            with self.subTest(name=name), self.assertRaises(Refused):
+                Image.open(self.file(name, content))
+
+    def test_a_d64_that_begins_as_a_packed_file_does_is_a_d64(self):
+        for mark in (b"\x1f\x8b", b"PK\3\4"):
+            data = mark + HELLO.read_bytes()[len(mark) :]
+            self.assertEqual(Image.open(self.file("marked.d64", data)).bytes, data)
 
 
 if __name__ == "__main__":

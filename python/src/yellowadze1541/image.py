@@ -9,7 +9,7 @@ import itertools
 import os
 from typing import Any, Callable, Iterable, Iterator, List, Optional, Set, Tuple, Union
 
-from . import _library, foreign, petscii, saving
+from . import _library, foreign, packed, petscii, saving
 from ._library import library
 from .entries import FILLER, Entry, FileType, file_type, name_in
 from .petscii import Charset, Name, name_codes
@@ -74,9 +74,12 @@ class Image:
 
     @classmethod
     def open(cls, path: Union[str, "os.PathLike[str]"]) -> "Image":
-        """The image in a file. OSError; Refused: it has none."""
+        """The image in a file, which gzip or ZIP may have packed: then it has no file to be saved in. OSError; Refused: it has none."""
         name = os.path.abspath(path)
-        image = cls(saving.read(name))
+        data = saving.read(name)
+        if packed.is_packed(data):
+            return cls(packed.unpacked(data, name))
+        image = cls(data)
         image._path, image._saved = name, image._data
         return image
 
@@ -93,10 +96,12 @@ class Image:
     @classmethod
     @contextlib.contextmanager
     def change(cls, path: Union[str, "os.PathLike[str]"]) -> Iterator["Image"]:
-        """The image in a file, saved when the block ends without an exception. Others that save in its folder wait meanwhile, as for a command of disk1541."""
+        """The image in a file, saved when the block ends without an exception. ValueError: it is packed. Others that save in its folder wait meanwhile, as for a command of disk1541."""
         name = os.path.abspath(path)
         with saving.locked_folder(name):
             image = cls.open(name)
+            if image._path is None:
+                raise ValueError(f"{name} is packed, and isn't written: unpack it first")
             yield image
             if image._data != image._saved:
                 saving.write(name, image._data, image._saved)

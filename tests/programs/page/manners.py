@@ -1,5 +1,9 @@
 """How the page treats a person: its first screen, what it names, what it undoes, and its size for fingers and for high contrast."""
+import gzip
+import io
 import time
+import zipfile
+import zlib
 
 from odd_disks import DIRECTORY, changed
 from selenium.webdriver.common.keys import Keys
@@ -92,6 +96,41 @@ def lost(browser, left, d64):
     browser.expect(left.saved() == image, "a directory that ends too early: Validate changes nothing")
 
 
+def packed(browser, left, d64):
+    """Images packed with gzip or ZIP are opened, and saved as what they are."""
+    data = d64.read_bytes()
+    stored, deflated, several, empty = (io.BytesIO() for _ in range(4))
+    with zipfile.ZipFile(stored, "w") as out:
+        out.writestr("a/hello.d64", data)
+        out.writestr("read.me", b"x")
+    with zipfile.ZipFile(deflated, "w", zipfile.ZIP_DEFLATED) as out:
+        out.writestr("only", data)
+    with zipfile.ZipFile(several, "w") as out:
+        out.writestr("a.d64", data)
+        out.writestr("b.g64", data)
+    with zipfile.ZipFile(empty, "w") as out:
+        out.writestr("a.txt", b"a")
+        out.writestr("b.txt", b"b")
+    for name, content, inside in (("one.d64.gz", gzip.compress(data), "one.d64"), ("two.zip", stored.getvalue(), "hello.d64"), ("three.zip", deflated.getvalue(), "only")):
+        left.drop((name, content))
+        browser.says(f"{inside} is open.")
+        browser.expect(browser.fetched(lambda: left.do("save")) == (inside, data), f"{name} is opened, and saved unpacked")
+    wrong = gzip.compress(data)
+    wrong = wrong[:-8] + bytes([wrong[-8] ^ 1]) + wrong[-7:]
+    bad = deflated.getvalue().replace(zlib.crc32(data).to_bytes(4, "little"), b"\1\2\3\4")
+    large = gzip.compress(bytes(900_000))
+    for name, content, why in (
+        ("sum.d64.gz", wrong, "sum.d64.gz is compressed, but truncated or damaged."),
+        ("sum.zip", bad, "sum.zip is compressed, but its checksum is wrong."),
+        ("cut.zip", deflated.getvalue()[:-30], "cut.zip is compressed, but truncated or damaged."),
+        ("several.zip", several.getvalue(), "several.zip has several disk images: unpack it first."),
+        ("none.zip", empty.getvalue(), "none.zip has no disk image."),
+        ("large.d64.gz", large, "large.d64.gz is larger than any disk."),
+    ):
+        left.drop((name, content))
+        browser.says(why)
+
+
 def terminal(browser, left, d64):
     """What is typed first on a C64."""
     left.open(d64)
@@ -143,6 +182,7 @@ def play(browser, folder, d64):
     named_history(browser, left)
     left, right = browser.load()
     lost(browser, left, d64)
+    packed(browser, left, d64)
     terminal(browser, left, d64)
     sizes(browser, left, right, d64)
     browser.forget()

@@ -37,6 +37,8 @@ class Disk:
         """Why nothing can be written; None: it can."""
         if self._asked_read_only:
             return "that was asked for"
+        if self._image.path is None:
+            return "the image is packed"
         if self.flaw is not None:
             return f"the disk isn't sound: {self.flaw}"
         if not os.access(self._path, os.W_OK) or not os.access(os.path.dirname(self._path), os.W_OK):
