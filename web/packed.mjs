@@ -12,7 +12,12 @@ const END = 22, ENTRY = 46, HEAD = 30; // bytes of the parts of an archive, with
 const begins = (bytes, ...mark) => mark.every((it, i) => bytes[i] === it);
 const isGzip = (bytes) => begins(bytes, 0x1f, 0x8b);
 const isZip = (bytes) => begins(bytes, 0x50, 0x4b, 3, 4) || begins(bytes, 0x50, 0x4b, 5, 6);
-const baseOf = (name) => name.split("/").at(-1);
+const isG64 = (bytes) => begins(bytes, ...new TextEncoder().encode("GCR-1541"));
+// The name of an image in an archive, with an image's ending.
+const imageName = (name, bytes) => {
+  const base = name.split("/").at(-1);
+  return IMAGE.test(base) ? base : `${base}.${isG64(bytes) ? "g64" : "d64"}`;
+};
 
 async function inflated(name, data, format) {
   const parts = [];
@@ -61,7 +66,7 @@ async function zipped(name, bytes) {
   if (file.method !== STORED && file.method !== DEFLATED) refuse(`${name} is compressed in a way that is not supported.`);
   const image = file.method === STORED ? data : await inflated(name, data, "deflate-raw");
   if (checksum(image) !== file.sum) refuse(`${name} is compressed, but its checksum is wrong.`);
-  return { name: baseOf(file.name), bytes: image };
+  return { name: imageName(file.name, image), bytes: image };
 }
 
 // The image in a file of this computer, and its name: as it is, or unpacked.

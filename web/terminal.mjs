@@ -38,7 +38,7 @@ OPEN 2,"NAME,S,W"   PRINT# 2,"TEXT{0d}"   GET# 2   CLOSE 2`;
   say(line, set) {
     if (HELP.test(line)) return Terminal.HELP;
     const host = this.#atDrive(), before = host.drive.writes();
-    const heard = [...carryOut(host, line.trim(), set), host.hear(STATUS)];
+    const heard = carryOut(host, line.trim(), set);
     if (host.isStuck) {
       this.#bytes = null;
       refuse("The drive doesn't answer. The next line switches it on again.");
@@ -63,24 +63,31 @@ function listed(bytes, set) {
   return out;
 }
 
-// LOAD: what a computer would have then, in words.
-function loaded(host, name, set) {
-  host.tell(SECONDARY.open, typedCodes(name, set));
-  const bytes = host.hear(0, MEMORY);
-  host.tell(SECONDARY.close, []);
-  if (!bytes || bytes.length < 2) return [];
+// A program in words: the lines of a directory, or its size and address.
+function program(bytes, name, set) {
+  if (bytes.length < 2) return [];
   if (name.startsWith("$")) return listed(bytes, set);
   const address = (bytes[0] | (bytes[1] << 8)).toString(16).padStart(4, "0");
   return [`${bytes.length - 2} bytes at $${address}`];
 }
 
-// Carries a line out. Answers what was heard for GET# and LOAD.
+// LOAD: the program in words, and the status. If OPEN is refused, its status is the answer: a read would replace it.
+function loaded(host, name, set) {
+  host.tell(SECONDARY.open, typedCodes(name, set));
+  const opened = host.hear(STATUS);
+  const isOpen = text(opened ?? [], set).startsWith("00");
+  const words = isOpen ? program(host.hear(0, MEMORY) ?? [], name, set) : [];
+  host.tell(SECONDARY.close, []);
+  return [...words, isOpen ? host.hear(STATUS) : opened];
+}
+
+// Carries a line out. Answers what was heard for GET# and LOAD, and the status.
 function carryOut(host, line, set) {
   const load = LOAD.exec(line);
   if (load) return loaded(host, load[1], set);
   const [, verb = "print#", channel = STATUS, words] = LINE.exec(line) ?? ["", undefined, undefined, line];
-  if (/^get#$/i.test(verb)) return [host.hear(channel)];
+  if (/^get#$/i.test(verb)) return [host.hear(channel), host.hear(STATUS)];
   const typed = typedCodes(words, set);
   if (line) host.tell(SECONDARY[verb.toLowerCase()] | channel, typed);
-  return [];
+  return [host.hear(STATUS)];
 }

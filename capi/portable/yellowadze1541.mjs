@@ -62,7 +62,7 @@ const FLAW_TEXTS = [
   "the block is in use, but can't be read",
 ];
 // The sizes of structs in the header.
-const SIGNAL = 16, SECTOR = 256, ENTRY = 24, FLAW = 8, FILE = 32, SAID = 36;
+const SIGNAL = 16, SECTOR = 256, ENTRY = 24, FLAW = 8, SAID = 36;
 const SLOTS = 144, FLAWS = 4096;
 
 /** The words for a result or a status: "no memory" for -1, "63, FILE EXISTS" for 63. */
@@ -114,6 +114,20 @@ const bytesOf = (value) => {
 // A name, a pattern or a command, as a C64 has it after power-up: the keys of its letters send capitals. Codes stay as they are.
 const typed = (value) => (typeof value === "string" ? value.replace(/[a-z]/g, (it) => it.toUpperCase()) : value);
 
+// How a module passes places and sizes: the one that is made from the proof with 64 bits, the one that cargo makes with 32.
+const WIDE = {
+  bytes: 8,
+  of: BigInt,
+  read: (view, place) => Number(view.getBigUint64(Number(place), true)),
+  write: (view, place, value) => view.setBigUint64(Number(place), BigInt(value), true),
+};
+const NARROW = {
+  bytes: 4,
+  of: Number,
+  read: (view, place) => view.getUint32(place, true),
+  write: (view, place, value) => view.setUint32(place, value, true),
+};
+
 // An instance of the module: its memory, and its functions, which throw Gone from the first trap on.
 class Inside {
   #trap = null;
@@ -122,6 +136,7 @@ class Inside {
   constructor(module) {
     const { memory, ...functions } = new WebAssembly.Instance(module).exports;
     this.memory = memory;
+    this.word = functions.address_bytes?.() === 4 ? NARROW : WIDE;
     this.calls = {};
     for (const [name, it] of Object.entries(functions)) if (typeof it === "function") this.calls[name] = this.#guarded(it);
     // (called all the time: guarded where they are called)
@@ -170,9 +185,14 @@ class Inside {
 
   // A place for this many bytes, for `back` to give back.
   room(size) {
-    const place = this.calls.room(BigInt(size));
-    if (place === 0n) throw new Refused(NO_MEMORY);
+    const place = this.calls.room(this.word.of(size));
+    if (!place) throw new Refused(NO_MEMORY);
     return place;
+  }
+
+  // The size that a call left at a place.
+  sizeAt(place) {
+    return this.word.read(this.view(), place);
   }
 
   back(place) {
@@ -195,7 +215,7 @@ class Inside {
     try {
       for (const it of datas.map(bytesOf)) {
         places.push(this.put(it));
-        args.push(places.at(-1), BigInt(it.length));
+        args.push(places.at(-1), this.word.of(it.length));
       }
       return call(...args);
     } finally {
@@ -212,9 +232,9 @@ class Inside {
     for (;;) {
       const out = this.room(room);
       try {
-        this.view().setBigUint64(Number(this.small), 0n, true);
-        const said = call(out, BigInt(room), this.small);
-        const needed = Number(this.view().getBigUint64(Number(this.small), true));
+        this.word.write(this.view(), this.small, 0);
+        const said = call(out, this.word.of(room), this.small);
+        const needed = this.sizeAt(this.small);
         if (said !== NO_ROOM || needed <= room) {
           check(said);
           return this.take(out, needed);
@@ -416,8 +436,8 @@ class Library {
   #structs(name, size, image, room) {
     const it = this.#fresh(), out = it.room(size * room), count = it.put(new Uint8Array(8));
     return it.with([image], (at, length) => {
-      const said = it.calls[name](at, length, out, BigInt(room), count);
-      const wanted = Number(it.view().getBigUint64(Number(count), true));
+      const said = it.calls[name](at, length, out, it.word.of(room), count);
+      const wanted = it.sizeAt(count);
       if (said === NO_ROOM) return this.#structs(name, size, image, wanted);
       if (said < 0) throw new Refused(said);
       const bytes = it.take(out, size * wanted);
@@ -455,7 +475,7 @@ class Library {
 
   sector(image, track, sector) {
     const it = this.#fresh(), out = it.room(SECTOR);
-    it.with([image], (at, size) => check(it.calls.y1541_image_sector(at, size, byte(track, "track"), byte(sector, "sector"), out, BigInt(SECTOR))));
+    it.with([image], (at, size) => check(it.calls.y1541_image_sector(at, size, byte(track, "track"), byte(sector, "sector"), out, it.word.of(SECTOR))));
     return it.take(out, SECTOR);
   }
 
@@ -464,15 +484,15 @@ class Library {
   }
 
   putAll(image, files) {
-    const it = this.#fresh(), list = it.room(FILE * files.length), put = it.put(new Uint8Array(8));
+    const it = this.#fresh(), list = it.room(4 * it.word.bytes * files.length), put = it.put(new Uint8Array(8));
     try {
       // (a file is the places and lengths of its text and its bytes, as `with` has them)
       return it.with([image, ...files.flatMap(({ text, data }) => [typed(text), data])], (at, size, ...fields) => {
-        fields.forEach((field, i) => it.view().setBigUint64(Number(list) + 8 * i, field, true));
-        return it.given(roomFor(image), (...out) => it.calls.y1541_image_put_all(at, size, list, BigInt(files.length), put, ...out));
+        fields.forEach((field, i) => it.word.write(it.view(), Number(list) + it.word.bytes * i, field));
+        return it.given(roomFor(image), (...out) => it.calls.y1541_image_put_all(at, size, list, it.word.of(files.length), put, ...out));
       });
     } catch (e) {
-      if (e.number >= STATUS) e.file = Number(it.view().getBigUint64(Number(put), true));
+      if (e.number >= STATUS) e.file = it.sizeAt(put);
       throw e;
     }
   }
@@ -553,17 +573,17 @@ class Library {
   convert(image) {
     const it = this.#fresh(), lost = it.put(new Uint8Array(16));
     const made = it.with([image], (at, size) => it.given(0, (...out) => it.calls.y1541_image_convert(at, size, lost, ...out)));
-    const s = it.take(lost, 16), view = new DataView(s.buffer);
-    return { image: made, lost: { unreadable: Number(view.getBigUint64(0, true)), tracks: s[8], errors: s[9] !== 0, id: s[10] !== 0 } };
+    const s = it.take(Number(lost) + it.word.bytes, 3);
+    return { image: made, lost: { unreadable: it.sizeAt(lost), tracks: s[0], errors: s[1] !== 0, id: s[2] !== 0 } };
   }
 
   play(image, changes, end, { device = 8, reaction = 20, pace = KERNAL } = {}) {
     const it = this.#fresh(), host = signalBytes(changes), count = it.put(new Uint8Array(8));
     const settings = [byte(device, "device"), byte(reaction, "reaction"), byte(pace, "pace")];
-    const countNow = () => Number(it.view().getBigUint64(Number(count), true));
+    const countNow = () => it.sizeAt(count);
     return it.with([image, host], (at, size, from) => {
       const played = (events, room) =>
-        it.given(roomFor(image), (...out) => it.calls.y1541_play(at, size, ...settings, from, BigInt(changes.length), BigInt(moment(end)), events, BigInt(room), count, ...out));
+        it.given(roomFor(image), (...out) => it.calls.y1541_play(at, size, ...settings, from, it.word.of(changes.length), BigInt(moment(end)), events, it.word.of(room), count, ...out));
       for (let room = 4096; ; room = countNow()) {
         const events = it.room(SIGNAL * room);
         try {

@@ -111,10 +111,11 @@ def packed(browser, left, d64):
     with zipfile.ZipFile(empty, "w") as out:
         out.writestr("a.txt", b"a")
         out.writestr("b.txt", b"b")
-    for name, content, inside in (("one.d64.gz", gzip.compress(data), "one.d64"), ("two.zip", stored.getvalue(), "hello.d64"), ("three.zip", deflated.getvalue(), "only")):
+    for name, content, inside in (("one.d64.gz", gzip.compress(data), "one.d64"), ("two.zip", stored.getvalue(), "hello.d64"), ("three.zip", deflated.getvalue(), "only.d64")):
         left.drop((name, content))
         browser.says(f"{inside} is open.")
-        browser.expect(browser.fetched(lambda: left.do("save")) == (inside, data), f"{name} is opened, and saved unpacked")
+        saved, content = browser.fetched(lambda: left.do("save"))
+        browser.expect((saved, content) == (inside, data), f"{name} is opened, and saved unpacked as {saved}")
     wrong = gzip.compress(data)
     wrong = wrong[:-8] + bytes([wrong[-8] ^ 1]) + wrong[-7:]
     bad = deflated.getvalue().replace(zlib.crc32(data).to_bytes(4, "little"), b"\1\2\3\4")
@@ -138,7 +139,8 @@ def terminal(browser, left, d64):
     wanted = [*(it.rstrip() for it in browser.kit("list", d64).decode().splitlines()), "00, OK,00,00"]
     browser.expect([it.rstrip() for it in left.tell('LOAD"$",8').splitlines()] == wanted, 'LOAD"$",8 lists the disk')
     browser.expect(left.tell('load"hello",8,1').splitlines()[-1] == "00, OK,00,00", "LOAD reads a program")
-    browser.expect(left.tell('load"none",8') == "62,FILE NOT FOUND,00,00", "LOAD of a missing file")
+    answer = left.tell('load"none",8')
+    browser.expect(answer == "62,FILE NOT FOUND,00,00", f"LOAD of a missing file: {answer}")
     browser.expect("OPEN 2" in left.tell("help"), "HELP")
 
 

@@ -2,7 +2,7 @@
 import base64
 import time
 
-MOST_BYTES = 60_000  # of the page, beside the module and its .mjs
+MOST_BYTES = 80_000  # of the page, beside the module and its .mjs
 MOST_PUT = 2  # seconds for 144 files
 MOST_SHOWN = 200  # milliseconds from a drop to the listing
 FORMS = (("D64, 35", "d64", []), ("D64, 40", "d64", ["--tracks", "40"]), ("G64", "g64", []))

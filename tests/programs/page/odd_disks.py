@@ -21,7 +21,7 @@ def changed(image, *places):
 def foreign(browser, side, d64, g64):
     """What disk1541 doesn't take as a 1541's disk gets a sentence, also if it reads its files, and the disk that was there stays."""
     side.open(d64)
-    odd = {"bad.d64": bytes(100), "empty.d64": b"", "packed.d64": b"\x1f\x8b" + bytes(5000), "tape.t64": b"C64 tape image file" + bytes(2000)}
+    odd = {"bad.d64": bytes(100), "empty.d64": b"", "tape.t64": b"C64 tape image file" + bytes(2000)}
     odd |= {"bytes.nib": b"MNIB-1541-RAW" + bytes(90), "cut.g64": g64.read_bytes()[:5000]}
     odd |= {f"{size}.d64": bytes(size) for size in (205312, 197376, 349696, 819200)}
     for name, data in odd.items():
@@ -30,6 +30,8 @@ def foreign(browser, side, d64, g64):
         side.drop((name, data)) if name[-2:] == "64" and name[-3] != "t" else side.give("open", browser.room / name)
         browser.until(lambda: browser.said().startswith(f"{name}: "), f"a sentence on {name}")
         browser.expect(status == 2 and "not an image of a 1541's disk" in browser.said() and side.names() == ["HELLO"], browser.said())
+    side.drop(("packed.d64", b"\x1f\x8b" + bytes(5000)))
+    browser.says("packed.d64 is compressed, but truncated or damaged.")
     side.drop(("large.d64", bytes(900000)))
     browser.says("large.d64 is larger than any disk.")
 

@@ -69,8 +69,10 @@ def sources_of(root, crate):
                     yield os.path.relpath(path, source), text.read()
 
 
-# What the C library's root has, too: its memory and its panic are Rust's, or those of rust/bare.rs.
+# The C library's root in this form has these, too: its memory and its panic are Rust's, or those of rust/bare.rs; rust/module.rs is for WebAssembly.
 BARE = """
+#[cfg(target_arch = "wasm32")]
+mod module;
 #[cfg(not(feature = "host"))]
 mod bare;
 #[cfg(feature = "host")]
@@ -81,8 +83,9 @@ extern crate std as _;
 def rust_files(root, crate):
     """The files of a crate as Rust: the path of each in src/, and its text."""
     if crate.is_for_c:
-        with open(f"{root}/rust/bare.rs", encoding="utf-8") as text:
-            yield "bare.rs", text.read()
+        for name in "bare.rs", "module.rs":
+            with open(f"{root}/rust/{name}", encoding="utf-8") as text:
+                yield name, text.read()
     for path, text in sources_of(root, crate):
         text = without_ghosts(text)
         if "no_mangle" in text:

@@ -19,6 +19,11 @@ directory = "{DEBIAN}"
 
 [net]
 offline = true
+
+"""
+# The stack is part of a drive's memory in WebAssembly: the module that is made from the proof has the same.
+MODULE = """[target.wasm32-unknown-unknown]
+rustflags = ["-Clink-arg=-zstack-size=163840"]
 """
 SETTINGS = """
 # Names that only clauses and proofs use.
@@ -103,13 +108,9 @@ def has_debians():
     return all(glob.glob(f"{DEBIAN}/{name}-[0-9]*") for name in OTHERS)
 
 
-def write_source(out, is_debian):
-    """Where cargo gets the crates of others."""
-    path = f"{out}/.cargo/config.toml"
-    if is_debian:
-        write(path, OFFLINE)
-    elif os.path.exists(path):
-        os.remove(path)
+def write_settings(out, is_debian):
+    """Where cargo gets the crates of others, and how it links the module for WebAssembly."""
+    write(f"{out}/.cargo/config.toml", (OFFLINE if is_debian else "") + MODULE)
 
 
 def make(root, out, only, is_debian):
@@ -122,7 +123,7 @@ def make(root, out, only, is_debian):
     members = [*(f"crates/{it.name}" for it in crates), *(f"rust/{it}" for it in own)]
     listed = "\n".join(f'    "{it}",' for it in members)
     write(f"{out}/Cargo.toml", f'[workspace]\nresolver = "2"\nmembers = [\n{listed}\n]\n{SETTINGS}')
-    write_source(out, is_debian)
+    write_settings(out, is_debian)
     for folder in glob.glob(f"{out}/crates/*"):
         if os.path.basename(folder) not in {it.name for it in crates}:
             shutil.rmtree(folder)
