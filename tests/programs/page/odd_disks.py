@@ -186,7 +186,7 @@ def refused_names(browser, side, d64):
     side.open(d64)
     side.key(Keys.HOME, Keys.F2)
     said = [browser.answer(it) for it in ("", "a" * 17, "é", "hello", "ok")]
-    wanted = ["needs a name", "at most 16", "on no key", "already"]
+    wanted = ["needs a name", "at most 16", "no key of a C64", "exists"]
     browser.expect(all(a in b for a, b in zip(wanted, said[1:])), f"why a name is asked for again: {said[1:]}")
     browser.says("Renamed: OK.")
     side.do("undo")
