@@ -156,6 +156,7 @@ def sizes(browser, left, right, d64):
     browser.expect(abs(box / line - round(box / line)) < 0.02, f"the last line of a list is whole: {box} of {line}")
     metrics = {"width": 390, "height": 844, "deviceScaleFactor": 1, "mobile": False}
     browser.driver.execute_cdp_cmd("Emulation.setDeviceMetricsOverride", metrics)
+    browser.expect(browser.run("const it = document.documentElement; return it.scrollHeight <= it.clientHeight"), "only one part of the page scrolls")
     browser.expect(not browser.run(SMALL), f"on a phone all that is pressed is 44 pixels high: {browser.run(SMALL)}")
     for place in 0, 200, 600, 100000:
         browser.run("document.getElementById('rest').scrollTo(0, arguments[0])", place)
