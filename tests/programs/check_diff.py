@@ -12,7 +12,7 @@ PAIRS = int(sys.argv[2]) if len(sys.argv) > 2 else 120
 KINDS = ("del", "seq", "prg", "usr", "rel")
 # The errors that error bytes mean (the D64 format's table); any other byte is that of a good sector.
 ERRORS = {2: 20, 3: 21, 4: 22, 5: 23, 6: 24, 9: 27, 11: 29}
-UNKNOWN = "unknown, as track 18, sector 0 can't be read"
+UNKNOWN = "unknown, because track 18, sector 0 is unreadable"
 wrong = 0
 
 
@@ -57,7 +57,7 @@ def cause(trouble):
     if error == 66:
         return f"a link leads to track {track}, sector {sector}, which the disk doesn't have (error 66)"
     if error == 71:
-        return f"a link comes back to track {track}, sector {sector} (error 71)"
+        return f"a link leads back to track {track}, sector {sector} (error 71)"
     return f"track {track}, sector {sector} can't be read (error {error})"
 
 

@@ -129,7 +129,7 @@ if command -v rt > installed.txt; then
     fi
     if command -v groff > /dev/null; then
         is "the page for man has no fault" test -z "$(groff -man -Tutf8 -ww prefix/share/man/man1/disk1541.1 2>&1 > page.txt)"
-        is "and says what each command does" grep -q "Take a file out" page.txt
+        is "and says what each command does" grep -q "Extract a file" page.txt
     fi
     ! command -v zsh > /dev/null || is "completions for zsh" zsh -n prefix/share/zsh/site-functions/_disk1541
     ! command -v fish > /dev/null || is "completions for fish" fish -n prefix/share/fish/vendor_completions.d/disk1541.fish

@@ -251,7 +251,7 @@ def compare(disk, name, call, room):
     is_so(disk.name, f"{name}: status", ran[0] == left[0], (ran, left))
     is_so(disk.name, f"{name}: as on what is left", new == with_odd(disk, rest), ran)
     if "*" in call:
-        told = sum(line.endswith("is an odd entry, and stays as it is") for line in ran[2].splitlines())
+        told = sum(line.endswith("is an odd entry, and was not changed") for line in ran[2].splitlines())
         is_so(disk.name, f"{name}: each odd entry that it means is told", told == (len(disk.odd) if ran[0] == 0 else 0), ran)
     if ran[0] == 0:
         is_so(disk.name, f"{name}: odd entries", not disk.is_left_alone(new), disk.is_left_alone(new))
@@ -277,7 +277,7 @@ def told(disk):
     status, out, _ = run("check", disk.name)
     is_so(disk.name, "check", status == 1 and f"; sound but for {len(disk.odd)} odd {noun}\n" in out, out)
     status, out, _ = run("check", "--all", disk.name)
-    is_so(disk.name, "check --all", status == 1 and f"sound but for {len(disk.odd)} odd {noun}: all else can be changed" in out, out)
+    is_so(disk.name, "check --all", status == 1 and f"sound but for {len(disk.odd)} odd {noun}: everything else can be changed" in out, out)
     is_so(disk.name, "info", f"odd entries  {len(disk.odd)}\n" in run("info", disk.name)[1])
     slots = ",".join(map(str, sorted(disk.odd)))
     is_so(disk.name, "JSON", f'"odd":[{slots}]' in run("info", "--json", disk.name)[1], slots)

@@ -210,7 +210,7 @@ def try_disk(room, rng, number):
         is_so(call, "a dry run leaves the image as it was", read(path) == before)
         ran = run(*call)
         if new is None:
-            is_so(call, MOVES[1], ran[0] == 1 and "too few blocks are free" in ran[2] and read(path) == before and dry[0] == 1, ran)
+            is_so(call, MOVES[1], ran[0] == 1 and "too few free blocks" in ran[2] and read(path) == before and dry[0] == 1, ran)
             continue
         is_so(call, "a dry run says where the blocks will lie", dry == (0, told, ""), dry)
         is_so(call, MOVES[0], ran == (0, "", "") and plain(path) == new, ran)
@@ -242,7 +242,7 @@ def try_refusals(room):
     run("put", path, f"{room}/rel.bin", "--name", "REL", "--type", "rel", "--record", "50")
     before = read(path)
     for call, status, sentence in (
-        (("A", "--track", "18"), 64, "track 18 is the directory's"),
+        (("A", "--track", "18"), 64, "track 18 holds the directory"),
         (("A", "--track", "0"), 64, "no disk has such a sector"),
         (("A", "--track", "41"), 64, "no disk has such a sector"),
         (("A", "--track", "31", "--sector", "17"), 64, "no disk has such a sector"),
@@ -252,7 +252,7 @@ def try_refusals(room):
         (("A", "--interleave", "x"), 64, "an interleave is 1 to 20, not x"),
         (("NONE",), 1, "no file of the disk has the name"),
         (("REL",), 1, "REL is a relative file"),
-        (("A", "--track", "36"), 1, "too few blocks are free"),
+        (("A", "--track", "36"), 1, "too few free blocks"),
         ((), 64, ""),
     ):
         ran = run("place", path, *call)
@@ -262,7 +262,7 @@ def try_refusals(room):
     set_free(broken, broken[at + 1], broken[at + 2], True)
     write(path, broken)
     ran = run("place", path, "A")
-    is_so("a block in use is marked free", "a disk that isn't sound is refused", ran[0] == 1 and "isn't sound" in ran[2] and read(path) == broken, ran)
+    is_so("a block in use is marked free", "a disk that isn't sound is refused", ran[0] == 1 and "the disk is not sound" in ran[2] and read(path) == broken, ran)
     broken = bytearray(before)
     broken[at] = 0x02
     write(path, broken)
@@ -350,7 +350,7 @@ def try_recipes(room):
         ("interleave = 21", 64, "`interleave` is 1 to 20"),
         ("track = 18", 64, "but not 18"),
         ("track = 35\nsector = 17", 64, "`sector` one of that track"),
-        ("track = 35\ninterleave = 1", 1, "too few blocks are free"),
+        ("track = 35\ninterleave = 1", 1, "too few free blocks"),
         ('type = "rel"\nrecord = 30\ntrack = 2', 1, "is a relative file"),
     ):
         write(f"{room}/r.toml", f'title = "X"\nid = "64"\n[[entry]]\nfile = "full.prg"\n{line}\n'.encode())

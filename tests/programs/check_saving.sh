@@ -47,7 +47,7 @@ mkfifo pipe
 { sleep 1; cp other.d64 host.d64; printf late; } > pipe
 wait $!
 is "an image that was changed meanwhile: status 3" test $? = 3
-is "is told" test "$(cat err.txt)" = "disk1541: host.d64 was changed by something else meanwhile: nothing is saved"
+is "is told" test "$(cat err.txt)" = "disk1541: host.d64: another program changed it meanwhile, so nothing was saved"
 is "and stays as the other program left it" cmp -s host.d64 other.d64
 is "and nothing is left beside" nothing_is_left
 k=0

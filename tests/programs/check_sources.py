@@ -89,7 +89,7 @@ def is_looked_at(what, file, source):
     is_so(f"{what}: info as a table", (row["format"], row["tracks"], row["title"], row["sound"]) == (source.format, str(source.tracks or ""), "OTHER KIND" if label else "", ""), row)
     is_so(f"{what}: hash", run("hash", file) == (0, f"{model.sum_of(source)}  {file}\n".encode(), ""))
     first = source.files[0]
-    line = f'{file}: "{first.name.decode()}" {first.type}, {first.blocks} blocks\n'
+    line = f'{file}: "{first.name.decode()}" {first.type}, {first.blocks} block{"" if first.blocks == 1 else "s"}\n'
     is_so(f"{what}: find", run("find", first.name.decode(), file) == (0, line.encode(), ""), run("find", first.name.decode(), file))
     is_so(f"{what}: find nothing", run("find", "NONE", file) == (1, b"", "disk1541: no file matches\n"))
 
@@ -204,7 +204,7 @@ def dry_runs(rng, room):
     is_so("of a pattern", ran == (0, b'dry.d81: "TWO" seq, 2 blocks\n1 file would be transferred\n', ""), ran)
     open("dry.d81", "wb").write(disk_of(SHAPES["d81"], [files[0], (b"BIG", "prg", False, data_of(rng, 200000)), files[1]]))
     status, out, said = run("transfer", "dry.d81", "dry.d64", "--dry-run")
-    wanted = f"{lines}2 of 3 files could be transferred, and so none would be\n"
+    wanted = f"{lines}2 of 3 files could be transferred, so none would be\n"
     is_so("a dry run with a file that doesn't fit", (status, out) == (1, wanted.encode()) and '"BIG"' in said and "status 72" in said and open("dry.d64", "rb").read() == saved, f"{status} {out} {said}")
 
 
@@ -232,7 +232,7 @@ def converted(rng, room):
         ran = run("convert", file, "fresh.d64", "--replace")
         is_so(f"{file}: convert", ran == (0, b"", "") and run("check", "fresh.d64")[0] == 0 and b"title        FRESH\nid           64\n" in run("info", "fresh.d64")[1], ran)
         is_so(f"{file}: with the same files", all(run("get", "fresh.d64", "--exact", n.decode())[1] == d for n, _, _, d in these))
-    is_refused("not over an image that is there", run("convert", "tape.t64", "fresh.d64"), 3, ["is there already"])
+    is_refused("not over an image that is there", run("convert", "tape.t64", "fresh.d64"), 3, ["already exists"])
     lost(rng, files)
 
 
@@ -260,7 +260,7 @@ def lost(rng, files):
     at = 256 * model.D81.number[(40, 3)]
     broken[at : at + 2] = bytes((40, 3))
     open("from.img", "wb").write(broken)
-    is_refused("a directory that comes back", run("convert", "from.img", "lost.d64"), 1, ["comes back to track 40, sector 3"], "lost.d64")
+    is_refused("a directory that comes back", run("convert", "from.img", "lost.d64"), 1, ["leads back to track 40, sector 3"], "lost.d64")
 
 
 def in_folders(room, images):
@@ -276,7 +276,7 @@ def in_folders(room, images):
     is_so("find -r", ran[0] == 0 and ran[1].decode().endswith("6 images: 5 with a match, 1 without, 0 no images, 5 of other kinds, and 1 other file\n"), ran)
     is_so("hash -r", [it.split()[1] for it in run("hash", "-r", "many")[1].decode().splitlines()] == ["many/a.d71", "many/c.t64", "many/e.d64", "many/f.d64", "many/more/b.D81", "many/more/d.lnx"])
     ran = run("check", "-r", "many")
-    is_so("check -r has none but a 1541's", ran[0] == 4 and ran[1].decode().endswith("2 images: 1 sound, 0 not, 1 no images, and 5 other files\n"), ran)
+    is_so("check -r has none but a 1541's", ran[0] == 4 and ran[1].decode().endswith("2 images: 1 sound, 0 not sound, 1 not images, and 5 other files\n"), ran)
 
 
 # --- damaged ones

@@ -246,9 +246,13 @@ pub fn pair<'a>(
     words: &ArgMatches<'a>,
     charset: Charset,
 ) -> Result<(Pair<'a>, Choice<'a>), Failure> {
-    let (old, new) = two_names(words)?;
-    let pair = Pair { old, new, charset };
-    Ok((pair, choice(words, old, charset)))
+    match two_names(words) {
+        Ok((old, new)) => {
+            let pair = Pair { old, new, charset };
+            Ok((pair, choice(words, old, charset)))
+        }
+        Err(failure) => Err(failure),
+    }
 }
 
 /// The image that BUILD makes.

@@ -83,7 +83,7 @@ fn change_among<'a>(
         Err(failure) => {
             outcome.refused = outcome.refused.wrapping_add(1);
             tell_other(rt, image, &failure, is_json)?;
-            let _ = eprintln!(rt; "disk1541: {image} stays as it is");
+            let _ = eprintln!(rt; "disk1541: {image} was not changed");
         }
     }
     Ok(())

@@ -29,7 +29,7 @@ impl Display for Cause {
             ),
             ENDLESS_CHAIN => write!(
                 f,
-                "a link comes back to track {track}, sector {sector} (error {code})"
+                "a link leads back to track {track}, sector {sector} (error {code})"
             ),
             _ => write!(
                 f,

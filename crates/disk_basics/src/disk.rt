@@ -1,6 +1,8 @@
 //! The disk of an image, with calls that promise nothing.
+use cbm_bam::{SectorSet, geometry};
 use cbm_image::AnyDisk;
-use cbm_medium::Address;
+use cbm_medium::{Address, Medium};
+use cbm_shell::parts::{is_free_at, use_chain};
 use cbm_shell::{
     DiskFlaw, Listed, Salvaged, ShellFault, entries_of, error_at, flaws_of, listed_of, lost_of,
     open_disk, read_file, salvage, users_of,
@@ -60,6 +62,37 @@ impl Disk {
     /// The blocks that nothing uses, and that aren't free. The one error is `Memory`.
     pub fn lost(&self, alloc: Global) -> Result<Vec<Address>, ShellFault> {
         lost_of(alloc, &self.volume)
+    }
+
+    /// The bytes of a sector, or the code of what stands in their place; None where the disk has no such track.
+    pub fn sector(&self, at: Address) -> Option<Result<[u8; 256], u8>> {
+        let medium = self.volume.medium();
+        if at.track() > medium.tracks() {
+            return None;
+        }
+        match medium.read(at) {
+            Ok(bytes) => Some(Ok(bytes)),
+            Err(fault) => Some(Err(fault.code)),
+        }
+    }
+
+    /// Whether the BAM has a sector as taken; no sector where 18/0 can't be read or has no room for it.
+    pub fn is_taken(&self, at: Address) -> bool {
+        if !matches!(self.sector(Address::of_map()), Some(Ok(_))) {
+            return false;
+        }
+        let medium = self.volume.medium();
+        at.track() <= medium.tracks() && !is_free_at(medium, geometry(medium), at)
+    }
+
+    /// Adds the sectors of the chain of an entry's file, and those of its side sectors, up to where they end or break off.
+    pub fn use_file(&self, entry: &Entry, used: &mut SectorSet) {
+        let medium = self.volume.medium();
+        let geometry = geometry(medium);
+        use_chain(medium, geometry, entry.first_block(), used);
+        if entry.is_relative() {
+            use_chain(medium, geometry, entry.first_side(), used);
+        }
     }
 
     /// The code of what stands in place of a sector's bytes; None where it reads.

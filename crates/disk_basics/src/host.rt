@@ -1,15 +1,17 @@
 //! Files of the host, standard input and standard output.
 use crate::failure::{Failure, in_memory};
+use crate::packed::{is_packed, unpacked_image};
 use crate::what::What;
-use cbm_shell::foreign_of;
-use disk_facts::{WideMap, wide_map};
+use crate::word_fault::WordFault;
+use disk_facts::{WideMap, not_image, wide_map};
 use host_files::{GREATEST_IMAGE, Leftovers, Sync, read_whole};
+use host_locks::is_same;
 use std::alloc::Global;
 use std::io::{self, Write};
 use std::rt::Runtime;
 
 /// The program's name, which its files beside have.
-const PROGRAM: &str = "disk1541";
+pub const PROGRAM: &str = "disk1541";
 
 /// The word that means standard input or output.
 const STANDARD: &str = "-";
@@ -48,23 +50,53 @@ fn read<R: Runtime + AllocGlobal>(rt: &R, name: &str, most: u64) -> Result<Vec<u
     }
 }
 
-/// Reads a file that may be an image or an archive of another kind. Errors: `Read`; `TooLong`, for more bytes than an image has.
-pub fn read_any<R: Runtime + AllocGlobal>(rt: &R, name: &str) -> Result<Vec<u8>, Failure> {
-    read(rt, name, GREATEST_IMAGE)
+/// A file that may be packed, or has at most as many bytes as an image.
+fn unpacked_or_short(alloc: Global, name: &str, bytes: Vec<u8>) -> Result<Vec<u8>, Failure> {
+    if is_packed(bytes.as_slice()) {
+        return unpacked_image(alloc, name, bytes.as_slice());
+    }
+    if bytes.len() as u64 > GREATEST_IMAGE {
+        return Err(Failure::named(alloc, What::TooLong(GREATEST_IMAGE), name));
+    }
+    Ok(bytes)
 }
 
-/// Reads an image. A file that by its first bytes or its size is none of a 1541's disk is refused. Errors: `Read`;
+/// Reads a file that may be an image or an archive of another kind, and unpacks it, if gzip or ZIP packed it. Errors: `Read`; `TooLong`, for
+/// more bytes than an image has; `Foreign`, where it isn't unpacked; `NoMemory`.
+pub fn read_any<R: Runtime + AllocGlobal>(rt: &R, name: &str) -> Result<Vec<u8>, Failure> {
+    let shown = if name == STANDARD {
+        "standard input"
+    } else {
+        name
+    };
+    match read(rt, name, GREATEST_FILE) {
+        Ok(bytes) => unpacked_or_short(rt.alloc(), shown, bytes),
+        Err(failure) if matches!(failure.what, What::TooLong(_)) => {
+            Err(Failure::named(rt.alloc(), What::TooLong(GREATEST_IMAGE), shown))
+        }
+        Err(failure) => Err(failure),
+    }
+}
+
+/// Reads an image that is only looked at, and unpacks it, if it is packed. Errors: those of `read_any`; `Foreign`.
+pub fn read_to_look<R: Runtime + AllocGlobal>(rt: &R, name: &str) -> Result<Vec<u8>, Failure> {
+    let bytes = read_any(rt, name)?;
+    require_ours(rt.alloc(), name, bytes.as_slice())?;
+    Ok(bytes)
+}
+
+/// Reads an image that is changed. A file that by its first bytes or its size is none of a 1541's disk is refused. Errors: `Read`;
 /// `TooLong`, for more bytes than an image has; `Foreign`.
 pub fn read_image<R: Runtime + AllocGlobal>(rt: &R, name: &str) -> Result<Vec<u8>, Failure> {
-    let bytes = read_any(rt, name)?;
+    let bytes = read(rt, name, GREATEST_IMAGE)?;
     require_ours(rt.alloc(), name, bytes.as_slice())?;
     Ok(bytes)
 }
 
 /// Refuses a file that by its first bytes or its size is no image of a 1541's disk. The one error is `Foreign`.
 pub fn require_ours(alloc: Global, name: &str, bytes: &[u8]) -> Result<(), Failure> {
-    match foreign_of(bytes) {
-        Some(foreign) => Err(Failure::named(alloc, What::Foreign(foreign, bytes.len()), name)),
+    match not_image(bytes) {
+        Some(why) => Err(Failure::named(alloc, What::Foreign(why, bytes.len()), name)),
         None => Ok(()),
     }
 }
@@ -183,6 +215,28 @@ pub fn require_new<R: Runtime + AllocGlobal>(
         return Err(Failure::named(rt.alloc(), What::Exists, name));
     }
     Ok(())
+}
+
+/// Whether two names are those of one file.
+fn is_one_file<R: Runtime + AllocGlobal>(rt: &R, one: &str, other: &str) -> io::Result<bool> {
+    let one = host_files::path_of(rt.alloc(), one)?;
+    let other = host_files::path_of(rt.alloc(), other)?;
+    Ok(is_same(rt, one.as_str(), other.as_str()))
+}
+
+/// Refuses to write over the image that is read. The one error is `Word`.
+pub fn require_apart<R: Runtime + AllocGlobal>(
+    rt: &R,
+    image: &str,
+    output: &str,
+) -> Result<(), Failure> {
+    if is_standard(image) || is_standard(output) {
+        return Ok(());
+    }
+    match is_one_file(rt, image, output) {
+        Ok(true) => Err(Failure::named(rt.alloc(), What::Word(WordFault::Itself), output)),
+        _ => Ok(()),
+    }
 }
 
 /// Whether something of that name is there.

@@ -1,6 +1,7 @@
 //! What the commands of `disk1541` stand on: failures in words, files of this computer, names, and calls that promise nothing.
 #![tactic(auto)]
 
+pub mod border;
 mod break_off;
 pub mod calls;
 pub mod changing;
@@ -13,10 +14,12 @@ pub mod host;
 mod kinds;
 mod names;
 pub mod odd;
+mod packed;
 pub mod placing;
 mod refusal;
 pub mod rests;
 pub mod spare;
+pub mod strays;
 pub mod swaps;
 mod what;
 mod word_fault;

@@ -1,8 +1,8 @@
 //! Why a disk refused a command, in words.
 use crate::break_off::Cause;
 use cbm_channel::{Code, Status};
+use cbm_shell::ShellFault;
 use cbm_shell::texts::words;
-use cbm_shell::{Foreign, ShellFault};
 use cbm_volume::{Trouble, Unsound};
 use std::io;
 
@@ -10,15 +10,15 @@ use std::io;
 fn advice(code: Code) -> &'static str {
     match code {
         Code::FileNotFound => "no file on the disk has that name",
-        Code::FileExists => "a file of that name is there: take another name, or --replace",
+        Code::FileExists => "a file of that name already exists: use another name, or --replace",
         Code::WrongType => "a file of that name has another type",
         Code::DiskFull => "the disk is full",
-        Code::NoName => "a name is missing",
-        Code::WildName => "`*` and `?` can't stand in a new name",
+        Code::NoName => "the name is missing",
+        Code::WildName => "a new name can't contain `*` or `?`",
         Code::Syntax => "that name can't be used",
         Code::LongText => "the names are too long",
         Code::WriteProtected =>
-            "it is locked, or an odd entry, which stays as it is: `delete` takes that out",
+            "it is locked, or it is an odd entry, which only `delete` can change",
         Code::WriteFileOpen => "the file was never closed: `validate` removes it",
         _ => "the drive refused it",
     }
@@ -35,9 +35,9 @@ fn tell_status(rt: &impl Eprint, name: &str, status: Status) -> io::Result<()> {
 fn tell_unsound(rt: &impl Eprint, name: &str, unsound: Unsound) -> io::Result<()> {
     let track = unsound.track;
     let sector = unsound.sector;
-    let what = std::str::from_utf8(words(unsound.number)).unwrap_or("it isn't sound");
+    let what = std::str::from_utf8(words(unsound.number)).unwrap_or("it is not sound");
     eprintln!(rt;
-        "disk1541: {name} isn't sound, and so isn't changed: track {track}, sector {sector}: {what}; `disk1541 check --all {name}` says what mends it"
+        "disk1541: {name}: not changed, because the disk is not sound: track {track}, sector {sector}: {what}. `disk1541 check --all {name}` shows how to repair it"
     )
 }
 
@@ -51,9 +51,9 @@ fn tell_trouble(rt: &impl Eprint, name: &str, trouble: Trouble) -> io::Result<()
 fn way_out(trouble: Trouble) -> &'static str {
     match trouble.code {
         20..=29 =>
-            "`disk1541 check --all` names the files at fault: `get --salvage` takes out what can be read of one, then `delete --force` removes it; where it names none, `errors --drop --lossy` drops the error bytes of a D64, and `convert --lossy` makes a D64 of a G64",
+            "`disk1541 check --all` names the damaged files: `get --salvage` extracts the readable part of one, then `delete --force` removes it. If it names none, `errors --drop --lossy` drops the error bytes of a D64, and `convert --lossy` makes a D64 of a G64",
         _ =>
-            "`disk1541 check --all` names the files at fault: `get --salvage` takes out what can be read of one, then `delete --force` removes it; where it names none, the directory is at fault: `get-all --salvage` takes the files out",
+            "`disk1541 check --all` names the damaged files: `get --salvage` extracts the readable part of one, then `delete --force` removes it. If it names none, the directory is damaged: `get-all --salvage` extracts the files",
     }
 }
 
@@ -61,19 +61,19 @@ fn way_out(trouble: Trouble) -> &'static str {
 pub fn tell_unmendable(rt: &impl Eprint, name: &str, trouble: Trouble) -> io::Result<()> {
     let cause = Cause(trouble);
     let way = way_out(trouble);
-    eprintln!(rt; "disk1541: {name} can't be put in order: {cause}; {way}")
+    eprintln!(rt; "disk1541: {name} can't be validated: {cause}. {way}")
 }
 
 /// What is wrong with a G64, by the number of its fault: a file that isn't known to be foreign is refused as a D64 never.
 pub fn image_fault_text(number: u8) -> &'static str {
     match number {
         2 => "its version isn't 0",
-        3 => "its tables haven't 69 to 84 entries",
-        4 => "its greatest track has more than 7928 bytes",
-        5 => "it is cut off, or a track lies outside of it",
-        6 => "a track has no byte, or more than the greatest",
+        3 => "it must have 69 to 84 track entries",
+        4 => "its greatest track size is above 7928 bytes",
+        5 => "it is truncated, or a track lies outside the file",
+        6 => "a track is empty, or longer than the greatest track size",
         8 => "two tracks share bytes",
-        _ => "it is no image of a disk",
+        _ => "it is not a disk image",
     }
 }
 
@@ -85,27 +85,9 @@ fn tell_image(rt: &impl Eprint, name: &str, number: u8) -> io::Result<()> {
     )
 }
 
-/// What a file is that is no image of a 1541's disk, and what to do.
-pub fn foreign_text(foreign: Foreign) -> &'static str {
-    match foreign {
-        Foreign::T64 => "a T64, with files of a tape",
-        Foreign::P64 => "a P64, with the pulses of a disk: make a G64 of it",
-        Foreign::Nib => "a NIB, with the bytes of tracks: make a G64 of it",
-        Foreign::Gzip => "packed by gzip: unpack it first",
-        Foreign::Zip => "a ZIP archive: unpack it first",
-        Foreign::D71 => "a D71, the disk of a 1571",
-        Foreign::D81 => "a D81, the disk of a 1581",
-        Foreign::Longest => "a D64 of 42 tracks: 35 and 40 are taken",
-        Foreign::LongWithErrors => "a D64 of 40 tracks with error bytes: with them 35 are taken",
-        Foreign::Short => "shorter than any image of a disk: it was cut off, or is none",
-        Foreign::Unknown => "no image of a disk: no G64, nor of a D64's size",
-    }
-}
-
 /// Prints what a file is that is no image of a 1541's disk.
-pub fn tell_foreign(rt: &impl Eprint, name: &str, foreign: Foreign, size: usize) -> io::Result<()> {
-    let text = foreign_text(foreign);
-    eprintln!(rt; "disk1541: {name} is {text} ({size} bytes)")
+pub fn tell_foreign(rt: &impl Eprint, name: &str, words: &str, size: usize) -> io::Result<()> {
+    eprintln!(rt; "disk1541: {name} is {words} ({size} bytes)")
 }
 
 /// Prints why a disk refused a command.

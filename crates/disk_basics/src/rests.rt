@@ -103,5 +103,5 @@ pub fn add_rests(text: &mut String, start: &str, files: &[Named]) -> Result<(), 
     } else {
         "\", whose chains are broken"
     })?;
-    text.push_str(": take out what can be read first, by `get --salvage`\n")
+    text.push_str(": extract the readable part first, with `get --salvage`\n")
 }

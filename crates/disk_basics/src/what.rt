@@ -1,9 +1,11 @@
 //! What went wrong, in words, and the exit status.
 use crate::break_off::BreakOff;
-use crate::refusal::{foreign_text, image_fault_text, tell_foreign, tell_refusal, tell_unmendable};
+use crate::refusal::{image_fault_text, tell_foreign, tell_refusal, tell_unmendable};
+use crate::strays::Unlinked;
 use crate::word_fault::WordFault;
-use cbm_shell::{Foreign, ShellFault};
+use cbm_shell::ShellFault;
 use cbm_volume::{Trouble, Unsound};
+use disk_facts::NotImage;
 use std::io;
 
 /// What went wrong. A name is that of the failure's image, file or word.
@@ -15,8 +17,8 @@ pub enum What {
     TooLong(u64),
     /// A file of this computer can't be written.
     Write(io::ErrorKind),
-    /// A file of this many bytes is no image of a 1541's disk.
-    Foreign(Foreign, usize),
+    /// A file of this many bytes is not an image of a 1541's disk, and why.
+    Foreign(NotImage, usize),
     /// The disk, or the drive, refused it.
     Disk(ShellFault),
     /// The disk isn't sound, as a check says.
@@ -47,6 +49,12 @@ pub enum What {
     Untitled,
     /// An image's files are shown or taken out up to where its directory breaks off.
     Broken(BreakOff),
+    /// An image's files are shown or taken out, and there are others to which no link of the directory leads.
+    Unlinked(Unlinked),
+    /// Putting the disk in order would give back blocks of files to whose entries no link of the directory leads.
+    UnlinkedOrder,
+    /// A change would take blocks of such files.
+    UnlinkedChange,
     /// A disk has another DOS's map of tracks 36 to 40, which the change wouldn't follow.
     OtherMap,
     /// A G64 has no such track.
@@ -106,7 +114,7 @@ fn host_text(kind: io::ErrorKind) -> Option<&'static str> {
     match kind {
         io::ErrorKind::NotFound => Some("no such file or folder"),
         io::ErrorKind::InvalidFilename => Some("the name isn't UTF-8, or is too long"),
-        io::ErrorKind::FilesystemLoop => Some("links that lead in a circle"),
+        io::ErrorKind::FilesystemLoop => Some("symbolic links that form a loop"),
         io::ErrorKind::Uncategorized => Some("the system refused it"),
         _ => None,
     }
@@ -147,10 +155,10 @@ impl What {
             What::Read(io::ErrorKind::PermissionDenied) => "permission denied",
             What::Read(io::ErrorKind::IsADirectory) => "a folder",
             What::Read(kind) => host_text(kind).unwrap_or("it can't be read"),
-            What::TooLong(..) => "it has more bytes than any image",
-            What::Foreign(foreign, _) => foreign_text(foreign),
+            What::TooLong(..) => "it is larger than any image",
+            What::Foreign(why, _) => why.words(),
             What::Disk(ShellFault::Image(number)) => image_fault_text(number),
-            _ => "it can't be looked at",
+            _ => "it can't be opened",
         }
     }
 
@@ -160,52 +168,59 @@ impl What {
             What::Read(kind) => tell_host(rt, "read", name, kind),
             What::Write(kind) => tell_host(rt, "write", name, kind),
             What::TooLong(most) => {
-                eprintln!(rt;
-                    "disk1541: {name} has more than {most} bytes: too many to be read here"
-                )
+                eprintln!(rt; "disk1541: {name} is too large: more than {most} bytes")
             }
-            What::Foreign(foreign, size) => tell_foreign(rt, name, foreign, size),
+            What::Foreign(why, size) => tell_foreign(rt, name, why.words(), size),
             What::Disk(fault) => tell_refusal(rt, name, fault),
             What::Word(fault) => fault.tell(rt, name),
             What::Unsound(_) | What::Several | What::Told => Ok(()),
             What::Ended(_) => Ok(()),
             What::Untitled => {
                 eprintln!(rt;
-                    "disk1541: {name}: track 18, sector 0 can't be read: the title, the id and how many blocks are free aren't known"
+                    "disk1541: {name}: track 18, sector 0 is unreadable, so title, id and free blocks are unknown"
                 )
             }
             What::Broken(end) => eprintln!(rt; "disk1541: {name}: {end}"),
+            What::Unlinked(unlinked) => eprintln!(rt; "disk1541: {name}: {unlinked}"),
+            What::UnlinkedOrder => {
+                eprintln!(rt;
+                    "disk1541: {name} was not validated: sectors of track 18 look like directory, but no link reaches them, and the blocks of their files would be freed. `get-all --salvage` extracts the files; --force frees the blocks"
+                )
+            }
+            What::UnlinkedChange => {
+                eprintln!(rt;
+                    "disk1541: {name}: not changed: sectors of track 18 look like directory, but no link reaches them, and blocks of their files would be overwritten. `get-all --salvage` extracts the files"
+                )
+            }
             What::OtherMap => {
                 eprintln!(rt;
-                    "disk1541: {name} isn't changed: its map of tracks 36 to 40 is that of Dolphin DOS, and the drive would write another one; `describe` and `build` make a disk with the drive's map of its files"
+                    "disk1541: {name}: not changed, because it has Dolphin DOS's map of tracks 36 to 40, and the drive would write a second one. `describe` and `build` make a disk of its files with the drive's map"
                 )
             }
             What::NoTrack => eprintln!(rt; "disk1541: {name} has no such track"),
             What::NoCircles => {
-                eprintln!(rt;
-                    "disk1541: {name} is a D64, which has the bytes of sectors, and no sync marks: `sector` shows them"
-                )
+                eprintln!(rt; "disk1541: {name} is a D64, which has no track data: use `sector`")
             }
             What::NoErrorBytes => eprintln!(rt; "disk1541: {name} has no error bytes"),
-            What::HasErrorBytes => { eprintln!(rt; "disk1541: {name} has error bytes already") }
+            What::HasErrorBytes => { eprintln!(rt; "disk1541: {name} already has error bytes") }
             What::NoErrorRoom => {
                 eprintln!(rt;
-                    "disk1541: {name} can't have error bytes: a D64 of 35 tracks has them, and no other image here"
+                    "disk1541: {name} can't have error bytes: only a D64 of 35 tracks can"
                 )
             }
             What::NotGeos => {
                 eprintln!(rt;
-                    "disk1541: {name} is no file of GEOS, and so no CVT is made of it: leave --cvt out"
+                    "disk1541: {name} is not a GEOS file, so it has no CVT form: omit --cvt"
                 )
             }
             What::GeosElsewhere => {
                 eprintln!(rt;
-                    "disk1541: {name}: a CVT is made of the files of a D64 or a G64 alone"
+                    "disk1541: {name}: only files of a D64 or a G64 can be written as CVT"
                 )
             }
             What::RelativeType => {
                 eprintln!(rt;
-                    "disk1541: {name} is a relative file, and stays one: its records are found by side sectors, which no other type has"
+                    "disk1541: {name} is a relative file, and its type can't change: only relative files have side sectors"
                 )
             }
             What::NoFile => {
@@ -219,61 +234,61 @@ impl What {
                 eprintln!(rt; "disk1541: {name}: the directory is full: it has room for 144 files")
             }
             What::SameName => {
-                eprintln!(rt; "disk1541: {name}: two files of the recipe have one name")
+                eprintln!(rt; "disk1541: {name}: two files of the recipe have this name")
             }
             What::GeosCopy => {
                 eprintln!(rt;
-                    "disk1541: {name} is a file of GEOS, which the drive doesn't copy whole: its info and its records would be missing"
+                    "disk1541: {name} is a GEOS file: a copy by the drive would lack its info block and its records"
                 )
             }
             What::GeosRecords => {
                 eprintln!(rt;
-                    "disk1541: {name} is a file that GEOS keeps in records: `get --cvt` takes it whole, --salvage its index alone"
+                    "disk1541: {name} is a GEOS file with records: `get --cvt` extracts it whole, --salvage only its index"
                 )
             }
             What::Records => {
                 eprintln!(rt;
-                    "disk1541: {name} is a relative file, which the drive doesn't copy: take it out by `get -o FILE.r00`, and put that by --name"
+                    "disk1541: {name} is a relative file, which the drive can't copy: use `get -o FILE.r00`, then `put --name`"
                 )
             }
             What::RecordsPlace => {
                 eprintln!(rt;
-                    "disk1541: {name} is a relative file, whose side sectors name its blocks: it stays where it is"
+                    "disk1541: {name} is a relative file, and can't be moved: its side sectors name its blocks"
                 )
             }
             What::CutOff => {
-                eprintln!(rt; "disk1541: {name} is a CVT that was cut off: it isn't put")
+                eprintln!(rt; "disk1541: {name} is a truncated CVT, and was not added")
             }
             What::GeosThere => {
                 eprintln!(rt;
-                    "disk1541: {name}: a file of that name is there: take another by --name, or `delete` it and `validate`"
+                    "disk1541: {name}: a file of that name already exists: use --name, or `delete` it and `validate`"
                 )
             }
             What::NoPlace => {
                 eprintln!(rt;
-                    "disk1541: {name}: too few blocks are free from there on: take a lower track"
+                    "disk1541: {name}: too few free blocks from there to the last track: use a lower --track"
                 )
             }
             What::NoMemory => eprintln!(rt; "disk1541: memory ran out"),
             What::NoMatch => eprintln!(rt; "disk1541: no file matches"),
             What::Changed => {
                 eprintln!(rt;
-                    "disk1541: {name} was changed by something else meanwhile: nothing is saved"
+                    "disk1541: {name}: another program changed it meanwhile, so nothing was saved"
                 )
             }
             What::Geos => {
                 eprintln!(rt;
-                    "disk1541: {name} isn't put in order: files lie in GEOS's border block, and their blocks would be given back; --force does so"
+                    "disk1541: {name} was not validated: GEOS's border block holds files, and their blocks would be freed. --force frees them"
                 )
             }
             What::Exists => {
-                eprintln!(rt; "disk1541: {name} is there already: take another name, or --replace")
+                eprintln!(rt; "disk1541: {name} already exists: use another name, or --replace")
             }
             What::Lossy => {
-                eprintln!(rt; "disk1541: {name} isn't written; --lossy writes it all the same")
+                eprintln!(rt; "disk1541: {name} was not written; --lossy writes it anyway")
             }
             What::NoneAtFault => {
-                eprintln!(rt; "disk1541: nothing is deleted: no file at fault matches {name}")
+                eprintln!(rt; "disk1541: nothing was deleted: no damaged file matches {name}")
             }
             What::IsSound => {
                 eprintln!(rt;
@@ -284,13 +299,11 @@ impl What {
             What::NotDeleted => eprintln!(rt; "disk1541: no deleted file matches {name}"),
             What::Overwritten => {
                 eprintln!(rt;
-                    "disk1541: {name} isn't given back: a block of it isn't free any more, or blocks of the disk are lost"
+                    "disk1541: {name} can't be restored: one of its blocks is in use again, or the disk has lost blocks"
                 )
             }
             What::NoneDeleted => {
-                eprintln!(rt;
-                    "disk1541: nothing is deleted: no file that isn't locked matches {name}"
-                )
+                eprintln!(rt; "disk1541: nothing was deleted: no unlocked file matches {name}")
             }
         }
     }

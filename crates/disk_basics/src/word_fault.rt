@@ -2,25 +2,26 @@
 use std::io;
 
 /// What a name can't have, and how any byte is typed.
-const NO_KEY: &str = "no key of a C64 types a character of ";
+const NO_KEY: &str = "a C64 can't type a character of ";
 
-const ANY_BYTE: &str = ": any byte is typed as {hh}, two hexadecimal digits";
+const ANY_BYTE: &str = ": write any byte as {hh}, two hexadecimal digits";
 
 /// What divides the words of the drive's commands.
 const DIVIDING: &str = "a name can't have `,` `=` `:` or a quotation mark: ";
 
 /// How a relative file is put.
-const RECORDS: &str = "a relative file has records: say their length by --record, 1 to 254";
+const RECORDS: &str = "a relative file needs a record length: use --record, 1 to 254";
 
 /// Which types a file's bytes can have.
-const PLAIN_TYPES: &str = " is no type that a file gets: take prg, seq or usr";
+const PLAIN_TYPES: &str = " is not a file type: use prg, seq or usr";
 
 /// Which commands lines have.
 const NO_LINE: &str =
-    " is no command of a line: take put, copy, rename, delete, undelete, lock, unlock, title, retype, place, sort, validate";
+    " is not a command for `run`: use put, copy, rename, delete, undelete, lock, unlock, title, retype, place, sort or validate";
 
 /// How a format is said.
-const FORMATS: &str = " tells no format: say --format d64 or --format g64, in a recipe `format`";
+const FORMATS: &str =
+    " does not show the format: add --format d64 or --format g64 (in a recipe: `format`)";
 
 /// Which sectors disks have.
 const SECTORS: &str = " (tracks are 1 to 40, sectors 0 to 20)";
@@ -30,7 +31,7 @@ const LAYING: &str =
     "in a recipe, `interleave` is 1 to 20, `track` 1 to 40 but not 18, and `sector` one of that track";
 
 /// What a track may be.
-const TRACKS: &str = " is no track: take 1 to 42, and 17.5 for the half track after 17";
+const TRACKS: &str = " is not a track: use 1 to 42, or 17.5 for the half track after 17";
 
 /// Why a word of the command line is refused.
 #[derive(Clone, Copy)]
@@ -103,6 +104,8 @@ pub enum WordFault {
     OtherTracks,
     /// The image has that many tracks already.
     SameTracks,
+    /// A file that is written is the image itself.
+    Itself,
 }
 
 impl WordFault {
@@ -113,28 +116,31 @@ impl WordFault {
             WordFault::LongName => ("a file's name has at most 16 characters: ", ""),
             WordFault::Divided => (DIVIDING, ""),
             WordFault::Slot => ("", " is no slot: take 0 to 143"),
-            WordFault::NoFileName => ("say which file: its name, or --slot", ""),
+            WordFault::NoFileName => ("give the file: its name, or --slot", ""),
             WordFault::TwoNames => (
-                "say the old name and the new one, or --slot and the new one",
+                "give the old name and the new one, or --slot and the new one",
                 "",
             ),
-            WordFault::NoName => ("name the file by --name", ""),
+            WordFault::NoName => ("give the file's name with --name", ""),
             WordFault::OneName => ("--name is for one file", ""),
-            WordFault::Twice => ("`-` is the image or one file, and stands once", ""),
+            WordFault::Twice => (
+                "`-` can be used only once: for the image or for one file",
+                "",
+            ),
             WordFault::Type => ("", " is no type of a file: take prg, seq, usr or rel"),
             WordFault::PlainType => ("", PLAIN_TYPES),
             WordFault::NameAndType => (
-                "say the file's name and its new type, or --slot and the type",
+                "give the file's name and its new type, or --slot and the type",
                 "",
             ),
             WordFault::LineCommand => ("", NO_LINE),
             WordFault::LineWord => ("", " can't be said in a line of `run`"),
-            WordFault::OpenQuote => ("a quotation mark has no other one", ""),
+            WordFault::OpenQuote => ("unmatched quotation mark", ""),
             WordFault::Record => (RECORDS, ""),
             WordFault::RecordLength => ("records have 1 to 254 bytes, not ", ""),
-            WordFault::Line => ("an entry of a recipe has either `file` or `art`", ""),
+            WordFault::Line => ("an entry of a recipe needs either `file` or `art`", ""),
             WordFault::Recipe => ("", " is no recipe of a disk: nothing is made"),
-            WordFault::Order => { ("", " is no order: take name, type or size") }
+            WordFault::Order => { ("", " is not a sort order: use name, type or size") }
             WordFault::Title => ("a title has at most 16 characters: ", ""),
             WordFault::Id => ("an id has two characters, or five: ", ""),
             WordFault::Tracks => ("a disk has 35 or 40 tracks, not ", ""),
@@ -142,11 +148,12 @@ impl WordFault {
             WordFault::Sector => ("no disk has such a sector: ", SECTORS),
             WordFault::Track => ("", TRACKS),
             WordFault::Interleave => ("an interleave is 1 to 20, not ", ""),
-            WordFault::DirectoryTrack => ("track 18 is the directory's: take another one", ""),
+            WordFault::DirectoryTrack => ("track 18 holds the directory: use another track", ""),
             WordFault::Laying => (LAYING, ""),
             WordFault::LongG64 => ("a G64 has 35 tracks here, not 40", ""),
             WordFault::OtherTracks => ("--tracks is for a D64 of 35 or 40 tracks, not for ", ""),
             WordFault::SameTracks => ("", " has that many tracks already"),
+            WordFault::Itself => ("", " is the image itself: use another name"),
             WordFault::SameFormat => ("", " has that format already"),
             WordFault::Format => ("", FORMATS),
         }

@@ -11,7 +11,7 @@ use crate::blanks::{Blank, blank_image};
 use cbm_shell::texts::Charset;
 use disk_basics::host::{read_file, require_new, write};
 use disk_basics::{Failure, What, WordFault};
-use disk_facts::is_image_name;
+use disk_facts::kind_of_name;
 use disk_recipes::{Recipe, RecipeFault, line_of_unknown, read_recipe};
 use host_files::Sync;
 use std::path::Path;
@@ -74,7 +74,7 @@ fn tracks_of(recipe: &Recipe) -> &'static str {
 /// The word for the format, where the image's name doesn't say it.
 fn format_of<'r>(recipe: &'r Recipe, image: &str) -> Option<&'r str> {
     match &recipe.format {
-        Some(format) if !is_image_name(image) => Some(format.as_str()),
+        Some(format) if kind_of_name(image).is_none() => Some(format.as_str()),
         _ => None,
     }
 }

@@ -1,6 +1,6 @@
 //! PUT: files of the host into the image.
 use crate::cvt::{Cvt, cvt_of, is_cvt_name, name_in, with_cvt};
-use crate::stored::{Stored, open_text, put_answer, with_stored};
+use crate::stored::{Stored, is_full, open_text, put_answer, with_stored};
 use cbm_shell::texts::Charset;
 use cbm_shell::{DiskChange, unwrapped};
 use disk_basics::changing::changes;
@@ -147,7 +147,7 @@ pub fn tell_empty(rt: &impl Eprint, file: &str, kind: FileKind, bytes: &[u8]) {
     if let FileKind::Plain(_) = kind
         && bytes.is_empty()
     {
-        let _ = eprintln!(rt; "disk1541: {file} is empty: on the disk it has one byte, 13");
+        let _ = eprintln!(rt; "disk1541: {file} is empty: on the disk it becomes one byte, 13");
     }
 }
 
@@ -250,7 +250,7 @@ fn load_one<'a, R: Runtime + AllocGlobal>(
 
 /// Reports which of several files can't be put, as none is put then.
 fn tell_first(rt: &impl Eprint, file: &str) {
-    let _ = eprintln!(rt; "disk1541: {file} can't be put, and so none of the files is");
+    let _ = eprintln!(rt; "disk1541: {file} could not be added, so none of the files was");
 }
 
 /// Several files of bytes.
@@ -311,6 +311,12 @@ fn put_plain<R: Runtime + AllocGlobal>(
     let all = load_all(rt, files, put)?;
     let puts = in_memory(changes_of(rt.alloc(), all.as_slice()))?;
     let new = changes(rt.alloc(), old, puts.as_slice());
+    if let Err(fault) = &new
+        && put.replaces
+        && is_full(*fault)
+    {
+        return put_each(rt, image, old, files, put);
+    }
     if new.is_err() {
         tell_refused(rt, old, all.as_slice(), puts.as_slice());
     }

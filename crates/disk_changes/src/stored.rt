@@ -2,10 +2,10 @@
 use cbm_channel::Code;
 use cbm_shell::{DiskChange, Records, ShellFault};
 use disk_basics::calls::{entries, listed};
-use disk_basics::changing::{change, put_records};
+use disk_basics::changing::{change, delete_in_slot, put_records};
 use disk_basics::host::joined;
 use disk_basics::spare::{has_name, taken};
-use disk_basics::{Failure, FileKind, What, WordFault, in_memory, on_disk};
+use disk_basics::{Failure, FileKind, What, WordFault, in_memory, on_disk, slot_named};
 use disk_facts::count_files;
 use std::alloc::{AllocError, Global};
 
@@ -81,8 +81,75 @@ fn plain(
 ) -> Result<Vec<u8>, Failure> {
     let text = open_text(alloc, file.name, file.replaces, end)?;
     let put = DiskChange::File(text.as_slice(), file.bytes);
-    let answer = change(alloc, old, &put);
+    let answer = answered(alloc, old, file, end, change(alloc, old, &put));
     put_answer(alloc, image, old, 1, file.replaces, answer)
+}
+
+/// Whether a disk has no room for what is put.
+pub fn is_full(fault: ShellFault) -> bool {
+    match fault {
+        ShellFault::Refused(status) => status.code == Code::DiskFull,
+        _ => false,
+    }
+}
+
+/// What a disk answers to a file that is put, if it isn't full, or else to one that takes the place of another.
+fn answered(
+    alloc: Global,
+    old: &[u8],
+    file: &Stored<'_>,
+    end: &[u8],
+    answer: Result<Vec<u8>, ShellFault>,
+) -> Result<Vec<u8>, ShellFault> {
+    match answer {
+        Err(fault) if file.replaces && is_full(fault) => instead(alloc, old, file, end, fault),
+        answer => answer,
+    }
+}
+
+/// What the disk answers where the file that is to be replaced goes first, so that its blocks are free for the new one; the drive keeps both
+/// for a while. That it is full, where that can't be done.
+fn instead(
+    alloc: Global,
+    old: &[u8],
+    file: &Stored<'_>,
+    end: &[u8],
+    full: ShellFault,
+) -> Result<Vec<u8>, ShellFault> {
+    match put_after(alloc, old, file, end) {
+        Ok(Some(new)) => Ok(new),
+        Err(ShellFault::Memory) => Err(ShellFault::Memory),
+        _ => Err(full),
+    }
+}
+
+/// The image without the first file of this name; None where there is none.
+fn freed_of(alloc: Global, old: &[u8], name: &[u8]) -> Result<Option<Vec<u8>>, ShellFault> {
+    let entries = entries(alloc, old)?;
+    let Some(slot) = slot_named(entries.as_slice(), name) else {
+        return Ok(None);
+    };
+    match u8::try_from(slot) {
+        Ok(slot) => Ok(Some(delete_in_slot(alloc, old, slot)?)),
+        Err(_) => Ok(None),
+    }
+}
+
+/// The image with a file in place of the one of its name, which goes first.
+fn put_after(
+    alloc: Global,
+    old: &[u8],
+    file: &Stored<'_>,
+    end: &[u8],
+) -> Result<Option<Vec<u8>>, ShellFault> {
+    let Some(freed) = freed_of(alloc, old, file.name)? else {
+        return Ok(None);
+    };
+    let Ok(text) = open_text(alloc, file.name, false, end) else {
+        return Err(ShellFault::Memory);
+    };
+    let put = DiskChange::File(text.as_slice(), file.bytes);
+    Ok(Some(change(alloc, freed.as_slice(), &put)?))
 }
 
 /// The bytes cut into records; the last one may be shorter.

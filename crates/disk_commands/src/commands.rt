@@ -19,7 +19,7 @@ macro_rules! examples {
         concat!(
             "Examples:\n",
             $lines,
-            "\nExit status: 0 done, 1 the disk or the drive refused, 2 not a disk image, 3 a file of this computer\nor memory, 4 some of several images are refused, unsound or not images, 64 the command line"
+            "\nExit status: 0 done, 1 the disk or the drive refused, 2 not a disk image, 3 a host file or memory,\n4 some of several images are refused, unsound or not images, 64 the command line"
         )
     };
 }
@@ -128,7 +128,7 @@ const LOOKING: &[Command] = &[
     Command {
         verb: Verb::Get,
         name: "get",
-        about: "Take a file out",
+        about: "Extract a file",
         words: &[
             IMAGE,
             NAME_OR_SLOT,
@@ -144,7 +144,7 @@ const LOOKING: &[Command] = &[
     Command {
         verb: Verb::GetAll,
         name: "get-all",
-        about: "Take all files out, into a folder",
+        about: "Extract all files into a folder",
         words: &[IMAGE, FOLDER, REPLACE_FILES, SALVAGE, CVT_ALL],
     },
     Command {
@@ -195,7 +195,7 @@ const LOOKING: &[Command] = &[
     Command {
         verb: Verb::Hash,
         name: "hash",
-        about: "Show a sum of each image's sectors (SHA-256)",
+        about: "Show a checksum of each image's sectors (SHA-256)",
         words: &[IMAGES, RECURSIVE, JSON, CSV],
     },
     Command {
@@ -235,7 +235,7 @@ const MAKING: &[Command] = &[
     Command {
         verb: Verb::Put,
         name: "put",
-        about: "Put files of this computer on the disk",
+        about: "Add files to the disk",
         words: &[
             IMAGE,
             FILES,
@@ -310,7 +310,7 @@ const CHANGING: &[Command] = &[
     Command {
         verb: Verb::Place,
         name: "place",
-        about: "Move files to other blocks, for loaders that go by their order",
+        about: "Move files to other blocks, for loaders that depend on their order",
         words: &[
             IMAGE,
             PLACED,

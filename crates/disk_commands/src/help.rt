@@ -5,7 +5,7 @@ use std::alloc::{AllocError, Global};
 
 /// What stands above the commands.
 const HEAD: &str =
-    "Look at disk images of the Commodore 1541, and change them\n\nUsage: disk1541 <COMMAND>\n";
+    "List, change, check and convert disk images of the Commodore 1541\n\nUsage: disk1541 <COMMAND>\n";
 
 /// What stands below them.
 const OPTIONS: &str = "\nOptions:\n  -h, --help     Print help\n  -V, --version  Print version\n\n";

@@ -7,7 +7,7 @@ use crate::report::{Numbers, Report};
 use crate::sectors::sectors_in;
 use crate::side::Side;
 use cbm_shell::texts::Charset;
-use disk_basics::host::{is_standard, print, read_image};
+use disk_basics::host::{is_standard, print, read_to_look};
 use disk_basics::{Failure, What, WordFault, in_memory, on_disk};
 use disk_json::line;
 use std::alloc::{AllocError, Global};
@@ -91,6 +91,17 @@ fn shown(alloc: Global, report: &Report<'_>, is_json: bool) -> Result<Vec<u8>, A
     Ok(lines_of(alloc, report)?.into_bytes())
 }
 
+/// What is printed, and whether nothing differs.
+fn compared(
+    alloc: Global,
+    comparison: Comparison<'_>,
+    sides: Sides<'_>,
+) -> Result<(Vec<u8>, bool), AllocError> {
+    let report = report_of(alloc, comparison, sides)?;
+    let text = shown(alloc, &report, comparison.is_json)?;
+    Ok((text, report.same))
+}
+
 /// Prints what differs between the disks of two images. Answers whether nothing does.
 fn compare<R: Runtime + AllocGlobal>(
     rt: &R,
@@ -106,20 +117,19 @@ fn compare<R: Runtime + AllocGlobal>(
         second: &second,
         charset: comparison.charset,
     };
-    let report = in_memory(report_of(alloc, comparison, sides))?;
-    let text = in_memory(shown(alloc, &report, comparison.is_json))?;
+    let (text, is_same) = in_memory(compared(alloc, comparison, sides))?;
     print(rt, text.as_slice())?;
-    Ok(report.same)
+    Ok(is_same)
 }
 
-/// Prints what differs between two images. Errors: `Word`, where both are standard input; those of `read_image`; `Disk`; `Told`, where
+/// Prints what differs between two images. Errors: `Word`, where both are standard input; those of `read_to_look`; `Disk`; `Told`, where
 /// something differs; `Write`; `NoMemory`.
 pub fn diff<R: Runtime + AllocGlobal>(rt: &R, comparison: Comparison<'_>) -> Result<(), Failure> {
     if is_standard(comparison.first) && is_standard(comparison.second) {
         return Err(Failure::new(What::Word(WordFault::Twice)));
     }
-    let first = read_image(rt, comparison.first)?;
-    let second = read_image(rt, comparison.second)?;
+    let first = read_to_look(rt, comparison.first)?;
+    let second = read_to_look(rt, comparison.second)?;
     if compare(rt, comparison, first.as_slice(), second.as_slice())? {
         return Ok(());
     }

@@ -3,7 +3,7 @@ use crate::report::{Changed, Differing, Flags, Lone, Numbers, Report, Texts, Unr
 use std::alloc::{AllocError, Global};
 
 /// What is said in place of a text that isn't known.
-const UNKNOWN: &str = "unknown, as track 18, sector 0 can't be read";
+const UNKNOWN: &str = "unknown, because track 18, sector 0 is unreadable";
 
 /// Adds a text, or that it isn't known.
 fn add_known(alloc: Global, lines: &mut String, text: &Option<String>) -> Result<(), AllocError> {

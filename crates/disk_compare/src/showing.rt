@@ -3,7 +3,7 @@ use crate::screen::{Form, is_listed, screen_of};
 use cbm_basic::after_program;
 use cbm_shell::ShellFault;
 use cbm_volume::Entry;
-use disk_basics::host::{print, read_image};
+use disk_basics::host::{print, read_to_look};
 use disk_basics::{Choice, Disk, Failure, What, in_memory, on_disk, petscii, slot_chosen};
 use disk_facts::first_meant;
 use std::alloc::Global;
@@ -70,14 +70,14 @@ fn tell_more(rt: &impl Eprint, form: Form, file: &[u8]) -> io::Result<()> {
     }
 }
 
-/// Shows a file of an image. Errors: those of `read_image`; `Word`, where the name can't be typed or the slot is no number; `NoFile`;
+/// Shows a file of an image. Errors: those of `read_to_look`; `Word`, where the name can't be typed or the slot is no number; `NoFile`;
 /// `Disk`, where the file was never closed or can't be read; `Write`; `NoMemory`.
 pub fn show<R: Runtime + AllocGlobal>(
     rt: &R,
     image: &str,
     wanted: Wanted<'_>,
 ) -> Result<(), Failure> {
-    let bytes = read_image(rt, image)?;
+    let bytes = read_to_look(rt, image)?;
     let file = file_of(rt.alloc(), image, bytes.as_slice(), wanted.choice)?;
     let text = screen_of(
         rt.alloc(),

@@ -137,7 +137,7 @@ fn add_left(alloc: Global, text: &mut String, old: &[u8], new: &[u8]) -> Result<
             let shown = name_text(alloc, Charset::Upper, entry.name())?;
             let name = shown.as_str();
             text.push_str(format!(in alloc;
-                "disk1541: \"{name}\" is deleted; the blocks of its info and of its records stay taken: `validate` gives them back\n"
+                "disk1541: \"{name}\" was deleted; the blocks of its info and records stay in use until `validate`\n"
             )?.as_str())?;
         }
     }
@@ -173,7 +173,7 @@ fn add_odd(
             let shown = name_text(alloc, charset, entry.name())?;
             let name = shown.as_str();
             text.push_str(format!(in alloc;
-                "disk1541: \"{name}\" is an odd entry, and stays as it is\n"
+                "disk1541: \"{name}\" is an odd entry, and was not changed\n"
             )?.as_str())?;
         }
     }

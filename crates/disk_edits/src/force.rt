@@ -131,7 +131,7 @@ fn without_next<R: Runtime + AllocGlobal>(
             if matches!(failure.what, What::NoneAtFault)
                 && is_at_fault(rt.alloc(), image, old, charset, word)? => {
             let _ = eprintln!(rt;
-                "disk1541: {word} stays: with the others out it has all its blocks to itself; after `validate` it can be deleted as any file"
+                "disk1541: {word} was kept: once the others are gone, it shares no block. After `validate` you can delete it normally"
             );
             Ok(now)
         }

@@ -1,12 +1,11 @@
 //! VALIDATE: the disk in order, around what GEOS keeps on it.
-mod border;
 mod facts;
 mod plan;
 
-use self::border::has_border_files;
 use self::facts::order_line;
 use self::plan::{Telling, lines_of, plan_of};
 use cbm_shell::{Order, ShellFault};
+use disk_basics::border::has_border_files;
 use disk_basics::changing::{map_around_geos, validate};
 use disk_basics::host::require_own_map;
 use disk_basics::{Failure, What, on_disk};

@@ -3,7 +3,7 @@ use cbm_shell::ShellFault;
 use cbm_shell::texts::Charset;
 use cbm_volume::Entry;
 use disk_basics::calls::{entries, info, name_text};
-use disk_facts::type_of;
+use disk_facts::{block_noun, type_of};
 use std::alloc::{AllocError, Global};
 
 /// The entries of a disk before a change and after it, and how their names are shown.
@@ -55,7 +55,8 @@ fn add_new(
 ) -> Result<(), AllocError> {
     let kind = type_of(entry).unwrap_or("?");
     let blocks = entry.blocks();
-    let end = format!(in alloc; ", {kind}, {blocks} blocks")?;
+    let noun = block_noun(blocks);
+    let end = format!(in alloc; ", {kind}, {blocks} {noun}")?;
     add_line(alloc, text, charset, "add", entry, end.as_str())
 }
 

@@ -62,3 +62,8 @@ pub fn count_files(entries: &[Entry]) -> usize {
 pub fn is_deleted(entry: &Entry) -> bool {
     entry.is_empty() && !entry.first_block().is_end() && !entry.name().is_empty()
 }
+
+/// The noun for so many blocks.
+pub fn block_noun(count: u16) -> &'static str {
+    if count == 1 { "block" } else { "blocks" }
+}

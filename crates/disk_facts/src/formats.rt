@@ -28,17 +28,26 @@ pub fn kind_of_name(image: &str) -> Option<Kind> {
     }
 }
 
-/// Whether a file is named as images are.
+/// A name without the ending that gzip adds.
+fn unpacked_name(path: &str) -> &str {
+    match path.strip_suffix(".gz") {
+        Some(name) => name,
+        None => path.strip_suffix(".GZ").unwrap_or(path),
+    }
+}
+
+/// Whether a file is named as images are, packed ones too, or as ZIP archives, which may have one.
 pub fn is_image_name(path: &str) -> bool {
-    kind_of_name(path).is_some()
+    let ending = Path::new(path).extension().unwrap_or("");
+    kind_of_name(unpacked_name(path)).is_some() || ending.eq_ignore_ascii_case("zip")
 }
 
 /// The endings of the names of disks and archives of other kinds.
 const OTHERS: [&str; 4] = ["d71", "d81", "t64", "lnx"];
 
-/// Whether a file is named as disks and archives of other kinds are.
+/// Whether a file is named as disks and archives of other kinds are, packed ones too.
 pub fn is_other_name(path: &str) -> bool {
-    let ending = Path::new(path).extension().unwrap_or("");
+    let ending = Path::new(unpacked_name(path)).extension().unwrap_or("");
     for other in &OTHERS {
         if other.eq_ignore_ascii_case(ending) {
             return true;

@@ -4,6 +4,7 @@
 mod circles;
 mod digits;
 mod entries;
+mod foreign;
 mod formats;
 mod geos;
 mod maps;
@@ -11,8 +12,9 @@ mod maps;
 pub use circles::{more_tracks, track_at, track_name};
 pub use digits::hex;
 pub use entries::{
-    count_files, first_meant, is_deleted, is_meant, number_meant, type_of, unfilled,
+    block_noun, count_files, first_meant, is_deleted, is_meant, number_meant, type_of, unfilled,
 };
+pub use foreign::{NotImage, NotUnpacked, marked_as, not_image};
 pub use formats::{
     format_name, is_image_name, is_other_name, kind_of_name, kind_of_word, without_errors,
 };

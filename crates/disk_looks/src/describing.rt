@@ -7,8 +7,9 @@ use cbm_shell::texts::Charset;
 use cbm_shell::{Info, Listed, ShellFault, geos_of};
 use cbm_volume::{Entry, Label, Trouble};
 use disk_basics::calls::{info, name_text, sector};
-use disk_basics::host::{print, read_image};
-use disk_basics::{BreakOff, Disk, Failure, What, on_disk};
+use disk_basics::host::{print, read_to_look};
+use disk_basics::strays::unlisted_on;
+use disk_basics::{Disk, Failure, What, on_disk};
 use disk_facts::unfilled;
 use disk_recipes::{Recipe, RecipeLine, recipe_text};
 use std::alloc::{AllocError, Global};
@@ -87,15 +88,14 @@ fn path_of(
     String::from_str(alloc, path.as_path().as_str())
 }
 
-/// The line of a file of this many bytes.
+/// The line of a file of this many bytes, which is at a path.
 fn file_line(
     alloc: Global,
     entry: &Entry,
-    names: &mut Names,
+    file: String,
     description: Description<'_>,
     bytes: usize,
 ) -> Result<RecipeLine, AllocError> {
-    let file = path_of(alloc, entry, names, description.folder)?;
     let name = name_text(alloc, description.charset, sixteen(entry))?;
     Ok(RecipeLine {
         file: Some(file),
@@ -116,12 +116,12 @@ fn is_art(entry: &Entry) -> bool {
     matches!(entry.kind(), Some(FileType::Del)) && entry.is_closed()
 }
 
-/// The line of an entry. Errors: `NotClosed`, `Trouble`, where its file can't be built from what `get-all` takes out.
+/// The line of an entry, whose file is at a path. Errors: `NotClosed`, `Trouble`, where its file can't be built from what `get-all` takes out.
 fn line_of(
     alloc: Global,
     disk: &Disk,
     entry: &Entry,
-    names: &mut Names,
+    path: String,
     description: Description<'_>,
 ) -> Result<RecipeLine, ShellFault> {
     if is_art(entry) {
@@ -131,7 +131,7 @@ fn line_of(
         return Err(ShellFault::NotClosed);
     }
     let bytes = disk.file_of(alloc, entry)?;
-    Ok(file_line(alloc, entry, names, description, bytes.len())?)
+    Ok(file_line(alloc, entry, path, description, bytes.len())?)
 }
 
 /// Reports that an entry isn't described, or not all of it.
@@ -150,7 +150,9 @@ fn add_line<R: Runtime + AllocGlobal>(
     lines: &mut Vec<RecipeLine>,
     description: Description<'_>,
 ) -> Result<bool, ShellFault> {
-    match line_of(rt.alloc(), disk, entry, names, description) {
+    // `get-all` names each entry, whether it takes its file out or not.
+    let path = path_of(rt.alloc(), entry, names, description.folder)?;
+    match line_of(rt.alloc(), disk, entry, path, description) {
         Ok(line) => lines.push(line).map_err(AllocError::from)?,
         Err(ShellFault::Memory) => return Err(ShellFault::Memory),
         Err(fault) => {
@@ -162,7 +164,7 @@ fn add_line<R: Runtime + AllocGlobal>(
         tell(
             rt,
             entry,
-            "is GEOS's: its info and its records aren't described",
+            "is a GEOS file: its info block and records are not described",
         )?;
         return Ok(false);
     }
@@ -176,8 +178,8 @@ fn tell_left<R: Runtime + AllocGlobal>(
     fault: ShellFault,
 ) -> Result<(), AllocError> {
     match fault {
-        ShellFault::NotClosed => tell(rt, entry, "isn't described: it was never closed"),
-        _ => tell(rt, entry, "isn't described: it can't be read to its end"),
+        ShellFault::NotClosed => tell(rt, entry, "is not described: it was never closed"),
+        _ => tell(rt, entry, "is not described: it can't be read to its end"),
     }
 }
 
@@ -296,17 +298,20 @@ fn described_by<R: Runtime + AllocGlobal>(
     Ok((recipe, is_whole))
 }
 
-/// Whether a directory was followed to its end; where it breaks off is reported.
-fn is_followed(rt: &impl Eprint, listed: &Listed) -> bool {
-    let Some(trouble) = listed.trouble else {
-        return true;
+/// Whether a disk has no more files than its directory lists; where it breaks off, or has no link to them, is reported. The one error is
+/// want of memory.
+fn is_followed<R: Runtime + AllocGlobal>(
+    rt: &R,
+    disk: &Disk,
+    listed: &Listed,
+) -> Result<bool, AllocError> {
+    let told = match unlisted_on(rt.alloc(), disk, listed)? {
+        Some(What::Broken(end)) => eprintln!(rt; "disk1541: {end}"),
+        Some(What::Unlinked(unlinked)) => eprintln!(rt; "disk1541: {unlinked}"),
+        _ => return Ok(true),
     };
-    let end = BreakOff {
-        entries: listed.entries.len(),
-        trouble,
-    };
-    let _ = eprintln!(rt; "disk1541: {end}");
-    false
+    let _ = told;
+    Ok(false)
 }
 
 /// The recipe of a disk, and whether it says all of it.
@@ -319,7 +324,7 @@ fn described<R: Runtime + AllocGlobal>(
     let listed = disk.listed(rt.alloc())?;
     let entries = listed.entries.as_slice();
     let (recipe, is_whole) = described_by(rt, image, &disk, entries, description)?;
-    Ok((recipe, is_whole && is_followed(rt, &listed)))
+    Ok((recipe, is_whole & is_followed(rt, &disk, &listed)?))
 }
 
 /// Prints a recipe.
@@ -330,14 +335,14 @@ fn print_recipe<R: Runtime + AllocGlobal>(rt: &R, recipe: &Recipe) -> Result<(),
     }
 }
 
-/// Prints the recipe of an image's disk; what it doesn't say of it is reported. Errors: those of `read_image`; `Disk`;
+/// Prints the recipe of an image's disk; what it doesn't say of it is reported. Errors: those of `read_to_look`; `Disk`;
 /// `Write`; `Told`, where something wasn't said; `NoMemory`.
 pub fn describe<R: Runtime + AllocGlobal>(
     rt: &R,
     image: &str,
     description: Description<'_>,
 ) -> Result<(), Failure> {
-    let bytes = read_image(rt, image)?;
+    let bytes = read_to_look(rt, image)?;
     let (recipe, is_whole) = on_disk(
         rt.alloc(),
         image,

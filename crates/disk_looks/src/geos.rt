@@ -12,8 +12,8 @@ pub fn is_kept_in_records(entry: &Entry) -> bool {
 pub fn tell_geos(rt: &impl Eprint, name: &str, geos: Geos) -> io::Result<()> {
     if geos.has_records {
         return eprintln!(rt;
-            "disk1541: \"{name}\" is a file that GEOS keeps in records: its index alone is taken"
+            "disk1541: \"{name}\" is a GEOS file with records: only its index was extracted"
         );
     }
-    eprintln!(rt; "disk1541: \"{name}\" is a file of GEOS: its info block isn't taken")
+    eprintln!(rt; "disk1541: \"{name}\" is a GEOS file: its info block was not extracted")
 }

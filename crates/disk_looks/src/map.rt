@@ -9,7 +9,7 @@ use cbm_shell::ShellFault;
 use cbm_shell::texts::Charset;
 use cbm_volume::Entry;
 use disk_basics::calls::{convert, file_blocks, geos_blocks, info, listed, name_text, picture};
-use disk_basics::host::{print, read_image, require_new, write};
+use disk_basics::host::{print, read_to_look, require_apart, require_new, write};
 use disk_basics::rests::{add_rests, rests_on};
 use disk_basics::{Disk, Failure, in_memory, on_disk};
 use disk_facts::{type_of, without_errors};
@@ -253,12 +253,13 @@ fn show_bytes<R: Runtime + AllocGlobal>(
     show(rt, sketch, mapping)
 }
 
-/// Shows the sectors of an image. Errors: those of `read_image`; `Disk`; `Exists`; `Write`; `NoMemory`.
+/// Shows the sectors of an image. Errors: those of `read_to_look`; `Disk`; `Exists`; `Write`; `NoMemory`.
 pub fn show_map<R: Runtime + AllocGlobal>(
     rt: &R,
     image: &str,
     mapping: Mapping<'_>,
 ) -> Result<(), Failure> {
-    let bytes = read_image(rt, image)?;
+    require_apart(rt, image, mapping.svg.unwrap_or("-"))?;
+    let bytes = read_to_look(rt, image)?;
     show_bytes(rt, image, bytes.as_slice(), mapping)
 }

@@ -66,9 +66,7 @@ pub fn packed(alloc: Global, entry: &Entry, bytes: Vec<u8>) -> Result<Vec<u8>, A
 
 /// Reports the length of the records of a file that is written without a head.
 fn tell_length(rt: &impl Eprint, name: &str, length: u8) -> io::Result<()> {
-    eprintln!(rt;
-        "disk1541: {name} has records of {length} bytes, which `-o FILE.r00` writes before them"
-    )
+    eprintln!(rt; "disk1541: {name} has records of {length} bytes; `-o FILE.r00` keeps that length")
 }
 
 /// Reports the length of the records of an entry's file, which is written without a head.

@@ -33,14 +33,14 @@ fn tell_fault(rt: &impl Eprint, name: &str, fault: Fault) -> io::Result<()> {
     let track = fault.at.track();
     let sector = fault.at.sector();
     let code = fault.code;
-    eprintln!(rt; "disk1541: \"{name}\": {track}/{sector} is taken in spite of its error {code}")
+    eprintln!(rt; "disk1541: \"{name}\": {track}/{sector} was extracted despite its error {code}")
 }
 
 /// Reports how much of a file was read, and why no more was.
 fn tell_end(rt: &impl Eprint, name: &str, entry: &Entry, salvaged: &Salvaged) -> io::Result<()> {
     let count = salvaged.bytes.len();
     if !entry.is_closed() {
-        eprintln!(rt; "disk1541: \"{name}\" was never closed: {count} bytes are taken")?;
+        eprintln!(rt; "disk1541: \"{name}\" was never closed: {count} bytes were extracted")?;
     }
     let Some(trouble) = salvaged.trouble else {
         return Ok(());

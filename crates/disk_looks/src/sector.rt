@@ -4,7 +4,7 @@ use cbm_shell::ShellFault;
 use cbm_shell::texts::{Charset, key_of};
 use cbm_volume::Trouble;
 use disk_basics::calls::sector;
-use disk_basics::host::{print, read_image};
+use disk_basics::host::{print, read_to_look};
 use disk_basics::{Failure, What, WordFault, in_memory, on_disk};
 use disk_facts::hex;
 use disk_json::{Sector, line};
@@ -162,7 +162,7 @@ fn print_reading<R: Runtime + AllocGlobal>(
     }
 }
 
-/// Shows the bytes of a sector. Errors: `Word`, where no disk has such a sector; those of `read_image`; `NoTrack`, where
+/// Shows the bytes of a sector. Errors: `Word`, where no disk has such a sector; those of `read_to_look`; `NoTrack`, where
 /// this one hasn't; `Disk`, where it doesn't read; `Write`; `NoMemory`.
 pub fn show_sector<R: Runtime + AllocGlobal>(
     rt: &R,
@@ -172,7 +172,7 @@ pub fn show_sector<R: Runtime + AllocGlobal>(
     is_json: bool,
 ) -> Result<(), Failure> {
     let at = address(rt.alloc(), track, sector)?;
-    let bytes = read_image(rt, image)?;
+    let bytes = read_to_look(rt, image)?;
     let reading = reading_at(rt.alloc(), image, bytes.as_slice(), at)?;
     print_reading(rt, image, at, &reading, is_json)
 }

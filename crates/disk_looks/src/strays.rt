@@ -3,6 +3,7 @@ use cbm_medium::{Address, Link};
 use cbm_shell::ShellFault;
 use cbm_volume::Entry;
 use disk_basics::calls::sector;
+use disk_basics::strays::looks_like_entry;
 use std::alloc::AllocError;
 use std::rt::Runtime;
 
@@ -23,17 +24,6 @@ fn is_among(sectors: &[Link], at: Address) -> bool {
         }
     }
     false
-}
-
-/// Whether bytes look like the entry of a file: they have a type that is known, a name, and a first block off the directory's
-/// track.
-fn looks_like_entry(entry: &Entry) -> bool {
-    let first = entry.first_block();
-    !entry.is_empty()
-        && entry.kind().is_some()
-        && !entry.name().is_empty()
-        && first.track() != TRACK
-        && Address::new(first.track(), first.sector()).is_some()
 }
 
 /// Adds the entries of a sector that look like those of files.
@@ -62,7 +52,7 @@ fn add_stray<R: Runtime + AllocGlobal>(
     if count != 0 {
         let number = at.sector();
         let _ = eprintln!(rt;
-            "disk1541: track 18, sector {number}, to which no link of the directory leads: {count} entries"
+            "disk1541: track 18, sector {number}, which no link of the directory reaches: {count} entries"
         );
     }
     Ok(())

@@ -130,9 +130,9 @@ fn tell_left(rt: &impl Eprint, name: &str, fault: ShellFault) -> io::Result<()> 
     match fault {
         ShellFault::Trouble(trouble) => {
             let cause = Cause(trouble);
-            eprintln!(rt; "disk1541: \"{name}\" isn't taken out: {cause}")
+            eprintln!(rt; "disk1541: \"{name}\" was not extracted: {cause}")
         }
-        _ => eprintln!(rt; "disk1541: \"{name}\" isn't taken out: {fault}"),
+        _ => eprintln!(rt; "disk1541: \"{name}\" was not extracted: {fault}"),
     }
 }
 
@@ -178,7 +178,7 @@ fn tell_name(rt: &impl Eprint, path: Path<'_>, name: &str) -> io::Result<()> {
     if path.file_stem().unwrap_or(place) == name {
         return Ok(());
     }
-    eprintln!(rt; "disk1541: \"{name}\" is written as {place}")
+    eprintln!(rt; "disk1541: \"{name}\" was written as {place}")
 }
 
 /// Saves a file under a name, and reports the name where it isn't that of the disk. Answers whether it was saved.
@@ -192,7 +192,7 @@ pub fn save_as<R: Runtime + AllocGlobal>(
 ) -> bool {
     let place = path.as_str();
     if !replaces && exists(rt, place) {
-        let _ = eprintln!(rt; "disk1541: {place} is there already: --replace replaces it");
+        let _ = eprintln!(rt; "disk1541: {place} already exists: use --replace to overwrite it");
         return false;
     }
     if let Err(failure) = write_among(rt, place, bytes, left) {
@@ -234,7 +234,7 @@ fn take_to<R: Runtime + AllocGlobal>(
     let shown = name.as_str();
     if !place.salvages && is_kept_in_records(entry) {
         let _ = eprintln!(rt;
-            "disk1541: \"{shown}\" isn't taken out: GEOS keeps it in records, and its index alone would be"
+            "disk1541: \"{shown}\" was not extracted: it is a GEOS file with records, use --cvt"
         );
         return Ok(false);
     }

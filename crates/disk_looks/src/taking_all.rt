@@ -2,10 +2,10 @@
 use crate::progress::Progress;
 use crate::salvage::salvaged_entries;
 use crate::taking::{Destination, Saves, Source, take};
-use cbm_shell::Listed;
 use cbm_volume::Entry;
 use disk_basics::host::path_of;
-use disk_basics::{BreakOff, Disk, Failure, What, in_memory, on_disk};
+use disk_basics::strays::unlisted_on;
+use disk_basics::{Disk, Failure, What, in_memory, on_disk};
 use disk_facts::{count_files, without_errors};
 use std::alloc::AllocError;
 use std::fs;
@@ -72,30 +72,26 @@ fn opened_bytes<'b>(bytes: &'b [u8], place: Destination<'_>) -> &'b [u8] {
     }
 }
 
-/// What taking a disk's files out came to, where the directory breaks off, which is reported.
+/// What taking a disk's files out came to, where it has more than its directory lists, which is reported.
 fn require_whole<R: Runtime + AllocGlobal>(
     rt: &R,
     image: &str,
-    listed: &Listed,
+    rest: Option<What>,
     taken: Result<(), Failure>,
 ) -> Result<(), Failure> {
-    let Some(trouble) = listed.trouble else {
+    let Some(what) = rest else {
         return taken;
     };
-    let end = BreakOff {
-        entries: listed.entries.len(),
-        trouble,
-    };
-    let broken = Failure::named(rt.alloc(), What::Broken(end), image);
+    let failure = Failure::named(rt.alloc(), what, image);
     if taken.is_ok() {
-        return Err(broken);
+        return Err(failure);
     }
-    let _ = broken.tell(rt);
+    let _ = failure.tell(rt);
     taken
 }
 
 /// Takes all files of an image's bytes out, into a folder. Errors: `Disk`; `Write`, where the folder can't be made; `Told`, where a
-/// file wasn't saved, as is reported; `Broken`; `NoMemory`.
+/// file wasn't saved, as is reported; `Broken` or `Unlinked`, where there are more files than the directory lists; `NoMemory`.
 pub fn get_all_from<R: Runtime + AllocGlobal>(
     rt: &R,
     image: &str,
@@ -117,6 +113,7 @@ pub fn get_all_from<R: Runtime + AllocGlobal>(
         return take_disk(rt, source, entries.as_slice(), place, progress);
     }
     let listed = in_memory(disk.listed(rt.alloc()))?;
+    let rest = in_memory(unlisted_on(rt.alloc(), &disk, &listed))?;
     let taken = take_disk(rt, source, listed.entries.as_slice(), place, progress);
-    require_whole(rt, image, &listed, taken)
+    require_whole(rt, image, rest, taken)
 }

@@ -3,7 +3,7 @@ mod facts;
 
 use self::facts::circle_line;
 use cbm_image::{Kind, kind_of};
-use disk_basics::host::{print, read_image};
+use disk_basics::host::{print, read_to_look};
 use disk_basics::{Failure, What, WordFault, in_memory};
 use disk_facts::{track_at, track_name};
 use disk_views::{circle_of, track_lines};
@@ -64,7 +64,7 @@ fn print_track<R: Runtime + AllocGlobal>(
     }
 }
 
-/// Shows what stands on a track of an image. Errors: `Word`, where it is no track; those of `read_image`; `NoCircles` for
+/// Shows what stands on a track of an image. Errors: `Word`, where it is no track; those of `read_to_look`; `NoCircles` for
 /// a D64; `NoTrack`, where the image has none such; `Write`; `NoMemory`.
 pub fn show_track<R: Runtime + AllocGlobal>(
     rt: &R,
@@ -73,7 +73,7 @@ pub fn show_track<R: Runtime + AllocGlobal>(
     is_json: bool,
 ) -> Result<(), Failure> {
     let index = index_of(rt.alloc(), word)?;
-    let bytes = read_image(rt, image)?;
+    let bytes = read_to_look(rt, image)?;
     if kind_of(bytes.as_slice()) == Kind::D64 {
         return Err(Failure::named(rt.alloc(), What::NoCircles, image));
     }

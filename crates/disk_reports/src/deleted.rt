@@ -6,7 +6,7 @@ use cbm_shell::ShellFault;
 use cbm_shell::texts::Charset;
 use cbm_volume::Entry;
 use disk_basics::calls::{listed, name_text};
-use disk_facts::is_deleted;
+use disk_facts::{block_noun, is_deleted};
 use std::alloc::{AllocError, Global};
 
 /// Adds the line of a deleted file.
@@ -19,7 +19,8 @@ fn add_line(
     let shown = name_text(alloc, charset, entry.name())?;
     let name = shown.as_str();
     let blocks = entry.blocks();
-    text.extend_from_slice(format!(in alloc; "\"{name}\", {blocks} blocks\n")?.as_bytes())
+    let noun = block_noun(blocks);
+    text.extend_from_slice(format!(in alloc; "\"{name}\", {blocks} {noun}\n")?.as_bytes())
 }
 
 /// Adds a line for each deleted file that matches, up to where the directory breaks off. Errors: `Image`, `Memory`.

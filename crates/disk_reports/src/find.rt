@@ -5,7 +5,7 @@ use cbm_shell::ShellFault;
 use cbm_shell::texts::Charset;
 use cbm_volume::Entry;
 use disk_basics::calls::{listed, name_text};
-use disk_facts::{is_meant, type_of};
+use disk_facts::{block_noun, is_meant, type_of};
 use std::alloc::{AllocError, Global};
 
 /// The line of a file. The one error is want of memory.
@@ -19,7 +19,8 @@ pub fn match_line(
     let name = shown.as_str();
     let kind = type_of(entry).unwrap_or("???");
     let blocks = entry.blocks();
-    format!(in alloc; "{image}: \"{name}\" {kind}, {blocks} blocks\n")
+    let noun = block_noun(blocks);
+    format!(in alloc; "{image}: \"{name}\" {kind}, {blocks} {noun}\n")
 }
 
 /// The lines of the files that match. The one error is want of memory.

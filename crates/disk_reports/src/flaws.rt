@@ -9,6 +9,7 @@ use cbm_volume::Entry;
 use disk_basics::calls::name_text;
 use disk_basics::odd::odd_slots;
 use disk_basics::rests::{add_rests, rests_of};
+use disk_basics::strays::{Strays, strays_on};
 use disk_basics::{Disk, is_mendable, place_of, slots_of};
 use disk_json::Named;
 pub use facts::flaw_report;
@@ -27,6 +28,8 @@ struct Findings {
     rests: Vec<Named>,
     /// The slots of the odd entries, if those are all that is wrong.
     odd: Vec<usize>,
+    /// The sectors that have files which aren't listed.
+    strays: Strays,
 }
 
 /// What is wrong with a disk.
@@ -36,7 +39,9 @@ fn found_in(
     disk: &Disk,
     charset: Charset,
 ) -> Result<Findings, ShellFault> {
-    let entries = disk.listed(alloc)?.entries;
+    let listed = disk.listed(alloc)?;
+    let strays = strays_on(alloc, disk, &listed)?;
+    let entries = listed.entries;
     let flaws = disk.flaws(alloc)?;
     let lost = disk.lost(alloc)?;
     let rests = rests_of(
@@ -53,6 +58,7 @@ fn found_in(
         lost,
         rests,
         odd,
+        strays,
     })
 }
 
@@ -117,7 +123,7 @@ fn add_what(
 ) -> Result<(), AllocError> {
     let track = flaw.what.track;
     let sector = flaw.what.sector;
-    let what = std::str::from_utf8(words(flaw.what.number)).unwrap_or("it isn't sound");
+    let what = std::str::from_utf8(words(flaw.what.number)).unwrap_or("it is not sound");
     text.push_str(format!(in alloc; "{track}/{sector}  {what}")?.as_str())?;
     if let Some(code) = error_of(disk, flaw) {
         let name = error_name(code);
@@ -291,13 +297,11 @@ fn mended_text(alloc: Global, findings: &Findings) -> Result<String, AllocError>
     if is_any_mendable(findings.flaws.as_slice()) {
         add_part(&mut text, "the map")?;
     }
-    add_count(
-        alloc,
-        &mut text,
-        findings.lost.len(),
-        "lost block",
-        "lost blocks",
-    )?;
+    // The blocks of files that aren't listed are lost too, and giving them back would be their end.
+    if findings.strays.sectors.is_empty() {
+        let lost = findings.lost.len();
+        add_count(alloc, &mut text, lost, "lost block", "lost blocks")?;
+    }
     Ok(text)
 }
 
@@ -328,12 +332,12 @@ fn add_lists(text: &mut String, mended: &str, broken: &str) -> Result<(), AllocE
         return Ok(());
     }
     if broken.is_empty() {
-        return add_list(text, "can be mended: ", mended, "\n");
+        return add_list(text, "can be repaired: ", mended, "\n");
     }
     if mended.is_empty() {
-        return add_list(text, "can't be mended: ", broken, "\n");
+        return add_list(text, "can't be repaired: ", broken, "\n");
     }
-    add_list(text, "can be mended: ", mended, ". can't: ")?;
+    add_list(text, "can be repaired: ", mended, ". can't: ")?;
     add_list(text, "", broken, "\n")
 }
 
@@ -351,7 +355,15 @@ fn add_odd(alloc: Global, text: &mut String, odd: usize) -> Result<(), AllocErro
     }
     text.push_str("sound but for ")?;
     text.push_str(odd_text(alloc, odd)?.as_str())?;
-    text.push_str(": all else can be changed\n")
+    text.push_str(": everything else can be changed\n")
+}
+
+/// Adds the line of the files that aren't listed, if there are such.
+fn add_unlinked(alloc: Global, text: &mut String, strays: &Strays) -> Result<(), AllocError> {
+    match strays.count() {
+        Some(unlinked) => text.push_str(format!(in alloc; "not listed: {unlinked}\n")?.as_str()),
+        None => Ok(()),
+    }
 }
 
 /// What a look at the disk came to.
@@ -398,6 +410,7 @@ fn add_findings(
     add_flaws(alloc, &mut lines, disk, charset, findings)?;
     add_lost(alloc, &mut lines, findings.lost.as_slice())?;
     add_rests(&mut lines, "lost blocks", findings.rests.as_slice())?;
+    add_unlinked(alloc, &mut lines, &findings.strays)?;
     add_sum(alloc, &mut lines, findings)?;
     add_odd(alloc, &mut lines, findings.odd.len())?;
     text.extend_from_slice(lines.as_bytes())?;

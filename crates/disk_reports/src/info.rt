@@ -5,6 +5,7 @@ use cbm_shell::{Info, Listed, ShellFault};
 use cbm_volume::{Label, Unsound};
 use disk_basics::calls::{info, name_text, unsound_text};
 use disk_basics::odd::odd_slots;
+use disk_basics::strays::strays_of;
 use disk_facts::{count_files, format_name, more_tracks, unfilled, wide_map};
 use std::alloc::{AllocError, Global};
 
@@ -144,6 +145,14 @@ fn add_faults(
     Ok(())
 }
 
+/// The line of the files that aren't listed, if there are such.
+fn add_unlinked(alloc: Global, text: &mut String, image: &[u8]) -> Result<(), ShellFault> {
+    if let Some(unlinked) = strays_of(alloc, image)?.count() {
+        text.push_str(format!(in alloc; "not listed   {unlinked}\n")?.as_str())?;
+    }
+    Ok(())
+}
+
 /// All lines.
 fn add_lines(
     alloc: Global,
@@ -158,6 +167,7 @@ fn add_lines(
     add_wide_map(text, image)?;
     add_label(alloc, text, charset, info)?;
     add_files(alloc, text, listed)?;
+    add_unlinked(alloc, text, image)?;
     add_faults(alloc, text, info, image)?;
     Ok(())
 }

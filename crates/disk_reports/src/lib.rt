@@ -11,6 +11,7 @@ mod info;
 mod other;
 mod report;
 mod sum;
+mod unlinked;
 mod view;
 
 pub use find::match_line;

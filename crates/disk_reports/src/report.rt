@@ -7,6 +7,7 @@ use self::files::{Size, size_of};
 use crate::broken::answer_by;
 use crate::flaws::flaw_report;
 use crate::sum::sum_text;
+use crate::unlinked::UnlinkedSector;
 use crate::view::{Look, LookAnswer, Shown, View, answer_of};
 use cbm_shell::texts::{Charset, words};
 use cbm_shell::{Geos, Info, Listed, ShellFault, geos_of};
@@ -81,6 +82,7 @@ struct Report<'a> {
     odd: Vec<usize>,
     files: Vec<File>,
     broken: Option<Broken>,
+    unlinked: Vec<UnlinkedSector>,
 }
 
 /// Where a directory breaks off.
@@ -252,7 +254,7 @@ fn flaw_of(unsound: Option<Unsound>) -> Option<Flaw> {
         track: unsound.track,
         sector: unsound.sector,
         number: unsound.number,
-        text: std::str::from_utf8(words(unsound.number)).unwrap_or("it isn't sound"),
+        text: std::str::from_utf8(words(unsound.number)).unwrap_or("it is not sound"),
     })
 }
 
@@ -328,6 +330,7 @@ pub fn known_line(
         odd: facts.odd,
         files,
         broken,
+        unlinked: facts.unlinked,
     };
     line(alloc, &report)
 }

@@ -14,6 +14,7 @@ use cbm_volume::Unsound;
 use disk_basics::BreakOff;
 use disk_basics::calls::{check, check_text, directory, listed, raw_directory};
 use disk_basics::odd::odd_slots;
+use disk_basics::strays::{Unlinked, strays_of};
 use std::alloc::{AllocError, Global};
 
 /// What is shown.
@@ -71,6 +72,8 @@ pub enum LookAnswer {
     Untitled,
     /// Its files are shown up to where the directory breaks off.
     Broken(BreakOff),
+    /// It has files to which no link of its directory leads; and whether it is as it should be but for these.
+    Unlinked(Unlinked, bool),
     /// What it lacks was reported.
     Told,
 }
@@ -98,21 +101,21 @@ pub fn odd_text(alloc: Global, count: usize) -> Result<String, AllocError> {
     format!(in alloc; "{count} odd {noun}")
 }
 
-/// Adds what is wrong first, and whether that is odd entries alone.
-fn add_unsound(
-    alloc: Global,
-    text: &mut Vec<u8>,
-    image: &[u8],
-    line: &[u8],
-) -> Result<(), ShellFault> {
+/// Adds that odd entries are all that is wrong, if they are.
+fn add_odd(alloc: Global, text: &mut Vec<u8>, image: &[u8]) -> Result<(), ShellFault> {
     let odd = odd_slots(alloc, image)?.len();
-    if odd == 0 {
-        text.extend_from_slice(line)?;
-        return Ok(());
+    if odd != 0 {
+        text.extend_from_slice(b"; sound but for ")?;
+        text.extend_from_slice(odd_text(alloc, odd)?.as_bytes())?;
     }
-    text.extend_from_slice(line.strip_suffix(b"\n").unwrap_or(line))?;
-    text.extend_from_slice(b"; sound but for ")?;
-    text.extend_from_slice(odd_text(alloc, odd)?.as_bytes())?;
+    Ok(())
+}
+
+/// Adds that files aren't listed, if there are such, and the end of the line.
+fn add_unlinked(alloc: Global, text: &mut Vec<u8>, image: &[u8]) -> Result<(), ShellFault> {
+    if let Some(unlinked) = strays_of(alloc, image)?.count() {
+        text.extend_from_slice(format!(in alloc; "; {unlinked}")?.as_bytes())?;
+    }
     text.extend_from_slice(b"\n")?;
     Ok(())
 }
@@ -121,10 +124,12 @@ fn add_unsound(
 fn add_check(alloc: Global, text: &mut Vec<u8>, image: &[u8]) -> Result<LookAnswer, ShellFault> {
     let found = check(alloc, image)?;
     let line = check_text(alloc, &found)?;
-    match found {
-        Ok(()) => text.extend_from_slice(line.as_slice())?,
-        Err(_) => add_unsound(alloc, text, image, line.as_slice())?,
+    let line = line.as_slice();
+    text.extend_from_slice(line.strip_suffix(b"\n").unwrap_or(line))?;
+    if found.is_err() {
+        add_odd(alloc, text, image)?;
     }
+    add_unlinked(alloc, text, image)?;
     Ok(answer_of(&found))
 }
 
@@ -215,8 +220,41 @@ fn people_lines(
     Ok(Shown { text, answer })
 }
 
+/// Whether what is shown says itself that files aren't listed.
+fn says_unlinked(look: Look<'_>) -> bool {
+    let is_said = matches!(look.view, View::Soundness | View::Facts | View::Flaws);
+    is_said && !look.is_json && !look.is_csv
+}
+
+/// What a look comes to at an image with files to which no link of its directory leads.
+fn unlinked_answer(look: Look<'_>, answer: LookAnswer, unlinked: Unlinked) -> LookAnswer {
+    if says_unlinked(look) {
+        return LookAnswer::Told;
+    }
+    let is_fine = matches!(answer, LookAnswer::Fine) && look.view != View::Soundness;
+    LookAnswer::Unlinked(unlinked, is_fine)
+}
+
 /// What an image shows, to people or to programs. Errors: `Image`, `Refused`, `Trouble`, `Memory`; of a sum `Mistaken`.
 pub fn lines_of(
+    alloc: Global,
+    name: &str,
+    image: &[u8],
+    look: Look<'_>,
+) -> Result<Shown, ShellFault> {
+    let Shown { text, answer } = plain_lines_of(alloc, name, image, look)?;
+    if look.view == View::Sum {
+        return Ok(Shown { text, answer });
+    }
+    let answer = match strays_of(alloc, image)?.count() {
+        Some(unlinked) => unlinked_answer(look, answer, unlinked),
+        None => answer,
+    };
+    Ok(Shown { text, answer })
+}
+
+/// The same, with an answer in which files that aren't listed have no part.
+fn plain_lines_of(
     alloc: Global,
     name: &str,
     image: &[u8],

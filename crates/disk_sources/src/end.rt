@@ -1,5 +1,6 @@
 //! Where a directory ends.
 use cbm_sources::Fault;
+use disk_basics::strays::Unlinked;
 use disk_basics::{BreakOff, Cause, Failure, What};
 use std::fmt::{self, Display, Formatter};
 
@@ -51,6 +52,8 @@ pub enum End {
     Whole,
     /// That of a 1541's disk breaks off.
     Disk(BreakOff),
+    /// A 1541's disk has files to which no link of its directory leads.
+    Unlinked(Unlinked),
     /// That of another one does.
     Other(OtherEnd),
 }
@@ -64,12 +67,20 @@ impl End {
         }
     }
 
-    /// Prints that a directory breaks off; answers whether it is whole.
+    /// Whether each file that is listed can be followed, though others aren't listed.
+    pub fn is_unlinked(self) -> bool {
+        matches!(self, End::Unlinked(_))
+    }
+
+    /// Prints that a directory breaks off, or that files aren't listed; answers whether it is whole.
     pub fn tell(self, rt: &impl Eprint, name: &str) -> bool {
         match self {
             End::Whole => return true,
             End::Disk(end) => {
                 let _ = What::Broken(end).tell(rt, name);
+            }
+            End::Unlinked(unlinked) => {
+                let _ = What::Unlinked(unlinked).tell(rt, name);
             }
             End::Other(end) => {
                 let _ = eprintln!(rt; "disk1541: {name}: {end}");

@@ -122,7 +122,7 @@ fn kind_of<R: Runtime + AllocGlobal>(rt: &R, entry: &Entry) -> Result<FileKind, 
         return tell_other(
             rt,
             entry,
-            "is a file of GEOS: its info and its records would be missing",
+            "is a GEOS file: its info block and records would be missing",
         );
     }
     match kind_of_entry(entry) {
@@ -130,14 +130,14 @@ fn kind_of<R: Runtime + AllocGlobal>(rt: &R, entry: &Entry) -> Result<FileKind, 
             tell_other(
                 rt,
                 entry,
-                "is a relative file, and how long its records are isn't known",
+                "is a relative file with an unknown record length",
             )
         }
         Some(kind) => Ok(kind),
         None => tell_other(
             rt,
             entry,
-            "has blocks, and a type that the drive doesn't write",
+            "has blocks and a type that the drive never writes",
         ),
     }
 }

@@ -7,7 +7,8 @@ use cbm_sources::Fault;
 use cbm_volume::Entry;
 use disk_basics::calls::name_text;
 use disk_basics::host::require_ours;
-use disk_basics::{BreakOff, Cause, Disk, Failure, What, in_memory, on_disk};
+use disk_basics::strays::unlisted_on;
+use disk_basics::{Cause, Disk, Failure, What, in_memory, on_disk};
 use std::alloc::{AllocError, Global};
 use std::io;
 
@@ -91,12 +92,10 @@ pub fn other_file(
 /// The entries of a 1541's disk.
 fn disk_entries(alloc: Global, disk: &Disk) -> Result<Entries, Failure> {
     let listed = in_memory(disk.listed(alloc))?;
-    let end = match listed.trouble {
-        Some(trouble) => End::Disk(BreakOff {
-            entries: listed.entries.len(),
-            trouble,
-        }),
-        None => End::Whole,
+    let end = match in_memory(unlisted_on(alloc, disk, &listed))? {
+        Some(What::Broken(end)) => End::Disk(end),
+        Some(What::Unlinked(unlinked)) => End::Unlinked(unlinked),
+        _ => End::Whole,
     };
     Ok(Entries {
         entries: listed.entries,

@@ -5,6 +5,7 @@ use cbm_medium::{Link, Trouble};
 use cbm_shell::foreign_of;
 use cbm_sources::{Contents, Fault, Form, Source, SourceKind};
 use cbm_volume::{Entry, Label};
+use disk_facts::marked_as;
 use disk_reports::{Broken, Facts, Files, OtherKind};
 use std::alloc::{AllocError, Global};
 
@@ -88,7 +89,7 @@ impl<'b> Other<'b> {
     /// The disk or the archive of another kind that these bytes are; None of a 1541's image, and of none. The one error is want of
     /// memory.
     pub fn of(alloc: Global, bytes: &'b [u8]) -> Result<Option<Other<'b>>, AllocError> {
-        if foreign_of(bytes).is_none() {
+        if foreign_of(bytes).is_none() || marked_as(bytes).is_some() {
             return Ok(None);
         }
         Other::read(alloc, bytes)
@@ -225,6 +226,7 @@ impl<'b> Other<'b> {
             unreadable,
             check: None,
             odd: Vec::new(alloc),
+            unlinked: Vec::new(alloc),
         }
     }
 

@@ -4,7 +4,7 @@ use crate::other::Other;
 use cbm_shell::texts::Charset;
 use cbm_volume::Entry;
 use disk_basics::calls::name_text;
-use disk_basics::host::{read_any, require_ours};
+use disk_basics::host::{read_any, require_apart, require_ours};
 use disk_basics::{Failure, What, in_memory, petscii, slot_chosen};
 use disk_facts::number_meant;
 use disk_looks::{
@@ -67,6 +67,7 @@ pub fn get<R: Runtime + AllocGlobal>(
     image: &str,
     taken: &OneFile<'_>,
 ) -> Result<(), Failure> {
+    require_apart(rt, image, taken.output)?;
     let bytes = read_any(rt, image)?;
     if let Some(other) = in_memory(Other::of(rt.alloc(), bytes.as_slice()))? {
         require_no_cvt(rt.alloc(), image, taken.is_cvt)?;
@@ -86,6 +87,7 @@ fn save_one<R: Runtime + AllocGlobal>(
     place: Destination<'_>,
 ) -> Result<bool, AllocError> {
     let alloc = rt.alloc();
+    let name = saves.names.next(alloc, entry)?;
     let file = match other_file(alloc, other, entry, number) {
         Ok(file) => file,
         Err(fault) => {
@@ -94,7 +96,6 @@ fn save_one<R: Runtime + AllocGlobal>(
         }
     };
     let file = packed(alloc, entry, file)?;
-    let name = saves.names.next(alloc, entry)?;
     let path = Path::new(place.folder).join(alloc, name.as_str())?;
     let shown = name_text(alloc, Charset::Upper, entry.name())?;
     Ok(save_as(

@@ -1,10 +1,11 @@
 //! TRANSFER: files of another disk or archive onto an image.
 use crate::moving::{Way, with_one};
-use crate::origin::Origin;
+use crate::origin::{Entries, Origin};
 use cbm_shell::texts::Charset;
 use cbm_volume::Entry;
 use disk_basics::calls::name_text;
 use disk_basics::host::{print, read_any, read_to_change, replace};
+use disk_basics::strays::require_kept;
 use disk_basics::{Failure, What, in_memory, petscii};
 use disk_facts::{first_meant, is_meant};
 use disk_reports::match_line;
@@ -77,7 +78,7 @@ pub fn with_all<R: Runtime + AllocGlobal>(
         if is_wanted(entry, patterns) {
             let next = with_one(rt, way, image.as_slice(), entry, number);
             if next.is_err() {
-                in_memory(tell_left(rt, entry, ", and so no file is"))?;
+                in_memory(tell_left(rt, entry, ", so no file was"))?;
             }
             image = next?;
         }
@@ -101,7 +102,7 @@ impl Plan {
             return format!(in alloc; "{fine} {noun} would be transferred\n");
         }
         let all = fine.saturating_add(left);
-        format!(in alloc; "{fine} of {all} files could be transferred, and so none would be\n")
+        format!(in alloc; "{fine} of {all} files could be transferred, so none would be\n")
     }
 }
 
@@ -158,6 +159,19 @@ fn show_all<R: Runtime + AllocGlobal>(
     }
 }
 
+/// Whether a directory has all files that are wanted: it is whole, or patterns say them and each file that is listed can be followed. What
+/// it lacks is reported.
+fn is_enough(rt: &impl Eprint, found: &Entries, wanted: &Transfer<'_, '_>) -> bool {
+    let is_whole = found.end.tell(rt, wanted.from);
+    is_whole || found.end.is_unlinked() && !wanted.patterns.is_empty()
+}
+
+/// Saves the image with the files, unless that would write over others that aren't listed.
+fn save<R: Runtime + AllocGlobal>(rt: &R, to: &str, old: &[u8], new: &[u8]) -> Result<(), Failure> {
+    require_kept(rt.alloc(), to, old, new, What::UnlinkedChange)?;
+    replace(rt, to, old, new)
+}
+
 /// Transfers files from a disk or an archive onto an image, all of them or none, and saves it; or shows what would be transferred. Errors:
 /// `Read`, `TooLong`, `Foreign`; `Told`, where the directory or a file can't be read, or isn't one that the drive writes, as is reported;
 /// `NoFile`; those of `read_to_change`; `Disk`, where a name is there already or the disk refuses a file; `DirectoryFull`; `NoMemory`;
@@ -170,7 +184,7 @@ pub fn transfer_files<R: Runtime + AllocGlobal>(
     let bytes = read_any(rt, wanted.from)?;
     let origin = Origin::open(rt.alloc(), wanted.from, bytes.as_slice())?;
     let found = origin.entries(rt.alloc())?;
-    if !found.end.tell(rt, wanted.from) {
+    if !is_enough(rt, &found, wanted) {
         return Err(Failure::new(What::Told));
     }
     let entries = found.entries.as_slice();
@@ -185,5 +199,5 @@ pub fn transfer_files<R: Runtime + AllocGlobal>(
         return show_all(rt, way, old, entries, patterns.as_slice(), wanted);
     }
     let new = with_all(rt, way, old.as_slice(), entries, patterns.as_slice())?;
-    replace(rt, to, old.as_slice(), new.as_slice())
+    save(rt, to, old.as_slice(), new.as_slice())
 }

@@ -3,7 +3,7 @@ use Rattle.std.specs.Prelude.{ℕ, None, Result, Ok, Err}
 use Rattle.cbm_program.specs.declared.fault.RunFault.{RunFault}
 use Rattle.cbm_program.specs.declared.fault.RunFault.TheVariants.{Script as LineRefused, Image as ImageRefused, Memory, Reading, Writing}
 use Rattle.drive1541.specs.declared.failure.RunFailure.{RunFailure}
-use Rattle.drive1541.specs.declared.failure.RunFailure.TheVariants.{Script, Image, File, TooLong, NoMemory}
+use Rattle.drive1541.specs.declared.failure.RunFailure.TheVariants.{Script, Image, Foreign, File, TooLong, Changed, NoTrace, NoMemory}
 use Rattle.drive1541.specs.declared.reason.Reason.TheVariants.{Unknown}
 use Rattle.drive1541.specs.declared.failure.Stream.TheVariants.{Script as TheScript, Output}
 
@@ -11,8 +11,11 @@ use Rattle.drive1541.specs.declared.failure.Stream.TheVariants.{Script as TheScr
 abbrev pub failure_status : RunFailure → ℕ
 failure_status (Script line reason) = 1
 failure_status (Image number) = 2
+failure_status (Foreign words) = 2
 failure_status (File stream why) = 3
 failure_status (TooLong stream) = 3
+failure_status Changed = 3
+failure_status NoTrace = 3
 failure_status NoMemory = 3
 
 -- the same where it may have ended well

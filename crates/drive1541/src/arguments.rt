@@ -191,7 +191,7 @@ fn command<'a>(alloc: Global) -> Result<Command<'a>, Error> {
         .arg(switch(alloc, "check", "first print whether the disk is sound"))?
         .arg(direct(
             alloc,
-            "let channels read and write single blocks; `raw`: write any, also of files",
+            "let channels read and write single blocks; `raw`: write any, even of files",
         ))?
         .arg(switch(alloc, "dry-run", "save nothing"))?
         .arg(trace)?

@@ -3,8 +3,9 @@ ghost use Rattle.std.specs.Prelude.{◌≡◌};
 ghost use Rattle.drive1541.specs.Failure.{run_exit_status, failure_of, run_status, failure_status};
 
 use crate::arguments::Arguments;
-use crate::reason::{Reason, image_words};
+use crate::reason::{NO_IMAGE, Reason, image_words};
 use cbm_program::RunFault;
+use disk_facts::NotImage;
 use host_files::GREATEST_IMAGE;
 use std::io;
 
@@ -30,10 +31,16 @@ pub enum RunFailure {
     Script(u32, Reason),
     /// The image is refused, by its fault's number.
     Image(u8),
+    /// The file is not an image of a 1541's disk, and why.
+    Foreign(NotImage),
     /// A file couldn't be read or written, and why, if that is known.
     File(Stream, Option<io::ErrorKind>),
     /// The image has more bytes than any.
     TooLong(Stream),
+    /// The image was changed by another program since it was read.
+    Changed,
+    /// A file that is no trace would be written over by one.
+    NoTrace,
     /// Memory ran out.
     NoMemory,
 }
@@ -51,6 +58,16 @@ pub fn tell_too_long(rt: &impl Eprint, name: &str) -> io::Result<()> {
     eprintln!(rt;
         "file fault: {name}: it has more than {GREATEST_IMAGE} bytes: too many to be read here"
     )
+}
+
+/// Prints which image another program changed.
+pub fn tell_changed(rt: &impl Eprint, name: &str) -> io::Result<()> {
+    eprintln!(rt; "file fault: {name}: another program changed it meanwhile, so nothing was saved")
+}
+
+/// Prints which file isn't written over by a trace.
+fn tell_no_trace(rt: &impl Eprint, name: &str) -> io::Result<()> {
+    eprintln!(rt; "file fault: {name}: it exists and is not a trace: use another name for --trace")
 }
 
 /// The exit status of a program that ended so.
@@ -71,7 +88,9 @@ impl RunFailure {
         match self {
             RunFailure::Script(..) => 1,
             RunFailure::Image(_) => 2,
+            RunFailure::Foreign(_) => 2,
             RunFailure::File(..) | RunFailure::TooLong(_) | RunFailure::NoMemory => 3,
+            RunFailure::Changed | RunFailure::NoTrace => 3,
         }
     }
 
@@ -86,8 +105,14 @@ impl RunFailure {
                 let words = image_words(number);
                 eprintln!(rt; "image refused: {number}: {words}")
             }
+            RunFailure::Foreign(why) => {
+                let words = why.words();
+                eprintln!(rt; "image refused: {NO_IMAGE}: it is {words}")
+            }
             RunFailure::File(stream, why) => tell_file(rt, arguments.name_of(stream), why),
             RunFailure::TooLong(stream) => tell_too_long(rt, arguments.name_of(stream)),
+            RunFailure::Changed => tell_changed(rt, arguments.name_of(Stream::Out)),
+            RunFailure::NoTrace => tell_no_trace(rt, arguments.name_of(Stream::Trace)),
             RunFailure::NoMemory => eprintln!(rt; "no memory"),
         }
     }

@@ -28,16 +28,14 @@ Exit status: 0 a session, 1 the host broke it first, 2 a drive did, 3 the trace 
 line changes in it, 64 the command line";
 
 /// What help says of `--loosely`.
-const LOOSELY: &str =
-    "ignore changes of CLOCK and DATA that no drive looks at, as a KERNAL makes them";
+const LOOSELY: &str = "ignore changes of CLOCK and DATA that no drive looks at, such as a KERNAL's";
 
 /// What help says of `--disk`.
 const DISK: &str =
     "the image in a drive as it was switched on, one for each --drive in order: what the drives say is judged, too, loosely";
 
 /// What help says of `--all`.
-const ALL: &str =
-    "after a breach, judge anew from the next pull of ATN on at which all lines are free";
+const ALL: &str = "after a breach, resume at the next pull of ATN at which all lines are free";
 
 /// The word that asks for the judge.
 const JUDGE: &str = "judge";
@@ -93,11 +91,7 @@ fn command<'a>(alloc: Global) -> Result<Command<'a>, Error> {
             "moments",
             "print the moment of each act, in microseconds",
         ))?
-        .arg(switch(
-            alloc,
-            "json",
-            "print the verdict alone, as an object of JSON",
-        ))?;
+        .arg(switch(alloc, "json", "print only the verdict, as JSON"))?;
     Ok(command)
 }
 
@@ -141,7 +135,7 @@ pub fn run(rt: &HostRuntime, words: &[String]) -> ExitCode {
     };
     let Ok(Some(seats)) = seats_of(rt.alloc(), &matches) else {
         let _ = eprintln!(rt;
-            "error: a drive is DEVICE:REACTION or DEVICE:REACTION:PACE, as 8:20, and REACTION may be a range, as 10-40"
+            "error: --drive needs DEVICE:REACTION or DEVICE:REACTION:PACE, such as 8:20; REACTION can be a range, such as 10-40"
         );
         return ExitCode::from(UNASKED);
     };
@@ -245,7 +239,7 @@ fn hint(rt: &impl Eprint, judged: Judged, asked: Asked<'_>) {
         || asked.parties.iter().all(|it| it.pace == Pace::Profile);
     if judged.is_of_kernal && is_kept && judged.verdict != Verdict::Session {
         let _ = eprintln!(rt;
-            "hint: it begins as the trace of a computer with a KERNAL: --loosely, and drives as 8:20:kernal, judge such a trace"
+            "hint: this looks like the trace of a computer with a KERNAL: use --loosely, and drives such as 8:20:kernal"
         );
     }
 }

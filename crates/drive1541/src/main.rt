@@ -5,10 +5,12 @@ mod arguments;
 mod failure;
 mod judge;
 mod noted;
+mod outputs;
 mod program;
 mod reason;
 mod reply;
 mod returns;
+mod saving;
 mod traced;
 
 use std::process::ExitCode;

@@ -4,12 +4,15 @@ ghost use Rattle.std.specs.Prelude.{◌≤◌};
 use crate::arguments::{self, Arguments, is_standard};
 use crate::failure::{RunFailure, Stream, exit_status};
 use crate::noted::Noted;
+use crate::outputs::{Clash, clash_of, require_trace};
 use crate::reason::Reason;
 use crate::returns::Returns;
+use crate::saving::{lock_out, save_image};
 use crate::{judge, reply, traced};
 use cbm_program::Options;
 use clap::error::ErrorKind;
-use host_files::{GREATEST_IMAGE, read_file, read_whole, save};
+use disk_facts::not_image;
+use host_files::{GREATEST_IMAGE, read_file, read_whole};
 use std::io::{BufWriter, Write};
 use std::process::ExitCode;
 use std::rt::Runtime;
@@ -31,18 +34,27 @@ pub fn run_program(rt: &HostRuntime) -> ExitCode {
         Ok(arguments) => arguments,
         Err(error) => return without_arguments(rt, &error),
     };
+    run_arguments(rt, &arguments)
+}
+
+/// Carries out what the command line asks for, unless two of its words name one thing.
+fn run_arguments(rt: &HostRuntime, arguments: &Arguments<'_>) -> ExitCode {
     if arguments.reads_twice() {
-        return without_stream(rt, "error: `-` is IMAGE or SCRIPT, and not both");
+        return without_stream(rt, "error: only one of IMAGE and SCRIPT can be `-`");
     }
     if arguments.writes_twice() {
         return without_stream(
             rt,
-            "error: standard output has the image, the trace or pictures, and not two of them",
+            "error: only one of image, trace and picture can go to standard output",
         );
     }
-    let ended = carry_out(rt, &arguments);
+    if let Some(Clash { name, is, word }) = clash_of(rt, arguments) {
+        let _ = eprintln!(rt; "error: {name} is {is}: use another name for {word}");
+        return ExitCode::from(1);
+    }
+    let ended = carry_out(rt, arguments);
     if let Err(failure) = &ended {
-        let _ = failure.tell(rt, &arguments);
+        let _ = failure.tell(rt, arguments);
     }
     ExitCode::from(exit_status(&ended))
 }
@@ -52,7 +64,7 @@ fn without_words(rt: &HostRuntime, error: &io::Error) -> ExitCode {
     if error.kind() == io::ErrorKind::OutOfMemory {
         return without_memory(rt);
     }
-    let _ = eprintln!(rt; "error: a word of the command line is no text");
+    let _ = eprintln!(rt; "error: an argument is not valid UTF-8");
     ExitCode::from(1)
 }
 
@@ -103,38 +115,35 @@ fn read_image<R: Runtime + AllocGlobal>(rt: &R, name: &str) -> Result<Vec<u8>, R
     }
 }
 
-/// Prints the image.
-fn print_image<R: Runtime>(rt: &R, image: &[u8]) -> Result<(), RunFailure> {
-    let mut output = io::writer(rt);
-    match output.write_all(image) {
-        Ok(()) => Ok(()),
-        Err(error) => Err(RunFailure::of_file(error, Stream::Out)),
-    }
-}
-
-/// Saves the image where it goes, if anything is saved.
-fn save_image<R: Runtime + AllocGlobal>(
-    rt: &R,
-    arguments: &Arguments<'_>,
-    image: &[u8],
-) -> Result<(), RunFailure> {
-    match arguments.out {
+/// Refuses a file that is no image of a 1541's disk. The one error is `Foreign`.
+fn require_image(image: &[u8]) -> Result<(), RunFailure> {
+    match not_image(image) {
+        Some(why) => Err(RunFailure::Foreign(why)),
         None => Ok(()),
-        Some(out) if is_standard(out) => print_image(rt, image),
-        Some(out) => save(rt, "drive1541", out, image).map_err(|e| RunFailure::of_file(
-            e,
-            Stream::Out,
-        )),
     }
 }
 
-fn carry_out<R: Runtime + AllocGlobal>(
-    rt: &R,
+/// Runs the script on the image, and saves that.
+fn run_and_save(
+    rt: &HostRuntime,
+    image: &[u8],
     arguments: &Arguments<'_>,
+    is_locked: bool,
 ) -> Result<(), RunFailure> {
-    let image = read_image(rt, arguments.image)?;
-    let saved = run_named(rt, image.as_slice(), arguments)?;
-    save_image(rt, arguments, saved.as_slice())
+    require_image(image)?;
+    let saved = run_named(rt, image, arguments)?;
+    save_image(rt, arguments, image, saved.as_slice(), is_locked)
+}
+
+fn carry_out(rt: &HostRuntime, arguments: &Arguments<'_>) -> Result<(), RunFailure> {
+    require_trace(rt, arguments)?;
+    let others_wait = lock_out(rt, arguments);
+    let answer = match read_image(rt, arguments.image) {
+        Ok(image) => run_and_save(rt, image.as_slice(), arguments, others_wait.is_some()),
+        Err(failure) => Err(failure),
+    };
+    drop(others_wait);
+    answer
 }
 
 /// Runs the script of the command line.

@@ -102,35 +102,37 @@ impl Reason {
     /// The reason in words.
     pub fn words(self) -> &'static str {
         match self {
-            Reason::Unknown => "it is no request",
-            Reason::Space => "it begins with a space: take that away",
+            Reason::Unknown => "it is not a request",
+            Reason::Space => "it begins with a space: remove it",
             Reason::Long => "it has more than 1,000 bytes",
-            Reason::Verb => "it begins with none of open, put, fill, get, close, status",
-            Reason::Channel => "a channel is wanted, 0 to 15, after one space",
+            Reason::Verb => "it must begin with open, put, fill, get, close or status",
+            Reason::Channel => "expected a channel, 0 to 15, after one space",
             Reason::Numbers => {
-                "after the channel get wants a count, 1 to 200000, and fill a count and two hexadecimal digits"
+                "after the channel, get needs a count, 1 to 200000, and fill a count and two hexadecimal digits"
             }
-            Reason::More => "nothing may stand after this request",
+            Reason::More => "unexpected text after this request",
             Reason::Text => {
                 "its text has a byte that isn't from $20 to $7e, or a backslash without two of 0 to 9 and a to f (\\5c is a backslash)"
             }
             Reason::Change => {
-                "MOMENT LINE WAY is wanted, as 0 atn pull, not before the moment of the line before, and `end MOMENT` last"
+                "expected `MOMENT LINE WAY`, such as `0 atn pull`; moments never go back, and `end MOMENT` comes last"
             }
         }
     }
 }
 
+/// The number of the fault of a file that is no image of a 1541's disk.
+pub const NO_IMAGE: u8 = 1;
+
 /// Why an image is refused, by the number of its fault.
 pub fn image_words(number: u8) -> &'static str {
     match number {
-        1 => "it is no G64, nor of a D64's size",
         2 => "the G64's version isn't 0",
-        3 => "the G64's tables haven't 69 to 84 entries",
-        4 => "the G64's greatest track has more than 7928 bytes",
-        5 => "the G64 is cut off, or a track lies outside of it",
-        6 => "a track of the G64 has no byte, or more than the greatest",
+        3 => "the G64 must have 69 to 84 track entries",
+        4 => "the G64's greatest track size is above 7928 bytes",
+        5 => "the G64 is truncated, or a track lies outside the file",
+        6 => "a track of the G64 is empty, or longer than the greatest track size",
         8 => "two tracks of the G64 share bytes",
-        _ => "it is no image of a disk",
+        _ => "it is not a disk image",
     }
 }

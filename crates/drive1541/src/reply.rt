@@ -10,7 +10,7 @@ mod words;
 use buses::talk_on;
 use clap::error::ErrorKind;
 use direct_buses::talk_directly_on;
-use disks::{open_disks, save_disks};
+use disks::{Opened, open_disks, save_disks};
 use failure::ReplyFailure;
 use std::process::ExitCode;
 use words::{Words, parse};
@@ -25,12 +25,12 @@ pub fn is_asked(words: &[String]) -> bool {
 
 /// Opens the images, talks, and saves them.
 fn carry_out(rt: &HostRuntime, words: &Words<'_>) -> Result<(), ReplyFailure> {
-    let disks = open_disks(rt, words)?;
+    let Opened { disks, images } = open_disks(rt, words)?;
     let disks = match words.direct() {
         Some(access) => talk_directly_on(rt, disks, words.seats(), access)?,
         None => talk_on(rt, disks, words.seats())?,
     };
-    save_disks(rt, &disks, words)
+    save_disks(rt, &disks, &images, words)
 }
 
 // What was asked for, as help is, is no fault.
@@ -55,6 +55,10 @@ pub fn run(rt: &HostRuntime, words: &[String]) -> ExitCode {
             return ExitCode::from(1);
         }
     };
+    if let Some(name) = words.clash(rt) {
+        let _ = eprintln!(rt; "error: {name} belongs to another drive: use another name for OUT");
+        return ExitCode::from(1);
+    }
     match carry_out(rt, &words) {
         Ok(()) => ExitCode::SUCCESS,
         Err(failure) => {

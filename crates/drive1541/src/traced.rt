@@ -52,8 +52,8 @@ impl<F: Write, S: Write> Tracer<F, S> {
         }
     }
 
-    /// Writes what is left of the trace; why it couldn't be written, if it couldn't.
-    fn end(&mut self) -> Result<(), RunFailure> {
+    /// Writes what is left of the trace. Returns what couldn't be written first, and why.
+    fn end(&mut self) -> Option<(Stream, io::ErrorKind)> {
         let moment = self.moment;
         let recorded = match &mut self.recorder {
             Some(recorder) => recorder.end(moment),
@@ -65,10 +65,7 @@ impl<F: Write, S: Write> Tracer<F, S> {
             None => Ok(()),
         };
         self.note(drawn, Stream::Output);
-        match self.failed {
-            None => Ok(()),
-            Some((stream, kind)) => Err(RunFailure::of_file(io::Error::from(kind), stream)),
-        }
+        self.failed
     }
 }
 
@@ -192,8 +189,10 @@ pub fn run<R: Runtime + AllocGlobal, S: Read, W: Write>(
     }
     let mut tracer = begin(rt, arguments)?;
     let ended = run_traced(rt, script, output, &mut tracer, image, arguments);
-    let traced = tracer.end();
+    let untraced = tracer.end();
     let saved = ended.map_err(RunFailure::of_run)?;
-    traced?;
-    Ok(saved)
+    match untraced {
+        None => Ok(saved),
+        Some((stream, kind)) => Err(RunFailure::of_file(io::Error::from(kind), stream)),
+    }
 }

@@ -6,6 +6,7 @@ pub mod env;
 pub mod fs;
 pub mod io;
 pub mod memory;
+pub mod os;
 pub mod path;
 pub mod rt;
 mod standard;

@@ -21,7 +21,7 @@ mod vec;
 #[cfg(feature = "os")]
 mod host;
 #[cfg(feature = "os")]
-pub use host::{env, fs, io, memory, path, rt, time};
+pub use host::{env, fs, io, memory, os, path, rt, time};
 #[cfg(feature = "serde")]
 mod by_serde;
 #[doc(hidden)]

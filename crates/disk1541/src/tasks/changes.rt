@@ -2,6 +2,7 @@
 use crate::reading::{choice, gone, head, host_files, pair, patterns_word, type_and_choice};
 use cbm_shell::texts::Charset;
 use clap::ArgMatches;
+use disk_basics::strays::require_kept;
 use disk_basics::{Choice, Failure, What, WordFault, in_memory};
 use disk_changes::{require_files, with_files};
 use disk_commands::{Verb, flag, given, option};
@@ -75,7 +76,10 @@ fn copy_of(
     charset: Charset,
     desk: Desk<'_, '_>,
 ) -> Result<Vec<u8>, Failure> {
-    let (pair, choice) = pair(words, charset)?;
+    let (pair, choice) = match pair(words, charset) {
+        Ok(both) => both,
+        Err(failure) => return Err(failure),
+    };
     if choice.is_pattern() {
         return copied(alloc, desk.image, desk.bytes, &pair);
     }
@@ -89,7 +93,10 @@ fn rename_of(
     charset: Charset,
     desk: Desk<'_, '_>,
 ) -> Result<Vec<u8>, Failure> {
-    let (pair, choice) = pair(words, charset)?;
+    let (pair, choice) = match pair(words, charset) {
+        Ok(both) => both,
+        Err(failure) => return Err(failure),
+    };
     if choice.is_pattern() {
         return renamed(alloc, desk.image, desk.bytes, &pair);
     }
@@ -140,7 +147,10 @@ fn retype_of(
     charset: Charset,
     desk: Desk<'_, '_>,
 ) -> Result<Vec<u8>, Failure> {
-    let (word, choice) = type_and_choice(words, charset)?;
+    let (word, choice) = match type_and_choice(words, charset) {
+        Ok(both) => both,
+        Err(failure) => return Err(failure),
+    };
     retyped(alloc, desk, choice, word)
 }
 
@@ -193,6 +203,15 @@ fn place_of(
     })
 }
 
+/// Refuses names of COPY and RENAME that can't be used. Errors: `Word`.
+fn require_pair(alloc: Global, words: &ArgMatches<'_>, charset: Charset) -> Result<(), Failure> {
+    match pair(words, charset) {
+        Ok((pair, choice)) if choice.is_pattern() => require_names(alloc, &pair),
+        Ok(_) => Ok(()),
+        Err(failure) => Err(failure),
+    }
+}
+
 /// Refuses words that can't be used, whatever the image is. Errors: `Word`.
 pub fn require_words<'a>(
     alloc: Global,
@@ -206,13 +225,7 @@ pub fn require_words<'a>(
             let put = host_files(words, manner.charset, manner.input);
             require_files(image, words.get_strs("FILE").unwrap_or(&[]), &put)
         }
-        Verb::Copy | Verb::Rename => {
-            let (pair, choice) = pair(words, manner.charset)?;
-            if choice.is_pattern() {
-                require_names(alloc, &pair)?;
-            }
-            Ok(())
-        }
+        Verb::Copy | Verb::Rename => { require_pair(alloc, words, manner.charset) }
         Verb::Sort => {
             key_of_word(alloc, given(words, "by"))?;
             Ok(())
@@ -225,8 +238,38 @@ pub fn require_words<'a>(
     }
 }
 
-/// What a command makes of an image. Errors: those of its call; `Told`, where it changes no image.
+/// What a command makes of an image, if that keeps what entries lead to that no link of the directory leads to, or the command is to put
+/// the disk in order whatever that gives back. Errors: those of its call; `Told`, where it changes no image; `UnlinkedOrder`,
+/// `UnlinkedChange`.
 pub fn made_by<'a, R: Runtime + AllocGlobal>(
+    rt: &R,
+    verb: Verb,
+    words: &ArgMatches<'a>,
+    desk: Desk<'_, '_>,
+    manner: Manner<'a>,
+) -> Result<Made, Failure> {
+    let made = made_plainly(rt, verb, words, desk, manner)?;
+    let is_order = matches!(verb, Verb::Validate);
+    if is_order && flag(words, "force") {
+        return Ok(made);
+    }
+    let what = if is_order {
+        What::UnlinkedOrder
+    } else {
+        What::UnlinkedChange
+    };
+    require_kept(
+        rt.alloc(),
+        desk.image,
+        desk.bytes,
+        made.image.as_slice(),
+        what,
+    )?;
+    Ok(made)
+}
+
+/// What a command makes of an image.
+fn made_plainly<'a, R: Runtime + AllocGlobal>(
     rt: &R,
     verb: Verb,
     words: &ArgMatches<'a>,

@@ -15,7 +15,7 @@ pub struct Counts {
     others: u32,
     // No images of disks, or unreadable.
     none: u32,
-    // Among those that were looked at, with a directory that breaks off.
+    // Among those that were looked at, with files that aren't listed: the directory breaks off, or no link leads to them.
     broken: u32,
     // Among them, disks and archives of other kinds.
     foreign: u32,
@@ -47,7 +47,11 @@ impl Counts {
             LookAnswer::Fine => self.fine = self.fine.wrapping_add(1),
             LookAnswer::Unsound(_) | LookAnswer::NoMatch | LookAnswer::Untitled => self.others =
                 self.others.wrapping_add(1),
-            LookAnswer::Broken(_) | LookAnswer::Told => {
+            LookAnswer::Unlinked(_, true) => {
+                self.fine = self.fine.wrapping_add(1);
+                self.broken = self.broken.wrapping_add(1);
+            }
+            LookAnswer::Broken(_) | LookAnswer::Unlinked(_, false) | LookAnswer::Told => {
                 self.others = self.others.wrapping_add(1);
                 self.broken = self.broken.wrapping_add(1);
             }
@@ -104,7 +108,7 @@ impl Counts {
         match view {
             View::Soundness | View::Flaws => {
                 format!(in alloc;
-                    "{all} images: {fine} sound, {others} not, {none} no images{end}\n"
+                    "{all} images: {fine} sound, {others} not sound, {none} not images{end}\n"
                 )
             }
             View::Matches => {

@@ -22,6 +22,9 @@ fn look_at_one<R: Runtime + AllocGlobal>(
         LookAnswer::NoMatch => Err(Failure::new(What::NoMatch)),
         LookAnswer::Untitled => Err(Failure::named(rt.alloc(), What::Untitled, image)),
         LookAnswer::Broken(end) => Err(Failure::named(rt.alloc(), What::Broken(end), image)),
+        LookAnswer::Unlinked(unlinked, _) => {
+            Err(Failure::named(rt.alloc(), What::Unlinked(unlinked), image))
+        }
         LookAnswer::Told => Err(Failure::new(What::Told)),
     }
 }
@@ -46,6 +49,7 @@ fn tell_answer(rt: &impl Eprint, image: &str, answer: LookAnswer) {
     let _ = match answer {
         LookAnswer::Untitled => What::Untitled.tell(rt, image),
         LookAnswer::Broken(end) => What::Broken(end).tell(rt, image),
+        LookAnswer::Unlinked(unlinked, _) => What::Unlinked(unlinked).tell(rt, image),
         LookAnswer::Fine | LookAnswer::Unsound(_) => Ok(()),
         LookAnswer::NoMatch | LookAnswer::Told => Ok(()),
     };

@@ -271,7 +271,7 @@ fn tell_line(rt: &impl Eprint, script: Script<'_>, number: usize) {
     };
     let image = script.image;
     let _ = eprintln!(rt;
-        "disk1541: line {number} of {file} is refused, and so {image} stays as it is"
+        "disk1541: line {number} of {file} was refused, so {image} was not changed"
     );
 }
 

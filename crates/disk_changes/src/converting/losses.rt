@@ -13,14 +13,14 @@ fn tell_unreadable(rt: &impl Eprint, output: &str, lost: &Losses) -> io::Result<
     let track = first.at.track();
     let sector = first.at.sector();
     eprintln!(rt;
-        "disk1541: {output} has zeros for each sector that can't be read: {count}, the first at track {track}, sector {sector} (error {code})"
+        "disk1541: {output} would have zeros in {count} unreadable sectors, the first at track {track}, sector {sector} (error {code})"
     )
 }
 
 /// Reports the tracks that are too many.
 fn tell_tracks(rt: &impl Eprint, output: &str, old: Kind) -> io::Result<()> {
     match old {
-        Kind::D64 => eprintln!(rt; "disk1541: {output} can't hold the tracks 36 to 40"),
+        Kind::D64 => eprintln!(rt; "disk1541: {output} can't hold tracks 36 to 40"),
         Kind::G64 => {
             eprintln!(rt; "disk1541: {output} can't hold half tracks and tracks beyond 35")
         }
@@ -38,7 +38,7 @@ pub fn tell_lost(rt: &impl Eprint, output: &str, lost: &Losses, old: Kind) -> io
     }
     if lost.header_id {
         eprintln!(rt;
-            "disk1541: {output} can't hold the id in the headers, as 18/0 tells another one"
+            "disk1541: {output} can't keep the id in the headers: 18/0 has a different one"
         )?;
     }
     Ok(())

@@ -141,14 +141,14 @@ fn shortened<R: Runtime + AllocGlobal>(
 ) -> Result<(Vec<u8>, bool), Failure> {
     if !are_free(bytes) || has_any_geos(rt.alloc(), image, bytes)? {
         let _ = eprintln!(rt;
-            "disk1541: {image} needs its 40 tracks: its BAM hasn't all blocks of the tracks 36 to 40 as free"
+            "disk1541: {image} needs its 40 tracks: some blocks of tracks 36 to 40 are in use"
         );
         return Err(Failure::new(What::Told));
     }
     let count = count_written(bytes.get(OF_35_TRACKS..).unwrap_or(&[]));
     if count != 0 {
         let _ = eprintln!(rt;
-            "disk1541: {output} can't hold the tracks 36 to 40: sectors with data there: {count}"
+            "disk1541: {output} can't hold tracks 36 to 40, where {count} sectors have data"
         );
     }
     Ok((cut(rt.alloc(), bytes)?, count != 0))
@@ -174,7 +174,7 @@ fn tell_unheld(rt: &impl Eprint, bytes: &[u8], output: &str) -> bool {
     let has_more = has_other(plain.get(SPEED..SPEED + ROWS).unwrap_or(&[]), 0);
     if has_more {
         let _ = eprintln!(rt;
-            "disk1541: {output} can't hold the bytes $C0 to $D3 of track 18, sector 0: the BAM of tracks 36 to 40 goes there"
+            "disk1541: {output} can't hold the bytes $C0 to $D3 of track 18, sector 0, the place of the BAM of tracks 36 to 40"
         );
     }
     has_errors || has_more

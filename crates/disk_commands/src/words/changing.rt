@@ -56,14 +56,14 @@ pub const TRACKS: Word = Word {
 /// The format of a new image.
 pub const FORMAT: Word = Word {
     name: "format",
-    help: "d64 or g64; without it the ending of the name decides",
+    help: "d64 or g64; default: from the ending of the name",
     value: &["F"],
     ..OPTION
 };
 
 /// A new image over one that is there.
 pub const REPLACE_IMAGE: Word = Word {
-    help: "replace the image that is there",
+    help: "replace an existing image",
     ..REPLACE_FILE
 };
 
@@ -83,7 +83,7 @@ pub const LOSSY: Word = Word {
 
 /// ERRORS that drops those that tell of an error, too.
 pub const LOSSY_DROP: Word = Word {
-    help: "with --drop: also if some tell of an error",
+    help: "with --drop: even if some report an error",
     ..LOSSY
 };
 
@@ -113,7 +113,7 @@ pub const NAME_ON_DISK: Word = Word {
 /// The files' type.
 pub const TYPE: Word = Word {
     name: "type",
-    help: "prg, seq, usr or rel; without it the ending of the file's name decides, else prg",
+    help: "prg, seq, usr or rel; default: from the ending of the file's name, or prg",
     value: &["TYPE"],
     ..OPTION
 };
@@ -158,7 +158,7 @@ pub const PLACED: Word = Word {
 /// How far apart PLACE lays blocks.
 pub const INTERLEAVE: Word = Word {
     name: "interleave",
-    help: "how many sectors behind one block the next is laid, 1 to 20",
+    help: "sectors from one block to the next, 1 to 20",
     value: &["N"],
     default: &["10"],
     ..OPTION
@@ -167,7 +167,7 @@ pub const INTERLEAVE: Word = Word {
 /// The track on which PLACE begins.
 pub const TRACK_FROM: Word = Word {
     name: "track",
-    help: "the first track; blocks are laid there and on those behind it, but not on 18",
+    help: "the first track; blocks are placed there and on later ones, except 18",
     value: &["T"],
     default: &["1"],
     ..OPTION
@@ -208,7 +208,7 @@ pub const NEW_TYPE: Word = Word {
 /// The commands that RUN carries out.
 pub const LINES: Word = Word {
     name: "FILE",
-    help: "the commands, a line for each, without the image; standard input if it isn't said",
+    help: "the commands, one a line, without the image; default: standard input",
     default: &["-"],
     is_needed: false,
     ..NEEDED
@@ -223,7 +223,7 @@ pub const FROM: Word = Word {
 
 /// The files that TRANSFER takes.
 pub const TRANSFERRED: Word = Word {
-    help: "file names or patterns; all files if there is none",
+    help: "file names or patterns; default: all files",
     ..MEANT
 };
 
@@ -237,7 +237,7 @@ pub const NEW_TITLE: Word = Word {
 /// VALIDATE or TRANSFER without a change.
 pub const DRY_RUN: Word = Word {
     name: "dry-run",
-    help: "show what would be done, and change nothing",
+    help: "show what would be done without changing anything",
     ..FLAG
 };
 

@@ -54,6 +54,7 @@ pub const CHARSET: Word = Word {
 pub const RAW: Word = Word {
     name: "raw",
     help: "print the bytes that the drive sends",
+    excludes: &["json", "csv"],
     ..FLAG
 };
 
@@ -123,7 +124,8 @@ pub const SCREEN_CHARSET: Word = Word {
 /// Every flaw of a disk.
 pub const ALL: Word = Word {
     name: "all",
-    help: "show every fault, the files that have it, and whether it can be mended",
+    help: "show every fault, the files that have it, and whether it can be repaired",
+    excludes: &["csv"],
     ..FLAG
 };
 
@@ -168,14 +170,14 @@ pub const OUTPUT: Word = Word {
 /// GET over a file that is there.
 pub const REPLACE_FILE: Word = Word {
     name: "replace",
-    help: "replace the file that is there",
+    help: "replace an existing file",
     ..FLAG
 };
 
 /// What can be read of damaged files.
 pub const SALVAGE: Word = Word {
     name: "salvage",
-    help: "take what can be read, also of damaged and unclosed files",
+    help: "extract the readable part, even of damaged and unclosed files",
     ..FLAG
 };
 
@@ -210,13 +212,13 @@ pub const SECTOR: Word = Word {
 /// Where GET-ALL writes the files.
 pub const FOLDER: Word = Word {
     name: "DIR",
-    help: "the folder; it is made if it isn't there",
+    help: "the folder, created if missing",
     ..NEEDED
 };
 
 /// GET-ALL over files that are there.
 pub const REPLACE_FILES: Word = Word {
-    help: "replace files that are there",
+    help: "replace existing files",
     ..REPLACE_FILE
 };
 
@@ -262,6 +264,7 @@ pub const CIRCLE: Word = Word {
 pub const BLOCKS: Word = Word {
     name: "blocks",
     help: "show where each file's blocks lie, in order, as track/sector",
+    excludes: &["json", "csv"],
     ..FLAG
 };
 
@@ -269,5 +272,6 @@ pub const BLOCKS: Word = Word {
 pub const DELETED: Word = Word {
     name: "deleted",
     help: "show deleted files: `undelete` restores one while its blocks are free",
+    excludes: &["json", "csv"],
     ..FLAG
 };

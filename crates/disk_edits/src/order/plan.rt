@@ -1,10 +1,11 @@
 //! What putting a disk in order does, step by step, and that in words.
-use super::border::border_place;
 use cbm_bam::SectorSet;
 use cbm_medium::Address;
 use cbm_shell::texts::Charset;
 use cbm_shell::{ShellFault, geos_of};
 use cbm_volume::Entry;
+use disk_basics::Disk;
+use disk_basics::border::border_place;
 use disk_basics::calls::{entries, geos_blocks};
 use disk_basics::rests::named;
 use disk_json::Named;
@@ -133,7 +134,7 @@ impl Plan {
         image: &[u8],
         telling: &Telling,
     ) -> Result<(), ShellFault> {
-        let Some(at) = border_place(alloc, image)? else {
+        let Some(at) = border_place(&Disk::open(alloc, image)?) else {
             return Ok(());
         };
         let mut border = SectorSet::new();
@@ -257,7 +258,7 @@ pub fn lines_of(alloc: Global, plan: &Plan, telling: &Telling) -> Result<String,
         add_line(alloc, &mut text, step, telling)?;
     }
     if text.is_empty() && telling.is_dry {
-        text.push_str("no block and no file would go\n")?;
+        text.push_str("nothing would be freed or deleted\n")?;
     }
     Ok(text)
 }

@@ -1,5 +1,6 @@
 //! CHECK --ALL as a line of JSON, for programs.
 use super::{Findings, error_of, found_in, names_of, outcome};
+use crate::unlinked::{UnlinkedSector, unlinked_sectors};
 use crate::view::{Look, Shown};
 use cbm_shell::texts::{Charset, words};
 use cbm_shell::{DiskFlaw, ShellFault};
@@ -31,6 +32,7 @@ struct FlawReport<'a> {
     lost: Vec<Sector>,
     rests: &'a [Named],
     odd: &'a [usize],
+    unlinked: Vec<UnlinkedSector>,
 }
 
 /// A flaw, for programs.
@@ -46,7 +48,7 @@ fn facts_of(
         track: flaw.what.track,
         sector: flaw.what.sector,
         number: flaw.what.number,
-        text: std::str::from_utf8(words(flaw.what.number)).unwrap_or("it isn't sound"),
+        text: std::str::from_utf8(words(flaw.what.number)).unwrap_or("it is not sound"),
         error: error_of(disk, flaw),
         files,
         before: flaw.before,
@@ -86,6 +88,7 @@ fn report_of(
         lost,
         rests: findings.rests.as_slice(),
         odd: findings.odd.as_slice(),
+        unlinked: unlinked_sectors(alloc, &findings.strays)?,
     };
     Ok(line(alloc, &report)?)
 }

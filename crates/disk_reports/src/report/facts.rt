@@ -1,7 +1,9 @@
 //! What is known of a disk or an archive, but for its files.
+use crate::unlinked::{UnlinkedSector, unlinked_sectors};
 use cbm_shell::{Info, ShellFault};
 use cbm_volume::{Label, Unsound};
 use disk_basics::odd::odd_slots;
+use disk_basics::strays::strays_of;
 use disk_facts::{WideMap, format_name, more_tracks, wide_map};
 use std::alloc::Global;
 
@@ -26,6 +28,8 @@ pub struct Facts {
     pub check: Option<Result<(), Unsound>>,
     /// The slots of its odd entries, if those are all that is wrong.
     pub odd: Vec<usize>,
+    /// The sectors that have files to which no link of its directory leads.
+    pub unlinked: Vec<UnlinkedSector>,
 }
 
 /// The slots of the odd entries of an image, if those are all that is wrong.
@@ -40,6 +44,7 @@ impl Facts {
     /// What is known of the disk of an image. The one error is `Memory`.
     pub fn of_image(alloc: Global, image: &[u8], info: &Info) -> Result<Facts, ShellFault> {
         let odd = odd_of(alloc, image, info)?;
+        let unlinked = unlinked_sectors(alloc, &strays_of(alloc, image)?)?;
         Ok(Facts {
             format: format_name(image),
             tracks: Some(info.tracks),
@@ -50,6 +55,7 @@ impl Facts {
             unreadable: Some(info.unreadable.len()),
             check: Some(info.check),
             odd,
+            unlinked,
         })
     }
 

@@ -190,7 +190,7 @@ fn number_of(flaw: Option<Unsound>) -> Option<u8> {
 /// What its number means.
 fn text_of(flaw: Option<Unsound>) -> Option<&'static str> {
     let flaw = flaw?;
-    Some(std::str::from_utf8(words(flaw.number)).unwrap_or("it isn't sound"))
+    Some(std::str::from_utf8(words(flaw.number)).unwrap_or("it is not sound"))
 }
 
 /// The line of an image or of another disk or archive. The one error is want of memory.

@@ -5,7 +5,7 @@ use super::{
     BY_DRIVE, BY_HOST, SESSION, UNASKED, UNREAD, status_of_fault, tell_fault, tell_stream,
 };
 use crate::failure::tell_too_long;
-use crate::reason::image_words;
+use crate::reason::{NO_IMAGE, image_words};
 use crate::returns::Returns;
 use bus_beside::{Amiss, Loosely, Seat, Unkept};
 use bus_judge::{NotABus, line_name, way_name};
@@ -13,6 +13,7 @@ use bus_traces::{Told, Traces};
 use cbm_bus::{Channels, Desk, Party};
 use cbm_iec::{Event, Who};
 use cbm_image::{AnyDisk, ImageFault};
+use disk_facts::{NotImage, not_image};
 use host_files::{GREATEST_IMAGE, read_file};
 use judge_report::ReportFault;
 use std::alloc::{AllocError, Global};
@@ -34,17 +35,42 @@ enum Found {
     Wires,
 }
 
+/// Why an image isn't opened.
+enum Refusal {
+    /// Its format has the fault of this number, and that in words.
+    Format(u8, &'static str),
+    /// It is not an image of a 1541's disk, and why.
+    Foreign(NotImage),
+    /// Memory ran out.
+    Memory,
+}
+
+/// The disk of an image.
+fn opened(alloc: Global, image: &[u8]) -> Result<AnyDisk, Refusal> {
+    if let Some(why) = not_image(image) {
+        return Err(Refusal::Foreign(why));
+    }
+    match AnyDisk::open(alloc, image, false) {
+        Ok(disk) => Ok(disk),
+        Err(ImageFault::Format(number)) => Err(Refusal::Format(number, image_words(number))),
+        Err(ImageFault::Memory) => Err(Refusal::Memory),
+    }
+}
+
 /// Reads the disk of an image, or says why it can't.
 fn read_disk(rt: &HostRuntime, name: &str) -> Option<AnyDisk> {
     let read = fs::open(rt, name).and_then(|file| read_file(rt.alloc(), file, GREATEST_IMAGE));
     let _ = match read {
-        Ok(Some(image)) => match AnyDisk::open(rt.alloc(), image.as_slice(), false) {
+        Ok(Some(image)) => match opened(rt.alloc(), image.as_slice()) {
             Ok(disk) => return Some(disk),
-            Err(ImageFault::Format(number)) => {
-                let why = image_words(number);
+            Err(Refusal::Format(number, why)) => {
                 eprintln!(rt; "image refused: {name}: {number}: {why}")
             }
-            Err(ImageFault::Memory) => eprintln!(rt; "no memory"),
+            Err(Refusal::Foreign(why)) => {
+                let what = why.words();
+                eprintln!(rt; "image refused: {name}: {NO_IMAGE}: it is {what}")
+            }
+            Err(Refusal::Memory) => eprintln!(rt; "no memory"),
         },
         Ok(None) => tell_too_long(rt, name),
         Err(error) => {
@@ -111,8 +137,8 @@ fn look_at<R: Read + Drop>(
 fn words_of(amiss: Amiss) -> &'static str {
     match amiss {
         Amiss::Host => "too soon, or a drive looks at it",
-        Amiss::Drive => "a drive does otherwise with a tidy host",
-        Amiss::Event => "a drive with this disk does otherwise",
+        Amiss::Drive => "a drive acts differently with a tidy host",
+        Amiss::Event => "a drive with this disk acts differently",
     }
 }
 

@@ -1,9 +1,10 @@
 //! How a talk ended: its exit status, and its line on standard error.
 
 use super::words::Words;
-use crate::failure::tell_too_long;
-use crate::reason::image_words;
+use crate::failure::{tell_changed, tell_too_long};
+use crate::reason::{NO_IMAGE, image_words};
 use bus_replies::{ReplyFault, ReplyRefusal};
+use disk_facts::NotImage;
 use std::io;
 
 /// A file of the command line, by its drive's place, or a stream.
@@ -26,10 +27,14 @@ pub enum ReplyFailure {
     Line(u64, ReplyRefusal),
     /// The image of the drive at a place is refused, by its fault's number.
     Image(usize, u8),
+    /// The file of the drive at a place is not an image of a 1541's disk, and why.
+    Foreign(usize, NotImage),
     /// A file couldn't be read or written, and why, if that is known.
     File(FailedAt, Option<io::ErrorKind>),
     /// The image of the drive at a place has more bytes than any.
     TooLong(usize),
+    /// The image of the drive at a place was changed by another program since it was read.
+    Changed(usize),
     /// Memory ran out.
     NoMemory,
 }
@@ -55,8 +60,9 @@ impl ReplyFailure {
     pub fn status(self) -> u8 {
         match self {
             ReplyFailure::Line(..) => 1,
-            ReplyFailure::Image(..) => 2,
+            ReplyFailure::Image(..) | ReplyFailure::Foreign(..) => 2,
             ReplyFailure::File(..) | ReplyFailure::TooLong(_) | ReplyFailure::NoMemory => 3,
+            ReplyFailure::Changed(_) => 3,
         }
     }
 
@@ -69,6 +75,11 @@ impl ReplyFailure {
                 let why = image_words(number);
                 eprintln!(rt; "image refused: {name}: {number}: {why}")
             }
+            ReplyFailure::Foreign(place, fault) => {
+                let name = name_of(FailedAt::Image(place), words);
+                let why = fault.words();
+                eprintln!(rt; "image refused: {name}: {NO_IMAGE}: it is {why}")
+            }
             ReplyFailure::File(place, Some(kind)) => {
                 let name = name_of(place, words);
                 eprintln!(rt; "file fault: {name}: {kind}")
@@ -80,6 +91,7 @@ impl ReplyFailure {
             ReplyFailure::TooLong(place) => {
                 tell_too_long(rt, name_of(FailedAt::Image(place), words))
             }
+            ReplyFailure::Changed(place) => tell_changed(rt, name_of(FailedAt::Out(place), words)),
             ReplyFailure::NoMemory => eprintln!(rt; "no memory"),
         }
     }

@@ -5,7 +5,9 @@ use crate::arguments::{direct, direct_of, is_standard};
 use cbm_bus::Party;
 use cbm_direct_desk::Access;
 use clap::{Arg, ArgAction, ArgMatches, Command, Error};
+use host_locks::is_same;
 use std::alloc::Global;
+use std::rt::Files;
 
 /// The most drives.
 const MOST: usize = 4;
@@ -47,7 +49,7 @@ fn command<'a>(alloc: Global) -> Result<Command<'a>, Error> {
         .help("write-protect the disks");
     let direct = direct(
         alloc,
-        "let channels of all drives read and write single blocks; `raw`: write any, also of files",
+        "let channels of all drives read and write single blocks; `raw`: write any, even of files",
     );
     let command = Command::new(alloc, "drive1541 reply")
         .about("Drives with disks on a bus whose host talks over standard input and output")
@@ -70,7 +72,7 @@ fn party_at(place: usize, word: Option<&&str>) -> Result<Party, &'static str> {
     match word {
         None => Ok(plain_party(8 + place.min(3) as u8)),
         Some(word) => party_of(word).ok_or(
-            "--drive wants DEVICE, DEVICE:REACTION or DEVICE:REACTION:PACE: 8 to 11, 1 to 60, profile or kernal",
+            "--drive needs DEVICE, DEVICE:REACTION or DEVICE:REACTION:PACE: 8 to 11, 1 to 60, profile or kernal",
         ),
     }
 }
@@ -99,7 +101,7 @@ impl<'a> Words<'a> {
     fn add(&mut self, word: &'a str, party: Party) -> Result<(), &'static str> {
         let (image, out) = files_of(word);
         if is_standard(image) || out.is_some_and(is_standard) {
-            return Err("standard input and standard output are the host's, `-` is no file here");
+            return Err("standard input and output belong to the host, so `-` can't be used here");
         }
         self.accepts(out, party)?;
         self.seats
@@ -121,6 +123,33 @@ impl<'a> Words<'a> {
             }
         }
         Ok(())
+    }
+
+    /// Whether a file is the image of another drive than this, or is written for one before it.
+    fn is_of_another<R: Files + AllocGlobal>(&self, rt: &R, place: usize, out: &str) -> bool {
+        for (other, seat) in self.seats.iter().enumerate() {
+            let is_image = other != place && is_same(rt, seat.image, out);
+            let is_written = match seat.out {
+                Some(written) => other < place && is_same(rt, written, out),
+                None => false,
+            };
+            if is_image || is_written {
+                return true;
+            }
+        }
+        false
+    }
+
+    /// The first file that would be written over though another drive has it.
+    pub fn clash<R: Files + AllocGlobal>(&self, rt: &R) -> Option<&'a str> {
+        for (place, seat) in self.seats.iter().enumerate() {
+            if let Some(out) = seat.out
+                && self.is_of_another(rt, place, out)
+            {
+                return Some(out);
+            }
+        }
+        None
     }
 
     /// The drives, in their order.

@@ -143,6 +143,12 @@ pub fn metadata<P: AsPath>(_: &impl Files, path: P) -> Result<Metadata> { unansw
 
 pub fn symlink_metadata<P: AsPath>(_: &impl Files, path: P) -> Result<Metadata> { unanswered(|| real::fs::symlink_metadata(path.path_text())) }
 
+pub fn canonicalize<P: AsPath>(_: &impl Files, path: P) -> Result<PathBuf> {
+    let place = unanswered(|| real::fs::canonicalize(path.path_text()))?;
+    let text = place.to_str().ok_or(ErrorKind::InvalidData)?;
+    Ok(PathBuf::from_str(Global, text)?)
+}
+
 pub fn remove_file<P: AsPath>(_: &impl Files, path: P) -> Result<()> { unanswered(|| real::fs::remove_file(path.path_text())) }
 
 pub fn create_dir<P: AsPath>(_: &impl Files, path: P) -> Result<()> { unanswered(|| real::fs::create_dir(path.path_text())) }

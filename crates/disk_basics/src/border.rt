@@ -1,8 +1,8 @@
 //! The border block of a disk that GEOS formatted.
+use crate::disk::Disk;
 use cbm_medium::Address;
 use cbm_shell::ShellFault;
 use cbm_volume::Entry;
-use disk_basics::calls::sector;
 use std::alloc::Global;
 
 /// Where 18/0 says that GEOS formatted the disk, and how.
@@ -17,10 +17,10 @@ const BORDER: usize = 171;
 const ENTRIES: u8 = 8;
 
 /// The bytes of a sector; None where it doesn't read.
-fn bytes_at(alloc: Global, image: &[u8], at: Address) -> Result<Option<[u8; 256]>, ShellFault> {
-    match sector(alloc, image, at)? {
-        Some(Ok(bytes)) => Ok(Some(bytes)),
-        _ => Ok(None),
+fn bytes_at(disk: &Disk, at: Address) -> Option<[u8; 256]> {
+    match disk.sector(at) {
+        Some(Ok(bytes)) => Some(bytes),
+        _ => None,
     }
 }
 
@@ -33,26 +33,29 @@ fn border_of(map: &[u8; 256]) -> Option<Address> {
     Address::new(*map.get(BORDER)?, *map.get(BORDER.saturating_add(1))?)
 }
 
-/// The place of the border block; None where the disk has none. Errors: `Image`, `Memory`.
-pub fn border_place(alloc: Global, image: &[u8]) -> Result<Option<Address>, ShellFault> {
-    let Some(map) = bytes_at(alloc, image, Address::of_map())? else {
-        return Ok(None);
-    };
-    Ok(border_of(&map))
+/// The place of the border block; None where the disk has none.
+pub fn border_place(disk: &Disk) -> Option<Address> {
+    border_of(&bytes_at(disk, Address::of_map())?)
+}
+
+/// Whether an entry of a block isn't empty.
+fn has_entries(block: &[u8; 256]) -> bool {
+    for number in 0..ENTRIES {
+        if !Entry::of(block, number).is_empty() {
+            return true;
+        }
+    }
+    false
 }
 
 /// Whether files lie in the border block: they are in no directory. Errors: `Image`, `Memory`.
 pub fn has_border_files(alloc: Global, image: &[u8]) -> Result<bool, ShellFault> {
-    let Some(border) = border_place(alloc, image)? else {
+    let disk = Disk::open(alloc, image)?;
+    let Some(border) = border_place(&disk) else {
         return Ok(false);
     };
-    let Some(block) = bytes_at(alloc, image, border)? else {
-        return Ok(false);
-    };
-    for number in 0..ENTRIES {
-        if !Entry::of(&block, number).is_empty() {
-            return Ok(true);
-        }
+    match bytes_at(&disk, border) {
+        Some(block) => Ok(has_entries(&block)),
+        None => Ok(false),
     }
-    Ok(false)
 }
