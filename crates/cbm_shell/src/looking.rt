@@ -34,7 +34,7 @@ pub use facts::{Info, info_of};
 pub use freeing::Freed;
 pub(crate) use freeing::freed_by;
 pub(crate) use geos::{geos_sectors, use_all_geos, use_border};
-pub use geos::{Geos, geos_of};
+pub use geos::{Geos, geos_of, use_geos};
 pub use listing::{list, raw_list};
 pub(crate) use mapping::use_file;
 pub use mapping::{Mark, entries_or_none, is_free_at, picture_of, use_chain, used_sectors};

@@ -3,4 +3,4 @@ pub use crate::broken::{held_around, remapped, sound_image};
 pub use crate::changing::locking::{entry_of, write_head};
 pub use crate::changing::require_sound;
 pub use crate::images::saved;
-pub use crate::looking::{entries_or_none, is_free_at, use_chain, used_sectors};
+pub use crate::looking::{entries_or_none, is_free_at, use_chain, use_geos, used_sectors};

@@ -2,7 +2,7 @@
 use cbm_bam::{SectorSet, geometry};
 use cbm_image::AnyDisk;
 use cbm_medium::{Address, Medium};
-use cbm_shell::parts::{is_free_at, use_chain};
+use cbm_shell::parts::{is_free_at, use_chain, use_geos};
 use cbm_shell::{
     DiskFlaw, Listed, Salvaged, ShellFault, entries_of, error_at, flaws_of, listed_of, lost_of,
     open_disk, read_file, salvage, users_of,
@@ -93,6 +93,15 @@ impl Disk {
         if entry.is_relative() {
             use_chain(medium, geometry, entry.first_side(), used);
         }
+    }
+
+    /// The sectors of an entry's file: of its chain, of its side sectors, and of the blocks that GEOS keeps for it.
+    pub fn sectors_of(&self, entry: &Entry) -> SectorSet {
+        let medium = self.volume.medium();
+        let mut sectors = SectorSet::new();
+        self.use_file(entry, &mut sectors);
+        use_geos(medium, geometry(medium), entry, &mut sectors);
+        sectors
     }
 
     /// The code of what stands in place of a sector's bytes; None where it reads.

@@ -2,13 +2,10 @@
 mod facts;
 
 use self::facts::map_line;
-use cbm_bam::SectorSet;
-use cbm_image::{Kind, kind_of};
-use cbm_medium::Address;
 use cbm_shell::ShellFault;
 use cbm_shell::texts::Charset;
 use cbm_volume::Entry;
-use disk_basics::calls::{convert, file_blocks, geos_blocks, info, listed, name_text, picture};
+use disk_basics::calls::{info, name_text, picture};
 use disk_basics::host::{print, read_to_look, require_apart, require_new, write};
 use disk_basics::rests::{add_rests, rests_on};
 use disk_basics::{Disk, Failure, in_memory, on_disk};
@@ -39,68 +36,19 @@ pub struct Mapping<'a> {
     pub is_json: bool,
 }
 
-/// Adds the sectors of a set to another one.
-fn add_set(all: &mut SectorSet, more: &SectorSet) {
-    for track in 1..41u8 {
-        for sector in 0..21u8 {
-            if let Some(at) = Address::new(track, sector) {
-                if more.has(at) {
-                    all.insert(at);
-                }
-            }
-        }
-    }
-}
-
-/// Adds the side sectors of a relative file.
-fn add_sides(
-    alloc: Global,
-    image: &[u8],
-    entry: &Entry,
-    sectors: &mut SectorSet,
-) -> Result<(), ShellFault> {
-    if entry.is_relative() {
-        let sides = entry.closed(entry.first_side(), 0);
-        let more = file_blocks(alloc, image, &sides)?;
-        add_set(sectors, &more);
-    }
-    Ok(())
-}
-
-/// Adds the sectors that GEOS keeps for a file.
-fn add_geos(
-    alloc: Global,
-    image: &[u8],
-    entry: &Entry,
-    sectors: &mut SectorSet,
-) -> Result<(), ShellFault> {
-    let more = geos_blocks(alloc, image, entry)?;
-    add_set(sectors, &more);
-    Ok(())
-}
-
-/// The sectors of an entry's file: of its chain, its side sectors, and those that GEOS keeps.
-fn sectors_of(alloc: Global, image: &[u8], entry: &Entry) -> Result<SectorSet, ShellFault> {
-    let mut sectors = file_blocks(alloc, image, entry)?;
-    add_sides(alloc, image, entry, &mut sectors)?;
-    add_geos(alloc, image, entry, &mut sectors)?;
-    Ok(sectors)
-}
-
 /// The file of an entry, as an owner of its sectors.
 fn owner_of(
     alloc: Global,
-    image: &[u8],
+    disk: &Disk,
     slot: usize,
     entry: &Entry,
     charset: Charset,
-) -> Result<Owner, ShellFault> {
-    let sectors = sectors_of(alloc, image, entry)?;
+) -> Result<Owner, AllocError> {
     Ok(Owner {
         slot,
         name: name_text(alloc, charset, entry.name())?,
         kind: type_of(entry).unwrap_or("???"),
-        sectors,
+        sectors: disk.sectors_of(entry),
     })
 }
 
@@ -109,39 +57,17 @@ fn has_sectors(entry: &Entry) -> bool {
     !entry.is_empty() && entry.is_closed() && !entry.first_block().is_end()
 }
 
-/// The files of these entries with their sectors.
-fn owners_among(
-    alloc: Global,
-    image: &[u8],
-    entries: &[Entry],
-    charset: Charset,
-) -> Result<Vec<Owner>, ShellFault> {
+/// The files of a disk's directory with their sectors, up to where the directory breaks off.
+fn owners_on(alloc: Global, disk: &Disk, charset: Charset) -> Result<Vec<Owner>, AllocError> {
+    let listed = disk.listed(alloc)?;
     let mut owners = Vec::new(alloc);
-    for (slot, entry) in entries.iter().enumerate() {
+    for (slot, entry) in listed.entries.iter().enumerate() {
         if has_sectors(entry) {
-            let owner = owner_of(alloc, image, slot, entry, charset)?;
+            let owner = owner_of(alloc, disk, slot, entry, charset)?;
             owners.push(owner).map_err(AllocError::from)?;
         }
     }
     Ok(owners)
-}
-
-/// The files of a disk's directory with their sectors, up to where the directory breaks off.
-fn owners_of(alloc: Global, image: &[u8], charset: Charset) -> Result<Vec<Owner>, ShellFault> {
-    let listed = listed(alloc, image)?;
-    owners_among(alloc, image, listed.entries.as_slice(), charset)
-}
-
-/// The files of an image's disk with their sectors. Of a G64 the bytes of its sectors are looked at, so that its tracks are
-/// read once.
-fn owners_in(alloc: Global, image: &[u8], charset: Charset) -> Result<Vec<Owner>, ShellFault> {
-    match kind_of(image) {
-        Kind::D64 => owners_of(alloc, without_errors(image), charset),
-        Kind::G64 => {
-            let plain = convert(alloc, image)?.image;
-            owners_of(alloc, plain.as_slice(), charset)
-        }
-    }
 }
 
 /// The files that are shown.
@@ -151,7 +77,8 @@ fn shown_owners(
     mapping: Mapping<'_>,
 ) -> Result<Vec<Owner>, ShellFault> {
     if mapping.has_files || mapping.is_json || mapping.svg.is_some() {
-        return owners_in(alloc, image, mapping.charset);
+        let disk = Disk::open(alloc, without_errors(image))?;
+        return Ok(owners_on(alloc, &disk, mapping.charset)?);
     }
     Ok(Vec::new(alloc))
 }

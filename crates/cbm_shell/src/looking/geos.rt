@@ -104,8 +104,8 @@ fn use_records<M: Medium>(medium: &M, geometry: Geometry, list: Link, used: &mut
     use_chains(medium, geometry, &block, used);
 }
 
-/// Puts the blocks that a file of GEOS has beside its chain into the set.
-fn use_geos<M: Medium>(medium: &M, geometry: Geometry, entry: &Entry, used: &mut SectorSet)
+/// Adds the blocks of a GEOS file outside its chain to the set: the info block and the chains of the records.
+pub fn use_geos<M: Medium>(medium: &M, geometry: Geometry, entry: &Entry, used: &mut SectorSet)
     requires { geometry ≤ (M.seen medium.now).tracks }
     ensures { is_marked used.new
         ≡ with_places (is_marked used.old) (geos_blocks geometry (M.seen medium.now).content entry.now) }
