@@ -5,7 +5,7 @@ Each image of the tree is named once by check, list, hash and find, and in JSON.
 loses a byte of a closed file that it doesn't name, and a refused one leaves the image unchanged.
 Prints a line for each property, with the number of images, and one for each that is WRONG; ends with 1 if one is. With 72 images it takes half a minute.
 With --only, only images of a 1541 disk whose path has TEXT are used; --keep leaves the tree in FOLDER."""
-import argparse, collections, concurrent.futures, hashlib, json, os, re, shutil, subprocess, sys, tempfile
+import argparse, collections, concurrent.futures, gzip, hashlib, io, json, os, re, shutil, subprocess, sys, tempfile, zipfile
 
 import collection
 import g64_image as g64
@@ -385,8 +385,24 @@ ENDS = {"check": (".d64", ".g64"), **dict.fromkeys(("list", "hash", "find"), (".
 LINKS = ("links/file.d64", "links/gone.d64", "links/round.d64")
 
 
+def is_found(path, command):
+    """Whether a search of a folder takes a file, by its name: packed ones too, and ZIP archives."""
+    name = path.lower()
+    return name.endswith(".zip") or name.removesuffix(".gz").endswith(ENDS[command])
+
+
 def names_wanted(images, command):
-    return sorted([shown(it.path) for it in images if shown(it.path).lower().endswith(ENDS[command])] + list(LINKS))
+    return sorted([shown(it.path) for it in images if is_found(shown(it.path), command)] + list(LINKS))
+
+
+def unpacked(data):
+    """The image in a packed file; other bytes as they are."""
+    if data[:2] == b"\x1f\x8b":
+        return gzip.decompress(data)
+    if data[:4] == b"PK\3\4":
+        with zipfile.ZipFile(io.BytesIO(data)) as archive:
+            return archive.read(archive.namelist()[0])
+    return data
 
 
 def each_is_named(tally, images, room):
@@ -424,14 +440,14 @@ def model_of(data):
 
 def has_planted(data):
     """Whether `find` has to name it: for the file, or because its directory can't be read to its end."""
-    there = model_of(data)
+    there = model_of(unpacked(data))
     return bool(there) and (any(it.name == collection.PLANTED for it in there.files) or bool(there.broken))
 
 
 def facts_hold(tally, command, lines, images):
     """The names of files, and the sums, that the model reads of each image."""
     for image in images:
-        line, there = lines.get(shown(image.path)), model_of(image.data)
+        line, there = lines.get(shown(image.path)), model_of(unpacked(image.data))
         if line is None or there is None or "status" in line:
             continue
         if command == "list":
