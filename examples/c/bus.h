@@ -18,7 +18,9 @@ typedef struct bus {
 
 /* A party's line, if it has changed. */
 static inline void bus_note(bus *b, uint64_t now, uint8_t who, uint8_t line, uint8_t before, uint8_t low) {
+#ifndef BUS_UNSEEN /* where no function can be called by a pointer */
     if (b->seen && !before != !low) b->seen(b->with, now, who, line, low != 0);
+#endif
 }
 
 /* Passes a drive the lines that all others pull. */
