@@ -153,6 +153,7 @@ pub fn one_file<'a>(words: &ArgMatches<'a>, charset: Charset) -> Result<OneFile<
 /// Where GET-ALL writes the files.
 pub fn place<'a>(words: &ArgMatches<'a>) -> Destination<'a> {
     Destination {
+        image: given(words, "IMAGE"),
         folder: given(words, "DIR"),
         replaces: flag(words, "replace"),
         salvages: flag(words, "salvage"),

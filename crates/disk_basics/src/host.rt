@@ -224,19 +224,36 @@ fn is_one_file<R: Runtime + AllocGlobal>(rt: &R, one: &str, other: &str) -> io::
     Ok(is_same(rt, one.as_str(), other.as_str()))
 }
 
+/// Whether two names are those of one file, neither of them standard input or output.
+fn is_shared<R: Runtime + AllocGlobal>(rt: &R, one: &str, other: &str) -> bool {
+    if is_standard(one) || is_standard(other) {
+        return false;
+    }
+    matches!(is_one_file(rt, one, other), Ok(true))
+}
+
 /// Refuses to write over the image that is read. The one error is `Word`.
 pub fn require_apart<R: Runtime + AllocGlobal>(
     rt: &R,
     image: &str,
     output: &str,
 ) -> Result<(), Failure> {
-    if is_standard(image) || is_standard(output) {
-        return Ok(());
+    if is_shared(rt, image, output) {
+        return Err(Failure::named(rt.alloc(), What::Word(WordFault::Itself), output));
     }
-    match is_one_file(rt, image, output) {
-        Ok(true) => Err(Failure::named(rt.alloc(), What::Word(WordFault::Itself), output)),
-        _ => Ok(()),
+    Ok(())
+}
+
+/// Refuses to write an image over a file that the command reads. The one error is `Word`.
+pub fn require_no_input<R: Runtime + AllocGlobal>(
+    rt: &R,
+    input: &str,
+    image: &str,
+) -> Result<(), Failure> {
+    if is_shared(rt, input, image) {
+        return Err(Failure::named(rt.alloc(), What::Word(WordFault::Input), image));
     }
+    Ok(())
 }
 
 /// Whether something of that name is there.

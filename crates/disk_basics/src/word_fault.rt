@@ -106,6 +106,8 @@ pub enum WordFault {
     SameTracks,
     /// A file that is written is the image itself.
     Itself,
+    /// An image that is written is a file that the command reads.
+    Input,
 }
 
 impl WordFault {
@@ -154,6 +156,7 @@ impl WordFault {
             WordFault::OtherTracks => ("--tracks is for a D64 of 35 or 40 tracks, not for ", ""),
             WordFault::SameTracks => ("", " has that many tracks already"),
             WordFault::Itself => ("", " is the image itself: use another name"),
+            WordFault::Input => ("", " is a file that the command reads: use another name"),
             WordFault::SameFormat => ("", " has that format already"),
             WordFault::Format => ("", FORMATS),
         }

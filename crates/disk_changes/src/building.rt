@@ -9,7 +9,7 @@ use self::laid::Lane;
 use self::lines::with_lines;
 use crate::blanks::{Blank, blank_image};
 use cbm_shell::texts::Charset;
-use disk_basics::host::{read_file, require_new, write};
+use disk_basics::host::{read_file, require_new, require_no_input, write};
 use disk_basics::{Failure, What, WordFault};
 use disk_facts::kind_of_name;
 use disk_recipes::{Recipe, RecipeFault, line_of_unknown, read_recipe};
@@ -125,8 +125,9 @@ fn built_of<R: Runtime + AllocGlobal>(rt: &R, build: &Build<'_>) -> Result<Vec<u
 }
 
 /// Builds an image, all of it or nothing. Errors: `Exists`; `Read`, `TooLong` or `Word`, where the recipe can't be read
-/// or is none; those of its lines; `NoMemory`; `Write`.
+/// or is none, or the image is the recipe or a file of it; those of its lines; `NoMemory`; `Write`.
 pub fn build_image<R: Runtime + AllocGlobal>(rt: &R, build: &Build<'_>) -> Result<(), Failure> {
+    require_no_input(rt, build.recipe, build.image)?;
     require_new(rt, build.image, build.replaces)?;
     let image = built_of(rt, build)?;
     write(rt, build.image, image.as_slice(), Sync::Before)

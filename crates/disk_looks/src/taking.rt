@@ -8,7 +8,7 @@ use cbm_shell::texts::Charset;
 use cbm_shell::{ShellFault, geos_of};
 use cbm_volume::Entry;
 use disk_basics::calls::name_text;
-use disk_basics::host::{exists, write_among};
+use disk_basics::host::{exists, require_apart, write_among};
 use disk_basics::{Cause, Disk};
 use disk_facts::type_of;
 use host_files::Leftovers;
@@ -23,6 +23,8 @@ const CVT: &str = "cvt";
 /// Where files are written.
 #[derive(Clone, Copy)]
 pub struct Destination<'a> {
+    /// The image, over which no file is written.
+    pub image: &'a str,
     /// The folder.
     pub folder: &'a str,
     /// Files that are there are replaced.
@@ -181,26 +183,44 @@ fn tell_name(rt: &impl Eprint, path: Path<'_>, name: &str) -> io::Result<()> {
     eprintln!(rt; "disk1541: \"{name}\" was written as {place}")
 }
 
+/// Writes a file, but not over the image, and over another only where that is wanted; a failure is reported. Answers whether it was
+/// written.
+fn write_apart<R: Runtime + AllocGlobal>(
+    rt: &R,
+    path: &str,
+    bytes: &[u8],
+    place: Destination<'_>,
+    left: &mut Leftovers,
+) -> bool {
+    if !place.replaces && exists(rt, path) {
+        let _ = eprintln!(rt; "disk1541: {path} already exists: use --replace to overwrite it");
+        return false;
+    }
+    if let Err(failure) = require_apart(rt, place.image, path) {
+        let _ = failure.tell(rt);
+        return false;
+    }
+    if let Err(failure) = write_among(rt, path, bytes, left) {
+        let _ = failure.tell(rt);
+        return false;
+    }
+    true
+}
+
 /// Saves a file under a name, and reports the name where it isn't that of the disk. Answers whether it was saved.
 pub fn save_as<R: Runtime + AllocGlobal>(
     rt: &R,
     path: Path<'_>,
     name: &str,
     bytes: &[u8],
-    replaces: bool,
+    place: Destination<'_>,
     left: &mut Leftovers,
 ) -> bool {
-    let place = path.as_str();
-    if !replaces && exists(rt, place) {
-        let _ = eprintln!(rt; "disk1541: {place} already exists: use --replace to overwrite it");
-        return false;
+    let is_saved = write_apart(rt, path.as_str(), bytes, place, left);
+    if is_saved {
+        let _ = tell_name(rt, path, name);
     }
-    if let Err(failure) = write_among(rt, place, bytes, left) {
-        let _ = failure.tell(rt);
-        return false;
-    }
-    let _ = tell_name(rt, path, name);
-    true
+    is_saved
 }
 
 /// Saves a file, if it could be read, or else reports that it isn't taken out. Answers whether it was saved.
@@ -209,11 +229,11 @@ fn save_or_tell<R: Runtime + AllocGlobal>(
     path: &PathBuf,
     name: &str,
     file: Result<Vec<u8>, ShellFault>,
-    replaces: bool,
+    place: Destination<'_>,
     left: &mut Leftovers,
 ) -> bool {
     match file {
-        Ok(bytes) => save_as(rt, path.as_path(), name, bytes.as_slice(), replaces, left),
+        Ok(bytes) => save_as(rt, path.as_path(), name, bytes.as_slice(), place, left),
         Err(fault) => {
             let _ = tell_left(rt, name, fault);
             false
@@ -240,7 +260,7 @@ fn take_to<R: Runtime + AllocGlobal>(
     }
     let file = file_for(rt, source, entry, place.salvages);
     let geos = if file.is_ok() { geos_of(entry) } else { None };
-    let is_saved = save_or_tell(rt, path, shown, file, place.replaces, left);
+    let is_saved = save_or_tell(rt, path, shown, file, place, left);
     if let Some(geos) = geos {
         let _ = tell_geos(rt, shown, geos);
         return Ok(false);
@@ -268,12 +288,5 @@ pub fn take<R: Runtime + AllocGlobal>(
     };
     let shown = name_text(alloc, Charset::Upper, entry.name())?;
     let file = cvt_of(alloc, source.disk, entry, geos);
-    Ok(save_or_tell(
-        rt,
-        &path,
-        shown.as_str(),
-        file,
-        place.replaces,
-        &mut saves.left,
-    ))
+    Ok(save_or_tell(rt, &path, shown.as_str(), file, place, &mut saves.left))
 }

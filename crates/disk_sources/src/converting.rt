@@ -9,7 +9,7 @@ use crate::transferring::with_all;
 use cbm_image::Kind;
 use cbm_shell::texts::Charset;
 use disk_basics::changing::new_image;
-use disk_basics::host::{read_any, require_new, require_ours, write};
+use disk_basics::host::{read_any, require_apart, require_new, require_ours, write};
 use disk_basics::spare::sixteen;
 use disk_basics::{Failure, What, WordFault, form, format, in_memory, name_of_file};
 use disk_changes::{Conversion, convert_from};
@@ -126,7 +126,7 @@ fn convert_other<R: Runtime + AllocGlobal>(
 }
 
 /// Makes a G64 of a D64, a D64 of a G64, or either of a disk or an archive of another kind: of a D64 of another size its sectors, of
-/// other kinds a new disk with their files. Errors: `Word`, where no format is said or the image has it already; those of `read_image`;
+/// other kinds a new disk with their files. Errors: `Word`, where the new image is the old one, no format is said or the image has it already; those of `read_image`;
 /// `Exists`; `Disk`; `Lossy`, where the new image would lack something; `Told`, where a file doesn't fit or can't be read, as is
 /// reported; `Write`.
 pub fn convert_image<R: Runtime + AllocGlobal>(
@@ -134,6 +134,7 @@ pub fn convert_image<R: Runtime + AllocGlobal>(
     image: &str,
     wanted: &Conversion<'_>,
 ) -> Result<(), Failure> {
+    require_apart(rt, image, wanted.output)?;
     let kind = format(rt.alloc(), wanted.output, wanted.format)?;
     let bytes = read_any(rt, image)?;
     if let Some(other) = in_memory(Other::of(rt.alloc(), bytes.as_slice()))? {

@@ -103,7 +103,7 @@ fn save_one<R: Runtime + AllocGlobal>(
         path.as_path(),
         shown.as_str(),
         file.as_slice(),
-        place.replaces,
+        place,
         &mut saves.left,
     ))
 }

@@ -4,7 +4,7 @@ use crate::origin::{Entries, Origin};
 use cbm_shell::texts::Charset;
 use cbm_volume::Entry;
 use disk_basics::calls::name_text;
-use disk_basics::host::{print, read_any, read_to_change, replace};
+use disk_basics::host::{print, read_any, read_to_change, replace, require_no_input};
 use disk_basics::strays::require_kept;
 use disk_basics::{Failure, What, in_memory, petscii};
 use disk_facts::{first_meant, is_meant};
@@ -173,7 +173,7 @@ fn save<R: Runtime + AllocGlobal>(rt: &R, to: &str, old: &[u8], new: &[u8]) -> R
 }
 
 /// Transfers files from a disk or an archive onto an image, all of them or none, and saves it; or shows what would be transferred. Errors:
-/// `Read`, `TooLong`, `Foreign`; `Told`, where the directory or a file can't be read, or isn't one that the drive writes, as is reported;
+/// `Word`, where both are one file; `Read`, `TooLong`, `Foreign`; `Told`, where the directory or a file can't be read, or isn't one that the drive writes, as is reported;
 /// `NoFile`; those of `read_to_change`; `Disk`, where a name is there already or the disk refuses a file; `DirectoryFull`; `NoMemory`;
 /// those of `replace`.
 pub fn transfer_files<R: Runtime + AllocGlobal>(
@@ -181,6 +181,7 @@ pub fn transfer_files<R: Runtime + AllocGlobal>(
     to: &str,
     wanted: &Transfer<'_, '_>,
 ) -> Result<(), Failure> {
+    require_no_input(rt, wanted.from, to)?;
     let bytes = read_any(rt, wanted.from)?;
     let origin = Origin::open(rt.alloc(), wanted.from, bytes.as_slice())?;
     let found = origin.entries(rt.alloc())?;

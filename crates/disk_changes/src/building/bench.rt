@@ -1,6 +1,6 @@
 //! What the lines of a recipe are built with.
 use cbm_shell::texts::Charset;
-use disk_basics::host::read_file;
+use disk_basics::host::{read_file, require_no_input};
 use disk_basics::{Failure, What, WordFault, in_memory, petscii};
 use disk_recipes::RecipeLine;
 use std::path::Path;
@@ -29,14 +29,15 @@ pub struct Next<'r> {
     pub line: &'r RecipeLine,
 }
 
-/// Reads a file that a recipe names. Errors: those of `read_file`; `NoMemory`.
+/// Reads a file that a recipe names. Errors: those of `read_file`; `Word`, where it is the image; `NoMemory`.
 pub fn read_beside<R: Runtime + AllocGlobal>(
     rt: &R,
-    folder: &str,
+    bench: Bench<'_>,
     file: &str,
 ) -> Result<Vec<u8>, Failure> {
     let name = in_memory(host_files::text_of(rt.alloc(), file.as_bytes()))?;
-    let path = in_memory(Path::new(folder).join(rt.alloc(), name.as_str()))?;
+    let path = in_memory(Path::new(bench.folder).join(rt.alloc(), name.as_str()))?;
+    require_no_input(rt, path.as_path().as_str(), bench.image)?;
     read_file(rt, path.as_path().as_str())
 }
 

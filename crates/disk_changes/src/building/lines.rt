@@ -157,7 +157,7 @@ fn with_file<R: Runtime + AllocGlobal>(
     next: Next<'_>,
     file: &str,
 ) -> Result<Vec<u8>, Failure> {
-    let bytes = read_beside(rt, bench.folder, file)?;
+    let bytes = read_beside(rt, bench, file)?;
     let body = body_of(file, bytes.as_slice());
     with_body(rt, bench, old, next, file, body)
 }
