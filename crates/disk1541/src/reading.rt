@@ -7,7 +7,7 @@ use disk_basics::{Choice, Failure, What, WordFault};
 use disk_changes::{Blank, Build, Conversion, HostFiles};
 use disk_commands::{flag, given, option};
 use disk_compare::{Form, Wanted};
-use disk_edits::{ErrorDeed, Gone, Pair};
+use disk_edits::{ErrorDeed, Pair};
 use disk_looks::{Description, Destination, Mapping, OneFile};
 use disk_reports::View;
 use std::alloc::Global;
@@ -230,15 +230,6 @@ pub fn host_files<'a>(
         replaces: flag(words, "replace"),
         charset,
         input,
-    }
-}
-
-/// The file that UNDELETE gives back.
-pub fn gone<'a>(words: &ArgMatches<'a>, charset: Charset) -> Gone<'a> {
-    Gone {
-        name: given(words, "NAME"),
-        kind: option(words, "type").unwrap_or("prg"),
-        charset,
     }
 }
 

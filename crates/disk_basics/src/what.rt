@@ -299,7 +299,7 @@ impl What {
             What::NotDeleted => eprintln!(rt; "disk1541: no deleted file matches {name}"),
             What::Overwritten => {
                 eprintln!(rt;
-                    "disk1541: {name} can't be restored: one of its blocks is in use again, or the disk has lost blocks"
+                    "disk1541: {name} can't be restored: one of its blocks is in use again, or the disk has lost blocks. Nothing was restored"
                 )
             }
             What::NoneDeleted => {

@@ -1,9 +1,9 @@
 //! The commands.
 use crate::word::Word;
 use crate::words::changing::{
-    ADD, BY, DROP, DRY_RUN, FILES, FORCE, FORCE_FAULT, FORMAT, FROM, ID, INTERLEAVE, LINES, LOSSY,
-    LOSSY_DROP, MEANT, NAME_ON_DISK, NEW, NEW_ID, NEW_TITLE, NEW_TRACKS, NEW_TYPE, OF_ALL, OLD,
-    ORDERED, OUT, PLACED, RECIPE, RECORD, REPLACE_IMAGE, REPLACE_NAME, SECTOR_FROM, TITLE,
+    ADD, BY, DROP, DRY_RUN, FILES, FORCE, FORCE_FAULT, FORMAT, FROM, GONE, ID, INTERLEAVE, LINES,
+    LOSSY, LOSSY_DROP, MEANT, NAME_ON_DISK, NEW, NEW_ID, NEW_TITLE, NEW_TRACKS, NEW_TYPE, OF_ALL,
+    OLD, ORDERED, OUT, PLACED, RECIPE, RECORD, REPLACE_IMAGE, REPLACE_NAME, SECTOR_FROM, TITLE,
     TRACK_FROM, TRACKS, TRANSFERRED, TYPE, TYPE_AGAIN,
 };
 use crate::words::looking::{
@@ -69,7 +69,7 @@ pub enum Verb {
     Rename,
     /// Deletes files.
     Delete,
-    /// Gives a deleted file back.
+    /// Gives deleted files back.
     Undelete,
     /// Lays files on other blocks.
     Place,
@@ -286,8 +286,8 @@ const CHANGING: &[Command] = &[
     Command {
         verb: Verb::Undelete,
         name: "undelete",
-        about: "Restore a deleted file",
-        words: &[IMAGE, NAME, TYPE_AGAIN, CHARSET],
+        about: "Restore deleted files",
+        words: &[IMAGE, GONE, TYPE_AGAIN, CHARSET],
     },
     Command {
         verb: Verb::Lock,
@@ -452,7 +452,7 @@ pub fn examples_of(verb: Verb) -> &'static str {
             "  disk1541 delete work.d64 BACKUP 'OLD*'\n  disk1541 delete --force bad.d64 'LEVEL*'    remove files at fault, if `validate` refuses the disk\n  disk1541 delete *.d64 --only 'OLD*' --dry-run    what would go from several images\n"
         ),
         Verb::Undelete => examples!(
-            "  disk1541 list --deleted work.d64    which files were deleted\n  disk1541 undelete work.d64 BACKUP\n"
+            "  disk1541 list --deleted work.d64    which files were deleted\n  disk1541 undelete work.d64 BACKUP\n  disk1541 undelete work.d64 '*'    all of them, or none\n"
         ),
         Verb::Lock => examples!(
             "  disk1541 lock work.d64 START 'LEVEL*'\n  disk1541 lock *.d64 --only 'LEVEL*'    files of several images\n"

@@ -1,5 +1,5 @@
 //! What a command makes of the bytes of an image.
-use crate::reading::{choice, gone, head, host_files, pair, patterns_word, type_and_choice};
+use crate::reading::{choice, head, host_files, pair, patterns_word, type_and_choice};
 use cbm_shell::texts::Charset;
 use clap::ArgMatches;
 use disk_basics::strays::require_kept;
@@ -7,7 +7,7 @@ use disk_basics::{Choice, Failure, What, WordFault, in_memory};
 use disk_changes::{require_files, with_files};
 use disk_commands::{Verb, flag, given, option};
 use disk_edits::{
-    Deed, Desk, Edit, Ordering, Placement, copied, done_with, edited, given_back, in_order,
+    Deed, Desk, Edit, Gone, Ordering, Placement, copied, done_with, edited, given_back, in_order,
     key_of_word, placed, renamed, require_names, rest_of, retyped, sorted, without_fault,
 };
 use std::alloc::Global;
@@ -288,7 +288,12 @@ fn made_plainly<'a, R: Runtime + AllocGlobal>(
         Verb::Rename => plain(rename_of(alloc, words, charset, desk)),
         Verb::Delete => delete_of(rt, words, charset, desk),
         Verb::Undelete => {
-            plain(given_back(alloc, desk.image, desk.bytes, &gone(words, charset)))
+            let gone = Gone {
+                names: words.get_strs("NAME").unwrap_or(&[]),
+                kind: option(words, "type").unwrap_or("prg"),
+                charset,
+            };
+            plain(given_back(alloc, desk.image, desk.bytes, &gone))
         }
         Verb::Lock => lock_of(alloc, words, charset, desk, true),
         Verb::Unlock => lock_of(alloc, words, charset, desk, false),

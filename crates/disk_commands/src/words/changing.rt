@@ -278,9 +278,17 @@ pub const FORCE_FAULT: Word = Word {
     ..FORCE
 };
 
-/// The type that UNDELETE gives a file.
+/// The files that UNDELETE gives back.
+pub const GONE: Word = Word {
+    name: "NAME",
+    help: "file names, each for the first deleted file of that name, or patterns, each for all that match",
+    is_needed: true,
+    ..MEANT
+};
+
+/// The type that UNDELETE gives files.
 pub const TYPE_AGAIN: Word = Word {
-    help: "prg, seq or usr: the type was lost when the file was deleted",
+    help: "prg, seq or usr: the type was lost when a file was deleted",
     default: &["prg"],
     ..TYPE
 };
