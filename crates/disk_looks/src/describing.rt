@@ -1,6 +1,5 @@
 //! DESCRIBE: the recipe of a disk.
-use crate::taking::Names;
-use cbm_channel::FileType;
+use crate::taking::{Names, is_art};
 use cbm_image::{Kind, kind_of};
 use cbm_medium::Address;
 use cbm_shell::texts::Charset;
@@ -109,11 +108,6 @@ fn file_line(
         track: None,
         sector: None,
     })
-}
-
-/// Whether an entry is a line of art to those who see the directory.
-fn is_art(entry: &Entry) -> bool {
-    matches!(entry.kind(), Some(FileType::Del)) && entry.is_closed()
 }
 
 /// The line of an entry, whose file is at a path. Errors: `NotClosed`, `Trouble`, where its file can't be built from what `get-all` takes out.

@@ -22,6 +22,6 @@ pub use map::{Mapping, show_map};
 pub use progress::Progress;
 pub use relative::packed;
 pub use sector::show_sector;
-pub use taking::{Destination, Names, Saves, save_as};
+pub use taking::{Destination, Names, Saves, is_blank_art, save_as};
 pub use taking_all::{get_all_from, make_folder};
 pub use track::show_track;

@@ -4,6 +4,7 @@ use crate::geos::{is_kept_in_records, tell_geos};
 use crate::naming::host_name;
 use crate::relative::{ENDING, packed};
 use crate::salvage::salvaged;
+use cbm_channel::FileType;
 use cbm_shell::texts::Charset;
 use cbm_shell::{ShellFault, geos_of};
 use cbm_volume::Entry;
@@ -268,7 +269,18 @@ fn take_to<R: Runtime + AllocGlobal>(
     Ok(is_saved)
 }
 
-/// Takes the file of the next entry out. Answers whether it was saved. The one error is want of memory.
+/// Whether an entry is a line of art to those who see the directory.
+pub fn is_art(entry: &Entry) -> bool {
+    matches!(entry.kind(), Some(FileType::Del)) && entry.is_closed()
+}
+
+/// Whether an entry is a line of art without blocks, of which no file is written.
+pub fn is_blank_art(entry: &Entry) -> bool {
+    is_art(entry) && entry.first_block().is_end()
+}
+
+/// Takes the file of the next entry out. Answers whether it was saved, or nothing is to be saved of it. The one error is want of
+/// memory.
 pub fn take<R: Runtime + AllocGlobal>(
     rt: &R,
     source: Source<'_>,
@@ -282,6 +294,9 @@ pub fn take<R: Runtime + AllocGlobal>(
         Some(_) => saves.names.next_as(alloc, entry, CVT)?,
         None => saves.names.next(alloc, entry)?,
     };
+    if is_blank_art(entry) {
+        return Ok(true);
+    }
     let path = Path::new(place.folder).join(alloc, name.as_str())?;
     let Some(geos) = geos else {
         return take_to(rt, source, entry, &path, place, &mut saves.left);

@@ -8,7 +8,7 @@ use disk_basics::host::{read_any, require_apart, require_ours};
 use disk_basics::{Failure, What, in_memory, petscii, slot_chosen};
 use disk_facts::number_meant;
 use disk_looks::{
-    Destination, OneFile, Progress, Saves, get_all_from, get_from, make_folder, packed, save_as,
+    Destination, OneFile, Progress, Saves, get_all_from, get_from, is_blank_art, make_folder, packed, save_as,
     write_taken,
 };
 use std::alloc::{AllocError, Global};
@@ -88,6 +88,9 @@ fn save_one<R: Runtime + AllocGlobal>(
 ) -> Result<bool, AllocError> {
     let alloc = rt.alloc();
     let name = saves.names.next(alloc, entry)?;
+    if is_blank_art(entry) {
+        return Ok(true);
+    }
     let file = match other_file(alloc, other, entry, number) {
         Ok(file) => file,
         Err(fault) => {
