@@ -10,7 +10,7 @@ use cbm_shell::{ShellFault, geos_of};
 use cbm_volume::Entry;
 use disk_basics::calls::name_text;
 use disk_basics::host::{exists, require_apart, write_among};
-use disk_basics::{Cause, Disk};
+use disk_basics::{Cause, Disk, Failure, What};
 use disk_facts::type_of;
 use host_files::Leftovers;
 use std::alloc::{AllocError, Global};
@@ -20,6 +20,9 @@ use std::rt::Runtime;
 
 /// The ending of the name of a CVT.
 const CVT: &str = "cvt";
+
+/// The exit status where the host's files are at fault.
+const HOST: u8 = 3;
 
 /// Where files are written.
 #[derive(Clone, Copy)]
@@ -99,7 +102,9 @@ pub struct Saves {
     /// The names of the files.
     pub names: Names,
     /// What killed programs left beside them.
-    pub left: Leftovers,
+    left: Leftovers,
+    // A file could not be written.
+    is_stopped: bool,
 }
 
 impl Saves {
@@ -108,6 +113,20 @@ impl Saves {
         Saves {
             names: Names::new(alloc),
             left: Leftovers::new(alloc),
+            is_stopped: false,
+        }
+    }
+
+    /// What saving files came to. Errors: `Ended` with the status of the host's files, where one could not be written; `Told`, where one
+    /// was left out.
+    pub fn outcome(&self, are_saved: bool) -> Result<(), Failure> {
+        if self.is_stopped {
+            return Err(Failure::new(What::Ended(HOST)));
+        }
+        if are_saved {
+            Ok(())
+        } else {
+            Err(Failure::new(What::Told))
         }
     }
 }
@@ -191,7 +210,7 @@ fn write_apart<R: Runtime + AllocGlobal>(
     path: &str,
     bytes: &[u8],
     place: Destination<'_>,
-    left: &mut Leftovers,
+    saves: &mut Saves,
 ) -> bool {
     if !place.replaces && exists(rt, path) {
         let _ = eprintln!(rt; "disk1541: {path} already exists: use --replace to overwrite it");
@@ -201,8 +220,9 @@ fn write_apart<R: Runtime + AllocGlobal>(
         let _ = failure.tell(rt);
         return false;
     }
-    if let Err(failure) = write_among(rt, path, bytes, left) {
+    if let Err(failure) = write_among(rt, path, bytes, &mut saves.left) {
         let _ = failure.tell(rt);
+        saves.is_stopped = true;
         return false;
     }
     true
@@ -215,9 +235,9 @@ pub fn save_as<R: Runtime + AllocGlobal>(
     name: &str,
     bytes: &[u8],
     place: Destination<'_>,
-    left: &mut Leftovers,
+    saves: &mut Saves,
 ) -> bool {
-    let is_saved = write_apart(rt, path.as_str(), bytes, place, left);
+    let is_saved = write_apart(rt, path.as_str(), bytes, place, saves);
     if is_saved {
         let _ = tell_name(rt, path, name);
     }
@@ -231,10 +251,10 @@ fn save_or_tell<R: Runtime + AllocGlobal>(
     name: &str,
     file: Result<Vec<u8>, ShellFault>,
     place: Destination<'_>,
-    left: &mut Leftovers,
+    saves: &mut Saves,
 ) -> bool {
     match file {
-        Ok(bytes) => save_as(rt, path.as_path(), name, bytes.as_slice(), place, left),
+        Ok(bytes) => save_as(rt, path.as_path(), name, bytes.as_slice(), place, saves),
         Err(fault) => {
             let _ = tell_left(rt, name, fault);
             false
@@ -249,7 +269,7 @@ fn take_to<R: Runtime + AllocGlobal>(
     entry: &Entry,
     path: &PathBuf,
     place: Destination<'_>,
-    left: &mut Leftovers,
+    saves: &mut Saves,
 ) -> Result<bool, AllocError> {
     let name = name_text(rt.alloc(), Charset::Upper, entry.name())?;
     let shown = name.as_str();
@@ -261,7 +281,7 @@ fn take_to<R: Runtime + AllocGlobal>(
     }
     let file = file_for(rt, source, entry, place.salvages);
     let geos = if file.is_ok() { geos_of(entry) } else { None };
-    let is_saved = save_or_tell(rt, path, shown, file, place, left);
+    let is_saved = save_or_tell(rt, path, shown, file, place, saves);
     if let Some(geos) = geos {
         let _ = tell_geos(rt, shown, geos);
         return Ok(false);
@@ -299,9 +319,9 @@ pub fn take<R: Runtime + AllocGlobal>(
     }
     let path = Path::new(place.folder).join(alloc, name.as_str())?;
     let Some(geos) = geos else {
-        return take_to(rt, source, entry, &path, place, &mut saves.left);
+        return take_to(rt, source, entry, &path, place, saves);
     };
     let shown = name_text(alloc, Charset::Upper, entry.name())?;
     let file = cvt_of(alloc, source.disk, entry, geos);
-    Ok(save_or_tell(rt, &path, shown.as_str(), file, place, &mut saves.left))
+    Ok(save_or_tell(rt, &path, shown.as_str(), file, place, saves))
 }

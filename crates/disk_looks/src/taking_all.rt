@@ -7,7 +7,6 @@ use disk_basics::host::path_of;
 use disk_basics::strays::unlisted_on;
 use disk_basics::{Disk, Failure, What, in_memory, on_disk};
 use disk_facts::{count_files, without_errors};
-use std::alloc::AllocError;
 use std::fs;
 use std::path::Path;
 use std::rt::Runtime;
@@ -22,14 +21,14 @@ pub fn make_folder<R: Runtime + AllocGlobal>(rt: &R, folder: &str) -> Result<(),
     }
 }
 
-/// Takes the files of all entries out, and answers whether all were saved.
+/// Takes the files of all entries out. Errors: those of `outcome`; `NoMemory`.
 fn take_all<R: Runtime + AllocGlobal>(
     rt: &R,
     source: Source<'_>,
     entries: &[Entry],
     place: Destination<'_>,
     progress: Progress,
-) -> Result<bool, AllocError> {
+) -> Result<(), Failure> {
     let mut saves = Saves::new(rt.alloc());
     let mut are_saved = true;
     let mut done: usize = 0;
@@ -38,13 +37,13 @@ fn take_all<R: Runtime + AllocGlobal>(
         if entry.is_empty() {
             continue;
         }
-        let is_saved = take(rt, source, entry, &mut saves, place)?;
+        let is_saved = in_memory(take(rt, source, entry, &mut saves, place))?;
         are_saved = are_saved && is_saved;
         done = done.saturating_add(1);
         progress.tell(rt, done, count);
     }
     progress.clear(rt);
-    Ok(are_saved)
+    saves.outcome(are_saved)
 }
 
 /// Takes the files of a disk out.
@@ -56,11 +55,7 @@ fn take_disk<R: Runtime + AllocGlobal>(
     progress: Progress,
 ) -> Result<(), Failure> {
     make_folder(rt, place.folder)?;
-    match take_all(rt, source, entries, place, progress) {
-        Ok(true) => Ok(()),
-        Ok(false) => Err(Failure::new(What::Told)),
-        Err(_) => Err(Failure::new(What::NoMemory)),
-    }
+    take_all(rt, source, entries, place, progress)
 }
 
 /// The bytes of which the disk is: without error bytes where what can be read is taken.
@@ -90,7 +85,7 @@ fn require_whole<R: Runtime + AllocGlobal>(
     taken
 }
 
-/// Takes all files of an image's bytes out, into a folder. Errors: `Disk`; `Write`, where the folder can't be made; `Told`, where a
+/// Takes all files of an image's bytes out, into a folder. Errors: `Disk`; `Write`, where the folder can't be made; those of `outcome`, where a
 /// file wasn't saved, as is reported; `Broken` or `Unlinked`, where there are more files than the directory lists; `NoMemory`.
 pub fn get_all_from<R: Runtime + AllocGlobal>(
     rt: &R,

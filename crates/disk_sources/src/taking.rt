@@ -8,8 +8,8 @@ use disk_basics::host::{read_any, require_apart, require_ours};
 use disk_basics::{Failure, What, in_memory, petscii, slot_chosen};
 use disk_facts::number_meant;
 use disk_looks::{
-    Destination, OneFile, Progress, Saves, get_all_from, get_from, is_blank_art, make_folder, packed, save_as,
-    write_taken,
+    Destination, OneFile, Progress, Saves, get_all_from, get_from, is_blank_art, make_folder,
+    packed, save_as, write_taken,
 };
 use std::alloc::{AllocError, Global};
 use std::path::Path;
@@ -107,26 +107,26 @@ fn save_one<R: Runtime + AllocGlobal>(
         shown.as_str(),
         file.as_slice(),
         place,
-        &mut saves.left,
+        saves,
     ))
 }
 
-/// Saves all files in the folder. Answers whether all were saved. The one error is want of memory.
+/// Saves all files in the folder. Errors: those of `outcome`; `NoMemory`.
 fn save_all<R: Runtime + AllocGlobal>(
     rt: &R,
     other: &Other<'_>,
     found: &Entries,
     place: Destination<'_>,
-) -> Result<bool, AllocError> {
+) -> Result<(), Failure> {
     let mut saves = Saves::new(rt.alloc());
     let mut are_saved = true;
     for (number, entry) in found.entries.iter().enumerate() {
         if !entry.is_empty() {
-            let is_saved = save_one(rt, other, entry, number, &mut saves, place)?;
+            let is_saved = in_memory(save_one(rt, other, entry, number, &mut saves, place))?;
             are_saved = are_saved && is_saved;
         }
     }
-    Ok(are_saved)
+    saves.outcome(are_saved)
 }
 
 /// Takes all files of a disk or an archive of another kind out.
@@ -138,12 +138,12 @@ fn get_all_other<R: Runtime + AllocGlobal>(
 ) -> Result<(), Failure> {
     let found = other_entries(rt.alloc(), other)?;
     make_folder(rt, place.folder)?;
-    let are_saved = in_memory(save_all(rt, other, &found, place))?;
+    let saved = save_all(rt, other, &found, place);
     let is_whole = found.end.tell(rt, image);
-    if are_saved && is_whole {
-        return Ok(());
+    if saved.is_ok() && !is_whole {
+        return Err(Failure::new(What::Told));
     }
-    Err(Failure::new(What::Told))
+    saved
 }
 
 /// Takes all files out of an image, also one of another kind, into a folder. Errors: those of `read_image`; `Disk`; `Write`, where the
