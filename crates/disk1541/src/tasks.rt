@@ -20,10 +20,10 @@ use clap::ArgMatches;
 use disk_basics::host::is_standard;
 use disk_basics::{Failure, What, petscii};
 use disk_changes::{build_image, make};
-use disk_commands::{Verb, flag, given, verb_of};
+use disk_commands::{Verb, flag, given, option, verb_of};
 use disk_compare::{Comparison, diff, show};
 use disk_edits::error_bytes;
-use disk_looks::{Progress, describe, show_map, show_sector, show_track};
+use disk_looks::{Progress, Selection, describe, show_map, show_sector, show_track};
 use disk_reports::{Look, View};
 use disk_sources::{Transfer, convert_image, get, get_all, transfer_files};
 use std::rt::Runtime;
@@ -62,6 +62,18 @@ fn transfer_with<R: Runtime + AllocGlobal>(
         charset,
     };
     transfer_files(rt, given(words, "IMAGE"), &wanted)
+}
+
+/// Takes files out into a folder.
+fn get_all_with<R: Runtime + AllocGlobal>(
+    rt: &R,
+    words: &ArgMatches<'_>,
+    charset: Charset,
+    progress: Progress,
+) -> Result<(), Failure> {
+    let patterns = words.get_strs("PATTERN").unwrap_or(&[]);
+    let selection = Selection::of(rt.alloc(), patterns, option(words, "type"), charset)?;
+    get_all(rt, given(words, "IMAGE"), place(words), &selection, progress)
 }
 
 /// Shows what differs between two images.
@@ -104,7 +116,7 @@ fn perform<'a, R: Runtime + AllocGlobal>(
         Verb::Get => get(rt, image, &one_file(words, charset)?),
         Verb::Show => show(rt, image, wanted(words, charset)?),
         Verb::Diff => diff_with(rt, words, charset),
-        Verb::GetAll => get_all(rt, image, place(words), progress),
+        Verb::GetAll => get_all_with(rt, words, charset, progress),
         Verb::New => make(rt, image, &blank(words, charset)),
         Verb::Convert => convert_image(rt, image, &conversion(words)),
         Verb::Transfer => transfer_with(rt, words, charset),

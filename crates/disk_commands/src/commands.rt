@@ -8,9 +8,9 @@ use crate::words::changing::{
 };
 use crate::words::looking::{
     ALL, BASIC, BLOCKS, CHARSET, CIRCLE, CSV, CVT, CVT_ALL, DELETED, EXACT, FILES_FOLDER, FIRST,
-    FOLDER, HEX, IMAGE, IMAGES, JSON, JSON_MAP, JSON_OBJECT, NAME, NAME_OR_SLOT, ONLY, OUTPUT, RAW,
+    FOLDER, HEX, IMAGE, IMAGES, JSON, JSON_MAP, JSON_OBJECT, NAME, NAME_OR_SLOT, OF_TYPE, ONLY, OUTPUT, RAW,
     RECURSIVE, REPLACE_FILE, REPLACE_FILES, SALVAGE, SCREEN_CHARSET, SECOND, SECTOR, SLOT, SVG,
-    TEXT, TRACK, WANTED, WITH_FILES,
+    TAKEN, TEXT, TRACK, WANTED, WITH_FILES,
 };
 
 /// What help says at the end: examples, and the exit statuses.
@@ -145,7 +145,16 @@ const LOOKING: &[Command] = &[
         verb: Verb::GetAll,
         name: "get-all",
         about: "Extract all files into a folder",
-        words: &[IMAGE, FOLDER, REPLACE_FILES, SALVAGE, CVT_ALL],
+        words: &[
+            IMAGE,
+            FOLDER,
+            TAKEN,
+            OF_TYPE,
+            REPLACE_FILES,
+            SALVAGE,
+            CVT_ALL,
+            CHARSET,
+        ],
     },
     Command {
         verb: Verb::Show,
@@ -409,7 +418,9 @@ pub fn examples_of(verb: Verb) -> &'static str {
         Verb::Get => examples!(
             "  disk1541 get game.d64 LOADER -o loader.prg\n  disk1541 get game.d64 '{c1}*' > first\n  disk1541 get bad.d64 --salvage 'LEVEL*' -o level.bin\n  disk1541 get geos.d64 LETTER --cvt -o letter.cvt\n  disk1541 get odd.d64 --exact 'ST*R1' -o star.prg\n"
         ),
-        Verb::GetAll => examples!("  disk1541 get-all game.d64 files\n"),
+        Verb::GetAll => examples!(
+            "  disk1541 get-all game.d64 files\n  disk1541 get-all game.d64 files 'LEVEL*' --type seq\n"
+        ),
         Verb::Show => examples!(
             "  disk1541 show game.d64 LOADER\n  disk1541 show game.d64 SCORES --hex\n  disk1541 show game.d64 README --text --charset lower\n"
         ),

@@ -117,6 +117,25 @@ impl Saves {
         }
     }
 
+    /// The name of the host's file for the next entry, whose file may be taken as CVT.
+    fn next(&mut self, alloc: Global, entry: &Entry, is_cvt: bool) -> Result<String, AllocError> {
+        if is_cvt && geos_of(entry).is_some() {
+            return self.names.next_as(alloc, entry, CVT);
+        }
+        self.names.next(alloc, entry)
+    }
+
+    /// Passes the next entry over, whose name counts for those after it.
+    pub fn pass_over(
+        &mut self,
+        alloc: Global,
+        entry: &Entry,
+        is_cvt: bool,
+    ) -> Result<(), AllocError> {
+        self.next(alloc, entry, is_cvt)?;
+        Ok(())
+    }
+
     /// What saving files came to. Errors: `Ended` with the status of the host's files, where one could not be written; `Told`, where one
     /// was left out.
     pub fn outcome(&self, are_saved: bool) -> Result<(), Failure> {
@@ -310,10 +329,7 @@ pub fn take<R: Runtime + AllocGlobal>(
 ) -> Result<bool, AllocError> {
     let alloc = rt.alloc();
     let geos = if place.is_cvt { geos_of(entry) } else { None };
-    let name = match geos {
-        Some(_) => saves.names.next_as(alloc, entry, CVT)?,
-        None => saves.names.next(alloc, entry)?,
-    };
+    let name = saves.next(alloc, entry, place.is_cvt)?;
     if is_blank_art(entry) {
         return Ok(true);
     }

@@ -1,12 +1,13 @@
 //! GET-ALL: all files out of the image, to a folder of the host.
 use crate::progress::Progress;
 use crate::salvage::salvaged_entries;
+use crate::selection::Selection;
 use crate::taking::{Destination, Saves, Source, take};
 use cbm_volume::Entry;
 use disk_basics::host::path_of;
 use disk_basics::strays::unlisted_on;
 use disk_basics::{Disk, Failure, What, in_memory, on_disk};
-use disk_facts::{count_files, without_errors};
+use disk_facts::without_errors;
 use std::fs;
 use std::path::Path;
 use std::rt::Runtime;
@@ -21,20 +22,25 @@ pub fn make_folder<R: Runtime + AllocGlobal>(rt: &R, folder: &str) -> Result<(),
     }
 }
 
-/// Takes the files of all entries out. Errors: those of `outcome`; `NoMemory`.
+/// Takes the files of entries out that are selected. Errors: those of `outcome`; `NoMemory`.
 fn take_all<R: Runtime + AllocGlobal>(
     rt: &R,
     source: Source<'_>,
     entries: &[Entry],
     place: Destination<'_>,
+    selection: &Selection,
     progress: Progress,
 ) -> Result<(), Failure> {
     let mut saves = Saves::new(rt.alloc());
     let mut are_saved = true;
     let mut done: usize = 0;
-    let count = count_files(entries);
+    let count = selection.count(entries);
     for entry in entries {
         if entry.is_empty() {
+            continue;
+        }
+        if !selection.has(entry) {
+            in_memory(saves.pass_over(rt.alloc(), entry, place.is_cvt))?;
             continue;
         }
         let is_saved = in_memory(take(rt, source, entry, &mut saves, place))?;
@@ -52,10 +58,12 @@ fn take_disk<R: Runtime + AllocGlobal>(
     source: Source<'_>,
     entries: &[Entry],
     place: Destination<'_>,
+    selection: &Selection,
     progress: Progress,
 ) -> Result<(), Failure> {
+    selection.require_files(rt.alloc(), entries)?;
     make_folder(rt, place.folder)?;
-    take_all(rt, source, entries, place, progress)
+    take_all(rt, source, entries, place, selection, progress)
 }
 
 /// The bytes of which the disk is: without error bytes where what can be read is taken.
@@ -85,13 +93,14 @@ fn require_whole<R: Runtime + AllocGlobal>(
     taken
 }
 
-/// Takes all files of an image's bytes out, into a folder. Errors: `Disk`; `Write`, where the folder can't be made; those of `outcome`, where a
+/// Takes the files of an image's bytes out that are selected, into a folder. Errors: `Disk`; those of `require_files`; `Write`, where the folder can't be made; those of `outcome`, where a
 /// file wasn't saved, as is reported; `Broken` or `Unlinked`, where there are more files than the directory lists; `NoMemory`.
 pub fn get_all_from<R: Runtime + AllocGlobal>(
     rt: &R,
     image: &str,
     bytes: &[u8],
     place: Destination<'_>,
+    selection: &Selection,
     progress: Progress,
 ) -> Result<(), Failure> {
     let disk = on_disk(
@@ -105,10 +114,17 @@ pub fn get_all_from<R: Runtime + AllocGlobal>(
     };
     if place.salvages {
         let entries = on_disk(rt.alloc(), image, salvaged_entries(rt, bytes, &disk))?;
-        return take_disk(rt, source, entries.as_slice(), place, progress);
+        return take_disk(rt, source, entries.as_slice(), place, selection, progress);
     }
     let listed = in_memory(disk.listed(rt.alloc()))?;
     let rest = in_memory(unlisted_on(rt.alloc(), &disk, &listed))?;
-    let taken = take_disk(rt, source, listed.entries.as_slice(), place, progress);
+    let taken = take_disk(
+        rt,
+        source,
+        listed.entries.as_slice(),
+        place,
+        selection,
+        progress,
+    );
     require_whole(rt, image, rest, taken)
 }

@@ -8,7 +8,7 @@ use disk_basics::host::{read_any, require_apart, require_ours};
 use disk_basics::{Failure, What, in_memory, petscii, slot_chosen};
 use disk_facts::number_meant;
 use disk_looks::{
-    Destination, OneFile, Progress, Saves, get_all_from, get_from, is_blank_art, make_folder,
+    Destination, OneFile, Progress, Saves, Selection, get_all_from, get_from, is_blank_art, make_folder,
     packed, save_as, write_taken,
 };
 use std::alloc::{AllocError, Global};
@@ -111,34 +111,42 @@ fn save_one<R: Runtime + AllocGlobal>(
     ))
 }
 
-/// Saves all files in the folder. Errors: those of `outcome`; `NoMemory`.
+/// Saves the files in the folder that are selected. Errors: those of `outcome`; `NoMemory`.
 fn save_all<R: Runtime + AllocGlobal>(
     rt: &R,
     other: &Other<'_>,
     found: &Entries,
     place: Destination<'_>,
+    selection: &Selection,
 ) -> Result<(), Failure> {
     let mut saves = Saves::new(rt.alloc());
     let mut are_saved = true;
     for (number, entry) in found.entries.iter().enumerate() {
-        if !entry.is_empty() {
+        if entry.is_empty() {
+            continue;
+        }
+        if selection.has(entry) {
             let is_saved = in_memory(save_one(rt, other, entry, number, &mut saves, place))?;
             are_saved = are_saved && is_saved;
+        } else {
+            in_memory(saves.pass_over(rt.alloc(), entry, false))?;
         }
     }
     saves.outcome(are_saved)
 }
 
-/// Takes all files of a disk or an archive of another kind out.
+/// Takes the selected files of a disk or an archive of another kind out.
 fn get_all_other<R: Runtime + AllocGlobal>(
     rt: &R,
     image: &str,
     other: &Other<'_>,
     place: Destination<'_>,
+    selection: &Selection,
 ) -> Result<(), Failure> {
     let found = other_entries(rt.alloc(), other)?;
+    selection.require_files(rt.alloc(), found.entries.as_slice())?;
     make_folder(rt, place.folder)?;
-    let saved = save_all(rt, other, &found, place);
+    let saved = save_all(rt, other, &found, place, selection);
     let is_whole = found.end.tell(rt, image);
     if saved.is_ok() && !is_whole {
         return Err(Failure::new(What::Told));
@@ -146,19 +154,21 @@ fn get_all_other<R: Runtime + AllocGlobal>(
     saved
 }
 
-/// Takes all files out of an image, also one of another kind, into a folder. Errors: those of `read_image`; `Disk`; `Write`, where the
+/// Takes the selected files out of an image, also one of another kind, into a folder. Errors: those of `read_image`; `Disk`; those of
+/// `require_files`; `Write`, where the
 /// folder can't be made; `Told`, where a file wasn't saved, as is reported; `NoMemory`.
 pub fn get_all<R: Runtime + AllocGlobal>(
     rt: &R,
     image: &str,
     place: Destination<'_>,
+    selection: &Selection,
     progress: Progress,
 ) -> Result<(), Failure> {
     let bytes = read_any(rt, image)?;
     if let Some(other) = in_memory(Other::of(rt.alloc(), bytes.as_slice()))? {
         require_no_cvt(rt.alloc(), image, place.is_cvt)?;
-        return get_all_other(rt, image, &other, place);
+        return get_all_other(rt, image, &other, place, selection);
     }
     require_ours(rt.alloc(), image, bytes.as_slice())?;
-    get_all_from(rt, image, bytes.as_slice(), place, progress)
+    get_all_from(rt, image, bytes.as_slice(), place, selection, progress)
 }

@@ -216,6 +216,23 @@ pub const FOLDER: Word = Word {
     ..NEEDED
 };
 
+/// The files that GET-ALL takes out.
+pub const TAKEN: Word = Word {
+    name: "PATTERN",
+    help: "file names or patterns (`?` one character, `*` the rest); default: all files",
+    action: ArgAction::Append,
+    is_needed: false,
+    ..NEEDED
+};
+
+/// The type of these files.
+pub const OF_TYPE: Word = Word {
+    name: "type",
+    help: "only files of this type: prg, seq, usr, rel or del",
+    value: &["TYPE"],
+    ..OPTION
+};
+
 /// GET-ALL over files that are there.
 pub const REPLACE_FILES: Word = Word {
     help: "replace existing files",
