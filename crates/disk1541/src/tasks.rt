@@ -73,7 +73,13 @@ fn get_all_with<R: Runtime + AllocGlobal>(
 ) -> Result<(), Failure> {
     let patterns = words.get_strs("PATTERN").unwrap_or(&[]);
     let selection = Selection::of(rt.alloc(), patterns, option(words, "type"), charset)?;
-    get_all(rt, given(words, "IMAGE"), place(words), &selection, progress)
+    get_all(
+        rt,
+        given(words, "IMAGE"),
+        place(words),
+        &selection,
+        progress,
+    )
 }
 
 /// Shows what differs between two images.

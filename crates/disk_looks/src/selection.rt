@@ -28,11 +28,7 @@ fn pattern_of(alloc: Global, word: &str, charset: Charset) -> Result<Pattern, Fa
 }
 
 /// The patterns of words.
-fn patterns_of(
-    alloc: Global,
-    words: &[&str],
-    charset: Charset,
-) -> Result<Vec<Pattern>, Failure> {
+fn patterns_of(alloc: Global, words: &[&str], charset: Charset) -> Result<Vec<Pattern>, Failure> {
     let mut patterns = Vec::new(alloc);
     for word in words {
         let pattern = pattern_of(alloc, *word, charset)?;

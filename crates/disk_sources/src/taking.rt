@@ -8,8 +8,8 @@ use disk_basics::host::{read_any, require_apart, require_ours};
 use disk_basics::{Failure, What, in_memory, petscii, slot_chosen};
 use disk_facts::number_meant;
 use disk_looks::{
-    Destination, OneFile, Progress, Saves, Selection, get_all_from, get_from, is_blank_art, make_folder,
-    packed, save_as, write_taken,
+    Destination, OneFile, Progress, Saves, Selection, get_all_from, get_from, is_blank_art,
+    make_folder, packed, save_as, write_taken,
 };
 use std::alloc::{AllocError, Global};
 use std::path::Path;
