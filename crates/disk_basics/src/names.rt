@@ -2,12 +2,12 @@
 ghost use Rattle.std.specs.Prelude.{◌≤◌, length, IfOk};
 
 use crate::calls::read_name;
-use crate::failure::Failure;
+use crate::failure::{Failure, in_memory};
 use crate::host::is_standard;
 use crate::what::What;
 use crate::word_fault::WordFault;
 use cbm_shell::texts::Charset;
-use std::alloc::Global;
+use std::alloc::{AllocError, Global};
 use std::path::Path;
 
 /// The most bytes of a name on a disk, and of its title.
@@ -82,12 +82,47 @@ pub fn file_name(alloc: Global, charset: Charset, name: &str) -> Result<Vec<u8>,
     Ok(codes)
 }
 
-/// The name that a file of the host gets on a disk: without its folder and its ending. Errors: `Word` for standard input,
-/// which has no name; those of `file_name`.
+/// Whether a byte is a digit of a number to the base 16, as GET-ALL writes it.
+fn is_digit(byte: u8) -> bool {
+    matches!(byte, b'0'..=b'9' | b'A'..=b'F')
+}
+
+/// The digits of a code that GET-ALL wrote as `%XX`, if one begins at this place.
+fn code_at(bytes: &[u8], place: usize) -> Option<[u8; 2]> {
+    match bytes.get(place..place.saturating_add(3)) {
+        Some([b'%', high, low]) if is_digit(*high) && is_digit(*low) => Some([*high, *low]),
+        _ => None,
+    }
+}
+
+/// The name of a host's file as it is typed: a code that GET-ALL wrote as `%XX` is `{XX}`.
+fn typed(alloc: Global, stem: &str) -> Result<Vec<u8>, AllocError> {
+    let mut text = Vec::new(alloc);
+    let mut passed: u8 = 0;
+    for (place, byte) in stem.as_bytes().iter().enumerate() {
+        if passed > 0 {
+            passed = passed.saturating_sub(1);
+        } else if let Some([high, low]) = code_at(stem.as_bytes(), place) {
+            text.extend_from_slice(&[b'{', high, low, b'}'])?;
+            passed = 2;
+        } else {
+            text.push(*byte).map_err(AllocError::from)?;
+        }
+    }
+    Ok(text)
+}
+
+/// The name that a file of the host gets on a disk: without its folder and its ending; `%XX` is the code that it is in names which GET-ALL
+/// writes. Errors: `Word` for standard input, which has no name; those of `file_name`.
 pub fn name_of_file(alloc: Global, charset: Charset, file: &str) -> Result<Vec<u8>, Failure> {
     if is_standard(file) {
         return Err(Failure::new(What::Word(WordFault::NoName)));
     }
     let stem = Path::new(file).file_stem().unwrap_or(file);
-    file_name(alloc, charset, stem)
+    let name = in_memory(typed(alloc, stem))?;
+    file_name(
+        alloc,
+        charset,
+        std::str::from_utf8(name.as_slice()).unwrap_or(stem),
+    )
 }
