@@ -1,5 +1,6 @@
 //! DESCRIBE: the recipe of a disk.
 use crate::taking::{Names, is_art};
+use cbm_channel::FileType;
 use cbm_image::{Kind, kind_of};
 use cbm_medium::Address;
 use cbm_shell::texts::Charset;
@@ -110,7 +111,17 @@ fn file_line(
     })
 }
 
-/// The line of an entry, whose file is at a path. Errors: `NotClosed`, `Trouble`, where its file can't be built from what `get-all` takes out.
+/// Whether an entry is a line of art to those who see the directory, of a type that files have: it has no block.
+fn is_hollow(entry: &Entry) -> bool {
+    let has_type = matches!(
+        entry.kind(),
+        Some(FileType::Prg | FileType::Seq | FileType::Usr)
+    );
+    has_type && entry.is_closed() && entry.first_block().is_end()
+}
+
+/// The line of the file of an entry, which is at a path. Errors: `NotClosed`, `Trouble`, where its file can't be built from what `get-all`
+/// takes out.
 fn line_of(
     alloc: Global,
     disk: &Disk,
@@ -118,9 +129,6 @@ fn line_of(
     path: String,
     description: Description<'_>,
 ) -> Result<RecipeLine, ShellFault> {
-    if is_art(entry) {
-        return Ok(art_line(alloc, entry, description.charset)?);
-    }
     if !entry.is_closed() {
         return Err(ShellFault::NotClosed);
     }
@@ -128,72 +136,151 @@ fn line_of(
     Ok(file_line(alloc, entry, path, description, bytes.len())?)
 }
 
-/// Reports that an entry isn't described, or not all of it.
-fn tell<R: Runtime + AllocGlobal>(rt: &R, entry: &Entry, what: &str) -> Result<(), AllocError> {
-    let name = name_text(rt.alloc(), Charset::Upper, entry.name())?;
-    let _ = eprintln!(rt; "disk1541: \"{name}\" {what}");
+/// What is made of a directory.
+#[derive(Drop)]
+struct Draft {
+    // The names of the host's files.
+    hosts: Names,
+    // The names on the disk of the files that are described.
+    files: Vec<Vec<u8>>,
+    lines: Vec<RecipeLine>,
+    // What isn't described, as comments.
+    notes: String,
+}
+
+impl Draft {
+    /// Nothing yet.
+    fn new(alloc: Global) -> Draft {
+        Draft {
+            hosts: Names::new(alloc),
+            files: Vec::new(alloc),
+            lines: Vec::new(alloc),
+            notes: String::new(alloc),
+        }
+    }
+
+    /// Reports what isn't described of an entry, and notes it.
+    fn note<R: Runtime + AllocGlobal>(
+        &mut self,
+        rt: &R,
+        entry: &Entry,
+        what: &str,
+    ) -> Result<(), AllocError> {
+        let shown = name_text(rt.alloc(), Charset::Upper, entry.name())?;
+        let name = shown.as_str();
+        let _ = eprintln!(rt; "disk1541: \"{name}\" {what}");
+        let line = format!(in rt.alloc(); "# \"{name}\" {what}\n")?;
+        self.notes.push_str(line.as_str())
+    }
+
+    /// Whether a file that is described has a name, as `build` compares names.
+    fn has_file(&self, name: &[u8]) -> bool {
+        for file in self.files.as_slice() {
+            if file.as_slice() == name {
+                return true;
+            }
+        }
+        false
+    }
+
+    /// Adds the line of a file.
+    fn add_file(
+        &mut self,
+        alloc: Global,
+        entry: &Entry,
+        line: RecipeLine,
+    ) -> Result<(), AllocError> {
+        let name = Vec::from_slice(alloc, entry.name())?;
+        self.files.push(name).map_err(AllocError::from)?;
+        self.lines.push(line).map_err(AllocError::from)
+    }
+
+    /// Adds a line of art.
+    fn add_art(
+        &mut self,
+        alloc: Global,
+        entry: &Entry,
+        charset: Charset,
+    ) -> Result<(), AllocError> {
+        let line = art_line(alloc, entry, charset)?;
+        self.lines.push(line).map_err(AllocError::from)
+    }
+}
+
+/// What is noted of an entry that is left out.
+fn why_left(fault: ShellFault) -> &'static str {
+    match fault {
+        ShellFault::NotClosed => "is not described: it was never closed",
+        _ => "is not described: it can't be read to its end",
+    }
+}
+
+/// Adds the line of a file, unless an earlier one has its name, and notes what it doesn't say.
+fn add_described<R: Runtime + AllocGlobal>(
+    rt: &R,
+    entry: &Entry,
+    line: RecipeLine,
+    draft: &mut Draft,
+) -> Result<(), AllocError> {
+    if draft.has_file(sixteen(entry)) {
+        return draft.note(
+            rt,
+            entry,
+            "is not described: `build` refuses a second file of one name",
+        );
+    }
+    draft.add_file(rt.alloc(), entry, line)?;
+    if geos_of(entry).is_some() {
+        return draft.note(
+            rt,
+            entry,
+            "is a GEOS file: its info block and records are not described",
+        );
+    }
     Ok(())
 }
 
-/// Adds the line of an entry, and answers whether it says all of it.
+/// Adds the line of an entry.
 fn add_line<R: Runtime + AllocGlobal>(
     rt: &R,
     disk: &Disk,
     entry: &Entry,
-    names: &mut Names,
-    lines: &mut Vec<RecipeLine>,
+    draft: &mut Draft,
     description: Description<'_>,
-) -> Result<bool, ShellFault> {
+) -> Result<(), ShellFault> {
     // `get-all` names each entry, whether it takes its file out or not.
-    let path = path_of(rt.alloc(), entry, names, description.folder)?;
-    match line_of(rt.alloc(), disk, entry, path, description) {
-        Ok(line) => lines.push(line).map_err(AllocError::from)?,
-        Err(ShellFault::Memory) => return Err(ShellFault::Memory),
-        Err(fault) => {
-            let _ = tell_left(rt, entry, fault)?;
-            return Ok(false);
-        }
-    }
-    if geos_of(entry).is_some() {
-        tell(
+    let path = path_of(rt.alloc(), entry, &mut draft.hosts, description.folder)?;
+    if is_hollow(entry) {
+        draft.note(
             rt,
             entry,
-            "is a GEOS file: its info block and records are not described",
+            "has no block: it is described as art, of type DEL",
         )?;
-        return Ok(false);
     }
-    Ok(true)
-}
-
-/// Reports that an entry is left out.
-fn tell_left<R: Runtime + AllocGlobal>(
-    rt: &R,
-    entry: &Entry,
-    fault: ShellFault,
-) -> Result<(), AllocError> {
-    match fault {
-        ShellFault::NotClosed => tell(rt, entry, "is not described: it was never closed"),
-        _ => tell(rt, entry, "is not described: it can't be read to its end"),
+    if is_art(entry) || is_hollow(entry) {
+        return Ok(draft.add_art(rt.alloc(), entry, description.charset)?);
+    }
+    match line_of(rt.alloc(), disk, entry, path, description) {
+        Ok(line) => Ok(add_described(rt, entry, line, draft)?),
+        Err(ShellFault::Memory) => Err(ShellFault::Memory),
+        Err(fault) => Ok(draft.note(rt, entry, why_left(fault))?),
     }
 }
 
-/// Adds the lines of all entries, and answers whether they say all of them.
-fn add_lines<R: Runtime + AllocGlobal>(
+/// The lines of all entries, and what they don't say.
+fn drafted<R: Runtime + AllocGlobal>(
     rt: &R,
     disk: &Disk,
     entries: &[Entry],
-    lines: &mut Vec<RecipeLine>,
     description: Description<'_>,
-) -> Result<bool, ShellFault> {
-    let mut names = Names::new(rt.alloc());
-    let mut is_whole = true;
+) -> Result<Draft, ShellFault> {
+    let mut draft = Draft::new(rt.alloc());
     for entry in entries {
         if !entry.is_empty() {
-            let is_described = add_line(rt, disk, entry, &mut names, lines, description)?;
-            is_whole = is_whole && is_described;
+            add_line(rt, disk, entry, &mut draft, description)?;
         }
     }
-    Ok(is_whole)
+    Ok(draft)
 }
 
 /// Why 18/0 can't be read.
@@ -278,20 +365,6 @@ fn recipe_with(
     Ok(recipe)
 }
 
-/// The recipe of a disk of these entries, and whether it says all of it.
-fn described_by<R: Runtime + AllocGlobal>(
-    rt: &R,
-    image: &[u8],
-    disk: &Disk,
-    entries: &[Entry],
-    description: Description<'_>,
-) -> Result<(Recipe, bool), ShellFault> {
-    let mut lines = Vec::new(rt.alloc());
-    let is_whole = add_lines(rt, disk, entries, &mut lines, description)?;
-    let recipe = recipe_with(rt.alloc(), image, description.charset, lines)?;
-    Ok((recipe, is_whole))
-}
-
 /// Whether a disk has no more files than its directory lists; where it breaks off, or has no link to them, is reported. The one error is
 /// want of memory.
 fn is_followed<R: Runtime + AllocGlobal>(
@@ -308,42 +381,62 @@ fn is_followed<R: Runtime + AllocGlobal>(
     Ok(false)
 }
 
-/// The recipe of a disk, and whether it says all of it.
+/// The recipe of a disk, and what it doesn't say.
+#[derive(Drop)]
+struct Described {
+    recipe: Recipe,
+    // As comments.
+    notes: String,
+    // The directory lists all files.
+    is_followed: bool,
+}
+
+/// The recipe of a disk, and what it doesn't say.
 fn described<R: Runtime + AllocGlobal>(
     rt: &R,
     image: &[u8],
     description: Description<'_>,
-) -> Result<(Recipe, bool), ShellFault> {
+) -> Result<Described, ShellFault> {
     let disk = Disk::open(rt.alloc(), image)?;
     let listed = disk.listed(rt.alloc())?;
-    let entries = listed.entries.as_slice();
-    let (recipe, is_whole) = described_by(rt, image, &disk, entries, description)?;
-    Ok((recipe, is_whole & is_followed(rt, &disk, &listed)?))
+    let draft = drafted(rt, &disk, listed.entries.as_slice(), description)?;
+    let lines = draft.lines;
+    let notes = draft.notes;
+    let recipe = recipe_with(rt.alloc(), image, description.charset, lines)?;
+    let is_followed = is_followed(rt, &disk, &listed)?;
+    Ok(Described {
+        recipe,
+        notes,
+        is_followed,
+    })
 }
 
-/// Prints a recipe.
-fn print_recipe<R: Runtime + AllocGlobal>(rt: &R, recipe: &Recipe) -> Result<(), Failure> {
-    match recipe_text(rt.alloc(), recipe) {
-        Ok(text) => print(rt, text.as_bytes()),
+/// Prints a recipe after what it doesn't say.
+fn print_recipe<R: Runtime + AllocGlobal>(rt: &R, described: &Described) -> Result<(), Failure> {
+    match recipe_text(rt.alloc(), &described.recipe) {
+        Ok(text) => {
+            print(rt, described.notes.as_bytes())?;
+            print(rt, text.as_bytes())
+        }
         Err(_) => Err(Failure::new(What::NoMemory)),
     }
 }
 
-/// Prints the recipe of an image's disk; what it doesn't say of it is reported. Errors: those of `read_to_look`; `Disk`;
-/// `Write`; `Told`, where something wasn't said; `NoMemory`.
+/// Prints the recipe of an image's disk; what it doesn't say of it is reported, and stands in comments above it. Errors: those of
+/// `read_to_look`; `Disk`; `Write`; `Told`, where something wasn't said; `NoMemory`.
 pub fn describe<R: Runtime + AllocGlobal>(
     rt: &R,
     image: &str,
     description: Description<'_>,
 ) -> Result<(), Failure> {
     let bytes = read_to_look(rt, image)?;
-    let (recipe, is_whole) = on_disk(
+    let described = on_disk(
         rt.alloc(),
         image,
         described(rt, bytes.as_slice(), description),
     )?;
-    print_recipe(rt, &recipe)?;
-    if is_whole {
+    print_recipe(rt, &described)?;
+    if described.is_followed && described.notes.is_empty() {
         Ok(())
     } else {
         Err(Failure::new(What::Told))
