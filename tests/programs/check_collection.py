@@ -469,7 +469,7 @@ def is_named_in_text(tally, command, pattern, wanted, room):
     unreached = {shown(it.path) for it in IMAGES if not is_text(it.path)}
     tally.is_so("the tree", f"{command} names each image", set(wanted) <= named <= {*wanted, *unreached}, differ(named, wanted))
     if command != "hash":
-        count = re.match(r"(\d+) images: (.*)", lines[-1])
+        count = re.match(r"(\d+) images?: (.*)", lines[-1])
         parts = count and sum(int(it) for it in re.findall(r"(\d+) (?:sound|not\b|shown|with a match|without|no images)", count[2]))
         total = len(names_wanted(IMAGES, command))
         tally.is_so("the tree", f"{command} counts them, and the pipe", count and int(count[1]) == parts == total and "1 pipes or devices" in count[2], (lines[-1], total))

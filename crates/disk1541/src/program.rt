@@ -6,7 +6,7 @@ use clap::ArgMatches;
 use clap::error::ErrorKind;
 use disk_basics::host::read_file;
 use disk_basics::{Failure, What, in_memory};
-use disk_commands::verb_of;
+use disk_commands::{flag, verb_of};
 use disk_looks::Progress;
 use host_files::text_of;
 use std::alloc::AllocError;
@@ -79,7 +79,7 @@ fn carried_out<'a>(
     if let Some((name, words)) = line.subcommand() {
         if let Some(verb) = verb_of(name) {
             let images = in_memory(images_of(rt.alloc(), verb, words))?;
-            if images.len() > 1 {
+            if images.len() > 1 || !images.is_empty() && flag(words, "recursive") {
                 return change_each(rt, verb, words, images.as_slice());
             }
         }

@@ -1,10 +1,11 @@
 //! Commands that change several images, each by itself.
 use crate::lock::lock_folder;
-use crate::tasks::{change_with, tell_other};
+use crate::tasks::{Walk, change_with, image_noun, tell_other};
 use clap::ArgMatches;
 use disk_basics::host::{is_standard, print};
 use disk_basics::{Failure, What, WordFault, in_memory};
 use disk_commands::{Verb, flag};
+use host_files::{Kind, kind_of};
 use std::alloc::{AllocError, Global};
 
 /// The images that a command changes one by one: those of VALIDATE, and those of DELETE, LOCK and UNLOCK with `--only`, whose other
@@ -39,17 +40,18 @@ impl Outcome {
     fn line(self, alloc: Global, is_dry: bool) -> Result<String, AllocError> {
         let Outcome { done, refused } = self;
         let all = done.wrapping_add(refused);
+        let noun = image_noun(all);
         let word = if is_dry { "would be done" } else { "done" };
-        format!(in alloc; "{all} images: {done} {word}, {refused} refused\n")
+        format!(in alloc; "{all} {noun}: {done} {word}, {refused} refused\n")
     }
 }
 
 /// Changes one of several images, while its folder is locked.
-fn change_one<'a>(
+fn change_one(
     rt: &HostRuntime,
     verb: Verb,
-    words: &ArgMatches<'a>,
-    image: &'a str,
+    words: &ArgMatches<'_>,
+    image: &str,
 ) -> Result<(), Failure> {
     let others_wait = lock_folder(rt, image);
     let answer = change_with(rt, verb, words, image, None);
@@ -64,11 +66,11 @@ fn print_name(rt: &HostRuntime, image: &str) -> Result<(), Failure> {
 }
 
 /// Changes one of several images; where that is refused, it is reported.
-fn change_among<'a>(
+fn change_among(
     rt: &HostRuntime,
     verb: Verb,
-    words: &ArgMatches<'a>,
-    image: &'a str,
+    words: &ArgMatches<'_>,
+    image: &str,
     outcome: &mut Outcome,
 ) -> Result<(), Failure> {
     let is_json = flag(words, "json");
@@ -89,13 +91,46 @@ fn change_among<'a>(
     Ok(())
 }
 
-/// Changes several images one after the other, each by itself, and says how many were. Errors: `Word`; `Several`, where some are refused,
-/// as is reported; `Write`; `NoMemory`.
-pub fn change_each<'a>(
+/// Changes the images of a folder. A folder that can't be read is reported, as an image is.
+fn change_into(
     rt: &HostRuntime,
     verb: Verb,
-    words: &ArgMatches<'a>,
-    images: &[&'a str],
+    words: &ArgMatches<'_>,
+    folder: &str,
+    outcome: &mut Outcome,
+) -> Result<(), Failure> {
+    let walk = in_memory(Walk::through(rt, folder, false))?;
+    for failure in walk.refused() {
+        outcome.refused = outcome.refused.wrapping_add(1);
+        tell_other(rt, failure.name(), failure, flag(words, "json"))?;
+    }
+    for image in walk.images() {
+        change_among(rt, verb, words, image.as_str(), outcome)?;
+    }
+    Ok(())
+}
+
+/// Changes one of several images, or those of a folder.
+fn change_at(
+    rt: &HostRuntime,
+    verb: Verb,
+    words: &ArgMatches<'_>,
+    name: &str,
+    outcome: &mut Outcome,
+) -> Result<(), Failure> {
+    if flag(words, "recursive") && matches!(kind_of(rt, name), Ok(Kind::Folder)) {
+        return change_into(rt, verb, words, name, outcome);
+    }
+    change_among(rt, verb, words, name, outcome)
+}
+
+/// Changes several images one after the other, each by itself, also those of folders, and says how many were. Errors: `Word`; `Several`,
+/// where some are refused, as is reported; `Write`; `NoMemory`.
+pub fn change_each(
+    rt: &HostRuntime,
+    verb: Verb,
+    words: &ArgMatches<'_>,
+    images: &[&str],
 ) -> Result<(), Failure> {
     if images.iter().any(|image| is_standard(*image)) {
         return Err(Failure::new(What::Word(WordFault::Twice)));
@@ -105,7 +140,7 @@ pub fn change_each<'a>(
         refused: 0,
     };
     for image in images {
-        change_among(rt, verb, words, *image, &mut outcome)?;
+        change_at(rt, verb, words, *image, &mut outcome)?;
     }
     if !flag(words, "json") {
         let line = in_memory(outcome.line(rt.alloc(), flag(words, "dry-run")))?;

@@ -7,6 +7,8 @@ mod running;
 mod saving;
 mod words;
 
+pub use self::counts::image_noun;
+pub use self::folders::Walk;
 use self::look::look_at_all;
 pub use self::look::tell_other;
 use self::running::run_lines;

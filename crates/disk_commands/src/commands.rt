@@ -3,8 +3,8 @@ use crate::word::Word;
 use crate::words::changing::{
     ADD, BY, DROP, DRY_RUN, FILES, FORCE, FORCE_FAULT, FORMAT, FROM, GONE, ID, INTERLEAVE, LINES,
     LOSSY, LOSSY_DROP, MEANT, NAME_ON_DISK, NEW, NEW_ID, NEW_TITLE, NEW_TRACKS, NEW_TYPE, OF_ALL,
-    OLD, ORDERED, OUT, PLACED, RECIPE, RECORD, REPLACE_IMAGE, REPLACE_NAME, SECTOR_FROM, TITLE,
-    TRACK_FROM, TRACKS, TRANSFERRED, TYPE, TYPE_AGAIN,
+    OLD, ORDERED, ORDERED_WITHIN, OUT, PLACED, RECIPE, RECORD, REPLACE_IMAGE, REPLACE_NAME,
+    SECTOR_FROM, TITLE, TRACK_FROM, TRACKS, TRANSFERRED, TYPE, TYPE_AGAIN,
 };
 use crate::words::looking::{
     ALL, BASIC, BLOCKS, CHARSET, CIRCLE, CSV, CVT, CVT_ALL, DELETED, EXACT, FILES_FOLDER, FIRST,
@@ -346,7 +346,7 @@ const CHANGING: &[Command] = &[
         verb: Verb::Validate,
         name: "validate",
         about: "Validate: free unused blocks and remove unclosed files",
-        words: &[ORDERED, DRY_RUN, FORCE, JSON],
+        words: &[ORDERED, ORDERED_WITHIN, DRY_RUN, FORCE, JSON],
     },
     Command {
         verb: Verb::Errors,
@@ -488,7 +488,7 @@ pub fn examples_of(verb: Verb) -> &'static str {
             "  disk1541 run work.d64 changes.txt    lines as: rename LOADER START\n  disk1541 run work.d64 changes.txt --dry-run    what would change\n"
         ),
         Verb::Validate => examples!(
-            "  disk1541 validate work.d64 --dry-run    what would go\n  disk1541 validate work.d64\n  disk1541 validate *.d64 --json\n"
+            "  disk1541 validate work.d64 --dry-run    what would go\n  disk1541 validate work.d64\n  disk1541 validate *.d64 --json\n  disk1541 validate -r disks/ --dry-run\n"
         ),
     }
 }

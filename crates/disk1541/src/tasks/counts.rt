@@ -6,6 +6,11 @@ use disk_reports::{Look, LookAnswer, View};
 use std::alloc::{AllocError, Global};
 use std::rt::Runtime;
 
+/// The noun for so many images.
+pub fn image_noun(count: u32) -> &'static str {
+    if count == 1 { "image" } else { "images" }
+}
+
 /// How many images came to what.
 #[derive(Clone, Copy)]
 pub struct Counts {
@@ -105,20 +110,21 @@ impl Counts {
         } = self;
         let end = self.end_text(alloc)?;
         let all = fine.wrapping_add(others).wrapping_add(none);
+        let noun = image_noun(all);
         match view {
             View::Soundness | View::Flaws => {
                 format!(in alloc;
-                    "{all} images: {fine} sound, {others} not sound, {none} not images{end}\n"
+                    "{all} {noun}: {fine} sound, {others} not sound, {none} not images{end}\n"
                 )
             }
             View::Matches => {
                 format!(in alloc;
-                    "{all} images: {fine} with a match, {others} without, {none} no images{end}\n"
+                    "{all} {noun}: {fine} with a match, {others} without, {none} no images{end}\n"
                 )
             }
             _ => {
                 let shown = fine.wrapping_add(others);
-                format!(in alloc; "{all} images: {shown} shown, {none} no images{end}\n")
+                format!(in alloc; "{all} {noun}: {shown} shown, {none} no images{end}\n")
             }
         }
     }

@@ -60,7 +60,7 @@ pub fn change_with<'a, R: Runtime + AllocGlobal>(
     rt: &R,
     verb: Verb,
     words: &ArgMatches<'a>,
-    image: &'a str,
+    image: &str,
     input: Option<&'a [u8]>,
 ) -> Result<(), Failure> {
     let manner = Manner {

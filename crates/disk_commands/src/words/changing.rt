@@ -1,6 +1,6 @@
 //! The words of commands that make and change disks.
 use crate::word::{FLAG, NEEDED, OPTION, Word};
-use crate::words::looking::{IMAGES, REPLACE_FILE};
+use crate::words::looking::{IMAGES, RECURSIVE, REPLACE_FILE};
 use clap::ArgAction;
 
 /// ERRORS that drops them.
@@ -193,8 +193,14 @@ pub const OF_ALL: Word = Word {
 
 /// The images that VALIDATE puts in order.
 pub const ORDERED: Word = Word {
-    help: "the disk images",
+    help: "the disk images; with --recursive also folders",
     ..IMAGES
+};
+
+/// The images of folders that VALIDATE puts in order.
+pub const ORDERED_WITHIN: Word = Word {
+    help: "for a folder, all images in it and its folders: .d64, .g64",
+    ..RECURSIVE
 };
 
 /// The type that RETYPE gives.
