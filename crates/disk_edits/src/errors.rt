@@ -67,7 +67,12 @@ fn require_fine(
     if count == 0 {
         return Ok(());
     }
-    let _ = eprintln!(rt; "disk1541: {image} loses {count} error bytes other than 1 (no error)");
+    let noun = if count == 1 {
+        "error byte"
+    } else {
+        "error bytes"
+    };
+    let _ = eprintln!(rt; "disk1541: {image} loses {count} {noun} other than 1 (no error)");
     if is_lossy {
         Ok(())
     } else {

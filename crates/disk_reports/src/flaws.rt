@@ -10,7 +10,7 @@ use disk_basics::calls::name_text;
 use disk_basics::odd::odd_slots;
 use disk_basics::rests::{add_rests, rests_of};
 use disk_basics::strays::{Strays, strays_on};
-use disk_basics::{Disk, is_mendable, place_of, slots_of};
+use disk_basics::{Disk, add_sectors, is_mendable, place_of, slots_of};
 use disk_json::Named;
 pub use facts::flaw_report;
 use std::alloc::{AllocError, Global};
@@ -187,11 +187,7 @@ fn add_lost(alloc: Global, text: &mut String, lost: &[Address]) -> Result<(), Al
         return Ok(());
     }
     text.push_str("lost:")?;
-    for at in lost {
-        let track = at.track();
-        let sector = at.sector();
-        text.push_str(format!(in alloc; " {track}/{sector}")?.as_str())?;
-    }
+    add_sectors(alloc, text, lost)?;
     text.push('\n')
 }
 

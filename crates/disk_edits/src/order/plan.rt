@@ -4,10 +4,10 @@ use cbm_medium::Address;
 use cbm_shell::texts::Charset;
 use cbm_shell::{ShellFault, geos_of};
 use cbm_volume::Entry;
-use disk_basics::Disk;
 use disk_basics::border::border_place;
 use disk_basics::calls::{entries, geos_blocks};
 use disk_basics::rests::named;
+use disk_basics::{Disk, add_sectors};
 use disk_json::Named;
 use std::alloc::{AllocError, Global};
 
@@ -214,12 +214,7 @@ fn add_places(
     places: &[Address],
 ) -> Result<(), AllocError> {
     text.push_str(word)?;
-    for at in places {
-        let track = at.track();
-        let sector = at.sector();
-        text.push_str(format!(in alloc; " {track}/{sector}")?.as_str())?;
-    }
-    Ok(())
+    add_sectors(alloc, text, places)
 }
 
 /// Adds the line of a step.
