@@ -1,6 +1,7 @@
 //! What the commands of `disk1541` stand on: failures in words, files of this computer, names, and calls that promise nothing.
 #![tactic(auto)]
 
+mod answers;
 pub mod border;
 mod break_off;
 pub mod calls;
@@ -25,6 +26,7 @@ pub mod swaps;
 mod what;
 mod word_fault;
 
+pub use answers::{on_new_name, on_room};
 pub use break_off::{BreakOff, Cause};
 pub use choice::{Choice, slot_chosen, slot_named, slot_number};
 pub use disk::Disk;

@@ -47,6 +47,12 @@ fn tell_trouble(rt: &impl Eprint, name: &str, trouble: Trouble) -> io::Result<()
     eprintln!(rt; "disk1541: {name}: {cause}")
 }
 
+/// Prints why a file isn't taken out, and what to do.
+pub fn tell_unread(rt: &impl Eprint, name: &str, trouble: Trouble) -> io::Result<()> {
+    let cause = Cause(trouble);
+    eprintln!(rt; "disk1541: {name}: {cause}. --salvage extracts the readable part")
+}
+
 /// What to do with a disk that can't be put in order: a file at fault goes, and where none is, another image of the same bytes.
 fn way_out(trouble: Trouble) -> &'static str {
     match trouble.code {
@@ -97,6 +103,11 @@ pub fn tell_refusal(rt: &impl Eprint, name: &str, fault: ShellFault) -> io::Resu
         ShellFault::Unsound(unsound) => tell_unsound(rt, name, unsound),
         ShellFault::Refused(status) => tell_status(rt, name, status),
         ShellFault::Trouble(trouble) => tell_trouble(rt, name, trouble),
+        ShellFault::NotClosed => {
+            eprintln!(rt;
+                "disk1541: {name}: the file was never closed. `get --salvage` extracts the readable part"
+            )
+        }
         _ => eprintln!(rt; "disk1541: {name}: {fault}"),
     }
 }

@@ -1,6 +1,6 @@
 //! What went wrong, in words, and the exit status.
 use crate::break_off::BreakOff;
-use crate::refusal::{image_fault_text, tell_foreign, tell_refusal, tell_unmendable};
+use crate::refusal::{image_fault_text, tell_foreign, tell_refusal, tell_unmendable, tell_unread};
 use crate::strays::Unlinked;
 use crate::word_fault::WordFault;
 use cbm_shell::ShellFault;
@@ -21,6 +21,8 @@ pub enum What {
     Foreign(NotImage, usize),
     /// The disk, or the drive, refused it.
     Disk(ShellFault),
+    /// A file can't be read to its end, and isn't taken out.
+    Unread(Trouble),
     /// The disk isn't sound, as a check says.
     Unsound(Unsound),
     /// No file that isn't locked matches the pattern, so none was deleted.
@@ -81,6 +83,8 @@ pub enum What {
     LockedThere,
     /// The directory has 144 files, and no room for another.
     DirectoryFull,
+    /// A file has the name that another one is to get.
+    NameTaken,
     /// Two files of a recipe have one name.
     SameName,
     /// A file of GEOS isn't copied: its info and its records would be missing.
@@ -172,6 +176,7 @@ impl What {
             }
             What::Foreign(why, size) => tell_foreign(rt, name, why.words(), size),
             What::Disk(fault) => tell_refusal(rt, name, fault),
+            What::Unread(trouble) => tell_unread(rt, name, trouble),
             What::Word(fault) => fault.tell(rt, name),
             What::Unsound(_) | What::Several | What::Told => Ok(()),
             What::Ended(_) => Ok(()),
@@ -232,6 +237,11 @@ impl What {
             }
             What::DirectoryFull => {
                 eprintln!(rt; "disk1541: {name}: the directory is full: it has room for 144 files")
+            }
+            What::NameTaken => {
+                eprintln!(rt;
+                    "disk1541: {name}: a file of that name already exists: use another name, or `delete` it first"
+                )
             }
             What::SameName => {
                 eprintln!(rt; "disk1541: {name}: two files of the recipe have this name")

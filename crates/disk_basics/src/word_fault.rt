@@ -9,6 +9,10 @@ const ANY_BYTE: &str = ": write any byte as {hh}, two hexadecimal digits";
 /// What divides the words of the drive's commands.
 const DIVIDING: &str = "a name can't have `,` `=` `:` or a quotation mark: ";
 
+/// What a name of COPY or RENAME can't have.
+const INEXACT: &str =
+    "without --exact or --slot, a name can't have `,` `=` `:` or a quotation mark: ";
+
 /// How a relative file is put.
 const RECORDS: &str = "a relative file needs a record length: use --record, 1 to 254";
 
@@ -42,6 +46,8 @@ pub enum WordFault {
     LongName,
     /// A name has one of `,` `=` `:` `"`, which divide the words of the drive's commands.
     Divided,
+    /// The same of a name of COPY or RENAME, which may be said exactly.
+    Inexact,
     /// No slot of a directory has such a number.
     Slot,
     /// A command is about one file, and neither its name nor its slot is said.
@@ -117,6 +123,7 @@ impl WordFault {
             WordFault::Name => (NO_KEY, ANY_BYTE),
             WordFault::LongName => ("a file's name has at most 16 characters: ", ""),
             WordFault::Divided => (DIVIDING, ""),
+            WordFault::Inexact => (INEXACT, ""),
             WordFault::Slot => ("", " is no slot: take 0 to 143"),
             WordFault::NoFileName => ("give the file: its name, or --slot", ""),
             WordFault::TwoNames => (

@@ -1,12 +1,11 @@
 //! A file's bytes on a disk, as a file of its kind.
 use cbm_channel::Code;
 use cbm_shell::{DiskChange, Records, ShellFault};
-use disk_basics::calls::{entries, listed};
+use disk_basics::calls::entries;
 use disk_basics::changing::{change, delete_in_slot, put_records};
 use disk_basics::host::joined;
 use disk_basics::spare::{has_name, taken};
-use disk_basics::{Failure, FileKind, What, WordFault, in_memory, on_disk, slot_named};
-use disk_facts::count_files;
+use disk_basics::{Failure, FileKind, What, WordFault, in_memory, on_disk, on_room, slot_named};
 use std::alloc::{AllocError, Global};
 
 /// A file that is put on a disk.
@@ -35,20 +34,6 @@ pub fn open_text(
     joined(alloc, &[start, name, end])
 }
 
-/// How many files a directory has at most.
-const MOST_FILES: usize = 144;
-
-/// Whether the directory has no room for so many files more.
-fn is_directory_full(alloc: Global, image: &[u8], more: usize) -> bool {
-    match listed(alloc, image) {
-        Ok(listed) => {
-            let files = count_files(listed.entries.as_slice());
-            files.saturating_add(more) > MOST_FILES
-        }
-        Err(_) => false,
-    }
-}
-
 /// What a disk answered to so many files that are put, with the reason where the drive's status says less. Errors: `LockedThere`,
 /// where a file that is to be replaced is locked; `DirectoryFull`; `Disk`.
 pub fn put_answer(
@@ -63,11 +48,7 @@ pub fn put_answer(
         Err(ShellFault::Refused(status)) if replaces && status.code == Code::FileExists => {
             Err(Failure::named(alloc, What::LockedThere, image))
         }
-        Err(ShellFault::Refused(status))
-            if status.code == Code::DiskFull && is_directory_full(alloc, old, files) => {
-            Err(Failure::named(alloc, What::DirectoryFull, image))
-        }
-        _ => on_disk(alloc, image, answer),
+        _ => on_room(alloc, image, old, files, answer),
     }
 }
 

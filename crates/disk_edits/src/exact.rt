@@ -8,7 +8,10 @@ use disk_basics::calls::entries;
 use disk_basics::changing::{change, delete_in_slot, lock_in_slot, rename_in_slot};
 use disk_basics::host::{joined, require_own_map};
 use disk_basics::spare::{has_name, named, sixteen, spare_name, taken, unspared, whole_name};
-use disk_basics::{Choice, Failure, What, WordFault, on_disk, petscii, slot_chosen, slot_number};
+use disk_basics::{
+    Choice, Failure, What, WordFault, on_disk, on_new_name, on_room, petscii, slot_chosen,
+    slot_number,
+};
 use std::alloc::Global;
 
 /// The most bytes of a name.
@@ -52,7 +55,8 @@ fn new_name(alloc: Global, charset: Charset, name: &str) -> Result<Vec<u8>, Fail
 fn commanded(alloc: Global, desk: Desk<'_, '_>, parts: &[&[u8]]) -> Result<Vec<u8>, Failure> {
     let text = joined(alloc, parts)?;
     let command = DiskChange::Command(text.as_slice());
-    on_disk(alloc, desk.image, change(alloc, desk.bytes, &command))
+    let answer = change(alloc, desk.bytes, &command);
+    on_room(alloc, desk.image, desk.bytes, 1, answer)
 }
 
 /// The image without the file in a slot.
@@ -105,7 +109,7 @@ fn copied(
         return Err(taken(alloc, desk.image));
     };
     if has_name(entries, name) {
-        return Err(taken(alloc, desk.image));
+        return Err(Failure::named(alloc, What::NameTaken, desk.image));
     }
     let with_both = copied_spare(alloc, desk, slot, &old, &new)?;
     let both = with_both.as_slice();
@@ -184,11 +188,8 @@ pub fn done_with(
         Deed::Rename(word) => {
             let name = new_name(alloc, choice.charset, word)?;
             let slot = slot_number(alloc, slot, choice.word())?;
-            on_disk(
-                alloc,
-                desk.image,
-                rename_in_slot(alloc, desk.bytes, slot, sixteen(name.as_slice())),
-            )
+            let answer = rename_in_slot(alloc, desk.bytes, slot, sixteen(name.as_slice()));
+            on_new_name(alloc, desk.image, desk.bytes, answer)
         }
         Deed::Copy(word) => {
             require_plain(alloc, entries, slot, choice.word())?;

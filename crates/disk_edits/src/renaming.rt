@@ -4,7 +4,7 @@ use cbm_shell::{DiskChange, geos_of};
 use disk_basics::calls::entries;
 use disk_basics::changing::change;
 use disk_basics::host::{joined, require_own_map};
-use disk_basics::{Failure, What, file_name, on_disk};
+use disk_basics::{Failure, What, WordFault, file_name, on_disk, on_new_name};
 use disk_facts::first_meant;
 use std::alloc::Global;
 
@@ -19,10 +19,20 @@ pub struct Pair<'a> {
     pub charset: Charset,
 }
 
+/// A name that the drive's commands can say. Errors: those of `file_name`; `Word`, where --exact is the way.
+fn plain_name(alloc: Global, charset: Charset, name: &str) -> Result<Vec<u8>, Failure> {
+    match file_name(alloc, charset, name) {
+        Err(failure) if matches!(failure.what, What::Word(WordFault::Divided)) => Err(
+            Failure::named(alloc, What::Word(WordFault::Inexact), name),
+        ),
+        named => named,
+    }
+}
+
 /// The drive's command with a letter, a new name and an old one, with its return, as a name may end with one.
 fn text_of(alloc: Global, letter: &[u8], pair: &Pair<'_>) -> Result<Vec<u8>, Failure> {
-    let old = file_name(alloc, pair.charset, pair.old)?;
-    let new = file_name(alloc, pair.charset, pair.new)?;
+    let old = plain_name(alloc, pair.charset, pair.old)?;
+    let new = plain_name(alloc, pair.charset, pair.new)?;
     joined(
         alloc,
         &[letter, new.as_slice(), b"=", old.as_slice(), b"\r"],
@@ -55,11 +65,8 @@ pub fn copied(
     let text = text_of(alloc, b"C0:", pair)?;
     require_own_map(alloc, image, bytes)?;
     require_plain(alloc, image, bytes, pair)?;
-    on_disk(
-        alloc,
-        image,
-        change(alloc, bytes, &DiskChange::Command(text.as_slice())),
-    )
+    let command = DiskChange::Command(text.as_slice());
+    on_new_name(alloc, image, bytes, change(alloc, bytes, &command))
 }
 
 /// The image whose file has another name. Errors: those of `file_name`; `Disk`, where the drive or the disk refuses it.
@@ -70,11 +77,8 @@ pub fn renamed(
     pair: &Pair<'_>,
 ) -> Result<Vec<u8>, Failure> {
     let text = text_of(alloc, b"R0:", pair)?;
-    on_disk(
-        alloc,
-        image,
-        change(alloc, bytes, &DiskChange::Command(text.as_slice())),
-    )
+    let command = DiskChange::Command(text.as_slice());
+    on_new_name(alloc, image, bytes, change(alloc, bytes, &command))
 }
 
 /// Refuses two names of which one can't be said. Errors: those of `file_name`.
