@@ -9,7 +9,7 @@ use cbm_volume::Entry;
 use disk_basics::calls::{file, listed};
 use disk_basics::host::{require_new, write};
 use disk_basics::{Choice, Disk, Failure, What, in_memory, on_disk, petscii, slot_chosen};
-use disk_facts::{first_meant, number_meant, without_errors};
+use disk_facts::{first_meant, is_meant, number_meant, without_errors};
 use host_files::Sync;
 use std::alloc::Global;
 use std::rt::Runtime;
@@ -54,6 +54,20 @@ fn packed_of<R: Runtime + AllocGlobal>(
     packed_for(rt, without_errors(image), pattern, taken.output, bytes)
 }
 
+/// What a disk answered to a file that is read. Errors: `Unread`, where what can be read of it may be taken; `Disk`.
+fn on_file(
+    alloc: Global,
+    name: &str,
+    answer: Result<Vec<u8>, ShellFault>,
+) -> Result<Vec<u8>, Failure> {
+    match answer {
+        Err(ShellFault::Trouble(trouble)) => {
+            Err(Failure::named(alloc, What::Unread(trouble), name))
+        }
+        _ => on_disk(alloc, name, answer),
+    }
+}
+
 /// The file of this computer for the first file that a name means.
 fn meant<R: Runtime + AllocGlobal>(
     rt: &R,
@@ -63,11 +77,24 @@ fn meant<R: Runtime + AllocGlobal>(
     let name = taken.choice.name;
     let pattern = petscii(rt.alloc(), taken.choice.charset, name)?;
     require_whole(rt, image, pattern.as_slice(), taken)?;
-    on_disk(
+    on_file(
         rt.alloc(),
         name,
         packed_of(rt, image, pattern.as_slice(), taken),
     )
+}
+
+/// Reports that a pattern means more than one file, of which the first is taken.
+fn tell_first(rt: &impl Eprint, entries: &[Entry], pattern: &[u8], word: &str) {
+    let mut count: usize = 0;
+    for entry in entries {
+        if is_meant(entry, pattern) {
+            count = count.saturating_add(1);
+        }
+    }
+    if count > 1 {
+        let _ = eprintln!(rt; "disk1541: {count} files match {word}: the first is extracted");
+    }
 }
 
 /// Refuses the first file that a pattern means where GEOS keeps it in records, unless what can be read is taken; what isn't taken
@@ -80,6 +107,7 @@ fn require_whole<R: Runtime + AllocGlobal>(
 ) -> Result<(), Failure> {
     let word = taken.choice.word();
     let listed = on_disk(rt.alloc(), word, listed(rt.alloc(), without_errors(image)))?;
+    tell_first(rt, listed.entries.as_slice(), pattern, word);
     match first_meant(listed.entries.as_slice(), pattern) {
         Some(entry) => require_all(rt.alloc(), rt, entry, taken),
         None => Ok(()),
@@ -128,7 +156,7 @@ fn chosen<R: Runtime + AllocGlobal>(
     };
     require_all(rt.alloc(), rt, entry, taken)?;
     let source = Source { disk: &disk, image };
-    let bytes = on_disk(
+    let bytes = on_file(
         rt.alloc(),
         word,
         bytes_of_entry(rt, source, entry, taken.salvages),
