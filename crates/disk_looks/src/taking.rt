@@ -171,7 +171,14 @@ fn tell_left(rt: &impl Eprint, name: &str, fault: ShellFault) -> io::Result<()> 
     match fault {
         ShellFault::Trouble(trouble) => {
             let cause = Cause(trouble);
-            eprintln!(rt; "disk1541: \"{name}\" was not extracted: {cause}")
+            eprintln!(rt;
+                "disk1541: \"{name}\" was not extracted: {cause}. --salvage extracts the readable part"
+            )
+        }
+        ShellFault::NotClosed => {
+            eprintln!(rt;
+                "disk1541: \"{name}\" was not extracted: the file was never closed. --salvage extracts the readable part"
+            )
         }
         _ => eprintln!(rt; "disk1541: \"{name}\" was not extracted: {fault}"),
     }
