@@ -11,7 +11,7 @@ use disk_basics::host::{joined, require_own_map};
 use disk_basics::odd::{odd_slots, put_away};
 use disk_basics::{Failure, What, in_memory, on_disk, petscii};
 use disk_facts::is_meant;
-use std::alloc::Global;
+use std::alloc::{AllocError, Global};
 
 /// What is done with the disk of an image.
 #[derive(Clone, Copy)]
@@ -127,12 +127,24 @@ pub fn edited(
     }
 }
 
-/// Adds what GEOS kept of files that were deleted, and stays taken on the disk.
+/// Adds that the blocks of a file that was never closed may stay in use.
+fn add_unclosed(alloc: Global, text: &mut String, entry: &Entry) -> Result<(), AllocError> {
+    let shown = name_text(alloc, Charset::Upper, entry.name())?;
+    let name = shown.as_str();
+    text.push_str(format!(in alloc;
+        "disk1541: \"{name}\" was deleted; it was never closed, so its blocks may be lost until `validate`\n"
+    )?.as_str())
+}
+
+/// Adds what GEOS kept of files that were deleted, and stays taken on the disk, and files that were never closed.
 fn add_left(alloc: Global, text: &mut String, old: &[u8], new: &[u8]) -> Result<(), ShellFault> {
     let before = entries(alloc, old)?;
     let after = entries(alloc, new)?;
     for (slot, entry) in before.iter().enumerate() {
         let is_gone = after.as_slice().get(slot).is_none_or(Entry::is_empty);
+        if is_gone && !entry.is_empty() && !entry.is_closed() {
+            add_unclosed(alloc, text, entry)?;
+        }
         if is_gone && geos_of(entry).is_some() {
             let shown = name_text(alloc, Charset::Upper, entry.name())?;
             let name = shown.as_str();
