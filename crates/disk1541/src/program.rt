@@ -35,7 +35,7 @@ pub fn run_program(rt: &HostRuntime) -> ExitCode {
     let mut input = Vec::new(rt.alloc());
     let line = match disk_commands::parse(rt.alloc(), words.as_slice(), help.as_str()) {
         Ok(line) => line,
-        Err(error) => return without_line(rt, &error),
+        Err(error) => return without_line(rt, &error, words.as_slice()),
     };
     if let Some(status) = read_input(rt, &line, &mut input) {
         return ExitCode::from(status);
@@ -97,13 +97,16 @@ fn ended(rt: &HostRuntime, failure: Failure) -> ExitCode {
 }
 
 // What was asked for, as help is, is no fault.
-fn without_line(rt: &HostRuntime, error: &clap::Error) -> ExitCode {
+fn without_line(rt: &HostRuntime, error: &clap::Error, words: &[String]) -> ExitCode {
     if error.kind() == ErrorKind::OutOfMemory {
         return ended(rt, Failure::new(What::NoMemory));
     }
     let _ = error.print(rt);
     if error.exit_code() == 0 {
         return ExitCode::from(0);
+    }
+    if let Some(name) = disk_commands::other_name(words) {
+        let _ = eprintln!(rt; "disk1541: that command is called `{name}` here");
     }
     ExitCode::from(COMMAND_LINE)
 }

@@ -25,3 +25,20 @@ pub fn asked_by(words: &[String]) -> Asked {
         },
     }
 }
+
+/// The command that has another name in other tools; None where the first word of a command line is no such name.
+pub fn other_name(words: &[String]) -> Option<&'static str> {
+    let first = words.get(1)?;
+    match first.as_str() {
+        "ls" | "dir" | "cat" | "directory" => Some("list"),
+        "extract" | "read" => Some("get"),
+        "add" | "write" | "insert" => Some("put"),
+        "format" | "create" => Some("new"),
+        "rm" | "del" | "scratch" | "erase" => Some("delete"),
+        "mv" | "ren" => Some("rename"),
+        "cp" => Some("copy"),
+        "bam" => Some("map"),
+        "verify" => Some("check"),
+        _ => None,
+    }
+}

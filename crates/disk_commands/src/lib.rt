@@ -9,5 +9,6 @@ mod word;
 mod words;
 
 pub use arguments::{flag, given, option, parse};
+pub use asked::other_name;
 pub use commands::{Verb, verb_of};
 pub use help::help_for;
