@@ -95,6 +95,12 @@ fn code_at(bytes: &[u8], place: usize) -> Option<[u8; 2]> {
     }
 }
 
+/// Adds a code as it is typed.
+fn add_code(text: &mut Vec<u8>, digits: [u8; 2]) -> Result<(), AllocError> {
+    let code = [b'{', digits[0], digits[1], b'}'];
+    text.extend_from_slice(&code)
+}
+
 /// The name of a host's file as it is typed: a code that GET-ALL wrote as `%XX` is `{XX}`.
 fn typed(alloc: Global, stem: &str) -> Result<Vec<u8>, AllocError> {
     let mut text = Vec::new(alloc);
@@ -102,11 +108,14 @@ fn typed(alloc: Global, stem: &str) -> Result<Vec<u8>, AllocError> {
     for (place, byte) in stem.as_bytes().iter().enumerate() {
         if passed > 0 {
             passed = passed.saturating_sub(1);
-        } else if let Some([high, low]) = code_at(stem.as_bytes(), place) {
-            text.extend_from_slice(&[b'{', high, low, b'}'])?;
-            passed = 2;
-        } else {
-            text.push(*byte).map_err(AllocError::from)?;
+            continue;
+        }
+        match code_at(stem.as_bytes(), place) {
+            Some(digits) => {
+                add_code(&mut text, digits)?;
+                passed = 2;
+            }
+            None => text.push(*byte).map_err(AllocError::from)?,
         }
     }
     Ok(text)
