@@ -26,7 +26,7 @@ extern "C" {
 
 /* Major, minor, patch: a byte each. A program works with a library whose y1541_version() >> 8 is the one it was compiled with; from 1.0.0 on
  * y1541_version() >> 16 is enough. */
-#define Y1541_VERSION 0x000300u
+#define Y1541_VERSION 0x000400u
 
 /* Success, and the refusals. */
 enum y1541_result {

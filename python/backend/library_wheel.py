@@ -23,7 +23,7 @@ MACHINES = {62: ("x86_64", (2, 5)), 183: ("aarch64", (2, 17))}
 
 
 def header_version():
-    """The version of the library's header, as 0.3.0."""
+    """The version of the library's header, as 0.4.0."""
     number = re.search(r"define Y1541_VERSION 0x([0-9a-f]+)u", (CAPI / "yellowadze1541.h").read_text(encoding="utf-8"))
     if not number:
         raise SystemExit("capi/yellowadze1541.h has no Y1541_VERSION")

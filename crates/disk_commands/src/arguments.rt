@@ -6,7 +6,7 @@ use clap::{Arg, ArgMatches, Error};
 use std::alloc::{AllocError, Global};
 
 /// The program's version.
-const VERSION: &str = "0.3.0";
+const VERSION: &str = "0.4.0";
 
 /// A word without its mark.
 fn unmarked<'a>(alloc: Global, word: &Word) -> Result<Arg<'a>, AllocError> {

@@ -6,7 +6,7 @@ use clap::{Arg, ArgAction, ArgMatches, Command, Error, value_parser};
 use std::alloc::Global;
 
 /// The program's version.
-const VERSION: &str = "0.3.0";
+const VERSION: &str = "0.4.0";
 
 /// What the command line asks for.
 #[derive(Drop)]

@@ -19,12 +19,12 @@ use std::ops::Range;
 const NAME: Range<usize> = 3..19;
 
 /// The version of the library: major, minor and patch, a byte each.
-const VERSION: u32 = 0x00_03_00;
+const VERSION: u32 = 0x00_04_00;
 
 /// The version of the library, a byte each for major, minor and patch.
 #[unsafe(no_mangle)]
 pub extern "C" fn y1541_version() -> u32
-    ensures { result ≡ 768 }
+    ensures { result ≡ 1024 }
 {
     VERSION
 }

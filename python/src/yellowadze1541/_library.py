@@ -9,7 +9,7 @@ from typing import Any, Callable, List, Tuple
 from .refusals import NO_ROOM, Refused
 
 # Y1541_VERSION of the header that these declarations follow; a test compares the two.
-VERSION = 0x000300
+VERSION = 0x000400
 # The moment of what never comes.
 NEVER = 2**64 - 1
 # Moments are below this.
@@ -137,7 +137,7 @@ library = _loaded()
 
 
 def version_text() -> str:
-    """The version of the library, as 0.3.0."""
+    """The version of the library, as 0.4.0."""
     number: int = library.y1541_version()
     return ".".join(str(it) for it in number.to_bytes(3, "big"))
 
