@@ -243,7 +243,7 @@ pub const NEW_TITLE: Word = Word {
 /// VALIDATE or TRANSFER without a change.
 pub const DRY_RUN: Word = Word {
     name: "dry-run",
-    help: "show what would be done without changing anything",
+    help: "show the changes without making them",
     ..FLAG
 };
 

@@ -94,7 +94,7 @@ pub const SECOND: Word = Word {
 /// SHOW of a BASIC program.
 pub const BASIC: Word = Word {
     name: "basic",
-    help: "as a BASIC program; without an option a program that is loaded at $0801 is shown so",
+    help: "as a BASIC program; the default for a program that is loaded at $0801",
     excludes: &["hex", "text"],
     ..FLAG
 };
