@@ -1,6 +1,8 @@
 //! The command line, as clap reads it.
 use crate::asked::{Asked, asked_by};
-use crate::commands::{Command, changing_commands, examples_of, looking_commands, making_commands};
+use crate::commands::{
+    Command, changing_commands, examples_of, looking_commands, making_commands, reading_commands,
+};
 use crate::word::{Mark, Word};
 use clap::{Arg, ArgMatches, Error};
 use std::alloc::{AllocError, Global};
@@ -73,6 +75,7 @@ fn add_subcommands<'a>(
 /// All commands.
 fn subcommands<'a>(alloc: Global) -> Result<Vec<clap::Command<'a>>, AllocError> {
     let mut subcommands = Vec::new(alloc);
+    add_subcommands(alloc, &mut subcommands, reading_commands())?;
     add_subcommands(alloc, &mut subcommands, looking_commands())?;
     add_subcommands(alloc, &mut subcommands, making_commands())?;
     add_subcommands(alloc, &mut subcommands, changing_commands())?;

@@ -109,8 +109,8 @@ pub const EXAMPLES: &str = examples!(
     "  disk1541 list game.d64                  what is on the disk\n  disk1541 get game.d64 'LOADER*' -o loader.prg\n  disk1541 check -r disks/                all images in a folder\n  disk1541 help put                       the words of one command\n"
 );
 
-/// The commands that look at disks, in the order of help.
-const LOOKING: &[Command] = &[
+/// The commands that look at files, in the order of help. (One table of all that look at disks is more than the prover takes at once.)
+const READING: &[Command] = &[
     Command {
         verb: Verb::List,
         name: "list",
@@ -171,6 +171,10 @@ const LOOKING: &[Command] = &[
             SCREEN_CHARSET,
         ],
     },
+];
+
+/// The commands that look at disks, in the order of help.
+const LOOKING: &[Command] = &[
     Command {
         verb: Verb::Info,
         name: "info",
@@ -362,6 +366,11 @@ const CHANGING: &[Command] = &[
     },
 ];
 
+/// The commands that look at files, in the order of help.
+pub fn reading_commands() -> &'static [Command] {
+    READING
+}
+
 /// The commands that look at disks, in the order of help.
 pub fn looking_commands() -> &'static [Command] {
     LOOKING
@@ -389,6 +398,9 @@ fn command_in(commands: &[Command], name: &str) -> Option<Command> {
 
 /// The command of a name, with its words; None where there is none.
 pub fn command_of(name: &str) -> Option<Command> {
+    if let Some(command) = command_in(reading_commands(), name) {
+        return Some(command);
+    }
     if let Some(command) = command_in(looking_commands(), name) {
         return Some(command);
     }

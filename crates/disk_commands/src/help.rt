@@ -1,6 +1,8 @@
 //! The help of all commands: those that look, and those that change.
 use crate::asked::{Asked, asked_by};
-use crate::commands::{Command, EXAMPLES, changing_commands, looking_commands, making_commands};
+use crate::commands::{
+    Command, EXAMPLES, changing_commands, looking_commands, making_commands, reading_commands,
+};
 use std::alloc::{AllocError, Global};
 
 /// What stands above the commands.
@@ -47,8 +49,9 @@ fn help_text(alloc: Global) -> Result<String, AllocError> {
     push_group(
         &mut text,
         "\nCommands that look at disks:\n",
-        looking_commands(),
+        reading_commands(),
     )?;
+    push_group(&mut text, "", looking_commands())?;
     push_group(
         &mut text,
         "\nCommands that change disks:\n",
