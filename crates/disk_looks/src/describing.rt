@@ -383,7 +383,7 @@ fn is_followed<R: Runtime + AllocGlobal>(
 
 /// The recipe of a disk, and what it doesn't say.
 #[derive(Drop)]
-struct Described {
+struct NotedRecipe {
     recipe: Recipe,
     // As comments.
     notes: String,
@@ -396,7 +396,7 @@ fn described<R: Runtime + AllocGlobal>(
     rt: &R,
     image: &[u8],
     description: Description<'_>,
-) -> Result<Described, ShellFault> {
+) -> Result<NotedRecipe, ShellFault> {
     let disk = Disk::open(rt.alloc(), image)?;
     let listed = disk.listed(rt.alloc())?;
     let draft = drafted(rt, &disk, listed.entries.as_slice(), description)?;
@@ -404,7 +404,7 @@ fn described<R: Runtime + AllocGlobal>(
     let notes = draft.notes;
     let recipe = recipe_with(rt.alloc(), image, description.charset, lines)?;
     let is_followed = is_followed(rt, &disk, &listed)?;
-    Ok(Described {
+    Ok(NotedRecipe {
         recipe,
         notes,
         is_followed,
@@ -412,7 +412,7 @@ fn described<R: Runtime + AllocGlobal>(
 }
 
 /// Prints a recipe after what it doesn't say.
-fn print_recipe<R: Runtime + AllocGlobal>(rt: &R, described: &Described) -> Result<(), Failure> {
+fn print_recipe<R: Runtime + AllocGlobal>(rt: &R, described: &NotedRecipe) -> Result<(), Failure> {
     match recipe_text(rt.alloc(), &described.recipe) {
         Ok(text) => {
             print(rt, described.notes.as_bytes())?;
