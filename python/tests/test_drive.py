@@ -1,6 +1,7 @@
 """A drive on the lines, and a computer at it, against the C example and the calls on images."""
 import contextlib
 import os
+import re
 import shutil
 import subprocess
 import unittest
@@ -86,7 +87,9 @@ class AgainstC(DiskCase):
     def printed(self, source, *words):
         """What a C program prints, with the same library."""
         library, program = os.environ["LIBRARY"], self.folder / source.stem
-        (self.folder / "libyellowadze1541.so.0.3").symlink_to(library)
+        said = subprocess.run(["objdump", "-p", library], capture_output=True, text=True, check=True).stdout
+        for name in re.findall(r"^ *SONAME +(\S+)$", said, re.M):
+            (self.folder / name).symlink_to(library)
         folders = ["-I", ROOT / "capi", "-I", ROOT / "examples" / "c"]
         subprocess.run(["cc", "-std=c99", *folders, "-o", program, source, library, f"-Wl,-rpath,{self.folder}"], check=True)
         return subprocess.run([program, HELLO, *words], capture_output=True, text=True, check=True).stdout
