@@ -1,4 +1,5 @@
 """The tests of a workspace: cargo's, and those of tests/programs over its programs."""
+import os
 import re
 import subprocess
 import sys
@@ -8,8 +9,10 @@ import time
 # The scripts of tests/programs for each program.
 SCRIPTS = {
     "drive1541": ("check_cases.py drive1541", "check_program.sh", "check_traces.sh", "check_judge.py", "check_reply.sh", "check_direct.py"),
-    "disk1541": ("check_cases.py disk1541", "check_disk1541.sh", "check_saving.sh", "check_odd.py", "check_place.py", "check_sources.py", "check_diff.py"),
+    "disk1541": ("check_cases.py disk1541", "check_disk1541.sh", "check_saving.sh", "check_odd.py", "check_unlinked.py", "check_place.py", "check_sources.py", "check_diff.py"),
 }
+# Those that need both programs.
+OVER_BOTH = ("check_collection.py", "check_beside.sh")
 SUMS = re.compile(r"^test result: \S+ (\d+) passed; (\d+) failed", re.M)
 
 
@@ -82,11 +85,13 @@ def play_wrong_line(tally, path, room):
     tally.add("a wrong line of a transcript is told", int(is_told), int(not is_told), ran.stdout)
 
 
-def play_script(tally, root, script, path):
+def play_script(tally, root, script, *paths):
     """A script of tests/programs: each line that begins with ok is a case that passed, each that begins with WRONG says what went wrong."""
     file, *words = script.split()
-    by = "sh" if file.endswith(".sh") else sys.executable
-    ran = run([by, f"{root}/tests/programs/{file}", *words, path], root)
+    # (Debian's Python has selenium)
+    debians = file == "check_page.py" and os.path.exists("/usr/bin/python3")
+    by = "sh" if file.endswith(".sh") else "/usr/bin/python3" if debians else sys.executable
+    ran = run([by, f"{root}/tests/programs/{file}", *words, *paths], root)
     lines = ran.stdout.splitlines()
     wrong = [it for it in lines if it.startswith("WRONG")]
     unknown = []
@@ -98,3 +103,17 @@ def play_script(tally, root, script, path):
             unknown.append(line)
     is_broken = ran.returncode != 0 and not wrong
     tally.add(script, sum(it.startswith("ok") for it in lines), len(unknown) + is_broken, "\n".join(unknown) + ran.stderr[-2000:])
+    for line in lines:
+        if line.startswith("skip"):
+            tally.say(f"{script}: {line}")
+
+
+def play_page(tally, root, out, disk1541, room):
+    """The web page over the module that cargo compiles, if its target is installed."""
+    target = run(["rustc", "--print", "target-libdir", "--target", "wasm32-unknown-unknown"], out).stdout.strip()
+    if not os.path.isdir(target):
+        return tally.say("check_page.py: skip  rustc has no wasm32-unknown-unknown here")
+    made = run([f"{root}/tools/rust_page", out, f"{room}/site"], root)
+    if made.returncode:
+        return tally.add("rust_page", 0, 1, (made.stdout + made.stderr)[-2000:])
+    play_script(tally, root, "check_page.py", disk1541, f"{room}/site/yellowadze1541.wasm")
