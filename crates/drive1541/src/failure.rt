@@ -117,14 +117,6 @@ impl RunFailure {
         }
     }
 
-    /// The same, with why the line is refused.
-    pub fn because(self, reason: Reason) -> RunFailure {
-        match self {
-            RunFailure::Script(line, _) => RunFailure::Script(line, reason),
-            other => other,
-        }
-    }
-
     /// What a refused call on a file was.
     pub fn of_file(error: io::Error, stream: Stream) -> RunFailure {
         if error.kind() == io::ErrorKind::OutOfMemory {
