@@ -4,6 +4,7 @@ from . import code, images, plan, reports
 COMMANDS, BUFFER = 15, 2
 OPEN, CLOSE, DATA = 0xF0, 0xE0, 0x60
 LONGEST = 200_000
+LONGEST_STATUS = 64  # bytes; the status of a drive that never ends it is cut here
 
 
 def text_of(data):
@@ -59,8 +60,8 @@ class Player:
                 return self.differ(reports.DIFFERENT, n, byte, value)
 
     def status(self):
-        """Reads channel 15 to its end."""
-        return self.host.receive(COMMANDS, LONGEST)[0]
+        """Reads channel 15 to its end, or as far as any status goes."""
+        return self.host.receive(COMMANDS, LONGEST_STATUS)[0]
 
     def command(self, data):
         self.host.send(DATA | COMMANDS, data)
