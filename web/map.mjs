@@ -2,7 +2,7 @@
 
 const CELL = 8, ROWS = 21, TOP = 8, LEFT = 12;
 const CLASSES = { free: "free", used: "used", lost: "lost", "used, but marked free": "clash", "can't be read": "bad" };
-// The legend: what a state's colour means.
+// The legend: the meaning of each colour.
 const MEANINGS = { free: "free", used: "directory", lost: "lost: no file has it", "used, but marked free": "used, but marked free", "can't be read": "unreadable" };
 const HUES = [30, 300]; // of files: from here on, so many, without the red of faults
 

@@ -179,7 +179,7 @@ export class Panel {
   }
 }
 
-// The images among what is dropped, each with the handle of its file where a browser gives one. (It gives them only while the drop is handled.)
+// The dropped images, each with the handle of its file where a browser gives one. (It gives them only while the drop is handled.)
 function imagesOf(data) {
   return [...data.items]
     .filter((it) => it.kind === "file")
@@ -191,7 +191,7 @@ async function openBoth(panels, images) {
   for (const [i, { file, handle }] of images.entries()) await panels[i].open([file], handle);
 }
 
-// What is dropped beside both disks: an image goes where no disk is, and two images to both.
+// Files dropped next to both disks: an image goes where no disk is, and two images to both.
 export function droppedOn(panels, data) {
   const images = imagesOf(data), empty = panels.filter((it) => !it.disk);
   if (!images.length || images.length < data.files.length) refuse("Drop files on the disk that gets them.");

@@ -81,7 +81,7 @@ function loaded(host, name, set) {
   return [...words, isOpen ? host.hear(STATUS) : opened];
 }
 
-// Carries a line out. Answers what was heard for GET# and LOAD, and the status.
+// Carries out a line. Returns the answer to GET# or LOAD, and the status.
 function carryOut(host, line, set) {
   const load = LOAD.exec(line);
   if (load) return loaded(host, load[1], set);

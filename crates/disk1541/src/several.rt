@@ -124,7 +124,7 @@ fn change_at(
     change_among(rt, verb, words, name, outcome)
 }
 
-/// Changes several images one after the other, each by itself, also those of folders, and says how many were. Errors: `Word`; `Several`,
+/// Changes several images one after the other, those of folders included, and prints their number. Errors: `Word`; `Several`,
 /// where some are refused, as is reported; `Write`; `NoMemory`.
 pub fn change_each(
     rt: &HostRuntime,

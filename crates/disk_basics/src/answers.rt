@@ -1,4 +1,4 @@
-//! What a disk answered to a command of the drive, with the reason where the drive's status says less.
+//! The disk's answer to a command of the drive, with the reason if the drive's status is less exact.
 use crate::calls::listed;
 use crate::failure::{Failure, on_disk};
 use crate::what::What;
@@ -21,7 +21,7 @@ fn is_directory_full(alloc: Global, image: &[u8], more: usize) -> bool {
     }
 }
 
-/// What a disk answered to so many new files. Errors: `DirectoryFull`, where that is what is full; `Disk`.
+/// The disk's answer to this number of new files. Errors: `DirectoryFull`, if the directory is full; `Disk`.
 pub fn on_room(
     alloc: Global,
     image: &str,

@@ -10,7 +10,7 @@ use std::alloc::Global;
 use std::io::{self, Write};
 use std::rt::Runtime;
 
-/// The program's name, which its files beside have.
+/// The program's name, which its temporary files have.
 pub const PROGRAM: &str = "disk1541";
 
 /// The word that means standard input or output.

@@ -6,7 +6,7 @@ use host_files::GREATEST_IMAGE;
 use host_packed::{Member, PackFault, is_gzip, is_zip, members, unpacked};
 use std::alloc::Global;
 
-/// The most bytes of what is packed.
+/// The most bytes of an unpacked image.
 const MOST: usize = GREATEST_IMAGE as usize;
 
 /// Why the image in a compressed file isn't read.
@@ -61,7 +61,7 @@ fn files_in<'b>(members: &[Member<'b>]) -> (usize, Option<Member<'b>>) {
     (count, last)
 }
 
-/// The member that is meant: the only one that is named as images are, or else the only one.
+/// The only member with the name of an image; otherwise the only member.
 fn chosen<'b>(members: &[Member<'b>]) -> Result<Member<'b>, Unread> {
     match images_in(members) {
         (1, Some(member)) => return Ok(member),

@@ -47,7 +47,7 @@ fn tell_trouble(rt: &impl Eprint, name: &str, trouble: Trouble) -> io::Result<()
     eprintln!(rt; "disk1541: {name}: {cause}")
 }
 
-/// Prints why a file isn't taken out, and what to do.
+/// Prints why a file isn't extracted, and the way out.
 pub fn tell_unread(rt: &impl Eprint, name: &str, trouble: Trouble) -> io::Result<()> {
     let cause = Cause(trouble);
     eprintln!(rt; "disk1541: {name}: {cause}. --salvage extracts the readable part")

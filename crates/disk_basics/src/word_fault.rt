@@ -46,7 +46,7 @@ pub enum WordFault {
     LongName,
     /// A name has one of `,` `=` `:` `"`, which divide the words of the drive's commands.
     Divided,
-    /// The same of a name of COPY or RENAME, which may be said exactly.
+    /// The same for a name of COPY or RENAME, for which there is --exact.
     Inexact,
     /// No slot of a directory has such a number.
     Slot,

@@ -66,7 +66,7 @@ fn plain(
     put_answer(alloc, image, old, 1, file.replaces, answer)
 }
 
-/// Whether a disk has no room for what is put.
+/// Whether a disk has no room for the new file.
 pub fn is_full(fault: ShellFault) -> bool {
     match fault {
         ShellFault::Refused(status) => status.code == Code::DiskFull,
@@ -74,7 +74,7 @@ pub fn is_full(fault: ShellFault) -> bool {
     }
 }
 
-/// What a disk answers to a file that is put, if it isn't full, or else to one that takes the place of another.
+/// The disk's answer to a new file; if it is full, to one that replaces another.
 fn answered(
     alloc: Global,
     old: &[u8],

@@ -1,8 +1,9 @@
 //! The command line, as clap reads it.
 use crate::asked::{Asked, asked_by};
 use crate::commands::{
-    Command, changing_commands, examples_of, looking_commands, making_commands, reading_commands,
+    Command, changing_commands, looking_commands, making_commands, reading_commands,
 };
+use crate::examples::examples_of;
 use crate::word::{Mark, Word};
 use clap::{Arg, ArgMatches, Error};
 use std::alloc::{AllocError, Global};

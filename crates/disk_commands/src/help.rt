@@ -1,8 +1,9 @@
 //! The help of all commands: those that look, and those that change.
 use crate::asked::{Asked, asked_by};
 use crate::commands::{
-    Command, EXAMPLES, changing_commands, looking_commands, making_commands, reading_commands,
+    Command, changing_commands, looking_commands, making_commands, reading_commands,
 };
+use crate::examples::EXAMPLES;
 use std::alloc::{AllocError, Global};
 
 /// What stands above the commands.

@@ -4,6 +4,7 @@
 mod arguments;
 mod asked;
 mod commands;
+mod examples;
 mod help;
 mod word;
 mod words;

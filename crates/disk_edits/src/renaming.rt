@@ -19,7 +19,7 @@ pub struct Pair<'a> {
     pub charset: Charset,
 }
 
-/// A name that the drive's commands can say. Errors: those of `file_name`; `Word`, where --exact is the way.
+/// A name that the drive's commands can express. Errors: those of `file_name`; `Word`, where --exact is the way.
 fn plain_name(alloc: Global, charset: Charset, name: &str) -> Result<Vec<u8>, Failure> {
     match file_name(alloc, charset, name) {
         Err(failure) if matches!(failure.what, What::Word(WordFault::Divided)) => Err(

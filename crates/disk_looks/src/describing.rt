@@ -215,7 +215,7 @@ fn why_left(fault: ShellFault) -> &'static str {
     }
 }
 
-/// Adds the line of a file, unless an earlier one has its name, and notes what it doesn't say.
+/// Adds the line of a file, unless an earlier one has its name, and notes the omissions.
 fn add_described<R: Runtime + AllocGlobal>(
     rt: &R,
     entry: &Entry,
@@ -267,7 +267,7 @@ fn add_line<R: Runtime + AllocGlobal>(
     }
 }
 
-/// The lines of all entries, and what they don't say.
+/// The lines of all entries, and the omissions.
 fn drafted<R: Runtime + AllocGlobal>(
     rt: &R,
     disk: &Disk,
@@ -381,7 +381,7 @@ fn is_followed<R: Runtime + AllocGlobal>(
     Ok(false)
 }
 
-/// The recipe of a disk, and what it doesn't say.
+/// The recipe of a disk, and its omissions.
 #[derive(Drop)]
 struct NotedRecipe {
     recipe: Recipe,
@@ -391,7 +391,7 @@ struct NotedRecipe {
     is_followed: bool,
 }
 
-/// The recipe of a disk, and what it doesn't say.
+/// The recipe of a disk, and its omissions.
 fn described<R: Runtime + AllocGlobal>(
     rt: &R,
     image: &[u8],
@@ -411,7 +411,7 @@ fn described<R: Runtime + AllocGlobal>(
     })
 }
 
-/// Prints a recipe after what it doesn't say.
+/// Prints a recipe after its omissions.
 fn print_recipe<R: Runtime + AllocGlobal>(rt: &R, described: &NotedRecipe) -> Result<(), Failure> {
     match recipe_text(rt.alloc(), &described.recipe) {
         Ok(text) => {

@@ -220,7 +220,7 @@ fn people_lines(
     Ok(Shown { text, answer })
 }
 
-/// Whether what is shown says itself that files aren't listed.
+/// Whether the output itself reports that files aren't listed.
 fn says_unlinked(look: Look<'_>) -> bool {
     let is_said = matches!(look.view, View::Soundness | View::Facts | View::Flaws);
     is_said && !look.is_json && !look.is_csv

@@ -1,4 +1,4 @@
-//! Files that are written: none may be one that is read or written for something else.
+//! Files that are written: none may be an input or another output.
 use crate::arguments::{Arguments, is_standard};
 use crate::failure::RunFailure;
 use host_locks::is_same;
@@ -12,7 +12,7 @@ const VCD: &[u8] = b"$comment Serial bus";
 /// How many bytes of a file show whether it is a trace.
 const ROOM: usize = 64;
 
-/// A file that would be written over: what it is already, and the word that names it again.
+/// A file that would be overwritten: its first use, and the argument that names it again.
 #[derive(Clone, Copy)]
 pub struct Clash<'a> {
     /// Its name.
@@ -31,7 +31,7 @@ fn meets<R: Files + AllocGlobal>(rt: &R, written: &str, other: Option<&str>) -> 
     }
 }
 
-/// What the file of the trace is already; None if it is nothing else.
+/// The other use of the trace's file; None if it has none.
 fn trace_clash<R: Files + AllocGlobal>(
     rt: &R,
     arguments: &Arguments<'_>,
@@ -49,7 +49,7 @@ fn trace_clash<R: Files + AllocGlobal>(
     None
 }
 
-/// The first file that would be written over though the command line names it for something else. OUT may be IMAGE.
+/// The first file that would be overwritten although the command line names it for another use. OUT may be IMAGE.
 pub fn clash_of<'a, R: Files + AllocGlobal>(
     rt: &R,
     arguments: &Arguments<'a>,

@@ -37,7 +37,7 @@ pub fn run_program(rt: &HostRuntime) -> ExitCode {
     run_arguments(rt, &arguments)
 }
 
-/// Carries out what the command line asks for, unless two of its words name one thing.
+/// Carries out the command line, unless two of its arguments name one file.
 fn run_arguments(rt: &HostRuntime, arguments: &Arguments<'_>) -> ExitCode {
     if arguments.reads_twice() {
         return without_stream(rt, "error: only one of IMAGE and SCRIPT can be `-`");

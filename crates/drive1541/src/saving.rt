@@ -7,10 +7,10 @@ use std::fs::{self, File};
 use std::io::{self, Write};
 use std::rt::{Files, Runtime};
 
-/// The program's name, which its files beside have.
+/// The program's name, which its temporary files have.
 const PROGRAM: &str = "drive1541";
 
-/// An image that was read, and as what it is saved.
+/// An image that was read, and the file to which it is saved.
 #[derive(Clone, Copy)]
 pub struct Saving<'s> {
     /// The file that was read.
@@ -48,7 +48,7 @@ fn is_at_hand<R: Files>(rt: &R, name: &str) -> bool {
     }
 }
 
-/// Takes the lock of OUT's folder, if IMAGE and SCRIPT are read at once. Else it is taken only to save: nobody is to wait for a script
+/// Takes the lock of OUT's folder, if IMAGE and SCRIPT are read at once. Otherwise it is taken only to save: no program should wait for a script
 /// that is typed.
 pub fn lock_out(rt: &HostRuntime, arguments: &Arguments<'_>) -> Option<File> {
     let out = arguments.out?;

@@ -52,7 +52,7 @@ impl<F: Write, S: Write> Tracer<F, S> {
         }
     }
 
-    /// Writes what is left of the trace. Returns what couldn't be written first, and why.
+    /// Writes the rest of the trace. Returns the first file that couldn't be written, and the reason.
     fn end(&mut self) -> Option<(Stream, io::ErrorKind)> {
         let moment = self.moment;
         let recorded = match &mut self.recorder {

@@ -4,7 +4,7 @@ use std::alloc::{AllocError, AllocFailed};
 /// Why a packed file isn't unpacked.
 #[derive(Clone, Copy, Debug, PartialEq, Eq, Drop)]
 pub enum PackFault {
-    /// It is cut off, or isn't packed as its format says.
+    /// It is truncated, or breaks the rules of its format.
     Broken,
     /// It is packed, or locked, in a way that isn't unpacked here.
     Unknown,

@@ -97,7 +97,7 @@ def lost(browser, left, d64):
 
 
 def packed(browser, left, d64):
-    """Images packed with gzip or ZIP are opened, and saved as what they are."""
+    """Images packed with gzip or ZIP are opened, and saved unpacked."""
     data = d64.read_bytes()
     stored, deflated, several, empty = (io.BytesIO() for _ in range(4))
     with zipfile.ZipFile(stored, "w") as out:
@@ -170,7 +170,7 @@ def sizes(browser, left, right, d64):
 
 
 def from_a_file(browser, folder):
-    """index.html opened by a double click: no module runs, and the page says what to do."""
+    """index.html opened by a double click: no module runs, and the page shows the way out."""
     browser.driver.get((folder / "index.html").as_uri())
     note = browser.all("#stuck")[0]
     time.sleep(2.5)

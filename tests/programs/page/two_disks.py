@@ -53,7 +53,7 @@ def changed_disk_is_kept(browser, right, d64):
 
 
 def two_at_once(browser, left, right, d64, g64):
-    """Two images dropped on a disk go to both; beside the disks, they go where none is open."""
+    """Two images dropped on a disk go to both; next to the disks, they go where none is open."""
     right.drop(("a.d64", d64.read_bytes()), ("b.g64", g64.read_bytes()))
     browser.says("b.g64 is open.")
     browser.expect((right.text("h2 span"), left.text("h2 span")) == ("a.d64", "b.g64"), "two images dropped on a disk open both")

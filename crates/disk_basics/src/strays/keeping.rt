@@ -1,4 +1,4 @@
-//! A change leaves alone what entries lead to that no link of the directory leads to.
+//! A change keeps the sectors of entries that no link of the directory reaches.
 use super::{held_by, strays_on};
 use crate::disk::Disk;
 use crate::failure::{Failure, on_disk};
