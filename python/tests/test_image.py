@@ -90,6 +90,13 @@ class Looks(DiskCase):
             self.assertTrue(refused(-5, Image, data))
         self.assertTrue(refused(-5, Image.open, self.file("big.d64", bytes(833_293))))
 
+    def test_the_size_decides_first(self):
+        # (what a program writes to 1/0 makes no G64 of a D64)
+        for size, form in ((174_848, Form.D64), (175_531, Form.D64), (196_608, Form.D64_40)):
+            data = b"GCR-1541" + bytes(size - 8)
+            image = Image(data)
+            self.assertEqual((image.form, image.sector(1, 0)), (form, data[:256]))
+
     def test_what_is_wrong_is_what_disk1541_says(self):
         disk = model_disk(7)
         entry = Image(disk.image).find(next(it.name for it in disk.files if it.is_closed))

@@ -1,10 +1,12 @@
 -- What a command leaves: the disk that the machine has then, or what a stop leaves of it.
-use Rattle.std.proofs.Common.{◌≡◌, ℕ, Bool, true, false, List, length, refl, sym, ap, ◌∙◌, subst, inl, inr, arith, Option, Some, None, Result, Ok, Err, IsErrAnd}
+use Rattle.std.proofs.Common.{◌≡◌, ℕ, Bool, true, false, List, length, refl, sym, ap, ◌∙◌, subst, inl, inr, arith, Option, Some, None, Result, Ok, Err, IsErrAnd, replicate}
 use Rattle.cbm_medium.specs.declared.fault.Trouble.{Trouble}
 use Rattle.cbm_file.specs.Files.{File, Disk, file_at, with_slot}
 use Rattle.cbm_medium.specs.Content.{Content}
 use Rattle.cbm_volume.specs.Writers.{HoldsNow, known, IsEither}
 use Rattle.cbm_volume.specs.Writers as usage
+use Rattle.cbm_volume.specs.NewDisks.{IsNewOrNothing}
+use Rattle.cbm_volume.proofs.formatted.NewDisks.{idle_holds}
 use Rattle.cbm_machine.specs.declared.code.Code.{Code}
 use Rattle.cbm_machine.specs.declared.code.Code.TheVariants.{Fine, WriteFileOpen, FileExists, WriteProtected}
 use Rattle.cbm_machine.specs.declared.status.Status.{Status}
@@ -14,7 +16,8 @@ use Rattle.cbm_machine.specs.Codes.{code_of_fault}
 use Rattle.cbm_machine.specs.Orderly.{channel_in, still_uses}
 use Rattle.cbm_command.specs.declared.command.Command.TheVariants.{New, Validate}
 use Rattle.cbm_file.specs.Changes.{new_disk, validated}
-use Rattle.std.proofs.lemmas.Bool.{eq-eqb}
+use Rattle.std.proofs.lemmas.Bool.{eq-eqb, cases_lt}
+use Rattle.std.proofs.lemmas.List.{get_or-replicate, get_or_past}
 use Rattle.cbm_channel.proofs.Planning.{none_passes}
 use Rattle.std.specs.Prelude.{◌⊎◌, if◌then◌else◌, slice_index_or}
 use Rattle.std.specs.List.{AllZip, list_any}
@@ -49,6 +52,13 @@ open_if_used slot (Reading s left) u = refl
 open_if_used slot (Writing s bytes blocks full replaces) u = refl
 open_if_used slot (Stopped s) u = refl
 open_if_used slot (Relative s k p) u = refl
+
+-- no slot of a new disk has a file
+no_new_slot : (n : ℕ) → slice_index_or (replicate {A = Option File} 8 None) n None ≡ None
+no_new_slot n = elim (cases_lt n 8) [
+  | inl below ↦ get_or-replicate 8 n None None below
+  | inr past ↦ get_or_past (replicate 8 None) n None past
+]
 
 module _ (t : ℕ) (c c' : Content) (p : Bool) (chs : List kept.Channel) (told : ToldStatus) (text : Option (ℕ × List ℕ)) (m : Machine) (st : StandsBy c t p chs told text m) where
   -- 15 is none of the machine's channels
@@ -139,6 +149,22 @@ module _ (t : ℕ) (c c' : Content) (p : Bool) (chs : List kept.Channel) (told :
 
       pub new_stands : HoldsNow t c' (new_disk m.tracks name id m.disk) (uses_of chs m.channels) → StandsBy c' t p chs told text (with_disk (new_disk m.tracks name id m.disk) m)
       new_stands holds = with_other_disk t c c' p chs told text m (new_disk m.tracks name id m.disk) st holds (none_open (new_disk m.tracks name id m.disk))
+
+      pub new_cut : m.protected ≡ false → IsNewOrNothing t c c'
+          → (n : Machine) × ((trouble : Trouble) (status : Status) → length chs ≡ 15 → status ≡ trouble_status trouble → IsStopped 15 m (answered m (run (New name id) m)) (with_status status n)) × StandsBy c' t p chs told text n
+      new_cut unprotected (inl same) = (m, stopped_at_once (answered m (run (New name id) m)), subst (λ (x : Content). StandsBy x t p chs told text m) (sym same) st)
+      new_cut unprotected (inr (d, holds, empty)) = (
+        with_disk d m,
+        (λ trouble status count e. record {
+          either = λ n. inr (ap known (empty n ∙ sym (no_new_slot n) ∙ sym (ap (λ (y : Machine). file_at y.disk n) (new_done unprotected))));
+          same_tracks = refl;
+          same_protection = refl;
+          own = inl (none_at_15 count);
+          others = λ k ne. refl;
+          fault = (trouble, e);
+        }),
+        with_other_disk t c c' p chs told text m d st (idle_holds t c' d (uses_of chs m.channels) holds (all_idle chs m.channels st.each shut)) (none_open d),
+      )
 
 -- a channel is open
 pub new_open : (m : Machine) (name : List ℕ) (id : Option (List ℕ)) → any_open m ≡ true → answered m (run (New name id) m) ≡ say WriteFileOpen m

@@ -7,7 +7,6 @@ use Rattle.cbm_machine.specs.Closing.{close_one, close_all, close, channel_numbe
 use Rattle.cbm_machine.specs.Plans.{open_text}
 use Rattle.cbm_machine.specs.Calls.{put, end_put, command, after_open}
 use Rattle.cbm_channel.specs.Standing.{Kept, Stands, Leads}
-use Rattle.cbm_channel.specs.Commanded.{FormatsUnfailing, open_formats, end_formats}
 use Rattle.cbm_channel.proofs.Goings.{rises}
 use Rattle.cbm_channel.specs.Going.{Passes, PassesAll, closings, closing, opening_parts, GoesFrom, Goes, EndsPut, EndsFrom}
 
@@ -61,15 +60,15 @@ module _ {M : Type 0} (seen : M → Seen) (old new : Kept M) (u : (seen new.medi
   unfailed_put ch b goes m s = goes_done ((ch, put ch b) ∷ []) m (goes m s)
 
   -- the end of what was put
-  pub unfailed_end : (ch : ℕ) → ((m : Machine) → Stands seen old m → FormatsUnfailing (end_formats ch old.text) (HasFailed (seen old.medium) (seen new.medium)) → EndsFrom seen old new ch m)
+  pub unfailed_end : (ch : ℕ) → ((m : Machine) → Stands seen old m → EndsFrom seen old new ch m)
       → Leads seen old new (end_put ch)
-  unfailed_end ch goes m s = let x = goes m s (λ e. never) in subst (λ y. Stands seen new y) (is_ended _ ch m x.0 never x.1) x.2
+  unfailed_end ch goes m s = let x = goes m s in subst (λ y. Stands seen new y) (is_ended _ ch m x.0 never x.1) x.2
 
   pub unfailed_close : (ch : ℕ) → Goes seen old new (closing ch) → Leads seen old new (close ch)
   unfailed_close ch goes m s = subst (λ x. Stands seen new x) (closed_by (ch == 15) ch m) (goes_done (closing ch) m (goes m s))
 
   pub unfailed_open : (ch : ℕ) (text : List ℕ)
-      → ((m : Machine) → Stands seen old m → FormatsUnfailing (open_formats ch text) (HasFailed (seen old.medium) (seen new.medium)) → GoesFrom seen old new (opening_parts ch text) m)
+      → ((m : Machine) → Stands seen old m → GoesFrom seen old new (opening_parts ch text) m)
       → Leads seen old new (after_open ch text)
   unfailed_open ch text goes m s =
-      subst (λ x. Stands seen new x) (opened_by (ch == 15) ch text m) (goes_done (opening_parts ch text) m (goes m s (λ e. never)))
+      subst (λ x. Stands seen new x) (opened_by (ch == 15) ch text m) (goes_done (opening_parts ch text) m (goes m s))

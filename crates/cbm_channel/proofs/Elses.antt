@@ -8,12 +8,12 @@ use Rattle.cbm_channel.specs.ChannelCalls.{KeepsElse}
 
 -- what a call keeps that changes at most the sectors of a disk
 pub only_else : {disk : ℕ} {A : Type 0} (r : Result A Trouble) (old new : Seen) → OnlyContent disk r old new → KeepsElse r old new
-only_else r old new h = record { tracks = h.tracks; protected = h.protected; id = h.id; counted = h.counted; once = h.once; uncounted = h.uncounted; own = h.own; guarded = h.guarded; shown = h.shown; readable = h.readable }
+only_else r old new h = record { tracks = h.tracks; protected = h.protected; id = h.id; outside = h.outside; counted = h.counted; once = h.once; uncounted = h.uncounted; own = h.own; guarded = h.guarded; shown = h.shown; readable = h.readable }
 
 -- nothing was done
 pub else_nothing : {A : Type 0} (r : Result A Trouble) (old new : Seen) → new ≡ old → IsGuarded r old → IfErr r (ShowsGround new) → KeepsElse r old new
 else_nothing {A} r old new e guards shows =
-    record { tracks = ap (λ (s : Seen). s.tracks) e; protected = ap (λ (s : Seen). s.protected) e; id = ap (λ (s : Seen). s.id) e; counted = omega (arith, same); once = omega (arith, same); uncounted = on_ok r; own = on_err r; guarded = guards; shown = on_shown r shows; readable = readable_same old.content new.content (ap (λ (s : Seen). s.content) e) }
+    record { tracks = ap (λ (s : Seen). s.tracks) e; protected = ap (λ (s : Seen). s.protected) e; id = ap (λ (s : Seen). s.id) e; outside = ap (λ (s : Seen). s.outside) e; counted = omega (arith, same); once = omega (arith, same); uncounted = on_ok r; own = on_err r; guarded = guards; shown = on_shown r shows; readable = readable_same old.content new.content (ap (λ (s : Seen). s.content) e) }
   where
     same : new.failures ≡ old.failures
     same = ap (λ (s : Seen). s.failures) e
@@ -33,7 +33,7 @@ else_nothing {A} r old new e guards shows =
 -- one call after another that succeeded
 pub else_after : {A B : Type 0} (q : Result A Trouble) (a : A) (r : Result B Trouble) (old mid new : Seen) → q ≡ Ok a → KeepsElse q old mid → KeepsElse r mid new → KeepsElse r old new
 else_after {A} {B} q a r old mid new e h k =
-    record { tracks = k.tracks ∙ h.tracks; protected = k.protected ∙ h.protected; id = k.id ∙ h.id; counted = omega (arith, h.counted, k.counted); once = omega (arith, first, k.once); uncounted = on_ok r k.uncounted; own = on_err r k.own; guarded = guards r k.guarded; shown = grounds r k.shown; readable = readable_after old.content mid.content new.content h.readable k.readable }
+    record { tracks = k.tracks ∙ h.tracks; protected = k.protected ∙ h.protected; id = k.id ∙ h.id; outside = k.outside ∙ h.outside; counted = omega (arith, h.counted, k.counted); once = omega (arith, first, k.once); uncounted = on_ok r k.uncounted; own = on_err r k.own; guarded = guards r k.guarded; shown = grounds r k.shown; readable = readable_after old.content mid.content new.content h.readable k.readable }
   where
     first : mid.failures ≡ old.failures
     first = subst (λ (x : Result A Trouble). OnOk x (mid.failures ≡ old.failures)) e h.uncounted
@@ -56,7 +56,7 @@ else_after {A} {B} q a r old mid new e h k =
 
 -- a call that only reads after one that succeeded
 pub else_then : {A B : Type 0} (q : Result A Trouble) (r : Result B Trouble) (a : A) (old new : Seen) → q ≡ Ok a → KeepsElse q old new → IsGuarded r old → IfErr r (ShowsGround new) → KeepsElse r old new
-else_then {A} {B} q r a old new e h guards shows = else_after q a r old new new e h (record { tracks = λ i. new.tracks; protected = λ i. new.protected; id = λ i. new.id; counted = omega arith; once = omega arith; uncounted = on_ok r; own = on_err r; guarded = still r guards; shown = on_shown r shows; readable = readable_same new.content new.content (λ i. new.content) })
+else_then {A} {B} q r a old new e h guards shows = else_after q a r old new new e h (record { tracks = λ i. new.tracks; protected = λ i. new.protected; id = λ i. new.id; outside = λ i. new.outside; counted = omega arith; once = omega arith; uncounted = on_ok r; own = on_err r; guarded = still r guards; shown = on_shown r shows; readable = readable_same new.content new.content (λ i. new.content) })
   where
     first : new.failures ≡ old.failures
     first = subst (λ (x : Result A Trouble). OnOk x (new.failures ≡ old.failures)) e h.uncounted
@@ -88,6 +88,7 @@ else_refused {A} {B} r s t old new refuses hands h =
       tracks = h.tracks;
       protected = h.protected;
       id = h.id;
+      outside = h.outside;
       counted = h.counted;
       once = h.once;
       uncounted = subst (λ (x : Result B Trouble). OnOk x (new.failures ≡ old.failures)) (sym hands) tt;

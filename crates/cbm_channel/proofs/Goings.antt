@@ -1,9 +1,11 @@
 -- Parts of a call one after another.
 use Rattle.std.proofs.Common.{◌≡◌, ◌≢◌, ◌⊎◌, ℕ, ◌*◌, ◌<◌, ◌≤◌, Bool, true, false, List, [], ◌∷◌, ◌++◌, length, Result, refl, sym, ap, ◌∙◌, subst, arith, inl, inr}
-use Rattle.cbm_medium.specs.Seen.{Seen, HasFailed}
+use Rattle.cbm_medium.specs.Seen.{Seen, HasFailed, Outside, formatted_outside}
 use Rattle.cbm_medium.specs.declared.fault.Trouble.{Trouble}
 use Rattle.cbm_medium.proofs.Sequences.{readable_after, readable_same}
-use Rattle.std.specs.Prelude.{◌==◌, slice_set, slice_index_or}
+use Rattle.std.specs.Prelude.{◌==◌, Option, Some, None, slice_set, slice_index_or}
+use Rattle.std.proofs.lemmas.Bool.{and_parts}
+use Rattle.cbm_channel.specs.Commanded.{end_formats}
 use Rattle.cbm_machine.specs.Plans.{open_text}
 use Rattle.cbm_machine.specs.Calls.{command, end_put, text_for}
 use Rattle.cbm_machine.specs.Records.{write_record}
@@ -20,7 +22,7 @@ use Rattle.cbm_channel.specs.Written.{disk_closed}
 use Rattle.cbm_channel.proofs.Finished.{finish_law}
 use Rattle.cbm_channel.proofs.Stands.{zip_at}
 use Rattle.cbm_channel.specs.Standing.{Kept, ChannelStands, Stands}
-use Rattle.cbm_channel.specs.Going.{EndsPut, IsRecordStopped, IsStopped, Passes, PassesAll, WentFrom, Went, Goes, GoesFrom, opening_parts, KeepsMedium, some_byte_put}
+use Rattle.cbm_channel.specs.Going.{EndsPut, IsRecordStopped, IsStopped, Passes, PassesAll, WentFrom, Went, Goes, GoesFrom, opening_parts, IsOutsideKept, KeepsMedium, some_byte_put}
 
 -- a part by another name, from this machine
 pub part_same : (failed : Type 0) (ch : ℕ) (part part' : Machine → Machine) (m n : Machine) → part' m ≡ part m → Passes failed ch part m n → Passes failed ch part' m n
@@ -48,7 +50,7 @@ late a b c le h = omega (arith, h, le)
 pub one_part : (a b : Seen) (ch : ℕ) (part : Machine → Machine) (m n : Machine) → a.failures ≤ b.failures → Passes (HasFailed a b) ch part m n → PassesAll a b ((ch, part) ∷ []) m n
 one_part a b ch part m n le p = (b, le, n, p, (refl, omega arith))
 
-pub went_goes : {M : Type 0} (seen : M → Seen) (old new : Kept M) (ch : ℕ) (part : Machine → Machine) → KeepsMedium (seen old.medium) (seen new.medium) → Went seen old new ch part → Goes seen old new ((ch, part) ∷ [])
+pub went_goes : {M : Type 0} {formats : Bool} (seen : M → Seen) (old new : Kept M) (ch : ℕ) (part : Machine → Machine) → KeepsMedium formats (seen old.medium) (seen new.medium) → Went seen old new ch part → Goes seen old new ((ch, part) ∷ [])
 went_goes seen old new ch part k w m s = let x = w m s in (x.0, one_part (seen old.medium) (seen new.medium) ch part m x.0 k.counted x.1, x.2)
 
 -- one more part after those
@@ -162,22 +164,63 @@ closed_at seen k n chs ch st e lt =
 
 -- ---- calls in several parts
 
-pub keeps_then : (a b c : Seen) → KeepsMedium a b → KeepsMedium b c → KeepsMedium a c
-keeps_then a b c x y = record { tracks = y.tracks ∙ x.tracks; protected = y.protected ∙ x.protected; counted = omega (arith, x.counted, y.counted); readable = readable_after a.content b.content c.content x.readable y.readable }
+pub outside_then : (formats : Bool) (a b c : Outside) → IsOutsideKept formats a b → IsOutsideKept formats b c → IsOutsideKept formats a c
+outside_then false a b c x y = y ∙ x
+outside_then true a b c (inl x) (inl y) = inl (y ∙ x)
+outside_then true a b c (inl x) (inr y) = inr (y ∙ ap formatted_outside x)
+outside_then true a b c (inr x) (inl y) = inr (y ∙ x)
+outside_then true a b c (inr x) (inr y) = inr (y ∙ ap formatted_outside x)
 
-pub keeps_same : (a b : Seen) → b ≡ a → KeepsMedium a b
-keeps_same a b e = record { tracks = ap (λ (s : Seen). s.tracks) e; protected = ap (λ (s : Seen). s.protected) e; counted = omega (arith, ap (λ (s : Seen). s.failures) e); readable = readable_same a.content b.content (ap (λ (s : Seen). s.content) e) }
+pub outside_free : (formats : Bool) (a b : Outside) → b ≡ a → IsOutsideKept formats a b
+outside_free false a b e = e
+outside_free true a b e = inl e
+
+pub keeps_then : {formats : Bool} (a b c : Seen) → KeepsMedium formats a b → KeepsMedium formats b c → KeepsMedium formats a c
+keeps_then {formats} a b c x y = record {
+  tracks = y.tracks ∙ x.tracks;
+  protected = y.protected ∙ x.protected;
+  counted = omega (arith, x.counted, y.counted);
+  readable = readable_after a.content b.content c.content x.readable y.readable;
+  outside = outside_then formats a.outside b.outside c.outside x.outside y.outside;
+}
+
+pub keeps_same : {formats : Bool} (a b : Seen) → b ≡ a → KeepsMedium formats a b
+keeps_same {formats} a b e = record {
+  tracks = ap (λ (s : Seen). s.tracks) e;
+  protected = ap (λ (s : Seen). s.protected) e;
+  counted = omega (arith, ap (λ (s : Seen). s.failures) e);
+  readable = readable_same a.content b.content (ap (λ (s : Seen). s.content) e);
+  outside = outside_free formats a.outside b.outside (ap (λ (s : Seen). s.outside) e);
+}
+
+-- what doesn't format keeps more
+pub keeps_free : {formats : Bool} (a b : Seen) → KeepsMedium false a b → KeepsMedium formats a b
+keeps_free {formats} a b h = record { tracks = h.tracks; protected = h.protected; counted = h.counted; readable = h.readable; outside = outside_free formats a.outside b.outside h.outside }
+
+-- what may format only where another may keeps no less
+pub outside_more : (few many : Bool) (a b : Outside) → (few ≡ true → many ≡ true) → IsOutsideKept few a b → IsOutsideKept many a b
+outside_more false many a b more h = outside_free many a b h
+outside_more true many a b more h = subst (λ (x : Bool). IsOutsideKept x a b) (sym (more refl)) h
+
+pub keeps_more : (few many : Bool) (a b : Seen) → (few ≡ true → many ≡ true) → KeepsMedium few a b → KeepsMedium many a b
+keeps_more few many a b more h = record { tracks = h.tracks; protected = h.protected; counted = h.counted; readable = h.readable; outside = outside_more few many a.outside b.outside more h.outside }
+
+-- only a text for channel 15 formats
+pub ends_15 : (ch : ℕ) (text : Option (ℕ × List ℕ)) → end_formats ch text ≡ true → (ch == 15) ≡ true
+ends_15 ch None h = absurd (cc)
+ends_15 ch (Some t) h = (and_parts (ch == 15) _ h).0
 
 -- what a call keeps, of the medium that the drive had and has
-pub keeps_by : {M : Type 0} (seen : M → Seen) (a b before after : M) → before ≡ a → b ≡ after → KeepsMedium (seen before) (seen after) → KeepsMedium (seen a) (seen b)
-keeps_by {M} seen a b before after was is h = subst (λ (m : M). KeepsMedium (seen m) (seen b)) was (subst (λ (m : M). KeepsMedium (seen before) (seen m)) (sym is) h)
+pub keeps_by : {M : Type 0} {formats : Bool} (seen : M → Seen) (a b before after : M) → before ≡ a → b ≡ after → KeepsMedium formats (seen before) (seen after) → KeepsMedium formats (seen a) (seen b)
+keeps_by {M} {formats} seen a b before after was is h = subst (λ (m : M). KeepsMedium formats (seen m) (seen b)) was (subst (λ (m : M). KeepsMedium formats (seen before) (seen m)) (sym is) h)
 
-pub keeps_call : {M A : Type 0} (seen : M → Seen) (a b before after : M) (r : Result A Trouble) → before ≡ a → b ≡ after → KeepsElse r (seen before) (seen after) → KeepsMedium (seen a) (seen b)
-keeps_call seen a b before after r was is h = keeps_by seen a b before after was is (record { tracks = h.tracks; protected = h.protected; counted = h.counted; readable = h.readable })
+pub keeps_call : {M A : Type 0} {formats : Bool} (seen : M → Seen) (a b before after : M) (r : Result A Trouble) → before ≡ a → b ≡ after → KeepsElse r (seen before) (seen after) → KeepsMedium formats (seen a) (seen b)
+keeps_call {formats = formats} seen a b before after r was is h = keeps_by seen a b before after was is
+    (record { tracks = h.tracks; protected = h.protected; counted = h.counted; readable = h.readable; outside = outside_free formats (seen before).outside (seen after).outside h.outside })
 
 module _ {M : Type 0} (seen : M → Seen) (old mid new : Kept M) (parts : List (ℕ × (Machine → Machine))) (ch : ℕ) (part : Machine → Machine) where
   -- one part more
-  pub goes_on : KeepsMedium (seen old.medium) (seen mid.medium) → KeepsMedium (seen mid.medium) (seen new.medium) → Goes seen old mid parts → Went seen mid new ch part → Goes seen old new (parts ++ (ch, part) ∷ [])
+  pub goes_on : KeepsMedium false (seen old.medium) (seen mid.medium) → KeepsMedium false (seen mid.medium) (seen new.medium) → Goes seen old mid parts → Went seen mid new ch part → Goes seen old new (parts ++ (ch, part) ∷ [])
   goes_on a b h w m s =
       let x = h m s in
       let y = w x.0 x.2 in (
@@ -191,7 +234,7 @@ pub leads_went : {M : Type 0} (seen : M → Seen) (old new : Kept M) (ch : ℕ) 
 leads_went seen old new ch part h m s = (part m, inl refl, h m s)
 
 -- CLOSE, and then a part that can't be stopped
-pub close_then : {M : Type 0} (seen : M → Seen) (old mid new : Kept M) (ch : ℕ) (first second : Machine → Machine) (m : Machine) → KeepsMedium (seen old.medium) (seen mid.medium) → seen new.medium ≡ seen mid.medium → Went seen old mid ch first → Stands seen old m
+pub close_then : {M : Type 0} (seen : M → Seen) (old mid new : Kept M) (ch : ℕ) (first second : Machine → Machine) (m : Machine) → KeepsMedium false (seen old.medium) (seen mid.medium) → seen new.medium ≡ seen mid.medium → Went seen old mid ch first → Stands seen old m
     → ((n : Machine) → Stands seen mid n → Stands seen new (second n)) → GoesFrom seen old new ((ch, first) ∷ (ch, second) ∷ []) m
 close_then seen old mid new ch first second m a same w s h =
     let x = w m s in
@@ -199,7 +242,7 @@ close_then seen old mid new ch first second m a same w s h =
     (second x.0, (seen mid.medium, a.counted, x.0, x.1, one_part (seen mid.medium) (seen new.medium) ch second x.0 (second x.0) le (inl refl)), h x.0 x.2)
 
 -- CLOSE, and then a part that may be stopped
-pub close_begin : {M : Type 0} (seen : M → Seen) (old mid new : Kept M) (ch : ℕ) (first second : Machine → Machine) (m : Machine) → KeepsMedium (seen old.medium) (seen mid.medium) → KeepsMedium (seen mid.medium) (seen new.medium) → Went seen old mid ch first → Stands seen old m
+pub close_begin : {M : Type 0} (seen : M → Seen) (old mid new : Kept M) (ch : ℕ) (first second : Machine → Machine) (m : Machine) → KeepsMedium false (seen old.medium) (seen mid.medium) → KeepsMedium false (seen mid.medium) (seen new.medium) → Went seen old mid ch first → Stands seen old m
     → ((n : Machine) → Stands seen mid n → WentFrom seen mid new ch second n) → GoesFrom seen old new ((ch, first) ∷ (ch, second) ∷ []) m
 close_begin seen old mid new ch first second m a b w s h =
     let x = w m s in

@@ -18,7 +18,7 @@ use Rattle.cbm_machine.specs.Codes.{code_number}
 use Rattle.cbm_machine.specs.Statuses.{plain, trouble_status}
 use Rattle.cbm_channel.specs.ChannelCalls.{KeepsElse}
 use Rattle.cbm_channel.specs.Standing.{Kept}
-use Rattle.cbm_channel.specs.Going.{KeepsMedium}
+use Rattle.cbm_channel.specs.Going.{KeepsMedium, IsOutsideKept}
 use Rattle.cbm_channel.specs.Grounds.{HasGround, HasTold, HidesRecords, KeepsGrounded, ShowsTrouble, TellsGrounded, is_fault_number}
 
 -- ---- what a medium shows
@@ -74,8 +74,14 @@ new_readable r None old new h = h.readable
 new_readable r (Some id) old new (inl h) = record { faults = λ p code fault. let no = h.readable.faults p code fault in absurd (cc) }
 new_readable r (Some id) old new (inr (err, h)) = h.readable
 
-pub new_medium : (r : Result (Unit {0}) Trouble) (o : Option (List ℕ)) (old new : Seen) → OnlyNew r o old new → KeepsMedium old new
-new_medium r o old new h = let k = new_keeps r o old new h in record { tracks = k.0; protected = k.1; counted = k.2; readable = new_readable r o old new h }
+-- the bytes outside the sectors stay, or are those of a format
+new_outside : (r : Result (Unit {0}) Trouble) (o : Option (List ℕ)) (old new : Seen) → OnlyNew r o old new → IsOutsideKept true old.outside new.outside
+new_outside r None old new h = inl h.outside
+new_outside r (Some id) old new (inl h) = inr h.outside
+new_outside r (Some id) old new (inr (err, h)) = inl h.outside
+
+pub new_medium : (r : Result (Unit {0}) Trouble) (o : Option (List ℕ)) (old new : Seen) → OnlyNew r o old new → KeepsMedium true old new
+new_medium r o old new h = let k = new_keeps r o old new h in record { tracks = k.0; protected = k.1; counted = k.2; readable = new_readable r o old new h; outside = new_outside r o old new h }
 
 -- ---- a report
 
@@ -114,7 +120,7 @@ module _ {M : Type 0} (seen : M → Seen) (old new : Kept M) where
 -- ---- reports one after another
 
 -- a step before
-pub grounded_after : {M : Type 0} (seen : M → Seen) (old mid new : Kept M) → KeepsMedium (seen old.medium) (seen mid.medium) → TellsGrounded seen mid new → TellsGrounded seen old new
+pub grounded_after : {M : Type 0} (seen : M → Seen) (old mid new : Kept M) → KeepsMedium false (seen old.medium) (seen mid.medium) → TellsGrounded seen mid new → TellsGrounded seen old new
 grounded_after seen old mid new k (inl e) = inl e
 grounded_after seen old mid new k (inr (t, told, inl shows)) = inr (t, told, inl (shown_before (seen old.medium) (seen mid.medium) t k.protected k.readable shows))
 grounded_after seen old mid new k (inr (t, told, inr failed)) = inr (t, told, inr (omega (arith, k.counted, failed)))
@@ -133,7 +139,7 @@ reported_still seen old mid new told more (inr (inr (t, status, inl shows))) = i
 reported_still seen old mid new told more (inr (inr (t, status, inr failed))) = inr (inr (t, ap (λ x. x.status) told ∙ status, inr (omega (arith, more, failed))))
 
 -- two steps
-pub grounded_then : {M : Type 0} (seen : M → Seen) (old mid new : Kept M) → KeepsMedium (seen old.medium) (seen mid.medium) → (seen mid.medium).failures ≤ (seen new.medium).failures → KeepsGrounded seen old mid → KeepsGrounded seen mid new → KeepsGrounded seen old new
+pub grounded_then : {M : Type 0} (seen : M → Seen) (old mid new : Kept M) → KeepsMedium false (seen old.medium) (seen mid.medium) → (seen mid.medium).failures ≤ (seen new.medium).failures → KeepsGrounded seen old mid → KeepsGrounded seen mid new → KeepsGrounded seen old new
 grounded_then seen old mid new k more g (inr anew) = inr (grounded_after seen old mid new k anew)
 grounded_then seen old mid new k more g (inl told) = reported_still seen old mid new told more g
 

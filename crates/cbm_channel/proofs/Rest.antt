@@ -50,17 +50,18 @@ turned tracks c c' n h = stays_more tracks c c' (λ m. m == n) (λ m. n == m) (�
 -- ---- the rest
 
 -- nothing has changed
-outside_same : (old new : Seen) → new.tracks ≡ old.tracks → new.content ≡ old.content → KeepsOutside old new
-outside_same old new tracks content = record {
+outside_same : (old new : Seen) → new.tracks ≡ old.tracks → new.content ≡ old.content → new.outside ≡ old.outside → KeepsOutside old new
+outside_same old new tracks content bytes = record {
   size = (λ i. geometry_of (tracks i) (content i));
   beyond = record { same = λ p past. ap (λ (c : Content). c p) content };
+  bytes = bytes;
 }
 
-pub rest_same : {but : ℕ → Bool} (old new : Seen) → new.tracks ≡ old.tracks → new.content ≡ old.content → KeepsRest old new but
-rest_same {but} old new tracks content = record { outside = outside_same old new tracks content; in_place = stays_as (geometry_of old.tracks old.content) old.content new.content but content }
+pub rest_same : {but : ℕ → Bool} (old new : Seen) → new.tracks ≡ old.tracks → new.content ≡ old.content → new.outside ≡ old.outside → KeepsRest old new but
+rest_same {but} old new tracks content bytes = record { outside = outside_same old new tracks content bytes; in_place = stays_as (geometry_of old.tracks old.content) old.content new.content but content }
 
 pub rest_itself : {but : ℕ → Bool} (old new : Seen) → new ≡ old → KeepsRest old new but
-rest_itself old new e = rest_same old new (ap (λ (s : Seen). s.tracks) e) (ap (λ (s : Seen). s.content) e)
+rest_itself old new e = rest_same old new (ap (λ (s : Seen). s.tracks) e) (ap (λ (s : Seen). s.content) e) (ap (λ (s : Seen). s.outside) e)
 
 -- more slots may go
 pub rest_more : (less : ℕ → Bool) {but : ℕ → Bool} (old new : Seen) → ((n : ℕ) → but n ≡ false → less n ≡ false) → KeepsRest old new less → KeepsRest old new but
@@ -74,6 +75,7 @@ outside_then : (old mid new : Seen) → KeepsOutside old mid → KeepsOutside mi
 outside_then old mid new a b = record {
   size = b.size ∙ a.size;
   beyond = record { same = λ p past. b.beyond.same p (omega (arith, past, a.size)) ∙ a.beyond.same p past };
+  bytes = b.bytes ∙ a.bytes;
 }
 
 -- one call after another, over the disk that the first one leaves
@@ -101,6 +103,7 @@ pub outside_held : {disk : ℕ} {A : Type 0} (r : Result A Trouble) (old new : S
 outside_held r old new d uses only size h then = record {
   size = ap (λ (t : ℕ). geometry_of t new.content) only.tracks ∙ same_size old.tracks old.tracks old.content new.content d then.disk uses then.uses h then.holds then.total;
   beyond = record { same = λ p past. only.beyond.same p (omega (arith, past, size)) };
+  bytes = only.outside;
 }
 
 stopped_sized : (medium : ℕ) (c : Content) (before after : Disk) (uses : ℕ → Use) → Stopped medium c before after uses → HoldsSized medium c before

@@ -5,7 +5,6 @@ use Rattle.cbm_machine.specs.Machines.{Machine}
 use Rattle.cbm_machine.specs.Closing.{close}
 use Rattle.cbm_machine.specs.Calls.{put, end_put, after_open}
 use Rattle.cbm_channel.specs.Standing.{Kept, Stands, Leads}
-use Rattle.cbm_channel.specs.Commanded.{FormatsUnfailing, open_formats, end_formats}
 use Rattle.cbm_channel.specs.Going.{closing, opening_parts, GoesFrom, Goes, EndsFrom}
 use Rattle.cbm_channel.proofs.DoneParts.{unfailed_put, unfailed_end, unfailed_close, unfailed_open}
 
@@ -18,7 +17,7 @@ module _ {M : Type 0} (seen : M → Seen) (steady : (k : M) → (seen k).failure
   steady_put = unfailed_put seen old new unfailed
 
   -- the end of what was put
-  pub steady_end : (ch : ℕ) → ((m : Machine) → Stands seen old m → FormatsUnfailing (end_formats ch old.text) (HasFailed (seen old.medium) (seen new.medium)) → EndsFrom seen old new ch m)
+  pub steady_end : (ch : ℕ) → ((m : Machine) → Stands seen old m → EndsFrom seen old new ch m)
       → Leads seen old new (end_put ch)
   steady_end = unfailed_end seen old new unfailed
 
@@ -26,6 +25,6 @@ module _ {M : Type 0} (seen : M → Seen) (steady : (k : M) → (seen k).failure
   steady_close = unfailed_close seen old new unfailed
 
   pub steady_open : (ch : ℕ) (text : List ℕ)
-      → ((m : Machine) → Stands seen old m → FormatsUnfailing (open_formats ch text) (HasFailed (seen old.medium) (seen new.medium)) → GoesFrom seen old new (opening_parts ch text) m)
+      → ((m : Machine) → Stands seen old m → GoesFrom seen old new (opening_parts ch text) m)
       → Leads seen old new (after_open ch text)
   steady_open = unfailed_open seen old new unfailed

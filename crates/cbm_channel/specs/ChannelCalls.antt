@@ -19,13 +19,15 @@ use Rattle.cbm_channel.specs.Moved.{code_placed, placed_on}
 use Rattle.cbm_channel.specs.Standing.{ChannelStands, FitsTracks, IsSameFile, Kept, Stands, WaitsFor, use_of}
 use Rattle.cbm_channel.specs.Written.{is_lost, channel_put, disk_put, disk_closed, IsCutOff}
 
--- WHAT CALLS ON THE MEDIUM KEEP, whatever sectors they changed: tracks, protection and id stay, and no sector becomes unreadable.
+-- WHAT CALLS ON THE MEDIUM KEEP, whatever sectors they changed: tracks, protection, id and the bytes outside the sectors stay, and no
+-- sector becomes unreadable.
 -- No write comes after one that the medium refused by itself: failures go up by one at most, only where the answer is Err, and then that is
 -- what the medium refused last. The code 26 is answered only where the medium is protected, and each trouble has its ground.
 pub record KeepsElse {A : Type 0} (result : Result A Trouble) (old new : Seen) : Type 0 where
   pub tracks : new.tracks ≡ old.tracks
   pub protected : new.protected ≡ old.protected
   pub id : new.id ≡ old.id
+  pub outside : new.outside ≡ old.outside
   pub counted : old.failures ≤ new.failures
   pub once : new.failures ≤ old.failures + 1
   pub uncounted : OnOk result (new.failures ≡ old.failures)
@@ -34,13 +36,14 @@ pub record KeepsElse {A : Type 0} (result : Result A Trouble) (old new : Seen) :
   pub shown : IfErr result (IsGrounded old new)
   pub readable : KeepsReadable old.content new.content
 
--- THE SECTORS OUTSIDE THE DISK STAY: it uses as many tracks of its medium as before, and each sector of a track beyond those, which a
--- medium of 40 tracks has where the disk has 35, holds what it held.
+-- WHAT IS OUTSIDE THE DISK STAYS: it uses as many tracks of its medium as before; each sector of a track beyond those, which a medium of
+-- 40 tracks has where the disk has 35, holds what it held; and the bytes of the image outside its sectors are as they were.
 pub record KeepsOutside (old new : Seen) : Type 0 where
   pub size : geometry_of new.tracks new.content ≡ geometry_of old.tracks old.content
   pub beyond : KeepsBeyond (geometry_of old.tracks old.content) old.content new.content
+  pub bytes : new.outside ≡ old.outside
 
--- THE REST OF THE DISK STAYS: the sectors outside the disk; and each closed file stays in place, in the same sectors with the same bytes,
+-- THE REST OF THE DISK STAYS: what is outside the disk; and each closed file stays in place, in the same sectors with the same bytes,
 -- but for those in slots that pass the test.
 pub record KeepsRest (old new : Seen) (but : ℕ → Bool) : Type 0 where
   pub outside : KeepsOutside old new

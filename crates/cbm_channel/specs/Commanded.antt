@@ -48,7 +48,7 @@ ends_command ch (Some t) = (ch == 15) && ((t.0 == 15) && commands_change t.1)
 
 -- ---- N
 
--- it is NEW: where the medium fails in it, no disk is promised
+-- it is NEW, which leaves no file of the disk
 abbrev pub formats : Command → Bool
 formats (New name id) = true
 formats (Scratch patterns) = false
@@ -121,12 +121,6 @@ open_validates ch text = (ch == 15) && text_validates text
 abbrev pub end_validates : ℕ → Option (ℕ × List ℕ) → Bool
 end_validates ch None = false
 end_validates ch (Some t) = (ch == 15) && ((t.0 == 15) && text_validates t.1)
-
--- ---- N
-
--- if it is NEW, the medium doesn't fail in it
-abbrev pub FormatsUnfailing : Bool → Type 0 → Type 0
-FormatsUnfailing formats failed = formats ≡ true → failed → ⊥
 
 -- ---- R
 

@@ -1,7 +1,7 @@
 -- Where a call that may write leads: to the machine's next state, or it was stopped at a refused write.
-use Rattle.std.specs.Prelude.{ℕ, zero, suc, ◌+◌, ◌-◌, ◌≤◌, ◌≡◌, ◌≢◌, ◌⊎◌, ◌==◌, if◌then◌else◌, List, [], ◌∷◌, ◌++◌, take, drop, replicate, slice_index_or, Some, true}
+use Rattle.std.specs.Prelude.{ℕ, zero, suc, ◌+◌, ◌-◌, ◌≤◌, ◌≡◌, ◌≢◌, ◌⊎◌, ◌==◌, if◌then◌else◌, List, [], ◌∷◌, ◌++◌, take, drop, replicate, slice_index_or, Some, Bool, true, false}
 use Rattle.cbm_medium.specs.declared.fault.Trouble.{Trouble}
-use Rattle.cbm_medium.specs.Seen.{Seen, HasFailed, KeepsReadable}
+use Rattle.cbm_medium.specs.Seen.{Seen, Outside, HasFailed, KeepsReadable, formatted_outside}
 use Rattle.cbm_volume.specs.Writers.{IsEither}
 use Rattle.cbm_machine.specs.Statuses.{trouble_status}
 use Rattle.cbm_file.specs.Files.{File, Disk, Records, file_at, with_slot}
@@ -92,12 +92,19 @@ abbrev pub Goes : {M : Type 0} → (M → Seen) → Kept M → Kept M → List (
 Goes seen old new parts =
     (m : Machine) → Stands seen old m → GoesFrom seen old new parts m
 
--- Tracks and protection of the medium stay, failures are counted, and no sector becomes unreadable.
-pub record KeepsMedium (old new : Seen) : Type 0 where
+-- The bytes of the image outside the sectors stay; or, if it may format, they are as a format leaves them.
+abbrev pub IsOutsideKept : Bool → Outside → Outside → Type 0
+IsOutsideKept false old new = new ≡ old
+IsOutsideKept true old new = (new ≡ old) ⊎ (new ≡ formatted_outside old)
+
+-- Tracks and protection of the medium stay, and the bytes outside its sectors, unless it formats; failures are counted, and no sector
+-- becomes unreadable.
+pub record KeepsMedium (formats : Bool) (old new : Seen) : Type 0 where
   pub tracks : new.tracks ≡ old.tracks
   pub protected : new.protected ≡ old.protected
   pub counted : old.failures ≤ new.failures
   pub readable : KeepsReadable old.content new.content
+  pub outside : IsOutsideKept formats old.outside new.outside
 
 -- ---- the end of what is put
 

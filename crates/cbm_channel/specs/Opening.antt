@@ -21,7 +21,7 @@ use Rattle.cbm_channel.specs.ChannelCalls.{KeepsRest, LeavesRest}
 use Rattle.cbm_channel.specs.Standing.{Kept, SameBut, HaveSameFiles, Stands, uses_of}
 use Rattle.cbm_channel.specs.Grounds.{HasGround, IsNotOk, IsFromDirectory, KeepsGrounded, KeepsIfRefused, OrdersDisk, ShowsTrouble, TellsGrounded}
 use Rattle.cbm_channel.specs.Going.{IsFailureCounted, GoesFrom, KeepsMedium, WentFrom, opening_parts}
-use Rattle.cbm_channel.specs.Commanded.{AreSameBut, FormatsUnfailing, open_formats, open_validates, text_moves, text_clears}
+use Rattle.cbm_channel.specs.Commanded.{AreSameBut, open_formats, open_validates, text_moves, text_clears}
 use Rattle.cbm_channel.specs.Shown.{is_writing_on, appends_on, appended_by, finished_by}
 use Rattle.cbm_channel.specs.Meant.{TextWasDone, OpeningWasDone}
 use Rattle.cbm_channel.specs.BytesMeant.{ClosingWasDone}
@@ -42,9 +42,9 @@ pub record ClosesFirst {M : Type 0} (seen : M → Seen) (ch : ℕ) (text : List 
   pub counted : IsFailureCounted seen closed new
   pub done : (asked : Opening) → opening_of ch text ≡ Ok asked → OpeningWasDone seen ch asked closed new
 
--- from each machine that the drive stood for it is done, or stopped; of NEW that says nothing where the medium failed in it
+-- from each machine that the drive stood for it is done, or stopped
 abbrev pub OpensFrom : {M : Type 0} → (M → Seen) → ℕ → List ℕ → Kept M → Kept M → Type 0
-OpensFrom seen ch text old new = (m : machine.Machine) → Stands seen old m → FormatsUnfailing (open_formats ch text) (HasFailed (seen old.medium) (seen new.medium)) → GoesFrom seen old new (opening_parts ch text) m
+OpensFrom seen ch text old new = (m : machine.Machine) → Stands seen old m → GoesFrom seen old new (opening_parts ch text) m
 
 -- what isn't for writing, on a channel that isn't written, leaves the medium as it is
 abbrev pub OpensQuietly : {M : Type 0} → (M → Seen) → ℕ → List ℕ → Kept M → Kept M → Type 0
@@ -85,7 +85,7 @@ changed_by_open ch text old new m n = if ch == 15 then text_clears text m n else
 -- disk but for those slots.
 pub record LeavesByOpen {M : Type 0} (seen : M → Seen) (ch : ℕ) (text : List ℕ) (old new : Kept M) : Type 0 where
   pub ordered : open_validates ch text ≡ true → OrdersDisk seen old new
-  pub medium : KeepsMedium (seen old.medium) (seen new.medium)
+  pub medium : KeepsMedium (open_formats ch text) (seen old.medium) (seen new.medium)
   pub rest : open_formats ch text ≡ false → LeavesRest seen (changed_by_open ch text old new) old new
 
 -- ---- what a plan is

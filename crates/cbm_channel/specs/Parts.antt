@@ -11,7 +11,7 @@ use Rattle.cbm_channel.specs.declared.channel.Channel.{Channel}
 use Rattle.cbm_channel.specs.declared.channel.Channel.TheVariants.{Closed}
 use Rattle.cbm_channel.specs.ChannelCalls.{KeepsRest, LeavesRest}
 use Rattle.cbm_channel.specs.BytesMeant.{ClosingWasDone, AllClosingsDone}
-use Rattle.cbm_channel.specs.Commanded.{AreSameBut, CanAllGo, FormatsUnfailing, is_slot_among, end_clears, all_scratched, ends_command, end_formats}
+use Rattle.cbm_channel.specs.Commanded.{AreSameBut, CanAllGo, is_slot_among, end_clears, all_scratched, ends_command}
 use Rattle.cbm_channel.specs.Going.{KeepsMedium, IsFailureCounted, AreCounted, WentFrom, RecordsFrom, EndsFrom}
 use Rattle.cbm_channel.specs.Grounds.{HasTold, IsToldFor, KeepsGrounded, KeepsIfRefused, OrdersDisk, TellsGrounded, is_fault_number}
 use Rattle.cbm_channel.specs.Shown.{is_writing_on, has_records_on, finishes_on, finished_by, with_records_by, KeepsMediumAndStatus}
@@ -27,10 +27,6 @@ OfMachine seen k P = (m : Machine) → Stands seen k m → P m
 abbrev pub WentWhere : {M A : Type 0} → (M → Seen) → Kept M → Kept M → (Machine → A → Type 0) → (A → Machine → Machine) → Type 0
 WentWhere seen old new P part = (m : Machine) (a : _) → P m a → Stands seen old m → WentFrom seen old new 15 (part a) m
 
--- a command is done from each machine that the drive stood for; of NEW that says nothing where the medium failed in it
-abbrev pub WentUnlessNew : {M : Type 0} → (M → Seen) → Bool → Kept M → Kept M → (Machine → Machine) → Type 0
-WentUnlessNew seen formats old new part = OfMachine seen old (λ m. FormatsUnfailing formats (HasFailed (seen old.medium) (seen new.medium)) → WentFrom seen old new 15 part m)
-
 -- the rest of the disk stays but for the slots that pass the test, where the drive stood for such a machine
 abbrev pub KeepsRestWhere : {M A : Type 0} → (M → Seen) → (ℕ → Bool) → Kept M → Kept M → (Machine → A → Type 0) → Type 0
 KeepsRestWhere seen but old new P = (m : Machine) (a : _) → P m a → Stands seen old m → KeepsRest (seen old.medium) (seen new.medium) but
@@ -40,24 +36,24 @@ KeepsRestWhere seen but old new P = (m : Machine) (a : _) → P m a → Stands s
 -- WHAT A PART OF A CALL THAT REPORTS LEAVES on any disk: tracks and protection of the medium stay; the medium refused one write at most,
 -- which is then what is reported; and the status has its ground.
 pub record LeavesMedium {M : Type 0} (seen : M → Seen) (old new : Kept M) : Type 0 where
-  pub medium : KeepsMedium (seen old.medium) (seen new.medium)
+  pub medium : KeepsMedium false (seen old.medium) (seen new.medium)
   pub counted : IsFailureCounted seen old new
   pub grounded : TellsGrounded seen old new
 
 -- WHAT A PART LEAVES THAT MAKES NO NEW DISK: the same, where the status may stay, too; and the rest of the disk as it is, but for the slots
 -- that pass the test.
 pub record LeavesDisk {M : Type 0} (seen : M → Seen) (but : ℕ → Bool) (old new : Kept M) : Type 0 where
-  pub medium : KeepsMedium (seen old.medium) (seen new.medium)
+  pub medium : KeepsMedium false (seen old.medium) (seen new.medium)
   pub rest : LeavesRest seen (λ m. but) old new
   pub counted : IsFailureCounted seen old new
   pub grounded : KeepsGrounded seen old new
 
--- WHAT A COMMAND AT THE DISK LEAVES on any disk: the channels stay, what is refused has changed nothing, the status has its ground, and of
+-- WHAT A COMMAND AT THE DISK LEAVES on any disk, by whether it is NEW: the channels stay, what is refused has changed nothing, the status has its ground, and of
 -- the medium what each part leaves.
-pub record LeavesChannels {M : Type 0} (seen : M → Seen) (old new : Kept M) : Type 0 where
+pub record LeavesChannels {M : Type 0} (seen : M → Seen) (formats : Bool) (old new : Kept M) : Type 0 where
   pub channels : new.channels ≡ old.channels
   pub spared : KeepsIfRefused seen old new
-  pub medium : KeepsMedium (seen old.medium) (seen new.medium)
+  pub medium : KeepsMedium formats (seen old.medium) (seen new.medium)
   pub counted : IsFailureCounted seen old new
   pub grounded : TellsGrounded seen old new
 
@@ -68,7 +64,7 @@ pub record LeavesByCommand {M : Type 0} (seen : M → Seen) (moved : Option ℕ)
   pub channels : HaveSameFiles old.channels new.channels
   pub others : AreSameBut moved old.channels new.channels
   pub ordered : validates ≡ true → OrdersDisk seen old new
-  pub medium : KeepsMedium (seen old.medium) (seen new.medium)
+  pub medium : KeepsMedium formats (seen old.medium) (seen new.medium)
   pub rest : formats ≡ false → LeavesRest seen but old new
   pub counted : IsFailureCounted seen old new
   pub grounded : KeepsGrounded seen old new
@@ -145,7 +141,7 @@ closed_by ch k n = if ch == 15 then list_any (finishes_on n) k.channels else fin
 -- for each channel that is closed the medium refused one write at most, and its file was finished, or a fault is the status; and a status that
 -- is reported has its ground.
 pub record LeavesByClose {M : Type 0} (seen : M → Seen) (ch : ℕ) (old new : Kept M) : Type 0 where
-  pub medium : KeepsMedium (seen old.medium) (seen new.medium)
+  pub medium : KeepsMedium false (seen old.medium) (seen new.medium)
   pub rest : LeavesRest seen (λ m. closed_by ch old) old new
   pub counted : ch < 15 → IsFailureCounted seen old new
   pub done : ch < 15 → ClosingWasDone seen ch old new
@@ -172,10 +168,9 @@ pub record MovesOne (ch : ℕ) (old new : List Channel) : Type 0 where
 abbrev pub changed_by_end : {M : Type 0} → ℕ → Kept M → Machine → ℕ → Bool
 changed_by_end ch k m n = if ch == 15 then end_clears k.text m n else with_records_by ch k n
 
--- from each machine that the drive stood for the gathered text is carried out, or that was stopped; of NEW that says nothing where the
--- medium failed in it
+-- from each machine that the drive stood for the gathered text is carried out, or that was stopped
 abbrev pub EndsGathered : {M : Type 0} → (M → Seen) → ℕ → Kept M → Kept M → Type 0
-EndsGathered seen ch old new = OfMachine seen old (λ m. FormatsUnfailing (end_formats ch old.text) (HasFailed (seen old.medium) (seen new.medium)) → EndsFrom seen old new ch m)
+EndsGathered seen ch old new = OfMachine seen old (λ m. EndsFrom seen old new ch m)
 
 -- what is no command that changes the disk, nor for records, leaves the medium as it is
 abbrev pub EndsQuietly : {M : Type 0} → (M → Seen) → ℕ → Kept M → Kept M → Type 0

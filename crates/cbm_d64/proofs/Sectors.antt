@@ -2,7 +2,7 @@
 use Rattle.std.proofs.Common.{◌≡◌, ◌≢◌, ℕ, ◌+◌, ◌*◌, ◌-◌, ◌<◌, ◌≤◌, List, ◌++◌, length, take, drop, set, get_or, refl, sym, ap, subst, ◌∙◌, arith, inl, inr, Bool, true, false, Some, None, Ok, Option, replicate}
 use Rattle.std.proofs.lemmas.List.{take_at, drop_at, length-take-le, drop-take, get_or-drop, take-set-le, get_or-set_other, get_or-set_same, length-set, take-append-le, drop-append-le, length-replicate, drop-replicate, take-replicate, get_or-append_right, get_or-replicate, length-append, length-drop}
 use Rattle.std.proofs.lemmas.Slice.{take-put_mid_below, drop-put_mid}
-use Rattle.std.specs.Prelude.{is_some}
+use Rattle.std.specs.Prelude.{is_some, if◌then◌else◌}
 use Rattle.std.proofs.lemmas.Bool.{cases_lt, cases_eq, false≢true, eq-eqb, ne_eqb}
 use Rattle.cbm_medium.proofs.Places.{place_cases, places_apart, place_is_itself, written_there, written_elsewhere}
 use Rattle.cbm_medium.proofs.Walks.{has_true, true_has, on_a_track, bool_cases}
@@ -10,8 +10,8 @@ use borrow.Rule.Slice.PartMut.{put_mid, post_of}
 use mathlib.Core.Path.{fun_ext}
 use Rattle.cbm_medium.specs.Place.{Place, sectors_on, IsOnDisk, Has, has, is_place}
 use Rattle.cbm_medium.specs.Content.{Cell, Content, IsWhole, written, blank}
-use Rattle.cbm_medium.specs.Seen.{with_content}
-use Rattle.cbm_d64.specs.Image.{Image, IsImageSize, IsSectorStored, IsErased, mended, d64_tracks, sectors_in, index_of, sectors_before, code_of_error, cell_of, error_at, sector_at, d64_content, d64_seen}
+use Rattle.cbm_medium.specs.Seen.{OutsideBytes, with_content, formatted_as}
+use Rattle.cbm_d64.specs.Image.{Image, IsImageSize, IsSectorStored, IsErased, mended, d64_tracks, sectors_in, index_of, sectors_before, code_of_error, cell_of, error_at, sector_at, d64_content, d64_seen, is_error_byte, d64_rest, d64_rest_formatted}
 
 -- a sector by the bytes up to its end
 sector_in_front : (xs : List ℕ) (j : ℕ) → sector_at xs j ≡ drop (256 * j) (take (256 * j + 256) xs)
@@ -242,7 +242,47 @@ image_whole image p size = by_test (has (d64_tracks (length image)) p) refl
         (cell_whole (code_of_error (error_at image (index_of p))) (length-take-le 256 (drop (256 * index_of p) image) (omega (arith, room, length-drop {A = ℕ} (256 * index_of p) image))))
     by_test false h = subst (λ (x : Cell). IsWhole x) (sym (content_off_disk image p h)) (length-replicate {A = ℕ} 256 0)
 
--- an image of as many bytes shows another content, and nothing else that is new
+-- ---- outside the sectors
+
+-- a sector that was written once is mended no further
+mended_twice : (e : ℕ) → mended (mended e) ≡ mended e
+mended_twice e = mended_same (mended e) (ap is_some (mended_good e))
+
+-- a write keeps the rest
+pub rest_stored : (old new : List ℕ) (i : ℕ) (bytes : List ℕ) → IsSectorStored old new i bytes → d64_rest new ≡ d64_rest old
+unfolding d64_rest
+rest_stored old new i bytes stored = λ k. record { size = stored.size k; byte = λ p. if is_error_byte (stored.size k) p then error (p - 174848) k else 0 }
+  where
+    error : (j : ℕ) → mended (error_at new j) ≡ mended (error_at old j)
+    error j = elim (cases_eq j i) [
+      | inl e ↦ subst (λ (n : ℕ). mended (error_at new n) ≡ mended (error_at old n)) (sym e) (ap mended stored.error ∙ mended_twice (error_at old i))
+      | inr ne ↦ ap mended (stored.other_errors j ne)
+    ]
+
+-- a format leaves each error byte good
+pub rest_erased : (old new : List ℕ) → IsErased old new → d64_rest new ≡ d64_rest_formatted (length old)
+unfolding d64_rest d64_rest_formatted
+rest_erased old new erased = same ∙ ap d64_rest_formatted erased.size
+  where
+    good : (n j : ℕ) → length new ≡ n → n ≡ 175531 → j < 683 → mended (error_at new j) ≡ 1
+    good n j is e h = ap mended (erased.errors j (subst (λ (m : ℕ). j < sectors_in m) (sym (sym erased.size ∙ is ∙ e)) h))
+
+    at_place : (p : ℕ) (b : Bool) → is_error_byte (length new) p ≡ b → (if b then mended (error_at new (p - 174848)) else 0) ≡ (if b then 1 else 0)
+    at_place p true h = grind (arith, good (length new) (p - 174848) refl)
+    at_place p false h = refl
+
+    bytes : (p : ℕ) → (if is_error_byte (length new) p then mended (error_at new (p - 174848)) else 0) ≡ (if is_error_byte (length new) p then 1 else 0)
+    bytes p = at_place p (is_error_byte (length new) p) refl
+
+    same : d64_rest new ≡ d64_rest_formatted (length new)
+    same = λ k. record { size = length new; byte = fun_ext bytes k }
+
+-- an image of as many bytes and the same rest shows another content, and nothing else that is new
 pub seen_with : (old new : Image) (content : Content) → d64_content new.bytes ≡ content → length new.bytes ≡ length old.bytes
-    → new.protected ≡ old.protected → d64_seen new ≡ with_content content (d64_seen old)
-seen_with old new content is size protected = rw (is, size, protected) refl
+    → d64_rest new.bytes ≡ d64_rest old.bytes → new.protected ≡ old.protected → d64_seen new ≡ with_content content (d64_seen old)
+seen_with old new content is size rest protected = rw (is, rest, size, protected) refl
+
+-- an image of as many bytes that was formatted shows that
+pub seen_formatted : (old new : Image) (id : List ℕ) → d64_content new.bytes ≡ blank → length new.bytes ≡ length old.bytes
+    → d64_rest new.bytes ≡ d64_rest_formatted (length old.bytes) → new.protected ≡ old.protected → d64_seen new ≡ formatted_as id (with_content blank (d64_seen old))
+seen_formatted old new id is size rest protected = rw (is, rest, size, protected) refl

@@ -1,8 +1,8 @@
 -- The D64 format: the sectors in order of track and sector, and in one of its sizes an error byte for each after them.
-use Rattle.std.specs.Prelude.{ℕ, ◌+◌, ◌*◌, ◌-◌, ◌<◌, ◌≡◌, ◌≢◌, ◌⊎◌, List, Bool, nat_lt, ◌==◌, if◌then◌else◌, Option, Some, None, Ok, Err, take, drop, replicate, length, slice_index}
+use Rattle.std.specs.Prelude.{ℕ, ◌+◌, ◌*◌, ◌-◌, ◌<◌, ◌≡◌, ◌≢◌, ◌⊎◌, List, Bool, nat_lt, nat_le, ◌==◌, ◌&&◌, if◌then◌else◌, Option, Some, None, Ok, Err, take, drop, replicate, length, slice_index}
 use Rattle.cbm_medium.specs.Place.{Place, has}
 use Rattle.cbm_medium.specs.Content.{Cell, Content}
-use Rattle.cbm_medium.specs.Seen.{Seen}
+use Rattle.cbm_medium.specs.Seen.{Seen, OutsideBytes, Outside}
 
 -- an image, and whether its disk is protected
 pub record Image : Type 0 where
@@ -63,13 +63,28 @@ d64_content image p =
     if has (d64_tracks (length image)) p then cell_of (code_of_error (error_at image (index_of p))) (sector_at image (index_of p))
     else Ok (replicate 256 0)
 
--- what the disk shows; an image in memory never fails by itself
-abbrev pub d64_seen : Image → Seen
-d64_seen d = record { content = d64_content d.bytes; tracks = d64_tracks (length d.bytes); protected = d.protected; failures = 0; refused = None; id = None }
-
 -- the error byte of a sector that was written: a fault is mended, and what was good stays, whatever it says of writing
 abbrev pub mended : ℕ → ℕ
 mended e = elim (code_of_error e) [ None ↦ e | Some code ↦ 1 ]
+
+-- an error byte is at this place of an image of this size
+abbrev pub is_error_byte : ℕ → ℕ → Bool
+is_error_byte size p = (size == 175531) && (nat_le 174848 p && nat_lt p 175531)
+
+-- WHAT NO WRITE CHANGES OF AN IMAGE: its size, and of each error byte what a write leaves of it
+unfoldable pub d64_rest : List ℕ → OutsideBytes
+d64_rest image = record { size = length image; byte = λ p. if is_error_byte (length image) p then mended (error_at image (p - 174848)) else 0 }
+
+-- the same after a format: each sector is good
+unfoldable pub d64_rest_formatted : ℕ → OutsideBytes
+d64_rest_formatted size = record { size = size; byte = λ p. if is_error_byte size p then 1 else 0 }
+
+abbrev pub d64_outside : List ℕ → Outside
+d64_outside image = record { kept = d64_rest image; formatted = d64_rest_formatted (length image) }
+
+-- what the disk shows; an image in memory never fails by itself
+abbrev pub d64_seen : Image → Seen
+d64_seen d = record { content = d64_content d.bytes; tracks = d64_tracks (length d.bytes); protected = d.protected; failures = 0; refused = None; id = None; outside = d64_outside d.bytes }
 
 -- One sector of an image is written: its bytes and its error byte, and nothing else.
 pub record IsSectorStored (old new : List ℕ) (i : ℕ) (bytes : List ℕ) : Type 0 where

@@ -17,6 +17,8 @@ use Rattle.cbm_drive.specs.Loaded.{seat_at}
 use Rattle.cbm_drive.proofs.SavedAgain.{seat_again}
 use Rattle.cbm_medium.specs.Seen.{Seen}
 use Rattle.cbm_d64.specs.Image.{Image, d64_seen}
+use Rattle.cbm_g64.specs.NewFile.{base_of, new_file}
+use Rattle.cbm_g64.specs.Rest.{g64_rest}
 use Rattle.cbm_g64.specs.Tracks.{g64_seen, g64_content, id_for}
 use Rattle.cbm_image.specs.declared.kind.Kind.{Kind}
 use Rattle.cbm_image.specs.declared.kind.Kind.TheVariants as kind
@@ -78,7 +80,16 @@ seen_same p (Held (D64 x)) (Held (D64 y)) h k = d64_same x y (sym h.2 ∙ k.2) (
 seen_same p (Held (G64 x)) (Held (G64 y)) h k =
     let t : x.tracks ≡ y.tracks = sym h.3 ∙ k.3 in
     let q : x.protected ≡ y.protected = sym h.1 ∙ k.1 in
-    λ i. record { content = g64_content (t i); tracks = 35; protected = q i; failures = 0; refused = None; id = Some (id_for (t i)) }
+    let rest : g64_rest (base_of x.formatted x.file) ≡ g64_rest (base_of y.formatted y.file) = sym h.4 ∙ k.4 in
+    λ i. record {
+      content = g64_content (t i);
+      tracks = 35;
+      protected = q i;
+      failures = 0;
+      refused = None;
+      id = Some (id_for (t i));
+      outside = record { kept = rest i; formatted = g64_rest new_file };
+    }
 seen_same p Blank Blank h k = refl
 seen_same p (Held (D64 x)) (Held (G64 y)) h k = absurd (omega (arith, h.0, k.0))
 seen_same p (Held (D64 x)) Blank h k = absurd (omega (arith, h.0, k))

@@ -2,10 +2,10 @@
 use Rattle.std.specs.Prelude.{ℕ, ◌<◌, ◌≡◌, Bool, true, List, None, Some, refl}
 use Rattle.cbm_medium.specs.Place.{Place}
 use Rattle.cbm_medium.specs.Content.{HasFaultCode, blank, header_fault}
-use Rattle.cbm_medium.specs.Seen.{Seen}
+use Rattle.cbm_medium.specs.Seen.{Seen, nothing_outside}
 use Rattle.cbm_g64.specs.Outer.{no_outer}
 use Rattle.cbm_image.specs.AnyDisks.{any_kind, any_seen, any_has_codes, outer_good, is_steady}
-use Rattle.cbm_image.specs.Images.{kind_of, image_fault, tracks_of, content_of, IsOf}
+use Rattle.cbm_image.specs.Images.{kind_of, image_fault, tracks_of, content_of, outside_of, IsOf}
 use Rattle.cbm_image.specs.declared.kind.Kind.{Kind}
 use Rattle.cbm_image.specs.declared.kind.Kind.TheVariants as kind
 use Rattle.cbm_device.specs.declared.image_disk.Sectors.{Sectors}
@@ -16,7 +16,7 @@ use Rattle.cbm_device.specs.declared.refusal.DeviceRefusal.TheVariants.{Memory, 
 -- what sectors show
 abbrev pub sectors_seen : Sectors → Seen
 sectors_seen (Held disk) = any_seen disk
-sectors_seen Blank = record { content = blank; tracks = 35; protected = true; failures = 0; refused = None; id = None }
+sectors_seen Blank = record { content = blank; tracks = 35; protected = true; failures = 0; refused = None; id = None; outside = nothing_outside }
 
 -- their format; of a blank it doesn't count
 abbrev pub format_of : Sectors → Kind
@@ -42,6 +42,7 @@ pub record IsDiskOf (image : List ℕ) (protected : Bool) (d : Counted) : Type 0
   pub same_format : format_of d.sectors ≡ kind_of image
   pub same_tracks : (counted_seen d).tracks ≡ tracks_of (kind_of image) image
   pub same_content : (counted_seen d).content ≡ content_of (kind_of image) image
+  pub same_outside : (counted_seen d).outside ≡ outside_of (kind_of image) image
   pub same_protection : (counted_seen d).protected ≡ protected
   pub unwritten : d.writes ≡ 0
 
@@ -58,7 +59,7 @@ IsOpenRefusal image (Status code) = ⊥
 
 -- THE IMAGE OF A DISK as it is now, in this format
 abbrev pub IsImageIn : Kind → Counted → List ℕ → Type 0
-IsImageIn kind d image = IsOf kind image (counted_seen d).tracks (counted_seen d).content
+IsImageIn kind d image = IsOf kind image (counted_seen d)
 
 -- ---- the laws of a medium
 

@@ -11,6 +11,8 @@ use Rattle.cbm_drive.specs.Loaded.{seat_at}
 use Rattle.cbm_image.specs.declared.kind.Kind.{Kind}
 use Rattle.cbm_image.specs.declared.kind.Kind.TheVariants as kind
 use Rattle.cbm_image.specs.declared.any_disk.AnyDisk.TheVariants.{D64, G64}
+use Rattle.cbm_g64.specs.NewFile.{base_of}
+use Rattle.cbm_g64.specs.Rest.{g64_rest}
 use Rattle.cbm_g64.specs.File.{g64_fault, g64_circles}
 use Rattle.cbm_device.specs.declared.image_disk.saving.Parts.{Parts}
 use Rattle.cbm_device.specs.declared.image_disk.Sectors.{Sectors}
@@ -35,10 +37,11 @@ pub record DiskParts : Type 0 where
 abbrev pub parts_of : Parts → DiskParts
 parts_of p = record { format = p.format; protected = p.protected; writes = p.writes; image = p.image.now }
 
--- these are the sectors of these parts: of a D64 its bytes; of a G64 an image with its 35 circles; of no disk nothing
+-- these are the sectors of these parts: of a D64 its bytes; of a G64 an image with its 35 circles, and its bytes outside them; of no disk nothing
 abbrev pub AreSectorsOf : DiskParts → Sectors → Type 0
 AreSectorsOf p (Held (D64 disk)) = (p.format ≡ 1) × (p.protected ≡ disk.protected) × (p.image ≡ disk.bytes)
 AreSectorsOf p (Held (G64 disk)) = (p.format ≡ 2) × (p.protected ≡ disk.protected) × (g64_fault p.image ≡ None) × (g64_circles p.image 35 ≡ disk.tracks)
+    × (g64_rest p.image ≡ g64_rest (base_of disk.formatted disk.file))
 AreSectorsOf p Blank = p.format ≡ 0
 
 -- the parts of a disk, as bytes

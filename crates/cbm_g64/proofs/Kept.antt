@@ -1,13 +1,15 @@
 use Rattle.std.proofs.Common.{◌≡◌, ◌≢◌, ◌⊎◌, ℕ, zero, suc, ◌+◌, ◌*◌, ◌-◌, ◌<◌, ◌≤◌, List, [], ◌∷◌, length, get_or, take, drop, refl, sym, ap, ◌∙◌, arith, inl, inr, Bool, true, false, None, leb}
-use Rattle.std.specs.Prelude.{◌||◌, ◌==◌}
+use Rattle.std.specs.Prelude.{◌||◌, ◌&&◌, ◌==◌, not, if◌then◌else◌}
 use Rattle.std.proofs.lemmas.List.{get_or-take, get_or-drop, get_or_default, get_or_past, length-take-le, length-drop, same_lists}
 use Rattle.std.proofs.lemmas.Grind.{same_number_lists}
-use Rattle.std.proofs.lemmas.Bool.{cases_eq, cases_lt, and_from, le-leb, eq-eqb, or_left}
+use Rattle.std.proofs.lemmas.Bool.{cases_eq, cases_lt, and_from, le-leb, lt-ltb, eq-eqb, ne_eqb, or_left, false≢true}
+use mathlib.Core.Path.{fun_ext}
 use Rattle.cbm_sector.specs.Decoding.{IsBytes}
 use Rattle.cbm_sector.proofs.Coding.{byte_from_bits}
 use Rattle.cbm_track.specs.Circle.{circle_bits, circle_bits_of, each_below}
-use Rattle.cbm_track.proofs.Firsts.{each_from}
+use Rattle.cbm_track.proofs.Firsts.{each_from, each_at}
 use Rattle.cbm_g64.specs.File.{two_at, offset, size, tables_end, g64_fault, is_track_inside, is_sized, is_apart, are_inside, are_sized, are_apart, track_in, g64_circles}
+use Rattle.cbm_g64.specs.Rest.{is_in_track, is_outside, g64_rest}
 use Rattle.cbm_g64.specs.Image.{IsOutsideTracks, track_bytes, IsImageOf, IsHeld}
 use Rattle.cbm_g64.proofs.Sound.{Passes, no_fault, stands, apart, many_entries, inside_at, sized_at, apart_at, tables_inside}
 use Rattle.cbm_g64.proofs.Imaging.{held_passes}
@@ -201,3 +203,50 @@ unwritten file image h a b m = same_number_lists image file m.same_length (λ q 
         ∙ ap (λ (v : List ℕ). get_or v (q - (offset file j + 2)) 0) same
         ∙ get_or-take (size file j) (drop (offset file j + 2) file) (q - (offset file j + 2)) 0 (omega arith) ∙ get_or-drop (offset file j + 2) file (q - (offset file j + 2)) 0
         ∙ ap (λ (n : ℕ). get_or file n 0) (sym at)
+
+-- ---- what is outside the tracks is the same
+
+each_same : (f g : ℕ → Bool) (n : ℕ) → ((k : ℕ) → k < n → f k ≡ g k) → each_below f n ≡ each_below g n
+unfolding each_below
+each_same f g zero h = refl
+each_same f g (suc n) h = λ i. h n (omega arith) i && each_same f g n (λ k l. h k (omega arith)) i
+
+in_track_kept : (file : List ℕ) (tracks : List (List Bool)) (image : List ℕ) → Passes file → IsImageOf file tracks image → (p i : ℕ) → i < 35 → is_in_track image p i ≡ is_in_track file p i
+unfolding is_in_track
+in_track_kept file tracks image passing m p i h = elim (cases_eq (offset file i) 0) [
+  | inl z ↦ rw (offset_kept file tracks image passing m i h, z) refl
+  | inr ne ↦ rw (size_kept file tracks image passing m i h ne, offset_kept file tracks image passing m i h) refl
+]
+
+outside_kept : (file : List ℕ) (tracks : List (List Bool)) (image : List ℕ) → Passes file → IsImageOf file tracks image → (p : ℕ) → is_outside image p ≡ is_outside file p
+unfolding is_outside
+outside_kept file tracks image passing m p = each_same (λ i. not (is_in_track image p i)) (λ i. not (is_in_track file p i)) 35 (λ i h. ap not (in_track_kept file tracks image passing m p i h))
+
+-- a byte of no track by the test is one
+outside_is : (file : List ℕ) (p : ℕ) → is_outside file p ≡ true → IsOutsideTracks file p
+unfolding is_outside is_in_track
+outside_is file p h i l ne = by_tests (each_at (λ k. not (is_in_track file p k)) 35 i h l)
+  where
+    by_tests : not (is_in_track file p i) ≡ true → (p < offset file i + 2) ⊎ (offset file i + 2 + size file i ≤ p)
+    by_tests out = elim (cases_lt p (offset file i + 2)) [
+      | inl below ↦ inl below
+      | inr past ↦ elim (cases_lt p (offset file i + 2 + size file i)) [
+        | inl within ↦ absurd (false≢true (sym (ap not (and_from (not (offset file i == 0)) _ (ap not (ne_eqb (offset file i) 0 ne)) (and_from _ _ (le-leb (offset file i + 2) p past) (lt-ltb p (offset file i + 2 + size file i) within)))) ∙ out))
+        | inr after ↦ inr after
+      ]
+    ]
+
+-- THE REST OF AN IMAGE OF A DISK is that of its file.
+pub rest_kept : (file : List ℕ) (tracks : List (List Bool)) (image : List ℕ) → IsHeld file tracks → IsImageOf file tracks image → g64_rest image ≡ g64_rest file
+unfolding g64_rest
+rest_kept file tracks image h m = λ k. record { size = m.same_length k; byte = fun_ext (λ p. at_place p (is_outside file p) refl) k }
+  where
+    passing : Passes file
+    passing = held_passes file tracks h
+
+    same_byte : (p : ℕ) (b : Bool) → is_outside file p ≡ b → (if b then get_or image p 0 else 0) ≡ (if b then get_or file p 0 else 0)
+    same_byte p true out = m.others p (outside_is file p out)
+    same_byte p false out = refl
+
+    at_place : (p : ℕ) (b : Bool) → is_outside file p ≡ b → (if is_outside image p then get_or image p 0 else 0) ≡ (if is_outside file p then get_or file p 0 else 0)
+    at_place p b is = ap (λ (t : Bool). if t then get_or image p 0 else 0) (outside_kept file tracks image passing m p) ∙ rw is (same_byte p b is)

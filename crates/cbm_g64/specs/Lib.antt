@@ -1,6 +1,7 @@
 pub mod Numbers
 pub mod File
 pub mod NewFile
+pub mod Rest
 pub mod Tracks
 pub mod Image
 pub mod Outer

@@ -1,12 +1,13 @@
 use Rattle.std.specs.Prelude.{ℕ, ◌≡◌, ◌≢◌, ◌<◌, ◌≤◌, ◌+◌, ◌*◌, ◌-◌, ◌⊎◌, List, [], ◌∷◌, Bool, false, length, if◌then◌else◌, Some, None, Ok, Err, replicate, slice_index_or, unwrap_or}
 use Rattle.cbm_medium.specs.Place.{Place, Has, has, sectors_on}
 use Rattle.cbm_medium.specs.Content.{Cell, Content}
-use Rattle.cbm_medium.specs.Seen.{Seen}
+use Rattle.cbm_medium.specs.Seen.{Seen, Outside}
 use Rattle.cbm_track.specs.Circle.{circle_bit}
 use Rattle.cbm_sector.specs.Answer.{sector_shown, id_shown, block_of, block_code, IsOverwritten}
 use Rattle.cbm_sector.specs.Fresh.{block_place, bytes_on, fresh}
 use Rattle.cbm_g64.specs.File.{offset}
-use Rattle.cbm_g64.specs.NewFile.{base_of}
+use Rattle.cbm_g64.specs.NewFile.{base_of, new_file}
+use Rattle.cbm_g64.specs.Rest.{g64_rest}
 
 -- the 35 tracks of a disk, the file that it came from, whether it was formatted since, and whether it is protected. A track that it hasn't is a circle without sync mark, which answers as no track does.
 pub record G64State : Type 0 where
@@ -43,9 +44,13 @@ pub record IsPut (old new : List (List Bool)) (a : Place) (bytes : List ℕ) : T
 abbrev pub HasTrack : G64State → ℕ → Type 0
 HasTrack d t = (0 < t) × (t ≤ 35) × (offset (base_of d.formatted d.file) (t - 1) ≢ 0)
 
+-- the bytes outside the tracks: those of the file, and of a new file after a format
+abbrev pub g64_outside : Bool → List ℕ → Outside
+g64_outside is_formatted file = record { kept = g64_rest (base_of is_formatted file); formatted = g64_rest new_file }
+
 -- what the disk shows: an image has 35 tracks, and a disk in memory never fails by itself
 abbrev pub g64_seen : G64State → Seen
-g64_seen d = record { content = g64_content d.tracks; tracks = 35; protected = d.protected; failures = 0; refused = None; id = Some (id_for d.tracks) }
+g64_seen d = record { content = g64_content d.tracks; tracks = 35; protected = d.protected; failures = 0; refused = None; id = Some (id_for d.tracks); outside = g64_outside d.formatted d.file }
 
 -- each track is as formatting writes it
 abbrev pub AreFresh : List ℕ → List (List Bool) → Type 0

@@ -4,6 +4,7 @@ ghost use Rattle.cbm_medium.specs.Content.{blank, format_refusal, refusal, writt
 ghost use Rattle.cbm_medium.specs.Seen.{with_content, formatted_as, write_refusal, IsRefused};
 ghost use Rattle.cbm_g64.specs.File.{g64_fault, g64_circles};
 ghost use Rattle.cbm_g64.specs.NewFile.{base_of, new_file};
+ghost use Rattle.cbm_g64.specs.Rest.{g64_rest};
 ghost use Rattle.cbm_g64.specs.Tracks.{bits_at, g64_content, id_for, or_zeros, g64_seen, AreFilled, AreFresh, AreLaid, HasTrack, IsCircleChanged, IsPut};
 ghost use Rattle.cbm_g64.specs.Image.{IsImageOf};
 
@@ -88,6 +89,7 @@ impl G64Disk {
         ensures ok { IfOk result (λ v. IsImageOf (base_of self.now.formatted self.now.file) self.now.tracks v.items) }
         // Opened again it is the same disk.
         ensures again { IfOk result (λ v. (g64_fault v.items ≡ None) × (g64_circles v.items 35 ≡ self.now.tracks)) }
+        ensures rest { IfOk result (λ v. g64_rest v.items ≡ g64_rest (base_of self.now.formatted self.now.file)) }
         // A disk that nobody wrote gives its bytes back.
         ensures unwritten { self.now.formatted ≡ false → self.now.tracks ≡ g64_circles self.now.file 35
             → IfOk result (λ v. v.items ≡ self.now.file) }

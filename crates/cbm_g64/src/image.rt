@@ -4,6 +4,7 @@ ghost use Rattle.cbm_sector.specs.Decoding.{IsBytes};
 ghost use Rattle.cbm_sector.specs.Fresh.{bytes_on};
 ghost use Rattle.cbm_g64.specs.File.{offset, g64_fault, g64_circles};
 ghost use Rattle.cbm_g64.specs.NewFile.{base_of, new_track_blocks, entries_of, new_file, new_place, new_zone};
+ghost use Rattle.cbm_g64.specs.Rest.{g64_rest};
 ghost use Rattle.cbm_g64.specs.Image.{IsHeld, IsImageOf};
 
 use crate::numbers::offset;
@@ -135,6 +136,7 @@ pub(crate) fn put_tracks(file: &[u8], formatted: bool, tracks: &[IndexedTrack], 
     requires base { out.old ≡ base_of formatted file.now }
     ensures image { IsImageOf (base_of formatted file.now) tracks.now out.new }
     ensures again { (g64_fault out.new ≡ None) × (g64_circles out.new 35 ≡ tracks.now) }
+    ensures rest { g64_rest out.new ≡ g64_rest (base_of formatted file.now) }
     ensures unwritten { formatted ≡ false → tracks.now ≡ g64_circles file.now 35 → out.new ≡ file.now }
 {
     for i in 0..35 {

@@ -28,7 +28,7 @@ any_kind (G64 d) = kind.G64
 -- THE DISK OF AN IMAGE of this format, which has no fault: it has the format, and shows what the image is
 pub record IsDiskOfImage (kind : Kind) (image : List ℕ) (protected : Bool) (d : AnyDisk) : Type 0 where
   pub same_format : any_kind d ≡ kind
-  pub shown : IsOf kind image (any_seen d).tracks (any_seen d).content
+  pub shown : IsOf kind image (any_seen d)
   pub same_protection : (any_seen d).protected ≡ protected
 
 -- a sector that doesn't read has the code of a fault, in either format

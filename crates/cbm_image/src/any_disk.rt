@@ -51,14 +51,14 @@ fn open_g64(alloc: Global, image: &[u8], protected: bool) -> Result<AnyDisk, Ima
 /// The image of the disk of a D64.
 #[tactic(auto, using(crate::proofs::ImageSizes::right_size))]
 fn save_d64(alloc: Global, disk: &D64Disk) -> Result<Vec<u8>, AllocError>
-    ensures { IfOk result (λ image. IsOf kind.D64 image.items (d64_seen disk.now).tracks (d64_seen disk.now).content) }
+    ensures { IfOk result (λ image. IsOf kind.D64 image.items (d64_seen disk.now)) }
 {
     disk.to_bytes(alloc).map_err(|_| AllocError)
 }
 
 /// The image of the disk of a G64.
 fn save_g64(alloc: Global, disk: &G64Disk) -> Result<Vec<u8>, AllocError>
-    ensures { IfOk result (λ image. IsOf kind.G64 image.items (g64_seen disk.now).tracks (g64_seen disk.now).content) }
+    ensures { IfOk result (λ image. IsOf kind.G64 image.items (g64_seen disk.now)) }
 {
     disk.to_bytes(alloc).map_err(|_| AllocError)
 }
@@ -91,7 +91,7 @@ impl AnyDisk {
     /// The image of the disk as it is now, in this format; it opens again. The one error is want of memory. A disk of the other
     /// format, which no write makes of it, is refused so, too.
     pub fn save(&self, alloc: Global, kind: Kind) -> Result<Vec<u8>, AllocError>
-        ensures { IfOk result (λ image. IsOf kind image.items (any_seen self.now).tracks (any_seen self.now).content) }
+        ensures { IfOk result (λ image. IsOf kind image.items (any_seen self.now)) }
     {
         match (self, kind) {
             (AnyDisk::D64(disk), Kind::D64) => save_d64(alloc, disk),

@@ -64,12 +64,12 @@ beyond_within few many old new more h = record { same = λ p far. h.same p (omeg
 
 pub only_within : {few : ℕ} {A : Type 0} (many : ℕ) (r : Result A Trouble) (old new : Seen) → few ≤ many → OnlyContent few r old new → OnlyContent many r old new
 only_within {few} {A} many r old new more h =
-    record { tracks = h.tracks; protected = h.protected; id = h.id; counted = h.counted; once = h.once; uncounted = h.uncounted; own = h.own; guarded = h.guarded; shown = h.shown; beyond = beyond_within few many old.content new.content more h.beyond; readable = h.readable }
+    record { tracks = h.tracks; protected = h.protected; id = h.id; outside = h.outside; counted = h.counted; once = h.once; uncounted = h.uncounted; own = h.own; guarded = h.guarded; shown = h.shown; beyond = beyond_within few many old.content new.content more h.beyond; readable = h.readable }
 
 -- nothing was done
 pub only_nothing : {disk : ℕ} {A : Type 0} (r : Result A Trouble) (old new : Seen) → new ≡ old → IsGuarded r old → IfErr r (ShowsGround new) → OnlyContent disk r old new
 only_nothing {disk} {A} r old new e guards shows =
-    record { tracks = ap (λ (s : Seen). s.tracks) e; protected = ap (λ (s : Seen). s.protected) e; id = ap (λ (s : Seen). s.id) e; counted = omega (arith, same); once = omega (arith, same); uncounted = on_ok r; own = on_err r; guarded = guards; shown = grounds_of r old new shows; beyond = beyond_refused disk old.content new.content (ap (λ (s : Seen). s.content) e); readable = readable_same old.content new.content (ap (λ (s : Seen). s.content) e) }
+    record { tracks = ap (λ (s : Seen). s.tracks) e; protected = ap (λ (s : Seen). s.protected) e; id = ap (λ (s : Seen). s.id) e; outside = ap (λ (s : Seen). s.outside) e; counted = omega (arith, same); once = omega (arith, same); uncounted = on_ok r; own = on_err r; guarded = guards; shown = grounds_of r old new shows; beyond = beyond_refused disk old.content new.content (ap (λ (s : Seen). s.content) e); readable = readable_same old.content new.content (ap (λ (s : Seen). s.content) e) }
   where
     same : new.failures ≡ old.failures
     same = ap (λ (s : Seen). s.failures) e
@@ -89,7 +89,7 @@ nothing_yet {disk} s = only_nothing (Ok tt) s s (λ i. s) tt tt
 -- one call after another that succeeded
 pub only_after : {disk : ℕ} {A B : Type 0} (q : Result A Trouble) (a : A) (r : Result B Trouble) (old mid new : Seen) → q ≡ Ok a → OnlyContent disk q old mid → OnlyContent disk r mid new → OnlyContent disk r old new
 only_after {disk} {A} {B} q a r old mid new e h k =
-    record { tracks = k.tracks ∙ h.tracks; protected = k.protected ∙ h.protected; id = k.id ∙ h.id; counted = omega (arith, h.counted, k.counted); once = omega (arith, first, k.once); uncounted = on_ok r k.uncounted; own = on_err r k.own; guarded = guards r k.guarded; shown = grounds r k.shown; beyond = beyond_after disk old.content mid.content new.content h.beyond k.beyond; readable = readable_after old.content mid.content new.content h.readable k.readable }
+    record { tracks = k.tracks ∙ h.tracks; protected = k.protected ∙ h.protected; id = k.id ∙ h.id; outside = k.outside ∙ h.outside; counted = omega (arith, h.counted, k.counted); once = omega (arith, first, k.once); uncounted = on_ok r k.uncounted; own = on_err r k.own; guarded = guards r k.guarded; shown = grounds r k.shown; beyond = beyond_after disk old.content mid.content new.content h.beyond k.beyond; readable = readable_after old.content mid.content new.content h.readable k.readable }
   where
     first : mid.failures ≡ old.failures
     first = subst (λ (x : Result A Trouble). OnOk x (mid.failures ≡ old.failures)) e h.uncounted
@@ -113,7 +113,7 @@ only_after {disk} {A} {B} q a r old mid new e h k =
 -- a call that only reads after one that succeeded
 pub only_then : {disk : ℕ} {A B : Type 0} (q : Result A Trouble) (r : Result B Trouble) (a : A) (old new : Seen) → q ≡ Ok a → OnlyContent disk q old new → IsGuarded r old → IfErr r (ShowsGround new) → OnlyContent disk r old new
 only_then {disk} {A} {B} q r a old new e h guards shows =
-    record { tracks = h.tracks; protected = h.protected; id = h.id; counted = h.counted; once = h.once; uncounted = on_ok r; own = on_err r; guarded = guards; shown = grounds_of r old new shows; beyond = h.beyond; readable = h.readable }
+    record { tracks = h.tracks; protected = h.protected; id = h.id; outside = h.outside; counted = h.counted; once = h.once; uncounted = on_ok r; own = on_err r; guarded = guards; shown = grounds_of r old new shows; beyond = h.beyond; readable = h.readable }
   where
     same : new.failures ≡ old.failures
     same = subst (λ (x : Result A Trouble). OnOk x (new.failures ≡ old.failures)) e h.uncounted
@@ -137,6 +137,7 @@ only_refused {disk} {A} {B} r s t old new refuses hands h =
       tracks = h.tracks;
       protected = h.protected;
       id = h.id;
+      outside = h.outside;
       counted = h.counted;
       once = h.once;
       uncounted = subst (λ (x : Result B Trouble). OnOk x (new.failures ≡ old.failures)) (sym hands) tt;
@@ -156,6 +157,7 @@ write_only {disk} old new at bytes few e = record {
   tracks = ap (λ (s : Seen). s.tracks) e;
   protected = ap (λ (s : Seen). s.protected) e;
   id = ap (λ (s : Seen). s.id) e;
+  outside = ap (λ (s : Seen). s.outside) e;
   counted = omega (arith, same);
   once = omega (arith, same);
   uncounted = same;
@@ -175,6 +177,7 @@ write_refused {disk} {B} r t fault at old new hands says stands h = record {
   tracks = ap (λ (s : Seen). s.tracks) h.same;
   protected = ap (λ (s : Seen). s.protected) h.same;
   id = ap (λ (s : Seen). s.id) h.same;
+  outside = ap (λ (s : Seen). s.outside) h.same;
   counted = h.counted;
   once = h.once;
   uncounted = subst (λ (x : Result B Trouble). OnOk x (new.failures ≡ old.failures)) (sym hands) tt;

@@ -6,8 +6,22 @@ use Rattle.cbm_medium.specs.Met.{place_of}
 use Rattle.cbm_medium.specs.declared.fault.Fault.{Fault}
 use Rattle.cbm_medium.specs.declared.fault.Trouble.{Trouble}
 
+-- the bytes of an image that belong to no sector: how many bytes the image has, and the byte at each place, 0 at those of the sectors
+pub record OutsideBytes : Type 0 where
+  pub size : ℕ
+  pub byte : ℕ → ℕ
+
+-- the same as it is, and as a format leaves it
+pub record Outside : Type 0 where
+  pub kept : OutsideBytes
+  pub formatted : OutsideBytes
+
+-- of a medium that comes from no image
+abbrev pub nothing_outside : Outside
+nothing_outside = let none : OutsideBytes = record { size = 0; byte = λ p. 0 } in record { kept = none; formatted = none }
+
 -- what each sector holds, how many tracks there are (35 or 40), whether each write is refused, how often the medium failed by itself,
--- what it answered when it did so last, and the id in its headers, none where it keeps none
+-- what it answered when it did so last, the id in its headers, none where it keeps none, and the bytes of its image outside the sectors
 pub record Seen : Type 0 where
   pub content : Content
   pub tracks : ℕ
@@ -15,14 +29,19 @@ pub record Seen : Type 0 where
   pub failures : ℕ
   pub refused : Option Trouble
   pub id : Option (List ℕ)
+  pub outside : Outside
 
 -- the sectors hold something else, and nothing more is new
 abbrev pub with_content : Content → Seen → Seen
 with_content content s = record s { content = content }
 
+-- outside the sectors it is as a format leaves it
+abbrev pub formatted_outside : Outside → Outside
+formatted_outside o = record o { kept = o.formatted }
+
 -- it was formatted under an id, which is in its headers then, if it keeps one
 abbrev pub formatted_as : List ℕ → Seen → Seen
-formatted_as id s = record s { id = option_map (λ _. id) s.id }
+formatted_as id s = record s { id = option_map (λ _. id) s.id; outside = formatted_outside s.outside }
 
 -- a fault as the status line shows it
 abbrev pub trouble_of : Fault → Trouble
@@ -66,8 +85,8 @@ pub record KeepsBeyond (tracks : ℕ) (old new : Content) : Type 0 where
 pub record KeepsReadable (old new : Content) : Type 0 where
   pub faults : (p : Place) (code : ℕ) → new p ≡ Err code → old p ≡ Err code
 
--- A call changed at most what the sectors of a disk of so many tracks hold, though the medium may have more: tracks, protection and id stay,
--- and no sector becomes unreadable.
+-- A call changed at most what the sectors of a disk of so many tracks hold, though the medium may have more: tracks, protection, id and the
+-- bytes outside the sectors stay, and no sector becomes unreadable.
 -- It makes no write after one that the medium refused by itself: failures go up by one at most, only where it answers Err, and then that is
 -- what the medium refused last. It answers the code 26 only where the medium is protected, whatever that holds, and no trouble without its
 -- ground.
@@ -75,6 +94,7 @@ pub record OnlyContent {A : Type 0} (disk : ℕ) (result : Result A Trouble) (ol
   pub tracks : new.tracks ≡ old.tracks
   pub protected : new.protected ≡ old.protected
   pub id : new.id ≡ old.id
+  pub outside : new.outside ≡ old.outside
   pub counted : old.failures ≤ new.failures
   pub once : new.failures ≤ old.failures + 1
   pub uncounted : OnOk result (new.failures ≡ old.failures)

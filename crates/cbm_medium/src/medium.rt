@@ -13,7 +13,7 @@ use crate::fault::Fault;
 /// Every other refusal is a failure of the medium's own, and is counted.
 pub trait Medium {
     /// What it shows: what each sector holds, its tracks, whether it is protected, how often it failed by itself, what
-    /// it refused last by itself, and the id in its headers.
+    /// it refused last by itself, the id in its headers, and the bytes of its image outside the sectors.
     ghost seen: { Self → Seen };
 
     /// The 256 bytes at an address, or the fault that stands in their place.

@@ -1,11 +1,11 @@
 -- What is put back on a disk is put back in its image.
-use Rattle.std.proofs.Common.{◌≡◌, ℕ, List, None, subst}
+use Rattle.std.proofs.Common.{◌≡◌, ℕ, List, subst}
 use Rattle.std.specs.Prelude.{Result, Ok, Err, IfOk}
 use Rattle.cbm_medium.specs.Content.{Content}
 use Rattle.cbm_medium.specs.Seen.{Seen}
 use Rattle.cbm_bam.specs.Map.{geometry_of}
 use Rattle.cbm_image.specs.declared.kind.Kind.{Kind}
-use Rattle.cbm_image.specs.Images.{kind_of, image_fault, tracks_of, content_of}
+use Rattle.cbm_image.specs.Images.{kind_of, tracks_of, content_of}
 use Rattle.cbm_shell.specs.declared.fault.ShellFault.{ShellFault}
 use Rattle.cbm_shell.specs.Images.{IsImageOpened}
 use Rattle.cbm_shell.proofs.ImageLemmas.{of_image}
@@ -14,15 +14,14 @@ use Rattle.cbm_odd.specs.Back.{ArePutBack, LeavesHeld, IsBackIn}
 
 pub back_in : {A : Type 0} (items : A → List ℕ) (r : Result A ShellFault) (kind : Kind) (image changed : List ℕ) (odds : List Odd) (old new : Seen) → kind ≡ kind_of image
     → kind_of changed ≡ kind_of image → IsImageOpened image old → IsImageOpened changed new → LeavesHeld old.tracks old.content new.tracks new.content odds
-    → IfOk r (λ v. ArePutBack (geometry_of new.tracks new.content) odds new.content (content_of kind (items v))) → IfOk r (λ v. image_fault kind (items v) ≡ None)
+    → IfOk r (λ v. ArePutBack (geometry_of new.tracks new.content) odds new.content (content_of kind (items v)))
     → IfOk r (λ v. IsBackIn (kind_of image) image odds changed (items v))
-back_in items (Ok v) kind image changed odds old new is same o n alone back opens = record {
+back_in items (Ok v) kind image changed odds old new is same o n alone back = record {
   alone = subst (λ (k : Kind). LeavesHeld (tracks_of (kind_of image) image) (content_of (kind_of image) image) (tracks_of k changed) (content_of k changed) odds) same
       (of_image (λ (t : ℕ) (c : Content). LeavesHeld (tracks_of (kind_of image) image) (content_of (kind_of image) image) t c odds) changed new n
       (of_image (λ (t : ℕ) (c : Content). LeavesHeld t c new.tracks new.content odds) image old o alone));
   back = subst (λ (k : Kind). ArePutBack (geometry_of (tracks_of k changed) (content_of k changed)) odds (content_of k changed) (content_of (kind_of image) (items v))) same
       (of_image (λ (t : ℕ) (c : Content). ArePutBack (geometry_of t c) odds c (content_of (kind_of image) (items v))) changed new n
       (subst (λ (k : Kind). ArePutBack (geometry_of new.tracks new.content) odds new.content (content_of k (items v))) is back));
-  opens = subst (λ (k : Kind). image_fault k (items v) ≡ None) is opens;
 }
-back_in items (Err f) kind image changed odds old new is same o n alone back opens = tt
+back_in items (Err f) kind image changed odds old new is same o n alone back = tt

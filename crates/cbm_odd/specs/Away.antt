@@ -45,7 +45,6 @@ pub record IsAway (kind : Kind) (tracks : ℕ) (content : Content) (odds : List 
   pub away : ArePutAway (geometry_of tracks content) odds content (content_of kind new)
   pub clear : IsClearOf tracks (content_of kind new) (held_places (geometry_of tracks content) content odds)
   pub sound : IsSoundImage kind new
-  pub opens : image_fault kind new ≡ None
 
 -- what is left without the odd entries isn't clear of the sectors that they lead to; or it can't be read or written
 abbrev pub IsNotLeft : ℕ → Content → List Odd → ShellFault → Type 0

@@ -70,7 +70,6 @@ pub record IsBackIn (kind : Kind) (image : List ℕ) (odds : List Odd) (changed 
   pub alone : LeavesHeld (tracks_of kind image) (content_of kind image) (tracks_of kind changed) (content_of kind changed) odds
   pub back : let tracks = tracks_of kind changed in let content = content_of kind changed in
       ArePutBack (geometry_of tracks content) odds content (content_of kind new)
-  pub opens : image_fault kind new ≡ None
 
 -- why they aren't: one of the images is refused, or they aren't of one format; the change didn't leave the sectors alone; or it touched one of the entries
 abbrev pub IsNotBackIn : List ℕ → List Odd → List ℕ → ShellFault → Type 0

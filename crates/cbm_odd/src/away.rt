@@ -3,7 +3,7 @@ ghost use Rattle.std.specs.Prelude.{◌≡◌, ◌≤◌, None, IfOk, IfErr, OnO
 ghost use Rattle.cbm_bam.specs.Map.{geometry_of};
 ghost use Rattle.cbm_directory.specs.Entries.{EntersLed};
 ghost use Rattle.cbm_image.specs.AnyDisks.{any_seen};
-ghost use Rattle.cbm_image.specs.Images.{kind_of, image_fault, content_of};
+ghost use Rattle.cbm_image.specs.Images.{kind_of, image_fault, content_of, outside_of, ChangesSectors};
 ghost use Rattle.cbm_shell.specs.Images.{IsSoundImage, IsSoundDisk};
 ghost use Rattle.cbm_odd.specs.Away.{away_entry, ArePutAway, IsClearOf, IsUnclear, IsAway, IsNotLeft, IsAwayIn, IsNotAwayIn};
 ghost use Rattle.cbm_odd.specs.Odd.{IsUnreadable};
@@ -50,6 +50,7 @@ pub(crate) fn put_entry<M: Steady>(
 ) -> Result<(), ShellFault>
     requires { geometry ≤ (M.seen medium.old).tracks }
     ensures tracks { (M.seen medium.new).tracks ≡ (M.seen medium.old).tracks }
+    ensures outside { (M.seen medium.new).outside ≡ (M.seen medium.old).outside }
     ensures entered { OnOk result (EntersLed geometry (M.seen medium.old).content (M.seen medium.new).content slot entry.now) }
     ensures fault { IfErr result IsUnreadable }
 {
@@ -65,6 +66,7 @@ fn put_each_away<M: Steady>(
 ) -> Result<(), ShellFault>
     requires { geometry ≤ (M.seen medium.old).tracks }
     ensures tracks { (M.seen medium.new).tracks ≡ (M.seen medium.old).tracks }
+    ensures outside { (M.seen medium.new).outside ≡ (M.seen medium.old).outside }
     ensures away { OnOk result (ArePutAway geometry odds.now (M.seen medium.old).content (M.seen medium.new).content) }
     ensures fault { IfErr result IsUnreadable }
 {
@@ -77,6 +79,7 @@ fn put_each_away<M: Steady>(
 /// The disk without its odd entries. Errors: those of one.
 fn without<M: Steady + Drop>(volume: Volume<M>, odds: &[Odd]) -> Result<M, ShellFault>
     ensures tracks { IfOk result (λ after. (M.seen after).tracks ≡ (M.seen volume).tracks) }
+    ensures outside { IfOk result (λ after. (M.seen after).outside ≡ (M.seen volume).outside) }
     ensures away { let old = M.seen volume in IfOk result (λ after.
         ArePutAway (geometry_of old.tracks old.content) odds.now old.content (M.seen after).content) }
     ensures fault { IfErr result IsUnreadable }
@@ -113,6 +116,7 @@ pub(crate) fn clear_image(
     ensures clear { let now = any_seen disk in OnOk result (IsClearOf now.tracks now.content held.now) }
     ensures sound { IfOk result (λ v. IsSoundImage kind v.items) }
     ensures content { IfOk result (λ v. content_of kind v.items ≡ (any_seen disk).content) }
+    ensures outside { IfOk result (λ v. outside_of kind v.items ≡ (any_seen disk).outside) }
     ensures opens { IfOk result (λ v. image_fault kind v.items ≡ None) }
     ensures fault { let now = any_seen disk in IfErr result (IsUnclear now.tracks now.content held.now) }
 {
@@ -129,6 +133,8 @@ fn image_without(
     odds: &[Odd],
 ) -> Result<Vec<u8>, ShellFault>
     ensures away { let old = any_seen volume in IfOk result (λ v. IsAway kind old.tracks old.content odds.now v.items) }
+    ensures outside { IfOk result (λ v. outside_of kind v.items ≡ (any_seen volume).outside) }
+    ensures opens { IfOk result (λ v. image_fault kind v.items ≡ None) }
     ensures fault { let old = any_seen volume in IfErr result (IsNotLeft old.tracks old.content odds.now) }
 {
     let held = held_places(alloc, volume.medium(), volume.geometry(), odds)?;
@@ -143,6 +149,7 @@ fn image_without(
 pub fn put_away(alloc: Global, image: &[u8]) -> Result<Away, ShellFault>
     // What is left is sound; each sector that the odd entries lead to is taken, and no file's.
     ensures away { IfOk result (IsAwayIn image.now) }
+    ensures opens { IfOk result (λ a. ChangesSectors image.now a.image.items) }
     ensures fault { IfErr result (IsNotAwayIn image.now) }
 {
     let volume = open_disk(alloc, image)?;

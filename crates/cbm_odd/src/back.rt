@@ -4,7 +4,7 @@ ghost use Rattle.std.specs.Str.{bytes_eq};
 ghost use Rattle.cbm_bam.specs.Map.{geometry_of};
 ghost use Rattle.cbm_directory.specs.Slots.{directory_of};
 ghost use Rattle.cbm_image.specs.AnyDisks.{any_seen};
-ghost use Rattle.cbm_image.specs.Images.{kind_of, image_fault, content_of};
+ghost use Rattle.cbm_image.specs.Images.{kind_of, image_fault, content_of, outside_of, ChangesSectors};
 ghost use Rattle.cbm_odd.specs.Back.{stands_for, protected, StandsIn, IsMissing, IsPutBack, ArePutBack, IsNotBackFrom, LeavesHeld, ChangesHeld, IsBackIn, IsNotBackIn};
 
 use crate::away::{put_entry, require_clear};
@@ -60,6 +60,7 @@ fn require_standing<M: Medium>(medium: &M, geometry: Geometry, odd: &Odd) -> Res
 fn put_one_back<M: Steady>(medium: &mut M, geometry: Geometry, odd: &Odd) -> Result<(), ShellFault>
     requires { geometry ≤ (M.seen medium.old).tracks }
     ensures tracks { (M.seen medium.new).tracks ≡ (M.seen medium.old).tracks }
+    ensures outside { (M.seen medium.new).outside ≡ (M.seen medium.old).outside }
     ensures back { OnOk result (IsPutBack geometry odd.now (M.seen medium.old).content (M.seen medium.new).content) }
     ensures fault { IfErr result (IsMissing (directory_of geometry (M.seen medium.old).content) odd.now) }
 {
@@ -75,6 +76,7 @@ fn put_each_back<M: Steady>(
 ) -> Result<(), ShellFault>
     requires { geometry ≤ (M.seen medium.old).tracks }
     ensures tracks { (M.seen medium.new).tracks ≡ (M.seen medium.old).tracks }
+    ensures outside { (M.seen medium.new).outside ≡ (M.seen medium.old).outside }
     ensures back { OnOk result (ArePutBack geometry odds.now (M.seen medium.old).content (M.seen medium.new).content) }
     ensures fault { IfErr result (IsNotBackFrom geometry odds.now (M.seen medium.old).content) }
 {
@@ -87,6 +89,7 @@ fn put_each_back<M: Steady>(
 /// The disk with its odd entries. Errors: those of one.
 fn with_odds<M: Steady + Drop>(volume: Volume<M>, odds: &[Odd]) -> Result<M, ShellFault>
     ensures tracks { IfOk result (λ after. (M.seen after).tracks ≡ (M.seen volume).tracks) }
+    ensures outside { IfOk result (λ after. (M.seen after).outside ≡ (M.seen volume).outside) }
     ensures back { let old = M.seen volume in IfOk result (λ after.
         ArePutBack (geometry_of old.tracks old.content) odds.now old.content (M.seen after).content) }
     ensures fault { let old = M.seen volume in
@@ -125,6 +128,7 @@ fn image_with(
 ) -> Result<Vec<u8>, ShellFault>
     ensures back { let old = any_seen volume in IfOk result (λ v.
         ArePutBack (geometry_of old.tracks old.content) odds.now old.content (content_of kind v.items)) }
+    ensures outside { IfOk result (λ v. outside_of kind v.items ≡ (any_seen volume).outside) }
     ensures opens { IfOk result (λ v. image_fault kind v.items ≡ None) }
     ensures fault { let old = any_seen volume in
         IfErr result (IsNotBackFrom (geometry_of old.tracks old.content) odds.now old.content) }
@@ -144,6 +148,7 @@ fn put_back_in(
     requires old { kind_of image.now ≡ kind }
     requires new { kind_of changed.now ≡ kind }
     ensures back { IfOk result (λ v. IsBackIn (kind_of image.now) image.now odds.now changed.now v.items) }
+    ensures opens { IfOk result (λ v. ChangesSectors changed.now v.items) }
     ensures fault { IfErr result (IsNotBackIn image.now odds.now changed.now) }
 {
     let old = open_disk(alloc, image)?;
@@ -164,6 +169,7 @@ pub fn put_back(
 ) -> Result<Vec<u8>, ShellFault>
     // Each odd entry is in its slot, byte for byte. Each sector that it leads to holds what it held, and is no file's.
     ensures back { IfOk result (λ v. IsBackIn (kind_of image.now) image.now odds.now changed.now v.items) }
+    ensures opens { IfOk result (λ v. ChangesSectors changed.now v.items) }
     ensures fault { IfErr result (IsNotBackIn image.now odds.now changed.now) }
 {
     let kind = kind_of(image);

@@ -1,10 +1,11 @@
 //! Changes of a disk with odd entries.
-ghost use Rattle.std.specs.Prelude.{◌≡◌, ◌≤◌, ◌++◌, None, IfOk, IfErr};
+ghost use Rattle.std.specs.Prelude.{◌≡◌, ◌≤◌, ◌++◌, false, IfOk, IfErr};
 ghost use Rattle.cbm_bam.specs.Marks.{is_marked};
 ghost use Rattle.cbm_bam.specs.Map.{geometry_of};
 ghost use Rattle.cbm_directory.specs.Slots.{directory_of};
-ghost use Rattle.cbm_image.specs.Images.{kind_of, image_fault};
+ghost use Rattle.cbm_image.specs.Images.{kind_of, OpensAgain, KeepsOtherBytes, ChangesSectors};
 ghost use Rattle.cbm_shell.specs.AroundGeos.{held_around};
+ghost use Rattle.cbm_shell.specs.Changing.{change_formats};
 ghost use Rattle.cbm_shell.specs.Images.{IsSoundImage};
 ghost use Rattle.cbm_shell.specs.Mapping.{is_among, entries_shown};
 ghost use Rattle.cbm_shell.specs.Undeleting.{IsMapAnew};
@@ -29,6 +30,8 @@ use std::alloc::Global;
 pub fn change(alloc: Global, image: &[u8], change: &DiskChange<'_>) -> Result<Vec<u8>, ShellFault>
     // The machine makes the change on what is left without the odd entries. Each of them stays, and so does each sector that it leads to.
     ensures made { IfOk result (λ v. IsChangedAround image.now change.now v.items) }
+    ensures opens { IfOk result (λ v. OpensAgain image.now v.items) }
+    ensures bytes { change_formats change.now ≡ false → IfOk result (λ v. KeepsOtherBytes image.now v.items) }
     ensures fault { IfErr result (IsNotChangedAround image.now change.now) }
 {
     let away = put_away(alloc, image)?;
@@ -59,6 +62,7 @@ fn mapped_around<M: Steady + Drop>(
     odds: &[Odd],
 ) -> Result<M, ShellFault>
     ensures tracks { IfOk result (λ after. (M.seen after).tracks ≡ (M.seen volume).tracks) }
+    ensures outside { IfOk result (λ after. (M.seen after).outside ≡ (M.seen volume).outside) }
     ensures mapped { let old = M.seen volume in let tracks = geometry_of old.tracks old.content in IfOk result (λ after.
         IsMapAnew tracks old.content (M.seen after).content (is_among
         (held_around tracks old.content (entries_shown (directory_of tracks old.content)) ++ reached_by tracks old.content odds.now))) }
@@ -75,7 +79,7 @@ fn mapped_around<M: Steady + Drop>(
 pub fn map_around(alloc: Global, image: &[u8], odds: &[Odd]) -> Result<Vec<u8>, ShellFault>
     ensures mapped { IfOk result (λ v. IsMappedAroundOdd image.now odds.now v.items) }
     ensures sound { IfOk result (λ v. IsSoundImage (kind_of image.now) v.items) }
-    ensures opens { IfOk result (λ v. image_fault (kind_of image.now) v.items ≡ None) }
+    ensures opens { IfOk result (λ v. ChangesSectors image.now v.items) }
 {
     let volume = open_disk(alloc, image)?;
     let disk = mapped_around(alloc, volume, odds)?;

@@ -5,7 +5,7 @@ use Rattle.cbm_medium.specs.Content.{Content}
 use Rattle.cbm_medium.specs.Seen.{Seen}
 use Rattle.cbm_bam.specs.Map.{geometry_of}
 use Rattle.cbm_image.specs.declared.kind.Kind.{Kind}
-use Rattle.cbm_image.specs.Images.{kind_of, image_fault, content_of, tracks_of}
+use Rattle.cbm_image.specs.Images.{kind_of, content_of, tracks_of}
 use Rattle.cbm_volume.specs.check.WholeDisk.{DiskFault}
 use Rattle.cbm_shell.specs.declared.fault.ShellFault.{ShellFault}
 use Rattle.cbm_shell.specs.declared.fault.ShellFault.TheVariants as fault
@@ -47,9 +47,3 @@ pub sound_opened : {A : Type 0} (r : Result A ShellFault) (image : List ℕ) (ol
 sound_opened (Ok v) image old opened sound =
     subst (λ c. IsSoundDisk (tracks_of (kind_of image) image) c) opened.same_content (subst (λ t. IsSoundDisk t old.content) opened.same_tracks sound)
 sound_opened (Err f) image old opened sound = tt
-
--- a saved image opens again
-pub opens_again : {A : Type 0} (items : A → List ℕ) (r : Result A ShellFault) (kind other : Kind) (seen : Seen) → other ≡ kind → IfOk r (λ v. IsSaved kind (items v) seen)
-    → IfOk r (λ v. image_fault other (items v) ≡ None)
-opens_again items (Ok v) kind other seen same s = subst (λ (k : Kind). image_fault k (items v) ≡ None) (sym same) s.faultless
-opens_again items (Err f) kind other seen same s = tt

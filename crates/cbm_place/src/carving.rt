@@ -1,7 +1,7 @@
 //! A file whose blocks and entry are written anew, for files that lead on to their blocks in a way of their own, as GEOS's do.
-ghost use Rattle.std.specs.Prelude.{◌≡◌, ◌≤◌, None, IfOk, IfErr, OnOk};
+ghost use Rattle.std.specs.Prelude.{◌≡◌, ◌≤◌, IfOk, IfErr, OnOk};
 ghost use Rattle.cbm_bam.specs.Map.{geometry_of};
-ghost use Rattle.cbm_image.specs.Images.{kind_of, image_fault};
+ghost use Rattle.cbm_image.specs.Images.{kind_of, ChangesSectors};
 ghost use Rattle.cbm_shell.specs.Images.{IsSoundImage};
 ghost use Rattle.cbm_shell.specs.Remaking.{IsTroubled};
 ghost use Rattle.cbm_place.specs.Carving.{written_each, IsCarved, IsNotCarved, IsCarvedIn, IsUncarvedIn};
@@ -25,6 +25,7 @@ fn write_each<M: Steady>(
 ) -> Result<(), ShellFault>
     ensures written { OnOk result ((M.seen medium.new).content ≡ written_each places.now blocks.now (M.seen medium.old).content) }
     ensures tracks { (M.seen medium.new).tracks ≡ (M.seen medium.old).tracks }
+    ensures outside { (M.seen medium.new).outside ≡ (M.seen medium.old).outside }
     ensures fault { IfErr result IsTroubled }
 {
     let (mut places_left, mut blocks_left) = (places, blocks);
@@ -48,6 +49,7 @@ fn carved<M: Steady + Drop>(
     blocks: &[[u8; 256]],
 ) -> Result<M, ShellFault>
     ensures tracks { IfOk result (λ after. (M.seen after).tracks ≡ (M.seen volume).tracks) }
+    ensures outside { IfOk result (λ after. (M.seen after).outside ≡ (M.seen volume).outside) }
     ensures carved { let old = M.seen volume in IfOk result (λ after.
         IsCarved (geometry_of old.tracks old.content) old.content (M.seen after).content slot entry.now blocks.now) }
     ensures fault { let old = M.seen volume in
@@ -79,7 +81,7 @@ pub fn carve(
     ensures carved { IfOk result (λ v. IsCarvedIn image.now slot entry.now blocks.now v.items) }
     ensures sound { OnOk result (IsSoundImage (kind_of image.now) image.now) }
     ensures stays { IfOk result (λ v. IsSoundImage (kind_of image.now) v.items) }
-    ensures opens { IfOk result (λ v. image_fault (kind_of image.now) v.items ≡ None) }
+    ensures opens { IfOk result (λ v. ChangesSectors image.now v.items) }
     ensures fault { IfErr result (IsUncarvedIn image.now slot entry.now blocks.now) }
 {
     let volume = open_disk(alloc, image)?;

@@ -30,6 +30,7 @@ pub(crate) fn write<M: Steady>(
 ) -> Result<(), ShellFault>
     ensures written { OnOk result ((M.seen medium.new).content ≡ written (M.seen medium.old).content at bytes.now) }
     ensures tracks { (M.seen medium.new).tracks ≡ (M.seen medium.old).tracks }
+    ensures outside { (M.seen medium.new).outside ≡ (M.seen medium.old).outside }
     ensures fault { IfErr result IsTroubled }
 {
     if at.track() > medium.tracks() {
@@ -56,6 +57,7 @@ fn zeros() -> [u8; 256]
 fn wipe_one<M: Steady>(medium: &mut M, at: Address, is_claimed: bool) -> Result<(), ShellFault>
     ensures wiped { OnOk result ((M.seen medium.new).content ≡ wiped_at is_claimed at (M.seen medium.old).content) }
     ensures tracks { (M.seen medium.new).tracks ≡ (M.seen medium.old).tracks }
+    ensures outside { (M.seen medium.new).outside ≡ (M.seen medium.old).outside }
     ensures fault { IfErr result IsTroubled }
 {
     if is_claimed {
@@ -72,6 +74,7 @@ pub(crate) fn wipe<M: Steady>(
 ) -> Result<(), ShellFault>
     ensures wiped { OnOk result ((M.seen medium.new).content ≡ wiped (is_marked claimed.now) left.now (M.seen medium.old).content) }
     ensures tracks { (M.seen medium.new).tracks ≡ (M.seen medium.old).tracks }
+    ensures outside { (M.seen medium.new).outside ≡ (M.seen medium.old).outside }
     ensures fault { IfErr result IsTroubled }
 {
     let mut rest = left;
@@ -90,6 +93,7 @@ pub(crate) fn lay<M: Steady>(
 ) -> Result<(), ShellFault>
     ensures laid { OnOk result ((M.seen medium.new).content ≡ laid_out places.now blocks.now (M.seen medium.old).content) }
     ensures tracks { (M.seen medium.new).tracks ≡ (M.seen medium.old).tracks }
+    ensures outside { (M.seen medium.new).outside ≡ (M.seen medium.old).outside }
     ensures fault { IfErr result IsTroubled }
 {
     let (mut places_left, mut blocks_left) = (places, blocks);

@@ -98,6 +98,7 @@ fn require_room<M: Medium>(
 fn remap<M: Steady>(medium: &mut M, geometry: Geometry, taken: &SectorSet) -> Result<(), ShellFault>
     requires { geometry ≤ (M.seen medium.old).tracks }
     ensures tracks { (M.seen medium.new).tracks ≡ (M.seen medium.old).tracks }
+    ensures outside { (M.seen medium.new).outside ≡ (M.seen medium.old).outside }
     ensures mapped { OnOk result (IsMapAnew geometry (M.seen medium.old).content (M.seen medium.new).content (is_marked taken.now)) }
     ensures fault { IfErr result IsTroubled }
 {
@@ -113,6 +114,7 @@ fn claim<M: Steady>(
 ) -> Result<(), ShellFault>
     requires { geometry ≤ (M.seen medium.old).tracks }
     ensures tracks { (M.seen medium.new).tracks ≡ (M.seen medium.old).tracks }
+    ensures outside { (M.seen medium.new).outside ≡ (M.seen medium.old).outside }
     ensures claimed { let old = (M.seen medium.old).content in OnOk result (IsMapAnew geometry old (M.seen medium.new).content
         (is_among (taken_places geometry old nothing (is_among places.now)))) }
     ensures fault { IfErr result IsTroubled }
@@ -148,6 +150,7 @@ fn lead<M: Steady>(
 ) -> Result<(), ShellFault>
     requires { geometry ≤ (M.seen medium.old).tracks }
     ensures tracks { (M.seen medium.new).tracks ≡ (M.seen medium.old).tracks }
+    ensures outside { (M.seen medium.new).outside ≡ (M.seen medium.old).outside }
     ensures led { OnOk result (EntersLed geometry (laid_out places.now blocks.now (M.seen medium.old).content) (M.seen medium.new).content slot
         (entry_at_first entry.now places.now)) }
     ensures fault { IfErr result IsTroubled }
@@ -166,6 +169,7 @@ fn free<M: Steady>(
 ) -> Result<(), ShellFault>
     requires { geometry ≤ (M.seen medium.old).tracks }
     ensures tracks { (M.seen medium.new).tracks ≡ (M.seen medium.old).tracks }
+    ensures outside { (M.seen medium.new).outside ≡ (M.seen medium.old).outside }
     ensures freed { let wiped = wiped (is_among places.now) left.now (M.seen medium.old).content in
         OnOk result (IsMapAnew geometry wiped (M.seen medium.new).content
         (is_among (taken_places geometry wiped (is_among left.now) (is_among places.now)))) }
@@ -191,6 +195,7 @@ fn carry<M: Steady>(
 ) -> Result<(), ShellFault>
     requires { geometry ≤ (M.seen medium.old).tracks }
     ensures tracks { (M.seen medium.new).tracks ≡ (M.seen medium.old).tracks }
+    ensures outside { (M.seen medium.new).outside ≡ (M.seen medium.old).outside }
     ensures carried { OnOk result (IsCarried geometry (M.seen medium.old).content (M.seen medium.new).content slot entry.now
         chain.now.places.items chain.now.blocks.items places.now) }
     ensures fault { IfErr result IsTroubled }
@@ -216,6 +221,7 @@ pub(crate) fn moved<M: Steady + Drop>(
     places: &[Address],
 ) -> Result<M, ShellFault>
     ensures tracks { IfOk result (λ after. (M.seen after).tracks ≡ (M.seen volume).tracks) }
+    ensures outside { IfOk result (λ after. (M.seen after).outside ≡ (M.seen volume).outside) }
     ensures moved { let old = M.seen volume in IfOk result (λ after.
         IsRelaid (geometry_of old.tracks old.content) old.content (M.seen after).content slot places.now) }
     ensures fault { let old = M.seen volume in

@@ -1,6 +1,6 @@
 //! A file of an image, moved to blocks that are named.
-ghost use Rattle.std.specs.Prelude.{◌≡◌, None, IfOk, IfErr, OnOk};
-ghost use Rattle.cbm_image.specs.Images.{kind_of, image_fault};
+ghost use Rattle.std.specs.Prelude.{◌≡◌, IfOk, IfErr, OnOk};
+ghost use Rattle.cbm_image.specs.Images.{kind_of, ChangesSectors};
 ghost use Rattle.cbm_shell.specs.Images.{IsSoundImage};
 ghost use Rattle.cbm_place.specs.Placed.{IsPlacedIn, IsUnplacedIn};
 
@@ -26,7 +26,7 @@ pub fn place(
     ensures placed { IfOk result (λ v. IsPlacedIn image.now slot places.now v.items) }
     ensures sound { OnOk result (IsSoundImage (kind_of image.now) image.now) }
     ensures stays { IfOk result (λ v. IsSoundImage (kind_of image.now) v.items) }
-    ensures opens { IfOk result (λ v. image_fault (kind_of image.now) v.items ≡ None) }
+    ensures opens { IfOk result (λ v. ChangesSectors image.now v.items) }
     ensures fault { IfErr result (IsUnplacedIn image.now slot places.now) }
 {
     let volume = open_disk(alloc, image)?;

@@ -118,28 +118,26 @@ nothing-part pace checks a (Some xs) stood = λ m s. ([], (printed_after pace ch
 -- ---- the same of an image
 
 -- a machine at power up with the image's disk is one with the medium's
-pub starts-as : (kind : Kind) (image : List ℕ) (tracks : ℕ) (content : Content) (p q : Bool) → IsOf kind image tracks content → q ≡ p
-    → AreAmong (StartsOn (tracks_of kind image) (content_of kind image) p) (StartsOn tracks content q)
-starts-as kind image tracks content p q is e = λ m s.
-    subst (λ b. StartsOn tracks content b m) (sym e)
-    (subst (λ c. StartsOn tracks c p m) is.same_content (subst (λ n. StartsOn n (content_of kind image) p m) is.same_tracks s))
+pub starts-as : (kind : Kind) (image : List ℕ) (seen : Seen) (p : Bool) → IsOf kind image seen → seen.protected ≡ p
+    → AreAmong (StartsOn (tracks_of kind image) (content_of kind image) p) (StartsOn seen.tracks seen.content seen.protected)
+starts-as kind image seen p is e = λ m s.
+    subst (λ b. StartsOn seen.tracks seen.content b m) (sym e)
+    (subst (λ c. StartsOn seen.tracks c p m) is.same_content (subst (λ n. StartsOn n (content_of kind image) p m) is.same_tracks s))
 
 -- what the medium holds, the image holds
-pub holds-as : (kind : Kind) (image : List ℕ) (tracks : ℕ) (content : Content) → IsOf kind image tracks content
-    → AreAmong (λ m. HoldsDisk tracks content m.disk) (λ m. ImageHolds kind image m.disk)
-holds-as kind image tracks content is = λ m h.
-    subst (λ c. HoldsDisk (tracks_of kind image) c m.disk) (sym is.same_content) (subst (λ n. HoldsDisk n content m.disk) (sym is.same_tracks) h)
+pub holds-as : (kind : Kind) (image : List ℕ) (seen : Seen) → IsOf kind image seen → AreAmong (λ m. HoldsDisk seen.tracks seen.content m.disk) (λ m. ImageHolds kind image m.disk)
+holds-as kind image seen is = λ m h.
+    subst (λ c. HoldsDisk (tracks_of kind image) c m.disk) (sym is.same_content) (subst (λ n. HoldsDisk n seen.content m.disk) (sym is.same_tracks) h)
 
 -- the image of a medium that has as many tracks as before has as many as the image before
-pub tracks-as : (kind : Kind) (old new : List ℕ) (tracks after : ℕ) (content written : Content) → IsOf kind old tracks content
-    → after ≡ tracks → IsOf kind new after written → tracks_of kind new ≡ tracks_of kind old
-tracks-as kind old new tracks after content written was e is = is.same_tracks ∙ e ∙ sym was.same_tracks
+pub tracks-as : (kind : Kind) (old new : List ℕ) (before after : Seen) → IsOf kind old before → after.tracks ≡ before.tracks → IsOf kind new after → tracks_of kind new ≡ tracks_of kind old
+tracks-as kind old new before after was e is = is.same_tracks ∙ e ∙ sym was.same_tracks
 
 -- the line of the check of a medium is that of the image
-pub checked-as : (kind : Kind) (image : List ℕ) (tracks : ℕ) (content : Content) (a b : Option (List ℕ)) → IsOf kind image tracks content
-    → IsCheckedFirst tracks content a b → IsCheckedFirst (tracks_of kind image) (content_of kind image) a b
-checked-as kind image tracks content a b is h =
-    subst (λ c. IsCheckedFirst (tracks_of kind image) c a b) (sym is.same_content) (subst (λ n. IsCheckedFirst n content a b) (sym is.same_tracks) h)
+pub checked-as : (kind : Kind) (image : List ℕ) (seen : Seen) (a b : Option (List ℕ)) → IsOf kind image seen
+    → IsCheckedFirst seen.tracks seen.content a b → IsCheckedFirst (tracks_of kind image) (content_of kind image) a b
+checked-as kind image seen a b is h =
+    subst (λ c. IsCheckedFirst (tracks_of kind image) c a b) (sym is.same_content) (subst (λ n. IsCheckedFirst n seen.content a b) (sym is.same_tracks) h)
 
 -- the check of a medium, and what was printed after its line
 pub checked-first : (tracks : ℕ) (content : Content) (a b c : Option (List ℕ)) → IsCheckPrinted tracks content a b → AppendsMore b c → IsCheckedFirst tracks content a c

@@ -118,8 +118,7 @@ fn image_after(
     protected: bool,
 ) -> Result<Vec<u8>, RunFault>
     ensures given { protected ≡ true → IfOk result (λ v. v.items ≡ image.now) }
-    ensures written { protected ≡ false → IfOk result (λ v. IsOf (kind_of image.now) v.items (any_seen disk.now).tracks
-        (any_seen disk.now).content) }
+    ensures written { protected ≡ false → IfOk result (λ v. IsOf (kind_of image.now) v.items (any_seen disk.now)) }
     ensures err { IfErr result (λ fault. fault ≡ RunFault.Memory) }
 {
     if protected {

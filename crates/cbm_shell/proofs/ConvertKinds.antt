@@ -1,4 +1,4 @@
--- When a new image would be taken for one of the old format.
+-- The format of a converted image, and the id that its headers lose.
 use Rattle.std.proofs.Common.{◌≡◌, ◌≢◌, ℕ, List, Bool, true, false, length, take, refl, sym, ap, subst, ◌∙◌, arith, Ok, Err, None, inl, inr}
 use Rattle.std.specs.Prelude.{codes, if◌then◌else◌, not, replicate, unwrap_or, IsTrue, ◌↔◌, [], ◌∷◌}
 use Rattle.std.specs.Str.{bytes_eq}
@@ -19,31 +19,13 @@ use Rattle.cbm_image.specs.declared.kind.Kind.{Kind}
 use Rattle.cbm_image.specs.declared.kind.Kind.TheVariants.{D64, G64}
 use Rattle.cbm_image.specs.Images.{kind_of, content_of as image_content}
 use Rattle.cbm_shell.specs.Converting.{content_held, told_id, HasOtherId}
-use Rattle.cbm_shell.proofs.NewImages.{has_kind, some_track, bytes_of}
+use Rattle.cbm_image.proofs.Again.{d64_by_size, d64_size}
+use Rattle.cbm_medium.specs.Seen.{Seen}
+use Rattle.cbm_shell.specs.Images.{IsSaved}
 
--- a new G64 has no fault, and so is none that would be taken for a D64
-pub never_mistaken : (new : List ℕ) → g64_fault new ≡ None → kind_of new ≢ G64 → ⊥
-never_mistaken new right other = other (has_kind new right)
-
--- what isn't taken for a D64 begins as a G64 does
-signed_first : (new : List ℕ) → kind_of new ≢ D64 → take 8 new ≡ codes "GCR-1541"
-signed_first new other = by_test (bytes_eq (take 8 new) (codes "GCR-1541")) refl
-  where
-    by_test : (b : Bool) → bytes_eq (take 8 new) (codes "GCR-1541") ≡ b → take 8 new ≡ codes "GCR-1541"
-    by_test true e = (bytes_eq-Decides (take 8 new) (codes "GCR-1541")).0 e
-    by_test false e = absurd (other (ap (λ (x : Bool). if x then G64 else D64) e))
-
--- the first eight bytes of a D64 are those of its first sector
-first_eight : (new bytes : List ℕ) → d64_content new (record { track = 1; sector = 0 }) ≡ Ok bytes → take 8 bytes ≡ take 8 new
-first_eight new bytes h =
-    let here : d64_content new (record { track = 1; sector = 0 }) ≡ cell_of (code_of_error (error_at new 0)) (take 256 new) = content_on_disk new (record { track = 1; sector = 0 }) (omega arith) (some_track (length new)) in
-    let front : take 256 new ≡ bytes = bytes_of (code_of_error (error_at new 0)) (take 256 new) bytes (sym here ∙ h) in
-    ap (take 8) (sym front) ∙ take-take 8 256 new (omega arith)
-
--- THE FIRST SECTOR of what was converted begins as a G64 does
-pub mistakable : (new : List ℕ) (was : Cell) → d64_content new (record { track = 1; sector = 0 }) ≡ or_zeros was → kind_of new ≢ D64 → (bytes : List ℕ) × (was ≡ Ok bytes) × (take 8 bytes ≡ codes "GCR-1541")
-mistakable new (Ok bytes) is other = (bytes, refl, first_eight new bytes is ∙ signed_first new other)
-mistakable new (Err code) is other = absurd (let z = first_eight new (replicate 256 0) is ∙ signed_first new other in cc)
+-- a D64 that was saved is a D64
+pub saved_kind : (image : List ℕ) (seen : Seen) → IsSaved D64 image seen → kind_of image ≡ D64
+saved_kind image seen s = d64_by_size image (d64_size (length image) s.faultless)
 
 -- ---- the disk of a G64
 

@@ -1,8 +1,8 @@
 -- From the bytes of an image to its disk, and back.
-use Rattle.std.proofs.Common.{◌≡◌, ◌⊎◌, ℕ, List, None, false, sym, ap, subst, ◌∙◌, inr}
+use Rattle.std.proofs.Common.{◌≡◌, ◌⊎◌, ℕ, List, None, Bool, true, false, sym, ap, subst, ◌∙◌, inl, inr}
 use Rattle.std.specs.Prelude.{Result, Ok, Err, MatchResult, IfErr, IfOk, OnOk}
 use Rattle.cbm_medium.specs.Content.{Content}
-use Rattle.cbm_medium.specs.Seen.{Seen}
+use Rattle.cbm_medium.specs.Seen.{Seen, Outside}
 use Rattle.cbm_file.specs.Files.{Disk}
 use Rattle.cbm_file.specs.Changes.{validated}
 use Rattle.cbm_bam.specs.Map.{geometry_of}
@@ -11,8 +11,10 @@ use Rattle.cbm_volume.specs.check.WholeDisk.{DiskFault}
 use Rattle.cbm_volume.specs.Holding.{HoldsDisk}
 use Rattle.cbm_volume.specs.declared.Unsound.{Unsound}
 use Rattle.cbm_machine.specs.Machines.{start}
+use Rattle.cbm_channel.specs.Going.{IsOutsideKept}
 use Rattle.cbm_image.specs.declared.kind.Kind.{Kind}
-use Rattle.cbm_image.specs.Images.{kind_of, image_fault, tracks_of, content_of, ImageHolds}
+use Rattle.cbm_image.specs.Images.{kind_of, image_fault, tracks_of, content_of, outside_of, ImageHolds, OpensAgain, KeepsOtherBytes, ChangesSectors}
+use Rattle.cbm_image.proofs.Again.{KeepsOrFormats, opens_again}
 use Rattle.cbm_shell.specs.declared.fault.ShellFault.{ShellFault}
 use Rattle.cbm_shell.specs.declared.fault.ShellFault.TheVariants as fault
 use Rattle.cbm_shell.specs.Images.{IsImageOpened, IsSaved, IsOpenFault, OrOpenFault, IsChecked, IsInOrder}
@@ -118,3 +120,77 @@ memory_alone image (Err f) h = subst (λ g. IsOpenFault image g) (sym h) tt
 pub or_memory : {A : Type 0} (image : List ℕ) (r : Result A ShellFault) (P : A → Type 0) → MatchResult r P (λ f. f ≡ fault.Memory) → MatchResult r P (IsOpenFault image)
 or_memory image (Ok v) P h = h
 or_memory image (Err f) P h = subst (λ g. IsOpenFault image g) (sym h) tt
+
+-- ---- what is outside the sectors
+
+-- what holds of the bytes outside the sectors before a change and after it holds of the images
+outside_images : (P : Outside → Outside → Type 0) (image new : List ℕ) (kind : Kind) (old seen : Seen) → kind ≡ kind_of image → IsImageOpened image old → P old.outside seen.outside → IsSaved kind new seen
+    → P (outside_of (kind_of image) image) (outside_of (kind_of image) new)
+outside_images P image new kind old seen is opened h saved =
+    subst (λ (o : Outside). P o (outside_of (kind_of image) new)) opened.same_outside
+    (subst (λ (o : Outside). P old.outside o) (saved.same_outside ∙ ap (λ (k : Kind). outside_of k new) is) h)
+
+-- the new image opens again
+pub again_if : {A : Type 0} (items : A → List ℕ) (r : Result A ShellFault) (image : List ℕ) (kind : Kind) (old seen : Seen) → kind ≡ kind_of image → IsImageOpened image old → KeepsOrFormats old.outside seen.outside
+    → IfOk r (λ v. IsSaved kind (items v) seen) → IfOk r (λ v. OpensAgain image (items v))
+again_if items (Err f) image kind old seen is opened kept saved = tt
+again_if items (Ok v) image kind old seen is opened kept saved =
+    opens_again image (items v) (subst (λ (k : Kind). image_fault k (items v) ≡ None) is saved.faultless) (outside_images KeepsOrFormats image (items v) kind old seen is opened kept saved)
+
+-- and has all other bytes of the old one
+pub bytes_if : {A : Type 0} (items : A → List ℕ) (r : Result A ShellFault) (image : List ℕ) (kind : Kind) (old seen : Seen) → kind ≡ kind_of image → IsImageOpened image old → seen.outside ≡ old.outside
+    → IfOk r (λ v. IsSaved kind (items v) seen) → IfOk r (λ v. KeepsOtherBytes image (items v))
+bytes_if items (Err f) image kind old seen is opened same saved = tt
+bytes_if items (Ok v) image kind old seen is opened same saved = outside_images (λ before after. after ≡ before) image (items v) kind old seen is opened same saved
+
+-- AN IMAGE OF A DISK of which only the sectors were changed
+pub in_sectors : {A : Type 0} (items : A → List ℕ) (r : Result A ShellFault) (image : List ℕ) (kind : Kind) (old seen : Seen) → kind ≡ kind_of image → IsImageOpened image old → seen.outside ≡ old.outside
+    → IfOk r (λ v. IsSaved kind (items v) seen) → IfOk r (λ v. ChangesSectors image (items v))
+in_sectors items r image kind old seen is opened same saved = both r (again_if items r image kind old seen is opened (inl same) saved) (bytes_if items r image kind old seen is opened same saved)
+  where
+    both : (q : Result _ ShellFault) → IfOk q (λ v. OpensAgain image (items v)) → IfOk q (λ v. KeepsOtherBytes image (items v)) → IfOk q (λ v. ChangesSectors image (items v))
+    both (Err f) a b = tt
+    both (Ok v) a b = record { again = a; bytes = b }
+
+-- an image without fault that has the bytes outside the sectors of the disk that was opened
+pub sectors_only : (image new : List ℕ) (kind : Kind) (old : Seen) → kind ≡ kind_of image → IsImageOpened image old → image_fault kind new ≡ None → outside_of kind new ≡ old.outside → ChangesSectors image new
+sectors_only image new kind old is opened faultless kept =
+    let same : outside_of (kind_of image) new ≡ outside_of (kind_of image) image = sym (ap (λ (k : Kind). outside_of k new) is) ∙ kept ∙ opened.same_outside in
+    record { again = opens_again image new (subst (λ (k : Kind). image_fault k new ≡ None) is faultless) (inl same); bytes = same }
+
+-- where it was saved at all
+pub sectors_if : {A : Type 0} (items : A → List ℕ) (r : Result A ShellFault) (image : List ℕ) (kind : Kind) (old : Seen) → kind ≡ kind_of image → IsImageOpened image old → IfOk r (λ v. image_fault kind (items v) ≡ None)
+    → IfOk r (λ v. outside_of kind (items v) ≡ old.outside) → IfOk r (λ v. ChangesSectors image (items v))
+sectors_if items (Err f) image kind old is opened faultless kept = tt
+sectors_if items (Ok v) image kind old is opened faultless kept = sectors_only image (items v) kind old is opened faultless kept
+
+-- of two changes, one after the other
+pub again_then : (a b c : List ℕ) → OpensAgain a b → OpensAgain b c → OpensAgain a c
+again_then a b c first second = record {
+  faultless = subst (λ (k : Kind). image_fault k c ≡ None) first.same_kind second.faultless;
+  same_kind = second.same_kind ∙ first.same_kind;
+}
+
+pub bytes_then : (a b c : List ℕ) → kind_of b ≡ kind_of a → KeepsOtherBytes a b → KeepsOtherBytes b c → KeepsOtherBytes a c
+bytes_then a b c same first second = subst (λ (k : Kind). outside_of k c ≡ outside_of k b) same second ∙ first
+
+pub sectors_then : (a b c : List ℕ) → ChangesSectors a b → ChangesSectors b c → ChangesSectors a c
+sectors_then a b c first second = record { again = again_then a b c first.again second.again; bytes = bytes_then a b c first.again.same_kind first.bytes second.bytes }
+
+-- of two, the second of which may fail
+pub sectors_after : {A : Type 0} (items : A → List ℕ) (r : Result A ShellFault) (a b : List ℕ) → ChangesSectors a b → IfOk r (λ v. ChangesSectors b (items v)) → IfOk r (λ v. ChangesSectors a (items v))
+sectors_after items (Err f) a b first second = tt
+sectors_after items (Ok v) a b first second = sectors_then a b (items v) first second
+
+-- of three, the last of which may fail
+pub sectors_thrice : {A : Type 0} (items : A → List ℕ) (r : Result A ShellFault) (a b c : List ℕ) → ChangesSectors a b → OpensAgain b c → KeepsOtherBytes b c → IfOk r (λ v. ChangesSectors c (items v)) → IfOk r (λ v. ChangesSectors a (items v))
+sectors_thrice items r a b c first again bytes last = sectors_after items r a c (sectors_then a b c first (record { again = again; bytes = bytes })) last
+
+-- ---- by whether a change formats
+
+pub outside_either : (formats : Bool) (old new : Outside) → IsOutsideKept formats old new → KeepsOrFormats old new
+outside_either false old new e = inl e
+outside_either true old new h = h
+
+pub outside_none : (formats : Bool) (old new : Outside) → formats ≡ false → IsOutsideKept formats old new → new ≡ old
+outside_none formats old new none h = subst (λ (b : Bool). IsOutsideKept b old new) none h

@@ -1,28 +1,28 @@
--- Images of new disks: they have no fault, and their first bytes tell their format.
+-- Images of new disks: they have no fault, and the format that was asked for.
 use Rattle.std.proofs.Common.{◌≡◌, ℕ, ◌≤◌, List, [], ◌∷◌, length, take, refl, sym, ap, subst, ◌∙◌, arith, rules, Bool, true, false, Ok, Err, Option, Some, None, replicate, inl, inr}
-use Rattle.std.specs.Prelude.{◌==◌, codes, if◌then◌else◌}
-use Rattle.std.specs.Str.{bytes_eq}
-use Rattle.std.proofs.lemmas.Bool.{and_parts, eqb-true}
-use Rattle.std.proofs.lemmas.List.{take-take, length-replicate}
+use Rattle.std.specs.Prelude.{◌==◌}
+use Rattle.std.proofs.lemmas.List.{length-replicate}
 use Rattle.std.specs.Prelude.{Result, IfOk, option_map}
 use Rattle.std.specs.declared.alloc.AllocError.{AllocError}
-use Rattle.cbm_d64.specs.Image.{IsImageSize, d64_tracks, error_at, code_of_error, cell_of, sector_at, d64_content}
-use Rattle.cbm_d64.proofs.Sectors.{content_on_disk}
+use Rattle.cbm_d64.specs.Image.{IsImageSize, d64_tracks, d64_content}
 use Rattle.cbm_d64.specs.Image as sectors
-use Rattle.cbm_g64.specs.File.{has_signature, g64_fault, g64_circles as tracks_in_file}
+use Rattle.cbm_g64.specs.File.{g64_fault, g64_circles as tracks_in_file}
+use Rattle.cbm_g64.specs.NewFile.{base_of, new_file}
+use Rattle.cbm_g64.specs.Rest.{g64_rest}
+use Rattle.cbm_g64.proofs.NewFiles.{length-new_file}
 use Rattle.cbm_g64.specs.Numbers.{g64_fault_number}
 use Rattle.cbm_g64.specs.declared.fault.G64Fault.{G64Fault}
 use Rattle.cbm_g64.specs.Tracks as circles
 use Rattle.cbm_medium.specs.Content.{Content}
-use Rattle.cbm_medium.specs.Seen.{Seen}
+use Rattle.cbm_medium.specs.Seen.{Seen, Outside, formatted_outside}
 use Rattle.cbm_volume.specs.Holding.{HoldsDisk}
 use Rattle.cbm_volume.specs.NewDisks.{OnlyNew}
-use Rattle.cbm_g64.proofs.Sound.{passes}
 use Rattle.cbm_image.specs.declared.kind.Kind.{Kind}
 use Rattle.cbm_image.specs.declared.kind.Kind.TheVariants.{D64, G64}
 use Rattle.cbm_image.specs.AnyDisks.{any_kind, any_seen, IsDiskOfImage}
 use Rattle.cbm_image.specs.declared.any_disk.AnyDisk.{AnyDisk}
-use Rattle.cbm_image.specs.Images.{kind_of, size_fault, image_fault, tracks_of, ImageHolds}
+use Rattle.cbm_image.specs.Images.{is_d64_size, kind_of, size_fault, image_fault, tracks_of, ImageHolds}
+use Rattle.cbm_image.proofs.Again.{d64_by_size, has_kind, same_size}
 use Rattle.cbm_image.specs.Images as images
 use Rattle.cbm_image.proofs.ImageSizes.{right_size}
 use Rattle.cbm_shell.specs.declared.images.making.Form.{Form}
@@ -30,54 +30,11 @@ use Rattle.cbm_shell.specs.declared.images.making.Form.TheVariants as form
 use Rattle.cbm_shell.specs.Making.{kind_in, tracks_of_form, empty_disk, IsBlankDisk, IsBlankImage, IsEmpty, IsNew}
 use Rattle.cbm_shell.proofs.ZeroImages.{content_zeros}
 
--- ---- a D64
-
-pub some_track : (n : ℕ) → 1 ≤ d64_tracks n
-some_track n = by_test (n == 196608)
-  where
-    by_test : (b : Bool) → 1 ≤ (if b then 40 else 35)
-    by_test true = omega arith
-    by_test false = omega arith
-
-pub bytes_of : (o : Option ℕ) (xs ys : List ℕ) → cell_of o xs ≡ Ok ys → xs ≡ ys
-bytes_of None xs ys h = cc
-bytes_of (Some code) xs ys h = absurd (cc)
-
--- one whose first sector is zeros isn't taken for a G64
-pub first_zeros : (image : List ℕ) → d64_content image (record { track = 1; sector = 0 }) ≡ Ok (replicate 256 0) → kind_of image ≡ D64
-first_zeros image h =
-    let here : d64_content image (record { track = 1; sector = 0 }) ≡ cell_of (code_of_error (error_at image 0)) (take 256 image)
-    = content_on_disk image (record { track = 1; sector = 0 }) (omega arith) (some_track (length image)) in
-    let front : take 256 image ≡ replicate 256 0 = bytes_of (code_of_error (error_at image 0)) (take 256 image) (replicate 256 0) (sym here ∙ h) in
-    let eight : take 8 image ≡ take 8 (replicate 256 0) = sym (take-take 8 256 image (omega arith)) ∙ ap (take 8) front in
-    ap (λ (xs : List ℕ). if bytes_eq xs (codes "GCR-1541") then G64 else D64) eight
-
--- ---- a G64
-
--- the signature is what it is told by
-signed : (file : List ℕ) → has_signature file ≡ true → take 8 file ≡ codes "GCR-1541"
-signed [] h = absurd (cc)
-signed (a ∷ []) h = absurd (cc)
-signed (a ∷ b ∷ []) h = absurd (cc)
-signed (a ∷ b ∷ c ∷ []) h = absurd (cc)
-signed (a ∷ b ∷ c ∷ d ∷ []) h = absurd (cc)
-signed (a ∷ b ∷ c ∷ d ∷ e ∷ []) h = absurd (cc)
-signed (a ∷ b ∷ c ∷ d ∷ e ∷ f ∷ []) h = absurd (cc)
-signed (a ∷ b ∷ c ∷ d ∷ e ∷ f ∷ g ∷ []) h = absurd (cc)
-signed (a ∷ b ∷ c ∷ d ∷ e ∷ f ∷ g ∷ i ∷ rest) h =
-    let p = and_parts _ _ h in
-    let q = and_parts (a == 71) _ p.1 in
-    let r = and_parts (b == 67) _ q.1 in
-    let s = and_parts (c == 82) _ r.1 in
-    let t = and_parts (d == 45) _ s.1 in
-    let u = and_parts (e == 49) _ t.1 in
-    let v = and_parts (f == 53) _ u.1 in
-    let w = and_parts (g == 52) (i == 49) v.1 in
-    rw (eqb-true a 71 q.0, eqb-true b 67 r.0, eqb-true c 82 s.0, eqb-true d 45 t.0, eqb-true e 49 u.0, eqb-true f 53 v.0, eqb-true g 52 w.0, eqb-true i 49 w.1) refl
-
--- one without fault is taken for a G64
-pub has_kind : (file : List ℕ) → g64_fault file ≡ None → kind_of file ≡ G64
-has_kind file h = ap (λ (xs : List ℕ). if bytes_eq xs (codes "GCR-1541") then G64 else D64) (signed file (passes file h).signature)
+-- an image of one of a D64's sizes has such a size by the test
+sized : (n : ℕ) → IsImageSize n → is_d64_size n ≡ true
+sized n (inl e) = ap is_d64_size e
+sized n (inr (inl e)) = ap is_d64_size e
+sized n (inr (inr e)) = ap is_d64_size e
 
 -- ---- before NEW
 
@@ -90,24 +47,19 @@ pub blank_sectors : (form : Form) (n : ℕ) (image : List ℕ) → kind_in form 
 blank_sectors form n image kind size plain tracks is =
     let wide : length image ≡ n = ap length is ∙ length-replicate n 0 in
     record {
+      opens = d64_by_size image (ap is_d64_size wide ∙ sized n size) ∙ sym kind;
       accepted = subst (λ (k : Kind). image_fault k image ≡ None) (sym kind) (ap size_fault wide ∙ right_size n size);
       tracks = subst (λ (k : Kind). tracks_of k image ≡ tracks_of_form form) (sym kind) (ap d64_tracks wide ∙ tracks);
       zeros = λ p h. subst (λ (k : Kind). images.content_of k image p ≡ Ok (replicate 256 0)) (sym kind) (content_zeros n image p size plain is);
     }
 
--- a blank image is of its form's format
-pub blank_kind : (form : Form) (image : List ℕ) → IsBlankImage form image → kind_of image ≡ kind_in form
-blank_kind form.D64 image blank = first_zeros image (blank.zeros (record { track = 1; sector = 0 }) (search rules))
-blank_kind form.LongD64 image blank = first_zeros image (blank.zeros (record { track = 1; sector = 0 }) (search rules))
-blank_kind form.G64 image blank = has_kind image (no_fault (g64_fault image) blank.accepted)
-
 -- the disk of one has its form's format, and zeros in all sectors
 pub its_kind : (form : Form) (image : List ℕ) (d : AnyDisk) → IsBlankImage form image → IsDiskOfImage (kind_of image) image false d → kind_in form ≡ any_kind d
-its_kind form image d blank is = sym (blank_kind form image blank) ∙ sym is.same_format
+its_kind form image d blank is = sym blank.opens ∙ sym is.same_format
 
 pub blank_disk : (form : Form) (image : List ℕ) (d : AnyDisk) → IsBlankImage form image → IsDiskOfImage (kind_of image) image false d → IsBlankDisk (tracks_of_form form) (any_seen d)
 blank_disk form image d blank is =
-    let same = blank_kind form image blank in
+    let same = blank.opens in
     record {
       same_tracks = sym is.shown.same_tracks ∙ ap (λ (k : Kind). tracks_of k image) same ∙ blank.tracks;
       zeros = λ p h. ap (λ (x : Content). x p) (sym is.shown.same_content) ∙ ap (λ (k : Kind). images.content_of k image p) same ∙ blank.zeros p h;
@@ -130,15 +82,20 @@ pub new_id : (id : List ℕ) (old new : Seen) (u : Unit {0}) → OnlyNew (Ok u) 
 new_id id old new u (inl h) x e = given_id old.id id x (sym h.id ∙ e)
 new_id id old new u (inr (err, h)) x e = absurd (cc)
 
+-- and outside the sectors the medium is as a format leaves it
+pub new_outside : (id : List ℕ) (old new : Seen) (u : Unit {0}) → OnlyNew (Ok u) (Some id) old new → new.outside ≡ formatted_outside old.outside
+new_outside id old new u (inl h) = h.outside
+new_outside id old new u (inr (err, h)) = absurd (cc)
+
 -- the empty disk has the tracks of the form
-pub of_form : {n m : ℕ} {title id : List ℕ} {seen : Seen} → n ≡ m → IsEmpty n title id seen → IsEmpty m title id seen
-of_form {n = n} {m = m} {title = title} {id = id} {seen = seen} same e = subst (λ (k : ℕ). IsEmpty k title id seen) same e
+pub of_form : {n m : ℕ} {title id : List ℕ} {outside : Outside} {seen : Seen} → n ≡ m → IsEmpty n title id outside seen → IsEmpty m title id outside seen
+of_form {n = n} {m = m} {title = title} {id = id} {outside = outside} {seen = seen} same e = subst (λ (k : ℕ). IsEmpty k title id outside seen) same e
 
 -- the image of a D64 that shows an empty disk
-pub new_sectors : (form : Form) (title id image : List ℕ) (disk : sectors.Image) → kind_in form ≡ D64 → IsImageSize (length disk.bytes) → image ≡ disk.bytes
-    → IsEmpty (tracks_of_form form) title id (sectors.d64_seen disk) → IsNew form title id image
-new_sectors form title id image disk kind size same e = record {
-  opens = first_zeros image (ap (λ (xs : List ℕ). d64_content xs (record { track = 1; sector = 0 })) same ∙ e.first) ∙ sym kind;
+pub new_sectors : (form : Form) (title id image : List ℕ) (before : Outside) (disk : sectors.Image) → kind_in form ≡ D64 → IsImageSize (length disk.bytes) → image ≡ disk.bytes
+    → IsEmpty (tracks_of_form form) title id before (sectors.d64_seen disk) → IsNew form title id image
+new_sectors form title id image before disk kind size same e = record {
+  opens = d64_by_size image (ap (λ (xs : List ℕ). is_d64_size (length xs)) same ∙ sized (length disk.bytes) size) ∙ sym kind;
   accepted = subst (λ (k : Kind). image_fault k image ≡ None) (sym kind) (ap (λ (xs : List ℕ). size_fault (length xs)) same ∙ right_size (length disk.bytes) size);
   holds = subst (λ (k : Kind). ImageHolds k image (empty_disk (tracks_of_form form) title id)) (sym kind)
       (subst (λ (xs : List ℕ). ImageHolds D64 xs (empty_disk (tracks_of_form form) title id)) (sym same)
@@ -147,10 +104,10 @@ new_sectors form title id image disk kind size same e = record {
 }
 
 -- the image of a G64 that shows one
-pub new_circles : (form : Form) (title id image : List ℕ) (disk : circles.G64State) → kind_in form ≡ G64 → (g64_fault image ≡ None) × (tracks_in_file image 35 ≡ disk.tracks)
-    → IsEmpty (tracks_of_form form) title id (circles.g64_seen disk) → IsNew form title id image
-new_circles form title id image disk kind again e = record {
-  opens = has_kind image again.0 ∙ sym kind;
+pub new_circles : (form : Form) (title id image : List ℕ) (before disk : circles.G64State) → kind_in form ≡ G64 → (g64_fault image ≡ None) × (tracks_in_file image 35 ≡ disk.tracks)
+    → g64_rest image ≡ g64_rest (base_of disk.formatted disk.file) → IsEmpty (tracks_of_form form) title id (circles.g64_seen before).outside (circles.g64_seen disk) → IsNew form title id image
+new_circles form title id image before disk kind again rest e = record {
+  opens = has_kind image again.0 (ap is_d64_size (same_size image new_file (rest ∙ ap (λ (o : Outside). o.kept) e.same_outside) ∙ length-new_file)) ∙ sym kind;
   accepted = subst (λ (k : Kind). image_fault k image ≡ None) (sym kind) (ap (option_map g64_fault_number) again.0);
   holds = subst (λ (k : Kind). ImageHolds k image (empty_disk (tracks_of_form form) title id)) (sym kind)
       (subst (λ (ts : List (List Bool)). HoldsDisk 35 (circles.g64_content ts) (empty_disk (tracks_of_form form) title id)) (sym again.1)

@@ -1,7 +1,8 @@
 -- Several changes: those that are left, after those that were made, are the whole.
 use Rattle.std.proofs.Common.{◌≡◌, ℕ, zero, suc, ◌+◌, ◌<◌, List, [], ◌∷◌, length, drop, drop-cons, get_or, arith, Bool, false, Result, Ok, Err, refl, sym, ap, subst, ◌∙◌, inl, inr}
 use Rattle.std.specs.Prelude.{◌⊎◌, MatchResult, IfOk, IfErr}
-use Rattle.cbm_medium.specs.Seen.{Seen}
+use Rattle.std.proofs.lemmas.List.Folds.{list_any_at}
+use Rattle.cbm_medium.specs.Seen.{Seen, Outside}
 use Rattle.cbm_file.specs.Files.{Disk}
 use Rattle.cbm_machine.specs.Machines.{start}
 use Rattle.cbm_volume.specs.Holding.{HoldsDisk}
@@ -10,8 +11,10 @@ use Rattle.cbm_shell.specs.declared.changing.DiskChange.{DiskChange}
 use Rattle.cbm_shell.specs.declared.fault.ShellFault.{ShellFault}
 use Rattle.cbm_shell.specs.declared.fault.ShellFault.TheVariants as fault
 use Rattle.cbm_shell.specs.Images.{IsSaved, OrOpenFault}
-use Rattle.cbm_shell.specs.Changing.{disk_after_change, IsFine, IsUndone}
-use Rattle.cbm_shell.specs.Several.{AreMade, AreUndone, HoldsAfter, ImageAfter}
+use Rattle.cbm_channel.specs.Going.{IsOutsideKept}
+use Rattle.cbm_channel.proofs.Goings.{outside_more, outside_then}
+use Rattle.cbm_shell.specs.Changing.{change_formats, disk_after_change, IsFine, IsUndone}
+use Rattle.cbm_shell.specs.Several.{any_formats, AreMade, AreUndone, HoldsAfter, ImageAfter}
 use Rattle.cbm_shell.proofs.ImageLemmas.{as_other_fault, saved_holds}
 
 pub record UnderWay (left whole : List DiskChange) (protected : Bool) (tracks : ℕ) (d : Disk) (seen : Seen) : Type 0 where
@@ -84,3 +87,8 @@ saved_after image items changes kind other tracks d seen (Err f) same s m h = su
 pub first_sound : (A : Type 0) (index : ℕ) → (index ≡ 0 → A) → (0 < index → A) → A
 first_sound A zero first later = first refl
 first_sound A (suc n) first later = later (omega arith)
+
+-- one more change: NEW among them is NEW among all
+pub one_formats : (changes : List DiskChange) (x : DiskChange) (i : ℕ) (a b c : Outside) → i < length changes → IsOutsideKept (any_formats changes) a b → IsOutsideKept (change_formats (get_or changes i x)) b c → IsOutsideKept (any_formats changes) a c
+one_formats changes x i a b c h first second = outside_then (any_formats changes) a b c first
+    (outside_more (change_formats (get_or changes i x)) (any_formats changes) b c (list_any_at change_formats changes i x h) second)

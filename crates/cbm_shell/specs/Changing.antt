@@ -1,5 +1,5 @@
 -- Changes of a disk, as the drive makes them.
-use Rattle.std.specs.Prelude.{ℕ, ◌≡◌, ◌≤◌, ◌<◌, ◌⊎◌, Result, MatchResult}
+use Rattle.std.specs.Prelude.{ℕ, ◌≡◌, ◌≤◌, ◌<◌, ◌⊎◌, Bool, false, Result, MatchResult}
 use Rattle.cbm_medium.specs.Content.{Content}
 use Rattle.cbm_medium.specs.Seen.{Seen}
 use Rattle.cbm_file.specs.Files.{Disk}
@@ -7,6 +7,7 @@ use Rattle.cbm_volume.specs.Holding.{HoldsDisk}
 use Rattle.cbm_bam.specs.Map.{geometry_of}
 use Rattle.cbm_volume.specs.check.WholeDisk.{DiskFault}
 use Rattle.cbm_channel.specs.declared.Status.{Status}
+use Rattle.cbm_channel.specs.Commanded.{open_formats}
 use Rattle.cbm_machine.specs.Codes.{code_number}
 use Rattle.cbm_machine.specs.Machines.{Machine, start}
 use Rattle.cbm_machine.specs.Closing.{close}
@@ -26,6 +27,11 @@ begun (File text bytes) m = after_open 2 text.now m
 abbrev pub disk_after_change : DiskChange → Machine → Machine
 disk_after_change (Command text) m = begun (Command text) m
 disk_after_change (File text bytes) m = close 2 (hear_bytes 2 bytes.now (begun (File text bytes) m))
+
+-- the change is NEW
+abbrev pub change_formats : DiskChange → Bool
+change_formats (Command text) = open_formats 15 text.now
+change_formats (File text bytes) = false
 
 -- a status below 20 reports no error
 abbrev pub IsFine : Status → Type 0

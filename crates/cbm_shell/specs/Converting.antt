@@ -76,14 +76,6 @@ pub record AreLosses (image : List ℕ) (unreadable : List Fault) (more_tracks e
   pub errors : error_bytes ≡ has_error_bytes (kind_of image) image
   pub id : IsTrue header_id ↔ HasOtherId image
 
--- A D64 made of this G64 would be taken for a G64: its first sector begins as a G64's file does.
-abbrev pub IsMistakable : List ℕ → Type 0
-IsMistakable image = (kind_of image ≡ G64) × ((bytes : List ℕ) × (content_held image (record { track = 1; sector = 0 }) ≡ Ok bytes) × (take 8 bytes ≡ codes "GCR-1541"))
-
--- why an image isn't converted: its own fault or want of memory, or the new one would be taken for one of the old format
-abbrev pub IsConvertFault : List ℕ → ShellFault → Type 0
-IsConvertFault image f = IsOpenFault image f ⊎ ((f ≡ fault.Mistaken) × IsMistakable image)
-
 -- the disk of a G64 as it is opened: the circles of its 35 tracks, and its file
 abbrev pub circles_shown : List ℕ → G64State
 circles_shown image = record { tracks = g64_circles image 35; file = image; formatted = false; protected = false }

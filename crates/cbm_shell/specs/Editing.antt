@@ -46,10 +46,11 @@ pub record CanBeEdited (tracks : ℕ) (seen : Seen) : Type 0 where
   pub sound : Sound tracks seen.content layout
   pub free : seen.protected ≡ false
 
--- tracks and protection are as they were
+-- tracks, protection and the bytes outside the sectors are as they were
 pub record IsSameMedium (old new : Seen) : Type 0 where
   pub tracks : new.tracks ≡ old.tracks
   pub protected : new.protected ≡ old.protected
+  pub outside : new.outside ≡ old.outside
 
 -- the directory lies in these sectors, and all of them count
 pub record IsDirectory (tracks : ℕ) (content : Content) (sectors : List Place) : Type 0 where

@@ -16,10 +16,10 @@ is_directory Directory = true
 is_directory (File slot) = false
 
 -- the number of a link to elsewhere: 6 of the directory, 4 of a file
-abbrev pub outside_of : Whose → ℕ
-outside_of Disk = 6
-outside_of Directory = 6
-outside_of (File slot) = 4
+abbrev pub number_outside : Whose → ℕ
+number_outside Disk = 6
+number_outside Directory = 6
+number_outside (File slot) = 4
 
 -- the bytes of a sector that was met, where the walk goes on
 abbrev pub next_bytes : Bool → List ℕ → Option (List ℕ)

@@ -12,7 +12,7 @@ use Rattle.cbm_volume.specs.check.WholeDisk.{DiskFault}
 use Rattle.cbm_volume.specs.declared.Unsound.{Unsound}
 use Rattle.cbm_machine.specs.Machines.{Machine, start}
 use Rattle.cbm_image.specs.declared.kind.Kind.{Kind}
-use Rattle.cbm_image.specs.Images.{kind_of, image_fault, tracks_of, content_of, ImageHolds}
+use Rattle.cbm_image.specs.Images.{kind_of, image_fault, tracks_of, content_of, outside_of, ImageHolds}
 use Rattle.cbm_shell.specs.declared.changing.DiskChange.{DiskChange}
 use Rattle.cbm_shell.specs.declared.fault.ShellFault.{ShellFault}
 use Rattle.cbm_shell.specs.declared.fault.ShellFault.TheVariants as fault
@@ -24,6 +24,7 @@ use Rattle.cbm_shell.specs.Changing.{disk_after_change, IsFine, IsUndone}
 pub record IsImageOpened (image : List ℕ) (seen : Seen) : Type 0 where
   pub same_tracks : seen.tracks ≡ tracks_of (kind_of image) image
   pub same_content : seen.content ≡ content_of (kind_of image) image
+  pub same_outside : seen.outside ≡ outside_of (kind_of image) image
   pub free : seen.protected ≡ false
 
 -- an image of this format is what the disk shows, and opens again
@@ -31,6 +32,7 @@ pub record IsSaved (kind : Kind) (image : List ℕ) (seen : Seen) : Type 0 where
   pub faultless : image_fault kind image ≡ None
   pub same_tracks : seen.tracks ≡ tracks_of kind image
   pub same_content : seen.content ≡ content_of kind image
+  pub same_outside : seen.outside ≡ outside_of kind image
 
 -- why an image isn't opened: its own fault, or want of memory
 abbrev pub IsOpenFault : List ℕ → ShellFault → Type 0

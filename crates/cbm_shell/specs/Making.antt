@@ -1,7 +1,7 @@
 -- New images of empty disks.
 use Rattle.std.specs.Prelude.{ℕ, ◌≡◌, false, List, [], ◌∷◌, ◌++◌, replicate, Some, None, Ok}
 use Rattle.cbm_medium.specs.Place.{Place, Has}
-use Rattle.cbm_medium.specs.Seen.{Seen}
+use Rattle.cbm_medium.specs.Seen.{Seen, Outside, formatted_outside}
 use Rattle.cbm_file.specs.Files.{Disk, blocks_on}
 use Rattle.cbm_file.specs.Padding.{padded}
 use Rattle.cbm_volume.specs.Holding.{HoldsDisk}
@@ -36,8 +36,9 @@ tracks_of_form form.D64 = 35
 tracks_of_form form.LongD64 = 40
 tracks_of_form form.G64 = 35
 
--- An image without fault whose sectors are all zeros.
+-- An image of the form's format without fault, whose sectors are all zeros.
 pub record IsBlankImage (form : Form) (image : List ℕ) : Type 0 where
+  pub opens : kind_of image ≡ kind_in form
   pub accepted : image_fault (kind_in form) image ≡ None
   pub tracks : tracks_of (kind_in form) image ≡ tracks_of_form form
   pub zeros : (p : Place) → Has (tracks_of_form form) p → content_of (kind_in form) image p ≡ Ok (replicate 256 0)
@@ -48,11 +49,11 @@ pub record IsBlankDisk (tracks : ℕ) (seen : Seen) : Type 0 where
   pub zeros : (p : Place) → Has tracks p → seen.content p ≡ Ok (replicate 256 0)
   pub free : seen.protected ≡ false
 
--- The disk shows the empty disk; its first sector is zeros, and the id in its headers, if it keeps one, is the disk's.
-pub record IsEmpty (tracks : ℕ) (title id : List ℕ) (seen : Seen) : Type 0 where
+-- The disk shows the empty disk; the id in its headers, if it keeps one, is the disk's; and outside the sectors it is as a format leaves it.
+pub record IsEmpty (tracks : ℕ) (title id : List ℕ) (outside : Outside) (seen : Seen) : Type 0 where
   pub same_tracks : seen.tracks ≡ tracks
   pub holds : HoldsDisk tracks seen.content (empty_disk tracks title id)
-  pub first : seen.content (record { track = 1; sector = 0 }) ≡ Ok (replicate 256 0)
+  pub same_outside : seen.outside ≡ formatted_outside outside
   pub headers : (x : List ℕ) → seen.id ≡ Some x → x ≡ id
 
 -- THE NEW IMAGE is one of its format, has no fault that it would be refused for, is sound, and holds the empty disk. The headers of a G64 have the disk's id.

@@ -1,5 +1,6 @@
 -- Several changes of one disk, one after another.
 use Rattle.std.specs.Prelude.{ℕ, ◌≡◌, ◌⊎◌, Bool, false, List, [], ◌∷◌}
+use Rattle.std.specs.List.{list_any}
 use Rattle.cbm_medium.specs.Seen.{Seen}
 use Rattle.cbm_file.specs.Files.{Disk}
 use Rattle.cbm_machine.specs.Machines.{start}
@@ -8,7 +9,11 @@ use Rattle.cbm_image.specs.declared.kind.Kind.{Kind}
 use Rattle.cbm_image.specs.Images.{ImageHolds}
 use Rattle.cbm_shell.specs.declared.changing.DiskChange.{DiskChange}
 use Rattle.cbm_shell.specs.declared.fault.ShellFault.{ShellFault}
-use Rattle.cbm_shell.specs.Changing.{disk_after_change, IsFine, IsUndone}
+use Rattle.cbm_shell.specs.Changing.{change_formats, disk_after_change, IsFine, IsUndone}
+
+-- one of them is NEW
+abbrev pub any_formats : List DiskChange → Bool
+any_formats changes = list_any change_formats changes
 
 -- CHANGES MADE ONE AFTER ANOTHER, each by the machine at power up, lead from a disk to another: none reports an error.
 unfoldable pub AreMade : List DiskChange → Bool → ℕ → Disk → Disk → Type 0

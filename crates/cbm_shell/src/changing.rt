@@ -3,12 +3,12 @@ ghost use Rattle.std.specs.Prelude.{◌≡◌, ◌≤◌, MatchResult, IfErr, If
 ghost use Rattle.cbm_machine.specs.Codes.{code_number};
 ghost use Rattle.cbm_machine.specs.Machines.{Machine};
 ghost use Rattle.cbm_channel.specs.Standing.{Stands};
-ghost use Rattle.cbm_channel.specs.Going.{KeepsMedium};
+ghost use Rattle.cbm_channel.specs.Going.{IsOutsideKept, KeepsMedium};
 ghost use Rattle.cbm_file.specs.Files.{Disk};
 ghost use Rattle.cbm_volume.specs.Holding.{HoldsDisk};
 ghost use Rattle.cbm_shell.specs.Images.{IsSoundDisk};
 ghost use Rattle.cbm_shell.specs.Editing.{IsUnedited};
-ghost use Rattle.cbm_shell.specs.Changing.{disk_after_change, IsFine, IsUndone, IsStatusRefusal, IsFaultOf, MakesChange};
+ghost use Rattle.cbm_shell.specs.Changing.{change_formats, disk_after_change, IsFine, IsUndone, IsStatusRefusal, IsFaultOf, MakesChange};
 
 pub(crate) mod art;
 pub(crate) mod locking;
@@ -62,7 +62,7 @@ fn apply<M: Steady>(dos: &mut Dos<M>, change: &DiskChange<'_>) -> Result<(), She
         (λ _. IsFine (disk_after_change change.now m).status × Stands M.seen dos.new (disk_after_change change.now m))
         (IsUndone change.now m) }
     ensures refused { IfErr result IsStatusRefusal }
-    ensures medium { KeepsMedium (M.seen dos.old.medium) (M.seen dos.new.medium) }
+    ensures medium { KeepsMedium (change_formats change.now) (M.seen dos.old.medium) (M.seen dos.new.medium) }
 {
     match change {
         DiskChange::Command(text) => {
@@ -105,6 +105,7 @@ pub fn changed<M: Steady + Drop>(
     ensures fault { IfErr result (IsFaultOf (M.seen medium).tracks (M.seen medium).content) }
     ensures same_tracks { IfOk result (λ after. (M.seen after).tracks ≡ (M.seen medium).tracks) }
     ensures same_protection { IfOk result (λ after. (M.seen after).protected ≡ (M.seen medium).protected) }
+    ensures same_outside { IfOk result (λ after. IsOutsideKept (change_formats change.now) (M.seen medium).outside (M.seen after).outside) }
 {
     let volume = Volume::open(medium);
     require_sound(&volume)?;

@@ -6,7 +6,8 @@ ghost use Rattle.cbm_channel.specs.Standing.{Stands};
 ghost use Rattle.cbm_volume.specs.Holding.{HoldsDisk};
 ghost use Rattle.cbm_bam.specs.Map.{geometry_of};
 ghost use Rattle.cbm_image.specs.AnyDisks.{any_seen};
-ghost use Rattle.cbm_image.specs.Images.{kind_of, image_fault, tracks_of, content_of, ImageHolds};
+ghost use Rattle.cbm_image.specs.Images.{kind_of, tracks_of, content_of, outside_of, ImageHolds, OpensAgain, KeepsOtherBytes, ChangesSectors};
+ghost use Rattle.cbm_shell.specs.Changing.{change_formats};
 ghost use Rattle.cbm_shell.specs.Reading.{Gets};
 ghost use Rattle.cbm_shell.specs.Listing.{IsListing, IsSent};
 ghost use Rattle.cbm_shell.specs.Images.{IsImageOpened, IsSaved, IsOpenFault, IsFailed, IsLost, ShowsFileIn, IsSoundImage, IsHidden, IsChecked, IsOrderlyDisk, IsInOrder, IsImageInOrder, OfHeld, machine_on, HasChanged};
@@ -61,7 +62,9 @@ pub fn change(alloc: Global, image: &[u8], change: &DiskChange<'_>) -> Result<Ve
         (IsFailed image.now change.now (machine_on image.now d))) }
     // An image that isn't sound gives no new one, and the new image opens again.
     ensures sound { OnOk result (IsSoundImage (kind_of image.now) image.now) }
-    ensures opens { IfOk result (λ v. image_fault (kind_of image.now) v.items ≡ None) }
+    ensures opens { IfOk result (λ v. OpensAgain image.now v.items) }
+    // All but its sectors is as it was, unless the change is NEW.
+    ensures bytes { change_formats change.now ≡ false → IfOk result (λ v. KeepsOtherBytes image.now v.items) }
 {
     let disk = opened(alloc, image)?;
     let channels = Channels::new(alloc)?;
@@ -143,6 +146,7 @@ pub struct Order {
 /// The disk of an image, put in order.
 fn validated(alloc: Global, image: &[u8]) -> Result<AnyDisk, ShellFault>
     ensures tracks { IfOk result (λ disk. (any_seen disk).tracks ≡ tracks_of (kind_of image.now) image.now) }
+    ensures outside { IfOk result (λ disk. (any_seen disk).outside ≡ outside_of (kind_of image.now) image.now) }
     ensures order { IfOk result (λ disk. IsOrderlyDisk (any_seen disk).tracks (any_seen disk).content) }
     ensures changes { let kind = kind_of image.now in let content = content_of kind image.now in IfOk result (λ disk.
         IsPutInOrder (geometry_of (tracks_of kind image.now) content) content (any_seen disk).content) }
@@ -168,7 +172,8 @@ fn given_back(alloc: Global, image: &[u8], new: &AnyDisk) -> Result<Freed, Shell
 /// Puts the disk of an image in order, also one that isn't sound: slots of files that were never closed become empty, and
 /// each block is free or a file's. Errors: `Image`; `Trouble`, with what can't be mended first; `Memory`.
 pub fn validate(alloc: Global, image: &[u8]) -> Result<Order, ShellFault>
-    // The new image is sound, and putting it in order again changes nothing.
+    // The new image opens again, with all its bytes outside the sectors, is sound, and putting it in order again changes nothing.
+    ensures opens { IfOk result (λ o. ChangesSectors image.now o.image.items) }
     ensures order { IfOk result (λ o. IsInOrder (kind_of image.now) o.image.items) }
     // Closed files, their entries and the title are as they were.
     ensures changes { IfOk result (λ o. IsImageInOrder (kind_of image.now) image.now o.image.items) }

@@ -2,7 +2,7 @@
 use Rattle.std.proofs.Common.{◌≡◌, ℕ, List, None, inl, inr, subst, sym, Bool}
 use Rattle.std.specs.Prelude.{false, Result, Ok, Err, IfErr, IfOk}
 use Rattle.std.specs.Result.{IsErrAnd}
-use Rattle.cbm_image.specs.Images.{kind_of, image_fault}
+use Rattle.cbm_image.specs.Images.{kind_of}
 use Rattle.cbm_shell.specs.declared.fault.ShellFault.{ShellFault}
 use Rattle.cbm_shell.specs.Images.{IsSoundImage}
 use Rattle.cbm_shell.specs.Editing.{IsUneditedIn, HasNoSlotIn}
@@ -33,11 +33,11 @@ not_doubled (Err g) image name slot f is h = inr (inr (inr (inl (subst (λ x. Is
 
 -- the copy has its name
 pub copied_as : {A : Type 0} (items : A → List ℕ) (r : Result A ShellFault) (image both spare name : List ℕ) (slot : ℕ)
-    → ((new : List ℕ) → IsNamedAs both spare name new → IsSoundImage (kind_of both) new → image_fault (kind_of both) new ≡ None → IsCopiedInSlot image slot name new)
-    → IfOk r (λ v. IsNamedAs both spare name (items v)) → IfOk r (λ v. IsSoundImage (kind_of both) (items v)) → IfOk r (λ v. image_fault (kind_of both) (items v) ≡ None)
+    → ((new : List ℕ) → IsNamedAs both spare name new → IsSoundImage (kind_of both) new → IsCopiedInSlot image slot name new)
+    → IfOk r (λ v. IsNamedAs both spare name (items v)) → IfOk r (λ v. IsSoundImage (kind_of both) (items v))
     → IfOk r (λ v. IsCopiedInSlot image slot name (items v))
-copied_as items (Ok v) image both spare name slot make named sound opens = make (items v) named sound opens
-copied_as items (Err f) image both spare name slot make named sound opens = tt
+copied_as items (Ok v) image both spare name slot make named sound = make (items v) named sound
+copied_as items (Err f) image both spare name slot make named sound = tt
 
 -- or it hasn't
 pub copy_unnamed : {A : Type 0} (r : Result A ShellFault) (image both spare name : List ℕ) (slot : ℕ) → ((f : ShellFault) → IsNotNamedAs both spare f → IsCopyUnnamed image slot f)

@@ -3,7 +3,7 @@ use Rattle.std.proofs.Common.{◌≡◌, ℕ, List, None, inl, inr, subst, sym, 
 use Rattle.std.specs.Prelude.{false, Result, Ok, Err, IfErr, IfOk}
 use Rattle.std.proofs.lemmas.Bool.{cases_lt}
 use Rattle.std.specs.Result.{IsErrAnd}
-use Rattle.cbm_image.specs.Images.{kind_of, image_fault}
+use Rattle.cbm_image.specs.Images.{kind_of}
 use Rattle.cbm_shell.specs.declared.fault.ShellFault.{ShellFault}
 use Rattle.cbm_shell.specs.Images.{IsSoundImage}
 use Rattle.cbm_shell.specs.Editing.{IsUneditedIn, HasNoSlotIn}
@@ -12,11 +12,11 @@ use Rattle.cbm_slots.specs.InSlots.{IsDeletedInSlot, has_name, spare_of, IsNotDe
 
 -- the entry has its name again
 pub named_again : {A : Type 0} (items : A → List ℕ) (r : Result A ShellFault) (image scratched name : List ℕ) (slot blocks : ℕ)
-    → ((new : List ℕ) → IsDressedIn scratched slot name blocks false new → IsSoundImage (kind_of scratched) new → image_fault (kind_of scratched) new ≡ None → IsDeletedInSlot image slot new)
-    → IfOk r (λ v. IsDressedIn scratched slot name blocks false (items v)) → IfOk r (λ v. IsSoundImage (kind_of scratched) (items v)) → IfOk r (λ v. image_fault (kind_of scratched) (items v) ≡ None)
+    → ((new : List ℕ) → IsDressedIn scratched slot name blocks false new → IsSoundImage (kind_of scratched) new → IsDeletedInSlot image slot new)
+    → IfOk r (λ v. IsDressedIn scratched slot name blocks false (items v)) → IfOk r (λ v. IsSoundImage (kind_of scratched) (items v))
     → IfOk r (λ v. IsDeletedInSlot image slot (items v))
-named_again items (Ok v) image scratched name slot blocks make dressed sound opens = make (items v) dressed sound opens
-named_again items (Err f) image scratched name slot blocks make dressed sound opens = tt
+named_again items (Ok v) image scratched name slot blocks make dressed sound = make (items v) dressed sound
+named_again items (Err f) image scratched name slot blocks make dressed sound = tt
 
 -- or it hasn't
 pub not_named : {A : Type 0} (r : Result A ShellFault) (image scratched : List ℕ) (slot : ℕ) → ((f : ShellFault) → IsUneditedIn scratched (HasNoSlotIn scratched slot) f → IsNotNamed image slot f)

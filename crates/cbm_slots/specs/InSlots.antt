@@ -100,7 +100,7 @@ IsCommanded image text new = (d : Disk) → ImageHolds (kind_of image) image d �
     IsFine (after_open 15 text (machine_on image d)).status × ImageHolds (kind_of image) new (after_open 15 text (machine_on image d)).disk
 
 -- THE FILE OF A SLOT IS DELETED: it isn't locked, its entry gets a name that no other file has, the drive scratches that, and the empty entry has its own name again.
--- The new image is sound, and opens again.
+-- The new image is sound.
 pub record IsDeletedInSlot (image : List ℕ) (slot : ℕ) (new : List ℕ) : Type 0 where
   pub entries : List (List ℕ)
   pub entry : List ℕ
@@ -115,7 +115,6 @@ pub record IsDeletedInSlot (image : List ℕ) (slot : ℕ) (new : List ℕ) : Ty
   pub done : IsCommanded hidden (scratch_text spare) scratched
   pub named : IsDressedIn scratched slot (slice_range entry 3 19) (blocks_said entry) false new
   pub sound : IsSoundImage (kind_of scratched) new
-  pub opens : image_fault (kind_of scratched) new ≡ None
 
 -- ---- COPY
 
@@ -147,7 +146,7 @@ pub record IsNamedAs (image spare name new : List ℕ) : Type 0 where
   pub there : IsPlaceOf entries spare place blocks
   pub dressed : IsDressedIn image place name blocks false new
 
--- THE FILE OF A SLOT IS COPIED to a name that no file had: the drive copies it between spare names, and the copy gets the name. The new image is sound, and opens again.
+-- THE FILE OF A SLOT IS COPIED to a name that no file had: the drive copies it between spare names, and the copy gets the name. The new image is sound.
 pub record IsCopiedInSlot (image : List ℕ) (slot : ℕ) (name new : List ℕ) : Type 0 where
   pub entries : List (List ℕ)
   pub entry : List ℕ
@@ -162,7 +161,6 @@ pub record IsCopiedInSlot (image : List ℕ) (slot : ℕ) (name new : List ℕ) 
   pub doubled : IsDoubled image slot (slice_range entry 3 19) (blocks_said entry) (is_locked entry) old spare both
   pub named : IsNamedAs both spare name new
   pub sound : IsSoundImage (kind_of both) new
-  pub opens : image_fault (kind_of both) new ≡ None
 
 -- ---- why nothing is changed
 

@@ -1,6 +1,6 @@
 //! COPY: the drive's, of the one file that is meant.
 ghost use Rattle.std.specs.Prelude.{◌≡◌, ◌≤◌, None, IfOk, IfErr, IfSome, OnOk, length};
-ghost use Rattle.cbm_image.specs.Images.{kind_of, image_fault};
+ghost use Rattle.cbm_image.specs.Images.{kind_of, ChangesSectors};
 ghost use Rattle.cbm_shell.specs.Images.{IsSoundImage};
 ghost use Rattle.cbm_slots.specs.InSlots.{copy_text, IsPlaceOf, IsNowhere, IsDoubled, IsNotDoubled, IsNamedAs, IsNotNamedAs, IsCopiedInSlot, IsNotCopiedInSlot};
 
@@ -28,6 +28,7 @@ fn doubled(
 ) -> Result<Vec<u8>, ShellFault>
     ensures doubled { IfOk result (λ v. IsDoubled image.now slot meant.now.name meant.now.blocks meant.now.is_locked spares.old spares.new v.items) }
     ensures sound { OnOk result (IsSoundImage (kind_of image.now) image.now) }
+    ensures opens { IfOk result (λ v. ChangesSectors image.now v.items) }
     ensures fault { IfErr result (IsNotDoubled image.now slot) }
 {
     let looks = Looks {
@@ -75,7 +76,7 @@ fn named(alloc: Global, image: &[u8], spare: &[u8], name: &[u8]) -> Result<Vec<u
     requires { length name.now ≤ 16 }
     ensures named { IfOk result (λ v. IsNamedAs image.now spare.now name.now v.items) }
     ensures stays { IfOk result (λ v. IsSoundImage (kind_of image.now) v.items) }
-    ensures opens { IfOk result (λ v. image_fault (kind_of image.now) v.items ≡ None) }
+    ensures opens { IfOk result (λ v. ChangesSectors image.now v.items) }
     ensures fault { IfErr result (IsNotNamedAs image.now spare.now) }
 {
     let entries = entries(alloc, image)?;
@@ -97,6 +98,7 @@ pub fn copy(alloc: Global, image: &[u8], slot: u8, name: &[u8]) -> Result<Vec<u8
     requires { length name.now ≤ 16 }
     ensures copied { IfOk result (λ v. IsCopiedInSlot image.now slot name.now v.items) }
     ensures sound { OnOk result (IsSoundImage (kind_of image.now) image.now) }
+    ensures opens { IfOk result (λ v. ChangesSectors image.now v.items) }
     ensures fault { IfErr result (IsNotCopiedInSlot image.now slot name.now) }
 {
     let meant = find_meant(alloc, image, slot)?;

@@ -1,6 +1,6 @@
 //! DELETE: the drive's SCRATCH, of the one file that is meant.
 ghost use Rattle.std.specs.Prelude.{◌≡◌, IfOk, IfErr, OnOk};
-ghost use Rattle.cbm_image.specs.Images.{kind_of};
+ghost use Rattle.cbm_image.specs.Images.{kind_of, ChangesSectors};
 ghost use Rattle.cbm_shell.specs.Images.{IsSoundImage};
 ghost use Rattle.cbm_slots.specs.InSlots.{scratch_text, IsDeletedInSlot, IsNotDeletedInSlot};
 
@@ -24,6 +24,7 @@ fn scratch_text(name: &[u8; 2]) -> [u8; 5]
 pub fn delete(alloc: Global, image: &[u8], slot: u8) -> Result<Vec<u8>, ShellFault>
     ensures deleted { IfOk result (λ v. IsDeletedInSlot image.now slot v.items) }
     ensures sound { OnOk result (IsSoundImage (kind_of image.now) image.now) }
+    ensures opens { IfOk result (λ v. ChangesSectors image.now v.items) }
     ensures fault { IfErr result (IsNotDeletedInSlot image.now slot) }
 {
     let meant = find_meant(alloc, image, slot)?;

@@ -1,6 +1,6 @@
 //! Another name, and a lock: changes of an entry alone.
-ghost use Rattle.std.specs.Prelude.{◌≡◌, ◌≤◌, None, IfOk, IfErr, OnOk, length};
-ghost use Rattle.cbm_image.specs.Images.{kind_of, image_fault};
+ghost use Rattle.std.specs.Prelude.{◌≡◌, ◌≤◌, IfOk, IfErr, OnOk, length};
+ghost use Rattle.cbm_image.specs.Images.{kind_of, ChangesSectors};
 ghost use Rattle.cbm_shell.specs.Images.{IsSoundImage};
 ghost use Rattle.cbm_slots.specs.InSlots.{IsRenamedInSlot, IsLockedInSlot, IsNotRenamedInSlot, IsNotLockedInSlot};
 
@@ -18,7 +18,7 @@ pub fn rename(alloc: Global, image: &[u8], slot: u8, name: &[u8]) -> Result<Vec<
     ensures renamed { IfOk result (λ v. IsRenamedInSlot image.now slot name.now v.items) }
     ensures sound { OnOk result (IsSoundImage (kind_of image.now) image.now) }
     ensures stays { IfOk result (λ v. IsSoundImage (kind_of image.now) v.items) }
-    ensures opens { IfOk result (λ v. image_fault (kind_of image.now) v.items ≡ None) }
+    ensures opens { IfOk result (λ v. ChangesSectors image.now v.items) }
     ensures fault { IfErr result (IsNotRenamedInSlot image.now slot name.now) }
 {
     let meant = find_meant(alloc, image, slot)?;
@@ -40,7 +40,7 @@ pub fn lock(alloc: Global, image: &[u8], slot: u8, is_locked: bool) -> Result<Ve
     ensures locked { IfOk result (λ v. IsLockedInSlot image.now slot is_locked v.items) }
     ensures sound { OnOk result (IsSoundImage (kind_of image.now) image.now) }
     ensures stays { IfOk result (λ v. IsSoundImage (kind_of image.now) v.items) }
-    ensures opens { IfOk result (λ v. image_fault (kind_of image.now) v.items ≡ None) }
+    ensures opens { IfOk result (λ v. ChangesSectors image.now v.items) }
     ensures fault { IfErr result (IsNotLockedInSlot image.now slot) }
 {
     let meant = find_meant(alloc, image, slot)?;

@@ -2,7 +2,7 @@
 ghost use Rattle.std.specs.Prelude.{◌≡◌, None, IfOk, IfErr, OnOk};
 ghost use Rattle.cbm_bam.specs.Map.{geometry_of};
 ghost use Rattle.cbm_image.specs.AnyDisks.{any_seen};
-ghost use Rattle.cbm_image.specs.Images.{kind_of, image_fault, content_of};
+ghost use Rattle.cbm_image.specs.Images.{kind_of, image_fault, content_of, outside_of, ChangesSectors};
 ghost use Rattle.cbm_shell.specs.Images.{IsSoundImage};
 ghost use Rattle.cbm_slots.specs.Retyping.{retyped_entry, IsPlainFile, IsNoPlainFile, IsRetyped, IsUnretyped, IsUnfit, IsRetypedInSlot, IsNotRetypedInSlot};
 
@@ -45,6 +45,7 @@ fn plain_entry<M: Medium>(volume: &Volume<M>, slot: u8) -> Result<Entry, ShellFa
 /// The disk on which the file in a slot has another type. Errors: those of `plain_entry`; `Trouble`.
 fn retyped<M: Steady + Drop>(volume: Volume<M>, slot: u8, kind: FileType) -> Result<M, ShellFault>
     ensures tracks { IfOk result (λ after. (M.seen after).tracks ≡ (M.seen volume).tracks) }
+    ensures outside { IfOk result (λ after. (M.seen after).outside ≡ (M.seen volume).outside) }
     ensures retyped { let old = M.seen volume in IfOk result (λ after.
         IsRetyped (geometry_of old.tracks old.content) slot kind old.content (M.seen after).content) }
     ensures fault { let old = M.seen volume in IfErr result (IsNoPlainFile (geometry_of old.tracks old.content) old.content slot) }
@@ -60,6 +61,7 @@ fn retyped<M: Steady + Drop>(volume: Volume<M>, slot: u8, kind: FileType) -> Res
 fn fit_image(alloc: Global, disk: AnyDisk, format: Kind) -> Result<Vec<u8>, ShellFault>
     ensures sound { IfOk result (λ v. IsSoundImage format v.items) }
     ensures content { IfOk result (λ v. content_of format v.items ≡ (any_seen disk).content) }
+    ensures outside { IfOk result (λ v. outside_of format v.items ≡ (any_seen disk).outside) }
     ensures opens { IfOk result (λ v. image_fault format v.items ≡ None) }
     ensures fault { let now = any_seen disk in IfErr result (IsUnfit now.tracks now.content) }
 {
@@ -79,6 +81,7 @@ fn retyped_image(
     ensures retyped { let old = any_seen volume in IfOk result (λ v.
         IsRetyped (geometry_of old.tracks old.content) slot kind old.content (content_of format v.items)) }
     ensures sound { IfOk result (λ v. IsSoundImage format v.items) }
+    ensures outside { IfOk result (λ v. outside_of format v.items ≡ (any_seen volume).outside) }
     ensures opens { IfOk result (λ v. image_fault format v.items ≡ None) }
     ensures fault { let old = any_seen volume in IfErr result (IsUnretyped old.tracks old.content slot kind) }
 {
@@ -94,7 +97,7 @@ pub fn retype(alloc: Global, image: &[u8], slot: u8, kind: FileType) -> Result<V
     ensures retyped { IfOk result (λ v. IsRetypedInSlot image.now slot kind v.items) }
     ensures sound { OnOk result (IsSoundImage (kind_of image.now) image.now) }
     ensures stays { IfOk result (λ v. IsSoundImage (kind_of image.now) v.items) }
-    ensures opens { IfOk result (λ v. image_fault (kind_of image.now) v.items ≡ None) }
+    ensures opens { IfOk result (λ v. ChangesSectors image.now v.items) }
     ensures fault { IfErr result (IsNotRetypedInSlot image.now slot kind) }
 {
     let volume = open_disk(alloc, image)?;

@@ -1,3 +1,4 @@
 -- NEW.
 pub mod NewHeads
 pub mod NewDisks
+pub mod StoppedNews

@@ -4,11 +4,13 @@ use Rattle.cbm_medium.specs.Place.{Place, Has, directory_head}
 use Rattle.cbm_medium.specs.Content.{Content, written, blank}
 use Rattle.cbm_medium.specs.Seen.{Seen, formatted_as, with_content, OnlyContent}
 use Rattle.cbm_medium.specs.declared.fault.Trouble.{Trouble}
+use Rattle.cbm_file.specs.Files.{Disk, file_at}
 use Rattle.cbm_file.specs.Padding.{padded}
 use Rattle.cbm_bam.specs.Map.{map_of, is_free_in, IsCounted, IsOutsideMap, IsSpare, with_bit}
 use Rattle.cbm_bam.specs.Marks.{nothing}
 use Rattle.cbm_directory.specs.Entries.{first_directory}
 use Rattle.cbm_directory.specs.Growth.{new_sector}
+use Rattle.cbm_volume.specs.Holding.{HoldsDisk}
 
 -- the two sectors that an empty disk uses: 18/0 and 18/1
 abbrev pub used_by_new : Place → Bool
@@ -32,11 +34,11 @@ pub record IsNewHead (tracks : ℕ) (title id : List ℕ) (head : List ℕ) : Ty
   pub titled : slice_range head 144 160 ≡ padded title
   pub marked : slice_range head 162 167 ≡ id ++ 160 ∷ 50 ∷ 65 ∷ []
 
--- 18/0 is written, and then 18/1 with eight empty slots.
+-- 18/1 is written with eight empty slots, and then 18/0.
 pub record IsEmptied (tracks : ℕ) (title id : List ℕ) (old new : Content) : Type 0 where
   pub head : List ℕ
   pub is_head : IsNewHead tracks title id head
-  pub written : new ≡ written (written old directory_head head) first_directory new_sector
+  pub written : new ≡ written (written old first_directory new_sector) directory_head head
 
 -- the id after NEW: the new one, or the one that 18/0 had
 abbrev pub id_after : Option (List ℕ) → Content → List ℕ
@@ -52,6 +54,14 @@ content_under (Some id) old = blank
 -- as they were where none is.
 abbrev pub EmptiesDisk : Result (Unit {0}) Trouble → List ℕ → Option (List ℕ) → Seen → Seen → Type 0
 EmptiesDisk result title id old new = OnOk result (IsEmptied old.tracks title (id_after id old.content) (content_under id old.content) new.content)
+
+-- the medium holds a disk that is sound and has no file; blocks that its BAM has as taken may be nobody's
+abbrev pub HoldsNoFile : ℕ → Content → Type 0
+HoldsNoFile tracks content = (d : Disk) × HoldsDisk tracks content d × ((n : ℕ) → file_at d n ≡ None)
+
+-- WHERE NEW WAS STOPPED at a write that the medium refused, nothing has changed, or the disk is sound and no file is left.
+abbrev pub IsNewOrNothing : ℕ → Content → Content → Type 0
+IsNewOrNothing tracks old new = (new ≡ old) ⊎ HoldsNoFile tracks new
 
 -- NEW changes at most what the sectors hold and, where one is given, the id in their headers, over zeros everywhere; a format that was refused
 -- leaves the old id.

@@ -4,8 +4,9 @@ ghost use Rattle.cbm_file.specs.Files.{Disk};
 ghost use Rattle.cbm_machine.specs.Machines.{start};
 ghost use Rattle.cbm_image.specs.Images.{kind_of, tracks_of, ImageHolds};
 ghost use Rattle.cbm_shell.specs.Changing.{IsFine};
+ghost use Rattle.cbm_shell.specs.Images.{IsOpenFault};
 ghost use Rattle.cbm_shell.specs.Making.{IsNew};
-ghost use Rattle.cbm_shell.specs.Converting.{IsConverted, IsConvertFault};
+ghost use Rattle.cbm_shell.specs.Converting.{IsConverted};
 ghost use Rattle.cbm_device.specs.Answers.{refusal_of, GivesBytes};
 ghost use Rattle.cbm_device.specs.Looking.{IsAccepted, IsSound};
 ghost use Rattle.cbm_device.specs.Making.{after_command, after_put, opened_for, IsUnmade, IsUnchanged, IsWantOfMemory};
@@ -154,7 +155,7 @@ pub extern "C" fn y1541_image_convert(
 ) -> i32
     ensures { GivesBytes result out.old out.new needed.old needed.new
         (λ bytes. IsConverted image.now bytes × IsLossOf image.now lost.new)
-        (λ r. (fault : ShellFault) × IsConvertFault image.now fault × (r ≡ refusal_of fault) × (lost.new ≡ lost.old)) }
+        (λ r. (fault : ShellFault) × IsOpenFault image.now fault × (r ≡ refusal_of fault) × (lost.new ≡ lost.old)) }
 {
     match convert(alloc, image) {
         Ok(converted) => {

@@ -32,6 +32,7 @@ _SLOTS, _LISTING = 144, 4672
 _OF_DIRECTORY, _OF_FILE = 1, 2
 # The size of a D64 of 40 tracks.
 _OF_40_TRACKS = 196_608
+_D64_SIZES = (174_848, 175_531, _OF_40_TRACKS)
 _LETTERS = {FileType.SEQ: b"S", FileType.PRG: b"P", FileType.USR: b"U"}
 # Codes that a name may have in the text of an OPEN; any other name is given afterwards, by its slot.
 _PLAIN = frozenset(b" !%'()-./0123456789;<>ABCDEFGHIJKLMNOPQRSTUVWXYZ[]" + bytes(range(193, 219)))
@@ -138,7 +139,7 @@ class Image:
     @property
     def form(self) -> Form:
         """The image's form."""
-        if self._data.startswith(b"GCR-1541"):
+        if len(self._data) not in _D64_SIZES:
             return Form.G64
         return Form.D64_40 if len(self._data) == _OF_40_TRACKS else Form.D64
 

@@ -1,4 +1,4 @@
-ghost use Rattle.std.specs.Prelude.{◌≡◌, ◌≤◌, ◌<◌};
+ghost use Rattle.std.specs.Prelude.{◌≡◌, ◌≤◌, ◌<◌, false};
 
 use crate::dos::Dos;
 use cbm_machine::Status;
@@ -95,7 +95,7 @@ impl<M: Medium> Dos<M> {
         ensures goes { Goes M.seen self.old self.new closings }
         ensures closed { (k : ℕ) → slice_index_or self.new.channels k Closed ≡ Closed }
         ensures quiet { ((k : ℕ) → is_writing_on k self.old ≡ false) → KeepsMediumAndStatus self.old self.new }
-        ensures medium { KeepsMedium (M.seen self.old.medium) (M.seen self.new.medium) }
+        ensures medium { KeepsMedium false (M.seen self.old.medium) (M.seen self.new.medium) }
         ensures rest { LeavesRest M.seen (λ m. closed_by 15 self.old) self.old self.new }
         ensures counted { AreCounted M.seen 15 self.old self.new }
         ensures done { ClosingsWereDone M.seen 15 self.old self.new }

@@ -1,6 +1,6 @@
 // C: files are joined into a new one.
 
-ghost use Rattle.std.specs.Prelude.{◌≡◌, ◌||◌};
+ghost use Rattle.std.specs.Prelude.{◌≡◌, ◌||◌, false};
 ghost use Rattle.cbm_file.specs.declared.file_type.FileType.TheVariants.{Del, Rel};
 ghost use Rattle.cbm_file.specs.Types.{is_same_type};
 
@@ -54,7 +54,7 @@ impl<M: Medium> Dos<M> {
         ensures refused { IsFineOrSameUnlessFault M.seen self.old self.new }
         ensures done { self.new.told.status.code ≡ Fine →
             CopiesMeant (M.seen self.old.medium) (M.seen self.new.medium) new.now }
-        ensures leaves { LeavesChannels M.seen self.old self.new }
+        ensures leaves { LeavesChannels M.seen false self.old self.new }
         ensures rest { LeavesRest M.seen (λ m. no_slot) self.old self.new }
     {
         match self.plan_copy(new, olds) {
@@ -133,7 +133,7 @@ impl<M: Medium> Dos<M> {
         ensures done { self.new.told.status.code ≡ Fine →
             CopyLed (M.seen self.old.medium) (M.seen self.new.medium) kind name.now }
         ensures count { length self.new.channels ≡ 15 }
-        ensures leaves { LeavesChannels M.seen self.old self.new }
+        ensures leaves { LeavesChannels M.seen false self.old self.new }
         ensures rest { KeepsRestWhere M.seen no_slot self.old self.new
             (λ m olds. IsCopying m name.now olds kind slots.now) }
     {

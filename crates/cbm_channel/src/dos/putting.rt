@@ -32,7 +32,7 @@ impl<M: Medium> Dos<M> {
     ghost use Rattle.cbm_channel.specs.Commanded.{IsOfCommandText, changes_disk, commands_change, formats, text_formats, end_formats, validates, text_validates, end_validates, moved_by, text_moves, end_moves, cleared_by, text_clears};
     ghost use Rattle.cbm_channel.specs.Meant.{WasDone, TextWasDone};
     ghost use Rattle.cbm_channel.specs.BytesMeant.{ByteWasPut};
-    ghost use Rattle.cbm_channel.specs.Parts.{LeavesDisk, LeavesByCommand, OnlyText, OnlyTells, OnlyTellsFor, CutsOff, KeepsSlotOn, TakesText, WritesText, MovesOne, WentUnlessNew, EndsGathered, EndsQuietly, SparesDisk, changed_by_end};
+    ghost use Rattle.cbm_channel.specs.Parts.{LeavesDisk, LeavesByCommand, OnlyText, OnlyTells, OnlyTellsFor, CutsOff, KeepsSlotOn, TakesText, WritesText, MovesOne, EndsGathered, EndsQuietly, SparesDisk, changed_by_end};
 
     /// A byte that the host sends to a channel: on 15 it is gathered for a command, on a channel that has records open
     /// for one of these, and on one that writes a file it goes to the file; on others it is dropped. The first byte for which no block is free sets the status
@@ -141,7 +141,7 @@ impl<M: Medium> Dos<M> {
     /// Carries a text for channel 15 out; an empty one does nothing.
     #[inline(never)]
     pub(super) fn command(&mut self, text: &[u8])
-        ensures goes { WentUnlessNew M.seen (text_formats text.now) self.old self.new (command text.now) }
+        ensures goes { Went M.seen self.old self.new 15 (command text.now) }
         ensures leaves { LeavesByCommand M.seen (text_moves text.now) (text_validates text.now) (text_formats text.now)
             (text_clears text.now) self.old self.new }
         ensures done { TextWasDone M.seen text.now self.old self.new }
@@ -160,7 +160,7 @@ impl<M: Medium> Dos<M> {
 
     /// Carries a command out.
     fn run(&mut self, command: &Command)
-        ensures goes { IsOfCommandText command.now → WentUnlessNew M.seen (formats command.now) self.old self.new
+        ensures goes { IsOfCommandText command.now → Went M.seen self.old self.new 15
             (λ n. answered n (run command.now n)) }
         ensures leaves { LeavesByCommand M.seen (moved_by command.now) (validates command.now) (formats command.now)
             (cleared_by command.now) self.old self.new }

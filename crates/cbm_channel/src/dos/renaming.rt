@@ -7,7 +7,7 @@ use cbm_machine::{Code, Status};
 use cbm_volume::Medium;
 
 impl<M: Medium> Dos<M> {
-    ghost use Rattle.std.specs.Prelude.{◌≡◌, IfOk, IfErr, length};
+    ghost use Rattle.std.specs.Prelude.{◌≡◌, IfOk, IfErr, length, false};
     ghost use Rattle.cbm_file.specs.Padding.{before_filler};
     ghost use Rattle.cbm_volume.specs.Led.{RenamesLed};
     ghost use Rattle.cbm_machine.specs.declared.code.Code.TheVariants.{Fine};
@@ -29,7 +29,7 @@ impl<M: Medium> Dos<M> {
         ensures refused { IsFineOrSame M.seen self.old self.new }
         ensures done { self.new.told.status.code ≡ Fine →
             RenamesMeant (M.seen self.old.medium) (M.seen self.new.medium) new.now old.now }
-        ensures leaves { LeavesChannels M.seen self.old self.new }
+        ensures leaves { LeavesChannels M.seen false self.old self.new }
         ensures rest { LeavesRest M.seen (λ m. no_slot) self.old self.new }
     {
         match self.plan_rename(new, old) {
@@ -67,7 +67,7 @@ impl<M: Medium> Dos<M> {
         ensures done { self.new.told.status.code ≡ Fine →
             RenamesLed (M.seen self.old.medium) (M.seen self.new.medium) slot name.now }
         ensures count { length self.new.channels ≡ 15 }
-        ensures leaves { LeavesChannels M.seen self.old self.new }
+        ensures leaves { LeavesChannels M.seen false self.old self.new }
         ensures rest { KeepsRestWhere M.seen no_slot self.old self.new (λ m old. IsRenamable m name.now old slot) }
     {
         match self.volume.rename(slot, name.bytes()) {

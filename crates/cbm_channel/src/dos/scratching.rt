@@ -1,6 +1,6 @@
 // S: files are cleared.
 
-ghost use Rattle.std.specs.Prelude.{◌≡◌, ◌&&◌, not};
+ghost use Rattle.std.specs.Prelude.{◌≡◌, ◌&&◌, not, false};
 ghost use Rattle.std.specs.List.{list_any};
 ghost use Rattle.cbm_command.specs.Names.{is_match};
 ghost use Rattle.cbm_channel.specs.Commanded.{entry_may_go};
@@ -63,7 +63,7 @@ impl<M: Medium> Dos<M> {
         ensures done { self.new.told.status.code ≡ FilesScratched →
             ScratchesMeant self.old.channels (M.seen self.old.medium) (M.seen self.new.medium) patterns.now
             self.new.told.status.first }
-        ensures leaves { LeavesChannels M.seen self.old self.new }
+        ensures leaves { LeavesChannels M.seen false self.old self.new }
         ensures rest { LeavesRest M.seen (λ m. is_slot_among (slots_going m patterns.now 0 m.disk.slots)) self.old self.new }
     {
         match self.plan_scratch(patterns) {

@@ -6,7 +6,7 @@ use cbm_machine::{Code, Status};
 use cbm_volume::Medium;
 
 impl<M: Medium> Dos<M> {
-    ghost use Rattle.std.specs.Prelude.{◌≡◌, length};
+    ghost use Rattle.std.specs.Prelude.{◌≡◌, length, false};
     ghost use Rattle.cbm_command.specs.declared.command.Command.TheVariants.{Validate};
     ghost use Rattle.cbm_machine.specs.Machines.{Machine, answered, any_open};
     ghost use Rattle.cbm_machine.specs.Running.{run};
@@ -24,7 +24,7 @@ impl<M: Medium> Dos<M> {
         ensures count { length self.new.channels ≡ 15 }
         // On any disk:
         ensures ordered { OrdersDisk M.seen self.old self.new }
-        ensures leaves { LeavesChannels M.seen self.old self.new }
+        ensures leaves { LeavesChannels M.seen false self.old self.new }
         ensures rest { LeavesRest M.seen (λ m. no_slot) self.old self.new }
     {
         if self.is_any_open() {

@@ -2,7 +2,7 @@
 ghost use Rattle.std.specs.Prelude.{◌≡◌, ◌≤◌, None, IfOk, IfErr};
 ghost use Rattle.cbm_bam.specs.Marks.{is_marked};
 ghost use Rattle.cbm_bam.specs.Map.{geometry_of};
-ghost use Rattle.cbm_image.specs.Images.{kind_of, image_fault};
+ghost use Rattle.cbm_image.specs.Images.{kind_of, ChangesSectors};
 ghost use Rattle.cbm_shell.specs.Mapping.{is_among};
 ghost use Rattle.cbm_shell.specs.AroundGeos.{held_around, IsMappedAround, IsMappedAroundIn, IsNotMappedAround};
 ghost use Rattle.cbm_shell.specs.Remaking.{IsHalted};
@@ -31,6 +31,7 @@ pub fn held_around<M: Medium>(medium: &M, geometry: Geometry, entries: &[Entry])
 /// The disk with its BAM written anew around GEOS. Errors: `Trouble`, where 18/0 can't be read or written; `Memory`.
 fn mapped_around<M: Steady + Drop>(alloc: Global, volume: Volume<M>) -> Result<M, ShellFault>
     ensures tracks { IfOk result (λ after. (M.seen after).tracks ≡ (M.seen volume).tracks) }
+    ensures outside { IfOk result (λ after. (M.seen after).outside ≡ (M.seen volume).outside) }
     ensures mapped { let now = M.seen volume in IfOk result (λ after.
         IsMappedAround (geometry_of now.tracks now.content) now.content (M.seen after).content) }
     ensures fault { IfErr result IsHalted }
@@ -47,7 +48,7 @@ fn mapped_around<M: Steady + Drop>(alloc: Global, volume: Volume<M>) -> Result<M
 pub fn map_around_geos(alloc: Global, image: &[u8]) -> Result<Vec<u8>, ShellFault>
     ensures mapped { IfOk result (λ v. IsMappedAroundIn image.now v.items) }
     ensures sound { IfOk result (λ v. IsSoundImage (kind_of image.now) v.items) }
-    ensures opens { IfOk result (λ v. image_fault (kind_of image.now) v.items ≡ None) }
+    ensures opens { IfOk result (λ v. ChangesSectors image.now v.items) }
     ensures fault { IfErr result (IsNotMappedAround image.now) }
 {
     let volume = open_disk(alloc, image)?;

@@ -2,7 +2,7 @@
 ghost use Rattle.std.specs.Prelude.{◌≡◌, ◌≤◌, None, IfOk, IfErr, IfSome, MatchOption, false};
 ghost use Rattle.cbm_bam.specs.Map.{geometry_of};
 ghost use Rattle.cbm_image.specs.AnyDisks.{any_seen};
-ghost use Rattle.cbm_image.specs.Images.{kind_of, image_fault, tracks_of, content_of};
+ghost use Rattle.cbm_image.specs.Images.{kind_of, image_fault, tracks_of, content_of, outside_of, ChangesSectors};
 ghost use Rattle.cbm_directory.specs.EntryChanges.{ClearsLed};
 ghost use Rattle.cbm_shell.specs.Images.{IsSoundImage};
 ghost use Rattle.cbm_shell.specs.Forgetting.{IsForgotten, IsNotForgotten, IsUncleared};
@@ -21,6 +21,7 @@ use std::alloc::Global;
 fn cleared<M: Steady + Drop>(volume: Volume<M>, slot: u8) -> Result<M, ShellFault>
     requires { (M.seen volume).protected ≡ false }
     ensures tracks { IfOk result (λ after. (M.seen after).tracks ≡ (M.seen volume).tracks) }
+    ensures outside { IfOk result (λ after. (M.seen after).outside ≡ (M.seen volume).outside) }
     ensures cleared { let old = M.seen volume in
         IfOk result (λ after. ClearsLed (geometry_of old.tracks old.content) old.content (M.seen after).content slot) }
     ensures cause { let old = M.seen volume in
@@ -43,6 +44,7 @@ fn without_entry(
     ensures cleared { let old = any_seen volume in IfOk result (λ v.
         ClearsLed (geometry_of old.tracks old.content) old.content (content_of kind v.items) slot) }
     ensures opens { IfOk result (λ v. image_fault kind v.items ≡ None) }
+    ensures outside { IfOk result (λ v. outside_of kind v.items ≡ (any_seen volume).outside) }
     ensures cause { let old = any_seen volume in
         IfErr result (IsUncleared (geometry_of old.tracks old.content) old.content slot) }
 {
@@ -60,7 +62,7 @@ pub fn forget(alloc: Global, image: &[u8], slot: u8) -> Result<Option<Vec<u8>>, 
         IfOk result (λ o. MatchOption o (IsSoundImage kind image.now)
         (λ v. IsForgotten tracks (content_of kind image.now) (content_of kind v.items) slot)) }
     // The new image opens again.
-    ensures opens { IfOk result (λ o. IfSome o (λ v. image_fault (kind_of image.now) v.items ≡ None)) }
+    ensures opens { IfOk result (λ o. IfSome o (λ v. ChangesSectors image.now v.items)) }
     // An entry that can't be reached or written refuses it, and nothing else but the image's own fault and want of memory.
     ensures cause { IfErr result (IsNotForgotten image.now slot) }
 {

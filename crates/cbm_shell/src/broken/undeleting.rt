@@ -4,7 +4,7 @@ ghost use Rattle.cbm_bam.specs.Marks.{is_marked};
 ghost use Rattle.cbm_bam.specs.Map.{geometry_of};
 ghost use Rattle.cbm_directory.specs.Entries.{EntersLed};
 ghost use Rattle.cbm_image.specs.AnyDisks.{any_seen};
-ghost use Rattle.cbm_image.specs.Images.{kind_of, image_fault};
+ghost use Rattle.cbm_image.specs.Images.{kind_of, ChangesSectors};
 ghost use Rattle.cbm_shell.specs.Mapping.{chain_of, is_among};
 ghost use Rattle.cbm_shell.specs.Undeleting.{restored_entry, all_blocks_free, held_with, HasNoDeleted, IsDeleted, IsMapAnew, IsClear, IsInTheWay, IsNotGiven, IsGivenAgain, IsUndeleted, IsNotGivenIn, IsUndeletedIn, IsNotUndeleted};
 ghost use Rattle.cbm_shell.specs.Remaking.{IsTroubled, IsHalted, IsNotSaved};
@@ -98,6 +98,7 @@ fn restored<M: Medium + Drop>(
     kind: FileType,
 ) -> Result<M, ShellFault>
     ensures tracks { IfOk result (λ after. (M.seen after).tracks ≡ (M.seen volume).tracks) }
+    ensures outside { IfOk result (λ after. (M.seen after).outside ≡ (M.seen volume).outside) }
     ensures entered { let old = M.seen volume in IfOk result (λ after. EntersLed (geometry_of old.tracks old.content)
         old.content (M.seen after).content slot (restored_entry kind entry.now)) }
     ensures fault { IfErr result IsTroubled }
@@ -117,6 +118,7 @@ pub fn remapped<M: Steady + Drop>(
 ) -> Result<M, ShellFault>
     requires { geometry ≤ (M.seen medium).tracks }
     ensures tracks { IfOk result (λ after. (M.seen after).tracks ≡ (M.seen medium).tracks) }
+    ensures outside { IfOk result (λ after. (M.seen after).outside ≡ (M.seen medium).outside) }
     ensures mapped { IfOk result (λ after.
         IsMapAnew geometry (M.seen medium).content (M.seen after).content (is_marked held.now)) }
     ensures fault { IfErr result IsTroubled }
@@ -136,6 +138,7 @@ fn given_again<M: Steady + Drop>(
     kind: FileType,
 ) -> Result<M, ShellFault>
     ensures tracks { IfOk result (λ after. (M.seen after).tracks ≡ (M.seen volume).tracks) }
+    ensures outside { IfOk result (λ after. (M.seen after).outside ≡ (M.seen volume).outside) }
     ensures given { let old = M.seen volume in IfOk result (λ after.
         IsGivenAgain (geometry_of old.tracks old.content) old.content (M.seen after).content slot kind entry.now) }
     ensures fault { IfErr result IsHalted }
@@ -177,6 +180,7 @@ fn undeleted<M: Steady + Drop>(
     ensures given { let old = M.seen volume in let tracks = geometry_of old.tracks old.content in
         IfOk result (λ o. MatchOption o (IsNotGiven tracks old.content slot) (λ after.
         ((M.seen after).tracks ≡ old.tracks) × IsUndeleted tracks old.content (M.seen after).content slot kind)) }
+    ensures outside { IfOk result (λ o. MatchOption o (Unit {0}) (λ after. (M.seen after).outside ≡ (M.seen volume).outside)) }
     ensures fault { IfErr result IsHalted }
 {
     let Some(entry) = deleted_entry(&volume, slot)? else {
@@ -216,7 +220,7 @@ pub fn undelete(
     ensures given { IfOk result (λ o. MatchOption o (IsNotGivenIn image.now slot)
         (λ v. IsUndeletedIn image.now v.items slot kind)) }
     ensures sound { IfOk result (λ o. IfSome o (λ v. IsSoundImage (kind_of image.now) v.items)) }
-    ensures opens { IfOk result (λ o. IfSome o (λ v. image_fault (kind_of image.now) v.items ≡ None)) }
+    ensures opens { IfOk result (λ o. IfSome o (λ v. ChangesSectors image.now v.items)) }
     ensures fault { IfErr result (IsNotUndeleted image.now slot kind) }
 {
     let volume = open_disk(alloc, image)?;

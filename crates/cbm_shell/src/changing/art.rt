@@ -4,7 +4,7 @@ ghost use Rattle.std.specs.Prelude.{◌≡◌, ◌≤◌, None, length, IfOk, If
 ghost use Rattle.cbm_medium.specs.Place.{Place};
 ghost use Rattle.cbm_medium.specs.Content.{IsWhole};
 ghost use Rattle.cbm_bam.specs.Map.{geometry_of};
-ghost use Rattle.cbm_image.specs.Images.{kind_of, image_fault};
+ghost use Rattle.cbm_image.specs.Images.{kind_of, ChangesSectors};
 ghost use Rattle.cbm_shell.specs.Images.{IsSoundImage};
 ghost use Rattle.cbm_shell.specs.Editing.{CanBeEdited, HasNoSlot, HasNoSlotIn, IsUnedited, IsUneditedIn};
 ghost use Rattle.cbm_shell.specs.Art.{art_entry, dressed_entry, HasEntered, IsDressed, IsDirectoryFull, IsImageFull, HasEnteredIn, IsDressedIn};
@@ -47,6 +47,7 @@ fn art_entry(looks: Looks<'_>) -> Entry
 /// written.
 fn entered<M: Steady + Drop>(volume: Volume<M>, entry: &Entry) -> Result<Option<M>, ShellFault>
     ensures tracks { IfOk result (λ o. MatchOption o (Unit {0}) (λ after. (M.seen after).tracks ≡ (M.seen volume).tracks)) }
+    ensures outside { IfOk result (λ o. MatchOption o (Unit {0}) (λ after. (M.seen after).outside ≡ (M.seen volume).outside)) }
     ensures enters { let old = M.seen volume in let tracks = geometry_of old.tracks old.content in
         IfOk result (λ o. MatchOption o (IsDirectoryFull tracks old.content)
         (λ after. HasEntered tracks old.content (M.seen after).content entry.now)) }
@@ -72,7 +73,7 @@ pub fn add_art(alloc: Global, image: &[u8], looks: Looks<'_>) -> Result<Option<V
     // An image that isn't sound gives no new one; the new image is sound, and opens again.
     ensures sound { OnOk result (IsSoundImage (kind_of image.now) image.now) }
     ensures stays { IfOk result (λ o. IfSome o (λ v. IsSoundImage (kind_of image.now) v.items)) }
-    ensures opens { IfOk result (λ o. IfSome o (λ v. image_fault (kind_of image.now) v.items ≡ None)) }
+    ensures opens { IfOk result (λ o. IfSome o (λ v. ChangesSectors image.now v.items)) }
     ensures fault { IfErr result (IsUneditedIn image.now ⊥) }
 {
     let volume = open_disk(alloc, image)?;
@@ -99,6 +100,7 @@ fn dressed_entry(entry: &Entry, looks: Looks<'_>) -> Entry
 fn dressed<M: Steady + Drop>(volume: Volume<M>, slot: u8, looks: Looks<'_>) -> Result<M, ShellFault>
     requires { length looks.name.now ≤ 16 }
     ensures tracks { IfOk result (λ after. (M.seen after).tracks ≡ (M.seen volume).tracks) }
+    ensures outside { IfOk result (λ after. (M.seen after).outside ≡ (M.seen volume).outside) }
     ensures dressed { let old = M.seen volume in IfOk result (λ after. IsDressed (geometry_of old.tracks old.content) slot
         looks.entry.name.now looks.entry.blocks looks.entry.is_locked old.content (M.seen after).content) }
     ensures whole { (p : Place) → IsWhole ((M.seen volume).content p) }
@@ -122,7 +124,7 @@ pub fn dress(alloc: Global, image: &[u8], slot: u8, looks: Looks<'_>) -> Result<
     // An image that isn't sound gives no new one; the new image is sound, and opens again.
     ensures sound { OnOk result (IsSoundImage (kind_of image.now) image.now) }
     ensures stays { IfOk result (λ v. IsSoundImage (kind_of image.now) v.items) }
-    ensures opens { IfOk result (λ v. image_fault (kind_of image.now) v.items ≡ None) }
+    ensures opens { IfOk result (λ v. ChangesSectors image.now v.items) }
     ensures fault { IfErr result (IsUneditedIn image.now (HasNoSlotIn image.now slot)) }
 {
     let volume = open_disk(alloc, image)?;

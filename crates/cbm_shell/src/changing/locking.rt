@@ -1,7 +1,7 @@
 //! Locking files against SCRATCH, and another title: two changes that no command of the drive makes.
 ghost use Rattle.std.specs.Prelude.{◌≡◌, ◌<◌, ◌≤◌, None, true, map, IfOk, IfErr, IsOk, OnOk};
 ghost use Rattle.cbm_bam.specs.Map.{geometry_of};
-ghost use Rattle.cbm_image.specs.Images.{kind_of, image_fault};
+ghost use Rattle.cbm_image.specs.Images.{kind_of, ChangesSectors};
 ghost use Rattle.cbm_shell.specs.Images.{IsSoundImage};
 ghost use Rattle.cbm_shell.specs.Editing.{CanBeEdited, IsSameMedium, IsUneditedIn};
 ghost use Rattle.cbm_shell.specs.Locking.{is_other, is_unlike, lock_bit, locked_type, locked_entry, LocksEach, LocksAll, LocksAllIn, LocksOrEnds};
@@ -146,6 +146,7 @@ fn all_locked<M: Steady + Drop>(
     ensures locks { let old = M.seen volume in IfOk result (λ after.
         LocksAll (map (λ r. r.now) patterns.now) is_locked (geometry_of old.tracks old.content) old.content (M.seen after).content) }
     ensures tracks { IfOk result (λ after. (M.seen after).tracks ≡ (M.seen volume).tracks) }
+    ensures outside { IfOk result (λ after. (M.seen after).outside ≡ (M.seen volume).outside) }
     ensures never { let old = M.seen volume in CanBeEdited (geometry_of old.tracks old.content) old → IsOk result }
 {
     let geometry = volume.geometry();
@@ -166,7 +167,7 @@ pub fn lock(
     ensures locks { IfOk result (λ v. LocksAllIn image.now (map (λ r. r.now) patterns.now) is_locked v.items) }
     ensures sound { OnOk result (IsSoundImage (kind_of image.now) image.now) }
     ensures stays { IfOk result (λ v. IsSoundImage (kind_of image.now) v.items) }
-    ensures opens { IfOk result (λ v. image_fault (kind_of image.now) v.items ≡ None) }
+    ensures opens { IfOk result (λ v. ChangesSectors image.now v.items) }
     ensures fault { IfErr result (IsUneditedIn image.now ⊥) }
 {
     let volume = open_disk(alloc, image)?;

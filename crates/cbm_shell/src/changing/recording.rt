@@ -1,9 +1,9 @@
 //! Relative files, made as the drive makes them.
-ghost use Rattle.std.specs.Prelude.{◌≡◌, ◌≤◌, None, map, MatchResult, IfErr, IfOk, OnOk};
+ghost use Rattle.std.specs.Prelude.{◌≡◌, ◌≤◌, ◌==◌, false, None, map, MatchResult, IfErr, IfOk, OnOk};
 ghost use Rattle.cbm_machine.specs.Machines.{Machine};
 ghost use Rattle.cbm_channel.specs.Standing.{Stands, Leads};
 ghost use Rattle.cbm_channel.specs.Going.{KeepsMedium};
-ghost use Rattle.cbm_image.specs.Images.{kind_of, image_fault};
+ghost use Rattle.cbm_image.specs.Images.{kind_of, ChangesSectors};
 ghost use Rattle.cbm_shell.specs.Images.{IsSoundDisk, IsSoundImage, OfHeld, machine_on};
 ghost use Rattle.cbm_shell.specs.Changing.{IsFine, IsStatusRefusal};
 ghost use Rattle.cbm_shell.specs.Recording.{hear_records, after_records, AreRecordsUnmade, IsUnmadeIn, IsStoppedAt, MakesRecords, HasRecorded};
@@ -37,7 +37,7 @@ fn hear_each<M: Steady>(dos: &mut Dos<M>, channel: u8, records: &[&[u8]]) -> Res
     ensures stopped { (m : Machine) → Stands M.seen dos.old m →
         IfErr result (IsStoppedAt channel (map (λ r. r.now) records.now) m) }
     ensures refused { IfErr result IsStatusRefusal }
-    ensures medium { KeepsMedium (M.seen dos.old.medium) (M.seen dos.new.medium) }
+    ensures medium { KeepsMedium (channel == 15) (M.seen dos.old.medium) (M.seen dos.new.medium) }
 {
     for record in records {
         hear(dos, channel, *record);
@@ -53,7 +53,7 @@ fn record_on<M: Steady>(dos: &mut Dos<M>, file: Records<'_>) -> Result<(), Shell
         × Stands M.seen dos.new (after_records file.entry.text.now (map (λ r. r.now) file.entry.records.now) m))
         (AreRecordsUnmade file.entry.text.now (map (λ r. r.now) file.entry.records.now) m) }
     ensures refused { IfErr result IsStatusRefusal }
-    ensures medium { KeepsMedium (M.seen dos.old.medium) (M.seen dos.new.medium) }
+    ensures medium { KeepsMedium false (M.seen dos.old.medium) (M.seen dos.new.medium) }
 {
     dos.open(WRITING, file.text);
     told(dos.status())?;
@@ -71,6 +71,7 @@ fn recorded<M: Steady + Drop>(
     ensures made { MakesRecords M.seen medium file.entry.text.now (map (λ r. r.now) file.entry.records.now) result }
     ensures sound { OnOk result (IsSoundDisk (M.seen medium).tracks (M.seen medium).content) }
     ensures same_tracks { IfOk result (λ after. (M.seen after).tracks ≡ (M.seen medium).tracks) }
+    ensures same_outside { IfOk result (λ after. (M.seen after).outside ≡ (M.seen medium).outside) }
 {
     let volume = Volume::open(medium);
     require_sound(&volume)?;
@@ -87,7 +88,7 @@ pub fn put_records(alloc: Global, image: &[u8], file: Records<'_>) -> Result<Vec
         (IsUnmadeIn image.now file.entry.text.now (map (λ r. r.now) file.entry.records.now) (machine_on image.now d))) }
     // An image that isn't sound gives no new one, and the new image opens again.
     ensures sound { OnOk result (IsSoundImage (kind_of image.now) image.now) }
-    ensures opens { IfOk result (λ v. image_fault (kind_of image.now) v.items ≡ None) }
+    ensures opens { IfOk result (λ v. ChangesSectors image.now v.items) }
 {
     let disk = opened(alloc, image)?;
     let channels = Channels::new(alloc)?;

@@ -2,9 +2,10 @@
 ghost use Rattle.std.specs.Prelude.{◌≡◌, ◌<◌, ◌⊎◌, None, false, length, IfOk, OnOk, MatchResult};
 ghost use Rattle.cbm_file.specs.Files.{Disk};
 ghost use Rattle.cbm_volume.specs.Holding.{HoldsDisk};
-ghost use Rattle.cbm_image.specs.Images.{kind_of, image_fault, tracks_of, ImageHolds};
+ghost use Rattle.cbm_channel.specs.Going.{IsOutsideKept};
+ghost use Rattle.cbm_image.specs.Images.{kind_of, tracks_of, ImageHolds, OpensAgain, KeepsOtherBytes};
 ghost use Rattle.cbm_shell.specs.Images.{OrOpenFault, IsSoundDisk, IsSoundImage};
-ghost use Rattle.cbm_shell.specs.Several.{HoldsAfter, ImageAfter, AreUndone};
+ghost use Rattle.cbm_shell.specs.Several.{any_formats, HoldsAfter, ImageAfter, AreUndone};
 
 use crate::changing::{DiskChange, changed};
 use crate::fault::ShellFault;
@@ -24,6 +25,7 @@ fn changed_by<M: Steady + Drop>(
         (λ after. HoldsAfter changes.now old.protected old.tracks d (M.seen after))
         (λ fault. (fault ≡ ShellFault.Memory) ⊎ AreUndone changes.now old.protected old.tracks d fault) }
     ensures sound { 0 < length changes.now → OnOk result (IsSoundDisk (M.seen medium).tracks (M.seen medium).content) }
+    ensures outside { IfOk result (λ after. IsOutsideKept (any_formats changes.now) (M.seen medium).outside (M.seen after).outside) }
 {
     let mut disk = medium;
     for change in changes {
@@ -46,7 +48,8 @@ pub fn changes(
     // A disk that isn't sound is never changed.
     ensures sound { 0 < length changes.now → OnOk result (IsSoundImage (kind_of image.now) image.now) }
     // The new image opens again.
-    ensures opens { IfOk result (λ v. image_fault (kind_of image.now) v.items ≡ None) }
+    ensures opens { IfOk result (λ v. OpensAgain image.now v.items) }
+    ensures bytes { any_formats changes.now ≡ false → IfOk result (λ v. KeepsOtherBytes image.now v.items) }
 {
     let disk = opened(alloc, image)?;
     let disk = changed_by(alloc, disk, changes)?;

@@ -3,7 +3,7 @@ ghost use Rattle.std.specs.Prelude.{◌≡◌, ◌≤◌, List, false, Some, Non
 ghost use Rattle.cbm_medium.specs.Place.{Place};
 ghost use Rattle.cbm_bam.specs.Map.{geometry_of};
 ghost use Rattle.cbm_directory.specs.Slots.{Answers, directory_of};
-ghost use Rattle.cbm_image.specs.Images.{kind_of, image_fault};
+ghost use Rattle.cbm_image.specs.Images.{kind_of, ChangesSectors};
 ghost use Rattle.cbm_shell.specs.Images.{IsSoundImage};
 ghost use Rattle.cbm_shell.specs.Editing.{CanBeEdited, IsDirectory, IsNoEntry, IsSameMedium, IsUnedited, IsUneditedIn, KeepsDirectory};
 ghost use Rattle.cbm_shell.specs.Swapping.{Swaps, AreSwapped, MissesSlot, MissesSlotIn, AreSwappedIn, MissesOne};
@@ -83,6 +83,7 @@ fn swapped<M: Steady + Drop>(volume: Volume<M>, swaps: &[Swap]) -> Result<M, She
     ensures swapped { let old = M.seen volume in IfOk result (λ after.
         AreSwapped (geometry_of old.tracks old.content) swaps.now old.content (M.seen after).content) }
     ensures tracks { IfOk result (λ after. (M.seen after).tracks ≡ (M.seen volume).tracks) }
+    ensures outside { IfOk result (λ after. (M.seen after).outside ≡ (M.seen volume).outside) }
     ensures fault { let old = M.seen volume in let tracks = geometry_of old.tracks old.content in CanBeEdited tracks old →
         IfErr result (IsUnedited old.tracks old.content (MissesSlot tracks old.content swaps.now)) }
 {
@@ -99,7 +100,7 @@ pub fn swap_entries(alloc: Global, image: &[u8], swaps: &[Swap]) -> Result<Vec<u
     ensures swapped { IfOk result (λ v. AreSwappedIn image.now swaps.now v.items) }
     ensures sound { OnOk result (IsSoundImage (kind_of image.now) image.now) }
     ensures stays { IfOk result (λ v. IsSoundImage (kind_of image.now) v.items) }
-    ensures opens { IfOk result (λ v. image_fault (kind_of image.now) v.items ≡ None) }
+    ensures opens { IfOk result (λ v. ChangesSectors image.now v.items) }
     ensures fault { IfErr result (IsUneditedIn image.now (MissesSlotIn image.now swaps.now)) }
 {
     let volume = open_disk(alloc, image)?;

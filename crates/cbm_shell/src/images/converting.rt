@@ -6,7 +6,7 @@ ghost use Rattle.cbm_d64.specs.Image.{d64_content, d64_tracks};
 ghost use Rattle.cbm_g64.specs.Tracks.{or_zeros, id_for, HasTrack};
 ghost use Rattle.cbm_image.specs.Images.{kind_of};
 ghost use Rattle.cbm_image.specs.declared.kind.Kind.TheVariants.{D64, G64};
-ghost use Rattle.cbm_shell.specs.Converting.{told_id, content_held, is_plain_table, has_more_tracks, has_error_bytes, IsConverted, AreLosses, IsConvertFault, circles_shown};
+ghost use Rattle.cbm_shell.specs.Converting.{told_id, content_held, is_plain_table, has_more_tracks, has_error_bytes, IsConverted, AreLosses, circles_shown};
 ghost use Rattle.cbm_shell.specs.Images.{IsOpenFault};
 
 use crate::fault::ShellFault;
@@ -241,25 +241,13 @@ fn copied<M: Medium>(alloc: Global, medium: &M) -> Result<D64Disk, ShellFault>
     Ok(disk)
 }
 
-/// The image, if it is one of this format. The one error is `Mistaken`.
-fn settled(image: Vec<u8>, kind: Kind) -> Result<Vec<u8>, ShellFault>
-    ensures ok { IfOk result (λ v. (v ≡ image) × (kind_of v.items ≡ kind)) }
-    ensures err { IfErr result (λ fault. (fault ≡ ShellFault.Mistaken) × (kind_of image.items ≢ kind)) }
-{
-    if kind_of(image.as_slice()) == kind {
-        Ok(image)
-    } else {
-        Err(ShellFault::Mistaken)
-    }
-}
-
 /// A D64 as a G64.
 fn to_g64(alloc: Global, image: &[u8]) -> Result<Converted, ShellFault>
     requires { kind_of image.now ≡ D64 }
     ensures kept { IfOk result (λ c. IsConverted image.now c.image.items) }
     ensures told { IfOk result (λ c. AreLosses image.now c.lost.unreadable.items c.lost.more_tracks
         c.lost.error_bytes c.lost.header_id) }
-    ensures cause { IfErr result (IsConvertFault image.now) }
+    ensures cause { IfErr result (IsOpenFault image.now) }
 {
     let whole = opened(alloc, image)?;
     let unreadable = faults_in(alloc, &whole, TRACKS)?;
@@ -275,8 +263,7 @@ fn to_g64(alloc: Global, image: &[u8]) -> Result<Converted, ShellFault>
         error_bytes: has_error_bytes(image),
         header_id: false,
     };
-    let image = settled(new, Kind::G64)?;
-    Ok(Converted { image, lost })
+    Ok(Converted { image: new, lost })
 }
 
 /// A G64 as a D64 of 35 tracks.
@@ -285,7 +272,7 @@ fn to_d64(alloc: Global, image: &[u8]) -> Result<Converted, ShellFault>
     ensures kept { IfOk result (λ c. IsConverted image.now c.image.items) }
     ensures told { IfOk result (λ c. AreLosses image.now c.lost.unreadable.items c.lost.more_tracks
         c.lost.error_bytes c.lost.header_id) }
-    ensures cause { IfErr result (IsConvertFault image.now) }
+    ensures cause { IfErr result (IsOpenFault image.now) }
 {
     let disk = circles(alloc, image)?;
     let lost = Losses {
@@ -295,12 +282,12 @@ fn to_d64(alloc: Global, image: &[u8]) -> Result<Converted, ShellFault>
         header_id: header_id(&disk) != told_id(&disk),
     };
     let new = copied(alloc, &disk)?;
-    let image = settled(saved(alloc, &AnyDisk::D64(new), Kind::D64)?, Kind::D64)?;
+    let image = saved(alloc, &AnyDisk::D64(new), Kind::D64)?;
     Ok(Converted { image, lost })
 }
 
 /// An image of the other format: a D64 as a G64, a G64 as a D64 of 35 tracks. A G64 is formatted under the id that 18/0
-/// has. Errors: `Image`; `Mistaken`, where the new image would be taken for one of the old format; `Memory`.
+/// has. Errors: `Image`, `Memory`.
 pub fn convert(alloc: Global, image: &[u8]) -> Result<Converted, ShellFault>
     // Each sector that reads is in the new image byte for byte.
     ensures kept { IfOk result (λ c. IsConverted image.now c.image.items) }
@@ -310,7 +297,7 @@ pub fn convert(alloc: Global, image: &[u8]) -> Result<Converted, ShellFault>
     // Where all sectors read, the new image holds what the old one does.
     ensures whole { IfOk result (λ c. c.lost.unreadable.items ≡ [] →
         (p : Place) → Has 35 p → content_held c.image.items p ≡ content_held image.now p) }
-    ensures cause { IfErr result (IsConvertFault image.now) }
+    ensures cause { IfErr result (IsOpenFault image.now) }
 {
     match kind_of(image) {
         Kind::D64 => to_g64(alloc, image),

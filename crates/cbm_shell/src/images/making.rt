@@ -76,7 +76,7 @@ fn formatted<M: Steady + Drop>(medium: M, title: &[u8], id: [u8; 2]) -> M
     requires short { length title.now ≤ 16 }
     requires blank { (p : Place) → Has (M.seen medium).tracks p → (M.seen medium).content p ≡ Ok (replicate 256 0) }
     requires free { (M.seen medium).protected ≡ false }
-    ensures { IsEmpty (M.seen medium).tracks title.now id (M.seen result) }
+    ensures { IsEmpty (M.seen medium).tracks title.now id (M.seen medium).outside (M.seen result) }
 {
     let _tracks = medium.tracks();
     let mut volume = Volume::open(medium);

@@ -1,5 +1,5 @@
 -- The two ends of a copy as the calls answer them: its slot and first block, and its entry.
-use Rattle.std.proofs.Common.{◌≡◌, ◌≢◌, ◌⊎◌, ℕ, ◌*◌, ◌%◌, ◌<◌, ◌≤◌, length, arith, List, [], true, false, sym, ap, subst, ◌∙◌, inl, Option, Some, None, Result, Ok, Err, IfErr}
+use Rattle.std.proofs.Common.{◌≡◌, ◌≢◌, ◌⊎◌, ℕ, ◌*◌, ◌%◌, ◌<◌, ◌≤◌, length, arith, List, [], true, false, sym, subst, ◌∙◌, inl, Option, Some, None, Result, Ok, Err, IfErr}
 use Rattle.std.specs.Prelude.{OnOk, OnErr, MatchOption, MatchResult}
 use Rattle.cbm_medium.specs.Place.{Place, directory_head}
 use Rattle.cbm_medium.specs.Content.{Content}

@@ -29,16 +29,16 @@ use Rattle.cbm_volume.proofs.layouts.Steps.{own_elsewhere}
 
 -- ---- where an empty disk lies
 
-abbrev nobody : Place → Owner
+abbrev pub nobody : Place → Owner
 nobody p = Nobody
 
-abbrev new_owner : Place → Owner
+abbrev pub new_owner : Place → Owner
 new_owner = own (own nobody directory_head TheMap) first_directory Directory
 
-abbrev new_layout : Layout
+abbrev pub new_layout : Layout
 new_layout = record { directory = first_directory ∷ []; files = λ n. no_blocks; owner = new_owner }
 
-owner_cases : (p : Place) → (first_directory ≡ p) ⊎ ((directory_head ≡ p) ⊎ (new_owner p ≡ Nobody))
+pub owner_cases : (p : Place) → (first_directory ≡ p) ⊎ ((directory_head ≡ p) ⊎ (new_owner p ≡ Nobody))
 owner_cases p = elim (place_decide first_directory p) [
   | inl e ↦ inl e
   | inr ne ↦ elim (place_decide directory_head p) [
@@ -47,14 +47,14 @@ owner_cases p = elim (place_decide first_directory p) [
   ]
 ]
 
-on_track_18 : (p : Place) → new_owner p ≡ Directory → p.track ≡ 18
+pub on_track_18 : (p : Place) → new_owner p ≡ Directory → p.track ≡ 18
 on_track_18 p h = elim (owner_cases p) [
   | inl e ↦ ap (λ (x : Place). x.track) (sym e)
   | inr (inl e) ↦ ap (λ (x : Place). x.track) (sym e)
   | inr (inr e) ↦ absurd (let z = sym e ∙ h in (cc))
 ]
 
-no_file : (p : Place) (n : ℕ) → (new_owner p ≢ DataOf n) × (new_owner p ≢ SideOf n)
+pub no_file : (p : Place) (n : ℕ) → (new_owner p ≢ DataOf n) × (new_owner p ≢ SideOf n)
 no_file p n = elim (owner_cases p) [
   | inl e ↦ subst (λ (x : Place). (new_owner x ≢ DataOf n) × (new_owner x ≢ SideOf n)) e ((λ z. (cc)), (λ z. (cc)))
   | inr (inl e) ↦ subst (λ (x : Place). (new_owner x ≢ DataOf n) × (new_owner x ≢ SideOf n)) e ((λ z. (cc)), (λ z. (cc)))
@@ -93,7 +93,7 @@ stands_new tracks title id c c' d either writable e = record {
       off_18 = λ p t n. no_file p n;
     };
     writable = subst (λ (x : Content). (p : Place) → Has tracks p → IsCellWritable (x p)) (sym e.written)
-        (writable_written tracks (written c directory_head e.head) first_directory new_sector (writable_written tracks c directory_head e.head writable));
+        (writable_written tracks (written c first_directory new_sector) directory_head e.head (writable_written tracks c first_directory new_sector writable));
     map_reads = subst (λ (x : Cell). IsOk x) (sym at_head) refl;
     directory = (refl, (omega arith, omega (arith, some_tracks tracks either), omega arith), subst (λ (x : Cell). IsOk x) (sym at_first) refl, ap (λ (x : Cell). (link (or_nothing x)).track) at_first);
     kinds = λ n k. subst (λ (x : ℕ). x % 16 < 5) (sym (no_type n k)) (omega arith);
@@ -144,7 +144,7 @@ new_holds medium title id c c' d either writable e =
     (record { layout = new_layout; stands = stands_new medium title id c c' d either writable e })
 
 -- a disk that no channel uses
-idle_holds : (medium : ℕ) (c : Content) (d : Disk) (uses : ℕ → Use) → HoldsDisk medium c d → ((ch : ℕ) → uses ch ≡ Idle) → HoldsNow medium c d uses
+pub idle_holds : (medium : ℕ) (c : Content) (d : Disk) (uses : ℕ → Use) → HoldsDisk medium c d → ((ch : ℕ) → uses ch ≡ Idle) → HoldsNow medium c d uses
 idle_holds medium c d uses m idle = record {
   layout = m.layout;
   so = record {
@@ -174,7 +174,7 @@ all_writable medium tracks c either enough outer writable p h = elim (cases_lt 3
   | inr near ↦ writable p (h.0, omega arith, h.2)
 ]
 
-enough_tracks : (medium : ℕ) (c : Content) → 35 ≤ geometry_of medium c
+pub enough_tracks : (medium : ℕ) (c : Content) → 35 ≤ geometry_of medium c
 enough_tracks medium c = elim (geometry_size medium c) [ inl e ↦ omega (arith, e) | inr e ↦ omega (arith, e) ]
 
 -- 18/0 and 18/1 take a write on a disk that is sound

@@ -1,7 +1,6 @@
 -- What is met on the way through the file of an entry.
 use Rattle.std.proofs.Common.{◌≡◌, ◌≢◌, ◌⊎◌, ◌<◌, ◌≤◌, ℕ, List, length, Option, Some, None, Ok, Err, subst, inl, inr, arith}
 use Rattle.std.specs.Prelude.{Result, IfErr, IfNone, IfOk, slice_get}
-use Rattle.cbm_medium.specs.Place.{Place}
 use Rattle.cbm_medium.specs.Content.{Content}
 use Rattle.cbm_medium.specs.Seen.{Seen}
 use Rattle.cbm_medium.specs.Met.{IsMetFrom}

@@ -1,13 +1,13 @@
 -- A walk along links meets all sectors to which they lead.
-use Rattle.std.proofs.Common.{◌≡◌, ◌≢◌, ◌⊎◌, ℕ, zero, suc, ◌≤◌, ◌-◌, List, [], ◌∷◌, length, Bool, true, false, IsOk, refl, sym, ap, subst, ◌∙◌, arith, inl, inr}
-use Rattle.std.specs.Prelude.{min, Option, Some, if◌then◌else◌}
+use Rattle.std.proofs.Common.{◌≡◌, ◌≢◌, ◌⊎◌, ℕ, suc, ◌≤◌, List, [], ◌∷◌, length, Bool, true, false, IsOk, refl, sym, ap, subst, ◌∙◌, arith, inl, inr}
+use Rattle.std.specs.Prelude.{if◌then◌else◌}
 use Rattle.cbm_medium.specs.Place.{Place, Has, is_place}
 use Rattle.cbm_medium.specs.Content.{Content}
 use Rattle.cbm_medium.specs.Links.{bytes_at, link, Chain, IsApart, follow, ended}
 use Rattle.cbm_medium.proofs.Places.{not_itself, same_place}
 use Rattle.cbm_medium.proofs.Walks.{followed_chain}
 use Rattle.cbm_bam.specs.Map.{with_bit}
-use Rattle.cbm_chain.specs.Writing.{State, Part, Wrote, first_block_of, place_or_none}
+use Rattle.cbm_chain.specs.Writing.{State, Part, Wrote, place_or_none}
 use Rattle.cbm_volume.specs.Loose.{AreLinked, IsOffLinks, IsOnLinks}
 
 -- where no sector is, no links lead on

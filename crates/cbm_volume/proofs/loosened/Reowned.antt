@@ -1,5 +1,5 @@
 -- A sector that no part of the disk has, and no channel, is nobody's in some layout.
-use Rattle.std.proofs.Common.{◌≡◌, ◌≢◌, ℕ, ◌<◌, ◌≤◌, List, [], ◌∷◌, length, false, sym, ap, subst, ◌∙◌, arith, inl, inr}
+use Rattle.std.proofs.Common.{◌≡◌, ◌≢◌, ℕ, ◌<◌, List, [], ◌∷◌, length, false, sym, ap, subst, ◌∙◌, arith, inl, inr}
 use Rattle.cbm_medium.specs.Place.{Place, directory_head}
 use Rattle.cbm_medium.specs.Content.{Content, written}
 use Rattle.cbm_medium.specs.Links.{IsApart}
@@ -8,7 +8,7 @@ use Rattle.cbm_file.specs.Files.{Disk}
 use Rattle.cbm_bam.specs.Map.{geometry_of, geometry_in}
 use Rattle.cbm_chain.specs.Writing.{Part}
 use Rattle.cbm_volume.specs.Blocks.{Blocks}
-use Rattle.cbm_volume.specs.Layouts.{Owner, Nobody, TheMap, Directory, DataOf, SideOf, Writer, OwnedBy, Layout, IsOwned, slot_count, Sound, HasLayout, own}
+use Rattle.cbm_volume.specs.Layouts.{Owner, Nobody, Directory, DataOf, SideOf, Writer, OwnedBy, Layout, slot_count, Sound, HasLayout, own}
 use Rattle.cbm_volume.specs.Writers.{Use, Idle, Reads, Relates, Writes, IsUsed, HoldsAt, Holds, HoldsNow}
 use Rattle.cbm_volume.specs.check.WholeDisk.{ClaimsDisk}
 use Rattle.cbm_volume.specs.Loose.{IsSpared}

@@ -1,7 +1,8 @@
 // NEW: an empty disk.
 
-ghost use Rattle.std.specs.Prelude.{◌≡◌, ◌≢◌, ◌≤◌, ◌⊎◌, List, None, Some, Ok, Err, OnOk, IfOk, IfErr, length, slice_range, take, drop, ◌++◌};
+ghost use Rattle.std.specs.Prelude.{◌≡◌, ◌≢◌, ◌≤◌, ◌⊎◌, List, None, Some, Ok, Err, OnOk, OnErr, IfOk, IfErr, length, slice_range, take, drop, ◌++◌};
 ghost use Rattle.cbm_medium.specs.Place.{directory_head};
+ghost use Rattle.cbm_medium.specs.Content.{written};
 ghost use Rattle.cbm_medium.specs.Seen.{ShowsGround, OnlyContent};
 ghost use Rattle.cbm_file.specs.Files.{Disk};
 ghost use Rattle.cbm_file.specs.Changes.{new_disk};
@@ -12,7 +13,7 @@ ghost use Rattle.cbm_directory.specs.Growth.{new_sector};
 ghost use Rattle.cbm_volume.specs.Calls.{OfDisk, OfUnusedDisk, KeepsProtected};
 ghost use Rattle.cbm_volume.specs.Holding.{HoldsDisk};
 ghost use Rattle.cbm_volume.specs.Layouts.{IsCellWritable};
-ghost use Rattle.cbm_volume.specs.NewDisks.{used_by_new, new_label, around_map, IsNewHead, IsEmptied, OnlyNew, EmptiesDisk};
+ghost use Rattle.cbm_volume.specs.NewDisks.{used_by_new, new_label, around_map, IsNewHead, IsEmptied, IsNewOrNothing, OnlyNew, EmptiesDisk};
 ghost use Rattle.cbm_volume.specs.Opens.{IsHindered};
 ghost use Rattle.cbm_volume.specs.Writers.{HoldsNow};
 
@@ -119,7 +120,7 @@ fn told_id<M: Medium>(medium: &M) -> Result<[u8; 2], Trouble>
     Ok([map[162], map[163]])
 }
 
-/// Writes 18/0 and 18/1 of an empty disk on all tracks of the medium.
+/// Writes 18/1 and then 18/0 of an empty disk on all tracks of the medium.
 fn write_new<M: Medium>(medium: &mut M, title: &[u8], id: [u8; 2]) -> Result<(), Trouble>
     requires { length title.now ≤ 16 }
     ensures either { let tracks = (M.seen medium.old).tracks in (tracks ≡ 35) ⊎ (tracks ≡ 40) }
@@ -127,12 +128,15 @@ fn write_new<M: Medium>(medium: &mut M, title: &[u8], id: [u8; 2]) -> Result<(),
         OnOk result (IsEmptied old.tracks title.now id old.content (M.seen medium.new).content) }
     ensures cause { let old = M.seen medium.old in IsCellWritable (old.content directory_head) →
         IsCellWritable (old.content first_directory) → IfErr result (IsHindered old (M.seen medium.new)) }
+    ensures stopped { let old = (M.seen medium.old).content in let new = (M.seen medium.new).content in
+        OnErr result ((new ≡ old) ⊎ (new ≡ written old first_directory new_sector)) }
     ensures protected { KeepsProtected (M.seen medium.old) (M.seen medium.new) }
     ensures only { OnlyContent 18 result (M.seen medium.old) (M.seen medium.new) }
 {
     let head = new_head(title, id, all_tracks(medium));
-    medium.write(Address::of_map(), &head)?;
+    // 18/1 comes first: an empty directory under the old BAM is sound, files under a BAM that has their blocks as free are not.
     medium.write(first_directory_sector(), &empty_directory())?;
+    medium.write(Address::of_map(), &head)?;
     Ok(())
 }
 
@@ -140,7 +144,7 @@ impl<M: Medium> Volume<M> {
     /// NEW: an empty disk of this title on all tracks of the medium. With an id each sector is formatted first, so it
     /// needs no sound disk; without one only 18/0 and 18/1 are written, and the id of 18/0 stays. The title has at
     /// most sixteen bytes. An `Err` says on a sound disk that the medium is protected (26), which changes nothing, or
-    /// failed by itself; nothing is promised of a disk on which NEW was stopped.
+    /// failed by itself. Then nothing has changed, or the disk is sound and has no file.
     pub fn new_disk(&mut self, title: &[u8], id: Option<[u8; 2]>) -> Result<(), Trouble>
         requires { length title.now ≤ 16 }
         ensures made { let old = M.seen self.old in OfUnusedDisk old (λ d uses.
@@ -148,6 +152,10 @@ impl<M: Medium> Volume<M> {
         ensures formatted { let old = M.seen self.old in id ≢ None → (d : Disk) →
             OnOk result (HoldsDisk old.tracks (M.seen self.new).content (new_disk old.tracks title.now id d)) }
         ensures emptied { EmptiesDisk result title.now id (M.seen self.old) (M.seen self.new) }
+        ensures stopped { let old = M.seen self.old in OfUnusedDisk old (λ d uses.
+            OnErr result (IsNewOrNothing old.tracks old.content (M.seen self.new).content)) }
+        ensures stopped_format { let old = M.seen self.old in id ≢ None →
+            OnErr result (IsNewOrNothing old.tracks old.content (M.seen self.new).content) }
         ensures protected { KeepsProtected (M.seen self.old) (M.seen self.new) }
         ensures only { OnlyNew result id (M.seen self.old) (M.seen self.new) }
         ensures cause { OfDisk (M.seen self.old) (λ d uses. IfErr result (IsHindered (M.seen self.old) (M.seen self.new))) }

@@ -5,7 +5,7 @@ use Rattle.cbm_g64.specs.NewFile.{base_of}
 use Rattle.cbm_g64.proofs.Imaging.{IsPut, put_none, put_all, put_skip, put_at, track_ends}
 use Rattle.cbm_g64.specs.Image.{IsHeld, IsImageOf}
 use Rattle.cbm_sector.specs.Decoding.{IsBytes}
-use Rattle.cbm_g64.proofs.Kept.{read_again, unwritten}
+use Rattle.cbm_g64.proofs.Kept.{read_again, rest_kept, unwritten}
 use Rattle.cbm_g64.proofs.image.put_tracks.Goals as goal
 use Rattle.cbm_g64.proofs.image.put_tracks.Goals.{then-at-ne0, else-at-ne0, After-are_bytes}
 
@@ -41,6 +41,9 @@ returns-clause-image c = made c
 
 pub returns-clause-again : goal.returns-clause-again
 returns-clause-again c = read_again (base_of c.args.formatted c.args.file.now) c.args.tracks.now c.loop-i.out c.requires.held (made c)
+
+pub returns-clause-rest : goal.returns-clause-rest
+returns-clause-rest c = rest_kept (base_of c.args.formatted c.args.file.now) c.args.tracks.now c.loop-i.out c.requires.held (made c)
 
 same_file : (file image : List ℕ) (tracks : List (List Bool)) (b : Bool) → IsHeld (base_of b file) tracks → IsBytes file → IsBytes image → IsImageOf (base_of b file) tracks image → b ≡ false → tracks ≡ g64_circles file 35 → image ≡ file
 same_file file image tracks true h f g m e t = cc

@@ -5,7 +5,7 @@ use Rattle.cbm_odd.proofs.AwayLemmas.{one_off, putting-start, putting-on, puttin
 use Rattle.cbm_odd.proofs.away.put_each_away.Goals as goal
 
 pub loop-odd-init : goal.loop-odd-init
-loop-odd-init g c = (putting-start c.args.geometry _ _ _ refl, refl)
+loop-odd-init g c = (putting-start c.args.geometry _ _ _ refl, refl, refl)
 
 pub loop-odd-preserved : goal.loop-odd-preserved
 loop-odd-preserved g c =
@@ -17,6 +17,7 @@ loop-odd-preserved g c =
       putting-on c.args.geometry _ _ _ _ old.content now.content next.content inv.0 begins
           (subst (λ e. EntersLed c.args.geometry now.content next.content c.odd-item.result.slot e) c.away_entry.ensures c.in_ok-put_entry.ensures.entered),
       c.put_entry.ensures.tracks ∙ inv.1,
+      c.put_entry.ensures.outside ∙ inv.2,
     )
 
 pub returns-clause-away : goal.returns-clause-away

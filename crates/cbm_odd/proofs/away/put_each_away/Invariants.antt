@@ -6,4 +6,4 @@ abbrev pub invariant-loop-odd : goal.invariant-loop-odd
 invariant-loop-odd g l =
     let old = g.M.Medium.seen l.initial.medium in
     let now = g.M.Medium.seen l.medium in
-    Putting l.geometry l.odds old.content (drop l.odd-index l.odds) now.content × (now.tracks ≡ old.tracks)
+    Putting l.geometry l.odds old.content (drop l.odd-index l.odds) now.content × (now.tracks ≡ old.tracks) × (now.outside ≡ old.outside)

@@ -5,7 +5,7 @@ use Rattle.cbm_odd.proofs.AwayLemmas.{one_off, backing-start, backing-on, backin
 use Rattle.cbm_odd.proofs.back.put_each_back.Goals as goal
 
 pub loop-odd-init : goal.loop-odd-init
-loop-odd-init g c = (backing-start c.args.geometry _ _ _ refl, refl, λ f h. h)
+loop-odd-init g c = (backing-start c.args.geometry _ _ _ refl, refl, λ f h. h, refl)
 
 pub loop-odd-preserved : goal.loop-odd-preserved
 loop-odd-preserved g c =
@@ -17,6 +17,7 @@ loop-odd-preserved g c =
       backing-on c.args.geometry _ _ _ _ old.content now.content next.content inv.0 begins c.in_ok-put_one_back.ensures.back,
       c.put_one_back.ensures.tracks ∙ inv.1,
       λ f h. inv.2 f (failing-on c.args.geometry _ _ c.odd-item.result now.content next.content f begins c.in_ok-put_one_back.ensures.back h),
+      c.put_one_back.ensures.outside ∙ inv.3,
     )
 
 pub returns-in_err-put_one_back-clause-fault : goal.returns-in_err-put_one_back-clause-fault

@@ -11,3 +11,4 @@ invariant-loop-odd g l =
     let left = drop l.odd-index l.odds in
     Backing l.geometry l.odds old.content left now.content × (now.tracks ≡ old.tracks)
     × ((f : ShellFault) → IsNotBackFrom l.geometry left now.content f → IsNotBackFrom l.geometry l.odds old.content f)
+    × (now.outside ≡ old.outside)

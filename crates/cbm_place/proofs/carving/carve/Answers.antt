@@ -6,6 +6,7 @@ use Rattle.cbm_image.specs.Images.{kind_of}
 use Rattle.cbm_shell.specs.Editing.{IsUnedited}
 use Rattle.cbm_shell.specs.Images.{IsSaved}
 use Rattle.cbm_shell.proofs.EditLemmas.{image_sound}
+use Rattle.cbm_shell.proofs.ImageLemmas.{in_sectors}
 use Rattle.cbm_place.specs.Carving.{IsCarved, IsNotCarved}
 use Rattle.cbm_place.proofs.PlaceParts.{unsound_old, unsound_new, made_in, sound_opened}
 use Rattle.cbm_place.proofs.carving.carve.Goals as goal
@@ -45,3 +46,9 @@ returns-clause-stays c =
     image_sound (λ v. v.items) c.kind_of.result (kind_of c.args.image.now) (seen c.open-new.result) c.saved.result (sym c.kind_of.ensures)
     (subst (λ k. IfOk c.saved.result (λ v. IsSaved c.kind_of.result v.items (seen k))) c.into_medium.ensures c.saved.ensures.ok)
     c.in_ok-require_sound-2.ensures.sound
+
+pub returns-clause-opens : goal.returns-clause-opens
+returns-clause-opens c =
+    let seen = any_seen in
+    in_sectors (λ v. v.items) c.saved.result c.args.image.now c.kind_of.result (seen c.in_ok-volume.volume) (seen c.in_ok-carved.field-0) c.kind_of.ensures c.in_ok-volume.ensures.ok c.in_ok-carved.ensures.outside
+    (subst (λ k. IfOk c.saved.result (λ v. IsSaved c.kind_of.result v.items (seen k))) (c.into_medium.ensures ∙ c.open-new.ensures) c.saved.ensures.ok)

@@ -10,4 +10,5 @@ places-preserved g c =
       written-more c.places.places_left.now c.in-Some.rest.now c.places.blocks_left.now c.in-Some-split_first.more.now c.in-Some.at.now c.in-Some-split_first.block.now
           now.content (g.M.Medium.seen c.write.new.medium).content _ c.places.invariant.0 begins first c.in_ok-write.ensures.written,
       c.write.ensures.tracks ∙ c.places.invariant.1,
+      c.write.ensures.outside ∙ c.places.invariant.2,
     )

@@ -13,4 +13,5 @@ places-preserved g c =
           now.content (g.M.Medium.seen c.write.new.medium).content _ c.places.invariant.0 begins first
           (c.in_ok-write.ensures.written ∙ ap (written now.content c.in-Some.at.now) c.led.ensures),
       c.write.ensures.tracks ∙ c.places.invariant.1,
+      c.write.ensures.outside ∙ c.places.invariant.2,
     )

@@ -11,4 +11,5 @@ places-preserved g c =
       wiped-more (is_marked c.args.claimed.now) c.in-Some.at.now c.places.rest.now c.in-Some.more.now now.content (g.M.Medium.seen c.wipe_one.new.medium).content _ c.places.invariant.0 begins
           (c.in_ok-wipe_one.ensures.wiped ∙ ap (λ b. wiped_at b c.in-Some.at.now now.content) c.has.ensures),
       c.wipe_one.ensures.tracks ∙ c.places.invariant.1,
+      c.wipe_one.ensures.outside ∙ c.places.invariant.2,
     )

@@ -6,9 +6,10 @@ use Rattle.cbm_image.specs.Images.{kind_of}
 use Rattle.cbm_shell.specs.Editing.{IsUnedited}
 use Rattle.cbm_shell.specs.Images.{IsSaved}
 use Rattle.cbm_shell.proofs.EditLemmas.{image_sound}
+use Rattle.cbm_shell.proofs.ImageLemmas.{in_sectors}
 use Rattle.cbm_place.specs.Moves.{IsRelaid}
 use Rattle.cbm_place.specs.Placed.{IsNotRelaid}
-use Rattle.cbm_place.proofs.PlaceParts.{unsound_old, unsound_new, made_in, sound_opened, opens_again}
+use Rattle.cbm_place.proofs.PlaceParts.{unsound_old, unsound_new, made_in, sound_opened}
 use Rattle.cbm_place.proofs.placing.place.Goals as goal
 
 pub returns-in_err-require_sound-clause-fault : goal.returns-in_err-require_sound-clause-fault
@@ -48,4 +49,7 @@ returns-clause-stays c =
     c.in_ok-require_sound-2.ensures.sound
 
 pub returns-clause-opens : goal.returns-clause-opens
-returns-clause-opens c = opens_again (λ v. v.items) c.saved.result c.kind_of.result (kind_of c.args.image.now) (any_seen c.into_medium-disk.result) (sym c.kind_of.ensures) c.saved.ensures.ok
+returns-clause-opens c =
+    let seen = any_seen in
+    in_sectors (λ v. v.items) c.saved.result c.args.image.now c.kind_of.result (seen c.in_ok-volume.volume) (seen c.in_ok-moved.field-0) c.kind_of.ensures c.in_ok-volume.ensures.ok c.in_ok-moved.ensures.outside
+    (subst (λ k. IfOk c.saved.result (λ v. IsSaved c.kind_of.result v.items (seen k))) (c.into_medium-disk.ensures ∙ c.open-new.ensures) c.saved.ensures.ok)

@@ -78,7 +78,7 @@ returns-in_err-disk-2-clause-requests g c =
     let first = c.in_ok-disk.ensures.ok in
     let image = c.args.image.now in
     let seen = any_seen in
-    let among = starts-as (kind_of image) image (seen disk).tracks (seen disk).content c.args.options.now.protected (seen disk).protected first.shown first.same_protection in
+    let among = starts-as (kind_of image) image (seen disk) c.args.options.now.protected first.shown first.same_protection in
     let p = err_from_is_err_and c.from_residual-in_err-disk-2.result c.from_residual-in_err-disk-2.ensures.1 in
     let run = run-again c.from_residual-in_err-disk-2.result _ _ _ (g.R.Read.remaining c.args.reader) (BeginsOn image c.args.options.now.protected) (StartsFrom (seen disk)) (λ saved m. ImageHolds (kind_of image) saved.items m.disk) (λ after. KeptBy (seen after)) c.args.options.now.pace c.args.options.now.device
     c.args.options.now.check among (p.1 ∙ ap Err p.2) c.in_err-disk-2.ensures.run in
@@ -90,7 +90,7 @@ returns-in_err-disk-2-clause-changes g c =
     let first = c.in_ok-disk.ensures.ok in
     let image = c.args.image.now in
     let seen = any_seen in
-    let among = starts-as (kind_of image) image (seen disk).tracks (seen disk).content c.args.options.now.protected (seen disk).protected first.shown first.same_protection in
+    let among = starts-as (kind_of image) image (seen disk) c.args.options.now.protected first.shown first.same_protection in
     let p = err_from_is_err_and c.from_residual-in_err-disk-2.result c.from_residual-in_err-disk-2.ensures.1 in
     let run = run-again c.from_residual-in_err-disk-2.result _ _ _ (g.R.Read.remaining c.args.reader) (BeginsOn image c.args.options.now.protected) (StartsFrom (seen disk)) (λ saved m. ImageHolds (kind_of image) saved.items m.disk) (λ after. KeptBy (seen after)) c.args.options.now.pace c.args.options.now.device
     c.args.options.now.check among (p.1 ∙ ap Err p.2) c.in_err-disk-2.ensures.run in
@@ -105,7 +105,7 @@ returns-in_err-disk-2-clause-outcome g c =
     let p = err_from_is_err_and c.from_residual-in_err-disk-2.result c.from_residual-in_err-disk-2.ensures.1 in
     record {
       grows = c.in_err-disk-2.ensures.run.grows;
-      checked = λ e. ends-again _ _ _ _ (c.in_err-disk-2.ensures.checked e) (p.1 ∙ ap Err p.2) (λ bad. checked-as (kind_of image) image (seen disk).tracks (seen disk).content _ _ first.shown);
+      checked = λ e. ends-again _ _ _ _ (c.in_err-disk-2.ensures.checked e) (p.1 ∙ ap Err p.2) (λ bad. checked-as (kind_of image) image (seen disk) _ _ first.shown);
       guarded = (search rules);
       same_tracks = (search rules);
       opens = (search rules);
@@ -131,12 +131,12 @@ returns-clause-requests g c =
     let all = StartsFrom (seen disk) in
     let kept = KeptBy (seen after) in
     let run = c.in_ok-disk-2.ensures.run in
-    let among = starts-as (kind_of image) image (seen disk).tracks (seen disk).content guarded (seen disk).protected first.shown first.same_protection in
+    let among = starts-as (kind_of image) image (seen disk) guarded first.shown first.same_protection in
     record {
       script = record {
         ended = ends-saved c.image_after.result _ c.image_after.ensures.err (ended-among pace checks before afterwards starts all (λ m. Unit {0}) (λ m. Unit {0}) among (λ m s. s) asked _ run.served.ended);
         disk = by_protection guarded (λ free. IfOk-weaker c.image_after.result _ _ (λ saved is. served-among pace checks before afterwards starts all kept (λ m. ImageHolds (kind_of image) saved.items m.disk) among
-            (holds-as (kind_of image) saved.items (seen after).tracks (seen after).content is) asked run.served.disk) (c.image_after.ensures.written free))
+            (holds-as (kind_of image) saved.items (seen after) is) asked run.served.disk) (c.image_after.ensures.written free))
             (λ kept_so. IfOk-weaker c.image_after.result _ _ (λ saved same. subst (λ (l : List ℕ). IsScriptServed pace checks asked before afterwards starts (λ m. ImageHolds (kind_of image) l m.disk)) (sym same)
             (kept-afterwards (tracks_of (kind_of image) image) (content_of (kind_of image) image) guarded kept_so pace checks before afterwards asked (λ m. Unit {0})
             (served-among pace checks before afterwards starts all kept (λ m. Unit {0}) among (λ m s. tt) asked run.served.disk)))
@@ -164,12 +164,12 @@ returns-clause-changes g c =
     let all = StartsFrom (seen disk) in
     let kept = KeptBy (seen after) in
     let run = c.in_ok-disk-2.ensures.run in
-    let among = starts-as (kind_of image) image (seen disk).tracks (seen disk).content guarded (seen disk).protected first.shown first.same_protection in
+    let among = starts-as (kind_of image) image (seen disk) guarded first.shown first.same_protection in
     record {
       script = record {
         ended = ends-saved c.image_after.result _ c.image_after.ensures.err (traced-among (checked_text checks) before afterwards timed starts all (λ m. Unit {0}) (λ m. Unit {0}) drive _ among (λ m s. s) run.played.ended);
         disk = by_protection guarded (λ free. IfOk-weaker c.image_after.result _ _ (λ saved is. left-among (checked_text checks) before afterwards timed starts all kept (λ m. ImageHolds (kind_of image) saved.items m.disk) drive among
-            (holds-as (kind_of image) saved.items (seen after).tracks (seen after).content is) run.played.disk) (c.image_after.ensures.written free))
+            (holds-as (kind_of image) saved.items (seen after) is) run.played.disk) (c.image_after.ensures.written free))
             (λ kept_so. IfOk-weaker c.image_after.result _ _ (λ saved same. subst (λ (l : List ℕ). IsTraced drive checks timed before afterwards starts (λ m. ImageHolds (kind_of image) l m.disk)) (sym same)
             (kept-trace (tracks_of (kind_of image) image) (content_of (kind_of image) image) guarded kept_so (checked_text checks) before afterwards timed (λ m. Unit {0}) drive
             (left-among (checked_text checks) before afterwards timed starts all kept (λ m. Unit {0}) drive among (λ m s. tt) run.played.disk)))
@@ -190,10 +190,10 @@ returns-clause-outcome g c =
     let first = c.in_ok-disk.ensures.ok in
     record {
       grows = c.in_ok-disk-2.ensures.run.grows;
-      checked = λ e. ends-any c.image_after.result _ (λ bad. checked-as (kind_of image) image (seen disk).tracks (seen disk).content _ _ first.shown (c.in_ok-disk-2.ensures.checked e));
+      checked = λ e. ends-any c.image_after.result _ (λ bad. checked-as (kind_of image) image (seen disk) _ _ first.shown (c.in_ok-disk-2.ensures.checked e));
       guarded = λ kept_so. c.image_after.ensures.given kept_so;
       same_tracks = by_protection guarded (λ free. IfOk-weaker c.image_after.result _ _ (λ saved is. tracks-as (kind_of image) image saved.items
-          (seen disk).tracks (seen after).tracks (seen disk).content (seen after).content first.shown c.in_ok-disk-2.ensures.same_tracks is) (c.image_after.ensures.written free))
+          (seen disk) (seen after) first.shown c.in_ok-disk-2.ensures.same_tracks is) (c.image_after.ensures.written free))
           (λ kept_so. IfOk-weaker c.image_after.result _ _ (λ saved same. ap (tracks_of (kind_of image)) same) (c.image_after.ensures.given kept_so));
       opens = by_protection guarded (λ free. IfOk-weaker c.image_after.result _ _ (λ saved is. is.faultless) (c.image_after.ensures.written free))
           (λ kept_so. IfOk-weaker c.image_after.result _ _ (λ saved same. ap (image_fault (kind_of c.args.image.now)) same ∙ first.shown.faultless) (c.image_after.ensures.given kept_so));

@@ -4,7 +4,7 @@ use Rattle.cbm_channel.specs.Standing.{Stands}
 use Rattle.cbm_channel.proofs.Steady.{steady_open, steady_close}
 use Rattle.cbm_shell.specs.declared.changing.DiskChange.TheVariants.{File}
 use Rattle.cbm_shell.proofs.ChangeLemmas.{made, not_begun}
-use Rattle.cbm_channel.proofs.Goings.{keeps_then}
+use Rattle.cbm_channel.proofs.Goings.{keeps_free, keeps_then}
 use Rattle.cbm_shell.proofs.changing.apply.Goals as goal
 
 pub returns-in_ok-told-in-File-clause-made : goal.returns-in_ok-told-in-File-clause-made
@@ -25,4 +25,4 @@ returns-in_err-told-in-File-clause-made g c = rw c.in-File.is (λ m s.
 -- ---- what it makes of the medium
 
 pub returns-in_ok-told-in-File-clause-medium : goal.returns-in_ok-told-in-File-clause-medium
-returns-in_ok-told-in-File-clause-medium g c = keeps_then _ _ _ (keeps_then _ _ _ c.open-in-File.ensures.leaves.medium c.hear.ensures.medium) c.close.ensures.leaves.medium
+returns-in_ok-told-in-File-clause-medium g c = keeps_free _ _ (keeps_then _ _ _ (keeps_then _ _ _ c.open-in-File.ensures.leaves.medium c.hear.ensures.medium) c.close.ensures.leaves.medium)

@@ -5,7 +5,8 @@ use Rattle.cbm_volume.specs.Holding.{HoldsDisk}
 use Rattle.cbm_machine.specs.Machines.{start}
 use Rattle.cbm_channel.specs.Standing.{Stands}
 use Rattle.cbm_channel.proofs.Stands.{means_of}
-use Rattle.cbm_shell.specs.Changing.{disk_after_change}
+use Rattle.cbm_channel.specs.Going.{IsOutsideKept}
+use Rattle.cbm_shell.specs.Changing.{change_formats, disk_after_change}
 use Rattle.cbm_shell.specs.Editing.{IsUnedited}
 use Rattle.cbm_shell.proofs.ChangeLemmas.{unsound_of}
 use Rattle.cbm_shell.proofs.changing.changed.Goals as goal
@@ -54,3 +55,9 @@ returns-clause-same_protection g c =
     let seen = g.M.Medium.seen in
     ap (λ k. (seen k).protected) c.into_medium-2.ensures ∙ c.in_ok-apply.ensures.medium.protected
     ∙ ap (λ k. (seen k).protected) (c.new-dos.ensures.medium ∙ c.into_medium.ensures ∙ c.open-volume.ensures)
+
+pub returns-clause-same_outside : goal.returns-clause-same_outside
+returns-clause-same_outside g c =
+    let seen = g.M.Medium.seen in
+    subst (λ k. IsOutsideKept (change_formats c.args.change.now) (seen c.args.medium).outside (seen k).outside) (sym c.into_medium-2.ensures)
+    (subst (λ k. IsOutsideKept (change_formats c.args.change.now) (seen k).outside (seen c.apply.new.dos.medium).outside) (c.new-dos.ensures.medium ∙ c.into_medium.ensures ∙ c.open-volume.ensures) c.in_ok-apply.ensures.medium.outside)

@@ -5,9 +5,9 @@ use Rattle.cbm_volume.specs.Holding.{HoldsDisk}
 use Rattle.cbm_image.specs.AnyDisks.{any_seen}
 use Rattle.cbm_image.specs.Images.{kind_of, tracks_of}
 use Rattle.cbm_shell.specs.Images.{IsFailed}
-use Rattle.cbm_shell.specs.Changing.{disk_after_change, IsFine, IsUndone}
+use Rattle.cbm_shell.specs.Changing.{change_formats, disk_after_change, IsFine, IsUndone}
 use Rattle.cbm_volume.proofs.layouts.Calls.{ok_any}
-use Rattle.cbm_shell.proofs.ImageLemmas.{opened_holds, same_start, as_open_fault, as_other_fault, saved_image, sound_image}
+use Rattle.cbm_shell.proofs.ImageLemmas.{opened_holds, same_start, as_open_fault, as_other_fault, saved_image, sound_image, again_if, bytes_if, outside_either, outside_none}
 use Rattle.cbm_shell.proofs.images.change.Goals as goal
 
 pub returns-in_err-disk-clause-made : goal.returns-in_err-disk-clause-made
@@ -36,3 +36,11 @@ returns-clause-made c = λ d h.
 
 pub returns-clause-sound : goal.returns-clause-sound
 returns-clause-sound c = ok_any _ (sound_image c.args.image.now (any_seen c.in_ok-disk.disk) c.in_ok-disk.ensures.ok c.in_ok-disk-2.ensures.sound)
+
+pub returns-clause-opens : goal.returns-clause-opens
+returns-clause-opens c = again_if (λ v. v.items) c.saved.result c.args.image.now c.kind_of.result (any_seen c.in_ok-disk.disk) (any_seen c.in_ok-disk-2.disk) c.kind_of.ensures c.in_ok-disk.ensures.ok
+    (outside_either (change_formats c.args.change.now) _ _ c.in_ok-disk-2.ensures.same_outside) c.saved.ensures.ok
+
+pub returns-clause-bytes : goal.returns-clause-bytes
+returns-clause-bytes c = λ none. bytes_if (λ v. v.items) c.saved.result c.args.image.now c.kind_of.result (any_seen c.in_ok-disk.disk) (any_seen c.in_ok-disk-2.disk) c.kind_of.ensures c.in_ok-disk.ensures.ok
+    (outside_none (change_formats c.args.change.now) _ _ none c.in_ok-disk-2.ensures.same_outside) c.saved.ensures.ok

@@ -1,11 +1,20 @@
-use Rattle.std.proofs.Common.{List, ℕ, subst, sym, ap, ◌∙◌, Ok}
+use Rattle.std.proofs.Common.{◌≡◌, List, ℕ, subst, sym, ap, ◌∙◌, inl, None, Ok}
 use Rattle.cbm_bam.specs.Map.{geometry_of}
 use Rattle.cbm_image.specs.AnyDisks.{any_seen}
-use Rattle.cbm_image.specs.Images.{kind_of, tracks_of, content_of}
+use Rattle.cbm_image.specs.Images.{kind_of, image_fault, tracks_of, content_of, outside_of}
+use Rattle.cbm_image.proofs.Again.{opens_again}
 use Rattle.cbm_volume.specs.Sweeps.{IsPutInOrder}
 use Rattle.cbm_shell.specs.Freeing.{AreFreed}
 use Rattle.cbm_shell.proofs.ImageLemmas.{in_order}
 use Rattle.cbm_shell.proofs.images.validate.Goals as goal
+
+pub returns-clause-opens : goal.returns-clause-opens
+returns-clause-opens c =
+    let new = c.in_ok-image.image.items in
+    let saved = c.in_ok-image.ensures.ok in
+    let bytes : outside_of (kind_of c.args.image.now) new ≡ outside_of (kind_of c.args.image.now) c.args.image.now
+    = sym (subst (λ k. (any_seen c.in_ok-new.new).outside ≡ outside_of k new) c.kind_of.ensures saved.same_outside) ∙ c.in_ok-new.ensures.outside in
+    record { again = opens_again c.args.image.now new (subst (λ k. image_fault k new ≡ None) c.kind_of.ensures saved.faultless) (inl bytes); bytes = bytes }
 
 pub returns-clause-order : goal.returns-clause-order
 returns-clause-order c =

@@ -16,6 +16,11 @@ returns-clause-tracks c =
     let seen = any_seen in
     ap (λ k. (seen k).tracks) c.into_medium.ensures ∙ c.in_ok-validate.ensures.only.tracks ∙ c.in_ok-volume.ensures.ok.same_tracks
 
+pub returns-clause-outside : goal.returns-clause-outside
+returns-clause-outside c =
+    let seen = any_seen in
+    ap (λ k. (seen k).outside) c.into_medium.ensures ∙ c.in_ok-validate.ensures.only.outside ∙ c.in_ok-volume.ensures.ok.same_outside
+
 pub returns-clause-order : goal.returns-clause-order
 returns-clause-order c =
     let seen = any_seen in

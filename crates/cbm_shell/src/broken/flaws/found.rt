@@ -1,7 +1,7 @@
 //! What a flaw of a disk is.
 ghost use Rattle.std.specs.Prelude.{◌≡◌};
 ghost use Rattle.cbm_shell.specs.Flaws.{flawed};
-ghost use Rattle.cbm_shell.specs.FlawSteps.{is_directory, outside_of};
+ghost use Rattle.cbm_shell.specs.FlawSteps.{is_directory, number_outside};
 
 use cbm_medium::Link;
 use cbm_volume::Unsound;
@@ -30,7 +30,7 @@ impl Whose {
 
     /// The number of a link to elsewhere.
     pub(super) fn outside(self) -> u8
-        ensures { result ≡ outside_of self }
+        ensures { result ≡ number_outside self }
     {
         match self {
             Whose::Disk | Whose::Directory => 6,

@@ -2,7 +2,7 @@
 ghost use Rattle.std.specs.Prelude.{◌≡◌, ◌≤◌, None, IfOk, IfErr, OnOk};
 ghost use Rattle.cbm_medium.specs.Place.{directory_head};
 ghost use Rattle.cbm_medium.specs.Content.{written};
-ghost use Rattle.cbm_image.specs.Images.{kind_of, image_fault};
+ghost use Rattle.cbm_image.specs.Images.{kind_of, ChangesSectors};
 ghost use Rattle.cbm_shell.specs.Images.{IsSoundImage};
 ghost use Rattle.cbm_shell.specs.Locking.{head_with_mark, marked_as, IsRemarked, IsNotRemarked};
 ghost use Rattle.cbm_shell.specs.Remaking.{IsTroubled};
@@ -32,6 +32,7 @@ fn put_mark(head: &mut [u8; 256], mark: &[u8; 5])
 fn remarked<M: Steady + Drop>(volume: Volume<M>, mark: &[u8; 5]) -> Result<M, ShellFault>
     ensures content { IfOk result (λ after. (M.seen after).content ≡ marked_as mark.now (M.seen volume).content) }
     ensures tracks { IfOk result (λ after. (M.seen after).tracks ≡ (M.seen volume).tracks) }
+    ensures outside { IfOk result (λ after. (M.seen after).outside ≡ (M.seen volume).outside) }
     ensures fault { IfErr result IsTroubled }
 {
     let geometry = volume.geometry();
@@ -49,7 +50,7 @@ pub fn remark(alloc: Global, image: &[u8], mark: &[u8; 5]) -> Result<Vec<u8>, Sh
     ensures mark { IfOk result (λ v. IsRemarked image.now mark.now v.items) }
     ensures was_sound { OnOk result (IsSoundImage (kind_of image.now) image.now) }
     ensures sound { IfOk result (λ v. IsSoundImage (kind_of image.now) v.items) }
-    ensures opens { IfOk result (λ v. image_fault (kind_of image.now) v.items ≡ None) }
+    ensures opens { IfOk result (λ v. ChangesSectors image.now v.items) }
     ensures fault { IfErr result (IsNotRemarked image.now mark.now) }
 {
     let volume = open_disk(alloc, image)?;

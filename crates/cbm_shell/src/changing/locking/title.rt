@@ -3,7 +3,7 @@ ghost use Rattle.std.specs.Prelude.{◌≡◌, ◌≤◌, false, None, length, I
 ghost use Rattle.cbm_medium.specs.Place.{Place, directory_head};
 ghost use Rattle.cbm_medium.specs.Content.{IsWhole, written};
 ghost use Rattle.cbm_bam.specs.Map.{geometry_of};
-ghost use Rattle.cbm_image.specs.Images.{kind_of, image_fault, ImageHolds};
+ghost use Rattle.cbm_image.specs.Images.{kind_of, ImageHolds, ChangesSectors};
 ghost use Rattle.cbm_shell.specs.Images.{IsSoundImage, OfHeld};
 ghost use Rattle.cbm_shell.specs.Editing.{CanBeEdited, IsUneditedIn};
 ghost use Rattle.cbm_shell.specs.Remaking.{IsTroubled};
@@ -35,6 +35,7 @@ fn put_title(head: &mut [u8; 256], title: &[u8])
 pub fn write_head<M: Steady>(medium: &mut M, head: &[u8; 256]) -> Result<(), ShellFault>
     ensures content { OnOk result ((M.seen medium.new).content ≡ written (M.seen medium.old).content directory_head head.now) }
     ensures tracks { (M.seen medium.new).tracks ≡ (M.seen medium.old).tracks }
+    ensures outside { (M.seen medium.new).outside ≡ (M.seen medium.old).outside }
     ensures never { let old = M.seen medium.old in
         IsOk (old.content directory_head) → old.protected ≡ false → IsOk result }
     ensures fault { IfErr result IsTroubled }
@@ -51,6 +52,7 @@ fn retitled<M: Steady + Drop>(volume: Volume<M>, title: &[u8]) -> Result<M, Shel
     requires { length title.now ≤ 16 }
     ensures content { IfOk result (λ after. (M.seen after).content ≡ titled title.now (M.seen volume).content) }
     ensures tracks { IfOk result (λ after. (M.seen after).tracks ≡ (M.seen volume).tracks) }
+    ensures outside { IfOk result (λ after. (M.seen after).outside ≡ (M.seen volume).outside) }
     ensures whole { (p : Place) → IsWhole ((M.seen volume).content p) }
     ensures never { let old = M.seen volume in CanBeEdited (geometry_of old.tracks old.content) old → IsOk result }
 {
@@ -69,7 +71,7 @@ pub fn retitle(alloc: Global, image: &[u8], title: &[u8]) -> Result<Vec<u8>, She
     ensures title { IfOk result (λ v. IsRetitled image.now title.now v.items) }
     ensures sound { OnOk result (IsSoundImage (kind_of image.now) image.now) }
     ensures made { OfHeld image.now (λ d. IfOk result (λ v. ImageHolds (kind_of image.now) v.items (entitled title.now d))) }
-    ensures opens { IfOk result (λ v. image_fault (kind_of image.now) v.items ≡ None) }
+    ensures opens { IfOk result (λ v. ChangesSectors image.now v.items) }
     ensures fault { IfErr result (IsUneditedIn image.now ⊥) }
 {
     let volume = open_disk(alloc, image)?;

@@ -1,5 +1,7 @@
 use Rattle.std.proofs.Common.{◌≡◌, false, subst, sym, ◌∙◌}
 use Rattle.cbm_slots.specs.InSlots.{blocks_said, has_name, is_locked, IsDoubled}
+use Rattle.cbm_image.specs.Images.{ChangesSectors}
+use Rattle.cbm_shell.proofs.ImageLemmas.{sectors_after}
 use Rattle.cbm_slots.proofs.CopyingLemmas.{not_doubled, copied_as, copy_unnamed}
 use Rattle.cbm_slots.proofs.copying.copy.Goals as goal
 
@@ -15,7 +17,7 @@ returns-clause-copied c =
     let there = c.in_ok-meant.ensures.there in
     let spares = c.in-Some.spares in
     let both = c.as_slice-3.result.now in
-    copied_as (λ v. v.items) c.named.result image both spares.new c.args.name.now slot (λ new named sound opens. record {
+    copied_as (λ v. v.items) c.named.result image both spares.new c.args.name.now slot (λ new named sound. record {
       entries = meant.entries.items;
       entry = there.entry;
       old = spares.old;
@@ -32,8 +34,7 @@ returns-clause-copied c =
           (subst (λ xs. IsDoubled image slot meant.name meant.blocks meant.is_locked spares.old spares.new xs) (sym c.as_slice-3.ensures.value) c.in_ok-both.ensures.doubled)));
       named = named;
       sound = sound;
-      opens = opens;
-    }) c.named.ensures.named c.named.ensures.stays c.named.ensures.opens
+    }) c.named.ensures.named c.named.ensures.stays
 
 pub returns-clause-fault : goal.returns-clause-fault
 returns-clause-fault c =
@@ -52,3 +53,9 @@ returns-clause-fault c =
       doubled = subst (λ xs. IsDoubled image slot meant.name meant.blocks meant.is_locked spares.old spares.new xs) (sym c.as_slice-3.ensures.value) c.in_ok-both.ensures.doubled;
       failed = failed;
     }) c.named.ensures.fault
+
+pub returns-clause-opens : goal.returns-clause-opens
+returns-clause-opens c =
+    let image = c.args.image.now in
+    let both = c.as_slice-3.result.now in
+    sectors_after (λ v. v.items) c.named.result image both (subst (λ xs. ChangesSectors image xs) (sym c.as_slice-3.ensures.value) c.in_ok-both.ensures.opens) c.named.ensures.opens

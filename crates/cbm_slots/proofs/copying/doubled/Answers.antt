@@ -1,7 +1,11 @@
-use Rattle.std.proofs.Common.{false, ap, subst, sym}
+use Rattle.std.proofs.Common.{false, ap, subst, sym, ◌∙◌}
 use Rattle.cbm_machine.specs.Calls.{after_open}
+use Rattle.cbm_channel.specs.Commanded.{open_formats}
+use Rattle.cbm_image.specs.Images.{OpensAgain, KeepsOtherBytes, ChangesSectors}
 use Rattle.cbm_shell.specs.Art.{IsDressedIn}
+use Rattle.cbm_shell.proofs.ImageLemmas.{sectors_thrice}
 use Rattle.cbm_slots.specs.InSlots.{IsCommanded}
+use Rattle.cbm_slots.proofs.CommandKinds.{copy_formats}
 use Rattle.cbm_slots.proofs.CopyingLemmas.{beside, not_itself, copy_refused}
 use Rattle.cbm_slots.proofs.copying.doubled.Goals as goal
 
@@ -55,3 +59,15 @@ returns-clause-fault c =
           (subst (λ xs. IsCommanded hidden c.copy_text-text.result xs) (sym c.as_slice-2.ensures.value) c.in_ok-copied.ensures.made);
       failed = failed;
     }) c.dress-2.ensures.fault
+
+-- COPY isn't NEW, and so each of the three changes is one of sectors only
+pub returns-clause-opens : goal.returns-clause-opens
+returns-clause-opens c =
+    let image = c.args.image.now in
+    let hidden = c.as_slice.result.now in
+    let copied = c.as_slice-2.result.now in
+    let plain = ap (open_formats 15) c.copy_text-text.ensures ∙ copy_formats _ _ in
+    sectors_thrice (λ v. v.items) c.dress-2.result image hidden copied
+    (subst (λ xs. ChangesSectors image xs) (sym c.as_slice.ensures.value) c.in_ok-hidden.ensures.opens)
+    (subst (λ xs. OpensAgain hidden xs) (sym c.as_slice-2.ensures.value) c.in_ok-copied.ensures.opens)
+    (subst (λ xs. KeepsOtherBytes hidden xs) (sym c.as_slice-2.ensures.value) (c.in_ok-copied.ensures.bytes plain)) c.dress-2.ensures.opens

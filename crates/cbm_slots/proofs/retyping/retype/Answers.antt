@@ -3,6 +3,7 @@ use Rattle.std.specs.Prelude.{IfOk}
 use Rattle.std.proofs.lemmas.Result.{err_from_is_err_and}
 use Rattle.cbm_image.specs.AnyDisks.{any_seen}
 use Rattle.cbm_shell.specs.Images.{IsSoundImage}
+use Rattle.cbm_shell.proofs.ImageLemmas.{sectors_if}
 use Rattle.cbm_slots.proofs.RetypingLemmas.{was_unsound, not_retyped}
 use Rattle.cbm_slots.proofs.retyping.retype.Goals as goal
 
@@ -22,3 +23,8 @@ returns-clause-fault c =
     let seen = any_seen in
     not_retyped c.args.image.now (seen c.in_ok-volume.volume) c.args.slot c.args.kind c.retyped_image.result c.in_ok-volume.ensures.ok
     c.retyped_image.ensures.fault
+
+pub returns-clause-opens : goal.returns-clause-opens
+returns-clause-opens c =
+    sectors_if (λ v. v.items) c.retyped_image.result c.args.image.now c.kind_of.result (any_seen c.in_ok-volume.volume) c.kind_of.ensures c.in_ok-volume.ensures.ok c.retyped_image.ensures.opens
+    c.retyped_image.ensures.outside

@@ -14,7 +14,7 @@ use Rattle.cbm_channel.proofs.dos.Dos.close_all.Given as goal
 abbrev pub invariant-loop-channel : goal.invariant-loop-channel
 invariant-loop-channel g l = Goes g.M.Medium.seen l.fn.self l.self (closings_of (take l.channel channel_numbers))
     × ((k : ℕ) → k < l.channel → slice_index_or l.self.channels k Closed ≡ Closed)
-    × KeepsMedium (g.M.Medium.seen l.fn.self.medium) (g.M.Medium.seen l.self.medium)
+    × KeepsMedium false (g.M.Medium.seen l.fn.self.medium) (g.M.Medium.seen l.self.medium)
     × (0 < l.channel → length l.self.channels ≡ 15)
     × (((k : ℕ) → is_writing_on k l.fn.self ≡ false) → KeepsMediumAndStatus l.fn.self l.self × ((k : ℕ) → is_writing_on k l.self ≡ false))
     × AreCounted g.M.Medium.seen l.channel l.fn.self l.self

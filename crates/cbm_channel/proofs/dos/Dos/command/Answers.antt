@@ -4,28 +4,28 @@ use Rattle.cbm_channel.proofs.Cleared.{read_done, nothing_done}
 use Rattle.cbm_machine.specs.Calls.{command_text, command}
 use Rattle.cbm_machine.specs.Machines.{answered, say}
 use Rattle.cbm_machine.specs.Running.{run}
-use Rattle.std.specs.Prelude.{◌==◌, Result, Ok, Err}
+use Rattle.std.specs.Prelude.{◌==◌, Bool, Result, Ok, Err}
 use Rattle.cbm_command.specs.declared.command.Command.{Command}
 use Rattle.cbm_command.specs.declared.refusal.Refusal.{Refusal}
 use Rattle.cbm_channel.specs.ChannelCalls.{KeepsRest}
 use Rattle.cbm_channel.specs.Commanded.{read_clears}
 use Rattle.cbm_command.specs.Commands.{command_of}
-use Rattle.cbm_channel.proofs.Goings.{part_same}
+use Rattle.cbm_channel.specs.Going.{KeepsMedium}
+use Rattle.cbm_channel.proofs.Goings.{part_same, keeps_same}
 use Rattle.cbm_channel.proofs.Texts.{refused, asked_for, not_empty, formats_of}
 use Rattle.cbm_channel.proofs.Rest.{rest_itself}
 use Rattle.cbm_channel.proofs.dos.Dos.command.Goals as goal
 
 pub returns-in-Ok-clause-goes : goal.returns-in-Ok-clause-goes
-returns-in-Ok-clause-goes g c = λ m s whole.
+returns-in-Ok-clause-goes g c = λ m s.
     let some : 1 ≤ length c.without_return-text.result.now = not_empty c.without_return-text.result.now (sym c.is_empty.ensures ∙ c.if-is_empty.false) in
     let is = sym c.parse_command.ensures ∙ c.in-Ok.is in
     let text = c.without_return-text.ensures in
-    let next = c.run.ensures.goes (c.without_return-text.result.now, is) m s
-    (λ e. whole (ap formats_of (ap command_of (sym text) ∙ is) ∙ e)) in
+    let next = c.run.ensures.goes (c.without_return-text.result.now, is) m s in
     (next.0, part_same _ 15 (λ n. answered n (run c.in-Ok.command n)) (command c.args.text.now) m next.0 (ap (λ w. command_text w m) (sym text) ∙ asked_for c.without_return-text.result.now c.in-Ok.command m some is) next.1, next.2)
 
 pub returns-in-Err-clause-goes : goal.returns-in-Err-clause-goes
-returns-in-Err-clause-goes g c = λ m s whole.
+returns-in-Err-clause-goes g c = λ m s.
     let some : 1 ≤ length c.without_return-text.result.now = not_empty c.without_return-text.result.now (sym c.is_empty.ensures ∙ c.if-is_empty.false) in
     let is = sym c.parse_command.ensures ∙ c.in-Err.is in
     let text = c.without_return-text.ensures in (
@@ -41,7 +41,7 @@ returns-then-is_empty-clause-leaves g c = record {
   channels = (search rules);
   others = (search rules);
   ordered = (search rules);
-  medium = (search rules);
+  medium = keeps_same _ _ refl;
   rest = λ other m s. rest_itself _ _ refl;
   counted = (search rules);
   grounded = (search rules);
@@ -52,7 +52,7 @@ returns-in-Ok-clause-leaves g c = record {
   channels = (search rules);
   others = (search rules);
   ordered = (search rules);
-  medium = (search rules);
+  medium = subst (λ (b : Bool). KeepsMedium b (g.M.Medium.seen c.args.self.now.medium) (g.M.Medium.seen c.run.new.self.medium)) (sym (ap formats_of (ap command_of (sym c.without_return-text.ensures) ∙ sym c.parse_command.ensures ∙ c.in-Ok.is))) c.run.ensures.leaves.medium;
   rest = λ other m s.
       let is = sym c.parse_command.ensures ∙ c.in-Ok.is in
       subst (λ (r : Result Command Refusal). KeepsRest (g.M.Medium.seen c.args.self.now.medium) (g.M.Medium.seen c.run.new.self.medium) (read_clears r m)) (sym (ap command_of (sym c.without_return-text.ensures) ∙ is))
@@ -66,7 +66,7 @@ returns-in-Err-clause-leaves g c = record {
   channels = (search rules);
   others = (search rules);
   ordered = (search rules);
-  medium = (search rules);
+  medium = keeps_same _ _ (ap g.M.Medium.seen c.say.ensures.medium);
   rest = λ other m s. rest_itself _ _ (ap g.M.Medium.seen c.say.ensures.medium);
   counted = (search rules);
   grounded = (search rules);

@@ -1,31 +1,31 @@
-use Rattle.std.proofs.Common.{rules, ◌≡◌, ℕ, true, false, Ok, Err, sym, ap, subst, ◌∙◌, inl, refl}
+use Rattle.std.proofs.Common.{rules, ◌≡◌, ℕ, true, false, Ok, Err, sym, ap, subst, ◌∙◌, inl, inr, refl}
 use Rattle.std.specs.Prelude.{OnOk}
 use Rattle.cbm_medium.specs.Seen.{HasFailed}
 use Rattle.cbm_file.specs.Changes.{new_disk}
 use Rattle.cbm_volume.specs.NewDisks.{EmptiesDisk}
 use Rattle.cbm_volume.specs.Writers.{Idle, HoldsNow}
-use Rattle.cbm_machine.specs.Machines.{any_open, say, with_disk}
+use Rattle.cbm_machine.specs.Machines.{any_open, say, with_status, with_disk}
 use Rattle.cbm_machine.specs.declared.code.Code.TheVariants.{Fine, WriteFileOpen, WriteProtected}
 use Rattle.cbm_volume.proofs.formatted.NewDisks.{new_grounded, new_keeps, new_refusal}
 use Rattle.cbm_channel.specs.Standing.{StandsBy, uses_of}
-use Rattle.cbm_channel.proofs.Commanding.{new_open, new_done, new_guarded, new_stands, all_idle}
+use Rattle.cbm_channel.proofs.Commanding.{new_open, new_done, new_guarded, new_stands, new_cut, all_idle}
 use Rattle.cbm_channel.proofs.Opens.{failed_by}
 use Rattle.cbm_channel.proofs.Stands.{stood}
 use Rattle.cbm_channel.proofs.Stores.{renamed}
 use Rattle.cbm_channel.proofs.Refused.{not_refused, refused_26, trouble_never}
 use Rattle.cbm_channel.proofs.Counted.{counted_by, counted_well, new_counts}
 use Rattle.cbm_channel.proofs.dos.Dos.format.Goals as goal
-use Rattle.cbm_channel.proofs.Goings.{keeps_by}
+use Rattle.cbm_channel.proofs.Goings.{keeps_by, keeps_same}
 use Rattle.cbm_channel.proofs.GroundedReports.{answer_grounded_by, new_medium, protected_grounded}
 
 -- a channel is open
 pub returns-then-is_any_open-clause-goes : goal.returns-then-is_any_open-clause-goes
-returns-then-is_any_open-clause-goes g c = λ whole m s.
+returns-then-is_any_open-clause-goes g c = λ m s.
     (say WriteFileOpen m, inl (sym (new_open m c.args.title.now c.args.id (sym (c.is_any_open.ensures m s) ∙ c.if-is_any_open.true))), c.say.ensures.leads m s)
 
 -- the disk is protected
 pub returns-then-is_protected-clause-goes : goal.returns-then-is_protected-clause-goes
-returns-then-is_protected-clause-goes g c = λ whole m s.
+returns-then-is_protected-clause-goes g c = λ m s.
     let old = c.args.self.now in
     let shut : any_open m ≡ false = sym (c.is_any_open.ensures m s) ∙ c.if-is_any_open.false in
     let guarded : m.protected ≡ true = s.same_protection ∙ ap (λ v. (g.M.Medium.seen v).protected) (sym c.volume.ensures) ∙ sym c.is_protected.ensures ∙ c.if-is_protected.true in (
@@ -36,7 +36,7 @@ returns-then-is_protected-clause-goes g c = λ whole m s.
 
 -- the disk is empty
 pub returns-in-Ok-clause-goes : goal.returns-in-Ok-clause-goes
-returns-in-Ok-clause-goes g c = λ whole m s.
+returns-in-Ok-clause-goes g c = λ m s.
     let here = c.self.inside in
     let new = g.M.Medium.seen c.new_disk.new.self in
     let st : StandsBy (g.M.Medium.seen here.volume).content (g.M.Medium.seen here.volume).tracks (g.M.Medium.seen here.volume).protected here.channels.items here.telling here.text m = stood g.M.Medium.seen c.args.self.now _ m c.self.view_is s in
@@ -53,15 +53,25 @@ returns-in-Ok-clause-goes g c = λ whole m s.
       c.say-in-Ok.ensures.leads _ (renamed _ _ _ _ _ _ _ _ _ kept.0 kept.1 next),
     )
 
--- a write was refused: that is a failure
+-- a write was refused: nothing has changed, or no file is left
 pub returns-in-Err-clause-goes : goal.returns-in-Err-clause-goes
-returns-in-Err-clause-goes g c = λ whole m s.
+returns-in-Err-clause-goes g c = λ m s.
     let here = c.self.inside in
     let new = g.M.Medium.seen c.new_disk.new.self in
     let st : StandsBy (g.M.Medium.seen here.volume).content (g.M.Medium.seen here.volume).tracks (g.M.Medium.seen here.volume).protected here.channels.items here.telling here.text m = stood g.M.Medium.seen c.args.self.now _ m c.self.view_is s in
+    let shut : any_open m ≡ false = sym (c.is_any_open.ensures m s) ∙ c.if-is_any_open.false in
+    let idle : (k : ℕ) → uses_of here.channels.items m.channels k ≡ Idle = all_idle here.channels.items m.channels st.each shut in
     let unprotected : m.protected ≡ false = s.same_protection ∙ ap (λ v. (g.M.Medium.seen v).protected) (sym c.volume.ensures) ∙ sym c.is_protected.ensures ∙ c.if-is_protected.false in
     let failed = failed_by (g.M.Medium.seen here.volume) new c.in-Err.trouble m.protected st.same_protection unprotected (c.in-Err.ensures.cause m.disk (uses_of here.channels.items m.channels) st.holds) in
-    absurd (whole (subst (λ v. HasFailed (g.M.Medium.seen v) (g.M.Medium.seen c.set.new.self.medium)) (ap (λ k. k.medium) c.self.view_is) (subst (λ v. HasFailed (g.M.Medium.seen here.volume) (g.M.Medium.seen v)) (sym c.set.ensures.medium) failed)))
+    let next = new_cut _ _ new.content _ here.channels.items here.telling here.text m st shut c.args.title.now c.args.id unprotected (c.in-Err.ensures.stopped m.disk (uses_of here.channels.items m.channels) st.holds idle) in
+    let kept = new_keeps c.new_disk.result c.args.id (g.M.Medium.seen here.volume) new c.new_disk.ensures.only in (
+      with_status c.from.result next.0,
+      inr (
+        subst (λ v. HasFailed (g.M.Medium.seen v) (g.M.Medium.seen c.set.new.self.medium)) (ap (λ k. k.medium) c.self.view_is) (subst (λ v. HasFailed (g.M.Medium.seen here.volume) (g.M.Medium.seen v)) (sym c.set.ensures.medium) failed),
+        next.1 c.in-Err.trouble c.from.result c.self.invariant.count c.from.ensures,
+      ),
+      c.set.ensures.leads next.0 (renamed _ _ _ _ _ _ _ _ _ kept.0 kept.1 next.2),
+    )
 
 -- ---- what is refused
 
@@ -89,11 +99,21 @@ returns-in-Err-clause-leaves g c = record {
   grounded = answer_grounded_by g.M.Medium.seen c.args.self.now c.set.new.self c.self.inside.volume c.new_disk.new.self (ap (λ k. k.medium) c.self.view_is) c.set.ensures.medium c.new_disk.result c.in-Err.trouble c.in-Err.is (new_medium _ _ _ _ c.new_disk.ensures.only).protected (new_medium _ _ _ _ c.new_disk.ensures.only).readable (new_grounded _ _ _ _ c.new_disk.ensures.only) (ap (λ x. x.status) c.set.ensures.told ∙ c.from.ensures);
 }
 
+-- a channel is open
+pub returns-then-is_any_open-clause-leaves : goal.returns-then-is_any_open-clause-leaves
+returns-then-is_any_open-clause-leaves g c = record {
+  channels = (search rules);
+  spared = (search rules);
+  medium = keeps_same _ _ (ap g.M.Medium.seen c.say.ensures.medium);
+  counted = (search rules);
+  grounded = (search rules);
+}
+
 pub returns-then-is_protected-clause-leaves : goal.returns-then-is_protected-clause-leaves
 returns-then-is_protected-clause-leaves g c = record {
   channels = (search rules);
   spared = (search rules);
-  medium = (search rules);
+  medium = keeps_same _ _ (ap g.M.Medium.seen c.say-then-is_protected.ensures.medium);
   counted = (search rules);
   grounded = protected_grounded g.M.Medium.seen c.args.self.now c.say-then-is_protected.new.self (ap (λ x. x.status) c.say-then-is_protected.ensures.told) (ap (λ v. (g.M.Medium.seen v).protected) (sym c.volume.ensures) ∙ sym c.is_protected.ensures ∙ c.if-is_protected.true);
 }

@@ -1,5 +1,5 @@
 use Rattle.std.proofs.Common.{rules, ◌≡◌, sym, ap, subst, ◌∙◌, arith, refl, inl, inr, ℕ}
-use Rattle.std.specs.Prelude.{◌==◌, ◌&&◌, true, false}
+use Rattle.std.specs.Prelude.{◌==◌, ◌&&◌, Bool, true, false}
 use Rattle.cbm_machine.specs.Codes.{code_number}
 use Rattle.cbm_machine.specs.Calls.{command}
 use Rattle.cbm_channel.specs.Grounds.{is_fault_number, HasGround}
@@ -8,7 +8,7 @@ use Rattle.cbm_machine.specs.Machines.{say}
 use Rattle.cbm_machine.specs.Closing.{close_one}
 use Rattle.cbm_machine.specs.Plans.{open_text}
 use Rattle.cbm_channel.specs.Shown.{appended_by, finished_by}
-use Rattle.cbm_channel.specs.Going.{GoesFrom}
+use Rattle.cbm_channel.specs.Going.{GoesFrom, KeepsMedium}
 use Rattle.cbm_channel.specs.Commanded.{text_formats}
 use Rattle.cbm_channel.specs.Planned.{begun_by, text_writes}
 use Rattle.cbm_channel.specs.Meant.{OpeningWasDone}
@@ -16,7 +16,7 @@ use Rattle.cbm_channel.proofs.Opened.{same_ok}
 use Rattle.cbm_channel.proofs.Asked.{below_15}
 use Rattle.cbm_channel.proofs.Stands.{moved}
 use Rattle.cbm_channel.proofs.Planning.{opened_text, refused_text, writes_text, own_refusal}
-use Rattle.cbm_channel.proofs.Goings.{part_same, one_part, close_then, close_begin, parts_other, parts_command, keeps_same, keeps_then}
+use Rattle.cbm_channel.proofs.Goings.{part_same, one_part, close_then, close_begin, parts_other, parts_command, keeps_free, keeps_same, keeps_then}
 use Rattle.cbm_channel.proofs.Rest.{rest_seen, rest_then, rest_more}
 use Rattle.cbm_channel.proofs.Spared.{open_command_rest, open_free, never_both}
 use Rattle.cbm_channel.proofs.dos.Dos.open.Goals as goal
@@ -24,16 +24,15 @@ use Rattle.cbm_channel.proofs.GroundedReports.{grounded_after}
 
 -- a command
 pub returns-then-channel-eq15-clause-goes : goal.returns-then-channel-eq15-clause-goes
-returns-then-channel-eq15-clause-goes g c = λ m s whole.
+returns-then-channel-eq15-clause-goes g c = λ m s.
     let fifteen : (c.args.channel == 15) ≡ true = eq-eqb c.args.channel 15 c.if-channel-eq15.true in
-    let next = c.command.ensures.goes m s
-    (λ e. whole (ap (λ b. b && text_formats c.args.text.now) fifteen ∙ e)) in
+    let next = c.command.ensures.goes m s in
     subst (λ parts. GoesFrom g.M.Medium.seen c.args.self.now c.command.new.self parts m) (sym (parts_command c.args.channel c.args.text.now fifteen))
     (next.0, one_part (g.M.Medium.seen c.args.self.now.medium) (g.M.Medium.seen c.command.new.self.medium) 15 (command c.args.text.now) m next.0 c.command.ensures.leaves.medium.counted next.1, next.2)
 
 -- CLOSE, and then OPEN
 pub returns-in-Ok-clause-goes : goal.returns-in-Ok-clause-goes
-returns-in-Ok-clause-goes g c = λ m s whole.
+returns-in-Ok-clause-goes g c = λ m s.
     let other = below_15 c.args.channel (omega (arith, c.requires, c.if-channel-eq15.false)) in
     let is = sym c.parse_open.ensures.value ∙ c.in-Ok.is in
     subst (λ parts. GoesFrom g.M.Medium.seen c.args.self.now c.begin.new.self parts m) (sym (parts_other c.args.channel c.args.text.now other))
@@ -43,7 +42,7 @@ returns-in-Ok-clause-goes g c = λ m s whole.
     (next.0, part_same _ c.args.channel (begun_by c.args.channel c.in-Ok.opening) (open_text c.args.channel c.args.text.now) n next.0 (opened_text c.args.channel c.args.text.now c.in-Ok.opening n is) next.1, next.2)))
 
 pub returns-in-Err-clause-goes : goal.returns-in-Err-clause-goes
-returns-in-Err-clause-goes g c = λ m s whole.
+returns-in-Err-clause-goes g c = λ m s.
     let other = below_15 c.args.channel (omega (arith, c.requires, c.if-channel-eq15.false)) in
     let is = sym c.parse_open.ensures.value ∙ c.in-Err.is in
     subst (λ parts. GoesFrom g.M.Medium.seen c.args.self.now c.say.new.self parts m) (sym (parts_other c.args.channel c.args.text.now other))
@@ -143,7 +142,9 @@ returns-in-Err-clause-channel g c = λ lt. record {
 pub returns-then-channel-eq15-clause-leaves : goal.returns-then-channel-eq15-clause-leaves
 returns-then-channel-eq15-clause-leaves g c = record {
   ordered = (search rules);
-  medium = (search rules);
+  medium =
+      let fifteen : (c.args.channel == 15) ≡ true = eq-eqb c.args.channel 15 c.if-channel-eq15.true in
+      subst (λ (b : Bool). KeepsMedium b (g.M.Medium.seen c.args.self.now.medium) (g.M.Medium.seen c.command.new.self.medium)) (sym (ap (λ b. b && text_formats c.args.text.now) fifteen)) c.command.ensures.leaves.medium;
   rest = λ other m s.
       let fifteen : (c.args.channel == 15) ≡ true = eq-eqb c.args.channel 15 c.if-channel-eq15.true in
       open_command_rest c.args.channel c.args.text.now c.args.self.now c.command.new.self m _ _ fifteen (c.command.ensures.leaves.rest (sym (ap (λ b. b && text_formats c.args.text.now) fifteen) ∙ other) m s);
@@ -152,7 +153,7 @@ returns-then-channel-eq15-clause-leaves g c = record {
 pub returns-in-Ok-clause-leaves : goal.returns-in-Ok-clause-leaves
 returns-in-Ok-clause-leaves g c = record {
   ordered = λ validates. absurd (never_both _ _ (below_15 c.args.channel (omega (arith, c.requires, c.if-channel-eq15.false))) validates);
-  medium = keeps_then _ _ _ c.close_one.ensures.leaves.medium c.begin.ensures.leaves.medium;
+  medium = keeps_free _ _ (keeps_then _ _ _ c.close_one.ensures.leaves.medium c.begin.ensures.leaves.medium);
   rest = λ other m s.
       let is = sym c.parse_open.ensures.value ∙ c.in-Ok.is in
       let x = c.close_one.ensures.goes m s in
@@ -164,7 +165,7 @@ returns-in-Ok-clause-leaves g c = record {
 pub returns-in-Err-clause-leaves : goal.returns-in-Err-clause-leaves
 returns-in-Err-clause-leaves g c = record {
   ordered = λ validates. absurd (never_both _ _ (below_15 c.args.channel (omega (arith, c.requires, c.if-channel-eq15.false))) validates);
-  medium = keeps_then _ _ _ c.close_one.ensures.leaves.medium (keeps_same _ _ (ap g.M.Medium.seen c.say.ensures.medium));
+  medium = keeps_free _ _ (keeps_then _ _ _ c.close_one.ensures.leaves.medium (keeps_same _ _ (ap g.M.Medium.seen c.say.ensures.medium)));
   rest = λ other m s.
       let none = below_15 c.args.channel (omega (arith, c.requires, c.if-channel-eq15.false)) in
       rest_seen g.M.Medium.seen c.args.self.now.medium c.say.new.self.medium c.args.self.now.medium c.close_one.new.self.medium refl c.say.ensures.medium

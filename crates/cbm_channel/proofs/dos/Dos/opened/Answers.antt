@@ -182,7 +182,7 @@ returns-in_err-writer-in-AppendFile-clause-opens g c = record {
       let idle : uses 15 ≡ Idle = idle_past c.self.inside.channels.items m.channels c.self.invariant.count in
       let x = appendable _ _ m p c.args.plan c.in-AppendFile.found (subst (λ k. PlannedAs (g.M.Medium.seen k.medium).tracks (g.M.Medium.seen k.medium).content m (Ok p) (Ok c.args.plan)) (sym c.self.view_is) h) c.in-AppendFile.is in
       let can = can_be c.in-AppendFile.found.slot c.self.inside.channels.items m x.1.file st.each x.1.in_slot x.1.closed x.1.plain x.1.unused in
-      rest_seen g.M.Medium.seen c.args.self.now.medium c.begin_append.new.self c.self.inside.volume c.begin_append.new.self (ap (λ k. k.medium) c.self.view_is) refl (rest_same _ _ c.begin_append.ensures.only.tracks c.in_err-writer-in-AppendFile.ensures.err);
+      rest_seen g.M.Medium.seen c.args.self.now.medium c.begin_append.new.self c.self.inside.volume c.begin_append.new.self (ap (λ k. k.medium) c.self.view_is) refl (rest_same _ _ c.begin_append.ensures.only.tracks c.in_err-writer-in-AppendFile.ensures.err c.begin_append.ensures.only.outside);
 }
 
 pub returns-in_ok-writer-in-AppendFile-clause-opens : goal.returns-in_ok-writer-in-AppendFile-clause-opens

@@ -1,4 +1,4 @@
-use Rattle.std.proofs.Common.{rules, ◌<◌, ◌∙◌, arith, ap, inl, sym}
+use Rattle.std.proofs.Common.{rules, ◌<◌, ◌∙◌, arith, ap, inl, sym, false}
 use Rattle.cbm_machine.specs.Calls.{put}
 use Rattle.cbm_channel.specs.Going.{put_written}
 use Rattle.cbm_channel.proofs.Asked.{below_15, put_15, put_records, put_other}
@@ -11,7 +11,7 @@ use Rattle.cbm_channel.proofs.dos.Dos.put.Goals as goal
 -- a text for channel 15
 pub returns-then-channel-eq15-clause-goes : goal.returns-then-channel-eq15-clause-goes
 returns-then-channel-eq15-clause-goes g c = λ m s.
-    (_, one_part (g.M.Medium.seen c.args.self.now.medium) (g.M.Medium.seen c.gather.new.self.medium) c.args.channel (put c.args.channel c.args.byte) m _ (keeps_same _ _ (ap g.M.Medium.seen c.gather.ensures.only.medium)).counted (inl (sym (put_15 c.args.channel c.args.byte m c.if-channel-eq15.true))), c.gather.ensures.leads m s)
+    (_, one_part (g.M.Medium.seen c.args.self.now.medium) (g.M.Medium.seen c.gather.new.self.medium) c.args.channel (put c.args.channel c.args.byte) m _ (keeps_same {formats = false} _ _ (ap g.M.Medium.seen c.gather.ensures.only.medium)).counted (inl (sym (put_15 c.args.channel c.args.byte m c.if-channel-eq15.true))), c.gather.ensures.leads m s)
 
 -- a text for records
 pub returns-then-has_records-clause-goes : goal.returns-then-has_records-clause-goes
@@ -20,7 +20,7 @@ returns-then-has_records-clause-goes g c = λ m s.
     let lt : c.args.channel < 15 = omega (arith, c.requires, c.if-channel-eq15.false) in
     let at = stands_here _ _ _ _ _ _ m c.args.channel c.index.result.now c.index.ensures lt c.self.invariant st in
     let law = put_records c.args.channel m _ (below_15 c.args.channel lt) at c.args.byte (sym c.has_records.ensures ∙ c.if-has_records.true) in
-    (_, one_part (g.M.Medium.seen c.args.self.now.medium) (g.M.Medium.seen c.gather-then-has_records.new.self.medium) c.args.channel (put c.args.channel c.args.byte) m _ (keeps_same _ _ (ap g.M.Medium.seen c.gather-then-has_records.ensures.only.medium)).counted (inl (sym law)), c.gather-then-has_records.ensures.leads m s)
+    (_, one_part (g.M.Medium.seen c.args.self.now.medium) (g.M.Medium.seen c.gather-then-has_records.new.self.medium) c.args.channel (put c.args.channel c.args.byte) m _ (keeps_same {formats = false} _ _ (ap g.M.Medium.seen c.gather-then-has_records.ensures.only.medium)).counted (inl (sym law)), c.gather-then-has_records.ensures.leads m s)
 
 -- a file
 pub returns-else-has_records-clause-goes : goal.returns-else-has_records-clause-goes

@@ -85,7 +85,7 @@ returns-in-Ok-clause-rest g c = λ m old is s.
     })
 
 pub returns-in-Err-clause-rest : goal.returns-in-Err-clause-rest
-returns-in-Err-clause-rest g c = λ m old is s. rest_seen g.M.Medium.seen c.args.self.now.medium c.set.new.self.medium c.self.inside.volume c.rename.new.self (ap (λ k. k.medium) c.self.view_is) c.set.ensures.medium (rest_same _ _ c.rename.ensures.only.tracks c.in-Err.ensures.err)
+returns-in-Err-clause-rest g c = λ m old is s. rest_seen g.M.Medium.seen c.args.self.now.medium c.set.new.self.medium c.self.inside.volume c.rename.new.self (ap (λ k. k.medium) c.self.view_is) c.set.ensures.medium (rest_same _ _ c.rename.ensures.only.tracks c.in-Err.ensures.err c.rename.ensures.only.outside)
 
 -- ---- on any disk
 

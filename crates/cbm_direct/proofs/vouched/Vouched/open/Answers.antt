@@ -5,7 +5,7 @@ use Rattle.cbm_direct.proofs.Sounds.{kept}
 use Rattle.cbm_direct.proofs.vouched.Vouched.open.Goals as goal
 
 pub invariant_of-self : goal.invariant_of-self
-invariant_of-self g c = kept g.M.Medium.seen c.self.inside.dos c.open.new.self c.self.inside.vouch c.open.ensures.leaves.medium.counted (λ u m s. (let x = c.open.ensures.goes m s (λ e. u) in (x.0, x.2))) c.self.invariant
+invariant_of-self g c = kept g.M.Medium.seen c.self.inside.dos c.open.new.self c.self.inside.vouch c.open.ensures.leaves.medium.counted (λ u m s. (let x = c.open.ensures.goes m s in (x.0, x.2))) c.self.invariant
 
 -- the value before the call is what was taken out of it
 pub returns-clause-goes : goal.returns-clause-goes

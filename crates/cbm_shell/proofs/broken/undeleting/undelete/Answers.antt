@@ -1,11 +1,13 @@
-use Rattle.std.proofs.Common.{ap, subst, ◌∙◌, Err, inl, inr}
+use Rattle.std.proofs.Common.{ap, subst, ◌∙◌, Err, inl, inr, Ok, ◌≡◌}
 use Rattle.std.proofs.lemmas.Result.{err_from_is_err_and}
 use Rattle.std.specs.Prelude.{◌⊎◌}
+use Rattle.std.specs.Prelude.{MatchOption}
 use Rattle.cbm_image.specs.AnyDisks.{any_seen}
 use Rattle.cbm_image.specs.Images.{kind_of, content_of}
 use Rattle.cbm_shell.specs.Images.{IsSoundImage, disk_tracks}
 use Rattle.cbm_shell.specs.Remaking.{IsFirstFault, MakesFault}
 use Rattle.cbm_shell.specs.Undeleting.{IsUndeleted}
+use Rattle.cbm_shell.proofs.ImageLemmas.{in_sectors}
 use Rattle.cbm_shell.proofs.RemakeLemmas.{stopped_old, stopped_saved, of_image, of_some}
 use Rattle.cbm_shell.proofs.broken.undeleting.undelete.Goals as goal
 
@@ -34,3 +36,9 @@ returns-in_err-sound_image-clause-fault c =
 
 pub returns-clause-sound : goal.returns-clause-sound
 returns-clause-sound c = subst (λ k. IsSoundImage k c.in_ok-sound_image.field-0.items) c.kind_of.ensures c.in_ok-sound_image.ensures.image
+
+pub returns-clause-opens : goal.returns-clause-opens
+returns-clause-opens c =
+    let old = any_seen c.in_ok-volume.volume in
+    in_sectors (λ v. v.items) (Ok c.in_ok-sound_image.field-0) c.args.image.now c.kind_of.result old (any_seen c.in-Some.disk) c.kind_of.ensures c.in_ok-volume.ensures.ok
+    (subst (λ o. MatchOption o (Unit {0}) (λ after. (any_seen after).outside ≡ old.outside)) c.in-Some.is c.in_ok-disk.ensures.outside) c.in_ok-sound_image.ensures.saved

@@ -1,4 +1,4 @@
-use Rattle.std.proofs.Common.{◌≡◌, ap, sym, subst, ◌∙◌, Err}
+use Rattle.std.proofs.Common.{◌≡◌, ap, sym, subst, ◌∙◌, Err, Ok}
 use Rattle.std.proofs.lemmas.Result.{err_from_is_err_and}
 use Rattle.std.specs.Prelude.{MatchOption}
 use Rattle.cbm_bam.specs.Map.{geometry_of}
@@ -6,6 +6,7 @@ use Rattle.cbm_image.specs.AnyDisks.{any_seen}
 use Rattle.cbm_image.specs.Images.{kind_of}
 use Rattle.cbm_shell.specs.Art.{art_entry, HasEntered, IsDirectoryFull}
 use Rattle.cbm_shell.specs.Images.{IsSoundDisk}
+use Rattle.cbm_shell.proofs.ImageLemmas.{in_sectors}
 use Rattle.cbm_shell.proofs.ArtLemmas.{art_sound}
 use Rattle.cbm_shell.proofs.EditLemmas.{edit_unsound, saved_sound}
 use Rattle.cbm_shell.proofs.changing.art.add_art.Goals as goal
@@ -30,3 +31,9 @@ returns-clause-stays c =
     let same = subst (λ o. MatchOption o (Unit {0}) (λ after. (seen after).tracks ≡ old.tracks)) c.in-Some.is c.in_ok-disk.ensures.tracks in
     saved_sound c.kind_of.result (kind_of c.args.image.now) c.in_ok-saved.field-0.items new (sym c.kind_of.ensures) c.in_ok-saved.ensures.ok
     (subst (λ n. IsSoundDisk n new.content) (sym same) (art_sound old.tracks old.content new.content looks.name.now looks.blocks looks.is_locked c.in_ok-require_sound.ensures.sound enters))
+
+pub returns-clause-opens : goal.returns-clause-opens
+returns-clause-opens c =
+    let old = any_seen c.in_ok-volume.volume in
+    in_sectors (λ v. v.items) (Ok c.in_ok-saved.field-0) c.args.image.now c.kind_of.result old (any_seen c.in-Some.disk) c.kind_of.ensures c.in_ok-volume.ensures.ok
+    (subst (λ o. MatchOption o (Unit {0}) (λ after. (any_seen after).outside ≡ old.outside)) c.in-Some.is c.in_ok-disk.ensures.outside) c.in_ok-saved.ensures.ok

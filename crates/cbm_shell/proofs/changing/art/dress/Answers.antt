@@ -4,6 +4,7 @@ use Rattle.cbm_bam.specs.Map.{geometry_of}
 use Rattle.cbm_image.specs.AnyDisks.{any_seen}
 use Rattle.cbm_image.specs.Images.{kind_of}
 use Rattle.cbm_shell.specs.Editing.{HasNoSlot, HasNoSlotIn}
+use Rattle.cbm_shell.proofs.ImageLemmas.{in_sectors}
 use Rattle.cbm_shell.proofs.ArtLemmas.{dressed_sound}
 use Rattle.cbm_shell.proofs.EditLemmas.{edit_unsound, edit_sound, sound_anew, image_sound}
 use Rattle.cbm_shell.proofs.changing.art.dress.Goals as goal
@@ -32,3 +33,6 @@ returns-clause-stays c =
     (sound_anew old new c.in_ok-disk.ensures.tracks
     (dressed_sound (geometry_of old.tracks old.content) c.args.slot looks.name.now looks.blocks looks.is_locked old.content new.content sound.0
     c.in_ok-disk.ensures.whole c.requires sound.1 c.in_ok-disk.ensures.dressed))
+
+pub returns-clause-opens : goal.returns-clause-opens
+returns-clause-opens c = in_sectors (λ v. v.items) c.saved.result c.args.image.now c.kind_of.result (any_seen c.in_ok-volume.volume) (any_seen c.in_ok-disk.disk) c.kind_of.ensures c.in_ok-volume.ensures.ok c.in_ok-disk.ensures.outside c.saved.ensures.ok

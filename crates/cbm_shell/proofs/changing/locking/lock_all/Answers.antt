@@ -6,7 +6,7 @@ use Rattle.cbm_shell.proofs.LockLemmas.{locking_begin, locking_on, locking_end, 
 use Rattle.cbm_shell.proofs.changing.locking.lock_all.Goals as goal
 
 pub loop-pattern-init : goal.loop-pattern-init
-loop-pattern-init g c = (locking_begin c.args.is_locked c.args.geometry _ _ _ refl, record { tracks = refl; protected = refl }, λ can. can)
+loop-pattern-init g c = (locking_begin c.args.is_locked c.args.geometry _ _ _ refl, record { tracks = refl; protected = refl; outside = refl }, λ can. can)
 
 pub loop-pattern-preserved : goal.loop-pattern-preserved
 loop-pattern-preserved g c =
@@ -17,7 +17,7 @@ loop-pattern-preserved g c =
     let each = c.in_ok-lock_matching.ensures.locks in (
       locking_on c.args.is_locked c.args.geometry _ _ _ _ old.content now.content next.content inv.0
           (ap (λ (t : List (Bor (List ℕ))). map (λ r. r.now) t) (next_off c.args.patterns.now c.loop-pattern.pattern-index _ c.loop-pattern-test.true)) each,
-      record { tracks = c.lock_matching.ensures.same.tracks ∙ inv.1.tracks; protected = c.lock_matching.ensures.same.protected ∙ inv.1.protected },
+      record { tracks = c.lock_matching.ensures.same.tracks ∙ inv.1.tracks; protected = c.lock_matching.ensures.same.protected ∙ inv.1.protected; outside = c.lock_matching.ensures.same.outside ∙ inv.1.outside },
       λ can.
           let a = inv.2 can in
           let s = each_sound c.args.is_locked c.args.geometry _ now.content next.content a.layout a.sound each in

@@ -6,7 +6,7 @@ use Rattle.cbm_shell.proofs.LockLemmas.{slots_begin, slots_on, lock_slots}
 use Rattle.cbm_shell.proofs.changing.locking.lock_matching.Goals as goal
 
 pub slots-init : goal.slots-init
-slots-init g c = (slots_begin c.args.is_locked c.args.geometry c.args.pattern.now (g.M.Medium.seen c.args.medium.now).content, record { tracks = refl; protected = refl }, omega arith)
+slots-init g c = (slots_begin c.args.is_locked c.args.geometry c.args.pattern.now (g.M.Medium.seen c.args.medium.now).content, record { tracks = refl; protected = refl; outside = refl }, omega arith)
 
 pub returns-in_err-lock_slot-clause-never : goal.returns-in_err-lock_slot-clause-never
 returns-in_err-lock_slot-clause-never g c = λ can.
@@ -25,6 +25,6 @@ slots-preserved g c =
     let below = c.in_ok-lock_slot.ensures.few c.if-branch.true in
     let m = c.slots.invariant.1 in (
       slots_on c.args.is_locked c.args.geometry c.args.pattern.now c.slots.number (c.slots.number + 1) old.content now.content next.content (omega arith) c.slots.invariant.0 step,
-      record { tracks = c.lock_slot.ensures.same.tracks ∙ m.tracks; protected = c.lock_slot.ensures.same.protected ∙ m.protected },
+      record { tracks = c.lock_slot.ensures.same.tracks ∙ m.tracks; protected = c.lock_slot.ensures.same.protected ∙ m.protected; outside = c.lock_slot.ensures.same.outside ∙ m.outside },
       omega arith,
     )

@@ -8,7 +8,7 @@ use Rattle.cbm_image.specs.Images.{kind_of, tracks_of}
 use Rattle.cbm_shell.specs.Recording.{after_records, AreRecordsUnmade, IsUnmadeIn}
 use Rattle.cbm_shell.specs.Changing.{IsFine}
 use Rattle.cbm_volume.proofs.layouts.Calls.{ok_any}
-use Rattle.cbm_shell.proofs.ImageLemmas.{opened_holds, same_start, as_open_fault, as_other_fault, saved_image, sound_image}
+use Rattle.cbm_shell.proofs.ImageLemmas.{opened_holds, same_start, as_open_fault, as_other_fault, saved_image, sound_image, in_sectors}
 use Rattle.cbm_shell.proofs.changing.recording.put_records.Goals as goal
 
 pub returns-in_err-disk-clause-made : goal.returns-in_err-disk-clause-made
@@ -37,3 +37,6 @@ returns-clause-made c = λ d h.
 
 pub returns-clause-sound : goal.returns-clause-sound
 returns-clause-sound c = ok_any _ (sound_image c.args.image.now (any_seen c.in_ok-disk.disk) c.in_ok-disk.ensures.ok c.in_ok-disk-2.ensures.sound)
+
+pub returns-clause-opens : goal.returns-clause-opens
+returns-clause-opens c = in_sectors (λ v. v.items) c.saved.result c.args.image.now c.kind_of.result (any_seen c.in_ok-disk.disk) (any_seen c.in_ok-disk-2.disk) c.kind_of.ensures c.in_ok-disk.ensures.ok c.in_ok-disk-2.ensures.same_outside c.saved.ensures.ok

@@ -2,7 +2,7 @@ use Rattle.std.proofs.Common.{◌+◌, drop, ap, subst, ◌∙◌, Err, arith, i
 use Rattle.std.proofs.lemmas.List.{drop_all}
 use Rattle.std.proofs.lemmas.Result.{err_from_is_err_and}
 use Rattle.cbm_shell.specs.Images.{IsSoundDisk}
-use Rattle.cbm_shell.proofs.SeveralLemmas.{first_sound, one_more, not_made, all_made, next_change}
+use Rattle.cbm_shell.proofs.SeveralLemmas.{first_sound, one_formats, one_more, not_made, all_made, next_change}
 use Rattle.cbm_shell.proofs.changing.several.changed_by.Goals as goal
 
 pub loop-change-preserved : goal.loop-change-preserved
@@ -18,6 +18,7 @@ loop-change-preserved g c =
       λ e. absurd (omega (arith, e)),
       λ h. first_sound (IsSoundDisk old.tracks old.content) c.loop-change.change-index
           (λ e. subst (λ m. IsSoundDisk (seen m).tracks (seen m).content) (inv.3 e) c.in_ok-disk.ensures.sound) inv.4,
+      one_formats c.args.changes.now _ c.loop-change.change-index (seen c.args.medium).outside (seen c.loop-change.disk).outside (seen c.in_ok-disk.disk).outside c.loop-change-test.true inv.5 c.in_ok-disk.ensures.same_outside,
     )
 
 -- memory is lacking for the drive of a change

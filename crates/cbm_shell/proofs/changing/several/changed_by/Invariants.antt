@@ -2,6 +2,8 @@ use Rattle.std.proofs.Common.{◌≡◌, ◌<◌, drop}
 use Rattle.cbm_file.specs.Files.{Disk}
 use Rattle.cbm_volume.specs.Holding.{HoldsDisk}
 use Rattle.cbm_shell.specs.Images.{IsSoundDisk}
+use Rattle.cbm_channel.specs.Going.{IsOutsideKept}
+use Rattle.cbm_shell.specs.Several.{any_formats}
 use Rattle.cbm_shell.proofs.SeveralLemmas.{UnderWay}
 use Rattle.cbm_shell.proofs.changing.several.changed_by.Given as goal
 
@@ -13,3 +15,4 @@ invariant-loop-change g l =
     (now.protected ≡ old.protected) × (now.tracks ≡ old.tracks)
     × ((d : Disk) → HoldsDisk old.tracks old.content d → UnderWay (drop l.change-index l.changes) l.fn.changes old.protected old.tracks d now)
     × (l.change-index ≡ 0 → l.disk ≡ l.fn.medium) × (0 < l.change-index → IsSoundDisk old.tracks old.content)
+    × IsOutsideKept (any_formats l.fn.changes) old.outside now.outside

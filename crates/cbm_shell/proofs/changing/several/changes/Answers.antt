@@ -4,8 +4,8 @@ use Rattle.cbm_image.specs.AnyDisks.{any_seen}
 use Rattle.cbm_shell.specs.declared.fault.ShellFault.TheVariants as fault
 use Rattle.std.proofs.lemmas.Result.{err_from_is_err_and}
 use Rattle.cbm_image.specs.Images.{kind_of, tracks_of}
-use Rattle.cbm_shell.specs.Several.{AreUndone, HoldsAfter}
-use Rattle.cbm_shell.proofs.ImageLemmas.{opened_holds, as_open_fault}
+use Rattle.cbm_shell.specs.Several.{any_formats, AreUndone, HoldsAfter}
+use Rattle.cbm_shell.proofs.ImageLemmas.{opened_holds, as_open_fault, again_if, bytes_if, outside_either, outside_none}
 use Rattle.cbm_shell.proofs.SeveralLemmas.{saved_after, never_image, or_memory}
 use Rattle.cbm_shell.proofs.changing.several.changes.Goals as goal
 
@@ -32,3 +32,11 @@ returns-clause-made c = λ d h.
     let made = subst (λ t. HoldsAfter c.args.changes.now false t d after) opened.same_tracks
     (subst (λ b. HoldsAfter c.args.changes.now b seen.tracks d after) opened.free (c.in_ok-disk-2.ensures.made d (opened_holds c.args.image.now seen d opened h))) in
     saved_after c.args.image.now (λ v. v.items) c.args.changes.now c.kind_of.result (kind_of c.args.image.now) (tracks_of (kind_of c.args.image.now) c.args.image.now) d after c.saved.result (sym c.kind_of.ensures) c.saved.ensures.ok c.saved.ensures.err made
+
+pub returns-clause-opens : goal.returns-clause-opens
+returns-clause-opens c = again_if (λ v. v.items) c.saved.result c.args.image.now c.kind_of.result (any_seen c.in_ok-disk.disk) (any_seen c.in_ok-disk-2.disk) c.kind_of.ensures c.in_ok-disk.ensures.ok
+    (outside_either (any_formats c.args.changes.now) _ _ c.in_ok-disk-2.ensures.outside) c.saved.ensures.ok
+
+pub returns-clause-bytes : goal.returns-clause-bytes
+returns-clause-bytes c = λ none. bytes_if (λ v. v.items) c.saved.result c.args.image.now c.kind_of.result (any_seen c.in_ok-disk.disk) (any_seen c.in_ok-disk-2.disk) c.kind_of.ensures c.in_ok-disk.ensures.ok
+    (outside_none (any_formats c.args.changes.now) _ _ none c.in_ok-disk-2.ensures.outside) c.saved.ensures.ok

@@ -7,7 +7,7 @@ use Rattle.cbm_shell.proofs.SwapLemmas.{swapping-start, swapping-on, swapping-en
 use Rattle.cbm_shell.proofs.changing.swapping.swap_each.Goals as goal
 
 pub loop-swap-init : goal.loop-swap-init
-loop-swap-init g c = (swapping-start c.args.geometry _ _ _ refl, record { tracks = refl; protected = refl }, λ sectors h. h, λ m. m)
+loop-swap-init g c = (swapping-start c.args.geometry _ _ _ refl, record { tracks = refl; protected = refl; outside = refl }, λ sectors h. h, λ m. m)
 
 pub loop-swap-preserved : goal.loop-swap-preserved
 loop-swap-preserved g c =
@@ -17,7 +17,7 @@ loop-swap-preserved g c =
     let inv = c.loop-swap.invariant in
     let begins = next_off c.args.swaps.now c.loop-swap.swap-index _ c.loop-swap-test.true in (
       swapping-on c.args.geometry _ _ _ _ old.content now.content next.content inv.0 begins c.in_ok-swap_two.ensures.swaps,
-      record { tracks = c.swap_two.ensures.same.tracks ∙ inv.1.tracks; protected = c.swap_two.ensures.same.protected ∙ inv.1.protected },
+      record { tracks = c.swap_two.ensures.same.tracks ∙ inv.1.tracks; protected = c.swap_two.ensures.same.protected ∙ inv.1.protected; outside = c.swap_two.ensures.same.outside ∙ inv.1.outside },
       λ sectors h. c.in_ok-swap_two.ensures.directory sectors (inv.2 sectors h),
       λ m. inv.3 (subst (λ l. MissesSlot c.args.geometry old.content l) (sym begins) (inr (inr m))),
     )

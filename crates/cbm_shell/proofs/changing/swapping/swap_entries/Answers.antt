@@ -4,6 +4,7 @@ use Rattle.cbm_bam.specs.Map.{geometry_of}
 use Rattle.cbm_image.specs.AnyDisks.{any_seen}
 use Rattle.cbm_image.specs.Images.{kind_of}
 use Rattle.cbm_shell.specs.Swapping.{MissesSlot, MissesSlotIn}
+use Rattle.cbm_shell.proofs.ImageLemmas.{in_sectors}
 use Rattle.cbm_shell.proofs.EditLemmas.{edit_unsound, edit_sound, sound_anew, image_sound}
 use Rattle.cbm_shell.proofs.MoveLemmas.{swaps_sound}
 use Rattle.cbm_shell.proofs.changing.swapping.swap_entries.Goals as goal
@@ -29,3 +30,6 @@ returns-clause-stays c =
     let sound = c.in_ok-require_sound.ensures.sound in
     image_sound (λ v. v.items) c.kind_of.result (kind_of c.args.image.now) new c.saved.result (sym c.kind_of.ensures) c.saved.ensures.ok
     (sound_anew old new c.in_ok-disk.ensures.tracks (swaps_sound (geometry_of old.tracks old.content) c.args.swaps.now old.content new.content sound.0 sound.1 c.in_ok-disk.ensures.swapped))
+
+pub returns-clause-opens : goal.returns-clause-opens
+returns-clause-opens c = in_sectors (λ v. v.items) c.saved.result c.args.image.now c.kind_of.result (any_seen c.in_ok-volume.volume) (any_seen c.in_ok-disk.disk) c.kind_of.ensures c.in_ok-volume.ensures.ok c.in_ok-disk.ensures.outside c.saved.ensures.ok

@@ -6,19 +6,22 @@ use Rattle.cbm_d64.specs.Image.{d64_content}
 use Rattle.cbm_g64.specs.Tracks.{or_zeros, G64State}
 use Rattle.cbm_g64.specs.Image.{IsHeld}
 use Rattle.cbm_g64.specs.NewFile.{base_of}
-use Rattle.cbm_shell.specs.Converting.{content_held, IsMistakable}
-use Rattle.cbm_shell.proofs.ConvertKinds.{mistakable, opened_holds, other_id}
+use Rattle.cbm_image.specs.Images.{kind_of}
+use Rattle.cbm_image.specs.declared.kind.Kind.TheVariants.{D64}
+use Rattle.cbm_shell.specs.Converting.{other}
+use Rattle.cbm_shell.proofs.ConvertKinds.{saved_kind, opened_holds, other_id}
 use Rattle.cbm_shell.proofs.images.converting.to_d64.Goals as goal
 
-pub returns-in_err-image-clause-cause : goal.returns-in_err-image-clause-cause
-returns-in_err-image-clause-cause c =
-    let p = err_from_is_err_and c.from_residual-in_err-image.result c.from_residual-in_err-image.ensures.1 in
-    let first : Place = record { track = 1; sector = 0 } in
-    let has : Has 35 first = (search rules) in
-    let is : d64_content c.in_ok-saved.field-0.items first ≡ or_zeros (content_held c.args.image.now first)
-    = ap (λ (f : Content). f first) (sym c.in_ok-saved.ensures.ok.same_content) ∙ c.in_ok-new.ensures.ok first has ∙ ap (λ (f : Content). or_zeros (f first)) (opened_holds c.args.image.now c.in_ok-disk.disk c.in_ok-disk.ensures.ok c.requires) in
-    let m : IsMistakable c.args.image.now = (c.requires, mistakable c.in_ok-saved.field-0.items (content_held c.args.image.now first) is c.in_err-image.ensures.err.1) in
-    rw (p.1 ∙ ap Err p.2) (inr (c.in_err-image.ensures.err.0, m))
+pub returns-clause-kept : goal.returns-clause-kept
+returns-clause-kept c =
+    let k : kind_of c.in_ok-image.image.items ≡ D64 = saved_kind c.in_ok-image.image.items _ c.in_ok-image.ensures.ok in
+    record {
+      opens = k ∙ sym (ap other c.requires);
+      faultless = (search (rules, k));
+      tracks = (search (rules, k));
+      headers = λ e. absurd (let z = sym k ∙ e in cc);
+      kept = (search (rules, k));
+    }
 
 pub returns-clause-told : goal.returns-clause-told
 returns-clause-told c =

@@ -1,8 +1,4 @@
-use Rattle.std.proofs.Common.{rules, ◌≡◌, ◌≢◌, ◌≤◌, ℕ, List, true, Bool, None, Some, OnOk, IfOk, IfErr, IsOk, Ok, ◌+◌, ◌-◌, ◌*◌, ◌<◌, length, ◌/◌, ◌%◌, false, nat_eq, nat_lt, [], ◌∷◌, ◌++◌, slice_index_or, slice_set, bit_and, bit_or, Fits, w8, w32, w64, Bor, MutBor}
-use Rattle.cbm_medium.specs.Place.{Place, directory_head}
-use Rattle.cbm_bam.specs.Map.{with_bit}
-use Rattle.cbm_bam.specs.Marks.{is_marked}
-use Rattle.cbm_volume.specs.check.Claims.{wrong_at, fault_at, ClaimsChain, MeetsFault}
+use Rattle.std.proofs.Common.{rules}
 use Rattle.cbm_volume.proofs.check.claims.claim.Goals as goal
 
 pub returns-in_default-clause-none : goal.returns-in_default-clause-none

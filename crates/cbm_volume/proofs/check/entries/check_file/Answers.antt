@@ -1,9 +1,4 @@
-use Rattle.std.proofs.Common.{rules, ◌≡◌, ◌≤◌, ◌<◌, ◌%◌, ℕ, true, false, OnOk, IfErr, IsOk, Ok, ◌+◌, ◌-◌, ◌*◌, length, ◌/◌, Bool, nat_eq, nat_lt, List, [], ◌∷◌, ◌++◌, slice_index_or, slice_set, bit_and, bit_or, Fits, w8, w32, w64, Bor, MutBor}
-use Rattle.cbm_medium.specs.Place.{directory_head}
-use Rattle.cbm_directory.specs.Entries.{is_closed, is_relative, first_side}
-use Rattle.cbm_bam.specs.Marks.{is_marked}
-use Rattle.cbm_volume.specs.check.SideLists.{are_records_in, ClaimsSides, SidesFault}
-use Rattle.cbm_volume.specs.check.SlotWalk.{ClaimsFile, FileFault, ClaimsEntry, EntryFault}
+use Rattle.std.proofs.Common.{rules}
 use Rattle.cbm_volume.proofs.check.entries.check_file.Goals as goal
 
 pub returns-then-not-is_closed-clause-ok : goal.returns-then-not-is_closed-clause-ok

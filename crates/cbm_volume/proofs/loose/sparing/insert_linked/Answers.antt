@@ -1,12 +1,12 @@
-use Rattle.std.proofs.Common.{◌≡◌, ◌≢◌, ◌-◌, ◌+◌, ◌≤◌, ℕ, suc, true, false, IsOk, None, Ok, Err, refl, sym, ap, ◌∙◌, subst, arith, inl, inr, List}
+use Rattle.std.proofs.Common.{◌≡◌, ◌-◌, ◌+◌, ◌≤◌, ℕ, suc, false, IsOk, Ok, Err, refl, sym, ap, ◌∙◌, subst, arith, inl, inr}
 use Rattle.std.specs.Prelude.{SomeIff}
 use Rattle.cbm_medium.specs.Place.{Place, Has}
 use Rattle.cbm_medium.specs.Content.{Cell, Content}
-use Rattle.cbm_medium.specs.Links.{IsApart, link, bytes_at}
+use Rattle.cbm_medium.specs.Links.{link, bytes_at}
 use Rattle.cbm_bam.specs.Marks.{is_marked}
 use Rattle.cbm_bam.proofs.Rings.{at_some}
 use Rattle.cbm_chain.proofs.Linked.{named}
-use Rattle.cbm_volume.specs.Loose.{AreLinked, IsOnLinks}
+use Rattle.cbm_volume.specs.Loose.{IsOnLinks}
 use Rattle.cbm_volume.proofs.checked.Claiming.{link_read}
 use Rattle.cbm_volume.proofs.loosened.Linked.{off_nothing, off_unread, off_step, off_end, on_here, on_step, marked_more, unmarked}
 use Rattle.cbm_volume.proofs.loose.sparing.insert_linked.Goals as goal

@@ -1,6 +1,5 @@
 use Rattle.std.proofs.Common.{◌≤◌, Ok}
 use Rattle.cbm_medium.specs.Seen.{OnlyContent}
-use Rattle.cbm_medium.specs.declared.fault.Trouble.{Trouble}
 use Rattle.cbm_volume.proofs.grown.SidesAnswers.{GoesBy, OfRoomFor}
 use Rattle.cbm_volume.proofs.records.adding_sides.add_sides.Given as goal
 

@@ -1,6 +1,5 @@
 use Rattle.std.proofs.Common.{◌≤◌, ◌+◌, ◌-◌, ℕ, List, Ok}
 use Rattle.cbm_medium.specs.Seen.{OnlyContent}
-use Rattle.cbm_medium.specs.declared.fault.Trouble.{Trouble}
 use Rattle.cbm_relfile.specs.Growing.{AreSides, AreSidesLinked}
 use Rattle.cbm_volume.proofs.grown.GrowingJoined.{HasCopied}
 use Rattle.cbm_volume.proofs.grown.SidesAnswers.{GoesBy, OfEmpty}

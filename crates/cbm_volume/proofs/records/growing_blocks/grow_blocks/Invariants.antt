@@ -1,6 +1,5 @@
 use Rattle.std.proofs.Common.{◌≡◌, ◌≤◌, ◌+◌, Ok}
 use Rattle.cbm_medium.specs.Seen.{OnlyContent}
-use Rattle.cbm_medium.specs.declared.fault.Trouble.{Trouble}
 use Rattle.cbm_volume.proofs.grown.GrowingJoined.{HasTurned}
 use Rattle.cbm_volume.proofs.records.growing_blocks.grow_blocks.Given as goal
 

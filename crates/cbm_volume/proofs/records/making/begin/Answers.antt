@@ -50,6 +50,7 @@ returns-in_default-2-clause-only g c = record {
   tracks = (search rules);
   protected = (search rules);
   id = (search rules);
+  outside = (search rules);
   counted = (search rules);
   once = (search rules);
   uncounted = (search rules);

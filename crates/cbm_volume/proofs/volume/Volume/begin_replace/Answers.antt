@@ -7,7 +7,7 @@ use Rattle.cbm_file.specs.Files.{Disk}
 use Rattle.cbm_bam.specs.Map.{geometry_of}
 use Rattle.cbm_volume.specs.Opens.{IsHindered}
 use Rattle.cbm_chain.specs.Writing.{State}
-use Rattle.cbm_volume.specs.Writers.{Filling, Use, HoldsNow}
+use Rattle.cbm_volume.specs.Writers.{Use, HoldsNow}
 use Rattle.cbm_volume.proofs.layouts.OnDisks.{of_tracks}
 use Rattle.cbm_volume.proofs.layouts.Hindered.{claim_hindered}
 use Rattle.cbm_volume.proofs.opened.ReplacementBegun.{ChainBegins, chain_begins, replacement, replacement_refused}

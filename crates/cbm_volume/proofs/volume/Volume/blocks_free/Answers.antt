@@ -1,8 +1,4 @@
-use Rattle.std.proofs.Common.{rules, ◌≡◌, ℕ, Ok, Err, ap, subst, ◌∙◌}
-use Rattle.std.specs.Prelude.{IfOk}
-use Rattle.cbm_medium.specs.Place.{directory_head}
-use Rattle.cbm_medium.specs.Content.{Content}
-use Rattle.cbm_bam.specs.Map.{is_free_in, map_of, number, geometry_of}
+use Rattle.std.proofs.Common.{rules}
 use Rattle.cbm_volume.proofs.layouts.Vacant.{blocks_mean}
 use Rattle.cbm_volume.proofs.volume.Volume.blocks_free.Goals as goal
 

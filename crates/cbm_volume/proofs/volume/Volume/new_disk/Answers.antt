@@ -1,14 +1,15 @@
 use Rattle.std.proofs.Common.{◌≡◌, ap, subst, ◌∙◌, ℕ}
-use Rattle.std.specs.Prelude.{OnOk, IfErr}
+use Rattle.std.specs.Prelude.{OnOk, OnErr, IfErr}
 use Rattle.cbm_medium.specs.Content.{blank}
 use Rattle.cbm_medium.specs.Seen.{Seen, with_content, formatted_as, OnlyContent}
 use Rattle.cbm_file.specs.Files.{Disk}
 use Rattle.cbm_file.specs.Changes.{new_disk}
 use Rattle.cbm_volume.specs.Holding.{HoldsDisk}
-use Rattle.cbm_volume.specs.NewDisks.{IsEmptied, id_after, content_under}
+use Rattle.cbm_volume.specs.NewDisks.{IsEmptied, IsNewOrNothing, id_after, content_under}
 use Rattle.cbm_volume.specs.Opens.{IsHindered}
 use Rattle.cbm_volume.specs.Writers.{Use, Idle, HoldsNow}
-use Rattle.cbm_volume.proofs.formatted.NewDisks.{no_id, emptied_short, emptied_long, made_short, made_long, made_idle, head_writable, first_writable, only_short, only_stopped, only_long}
+use Rattle.cbm_volume.proofs.formatted.NewDisks.{no_id, emptied_short, emptied_long, made_short, made_long, made_idle, head_writable, first_writable, only_short, only_long}
+use Rattle.cbm_volume.proofs.formatted.StoppedNews.{stopped_short, stopped_long}
 use Rattle.cbm_volume.proofs.volume.Volume.new_disk.Goals as goal
 use Rattle.cbm_volume.proofs.volume.Volume.new_disk.Given.{Over}
 
@@ -68,3 +69,25 @@ returns-in_default-clause-only g c =
 pub returns-clause-only : goal.returns-clause-only
 returns-clause-only g c =
     only_long c.write_new-2.result c.in-Some.id c.args.id (g.M.Medium.seen c.args.self.now) (g.M.Medium.seen c.format.new.self) (g.M.Medium.seen c.write_new-2.new.medium) (is_formatted g c) c.in-Some.is c.write_new-2.ensures.only
+
+-- ---- where it was stopped
+
+pub returns-in_default-clause-stopped : goal.returns-in_default-clause-stopped
+returns-in_default-clause-stopped g c =
+    subst (λ (s : Seen). (d : Disk) (uses : ℕ → Use) → HoldsNow s.tracks s.content d uses → ((ch : ℕ) → uses ch ≡ Idle) → OnErr c.write_new.result (IsNewOrNothing s.tracks s.content (g.M.Medium.seen c.write_new.new.medium).content)) (found g c)
+    (λ d uses h idle. stopped_short c.write_new.result (g.M.Medium.seen c.self.inside.medium).tracks (g.M.Medium.seen c.self.inside.medium).content (g.M.Medium.seen c.write_new.new.medium).content c.write_new.ensures.stopped d uses h)
+
+pub returns-in_default-clause-stopped_format : goal.returns-in_default-clause-stopped_format
+returns-in_default-clause-stopped_format g c = λ some. absurd (some (no_id c.args.id c.in_default.not-Some))
+
+-- of a disk that was formatted
+formatted_stop : (g : Over) (c : goal.After-write_new-2 g) → OnErr c.write_new-2.result (IsNewOrNothing (g.M.Medium.seen c.args.self.now).tracks (g.M.Medium.seen c.args.self.now).content (g.M.Medium.seen c.write_new-2.new.medium).content)
+formatted_stop g c =
+    stopped_long c.write_new-2.result (g.M.Medium.seen c.args.self.now).tracks (g.M.Medium.seen c.args.self.now).content (g.M.Medium.seen c.format.new.self).content (g.M.Medium.seen c.write_new-2.new.medium).content
+    (ap (λ (s : Seen). s.content) (is_formatted g c)) c.write_new-2.ensures.stopped
+
+pub returns-clause-stopped : goal.returns-clause-stopped
+returns-clause-stopped g c = λ d uses h idle. formatted_stop g c
+
+pub returns-clause-stopped_format : goal.returns-clause-stopped_format
+returns-clause-stopped_format g c = λ some. formatted_stop g c

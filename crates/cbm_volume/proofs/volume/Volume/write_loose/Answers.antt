@@ -1,4 +1,4 @@
-use Rattle.std.proofs.Common.{◌≡◌, true, false, Ok, refl, sym, ap, subst, ◌∙◌, arith}
+use Rattle.std.proofs.Common.{◌≡◌, true, Ok, refl, ap, subst, arith}
 use Rattle.std.proofs.lemmas.Result.{err_from_is_err_and}
 use Rattle.cbm_medium.specs.Content.{written}
 use Rattle.cbm_medium.specs.Seen.{Seen, with_content, OnlyContent}
@@ -51,4 +51,4 @@ returns-clause-only g c =
     (let old : Seen = seen c.self.inside.medium in
     let few = ap (λ v. (seen v).tracks) c.self.view_is in
     let w = write_only {disk = old.tracks} old new c.args.at c.args.bytes.now (omega (arith, c.requires, few)) c.in_ok-write.ensures.ok in
-    record { tracks = w.tracks; protected = w.protected; id = w.id; counted = w.counted; once = w.once; uncounted = w.uncounted; own = tt; guarded = tt; shown = tt; beyond = w.beyond; readable = w.readable })
+    record { tracks = w.tracks; protected = w.protected; id = w.id; outside = w.outside; counted = w.counted; once = w.once; uncounted = w.uncounted; own = tt; guarded = tt; shown = tt; beyond = w.beyond; readable = w.readable })

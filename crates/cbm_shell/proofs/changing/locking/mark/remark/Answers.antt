@@ -6,6 +6,7 @@ use Rattle.cbm_image.specs.Images.{kind_of, content_of}
 use Rattle.cbm_shell.specs.Images.{IsSoundImage}
 use Rattle.cbm_shell.specs.Locking.{marked_as}
 use Rattle.cbm_shell.specs.Remaking.{IsFirstFault, MakesFault}
+use Rattle.cbm_shell.proofs.ImageLemmas.{in_sectors}
 use Rattle.cbm_shell.proofs.RemakeLemmas.{stopped_old, stopped_new}
 use Rattle.cbm_shell.proofs.changing.locking.mark.remark.Goals as goal
 
@@ -31,3 +32,6 @@ returns-clause-fault c =
 
 pub returns-clause-sound : goal.returns-clause-sound
 returns-clause-sound c = subst (λ k. IfOk c.sound_image.result (λ v. IsSoundImage k v.items)) c.kind_of.ensures c.sound_image.ensures.image
+
+pub returns-clause-opens : goal.returns-clause-opens
+returns-clause-opens c = in_sectors (λ v. v.items) c.sound_image.result c.args.image.now c.kind_of.result (any_seen c.in_ok-volume.volume) (any_seen c.in_ok-disk.disk) c.kind_of.ensures c.in_ok-volume.ensures.ok c.in_ok-disk.ensures.outside c.sound_image.ensures.saved

@@ -4,7 +4,7 @@ use Rattle.cbm_volume.specs.Holding.{HoldsDisk}
 use Rattle.cbm_image.specs.AnyDisks.{any_seen}
 use Rattle.cbm_image.specs.Images.{kind_of}
 use Rattle.cbm_shell.specs.Locking.{entitled}
-use Rattle.cbm_shell.proofs.ImageLemmas.{opened_holds}
+use Rattle.cbm_shell.proofs.ImageLemmas.{opened_holds, in_sectors}
 use Rattle.cbm_shell.proofs.EditLemmas.{edit_unsound, image_means}
 use Rattle.cbm_shell.proofs.TitleLemmas.{titled_holds}
 use Rattle.cbm_shell.proofs.changing.locking.title.retitle.Goals as goal
@@ -26,3 +26,6 @@ returns-clause-made c = λ d h.
     image_means (λ v. v.items) c.kind_of.result (kind_of c.args.image.now) new (entitled title d) c.saved.result (sym c.kind_of.ensures) c.saved.ensures.ok
     (subst (λ n. HoldsDisk n new.content (entitled title d)) (sym c.in_ok-disk.ensures.tracks)
     (titled_holds old.tracks old.content new.content title d c.in_ok-disk.ensures.whole c.requires c.in_ok-disk.ensures.content held))
+
+pub returns-clause-opens : goal.returns-clause-opens
+returns-clause-opens c = in_sectors (λ v. v.items) c.saved.result c.args.image.now c.kind_of.result (any_seen c.in_ok-volume.volume) (any_seen c.in_ok-disk.disk) c.kind_of.ensures c.in_ok-volume.ensures.ok c.in_ok-disk.ensures.outside c.saved.ensures.ok

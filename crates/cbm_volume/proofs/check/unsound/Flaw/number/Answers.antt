@@ -1,6 +1,4 @@
-use Rattle.std.proofs.Common.{rules, ◌≡◌, ◌==◌, ℕ, ◌+◌, ◌-◌, ◌*◌, ◌<◌, ◌≤◌, length, ◌/◌, ◌%◌, Bool, true, false, nat_eq, nat_lt, List, [], ◌∷◌, ◌++◌, slice_index_or, slice_set, bit_and, bit_or, Fits, w8, w32, w64, Bor, MutBor}
-use Rattle.cbm_volume.specs.check.Flaws.{flaw_number}
-use Rattle.cbm_volume.specs.check.Claims.{fault_at}
+use Rattle.std.proofs.Common.{rules}
 use Rattle.cbm_volume.proofs.check.unsound.Flaw.number.Goals as goal
 
 pub returns-in-MapCount : goal.returns-in-MapCount
