@@ -1,8 +1,8 @@
 #!/usr/bin/env python3
 """check_odd.py DISK1541 [--disks N]: disks with odd entries, such as directory art that leads into the directory, loops, unknown types. A plain model here knows the
 entries, the sectors that they lead to, and the files. Each command must change the rest of the disk like a disk without such entries, and leave the odd entries
-untouched: each in its slot byte for byte, each sector that it leads to unchanged, in use in the BAM, and in no file. If that is impossible, nothing is changed,
-and the message names the sector. With N disks (default 60), every fifth also as a G64; beyond 60 one command is tried on each, and 10,000 take some minutes.
+untouched: each in its slot byte for byte, each sector that it leads to unchanged, in use or free in the BAM as before, and in no file that didn't have it. If that is
+impossible, nothing is changed, and the message names the sector. With N disks (default 60), every fifth also as a G64; beyond 60 one command is tried on each, and 10,000 take some minutes.
 Prints a line for each property, with the number of disks, and one for each that is WRONG; ends with 1 if one is."""
 import argparse, collections, os, random, shutil, subprocess, sys, tempfile
 
@@ -113,9 +113,9 @@ def put_entry(disk, slot, data):
     disk[slot_place(disk, slot) : slot_place(disk, slot) + 30] = data
 
 
-def claim(disk, rng, count):
-    """Free sectors that the BAM loses."""
-    free = [(t, s) for t in range(1, 36) if t != 18 for s in range(sectors_on(t)) if is_free(disk, t, s)]
+def claim(disk, rng, count, but=()):
+    """Free sectors that the BAM loses, none of those that are named."""
+    free = [(t, s) for t in range(1, 36) if t != 18 for s in range(sectors_on(t)) if is_free(disk, t, s) and (t, s) not in but]
     taken = rng.sample(free, count)
     for where in taken:
         mark(disk, *where, free=False)
@@ -167,7 +167,27 @@ def on_directory(disk, rng, name):
     return bare(0x81, *way[0], name), way
 
 
-KINDS = (art, loop, unknown, beyond, on_directory)
+def loose(disk, rng, name):
+    """An entry that counts no block, and leads to sectors that are free."""
+    free = [(t, s) for t in (*range(1, 18), *range(19, 36)) for s in range(sectors_on(t)) if is_free(disk, t, s)]
+    # (the sectors that the drive would allocate next come first)
+    way = sorted(free, key=lambda it: abs(it[0] - 18))[: rng.randint(1, 3)] if rng.random() < 0.5 else rng.sample(free, rng.randint(1, 3))
+    fill(disk, rng, way)
+    link(disk, way, (0, rng.randint(2, 255)))
+    return bare(rng.choice((0x80, 0xC0, 0x82)), *way[0], name), way
+
+
+def alias(disk, rng, name, slot):
+    """An entry that leads into the chain of a sound file before it; art, if there is none."""
+    ways = [way for other, (called, _, way) in files(disk).items() if other < slot and called.startswith(b"FILE")]
+    if not ways:
+        return art(disk, rng, name)
+    way = rng.choice(ways)
+    way = way[rng.choice((0, 0, rng.randrange(len(way)))) :]
+    return bare(rng.choice((0x80, 0xC0, 0x82)), *way[0], name), way
+
+
+KINDS = (art, loop, unknown, beyond, on_directory, loose, alias)
 
 
 class Disk:
@@ -180,32 +200,44 @@ class Disk:
         free = [slot for slot, it in enumerate(entries(self.image)) if it[0] == 0]
         for number, slot in enumerate(rng.sample(free, min(len(free), rng.randint(1, 3)))):
             kind = rng.choice(KINDS)
-            data, way = kind(self.image, rng, b"ODD %d" % number + rng.choice((b"", b" \xc1\xdd", b"\xa0,8")))
+            name = b"ODD %d" % number + rng.choice((b"", b" \xc1\xdd", b"\xa0,8"))
+            data, way = kind(self.image, rng, name, slot) if kind is alias else kind(self.image, rng, name)
             put_entry(self.image, slot, data)
             self.odd[slot] = data
             self.held.update({where: block(self.image, *where) for where in way})
             self.is_cut = getattr(self, "is_cut", False) or kind in (loop, beyond)
-        self.lost = claim(self.image, rng, 2) if rng.random() < 0.3 else []
+        self.lost = claim(self.image, rng, 2, self.held) if rng.random() < 0.3 else []
+        self.free = [where for where in self.held if is_free(self.image, *where)]
+        self.used = {where for slot, (_, _, way) in files(self.image).items() if slot not in self.odd for where in way}
 
     def without(self):
-        """What is left: in each odd entry's slot a locked DEL of its name without a block."""
+        """What is left: in each odd entry's slot a locked DEL of its name without a block; what it leads to is in use."""
         left = bytearray(self.image)
         for slot, data in self.odd.items():
             put_entry(left, slot, b"\xc0\0\0" + data[3:])
+        for where in self.free:
+            mark(left, *where, free=False)
         return left
 
-    def is_left_alone(self, new):
-        """Whether each odd entry and what it leads to is as it was, and no file's."""
+    def touched(self, left):
+        """The first sector that an odd entry leads to which a change of the rest frees, or which a file has got."""
+        used = {where for slot, (_, _, way) in files(left).items() if slot not in self.odd for where in way}
+        return next((where for where in sorted(self.held) if is_free(left, *where) or where in used - self.used), None)
+
+    def is_left_alone(self, new, claims=False):
+        """Whether each odd entry and what it leads to is as it was, and no file's that didn't have it; or all that it leads to is claimed."""
         said = [f"slot {slot}" for slot, data in self.odd.items() if entry(new, slot) != data]
         said += [f"sector {where}" for where, data in self.held.items() if block(new, *where) != data]
-        said += [f"{where} is free" for where in self.held if is_free(new, *where)]
+        said += [f"{where} is marked otherwise" for where in self.held if is_free(new, *where) != (where in self.free and not claims)]
         used = {where for slot, (_, _, way) in files(new).items() if slot not in self.odd for where in way}
-        return said + [f"{where} is a file's" for where in self.held if where in used]
+        return said + [f"{where} is a file's" for where in self.held if where in used - self.used]
 
 
-def with_odd(disk, left):
-    """What was made of the rest, with the odd entries in their slots."""
+def with_odd(disk, left, claims):
+    """What was made of the rest, with the odd entries in their slots; what was free is free again, unless it is claimed."""
     new = bytearray(left)
+    for where in [] if claims else disk.free:
+        mark(new, *where, free=True)
     for slot, data in disk.odd.items():
         put_entry(new, slot, data)
     return bytes(new)
@@ -248,13 +280,17 @@ def compare(disk, name, call, room):
     if name == "validate":
         for where in disk.held:
             mark(rest, *where, free=False)
+    if where := disk.touched(rest):
+        is_so(disk.name, "a change that touches what an odd entry leads to is refused", ran[0] == 1 and new == disk.image and "an odd entry points to track %d, sector %d:" % where in ran[2], (ran, where))
+        return new
     is_so(disk.name, f"{name}: status", ran[0] == left[0], (ran, left))
-    is_so(disk.name, f"{name}: as on what is left", new == with_odd(disk, rest), ran)
+    is_so(disk.name, f"{name}: as on what is left", new == with_odd(disk, rest, name == "validate" and ran[0] == 0), ran)
     if "*" in call:
         told = sum(line.endswith("is an odd entry, and was not changed") for line in ran[2].splitlines())
         is_so(disk.name, f"{name}: each odd entry that it means is told", told == (len(disk.odd) if ran[0] == 0 else 0), ran)
     if ran[0] == 0:
-        is_so(disk.name, f"{name}: odd entries", not disk.is_left_alone(new), disk.is_left_alone(new))
+        said = disk.is_left_alone(new, claims=name == "validate")
+        is_so(disk.name, f"{name}: odd entries", not said, said)
     return new
 
 
@@ -313,21 +349,15 @@ def sorted_around(disk, room):
 
 
 def refused(rng, room):
-    """An odd entry that leads to a free sector, or into a file: nothing is changed, and the sentence names the sector."""
+    """A file that counts blocks which the BAM has as free: the BAM is at fault, nothing is changed, and the sentence names the sector."""
     for n in range(BASES):
-        base = bytearray(open(f"{room}/base{n}.d64", "rb").read())
-        slot = next(slot for slot, it in enumerate(entries(base)) if it[0] == 0)
-        free = next((t, s) for t in range(1, 18) for s in range(sectors_on(t)) if is_free(base, t, s))
-        twice = next(way[-1] for _, _, way in files(base).values() if way)
-        for what, where in (("free", free), ("file's", twice)):
-            disk = bytearray(base)
-            if what == "free":
-                disk[place(*where) : place(*where) + 2] = bytes(where)
-            put_entry(disk, slot, bare(0x82 if what == "free" else 0x85, *where, b"BAD"))
-            with open(f"{room}/bad.d64", "wb") as out:
-                out.write(disk)
-            status, _, said = run("title", f"{room}/bad.d64", "NO")
-            is_so(f"base {n}", f"an odd entry that leads to a {what} sector is refused", status == 1 and f"track {where[0]}, sector {where[1]}" in said and open(f"{room}/bad.d64", "rb").read() == disk, (status, said))
+        disk = bytearray(open(f"{room}/base{n}.d64", "rb").read())
+        where = next(way[0] for _, _, way in files(disk).values() if way)
+        mark(disk, *where, free=True)
+        with open(f"{room}/bad.d64", "wb") as out:
+            out.write(disk)
+        status, _, said = run("title", f"{room}/bad.d64", "NO")
+        is_so(f"base {n}", "a file whose block is marked free is refused", status == 1 and f"track {where[0]}, sector {where[1]}" in said and open(f"{room}/bad.d64", "rb").read() == disk, (status, said))
 
 
 def bases(rng, room):
@@ -375,11 +405,11 @@ def main():
     return int(wrong > 0)
 
 
-# What cc1541 writes beside the file ONE, and whether the disk is changed then: an alias leads into ONE.
+# What cc1541 writes in addition to the file ONE; an alias leads into ONE.
 PEERS = (
-    ("a file on the directory's track", ("-r", "18", "-t", "-f", "odd", "-w", "p.prg"), True),
-    ("another type", ("-T", "5", "-f", "odd", "-w", "p.prg"), True),
-    ("an alias", ("-f", "odd", "-l", "one"), False),
+    ("a file on the directory's track", ("-r", "18", "-t", "-f", "odd", "-w", "p.prg")),
+    ("another type", ("-T", "5", "-f", "odd", "-w", "p.prg")),
+    ("an alias", ("-f", "odd", "-l", "one")),
 )
 
 
@@ -391,16 +421,16 @@ def peers(rng, room):
     with open(f"{room}/p.prg", "wb") as out:
         out.write(rng.randbytes(900))
     image = f"{room}/peer.d64"
-    for name, extra, is_changed in PEERS:
+    for name, extra in PEERS:
         subprocess.run(["cc1541", "-q", "-n", "peer", "-f", "one", "-w", "p.prg", *extra, image], check=True, capture_output=True, cwd=room)
         before = open(image, "rb").read()
         odd = {slot: it for slot, it in enumerate(entries(before)) if it[3:7] == b"ODD\xa0"}
         status, _, said = run("rename", image, "ONE", "TWO")
         after = open(image, "rb").read()
-        if is_changed:
-            is_so("peer.d64", f"cc1541: {name}", status == 0 and len(odd) == 1 and all(entry(after, slot) == it for slot, it in odd.items()), said)
-        else:
-            is_so("peer.d64", f"cc1541: {name} is refused", status == 1 and "track " in said and after == before, said)
+        is_so("peer.d64", f"cc1541: {name}", status == 0 and len(odd) == 1 and all(entry(after, slot) == it for slot, it in odd.items()), said)
+        if name == "an alias":
+            status, _, said = run("delete", image, "TWO")
+            is_so("peer.d64", "cc1541: the file of an alias isn't deleted", status == 1 and "an odd entry points to track " in said and open(image, "rb").read() == after, said)
         os.unlink(image)
 
 

@@ -22,19 +22,19 @@ reached_by tracks content [] = []
 reached_by tracks content (odd ∷ rest) = reach_of tracks content odd.entry ++ reached_by tracks content rest
 
 -- a place is in the first set, and not in the other
-abbrev pub is_only_reached : (Place → Bool) → (Place → Bool) → Place → Bool
-is_only_reached reached own p = reached p && not (own p)
+abbrev pub is_only_in : (Place → Bool) → (Place → Bool) → Place → Bool
+is_only_in first other p = first p && not (other p)
 
 -- THE SECTORS THAT ARE HELD: those that odd entries lead to, but the BAM's and the directory's, in order of track and sector
 abbrev pub held_places : ℕ → Content → List Odd → List Place
 held_places tracks content odds =
-    places_in (is_only_reached (is_among (reached_by tracks content odds)) (is_among (used_in tracks content []))) tracks
+    places_in (is_only_in (is_among (reached_by tracks content odds)) (is_among (used_in tracks content []))) tracks
 
--- what is wrong with a sector that is held: it is free (2), or a file's (3)
+-- what is wrong with a sector that is held: it is free (2), or a file's that didn't have it (3)
 abbrev pub spoilt : Bool → Bool → Option ℕ
 spoilt free used = if free then Some 2 else if used then Some 3 else None
 
--- the same, by the cell of 18/0 and the sectors that files use
+-- the same, by the cell of 18/0 and the sectors that files have got
 abbrev pub spoilt_at : Cell → (Place → Bool) → Place → Option ℕ
 spoilt_at head used p = spoilt (free_by head p) (used p)
 

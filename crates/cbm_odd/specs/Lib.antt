@@ -1,5 +1,6 @@
 pub mod Odd
 pub mod Held
+pub mod Marking
 pub mod Away
 pub mod Back
 pub mod Changes

@@ -1,6 +1,7 @@
 //! Odd entries put away: what is left is a sound disk, which is changed as any other.
 ghost use Rattle.std.specs.Prelude.{◌≡◌, ◌≤◌, None, IfOk, IfErr, OnOk};
 ghost use Rattle.cbm_bam.specs.Map.{geometry_of};
+ghost use Rattle.cbm_bam.specs.Marks.{is_marked, nothing};
 ghost use Rattle.cbm_directory.specs.Entries.{EntersLed};
 ghost use Rattle.cbm_image.specs.AnyDisks.{any_seen};
 ghost use Rattle.cbm_image.specs.Images.{kind_of, image_fault, content_of, outside_of, ChangesSectors};
@@ -9,11 +10,13 @@ ghost use Rattle.cbm_odd.specs.Away.{away_entry, ArePutAway, IsClearOf, IsUnclea
 ghost use Rattle.cbm_odd.specs.Odd.{IsUnreadable};
 
 use crate::held::{held_places, require_kept};
+use crate::marking::claimed;
 use crate::odd::{Odd, odds_of};
+use cbm_bam::SectorSet;
 use cbm_directory::put_slot;
 use cbm_image::{AnyDisk, Kind, kind_of};
 use cbm_medium::{Address, Geometry, Medium, Steady};
-use cbm_shell::parts::{entries_or_none, entry_of, require_sound, saved, used_sectors};
+use cbm_shell::parts::{entry_of, require_sound, saved};
 use cbm_shell::{ShellFault, open_disk};
 use cbm_volume::{Entry, Volume};
 use std::alloc::Global;
@@ -90,38 +93,40 @@ fn without<M: Steady + Drop>(volume: Volume<M>, odds: &[Odd]) -> Result<M, Shell
     Ok(medium)
 }
 
-/// Refuses a disk that isn't sound, or on which these sectors are free or a file's. Errors: `Unsound`; `Trouble`; `Memory`.
+/// Refuses a disk that isn't sound, or on which one of these sectors is free, or used and wasn't before. Errors: `Unsound`; `Trouble`;
+/// `Memory`.
 pub(crate) fn require_clear<M: Medium>(
-    alloc: Global,
     volume: &Volume<M>,
+    used: &SectorSet,
+    before: &SectorSet,
     held: &[Address],
 ) -> Result<(), ShellFault>
-    ensures clear { let now = M.seen volume.now in OnOk result (IsClearOf now.tracks now.content held.now) }
-    ensures fault { let now = M.seen volume.now in IfErr result (IsUnclear now.tracks now.content held.now) }
+    ensures clear { let now = M.seen volume.now in
+        OnOk result (IsClearOf now.tracks now.content (is_marked used.now) (is_marked before.now) held.now) }
+    ensures fault { let now = M.seen volume.now in
+        IfErr result (IsUnclear now.tracks now.content (is_marked used.now) (is_marked before.now) held.now) }
 {
     require_sound(volume)?;
-    let geometry = volume.geometry();
-    let entries = entries_or_none(alloc, volume)?;
-    let used = used_sectors(volume.medium(), geometry, entries.as_slice());
-    require_kept(volume.medium(), geometry, &used, held)
+    require_kept(volume.medium(), volume.geometry(), used, before, held)
 }
 
-/// The image of a disk, if it is sound and these sectors are neither free nor a file's. Errors: `Unsound`; `Trouble`; `Memory`.
-pub(crate) fn clear_image(
+/// The image of a disk, if it is sound and these sectors are taken in its BAM. Errors: `Unsound`; `Trouble`; `Memory`.
+fn clear_image(
     alloc: Global,
     disk: AnyDisk,
     kind: Kind,
     held: &[Address],
 ) -> Result<Vec<u8>, ShellFault>
-    ensures clear { let now = any_seen disk in OnOk result (IsClearOf now.tracks now.content held.now) }
+    ensures clear { let now = any_seen disk in OnOk result (IsClearOf now.tracks now.content nothing nothing held.now) }
     ensures sound { IfOk result (λ v. IsSoundImage kind v.items) }
     ensures content { IfOk result (λ v. content_of kind v.items ≡ (any_seen disk).content) }
     ensures outside { IfOk result (λ v. outside_of kind v.items ≡ (any_seen disk).outside) }
     ensures opens { IfOk result (λ v. image_fault kind v.items ≡ None) }
-    ensures fault { let now = any_seen disk in IfErr result (IsUnclear now.tracks now.content held.now) }
+    ensures fault { let now = any_seen disk in IfErr result (IsUnclear now.tracks now.content nothing nothing held.now) }
 {
     let volume = Volume::open(disk);
-    require_clear(alloc, &volume, held)?;
+    let unused = SectorSet::new();
+    require_clear(&volume, &unused, &unused, held)?;
     saved(alloc, &volume.into_medium(), kind)
 }
 
@@ -137,17 +142,19 @@ fn image_without(
     ensures opens { IfOk result (λ v. image_fault kind v.items ≡ None) }
     ensures fault { let old = any_seen volume in IfErr result (IsNotLeft old.tracks old.content odds.now) }
 {
-    let held = held_places(alloc, volume.medium(), volume.geometry(), odds)?;
-    let disk = without(volume, odds)?;
+    let geometry = volume.geometry();
+    let held = held_places(alloc, volume.medium(), geometry, odds)?;
+    let left = without(volume, odds)?;
+    let disk = claimed(alloc, left, geometry, held.as_slice())?;
     clear_image(alloc, disk, kind, held.as_slice())
 }
 
-/// Puts the odd entries of an image away: in each one's slot a locked DEL of its name stands, without a block, and nothing else is
-/// changed. Errors: `Image`; `Unsound`, with what is wrong first, if more is wrong than entries; with a sector that an odd entry
-/// leads to, if that is free or another file's; `Trouble`; `Memory`.
+/// Puts the odd entries of an image away: in each one's slot there is a locked DEL of its name, without a block. Sectors that they lead
+/// to are taken in the BAM, so that a change gets none of them. Nothing else is changed. Errors: `Image`; `Unsound`, with what is wrong
+/// first, if more is wrong than entries; `Trouble`; `Memory`.
 #[inline(never)]
 pub fn put_away(alloc: Global, image: &[u8]) -> Result<Away, ShellFault>
-    // What is left is sound; each sector that the odd entries lead to is taken, and no file's.
+    // What is left is sound, and each sector that the odd entries lead to is taken.
     ensures away { IfOk result (IsAwayIn image.now) }
     ensures opens { IfOk result (λ a. ChangesSectors image.now a.image.items) }
     ensures fault { IfErr result (IsNotAwayIn image.now) }

@@ -2,19 +2,22 @@
 ghost use Rattle.std.specs.Prelude.{◌≡◌, ◌≤◌, None, IfOk, IfErr, OnOk, slice_range};
 ghost use Rattle.std.specs.Str.{bytes_eq};
 ghost use Rattle.cbm_bam.specs.Map.{geometry_of};
+ghost use Rattle.cbm_bam.specs.Marks.{is_marked};
 ghost use Rattle.cbm_directory.specs.Slots.{directory_of};
 ghost use Rattle.cbm_image.specs.AnyDisks.{any_seen};
 ghost use Rattle.cbm_image.specs.Images.{kind_of, image_fault, content_of, outside_of, ChangesSectors};
-ghost use Rattle.cbm_odd.specs.Back.{stands_for, protected, StandsIn, IsMissing, IsPutBack, ArePutBack, IsNotBackFrom, LeavesHeld, ChangesHeld, IsBackIn, IsNotBackIn};
+ghost use Rattle.cbm_odd.specs.Back.{stands_for, protected, StandsIn, IsMissing, IsPutBack, ArePutBack, IsNotBackFrom, files_on, others_on, free_of, LeavesHeld, ChangesHeld, AreBack, IsBackBy, IsBackIn, IsNotBackIn};
 
 use crate::away::{put_entry, require_clear};
 use crate::held::{held_places, require_same};
-use crate::odd::Odd;
+use crate::marking::{Marks, free_among, marked_by};
+use crate::odd::{Odd, others_among};
+use cbm_bam::SectorSet;
 use cbm_channel::{Code, Status};
 use cbm_directory::slot;
 use cbm_image::{AnyDisk, Kind, kind_of};
-use cbm_medium::{Geometry, Medium, Steady};
-use cbm_shell::parts::saved;
+use cbm_medium::{Address, Geometry, Medium, Steady};
+use cbm_shell::parts::{entries_or_none, saved, used_sectors};
 use cbm_shell::{ShellFault, open_disk};
 use cbm_volume::{Entry, Volume};
 use std::alloc::Global;
@@ -86,19 +89,65 @@ fn put_each_back<M: Steady>(
     Ok(())
 }
 
-/// The disk with its odd entries. Errors: those of one.
-fn with_odds<M: Steady + Drop>(volume: Volume<M>, odds: &[Odd]) -> Result<M, ShellFault>
+/// The disk with its odd entries, whose BAM has these sectors, which were free, as it is asked for. Errors: those of one; `Trouble`; `Memory`.
+fn with_odds<M: Steady + Drop>(
+    alloc: Global,
+    marks: Marks,
+    volume: Volume<M>,
+    odds: &[Odd],
+    free: &[Address],
+) -> Result<M, ShellFault>
     ensures tracks { IfOk result (λ after. (M.seen after).tracks ≡ (M.seen volume).tracks) }
     ensures outside { IfOk result (λ after. (M.seen after).outside ≡ (M.seen volume).outside) }
     ensures back { let old = M.seen volume in IfOk result (λ after.
-        ArePutBack (geometry_of old.tracks old.content) odds.now old.content (M.seen after).content) }
+        AreBack marks (geometry_of old.tracks old.content) free.now odds.now old.content (M.seen after).content) }
     ensures fault { let old = M.seen volume in
         IfErr result (IsNotBackFrom (geometry_of old.tracks old.content) odds.now old.content) }
 {
     let geometry = volume.geometry();
     let mut medium = volume.into_medium();
     put_each_back(&mut medium, geometry, odds)?;
-    Ok(medium)
+    marked_by(alloc, marks, medium, geometry, free)
+}
+
+/// The sectors that a disk's directory and closed files use. The one error is `Memory`.
+fn files_on<M: Medium>(alloc: Global, volume: &Volume<M>) -> Result<SectorSet, ShellFault>
+    ensures files { let now = M.seen volume.now in IfOk result (λ set. is_marked set ≡ files_on now.tracks now.content) }
+    ensures fault { IfErr result (λ f. f ≡ ShellFault.Memory) }
+{
+    let entries = entries_or_none(alloc, volume)?;
+    Ok(used_sectors(volume.medium(), volume.geometry(), entries.as_slice()))
+}
+
+/// Those that a disk's directory and closed files use without its odd entries. The one error is `Memory`.
+fn others_on<M: Medium>(
+    alloc: Global,
+    volume: &Volume<M>,
+    odds: &[Odd],
+) -> Result<SectorSet, ShellFault>
+    ensures others { let now = M.seen volume.now in
+        IfOk result (λ set. is_marked set ≡ others_on now.tracks now.content odds.now) }
+    ensures fault { IfErr result (λ f. f ≡ ShellFault.Memory) }
+{
+    let entries = entries_or_none(alloc, volume)?;
+    let others = others_among(alloc, odds, entries.as_slice())?;
+    Ok(used_sectors(volume.medium(), volume.geometry(), others.as_slice()))
+}
+
+/// Those of the sectors that odd entries lead to which the BAM has as free. The one error is `Memory`.
+fn free_of<M: Medium>(
+    alloc: Global,
+    volume: &Volume<M>,
+    odds: &[Odd],
+) -> Result<Vec<Address>, ShellFault>
+    ensures free { let now = M.seen volume.now in
+        IfOk result (λ v. v.items ≡ free_of now.tracks now.content odds.now) }
+    ensures fault { IfErr result (λ f. f ≡ ShellFault.Memory) }
+{
+    let (medium, geometry) = (volume.medium(), volume.geometry());
+    let held = held_places(alloc, medium, geometry, odds)?;
+    let free = free_among(alloc, medium, geometry, held.as_slice())?;
+    Ok(free)
 }
 
 /// Refuses a changed disk that isn't clear of the sectors that odd entries led to, or on which one of them has changed. Errors:
@@ -115,25 +164,28 @@ fn require_left_alone<M: Medium>(
         IfErr result (ChangesHeld before now odds.now) }
 {
     let held = held_places(alloc, old.medium(), old.geometry(), odds)?;
-    require_clear(alloc, new, held.as_slice())?;
+    let (used, before) = (files_on(alloc, new)?, others_on(alloc, old, odds)?);
+    require_clear(new, &used, &before, held.as_slice())?;
     require_same(old.medium(), new.medium(), held.as_slice())
 }
 
 /// The image of a changed disk with its odd entries. Errors: those of its parts.
 fn image_with(
     alloc: Global,
+    marks: Marks,
     volume: Volume<AnyDisk>,
     kind: Kind,
     odds: &[Odd],
+    free: &[Address],
 ) -> Result<Vec<u8>, ShellFault>
     ensures back { let old = any_seen volume in IfOk result (λ v.
-        ArePutBack (geometry_of old.tracks old.content) odds.now old.content (content_of kind v.items)) }
+        AreBack marks (geometry_of old.tracks old.content) free.now odds.now old.content (content_of kind v.items)) }
     ensures outside { IfOk result (λ v. outside_of kind v.items ≡ (any_seen volume).outside) }
     ensures opens { IfOk result (λ v. image_fault kind v.items ≡ None) }
     ensures fault { let old = any_seen volume in
         IfErr result (IsNotBackFrom (geometry_of old.tracks old.content) odds.now old.content) }
 {
-    let disk = with_odds(volume, odds)?;
+    let disk = with_odds(alloc, marks, volume, odds, free)?;
     saved(alloc, &disk, kind)
 }
 
@@ -144,38 +196,57 @@ fn put_back_in(
     image: &[u8],
     odds: &[Odd],
     changed: &[u8],
+    marks: Marks,
 ) -> Result<Vec<u8>, ShellFault>
     requires old { kind_of image.now ≡ kind }
     requires new { kind_of changed.now ≡ kind }
-    ensures back { IfOk result (λ v. IsBackIn (kind_of image.now) image.now odds.now changed.now v.items) }
+    ensures back { IfOk result (λ v. IsBackBy marks (kind_of image.now) image.now odds.now changed.now v.items) }
     ensures opens { IfOk result (λ v. ChangesSectors changed.now v.items) }
     ensures fault { IfErr result (IsNotBackIn image.now odds.now changed.now) }
 {
     let old = open_disk(alloc, image)?;
     let new = open_disk(alloc, changed)?;
     require_left_alone(alloc, &old, &new, odds)?;
-    image_with(alloc, new, kind, odds)
+    let free = free_of(alloc, &old, odds)?;
+    image_with(alloc, marks, new, kind, odds, free.as_slice())
 }
 
-/// Puts the odd entries of an image back into the image that was made of it without them. Errors: `Image`; `Refused`, with WRITE PROTECT ON, if the
-/// change touched one of them; `Unsound`, if what is left isn't sound, or the change touched a sector that one leads to; `Mistaken`, if
-/// the two images aren't of one format; `Trouble`; `Memory`.
+/// Puts the odd entries of an image back into the image that was made of it without them. Sectors that they lead to and that were free
+/// in the BAM are free again, or stay taken. Errors: `Image`; `Refused`, with WRITE PROTECT ON, if the change touched one of them;
+/// `Unsound`, if what is left isn't sound, or the change touched a sector that one leads to; `Mistaken`, if the two images aren't of one
+/// format; `Trouble`; `Memory`.
 #[inline(never)]
+pub fn put_back_by(
+    alloc: Global,
+    image: &[u8],
+    odds: &[Odd],
+    changed: &[u8],
+    marks: Marks,
+) -> Result<Vec<u8>, ShellFault>
+    // Each odd entry is in its slot, byte for byte. Each sector that it leads to holds what it held, and no file has got it.
+    ensures back { IfOk result (λ v. IsBackBy marks (kind_of image.now) image.now odds.now changed.now v.items) }
+    ensures opens { IfOk result (λ v. ChangesSectors changed.now v.items) }
+    ensures fault { IfErr result (IsNotBackIn image.now odds.now changed.now) }
+{
+    let kind = kind_of(image);
+    if kind_of(changed) == kind {
+        put_back_in(alloc, kind, image, odds, changed, marks)
+    } else {
+        Err(ShellFault::Mistaken)
+    }
+}
+
+/// Puts the odd entries of an image back into the image that was made of it without them, and the BAM has the sectors that they lead to
+/// as before. Errors: those of `put_back_by`.
 pub fn put_back(
     alloc: Global,
     image: &[u8],
     odds: &[Odd],
     changed: &[u8],
 ) -> Result<Vec<u8>, ShellFault>
-    // Each odd entry is in its slot, byte for byte. Each sector that it leads to holds what it held, and is no file's.
     ensures back { IfOk result (λ v. IsBackIn (kind_of image.now) image.now odds.now changed.now v.items) }
     ensures opens { IfOk result (λ v. ChangesSectors changed.now v.items) }
     ensures fault { IfErr result (IsNotBackIn image.now odds.now changed.now) }
 {
-    let kind = kind_of(image);
-    if kind_of(changed) == kind {
-        put_back_in(alloc, kind, image, odds, changed)
-    } else {
-        Err(ShellFault::Mistaken)
-    }
+    put_back_by(alloc, image, odds, changed, Marks::AsBefore)
 }

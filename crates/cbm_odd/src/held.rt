@@ -6,7 +6,7 @@ ghost use Rattle.cbm_volume.specs.check.Claims.{fault_at};
 ghost use Rattle.cbm_shell.specs.Mapping.{is_among};
 ghost use Rattle.cbm_shell.specs.Marking.{with_places};
 ghost use Rattle.cbm_shell.specs.Passing.{place_if, places_on, places_in};
-ghost use Rattle.cbm_odd.specs.Held.{reach_of, reached_by, is_only_reached, held_places, spoilt, are_kept, IsSpoiltAmong, is_same_cell, are_same_cells, IsChangedAmong};
+ghost use Rattle.cbm_odd.specs.Held.{reach_of, reached_by, is_only_in, held_places, spoilt, are_kept, IsSpoiltAmong, is_same_cell, are_same_cells, IsChangedAmong};
 
 use crate::odd::Odd;
 use cbm_bam::SectorSet;
@@ -61,17 +61,17 @@ fn reached_by<M: Medium>(medium: &M, geometry: Geometry, odds: &[Odd]) -> Sector
 }
 
 /// Whether a sector is in the first set, and not in the other.
-fn is_only_reached(reached: &SectorSet, own: &SectorSet, at: Address) -> bool
-    ensures { result ≡ is_only_reached (is_marked reached.now) (is_marked own.now) at }
+fn is_only_in(first: &SectorSet, other: &SectorSet, at: Address) -> bool
+    ensures { result ≡ is_only_in (is_marked first.now) (is_marked other.now) at }
 {
-    reached.has(at) && !own.has(at)
+    first.has(at) && !other.has(at)
 }
 
-/// Adds a sector, if it is held.
-fn add_held(out: &mut Vec<Address>, is_only_reached: bool, at: Address) -> Result<(), AllocError>
-    ensures { OnOk result (out.new.items ≡ out.old.items ++ place_if is_only_reached at) }
+/// Adds a sector, if it is one of those.
+pub(crate) fn add_held(out: &mut Vec<Address>, is_held: bool, at: Address) -> Result<(), AllocError>
+    ensures { OnOk result (out.new.items ≡ out.old.items ++ place_if is_held at) }
 {
-    if is_only_reached {
+    if is_held {
         out.push(at).map_err(AllocError::from)?;
     }
     Ok(())
@@ -85,12 +85,12 @@ fn add_track(
     track: u8,
 ) -> Result<(), AllocError>
     requires { track ≤ 40 }
-    ensures { let held = is_only_reached (is_marked reached.now) (is_marked own.now) in
+    ensures { let held = is_only_in (is_marked reached.now) (is_marked own.now) in
         OnOk result (out.new.items ≡ out.old.items ++ places_on held track (sectors_on track)) }
 {
     for sector in 0..sectors_of(track) {
         match Address::new(track, sector) {
-            Some(at) => add_held(out, is_only_reached(reached, own, at), at)?,
+            Some(at) => add_held(out, is_only_in(reached, own, at), at)?,
             None => unreachable!(),
         }
     }
@@ -104,7 +104,7 @@ fn held_in(
     reached: &SectorSet,
     own: &SectorSet,
 ) -> Result<Vec<Address>, AllocError>
-    ensures { let held = is_only_reached (is_marked reached.now) (is_marked own.now) in
+    ensures { let held = is_only_in (is_marked reached.now) (is_marked own.now) in
         IfOk result (λ v. v.items ≡ places_in held geometry) }
 {
     let mut held = Vec::new(alloc);
@@ -129,7 +129,7 @@ pub(crate) fn held_places<M: Medium>(
     held_in(alloc, geometry, &reached, &own)
 }
 
-/// What is wrong with a sector that odd entries lead to, if anything: it is free in the BAM, or one that files use.
+/// What is wrong with a sector that odd entries lead to, if anything: it is free in the BAM, or a file has got it.
 fn spoilt(is_free: bool, is_used: bool) -> Option<u8>
     ensures { result ≡ spoilt is_free is_used }
 {
@@ -153,20 +153,24 @@ fn unsound_at(number: u8, at: Address) -> Unsound
     }
 }
 
-/// Refuses a disk on which one of these sectors is free, or one that its files use. Errors: `Unsound`, with that sector.
+/// Refuses a disk on which one of these sectors is free, or one that its files use and didn't use before. Errors: `Unsound`, with that sector.
 pub(crate) fn require_kept<M: Medium>(
     medium: &M,
     geometry: Geometry,
     used: &SectorSet,
+    before: &SectorSet,
     held: &[Address],
 ) -> Result<(), ShellFault>
     requires { geometry ≤ (M.seen medium.now).tracks }
-    ensures kept { OnOk result (are_kept ((M.seen medium.now).content directory_head) (is_marked used.now) held.now ≡ true) }
-    ensures fault { IfErr result (IsSpoiltAmong ((M.seen medium.now).content directory_head) (is_marked used.now) held.now) }
+    ensures kept { OnOk result (are_kept ((M.seen medium.now).content directory_head)
+        (is_only_in (is_marked used.now) (is_marked before.now)) held.now ≡ true) }
+    ensures fault { IfErr result (IsSpoiltAmong ((M.seen medium.now).content directory_head)
+        (is_only_in (is_marked used.now) (is_marked before.now)) held.now) }
 {
     let mut rest = held;
     'sectors: while let Some((at, more)) = rest.split_first() {
-        match spoilt(is_free_at(medium, geometry, *at), used.has(*at)) {
+        let is_free = is_free_at(medium, geometry, *at);
+        match spoilt(is_free, is_only_in(used, before, *at)) {
             Some(number) => return Err(ShellFault::Unsound(unsound_at(number, *at))),
             None => rest = more,
         }

@@ -7,9 +7,11 @@ mod away;
 mod back;
 mod changing;
 mod held;
+mod marking;
 mod odd;
 
 pub use away::{Away, put_away};
-pub use back::put_back;
+pub use back::{put_back, put_back_by};
 pub use changing::{change, map_around};
+pub use marking::Marks;
 pub use odd::Odd;

@@ -1,3 +1,4 @@
+pub mod CommandKinds
 pub mod CopyingLemmas
 pub mod DeletingLemmas
 pub mod RetypingLemmas

@@ -2,7 +2,7 @@
 //! so that no caller's proof carries it. A disk that is sound but for its odd entries is changed around them (cbm_odd).
 ghost use Rattle.std.specs.Prelude.{◌≤◌, length};
 
-use crate::odd::{put_away, put_back, validate_around};
+use crate::odd::{change_around, put_away, put_back, validate_around};
 use cbm_medium::Address;
 use cbm_shell::{DiskChange, Form, Looks, Order, Records, ShellFault, Swap};
 use cbm_volume::{Entry, FileType};
@@ -11,7 +11,7 @@ use std::alloc::{AllocError, Global};
 /// The image after a change. Errors: `Image`, `Unsound`, `Refused`, `Memory`.
 pub fn change(alloc: Global, image: &[u8], change: &DiskChange<'_>) -> Result<Vec<u8>, ShellFault> {
     match cbm_shell::change(alloc, image, change) {
-        Err(ShellFault::Unsound(_)) => cbm_odd::change(alloc, image, change),
+        Err(ShellFault::Unsound(_)) => change_around(alloc, image, change),
         made => made,
     }
 }

@@ -1,10 +1,14 @@
 //! Odd entries: what is wrong with them hinders no change of the rest.
 use cbm_bam::SectorSet;
+use cbm_channel::{Code, Status};
 use cbm_medium::Address;
-use cbm_odd::Odd;
-use cbm_shell::{Freed, Order, ShellFault, file_blocks, open_disk, salvage};
+use cbm_odd::{Marks, Odd};
+use cbm_shell::{DiskChange, Freed, Order, ShellFault, file_blocks, flaws_of, open_disk, salvage};
 use cbm_volume::Unsound;
 use std::alloc::{AllocError, Global};
+
+/// The number of the flaw that a block is in use, but marked free.
+const MARKED_FREE: u8 = 2;
 
 /// An image with its odd entries put away.
 #[derive(Drop)]
@@ -32,22 +36,58 @@ impl Away {
     }
 }
 
-/// The image with its odd entries put away. Errors: `Image`; `Unsound`, if more is wrong than entries, or if a sector that one leads to
-/// is free or a file's; `Trouble`; `Memory`.
+/// The image with its odd entries put away. Errors: `Image`; `Unsound`, if more is wrong than entries; `Trouble`; `Memory`.
 pub fn put_away(alloc: Global, image: &[u8]) -> Result<Away, ShellFault> {
     let cbm_odd::Away { image, odds } = cbm_odd::put_away(alloc, image)?;
     Ok(Away { image, odds })
 }
 
-/// The changed image with the odd entries of the old one. Errors: `Refused`, with WRITE PROTECT ON, if the change touched one of them;
-/// `Unsound`; `Trouble`; `Memory`.
+/// The refusal of a change that touches a sector to which an odd entry leads: it is protected.
+fn touched(fault: ShellFault) -> ShellFault {
+    match fault {
+        ShellFault::Unsound(
+            Unsound {
+                number: _,
+                track,
+                sector,
+            },
+        ) => ShellFault::Refused(Status {
+            code: Code::WriteProtected,
+            first: track,
+            second: sector,
+        }),
+        other => other,
+    }
+}
+
+/// The changed image with the odd entries of the old one. Errors: `Refused`, with WRITE PROTECT ON, if the change touched one of them, or
+/// a sector to which one leads, whose numbers it has then; `Trouble`; `Memory`.
 pub fn put_back(
     alloc: Global,
     image: &[u8],
     away: &Away,
     changed: &Vec<u8>,
 ) -> Result<Vec<u8>, ShellFault> {
-    cbm_odd::put_back(alloc, image, away.odds.as_slice(), changed.as_slice())
+    match cbm_odd::put_back(alloc, image, away.odds.as_slice(), changed.as_slice()) {
+        Ok(new) => Ok(new),
+        Err(fault) => Err(touched(fault)),
+    }
+}
+
+/// The image after a change around its odd entries. Errors: `Image`; `Unsound`, if more is wrong than entries; `Refused`, also as
+/// `put_back` has it; `Trouble`; `Memory`.
+pub fn change_around(
+    alloc: Global,
+    image: &[u8],
+    change: &DiskChange<'_>,
+) -> Result<Vec<u8>, ShellFault> {
+    match cbm_odd::change(alloc, image, change) {
+        Ok(new) => Ok(new),
+        Err(fault) => match put_away(alloc, image) {
+            Ok(_) => Err(touched(fault)),
+            Err(_) => Err(fault),
+        },
+    }
 }
 
 /// The slots of the odd entries that hinder no change; none on a sound disk, or if more is wrong. The one error is `Memory`.
@@ -114,7 +154,8 @@ fn ordered_around(alloc: Global, image: &[u8], away: &Away) -> Result<Option<Ord
         return Ok(None);
     }
     let mapped = cbm_odd::map_around(alloc, left.as_slice(), away.odds.as_slice())?;
-    let new = put_back(alloc, image, away, &mapped)?;
+    let odds = away.odds.as_slice();
+    let new = cbm_odd::put_back_by(alloc, image, odds, mapped.as_slice(), Marks::AsChanged)?;
     Ok(Some(Order {
         image: new,
         freed: Freed {
@@ -132,10 +173,25 @@ fn refused_order(alloc: Global, image: &[u8], unsound: Unsound) -> ShellFault {
     }
 }
 
+/// Whether all that is wrong with a disk is that blocks of files are marked free, which the drive's VALIDATE corrects.
+fn are_marked_free(alloc: Global, image: &[u8]) -> Result<bool, ShellFault> {
+    let disk = open_disk(alloc, image)?;
+    let flaws = flaws_of(alloc, &disk)?;
+    Ok(
+        flaws
+            .as_slice()
+            .iter()
+            .all(|flaw| flaw.what.number == MARKED_FREE),
+    )
+}
+
 /// The image of an unsound disk put in order: around its odd entries, if those are all that is wrong, else as the drive does it. Errors:
 /// `Unsound`, with this flaw, or what the drive meets, if blocks that nothing uses may be GEOS's or the rest of an odd entry's chain;
 /// `Trouble`; `Memory`.
 pub fn validate_around(alloc: Global, image: &[u8], unsound: Unsound) -> Result<Order, ShellFault> {
+    if are_marked_free(alloc, image)? {
+        return cbm_shell::validate(alloc, image);
+    }
     let away = match put_away(alloc, image) {
         Ok(away) => away,
         Err(ShellFault::Memory) => return Err(ShellFault::Memory),

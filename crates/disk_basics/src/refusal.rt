@@ -24,8 +24,20 @@ fn advice(code: Code) -> &'static str {
     }
 }
 
+/// Prints that a change would take a sector from an odd entry.
+fn tell_protected(rt: &impl Eprint, name: &str, status: Status) -> io::Result<()> {
+    let track = status.first;
+    let sector = status.second;
+    eprintln!(rt;
+        "disk1541: {name}: not changed, because an odd entry points to track {track}, sector {sector}: delete that entry first; `disk1541 check --all {name}` names it (status 26)"
+    )
+}
+
 /// Prints what the drive's status means.
 fn tell_status(rt: &impl Eprint, name: &str, status: Status) -> io::Result<()> {
+    if status.code == Code::WriteProtected && status.first != 0 {
+        return tell_protected(rt, name, status);
+    }
     let number = status.code.number();
     let text = advice(status.code);
     eprintln!(rt; "disk1541: {name}: {text} (status {number})")

@@ -8,6 +8,8 @@ pub mod io;
 pub mod memory;
 pub mod os;
 pub mod path;
+#[cfg(windows)]
+mod processes;
 pub mod rt;
 mod standard;
 pub mod time;

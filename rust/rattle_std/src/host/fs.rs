@@ -139,7 +139,13 @@ pub fn read_to_string<R: Files + AllocGlobal, P: AsPath>(rt: &R, path: P) -> Res
     String::from_utf8(bytes).map_err(|_| Error::from(ErrorKind::InvalidData))
 }
 
-pub fn metadata<P: AsPath>(_: &impl Files, path: P) -> Result<Metadata> { unanswered(|| real::fs::metadata(path.path_text())) }
+pub fn metadata<P: AsPath>(_: &impl Files, path: P) -> Result<Metadata> {
+    #[cfg(windows)]
+    if let Some(process) = path.path_text().strip_prefix("/proc/") {
+        return super::processes::metadata(process);
+    }
+    unanswered(|| real::fs::metadata(path.path_text()))
+}
 
 pub fn symlink_metadata<P: AsPath>(_: &impl Files, path: P) -> Result<Metadata> { unanswered(|| real::fs::symlink_metadata(path.path_text())) }
 
@@ -158,6 +164,10 @@ pub fn rename<P: AsPath, Q: AsPath>(_: &impl Files, from: P, to: Q) -> Result<()
 }
 
 pub fn read_link<P: AsPath>(_: &impl Files, path: P) -> Result<PathBuf> {
+    #[cfg(windows)]
+    if path.path_text() == "/proc/self" {
+        return Ok(PathBuf::from_str(Global, &real::process::id().to_string())?);
+    }
     let link = unanswered(|| real::fs::read_link(path.path_text()))?;
     let text = link.to_str().ok_or(ErrorKind::InvalidData)?;
     Ok(PathBuf::from_str(Global, text)?)

@@ -1,7 +1,8 @@
-use Rattle.std.proofs.Common.{◌≡◌, rules}
+use Rattle.std.proofs.Common.{◌≡◌, ◌∙◌, subst, rules}
 use Rattle.cbm_image.specs.AnyDisks.{any_seen}
 use Rattle.cbm_bam.specs.Map.{geometry_of}
 use Rattle.cbm_odd.specs.Held.{held_places}
+use Rattle.cbm_odd.specs.Marking.{AreClaimed}
 use Rattle.cbm_odd.proofs.FaultLemmas.{not_left}
 use Rattle.cbm_odd.proofs.away.image_without.Goals as goal
 
@@ -10,4 +11,6 @@ returns-clause-fault c =
     let old = any_seen c.args.volume in
     let new = any_seen c.in_ok-disk.disk in
     let held : c.as_slice.result.now ≡ held_places (geometry_of old.tracks old.content) old.content c.args.odds.now = search rules in
-    not_left old.tracks new.tracks old.content new.content c.args.odds.now c.as_slice.result.now c.clear_image.result c.in_ok-disk.ensures.tracks held c.in_ok-disk.ensures.away c.clear_image.ensures.fault
+    let left = any_seen c.in_ok-left.left in
+    not_left old.tracks new.tracks old.content left.content new.content c.args.odds.now c.as_slice.result.now c.clear_image.result (c.in_ok-disk.ensures.tracks ∙ c.in_ok-left.ensures.tracks) held
+    c.in_ok-left.ensures.away (subst (λ t. AreClaimed t c.as_slice.result.now left.content new.content) c.geometry-geometry.ensures c.in_ok-disk.ensures.claimed) c.clear_image.ensures.fault
