@@ -52,10 +52,10 @@ not_left_by tracks old left new odds fault.NotClosed away claimed h = h
 not_left_by tracks old left new odds fault.Mistaken away claimed h = h
 
 pub not_left : {A : Type 0} (tracks after : ℕ) (old left new : Content) (odds : List Odd) (held : List Place) (r : Result A ShellFault) → after ≡ tracks → held ≡ held_places (geometry_of tracks old) old odds
-    → ArePutAway (geometry_of tracks old) odds old left → AreClaimed (geometry_of tracks old) held left new → IfErr r (IsUnclear after new nothing nothing held) → IfErr r (IsNotLeft tracks old odds)
+    → ArePutAway (geometry_of tracks old) odds old left → AreClaimed (geometry_of tracks old) (held_places (geometry_of tracks old) old odds) left new → IfErr r (IsUnclear after new nothing nothing held) → IfErr r (IsNotLeft tracks old odds)
 not_left tracks after old left new odds held (Ok v) a b away claimed h = tt
 not_left tracks after old left new odds held (Err f) a b away claimed h =
-    not_left_by tracks old left new odds f away (subst (λ l. AreClaimed (geometry_of tracks old) l left new) b claimed)
+    not_left_by tracks old left new odds f away claimed
     (subst (λ l. IsUnclear tracks new nothing nothing l f) b (subst (λ n. IsUnclear n new nothing nothing held f) a h))
 
 -- of an image

@@ -166,7 +166,7 @@ pub fn rename<P: AsPath, Q: AsPath>(_: &impl Files, from: P, to: Q) -> Result<()
 pub fn read_link<P: AsPath>(_: &impl Files, path: P) -> Result<PathBuf> {
     #[cfg(windows)]
     if path.path_text() == "/proc/self" {
-        return Ok(PathBuf::from_str(Global, &real::process::id().to_string())?);
+        return Ok(PathBuf::from_str(Global, &real::format!("{}", real::process::id()))?);
     }
     let link = unanswered(|| real::fs::read_link(path.path_text()))?;
     let text = link.to_str().ok_or(ErrorKind::InvalidData)?;

@@ -1,6 +1,7 @@
 //! What Linux has in /proc of processes, on Windows: their numbers, and which of them still run.
-use super::fs::{Error, ErrorKind, Metadata, Result};
 use real::ffi::c_void;
+use real::fs::Metadata;
+use real::io::{Error, ErrorKind, Result};
 
 #[link(name = "kernel32")]
 unsafe extern "system" {

@@ -66,7 +66,7 @@ returns-clause-opens c =
     let image = c.args.image.now in
     let hidden = c.as_slice.result.now in
     let copied = c.as_slice-2.result.now in
-    let plain = ap (open_formats 15) c.copy_text-text.ensures ∙ copy_formats _ _ in
+    let plain = ap (open_formats 15) c.copy_text-text.ensures ∙ copy_formats c.args.spares.new c.args.spares.old in
     sectors_thrice (λ v. v.items) c.dress-2.result image hidden copied
     (subst (λ xs. ChangesSectors image xs) (sym c.as_slice.ensures.value) c.in_ok-hidden.ensures.opens)
     (subst (λ xs. OpensAgain hidden xs) (sym c.as_slice-2.ensures.value) c.in_ok-copied.ensures.opens)

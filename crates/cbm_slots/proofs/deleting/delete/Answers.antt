@@ -85,7 +85,7 @@ returns-clause-opens c =
     let image = c.args.image.now in
     let hidden = c.as_slice-2.result.now in
     let scratched = c.as_slice-3.result.now in
-    let plain = ap (open_formats 15) c.scratch_text-text.ensures ∙ scratch_formats _ _ in
+    let plain = ap (open_formats 15) c.scratch_text-text.ensures ∙ scratch_formats c.in-Some.spare in
     sectors_thrice (λ v. v.items) c.dress-2.result image hidden scratched
     (subst (λ xs. ChangesSectors image xs) (sym c.as_slice-2.ensures.value) c.in_ok-hidden.ensures.opens)
     (subst (λ xs. OpensAgain hidden xs) (sym c.as_slice-3.ensures.value) c.in_ok-scratched.ensures.opens)
