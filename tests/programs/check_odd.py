@@ -201,7 +201,13 @@ class Disk:
         for number, slot in enumerate(rng.sample(free, min(len(free), rng.randint(1, 3)))):
             kind = rng.choice(KINDS)
             name = b"ODD %d" % number + rng.choice((b"", b" \xc1\xdd", b"\xa0,8"))
+            # (no two odd entries get one free sector)
+            free = [where for where in self.held if is_free(self.image, *where)]
+            for where in free:
+                mark(self.image, *where, free=False)
             data, way = kind(self.image, rng, name, slot) if kind is alias else kind(self.image, rng, name)
+            for where in free:
+                mark(self.image, *where, free=True)
             put_entry(self.image, slot, data)
             self.odd[slot] = data
             self.held.update({where: block(self.image, *where) for where in way})

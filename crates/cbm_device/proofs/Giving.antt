@@ -1,6 +1,6 @@
 -- What a call gives to the caller's room, from what was made.
 use Rattle.std.proofs.Common.{◌≡◌, ℕ, ◌∙◌, List, Some, length, ap, subst, sym, inl, inr, arith}
-use Rattle.std.specs.Prelude.{ℤ, pos, nat_abs, Result, Ok, Err, IfErr, IfOk, MatchResult}
+use Rattle.std.specs.Prelude.{ℤ, nat_abs, Result, Ok, Err, IfErr, IfOk, MatchResult}
 use Rattle.cbm_device.specs.declared.refusal.DeviceRefusal.{DeviceRefusal}
 use Rattle.cbm_device.specs.declared.refusal.DeviceRefusal.TheVariants.{Memory, Invalid, NoRoom, Absent, NoImage, Unsound, NoDrive, Status}
 use Rattle.cbm_file.specs.Files.{Disk}

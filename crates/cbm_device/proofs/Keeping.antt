@@ -5,7 +5,7 @@ use Rattle.cbm_device.specs.declared.image_disk.Sectors.{Sectors}
 use Rattle.cbm_saved.specs.Numbers.{eight_bytes}
 use Rattle.cbm_drive.specs.Saved.{saved_seat}
 use Rattle.cbm_device.specs.Devices.{OnLines}
-use Rattle.cbm_device.specs.Snapshots.{DiskParts, AreSectorsOf, AreSectorsKept, IsKeptDisk, IsKeptState, kind_number, saved_parts, state_bytes}
+use Rattle.cbm_device.specs.Snapshots.{DiskParts, AreSectorsOf, AreSectorsKept, IsKeptDisk, IsKeptState, kind_number, saved_parts}
 
 -- four parts, one after another
 pub four_joined : {A E : Type 0} (r : Result A E) (out a b c d one two three new : List ℕ) → one ≡ out ++ a → two ≡ one ++ b → three ≡ two ++ c → OnOk r (new ≡ three ++ d)

@@ -1,5 +1,5 @@
 -- A drive that is read from bytes has the medium that it was read with.
-use Rattle.std.proofs.Common.{◌≡◌, ℕ, Bool, true, false, List, Option, Some, None, refl, ap, subst, sym, ◌∙◌}
+use Rattle.std.proofs.Common.{◌≡◌, ℕ, Bool, true, false, List, Option, Some, None, refl, subst, sym}
 use Rattle.std.specs.Prelude.{IfSome, if◌then◌else◌}
 use Rattle.cbm_saved.specs.Steps.{◌>>=◌}
 use Rattle.cbm_iec.specs.declared.port.Port.{Port}

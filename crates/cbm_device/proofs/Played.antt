@@ -1,7 +1,6 @@
 -- What a bus with one drive played is what the drive played.
 use Rattle.std.proofs.Common.{◌≡◌, ℕ, ◌+◌, Bool, true, false, List, [], ◌∷◌, Option, Some, None, refl, sym, subst}
 use Rattle.std.specs.Prelude.{nat_lt, if◌then◌else◌}
-use Rattle.std.specs.List.{AllZip}
 use Rattle.cbm_iec.specs.Ports.{resting}
 use Rattle.cbm_iec.specs.declared.event.Event.{Event}
 use Rattle.cbm_iec.specs.declared.lines.Change.{Change}
@@ -14,11 +13,11 @@ use Rattle.cbm_channel.specs.Standing.{Kept}
 use Rattle.cbm_channel.proofs.Stands.{means_of}
 use Rattle.cbm_drive.specs.Cables.{all_free}
 use Rattle.cbm_drive.specs.Desks.{Desk, DeskStands, desk_step, desk_says}
-use Rattle.cbm_drive.specs.Ordered.{fault_of, host_changes}
+use Rattle.cbm_drive.specs.Ordered.{fault_of}
 use Rattle.cbm_drive.specs.declared.fault.PlayFault.{PlayFault}
 use Rattle.cbm_drive.specs.declared.fault.PlayFault.TheVariants.{Backwards, PastEnd, Memory}
 use Rattle.cbm_drive.specs.Played.{HasPlayed}
-use Rattle.cbm_drive.specs.Seats.{Seated, IsBusAt, IsSeat, IsWithout, wires_held_by}
+use Rattle.cbm_drive.specs.Seats.{Seated, IsBusAt, IsWithout, wires_held_by}
 use Rattle.cbm_volume.specs.Holding.{HoldsDisk}
 use Rattle.cbm_device.specs.ImageDisks.{Counted, counted_seen}
 use Rattle.cbm_device.specs.Plays.{HasPlayedAll, IsDiskIn, machine_of, drive_powered}

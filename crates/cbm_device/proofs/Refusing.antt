@@ -1,6 +1,5 @@
 -- Why a call on an image's disk is refused, from what the call below says.
-use Rattle.std.proofs.Common.{◌≡◌, ◌≢◌, ℕ, ◌∙◌, List, ap, inl, inr, refl, sym}
-use Rattle.cbm_medium.specs.Content.{Content}
+use Rattle.std.proofs.Common.{ℕ, ◌∙◌, List, ap, inl, inr, refl}
 use Rattle.cbm_file.specs.Files.{Disk}
 use Rattle.cbm_machine.specs.Codes.{code_number}
 use Rattle.cbm_channel.specs.declared.Status as status

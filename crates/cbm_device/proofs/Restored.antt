@@ -1,10 +1,9 @@
 -- A drive that is read from another one's bytes is the same.
-use Rattle.std.proofs.Common.{◌≡◌, ℕ, Bool, true, false, List, [], ◌∷◌, ◌++◌, length, get_or, drop, Option, Some, None, refl, sym, ap, subst, ◌∙◌, append_assoc, append-nil, arith}
-use Rattle.std.specs.Prelude.{if◌then◌else◌}
+use Rattle.std.proofs.Common.{◌≡◌, ℕ, Bool, true, false, List, [], ◌∷◌, ◌++◌, length, get_or, drop, Option, Some, None, refl, sym, ap, subst, ◌∙◌, append-nil, arith}
 use Rattle.cbm_saved.specs.Steps.{◌>>=◌}
 use Rattle.cbm_saved.specs.Numbers.{eight_bytes, eight_at}
 use Rattle.cbm_saved.specs.Texts.{front_of}
-use Rattle.cbm_saved.specs.Seals.{seal_opened, sealed}
+use Rattle.cbm_saved.specs.Seals.{seal_opened}
 use Rattle.cbm_saved.proofs.Again.{eight_again, front_again}
 use Rattle.cbm_saved.proofs.Seals.{seal_opens}
 use Rattle.cbm_channel.specs.Saved.{flag_byte}
@@ -19,7 +18,7 @@ use Rattle.cbm_medium.specs.Seen.{Seen}
 use Rattle.cbm_d64.specs.Image.{Image, d64_seen}
 use Rattle.cbm_g64.specs.NewFile.{base_of, new_file}
 use Rattle.cbm_g64.specs.Rest.{g64_rest}
-use Rattle.cbm_g64.specs.Tracks.{g64_seen, g64_content, id_for}
+use Rattle.cbm_g64.specs.Tracks.{g64_content, id_for}
 use Rattle.cbm_image.specs.declared.kind.Kind.{Kind}
 use Rattle.cbm_image.specs.declared.kind.Kind.TheVariants as kind
 use Rattle.cbm_device.specs.declared.image_disk.Sectors.{Sectors}

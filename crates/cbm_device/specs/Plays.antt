@@ -1,11 +1,9 @@
 -- A drive that is switched on and played under a list of line changes.
 use Rattle.std.specs.Prelude.{ℕ, ◌≡◌, ◌≤◌, ◌+◌, List, [], ◌∷◌, ◌++◌}
-use Rattle.cbm_iec.specs.Ports.{port_due}
 use Rattle.cbm_iec.specs.declared.event.Event.{Event}
 use Rattle.cbm_iec.specs.declared.lines.Change.{Change}
 use Rattle.cbm_iec.specs.declared.party.Party.{Party}
-use Rattle.cbm_session.specs.Playing.{Station, Plays, IsKept, IsLaterDue, at_rest}
-use Rattle.cbm_session.specs.Timing.{HostKeeps}
+use Rattle.cbm_session.specs.Playing.{Station, Plays, at_rest}
 use Rattle.cbm_machine.specs.Machines.{Machine}
 use Rattle.cbm_channel.specs.Standing.{Kept}
 use Rattle.cbm_drive.specs.Desks.{Desk, at_first, with_pace, desk_step, desk_says}

@@ -1,5 +1,5 @@
 -- A change around odd entries, of its three parts.
-use Rattle.std.proofs.Common.{◌≡◌, List, ℕ, subst, inl, inr}
+use Rattle.std.proofs.Common.{◌≡◌, List, ℕ, subst, inr}
 use Rattle.std.specs.Prelude.{Result, Ok, Err, IfOk, IfErr}
 use Rattle.cbm_image.specs.Images.{kind_of, OpensAgain, KeepsOtherBytes, ChangesSectors}
 use Rattle.cbm_shell.specs.declared.changing.DiskChange.{DiskChange}

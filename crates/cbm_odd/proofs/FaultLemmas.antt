@@ -5,7 +5,6 @@ use Rattle.cbm_medium.specs.Place.{Place, directory_head}
 use Rattle.cbm_medium.specs.Content.{Cell, Content}
 use Rattle.cbm_medium.specs.Seen.{Seen}
 use Rattle.cbm_bam.specs.Map.{geometry_of}
-use Rattle.cbm_directory.specs.Slots.{directory_of}
 use Rattle.cbm_volume.specs.declared.Unsound.{Unsound}
 use Rattle.cbm_volume.specs.check.Claims.{fault_at}
 use Rattle.cbm_shell.specs.declared.fault.ShellFault.{ShellFault}
@@ -15,7 +14,7 @@ use Rattle.cbm_image.specs.Images.{kind_of, tracks_of, content_of}
 use Rattle.cbm_odd.specs.declared.odd.Odd.{Odd}
 use Rattle.cbm_odd.specs.Odd.{AreOddOf, IsUnreadable}
 use Rattle.cbm_odd.specs.Held.{is_only_in, IsSpoiltAmong, held_places}
-use Rattle.cbm_odd.specs.Marking.{AreClaimed}
+use Rattle.cbm_odd.specs.Marking.{AreHeldClaimed}
 use Rattle.cbm_bam.specs.Marks.{nothing}
 use Rattle.cbm_odd.specs.Away.{ArePutAway, IsUnclear, IsNotLeft, IsNotAwayIn}
 use Rattle.cbm_odd.specs.Back.{IsNotBackFrom}
@@ -40,7 +39,7 @@ clear_refused tracks content head used before held (Err f) a h =
 
 -- what is left isn't clear
 not_left_by : (tracks : ℕ) (old left new : Content) (odds : List Odd) (f : ShellFault) → ArePutAway (geometry_of tracks old) odds old left
-    → AreClaimed (geometry_of tracks old) (held_places (geometry_of tracks old) old odds) left new
+    → AreHeldClaimed (geometry_of tracks old) (held_places (geometry_of tracks old) old odds) left new
     → IsUnclear tracks new nothing nothing (held_places (geometry_of tracks old) old odds) f → IsNotLeft tracks old odds f
 not_left_by tracks old left new odds (fault.Unsound u) away claimed h = (left, new, away, claimed, h)
 not_left_by tracks old left new odds fault.Memory away claimed h = h
@@ -52,7 +51,7 @@ not_left_by tracks old left new odds fault.NotClosed away claimed h = h
 not_left_by tracks old left new odds fault.Mistaken away claimed h = h
 
 pub not_left : {A : Type 0} (tracks after : ℕ) (old left new : Content) (odds : List Odd) (held : List Place) (r : Result A ShellFault) → after ≡ tracks → held ≡ held_places (geometry_of tracks old) old odds
-    → ArePutAway (geometry_of tracks old) odds old left → AreClaimed (geometry_of tracks old) (held_places (geometry_of tracks old) old odds) left new → IfErr r (IsUnclear after new nothing nothing held) → IfErr r (IsNotLeft tracks old odds)
+    → ArePutAway (geometry_of tracks old) odds old left → AreHeldClaimed (geometry_of tracks old) (held_places (geometry_of tracks old) old odds) left new → IfErr r (IsUnclear after new nothing nothing held) → IfErr r (IsNotLeft tracks old odds)
 not_left tracks after old left new odds held (Ok v) a b away claimed h = tt
 not_left tracks after old left new odds held (Err f) a b away claimed h =
     not_left_by tracks old left new odds f away claimed

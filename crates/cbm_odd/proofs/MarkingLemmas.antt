@@ -1,6 +1,5 @@
 -- Sectors that the BAM has as free, and sets of sectors, one after another.
-use Rattle.std.proofs.Common.{◌≡◌, ℕ, List, [], ◌∷◌, ◌++◌, Bool, true, false, refl, sym, ap, subst, ◌∙◌, append_assoc, append-nil, inl, inr}
-use Rattle.std.specs.Prelude.{Result, Ok, Err, IfOk, IfErr}
+use Rattle.std.proofs.Common.{◌≡◌, ℕ, List, [], ◌∷◌, ◌++◌, Bool, true, sym, ap, ◌∙◌, append_assoc, append-nil}
 use Rattle.cbm_medium.specs.Place.{Place}
 use Rattle.cbm_medium.specs.Content.{Cell, Content}
 use Rattle.cbm_bam.specs.Map.{with_bit}
@@ -8,9 +7,8 @@ use Rattle.cbm_bam.specs.Marks.{nothing}
 use Rattle.cbm_shell.specs.Mapping.{free_by, is_among}
 use Rattle.cbm_shell.specs.Marking.{with_places}
 use Rattle.cbm_shell.specs.Passing.{place_if, places_in}
-use Rattle.cbm_shell.specs.Undeleting.{IsMapAnew}
 use Rattle.cbm_shell.proofs.MapLemmas.{among}
-use Rattle.cbm_odd.specs.Marking.{free_among, is_taken_with, taken_with, IsRemarked}
+use Rattle.cbm_odd.specs.Marking.{free_among, is_taken_now}
 
 pub free-all : (out whole : List Place) (head : Cell) (left : List Place) → left ≡ [] → out ++ free_among head left ≡ whole → out ≡ whole
 unfolding free_among
@@ -38,8 +36,8 @@ set-all used whole left none before = sym (ap (λ (l : List Place). with_places 
 
 -- of two sets that are these sectors
 pub taken-by : {A : Type 0} (set : A → Place → Bool) (s : A) (tracks : ℕ) (content : Content) (head : Cell) (first other : Place → Bool) (more less taken : List Place)
-    → first ≡ is_among more → other ≡ is_among less → taken ≡ places_in (is_taken_with head first other) tracks → set s ≡ is_among taken
-    → set s ≡ is_among (places_in (is_taken_with head (is_among more) (is_among less)) tracks)
+    → first ≡ is_among more → other ≡ is_among less → taken ≡ places_in (is_taken_now head first other) tracks → set s ≡ is_among taken
+    → set s ≡ is_among (places_in (is_taken_now head (is_among more) (is_among less)) tracks)
 taken-by set s tracks content head first other more less taken a b t is =
-    is ∙ ap is_among t ∙ ap (λ (f : Place → Bool). is_among (places_in (is_taken_with head f other) tracks)) a
-    ∙ ap (λ (f : Place → Bool). is_among (places_in (is_taken_with head (is_among more) f) tracks)) b
+    is ∙ ap is_among t ∙ ap (λ (f : Place → Bool). is_among (places_in (is_taken_now head f other) tracks)) a
+    ∙ ap (λ (f : Place → Bool). is_among (places_in (is_taken_now head (is_among more) f) tracks)) b

@@ -1,5 +1,5 @@
 -- The odd entries of a directory, an entry at a time.
-use Rattle.std.proofs.Common.{◌≡◌, ℕ, ◌+◌, List, [], ◌∷◌, ◌++◌, Bool, refl, sym, ap, ◌∙◌, append_assoc, append-nil}
+use Rattle.std.proofs.Common.{◌≡◌, ℕ, ◌+◌, List, [], ◌∷◌, ◌++◌, Bool, sym, ap, ◌∙◌, append_assoc, append-nil}
 use Rattle.cbm_shell.specs.declared.broken.flaws.found.DiskFlaw.{DiskFlaw}
 use Rattle.cbm_odd.specs.declared.odd.Odd.{Odd}
 use Rattle.cbm_odd.specs.Odd.{is_slot_flawed, odd_if, odds_among, is_odd_slot, unless_odd, others_among}

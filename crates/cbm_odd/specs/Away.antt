@@ -16,7 +16,7 @@ use Rattle.cbm_shell.specs.declared.fault.ShellFault.TheVariants as fault
 use Rattle.cbm_shell.specs.Flaws.{flaws_of, first_flaw}
 use Rattle.cbm_odd.specs.Odd.{AreOddOf, IsUnreadable}
 use Rattle.cbm_odd.specs.Held.{is_only_in, held_places, are_kept, IsSpoiltAmong}
-use Rattle.cbm_odd.specs.Marking.{AreClaimed}
+use Rattle.cbm_odd.specs.Marking.{AreHeldClaimed}
 
 -- what stands in an odd entry's place: a DEL, closed and locked, without a block; its name and all else as they were
 abbrev pub away_entry : List ℕ → List ℕ
@@ -43,14 +43,14 @@ IsUnclear tracks content used before held f = IsUnreadable f
 pub record IsAway (kind : Kind) (tracks : ℕ) (content : Content) (odds : List Odd) (new : List ℕ) : Type 0 where
   pub left : Content
   pub away : ArePutAway (geometry_of tracks content) odds content left
-  pub claimed : AreClaimed (geometry_of tracks content) (held_places (geometry_of tracks content) content odds) left (content_of kind new)
+  pub claimed : AreHeldClaimed (geometry_of tracks content) (held_places (geometry_of tracks content) content odds) left (content_of kind new)
   pub clear : IsClearOf tracks (content_of kind new) nothing nothing (held_places (geometry_of tracks content) content odds)
   pub sound : IsSoundImage kind new
 
 -- what is left without the odd entries isn't sound; or it can't be read or written
 abbrev pub IsNotLeft : ℕ → Content → List Odd → ShellFault → Type 0
 IsNotLeft tracks content odds (fault.Unsound u) = (left : Content) × (new : Content) × ArePutAway (geometry_of tracks content) odds content left
-    × AreClaimed (geometry_of tracks content) (held_places (geometry_of tracks content) content odds) left new
+    × AreHeldClaimed (geometry_of tracks content) (held_places (geometry_of tracks content) content odds) left new
     × IsUnclear tracks new nothing nothing (held_places (geometry_of tracks content) content odds) (fault.Unsound u)
 IsNotLeft tracks content odds f = IsUnreadable f
 

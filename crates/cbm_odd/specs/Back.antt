@@ -1,5 +1,5 @@
 -- Odd entries that are put back after a change of what is left.
-use Rattle.std.specs.Prelude.{ℕ, ◌≡◌, ◌≢◌, ◌⊎◌, ◌==◌, ◌&&◌, not, Bool, true, List, [], ◌∷◌, None, Some, Ok, slice_range}
+use Rattle.std.specs.Prelude.{ℕ, ◌≡◌, ◌≢◌, ◌⊎◌, ◌==◌, ◌&&◌, not, Bool, true, List, [], ◌∷◌, Some, Ok, slice_range}
 use Rattle.std.specs.Str.{bytes_eq}
 use Rattle.cbm_medium.specs.Place.{Place, directory_head}
 use Rattle.cbm_medium.specs.Content.{Content}
@@ -7,7 +7,7 @@ use Rattle.cbm_bam.specs.Map.{geometry_of}
 use Rattle.cbm_directory.specs.Entries.{type_byte, EntersLed}
 use Rattle.cbm_directory.specs.Slots.{Listed, Answers, directory_of}
 use Rattle.cbm_image.specs.declared.kind.Kind.{Kind}
-use Rattle.cbm_image.specs.Images.{kind_of, image_fault, tracks_of, content_of}
+use Rattle.cbm_image.specs.Images.{kind_of, tracks_of, content_of}
 use Rattle.cbm_medium.specs.Seen.{Seen}
 use Rattle.cbm_channel.specs.declared.Status.{Status}
 use Rattle.cbm_channel.specs.declared.Code.TheVariants.{WriteProtected}

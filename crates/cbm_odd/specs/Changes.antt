@@ -1,6 +1,5 @@
 -- Changes of a disk with odd entries.
 use Rattle.std.specs.Prelude.{ℕ, ◌⊎◌, ◌++◌, List}
-use Rattle.cbm_file.specs.Files.{Disk}
 use Rattle.cbm_image.specs.Images.{kind_of, content_of}
 use Rattle.cbm_directory.specs.Slots.{directory_of}
 use Rattle.cbm_shell.specs.declared.changing.DiskChange.{DiskChange}

@@ -1,7 +1,7 @@
 -- The sectors that odd entries lead to, and that are kept as they are.
-use Rattle.std.specs.Prelude.{ℕ, ◌≡◌, ◌<◌, ◌==◌, ◌&&◌, ◌⊎◌, not, if◌then◌else◌, Bool, true, false, List, [], ◌∷◌, ◌++◌, Option, Some, None, Ok, Err, is_none}
+use Rattle.std.specs.Prelude.{ℕ, ◌≡◌, ◌<◌, ◌&&◌, ◌⊎◌, not, if◌then◌else◌, Bool, true, false, List, [], ◌∷◌, ◌++◌, Option, Some, None, Ok, Err, is_none}
 use Rattle.std.specs.Str.{bytes_eq}
-use Rattle.cbm_medium.specs.Place.{Place, directory_head}
+use Rattle.cbm_medium.specs.Place.{Place}
 use Rattle.cbm_medium.specs.Content.{Cell, Content}
 use Rattle.cbm_medium.specs.Seen.{Seen}
 use Rattle.cbm_directory.specs.Entries.{first_block}

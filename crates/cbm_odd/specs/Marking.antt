@@ -14,23 +14,23 @@ free_among head [] = []
 free_among head (p ∷ rest) = place_if (free_by head p) p ++ free_among head rest
 
 -- a sector is taken in the BAM, or one of the first set; and it is none of the second
-abbrev pub is_taken_with : Cell → (Place → Bool) → (Place → Bool) → Place → Bool
-is_taken_with head more less p = (not (free_by head p) || more p) && not (less p)
+abbrev pub is_taken_now : Cell → (Place → Bool) → (Place → Bool) → Place → Bool
+is_taken_now head more less p = (not (free_by head p) || more p) && not (less p)
 
 -- the sectors that are taken then
-abbrev pub taken_with : ℕ → Content → List Place → List Place → List Place
-taken_with tracks content more less = places_in (is_taken_with (content directory_head) (is_among more) (is_among less)) tracks
+abbrev pub taken_now : ℕ → Content → List Place → List Place → List Place
+taken_now tracks content more less = places_in (is_taken_now (content directory_head) (is_among more) (is_among less)) tracks
 
 -- THE BAM HAS THE FIRST SECTORS AS TAKEN, and the second as free: it is written anew so, or nothing is changed where there are none
-abbrev pub IsRemarked : ℕ → List Place → List Place → Content → Content → Type 0
-IsRemarked tracks more less old new =
-    ((more ≡ []) × (less ≡ []) × (new ≡ old)) ⊎ IsMapAnew tracks old new (is_among (taken_with tracks old more less))
+abbrev pub HasMarksOf : ℕ → List Place → List Place → Content → Content → Type 0
+HasMarksOf tracks more less old new =
+    ((more ≡ []) × (less ≡ []) × (new ≡ old)) ⊎ IsMapAnew tracks old new (is_among (taken_now tracks old more less))
 
 -- sectors are claimed: those that are free are taken from now on
-abbrev pub AreClaimed : ℕ → List Place → Content → Content → Type 0
-AreClaimed tracks held old new = IsRemarked tracks (free_among (old directory_head) held) [] old new
+abbrev pub AreHeldClaimed : ℕ → List Place → Content → Content → Type 0
+AreHeldClaimed tracks held old new = HasMarksOf tracks (free_among (old directory_head) held) [] old new
 
 -- how the BAM has the sectors that odd entries lead to: those that were free are free again, or they stay taken
 abbrev pub IsMarkedBy : Marks → ℕ → List Place → Content → Content → Type 0
-IsMarkedBy AsBefore tracks free old new = IsRemarked tracks [] free old new
+IsMarkedBy AsBefore tracks free old new = HasMarksOf tracks [] free old new
 IsMarkedBy AsChanged tracks free old new = new ≡ old

@@ -4,7 +4,7 @@ ghost use Rattle.cbm_medium.specs.Place.{sectors_on, directory_head};
 ghost use Rattle.cbm_bam.specs.Marks.{is_marked};
 ghost use Rattle.cbm_shell.specs.Mapping.{is_among};
 ghost use Rattle.cbm_shell.specs.Passing.{place_if, places_on, places_in};
-ghost use Rattle.cbm_odd.specs.Marking.{free_among, is_taken_with, taken_with, IsRemarked, AreClaimed, IsMarkedBy};
+ghost use Rattle.cbm_odd.specs.Marking.{free_among, is_taken_now, taken_now, HasMarksOf, AreHeldClaimed, IsMarkedBy};
 ghost use Rattle.cbm_odd.specs.Odd.{IsUnreadable};
 
 use crate::held::add_held;
@@ -52,7 +52,7 @@ fn set_of(places: &[Address]) -> SectorSet
 }
 
 /// Whether a sector is taken in the BAM or in the first set, and isn't in the second.
-fn is_taken_with<M: Medium>(
+fn is_taken_now<M: Medium>(
     medium: &M,
     geometry: Geometry,
     more: &SectorSet,
@@ -60,7 +60,7 @@ fn is_taken_with<M: Medium>(
     at: Address,
 ) -> bool
     requires { geometry ≤ (M.seen medium.now).tracks }
-    ensures { result ≡ is_taken_with ((M.seen medium.now).content directory_head) (is_marked more.now) (is_marked less.now) at }
+    ensures { result ≡ is_taken_now ((M.seen medium.now).content directory_head) (is_marked more.now) (is_marked less.now) at }
 {
     (!is_free_at(medium, geometry, at) || more.has(at)) && !less.has(at)
 }
@@ -76,12 +76,12 @@ fn add_taken<M: Medium>(
 ) -> Result<(), AllocError>
     requires room { geometry ≤ (M.seen medium.now).tracks }
     requires track { track ≤ 40 }
-    ensures { let taken = is_taken_with ((M.seen medium.now).content directory_head) (is_marked more.now) (is_marked less.now) in
+    ensures { let taken = is_taken_now ((M.seen medium.now).content directory_head) (is_marked more.now) (is_marked less.now) in
         OnOk result (out.new.items ≡ out.old.items ++ places_on taken track (sectors_on track)) }
 {
     for sector in 0..sectors_of(track) {
         match Address::new(track, sector) {
-            Some(at) => add_held(out, is_taken_with(medium, geometry, more, less, at), at)?,
+            Some(at) => add_held(out, is_taken_now(medium, geometry, more, less, at), at)?,
             None => unreachable!(),
         }
     }
@@ -97,7 +97,7 @@ fn taken_in<M: Medium>(
     less: &SectorSet,
 ) -> Result<Vec<Address>, AllocError>
     requires { geometry ≤ (M.seen medium.now).tracks }
-    ensures { let taken = is_taken_with ((M.seen medium.now).content directory_head) (is_marked more.now) (is_marked less.now) in
+    ensures { let taken = is_taken_now ((M.seen medium.now).content directory_head) (is_marked more.now) (is_marked less.now) in
         IfOk result (λ v. v.items ≡ places_in taken geometry) }
 {
     let mut taken = Vec::new(alloc);
@@ -108,7 +108,7 @@ fn taken_in<M: Medium>(
 }
 
 /// The sectors that are taken in the BAM or among the first, and aren't among the second.
-fn taken_with<M: Medium>(
+fn taken_now<M: Medium>(
     alloc: Global,
     medium: &M,
     geometry: Geometry,
@@ -117,7 +117,7 @@ fn taken_with<M: Medium>(
 ) -> Result<SectorSet, AllocError>
     requires { geometry ≤ (M.seen medium.now).tracks }
     ensures { IfOk result (λ set. is_marked set
-        ≡ is_among (taken_with geometry (M.seen medium.now).content more.now less.now)) }
+        ≡ is_among (taken_now geometry (M.seen medium.now).content more.now less.now)) }
 {
     let taken = taken_in(alloc, medium, geometry, &set_of(more), &set_of(less))?;
     Ok(set_of(taken.as_slice()))
@@ -134,13 +134,13 @@ fn remarked<M: Steady + Drop>(
     requires { geometry ≤ (M.seen medium).tracks }
     ensures tracks { IfOk result (λ after. (M.seen after).tracks ≡ (M.seen medium).tracks) }
     ensures outside { IfOk result (λ after. (M.seen after).outside ≡ (M.seen medium).outside) }
-    ensures marked { IfOk result (λ after. IsRemarked geometry more.now less.now (M.seen medium).content (M.seen after).content) }
+    ensures marked { IfOk result (λ after. HasMarksOf geometry more.now less.now (M.seen medium).content (M.seen after).content) }
     ensures fault { IfErr result IsUnreadable }
 {
     if more.is_empty() && less.is_empty() {
         return Ok(medium);
     }
-    let taken = taken_with(alloc, &medium, geometry, more, less)?;
+    let taken = taken_now(alloc, &medium, geometry, more, less)?;
     remapped(medium, geometry, &taken)
 }
 
@@ -154,7 +154,7 @@ pub(crate) fn claimed<M: Steady + Drop>(
     requires { geometry ≤ (M.seen medium).tracks }
     ensures tracks { IfOk result (λ after. (M.seen after).tracks ≡ (M.seen medium).tracks) }
     ensures outside { IfOk result (λ after. (M.seen after).outside ≡ (M.seen medium).outside) }
-    ensures claimed { IfOk result (λ after. AreClaimed geometry held.now (M.seen medium).content (M.seen after).content) }
+    ensures claimed { IfOk result (λ after. AreHeldClaimed geometry held.now (M.seen medium).content (M.seen after).content) }
     ensures fault { IfErr result IsUnreadable }
 {
     let free = free_among(alloc, &medium, geometry, held)?;

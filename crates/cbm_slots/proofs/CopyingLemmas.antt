@@ -1,5 +1,5 @@
 -- A file that is copied by its slot, step by step.
-use Rattle.std.proofs.Common.{◌≡◌, ℕ, List, None, inl, inr, subst, sym, Bool}
+use Rattle.std.proofs.Common.{◌≡◌, ℕ, List, inl, inr, subst, sym, Bool}
 use Rattle.std.specs.Prelude.{false, Result, Ok, Err, IfErr, IfOk}
 use Rattle.std.specs.Result.{IsErrAnd}
 use Rattle.cbm_image.specs.Images.{kind_of}

@@ -1,5 +1,5 @@
 -- A file that is deleted by its slot, step by step.
-use Rattle.std.proofs.Common.{◌≡◌, ℕ, List, None, inl, inr, subst, sym, ◌<◌, ◌+◌, true, ◌≤◌, ◌⊎◌, arith}
+use Rattle.std.proofs.Common.{◌≡◌, ℕ, List, inl, inr, subst, sym, ◌<◌, ◌+◌, true, ◌≤◌, ◌⊎◌, arith}
 use Rattle.std.specs.Prelude.{false, Result, Ok, Err, IfErr, IfOk}
 use Rattle.std.proofs.lemmas.Bool.{cases_lt}
 use Rattle.std.specs.Result.{IsErrAnd}

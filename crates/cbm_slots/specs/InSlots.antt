@@ -9,7 +9,7 @@ use Rattle.cbm_channel.specs.declared.Status.{Status}
 use Rattle.cbm_channel.specs.declared.Code.TheVariants.{FileExists, WriteProtected}
 use Rattle.cbm_machine.specs.Machines.{Machine}
 use Rattle.cbm_machine.specs.Calls.{after_open}
-use Rattle.cbm_image.specs.Images.{kind_of, image_fault, content_of, ImageHolds}
+use Rattle.cbm_image.specs.Images.{kind_of, content_of, ImageHolds}
 use Rattle.cbm_shell.specs.Images.{disk_tracks, machine_on, IsOpenFault, IsFailed, IsSoundImage}
 use Rattle.cbm_shell.specs.Reading.{IsReadFault}
 use Rattle.cbm_shell.specs.Editing.{IsUneditedIn, HasNoSlotIn}

@@ -1,5 +1,5 @@
 use Rattle.cbm_drive.proofs.Unfailed.{never_failed}
-use Rattle.std.proofs.Common.{◌≡◌, Some, None, ap, subst, sym, ◌∙◌}
+use Rattle.std.proofs.Common.{◌≡◌, Some, ap, subst, sym, ◌∙◌}
 use Rattle.cbm_machine.specs.Machines.{start}
 use Rattle.cbm_drive.specs.Desks.{DeskStands, at_first}
 use Rattle.cbm_drive.specs.Ordered.{fault_of}

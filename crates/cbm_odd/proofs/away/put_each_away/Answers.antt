@@ -1,4 +1,4 @@
-use Rattle.std.proofs.Common.{◌+◌, drop, refl, subst, ◌∙◌}
+use Rattle.std.proofs.Common.{refl, subst, ◌∙◌}
 use Rattle.std.proofs.lemmas.List.{drop_all}
 use Rattle.cbm_directory.specs.Entries.{EntersLed}
 use Rattle.cbm_odd.proofs.AwayLemmas.{one_off, putting-start, putting-on, putting-end}

@@ -1,4 +1,4 @@
-use Rattle.std.proofs.Common.{◌+◌, drop, refl, ap, ◌∙◌, Err}
+use Rattle.std.proofs.Common.{refl, ap, ◌∙◌, Err}
 use Rattle.std.proofs.lemmas.Result.{err_from_is_err_and}
 use Rattle.std.proofs.lemmas.List.{drop_all}
 use Rattle.cbm_odd.proofs.AwayLemmas.{one_off, backing-start, backing-on, backing-end, failing-on, failing-here}

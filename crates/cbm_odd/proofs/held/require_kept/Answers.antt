@@ -1,4 +1,4 @@
-use Rattle.std.proofs.Common.{◌≡◌, ◌∷◌, Some, None, ap, ◌∙◌, sym, rules}
+use Rattle.std.proofs.Common.{◌≡◌, ◌∷◌, Some, None, ap, rules}
 use Rattle.cbm_medium.specs.Place.{directory_head}
 use Rattle.cbm_bam.specs.Marks.{is_marked}
 use Rattle.cbm_shell.specs.declared.fault.ShellFault.TheVariants as fault
