@@ -43,11 +43,22 @@ impl<R: Read> Traces<R> {
         }
     }
 
-    /// Finds out how the trace is written: a VCD begins with `$`, after blanks. (Never inlined: the room for a `Dump` is cleared
+    /// The first byte of the trace, after blanks and the lines with META that sigrok writes before a VCD; it stays. Error: `Reading`.
+    fn first_byte(&mut self) -> Result<Option<u8>, TraceFault> {
+        for _ in 0..u64::MAX {
+            match self.source.skip_blanks()? {
+                Some(b'M') => self.source.skip_line()?,
+                other => return Ok(other),
+            }
+        }
+        Ok(None)
+    }
+
+    /// Finds out how the trace is written: a VCD begins with `$`. (Never inlined: the room for a `Dump` is cleared
     /// whenever the function begins that has it.)
     #[inline(never)]
     fn begin(&mut self) -> Result<(), TraceFault> {
-        self.form = match self.source.skip_blanks()? {
+        self.form = match self.first_byte()? {
             Some(b'$') => Form::Vcd(Dump::begin(&mut self.source)?),
             _ => Form::Lines(0),
         };

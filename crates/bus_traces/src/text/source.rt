@@ -162,6 +162,17 @@ impl<R: Read> Source<R> {
         Ok(None)
     }
 
+    /// Takes the rest of a line. Error: `Reading`.
+    pub(crate) fn skip_line(&mut self) -> Result<(), TraceFault> {
+        for _ in 0..u64::MAX {
+            match self.next()? {
+                Some(b'\n') | None => break,
+                Some(_) => {}
+            }
+        }
+        Ok(())
+    }
+
     /// The number of the line that the next byte stands on, from 1 on.
     pub(crate) fn line(&self) -> u64 {
         self.line
