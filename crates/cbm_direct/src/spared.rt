@@ -72,10 +72,10 @@ impl<M: Medium> Wanted for Unclosed<'_, M> {
 fn has_unclosed<M: Medium>(medium: &M, at: Address) -> bool
     ensures { result ≡ has_unclosed (seen_tracks (M.seen medium.now)) (M.seen medium.now).content at }
 {
-    matches!(
-        find(medium, geometry(medium), &Unclosed { medium, at }),
-        Ok(Some(_))
-    )
+    match find(medium, geometry(medium), &Unclosed { medium, at }) {
+        Ok(found) => found.is_some(),
+        Err(_) => false,
+    }
 }
 
 /// Whether a text begins as GEOS marks a disk.
