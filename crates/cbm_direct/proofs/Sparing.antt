@@ -10,7 +10,7 @@ use Rattle.cbm_medium.specs.Seen.{Seen}
 use Rattle.cbm_medium.specs.declared.fault.Trouble.{Trouble}
 use Rattle.cbm_medium.proofs.Walks.{true_has, has_true, bool_cases, follow_end, follow_off, follow_full, follow_fault, follow_next}
 use Rattle.cbm_directory.specs.Slots.{Listed, Finds, first_from, directory_of}
-use Rattle.cbm_direct.specs.Spared.{is_among, is_on_chain, is_of_unclosed, has_unclosed}
+use Rattle.cbm_direct.specs.Spared.{is_any_of, is_on_chain, is_of_unclosed, has_unclosed}
 
 -- ---- along a chain
 
@@ -39,13 +39,13 @@ stops_unread tracks content (suc n) p code h e = ap (λ f. f.blocks) (follow_fau
 module _ (tracks : ℕ) (content : Content) (at first : Place) where
   -- whether the rest of a chain, so many sectors from a place on, decides for the whole
   abbrev pub Decides : ℕ → Place → Type 0
-  Decides n p = is_among at (follow tracks content n p).blocks ≡ is_on_chain tracks content first at
+  Decides n p = is_any_of at (follow tracks content n p).blocks ≡ is_on_chain tracks content first at
 
   pub decides_first : (n : ℕ) → n ≡ sector_count tracks → Decides n first
-  decides_first n e = ap (λ k. is_among at (follow tracks content k first).blocks) e
+  decides_first n e = ap (λ k. is_any_of at (follow tracks content k first).blocks) e
 
   none_left : (n : ℕ) (p : Place) → Decides n p → (follow tracks content n p).blocks ≡ [] → false ≡ is_on_chain tracks content first at
-  none_left n p before none = sym (ap (is_among at) none) ∙ before
+  none_left n p before none = sym (ap (is_any_of at) none) ∙ before
 
   pub ends_off : (n : ℕ) (p : Place) → Decides n p → (Has tracks p → ⊥) → false ≡ is_on_chain tracks content first at
   ends_off n p before off = none_left n p before (stops_off tracks content n p off)
@@ -58,20 +58,20 @@ module _ (tracks : ℕ) (content : Content) (at first : Place) where
 
   -- one sector more, which it may be
   next_of : (m n : ℕ) (p : Place) (bytes : List ℕ) → Decides m p → Has tracks p → content p ≡ Ok bytes → m ≡ suc n
-      → (is_place p at || is_among at (follow tracks content n (link bytes)).blocks) ≡ is_on_chain tracks content first at
+      → (is_place p at || is_any_of at (follow tracks content n (link bytes)).blocks) ≡ is_on_chain tracks content first at
   next_of m n p bytes before h reads less =
-      sym (ap (λ f. is_among at f.blocks) (follow_next tracks content m n p bytes (going tracks p h) h less reads)) ∙ before
+      sym (ap (λ f. is_any_of at f.blocks) (follow_next tracks content m n p bytes (going tracks p h) h less reads)) ∙ before
 
   pub is_here : (m n : ℕ) (p block : Place) (bytes : List ℕ) → Decides m p → Has tracks p → content p ≡ Ok bytes → m ≡ suc n → block ≡ p
       → is_place block at ≡ true → true ≡ is_on_chain tracks content first at
   is_here m n p block bytes before h reads less named same =
-      sym (ap (λ b. b || is_among at (follow tracks content n (link bytes)).blocks) (ap (λ q. is_place q at) (sym named) ∙ same))
+      sym (ap (λ b. b || is_any_of at (follow tracks content n (link bytes)).blocks) (ap (λ q. is_place q at) (sym named) ∙ same))
       ∙ next_of m n p bytes before h reads less
 
   pub goes_on : (m n : ℕ) (p block : Place) (bytes : List ℕ) → Decides m p → Has tracks p → content p ≡ Ok bytes → m ≡ suc n → block ≡ p
       → is_place block at ≡ false → Decides n (link bytes)
   goes_on m n p block bytes before h reads less named other =
-      sym (ap (λ b. b || is_among at (follow tracks content n (link bytes)).blocks) (ap (λ q. is_place q at) (sym named) ∙ other))
+      sym (ap (λ b. b || is_any_of at (follow tracks content n (link bytes)).blocks) (ap (λ q. is_place q at) (sym named) ∙ other))
       ∙ next_of m n p bytes before h reads less
 
 -- ---- an entry that passes

@@ -165,9 +165,9 @@ is_of_whole_disk (Ok Validate) = true
 is_of_whole_disk _ = false
 
 -- whether a command is V
-abbrev pub is_validate : Result Command Refusal → Bool
-is_validate (Ok Validate) = true
-is_validate _ = false
+abbrev pub asks_validate : Result Command Refusal → Bool
+asks_validate (Ok Validate) = true
+asks_validate _ = false
 
 -- What the text of a command asks of direct access on a drive that keeps a disk of GEOS or not, while so many channels have buffers, without one
 -- return at its end: nothing if it has more than 58 bytes; N and V are held back if a channel has a buffer, and V is denied on a disk of GEOS.
@@ -175,5 +175,5 @@ abbrev pub command_asked : Bool → ℕ → List ℕ → Option Asked
 command_asked keeps buffers text =
     if nat_lt 58 (length (without_return text)) then None
     else if nat_lt 0 buffers && is_of_whole_disk (command_of (without_return text)) then Some Held
-    else if is_validate (command_of (without_return text)) && keeps then Some Denied
+    else if asks_validate (command_of (without_return text)) && keeps then Some Denied
     else asked_in (without_return text)

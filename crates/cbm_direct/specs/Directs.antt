@@ -181,8 +181,8 @@ pub record HasStarted {M : Type 0} (seen : M → Seen) (old new : Direct M) : Ty
   pub reply : new.reply ≡ None
 
 -- what the text of a command asks of a drive with direct access; none if it is the DOS's
-abbrev pub asked_of : {M : Type 0} → (M → Seen) → List ℕ → Direct M → Option Asked
-asked_of seen text d = command_asked (keeps_geos (access_of d.vouched.vouch) (seen d.vouched.dos.medium)) (taken_count d.buffers) text
+abbrev pub asked_on : {M : Type 0} → (M → Seen) → List ℕ → Direct M → Option Asked
+asked_on seen text d = command_asked (keeps_geos (access_of d.vouched.vouch) (seen d.vouched.dos.medium)) (taken_count d.buffers) text
 
 -- WHAT A COMMAND OF DIRECT ACCESS DOES
 abbrev pub IsAskedDone : {M : Type 0} → (M → Seen) → Asked → Direct M → Direct M → Type 0

@@ -20,13 +20,13 @@ abbrev pub is_unclosed : List ℕ → Bool
 is_unclosed e = not (type_byte e == 0) && not (is_closed e)
 
 -- the sector is one of these
-abbrev pub is_among : Place → List Place → Bool
-is_among p [] = false
-is_among p (q ∷ rest) = is_place q p || is_among p rest
+abbrev pub is_any_of : Place → List Place → Bool
+is_any_of p [] = false
+is_any_of p (q ∷ rest) = is_place q p || is_any_of p rest
 
 -- links lead to the sector from a place on, as far as the sectors on the way read and are on the disk
 abbrev pub is_on_chain : ℕ → Content → Place → Place → Bool
-is_on_chain tracks content first p = is_among p (follow tracks content (sector_count tracks) first).blocks
+is_on_chain tracks content first p = is_any_of p (follow tracks content (sector_count tracks) first).blocks
 
 -- an entry leads to the sector: from its first block on, or from its first side sector on if its file is relative
 abbrev pub leads_to : ℕ → Content → Place → List ℕ → Bool
@@ -43,13 +43,13 @@ has_unclosed tracks content p = list_any (is_of_unclosed tracks content p) (dire
 -- ---- disks of GEOS
 
 -- a text that begins as GEOS marks a disk
-abbrev pub is_geos_mark : List ℕ → Bool
-is_geos_mark text = bytes_eq (take 11 text) (codes "GEOS format")
+abbrev pub begins_as_geos : List ℕ → Bool
+begins_as_geos text = bytes_eq (take 11 text) (codes "GEOS format")
 
 -- GEOS formatted the disk whose 18/0 this is: it says so from byte 173 on
-abbrev pub is_geos_map : Cell → Bool
-is_geos_map (Ok map) = is_geos_mark (drop 173 map)
-is_geos_map (Err code) = false
+abbrev pub shows_geos : Cell → Bool
+shows_geos (Ok map) = begins_as_geos (drop 173 map)
+shows_geos (Err code) = false
 
 -- this map has the sector as taken
 abbrev pub is_taken_in : Cell → Place → Bool
@@ -58,7 +58,7 @@ is_taken_in (Err code) p = false
 
 -- GEOS MAY HAVE THE SECTOR: it formatted the disk, and the map has the sector as taken.
 abbrev pub has_geos : Cell → Place → Bool
-has_geos map p = is_geos_map map && is_taken_in map p
+has_geos map p = shows_geos map && is_taken_in map p
 
 -- ---- what is spared
 
@@ -73,5 +73,5 @@ is_spared_by Raw now p = false
 
 -- V is refused: GEOS formatted the disk, and not any sector may be written
 abbrev pub keeps_geos : Access → Seen → Bool
-keeps_geos Guarded now = is_geos_map (now.content directory_head)
+keeps_geos Guarded now = shows_geos (now.content directory_head)
 keeps_geos Raw now = false

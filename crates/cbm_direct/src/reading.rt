@@ -2,7 +2,7 @@
 ghost use Rattle.std.specs.Prelude.{◌≡◌, option_map};
 ghost use Rattle.cbm_command.specs.Commands.{command_of};
 ghost use Rattle.cbm_machine.specs.Calls.{without_return};
-ghost use Rattle.cbm_direct.specs.Asking.{behind_byte, behind_number, first_number, numbers_of, block_in, on_block, sector_in, on_sector, place_from, start_asked, user_asked, block_asked, memory_read, memory_asked, asked_in, is_of_whole_disk, is_validate, command_asked};
+ghost use Rattle.cbm_direct.specs.Asking.{behind_byte, behind_number, first_number, numbers_of, block_in, on_block, sector_in, on_sector, place_from, start_asked, user_asked, block_asked, memory_read, memory_asked, asked_in, is_of_whole_disk, asks_validate, command_asked};
 ghost use Rattle.cbm_direct.specs.Spared.{keeps_geos};
 ghost use Rattle.cbm_direct.specs.Vouching.{access_of};
 ghost use Rattle.cbm_direct.specs.declared.asked.Asked.TheVariants.{Read, ReadCounted, Write, WriteCounted, Allocate, Free};
@@ -249,8 +249,8 @@ fn is_of_whole_disk(text: &[u8]) -> bool
 }
 
 /// Whether a command is V.
-fn is_validate(text: &[u8]) -> bool
-    ensures { result ≡ is_validate (command_of text.now) }
+fn asks_validate(text: &[u8]) -> bool
+    ensures { result ≡ asks_validate (command_of text.now) }
 {
     matches!(parse_command(text), Ok(Command::Validate))
 }
@@ -271,7 +271,7 @@ pub(crate) fn command_asked<M: Medium>(
     if buffers > 0 && is_of_whole_disk(text) {
         return Some(Asked::Held);
     }
-    if is_validate(text) && vouched.keeps_geos() {
+    if asks_validate(text) && vouched.keeps_geos() {
         return Some(Asked::Denied);
     }
     asked_by(text)

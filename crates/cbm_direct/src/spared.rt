@@ -2,7 +2,7 @@
 ghost use Rattle.std.specs.Prelude.{◌≡◌, ◌≤◌};
 ghost use Rattle.cbm_medium.specs.Place.{directory_head};
 ghost use Rattle.cbm_volume.specs.SeenDisks.{seen_tracks};
-ghost use Rattle.cbm_direct.specs.Spared.{is_unclosed, is_on_chain, leads_to, has_unclosed, is_geos_mark, is_geos_map, is_taken_in, has_geos, is_spared};
+ghost use Rattle.cbm_direct.specs.Spared.{is_unclosed, is_on_chain, leads_to, has_unclosed, begins_as_geos, shows_geos, is_taken_in, has_geos, is_spared};
 
 use cbm_bam::{geometry, is_free};
 use cbm_directory::find;
@@ -79,19 +79,19 @@ fn has_unclosed<M: Medium>(medium: &M, at: Address) -> bool
 }
 
 /// Whether a text begins as GEOS marks a disk.
-fn is_geos_mark(text: &[u8]) -> bool
-    ensures { result ≡ is_geos_mark text.now }
+fn begins_as_geos(text: &[u8]) -> bool
+    ensures { result ≡ begins_as_geos text.now }
 {
     text.starts_with(b"GEOS format")
 }
 
 /// Whether GEOS formatted the disk; not if 18/0 can't be read.
 pub(crate) fn is_geos_disk<M: Medium>(medium: &M) -> bool
-    ensures { result ≡ is_geos_map ((M.seen medium.now).content directory_head) }
+    ensures { result ≡ shows_geos ((M.seen medium.now).content directory_head) }
 {
     let _tracks = medium.tracks();
     match medium.read(Address::of_map()) {
-        Ok(map) => is_geos_mark(&map[MARK..]),
+        Ok(map) => begins_as_geos(&map[MARK..]),
         Err(_) => false,
     }
 }

@@ -14,7 +14,7 @@ impl<M: Medium> DirectDos<M> {
     ghost use Rattle.cbm_direct.specs.declared.asked.Asked.{Asked};
     ghost use Rattle.cbm_direct.specs.Buffered.{has_buffer, on_buffer, pointer_on, with_byte_put};
     ghost use Rattle.cbm_direct.specs.Vouching.{KeepsVouch};
-    ghost use Rattle.cbm_direct.specs.Directs.{OfDos, OnlyBuffers, IsDirectCommand, IsToldOn, asked_of, direct_shown};
+    ghost use Rattle.cbm_direct.specs.Directs.{OfDos, OnlyBuffers, IsDirectCommand, IsToldOn, asked_on, direct_shown};
 
     /// A byte for a channel: if it has a buffer, the next byte there becomes this one.
     pub fn put(&mut self, channel: u8, byte: u8)
@@ -33,8 +33,8 @@ impl<M: Medium> DirectDos<M> {
     /// The end of the bytes for a channel: on 15 a command is carried out.
     pub fn end_put(&mut self, channel: u8)
         requires { channel ≤ 15 }
-        ensures command { channel ≡ 15 → (a : Asked) → asked_of M.seen (text_for 15 self.old.vouched.dos.text) self.old ≡ Some a → IsDirectCommand M.seen a self.old self.new }
-        ensures dos { channel ≡ 15 → asked_of M.seen (text_for 15 self.old.vouched.dos.text) self.old ≡ None →
+        ensures command { channel ≡ 15 → (a : Asked) → asked_on M.seen (text_for 15 self.old.vouched.dos.text) self.old ≡ Some a → IsDirectCommand M.seen a self.old self.new }
+        ensures dos { channel ≡ 15 → asked_on M.seen (text_for 15 self.old.vouched.dos.text) self.old ≡ None →
             OfDos (EndsGathered M.seen 15) None self.old self.new }
         ensures other { channel ≢ 15 → OfDos (EndsGathered M.seen channel) self.old.reply self.old self.new }
         ensures keeps { KeepsVouch M.seen self.old.vouched self.new.vouched }
@@ -48,8 +48,8 @@ impl<M: Medium> DirectDos<M> {
 
     /// What was put to channel 15 is a command.
     fn end_command(&mut self)
-        ensures command { (a : Asked) → asked_of M.seen (text_for 15 self.old.vouched.dos.text) self.old ≡ Some a → IsDirectCommand M.seen a self.old self.new }
-        ensures dos { asked_of M.seen (text_for 15 self.old.vouched.dos.text) self.old ≡ None → OfDos (EndsGathered M.seen 15) None self.old self.new }
+        ensures command { (a : Asked) → asked_on M.seen (text_for 15 self.old.vouched.dos.text) self.old ≡ Some a → IsDirectCommand M.seen a self.old self.new }
+        ensures dos { asked_on M.seen (text_for 15 self.old.vouched.dos.text) self.old ≡ None → OfDos (EndsGathered M.seen 15) None self.old self.new }
         ensures keeps { KeepsVouch M.seen self.old.vouched self.new.vouched }
     {
         let text = self.vouched.gathered();

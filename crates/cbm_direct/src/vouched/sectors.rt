@@ -17,14 +17,20 @@ impl<M: Medium> Vouched<M> {
     fn spares(&self, at: Address) -> bool
         ensures { result ≡ is_spared_by (access_of self.now.vouch) (M.seen self.now.dos.medium) at }
     {
-        self.vouch.access() == Access::Guarded && is_spared(self.dos.medium(), at)
+        match self.vouch.access() {
+            Access::Guarded => is_spared(self.dos.medium(), at),
+            Access::Raw => false,
+        }
     }
 
     /// Whether V is refused: GEOS formatted the disk, and not any sector may be written.
     pub fn keeps_geos(&self) -> bool
         ensures { result ≡ keeps_geos (access_of self.now.vouch) (M.seen self.now.dos.medium) }
     {
-        self.vouch.access() == Access::Guarded && is_geos_disk(self.dos.medium())
+        match self.vouch.access() {
+            Access::Guarded => is_geos_disk(self.dos.medium()),
+            Access::Raw => false,
+        }
     }
 
     /// Writes a sector, by the access: one that is nobody's and isn't spared, or any. `Ok(false)`: it isn't so, and nothing has changed.
