@@ -2,9 +2,10 @@
 """check_direct.py DRIVE1541 [--scripts N] [--only WORD]: random scripts of direct access, compared with a plain model in Python.
 1. Scripts of buffers and commands on blocks, on a disk of random bytes, which isn't sound: each answer is the model's, and the image stays as it is.
 2. The same on an empty disk: each answer is the model's, and so is each byte of the image.
-3. The first with --direct=raw, which writes any block: each answer is the model's, and so is each byte of the image.
-4. Scripts of files only: with --direct everything is printed and saved as without it.
-5. Scripts of both, with files open: the image is sound after each, and each file that was closed reads as it was written.
+3. The same on a disk of random files that were never closed, which in each second script GEOS formatted: the same.
+4. The first with --direct=raw, which writes any block: each answer is the model's, and so is each byte of the image.
+5. Scripts of files only: with --direct everything is printed and saved as without it.
+6. Scripts of both, with files open: the image is sound after each, and each file that was closed reads as it was written.
 With --only, only those whose names contain the word. Prints one line a case. Last line: 'N passed, M failed'."""
 import argparse, os, random, subprocess, sys, tempfile
 
@@ -18,11 +19,27 @@ def place(track, sector):
 
 
 class Drive:
-    """Three buffers, and the commands on blocks, by the rules of docs/direct.md. A disk that is sound has no file here."""
+    """Three buffers, and the commands on blocks, by the rules of docs/direct.md. A disk that is sound has no closed file here."""
 
     def __init__(self, image, sound=False, protected=False, raw=False):
-        self.image, self.sound, self.protected, self.raw, self.held = bytearray(image), sound, protected, raw, {(18, 0), (18, 1)}
+        self.image, self.sound, self.protected, self.raw = bytearray(image), sound, protected, raw
+        self.held = {(18, 0), (18, 1)} | self.unclosed()
+        self.is_geos = image[place(18, 0) + 173 :][:11] == b"GEOS format"
         self.start()
+
+    def chain(self, track, sector):
+        """The sectors to which links lead from one on."""
+        met = []
+        while 1 <= track <= 35 and sector < SECTORS[track] and (track, sector) not in met:
+            met.append((track, sector))
+            track, sector = self.image[place(track, sector) :][:2]
+        return met
+
+    def unclosed(self):
+        """The sectors of the files that were never closed; all entries are in 18/1."""
+        entries = [self.image[place(18, 1) + 32 * n + 2 :][:30] for n in range(8)]
+        open_ones = [it for it in entries if 0 < it[0] < 128]
+        return {at for it in open_ones for at in self.chain(*it[1:3]) + (self.chain(*it[19:21]) if it[0] % 16 == 4 else [])}
 
     def start(self):
         self.memory = [bytearray(256) for _ in range(3)]
@@ -75,7 +92,7 @@ class Drive:
         """Whether the disk is protected, or the sector isn't to be written."""
         if self.is_protected():
             return True
-        if not self.sound or (track, sector) in self.held:
+        if not self.sound or (track, sector) in self.held or self.is_geos and not self.bit(track, sector)[2]:
             self.status = (26, track, sector)
             return True
         return False
@@ -227,6 +244,10 @@ def direct_script(r, drive):
             lines.append(f"put 15 {r.choice(('N0:OTHER', 'N:OTHER,OT', 'NEW0:OTHER,OT', 'V', 'V0', 'VALIDATE'))}")
             drive.status = (60, 0, 0)
             ask()
+        elif kind == 8 and drive.is_geos and all(it is None for it in drive.owner) and r.random() < 0.6:
+            lines.append(f"{r.choice(('put', 'open'))} 15 {r.choice(('V', 'V0', 'VALIDATE'))}")
+            drive.status = (26, 0, 0)
+            ask()
         elif kind == 8:
             text = bytes(r.randrange(256) for _ in range(r.randint(1, 40)))
             lines.append(f"put {channel} {escaped(text)}")
@@ -292,6 +313,20 @@ def on_an_empty_disk(check, r, empty):
     return answers(check, r, empty, True, r.choice(((), (), (), ("--read-only",))))
 
 
+def with_unclosed_files(check, r, empty, geos=None):
+    image, free = bytearray(empty), [(t, s) for t in (1, 17, 19, 35) for s in range(SECTORS[t])]
+    for n in range(r.randint(1, 8)):
+        # (its links lead to a few sectors, to one of another file, or to none)
+        blocks = [*r.sample(free, r.randint(1, 6)), (r.choice((0, 0, 41)), 255)]
+        for (track, sector), to in zip(blocks, blocks[1:]):
+            image[place(track, sector) : place(track, sector) + 2] = bytes(to)
+        entry = bytes([r.choice((1, 2, 3, 4, 4, 0x42)), *blocks[0]]) + f"FILE {n}".encode().ljust(16, b"\xa0") + bytes(r.choice(blocks[:-1]))
+        image[place(18, 1) + 32 * n + 2 : place(18, 1) + 32 * n + 2 + len(entry)] = entry
+    if geos if geos is not None else r.random() < 0.5:
+        image[place(18, 0) + 173 : place(18, 0) + 189] = b"GEOS format V1.0"
+    return answers(check, r, bytes(image), True, r.choice(((), (), (), ("--read-only",))))
+
+
 def answers(check, r, image, sound, words, access="--direct", raw=False):
     """What is wrong with the answers to a script, or with the image after it."""
     drive = Drive(image, sound, bool(words), raw)
@@ -332,6 +367,7 @@ def main():
         for name, one in (
             ("blocks, against the model", lambda r: against_the_model(check, r)),
             ("blocks of an empty disk, against the model", lambda r: on_an_empty_disk(check, r, empty)),
+            ("blocks of unclosed files and of GEOS, against the model", lambda r: with_unclosed_files(check, r, empty)),
             ("blocks, raw, against the model", lambda r: raw_against_the_model(check, r)),
             ("files alone, with direct access and without", lambda r: files_alone(check, r, empty)),
             ("files and blocks: sound, and each file whole", lambda r: files_and_blocks(check, r, empty)),
@@ -345,6 +381,9 @@ def main():
         check.say("a wrong byte of the ROM is found", not any(against_the_model(check, random.Random(f"planted {seed}")) for seed in range(300)) and "it isn't")
         ROM[0xE5B6] ^= 1
         check.say("a model that isn't raw is found", not any(raw_against_the_model(check, random.Random(f"planted {seed}"), False) for seed in range(300)) and "it isn't")
+        unclosed, Drive.unclosed = Drive.unclosed, lambda self: set()
+        check.say("a model that writes over unclosed files is found", not any(with_unclosed_files(check, random.Random(f"planted {seed}"), empty, False) for seed in range(300)) and "it isn't")
+        Drive.unclosed = unclosed
         Drive.is_somebodys = lambda self, track, sector: False
         check.say("a model that writes over the directory is found", not any(on_an_empty_disk(check, random.Random(f"planted {seed}"), empty) for seed in range(300)) and "it isn't")
     print(f"{check.passed} passed, {check.failed} failed")

@@ -1,5 +1,5 @@
 -- That a drive represents some machine, if its disk was sound when it was put in and its medium didn't fail since, is kept by each call.
-use Rattle.std.proofs.Common.{◌≡◌, ◌≤◌, Bool, true, false, Result, Ok, Err, refl, sym, subst, arith}
+use Rattle.std.proofs.Common.{◌≡◌, ◌≤◌, Bool, true, false, Result, Ok, Err, refl, sym, subst, arith, inr}
 use Rattle.cbm_medium.specs.Seen.{Seen, HasFailed}
 use Rattle.cbm_file.specs.Files.{Disk}
 use Rattle.cbm_medium.specs.Place.{Place}
@@ -11,9 +11,12 @@ use Rattle.cbm_machine.specs.Machines.{Machine}
 use Rattle.cbm_channel.specs.Standing.{Kept, Stands}
 use Rattle.cbm_channel.proofs.Stands.{means_of}
 use Rattle.cbm_channel.specs.Loosely.{ClaimsAt, GivesAt, with_one_fewer, with_one_more}
+use Rattle.cbm_direct.specs.declared.access.Access.{Access}
+use Rattle.cbm_direct.specs.declared.access.Access.TheVariants.{Guarded, Raw}
 use Rattle.cbm_direct.specs.declared.vouch.Vouch.{Vouch}
 use Rattle.cbm_direct.specs.declared.vouch.Vouch.TheVariants.{Sound, Unsound, Unknown}
-use Rattle.cbm_direct.specs.Vouching.{ShowsDisk, IsSoundSince, IsVouchOf, StandsIfSound}
+use Rattle.cbm_direct.specs.Spared.{is_spared_by}
+use Rattle.cbm_direct.specs.Vouching.{ShowsDisk, IsSoundSince, IsVouchOf, StandsIfSound, GivesBy}
 
 -- a sound layout means a disk
 pub shows_disk : (now : Seen) → HasSoundLayout now → ShowsDisk now
@@ -65,3 +68,9 @@ gives_stand seen p (Ok true) old new h m s = by_bit (is_free_in (map_of (seen ol
     by_bit false e = (with_one_more p.track m, h.leads refl e m s)
 gives_stand seen p (Ok false) old new h m s = (m, h.stays (λ e. (cc)) m s)
 gives_stand seen p (Err t) old new h m s = (m, h.stays (λ e. (cc)) m s)
+
+-- a release of a sector that isn't spared, by the access
+pub gives_other : {M : Type 0} (seen : M → Seen) (p : Place) (access : Access) (r : Result Bool Trouble) (old new : Kept M) → is_spared_by access (seen old.medium) p ≡ false
+    → GivesAt seen p r old new → GivesBy access seen p r old new
+gives_other seen p Guarded r old new unspared h = inr (unspared, h)
+gives_other seen p Raw r old new unspared h = h

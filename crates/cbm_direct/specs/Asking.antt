@@ -8,7 +8,7 @@ use Rattle.std.specs.Prelude.{ℕ, ◌+◌, ◌-◌, ◌*◌, ◌==◌, ◌&&◌
 use Rattle.cbm_direct.specs.declared.asked.Block.{Block}
 use Rattle.cbm_direct.specs.declared.asked.Sector.{Sector}
 use Rattle.cbm_direct.specs.declared.asked.Asked.{Asked}
-use Rattle.cbm_direct.specs.declared.asked.Asked.TheVariants.{Read, ReadCounted, Write, WriteCounted, Allocate, Free, Seek, Memory, Restart, Nothing, Held, Unread}
+use Rattle.cbm_direct.specs.declared.asked.Asked.TheVariants.{Read, ReadCounted, Write, WriteCounted, Allocate, Free, Seek, Memory, Restart, Nothing, Held, Denied, Unread}
 use Rattle.cbm_direct.specs.declared.wanted.Wanted.{Wanted}
 use Rattle.cbm_direct.specs.declared.wanted.Wanted.TheVariants as wanted
 
@@ -164,10 +164,16 @@ is_of_whole_disk (Ok (New title id)) = true
 is_of_whole_disk (Ok Validate) = true
 is_of_whole_disk _ = false
 
--- What the text of a command asks of direct access while so many channels have buffers, without one return at its end: nothing if it has
--- more than 58 bytes; N and V are held back if a channel has a buffer.
-abbrev pub command_asked : ℕ → List ℕ → Option Asked
-command_asked buffers text =
+-- whether a command is V
+abbrev pub asks_validate : Result Command Refusal → Bool
+asks_validate (Ok Validate) = true
+asks_validate _ = false
+
+-- What the text of a command asks of direct access on a drive that keeps a disk of GEOS or not, while so many channels have buffers, without one
+-- return at its end: nothing if it has more than 58 bytes; N and V are held back if a channel has a buffer, and V is denied on a disk of GEOS.
+abbrev pub command_asked : Bool → ℕ → List ℕ → Option Asked
+command_asked keeps buffers text =
     if nat_lt 58 (length (without_return text)) then None
     else if nat_lt 0 buffers && is_of_whole_disk (command_of (without_return text)) then Some Held
+    else if asks_validate (command_of (without_return text)) && keeps then Some Denied
     else asked_in (without_return text)

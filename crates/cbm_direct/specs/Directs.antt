@@ -9,7 +9,7 @@ use Rattle.cbm_machine.specs.declared.status.Status.{Status}
 use Rattle.cbm_machine.specs.Talking.{taken}
 use Rattle.cbm_machine.specs.Statuses.{plain, trouble_status}
 use Rattle.cbm_channel.specs.Standing.{Kept, Leads}
-use Rattle.cbm_channel.specs.Loosely.{ClaimsAt, GivesAt}
+use Rattle.cbm_channel.specs.Loosely.{ClaimsAt}
 use Rattle.cbm_channel.specs.Parts.{OnlyText}
 use Rattle.cbm_channel.specs.Going.{Goes, closing}
 use Rattle.cbm_channel.specs.Opening.{OpensFrom}
@@ -23,18 +23,19 @@ use Rattle.cbm_direct.specs.declared.vouch.Vouch.TheVariants.{Sound}
 use Rattle.cbm_direct.specs.declared.asked.Block.{Block}
 use Rattle.cbm_direct.specs.declared.asked.Sector.{Sector}
 use Rattle.cbm_direct.specs.declared.asked.Asked.{Asked}
-use Rattle.cbm_direct.specs.declared.asked.Asked.TheVariants.{Read, ReadCounted, Write, WriteCounted, Allocate, Free, Seek, Memory, Restart, Nothing, Held, Unread}
+use Rattle.cbm_direct.specs.declared.asked.Asked.TheVariants.{Read, ReadCounted, Write, WriteCounted, Allocate, Free, Seek, Memory, Restart, Nothing, Held, Denied, Unread}
 use Rattle.cbm_direct.specs.declared.form.Form.{Form}
 use Rattle.cbm_direct.specs.declared.form.Form.TheVariants.{Whole, Counted}
 use Rattle.cbm_direct.specs.declared.memory.Reply.{Reply}
 use Rattle.cbm_direct.specs.Buffered.{ThreeBuffers, three_free, has_buffer, on_buffer, shown_in, loaded, bytes_of_channel, at_place, given_back, taken_count, with_any_for, with_number_for}
-use Rattle.cbm_direct.specs.Asking.{buffer_wanted}
+use Rattle.cbm_direct.specs.Asking.{buffer_wanted, command_asked}
+use Rattle.cbm_direct.specs.Spared.{keeps_geos}
 use Rattle.cbm_direct.specs.NextFree.{next_behind}
 use Rattle.cbm_bam.specs.Map.{map_of, is_free_in}
 use Rattle.cbm_bam.specs.Causes.{IsHeadFault}
 use Rattle.cbm_volume.specs.SeenDisks.{seen_tracks}
 use Rattle.cbm_direct.specs.Memories.{reply_shown, reply_behind}
-use Rattle.cbm_direct.specs.Vouching.{Vouching, IsSectorUnread, OnlyStatus, ShowsDisk, StandsAtStart, StandsExchanged, WritesBy, access_of}
+use Rattle.cbm_direct.specs.Vouching.{Vouching, IsSectorUnread, OnlyStatus, ShowsDisk, StandsAtStart, StandsExchanged, WritesBy, GivesBy, access_of}
 
 -- the drive
 pub record Direct (M : Type 0) : Type 0 where
@@ -111,7 +112,7 @@ abbrev pub IfDrive0 : {M : Type 0} → ℕ → (Direct M → Direct M → Type 0
 IfDrive0 drive Does old new = ((drive ≢ 0) × DirectAnswers (plain DriveNotReady) old new) ⊎ ((drive ≡ 0) × Does old new)
 
 -- U2 AND B-W: 70 if the channel has no buffer, 74 if another drive is named, 66 if the medium has no such sector, 26 if the disk is
--- protected; else the sector gets these bytes, if it is nobody's or any may be written.
+-- protected; else the sector gets these bytes, if any may be written, or if it is nobody's and isn't spared.
 abbrev pub IsWriteAsked : {M : Type 0} → (M → Seen) → Option (List ℕ) → Block → Direct M → Direct M → Type 0
 IsWriteAsked seen None block old new = DirectAnswers (plain NoChannel) old new
 IsWriteAsked seen (Some bytes) block old new =
@@ -138,11 +139,11 @@ IsAllocateAsked seen sector old new =
     IfDrive0 sector.drive (IfHas (seen_tracks (seen old.vouched.dos.medium)) (place_asked sector)
     (UnlessProtected seen (WasAllocated seen (place_asked sector)))) old new
 
--- B-F: the same, and the sector is given back, if it is nobody's.
+-- B-F: the same, and the sector is given back, if it is nobody's, and isn't spared unless any may be written.
 abbrev pub IsFreeAsked : {M : Type 0} → (M → Seen) → Sector → Direct M → Direct M → Type 0
 IsFreeAsked seen sector old new =
     IfDrive0 sector.drive (IfHas (seen_tracks (seen old.vouched.dos.medium)) (place_asked sector)
-    (UnlessProtected seen (Reports (place_asked sector) (GivesAt seen (place_asked sector))))) old new
+    (UnlessProtected seen (Reports (place_asked sector) (GivesBy (access_of old.vouched.vouch) seen (place_asked sector))))) old new
 
 -- B-P: 70 if the channel has no buffer, else its next byte is the one of this place
 abbrev pub IsSought : {M : Type 0} → ℕ → ℕ → Direct M → Direct M → Type 0
@@ -179,6 +180,10 @@ pub record HasStarted {M : Type 0} (seen : M → Seen) (old new : Direct M) : Ty
   pub buffers : new.buffers ≡ three_free
   pub reply : new.reply ≡ None
 
+-- what the text of a command asks of a drive with direct access; none if it is the DOS's
+abbrev pub asked_on : {M : Type 0} → (M → Seen) → List ℕ → Direct M → Option Asked
+asked_on seen text d = command_asked (keeps_geos (access_of d.vouched.vouch) (seen d.vouched.dos.medium)) (taken_count d.buffers) text
+
 -- WHAT A COMMAND OF DIRECT ACCESS DOES
 abbrev pub IsAskedDone : {M : Type 0} → (M → Seen) → Asked → Direct M → Direct M → Type 0
 IsAskedDone seen (Read block) old new = IsReadAsked seen Whole block old new
@@ -192,6 +197,7 @@ IsAskedDone seen (Memory address count) old new = TellsOnly (plain Fine) old.buf
 IsAskedDone seen Restart old new = HasStarted seen old new
 IsAskedDone seen Nothing old new = DirectAnswers (plain Fine) old new
 IsAskedDone seen Held old new = DirectAnswers (plain WriteFileOpen) old new
+IsAskedDone seen Denied old new = DirectAnswers (plain WriteProtected) old new
 IsAskedDone seen Unread old new = DirectAnswers (plain Syntax) old new
 
 -- what channel 15 shows: what is left of M-R's answer, else the status

@@ -1,5 +1,5 @@
 -- A drive's DOS of which it is known whether its disk was sound.
-use Rattle.std.specs.Prelude.{ℕ, ◌+◌, ◌≤◌, ◌≡◌, ◌≢◌, ◌⊎◌, Bool, false, List, Result, Ok, Err}
+use Rattle.std.specs.Prelude.{ℕ, ◌+◌, ◌≤◌, ◌≡◌, ◌≢◌, ◌⊎◌, Bool, true, false, List, Result, Ok, Err}
 use Rattle.cbm_medium.specs.Place.{Place, Has}
 use Rattle.cbm_medium.specs.Seen.{Seen}
 use Rattle.cbm_medium.specs.declared.fault.Trouble.{Trouble}
@@ -9,10 +9,11 @@ use Rattle.cbm_machine.specs.Machines.{Machine, start}
 use Rattle.cbm_machine.specs.Told.{ToldStatus}
 use Rattle.cbm_machine.specs.declared.status.Status.{Status}
 use Rattle.cbm_channel.specs.Exchanged.{still_telling}
-use Rattle.cbm_channel.specs.Loosely.{WritesLoose, WritesRaw}
+use Rattle.cbm_channel.specs.Loosely.{WritesLoose, WritesRaw, GivesAt}
 use Rattle.cbm_channel.specs.Standing.{Kept, Stands}
 use Rattle.cbm_direct.specs.declared.access.Access.{Access}
 use Rattle.cbm_direct.specs.declared.access.Access.TheVariants.{Guarded, Raw}
+use Rattle.cbm_direct.specs.Spared.{is_spared}
 use Rattle.cbm_direct.specs.declared.vouch.Vouch.{Vouch}
 use Rattle.cbm_direct.specs.declared.vouch.Vouch.TheVariants.{Sound, Unsound, Unknown}
 
@@ -86,7 +87,19 @@ StandsExchanged seen medium told k =
 abbrev pub StandsAtStart : {M : Type 0} → (M → Seen) → M → Kept M → Type 0
 StandsAtStart seen medium k = (d : Disk) → HoldsDisk (seen medium).tracks (seen medium).content d → Stands seen k (start d (seen medium).protected (seen medium).tracks)
 
--- WHAT A WRITE LEAVES, by the access: guarded, what a write of a sector leaves that is nobody's; raw, what a write of any sector leaves
+-- A sector that is spared is refused, and nothing has changed; for any other one this holds.
+abbrev pub UnlessSpared : {M : Type 0} → (M → Seen) → Place → (Result Bool Trouble → Kept M → Kept M → Type 0) → Result Bool Trouble → Kept M → Kept M → Type 0
+UnlessSpared seen p Does result old new =
+    ((is_spared (seen old.medium) p ≡ true) × (result ≡ Ok false) × (new ≡ old))
+    ⊎ ((is_spared (seen old.medium) p ≡ false) × Does result old new)
+
+-- WHAT A WRITE LEAVES, by the access: guarded, what a write of a sector leaves that is nobody's and isn't spared; raw, what a write of any sector
+-- leaves
 abbrev pub WritesBy : {M : Type 0} → Access → (M → Seen) → Place → List ℕ → Result Bool Trouble → Kept M → Kept M → Type 0
-WritesBy Guarded seen p bytes result old new = WritesLoose seen p bytes result old new
+WritesBy Guarded seen p bytes result old new = UnlessSpared seen p (WritesLoose seen p bytes) result old new
 WritesBy Raw seen p bytes result old new = (result ≢ Ok false) × WritesRaw seen p bytes result old new
+
+-- WHAT A RELEASE LEAVES, by the access: guarded, a sector that is spared stays as it is; raw, it is given back if it is nobody's
+abbrev pub GivesBy : {M : Type 0} → Access → (M → Seen) → Place → Result Bool Trouble → Kept M → Kept M → Type 0
+GivesBy Guarded seen p result old new = UnlessSpared seen p (GivesAt seen p) result old new
+GivesBy Raw seen p result old new = GivesAt seen p result old new

@@ -47,6 +47,8 @@ pub enum Asked {
     Nothing,
     /// N or V while a channel has a buffer.
     Held,
+    /// V on a disk of GEOS.
+    Denied,
     /// The numbers of a command that can't be read.
     Unread,
 }

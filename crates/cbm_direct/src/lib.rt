@@ -11,6 +11,7 @@ mod memory;
 mod next_free;
 mod numbers;
 mod reading;
+mod spared;
 mod vouch;
 mod vouched;
 mod wanted;

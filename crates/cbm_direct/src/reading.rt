@@ -2,12 +2,16 @@
 ghost use Rattle.std.specs.Prelude.{◌≡◌, option_map};
 ghost use Rattle.cbm_command.specs.Commands.{command_of};
 ghost use Rattle.cbm_machine.specs.Calls.{without_return};
-ghost use Rattle.cbm_direct.specs.Asking.{behind_byte, behind_number, first_number, numbers_of, block_in, on_block, sector_in, on_sector, place_from, start_asked, user_asked, block_asked, memory_read, memory_asked, asked_in, is_of_whole_disk, command_asked};
+ghost use Rattle.cbm_direct.specs.Asking.{behind_byte, behind_number, first_number, numbers_of, block_in, on_block, sector_in, on_sector, place_from, start_asked, user_asked, block_asked, memory_read, memory_asked, asked_in, is_of_whole_disk, asks_validate, command_asked};
+ghost use Rattle.cbm_direct.specs.Spared.{keeps_geos};
+ghost use Rattle.cbm_direct.specs.Vouching.{access_of};
 ghost use Rattle.cbm_direct.specs.declared.asked.Asked.TheVariants.{Read, ReadCounted, Write, WriteCounted, Allocate, Free};
 
 use crate::asked::{Asked, Block, Sector};
 use crate::numbers::{behind_number, first_number};
+use crate::vouched::Vouched;
 use cbm_command::{Command, parse_command};
+use cbm_medium::Medium;
 
 /// The text behind the first such byte.
 fn behind_byte(byte: u8, text: &[u8]) -> Option<&[u8]>
@@ -244,10 +248,21 @@ fn is_of_whole_disk(text: &[u8]) -> bool
     )
 }
 
+/// Whether a command is V.
+fn asks_validate(text: &[u8]) -> bool
+    ensures { result ≡ asks_validate (command_of text.now) }
+{
+    matches!(parse_command(text), Ok(Command::Validate))
+}
+
 /// What the text of a command asks of direct access while so many channels have buffers, without one return at its end; None if it is
 /// for the DOS, as one of more than 58 bytes is.
-pub(crate) fn command_asked(buffers: usize, text: &[u8]) -> Option<Asked>
-    ensures { result ≡ command_asked buffers text.now }
+pub(crate) fn command_asked<M: Medium>(
+    vouched: &Vouched<M>,
+    buffers: usize,
+    text: &[u8],
+) -> Option<Asked>
+    ensures { result ≡ command_asked (keeps_geos (access_of vouched.now.vouch) (M.seen vouched.now.dos.medium)) buffers text.now }
 {
     let text = without_return(text);
     if text.len() > 58 {
@@ -255,6 +270,9 @@ pub(crate) fn command_asked(buffers: usize, text: &[u8]) -> Option<Asked>
     }
     if buffers > 0 && is_of_whole_disk(text) {
         return Some(Asked::Held);
+    }
+    if asks_validate(text) && vouched.keeps_geos() {
+        return Some(Asked::Denied);
     }
     asked_by(text)
 }

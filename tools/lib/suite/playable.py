@@ -16,13 +16,16 @@ FAULTS = (2, 3, 4, 5, 6, 9, 11)
 # Commands that only a drive with direct access has.
 OF_BLOCKS = re.compile(r"(put|open) 15 (U|B|M-)|open \d+ #")
 
-# Commands that write a block, and the status if it is in use.
-WRITES_BLOCK = re.compile(r"put 15 (U2|UB|B-[WAF]|BLOCK-[WAF])")
-IN_USE = re.compile(r"status 26,WRITE PROTECT ON,(?!00,00)")
+# Commands that only guarded direct access refuses, and their status then: of a block that is in use, and of V on a disk of GEOS.
+REFUSED = (
+    (re.compile(r"put 15 (U2|UB|B-[WAF]|BLOCK-[WAF])"), re.compile(r"status 26,WRITE PROTECT ON,(?!00,00)")),
+    (re.compile(r"(put|open) 15 V"), re.compile(r"status 26,WRITE PROTECT ON,00,00")),
+)
 
 
-def is_refused(request):
-    return bool(request.answer and IN_USE.match(request.answer))
+def is_refused(request, after):
+    """Whether the answer to the next request shows that this one was refused."""
+    return any(command.match(request.line) and status.match(after.answer or "") for command, status in REFUSED)
 
 
 def of_head(step):
@@ -60,7 +63,7 @@ def of_requests(step):
     is_direct = any(it.startswith("direct") for it in step.words)
     if not is_direct and any(OF_BLOCKS.match(it.line) for it in step.requests):
         return "commands on blocks that are turned off"
-    if "direct" in step.words and any(WRITES_BLOCK.match(it.line) and is_refused(after) for it, after in zip(step.requests, step.requests[1:])):
+    if "direct" in step.words and any(is_refused(it, after) for it, after in zip(step.requests, step.requests[1:])):
         return "a write that only guarded direct access refuses"
     return None
 

@@ -34,6 +34,7 @@ impl<M: Medium> DirectDos<M> {
             Asked::Restart => self.restart(),
             Asked::Nothing => self.say(Code::Fine),
             Asked::Held => self.say(Code::WriteFileOpen),
+            Asked::Denied => self.say(Code::WriteProtected),
             Asked::Unread => self.say(Code::Syntax),
         }
     }

@@ -12,9 +12,9 @@ impl<M: Medium> DirectDos<M> {
     ghost use Rattle.cbm_medium.specs.Place.{Place, Has, directory_head};
     ghost use Rattle.cbm_bam.specs.Map.{map_of, is_free_in};
     ghost use Rattle.cbm_volume.specs.SeenDisks.{seen_tracks};
-    ghost use Rattle.cbm_channel.specs.Loosely.{ClaimsAt, GivesAt};
+    ghost use Rattle.cbm_channel.specs.Loosely.{ClaimsAt};
     ghost use Rattle.cbm_direct.specs.NextFree.{next_behind};
-    ghost use Rattle.cbm_direct.specs.Vouching.{KeepsVouch};
+    ghost use Rattle.cbm_direct.specs.Vouching.{KeepsVouch, GivesBy, access_of};
     ghost use Rattle.cbm_direct.specs.Directs.{DirectAnswers, UnlessProtected, Reports, WasAllocated, IsAllocateAsked, IsFreeAsked, next_status};
 
     /// B-A: a free sector is claimed. The status is 74 if another drive is named, 66 if there is no such sector, 26 if the disk is protected or
@@ -33,7 +33,7 @@ impl<M: Medium> DirectDos<M> {
         }
     }
 
-    /// B-F: a sector that is nobody's is given back. The status is 74, 66 or 26 as for B-A, 26 also if the sector is somebody's, or 00.
+    /// B-F: a sector that is nobody's is given back. The status is 74, 66 or 26 as for B-A, 26 if the sector is somebody's or spared, or 00.
     pub(super) fn free(&mut self, sector: Sector)
         ensures done { IsFreeAsked M.seen sector self.old self.new }
         ensures keeps { KeepsVouch M.seen self.old.vouched self.new.vouched }
@@ -111,7 +111,7 @@ impl<M: Medium> DirectDos<M> {
     /// The sector is given back, if the disk isn't protected.
     fn free_at(&mut self, at: Address)
         requires { at.track ≤ seen_tracks (M.seen self.old.vouched.dos.medium) }
-        ensures done { UnlessProtected M.seen (Reports at (GivesAt M.seen at)) self.old self.new }
+        ensures done { UnlessProtected M.seen (Reports at (GivesBy (access_of self.old.vouched.vouch) M.seen at)) self.old self.new }
         ensures keeps { KeepsVouch M.seen self.old.vouched self.new.vouched }
     {
         if self.vouched.medium().protected() {

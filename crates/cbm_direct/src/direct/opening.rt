@@ -27,16 +27,14 @@ impl<M: Medium> DirectDos<M> {
     ghost use Rattle.std.specs.Prelude.{◌≡◌, ◌≤◌, ◌<◌, None, Some, MatchBool};
     ghost use Rattle.cbm_channel.specs.Opening.{OpensFrom};
     ghost use Rattle.cbm_direct.specs.declared.asked.Asked.{Asked};
-    ghost use Rattle.cbm_direct.specs.Asking.{command_asked};
-    ghost use Rattle.cbm_direct.specs.Buffered.{taken_count};
     ghost use Rattle.cbm_direct.specs.Vouching.{KeepsVouch};
-    ghost use Rattle.cbm_direct.specs.Directs.{OfDos, OnlyBuffersOf, IsAskedDone, AreAllClosed, IsClosedHere, IsOpenedHere, IsOpenedBeside, IsBufferOpened, buffer_opened_by};
+    ghost use Rattle.cbm_direct.specs.Directs.{OfDos, OnlyBuffersOf, IsAskedDone, AreAllClosed, IsClosedHere, IsOpenedHere, IsOpenedBeside, IsBufferOpened, asked_on, buffer_opened_by};
 
     /// OPEN: on channel 15 the text is a command; `#` asks for a buffer; all else is the DOS's. A channel that is open is closed first.
     pub fn open(&mut self, channel: u8, text: &[u8])
         requires { channel ≤ 15 }
-        ensures direct { channel ≡ 15 → (a : Asked) → command_asked (taken_count self.old.buffers) text.now ≡ Some a → IsAskedDone M.seen a (record self.old { reply = None }) self.new }
-        ensures command { channel ≡ 15 → command_asked (taken_count self.old.buffers) text.now ≡ None → OfDos (OpensFrom M.seen 15 text.now) None self.old self.new }
+        ensures direct { channel ≡ 15 → (a : Asked) → asked_on M.seen text.now self.old ≡ Some a → IsAskedDone M.seen a (record self.old { reply = None }) self.new }
+        ensures command { channel ≡ 15 → asked_on M.seen text.now self.old ≡ None → OfDos (OpensFrom M.seen 15 text.now) None self.old self.new }
         ensures opened { channel < 15 → IsOpenedHere M.seen channel text.now self.old self.new }
         ensures keeps { KeepsVouch M.seen self.old.vouched self.new.vouched }
     {
@@ -55,12 +53,12 @@ impl<M: Medium> DirectDos<M> {
 
     /// A command as the text of an OPEN of channel 15.
     fn open_command(&mut self, text: &[u8])
-        ensures direct { (a : Asked) → command_asked (taken_count self.old.buffers) text.now ≡ Some a → IsAskedDone M.seen a (record self.old { reply = None }) self.new }
-        ensures dos { command_asked (taken_count self.old.buffers) text.now ≡ None → OfDos (OpensFrom M.seen 15 text.now) None self.old self.new }
+        ensures direct { (a : Asked) → asked_on M.seen text.now self.old ≡ Some a → IsAskedDone M.seen a (record self.old { reply = None }) self.new }
+        ensures dos { asked_on M.seen text.now self.old ≡ None → OfDos (OpensFrom M.seen 15 text.now) None self.old self.new }
         ensures keeps { KeepsVouch M.seen self.old.vouched self.new.vouched }
     {
         self.reply = None;
-        match command_asked(self.buffers.count(), text) {
+        match command_asked(&self.vouched, self.buffers.count(), text) {
             None => self.vouched.open(15, text),
             Some(asked) => self.carry_out(asked),
         }

@@ -12,10 +12,9 @@ impl<M: Medium> DirectDos<M> {
     ghost use Rattle.cbm_channel.specs.Going.{Goes};
     ghost use Rattle.cbm_channel.specs.Parts.{EndsGathered, OnlyText};
     ghost use Rattle.cbm_direct.specs.declared.asked.Asked.{Asked};
-    ghost use Rattle.cbm_direct.specs.Asking.{command_asked};
-    ghost use Rattle.cbm_direct.specs.Buffered.{has_buffer, taken_count, on_buffer, pointer_on, with_byte_put};
+    ghost use Rattle.cbm_direct.specs.Buffered.{has_buffer, on_buffer, pointer_on, with_byte_put};
     ghost use Rattle.cbm_direct.specs.Vouching.{KeepsVouch};
-    ghost use Rattle.cbm_direct.specs.Directs.{OfDos, OnlyBuffers, IsDirectCommand, IsToldOn, direct_shown};
+    ghost use Rattle.cbm_direct.specs.Directs.{OfDos, OnlyBuffers, IsDirectCommand, IsToldOn, asked_on, direct_shown};
 
     /// A byte for a channel: if it has a buffer, the next byte there becomes this one.
     pub fn put(&mut self, channel: u8, byte: u8)
@@ -34,8 +33,8 @@ impl<M: Medium> DirectDos<M> {
     /// The end of the bytes for a channel: on 15 a command is carried out.
     pub fn end_put(&mut self, channel: u8)
         requires { channel ≤ 15 }
-        ensures command { channel ≡ 15 → (a : Asked) → command_asked (taken_count self.old.buffers) (text_for 15 self.old.vouched.dos.text) ≡ Some a → IsDirectCommand M.seen a self.old self.new }
-        ensures dos { channel ≡ 15 → command_asked (taken_count self.old.buffers) (text_for 15 self.old.vouched.dos.text) ≡ None →
+        ensures command { channel ≡ 15 → (a : Asked) → asked_on M.seen (text_for 15 self.old.vouched.dos.text) self.old ≡ Some a → IsDirectCommand M.seen a self.old self.new }
+        ensures dos { channel ≡ 15 → asked_on M.seen (text_for 15 self.old.vouched.dos.text) self.old ≡ None →
             OfDos (EndsGathered M.seen 15) None self.old self.new }
         ensures other { channel ≢ 15 → OfDos (EndsGathered M.seen channel) self.old.reply self.old self.new }
         ensures keeps { KeepsVouch M.seen self.old.vouched self.new.vouched }
@@ -49,11 +48,12 @@ impl<M: Medium> DirectDos<M> {
 
     /// What was put to channel 15 is a command.
     fn end_command(&mut self)
-        ensures command { (a : Asked) → command_asked (taken_count self.old.buffers) (text_for 15 self.old.vouched.dos.text) ≡ Some a → IsDirectCommand M.seen a self.old self.new }
-        ensures dos { command_asked (taken_count self.old.buffers) (text_for 15 self.old.vouched.dos.text) ≡ None → OfDos (EndsGathered M.seen 15) None self.old self.new }
+        ensures command { (a : Asked) → asked_on M.seen (text_for 15 self.old.vouched.dos.text) self.old ≡ Some a → IsDirectCommand M.seen a self.old self.new }
+        ensures dos { asked_on M.seen (text_for 15 self.old.vouched.dos.text) self.old ≡ None → OfDos (EndsGathered M.seen 15) None self.old self.new }
         ensures keeps { KeepsVouch M.seen self.old.vouched self.new.vouched }
     {
-        match command_asked(self.buffers.count(), self.vouched.gathered()) {
+        let text = self.vouched.gathered();
+        match command_asked(&self.vouched, self.buffers.count(), text) {
             None => self.end_other(),
             Some(asked) => {
                 self.forget_command();

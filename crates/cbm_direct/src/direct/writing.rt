@@ -14,7 +14,7 @@ impl<M: Medium> DirectDos<M> {
     ghost use Rattle.cbm_direct.specs.Directs.{DirectAnswers, IfDrive0, IfHas, UnlessProtected, Reports, IsWriteAsked, sector_asked, result_status, at_sector};
 
     /// U2 and B-W: a sector gets the channel's buffer, which itself stays as it is. The status is 70 if it has none, 74 if another drive is
-    /// named, 66 if there is no such sector, 26 if the disk is protected, or if the sector is somebody's and not any may be written, or 00.
+    /// named, 66 if there is no such sector, 26 if the disk is protected, or if the sector is somebody's or spared and not any may be written, or 00.
     pub(super) fn write(&mut self, block: Block, form: Form)
         ensures done { IsWriteAsked M.seen (bytes_of_channel form block.channel self.old.buffers) block self.old self.new }
         ensures keeps { KeepsVouch M.seen self.old.vouched self.new.vouched }
@@ -65,7 +65,7 @@ impl<M: Medium> DirectDos<M> {
         });
     }
 
-    /// The sector gets these bytes, if the disk isn't protected, and the sector is nobody's or any may be written.
+    /// The sector gets these bytes, if the disk isn't protected, and the sector is nobody's and isn't spared, or any may be written.
     fn write_at(&mut self, at: Address, bytes: &[u8; 256])
         requires { at.track ≤ (M.seen self.old.vouched.dos.medium).tracks }
         ensures done { UnlessProtected M.seen (Reports at (WritesBy (access_of self.old.vouched.vouch) M.seen at bytes.now)) self.old self.new }

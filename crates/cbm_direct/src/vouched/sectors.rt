@@ -1,21 +1,47 @@
 // The calls of the DOS on single sectors.
 
+use crate::access::Access;
+use crate::spared::{is_geos_disk, is_spared};
 use crate::vouch::Vouch;
 use crate::vouched::Vouched;
 use cbm_medium::{Address, Medium, Trouble};
 
 impl<M: Medium> Vouched<M> {
-    ghost use Rattle.std.specs.Prelude.{◌≤◌};
+    ghost use Rattle.std.specs.Prelude.{◌≡◌, ◌≤◌};
     ghost use Rattle.cbm_volume.specs.SeenDisks.{seen_tracks};
-    ghost use Rattle.cbm_channel.specs.Loosely.{ClaimsAt, GivesAt};
-    ghost use Rattle.cbm_direct.specs.Vouching.{KeepsVouch, WritesBy, access_of};
+    ghost use Rattle.cbm_channel.specs.Loosely.{ClaimsAt};
+    ghost use Rattle.cbm_direct.specs.Spared.{is_spared_by, keeps_geos};
+    ghost use Rattle.cbm_direct.specs.Vouching.{KeepsVouch, WritesBy, GivesBy, access_of};
 
-    /// Writes a sector, by the access: one that is nobody's, or any. `Ok(false)`: it is somebody's, and nothing has changed.
+    /// Whether a sector is spared, if not any may be written.
+    fn spares(&self, at: Address) -> bool
+        ensures { result ≡ is_spared_by (access_of self.now.vouch) (M.seen self.now.dos.medium) at }
+    {
+        match self.vouch.access() {
+            Access::Guarded => is_spared(self.dos.medium(), at),
+            Access::Raw => false,
+        }
+    }
+
+    /// Whether V is refused: GEOS formatted the disk, and not any sector may be written.
+    pub fn keeps_geos(&self) -> bool
+        ensures { result ≡ keeps_geos (access_of self.now.vouch) (M.seen self.now.dos.medium) }
+    {
+        match self.vouch.access() {
+            Access::Guarded => is_geos_disk(self.dos.medium()),
+            Access::Raw => false,
+        }
+    }
+
+    /// Writes a sector, by the access: one that is nobody's and isn't spared, or any. `Ok(false)`: it isn't so, and nothing has changed.
     pub fn write_at(&mut self, at: Address, bytes: &[u8; 256]) -> Result<bool, Trouble>
         requires { at.track ≤ (M.seen self.old.dos.medium).tracks }
         ensures keeps { KeepsVouch M.seen self.old self.new }
         ensures writes { WritesBy (access_of self.old.vouch) M.seen at bytes.now result self.old.dos self.new.dos }
     {
+        if self.spares(at) {
+            return Ok(false);
+        }
         match self.vouch {
             Vouch::Sound(_) | Vouch::Unsound => self.dos.write_loose(at, bytes),
             Vouch::Unknown => {
@@ -34,12 +60,15 @@ impl<M: Medium> Vouched<M> {
         self.dos.claim_at(at)
     }
 
-    /// Gives back a sector that is nobody's. `Ok(false)`: it is somebody's, and nothing has changed.
+    /// Gives back a sector that is nobody's, and isn't spared unless any may be written. `Ok(false)`: it isn't so, and nothing has changed.
     pub fn give_at(&mut self, at: Address) -> Result<bool, Trouble>
         requires { at.track ≤ seen_tracks (M.seen self.old.dos.medium) }
         ensures keeps { KeepsVouch M.seen self.old self.new }
-        ensures gives { GivesAt M.seen at result self.old.dos self.new.dos }
+        ensures gives { GivesBy (access_of self.old.vouch) M.seen at result self.old.dos self.new.dos }
     {
+        if self.spares(at) {
+            return Ok(false);
+        }
         self.dos.give_at(at)
     }
 }
