@@ -105,7 +105,7 @@ pub fn error_deed(words: &ArgMatches<'_>) -> ErrorDeed {
     if flag(words, "drop") {
         return ErrorDeed::Drop(flag(words, "lossy"));
     }
-    ErrorDeed::Show
+    ErrorDeed::Show(flag(words, "json"))
 }
 
 /// One file, by its name or by its slot. Errors: `Word`, where it isn't said by one of them.
@@ -136,6 +136,7 @@ pub fn wanted<'a>(words: &ArgMatches<'a>, charset: Charset) -> Result<Wanted<'a>
     Ok(Wanted {
         choice: one_choice(words, charset)?,
         form: form(words),
+        is_json: flag(words, "json"),
     })
 }
 
@@ -262,6 +263,7 @@ pub fn description<'a>(words: &ArgMatches<'a>, charset: Charset) -> Description<
     Description {
         folder: given(words, "folder"),
         charset,
+        is_json: flag(words, "json"),
     }
 }
 

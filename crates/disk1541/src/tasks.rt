@@ -61,6 +61,7 @@ fn transfer_with<R: Runtime + AllocGlobal>(
         patterns: words.get_strs("PATTERN").unwrap_or(&[]),
         replaces: flag(words, "replace"),
         is_dry: flag(words, "dry-run"),
+        is_json: flag(words, "json"),
         charset,
     };
     transfer_files(rt, given(words, "IMAGE"), &wanted)

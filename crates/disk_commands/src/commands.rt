@@ -1,7 +1,7 @@
 //! The commands.
 use crate::word::Word;
 use crate::words::changing::{
-    ADD, BY, DROP, DRY_RUN, FILES, FORCE, FORCE_FAULT, FORMAT, FROM, GONE, ID, INTERLEAVE, LINES,
+    ADD, BY, DROP, DRY_RUN, FILES, FORCE, FORCE_FAULT, FORMAT, FROM, GONE, ID, INTERLEAVE, JSON_CHANGES, JSON_ERRORS, LINES,
     LOSSY, LOSSY_DROP, MEANT, NAME_ON_DISK, NEW, NEW_ID, NEW_TITLE, NEW_TRACKS, NEW_TYPE, OF_ALL,
     OLD, ORDERED, ORDERED_WITHIN, OUT, PLACED, RECIPE, RECORD, REPLACE_IMAGE, REPLACE_NAME,
     SECTOR_FROM, TITLE, TRACK_FROM, TRACKS, TRANSFERRED, TYPE, TYPE_AGAIN,
@@ -150,6 +150,7 @@ const READING: &[Command] = &[
             BASIC,
             HEX,
             TEXT,
+            JSON_OBJECT,
             SLOT,
             EXACT,
             SCREEN_CHARSET,
@@ -205,7 +206,7 @@ const LOOKING: &[Command] = &[
         verb: Verb::Describe,
         name: "describe",
         about: "Show the recipe of a disk, as build takes it",
-        words: &[IMAGE, FILES_FOLDER, CHARSET],
+        words: &[IMAGE, FILES_FOLDER, JSON_OBJECT, CHARSET],
     },
 ];
 
@@ -247,7 +248,15 @@ const MAKING: &[Command] = &[
         verb: Verb::Transfer,
         name: "transfer",
         about: "Copy files from another disk or archive",
-        words: &[FROM, IMAGE, TRANSFERRED, REPLACE_NAME, DRY_RUN, CHARSET],
+        words: &[
+            FROM,
+            IMAGE,
+            TRANSFERRED,
+            REPLACE_NAME,
+            DRY_RUN,
+            JSON_CHANGES,
+            CHARSET,
+        ],
     },
 ];
 
@@ -274,6 +283,7 @@ const CHANGING: &[Command] = &[
             MEANT,
             OF_ALL,
             DRY_RUN,
+            JSON_CHANGES,
             FORCE_FAULT,
             SLOT,
             EXACT,
@@ -290,13 +300,31 @@ const CHANGING: &[Command] = &[
         verb: Verb::Lock,
         name: "lock",
         about: "Lock files, so that they can't be deleted",
-        words: &[IMAGE, MEANT, OF_ALL, DRY_RUN, SLOT, EXACT, CHARSET],
+        words: &[
+            IMAGE,
+            MEANT,
+            OF_ALL,
+            DRY_RUN,
+            JSON_CHANGES,
+            SLOT,
+            EXACT,
+            CHARSET,
+        ],
     },
     Command {
         verb: Verb::Unlock,
         name: "unlock",
         about: "Unlock files",
-        words: &[IMAGE, MEANT, OF_ALL, DRY_RUN, SLOT, EXACT, CHARSET],
+        words: &[
+            IMAGE,
+            MEANT,
+            OF_ALL,
+            DRY_RUN,
+            JSON_CHANGES,
+            SLOT,
+            EXACT,
+            CHARSET,
+        ],
     },
     Command {
         verb: Verb::Title,
@@ -315,6 +343,7 @@ const CHANGING: &[Command] = &[
             TRACK_FROM,
             SECTOR_FROM,
             DRY_RUN,
+            JSON_CHANGES,
             CHARSET,
         ],
     },
@@ -340,13 +369,13 @@ const CHANGING: &[Command] = &[
         verb: Verb::Errors,
         name: "errors",
         about: "Show the error bytes of a D64, add them or drop them",
-        words: &[IMAGE, ADD, DROP, LOSSY_DROP],
+        words: &[IMAGE, ADD, DROP, LOSSY_DROP, JSON_ERRORS],
     },
     Command {
         verb: Verb::Run,
         name: "run",
         about: "Carry out several commands on an image, all or none",
-        words: &[IMAGE, LINES, DRY_RUN],
+        words: &[IMAGE, LINES, DRY_RUN, JSON_CHANGES],
     },
 ];
 

@@ -21,6 +21,6 @@ pub use order::{InOrder, Ordering, in_order};
 pub use placing::{Laying, Placement, placed};
 pub use renaming::{Pair, copied, renamed, require_names};
 pub use retyping::retyped;
-pub use shown::shown_change;
+pub use shown::{Showing, shown_change};
 pub use sorting::{Key, key_of_word, sorted};
 pub use undeleting::{Gone, given_back};

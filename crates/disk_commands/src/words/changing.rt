@@ -1,6 +1,6 @@
 //! The words of commands that make and change disks.
 use crate::word::{FLAG, NEEDED, OPTION, Word};
-use crate::words::looking::{IMAGES, RECURSIVE, REPLACE_FILE};
+use crate::words::looking::{IMAGES, JSON, RECURSIVE, REPLACE_FILE};
 use clap::ArgAction;
 
 /// ERRORS that drops them.
@@ -17,6 +17,19 @@ pub const ADD: Word = Word {
     help: "save the image with error bytes, each 1 (no error)",
     excludes: &["drop"],
     ..FLAG
+};
+
+/// The error bytes, for programs.
+pub const JSON_ERRORS: Word = Word {
+    help: "print JSON for programs",
+    excludes: &["add", "drop"],
+    ..JSON
+};
+
+/// What a command changes, for programs.
+pub const JSON_CHANGES: Word = Word {
+    help: "print the changes as JSON for programs",
+    ..JSON
 };
 
 /// The title of a new disk.
