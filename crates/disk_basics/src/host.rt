@@ -148,7 +148,9 @@ pub fn print<R: Runtime + AllocGlobal>(rt: &R, bytes: &[u8]) -> Result<(), Failu
 /// Reports that a file which was replaced has another name, under which the old one is left.
 fn tell_others(rt: &impl Eprint, name: &str, has_others: bool) {
     if has_others {
-        let _ = eprintln!(rt; "disk1541: {name} had another name (a hard link), which keeps the old file");
+        let _ = eprintln!(rt;
+            "disk1541: {name} had another name (a hard link), which keeps the old file"
+        );
     }
 }
 

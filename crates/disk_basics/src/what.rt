@@ -116,7 +116,13 @@ pub enum What {
 /// Whether a name has bytes that are no text. Of those that are written as `\xHH` only these are beyond ASCII.
 fn has_no_text(name: &str) -> bool {
     for part in name.as_bytes().windows(4) {
-        if let [b'\\', b'x', b'8' | b'9' | b'A'..=b'F', b'0'..=b'9' | b'A'..=b'F'] = part {
+        if let [
+            b'\\',
+            b'x',
+            b'8' | b'9' | b'A'..=b'F',
+            b'0'..=b'9' | b'A'..=b'F',
+        ] = part
+        {
             return true;
         }
     }

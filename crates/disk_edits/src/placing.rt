@@ -63,7 +63,10 @@ impl Laying {
         if showing.is_json {
             return laid_line(alloc, image, self.files.as_slice(), showing.is_dry);
         }
-        String::from_str(alloc, std::str::from_utf8(self.told.as_slice()).unwrap_or(""))
+        String::from_str(
+            alloc,
+            std::str::from_utf8(self.told.as_slice()).unwrap_or(""),
+        )
     }
 }
 

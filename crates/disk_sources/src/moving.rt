@@ -112,7 +112,11 @@ fn is_art(origin: &Origin<'_>, entry: &Entry) -> bool {
 }
 
 /// Reports why a file isn't transferred.
-pub fn tell_other<R: Runtime + AllocGlobal, T>(rt: &R, entry: &Entry, why: &str) -> Result<T, Failure> {
+pub fn tell_other<R: Runtime + AllocGlobal, T>(
+    rt: &R,
+    entry: &Entry,
+    why: &str,
+) -> Result<T, Failure> {
     let name = in_memory(name_text(rt.alloc(), Charset::Upper, entry.name()))?;
     let name = name.as_str();
     let _ = eprintln!(rt; "disk1541: \"{name}\" {why}");

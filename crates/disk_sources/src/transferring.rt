@@ -7,9 +7,7 @@ use crate::origin::{Entries, Origin};
 use cbm_shell::texts::Charset;
 use cbm_volume::Entry;
 use disk_basics::calls::name_text;
-use disk_basics::host::{
-    is_standard, print, read_any, read_to_change, replace, require_no_input,
-};
+use disk_basics::host::{is_standard, print, read_any, read_to_change, replace, require_no_input};
 use disk_basics::strays::require_kept;
 use disk_basics::{Failure, What, in_memory, petscii};
 use disk_facts::{first_meant, is_meant};

@@ -7,8 +7,8 @@ use disk_basics::{Choice, Failure, What, WordFault, in_memory};
 use disk_changes::{require_files, with_files};
 use disk_commands::{Verb, flag, given, option};
 use disk_edits::{
-    Deed, Desk, Edit, Gone, Ordering, Placement, Showing, copied, done_with, edited, given_back, in_order,
-    key_of_word, placed, renamed, require_names, rest_of, retyped, sorted, without_fault,
+    Deed, Desk, Edit, Gone, Ordering, Placement, Showing, copied, done_with, edited, given_back,
+    in_order, key_of_word, placed, renamed, require_names, rest_of, retyped, sorted, without_fault,
 };
 use std::alloc::Global;
 use std::rt::Runtime;

@@ -65,8 +65,7 @@ fn add_numbered(
     lines: &str,
 ) -> Result<(), AllocError> {
     for line in lines.lines() {
-        text.push_str(format!(in alloc; "{number}: {line}
-")?.as_str())?;
+        text.push_str(format!(in alloc; "{number}: {line}\n")?.as_str())?;
     }
     Ok(())
 }
@@ -82,8 +81,7 @@ fn add_change(
     for change in json.lines() {
         text.push_str(change)?;
     }
-    text.push_str("}
-")
+    text.push_str("}\n")
 }
 
 /// What a line changes, as it is shown. Errors: those of `shown_change`.
