@@ -7,7 +7,7 @@ use disk_basics::{Choice, Failure, What, WordFault};
 use disk_changes::{Blank, Build, Conversion, HostFiles};
 use disk_commands::{flag, given, option};
 use disk_compare::{Form, Wanted};
-use disk_edits::{ErrorDeed, Pair};
+use disk_edits::{Art, ErrorDeed, Pair};
 use disk_looks::{Description, Destination, Mapping, OneFile};
 use disk_reports::View;
 use std::alloc::Global;
@@ -109,7 +109,7 @@ pub fn error_deed(words: &ArgMatches<'_>) -> ErrorDeed {
 }
 
 /// One file, by its name or by its slot. Errors: `Word`, where it isn't said by one of them.
-fn one_choice<'a>(words: &ArgMatches<'a>, charset: Charset) -> Result<Choice<'a>, Failure> {
+pub fn one_choice<'a>(words: &ArgMatches<'a>, charset: Charset) -> Result<Choice<'a>, Failure> {
     if option(words, "NAME").is_some() == option(words, "slot").is_some() {
         return Err(Failure::new(What::Word(WordFault::NoFileName)));
     }
@@ -193,6 +193,16 @@ pub fn head(alloc: Global, words: &ArgMatches<'_>) -> Result<Head, Failure> {
         sector: first.sector(),
         interleave: interleave(alloc, given(words, "interleave"))?,
     })
+}
+
+/// The line that ART adds.
+pub fn art<'a>(words: &ArgMatches<'a>, charset: Charset) -> Art<'a> {
+    Art {
+        text: given(words, "TEXT"),
+        blocks: given(words, "blocks"),
+        place: option(words, "at"),
+        charset,
+    }
 }
 
 /// The disk that NEW makes.

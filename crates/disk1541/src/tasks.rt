@@ -137,6 +137,7 @@ fn perform<'a, R: Runtime + AllocGlobal>(
             change_with(rt, verb, words, image, input),
         Verb::Unlock | Verb::Title | Verb::Retype | Verb::Place | Verb::Sort | Verb::Validate =>
             change_with(rt, verb, words, image, input),
+        Verb::Art | Verb::Move => change_with(rt, verb, words, image, input),
     }
 }
 

@@ -83,6 +83,12 @@ pub fn examples_of(verb: Verb) -> &'static str {
         Verb::Place => examples!(
             "  disk1541 place demo.d64 LOADER --track 17 --interleave 4\n  disk1541 place demo.d64 'PART*' --interleave 4 --dry-run    where they would lie\n"
         ),
+        Verb::Art => examples!(
+            "  disk1541 art work.d64 '----------------'\n  disk1541 art work.d64 '♥ GAMES ♥' --at 1 --blocks 64\n"
+        ),
+        Verb::Move => examples!(
+            "  disk1541 move work.d64 START --to 1\n  disk1541 move work.d64 --slot 3 --to 2 --dry-run\n"
+        ),
         Verb::Sort => examples!("  disk1541 sort work.d64\n  disk1541 sort work.d64 --by size\n"),
         Verb::Title => examples!(
             "  disk1541 title work.d64 'MY GAME'\n  disk1541 title work.d64 'MY GAME' --id 64\n"

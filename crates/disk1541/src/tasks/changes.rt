@@ -1,5 +1,7 @@
 //! What a command makes of the bytes of an image.
-use crate::reading::{choice, head, host_files, pair, patterns_word, type_and_choice};
+use crate::reading::{
+    art, choice, head, host_files, one_choice, pair, patterns_word, type_and_choice,
+};
 use cbm_shell::texts::Charset;
 use clap::ArgMatches;
 use disk_basics::strays::require_kept;
@@ -7,8 +9,9 @@ use disk_basics::{Choice, Failure, What, WordFault, in_memory};
 use disk_changes::{require_files, with_files};
 use disk_commands::{Verb, flag, given, option};
 use disk_edits::{
-    Deed, Desk, Edit, Gone, Ordering, Placement, Showing, copied, done_with, edited, given_back,
-    in_order, key_of_word, placed, renamed, require_names, rest_of, retyped, sorted, without_fault,
+    Deed, Desk, Edit, Gone, Ordering, Placement, Showing, adorned, copied, done_with, edited,
+    given_back, in_order, key_of_word, moved, placed, renamed, require_names, rest_of, retyped,
+    sorted, without_fault,
 };
 use std::alloc::Global;
 use std::rt::Runtime;
@@ -300,6 +303,11 @@ fn made_plainly<'a, R: Runtime + AllocGlobal>(
         }
         Verb::Retype => plain(retype_of(alloc, words, charset, desk)),
         Verb::Place => place_of(alloc, words, desk, showing),
+        Verb::Art => plain(adorned(alloc, desk, art(words, charset))),
+        Verb::Move => {
+            let choice = one_choice(words, charset)?;
+            plain(moved(alloc, desk, choice, given(words, "to")))
+        }
         Verb::Sort => {
             let key = key_of_word(rt.alloc(), given(words, "by"))?;
             plain(sorted(alloc, desk.image, desk.bytes, key))

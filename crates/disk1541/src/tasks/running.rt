@@ -137,7 +137,7 @@ fn is_for_lines(verb: Verb) -> bool {
     match verb {
         Verb::Put | Verb::Copy | Verb::Rename | Verb::Delete | Verb::Undelete => true,
         Verb::Lock | Verb::Unlock | Verb::Title | Verb::Retype => true,
-        Verb::Place | Verb::Sort | Verb::Validate => true,
+        Verb::Place | Verb::Sort | Verb::Validate | Verb::Art | Verb::Move => true,
         _ => false,
     }
 }

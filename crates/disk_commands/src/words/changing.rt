@@ -282,6 +282,40 @@ pub const RECIPE: Word = Word {
     ..NEEDED
 };
 
+/// What a line of art shows.
+pub const ART_TEXT: Word = Word {
+    name: "TEXT",
+    help: "its text, up to 16 characters",
+    takes_hyphens: true,
+    ..NEEDED
+};
+
+/// The place of a line of art.
+pub const ART_PLACE: Word = Word {
+    name: "at",
+    help: "its place among the files, from 1 on; default: the last",
+    value: &["PLACE"],
+    ..OPTION
+};
+
+/// How many blocks a line of art shows.
+pub const ART_BLOCKS: Word = Word {
+    name: "blocks",
+    help: "the number of blocks that it shows",
+    value: &["N"],
+    default: &["0"],
+    ..OPTION
+};
+
+/// Where MOVE moves a file.
+pub const NEW_PLACE: Word = Word {
+    name: "to",
+    help: "its new place among the files, from 1 on",
+    is_needed: true,
+    value: &["PLACE"],
+    ..OPTION
+};
+
 /// What SORT sorts by.
 pub const BY: Word = Word {
     name: "by",
