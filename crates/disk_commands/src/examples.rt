@@ -84,7 +84,7 @@ pub fn examples_of(verb: Verb) -> &'static str {
             "  disk1541 place demo.d64 LOADER --track 17 --interleave 4\n  disk1541 place demo.d64 'PART*' --interleave 4 --dry-run    where they would lie\n"
         ),
         Verb::Art => examples!(
-            "  disk1541 art work.d64 '----------------'\n  disk1541 art work.d64 '♥ GAMES ♥' --at 1 --blocks 64\n"
+            "  disk1541 art work.d64 '----------------'\n  disk1541 art work.d64 'MY GAMES' --at 1 --blocks 64\n"
         ),
         Verb::Move => examples!(
             "  disk1541 move work.d64 START --to 1\n  disk1541 move work.d64 --slot 3 --to 2 --dry-run\n"
