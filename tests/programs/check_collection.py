@@ -356,11 +356,24 @@ def is_transferred(tally, image, path, disk, other):
     ran = run("transfer", from_path, path)
     readable = [it for it in source.files if it.closed and it.type in LETTERS]
     # (a drive closes an empty file with one byte, 13, as docs/disk1541/files.md says)
-    new = [(it.name, it.type, it.data or b"\r") for it in readable if it.data is not None]
+    new = [(it.name, it.type, it.data or b"\r") for it in readable if it.data is not None and getattr(it, "geos", None) is None]
     is_kept(tally, image, Call("transfer", (other.path,), (), new), ran, disk, path)
     if ran[0] == 0:
-        left = [it.name for it in source.files if it.closed and (it.data is None or getattr(it, "geos", None) is not None)]
+        left = [it.name for it in source.files if it.closed and it.data is None]
         tally.is_so(image.path, "transfer ends with 0 only if it left none", not left, (other.path, left))
+        with open(path, "rb") as it:
+            now = [geos_parts(it) for it in Disk(it.read()).files]
+        lost = [it.name for it in source.files if getattr(it, "geos", None) is not None and geos_parts(it) not in now]
+        tally.is_so(image.path, "transfer keeps the info block and the records of files of GEOS", not lost, (other.path, lost))
+
+
+def geos_parts(file):
+    """A file of GEOS: its info block, and its chain or its records, wherever their blocks are."""
+    if file.geos is None:
+        return None
+    (index, _), (info, _), *records = file.parts
+    bytes_of = lambda blocks: b"".join(map(data_of, blocks))
+    return file.name, file.type, file.geos, data_of(info[0]), [bytes_of(it) for it, _ in records] if file.geos else bytes_of(index)
 
 
 # ---- a tree of images

@@ -11,6 +11,7 @@ fn changes(verb: Verb) -> bool {
         Verb::Put | Verb::Transfer | Verb::Copy | Verb::Rename | Verb::Delete => true,
         Verb::Undelete | Verb::Lock | Verb::Unlock | Verb::Title | Verb::Validate => true,
         Verb::Sort | Verb::Errors | Verb::Retype | Verb::Place | Verb::Run => true,
+        Verb::Art | Verb::Move => true,
         Verb::Describe | Verb::Build | Verb::Track | Verb::Show | Verb::Diff => false,
         Verb::List | Verb::Find | Verb::Get | Verb::GetAll | Verb::Info => false,
         Verb::Map | Verb::Sector | Verb::Check | Verb::Hash | Verb::New | Verb::Convert => false,

@@ -4,7 +4,7 @@ use crate::several::{change_each, images_of};
 use crate::tasks::{carry_out, reads_input};
 use clap::ArgMatches;
 use clap::error::ErrorKind;
-use disk_basics::host::read_file;
+use disk_basics::host::{print, read_file};
 use disk_basics::{Failure, What, in_memory};
 use disk_commands::{flag, verb_of};
 use disk_looks::Progress;
@@ -29,6 +29,9 @@ pub fn run_program(rt: &HostRuntime) -> ExitCode {
         Ok(words) => words,
         Err(_) => return ended(rt, Failure::new(What::NoMemory)),
     };
+    if let Some(text) = disk_commands::topic_of(words.as_slice()) {
+        return finished(rt, print(rt, text.as_bytes()));
+    }
     let Ok(help) = disk_commands::help_for(rt.alloc(), words.as_slice()) else {
         return ended(rt, Failure::new(What::NoMemory));
     };
@@ -40,10 +43,7 @@ pub fn run_program(rt: &HostRuntime) -> ExitCode {
     if let Some(status) = read_input(rt, &line, &mut input) {
         return ExitCode::from(status);
     }
-    match carried_out(rt, &line, progress, input.as_slice()) {
-        Ok(()) => ExitCode::from(0),
-        Err(failure) => ended(rt, failure),
-    }
+    finished(rt, carried_out(rt, &line, progress, input.as_slice()))
 }
 
 /// Reads standard input, if the command puts it on a disk. It is read before the folder is locked: it may take its time, and nobody
@@ -88,6 +88,14 @@ fn carried_out<'a>(
     let answer = carry_out(rt, line, progress, given_of(line, input));
     drop(others_wait);
     answer
+}
+
+/// The exit status of an answer; what went wrong is reported.
+fn finished(rt: &HostRuntime, answer: Result<(), Failure>) -> ExitCode {
+    match answer {
+        Ok(()) => ExitCode::from(0),
+        Err(failure) => ended(rt, failure),
+    }
 }
 
 // Reports what went wrong.

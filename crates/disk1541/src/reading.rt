@@ -7,7 +7,7 @@ use disk_basics::{Choice, Failure, What, WordFault};
 use disk_changes::{Blank, Build, Conversion, HostFiles};
 use disk_commands::{flag, given, option};
 use disk_compare::{Form, Wanted};
-use disk_edits::{ErrorDeed, Pair};
+use disk_edits::{Art, ErrorDeed, Pair};
 use disk_looks::{Description, Destination, Mapping, OneFile};
 use disk_reports::View;
 use std::alloc::Global;
@@ -105,11 +105,11 @@ pub fn error_deed(words: &ArgMatches<'_>) -> ErrorDeed {
     if flag(words, "drop") {
         return ErrorDeed::Drop(flag(words, "lossy"));
     }
-    ErrorDeed::Show
+    ErrorDeed::Show(flag(words, "json"))
 }
 
 /// One file, by its name or by its slot. Errors: `Word`, where it isn't said by one of them.
-fn one_choice<'a>(words: &ArgMatches<'a>, charset: Charset) -> Result<Choice<'a>, Failure> {
+pub fn one_choice<'a>(words: &ArgMatches<'a>, charset: Charset) -> Result<Choice<'a>, Failure> {
     if option(words, "NAME").is_some() == option(words, "slot").is_some() {
         return Err(Failure::new(What::Word(WordFault::NoFileName)));
     }
@@ -136,6 +136,7 @@ pub fn wanted<'a>(words: &ArgMatches<'a>, charset: Charset) -> Result<Wanted<'a>
     Ok(Wanted {
         choice: one_choice(words, charset)?,
         form: form(words),
+        is_json: flag(words, "json"),
     })
 }
 
@@ -192,6 +193,16 @@ pub fn head(alloc: Global, words: &ArgMatches<'_>) -> Result<Head, Failure> {
         sector: first.sector(),
         interleave: interleave(alloc, given(words, "interleave"))?,
     })
+}
+
+/// The line that ART adds.
+pub fn art<'a>(words: &ArgMatches<'a>, charset: Charset) -> Art<'a> {
+    Art {
+        text: given(words, "TEXT"),
+        blocks: given(words, "blocks"),
+        place: option(words, "at"),
+        charset,
+    }
 }
 
 /// The disk that NEW makes.
@@ -262,6 +273,7 @@ pub fn description<'a>(words: &ArgMatches<'a>, charset: Charset) -> Description<
     Description {
         folder: given(words, "folder"),
         charset,
+        is_json: flag(words, "json"),
     }
 }
 

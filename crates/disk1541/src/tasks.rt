@@ -61,6 +61,7 @@ fn transfer_with<R: Runtime + AllocGlobal>(
         patterns: words.get_strs("PATTERN").unwrap_or(&[]),
         replaces: flag(words, "replace"),
         is_dry: flag(words, "dry-run"),
+        is_json: flag(words, "json"),
         charset,
     };
     transfer_files(rt, given(words, "IMAGE"), &wanted)
@@ -136,6 +137,7 @@ fn perform<'a, R: Runtime + AllocGlobal>(
             change_with(rt, verb, words, image, input),
         Verb::Unlock | Verb::Title | Verb::Retype | Verb::Place | Verb::Sort | Verb::Validate =>
             change_with(rt, verb, words, image, input),
+        Verb::Art | Verb::Move => change_with(rt, verb, words, image, input),
     }
 }
 

@@ -1,13 +1,13 @@
 //! The disk of an image, with calls that promise nothing.
 use cbm_bam::{SectorSet, geometry};
 use cbm_image::AnyDisk;
-use cbm_medium::{Address, Medium};
+use cbm_medium::{Address, Fault, Medium, sectors_of};
 use cbm_shell::parts::{is_free_at, use_chain, use_geos};
 use cbm_shell::{
-    DiskFlaw, Listed, Salvaged, ShellFault, entries_of, error_at, flaws_of, listed_of, lost_of,
-    open_disk, read_file, salvage, users_of,
+    DiskFlaw, Info, Listed, Salvaged, ShellFault, entries_of, error_at, flaws_of, listed_of,
+    lost_of, open_disk, picture_of, read_file, salvage, users_of,
 };
-use cbm_volume::{Entry, Volume};
+use cbm_volume::{Entry, Label, Unsound, Volume};
 use std::alloc::{AllocError, Global};
 
 /// The disk of an image, opened once.
@@ -62,6 +62,54 @@ impl Disk {
     /// The blocks that nothing uses, and that aren't free. The one error is `Memory`.
     pub fn lost(&self, alloc: Global) -> Result<Vec<Address>, ShellFault> {
         lost_of(alloc, &self.volume)
+    }
+
+    /// Whether it is sound, or what is wrong with it first.
+    pub fn check(&self) -> Result<(), Unsound> {
+        self.volume.check()
+    }
+
+    /// Title, id and kind of DOS; None where 18/0 can't be read.
+    pub fn label(&self) -> Option<Label> {
+        self.volume.label().ok()
+    }
+
+    /// The blocks that are free for files; None where 18/0 can't be read.
+    pub fn free(&self) -> Option<u16> {
+        self.volume.free().ok()
+    }
+
+    /// What it is. The one error is want of memory.
+    pub fn info(&self, alloc: Global) -> Result<Info, AllocError> {
+        let mut unreadable = Vec::new(alloc);
+        let tracks = self.volume.medium().tracks();
+        for track in 0..tracks {
+            self.add_faults(&mut unreadable, track.saturating_add(1))?;
+        }
+        Ok(Info {
+            tracks,
+            label: self.label(),
+            free: self.free(),
+            check: self.check(),
+            unreadable,
+        })
+    }
+
+    /// Adds the sectors of a track that don't read.
+    fn add_faults(&self, faults: &mut Vec<Fault>, track: u8) -> Result<(), AllocError> {
+        for sector in 0..sectors_of(track) {
+            if let Some(at) = Address::new(track, sector)
+                && let Err(fault) = self.volume.medium().read(at)
+            {
+                faults.push(fault).map_err(AllocError::from)?;
+            }
+        }
+        Ok(())
+    }
+
+    /// A picture of its sectors, which is the last that is asked of it. The one error is `Memory`.
+    pub fn into_picture(self, alloc: Global) -> Result<Vec<u8>, ShellFault> {
+        picture_of(alloc, self.volume.into_medium())
     }
 
     /// The bytes of a sector, or the code of what stands in their place; None where the disk has no such track.

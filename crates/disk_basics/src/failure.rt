@@ -57,7 +57,7 @@ impl Failure {
 
     /// Why an image can't be looked at, without its name.
     pub fn reason(&self) -> &'static str {
-        self.what.reason()
+        self.what.reason(self.name())
     }
 
     /// Prints the sentence on standard error.

@@ -4,7 +4,7 @@ use crate::packed::{is_packed, unpacked_image};
 use crate::what::What;
 use crate::word_fault::WordFault;
 use disk_facts::{WideMap, not_image, wide_map};
-use host_files::{GREATEST_IMAGE, Leftovers, Sync, read_whole};
+use host_files::{GREATEST_IMAGE, Leftovers, Sync, has_other_names, read_whole};
 use host_locks::is_same;
 use std::alloc::Global;
 use std::io::{self, Write};
@@ -145,6 +145,15 @@ pub fn print<R: Runtime + AllocGlobal>(rt: &R, bytes: &[u8]) -> Result<(), Failu
     written(rt.alloc(), "standard output", output.write_all(bytes))
 }
 
+/// Reports that a file which was replaced has another name, under which the old one is left.
+fn tell_others(rt: &impl Eprint, name: &str, has_others: bool) {
+    if has_others {
+        let _ = eprintln!(rt;
+            "disk1541: {name} had another name (a hard link), which keeps the old file"
+        );
+    }
+}
+
 /// Writes a file whole or not at all, or standard output. A new image is on the host's disk before it takes the place of
 /// the old one; of a file that was taken out the image still has the bytes, so nothing waits for the host's disk. The one
 /// error is `Write`.
@@ -158,11 +167,14 @@ pub fn write<R: Runtime + AllocGlobal>(
         return print(rt, bytes);
     }
     let path = path_of(rt.alloc(), name)?;
+    let has_others = has_other_names(rt, path.as_str());
     written(
         rt.alloc(),
         name,
         host_files::save_by(rt, PROGRAM, path.as_str(), bytes, sync),
-    )
+    )?;
+    tell_others(rt, name, has_others);
+    Ok(())
 }
 
 /// Writes one of several files that are taken out whole or not at all, as `write` does: what a killed program left in their folder is
@@ -193,8 +205,12 @@ pub fn replace<R: Runtime + AllocGlobal>(
         return print(rt, new);
     }
     let path = path_of(rt.alloc(), name)?;
+    let has_others = has_other_names(rt, path.as_str());
     match host_files::replace(rt, PROGRAM, path.as_str(), old, new) {
-        Ok(true) => Ok(()),
+        Ok(true) => {
+            tell_others(rt, name, has_others);
+            Ok(())
+        }
         Ok(false) => Err(Failure::named(rt.alloc(), What::Changed, name)),
         Err(error) => Err(Failure::named(rt.alloc(), What::Write(error.kind()), name)),
     }

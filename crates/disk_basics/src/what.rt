@@ -113,11 +113,30 @@ pub enum What {
     NoMemory,
 }
 
+/// Whether a name has bytes that are no text. Of those that are written as `\xHH` only these are beyond ASCII.
+fn has_no_text(name: &str) -> bool {
+    for part in name.as_bytes().windows(4) {
+        if let [
+            b'\\',
+            b'x',
+            b'8' | b'9' | b'A'..=b'F',
+            b'0'..=b'9' | b'A'..=b'F',
+        ] = part
+        {
+            return true;
+        }
+    }
+    false
+}
+
 /// Why a file of this computer failed, where this program has words of its own for it.
-fn host_text(kind: io::ErrorKind) -> Option<&'static str> {
+fn host_text(name: &str, kind: io::ErrorKind) -> Option<&'static str> {
     match kind {
+        io::ErrorKind::InvalidFilename if has_no_text(name) => {
+            Some("the name isn't UTF-8: use another one, or `-`")
+        }
         io::ErrorKind::NotFound => Some("no such file or folder"),
-        io::ErrorKind::InvalidFilename => Some("the name isn't UTF-8, or is too long"),
+        io::ErrorKind::InvalidFilename => Some("the name is too long"),
         io::ErrorKind::FilesystemLoop => Some("symbolic links that form a loop"),
         io::ErrorKind::Uncategorized => Some("the system refused it"),
         _ => None,
@@ -126,7 +145,7 @@ fn host_text(kind: io::ErrorKind) -> Option<&'static str> {
 
 /// Prints which file of this computer failed.
 fn tell_host(rt: &impl Eprint, call: &str, name: &str, kind: io::ErrorKind) -> io::Result<()> {
-    match host_text(kind) {
+    match host_text(name, kind) {
         Some(why) => eprintln!(rt; "disk1541: can't {call} {name}: {why}"),
         None => eprintln!(rt; "disk1541: can't {call} {name}: {kind}"),
     }
@@ -153,12 +172,12 @@ impl What {
         }
     }
 
-    /// Why an image can't be looked at, without its name.
-    pub fn reason(self) -> &'static str {
+    /// Why an image of this name can't be looked at, without the name.
+    pub fn reason(self, name: &str) -> &'static str {
         match self {
             What::Read(io::ErrorKind::PermissionDenied) => "permission denied",
             What::Read(io::ErrorKind::IsADirectory) => "a folder",
-            What::Read(kind) => host_text(kind).unwrap_or("it can't be read"),
+            What::Read(kind) => host_text(name, kind).unwrap_or("it can't be read"),
             What::TooLong(..) => "it is larger than any image",
             What::Foreign(why, _) => why.words(),
             What::Disk(ShellFault::Image(number)) => image_fault_text(number),

@@ -21,7 +21,10 @@ const PLAIN_TYPES: &str = " is not a file type: use prg, seq or usr";
 
 /// Which commands lines have.
 const NO_LINE: &str =
-    " is not a command for `run`: use put, copy, rename, delete, undelete, lock, unlock, title, retype, place, sort or validate";
+    " is not a command for `run`: use put, copy, rename, delete, undelete, lock, unlock, title, art, move, retype, place, sort or validate";
+
+/// Which places a directory has.
+const PLACES: &str = " is no place of this directory: its files are counted from 1 on";
 
 /// How a format is said.
 const FORMATS: &str =
@@ -82,6 +85,10 @@ pub enum WordFault {
     Recipe,
     /// No directory is sorted by that.
     Order,
+    /// The directory has no such place.
+    Place,
+    /// No entry shows such a number of blocks.
+    ShownBlocks,
     /// A disk's title has more than sixteen characters.
     Title,
     /// A disk's id hasn't two characters, nor five.
@@ -150,6 +157,8 @@ impl WordFault {
             WordFault::Line => ("an entry of a recipe needs either `file` or `art`", ""),
             WordFault::Recipe => ("", " is no recipe of a disk: nothing is made"),
             WordFault::Order => { ("", " is not a sort order: use name, type or size") }
+            WordFault::Place => ("", PLACES),
+            WordFault::ShownBlocks => ("an entry shows 0 to 65535 blocks, not ", ""),
             WordFault::Title => ("a title has at most 16 characters: ", ""),
             WordFault::Id => ("an id has two characters, or five: ", ""),
             WordFault::Tracks => ("a disk has 35 or 40 tracks, not ", ""),

@@ -66,9 +66,15 @@ fn entry_in(bytes: &[u8]) -> Option<Entry> {
 
 /// The parts of a file that is named as a CVT and is one; None of any other.
 pub fn cvt_of<'b>(file: &str, bytes: &'b [u8]) -> Option<Cvt<'b>> {
-    if !is_cvt_name(file) {
-        return None;
+    if is_cvt_name(file) {
+        parts_of(bytes)
+    } else {
+        None
     }
+}
+
+/// The parts of a CVT; None of any other bytes.
+fn parts_of<'b>(bytes: &'b [u8]) -> Option<Cvt<'b>> {
     let entry = entry_in(bytes)?;
     let has_records = geos_of(&entry)?.has_records;
     let begin = if has_records { 3 * BLOCK } else { 2 * BLOCK };
@@ -319,4 +325,19 @@ pub fn with_cvt(
 /// The name of a CVT's file.
 pub fn name_in<'b>(cvt: &'b Cvt<'_>) -> &'b [u8] {
     cvt.entry.name()
+}
+
+/// The image with the file of GEOS that these bytes of a CVT are, under the name in them. Errors: `CutOff`, where they are none; those of
+/// `with_cvt`.
+pub fn with_geos(
+    alloc: Global,
+    image: &str,
+    old: &[u8],
+    file: &str,
+    cvt: &[u8],
+) -> Result<Vec<u8>, Failure> {
+    match parts_of(cvt) {
+        Some(parts) => with_cvt(alloc, image, old, file, &parts, name_in(&parts)),
+        None => Err(Failure::named(alloc, What::CutOff, file)),
+    }
 }

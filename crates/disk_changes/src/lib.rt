@@ -11,5 +11,6 @@ mod stored;
 pub use blanks::{Blank, make};
 pub use building::{Build, build_image};
 pub use converting::{Conversion, convert_from};
+pub use cvt::with_geos;
 pub use putting::{HostFiles, require_files, tell_empty, with_files};
 pub use stored::{Stored, with_stored};

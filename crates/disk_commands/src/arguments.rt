@@ -1,7 +1,8 @@
 //! The command line, as clap reads it.
 use crate::asked::{Asked, asked_by};
 use crate::commands::{
-    Command, changing_commands, looking_commands, making_commands, reading_commands,
+    Command, arranging_commands, changing_commands, looking_commands, making_commands,
+    reading_commands,
 };
 use crate::examples::examples_of;
 use crate::word::{Mark, Word};
@@ -19,6 +20,7 @@ fn unmarked<'a>(alloc: Global, word: &Word) -> Result<Arg<'a>, AllocError> {
         .action(word.action)
         .value_names(word.value)
         .default_values(word.default)
+        .allow_hyphen_values(word.takes_hyphens)
         .conflicts_with_all(word.excludes)
 }
 
@@ -80,6 +82,7 @@ fn subcommands<'a>(alloc: Global) -> Result<Vec<clap::Command<'a>>, AllocError> 
     add_subcommands(alloc, &mut subcommands, looking_commands())?;
     add_subcommands(alloc, &mut subcommands, making_commands())?;
     add_subcommands(alloc, &mut subcommands, changing_commands())?;
+    add_subcommands(alloc, &mut subcommands, arranging_commands())?;
     Ok(subcommands)
 }
 

@@ -1,10 +1,11 @@
 //! The commands.
 use crate::word::Word;
 use crate::words::changing::{
-    ADD, BY, DROP, DRY_RUN, FILES, FORCE, FORCE_FAULT, FORMAT, FROM, GONE, ID, INTERLEAVE, LINES,
-    LOSSY, LOSSY_DROP, MEANT, NAME_ON_DISK, NEW, NEW_ID, NEW_TITLE, NEW_TRACKS, NEW_TYPE, OF_ALL,
-    OLD, ORDERED, ORDERED_WITHIN, OUT, PLACED, RECIPE, RECORD, REPLACE_IMAGE, REPLACE_NAME,
-    SECTOR_FROM, TITLE, TRACK_FROM, TRACKS, TRANSFERRED, TYPE, TYPE_AGAIN,
+    ADD, ART_BLOCKS, ART_PLACE, ART_TEXT, BY, DROP, DRY_RUN, FILES, FORCE, FORCE_FAULT, FORMAT,
+    FROM, GONE, ID, INTERLEAVE, JSON_CHANGES, JSON_ERRORS, LINES, LOSSY, LOSSY_DROP, MEANT,
+    NAME_ON_DISK, NEW, NEW_ID, NEW_PLACE, NEW_TITLE, NEW_TRACKS, NEW_TYPE, OF_ALL, OLD, ORDERED,
+    ORDERED_WITHIN, OUT, PLACED, RECIPE, RECORD, REPLACE_IMAGE, REPLACE_NAME, SECTOR_FROM, TITLE,
+    TRACK_FROM, TRACKS, TRANSFERRED, TYPE, TYPE_AGAIN,
 };
 use crate::words::looking::{
     ALL, BASIC, BLOCKS, CHARSET, CIRCLE, CSV, CVT, CVT_ALL, DELETED, EXACT, FILES_FOLDER, FIRST,
@@ -68,6 +69,10 @@ pub enum Verb {
     Unlock,
     /// Gives the disk another title.
     Title,
+    /// Adds a line of art to the directory.
+    Art,
+    /// Gives a file another place in the directory.
+    Move,
     /// Sorts the directory.
     Sort,
     /// Gives lost blocks back.
@@ -150,6 +155,7 @@ const READING: &[Command] = &[
             BASIC,
             HEX,
             TEXT,
+            JSON_OBJECT,
             SLOT,
             EXACT,
             SCREEN_CHARSET,
@@ -205,7 +211,7 @@ const LOOKING: &[Command] = &[
         verb: Verb::Describe,
         name: "describe",
         about: "Show the recipe of a disk, as build takes it",
-        words: &[IMAGE, FILES_FOLDER, CHARSET],
+        words: &[IMAGE, FILES_FOLDER, JSON_OBJECT, CHARSET],
     },
 ];
 
@@ -247,7 +253,15 @@ const MAKING: &[Command] = &[
         verb: Verb::Transfer,
         name: "transfer",
         about: "Copy files from another disk or archive",
-        words: &[FROM, IMAGE, TRANSFERRED, REPLACE_NAME, DRY_RUN, CHARSET],
+        words: &[
+            FROM,
+            IMAGE,
+            TRANSFERRED,
+            REPLACE_NAME,
+            DRY_RUN,
+            JSON_CHANGES,
+            CHARSET,
+        ],
     },
 ];
 
@@ -274,6 +288,7 @@ const CHANGING: &[Command] = &[
             MEANT,
             OF_ALL,
             DRY_RUN,
+            JSON_CHANGES,
             FORCE_FAULT,
             SLOT,
             EXACT,
@@ -290,13 +305,31 @@ const CHANGING: &[Command] = &[
         verb: Verb::Lock,
         name: "lock",
         about: "Lock files, so that they can't be deleted",
-        words: &[IMAGE, MEANT, OF_ALL, DRY_RUN, SLOT, EXACT, CHARSET],
+        words: &[
+            IMAGE,
+            MEANT,
+            OF_ALL,
+            DRY_RUN,
+            JSON_CHANGES,
+            SLOT,
+            EXACT,
+            CHARSET,
+        ],
     },
     Command {
         verb: Verb::Unlock,
         name: "unlock",
         about: "Unlock files",
-        words: &[IMAGE, MEANT, OF_ALL, DRY_RUN, SLOT, EXACT, CHARSET],
+        words: &[
+            IMAGE,
+            MEANT,
+            OF_ALL,
+            DRY_RUN,
+            JSON_CHANGES,
+            SLOT,
+            EXACT,
+            CHARSET,
+        ],
     },
     Command {
         verb: Verb::Title,
@@ -315,6 +348,7 @@ const CHANGING: &[Command] = &[
             TRACK_FROM,
             SECTOR_FROM,
             DRY_RUN,
+            JSON_CHANGES,
             CHARSET,
         ],
     },
@@ -323,6 +357,39 @@ const CHANGING: &[Command] = &[
         name: "retype",
         about: "Change a file's type",
         words: &[IMAGE, NAME_OR_SLOT, NEW_TYPE, SLOT, EXACT, CHARSET],
+    },
+];
+
+/// The commands that change the directory or the disk as a whole, in the order of help.
+const ARRANGING: &[Command] = &[
+    Command {
+        verb: Verb::Art,
+        name: "art",
+        about: "Add a line of art to the directory",
+        words: &[
+            IMAGE,
+            ART_TEXT,
+            ART_PLACE,
+            ART_BLOCKS,
+            DRY_RUN,
+            JSON_CHANGES,
+            CHARSET,
+        ],
+    },
+    Command {
+        verb: Verb::Move,
+        name: "move",
+        about: "Move a file to another place in the directory",
+        words: &[
+            IMAGE,
+            NAME_OR_SLOT,
+            NEW_PLACE,
+            DRY_RUN,
+            JSON_CHANGES,
+            SLOT,
+            EXACT,
+            CHARSET,
+        ],
     },
     Command {
         verb: Verb::Sort,
@@ -340,13 +407,13 @@ const CHANGING: &[Command] = &[
         verb: Verb::Errors,
         name: "errors",
         about: "Show the error bytes of a D64, add them or drop them",
-        words: &[IMAGE, ADD, DROP, LOSSY_DROP],
+        words: &[IMAGE, ADD, DROP, LOSSY_DROP, JSON_ERRORS],
     },
     Command {
         verb: Verb::Run,
         name: "run",
         about: "Carry out several commands on an image, all or none",
-        words: &[IMAGE, LINES, DRY_RUN],
+        words: &[IMAGE, LINES, DRY_RUN, JSON_CHANGES],
     },
 ];
 
@@ -370,6 +437,11 @@ pub fn changing_commands() -> &'static [Command] {
     CHANGING
 }
 
+/// The commands that change the directory or the disk as a whole, in the order of help.
+pub fn arranging_commands() -> &'static [Command] {
+    ARRANGING
+}
+
 /// The command of a name among these.
 fn command_in(commands: &[Command], name: &str) -> Option<Command> {
     for command in commands {
@@ -388,9 +460,12 @@ pub fn command_of(name: &str) -> Option<Command> {
     if let Some(command) = command_in(looking_commands(), name) {
         return Some(command);
     }
-    match command_in(making_commands(), name) {
+    if let Some(command) = command_in(making_commands(), name) {
+        return Some(command);
+    }
+    match command_in(changing_commands(), name) {
         Some(command) => Some(command),
-        None => command_in(changing_commands(), name),
+        None => command_in(arranging_commands(), name),
     }
 }
 

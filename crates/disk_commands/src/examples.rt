@@ -14,7 +14,7 @@ macro_rules! examples {
 
 /// The end of the help of all commands.
 pub const EXAMPLES: &str = examples!(
-    "  disk1541 list game.d64                  what is on the disk\n  disk1541 get game.d64 'LOADER*' -o loader.prg\n  disk1541 check -r disks/                all images in a folder\n  disk1541 help put                       the words of one command\n"
+    "  disk1541 list game.d64                  what is on the disk\n  disk1541 get game.d64 'LOADER*' -o loader.prg\n  disk1541 check -r disks/                all images in a folder\n  disk1541 help put                       the words of one command\n  disk1541 help names                     how names of files are written\n"
 );
 
 /// The end of the help of a command.
@@ -27,7 +27,7 @@ pub fn examples_of(verb: Verb) -> &'static str {
             "  disk1541 find 'HISCORE*' *.d64 *.d81\n  disk1541 find -r 'HISCORE*' disks/\n"
         ),
         Verb::Get => examples!(
-            "  disk1541 get game.d64 LOADER -o loader.prg\n  disk1541 get game.d64 '{c1}*' > first\n  disk1541 get bad.d64 --salvage 'LEVEL*' -o level.bin\n  disk1541 get geos.d64 LETTER --cvt -o letter.cvt\n  disk1541 get odd.d64 --exact 'ST*R1' -o star.prg\n"
+            "  disk1541 get game.d64 LOADER -o loader.prg\n  disk1541 get game.d64 '{c1}*' > first\n  disk1541 get game.d64 LOADER -o loader.p00    with PC64's head, which has the name\n  disk1541 get bad.d64 --salvage 'LEVEL*' -o level.bin\n  disk1541 get geos.d64 LETTER --cvt -o letter.cvt\n  disk1541 get odd.d64 --exact 'ST*R1' -o star.prg\n"
         ),
         Verb::GetAll => examples!(
             "  disk1541 get-all game.d64 files\n  disk1541 get-all game.d64 files 'LEVEL*' --type seq\n"
@@ -64,7 +64,7 @@ pub fn examples_of(verb: Verb) -> &'static str {
             "  disk1541 put work.d64 loader.prg levels.seq\n  disk1541 put work.d64 out.bin --name LOADER --replace\n"
         ),
         Verb::Transfer => examples!(
-            "  disk1541 transfer old.d64 work.d64\n  disk1541 transfer games.d81 work.d64 'LEVEL*'\n  disk1541 transfer tape.t64 work.d64 --dry-run    what would be transferred\n"
+            "  disk1541 transfer old.d64 work.d64\n  disk1541 transfer games.d81 work.d64 'LEVEL*'\n  disk1541 transfer tape.t64 work.d64 --dry-run    what would be transferred\n  disk1541 transfer tape.t64 work.d64 --dry-run --json\n"
         ),
         Verb::Copy => examples!("  disk1541 copy work.d64 LOADER BACKUP\n"),
         Verb::Rename => examples!(
@@ -82,6 +82,12 @@ pub fn examples_of(verb: Verb) -> &'static str {
         Verb::Unlock => examples!("  disk1541 unlock work.d64 '*'\n"),
         Verb::Place => examples!(
             "  disk1541 place demo.d64 LOADER --track 17 --interleave 4\n  disk1541 place demo.d64 'PART*' --interleave 4 --dry-run    where they would lie\n"
+        ),
+        Verb::Art => examples!(
+            "  disk1541 art work.d64 '----------------'\n  disk1541 art work.d64 'MY GAMES' --at 1 --blocks 64\n"
+        ),
+        Verb::Move => examples!(
+            "  disk1541 move work.d64 START --to 1\n  disk1541 move work.d64 --slot 3 --to 2 --dry-run\n"
         ),
         Verb::Sort => examples!("  disk1541 sort work.d64\n  disk1541 sort work.d64 --by size\n"),
         Verb::Title => examples!(

@@ -1,7 +1,8 @@
 //! The help of all commands: those that look, and those that change.
 use crate::asked::{Asked, asked_by};
 use crate::commands::{
-    Command, changing_commands, looking_commands, making_commands, reading_commands,
+    Command, arranging_commands, changing_commands, looking_commands, making_commands,
+    reading_commands,
 };
 use crate::examples::EXAMPLES;
 use std::alloc::{AllocError, Global};
@@ -59,6 +60,7 @@ fn help_text(alloc: Global) -> Result<String, AllocError> {
         making_commands(),
     )?;
     push_group(&mut text, "", changing_commands())?;
+    push_group(&mut text, "", arranging_commands())?;
     text.push_str(OPTIONS)?;
     text.push_str(EXAMPLES)?;
     Ok(text)

@@ -6,6 +6,7 @@ mod asked;
 mod commands;
 mod examples;
 mod help;
+mod topics;
 mod word;
 mod words;
 
@@ -13,3 +14,4 @@ pub use arguments::{flag, given, option, parse};
 pub use asked::other_name;
 pub use commands::{Verb, verb_of};
 pub use help::help_for;
+pub use topics::topic_of;

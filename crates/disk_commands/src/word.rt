@@ -31,6 +31,8 @@ pub struct Word {
     pub default: &'static [&'static str],
     /// The words that can't stand beside it.
     pub excludes: &'static [&'static str],
+    /// Whether it may begin with a hyphen.
+    pub takes_hyphens: bool,
 }
 
 /// A word that must be there.
@@ -43,6 +45,7 @@ pub const NEEDED: Word = Word {
     value: &[],
     default: &[],
     excludes: &[],
+    takes_hyphens: false,
 };
 
 /// A word with a value that may be missing.

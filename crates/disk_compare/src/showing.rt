@@ -1,11 +1,16 @@
 //! SHOW: a file on the screen.
+mod facts;
+
+use self::facts::file_line;
 use crate::screen::{Form, is_listed, screen_of};
 use cbm_basic::after_program;
 use cbm_shell::ShellFault;
 use cbm_volume::Entry;
 use disk_basics::host::{print, read_to_look};
+use disk_basics::rests::named;
 use disk_basics::{Choice, Disk, Failure, What, in_memory, on_disk, petscii, slot_chosen};
-use disk_facts::first_meant;
+use disk_facts::{number_meant, type_of};
+use disk_json::Named;
 use std::alloc::Global;
 use std::io;
 use std::rt::Runtime;
@@ -17,22 +22,26 @@ pub struct Wanted<'a> {
     pub choice: Choice<'a>,
     /// How it is shown, in the character set of its name.
     pub form: Form,
+    /// It is shown for programs.
+    pub is_json: bool,
 }
 
-/// The entry of the file that is said.
-fn entry_of<'e>(
-    alloc: Global,
-    entries: &'e [Entry],
-    choice: Choice<'_>,
-) -> Result<&'e Entry, Failure> {
-    let entry = if choice.is_pattern() {
-        let pattern = petscii(alloc, choice.charset, choice.name)?;
-        first_meant(entries, pattern.as_slice())
-    } else {
-        entries.get(slot_chosen(alloc, entries, choice)?)
-    };
-    match entry {
-        Some(entry) => Ok(entry),
+/// A file that is shown.
+#[derive(Drop)]
+struct Found {
+    file: Named,
+    kind: Option<&'static str>,
+    bytes: Vec<u8>,
+}
+
+/// The slot of the file that is said.
+fn slot_of(alloc: Global, entries: &[Entry], choice: Choice<'_>) -> Result<usize, Failure> {
+    if !choice.is_pattern() {
+        return slot_chosen(alloc, entries, choice);
+    }
+    let pattern = petscii(alloc, choice.charset, choice.name)?;
+    match number_meant(entries, pattern.as_slice()) {
+        Some(slot) => Ok(slot),
         None => Err(Failure::named(alloc, What::NoFile, choice.word())),
     }
 }
@@ -45,17 +54,24 @@ fn closed_file(alloc: Global, disk: &Disk, entry: &Entry) -> Result<Vec<u8>, She
     disk.file_of(alloc, entry)
 }
 
-/// The bytes of the file that is said.
-fn file_of(
+/// The file that is said.
+fn found_of(
     alloc: Global,
     image: &str,
     bytes: &[u8],
     choice: Choice<'_>,
-) -> Result<Vec<u8>, Failure> {
+) -> Result<Found, Failure> {
     let disk = on_disk(alloc, image, Disk::open(alloc, bytes))?;
     let listed = in_memory(disk.listed(alloc))?;
-    let entry = entry_of(alloc, listed.entries.as_slice(), choice)?;
-    on_disk(alloc, choice.word(), closed_file(alloc, &disk, entry))
+    let slot = slot_of(alloc, listed.entries.as_slice(), choice)?;
+    let Some(entry) = listed.entries.as_slice().get(slot) else {
+        return Err(Failure::named(alloc, What::NoFile, choice.word()));
+    };
+    Ok(Found {
+        bytes: on_disk(alloc, choice.word(), closed_file(alloc, &disk, entry))?,
+        file: in_memory(named(alloc, choice.charset, slot, entry))?,
+        kind: type_of(entry),
+    })
 }
 
 /// Reports how many bytes follow a program that is listed.
@@ -70,6 +86,19 @@ fn tell_more(rt: &impl Eprint, form: Form, file: &[u8]) -> io::Result<()> {
     }
 }
 
+/// Shows a file for programs.
+fn show_json<R: Runtime + AllocGlobal>(
+    rt: &R,
+    image: &str,
+    wanted: Wanted<'_>,
+    found: Found,
+) -> Result<(), Failure> {
+    let Found { file, kind, bytes } = found;
+    let shown = (wanted.choice.charset, wanted.form);
+    let line = file_line(rt.alloc(), image, file, kind, shown, bytes.as_slice());
+    print(rt, in_memory(line)?.as_slice())
+}
+
 /// Shows a file of an image. Errors: those of `read_to_look`; `Word`, where the name can't be typed or the slot is no number; `NoFile`;
 /// `Disk`, where the file was never closed or can't be read; `Write`; `NoMemory`.
 pub fn show<R: Runtime + AllocGlobal>(
@@ -78,14 +107,13 @@ pub fn show<R: Runtime + AllocGlobal>(
     wanted: Wanted<'_>,
 ) -> Result<(), Failure> {
     let bytes = read_to_look(rt, image)?;
-    let file = file_of(rt.alloc(), image, bytes.as_slice(), wanted.choice)?;
-    let text = screen_of(
-        rt.alloc(),
-        wanted.choice.charset,
-        wanted.form,
-        file.as_slice(),
-    );
+    let found = found_of(rt.alloc(), image, bytes.as_slice(), wanted.choice)?;
+    if wanted.is_json {
+        return show_json(rt, image, wanted, found);
+    }
+    let file = found.bytes.as_slice();
+    let text = screen_of(rt.alloc(), wanted.choice.charset, wanted.form, file);
     print(rt, in_memory(text)?.as_bytes())?;
-    let _ = tell_more(rt, wanted.form, file.as_slice());
+    let _ = tell_more(rt, wanted.form, file);
     Ok(())
 }

@@ -5,6 +5,8 @@ use disk_basics::calls::info;
 use disk_basics::host::{joined, print, read_image, replace};
 use disk_basics::{Failure, What, in_memory, on_disk};
 use disk_facts::without_errors;
+use disk_json::line;
+use serde::Serialize;
 use std::alloc::{AllocError, Global};
 use std::rt::Runtime;
 
@@ -17,8 +19,8 @@ const SECTORS: usize = 683;
 /// What is done with error bytes.
 #[derive(Clone, Copy)]
 pub enum ErrorDeed {
-    /// The sectors that don't read with them are shown.
-    Show,
+    /// The sectors that don't read with them are shown, for programs if so.
+    Show(bool),
     /// They are added, each of which says that all is well.
     Add,
     /// They are dropped, also those that say more, if so.
@@ -37,10 +39,49 @@ fn lines_of(alloc: Global, faults: &[Fault]) -> Result<String, AllocError> {
     Ok(text)
 }
 
+/// A sector that doesn't read, for programs.
+#[derive(Clone, Copy, Drop, Serialize)]
+struct ErrorFacts {
+    track: u8,
+    sector: u8,
+    error: u8,
+}
+
+/// The sectors that don't read with the error bytes, for programs.
+#[derive(Drop, Serialize)]
+struct ErrorsReport<'a> {
+    image: &'a str,
+    errors: Vec<ErrorFacts>,
+}
+
+/// The sectors that don't read with the error bytes, as a line of JSON.
+fn errors_line(alloc: Global, image: &str, faults: &[Fault]) -> Result<Vec<u8>, AllocError> {
+    let mut errors = Vec::new(alloc);
+    for fault in faults {
+        let facts = ErrorFacts {
+            track: fault.at.track(),
+            sector: fault.at.sector(),
+            error: fault.code,
+        };
+        errors.push(facts).map_err(AllocError::from)?;
+    }
+    line(alloc, &ErrorsReport { image, errors })
+}
+
 /// Shows the sectors of an image that don't read with its error bytes.
-fn show<R: Runtime + AllocGlobal>(rt: &R, image: &str, bytes: &[u8]) -> Result<(), Failure> {
+fn show<R: Runtime + AllocGlobal>(
+    rt: &R,
+    image: &str,
+    bytes: &[u8],
+    is_json: bool,
+) -> Result<(), Failure> {
     let info = on_disk(rt.alloc(), image, info(rt.alloc(), bytes))?;
-    let lines = in_memory(lines_of(rt.alloc(), info.unreadable.as_slice()))?;
+    let faults = info.unreadable.as_slice();
+    if is_json {
+        let line = in_memory(errors_line(rt.alloc(), image, faults))?;
+        return print(rt, line.as_slice());
+    }
+    let lines = in_memory(lines_of(rt.alloc(), faults))?;
     print(rt, lines.as_bytes())
 }
 
@@ -122,6 +163,6 @@ pub fn error_bytes<R: Runtime + AllocGlobal>(
         ErrorDeed::Add => add_all(rt, image, bytes.as_slice()),
         _ if !has_some => Err(Failure::named(rt.alloc(), What::NoErrorBytes, image)),
         ErrorDeed::Drop(is_lossy) => drop_all(rt, image, bytes.as_slice(), is_lossy),
-        ErrorDeed::Show => show(rt, image, bytes.as_slice()),
+        ErrorDeed::Show(is_json) => show(rt, image, bytes.as_slice(), is_json),
     }
 }

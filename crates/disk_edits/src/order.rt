@@ -4,6 +4,7 @@ mod plan;
 
 use self::facts::order_line;
 use self::plan::{Telling, lines_of, plan_of};
+use crate::shown::text_of;
 use cbm_shell::{Order, ShellFault};
 use disk_basics::border::has_border_files;
 use disk_basics::changing::{map_around_geos, validate};
@@ -100,8 +101,7 @@ fn told(
         return Ok(lines_of(alloc, &plan, telling)?);
     }
     let line = order_line(alloc, image, &plan, telling)?;
-    let text = std::str::from_utf8(line.as_slice()).unwrap_or("");
-    Ok(String::from_str(alloc, text)?)
+    Ok(text_of(alloc, line.as_slice())?)
 }
 
 /// The image put in order. Errors: `OtherMap`, where Dolphin DOS has its map on the disk; `Unmendable`, where it can't be put in

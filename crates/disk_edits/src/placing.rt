@@ -1,4 +1,9 @@
 //! PLACE: files laid on other blocks of their disk.
+mod facts;
+
+use self::facts::{LaidFile, laid_file, laid_line};
+use crate::shown::Showing;
+use cbm_medium::Address;
 use cbm_shell::texts::Charset;
 use cbm_volume::Entry;
 use disk_basics::calls::entries;
@@ -6,7 +11,7 @@ use disk_basics::host::require_own_map;
 use disk_basics::placing::{Head, Laid, add_places, lay};
 use disk_basics::{Failure, What, in_memory, on_disk, petscii};
 use disk_facts::{is_meant, number_meant};
-use std::alloc::Global;
+use std::alloc::{AllocError, Global};
 
 /// Which files are laid elsewhere, and where.
 #[derive(Clone, Copy)]
@@ -29,7 +34,40 @@ pub struct Laying {
     /// The character set of names.
     charset: Charset,
     /// A line for each file: where its blocks lie.
-    pub told: Vec<u8>,
+    told: Vec<u8>,
+    /// The same for programs.
+    files: Vec<LaidFile>,
+}
+
+impl Laying {
+    /// Adds a file, whose blocks lie at these places.
+    fn add(
+        &mut self,
+        alloc: Global,
+        slot: usize,
+        entry: &Entry,
+        places: &[Address],
+    ) -> Result<(), AllocError> {
+        add_places(&mut self.told, alloc, self.charset, entry, places)?;
+        let file = laid_file(alloc, self.charset, slot, entry, places)?;
+        self.files.push(file).map_err(AllocError::from)
+    }
+
+    /// Where the blocks lie: a line for each file, or a line of JSON. The one error is want of memory.
+    pub fn shown(
+        &self,
+        alloc: Global,
+        image: &str,
+        showing: Showing,
+    ) -> Result<String, AllocError> {
+        if showing.is_json {
+            return laid_line(alloc, image, self.files.as_slice(), showing.is_dry);
+        }
+        String::from_str(
+            alloc,
+            std::str::from_utf8(self.told.as_slice()).unwrap_or(""),
+        )
+    }
 }
 
 /// Lays the file in a slot. Errors: `RecordsPlace`, `NoPlace`, `Disk`, `NoMemory`.
@@ -44,8 +82,8 @@ fn lay_one(
     if entry.is_relative() {
         return Err(Failure::named(alloc, What::RecordsPlace, word));
     }
-    let slot = disk_basics::slot_number(alloc, slot, word)?;
-    let laid = lay(alloc, laying.image.as_slice(), slot, laying.head);
+    let number = disk_basics::slot_number(alloc, slot, word)?;
+    let laid = lay(alloc, laying.image.as_slice(), number, laying.head);
     let Some(
         Laid {
             image: new,
@@ -56,13 +94,7 @@ fn lay_one(
     else {
         return Err(Failure::named(alloc, What::NoPlace, word));
     };
-    in_memory(add_places(
-        &mut laying.told,
-        alloc,
-        laying.charset,
-        entry,
-        places.as_slice(),
-    ))?;
+    in_memory(laying.add(alloc, slot, entry, places.as_slice()))?;
     laying.image = new;
     laying.head = head;
     Ok(())
@@ -97,6 +129,7 @@ pub fn placed(
         head: placement.head,
         charset: placement.charset,
         told: Vec::new(alloc),
+        files: Vec::new(alloc),
     };
     for word in placement.patterns {
         lay_meant(alloc, image, &mut laying, *word)?;

@@ -17,8 +17,8 @@ fn kind_of(alloc: Global, word: &str) -> Result<FileType, Failure> {
     }
 }
 
-/// The slot of the file that is said, or of the first one that a pattern means.
-fn slot_said(alloc: Global, entries: &[Entry], choice: Choice<'_>) -> Result<usize, Failure> {
+/// The slot of the file that is said, or of the first one that a pattern means. Errors: those of `slot_chosen`; `NoMatch`.
+pub fn slot_said(alloc: Global, entries: &[Entry], choice: Choice<'_>) -> Result<usize, Failure> {
     if !choice.is_pattern() {
         return slot_chosen(alloc, entries, choice);
     }

@@ -119,7 +119,8 @@ pub fn cvt_of(
 ) -> Result<Vec<u8>, ShellFault> {
     let mut file = head_of(alloc, entry)?;
     let info = chain(alloc, disk, entry, entry.first_side())?;
-    file.extend_from_slice(info.as_slice())?;
+    // (it is one block, wherever its link leads)
+    file.extend_from_slice(info.as_slice().get(..BLOCK).unwrap_or(info.as_slice()))?;
     fill(&mut file)?;
     if geos.has_records {
         add_records(alloc, disk, entry, &mut file)?;

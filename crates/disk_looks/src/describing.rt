@@ -1,4 +1,7 @@
 //! DESCRIBE: the recipe of a disk.
+mod facts;
+
+use self::facts::{Note, recipe_line};
 use crate::taking::{Names, is_art};
 use cbm_channel::FileType;
 use cbm_image::{Kind, kind_of};
@@ -9,7 +12,7 @@ use cbm_volume::{Entry, Label, Trouble};
 use disk_basics::calls::{info, name_text, sector};
 use disk_basics::host::{print, read_to_look};
 use disk_basics::strays::unlisted_on;
-use disk_basics::{Disk, Failure, What, on_disk};
+use disk_basics::{Disk, Failure, What, in_memory, on_disk};
 use disk_facts::unfilled;
 use disk_recipes::{Recipe, RecipeLine, recipe_text};
 use std::alloc::{AllocError, Global};
@@ -29,6 +32,8 @@ pub struct Description<'a> {
     pub folder: &'a str,
     /// The character set of names.
     pub charset: Charset,
+    /// The recipe is for programs.
+    pub is_json: bool,
 }
 
 /// Where a name stands in an entry.
@@ -144,8 +149,8 @@ struct Draft {
     // The names on the disk of the files that are described.
     files: Vec<Vec<u8>>,
     lines: Vec<RecipeLine>,
-    // What isn't described, as comments.
-    notes: String,
+    // What isn't described.
+    notes: Vec<Note>,
 }
 
 impl Draft {
@@ -155,7 +160,7 @@ impl Draft {
             hosts: Names::new(alloc),
             files: Vec::new(alloc),
             lines: Vec::new(alloc),
-            notes: String::new(alloc),
+            notes: Vec::new(alloc),
         }
     }
 
@@ -164,13 +169,12 @@ impl Draft {
         &mut self,
         rt: &R,
         entry: &Entry,
-        what: &str,
+        text: &'static str,
     ) -> Result<(), AllocError> {
-        let shown = name_text(rt.alloc(), Charset::Upper, entry.name())?;
-        let name = shown.as_str();
-        let _ = eprintln!(rt; "disk1541: \"{name}\" {what}");
-        let line = format!(in rt.alloc(); "# \"{name}\" {what}\n")?;
-        self.notes.push_str(line.as_str())
+        let note = Note::of(rt.alloc(), entry, text)?;
+        let name = note.name.as_str();
+        let _ = eprintln!(rt; "disk1541: \"{name}\" {text}");
+        self.notes.push(note).map_err(AllocError::from)
     }
 
     /// Whether a file that is described has a name, as `build` compares names.
@@ -365,30 +369,30 @@ fn recipe_with(
     Ok(recipe)
 }
 
-/// Whether a disk has no more files than its directory lists; where it breaks off, or has no link to them, is reported. The one error is
-/// want of memory.
-fn is_followed<R: Runtime + AllocGlobal>(
+/// Why a disk has more files than its directory lists, as is reported: it breaks off, or has no link to them. The one error is want of
+/// memory.
+fn unlisted_text<R: Runtime + AllocGlobal>(
     rt: &R,
     disk: &Disk,
     listed: &Listed,
-) -> Result<bool, AllocError> {
-    let told = match unlisted_on(rt.alloc(), disk, listed)? {
-        Some(What::Broken(end)) => eprintln!(rt; "disk1541: {end}"),
-        Some(What::Unlinked(unlinked)) => eprintln!(rt; "disk1541: {unlinked}"),
-        _ => return Ok(true),
+) -> Result<Option<String>, AllocError> {
+    let text = match unlisted_on(rt.alloc(), disk, listed)? {
+        Some(What::Broken(end)) => format!(in rt.alloc(); "{end}")?,
+        Some(What::Unlinked(unlinked)) => format!(in rt.alloc(); "{unlinked}")?,
+        _ => return Ok(None),
     };
-    let _ = told;
-    Ok(false)
+    let why = text.as_str();
+    let _ = eprintln!(rt; "disk1541: {why}");
+    Ok(Some(text))
 }
 
 /// The recipe of a disk, and its omissions.
 #[derive(Drop)]
 struct NotedRecipe {
     recipe: Recipe,
-    // As comments.
-    notes: String,
-    // The directory lists all files.
-    is_followed: bool,
+    notes: Vec<Note>,
+    // Why the directory doesn't list all files, if so.
+    unlisted: Option<String>,
 }
 
 /// The recipe of a disk, and its omissions.
@@ -403,23 +407,54 @@ fn described<R: Runtime + AllocGlobal>(
     let lines = draft.lines;
     let notes = draft.notes;
     let recipe = recipe_with(rt.alloc(), image, description.charset, lines)?;
-    let is_followed = is_followed(rt, &disk, &listed)?;
+    let unlisted = unlisted_text(rt, &disk, &listed)?;
     Ok(NotedRecipe {
         recipe,
         notes,
-        is_followed,
+        unlisted,
     })
+}
+
+/// The omissions as comments.
+fn comments_of(alloc: Global, notes: &[Note]) -> Result<String, AllocError> {
+    let mut text = String::new(alloc);
+    for note in notes {
+        let name = note.name.as_str();
+        let what = note.text;
+        text.push_str(format!(in alloc; "# \"{name}\" {what}\n")?.as_str())?;
+    }
+    Ok(text)
 }
 
 /// Prints a recipe after its omissions.
 fn print_recipe<R: Runtime + AllocGlobal>(rt: &R, described: &NotedRecipe) -> Result<(), Failure> {
     match recipe_text(rt.alloc(), &described.recipe) {
         Ok(text) => {
-            print(rt, described.notes.as_bytes())?;
+            let notes = in_memory(comments_of(rt.alloc(), described.notes.as_slice()))?;
+            print(rt, notes.as_bytes())?;
             print(rt, text.as_bytes())
         }
         Err(_) => Err(Failure::new(What::NoMemory)),
     }
+}
+
+/// Prints a recipe and its omissions, for people or for programs.
+fn print_described<R: Runtime + AllocGlobal>(
+    rt: &R,
+    image: &str,
+    described: &NotedRecipe,
+    is_json: bool,
+) -> Result<(), Failure> {
+    if !is_json {
+        return print_recipe(rt, described);
+    }
+    let unlisted = match &described.unlisted {
+        Some(text) => Some(text.as_str()),
+        None => None,
+    };
+    let notes = described.notes.as_slice();
+    let line = recipe_line(rt.alloc(), image, &described.recipe, notes, unlisted);
+    print(rt, in_memory(line)?.as_slice())
 }
 
 /// Prints the recipe of an image's disk; what it doesn't say of it is reported, and stands in comments above it. Errors: those of
@@ -435,8 +470,8 @@ pub fn describe<R: Runtime + AllocGlobal>(
         image,
         described(rt, bytes.as_slice(), description),
     )?;
-    print_recipe(rt, &described)?;
-    if described.is_followed && described.notes.is_empty() {
+    print_described(rt, image, &described, description.is_json)?;
+    if described.unlisted.is_none() && described.notes.is_empty() {
         Ok(())
     } else {
         Err(Failure::new(What::Told))

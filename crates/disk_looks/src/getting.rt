@@ -1,12 +1,11 @@
 //! GET: a file out of the image, to a file of the host or to standard output.
 use crate::cvt::cvt_of;
 use crate::geos::tell_geos;
-use crate::relative::{packed_as, packed_for};
-use crate::salvage::salvaged_file;
+use crate::relative::packed_as;
+use crate::salvage::salvaged_entries;
 use crate::taking::{Source, bytes_of_entry};
-use cbm_shell::{ShellFault, geos_of};
+use cbm_shell::{Listed, ShellFault, geos_of};
 use cbm_volume::Entry;
-use disk_basics::calls::{file, listed};
 use disk_basics::host::{require_new, write};
 use disk_basics::{Choice, Disk, Failure, What, in_memory, on_disk, petscii, slot_chosen};
 use disk_facts::{first_meant, is_meant, number_meant, without_errors};
@@ -29,31 +28,6 @@ pub struct OneFile<'a> {
     pub is_cvt: bool,
 }
 
-/// The bytes of the first file that a pattern means, or what can be read of it.
-fn bytes_of<R: Runtime + AllocGlobal>(
-    rt: &R,
-    image: &[u8],
-    pattern: &[u8],
-    salvages: bool,
-) -> Result<Vec<u8>, ShellFault> {
-    if salvages {
-        salvaged_file(rt, image, pattern)
-    } else {
-        file(rt.alloc(), image, pattern)
-    }
-}
-
-/// The file of this computer for the first file that a pattern means.
-fn packed_of<R: Runtime + AllocGlobal>(
-    rt: &R,
-    image: &[u8],
-    pattern: &[u8],
-    taken: &OneFile<'_>,
-) -> Result<Vec<u8>, ShellFault> {
-    let bytes = bytes_of(rt, image, pattern, taken.salvages)?;
-    packed_for(rt, without_errors(image), pattern, taken.output, bytes)
-}
-
 /// What a disk answered to a file that is read. Errors: `Unread`, where what can be read of it may be taken; `Disk`.
 fn on_file(
     alloc: Global,
@@ -66,22 +40,6 @@ fn on_file(
         }
         _ => on_disk(alloc, name, answer),
     }
-}
-
-/// The file of this computer for the first file that a name means.
-fn meant<R: Runtime + AllocGlobal>(
-    rt: &R,
-    image: &[u8],
-    taken: &OneFile<'_>,
-) -> Result<Vec<u8>, Failure> {
-    let name = taken.choice.name;
-    let pattern = petscii(rt.alloc(), taken.choice.charset, name)?;
-    require_whole(rt, image, pattern.as_slice(), taken)?;
-    on_file(
-        rt.alloc(),
-        name,
-        packed_of(rt, image, pattern.as_slice(), taken),
-    )
 }
 
 /// Reports that a pattern means more than one file, of which the first is taken.
@@ -97,24 +55,7 @@ fn tell_first(rt: &impl Eprint, entries: &[Entry], pattern: &[u8], word: &str) {
     }
 }
 
-/// Refuses the first file that a pattern means where GEOS keeps it in records, unless what can be read is taken; what isn't taken
-/// of another file of GEOS is reported.
-fn require_whole<R: Runtime + AllocGlobal>(
-    rt: &R,
-    image: &[u8],
-    pattern: &[u8],
-    taken: &OneFile<'_>,
-) -> Result<(), Failure> {
-    let word = taken.choice.word();
-    let listed = on_disk(rt.alloc(), word, listed(rt.alloc(), without_errors(image)))?;
-    tell_first(rt, listed.entries.as_slice(), pattern, word);
-    match first_meant(listed.entries.as_slice(), pattern) {
-        Some(entry) => require_all(rt.alloc(), rt, entry, taken),
-        None => Ok(()),
-    }
-}
-
-/// The same of an entry's file.
+/// Refuses a file that GEOS keeps in records, unless what can be read is taken; what isn't taken of another file of GEOS is reported.
 fn require_all(
     alloc: Global,
     rt: &impl Eprint,
@@ -136,32 +77,84 @@ fn require_all(
     }
 }
 
-/// The file of this computer for the file that is chosen by its slot or its exact name.
-fn chosen<R: Runtime + AllocGlobal>(
+/// The file of this computer for an entry's file.
+fn file_for<R: Runtime + AllocGlobal>(
     rt: &R,
-    image: &[u8],
+    source: Source<'_>,
+    entry: &Entry,
     taken: &OneFile<'_>,
 ) -> Result<Vec<u8>, Failure> {
-    let word = taken.choice.word();
-    let plain = if taken.salvages {
-        without_errors(image)
-    } else {
-        image
-    };
-    let disk = on_disk(rt.alloc(), word, Disk::open(rt.alloc(), plain))?;
-    let listed = in_memory(disk.listed(rt.alloc()))?;
-    let slot = slot_chosen(rt.alloc(), listed.entries.as_slice(), taken.choice)?;
-    let Some(entry) = listed.entries.as_slice().get(slot) else {
-        return Err(Failure::named(rt.alloc(), What::NoFile, word));
-    };
-    require_all(rt.alloc(), rt, entry, taken)?;
-    let source = Source { disk: &disk, image };
     let bytes = on_file(
         rt.alloc(),
-        word,
+        taken.choice.word(),
         bytes_of_entry(rt, source, entry, taken.salvages),
     )?;
     in_memory(packed_as(rt, entry, taken.output, bytes))
+}
+
+/// Why no file was found: there is none, or the directory breaks off before it.
+fn not_found(alloc: Global, listed: &Listed, word: &str) -> Failure {
+    match listed.trouble {
+        Some(trouble) => Failure::named(alloc, What::Unread(trouble), word),
+        None => Failure::named(alloc, What::Disk(ShellFault::NotFound), word),
+    }
+}
+
+/// The file of this computer for what can be read of the first file that a pattern means, also of one whose entry no link leads to.
+fn salvaged_meant<R: Runtime + AllocGlobal>(
+    rt: &R,
+    source: Source<'_>,
+    pattern: &[u8],
+    taken: &OneFile<'_>,
+) -> Result<Vec<u8>, Failure> {
+    let word = taken.choice.word();
+    let entries = salvaged_entries(rt, source.image, source.disk);
+    let entries = on_disk(rt.alloc(), word, entries)?;
+    match first_meant(entries.as_slice(), pattern) {
+        Some(entry) => file_for(rt, source, entry, taken),
+        None => Err(Failure::named(rt.alloc(), What::Disk(ShellFault::NotFound), word)),
+    }
+}
+
+/// The file of this computer for the first file that a pattern means.
+fn meant<R: Runtime + AllocGlobal>(
+    rt: &R,
+    source: Source<'_>,
+    listed: &Listed,
+    taken: &OneFile<'_>,
+) -> Result<Vec<u8>, Failure> {
+    let word = taken.choice.name;
+    let pattern = petscii(rt.alloc(), taken.choice.charset, word)?;
+    let pattern = pattern.as_slice();
+    let entries = listed.entries.as_slice();
+    tell_first(rt, entries, pattern, word);
+    let first = first_meant(entries, pattern);
+    if let Some(entry) = first {
+        require_all(rt.alloc(), rt, entry, taken)?;
+    }
+    if taken.salvages {
+        return salvaged_meant(rt, source, pattern, taken);
+    }
+    match first {
+        Some(entry) => file_for(rt, source, entry, taken),
+        None => Err(not_found(rt.alloc(), listed, word)),
+    }
+}
+
+/// The file of this computer for the file that is chosen by its slot or its exact name.
+fn chosen<R: Runtime + AllocGlobal>(
+    rt: &R,
+    source: Source<'_>,
+    listed: &Listed,
+    taken: &OneFile<'_>,
+) -> Result<Vec<u8>, Failure> {
+    let entries = listed.entries.as_slice();
+    let slot = slot_chosen(rt.alloc(), entries, taken.choice)?;
+    let Some(entry) = entries.get(slot) else {
+        return Err(Failure::named(rt.alloc(), What::NoFile, taken.choice.word()));
+    };
+    require_all(rt.alloc(), rt, entry, taken)?;
+    file_for(rt, source, entry, taken)
 }
 
 /// The slot of the file that is meant, by its slot, its exact name or a pattern.
@@ -177,33 +170,45 @@ fn slot_meant(alloc: Global, entries: &[Entry], choice: Choice<'_>) -> Result<us
 }
 
 /// The file of GEOS that is meant, as CVT.
-fn cvt_meant(alloc: Global, image: &[u8], taken: &OneFile<'_>) -> Result<Vec<u8>, Failure> {
+fn cvt_meant(
+    alloc: Global,
+    disk: &Disk,
+    listed: &Listed,
+    taken: &OneFile<'_>,
+) -> Result<Vec<u8>, Failure> {
     let word = taken.choice.word();
-    let disk = on_disk(alloc, word, Disk::open(alloc, image))?;
-    let listed = in_memory(disk.listed(alloc))?;
     let slot = slot_meant(alloc, listed.entries.as_slice(), taken.choice)?;
     let Some(entry) = listed.entries.as_slice().get(slot) else {
         return Err(Failure::named(alloc, What::NoFile, word));
     };
     match geos_of(entry) {
-        Some(geos) => on_disk(alloc, word, cvt_of(alloc, &disk, entry, geos)),
+        Some(geos) => on_disk(alloc, word, cvt_of(alloc, disk, entry, geos)),
         None => Err(Failure::named(alloc, What::NotGeos, word)),
     }
 }
 
-/// The file of this computer for the file that is meant.
+/// The file of this computer for the file that is meant. The image is opened once: to decode a G64 takes longer than all else.
 fn file_of<R: Runtime + AllocGlobal>(
     rt: &R,
     image: &[u8],
     taken: &OneFile<'_>,
 ) -> Result<Vec<u8>, Failure> {
+    let word = taken.choice.word();
+    let plain = if taken.salvages {
+        without_errors(image)
+    } else {
+        image
+    };
+    let disk = on_disk(rt.alloc(), word, Disk::open(rt.alloc(), plain))?;
+    let listed = in_memory(disk.listed(rt.alloc()))?;
+    let source = Source { disk: &disk, image };
     if taken.is_cvt {
-        return cvt_meant(rt.alloc(), image, taken);
+        return cvt_meant(rt.alloc(), &disk, &listed, taken);
     }
     if taken.choice.is_pattern() {
-        meant(rt, image, taken)
+        meant(rt, source, &listed, taken)
     } else {
-        chosen(rt, image, taken)
+        chosen(rt, source, &listed, taken)
     }
 }
 

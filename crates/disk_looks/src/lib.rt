@@ -17,11 +17,12 @@ mod taking;
 mod taking_all;
 mod track;
 
+pub use cvt::cvt_of;
 pub use describing::{Description, describe};
 pub use getting::{OneFile, get_from, write_taken};
 pub use map::{Mapping, show_map};
 pub use progress::Progress;
-pub use relative::packed;
+pub use relative::{packed, packed_as};
 pub use sector::show_sector;
 pub use selection::Selection;
 pub use taking::{Destination, Names, Saves, is_blank_art, save_as};

@@ -5,7 +5,7 @@ use self::facts::map_line;
 use cbm_shell::ShellFault;
 use cbm_shell::texts::Charset;
 use cbm_volume::Entry;
-use disk_basics::calls::{info, name_text, picture};
+use disk_basics::calls::name_text;
 use disk_basics::host::{print, read_to_look, require_apart, require_new, write};
 use disk_basics::rests::{add_rests, rests_on};
 use disk_basics::{Disk, Failure, in_memory, on_disk};
@@ -70,17 +70,22 @@ fn owners_on(alloc: Global, disk: &Disk, charset: Charset) -> Result<Vec<Owner>,
     Ok(owners)
 }
 
-/// The files that are shown.
+/// The files that are shown. Those of an image with error bytes are followed without these. Errors: `Image`, `Memory`.
 fn shown_owners(
     alloc: Global,
     image: &[u8],
+    disk: &Disk,
     mapping: Mapping<'_>,
 ) -> Result<Vec<Owner>, ShellFault> {
-    if mapping.has_files || mapping.is_json || mapping.svg.is_some() {
-        let disk = Disk::open(alloc, without_errors(image))?;
-        return Ok(owners_on(alloc, &disk, mapping.charset)?);
+    if !mapping.has_files && !mapping.is_json && mapping.svg.is_none() {
+        return Ok(Vec::new(alloc));
     }
-    Ok(Vec::new(alloc))
+    let plain = without_errors(image);
+    if plain.len() == image.len() {
+        return Ok(owners_on(alloc, disk, mapping.charset)?);
+    }
+    let disk = Disk::open(alloc, plain)?;
+    Ok(owners_on(alloc, &disk, mapping.charset)?)
 }
 
 /// What is shown of an image's sectors.
@@ -142,40 +147,29 @@ fn show<R: Runtime + AllocGlobal>(
     write(rt, output, text.as_bytes(), Sync::Later)
 }
 
-/// Prints the sectors of an image for programs.
-fn print_facts<R: Runtime + AllocGlobal>(
-    rt: &R,
-    image: &str,
-    bytes: &[u8],
-    sketch: Sketch<'_>,
-) -> Result<(), Failure> {
-    let free = on_disk(rt.alloc(), image, info(rt.alloc(), bytes))?.free;
-    let line = in_memory(map_line(rt.alloc(), image, free, sketch))?;
-    print(rt, line.as_slice())
-}
-
-/// Shows the sectors of an image of these bytes.
+/// Shows the sectors of an image of these bytes. The disk is opened once, unless sectors are lost.
 fn show_bytes<R: Runtime + AllocGlobal>(
     rt: &R,
     image: &str,
     bytes: &[u8],
     mapping: Mapping<'_>,
 ) -> Result<(), Failure> {
-    let picture = on_disk(rt.alloc(), image, picture(rt.alloc(), bytes))?;
+    let alloc = rt.alloc();
+    let disk = on_disk(alloc, image, Disk::open(alloc, bytes))?;
+    let owners = on_disk(alloc, image, shown_owners(alloc, bytes, &disk, mapping))?;
+    let free = disk.free();
+    let picture = on_disk(alloc, image, disk.into_picture(alloc))?;
     let picture = std::str::from_utf8(picture.as_slice()).unwrap_or("");
-    let owners = on_disk(rt.alloc(), image, shown_owners(rt.alloc(), bytes, mapping))?;
-    let rests = on_disk(
-        rt.alloc(),
-        image,
-        shown_rests(rt.alloc(), bytes, picture, mapping.charset),
-    )?;
+    let rests = shown_rests(alloc, bytes, picture, mapping.charset);
+    let rests = on_disk(alloc, image, rests)?;
     let sketch = Sketch {
         picture,
         owners: owners.as_slice(),
         rests: rests.as_slice(),
     };
     if mapping.is_json {
-        return print_facts(rt, image, bytes, sketch);
+        let line = in_memory(map_line(alloc, image, free, sketch))?;
+        return print(rt, line.as_slice());
     }
     show(rt, sketch, mapping)
 }

@@ -1,12 +1,11 @@
-//! Relative files on this computer: with the head of the emulator PC64, which has the length of their records.
-use cbm_shell::ShellFault;
+//! Files on this computer with the head of the emulator PC64: a file's name, and the length of a relative file's records.
 use cbm_shell::texts::Charset;
 use cbm_volume::Entry;
-use disk_basics::calls::{listed, name_text};
+use disk_basics::calls::name_text;
 use disk_basics::is_relative_name;
-use disk_facts::first_meant;
 use std::alloc::{AllocError, Global};
 use std::io;
+use std::path::Path;
 
 /// What the head begins with.
 const BEGINNING: &[u8; 8] = b"C64File\0";
@@ -37,7 +36,22 @@ fn add_rest(file: &mut Vec<u8>, rest: &[u8], length: u8) -> Result<(), AllocErro
     Ok(())
 }
 
-/// The head: its beginning, the name in sixteen bytes, a 0, and the length of the records.
+/// Whether a name has the ending of a file of bytes of PC64: P, S or U, and two digits.
+fn is_wrapped_name(file: &str) -> bool {
+    match Path::new(file).extension() {
+        Some(ending) => matches!(
+            ending.as_bytes(),
+            [
+                b'P' | b'p' | b'S' | b's' | b'U' | b'u',
+                b'0'..=b'9',
+                b'0'..=b'9'
+            ]
+        ),
+        None => false,
+    }
+}
+
+/// The head: its beginning, the name in sixteen bytes, a 0, and the length of the records, 0 where it has none.
 fn head_of(alloc: Global, entry: &Entry) -> Result<Vec<u8>, AllocError> {
     let mut head = Vec::from_slice(alloc, BEGINNING)?;
     let name = entry.name();
@@ -45,8 +59,12 @@ fn head_of(alloc: Global, entry: &Entry) -> Result<Vec<u8>, AllocError> {
     for _ in name.len()..NAME {
         head.push(0)?;
     }
-    head.push(0)?;
-    head.push(entry.record_length())?;
+    let length = if entry.is_relative() {
+        entry.record_length()
+    } else {
+        0
+    };
+    head.extend_from_slice(&[0, length])?;
     Ok(head)
 }
 
@@ -76,8 +94,15 @@ fn tell_records<R: Eprint + AllocGlobal>(rt: &R, entry: &Entry) -> Result<(), Al
     Ok(())
 }
 
-/// The file of this computer for an entry's file of these bytes, which goes to a file of a name: with a head, if it is relative and
-/// that name says so. Without one the length of its records is reported. The one error is want of memory.
+/// The file of this computer for a file of bytes: with the head.
+fn wrapped(alloc: Global, entry: &Entry, bytes: &[u8]) -> Result<Vec<u8>, AllocError> {
+    let mut file = head_of(alloc, entry)?;
+    file.extend_from_slice(bytes)?;
+    Ok(file)
+}
+
+/// The file of this computer for an entry's file of these bytes, which goes to a file of a name: with a head, if that name has PC64's
+/// ending for such files. The length of a relative file's records is reported without one. The one error is want of memory.
 pub fn packed_as<R: Eprint + AllocGlobal>(
     rt: &R,
     entry: &Entry,
@@ -89,22 +114,8 @@ pub fn packed_as<R: Eprint + AllocGlobal>(
     }
     if entry.is_relative() {
         tell_records(rt, entry)?;
+    } else if is_wrapped_name(output) {
+        return wrapped(rt.alloc(), entry, bytes.as_slice());
     }
     Ok(bytes)
-}
-
-/// The file of this computer for the first file that a pattern means: with a head, if it is relative and goes to a file
-/// that is named so. Without one the length of its records is reported. Errors: `Image`, `Memory`.
-pub fn packed_for<R: Eprint + AllocGlobal>(
-    rt: &R,
-    image: &[u8],
-    pattern: &[u8],
-    output: &str,
-    bytes: Vec<u8>,
-) -> Result<Vec<u8>, ShellFault> {
-    let listed = listed(rt.alloc(), image)?;
-    match first_meant(listed.entries.as_slice(), pattern) {
-        Some(entry) => Ok(packed_as(rt, entry, output, bytes)?),
-        None => Ok(bytes),
-    }
 }

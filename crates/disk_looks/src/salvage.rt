@@ -6,7 +6,7 @@ use cbm_shell::{Listed, Salvaged, ShellFault};
 use cbm_volume::Entry;
 use disk_basics::calls::{file_blocks, info, name_text};
 use disk_basics::{BreakOff, Cause, Disk};
-use disk_facts::{first_meant, without_errors};
+use disk_facts::without_errors;
 use std::io;
 use std::rt::Runtime;
 
@@ -95,19 +95,4 @@ pub fn salvaged_entries<R: Runtime + AllocGlobal>(
         let _ = eprintln!(rt; "disk1541: {end}");
     }
     with_strays(rt, without_errors(image), sectors.as_slice(), entries)
-}
-
-/// What can be read of the first file that a pattern means, also of one whose entry no link leads to. Errors: `Image`,
-/// `NotFound`, `Memory`.
-pub fn salvaged_file<R: Runtime + AllocGlobal>(
-    rt: &R,
-    image: &[u8],
-    pattern: &[u8],
-) -> Result<Vec<u8>, ShellFault> {
-    let disk = Disk::open(rt.alloc(), without_errors(image))?;
-    let entries = salvaged_entries(rt, image, &disk)?;
-    match first_meant(entries.as_slice(), pattern) {
-        Some(entry) => salvaged(rt, image, &disk, entry),
-        None => Err(ShellFault::NotFound),
-    }
 }

@@ -1,27 +1,24 @@
 //! LIST of where files lie.
 use crate::broken::answer_by;
+use crate::seen::Seen;
 use crate::view::{Look, LookAnswer};
-use cbm_shell::ShellFault;
-use disk_basics::Disk;
 use disk_basics::placing::add_places;
 use disk_facts::is_meant;
-use std::alloc::Global;
+use std::alloc::{AllocError, Global};
 
-/// Adds a line for each file that matches, up to where the directory breaks off: where its blocks lie, in order. Errors: `Image`,
-/// `Memory`.
+/// Adds a line for each file that matches, up to where the directory breaks off: where its blocks lie, in order. The one error is
+/// want of memory.
 pub fn add_blocks(
     alloc: Global,
     text: &mut Vec<u8>,
-    image: &[u8],
+    seen: Seen<'_>,
     look: Look<'_>,
-) -> Result<LookAnswer, ShellFault> {
-    let disk = Disk::open(alloc, image)?;
-    let listed = disk.listed(alloc)?;
-    for entry in listed.entries.as_slice() {
+) -> Result<LookAnswer, AllocError> {
+    for entry in seen.listed.entries.as_slice() {
         if is_meant(entry, look.pattern) {
-            let blocks = disk.blocks(alloc, entry)?;
+            let blocks = seen.disk.blocks(alloc, entry)?;
             add_places(text, alloc, look.charset, entry, blocks.as_slice())?;
         }
     }
-    Ok(answer_by(&listed, LookAnswer::Fine))
+    Ok(answer_by(seen.listed, LookAnswer::Fine))
 }

@@ -1,12 +1,13 @@
 //! LIST where the drive refuses it: the title can't be read, the directory breaks off, or the pattern is too long for a command.
 use crate::geos::add_geos_files;
+use crate::seen::Seen;
 use crate::view::{Look, LookAnswer};
 use cbm_channel::FileType;
+use cbm_shell::Listed;
 use cbm_shell::texts::Charset;
-use cbm_shell::{Listed, ShellFault};
 use cbm_volume::{Entry, Label};
 use disk_basics::BreakOff;
-use disk_basics::calls::{info, listed, name_text};
+use disk_basics::calls::name_text;
 use disk_facts::is_meant;
 use std::alloc::{AllocError, Global};
 
@@ -119,27 +120,27 @@ pub fn answer_by(listed: &Listed, answer: LookAnswer) -> LookAnswer {
 }
 
 /// Adds the directory of a disk where the drive doesn't list it, or not by a pattern that is too long for a command: the title, if
-/// 18/0 can be read, and the files up to where the directory breaks off. Errors: `Image`, `Memory`.
+/// 18/0 can be read, and the files up to where the directory breaks off. The one error is want of memory.
 pub fn add_broken(
     alloc: Global,
     text: &mut Vec<u8>,
-    image: &[u8],
+    seen: Seen<'_>,
     look: Look<'_>,
-) -> Result<LookAnswer, ShellFault> {
-    let info = info(alloc, image)?;
-    let listed = listed(alloc, image)?;
-    if let Some(label) = &info.label {
+) -> Result<LookAnswer, AllocError> {
+    let entries = seen.listed.entries.as_slice();
+    let label = seen.disk.label();
+    if let Some(label) = &label {
         add_title(alloc, text, label, look.charset)?;
     }
-    let lines = entry_lines(alloc, listed.entries.as_slice(), look)?;
+    let lines = entry_lines(alloc, entries, look)?;
     text.extend_from_slice(lines.as_bytes())?;
-    if let Some(free) = info.free {
+    if let Some(free) = seen.disk.free() {
         add_free(alloc, text, free, look.charset)?;
     }
-    add_geos_files(alloc, text, listed.entries.as_slice(), look)?;
-    let whole = match info.label {
+    add_geos_files(alloc, text, entries, look)?;
+    let whole = match label {
         Some(_) => LookAnswer::Fine,
         None => LookAnswer::Untitled,
     };
-    Ok(answer_by(&listed, whole))
+    Ok(answer_by(seen.listed, whole))
 }

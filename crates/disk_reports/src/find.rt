@@ -1,10 +1,10 @@
 //! FIND: the files that match a pattern.
 use crate::broken::answer_by;
+use crate::seen::Seen;
 use crate::view::{Look, LookAnswer};
-use cbm_shell::ShellFault;
 use cbm_shell::texts::Charset;
 use cbm_volume::Entry;
-use disk_basics::calls::{listed, name_text};
+use disk_basics::calls::name_text;
 use disk_facts::{block_noun, is_meant, type_of};
 use std::alloc::{AllocError, Global};
 
@@ -40,21 +40,19 @@ pub fn match_lines(
     Ok(text)
 }
 
-/// Adds a line for each file that matches, up to where the directory breaks off. Errors: `Image`, `Memory`.
+/// Adds a line for each file that matches, up to where the directory breaks off. The one error is want of memory.
 pub fn add_matches(
     alloc: Global,
     text: &mut Vec<u8>,
-    name: &str,
-    image: &[u8],
+    seen: Seen<'_>,
     look: Look<'_>,
-) -> Result<LookAnswer, ShellFault> {
-    let listed = listed(alloc, image)?;
-    let lines = match_lines(alloc, name, listed.entries.as_slice(), look)?;
+) -> Result<LookAnswer, AllocError> {
+    let lines = match_lines(alloc, seen.name, seen.listed.entries.as_slice(), look)?;
     text.extend_from_slice(lines.as_slice())?;
     let answer = if lines.is_empty() {
         LookAnswer::NoMatch
     } else {
         LookAnswer::Fine
     };
-    Ok(answer_by(&listed, answer))
+    Ok(answer_by(seen.listed, answer))
 }

@@ -1,9 +1,9 @@
 //! The files of GEOS.
 use crate::view::Look;
 use cbm_shell::texts::Charset;
-use cbm_shell::{Geos, ShellFault, geos_of};
+use cbm_shell::{Geos, geos_of};
 use cbm_volume::Entry;
-use disk_basics::calls::{listed, name_text};
+use disk_basics::calls::name_text;
 use disk_facts::{is_meant, kind_name};
 use std::alloc::{AllocError, Global};
 
@@ -47,17 +47,5 @@ pub fn add_geos_files(
             _ => {}
         }
     }
-    Ok(())
-}
-
-/// Adds a line for each file of GEOS, up to where the directory breaks off. Errors: `Image`, `Memory`.
-pub fn add_geos(
-    alloc: Global,
-    text: &mut Vec<u8>,
-    image: &[u8],
-    look: Look<'_>,
-) -> Result<(), ShellFault> {
-    let listed = listed(alloc, image)?;
-    add_geos_files(alloc, text, listed.entries.as_slice(), look)?;
     Ok(())
 }

@@ -1,11 +1,12 @@
 //! INFO: what the disk is.
 use crate::report::Facts;
+use crate::seen::Seen;
 use cbm_shell::texts::Charset;
 use cbm_shell::{Info, Listed, ShellFault};
 use cbm_volume::{Label, Unsound};
-use disk_basics::calls::{info, name_text, unsound_text};
+use disk_basics::calls::{name_text, unsound_text};
 use disk_basics::odd::odd_slots;
-use disk_basics::strays::strays_of;
+use disk_basics::strays::strays_on;
 use disk_facts::{count_files, format_name, more_tracks, unfilled, wide_map};
 use std::alloc::{AllocError, Global};
 
@@ -146,30 +147,23 @@ fn add_faults(
 }
 
 /// The line of the files that aren't listed, if there are such.
-fn add_unlinked(alloc: Global, text: &mut String, image: &[u8]) -> Result<(), ShellFault> {
-    if let Some(unlinked) = strays_of(alloc, image)?.count() {
+fn add_unlinked(alloc: Global, text: &mut String, seen: Seen<'_>) -> Result<(), AllocError> {
+    if let Some(unlinked) = strays_on(alloc, seen.disk, seen.listed)?.count() {
         text.push_str(format!(in alloc; "not listed   {unlinked}\n")?.as_str())?;
     }
     Ok(())
 }
 
-/// All lines.
-fn add_lines(
+/// The lines of the format.
+fn add_formats(
     alloc: Global,
     text: &mut String,
-    charset: Charset,
-    info: &Info,
-    listed: &Listed,
     image: &[u8],
-) -> Result<(), ShellFault> {
-    add_format(alloc, text, image, info.tracks)?;
+    tracks: u8,
+) -> Result<(), AllocError> {
+    add_format(alloc, text, image, tracks)?;
     add_more_tracks(alloc, text, image)?;
-    add_wide_map(text, image)?;
-    add_label(alloc, text, charset, info)?;
-    add_files(alloc, text, listed)?;
-    add_unlinked(alloc, text, image)?;
-    add_faults(alloc, text, info, image)?;
-    Ok(())
+    add_wide_map(text, image)
 }
 
 /// What a disk or an archive of another kind is, as lines. The one error is want of memory.
@@ -197,15 +191,14 @@ pub fn other_facts(
     Ok(text)
 }
 
-/// What a disk with this directory is, as lines. Errors: `Image`, `Memory`.
-pub fn lines_of(
-    alloc: Global,
-    charset: Charset,
-    listed: &Listed,
-    image: &[u8],
-) -> Result<Vec<u8>, ShellFault> {
-    let info = info(alloc, image)?;
+/// What the disk of an image is, as lines. The one error is `Memory`.
+pub fn lines_of(alloc: Global, charset: Charset, seen: Seen<'_>) -> Result<Vec<u8>, ShellFault> {
+    let info = seen.disk.info(alloc)?;
     let mut text = String::new(alloc);
-    add_lines(alloc, &mut text, charset, &info, listed, image)?;
+    add_formats(alloc, &mut text, seen.image, info.tracks)?;
+    add_label(alloc, &mut text, charset, &info)?;
+    add_files(alloc, &mut text, seen.listed)?;
+    add_unlinked(alloc, &mut text, seen)?;
+    add_faults(alloc, &mut text, &info, seen.image)?;
     Ok(text.into_bytes())
 }

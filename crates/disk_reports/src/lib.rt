@@ -10,6 +10,7 @@ mod geos;
 mod info;
 mod other;
 mod report;
+mod seen;
 mod sum;
 mod unlinked;
 mod view;

@@ -6,21 +6,22 @@ mod table;
 use self::files::{Size, size_of};
 use crate::broken::answer_by;
 use crate::flaws::flaw_report;
+use crate::seen::Seen;
 use crate::sum::sum_text;
 use crate::unlinked::UnlinkedSector;
 use crate::view::{Look, LookAnswer, Shown, View, answer_of};
 use cbm_shell::texts::{Charset, words};
 use cbm_shell::{Geos, Info, Listed, ShellFault, geos_of};
 use cbm_volume::{Entry, Label, Unsound};
-use disk_basics::calls::{info, name_text};
-use disk_basics::{BreakOff, Disk};
+use disk_basics::BreakOff;
+use disk_basics::calls::name_text;
 use disk_facts::{WideMap, hex, is_meant, kind_name, type_of, unfilled};
 use disk_json::{Sector, line};
 pub use facts::Facts;
 pub use files::Files;
 use serde::Serialize;
 use std::alloc::{AllocError, Global};
-pub use table::{facts_line, file_lines, heads, sum_row, table_lines};
+pub use table::{facts_line, file_lines, heads, sum_row, sum_table, table_lines};
 
 /// What is wrong with a disk first.
 #[derive(Drop, Serialize)]
@@ -276,31 +277,18 @@ struct Known {
     answer: LookAnswer,
 }
 
-/// What is known of an image whose directory has these entries.
-fn known_by(
-    alloc: Global,
-    image: &[u8],
-    disk: &Disk,
-    listed: &Listed,
-    look: Look<'_>,
-) -> Result<Known, ShellFault> {
-    let files = files_of(alloc, disk, listed.entries.as_slice(), look)?;
-    let info = info(alloc, image)?;
-    let broken = broken_of(alloc, listed)?;
-    let answer = image_answer(look, &info, listed);
+/// What is known of an image.
+fn all_known(alloc: Global, seen: Seen<'_>, look: Look<'_>) -> Result<Known, ShellFault> {
+    let files = files_of(alloc, seen.disk, seen.listed.entries.as_slice(), look)?;
+    let info = seen.disk.info(alloc)?;
+    let broken = broken_of(alloc, seen.listed)?;
+    let answer = image_answer(look, &info, seen.listed);
     Ok(Known {
-        facts: Facts::of_image(alloc, image, &info)?,
+        facts: Facts::of_image(alloc, seen, &info)?,
         files,
         broken,
         answer,
     })
-}
-
-/// What is known of an image.
-fn all_known(alloc: Global, image: &[u8], look: Look<'_>) -> Result<Known, ShellFault> {
-    let disk = Disk::open(alloc, image)?;
-    let listed = disk.listed(alloc)?;
-    known_by(alloc, image, &disk, &listed, look)
 }
 
 /// The line of an image or of another disk or archive, with what is known of it. The one error is want of memory.
@@ -345,25 +333,20 @@ fn image_answer(look: Look<'_>, info: &Info, listed: &Listed) -> LookAnswer {
 }
 
 /// An image and its files; nothing where a search found none.
-fn image_report(
-    alloc: Global,
-    name: &str,
-    image: &[u8],
-    look: Look<'_>,
-) -> Result<Shown, ShellFault> {
+fn image_report(alloc: Global, seen: Seen<'_>, look: Look<'_>) -> Result<Shown, ShellFault> {
     let Known {
         facts,
         files,
         broken,
         answer,
-    } = all_known(alloc, image, look)?;
+    } = all_known(alloc, seen, look)?;
     if look.view == View::Matches && files.is_empty() && broken.is_none() {
         return Ok(Shown {
             text: Vec::new(alloc),
             answer: LookAnswer::NoMatch,
         });
     }
-    let text = known_line(alloc, name, look.charset, facts, files, broken)?;
+    let text = known_line(alloc, seen.name, look.charset, facts, files, broken)?;
     Ok(Shown { text, answer })
 }
 
@@ -372,8 +355,8 @@ pub fn sum_line(alloc: Global, image: &str, sha256: &str) -> Result<Vec<u8>, All
     line(alloc, &Sum { image, sha256 })
 }
 
-/// The sum of an image.
-fn sum_report(alloc: Global, name: &str, image: &[u8]) -> Result<Shown, ShellFault> {
+/// The sum of an image. Errors: `Image`, `Mistaken`, `Memory`.
+pub fn sum_report(alloc: Global, name: &str, image: &[u8]) -> Result<Shown, ShellFault> {
     let sum = sum_text(alloc, image)?;
     Ok(Shown {
         text: sum_line(alloc, name, sum.as_str())?,
@@ -381,17 +364,11 @@ fn sum_report(alloc: Global, name: &str, image: &[u8]) -> Result<Shown, ShellFau
     })
 }
 
-/// What an image shows to programs: a line of JSON. Errors: `Image`, `Trouble`, `Memory`; of a sum `Mistaken`.
-pub fn report_line(
-    alloc: Global,
-    name: &str,
-    image: &[u8],
-    look: Look<'_>,
-) -> Result<Shown, ShellFault> {
+/// What an image shows to programs: a line of JSON. Errors: `Image`, `Trouble`, `Memory`.
+pub fn report_line(alloc: Global, seen: Seen<'_>, look: Look<'_>) -> Result<Shown, ShellFault> {
     match look.view {
-        View::Sum => sum_report(alloc, name, image),
-        View::Flaws => flaw_report(alloc, name, image, look),
-        _ => image_report(alloc, name, image, look),
+        View::Flaws => flaw_report(alloc, seen.name, seen.image, look),
+        _ => image_report(alloc, seen, look),
     }
 }
 

@@ -4,17 +4,18 @@ use crate::broken::{add_broken, answer_by};
 use crate::deleted::add_deleted;
 use crate::find::add_matches;
 use crate::flaws::add_all_flaws;
-use crate::geos::{add_geos, add_geos_files};
+use crate::geos::add_geos_files;
 use crate::info::lines_of as info_lines;
-use crate::report::{report_line, table_lines};
+use crate::report::{report_line, sum_report, sum_table, table_lines};
+use crate::seen::Seen;
 use crate::sum::add_sum;
 use cbm_shell::ShellFault;
 use cbm_shell::texts::Charset;
 use cbm_volume::Unsound;
-use disk_basics::BreakOff;
-use disk_basics::calls::{check, check_text, directory, listed, raw_directory};
+use disk_basics::calls::{check_text, directory, raw_directory};
 use disk_basics::odd::odd_slots;
-use disk_basics::strays::{Unlinked, strays_of};
+use disk_basics::strays::{Unlinked, strays_on};
+use disk_basics::{BreakOff, Disk};
 use std::alloc::{AllocError, Global};
 
 /// What is shown.
@@ -112,24 +113,23 @@ fn add_odd(alloc: Global, text: &mut Vec<u8>, image: &[u8]) -> Result<(), ShellF
 }
 
 /// Adds that files aren't listed, if there are such, and the end of the line.
-fn add_unlinked(alloc: Global, text: &mut Vec<u8>, image: &[u8]) -> Result<(), ShellFault> {
-    if let Some(unlinked) = strays_of(alloc, image)?.count() {
+fn add_unlinked(alloc: Global, text: &mut Vec<u8>, seen: Seen<'_>) -> Result<(), AllocError> {
+    if let Some(unlinked) = strays_on(alloc, seen.disk, seen.listed)?.count() {
         text.extend_from_slice(format!(in alloc; "; {unlinked}")?.as_bytes())?;
     }
-    text.extend_from_slice(b"\n")?;
-    Ok(())
+    text.extend_from_slice(b"\n")
 }
 
 /// Adds whether the disk is sound.
-fn add_check(alloc: Global, text: &mut Vec<u8>, image: &[u8]) -> Result<LookAnswer, ShellFault> {
-    let found = check(alloc, image)?;
+fn add_check(alloc: Global, text: &mut Vec<u8>, seen: Seen<'_>) -> Result<LookAnswer, ShellFault> {
+    let found = seen.disk.check();
     let line = check_text(alloc, &found)?;
     let line = line.as_slice();
     text.extend_from_slice(line.strip_suffix(b"\n").unwrap_or(line))?;
     if found.is_err() {
-        add_odd(alloc, text, image)?;
+        add_odd(alloc, text, seen.image)?;
     }
-    add_unlinked(alloc, text, image)?;
+    add_unlinked(alloc, text, seen)?;
     Ok(answer_of(&found))
 }
 
@@ -137,15 +137,15 @@ fn add_check(alloc: Global, text: &mut Vec<u8>, image: &[u8]) -> Result<LookAnsw
 fn add_directory(
     alloc: Global,
     text: &mut Vec<u8>,
-    image: &[u8],
+    seen: Seen<'_>,
     look: Look<'_>,
 ) -> Result<LookAnswer, ShellFault> {
-    match directory(alloc, image, look.charset, look.pattern) {
+    match directory(alloc, seen.image, look.charset, look.pattern) {
         Ok(lines) => text.extend_from_slice(lines.as_slice())?,
-        Err(ShellFault::Refused(_)) => return add_broken(alloc, text, image, look),
+        Err(ShellFault::Refused(_)) => return Ok(add_broken(alloc, text, seen, look)?),
         Err(fault) => return Err(fault),
     }
-    add_geos(alloc, text, image, look)?;
+    add_geos_files(alloc, text, seen.listed.entries.as_slice(), look)?;
     Ok(LookAnswer::Fine)
 }
 
@@ -153,14 +153,13 @@ fn add_directory(
 fn add_facts(
     alloc: Global,
     text: &mut Vec<u8>,
-    image: &[u8],
+    seen: Seen<'_>,
     look: Look<'_>,
 ) -> Result<LookAnswer, ShellFault> {
-    let listed = listed(alloc, image)?;
-    let lines = info_lines(alloc, look.charset, &listed, image)?;
+    let lines = info_lines(alloc, look.charset, seen)?;
     text.extend_from_slice(lines.as_slice())?;
-    add_geos_files(alloc, text, listed.entries.as_slice(), look)?;
-    Ok(answer_by(&listed, LookAnswer::Fine))
+    add_geos_files(alloc, text, seen.listed.entries.as_slice(), look)?;
+    Ok(answer_by(seen.listed, LookAnswer::Fine))
 }
 
 /// Adds lines that are made whole.
@@ -176,20 +175,20 @@ fn add_whole(
 fn add_lines(
     alloc: Global,
     text: &mut Vec<u8>,
-    name: &str,
-    image: &[u8],
+    seen: Seen<'_>,
     look: Look<'_>,
 ) -> Result<LookAnswer, ShellFault> {
     match look.view {
-        View::Directory => add_directory(alloc, text, image, look),
-        View::Sent => add_whole(text, raw_directory(alloc, image, look.pattern)),
-        View::Deleted => add_deleted(alloc, text, image, look),
-        View::Blocks => add_blocks(alloc, text, image, look),
-        View::Matches => add_matches(alloc, text, name, image, look),
-        View::Facts => add_facts(alloc, text, image, look),
-        View::Soundness => add_check(alloc, text, image),
-        View::Flaws => add_all_flaws(alloc, text, image, look),
-        View::Sum => add_sum(alloc, text, name, image),
+        View::Directory => add_directory(alloc, text, seen, look),
+        View::Sent => add_whole(text, raw_directory(alloc, seen.image, look.pattern)),
+        View::Deleted => add_deleted(alloc, text, seen.image, look),
+        View::Blocks => Ok(add_blocks(alloc, text, seen, look)?),
+        View::Matches => Ok(add_matches(alloc, text, seen, look)?),
+        View::Facts => add_facts(alloc, text, seen, look),
+        View::Soundness => add_check(alloc, text, seen),
+        View::Flaws => add_all_flaws(alloc, text, seen.image, look),
+        // (a sum is made before the disk is opened)
+        View::Sum => Ok(LookAnswer::Fine),
     }
 }
 
@@ -208,15 +207,10 @@ pub fn add_heading(text: &mut Vec<u8>, name: &str, look: Look<'_>) -> Result<(),
 }
 
 /// What an image shows to people.
-fn people_lines(
-    alloc: Global,
-    name: &str,
-    image: &[u8],
-    look: Look<'_>,
-) -> Result<Shown, ShellFault> {
+fn people_lines(alloc: Global, seen: Seen<'_>, look: Look<'_>) -> Result<Shown, ShellFault> {
     let mut text = Vec::new(alloc);
-    add_heading(&mut text, name, look)?;
-    let answer = add_lines(alloc, &mut text, name, image, look)?;
+    add_heading(&mut text, seen.name, look)?;
+    let answer = add_lines(alloc, &mut text, seen, look)?;
     Ok(Shown { text, answer })
 }
 
@@ -235,6 +229,19 @@ fn unlinked_answer(look: Look<'_>, answer: LookAnswer, unlinked: Unlinked) -> Lo
     LookAnswer::Unlinked(unlinked, is_fine)
 }
 
+/// The sum of an image, for which its directory isn't read.
+fn sum_lines(alloc: Global, name: &str, image: &[u8], look: Look<'_>) -> Result<Shown, ShellFault> {
+    if look.is_json {
+        return sum_report(alloc, name, image);
+    }
+    if look.is_csv {
+        return sum_table(alloc, name, image);
+    }
+    let mut text = Vec::new(alloc);
+    let answer = add_sum(alloc, &mut text, name, image)?;
+    Ok(Shown { text, answer })
+}
+
 /// What an image shows, to people or to programs. Errors: `Image`, `Refused`, `Trouble`, `Memory`; of a sum `Mistaken`.
 pub fn lines_of(
     alloc: Global,
@@ -242,11 +249,19 @@ pub fn lines_of(
     image: &[u8],
     look: Look<'_>,
 ) -> Result<Shown, ShellFault> {
-    let Shown { text, answer } = plain_lines_of(alloc, name, image, look)?;
     if look.view == View::Sum {
-        return Ok(Shown { text, answer });
+        return sum_lines(alloc, name, image, look);
     }
-    let answer = match strays_of(alloc, image)?.count() {
+    let disk = Disk::open(alloc, image)?;
+    let listed = disk.listed(alloc)?;
+    let seen = Seen {
+        name,
+        image,
+        disk: &disk,
+        listed: &listed,
+    };
+    let Shown { text, answer } = plain_lines_of(alloc, seen, look)?;
+    let answer = match strays_on(alloc, &disk, &listed)?.count() {
         Some(unlinked) => unlinked_answer(look, answer, unlinked),
         None => answer,
     };
@@ -254,17 +269,12 @@ pub fn lines_of(
 }
 
 /// The same, with an answer in which files that aren't listed have no part.
-fn plain_lines_of(
-    alloc: Global,
-    name: &str,
-    image: &[u8],
-    look: Look<'_>,
-) -> Result<Shown, ShellFault> {
+fn plain_lines_of(alloc: Global, seen: Seen<'_>, look: Look<'_>) -> Result<Shown, ShellFault> {
     if look.is_json {
-        report_line(alloc, name, image, look)
+        report_line(alloc, seen, look)
     } else if look.is_csv {
-        table_lines(alloc, name, image, look)
+        table_lines(alloc, seen, look)
     } else {
-        people_lines(alloc, name, image, look)
+        people_lines(alloc, seen, look)
     }
 }

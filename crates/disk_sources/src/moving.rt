@@ -1,4 +1,7 @@
 //! One file of a disk or an archive onto an image, with its name, its type and its lock.
+mod geos;
+
+use self::geos::geos_moved;
 use crate::origin::{Origin, tell_file};
 use cbm_shell::texts::Charset;
 use cbm_shell::{Looks, geos_of};
@@ -108,8 +111,12 @@ fn is_art(origin: &Origin<'_>, entry: &Entry) -> bool {
     kind_of_entry(entry).is_none() && is_without
 }
 
-/// Reports why a file isn't one that the drive writes.
-fn tell_other<R: Runtime + AllocGlobal, T>(rt: &R, entry: &Entry, why: &str) -> Result<T, Failure> {
+/// Reports why a file isn't transferred.
+pub fn tell_other<R: Runtime + AllocGlobal, T>(
+    rt: &R,
+    entry: &Entry,
+    why: &str,
+) -> Result<T, Failure> {
     let name = in_memory(name_text(rt.alloc(), Charset::Upper, entry.name()))?;
     let name = name.as_str();
     let _ = eprintln!(rt; "disk1541: \"{name}\" {why}");
@@ -191,6 +198,9 @@ pub fn with_one<R: Runtime + AllocGlobal>(
     };
     if is_art(way.origin, entry) {
         return with_art(rt.alloc(), old, moved);
+    }
+    if let (Origin::Disk(disk), Some(geos)) = (way.origin, geos_of(entry)) {
+        return geos_moved(rt, way.to, old, disk, entry, geos);
     }
     let kind = kind_of(rt, entry)?;
     let bytes = bytes_of(rt, way.origin, entry, number)?;

@@ -9,7 +9,7 @@ use disk_basics::{Failure, What, in_memory, petscii, slot_chosen};
 use disk_facts::number_meant;
 use disk_looks::{
     Destination, OneFile, Progress, Saves, Selection, get_all_from, get_from, is_blank_art,
-    make_folder, packed, save_as, write_taken,
+    make_folder, packed, packed_as, save_as, write_taken,
 };
 use std::alloc::{AllocError, Global};
 use std::path::Path;
@@ -43,7 +43,10 @@ fn get_other<R: Runtime + AllocGlobal>(
         return Err(Failure::named(rt.alloc(), What::NoFile, taken.choice.word()));
     };
     match other_file(rt.alloc(), other, entry, number) {
-        Ok(file) => write_taken(rt, taken, file.as_slice()),
+        Ok(file) => {
+            let file = in_memory(packed_as(rt, entry, taken.output, file))?;
+            write_taken(rt, taken, file.as_slice())
+        }
         Err(fault) => {
             in_memory(tell_file(rt, entry, fault))?;
             Err(Failure::new(What::Told))

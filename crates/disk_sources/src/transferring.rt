@@ -1,10 +1,13 @@
 //! TRANSFER: files of another disk or archive onto an image.
+mod facts;
+
+use self::facts::{MovedFile, moved_file, transfer_line};
 use crate::moving::{Way, with_one};
 use crate::origin::{Entries, Origin};
 use cbm_shell::texts::Charset;
 use cbm_volume::Entry;
 use disk_basics::calls::name_text;
-use disk_basics::host::{print, read_any, read_to_change, replace, require_no_input};
+use disk_basics::host::{is_standard, print, read_any, read_to_change, replace, require_no_input};
 use disk_basics::strays::require_kept;
 use disk_basics::{Failure, What, in_memory, petscii};
 use disk_facts::{first_meant, is_meant};
@@ -23,6 +26,8 @@ pub struct Transfer<'a, 'c> {
     pub replaces: bool,
     /// What would be transferred is shown, and nothing is changed.
     pub is_dry: bool,
+    /// The files are told for programs.
+    pub is_json: bool,
     /// The character set of names.
     pub charset: Charset,
 }
@@ -86,17 +91,26 @@ pub fn with_all<R: Runtime + AllocGlobal>(
     Ok(image)
 }
 
-/// How many files could be transferred, and how many couldn't.
-#[derive(Clone, Copy)]
+/// The files that could be transferred, and those that couldn't.
+#[derive(Drop)]
 struct Plan {
-    fine: usize,
-    left: usize,
+    fine: Vec<MovedFile>,
+    left: Vec<MovedFile>,
 }
 
 impl Plan {
-    /// The line that says it.
-    fn line(self, alloc: Global) -> Result<String, AllocError> {
-        let Plan { fine, left } = self;
+    /// None yet.
+    fn new(alloc: Global) -> Plan {
+        Plan {
+            fine: Vec::new(alloc),
+            left: Vec::new(alloc),
+        }
+    }
+
+    /// The line that says how many they are.
+    fn line(&self, alloc: Global) -> Result<String, AllocError> {
+        let fine = self.fine.len();
+        let left = self.left.len();
         if left == 0 {
             let noun = if fine == 1 { "file" } else { "files" };
             return format!(in alloc; "{fine} {noun} would be transferred\n");
@@ -106,29 +120,73 @@ impl Plan {
     }
 }
 
+/// Adds the file of an entry.
+fn add_file(
+    alloc: Global,
+    files: &mut Vec<MovedFile>,
+    charset: Charset,
+    number: usize,
+    entry: &Entry,
+) -> Result<(), AllocError> {
+    let file = moved_file(alloc, charset, number, entry)?;
+    files.push(file).map_err(AllocError::from)
+}
+
+/// Prints the line of a file that could be transferred, unless programs are told.
+fn print_fine<R: Runtime + AllocGlobal>(
+    rt: &R,
+    wanted: &Transfer<'_, '_>,
+    entry: &Entry,
+) -> Result<(), Failure> {
+    if wanted.is_json {
+        return Ok(());
+    }
+    let line = in_memory(match_line(rt.alloc(), wanted.from, entry, wanted.charset))?;
+    print(rt, line.as_bytes())
+}
+
 /// Shows a file that could be transferred to an image, which it then has; one that couldn't is reported.
 fn show_one<R: Runtime + AllocGlobal>(
     rt: &R,
     wanted: &Transfer<'_, '_>,
+    number: usize,
     entry: &Entry,
     next: Result<Vec<u8>, Failure>,
     plan: &mut Plan,
 ) -> Result<Option<Vec<u8>>, Failure> {
+    let alloc = rt.alloc();
     match next {
         Ok(image) => {
-            plan.fine = plan.fine.saturating_add(1);
-            let line = in_memory(match_line(rt.alloc(), wanted.from, entry, wanted.charset))?;
-            print(rt, line.as_bytes())?;
+            let files = &mut plan.fine;
+            in_memory(add_file(alloc, files, wanted.charset, number, entry))?;
+            print_fine(rt, wanted, entry)?;
             Ok(Some(image))
         }
         Err(failure) if matches!(failure.what, What::NoMemory) => Err(failure),
         Err(failure) => {
-            plan.left = plan.left.saturating_add(1);
+            let files = &mut plan.left;
+            in_memory(add_file(alloc, files, wanted.charset, number, entry))?;
             in_memory(tell_left(rt, entry, ""))?;
             let _ = failure.tell(rt);
             Ok(None)
         }
     }
+}
+
+/// Prints how many files could be transferred, or for programs which.
+fn print_plan<R: Runtime + AllocGlobal>(
+    rt: &R,
+    to: &str,
+    wanted: &Transfer<'_, '_>,
+    plan: &Plan,
+) -> Result<(), Failure> {
+    if wanted.is_json {
+        let (fine, left) = (plan.fine.as_slice(), plan.left.as_slice());
+        let line = in_memory(transfer_line(rt.alloc(), to, wanted, fine, left))?;
+        return print(rt, line.as_slice());
+    }
+    let line = in_memory(plan.line(rt.alloc()))?;
+    print(rt, line.as_bytes())
 }
 
 /// Shows which of the files that are wanted could be transferred, each after those before it. Errors: `Told`, where one couldn't.
@@ -140,23 +198,49 @@ fn show_all<R: Runtime + AllocGlobal>(
     patterns: &[Vec<u8>],
     wanted: &Transfer<'_, '_>,
 ) -> Result<(), Failure> {
-    let mut plan = Plan { fine: 0, left: 0 };
+    let mut plan = Plan::new(rt.alloc());
     let mut image = old;
     for (number, entry) in entries.iter().enumerate() {
         if is_wanted(entry, patterns) {
             let next = with_one(rt, way, image.as_slice(), entry, number);
-            if let Some(next) = show_one(rt, wanted, entry, next, &mut plan)? {
+            if let Some(next) = show_one(rt, wanted, number, entry, next, &mut plan)? {
                 image = next;
             }
         }
     }
-    let line = in_memory(plan.line(rt.alloc()))?;
-    print(rt, line.as_bytes())?;
-    if plan.left == 0 {
+    print_plan(rt, way.to, wanted, &plan)?;
+    if plan.left.is_empty() {
         Ok(())
     } else {
         Err(Failure::new(What::Told))
     }
+}
+
+/// The line of JSON for the files that were transferred.
+fn done_line(
+    alloc: Global,
+    to: &str,
+    entries: &[Entry],
+    patterns: &[Vec<u8>],
+    wanted: &Transfer<'_, '_>,
+) -> Result<Vec<u8>, AllocError> {
+    let mut files = Vec::new(alloc);
+    for (number, entry) in entries.iter().enumerate() {
+        if is_wanted(entry, patterns) {
+            add_file(alloc, &mut files, wanted.charset, number, entry)?;
+        }
+    }
+    transfer_line(alloc, to, wanted, files.as_slice(), &[])
+}
+
+/// Prints for programs which files were transferred: on standard error, if standard output has the image.
+fn print_done<R: Runtime + AllocGlobal>(rt: &R, to: &str, line: &[u8]) -> Result<(), Failure> {
+    if is_standard(to) {
+        let text = std::str::from_utf8(line).unwrap_or("");
+        let _ = eprint!(rt; "{text}");
+        return Ok(());
+    }
+    print(rt, line)
 }
 
 /// Whether a directory has all files that are wanted: it is whole, or patterns say them and each file that is listed can be followed. What
@@ -200,5 +284,10 @@ pub fn transfer_files<R: Runtime + AllocGlobal>(
         return show_all(rt, way, old, entries, patterns.as_slice(), wanted);
     }
     let new = with_all(rt, way, old.as_slice(), entries, patterns.as_slice())?;
-    save(rt, to, old.as_slice(), new.as_slice())
+    save(rt, to, old.as_slice(), new.as_slice())?;
+    if wanted.is_json {
+        let line = done_line(rt.alloc(), to, entries, patterns.as_slice(), wanted);
+        print_done(rt, to, in_memory(line)?.as_slice())?;
+    }
+    Ok(())
 }

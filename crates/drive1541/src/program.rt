@@ -90,8 +90,14 @@ fn without_memory(rt: &HostRuntime) -> ExitCode {
     ExitCode::from(exit_status(&Err(RunFailure::NoMemory)))
 }
 
+/// The words of the command line. The lone word `help` asks for what `--help` does: a script would follow an image.
 fn words_of(rt: &HostRuntime) -> io::Result<Vec<String>> {
-    let words: Vec<String> = env::args(rt)?.collect(rt.alloc())?;
+    let mut words: Vec<String> = env::args(rt)?.collect(rt.alloc())?;
+    if let [_, word] = words.as_mut_slice()
+        && word.as_str() == "help"
+    {
+        *word = String::from_str(rt.alloc(), "--help")?;
+    }
     Ok(words)
 }
 

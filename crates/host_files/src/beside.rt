@@ -1,8 +1,9 @@
 //! Saving a file so that half a file is never left.
 use crate::left::{Leftovers, beside};
 use std::alloc::{AllocError, Global};
-use std::fs::{Metadata, OpenFile, OpenOptions, Permissions};
+use std::fs::{Metadata, OpenFile, OpenOptions};
 use std::io::{ErrorKind, Read, Write};
+use std::os::unix::fs::{MetadataExt, chown};
 use std::path::{Path, PathBuf};
 use std::rt::Files;
 use std::{fs, io};
@@ -37,7 +38,7 @@ struct Saving<'p, 'b, 'o> {
 
 /// Writes the bytes beside the file, and then gives them the file's name. At an `Err` the file is as it was. What is
 /// there and is no regular file, as a device, is written to as it stands. A link stays a link, also one to nothing yet,
-/// and the file that was there leaves its mode to the new one.
+/// and the file that was there leaves its mode to the new one, and its owner and group, if the process may give them.
 ///
 /// The file beside has the names of the program that saves and of the file, the number of the process, another number, and `.new`.
 /// What earlier processes that were ended in a save of the file left beside is removed.
@@ -119,8 +120,7 @@ fn save_whole<R: Files + AllocGlobal>(
         Ok(metadata) if metadata.is_file() => {
             let place = end_of_links(rt, path, is_link)?;
             require_writable(rt, place.as_path())?;
-            let permissions = Some(metadata.permissions());
-            save_beside(rt, place.as_path(), save, permissions, left)
+            save_beside(rt, place.as_path(), save, Some(metadata), left)
         }
         Ok(_) => {
             fs::write(rt, path, save.bytes)?;
@@ -167,7 +167,7 @@ fn save_beside<R: Files + AllocGlobal>(
     rt: &R,
     path: Path<'_>,
     save: Saving<'_, '_, '_>,
-    permissions: Option<Permissions>,
+    before: Option<Metadata>,
     left: &mut Leftovers,
 ) -> io::Result<bool> {
     let beginning = beginning(rt.alloc(), save.program, path)?;
@@ -183,7 +183,7 @@ fn save_beside<R: Files + AllocGlobal>(
             .open(rt, new.as_path());
         match file {
             Ok(file) => {
-                let saved = put_in_place(rt, file, new.as_path(), path, save, permissions);
+                let saved = put_in_place(rt, file, new.as_path(), path, save, before);
                 if !is_in_place(&saved) {
                     let _ = fs::remove_file(rt, new.as_path());
                 }
@@ -204,15 +204,29 @@ fn is_in_place(saved: &io::Result<bool>) -> bool {
     }
 }
 
+// Gives a new file the owner and the group of the one before, if the process may: a member of the group may give that only.
+fn give_owner<R: Files>(rt: &R, new: Path<'_>, own: &Metadata, before: &Metadata) {
+    if own.gid() != before.gid() {
+        let _ = chown(rt, new, None, Some(before.gid()));
+    }
+    if own.uid() != before.uid() {
+        let _ = chown(rt, new, Some(before.uid()), None);
+    }
+}
+
 // The file beside is whole, and on the host's disk if that is wanted.
 fn fill<R: Files>(
+    rt: &R,
     mut file: R::File,
+    new: Path<'_>,
     save: Saving<'_, '_, '_>,
-    permissions: Option<Permissions>,
+    before: Option<Metadata>,
 ) -> io::Result<()> {
     file.write_all(save.bytes)?;
-    if let Some(permissions) = permissions {
-        file.set_permissions(permissions)?;
+    if let Some(before) = before {
+        give_owner(rt, new, &file.metadata()?, &before);
+        // (a new owner takes bits from the mode, so it comes first)
+        file.set_permissions(before.permissions())?;
     }
     if save.sync == Sync::Before {
         file.sync_all()?;
@@ -226,9 +240,9 @@ fn put_in_place<R: Files + AllocGlobal>(
     new: Path<'_>,
     path: Path<'_>,
     save: Saving<'_, '_, '_>,
-    permissions: Option<Permissions>,
+    before: Option<Metadata>,
 ) -> io::Result<bool> {
-    fill::<R>(file, save, permissions)?;
+    fill(rt, file, new, save, before)?;
     if !is_as_before(rt, path, save.old)? {
         return Ok(false);
     }

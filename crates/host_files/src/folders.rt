@@ -4,6 +4,7 @@ use crate::names::{name_of, text_of};
 use std::alloc::{AllocError, Global};
 use std::fs;
 use std::io::{self, ErrorKind, Read};
+use std::os::unix::fs::MetadataExt;
 use std::rt::Files;
 
 /// How many bytes of names are read at a time: any name fits.
@@ -54,6 +55,14 @@ fn kind_by(kind: fs::FileType) -> Kind {
 pub fn kind_of<R: Files + AllocGlobal>(rt: &R, text: &str) -> io::Result<Kind> {
     let path = path_of(rt.alloc(), text)?;
     Ok(kind_by(fs::metadata(rt, path.as_str())?.file_type()))
+}
+
+/// Whether a path leads to a file of bytes that has more names than one (hard links); false where that can't be seen.
+pub fn has_other_names<R: Files>(rt: &R, path: &str) -> bool {
+    match fs::metadata(rt, path) {
+        Ok(found) => found.is_file() && found.nlink() > 1,
+        Err(_) => false,
+    }
 }
 
 /// What a path names: a link is a link. Errors: those of `path_of`, and the system's.

@@ -101,6 +101,10 @@ impl<'a> Arg<'a> {
         if texts.is_empty() { self } else { self.by(|it| it.value_names(all(texts))) }
     }
 
+    pub fn allow_hyphen_values(self, yes: bool) -> Self {
+        self.by(|it| it.allow_hyphen_values(yes))
+    }
+
     pub fn num_args(self, range: std::ops::RangeInclusive<usize>) -> Self {
         self.by(|it| it.num_args(range))
     }

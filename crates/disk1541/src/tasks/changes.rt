@@ -1,5 +1,7 @@
 //! What a command makes of the bytes of an image.
-use crate::reading::{choice, head, host_files, pair, patterns_word, type_and_choice};
+use crate::reading::{
+    art, choice, head, host_files, one_choice, pair, patterns_word, type_and_choice,
+};
 use cbm_shell::texts::Charset;
 use clap::ArgMatches;
 use disk_basics::strays::require_kept;
@@ -7,8 +9,9 @@ use disk_basics::{Choice, Failure, What, WordFault, in_memory};
 use disk_changes::{require_files, with_files};
 use disk_commands::{Verb, flag, given, option};
 use disk_edits::{
-    Deed, Desk, Edit, Gone, Ordering, Placement, copied, done_with, edited, given_back, in_order,
-    key_of_word, placed, renamed, require_names, rest_of, retyped, sorted, without_fault,
+    Deed, Desk, Edit, Gone, Ordering, Placement, Showing, adorned, copied, done_with, edited,
+    given_back, in_order, key_of_word, moved, placed, renamed, require_names, rest_of, retyped,
+    sorted, without_fault,
 };
 use std::alloc::Global;
 use std::rt::Runtime;
@@ -18,7 +21,7 @@ use std::rt::Runtime;
 pub struct Made {
     /// The new image.
     pub image: Vec<u8>,
-    /// What VALIDATE does, in lines.
+    /// What VALIDATE and PLACE do, in lines, or as a line of JSON.
     pub plan: Option<String>,
     /// What stays on the disk though the words mean it, in lines.
     pub rest: Option<String>,
@@ -27,12 +30,10 @@ pub struct Made {
 /// How the words of a command are taken.
 #[derive(Clone, Copy)]
 pub struct Manner<'a> {
-    /// The character set of names.
-    pub charset: Charset,
     /// What standard input gave, where it was read already.
     pub input: Option<&'a [u8]>,
-    /// Nothing is saved.
-    pub is_dry: bool,
+    /// How the change is shown, and whether anything is saved.
+    pub showing: Showing,
 }
 
 /// A new image of which there is nothing more to say.
@@ -159,12 +160,12 @@ fn order_of(
     alloc: Global,
     words: &ArgMatches<'_>,
     desk: Desk<'_, '_>,
-    is_dry: bool,
+    showing: Showing,
 ) -> Result<Made, Failure> {
     let ordering = Ordering {
-        is_dry,
+        is_dry: showing.is_dry,
         is_forced: flag(words, "force"),
-        is_json: flag(words, "json"),
+        is_json: showing.is_json,
     };
     let order = in_order(alloc, desk.image, desk.bytes, ordering)?;
     Ok(Made {
@@ -174,25 +175,23 @@ fn order_of(
     })
 }
 
-/// The image whose files that are meant lie elsewhere, and of a dry run where.
+/// The image whose files that are meant lie elsewhere, and where, if nothing is saved, or programs are told.
 fn place_of(
     alloc: Global,
     words: &ArgMatches<'_>,
-    charset: Charset,
     desk: Desk<'_, '_>,
-    is_dry: bool,
+    showing: Showing,
 ) -> Result<Made, Failure> {
     let head = head(alloc, words)?;
     let patterns = words.get_strs("PATTERN").unwrap_or(&[]);
     let placement = Placement {
         patterns,
-        charset,
+        charset: showing.charset,
         head,
     };
     let laying = placed(alloc, desk.image, desk.bytes, &placement)?;
-    let told = std::str::from_utf8(laying.told.as_slice()).unwrap_or("");
-    let plan = if is_dry {
-        Some(in_memory(String::from_str(alloc, told))?)
+    let plan = if showing.is_dry || showing.is_json {
+        Some(in_memory(laying.shown(alloc, desk.image, showing))?)
     } else {
         None
     };
@@ -222,10 +221,10 @@ pub fn require_words<'a>(
 ) -> Result<(), Failure> {
     match verb {
         Verb::Put => {
-            let put = host_files(words, manner.charset, manner.input);
+            let put = host_files(words, manner.showing.charset, manner.input);
             require_files(image, words.get_strs("FILE").unwrap_or(&[]), &put)
         }
-        Verb::Copy | Verb::Rename => { require_pair(alloc, words, manner.charset) }
+        Verb::Copy | Verb::Rename => { require_pair(alloc, words, manner.showing.charset) }
         Verb::Sort => {
             key_of_word(alloc, given(words, "by"))?;
             Ok(())
@@ -277,7 +276,8 @@ fn made_plainly<'a, R: Runtime + AllocGlobal>(
     manner: Manner<'a>,
 ) -> Result<Made, Failure> {
     let alloc = rt.alloc();
-    let charset = manner.charset;
+    let showing = manner.showing;
+    let charset = showing.charset;
     match verb {
         Verb::Put => {
             let put = host_files(words, charset, manner.input);
@@ -302,12 +302,17 @@ fn made_plainly<'a, R: Runtime + AllocGlobal>(
             edit_of(alloc, desk, &edit)
         }
         Verb::Retype => plain(retype_of(alloc, words, charset, desk)),
-        Verb::Place => place_of(alloc, words, charset, desk, manner.is_dry),
+        Verb::Place => place_of(alloc, words, desk, showing),
+        Verb::Art => plain(adorned(alloc, desk, art(words, charset))),
+        Verb::Move => {
+            let choice = one_choice(words, charset)?;
+            plain(moved(alloc, desk, choice, given(words, "to")))
+        }
         Verb::Sort => {
             let key = key_of_word(rt.alloc(), given(words, "by"))?;
             plain(sorted(alloc, desk.image, desk.bytes, key))
         }
-        Verb::Validate => order_of(alloc, words, desk, manner.is_dry),
+        Verb::Validate => order_of(alloc, words, desk, showing),
         _ => Err(Failure::new(What::Told)),
     }
 }

@@ -10,7 +10,7 @@ use clap::error::ErrorKind;
 use disk_basics::host::{is_standard, read_file, read_image, replace};
 use disk_basics::{Failure, What, WordFault, in_memory, on_disk};
 use disk_commands::{Verb, flag, given, verb_of};
-use disk_edits::{Desk, shown_change};
+use disk_edits::{Desk, Showing, shown_change};
 use std::alloc::{AllocError, Global};
 use std::rt::Runtime;
 
@@ -32,6 +32,19 @@ struct Script<'a> {
     image: &'a str,
     // Nothing is saved.
     is_dry: bool,
+    // What each line changes is told for programs.
+    is_json: bool,
+}
+
+impl Script<'_> {
+    /// How a line's change is shown.
+    fn showing(self, charset: Charset) -> Showing {
+        Showing {
+            charset,
+            is_dry: self.is_dry,
+            is_json: self.is_json,
+        }
+    }
 }
 
 /// An image that lines change, and what is said in the end.
@@ -57,26 +70,59 @@ fn add_numbered(
     Ok(())
 }
 
+/// Adds a line of JSON as the change of a numbered line.
+fn add_change(
+    alloc: Global,
+    text: &mut String,
+    number: usize,
+    json: &str,
+) -> Result<(), AllocError> {
+    text.push_str(format!(in alloc; "{{\"line\":{number},\"change\":")?.as_str())?;
+    for change in json.lines() {
+        text.push_str(change)?;
+    }
+    text.push_str("}\n")
+}
+
+/// What a line changes, as it is shown. Errors: those of `shown_change`.
+fn shown_of(
+    alloc: Global,
+    desk: Desk<'_, '_>,
+    made: &Made,
+    showing: Showing,
+) -> Result<String, ShellFault> {
+    match &made.plan {
+        Some(plan) => Ok(String::from_str(alloc, plan.as_str())?),
+        None => shown_change(alloc, desk, made.image.as_slice(), showing),
+    }
+}
+
 impl Course {
-    /// Adds what a line would change. Errors: those of `shown_change`.
+    /// Adds what a line changes. Errors: those of `shown_change`.
     fn add_shown(
         &mut self,
         alloc: Global,
+        script: Script<'_>,
         number: usize,
         made: &Made,
         charset: Charset,
     ) -> Result<(), ShellFault> {
-        if let Some(plan) = &made.plan {
-            return Ok(add_numbered(alloc, &mut self.plan, number, plan.as_str())?);
+        let desk = Desk {
+            image: script.image,
+            bytes: self.image.as_slice(),
+        };
+        let shown = shown_of(alloc, desk, made, script.showing(charset))?;
+        if script.is_json {
+            return Ok(add_change(alloc, &mut self.plan, number, shown.as_str())?);
         }
-        let new = made.image.as_slice();
-        let shown = shown_change(alloc, self.image.as_slice(), new, charset)?;
         Ok(add_numbered(alloc, &mut self.plan, number, shown.as_str())?)
     }
 
-    /// Adds what is said of a line that is carried out.
-    fn add_said(&mut self, made: &Made) -> Result<(), AllocError> {
-        if let Some(plan) = &made.plan {
+    /// Adds what is said of a line that is carried out: what VALIDATE does, unless that is shown already, and what stays on the disk.
+    fn add_said(&mut self, made: &Made, is_shown: bool) -> Result<(), AllocError> {
+        if let Some(plan) = &made.plan
+            && !is_shown
+        {
             self.plan.push_str(plan.as_str())?;
         }
         if let Some(rest) = &made.rest {
@@ -91,7 +137,7 @@ fn is_for_lines(verb: Verb) -> bool {
     match verb {
         Verb::Put | Verb::Copy | Verb::Rename | Verb::Delete | Verb::Undelete => true,
         Verb::Lock | Verb::Unlock | Verb::Title | Verb::Retype => true,
-        Verb::Place | Verb::Sort | Verb::Validate => true,
+        Verb::Place | Verb::Sort | Verb::Validate | Verb::Art | Verb::Move => true,
         _ => false,
     }
 }
@@ -132,17 +178,17 @@ fn made_of<R: Runtime + AllocGlobal>(
     verb: Verb,
     words: &ArgMatches<'_>,
     desk: Desk<'_, '_>,
-    is_dry: bool,
+    script: Script<'_>,
 ) -> Result<(Made, Charset), Failure> {
     require_line(rt.alloc(), words)?;
+    let charset = charset(rt.alloc(), words)?;
     let manner = Manner {
-        charset: charset(rt.alloc(), words)?,
         input: None,
-        is_dry,
+        showing: script.showing(charset),
     };
     require_words(rt.alloc(), verb, words, desk.image, manner)?;
     let made = made_by(rt, verb, words, desk, manner)?;
-    Ok((made, manner.charset))
+    Ok((made, charset))
 }
 
 /// What a line's command makes of the image. Errors: `Word`, where lines have no such command.
@@ -150,13 +196,13 @@ fn made_by_line<R: Runtime + AllocGlobal>(
     rt: &R,
     line: &ArgMatches<'_>,
     desk: Desk<'_, '_>,
-    is_dry: bool,
+    script: Script<'_>,
 ) -> Result<(Made, Charset), Failure> {
     let Some((name, words)) = line.subcommand() else {
         return Err(Failure::new(What::Told));
     };
     match verb_of(name) {
-        Some(verb) if is_for_lines(verb) => made_of(rt, verb, words, desk, is_dry),
+        Some(verb) if is_for_lines(verb) => made_of(rt, verb, words, desk, script),
         _ => Err(Failure::named(rt.alloc(), What::Word(WordFault::LineCommand), name)),
     }
 }
@@ -212,7 +258,7 @@ fn carry_words<R: Runtime + AllocGlobal>(
         image: script.image,
         bytes,
     };
-    match made_by_line(rt, &line, desk, script.is_dry) {
+    match made_by_line(rt, &line, desk, script) {
         Ok(made) => Ok(made),
         Err(failure) => Err(told(rt, failure)),
     }
@@ -227,14 +273,16 @@ fn take_made(
     made: Made,
     charset: Charset,
 ) -> Result<(), Failure> {
-    if script.is_dry {
+    let is_shown = script.is_dry || script.is_json;
+    if is_shown {
         on_disk(
             alloc,
             script.image,
-            course.add_shown(alloc, number, &made, charset),
+            course.add_shown(alloc, script, number, &made, charset),
         )?;
-    } else {
-        in_memory(course.add_said(&made))?;
+    }
+    if !script.is_dry {
+        in_memory(course.add_said(&made, is_shown))?;
     }
     course.image = made.image;
     Ok(())
@@ -332,6 +380,7 @@ pub fn run_lines<R: Runtime + AllocGlobal>(
         file: given(words, "FILE"),
         image: given(words, "IMAGE"),
         is_dry: flag(words, "dry-run"),
+        is_json: flag(words, "json"),
     };
     if is_standard(script.file) && is_standard(script.image) {
         return Err(Failure::new(What::Word(WordFault::Twice)));

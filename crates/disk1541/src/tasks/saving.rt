@@ -1,12 +1,12 @@
 //! A command that changes one image: it is read, changed, and saved; or what would change is shown.
 use super::changes::{Made, Manner, made_by, require_words};
 use crate::reading::charset;
-use cbm_shell::texts::Charset;
 use clap::ArgMatches;
 use disk_basics::host::{is_standard, print, read_image, replace};
-use disk_basics::{Failure, on_disk};
+use disk_basics::{Failure, in_memory, on_disk};
 use disk_commands::{Verb, flag};
-use disk_edits::{Desk, shown_change};
+use disk_edits::{Desk, Showing, shown_change};
+use std::alloc::Global;
 use std::rt::Runtime;
 
 /// Prints what a command did: on standard error, if standard output has the image.
@@ -23,19 +23,18 @@ pub fn print_plan<R: Runtime + AllocGlobal>(
     print(rt, plan.as_bytes())
 }
 
-/// Shows what a command would change.
-fn show_made<R: Runtime + AllocGlobal>(
-    rt: &R,
+/// What a command changes, as it is shown.
+fn shown_of(
+    alloc: Global,
     desk: Desk<'_, '_>,
     made: &Made,
-    charset: Charset,
-) -> Result<(), Failure> {
+    showing: Showing,
+) -> Result<String, Failure> {
     if let Some(plan) = &made.plan {
-        return print(rt, plan.as_bytes());
+        return in_memory(String::from_str(alloc, plan.as_str()));
     }
-    let shown = shown_change(rt.alloc(), desk.bytes, made.image.as_slice(), charset);
-    let shown = on_disk(rt.alloc(), desk.image, shown)?;
-    print(rt, shown.as_bytes())
+    let shown = shown_change(alloc, desk, made.image.as_slice(), showing);
+    on_disk(alloc, desk.image, shown)
 }
 
 /// Saves what a command made, and says what is to be said.
@@ -43,15 +42,30 @@ fn save_made<R: Runtime + AllocGlobal>(
     rt: &R,
     desk: Desk<'_, '_>,
     made: &Made,
+    showing: Showing,
 ) -> Result<(), Failure> {
+    let shown = if showing.is_json {
+        Some(shown_of(rt.alloc(), desk, made, showing)?)
+    } else {
+        None
+    };
     replace(rt, desk.image, desk.bytes, made.image.as_slice())?;
     if let Some(rest) = &made.rest {
         let _ = eprint!(rt; "{rest}");
     }
-    match &made.plan {
-        Some(plan) => print_plan(rt, desk.image, plan.as_str(), false),
-        None => Ok(()),
+    match (&shown, &made.plan) {
+        (Some(told), _) | (None, Some(told)) => print_plan(rt, desk.image, told.as_str(), false),
+        (None, None) => Ok(()),
     }
+}
+
+/// How a command's words want the change shown. Errors: `Word`, where a C64 has no such character set.
+pub fn showing_of(alloc: Global, words: &ArgMatches<'_>) -> Result<Showing, Failure> {
+    Ok(Showing {
+        charset: charset(alloc, words)?,
+        is_dry: flag(words, "dry-run"),
+        is_json: flag(words, "json"),
+    })
 }
 
 /// Changes an image by a command, and saves it; or shows what would change, if the words say so. Errors: `Word`; those of
@@ -63,11 +77,8 @@ pub fn change_with<'a, R: Runtime + AllocGlobal>(
     image: &str,
     input: Option<&'a [u8]>,
 ) -> Result<(), Failure> {
-    let manner = Manner {
-        charset: charset(rt.alloc(), words)?,
-        input,
-        is_dry: flag(words, "dry-run"),
-    };
+    let showing = showing_of(rt.alloc(), words)?;
+    let manner = Manner { input, showing };
     require_words(rt.alloc(), verb, words, image, manner)?;
     let old = read_image(rt, image)?;
     let desk = Desk {
@@ -75,8 +86,9 @@ pub fn change_with<'a, R: Runtime + AllocGlobal>(
         bytes: old.as_slice(),
     };
     let made = made_by(rt, verb, words, desk, manner)?;
-    if manner.is_dry {
-        return show_made(rt, desk, &made, manner.charset);
+    if showing.is_dry {
+        let shown = shown_of(rt.alloc(), desk, &made, showing)?;
+        return print(rt, shown.as_bytes());
     }
-    save_made(rt, desk, &made)
+    save_made(rt, desk, &made, showing)
 }

@@ -20,7 +20,11 @@ fn tell_unreadable(rt: &impl Eprint, output: &str, lost: &Losses) -> io::Result<
 /// Reports the tracks that are too many.
 fn tell_tracks(rt: &impl Eprint, output: &str, old: Kind) -> io::Result<()> {
     match old {
-        Kind::D64 => eprintln!(rt; "disk1541: {output} can't hold tracks 36 to 40"),
+        Kind::D64 => {
+            eprintln!(rt;
+                "disk1541: {output} can't hold tracks 36 to 40: if they are free, use `convert --tracks 35` first"
+            )
+        }
         Kind::G64 => {
             eprintln!(rt; "disk1541: {output} can't hold half tracks and tracks beyond 35")
         }

@@ -1,6 +1,6 @@
 //! The words of commands that make and change disks.
 use crate::word::{FLAG, NEEDED, OPTION, Word};
-use crate::words::looking::{IMAGES, RECURSIVE, REPLACE_FILE};
+use crate::words::looking::{IMAGES, JSON, RECURSIVE, REPLACE_FILE};
 use clap::ArgAction;
 
 /// ERRORS that drops them.
@@ -17,6 +17,19 @@ pub const ADD: Word = Word {
     help: "save the image with error bytes, each 1 (no error)",
     excludes: &["drop"],
     ..FLAG
+};
+
+/// The error bytes, for programs.
+pub const JSON_ERRORS: Word = Word {
+    help: "print JSON for programs",
+    excludes: &["add", "drop"],
+    ..JSON
+};
+
+/// What a command changes, for programs.
+pub const JSON_CHANGES: Word = Word {
+    help: "print the changes as JSON for programs",
+    ..JSON
 };
 
 /// The title of a new disk.
@@ -267,6 +280,40 @@ pub const RECIPE: Word = Word {
     name: "FILE",
     help: "the recipe, TOML; its files are named from its folder",
     ..NEEDED
+};
+
+/// What a line of art shows.
+pub const ART_TEXT: Word = Word {
+    name: "TEXT",
+    help: "its text, up to 16 characters",
+    takes_hyphens: true,
+    ..NEEDED
+};
+
+/// The place of a line of art.
+pub const ART_PLACE: Word = Word {
+    name: "at",
+    help: "its place among the files, from 1 on; default: the last",
+    value: &["PLACE"],
+    ..OPTION
+};
+
+/// How many blocks a line of art shows.
+pub const ART_BLOCKS: Word = Word {
+    name: "blocks",
+    help: "the number of blocks that it shows",
+    value: &["N"],
+    default: &["0"],
+    ..OPTION
+};
+
+/// Where MOVE moves a file.
+pub const NEW_PLACE: Word = Word {
+    name: "to",
+    help: "its new place among the files, from 1 on",
+    is_needed: true,
+    value: &["PLACE"],
+    ..OPTION
 };
 
 /// What SORT sorts by.

@@ -1,9 +1,10 @@
 //! What is known of a disk or an archive, but for its files.
+use crate::seen::Seen;
 use crate::unlinked::{UnlinkedSector, unlinked_sectors};
 use cbm_shell::{Info, ShellFault};
 use cbm_volume::{Label, Unsound};
 use disk_basics::odd::odd_slots;
-use disk_basics::strays::strays_of;
+use disk_basics::strays::strays_on;
 use disk_facts::{WideMap, format_name, more_tracks, wide_map};
 use std::alloc::Global;
 
@@ -42,9 +43,10 @@ fn odd_of(alloc: Global, image: &[u8], info: &Info) -> Result<Vec<usize>, ShellF
 
 impl Facts {
     /// What is known of the disk of an image. The one error is `Memory`.
-    pub fn of_image(alloc: Global, image: &[u8], info: &Info) -> Result<Facts, ShellFault> {
+    pub fn of_image(alloc: Global, seen: Seen<'_>, info: &Info) -> Result<Facts, ShellFault> {
+        let image = seen.image;
         let odd = odd_of(alloc, image, info)?;
-        let unlinked = unlinked_sectors(alloc, &strays_of(alloc, image)?)?;
+        let unlinked = unlinked_sectors(alloc, &strays_on(alloc, seen.disk, seen.listed)?)?;
         Ok(Facts {
             format: format_name(image),
             tracks: Some(info.tracks),

@@ -3,14 +3,14 @@ use super::facts::Facts;
 use super::files::{Files, Size, size_of};
 use super::{LabelTexts, files_meant, geos_kind, image_answer, label_of, record_of};
 use crate::broken::answer_by;
+use crate::seen::Seen;
 use crate::sum::sum_text;
 use crate::view::{Look, LookAnswer, Shown, View};
 use cbm_shell::ShellFault;
 use cbm_shell::texts::{Charset, words};
 use cbm_volume::{Entry, Unsound};
 use csv::WriterBuilder;
-use disk_basics::Disk;
-use disk_basics::calls::{info, listed, name_text};
+use disk_basics::calls::name_text;
 use disk_facts::{hex, type_of};
 use serde::Serialize;
 use std::alloc::{AllocError, Global};
@@ -148,16 +148,10 @@ fn files_answer(look: Look<'_>, text: &[u8]) -> LookAnswer {
 }
 
 /// The files of an image.
-fn files_table(
-    alloc: Global,
-    name: &str,
-    image: &[u8],
-    look: Look<'_>,
-) -> Result<Shown, ShellFault> {
-    let disk = Disk::open(alloc, image)?;
-    let listed = disk.listed(alloc)?;
-    let text = file_lines(alloc, name, &disk, listed.entries.as_slice(), look)?;
-    let answer = answer_by(&listed, files_answer(look, text.as_slice()));
+fn files_table(alloc: Global, seen: Seen<'_>, look: Look<'_>) -> Result<Shown, AllocError> {
+    let entries = seen.listed.entries.as_slice();
+    let text = file_lines(alloc, seen.name, seen.disk, entries, look)?;
+    let answer = answer_by(seen.listed, files_answer(look, text.as_slice()));
     Ok(Shown { text, answer })
 }
 
@@ -221,19 +215,13 @@ pub fn facts_line(
 }
 
 /// What an image is.
-fn image_table(
-    alloc: Global,
-    name: &str,
-    image: &[u8],
-    look: Look<'_>,
-) -> Result<Shown, ShellFault> {
-    let info = info(alloc, image)?;
-    let listed = listed(alloc, image)?;
-    let facts = Facts::of_image(alloc, image, &info)?;
-    let text = facts_line(alloc, name, look.charset, &facts)?;
+fn image_table(alloc: Global, seen: Seen<'_>, look: Look<'_>) -> Result<Shown, ShellFault> {
+    let info = seen.disk.info(alloc)?;
+    let facts = Facts::of_image(alloc, seen, &info)?;
+    let text = facts_line(alloc, seen.name, look.charset, &facts)?;
     Ok(Shown {
         text,
-        answer: image_answer(look, &info, &listed),
+        answer: image_answer(look, &info, seen.listed),
     })
 }
 
@@ -242,8 +230,8 @@ pub fn sum_row(alloc: Global, image: &str, sha256: &str) -> Result<Vec<u8>, Allo
     line(alloc, &SumRow { image, sha256 })
 }
 
-/// The sum of an image.
-fn sum_table(alloc: Global, name: &str, image: &[u8]) -> Result<Shown, ShellFault> {
+/// The sum of an image. Errors: `Image`, `Mistaken`, `Memory`.
+pub fn sum_table(alloc: Global, name: &str, image: &[u8]) -> Result<Shown, ShellFault> {
     let sum = sum_text(alloc, image)?;
     Ok(Shown {
         text: sum_row(alloc, name, sum.as_str())?,
@@ -251,16 +239,10 @@ fn sum_table(alloc: Global, name: &str, image: &[u8]) -> Result<Shown, ShellFaul
     })
 }
 
-/// What an image shows to programs: lines of a table. Errors: `Image`, `Trouble`, `Memory`; of a sum `Mistaken`.
-pub fn table_lines(
-    alloc: Global,
-    name: &str,
-    image: &[u8],
-    look: Look<'_>,
-) -> Result<Shown, ShellFault> {
+/// What an image shows to programs: lines of a table. Errors: `Image`, `Trouble`, `Memory`.
+pub fn table_lines(alloc: Global, seen: Seen<'_>, look: Look<'_>) -> Result<Shown, ShellFault> {
     match look.view {
-        View::Sum => sum_table(alloc, name, image),
-        View::Facts | View::Soundness => image_table(alloc, name, image, look),
-        _ => files_table(alloc, name, image, look),
+        View::Facts | View::Soundness => image_table(alloc, seen, look),
+        _ => Ok(files_table(alloc, seen, look)?),
     }
 }
