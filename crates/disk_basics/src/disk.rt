@@ -97,9 +97,11 @@ impl Disk {
 
     /// Adds the sectors of a track that don't read.
     fn add_faults(&self, faults: &mut Vec<Fault>, track: u8) -> Result<(), AllocError> {
+        let medium = self.volume.medium();
         for sector in 0..sectors_of(track) {
             if let Some(at) = Address::new(track, sector)
-                && let Err(fault) = self.volume.medium().read(at)
+                && at.track() <= medium.tracks()
+                && let Err(fault) = medium.read(at)
             {
                 faults.push(fault).map_err(AllocError::from)?;
             }
