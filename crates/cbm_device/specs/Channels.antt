@@ -79,13 +79,13 @@ IsPeeked shows stands says x shown = (shown ≡ shows x) × ((m : _) → stands 
 
 -- ---- when a call may be made
 
--- the channel is one, and the wires are at rest: nobody pulls a line, and nothing is due
+-- The channel is one, the drive's number is one of the bus, and the wires are at rest: the drive has no role, nobody pulls a line, and nothing is due.
 abbrev pub IsCallable : ℕ → Port → Type 0
-IsCallable channel p = (channel ≤ 15) × (p ≡ resting p.party)
+IsCallable channel p = (channel ≤ 15) × (p.party.device ≤ 30) × (p ≡ resting p.party)
 
--- it is none, or they aren't
+-- one of them isn't so
 abbrev pub IsUncallable : ℕ → Port → Type 0
-IsUncallable channel p = (15 < channel) ⊎ (p ≢ resting p.party)
+IsUncallable channel p = (15 < channel) ⊎ ((30 < p.party.device) ⊎ (p ≢ resting p.party))
 
 -- ---- a drive with the disk of an image
 

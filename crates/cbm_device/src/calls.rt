@@ -1,7 +1,5 @@
 //! Bytes to a channel of a drive and from it by calls, while its wires are at rest: the drive is told the acts that the wires would bring.
-ghost use Rattle.std.specs.Prelude.{◌≡◌, ◌≤◌, ◌<◌, ◌++◌, ◌∷◌, [], drop, length, IfErr, IfOk, OnOk};
-ghost use Rattle.cbm_iec.specs.Attentions.{data_on, talk};
-ghost use Rattle.cbm_iec.specs.declared.machine.Act.TheVariants.{Pulled, Attention, Released};
+ghost use Rattle.std.specs.Prelude.{◌≡◌, ◌≤◌, ◌++◌, ℕ, List, drop, length, IfErr, IfOk, OnOk};
 ghost use Rattle.cbm_device.specs.Channels.{attention, leaving, heard_each, sending, opening_acts, writing_acts, closing_acts, by_call, IsToldAll, Speaks, Talks, IsPeeked, IsCallable, IsUncallable};
 
 use crate::image_disk::ImageDisk;
@@ -11,6 +9,9 @@ use cbm_iec::attention::{CLOSE, DATA, LISTEN, OPEN, TALK, UNLISTEN, UNTALK};
 
 /// The greatest channel.
 const LAST_CHANNEL: u8 = 15;
+
+/// The greatest number of a drive on the bus.
+const LAST_DEVICE: u8 = 30;
 
 /// An act that a desk is told by a call, and not by its wires. (It is a type of this crate, so that a desk may take it here; another
 /// crate has one of its own for its own desk.)
@@ -92,6 +93,7 @@ fn hear<A: From<Act>, D: Takes<A>>(drive: &mut Drive<D>, bytes: &[u8])
 
 /// LISTEN, a secondary address, the bytes, UNLISTEN.
 fn send<A: From<Act>, D: Takes<A>>(drive: &mut Drive<D>, second: u8, bytes: &[u8])
+    requires { drive.old.port.party.device ≤ 30 }
     ensures port { drive.new.port ≡ drive.old.port }
     ensures told { IsToldAll (by_call A.from_gives D.takes) (sending drive.old.port.party.device second bytes.now) drive.old.machine drive.new.machine }
 {
@@ -107,7 +109,8 @@ fn take_bytes<A: From<Act>, D: Takes<A>>(drive: &mut Drive<D>, out: &mut [u8]) -
     ensures said { (bytes : List ℕ) × (length bytes ≡ result.count) × (out.new ≡ bytes ++ drop result.count out.old)
         × Speaks (by_call A.from_gives D.takes) (IsPeeked D.shows D.stands D.says) (length out.old) bytes result.marked drive.old.machine drive.new.machine }
 {
-    for count in 0..out.len() {
+    let room = out.len();
+    for count in 0..room {
         let Some((byte, marked)) = drive.machine().peek() else {
             return Came {
                 count,
@@ -124,7 +127,7 @@ fn take_bytes<A: From<Act>, D: Takes<A>>(drive: &mut Drive<D>, out: &mut [u8]) -
         }
     }
     Came {
-        count: out.len(),
+        count: room,
         marked: false,
     }
 }
@@ -134,7 +137,7 @@ fn require_rest<D: Machine>(drive: &Drive<D>, channel: u8) -> Result<(), DeviceR
     ensures ok { OnOk result (IsCallable channel drive.now.port) }
     ensures err { IfErr result (λ r. (r ≡ DeviceRefusal.Invalid) × IsUncallable channel drive.now.port) }
 {
-    if channel > LAST_CHANNEL || !drive.at_rest() {
+    if channel > LAST_CHANNEL || drive.device() > LAST_DEVICE || !drive.at_rest() {
         return Err(DeviceRefusal::Invalid);
     }
     Ok(())

@@ -7,7 +7,7 @@ use crate::refusal::DeviceRefusal;
 use cbm_drive::Desk;
 
 impl Device {
-    ghost use Rattle.std.specs.Prelude.{◌≡◌, ◌++◌, drop, length, IfErr, IfOk, OnOk};
+    ghost use Rattle.std.specs.Prelude.{◌≡◌, ◌++◌, ℕ, List, drop, length, IfErr, IfOk, OnOk};
     ghost use Rattle.cbm_device.specs.Channels.{opening_acts, writing_acts, closing_acts, IsCallable, IsUncallable, HasBeenTold, HasTalked};
 
     /// OPEN of a channel with a text, or on 15 a command, as a computer sends them, but without the wires. The one error is `Invalid`: the

@@ -1,6 +1,4 @@
 // The DOS of a drive with direct access by calls.
-ghost use Rattle.std.specs.Prelude.{◌≡◌};
-
 use crate::device::DirectDevice;
 use cbm_device::{
     Came, DeviceRefusal, ImageDisk, close_channel, open_channel, read_channel, write_channel,
@@ -36,7 +34,7 @@ impl Takes<DirectCalledAct> for DirectDesk<ImageDisk> {
 }
 
 impl DirectDevice {
-    ghost use Rattle.std.specs.Prelude.{◌≡◌, ◌++◌, drop, length, IfErr, IfOk, OnOk};
+    ghost use Rattle.std.specs.Prelude.{◌≡◌, ◌++◌, ℕ, List, drop, length, IfErr, IfOk, OnOk};
     ghost use Rattle.cbm_device.specs.Channels.{opening_acts, writing_acts, closing_acts, IsCallable, IsUncallable};
     ghost use Rattle.cbm_direct_device.specs.DirectChannels.{HasBeenToldDirect, HasTalkedDirect};
 
