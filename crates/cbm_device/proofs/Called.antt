@@ -52,10 +52,10 @@ desk_led [] x y e m s = subst (λ w. DeskStands counted_seen w m) (sym e) s
 desk_led (act ∷ acts) x y t m s = desk_led acts t.0 y t.2 (desk_step m act) (t.1.stands m s)
 
 -- these bytes are what it said, and the desk represents what it is then
-record IsSaidSo (items : List ℕ) (mark : Bool) (y : Desk (Kept Counted)) (said : DeskSaid) : Type 0 where
-  same_bytes : items ≡ said.bytes
-  same_mark : mark ≡ said.marked
-  stands : DeskStands counted_seen y said.machine
+pub record IsSaidSo (items : List ℕ) (mark : Bool) (y : Desk (Kept Counted)) (said : DeskSaid) : Type 0 where
+  pub same_bytes : items ≡ said.bytes
+  pub same_mark : mark ≡ said.marked
+  pub stands : DeskStands counted_seen y said.machine
 
 -- by the byte that it has to say
 abbrev said_from : Option (ℕ × Bool) → ℕ → Desk Machine → DeskSaid
