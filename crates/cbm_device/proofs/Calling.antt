@@ -31,7 +31,7 @@ module _ {D : Type 0} (tells : Act → D → D → Type 0) where
   heard_one all place left after x now z lt h e told =
       let still : after ≡ length all - (place + 1) = omega (arith, e, h.still) in
       let act : tells (Heard (slice_index all place) (length (drop (place + 1) all) == 0)) now z =
-          subst (λ (n : ℕ). tells (Heard (slice_index all place) (n == 0)) now z) (still ∙ sym (left_off all (place + 1))) told in
+      subst (λ (n : ℕ). tells (Heard (slice_index all place) (n == 0)) now z) (still ∙ sym (left_off all (place + 1))) told in
       record {
         still = still;
         on = λ y t. h.on y (subst (λ (l : List ℕ). IsToldAll tells (heard_each l) now y) (sym (one_off all place lt)) (z, act, t));
@@ -59,7 +59,7 @@ module _ {D : Type 0} (tells : Act → D → D → Type 0) where
     seam so_far room filled count byte n lt e =
         ap (λ (l : List ℕ). slice_set l count byte) (e ∙ ap (λ (l : List ℕ). so_far ++ l) (one_off room count lt))
         ∙ subst (λ (k : ℕ). slice_set (so_far ++ slice_index room count ∷ drop (count + 1) room) k byte ≡ so_far ++ byte ∷ drop (count + 1) room) n
-          (set-append_seam so_far (slice_index room count) (drop (count + 1) room) byte)
+        (set-append_seam so_far (slice_index room count) (drop (count + 1) room) byte)
 
     -- one more byte, which isn't the last
     pub speaking_more : (most count byte : ℕ) (room filled : List ℕ) (x now z : D) → count < most → most ≡ length room → Speaking most count room filled x now

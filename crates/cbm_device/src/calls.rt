@@ -144,7 +144,7 @@ fn require_rest<D: Machine>(drive: &Drive<D>, channel: u8) -> Result<(), DeviceR
 }
 
 /// OPEN of a channel with a text, or on 15 a command. The one error is `Invalid`: the channel is none, or the wires aren't at rest.
-pub fn open_channel<A: From<Act>, D: Takes<A>>(
+pub fn call_open<A: From<Act>, D: Takes<A>>(
     drive: &mut Drive<D>,
     channel: u8,
     text: &[u8],
@@ -159,8 +159,8 @@ pub fn open_channel<A: From<Act>, D: Takes<A>>(
     Ok(())
 }
 
-/// Bytes for a channel. The one error is `Invalid`, as for `open_channel`.
-pub fn write_channel<A: From<Act>, D: Takes<A>>(
+/// Bytes for a channel. The one error is `Invalid`, as for `call_open`.
+pub fn call_write<A: From<Act>, D: Takes<A>>(
     drive: &mut Drive<D>,
     channel: u8,
     bytes: &[u8],
@@ -176,8 +176,8 @@ pub fn write_channel<A: From<Act>, D: Takes<A>>(
 }
 
 /// Bytes of a channel, as many as there is room for, up to the one that is marked as the last. The one error is `Invalid`, as for
-/// `open_channel`.
-pub fn read_channel<A: From<Act>, D: Takes<A>>(
+/// `call_open`.
+pub fn call_read<A: From<Act>, D: Takes<A>>(
     drive: &mut Drive<D>,
     channel: u8,
     out: &mut [u8],
@@ -198,8 +198,8 @@ pub fn read_channel<A: From<Act>, D: Takes<A>>(
     Ok(came)
 }
 
-/// CLOSE of a channel. The one error is `Invalid`, as for `open_channel`.
-pub fn close_channel<A: From<Act>, D: Takes<A>>(
+/// CLOSE of a channel. The one error is `Invalid`, as for `call_open`.
+pub fn call_close<A: From<Act>, D: Takes<A>>(
     drive: &mut Drive<D>,
     channel: u8,
 ) -> Result<(), DeviceRefusal>

@@ -11,7 +11,7 @@ mod playing;
 mod refusal;
 mod room;
 
-pub use calls::{CalledAct, Came, close_channel, open_channel, read_channel, write_channel};
+pub use calls::{CalledAct, Came, call_close, call_open, call_read, call_write};
 pub use changing::change;
 pub use device::{Device, DeviceReaction};
 pub use image_disk::{ImageDisk, Sectors};

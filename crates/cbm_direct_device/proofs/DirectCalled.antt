@@ -10,7 +10,6 @@ use Rattle.cbm_direct_device.specs.DirectChannels.{DirectIsTold, DirectShows, Ha
 use Rattle.cbm_direct_device.specs.DirectDevices.{DirectOnLines, vouch_in}
 use Rattle.cbm_direct_device.specs.declared.device.calls.DirectCalledAct.{DirectCalledAct}
 
-
 -- acts leave it
 told_vouch : (acts : List Act) (x y : DirectAddressed Counted) → IsToldAll DirectIsTold acts x y → y.dos.vouched.vouch ≡ x.dos.vouched.vouch
 told_vouch [] x y e = ap (λ (d : DirectAddressed Counted). d.dos.vouched.vouch) e

@@ -1,6 +1,6 @@
 // The DOS of a drive by calls.
 
-use crate::calls::{CalledAct, Came, close_channel, open_channel, read_channel, write_channel};
+use crate::calls::{CalledAct, Came, call_close, call_open, call_read, call_write};
 use crate::device::Device;
 use crate::image_disk::ImageDisk;
 use crate::refusal::DeviceRefusal;
@@ -17,7 +17,7 @@ impl Device {
         ensures told { OnOk result (HasBeenTold (opening_acts self.old.seat.port.party.device channel text.now) self.old self.new) }
         ensures err { IfErr result (λ r. (r ≡ DeviceRefusal.Invalid) × IsUncallable channel self.old.seat.port × (self.new ≡ self.old)) }
     {
-        open_channel::<CalledAct, Desk<ImageDisk>>(&mut self.drive, channel, text)
+        call_open::<CalledAct, Desk<ImageDisk>>(&mut self.drive, channel, text)
     }
 
     /// Bytes for a channel. The one error is `Invalid`, as for `open_channel`.
@@ -26,7 +26,7 @@ impl Device {
         ensures told { OnOk result (HasBeenTold (writing_acts self.old.seat.port.party.device channel bytes.now) self.old self.new) }
         ensures err { IfErr result (λ r. (r ≡ DeviceRefusal.Invalid) × IsUncallable channel self.old.seat.port × (self.new ≡ self.old)) }
     {
-        write_channel::<CalledAct, Desk<ImageDisk>>(&mut self.drive, channel, bytes)
+        call_write::<CalledAct, Desk<ImageDisk>>(&mut self.drive, channel, bytes)
     }
 
     /// Bytes of a channel, as many as there is room for, up to the one that is marked as the last. The one error is `Invalid`, as for
@@ -38,7 +38,7 @@ impl Device {
         ensures err { IfErr result (λ r. (r ≡ DeviceRefusal.Invalid) × IsUncallable channel self.old.seat.port × (self.new ≡ self.old)
             × (out.new ≡ out.old)) }
     {
-        read_channel::<CalledAct, Desk<ImageDisk>>(&mut self.drive, channel, out)
+        call_read::<CalledAct, Desk<ImageDisk>>(&mut self.drive, channel, out)
     }
 
     /// CLOSE of a channel. The one error is `Invalid`, as for `open_channel`.
@@ -47,6 +47,6 @@ impl Device {
         ensures told { OnOk result (HasBeenTold (closing_acts self.old.seat.port.party.device channel) self.old self.new) }
         ensures err { IfErr result (λ r. (r ≡ DeviceRefusal.Invalid) × IsUncallable channel self.old.seat.port × (self.new ≡ self.old)) }
     {
-        close_channel::<CalledAct, Desk<ImageDisk>>(&mut self.drive, channel)
+        call_close::<CalledAct, Desk<ImageDisk>>(&mut self.drive, channel)
     }
 }

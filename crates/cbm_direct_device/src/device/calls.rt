@@ -1,8 +1,6 @@
 // The DOS of a drive with direct access by calls.
 use crate::device::DirectDevice;
-use cbm_device::{
-    Came, DeviceRefusal, ImageDisk, close_channel, open_channel, read_channel, write_channel,
-};
+use cbm_device::{Came, DeviceRefusal, ImageDisk, call_close, call_open, call_read, call_write};
 use cbm_direct_desk::DirectDesk;
 use cbm_drive::{Act, Machine, Takes};
 
@@ -45,7 +43,7 @@ impl DirectDevice {
         ensures told { OnOk result (HasBeenToldDirect (opening_acts self.old.seat.port.party.device channel text.now) self.old self.new) }
         ensures err { IfErr result (λ r. (r ≡ DeviceRefusal.Invalid) × IsUncallable channel self.old.seat.port × (self.new ≡ self.old)) }
     {
-        open_channel::<DirectCalledAct, DirectDesk<ImageDisk>>(&mut self.drive, channel, text)
+        call_open::<DirectCalledAct, DirectDesk<ImageDisk>>(&mut self.drive, channel, text)
     }
 
     /// Bytes for a channel. The one error is `Invalid`, as for `open_channel`.
@@ -54,7 +52,7 @@ impl DirectDevice {
         ensures told { OnOk result (HasBeenToldDirect (writing_acts self.old.seat.port.party.device channel bytes.now) self.old self.new) }
         ensures err { IfErr result (λ r. (r ≡ DeviceRefusal.Invalid) × IsUncallable channel self.old.seat.port × (self.new ≡ self.old)) }
     {
-        write_channel::<DirectCalledAct, DirectDesk<ImageDisk>>(&mut self.drive, channel, bytes)
+        call_write::<DirectCalledAct, DirectDesk<ImageDisk>>(&mut self.drive, channel, bytes)
     }
 
     /// Bytes of a channel, as many as there is room for, up to the one that is marked as the last. The one error is `Invalid`, as for
@@ -66,7 +64,7 @@ impl DirectDevice {
         ensures err { IfErr result (λ r. (r ≡ DeviceRefusal.Invalid) × IsUncallable channel self.old.seat.port × (self.new ≡ self.old)
             × (out.new ≡ out.old)) }
     {
-        read_channel::<DirectCalledAct, DirectDesk<ImageDisk>>(&mut self.drive, channel, out)
+        call_read::<DirectCalledAct, DirectDesk<ImageDisk>>(&mut self.drive, channel, out)
     }
 
     /// CLOSE of a channel. The one error is `Invalid`, as for `open_channel`.
@@ -75,6 +73,6 @@ impl DirectDevice {
         ensures told { OnOk result (HasBeenToldDirect (closing_acts self.old.seat.port.party.device channel) self.old self.new) }
         ensures err { IfErr result (λ r. (r ≡ DeviceRefusal.Invalid) × IsUncallable channel self.old.seat.port × (self.new ≡ self.old)) }
     {
-        close_channel::<DirectCalledAct, DirectDesk<ImageDisk>>(&mut self.drive, channel)
+        call_close::<DirectCalledAct, DirectDesk<ImageDisk>>(&mut self.drive, channel)
     }
 }

@@ -9,6 +9,6 @@ use Rattle.cbm_direct_device.specs.DirectDevices.{DirectOnLines}
 pub returns-clause-told : goal.returns-clause-told
 returns-clause-told c =
     let old : DirectOnLines = record { seat = c.self.inside.drive; kind = c.self.inside.kind; latest = c.self.inside.latest } in
-    let now : DirectOnLines = record { seat = c.open_channel.new.drive; kind = c.self.inside.kind; latest = c.self.inside.latest } in
-    subst (λ (o : DirectOnLines). OnOk c.open_channel.result (HasBeenToldDirect (opening_acts o.seat.port.party.device c.args.channel c.args.text.now) o now)) c.self.view_is
-    (on_ok c.open_channel.result (λ told. has_been_told_direct (opening_acts c.self.inside.drive.port.party.device c.args.channel c.args.text.now) old now told c.open_channel.ensures.port refl refl) c.open_channel.ensures.told)
+    let now : DirectOnLines = record { seat = c.call_open.new.drive; kind = c.self.inside.kind; latest = c.self.inside.latest } in
+    subst (λ (o : DirectOnLines). OnOk c.call_open.result (HasBeenToldDirect (opening_acts o.seat.port.party.device c.args.channel c.args.text.now) o now)) c.self.view_is
+    (on_ok c.call_open.result (λ told. has_been_told_direct (opening_acts c.self.inside.drive.port.party.device c.args.channel c.args.text.now) old now told c.call_open.ensures.port refl refl) c.call_open.ensures.told)

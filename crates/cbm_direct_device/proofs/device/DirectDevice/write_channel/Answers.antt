@@ -9,6 +9,6 @@ use Rattle.cbm_direct_device.specs.DirectDevices.{DirectOnLines}
 pub returns-clause-told : goal.returns-clause-told
 returns-clause-told c =
     let old : DirectOnLines = record { seat = c.self.inside.drive; kind = c.self.inside.kind; latest = c.self.inside.latest } in
-    let now : DirectOnLines = record { seat = c.write_channel.new.drive; kind = c.self.inside.kind; latest = c.self.inside.latest } in
-    subst (λ (o : DirectOnLines). OnOk c.write_channel.result (HasBeenToldDirect (writing_acts o.seat.port.party.device c.args.channel c.args.bytes.now) o now)) c.self.view_is
-    (on_ok c.write_channel.result (λ told. has_been_told_direct (writing_acts c.self.inside.drive.port.party.device c.args.channel c.args.bytes.now) old now told c.write_channel.ensures.port refl refl) c.write_channel.ensures.told)
+    let now : DirectOnLines = record { seat = c.call_write.new.drive; kind = c.self.inside.kind; latest = c.self.inside.latest } in
+    subst (λ (o : DirectOnLines). OnOk c.call_write.result (HasBeenToldDirect (writing_acts o.seat.port.party.device c.args.channel c.args.bytes.now) o now)) c.self.view_is
+    (on_ok c.call_write.result (λ told. has_been_told_direct (writing_acts c.self.inside.drive.port.party.device c.args.channel c.args.bytes.now) old now told c.call_write.ensures.port refl refl) c.call_write.ensures.told)
