@@ -1,5 +1,5 @@
 -- What a drive is told by a call, act by act, and the bytes that it says.
-use Rattle.std.proofs.Common.{◌≡◌, ◌≢◌, ◌∙◌, ◌==◌, ◌<◌, ◌≤◌, ◌+◌, ◌-◌, ◌∷◌, [], ◌++◌, ℕ, Bool, true, false, List, Option, Some, None, ap, arith, drop, length, refl, slice_index, slice_set, subst, suc, sym}
+use Rattle.std.proofs.Common.{◌≡◌, ◌∙◌, ◌==◌, ◌<◌, ◌+◌, ◌-◌, ◌∷◌, [], ◌++◌, ℕ, Bool, true, false, List, Option, Some, None, ap, arith, drop, length, refl, slice_index, slice_set, subst, suc, sym}
 use Rattle.std.proofs.Math.Seq.{drop-cons, set-append_seam}
 use Rattle.std.proofs.lemmas.List.{append_assoc, append-nil, length-drop, length_push}
 use Rattle.cbm_iec.specs.declared.machine.Act.{Act}

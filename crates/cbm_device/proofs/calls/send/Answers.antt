@@ -1,4 +1,4 @@
-use Rattle.std.proofs.Common.{◌≡◌, ◌+◌, ◌++◌, ap, subst, sym, ◌∙◌}
+use Rattle.std.proofs.Common.{◌+◌, ◌++◌, subst}
 use Rattle.cbm_iec.specs.Attentions.{listen, unlisten}
 use Rattle.cbm_device.specs.Channels.{attention, leaving, heard_each, by_call, IsToldAll}
 use Rattle.cbm_device.proofs.Calling.{told_then}

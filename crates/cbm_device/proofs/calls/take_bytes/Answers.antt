@@ -1,4 +1,4 @@
-use Rattle.std.proofs.Common.{◌≡◌, ◌∙◌, Some, None, Bool, true, false, ℕ, Option, ap, arith, length, refl, subst, sym}
+use Rattle.std.proofs.Common.{◌≡◌, ◌∙◌, Some, None, Bool, true, false, ℕ, ap, arith, length, refl, subst, sym}
 use Rattle.cbm_iec.specs.declared.machine.Act.TheVariants.{Said}
 use Rattle.cbm_device.specs.Channels.{by_call, IsPeeked}
 use Rattle.cbm_device.proofs.Calling.{speaking_first, speaking_more, said_last, said_silent, said_full, AreSaid}
