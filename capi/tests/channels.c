@@ -8,7 +8,7 @@ enum { ROOM = 1 << 20, MOST = 400, REQUESTS = 40 };
 /* How a drive is asked. */
 typedef enum how { BY_WIRES, BY_CALLS, BY_EITHER } how;
 
-/* A drive beside a computer. */
+/* A drive and a computer. */
 typedef struct host {
     bus bus;
     kernal kernal;
