@@ -8,7 +8,7 @@ use Rattle.cbm_machine.specs.Machines.{Machine}
 use Rattle.cbm_drive.specs.Desks.{Desk, DeskStands, desk_step, desk_says}
 use Rattle.cbm_device.specs.declared.calls.CalledAct.{CalledAct}
 use Rattle.cbm_device.specs.Devices.{OnLines}
-use Rattle.cbm_device.specs.Channels.{by_call, HasBeenTold, HasTalked, attention, leaving, IsToldAll, Speaks, full, silent, last, more, Talks, DeskIsTold, DeskShows, DeskSaid, desk_after, after_byte, desk_speaks, desk_talks}
+use Rattle.cbm_device.specs.Channels.{by_call, HasBeenTold, HasTalked, attention_acts, leaving_acts, IsToldAll, Speaks, full, silent, last, more, Talks, DeskIsTold, DeskShows, DeskSaid, desk_after, said_after, desk_speaks, desk_talks}
 use Rattle.cbm_device.specs.ImageDisks.{Counted, counted_seen}
 
 -- what follows where a call went well
@@ -39,9 +39,9 @@ module _ {D : Type 0} (tells others : Act → D → D → Type 0) (turns : (act 
     talks_as device channel most bytes marked x y t = record {
       asked = t.asked;
       spoken = t.spoken;
-      begins = told_as (attention (talk + device) (data_on + channel)) x t.asked t.begins;
+      begins = told_as (attention_acts (talk + device) (data_on + channel)) x t.asked t.begins;
       speaks = spoken_as most bytes marked t.asked t.spoken t.speaks;
-      ends = told_as (leaving untalk) t.spoken y t.ends;
+      ends = told_as (leaving_acts untalk) t.spoken y t.ends;
     }
 
 -- ---- the machine that a desk represents
@@ -63,7 +63,7 @@ said_from o n m = elim o [
   | None ↦ record { bytes = []; marked = false; machine = m }
   | Some p ↦
       if p.1 then record { bytes = p.0 ∷ []; marked = true; machine = desk_step m (Said p.0 true) }
-      else after_byte p.0 (desk_speaks n (desk_step m (Said p.0 false)))
+      else said_after p.0 (desk_speaks n (desk_step m (Said p.0 false)))
 ]
 
 none_said : (n : ℕ) (m : Desk Machine) → desk_says m ≡ None → desk_speaks n m ≡ record { bytes = []; marked = false; machine = m }
@@ -91,11 +91,11 @@ desk_spoken n bytes marked x y (more k byte rest z e o t b so) m s =
 pub desk_talked : (device channel most : ℕ) (bytes : List ℕ) (marked : Bool) (x y : Desk (Kept Counted)) → Talks DeskIsTold DeskShows device channel most bytes marked x y
     → (m : Desk Machine) → DeskStands counted_seen x m → (let said = desk_talks device channel most m in (bytes ≡ said.bytes) × (marked ≡ said.marked) × DeskStands counted_seen y said.machine)
 desk_talked device channel most bytes marked x y t m s =
-    let asks = attention (talk + device) (data_on + channel) in
+    let asks = attention_acts (talk + device) (data_on + channel) in
     let said = desk_spoken most bytes marked t.asked t.spoken t.speaks (desk_after asks m) (desk_led asks x t.asked t.begins m s) in (
       said.same_bytes,
       said.same_mark,
-      desk_led (leaving untalk) t.spoken y t.ends (desk_speaks most (desk_after asks m)).machine said.stands,
+      desk_led (leaving_acts untalk) t.spoken y t.ends (desk_speaks most (desk_after asks m)).machine said.stands,
     )
 
 -- ---- a drive on lines

@@ -15,12 +15,12 @@ use Rattle.cbm_device.specs.ImageDisks.{Counted, counted_seen}
 -- ---- the acts of a call
 
 -- two bytes in attention
-abbrev pub attention : ℕ → ℕ → List Act
-attention first second = Pulled ∷ Attention first ∷ Attention second ∷ Released ∷ []
+abbrev pub attention_acts : ℕ → ℕ → List Act
+attention_acts first second = Pulled ∷ Attention first ∷ Attention second ∷ Released ∷ []
 
 -- the byte in attention that ends the drive's role
-abbrev pub leaving : ℕ → List Act
-leaving byte = Pulled ∷ Attention byte ∷ Released ∷ []
+abbrev pub leaving_acts : ℕ → List Act
+leaving_acts byte = Pulled ∷ Attention byte ∷ Released ∷ []
 
 -- bytes that come to the listener, the last with EOI
 abbrev pub heard_each : List ℕ → List Act
@@ -28,16 +28,16 @@ heard_each [] = []
 heard_each (byte ∷ rest) = Heard byte (length rest == 0) ∷ heard_each rest
 
 -- LISTEN to this device, a secondary address, these bytes, UNLISTEN
-abbrev pub sending : ℕ → ℕ → List ℕ → List Act
-sending device second bytes = attention (listen + device) second ++ heard_each bytes ++ leaving unlisten
+abbrev pub sending_acts : ℕ → ℕ → List ℕ → List Act
+sending_acts device second bytes = attention_acts (listen + device) second ++ heard_each bytes ++ leaving_acts unlisten
 
 -- OPEN of a channel with a text, or on 15 a command
 abbrev pub opening_acts : ℕ → ℕ → List ℕ → List Act
-opening_acts device channel text = sending device (open_on + channel) text
+opening_acts device channel text = sending_acts device (open_on + channel) text
 
 -- bytes for a channel
 abbrev pub writing_acts : ℕ → ℕ → List ℕ → List Act
-writing_acts device channel bytes = sending device (data_on + channel) bytes
+writing_acts device channel bytes = sending_acts device (data_on + channel) bytes
 
 -- CLOSE of a channel, all in one attention
 abbrev pub closing_acts : ℕ → ℕ → List Act
@@ -65,9 +65,9 @@ module _ {D : Type 0} (tells : Act → D → D → Type 0) where
     pub record Talks (device channel most : ℕ) (bytes : List ℕ) (marked : Bool) (x y : D) : Type 0 where
       pub asked : D
       pub spoken : D
-      pub begins : IsToldAll (attention (talk + device) (data_on + channel)) x asked
+      pub begins : IsToldAll (attention_acts (talk + device) (data_on + channel)) x asked
       pub speaks : Speaks most bytes marked asked spoken
-      pub ends : IsToldAll (leaving untalk) spoken y
+      pub ends : IsToldAll (leaving_acts untalk) spoken y
 
 -- an act as a call tells it: what is made of it is taken
 abbrev pub by_call : {A D : Type 0} → (Act → A → Type 0) → (A → D → D → Type 0) → Act → D → D → Type 0
@@ -108,8 +108,8 @@ pub record DeskSaid : Type 0 where
   pub machine : Desk Machine
 
 -- a byte before these
-abbrev pub after_byte : ℕ → DeskSaid → DeskSaid
-after_byte byte said = record said { bytes = byte ∷ said.bytes }
+abbrev pub said_after : ℕ → DeskSaid → DeskSaid
+said_after byte said = record said { bytes = byte ∷ said.bytes }
 
 -- up to the byte that is marked as the last, or until it has none to say
 abbrev pub desk_speaks : ℕ → Desk Machine → DeskSaid
@@ -118,14 +118,14 @@ desk_speaks (suc n) m = elim (desk_says m) [
   | None ↦ record { bytes = []; marked = false; machine = m }
   | Some p ↦
       if p.1 then record { bytes = p.0 ∷ []; marked = true; machine = desk_step m (Said p.0 true) }
-      else after_byte p.0 (desk_speaks n (desk_step m (Said p.0 false)))
+      else said_after p.0 (desk_speaks n (desk_step m (Said p.0 false)))
 ]
 
 -- a machine talks on a channel, of which at most so many bytes are taken
 abbrev pub desk_talks : ℕ → ℕ → ℕ → Desk Machine → DeskSaid
 desk_talks device channel most m =
-    let said = desk_speaks most (desk_after (attention (talk + device) (data_on + channel)) m) in
-    record said { machine = desk_after (leaving untalk) said.machine }
+    let said = desk_speaks most (desk_after (attention_acts (talk + device) (data_on + channel)) m) in
+    record said { machine = desk_after (leaving_acts untalk) said.machine }
 
 -- THE DRIVE WAS TOLD ACTS BY A CALL, and each machine that it represents with it. Its port, the format of its disk and its latest moment stay.
 pub record HasBeenTold (acts : List Act) (old new : OnLines) : Type 0 where

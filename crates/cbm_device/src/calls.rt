@@ -1,6 +1,6 @@
 //! Bytes to a channel of a drive and from it by calls, while its wires are at rest: the drive is told the acts that the wires would bring.
 ghost use Rattle.std.specs.Prelude.{◌≡◌, ◌≤◌, ◌++◌, ℕ, List, drop, length, IfErr, IfOk, OnOk};
-ghost use Rattle.cbm_device.specs.Channels.{attention, leaving, heard_each, sending, opening_acts, writing_acts, closing_acts, by_call, IsToldAll, Speaks, Talks, IsPeeked, IsCallable, IsUncallable};
+ghost use Rattle.cbm_device.specs.Channels.{attention_acts, leaving_acts, heard_each, sending_acts, opening_acts, writing_acts, closing_acts, by_call, IsToldAll, Speaks, Talks, IsPeeked, IsCallable, IsUncallable};
 
 use crate::image_disk::ImageDisk;
 use crate::refusal::DeviceRefusal;
@@ -61,7 +61,7 @@ fn tell<A: From<Act>, D: Takes<A>>(drive: &mut Drive<D>, act: Act)
 /// Two bytes come in attention.
 fn attend<A: From<Act>, D: Takes<A>>(drive: &mut Drive<D>, first: u8, second: u8)
     ensures port { drive.new.port ≡ drive.old.port }
-    ensures told { IsToldAll (by_call A.from_gives D.takes) (attention first second) drive.old.machine drive.new.machine }
+    ensures told { IsToldAll (by_call A.from_gives D.takes) (attention_acts first second) drive.old.machine drive.new.machine }
 {
     tell::<A, D>(drive, Act::Pulled);
     tell::<A, D>(drive, Act::Attention(first));
@@ -72,7 +72,7 @@ fn attend<A: From<Act>, D: Takes<A>>(drive: &mut Drive<D>, first: u8, second: u8
 /// The byte comes in attention that ends the drive's role.
 fn leave<A: From<Act>, D: Takes<A>>(drive: &mut Drive<D>, byte: u8)
     ensures port { drive.new.port ≡ drive.old.port }
-    ensures told { IsToldAll (by_call A.from_gives D.takes) (leaving byte) drive.old.machine drive.new.machine }
+    ensures told { IsToldAll (by_call A.from_gives D.takes) (leaving_acts byte) drive.old.machine drive.new.machine }
 {
     tell::<A, D>(drive, Act::Pulled);
     tell::<A, D>(drive, Act::Attention(byte));
@@ -95,7 +95,7 @@ fn hear<A: From<Act>, D: Takes<A>>(drive: &mut Drive<D>, bytes: &[u8])
 fn send<A: From<Act>, D: Takes<A>>(drive: &mut Drive<D>, second: u8, bytes: &[u8])
     requires { drive.old.port.party.device ≤ 30 }
     ensures port { drive.new.port ≡ drive.old.port }
-    ensures told { IsToldAll (by_call A.from_gives D.takes) (sending drive.old.port.party.device second bytes.now) drive.old.machine drive.new.machine }
+    ensures told { IsToldAll (by_call A.from_gives D.takes) (sending_acts drive.old.port.party.device second bytes.now) drive.old.machine drive.new.machine }
 {
     let listen = LISTEN + drive.device();
     attend::<A, D>(drive, listen, second);

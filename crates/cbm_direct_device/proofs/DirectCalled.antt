@@ -3,7 +3,7 @@ use Rattle.std.proofs.Common.{◌≡◌, ◌∙◌, ◌+◌, ℕ, Bool, List, []
 use Rattle.cbm_iec.specs.Attentions.{talk, untalk, data_on}
 use Rattle.cbm_iec.specs.declared.machine.Act.{Act}
 use Rattle.cbm_device.proofs.Called.{told_as, talks_as}
-use Rattle.cbm_device.specs.Channels.{attention, leaving, by_call, IsPeeked, IsToldAll, Speaks, full, silent, last, more, Talks}
+use Rattle.cbm_device.specs.Channels.{attention_acts, leaving_acts, by_call, IsPeeked, IsToldAll, Speaks, full, silent, last, more, Talks}
 use Rattle.cbm_device.specs.ImageDisks.{Counted}
 use Rattle.cbm_direct_desk.specs.DirectDesks.{DirectAddressed, direct_desk_shows}
 use Rattle.cbm_direct_device.specs.DirectChannels.{DirectIsTold, DirectShows, HasBeenToldDirect, HasTalkedDirect}
@@ -46,8 +46,8 @@ has_talked_direct channel most bytes marked old new t port kind latest =
     record {
       machine = talks;
       port = port;
-      vouch = told_vouch (leaving untalk) talks.spoken new.seat.machine talks.ends ∙ (spoken_vouch most bytes marked talks.asked talks.spoken talks.speaks
-          ∙ told_vouch (attention (talk + device) (data_on + channel)) old.seat.machine talks.asked talks.begins);
+      vouch = told_vouch (leaving_acts untalk) talks.spoken new.seat.machine talks.ends ∙ (spoken_vouch most bytes marked talks.asked talks.spoken talks.speaks
+          ∙ told_vouch (attention_acts (talk + device) (data_on + channel)) old.seat.machine talks.asked talks.begins);
       kind = kind;
       latest = latest;
     }

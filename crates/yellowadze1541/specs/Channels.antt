@@ -10,14 +10,14 @@ use Rattle.cbm_direct_device.specs.DirectDevices.{DirectOnLines}
 use Rattle.yellowadze1541.specs.Looks.{flag}
 
 -- THE DRIVE IS TOLD THE ACTS of a call, and with it each machine that it represents; or the channel is none, or the wires aren't at rest, and nothing has changed.
-abbrev pub Tells : ℕ → (ℕ → List Act) → ℤ → OnLines → OnLines → Type 0
-Tells channel acts n old new =
+abbrev pub TellsActs : ℕ → (ℕ → List Act) → ℤ → OnLines → OnLines → Type 0
+TellsActs channel acts n old new =
     ((n ≡ fine) × IsCallable channel old.seat.port × HasBeenTold (acts old.seat.port.party.device) old new)
     ⊎ ((n ≡ answer_number Invalid) × IsUncallable channel old.seat.port × (new ≡ old))
 
 -- the same of a drive with direct access
-abbrev pub TellsDirect : ℕ → (ℕ → List Act) → ℤ → DirectOnLines → DirectOnLines → Type 0
-TellsDirect channel acts n old new =
+abbrev pub TellsActsDirect : ℕ → (ℕ → List Act) → ℤ → DirectOnLines → DirectOnLines → Type 0
+TellsActsDirect channel acts n old new =
     ((n ≡ fine) × IsCallable channel old.seat.port × HasBeenToldDirect (acts old.seat.port.party.device) old new)
     ⊎ ((n ≡ answer_number Invalid) × IsUncallable channel old.seat.port × (new ≡ old))
 

@@ -6,7 +6,7 @@ ghost use Rattle.cbm_device.specs.Channels.{opening_acts, writing_acts, closing_
 ghost use Rattle.cbm_device.specs.Devices.{IsRestarted, GivesImage};
 ghost use Rattle.cbm_direct_device.specs.DirectDevices.{IsRestartedDirect, GivesImageDirect};
 ghost use Rattle.yellowadze1541.specs.AnyDevices.{port_of, disk_of, number_of_status, OfEither, ActsOn};
-ghost use Rattle.yellowadze1541.specs.Channels.{Tells, TellsDirect, Reads, ReadsDirect};
+ghost use Rattle.yellowadze1541.specs.Channels.{TellsActs, TellsActsDirect, Reads, ReadsDirect};
 ghost use Rattle.yellowadze1541.specs.Looks.{flag as flag_of};
 ghost use Rattle.yellowadze1541.specs.Drives.{Hears, IsTold, Reacts, Ejects, Inserts};
 ghost use Rattle.yellowadze1541.specs.DirectDrives.{HearsDirect, ReactsDirect, EjectsDirect, InsertsDirect};
@@ -188,8 +188,8 @@ impl AnyDevice {
 
     /// OPEN of a channel with a text, or on 15 a command.
     pub fn open_channel(&mut self, channel: u8, text: &[u8]) -> i32
-        ensures { ActsOn (Tells channel (λ device. opening_acts device channel text.now) result)
-            (TellsDirect channel (λ device. opening_acts device channel text.now) result) self.old self.new }
+        ensures { ActsOn (TellsActs channel (λ device. opening_acts device channel text.now) result)
+            (TellsActsDirect channel (λ device. opening_acts device channel text.now) result) self.old self.new }
     {
         match self {
             AnyDevice::Plain(device) => number(device.open_channel(channel, text)),
@@ -199,8 +199,8 @@ impl AnyDevice {
 
     /// Bytes for a channel.
     pub fn write_channel(&mut self, channel: u8, bytes: &[u8]) -> i32
-        ensures { ActsOn (Tells channel (λ device. writing_acts device channel bytes.now) result)
-            (TellsDirect channel (λ device. writing_acts device channel bytes.now) result) self.old self.new }
+        ensures { ActsOn (TellsActs channel (λ device. writing_acts device channel bytes.now) result)
+            (TellsActsDirect channel (λ device. writing_acts device channel bytes.now) result) self.old self.new }
     {
         match self {
             AnyDevice::Plain(device) => number(device.write_channel(channel, bytes)),
@@ -227,8 +227,8 @@ impl AnyDevice {
 
     /// CLOSE of a channel.
     pub fn close_channel(&mut self, channel: u8) -> i32
-        ensures { ActsOn (Tells channel (λ device. closing_acts device channel) result)
-            (TellsDirect channel (λ device. closing_acts device channel) result) self.old self.new }
+        ensures { ActsOn (TellsActs channel (λ device. closing_acts device channel) result)
+            (TellsActsDirect channel (λ device. closing_acts device channel) result) self.old self.new }
     {
         match self {
             AnyDevice::Plain(device) => number(device.close_channel(channel)),

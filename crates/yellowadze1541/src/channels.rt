@@ -2,7 +2,7 @@
 ghost use Rattle.std.specs.Prelude.{◌≡◌, None};
 ghost use Rattle.cbm_device.specs.Channels.{opening_acts, writing_acts, closing_acts};
 ghost use Rattle.yellowadze1541.specs.Drives.{Acts};
-ghost use Rattle.yellowadze1541.specs.Channels.{Tells, TellsDirect, Reads, ReadsDirect};
+ghost use Rattle.yellowadze1541.specs.Channels.{TellsActs, TellsActsDirect, Reads, ReadsDirect};
 
 use crate::handle::{Handle, back, empty, of};
 use cbm_device::DeviceRefusal;
@@ -12,8 +12,8 @@ use std::mem::replace;
 /// OPEN of a channel with a text, or on channel 15 a command, as a computer sends them, but without the wires.
 #[unsafe(no_mangle)]
 pub extern "C" fn y1541_channel_open(alloc: Global, d: &mut Handle, channel: u8, text: &[u8]) -> i32
-    ensures { Acts d.old.value d.new.value result (Tells channel (λ device. opening_acts device channel text.now) result)
-        (TellsDirect channel (λ device. opening_acts device channel text.now) result) }
+    ensures { Acts d.old.value d.new.value result (TellsActs channel (λ device. opening_acts device channel text.now) result)
+        (TellsActsDirect channel (λ device. opening_acts device channel text.now) result) }
 {
     let Some(mut inner) = back(alloc, replace(d, empty())) else {
         return DeviceRefusal::NoDrive.number();
@@ -31,8 +31,8 @@ pub extern "C" fn y1541_channel_write(
     channel: u8,
     bytes: &[u8],
 ) -> i32
-    ensures { Acts d.old.value d.new.value result (Tells channel (λ device. writing_acts device channel bytes.now) result)
-        (TellsDirect channel (λ device. writing_acts device channel bytes.now) result) }
+    ensures { Acts d.old.value d.new.value result (TellsActs channel (λ device. writing_acts device channel bytes.now) result)
+        (TellsActsDirect channel (λ device. writing_acts device channel bytes.now) result) }
 {
     let Some(mut inner) = back(alloc, replace(d, empty())) else {
         return DeviceRefusal::NoDrive.number();
@@ -67,8 +67,8 @@ pub extern "C" fn y1541_channel_read(
 /// CLOSE of a channel.
 #[unsafe(no_mangle)]
 pub extern "C" fn y1541_channel_close(alloc: Global, d: &mut Handle, channel: u8) -> i32
-    ensures { Acts d.old.value d.new.value result (Tells channel (λ device. closing_acts device channel) result)
-        (TellsDirect channel (λ device. closing_acts device channel) result) }
+    ensures { Acts d.old.value d.new.value result (TellsActs channel (λ device. closing_acts device channel) result)
+        (TellsActsDirect channel (λ device. closing_acts device channel) result) }
 {
     let Some(mut inner) = back(alloc, replace(d, empty())) else {
         return DeviceRefusal::NoDrive.number();
